@@ -7,7 +7,8 @@ use Rattle.std.proofs.lemmas.Bool.Decides.{Decides-eqb}
 use Rattle.std.proofs.lemmas.List.{append_cancel_left, drop_at}
 use Rattle.std.proofs.lemmas.List.Elements.{All-head, All-tail}
 use Rattle.std.proofs.lemmas.Slice.Eq.{starts_is}
-use Rattle.po_syntax.specs.Facts.Runs.{FailsFirst, parts_of}
+use Rattle.po_syntax.specs.Blanks.{FailsFirst}
+use Rattle.po_syntax.specs.Facts.Runs.{parts_of}
 use Rattle.po_syntax.proofs.SpeltKeywords.{or_step}
 use Rattle.po_entry.specs.Header.{after_charset, ends_name, charset_of}
 use Rattle.po_entry.specs.Charset.{EndsName, space, tab, carriage_return, line_feed, semicolon, IsAfterName, at_end, at_byte, IsAround, NamesCharset, unnamed, named}

@@ -12,7 +12,7 @@ use Rattle.po_syntax.specs.declared.item.CommentKind.TheVariants.{Translator, Ex
 use Rattle.po_entry.specs.EntryParts.{CommentText}
 use Rattle.po_entry.specs.Charset.{NamesAdmitted, no_name, utf_8, utf8, us_ascii, ascii, template}
 use Rattle.po_entry.specs.Comments.{all_listed_flags, fuzzy_of, is_fuzzy_flag, listed_flags, texts_of}
-use Rattle.po_entry.specs.Header.{IsAdmittedName, admitted_names}
+use Rattle.po_entry.specs.Header.{IsAdmittedName}
 use Rattle.po_entry.specs.CommentLists.{ListsFlags, HaveFuzzyFlag, here, later}
 use Rattle.po_entry.proofs.ListedElements.{flags_listed}
 
@@ -69,6 +69,9 @@ flagged_fuzzy (later {first = first} {after = after} h) = by first.kind first.te
 
 pub fuzzy_where_flagged : (comment_texts : List CommentText) → Decides (fuzzy_of comment_texts) (HaveFuzzyFlag comment_texts)
 fuzzy_where_flagged comment_texts = (fuzzy_flagged comment_texts, flagged_fuzzy)
+
+abbrev admitted_names : List (List ℕ)
+admitted_names = [] ∷ codes "utf-8" ∷ codes "utf8" ∷ codes "us-ascii" ∷ codes "ascii" ∷ codes "charset" ∷ []
 
 -- the admitted name at each place of the list
 name_at : (k : ℕ) (name : List ℕ) → k < 6 → get_or admitted_names k name ≡ name → NamesAdmitted name

@@ -17,9 +17,9 @@ pub no_comment_last : (items : List TextItem) → AreComments items → EndsInSt
 no_comment_last [] c h = refl
 no_comment_last (Comment kind text line ∷ []) c h = absurd h
 no_comment_last (Comment kind text line ∷ next ∷ items) c h =
-    let none : next ∷ items ≡ [] = no_comment_last (next ∷ items) c.1 h in absurd (cc)
-no_comment_last (Word keyword marks line ∷ items) c h = absurd c.0
-no_comment_last (Str bytes marks line ∷ items) c h = absurd c.0
+    let none : next ∷ items ≡ [] = no_comment_last (next ∷ items) c h in absurd (cc)
+no_comment_last (Word keyword marks line ∷ items) c h = absurd c
+no_comment_last (Str bytes marks line ∷ items) c h = absurd c
 
 pub entries_joined : {prefix rest : List TextItem} {first others : List TextEntry} → SpellsEntries prefix first → EndsInString prefix → SpellsEntries rest others → SpellsEntries (prefix ++ rest) (first ++ others)
 entries_joined (comments {items = items} c) ends g = rw (no_comment_last items c ends) g

@@ -1,5 +1,5 @@
 -- The references and flags that are found in comment lines are those that the lines list.
-use Rattle.std.proofs.Common.{◌≡◌, ◌≢◌, inl, inr, ◌∙◌, refl, sym, ap, subst, ℕ, true, false, not, ◌||◌, cond, List, [], ◌∷◌, ◌++◌, append_assoc, append-nil, length, take, map, filter, fold, codes, bytes_eq, All, arith}
+use Rattle.std.proofs.Common.{◌≡◌, ◌≢◌, inl, inr, ◌∙◌, refl, sym, ap, subst, ℕ, true, false, not, ◌||◌, cond, List, [], ◌∷◌, ◌++◌, append_assoc, append-nil, length, get_or, take, map, filter, fold, codes, bytes_eq, All, arith}
 use Rattle.std.specs.Prelude.{◌↔◌, Contains}
 use Rattle.std.specs.List.{list_any, prefix_len}
 use Rattle.std.proofs.lemmas.Bool.{cases_Bool, or_from, or_left, or_right, cond-true, cond-false, eqb-true, eqb-false, ne_eqb, both_ways, false_from_ne_true}
@@ -9,20 +9,19 @@ use Rattle.std.proofs.lemmas.List.Splits.{slice_split_none, slice_split_at, slic
 use Rattle.std.proofs.lemmas.List.Sums.{fold_push}
 use Rattle.std.proofs.lemmas.Map.Views.{Contains-from_any}
 use Rattle.std.proofs.lemmas.Slice.Eq.{bytes_eq-Decides}
-use Rattle.po_syntax.specs.Facts.Runs.{FailsFirst, parts_of, end_parts, kept_is, from_end}
-use Rattle.po_syntax.specs.Spelling.{IsBlank}
-use Rattle.po_syntax.specs.Blanks.{is_blank, skip_blanks}
-use Rattle.po_syntax.proofs.SpeltKeywords.{blank_says, blank_passes, skip_prefix}
-use Rattle.po_entry.specs.Bytes.{Lacks, without_end_blanks, trimmed}
+use Rattle.po_syntax.specs.Facts.Runs.{parts_of, end_parts, kept_is, from_end}
+use Rattle.po_syntax.specs.Blanks.{is_blank, IsBlank, skip_blanks, FailsFirst, without_end}
+use Rattle.po_syntax.proofs.SpeltKeywords.{skip_prefix}
+use Rattle.po_entry.specs.Bytes.{Lacks, trimmed}
 use Rattle.po_entry.specs.EntryParts.{CommentText}
 use Rattle.po_entry.specs.Comments.{is_not_empty, listed_references, is_comma, listed_flags, all_listed_flags, is_fuzzy_flag, with_flag, flags_of}
 use Rattle.po_entry.specs.CommentLists.{EndsReference, ListsReferences, no_text, blank, reference, IsWithoutBlanks, NamesFlag, no_flag, flag, ListsFlags, last, more, KeepsFlags, none, first, fuzzy, repeated}
 
 no_blank : (b : ℕ) → is_blank b ≡ false → IsBlank b → ⊥
-no_blank b e h = both_ways (is_blank b) e (blank_passes h)
+no_blank b e h = both_ways (is_blank b) e h
 
 blank_fails : (b : ℕ) → (IsBlank b → ⊥) → is_blank b ≡ false
-blank_fails b h = false_from_ne_true (is_blank b) (λ e. h (blank_says b e))
+blank_fails b h = false_from_ne_true (is_blank b) h
 
 -- a part of a list that was cut is among the elements unless it is empty
 abbrev kept : List ℕ → List (List ℕ) → List (List ℕ)
@@ -39,12 +38,12 @@ some_element b element e = cc
 before_end : (prefix : List ℕ) → All (λ b. is_blank b ≡ false) prefix → ListsReferences prefix (kept prefix [])
 before_end [] all = no_text
 before_end (b ∷ prefix) all =
-    subst (ListsReferences (b ∷ prefix)) (sym (some_kept b prefix [])) (subst (λ t. ListsReferences t ((b ∷ prefix) ∷ [])) (append-nil (b ∷ prefix)) (reference (some_element b prefix) (λ k d below. no_blank _ (all k d below)) tt no_text))
+    subst (ListsReferences (b ∷ prefix)) (sym (some_kept b prefix [])) (subst (λ t. ListsReferences t ((b ∷ prefix) ∷ [])) (append-nil (b ∷ prefix)) (reference (some_element b prefix) (λ k d below. no_blank (get_or (b ∷ prefix) k d) (all k d below)) tt no_text))
 
 before_blank : (prefix : List ℕ) (b : ℕ) (text : List ℕ) (elements : List (List ℕ)) → All (λ b. is_blank b ≡ false) prefix → is_blank b ≡ true → ListsReferences text elements → ListsReferences (prefix ++ b ∷ text) (kept prefix elements)
-before_blank [] b text elements all e later = blank (blank_says b e) later
+before_blank [] b text elements all e later = blank e later
 before_blank (a ∷ prefix) b text elements all e later =
-    subst (ListsReferences ((a ∷ prefix) ++ b ∷ text)) (sym (some_kept a prefix elements)) (reference (some_element a prefix) (λ k d below. no_blank _ (all k d below)) (blank_says b e) (blank (blank_says b e) later))
+    subst (ListsReferences ((a ∷ prefix) ++ b ∷ text)) (sym (some_kept a prefix elements)) (reference (some_element a prefix) (λ k d below. no_blank (get_or (a ∷ prefix) k d) (all k d below)) e (blank e later))
 
 lists : (text prefix : List ℕ) → All (λ b. is_blank b ≡ false) prefix → ListsReferences (prefix ++ text) (listed_references (prefix ++ text))
 lists [] prefix all =
@@ -65,16 +64,16 @@ elements_prefix (b ∷ element) some elements = some_kept b element elements
 
 element_then : (element rest : List ℕ) → element ≢ [] → All (λ b. IsBlank b → ⊥) element → EndsReference rest → listed_references (element ++ rest) ≡ element ∷ listed_references rest
 element_then element [] some all ends =
-    let fails : All (λ b. is_blank b ≡ false) element = λ k d below. blank_fails _ (all k d below) in
+    let fails : All (λ b. is_blank b ≡ false) element = λ k d below. blank_fails (get_or element k d) (all k d below) in
     ap listed_references (append-nil element) ∙ ap (filter is_not_empty) (slice_split_none is_blank element fails) ∙ elements_prefix element some []
 element_then element (b ∷ rest) some all ends =
-    let fails : All (λ b. is_blank b ≡ false) element = λ k d below. blank_fails _ (all k d below) in
-    ap (filter is_not_empty) (slice_split_at is_blank element b rest fails (blank_passes ends)) ∙ elements_prefix element some (listed_references rest)
-    ∙ ap (λ l. element ∷ l) (sym (ap (filter is_not_empty) (slice_split-cons_yes is_blank b rest (blank_passes ends))))
+    let fails : All (λ b. is_blank b ≡ false) element = λ k d below. blank_fails (get_or element k d) (all k d below) in
+    ap (filter is_not_empty) (slice_split_at is_blank element b rest fails ends) ∙ elements_prefix element some (listed_references rest)
+    ∙ ap (λ l. element ∷ l) (sym (ap (filter is_not_empty) (slice_split-cons_yes is_blank b rest ends)))
 
 are_elements : {text : List ℕ} {elements : List (List ℕ)} → ListsReferences text elements → elements ≡ listed_references text
 are_elements no_text = refl
-are_elements (blank {b = b} {text = text} is later) = are_elements later ∙ sym (ap (filter is_not_empty) (slice_split-cons_yes is_blank b text (blank_passes is)))
+are_elements (blank {b = b} {text = text} is later) = are_elements later ∙ sym (ap (filter is_not_empty) (slice_split-cons_yes is_blank b text is))
 are_elements (reference {element = element} {rest = rest} some all ends later) = ap (λ l. element ∷ l) (are_elements later) ∙ sym (element_then element rest some all ends)
 
 pub references_listed : (text : List ℕ) (references : List (List ℕ)) → (references ≡ listed_references text) ↔ ListsReferences text references
@@ -97,8 +96,8 @@ trimmed_is text =
       before = take (prefix_len is_blank text) text;
       after = end.end;
       whole = sym start.whole ∙ ap (λ l. take (prefix_len is_blank text) text ++ l) end.whole;
-      before_blank = λ k d below. blank_says _ (start.passes k d below);
-      after_blank = λ k d below. blank_says _ (end.passes k d below);
+      before_blank = start.passes;
+      after_blank = end.passes;
       no_first = no_first_blank (trimmed text) (first_kept (trimmed text) end.end (subst (FailsFirst is_blank) end.whole start.ends));
       no_last = λ prefix b e is. no_blank b (end.fails prefix b e) is;
     }
@@ -107,14 +106,13 @@ trimmed_is text =
 all_blank : (text : List ℕ) → All IsBlank text → trimmed text ≡ []
 all_blank text all =
     let nothing : skip_blanks text ≡ [] = ap skip_blanks (sym (append-nil text)) ∙ skip_prefix text [] all tt in
-    ap without_end_blanks nothing
+    ap (without_end is_blank) nothing
 
 is_trimmed : (text kept : List ℕ) → IsWithoutBlanks text kept → trimmed text ≡ kept
 is_trimmed text [] h = ap trimmed h.whole ∙ all_blank (h.before ++ h.after) (All-append IsBlank h.before h.after h.before_blank h.after_blank)
 is_trimmed text (b ∷ kept) h =
-    let after_passes : All (λ c. is_blank c ≡ true) h.after = λ k d below. blank_passes (h.after_blank k d below) in
     let start = skip_prefix h.before ((b ∷ kept) ++ h.after) h.before_blank (blank_fails b (h.no_first b kept refl)) in
-    ap trimmed h.whole ∙ ap without_end_blanks start ∙ kept_is is_blank (b ∷ kept) (λ prefix c e. blank_fails c (h.no_last prefix c e)) h.after after_passes
+    ap trimmed h.whole ∙ ap (without_end is_blank) start ∙ kept_is is_blank (b ∷ kept) (λ prefix c e. blank_fails c (h.no_last prefix c e)) h.after h.after_blank
 
 -- flags
 

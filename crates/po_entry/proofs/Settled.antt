@@ -1,5 +1,5 @@
 -- It is known of the texts and of the charset of an entry whether they are admitted.
-use Rattle.std.proofs.Common.{◌≢◌, ℕ, List, [], ◌∷◌, Option, Some, None, map, IsUtf8, inl, inr, ◌⊎◌, sym, ◌∙◌, arith}
+use Rattle.std.proofs.Common.{◌≢◌, ℕ, List, [], ◌∷◌, Option, Some, None, map, codes, IsUtf8, inl, inr, ◌⊎◌, sym, ◌∙◌, arith}
 use Rattle.std.specs.Prelude.{All, Contains, IfSome, bytes_eq}
 use Rattle.std.specs.Str.{is_utf8}
 use Rattle.std.proofs.lemmas.Bool.{cases_Bool, cases_eq, false≢true}
@@ -11,7 +11,7 @@ use Rattle.po_syntax.specs.declared.fault.PoFault.{PoFault}
 use Rattle.po_syntax.specs.declared.fault.PoFault.TheVariants.{NotUtf8, ForbiddenByte}
 use Rattle.po_entry.specs.TextEntry.{TextEntry, quoted_texts}
 use Rattle.po_entry.specs.Bytes.{Lacks}
-use Rattle.po_entry.specs.Header.{HasAdmittedCharset, admitted_names, charset_of, first_form, is_header}
+use Rattle.po_entry.specs.Header.{HasAdmittedCharset, charset_of, first_form, is_header}
 use Rattle.po_entry.specs.Validity.{HasTexts, IsClean, EntryTextFault, not_utf8, forbidden}
 
 -- the claim holds, or it doesn't
@@ -71,6 +71,6 @@ texts_or_fault entry = elim (all_settled IsUtf8 utf8_settled (quoted_texts entry
 -- its charset is admitted where it is a header, or it isn't
 pub charset_settled : (entry : TextEntry) → Settled (HasAdmittedCharset entry)
 charset_settled entry = elim (cases_Bool (is_header entry)) [
-  | inl header ↦ elim (contains_settled admitted_names (map to_ascii_lowercase (charset_of (first_form entry.forms)))) [ inl admitted ↦ inl (λ t. admitted) | inr never ↦ inr (λ h. never (h header)) ]
+  | inl header ↦ elim (contains_settled ([] ∷ codes "utf-8" ∷ codes "utf8" ∷ codes "us-ascii" ∷ codes "ascii" ∷ codes "charset" ∷ []) (map to_ascii_lowercase (charset_of (first_form entry.forms)))) [ inl admitted ↦ inl (λ t. admitted) | inr never ↦ inr (λ h. never (h header)) ]
   | inr none ↦ inl (λ t. absurd (false≢true (sym none ∙ t)))
 ]

@@ -1,20 +1,15 @@
 -- Texts that lack a byte, texts without the blanks at their ends, and texts that differ (manual,
 -- "The Format of PO Files").
-use Rattle.std.specs.Prelude.{◌≢◌, ℕ, ◌-◌, List, [], ◌∷◌, All, Contains, length, take}
-use Rattle.std.specs.List.{suffix_len}
-use Rattle.po_syntax.specs.Blanks.{is_blank, skip_blanks}
+use Rattle.std.specs.Prelude.{◌≢◌, ℕ, List, [], ◌∷◌, All, Contains}
+use Rattle.po_syntax.specs.Blanks.{is_blank, skip_blanks, without_end}
 
 -- the text holds no such byte
 abbrev pub Lacks : ℕ → List ℕ → Type 0
 Lacks byte text = All (λ b. b ≢ byte) text
 
--- the text without the blanks at its end
-abbrev pub without_end_blanks : List ℕ → List ℕ
-without_end_blanks text = take (length text - suffix_len is_blank text) text
-
 -- the text without the blanks at its ends
 abbrev pub trimmed : List ℕ → List ℕ
-trimmed text = without_end_blanks (skip_blanks text)
+trimmed text = without_end is_blank (skip_blanks text)
 
 -- no text stands twice in the list
 abbrev pub AreDistinct : List (List ℕ) → Type 0

@@ -1,7 +1,7 @@
 -- The references and flags that comment lines list, with a case for each part of a line (manual,
 -- "The Format of PO Files").
 use Rattle.std.specs.Prelude.{◌≡◌, ◌≢◌, ℕ, List, [], ◌∷◌, ◌++◌, All, Contains, codes}
-use Rattle.po_syntax.specs.Spelling.{IsBlank}
+use Rattle.po_syntax.specs.Blanks.{IsBlank}
 use Rattle.po_syntax.specs.declared.item.CommentKind.TheVariants.{Flags}
 use Rattle.po_entry.specs.Bytes.{Lacks}
 use Rattle.po_entry.specs.EntryParts.{CommentText}

@@ -5,10 +5,12 @@ use Rattle.std.specs.Prelude.{fold, bytes_eq, codes, length, if◌then◌else◌
 use Rattle.std.specs.List.{slice_split, list_any}
 use Rattle.po_syntax.specs.declared.item.CommentKind.{CommentKind}
 use Rattle.po_syntax.specs.declared.item.CommentKind.TheVariants.{Translator, Extracted, Reference, Flags}
+use Rattle.po_syntax.specs.declared.item.Keyword.{Keyword}
+use Rattle.po_syntax.specs.declared.item.Keyword.TheVariants.{MsgCtxt, MsgId}
 use Rattle.po_entry.specs.TextEntry.{TextPrevious, no_previous}
 use Rattle.po_syntax.specs.Blanks.{is_blank}
 use Rattle.po_entry.specs.Bytes.{trimmed}
-use Rattle.po_entry.specs.EntryParts.{CommentText, PreviousText, rank}
+use Rattle.po_entry.specs.EntryParts.{CommentText, PreviousText}
 
 -- whether two of the four kinds of comments are the same
 abbrev pub same_kind : CommentKind → CommentKind → Bool
@@ -20,9 +22,7 @@ same_kind a b = false
 
 -- the texts of the comments of a kind, in order
 abbrev pub texts_of : CommentKind → List CommentText → List (List ℕ)
-texts_of kind comment_texts =
-    map (λ (comment_text : CommentText). comment_text.text)
-    (filter (λ (comment_text : CommentText). same_kind kind comment_text.kind) comment_texts)
+texts_of kind comments = map (λ (c : CommentText). c.text) (filter (λ (c : CommentText). same_kind kind c.kind) comments)
 
 abbrev pub is_not_empty : List ℕ → Bool
 is_not_empty text = not (length text == 0)
@@ -38,13 +38,6 @@ is_comma b = b == 44
 -- left out
 abbrev pub listed_flags : List ℕ → List (List ℕ)
 listed_flags text = filter is_not_empty (map trimmed (slice_split is_comma text))
-
--- the translator's comments
-abbrev pub comments_of : List CommentText → List (List ℕ)
-comments_of comment_texts = texts_of Translator comment_texts
-
-abbrev pub extracted_of : List CommentText → List (List ℕ)
-extracted_of comment_texts = texts_of Extracted comment_texts
 
 -- the elements of all reference lines, in order, repeats too
 abbrev pub references_of : List CommentText → List (List ℕ)
@@ -70,13 +63,11 @@ abbrev pub flags_of : List CommentText → List (List ℕ)
 flags_of comment_texts = fold with_flag [] (all_listed_flags comment_texts)
 
 -- the previous texts with one more, in its field: of the context, of the msgid, else of the plural
-abbrev pub with_previous : TextPrevious → PreviousText → TextPrevious
-with_previous fields previous =
-    if rank previous.keyword == 1 then record { context = Some previous.text; id = fields.id; plural = fields.plural }
-    else if rank previous.keyword == 2
-    then record { context = fields.context; id = Some previous.text; plural = fields.plural }
-    else record { context = fields.context; id = fields.id; plural = Some previous.text }
+abbrev pub with_previous : Keyword → List ℕ → TextPrevious → TextPrevious
+with_previous MsgCtxt text fields = record fields { context = Some text }
+with_previous MsgId text fields = record fields { id = Some text }
+with_previous keyword text fields = record fields { plural = Some text }
 
 -- each previous text in its field
 abbrev pub previous_of : List PreviousText → TextPrevious
-previous_of previous = fold with_previous no_previous previous
+previous_of previous = fold (λ fields (p : PreviousText). with_previous p.keyword p.text fields) no_previous previous

@@ -3,7 +3,7 @@
 use Rattle.std.specs.Prelude.{ℕ, Bool, List, Option}
 use Rattle.po_syntax.specs.declared.item.CommentKind.{CommentKind}
 use Rattle.po_syntax.specs.declared.item.Keyword.{Keyword}
-use Rattle.po_syntax.specs.declared.item.Keyword.TheVariants.{MsgCtxt, MsgId, MsgIdPlural, MsgStr, MsgStrAt}
+use Rattle.po_syntax.specs.declared.item.Keyword.TheVariants.{MsgCtxt, MsgId, MsgIdPlural}
 
 -- a comment, with its kind: the text after its mark
 pub record CommentText : Type 0 where
@@ -21,8 +21,7 @@ abbrev pub rank : Keyword → ℕ
 rank MsgCtxt = 1
 rank MsgId = 2
 rank MsgIdPlural = 3
-rank MsgStr = 0
-rank (MsgStrAt index) = 0
+rank keyword = 0
 
 -- what an entry's own lines say, from its context or msgid to its last form; `id` is its msgid, and
 -- `line` the line of the keyword `msgid`

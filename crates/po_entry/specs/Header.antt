@@ -1,6 +1,6 @@
 -- The header of a catalogue, and the charset that it names (manual, "Filling in the Header Entry").
 use Rattle.std.specs.Prelude.{◌≡◌, ℕ, Bool, true, ◌||◌, ◌==◌, nat_eq, List, [], ◌∷◌, Contains, map, drop, length, codes}
-use Rattle.std.specs.Prelude.{is_none, ◌&&◌, if◌then◌else◌}
+use Rattle.std.specs.Prelude.{is_none, slice_index_or, ◌&&◌, if◌then◌else◌}
 use Rattle.std.specs.List.{starts_with, before_first}
 use Rattle.std.specs.Char.{to_ascii_lowercase}
 use Rattle.po_entry.specs.TextEntry.{TextEntry}
@@ -24,19 +24,16 @@ ends_name b = b == 32 || b == 9 || b == 13 || b == 10 || b == 59
 abbrev pub charset_of : List ℕ → List ℕ
 charset_of text = before_first ends_name (after_charset text)
 
--- the names that are admitted, in lowercase: none, UTF-8, ASCII, and the `CHARSET` of a template
-abbrev pub admitted_names : List (List ℕ)
-admitted_names =
-    [] ∷ codes "utf-8" ∷ codes "utf8" ∷ codes "us-ascii" ∷ codes "ascii" ∷ codes "charset" ∷ []
-
--- a charset's name is admitted, whatever the case of its letters
+-- a charset's name is admitted, whatever the case of its letters: none, UTF-8, ASCII, and the `CHARSET`
+-- of a template
 abbrev pub IsAdmittedName : List ℕ → Type 0
-IsAdmittedName name = Contains admitted_names (map to_ascii_lowercase name)
+IsAdmittedName name =
+    Contains ([] ∷ codes "utf-8" ∷ codes "utf8" ∷ codes "us-ascii" ∷ codes "ascii" ∷ codes "charset" ∷ [])
+    (map to_ascii_lowercase name)
 
 -- the first of an entry's forms; the empty text where there is none
 abbrev pub first_form : List (List ℕ) → List ℕ
-first_form [] = []
-first_form (form ∷ forms) = form
+first_form forms = slice_index_or forms 0 []
 
 -- the charset of an entry is admitted, if the entry is a header
 abbrev pub HasAdmittedCharset : TextEntry → Type 0

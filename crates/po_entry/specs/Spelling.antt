@@ -2,13 +2,15 @@
 -- in turn, and then comments that belong to no entry.
 use Rattle.std.specs.Prelude.{ℕ, ◌+◌, Bool, true, false, List, [], ◌∷◌, ◌++◌, map, Option, Some, None}
 use Rattle.po_syntax.specs.declared.item.CommentKind.{CommentKind}
+use Rattle.po_syntax.specs.declared.item.CommentKind.TheVariants.{Translator, Extracted}
 use Rattle.po_syntax.specs.declared.item.Keyword.{Keyword}
 use Rattle.po_syntax.specs.declared.item.Keyword.TheVariants.{MsgCtxt, MsgId, MsgIdPlural, MsgStr, MsgStrAt}
 use Rattle.po_syntax.specs.declared.item.Marks.{Marks}
+pub use Rattle.po_syntax.specs.Spelling.{own_marks, previous_marks}
 use Rattle.po_syntax.specs.TextItem.{TextItem, Comment, Word, Str}
 use Rattle.po_entry.specs.TextEntry.{TextEntry}
 use Rattle.po_entry.specs.EntryParts.{CommentText, PreviousText, Body}
-use Rattle.po_entry.specs.Comments.{comments_of, extracted_of, references_of, fuzzy_of, flags_of, previous_of}
+use Rattle.po_entry.specs.Comments.{texts_of, references_of, fuzzy_of, flags_of, previous_of}
 
 -- one string or more, all under these marks: their bytes, joined
 pub data SpellsStrings (marks : Marks) : List TextItem → List ℕ → Type 0 where
@@ -20,14 +22,6 @@ pub data SpellsStrings (marks : Marks) : List TextItem → List ℕ → Type 0 w
 pub data SpellsKeywordText (keyword : Keyword) (marks : Marks) (line : ℕ) : List TextItem → List ℕ → Type 0 where
   keyword_text : {strings : List TextItem} {text : List ℕ} → SpellsStrings marks strings text
       → SpellsKeywordText keyword marks line (Word keyword marks line ∷ strings) text
-
--- the marks of an entry's own lines
-abbrev pub own_marks : Bool → Marks
-own_marks obsolete = record { obsolete = obsolete; previous = false }
-
--- the marks of previous texts, whose lines begin with `#|` or `#~|`
-abbrev pub previous_marks : Bool → Marks
-previous_marks obsolete = record { obsolete = obsolete; previous = true }
 
 -- an entry's head: comments, and previous texts among them, each of which may be under `#|` or
 -- `#~|`
@@ -88,8 +82,8 @@ pub data SpellsBody : List TextItem → Body → Type 0 where
 -- the entry with this head and this body
 abbrev pub entry_from : List CommentText → List PreviousText → Body → TextEntry
 entry_from comment_texts previous body = record {
-  comments = comments_of comment_texts;
-  extracted = extracted_of comment_texts;
+  comments = texts_of Translator comment_texts;
+  extracted = texts_of Extracted comment_texts;
   references = references_of comment_texts;
   fuzzy = fuzzy_of comment_texts;
   flags = flags_of comment_texts;
@@ -108,15 +102,11 @@ pub data SpellsEntry : List TextItem → TextEntry → Type 0 where
       → SpellsHead head comment_texts previous → AreInOrder previous → SpellsBody own body
       → SpellsEntry (head ++ own) (entry_from comment_texts previous body)
 
--- a comment of any kind
-abbrev pub IsCommentItem : TextItem → Type 0
-IsCommentItem (Comment kind text line) = Unit {0}
-IsCommentItem (Word keyword marks line) = ⊥
-IsCommentItem (Str bytes marks line) = ⊥
-
+-- comments of any kind, and no other items
 abbrev pub AreComments : List TextItem → Type 0
 AreComments [] = Unit {0}
-AreComments (item ∷ items) = IsCommentItem item × AreComments items
+AreComments (Comment kind text line ∷ items) = AreComments items
+AreComments (item ∷ items) = ⊥
 
 -- the items of each entry in turn, and then comments that belong to no entry, which are dropped;
 -- comments between two entries are in the head of the second

@@ -40,7 +40,7 @@ pub head_at_end : {above : ℕ} {items rest : List TextItem} {comment_texts : Li
 head_at_end (over {above = above} step) e =
     let ended = rw e at step in elim (head_end above) [ inl ends ↦ (ends.0, rw e tt) | inr refused ↦ absurd (cc (ended, refused)) ]
 head_at_end (head_comment {above = above} {kind = kind} {text = text} {items = items} {after = after} step h) e =
-    let ends = head_at_end h e in (ends.0, subst AreComments (sym (comment_taken above items after kind text step).1) (tt, ends.1))
+    let ends = head_at_end h e in (ends.0, subst AreComments (sym (comment_taken above items after kind text step).1) ends.1)
 head_at_end (previous {above = above} {keyword = keyword} {marks = marks} {items = items} {text = text} step strings h) e =
     let here = previous_taken above items text keyword marks step in
     absurd (omega (arith, here.3, (head_at_end h e).0))

@@ -13,9 +13,9 @@ holds_nothing head comments extracted references flags previous = record {
   texts = previous;
 }
 
-pub holds_previous : (head : Head) (fields : TextPrevious) (comment_texts : List CommentText) (previous : List PreviousText) (text : PreviousText) → HoldsHead head comment_texts previous → fields ≡ with_previous head.previous text
+pub holds_previous : (head : Head) (fields : TextPrevious) (comment_texts : List CommentText) (previous : List PreviousText) (text : PreviousText) → HoldsHead head comment_texts previous → fields ≡ with_previous text.keyword text.text head.previous
     → HoldsHead (record head { previous = fields }) comment_texts (previous ++ text ∷ [])
 holds_previous head fields comment_texts previous text h e = record {
   head_comments = record { comments = h.head_comments.comments; extracted = h.head_comments.extracted; references = h.head_comments.references; flags = h.head_comments.flags };
-  texts = e ∙ ap (λ (p : TextPrevious). with_previous p text) h.texts ∙ sym (fold_push with_previous no_previous previous text);
+  texts = e ∙ ap (λ (p : TextPrevious). with_previous text.keyword text.text p) h.texts ∙ sym (fold_push (λ fields (p : PreviousText). with_previous p.keyword p.text fields) no_previous previous text);
 }

@@ -25,31 +25,31 @@ use Rattle.po_syntax.proofs.Uniqueness.{text_once as items_once, text_not_faulty
 over_end : (above : ℕ) (items : List TextItem) → head.head_step above items ≡ head.Over → AreComments items → items ≡ []
 over_end above [] e only = refl
 over_end above (Comment k t l ∷ items) e only = cc
-over_end above (Word k m l ∷ items) e only = absurd only.0
-over_end above (Str b m l ∷ items) e only = absurd only.0
+over_end above (Word k m l ∷ items) e only = absurd only
+over_end above (Str b m l ∷ items) e only = absurd only
 
 -- comments alone are a head up to the end
 comments_end : {above : ℕ} {items rest : List TextItem} {a : List CommentText} {p : List PreviousText} → head.IsHead above items a p rest → AreComments items → rest ≡ []
 comments_end (head.over {above = above} {items = items} e) only = over_end above items e only
 comments_end (head.head_comment {above = above} {kind = kind} {text = text} {items = items} {after = after} e h) only =
-    comments_end h (subst AreComments (comment_taken above items after kind text e).1 only).1
+    comments_end h (subst AreComments (comment_taken above items after kind text e).1 only)
 comments_end (head.previous {above = above} {keyword = keyword} {marks = marks} {items = items} {text = text} e s h) only =
-    absurd (subst AreComments (previous_taken above items text keyword marks e).1 only).0
+    absurd (subst AreComments (previous_taken above items text keyword marks e).1 only)
 
 refused_comments : (items : List TextItem) (kind : PoFault) → head.head_step 0 items ≡ head.Refuse kind → AreComments items → ⊥
 refused_comments [] kind e only = cc
 refused_comments (Comment k t l ∷ items) kind e only = cc
-refused_comments (Word k m l ∷ items) kind e only = only.0
-refused_comments (Str b m l ∷ items) kind e only = only.0
+refused_comments (Word k m l ∷ items) kind e only = only
+refused_comments (Str b m l ∷ items) kind e only = only
 
 comments_go_on : {end line above : ℕ} {kind : PoFault} {items : List TextItem} → stop.HeadStops end above items kind line → above ≡ 0 → AreComments items → ⊥
 comments_go_on (stop.refused {above = above} {items = items} {fault = kind} e l) zero only = refused_comments items kind (subst (λ (a : ℕ). head.head_step a items ≡ head.Refuse kind) zero e) only
 comments_go_on (stop.in_previous {above = above} {keyword = keyword} {marks = marks} {items = items} {text = text} e s) zero only =
-    (subst AreComments (previous_taken above items text keyword marks e).1 only).0
+    subst AreComments (previous_taken above items text keyword marks e).1 only
 comments_go_on (stop.after_comment {above = above} {kind = kind} {text = text} {items = items} {after = after} e h) zero only =
-    comments_go_on h zero (subst AreComments (comment_taken above items after kind text e).1 only).1
+    comments_go_on h zero (subst AreComments (comment_taken above items after kind text e).1 only)
 comments_go_on (stop.after_previous {above = above} {keyword = keyword} {marks = marks} {items = items} {text = text} e s h) zero only =
-    (subst AreComments (previous_taken above items text keyword marks e).1 only).0
+    subst AreComments (previous_taken above items text keyword marks e).1 only
 
 reads_once : {items others : List TextItem} {a b : List TextEntry} → items ≡ others → Reads items a → Reads others b → a ≡ b
 reads_once i (comments only) (comments also) = refl

@@ -4,7 +4,7 @@ use Rattle.std.specs.Bool.{beq}
 use Rattle.std.specs.Cmp.{bool_eq_equiv, booleans_Decides}
 use Rattle.std.proofs.lemmas.Bool.{and_parts}
 use Rattle.po_syntax.specs.declared.item.Marks.{Marks}
-use Rattle.po_syntax.specs.Spelling.{marked}
+use Rattle.po_syntax.specs.Spelling.{own_marks, previous_marks}
 use Rattle.po_reader.specs.Internal.Strings.{same_marks}
 
 pub same_marks-refl : (marks : Marks) → same_marks marks marks ≡ true
@@ -13,5 +13,5 @@ same_marks-refl marks = rw (bool_eq_equiv.refl marks.obsolete, bool_eq_equiv.ref
 pub same_marks_true : (a b : Marks) → same_marks a b ≡ true → a ≡ b
 same_marks_true a b e =
     let both = and_parts (beq a.obsolete b.obsolete) (beq a.previous b.previous) e in
-    let same : marked a.obsolete a.previous ≡ marked b.obsolete b.previous = ap₂ marked ((booleans_Decides a.obsolete b.obsolete).0 both.0) ((booleans_Decides a.previous b.previous).0 both.1) in
+    let same : record { obsolete = a.obsolete; previous = a.previous } ≡ record { obsolete = b.obsolete; previous = b.previous } = ap₂ (λ o p. record { obsolete = o; previous = p }) ((booleans_Decides a.obsolete b.obsolete).0 both.0) ((booleans_Decides a.previous b.previous).0 both.1) in
     same

@@ -9,7 +9,7 @@ use Rattle.po_syntax.specs.TextItem.{TextItem}
 use Rattle.po_entry.specs.TextEntry.{TextEntry}
 use Rattle.po_entry.specs.Bytes.{AreDistinct}
 use Rattle.po_entry.specs.EntryParts.{Body, CommentText, PreviousText}
-use Rattle.po_entry.specs.Comments.{texts_of, comments_of, extracted_of, references_of, all_listed_flags, flags_of}
+use Rattle.po_entry.specs.Comments.{texts_of, references_of, all_listed_flags, flags_of}
 use Rattle.po_entry.specs.Validity.{HasTexts, IsEntry, IsTranslatorComment, IsReference, IsFlag}
 use Rattle.po_entry.specs.Facts.AllAppend.{All-left, All-right}
 use Rattle.po_entry.specs.Spelling.{entry_from, SpellsEntries, comments, entries, entry}
@@ -30,14 +30,14 @@ pub record SoundEntry (spelt : TextEntry) : Type 0 where
 
 entry_sound : (comment_texts : List CommentText) (previous : List PreviousText) (own : Body) → All SoundCommentText comment_texts → SoundBody own → SoundEntry (entry_from comment_texts previous own)
 entry_sound comment_texts previous own n b =
-    let translator : All (IsCommentOf Translator) (comments_of comment_texts) = kind_sound Translator comment_texts n in
-    let extracted : All (IsCommentOf Extracted) (extracted_of comment_texts) = kind_sound Extracted comment_texts n in
+    let translator : All (IsCommentOf Translator) (texts_of Translator comment_texts) = kind_sound Translator comment_texts n in
+    let extracted : All (IsCommentOf Extracted) (texts_of Extracted comment_texts) = kind_sound Extracted comment_texts n in
     let references : All IsReference (references_of comment_texts) = references_sound (texts_of Reference comment_texts) (kind_sound Reference comment_texts n) in
     let elements : All SoundFlagElement (all_listed_flags comment_texts) = all_flag_elements_sound (texts_of Flags comment_texts) (kind_sound Flags comment_texts n) in
     let flags : SoundFlags (flags_of comment_texts) = flags_sound (all_listed_flags comment_texts) [] (record { all = All-nil IsFlag; distinct = tt }) elements in
     record {
       comments = translator;
-      extracted = All-weaker (IsCommentOf Extracted) IsComment (λ text h. h.comment) (extracted_of comment_texts) extracted;
+      extracted = All-weaker (IsCommentOf Extracted) IsComment (λ text h. h.comment) (texts_of Extracted comment_texts) extracted;
       references = references;
       flags = flags.all;
       distinct_flags = flags.distinct;

@@ -111,8 +111,8 @@ head_read (spell.previous_text {keyword = keyword} {obsolete = obsolete} {line =
 comments_apart : (items : List TextItem) → spell.AreComments items → IsApart items
 comments_apart [] only = (refl, refl)
 comments_apart (Comment kind text line ∷ items) only = (refl, refl)
-comments_apart (Word keyword marks line ∷ items) only = absurd only.0
-comments_apart (Str bytes marks line ∷ items) only = absurd only.0
+comments_apart (Word keyword marks line ∷ items) only = absurd only
+comments_apart (Str bytes marks line ∷ items) only = absurd only
 
 pub entries_apart : {items : List TextItem} {entries : List TextEntry} → spell.SpellsEntries items entries → IsApart items
 entries_apart (spell.comments {items = items} only) = comments_apart items only

@@ -11,7 +11,7 @@ use Rattle.po_syntax.specs.declared.item.Keyword.{Keyword}
 use Rattle.po_syntax.specs.declared.item.Keyword.TheVariants.{MsgCtxt, MsgId}
 use Rattle.po_syntax.specs.declared.item.Marks.{Marks}
 use Rattle.po_syntax.specs.TextItem.{TextItem, Comment, Word, Str}
-use Rattle.po_syntax.specs.Spelling.{marked}
+use Rattle.po_syntax.specs.Spelling.{own_marks, previous_marks}
 use Rattle.po_entry.specs.Spelling.{own_marks, previous_marks}
 use Rattle.po_entry.specs.EntryParts.{rank}
 use Rattle.po_reader.specs.Internal.Strings as string
@@ -52,7 +52,7 @@ keyword_item wanted obsolete (Word keyword marks line) = chosen marks.previous r
       → KeywordDoes wanted obsolete (Word keyword marks line) (λ rest. keyword_reported p w s f keyword line rest)
   chosen true e w t s u f = inr (BadOrder, λ rest. refl)
   chosen false e true t true u f =
-      inl (keyword, line, ap₂ (λ o q. Word keyword (marked o q) line) (sym ((booleans_Decides obsolete marks.obsolete).0 u)) e, t, λ rest. refl)
+      inl (keyword, line, ap₂ (λ o q. Word keyword (record { obsolete = o; previous = q }) line) (sym ((booleans_Decides obsolete marks.obsolete).0 u)) e, t, λ rest. refl)
   chosen false e true t false u f = inr (MixedObsolete, λ rest. refl)
   chosen false e false t s u true = inr (BadPluralIndex, λ rest. refl)
   chosen false e false t s u false = inr (BadOrder, λ rest. refl)
@@ -68,11 +68,11 @@ pub start_item : (item : TextItem) → StartDoes item (λ rest. body.body_start 
 start_item (Word MsgCtxt marks line) = chosen marks.previous refl where
   chosen : (p : Bool) → marks.previous ≡ p → StartDoes (Word MsgCtxt marks line) (λ rest. if p then body.NoStart else body.WithContext marks.obsolete rest)
   chosen true e = StartDoes.starts_nothing (λ rest. refl)
-  chosen false e = StartDoes.contexts marks.obsolete line (ap (λ q. Word MsgCtxt (marked marks.obsolete q) line) e) (λ rest. refl)
+  chosen false e = StartDoes.contexts marks.obsolete line (ap (λ q. Word MsgCtxt (record { obsolete = marks.obsolete; previous = q }) line) e) (λ rest. refl)
 start_item (Word MsgId marks line) = chosen marks.previous refl where
   chosen : (p : Bool) → marks.previous ≡ p → StartDoes (Word MsgId marks line) (λ rest. if p then body.NoStart else body.WithoutContext marks.obsolete line rest)
   chosen true e = StartDoes.starts_nothing (λ rest. refl)
-  chosen false e = StartDoes.ids marks.obsolete line (ap (λ q. Word MsgId (marked marks.obsolete q) line) e) (λ rest. refl)
+  chosen false e = StartDoes.ids marks.obsolete line (ap (λ q. Word MsgId (record { obsolete = marks.obsolete; previous = q }) line) e) (λ rest. refl)
 start_item item = StartDoes.starts_nothing (λ rest. refl)
 
 pub data HeadDoes (above : ℕ) (item : TextItem) (step : List TextItem → head.HeadStep) : Type 0 where
@@ -92,7 +92,7 @@ head_item above (Comment kind text line) = HeadDoes.head_comments kind text line
 head_item above (Str bytes marks line) = HeadDoes.refuses BadOrder (λ rest. refl)
 head_item above (Word keyword marks line) = chosen marks.previous refl (nat_lt above (rank keyword)) refl (head.begins_body keyword) where
   chosen : (p : Bool) → marks.previous ≡ p → (r : Bool) → nat_lt above (rank keyword) ≡ r → (b : Bool) → HeadDoes above (Word keyword marks line) (λ rest. head_reported p r b keyword marks rest)
-  chosen true e true t b = HeadDoes.texts keyword marks line refl (ap (λ q. marked marks.obsolete q) e) (ltb-true above (rank keyword) t) (λ rest. refl)
+  chosen true e true t b = HeadDoes.texts keyword marks line refl (ap (λ q. record { obsolete = marks.obsolete; previous = q }) e) (ltb-true above (rank keyword) t) (λ rest. refl)
   chosen true e false t b = HeadDoes.refuses BadOrder (λ rest. refl)
   chosen false e r t true = HeadDoes.ends (λ rest. refl)
   chosen false e r t false = HeadDoes.refuses BadOrder (λ rest. refl)

@@ -3,7 +3,8 @@ use Rattle.std.proofs.Common.{◌≡◌, ℕ, Bool, true, List, [], ◌∷◌, �
 use Rattle.std.specs.Prelude.{All}
 use Rattle.std.specs.List.{prefix_len}
 use Rattle.std.proofs.lemmas.List.Elements.{All-nil, All-head, All-tail}
-use Rattle.po_syntax.specs.Facts.Runs.{FailsFirst, without_end, from_end, parts_of, run_length, end_parts, kept_is}
+use Rattle.po_syntax.specs.Blanks.{FailsFirst, without_end}
+use Rattle.po_syntax.specs.Facts.Runs.{from_end, parts_of, run_length, end_parts, kept_is}
 use Rattle.po_entry.specs.Facts.AllAppend.{All-left, All-right}
 
 abbrev Pass : (ℕ → Bool) → List ℕ → Type 0

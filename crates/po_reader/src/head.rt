@@ -146,7 +146,7 @@ fn add_kept_comment<'i>(
 /// Sets the previous text of this keyword.
 fn set_previous(previous: &mut Previous, keyword: Keyword, text: Vec<u8>)
     requires { 0 < rank keyword }
-    ensures { previous.new ≡ with_previous previous.old (record { keyword = keyword; text = text.items }) }
+    ensures { previous.new ≡ with_previous keyword text.items previous.old }
 {
     match keyword {
         Keyword::MsgCtxt => previous.context = Some(text),

@@ -1,15 +1,14 @@
 -- Each step inside a quoted string reads what spells its byte, or stops at a fault.
-use Rattle.std.proofs.Common.{◌≡◌, ◌==◌, ◌⊎◌, inl, inr, refl, sym, subst, ℕ, zero, suc, ◌+◌, ◌<◌, ◌≤◌, Bool, true, false, cond, if◌then◌else◌, nat_lt, List, [], ◌∷◌, ◌++◌, length, length-append, take, drop, Option, arith}
+use Rattle.std.proofs.Common.{◌≡◌, ◌==◌, ◌⊎◌, inl, inr, refl, sym, subst, ℕ, zero, suc, ◌+◌, ◌<◌, ◌≤◌, Bool, true, false, cond, if◌then◌else◌, nat_lt, List, [], ◌∷◌, ◌++◌, length, length-append, take, drop, Option, Some, None, arith}
 use Rattle.std.specs.Char.{digit_value, is_digit}
 use Rattle.std.specs.Str.Parse.{AllDigits, digits_value}
 use Rattle.std.proofs.lemmas.List.{take-append-drop, length-take}
-use Rattle.std.proofs.lemmas.Bool.{both_ways, eqb-true, eqb-false, lt-ltb, ltb-true, ltb-false}
+use Rattle.std.proofs.lemmas.Bool.{eqb-true, eqb-false, ltb-true, ltb-false}
 use Rattle.po_syntax.specs.declared.fault.PoFault.{PoFault}
 use Rattle.po_syntax.specs.declared.fault.PoFault.TheVariants.{BadEscape, ForbiddenByte}
-use Rattle.po_syntax.specs.LineFaults.{EscapeFault, at_end, no_escape, octal as octal_fault, no_digit, hexadecimal_digits, NumberFault, nul, large, StartsEscape, StringFault, not_closed, in_escape, after_plain, after_escape}
-use Rattle.po_syntax.specs.LineFaults as starts
-use Rattle.po_syntax.specs.Internal.QuotedString.{Step, End, Byte, Stop, digit_count, number_step, letter_value, letter_step, escape_at, step_at, IsQuoted, ended, spelt, QuotedStops, here, later}
-use Rattle.po_syntax.specs.Escapes.{NoDigitFirst, SpellsEscape, alert, backspace, form_feed, line_feed, carriage_return, tab, vertical_tab, backslash, quote, octal, hexadecimal, SpellsString, closed, plain, escape}
+use Rattle.po_syntax.specs.LineFaults.{EscapeFault, at_end, no_escape, octal as octal_fault, no_digit, hexadecimal_digits, NumberFault, nul, large, StringFault, not_closed, in_escape, after_plain, after_escape}
+use Rattle.po_syntax.specs.Internal.QuotedString.{Step, End, Byte, Stop, digit_count, number_step, letter_step, escape_at, step_at, IsQuoted, ended, spelt, QuotedStops, here, later}
+use Rattle.po_syntax.specs.Escapes.{NoDigitFirst, letter_value, SpellsEscape, letter, octal, hexadecimal, SpellsString, closed, plain, escape}
 
 -- the first n bytes are digits, at most so many, and no digit follows where there are fewer
 abbrev ArePrefix : ℕ → ℕ → List ℕ → ℕ → Type 0
@@ -18,7 +17,7 @@ ArePrefix base most text n = AllDigits base (take n text) × (length (take n tex
 prefix_step : (base most b : ℕ) (text : List ℕ) (n more : ℕ) (test : Bool) → more ≡ suc n → is_digit b base ≡ test → ArePrefix base most text n → ArePrefix base (suc most) (b ∷ text) (cond test more 0)
 prefix_step base most b text n more true same e h =
     rw same ((ltb-true (digit_value b) base e, h.0), omega (arith, h.1), elim (h.2) [ inl all ↦ inl (omega (arith, all)) | inr none ↦ inr none ])
-prefix_step base most b text n more false same e h = (tt, omega arith, inr (ltb-false (digit_value b) base e))
+prefix_step base most b text n more false same e h = (tt, omega arith, inr e)
 
 prefix : (base most : ℕ) (text : List ℕ) → ArePrefix base most text (digit_count base (take most text))
 prefix base zero text = (tt, omega arith, inl refl)
@@ -32,7 +31,7 @@ AreAll base text n = AllDigits base (take n text) × (n ≤ length (take n text)
 all_step : (base b : ℕ) (text : List ℕ) (n more : ℕ) (test : Bool) → more ≡ suc n → is_digit b base ≡ test → AreAll base text n → AreAll base (b ∷ text) (cond test more 0)
 all_step base b text n more true same e h =
     rw same ((ltb-true (digit_value b) base e, h.0), omega (arith, h.1), h.2)
-all_step base b text n more false same e h = (tt, omega arith, ltb-false (digit_value b) base e)
+all_step base b text n more false same e h = (tt, omega arith, e)
 
 pub all_digits : (base : ℕ) (text : List ℕ) → AreAll base text (digit_count base text)
 all_digits base [] = (tt, omega arith, tt)
@@ -88,36 +87,9 @@ no_digit_says text none =
     let count : digit_count 16 text ≡ 0 = eqb-true (digit_count 16 text) 0 none in
     no_digit (subst (λ n. NoDigitFirst 16 (drop n text)) count (all_digits 16 text).2)
 
-if_letter : (b : ℕ) (text : List ℕ) (test : Bool) (s t : Option ℕ) → (test ≡ true → EscapeSays (b ∷ text) (letter_step s text)) → (test ≡ false → EscapeSays (b ∷ text) (letter_step t text)) → EscapeSays (b ∷ text) (letter_step (if test then s else t) text)
-if_letter b text true s t p q = p refl
-if_letter b text false s t p q = q refl
-
--- a byte that no escape begins with
-no_start : (b : ℕ) → is_digit b 8 ≡ false → (b == 120) ≡ false → (b == 97) ≡ false → (b == 98) ≡ false → (b == 102) ≡ false → (b == 110) ≡ false → (b == 114) ≡ false → (b == 116) ≡ false → (b == 118) ≡ false → (b == 92) ≡ false → (b == 34) ≡ false
-    → StartsEscape b → ⊥
-no_start b p q a c d e f g h i j (starts.octal_digit low) = both_ways (is_digit b 8) p (lt-ltb (digit_value b) 8 low)
-no_start b p q a c d e f g h i j starts.hexadecimal = eqb-false 120 120 q refl
-no_start b p q a c d e f g h i j starts.alert = eqb-false 97 97 a refl
-no_start b p q a c d e f g h i j starts.backspace = eqb-false 98 98 c refl
-no_start b p q a c d e f g h i j starts.form_feed = eqb-false 102 102 d refl
-no_start b p q a c d e f g h i j starts.line_feed = eqb-false 110 110 e refl
-no_start b p q a c d e f g h i j starts.carriage_return = eqb-false 114 114 f refl
-no_start b p q a c d e f g h i j starts.tab = eqb-false 116 116 g refl
-no_start b p q a c d e f g h i j starts.vertical_tab = eqb-false 118 118 h refl
-no_start b p q a c d e f g h i j starts.backslash = eqb-false 92 92 i refl
-no_start b p q a c d e f g h i j starts.quote = eqb-false 34 34 j refl
-
-letter_says : (b : ℕ) (text : List ℕ) → is_digit b 8 ≡ false → (b == 120) ≡ false → EscapeSays (b ∷ text) (letter_step (letter_value b) text)
-letter_says b text no_octal no_x =
-    if_letter b text (b == 97) _ _ (λ e. rw (eqb-true b 97 e) alert) (λ n97.
-    if_letter b text (b == 98) _ _ (λ e. rw (eqb-true b 98 e) backspace) (λ n98.
-    if_letter b text (b == 102) _ _ (λ e. rw (eqb-true b 102 e) form_feed) (λ n102.
-    if_letter b text (b == 110) _ _ (λ e. rw (eqb-true b 110 e) line_feed) (λ n110.
-    if_letter b text (b == 114) _ _ (λ e. rw (eqb-true b 114 e) carriage_return) (λ n114.
-    if_letter b text (b == 116) _ _ (λ e. rw (eqb-true b 116 e) tab) (λ n116.
-    if_letter b text (b == 118) _ _ (λ e. rw (eqb-true b 118 e) vertical_tab) (λ n118.
-    if_letter b text (b == 92) _ _ (λ e. rw (eqb-true b 92 e) backslash) (λ n92.
-    if_letter b text (b == 34) _ _ (λ e. rw (eqb-true b 34 e) quote) (λ n34. no_escape (no_start b no_octal no_x n97 n98 n102 n110 n114 n116 n118 n92 n34))))))))))
+letter_says : (b : ℕ) (text : List ℕ) → is_digit b 8 ≡ false → (b == 120) ≡ false → (value : Option ℕ) → letter_value b ≡ value → EscapeSays (b ∷ text) (letter_step value text)
+letter_says b text no_octal no_x None e = no_escape no_octal (eqb-false b 120 no_x) e
+letter_says b text no_octal no_x (Some value) e = letter e
 
 pub escape_says : (text : List ℕ) → EscapeSays text (escape_at text)
 unfolding escape_at
@@ -128,7 +100,7 @@ escape_says (b ∷ text) =
     (λ is.
     subst (λ x. EscapeSays (x ∷ text) (if digit_count 16 text == 0 then Stop BadEscape else number_step 16 (digit_count 16 text) text)) (sym (eqb-true b 120 is))
     (if_escape (120 ∷ text) (digit_count 16 text == 0) (Stop BadEscape) _ (no_digit_says text) (hexadecimal_says text)))
-    (letter_says b text no_octal))
+    (λ no_x. letter_says b text no_octal no_x (letter_value b) refl))
 
 -- what stands after an escape is shorter
 pub escape_shorter : {text rest : List ℕ} {b : ℕ} → SpellsEscape text b rest → length rest < length text

@@ -1,25 +1,23 @@
 -- A line is read up to its first fault.
-use Rattle.std.proofs.Common.{◌≡◌, ◌≢◌, ◌⊎◌, ◌==◌, ◌∙◌, refl, sym, ap, subst, ℕ, ◌^◌, ◌<◌, ◌≤◌, true, false, List, [], ◌∷◌, ◌++◌, drop, length, codes, bytes_eq, None, All, arith}
+use Rattle.std.proofs.Common.{◌≡◌, ◌≢◌, ◌⊎◌, ◌==◌, ◌||◌, ◌∙◌, refl, sym, ap, subst, ℕ, ◌^◌, ◌<◌, ◌≤◌, true, false, List, [], ◌∷◌, ◌++◌, drop, length, codes, bytes_eq, None, All, arith}
 use Rattle.std.specs.Char.{digit_value, is_digit}
-use Rattle.std.specs.List.{list_all}
 use Rattle.std.specs.Str.Parse.{IsNumeral, digits_value}
 use Rattle.std.proofs.Math.Seq.{take-append_seam, drop-append_seam}
-use Rattle.std.proofs.lemmas.Bool.{and_from, cond-true, cond-false, ne_eqb, lt-ltb, le-ltb, ltb-true, false_from_ne_true}
+use Rattle.std.proofs.lemmas.Bool.{both_ways, or_parts, cond-true, cond-false, ne_eqb, lt-ltb, le-ltb, false_from_ne_true}
 use Rattle.std.proofs.lemmas.List.Elements.{All-head, All-tail}
 use Rattle.std.proofs.lemmas.Slice.Eq.{bytes_eq-Decides}
 use Rattle.po_syntax.specs.declared.fault.PoFault.{PoFault}
 use Rattle.po_syntax.specs.declared.fault.PoFault.TheVariants.{UnterminatedString, BadEscape, BadToken, BadPluralIndex}
-use Rattle.po_syntax.specs.Escapes.{NoDigitFirst}
+use Rattle.po_syntax.specs.Escapes.{NoDigitFirst, letter_value}
 use Rattle.po_syntax.specs.Internal.Line as line
 use Rattle.po_syntax.specs.Internal.Line.{Tokens, obsolete_shape, tilde_shape, first_shape, shape_of, TokensStop, halt, after_word, LineStops, no_shape, in_tokens}
-use Rattle.po_syntax.specs.LineFaults.{StartsEscape, octal_digit, hexadecimal, alert, backspace, form_feed, line_feed, carriage_return, tab, vertical_tab, backslash, quote, NumberFault, nul, large, EscapeFault, at_end, no_escape, octal, no_digit, hexadecimal_digits, StringFault, not_closed, in_escape, after_plain, after_escape, BeginsWithNoBlank, NoBracketFirst, IsNoKeyword, KeywordFault, no_keyword, no_index, large_index, not_closed_index, TokensFault, no_token, blank, in_keyword, in_string, after_keyword, after_string, BeginsTokens, BeginsWithNoBar, LineFault, indented, previous_again, obsolete_again, live, previous, obsolete, obsolete_previous}
-use Rattle.po_syntax.specs.Internal.QuotedString.{Stop, numbered, number_step, letter_value, letter_step, escape_at, step_at, QuotedStops, here, later}
-use Rattle.po_syntax.specs.Facts.Runs.{FailsFirst}
-use Rattle.po_syntax.specs.Spelling.{IsBlank, IsWordByte, EndsWord, marked}
-use Rattle.po_syntax.specs.Internal.Token.{WrongToken, is_word_byte, close_token, index_token, bracket_token, keyword_token, first_token, token_at}
-use Rattle.po_syntax.specs.Blanks.{is_blank, skip_blanks}
+use Rattle.po_syntax.specs.LineFaults.{NumberFault, nul, large, EscapeFault, at_end, no_escape, octal, no_digit, hexadecimal_digits, StringFault, not_closed, in_escape, after_plain, after_escape, IsNoKeyword, IndexFault, no_index, large_index, not_closed_index, KeywordFault, no_keyword, in_index, TokensFault, no_token, blank, in_keyword, in_string, after_keyword, after_string, BeginsTokens, LineFault, indented, previous_again, obsolete_again, live, previous, obsolete, obsolete_previous}
+use Rattle.po_syntax.specs.Internal.QuotedString.{Stop, numbered, number_step, letter_step, escape_at, step_at, QuotedStops, here, later}
+use Rattle.po_syntax.specs.Spelling.{is_word_byte, own_marks, previous_marks}
+use Rattle.po_syntax.specs.Internal.Token.{WrongToken, close_token, index_token, bracket_token, keyword_token, first_token, token_at}
+use Rattle.po_syntax.specs.Blanks.{is_blank, IsBlank, skip_blanks, FailsFirst}
 use Rattle.po_syntax.proofs.SpeltEscapes.{count_prefix, count_all, plain_read, backslash_read, spelt_quoted}
-use Rattle.po_syntax.proofs.SpeltKeywords.{blank_says, word_byte_says, word_byte_passes, skip_prefix, keyword_read, m_read, word_prefix, ends_before_bracket, blank_no_word, digits_no_blank}
+use Rattle.po_syntax.proofs.SpeltKeywords.{skip_prefix, keyword_read, m_read, word_prefix, ends_before_bracket, blank_no_word, digits_no_blank}
 use Rattle.po_syntax.proofs.SpeltLines.{quote_opens, blank_skipped, hash_first, bar_first, tilde_first, tilde_bar_first, tilde_comment}
 
 -- escapes
@@ -47,17 +45,10 @@ no_digit_stops : (rest : List ℕ) → NoDigitFirst 16 rest → escape_at (120 �
 unfolding escape_at
 no_digit_stops rest none = rw (count_all 16 [] rest tt none) refl
 
-no_letter : (b : ℕ) → (StartsEscape b → ⊥) → letter_value b ≡ None
-no_letter b none =
-    let other = λ (n : ℕ) (starts : StartsEscape n). ne_eqb b n (λ is. none (subst StartsEscape (sym is) starts)) in
-    rw (other 97 alert, other 98 backspace, other 102 form_feed, other 110 line_feed, other 114 carriage_return, other 116 tab, other 118 vertical_tab, other 92 backslash, other 34 quote) refl
-
-other_stops : (b : ℕ) (text : List ℕ) → (StartsEscape b → ⊥) → escape_at (b ∷ text) ≡ Stop BadEscape
+other_stops : (b : ℕ) (text : List ℕ) → is_digit b 8 ≡ false → b ≢ 120 → letter_value b ≡ None → escape_at (b ∷ text) ≡ Stop BadEscape
 unfolding escape_at
-other_stops b text none =
-    let digit : is_digit b 8 ≡ false = false_from_ne_true (is_digit b 8) (λ e. none (octal_digit (ltb-true (digit_value b) 8 e))) in
-    let no_x : (b == 120) ≡ false = ne_eqb b 120 (λ is. none (subst StartsEscape (sym is) hexadecimal)) in
-    cond-false (is_digit b 8) _ _ digit ∙ cond-false (b == 120) _ _ no_x ∙ ap (λ v. letter_step v text) (no_letter b none)
+other_stops b text other no_x none =
+    cond-false (is_digit b 8) _ _ other ∙ cond-false (b == 120) _ _ (ne_eqb b 120 no_x) ∙ ap (λ v. letter_step v text) none
 
 nothing_stops : escape_at [] ≡ Stop BadEscape
 unfolding escape_at
@@ -65,7 +56,7 @@ nothing_stops = refl
 
 escape_stops : {text : List ℕ} {fault : PoFault} → EscapeFault text fault → escape_at text ≡ Stop fault
 escape_stops at_end = nothing_stops
-escape_stops (no_escape {b = b} {text = text} none) = other_stops b text none
+escape_stops (no_escape {b = b} {text = text} other no_x none) = other_stops b text other no_x none
 escape_stops (octal digits rest numeral within end h) = octal_stops digits rest numeral within end h
 escape_stops (no_digit {rest = rest} none) = no_digit_stops rest none
 escape_stops (hexadecimal_digits digits rest numeral none h) = hexadecimal_stops digits rest numeral none h
@@ -86,10 +77,6 @@ string_stops (after_escape {text = text} spelt more) = later (backslash_read tex
 
 -- keywords
 
-first_blank_fails : (rest : List ℕ) → BeginsWithNoBlank rest → FailsFirst is_blank rest
-first_blank_fails [] h = tt
-first_blank_fails (b ∷ rest) h = false_from_ne_true (is_blank b) (λ e. h (blank_says b e))
-
 not_among : (word name : List ℕ) → word ≢ name → bytes_eq word name ≡ false
 not_among word name h = false_from_ne_true (bytes_eq word name) (λ e. h ((bytes_eq-Decides word name).0 e))
 
@@ -99,20 +86,14 @@ no_keyword_token word rest h =
     cond-false (bytes_eq word (codes "msgctxt")) _ _ (not_among word (codes "msgctxt") h.context) ∙ cond-false (bytes_eq word (codes "msgid")) _ _ (not_among word (codes "msgid") h.id)
     ∙ cond-false (bytes_eq word (codes "msgid_plural")) _ _ (not_among word (codes "msgid_plural") h.plural) ∙ cond-false (bytes_eq word (codes "msgstr")) _ _ (not_among word (codes "msgstr") h.translation)
 
-all_word : (word : List ℕ) → All IsWordByte word → list_all is_word_byte word ≡ true
-all_word [] all = refl
-all_word (b ∷ word) all = and_from _ _ (word_byte_passes (All-head IsWordByte b word all)) (all_word word (All-tail IsWordByte b word all))
-
-word_token_at : (b : ℕ) (word rest : List ℕ) → All IsWordByte (b ∷ word) → EndsWord rest → token_at ((b ∷ word) ++ rest) ≡ keyword_token (b ∷ word) rest
+word_token_at : (b : ℕ) (word rest : List ℕ) → All (λ c. is_word_byte c ≡ true) (b ∷ word) → FailsFirst is_word_byte rest → token_at ((b ∷ word) ++ rest) ≡ keyword_token (b ∷ word) rest
 unfolding first_token
 word_token_at b word rest all ends =
-    let is_word = All-head IsWordByte b word all in
-    let no_blank : is_blank b ≡ false = false_from_ne_true (is_blank b) (λ e. blank_no_word (blank_says b e) is_word) in
-    let no_quote : (b == 34) ≡ false = ne_eqb b 34 (λ is. quote_no_word (subst IsWordByte is is_word)) in
+    let is_word = All-head (λ c. is_word_byte c ≡ true) b word all in
+    let no_blank : is_blank b ≡ false = false_from_ne_true (is_blank b) (λ e. both_ways (is_word_byte b) (blank_no_word b e) is_word) in
+    let no_quote : (b == 34) ≡ false = ne_eqb b 34 (λ is. both_ways (is_word_byte 34) refl (subst (λ c. is_word_byte c ≡ true) is is_word)) in
     ap first_token (ap (λ n. drop n (b ∷ (word ++ rest))) (cond-false (is_blank b) _ 0 no_blank))
-    ∙ cond-false (b == 34) _ _ no_quote ∙ cond-true (is_word_byte b) _ _ (word_byte_passes is_word) ∙ word_prefix (b ∷ word) rest (all_word (b ∷ word) all) ends where
-      quote_no_word : IsWordByte 34 → ⊥
-      quote_no_word is = let t = word_byte_passes is in cc
+    ∙ cond-false (b == 34) _ _ no_quote ∙ cond-true (is_word_byte b) _ _ is_word ∙ word_prefix (b ∷ word) rest all ends
 
 opened : {fault : PoFault} (before inside index : List ℕ) → All IsBlank before → All IsBlank inside → FailsFirst is_blank index → index_token index ≡ WrongToken fault
     → token_at (codes "msgstr" ++ (before ++ 91 ∷ (inside ++ index))) ≡ WrongToken fault
@@ -131,35 +112,39 @@ large_stops digits rest numeral none past =
     let some = ne_eqb (length digits) 0 (λ same. omega (arith, same, numeral.0)) in
     rw (count_all 10 digits rest numeral.1 none, some, take-append_seam digits rest, le-ltb (digits_value 10 digits) (2 ^ 32) past) refl
 
-not_closing : (index : ℕ) (rest : List ℕ) → NoBracketFirst rest → close_token index rest ≡ WrongToken BadToken
+not_closing : (index : ℕ) (rest : List ℕ) → FailsFirst (λ b. is_blank b || b == 93) rest → close_token index rest ≡ WrongToken BadToken
 not_closing index [] h = refl
-not_closing index (b ∷ rest) h = cond-false (b == 93) _ _ (ne_eqb b 93 h.1)
+not_closing index (b ∷ rest) h = cond-false (b == 93) _ _ (or_parts (is_blank b) (b == 93) h).1
 
-bracket_fails : (rest : List ℕ) → NoBracketFirst rest → FailsFirst is_blank rest
-bracket_fails [] h = tt
-bracket_fails (b ∷ rest) h = false_from_ne_true (is_blank b) (λ e. h.0 (blank_says b e))
+-- a text that begins neither with a blank nor with another byte
+no_blank_first : (byte : ℕ) (rest : List ℕ) → FailsFirst (λ b. is_blank b || b == byte) rest → FailsFirst is_blank rest
+no_blank_first byte [] h = tt
+no_blank_first byte (b ∷ rest) h = (or_parts (is_blank b) (b == byte) h).0
 
-open_stops : (digits after rest : List ℕ) → IsNumeral 10 digits → NoDigitFirst 10 (after ++ rest) → digits_value 10 digits < 2 ^ 32 → All IsBlank after → NoBracketFirst rest → index_token (digits ++ (after ++ rest)) ≡ WrongToken BadToken
+open_stops : (digits after rest : List ℕ) → IsNumeral 10 digits → NoDigitFirst 10 (after ++ rest) → digits_value 10 digits < 2 ^ 32 → All IsBlank after → FailsFirst (λ b. is_blank b || b == 93) rest → index_token (digits ++ (after ++ rest)) ≡ WrongToken BadToken
 unfolding index_token
 open_stops digits after rest numeral none fits all other =
     let some = ne_eqb (length digits) 0 (λ same. omega (arith, same, numeral.0)) in
-    rw (count_all 10 digits (after ++ rest) numeral.1 none, some, take-append_seam digits (after ++ rest), drop-append_seam digits (after ++ rest), lt-ltb (digits_value 10 digits) (2 ^ 32) fits, skip_prefix after rest all (bracket_fails rest other))
+    rw (count_all 10 digits (after ++ rest) numeral.1 none, some, take-append_seam digits (after ++ rest), drop-append_seam digits (after ++ rest), lt-ltb (digits_value 10 digits) (2 ^ 32) fits, skip_prefix after rest all (no_blank_first 93 rest other))
     (not_closing (digits_value 10 digits) rest other)
+
+index_stops : {index : List ℕ} {fault : PoFault} → IndexFault index fault → FailsFirst is_blank index × (index_token index ≡ WrongToken fault)
+index_stops (no_index {text = text} first none) = (first, no_index_stops text none)
+index_stops (large_index digits rest numeral none past) = (digits_no_blank digits rest numeral, large_stops digits rest numeral none past)
+index_stops (not_closed_index digits after rest numeral none fits all other) =
+    (digits_no_blank digits (after ++ rest) numeral, open_stops digits after rest numeral none fits all other)
 
 keyword_stops : {text : List ℕ} {fault : PoFault} → KeywordFault text fault → token_at text ≡ WrongToken fault
 keyword_stops (no_keyword b word rest all ends none) = word_token_at b word rest all ends ∙ no_keyword_token (b ∷ word) rest none
-keyword_stops (no_index before inside rest p q first none) = opened before inside rest p q (first_blank_fails rest first) (no_index_stops rest none)
-keyword_stops (large_index before inside digits rest p q numeral none past) = opened before inside (digits ++ rest) p q (digits_no_blank digits rest numeral) (large_stops digits rest numeral none past)
-keyword_stops (not_closed_index before inside digits after rest p q numeral none fits all other) =
-    opened before inside (digits ++ (after ++ rest)) p q (digits_no_blank digits (after ++ rest) numeral) (open_stops digits after rest numeral none fits all other)
+keyword_stops (in_index before inside index p q h) = let stops = index_stops h in opened before inside index p q stops.0 stops.1
 
 -- tokens
 
-no_token_stops : (b : ℕ) (text : List ℕ) → (IsBlank b → ⊥) → b ≢ 34 → (IsWordByte b → ⊥) → token_at (b ∷ text) ≡ WrongToken BadToken
+no_token_stops : (b : ℕ) (text : List ℕ) → is_blank b ≡ false → b ≢ 34 → is_word_byte b ≡ false → token_at (b ∷ text) ≡ WrongToken BadToken
 unfolding first_token
 no_token_stops b text no_blank no_quote no_word =
-    ap first_token (ap (λ n. drop n (b ∷ text)) (cond-false (is_blank b) _ 0 (false_from_ne_true (is_blank b) (λ e. no_blank (blank_says b e)))))
-    ∙ cond-false (b == 34) _ _ (ne_eqb b 34 no_quote) ∙ cond-false (is_word_byte b) _ _ (false_from_ne_true (is_word_byte b) (λ e. no_word (word_byte_says b e)))
+    ap first_token (ap (λ n. drop n (b ∷ text)) (cond-false (is_blank b) _ 0 no_blank))
+    ∙ cond-false (b == 34) _ _ (ne_eqb b 34 no_quote) ∙ cond-false (is_word_byte b) _ _ no_word
 
 same_stops : {text other : List ℕ} {fault : PoFault} → token_at text ≡ token_at other → TokensStop other fault → TokensStop text fault
 same_stops same (halt e) = halt (same ∙ e)
@@ -181,27 +166,23 @@ same_line_stops : {text other : List ℕ} {fault : PoFault} → shape_of text �
 same_line_stops same (no_shape e) = no_shape (same ∙ e)
 same_line_stops same (in_tokens e h) = in_tokens (same ∙ e) h
 
-begins_fails : (text : List ℕ) → BeginsTokens text → FailsFirst is_blank text
-begins_fails [] h = tt
-begins_fails (b ∷ text) h = false_from_ne_true (is_blank b) (λ e. h.0 (blank_says b e))
-
 nothing_skipped : (text : List ℕ) → BeginsTokens text → skip_blanks text ≡ text
-nothing_skipped text h = skip_prefix [] text (λ k d below. absurd (omega (arith, below))) (begins_fails text h)
+nothing_skipped text h = skip_prefix [] text (λ k d below. absurd (omega (arith, below))) (no_blank_first 35 text h)
 
-live_shape : (text : List ℕ) → BeginsTokens text → first_shape text ≡ Tokens (marked false false) text
+live_shape : (text : List ℕ) → BeginsTokens text → first_shape text ≡ Tokens (own_marks false) text
 unfolding first_shape
 live_shape [] h = refl
-live_shape (b ∷ text) h = cond-false (b == 35) _ _ (ne_eqb b 35 h.1)
+live_shape (b ∷ text) h = cond-false (b == 35) _ _ (or_parts (is_blank b) (b == 35) h).1
 
-obsolete_tokens : (text : List ℕ) → BeginsTokens text → obsolete_shape text ≡ Tokens (marked true false) text
+obsolete_tokens : (text : List ℕ) → BeginsTokens text → obsolete_shape text ≡ Tokens (own_marks true) text
 unfolding obsolete_shape
 obsolete_tokens [] h = refl
-obsolete_tokens (b ∷ text) h = cond-false (b == 35) _ _ (ne_eqb b 35 h.1)
+obsolete_tokens (b ∷ text) h = cond-false (b == 35) _ _ (or_parts (is_blank b) (b == 35) h).1
 
-tilde_other : (text : List ℕ) → BeginsWithNoBar text → tilde_shape text ≡ obsolete_shape (skip_blanks text)
+tilde_other : (text : List ℕ) → FailsFirst (λ b. b == 124) text → tilde_shape text ≡ obsolete_shape (skip_blanks text)
 unfolding tilde_shape
 tilde_other [] h = refl
-tilde_other (b ∷ text) h = cond-false (b == 124) _ _ (ne_eqb b 124 h)
+tilde_other (b ∷ text) h = cond-false (b == 124) _ _ h
 
 pub line_stops : {text : List ℕ} {fault : PoFault} → LineFault text fault → LineStops text fault
 line_stops (indented {b = b} {text = text} is more) = same_line_stops (ap first_shape (blank_skipped b text is)) (line_stops more)
@@ -213,5 +194,5 @@ line_stops (live {text = text} first h) = in_tokens (ap first_shape (nothing_ski
 line_stops (previous {text = text} h) = in_tokens (hash_first (124 ∷ text) ∙ bar_first text) (tokens_stop h)
 line_stops (obsolete blanks {text = text} all first no_bar h) =
     let whole = blanks ++ text in
-    in_tokens (hash_first (126 ∷ whole) ∙ tilde_first whole ∙ tilde_other whole no_bar ∙ ap obsolete_shape (skip_prefix blanks text all (begins_fails text first)) ∙ obsolete_tokens text first) (tokens_stop h)
+    in_tokens (hash_first (126 ∷ whole) ∙ tilde_first whole ∙ tilde_other whole no_bar ∙ ap obsolete_shape (skip_prefix blanks text all (no_blank_first 35 text first)) ∙ obsolete_tokens text first) (tokens_stop h)
 line_stops (obsolete_previous {text = text} h) = in_tokens (hash_first (126 ∷ 124 ∷ text) ∙ tilde_first (124 ∷ text) ∙ tilde_bar_first text) (tokens_stop h)

@@ -1,19 +1,22 @@
 -- What the comments and strings of clean lines hold.
-use Rattle.std.proofs.Common.{◌≡◌, ◌≢◌, ◌∙◌, sym, subst, ℕ, zero, suc, ◌+◌, ◌<◌, List, [], ◌∷◌, ◌++◌, get_or, take, All, Contains, codes, arith}
+use Rattle.std.proofs.Common.{◌≡◌, ◌≢◌, ◌∙◌, refl, sym, subst, ℕ, zero, suc, ◌+◌, ◌<◌, true, List, [], ◌∷◌, ◌++◌, get_or, take, All, Contains, codes, arith}
+use Rattle.std.proofs.lemmas.Bool.{both_ways}
 use Rattle.std.proofs.lemmas.List.Elements.{All-append, All-cons, All-head, All-nil, All-take, All-tail}
 use Rattle.std.proofs.lemmas.Str.{IsUtf8-drop, IsCharBoundary-after_ascii}
 use Rattle.po_syntax.specs.declared.item.Marks.{Marks}
 use Rattle.po_syntax.specs.declared.item.CommentKind.{CommentKind}
 use Rattle.po_syntax.specs.declared.item.CommentKind.TheVariants.{Translator}
-use Rattle.po_syntax.specs.Escapes.{SpellsEscape, alert, backspace, form_feed, line_feed, carriage_return, tab, vertical_tab, backslash, quote, octal, hexadecimal, SpellsString, closed, plain, escape}
-use Rattle.po_syntax.specs.ItemContents.{IsCommentOf, HoldsText}
+use Rattle.po_syntax.specs.Escapes.{SpellsEscape, letter, octal, hexadecimal, SpellsString, closed, plain, escape}
+use Rattle.po_syntax.specs.Blanks.{IsBlank}
+use Rattle.po_syntax.specs.ItemContents.{trim_returns, IsCommentOf, HoldsText}
 use Rattle.po_syntax.specs.PoText.{SpellsLines, SpellsText}
-use Rattle.po_syntax.specs.Spelling.{IsBlank, space, IsMark, dot, colon, comma, bar, tilde, SpellsComment, extracted, reference, flags, translator, IsWithoutReturns, HoldsTokens, end, blank, keyword, string, HoldsItems, indented, comment, obsolete_comment, live, previous, obsolete, obsolete_previous}
+use Rattle.po_syntax.specs.Spelling.{is_mark, SpellsComment, extracted, reference, flags, translator, HoldsTokens, end, blank, keyword, string, HoldsItems, indented, comment, obsolete_comment, live, previous, obsolete, obsolete_previous}
 use Rattle.po_syntax.specs.TextItem.{TextItem}
 use Rattle.po_syntax.specs.CleanLine.{IsCleanLine, AreCleanLines}
 use Rattle.po_syntax.proofs.CleanLines.{clean_lines}
 use Rattle.po_syntax.proofs.Rests.{All-rest}
-use Rattle.po_syntax.proofs.SpeltLines.{is_trimmed}
+use Rattle.po_syntax.proofs.SpeltEscapes.{of_each_letter}
+use Rattle.po_syntax.proofs.SpeltKeywords.{of_blank}
 use Rattle.po_syntax.proofs.Tokens.{keyword_behind}
 use Rattle.po_syntax.proofs.TrimmedReturns.{trim_end, trim_returns-utf8, trim_returns-twice}
 
@@ -25,20 +28,19 @@ clean_tail b text low clean = record {
   one_line = All-tail (λ b. b ≢ 10) b text clean.one_line;
 }
 
-blank_low : {b : ℕ} → IsBlank b → b < 128
-blank_low space = omega arith
-blank_low _ = omega arith
+blank_low : (b : ℕ) → IsBlank b → b < 128
+blank_low b is = of_blank (λ a. a < 128) (omega arith) (omega arith) (omega arith) (omega arith) (omega arith) b is
 
 clean_after : (blanks text : List ℕ) → All IsBlank blanks → IsCleanLine (blanks ++ text) → IsCleanLine text
 clean_after [] text all clean = clean
-clean_after (b ∷ blanks) text all clean = clean_after blanks text (All-tail IsBlank b blanks all) (clean_tail b (blanks ++ text) (blank_low (All-head IsBlank b blanks all)) clean)
+clean_after (b ∷ blanks) text all clean = clean_after blanks text (All-tail IsBlank b blanks all) (clean_tail b (blanks ++ text) (blank_low b (All-head IsBlank b blanks all)) clean)
 
-mark_at : (k b : ℕ) → k < 5 → get_or (codes ".:,|~") k b ≡ b → IsMark b
-mark_at zero b less e = subst IsMark e dot
-mark_at (suc zero) b less e = subst IsMark e colon
-mark_at (suc (suc zero)) b less e = subst IsMark e comma
-mark_at (suc (suc (suc zero))) b less e = subst IsMark e bar
-mark_at (suc (suc (suc (suc zero)))) b less e = subst IsMark e tilde
+mark_at : (k b : ℕ) → k < 5 → get_or (codes ".:,|~") k b ≡ b → is_mark b ≡ true
+mark_at zero b less e = subst (λ a. is_mark a ≡ true) e refl
+mark_at (suc zero) b less e = subst (λ a. is_mark a ≡ true) e refl
+mark_at (suc (suc zero)) b less e = subst (λ a. is_mark a ≡ true) e refl
+mark_at (suc (suc (suc zero))) b less e = subst (λ a. is_mark a ≡ true) e refl
+mark_at (suc (suc (suc (suc zero)))) b less e = subst (λ a. is_mark a ≡ true) e refl
 mark_at (suc (suc (suc (suc (suc k))))) b less e = absurd (omega arith)
 
 -- a text begins as its prefix does
@@ -56,20 +58,20 @@ comment_rest (extracted {rest = rest}) clean = (clean_tail 46 rest (omega arith)
 comment_rest (reference {rest = rest}) clean = (clean_tail 58 rest (omega arith) clean, λ e. absurd cc)
 comment_rest (flags {rest = rest}) clean = (clean_tail 44 rest (omega arith) clean, λ e. absurd cc)
 comment_rest (translator {text = []} h) clean = (clean, λ e b rest same. absurd cc)
-comment_rest (translator {text = c ∷ text} h) clean = (clean, λ e b rest same among. let first : b ≡ c = cc in h (subst IsMark first (mark_at among.0 b among.1 among.2)))
+comment_rest (translator {text = c ∷ text} h) clean = (clean, λ e b rest same among. let first : b ≡ c = cc in both_ways (is_mark c) h (subst (λ a. is_mark a ≡ true) first (mark_at among.0 b among.1 among.2)))
 
-comment_text : {text rest shown : List ℕ} {kind : CommentKind} → SpellsComment text kind rest → IsWithoutReturns rest shown → IsCleanLine text → IsCommentOf kind shown
-comment_text {rest = rest} {shown = shown} {kind = kind} spelt without clean =
+comment_text : {text rest : List ℕ} {kind : CommentKind} → SpellsComment text kind rest → IsCleanLine text → IsCommentOf kind (trim_returns rest)
+comment_text {rest = rest} spelt clean =
     let read = comment_rest spelt clean in
     let end = trim_end rest in
-    subst (IsCommentOf kind) (sym (is_trimmed rest shown without)) (record {
+    record {
       comment = record {
         valid = record { utf8 = trim_returns-utf8 rest read.0.utf8; no_nul = rw end.2 (All-take (λ b. b ≢ 0) end.0 rest read.0.no_nul) };
         one_line = rw end.2 (All-take (λ b. b ≢ 10) end.0 rest read.0.one_line);
         no_final_return = trim_returns-twice rest;
       };
       plain = λ is b more e. let first = take_first end.0 rest b more (sym end.2 ∙ e) in read.1 is b first.0 first.1;
-    })
+    }
 
 -- a quoted string of a text without NUL holds none, and neither does the rest
 abbrev HasNone : List ℕ → Type 0
@@ -80,15 +82,8 @@ rest_of [] rest h = h
 rest_of (b ∷ own) rest h = rest_of own rest (All-tail (λ b. b ≢ 0) b (own ++ rest) h)
 
 escape_nonzero : {text rest : List ℕ} {b : ℕ} → SpellsEscape text b rest → HasNone text → (b ≢ 0) × HasNone rest
-escape_nonzero (alert {rest = rest}) h = (λ e. omega arith, rest_of (97 ∷ []) rest h)
-escape_nonzero (backspace {rest = rest}) h = (λ e. omega arith, rest_of (98 ∷ []) rest h)
-escape_nonzero (form_feed {rest = rest}) h = (λ e. omega arith, rest_of (102 ∷ []) rest h)
-escape_nonzero (line_feed {rest = rest}) h = (λ e. omega arith, rest_of (110 ∷ []) rest h)
-escape_nonzero (carriage_return {rest = rest}) h = (λ e. omega arith, rest_of (114 ∷ []) rest h)
-escape_nonzero (tab {rest = rest}) h = (λ e. omega arith, rest_of (116 ∷ []) rest h)
-escape_nonzero (vertical_tab {rest = rest}) h = (λ e. omega arith, rest_of (118 ∷ []) rest h)
-escape_nonzero (backslash {rest = rest}) h = (λ e. omega arith, rest_of (92 ∷ []) rest h)
-escape_nonzero (quote {rest = rest}) h = (λ e. omega arith, rest_of (34 ∷ []) rest h)
+escape_nonzero (letter {b = b} {value = value} {rest = rest} e) h =
+    (λ none. omega (arith, none, of_each_letter (λ _ byte. 0 < byte) b value (omega arith, (omega arith, (omega arith, (omega arith, (omega arith, (omega arith, (omega arith, (omega arith, (omega arith, tt))))))))) e), rest_of (b ∷ []) rest h)
 escape_nonzero (octal digits {rest = rest} all few ends byte) h = (λ e. omega (arith, byte.0), rest_of digits rest h)
 escape_nonzero (hexadecimal digits {rest = rest} all ends byte) h = (λ e. omega (arith, byte.0), rest_of (120 ∷ digits) rest h)
 
@@ -114,11 +109,11 @@ token_texts (string {text = text} s more) h =
     All-cons HoldsText _ _ read.0 (token_texts more read.1)
 
 pub line_texts : {number : ℕ} {line : List ℕ} {items : List TextItem} → HoldsItems number line items → IsCleanLine line → All HoldsText items
-line_texts (indented {b = b} {text = text} is h) clean = line_texts h (clean_tail b text (blank_low is) clean)
-line_texts (comment {text = text} s without) clean = All-cons HoldsText _ [] (comment_text s without (clean_tail 35 text (omega arith) clean)) no_items
-line_texts (obsolete_comment blanks {text = text} all s without) clean =
+line_texts (indented {b = b} {text = text} is h) clean = line_texts h (clean_tail b text (blank_low b is) clean)
+line_texts (comment {text = text} s) clean = All-cons HoldsText _ [] (comment_text s (clean_tail 35 text (omega arith) clean)) no_items
+line_texts (obsolete_comment blanks {text = text} all s) clean =
     let inner = clean_tail 126 (blanks ++ 35 ∷ text) (omega arith) (clean_tail 35 (126 ∷ (blanks ++ 35 ∷ text)) (omega arith) clean) in
-    All-cons HoldsText _ [] (comment_text s without (clean_tail 35 text (omega arith) (clean_after blanks (35 ∷ text) all inner))) no_items
+    All-cons HoldsText _ [] (comment_text s (clean_tail 35 text (omega arith) (clean_after blanks (35 ∷ text) all inner))) no_items
 line_texts (live h) clean = token_texts h clean.no_nul
 line_texts (previous {text = text} h) clean = token_texts h (rest_of (35 ∷ 124 ∷ []) text clean.no_nul)
 line_texts (obsolete {text = text} h) clean = token_texts h (rest_of (35 ∷ 126 ∷ []) text clean.no_nul)

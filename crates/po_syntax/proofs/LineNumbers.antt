@@ -74,8 +74,8 @@ tokens_numbered {number = number} (spelt.string {items = items} bytes more) = Al
 
 items_numbered : {number : ℕ} {line : List ℕ} {items : List TextItem} → HoldsItems number line items → All (λ i. line_of i ≡ number) items
 items_numbered (spelt.indented is more) = items_numbered more
-items_numbered {number = number} (spelt.comment is kept) = All-cons (λ i. line_of i ≡ number) _ [] refl (All-nil (λ i. line_of i ≡ number))
-items_numbered {number = number} (spelt.obsolete_comment blanks all is kept) = All-cons (λ i. line_of i ≡ number) _ [] refl (All-nil (λ i. line_of i ≡ number))
+items_numbered {number = number} (spelt.comment is) = All-cons (λ i. line_of i ≡ number) _ [] refl (All-nil (λ i. line_of i ≡ number))
+items_numbered {number = number} (spelt.obsolete_comment blanks all is) = All-cons (λ i. line_of i ≡ number) _ [] refl (All-nil (λ i. line_of i ≡ number))
 items_numbered (spelt.live tokens) = tokens_numbered tokens
 items_numbered (spelt.previous tokens) = tokens_numbered tokens
 items_numbered (spelt.obsolete tokens) = tokens_numbered tokens

@@ -14,7 +14,7 @@ number_reported (fault.large h) = λ e. cc
 
 escape_reported : {text : List ℕ} {kind : PoFault} → fault.EscapeFault text kind → IsReported kind
 escape_reported fault.at_end = λ e. cc
-escape_reported (fault.no_escape h) = λ e. cc
+escape_reported (fault.no_escape digit x letter) = λ e. cc
 escape_reported (fault.octal digits rest all few ends h) = number_reported h
 escape_reported (fault.no_digit h) = λ e. cc
 escape_reported (fault.hexadecimal_digits digits rest all ends h) = number_reported h
@@ -25,11 +25,14 @@ string_reported (fault.in_escape h) = escape_reported h
 string_reported (fault.after_plain p q h) = string_reported h
 string_reported (fault.after_escape s h) = string_reported h
 
+index_reported : {text : List ℕ} {kind : PoFault} → fault.IndexFault text kind → IsReported kind
+index_reported (fault.no_index p q) = λ e. cc
+index_reported (fault.large_index digits rest p q r) = λ e. cc
+index_reported (fault.not_closed_index digits after rest p q r s t) = λ e. cc
+
 keyword_reported : {text : List ℕ} {kind : PoFault} → fault.KeywordFault text kind → IsReported kind
 keyword_reported (fault.no_keyword b word rest all ends none) = λ e. cc
-keyword_reported (fault.no_index before inside rest p q r s) = λ e. cc
-keyword_reported (fault.large_index before inside digits rest p q r s t) = λ e. cc
-keyword_reported (fault.not_closed_index before inside digits after rest p q r s t u v) = λ e. cc
+keyword_reported (fault.in_index before inside index p q h) = index_reported h
 
 tokens_reported : {text : List ℕ} {kind : PoFault} → fault.TokensFault text kind → IsReported kind
 tokens_reported (fault.no_token p q r) = λ e. cc

@@ -1,18 +1,18 @@
 -- Each spelling of a quoted string is read by its steps.
-use Rattle.std.proofs.Common.{◌≡◌, ◌⊎◌, inl, inr, refl, ℕ, zero, suc, ◌≤◌, List, [], ◌∷◌, ◌++◌, length, take, arith}
+use Rattle.std.proofs.Common.{◌≡◌, ◌==◌, ◌⊎◌, inl, inr, refl, sym, subst, Bool, true, false, cond, Option, Some, option_map, find, ℕ, zero, suc, ◌≤◌, List, [], ◌∷◌, ◌++◌, length, take, arith}
 use Rattle.std.specs.Char.{digit_value}
 use Rattle.std.specs.Str.Parse.{AllDigits, IsNumeral, digits_value}
 use Rattle.std.proofs.Math.Seq.{take-append_seam, drop-append_seam}
-use Rattle.std.proofs.lemmas.Bool.{ne_eqb, lt-ltb, le-ltb}
+use Rattle.std.proofs.lemmas.Bool.{eqb-true, ne_eqb, lt-ltb}
 use Rattle.po_syntax.specs.Internal.QuotedString.{End, Byte, digit_count, number_step, escape_at, step_at, IsQuoted, ended, spelt}
-use Rattle.po_syntax.specs.Escapes.{NoDigitFirst, IsByteNumber, SpellsEscape, alert, backspace, form_feed, line_feed, carriage_return, tab, vertical_tab, backslash, quote, octal, hexadecimal, SpellsString, closed, plain, escape}
+use Rattle.po_syntax.specs.Escapes.{NoDigitFirst, IsByteNumber, escape_letters, letter_value, SpellsEscape, letter, octal, hexadecimal, SpellsString, closed, plain, escape}
 
 -- as many digits as there are, up to so many
 pub count_prefix : (base most : ℕ) (digits rest : List ℕ) → AllDigits base digits → length digits ≤ most → (length digits ≡ most) ⊎ NoDigitFirst base rest → digit_count base (take most (digits ++ rest)) ≡ length digits
 count_prefix base zero [] rest all within end = refl
 count_prefix base (suc most) [] rest all within (inl full) = absurd (omega (arith, full))
 count_prefix base (suc most) [] [] all within (inr none) = refl
-count_prefix base (suc most) [] (b ∷ rest) all within (inr none) = rw (le-ltb (digit_value b) base none) refl
+count_prefix base (suc most) [] (b ∷ rest) all within (inr none) = rw none refl
 count_prefix base zero (d ∷ digits) rest all within end = absurd (omega (arith, within))
 count_prefix base (suc most) (d ∷ digits) rest all within (inl full) =
     rw (lt-ltb (digit_value d) base all.0) (omega (arith, count_prefix base most digits rest all.1 (omega (arith, within)) (inl (omega (arith, full)))))
@@ -22,7 +22,7 @@ count_prefix base (suc most) (d ∷ digits) rest all within (inr none) =
 -- as many digits as there are
 pub count_all : (base : ℕ) (digits rest : List ℕ) → AllDigits base digits → NoDigitFirst base rest → digit_count base (digits ++ rest) ≡ length digits
 count_all base [] [] all none = refl
-count_all base [] (b ∷ rest) all none = rw (le-ltb (digit_value b) base none) refl
+count_all base [] (b ∷ rest) all none = rw none refl
 count_all base (d ∷ digits) rest all none =
     rw (lt-ltb (digit_value d) base all.0) (omega (arith, count_all base digits rest all.1 none))
 
@@ -45,17 +45,29 @@ hexadecimal_read digits rest numeral none small =
     let some = ne_eqb (length digits) 0 (λ same. omega (arith, same, numeral.0)) in
     rw (count, some) (number_read 16 digits rest small)
 
-escape_read : {text rest : List ℕ} {b : ℕ} → SpellsEscape text b rest → escape_at text ≡ Byte b rest
+-- what holds of each letter of a table and its byte
+abbrev HoldsOfEach : (ℕ → ℕ → Type 0) → List (ℕ × ℕ) → Type 0
+HoldsOfEach P [] = Unit {0}
+HoldsOfEach P (p ∷ table) = P p.0 p.1 × HoldsOfEach P table
+
+of_letter : (P : ℕ → ℕ → Type 0) (b value : ℕ) (table : List (ℕ × ℕ)) → HoldsOfEach P table → option_map (λ p. p.1) (find (λ p. b == p.0) table) ≡ Some value → P b value
+of_letter P b value [] each e = absurd (cc)
+of_letter P b value (p ∷ table) each e = at (b == p.0) refl e (of_letter P b value table each.1) where
+  at : (test : Bool) → (b == p.0) ≡ test → option_map (λ q. q.1) (cond test (Some p) (find (λ q. b == q.0) table)) ≡ Some value
+      → (option_map (λ q. q.1) (find (λ q. b == q.0) table) ≡ Some value → P b value) → P b value
+  at true is same later = let byte : p.1 ≡ value = cc in subst (P b) byte (subst (λ a. P a p.1) (sym (eqb-true b p.0 is)) each.0)
+  at false other same later = later same
+
+-- what holds of each escape's letter and its byte
+pub of_each_letter : (P : ℕ → ℕ → Type 0) (b value : ℕ) → HoldsOfEach P escape_letters → letter_value b ≡ Some value → P b value
+of_each_letter P b value each e = of_letter P b value escape_letters each e
+
+letter_read : (b value : ℕ) (rest : List ℕ) → letter_value b ≡ Some value → escape_at (b ∷ rest) ≡ Byte value rest
 unfolding escape_at
-escape_read alert = refl
-escape_read backspace = refl
-escape_read form_feed = refl
-escape_read line_feed = refl
-escape_read carriage_return = refl
-escape_read tab = refl
-escape_read vertical_tab = refl
-escape_read backslash = refl
-escape_read quote = refl
+letter_read b value rest e = of_each_letter (λ a v. escape_at (a ∷ rest) ≡ Byte v rest) b value (refl, (refl, (refl, (refl, (refl, (refl, (refl, (refl, (refl, tt))))))))) e
+
+escape_read : {text rest : List ℕ} {b : ℕ} → SpellsEscape text b rest → escape_at text ≡ Byte b rest
+escape_read (letter {b = b} {value = value} {rest = rest} e) = letter_read b value rest e
 escape_read (octal digits {rest = rest} numeral within end small) = octal_read digits rest numeral within end small
 escape_read (hexadecimal digits {rest = rest} numeral none small) = hexadecimal_read digits rest numeral none small
 

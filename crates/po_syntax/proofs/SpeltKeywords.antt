@@ -1,12 +1,11 @@
 -- Each keyword is read where it is spelt, and what is read as one is spelt, or has a fault.
 use Rattle.std.proofs.Common.{◌≡◌, ◌∙◌, refl, sym, ap, subst, ℕ, suc, ◌+◌, ◌^◌, ◌<◌, ◌≤◌, ◌==◌, ◌||◌, Bool, true, false, if◌then◌else◌, nat_lt, List, [], ◌∷◌, ◌++◌, length, take, drop, codes, bytes_eq, All, inl, inr, arith}
-use Rattle.std.specs.Char.{digit_value}
-use Rattle.std.specs.Int.{is_in_range}
+use Rattle.std.specs.Char.{digit_value, is_digit}
 use Rattle.std.specs.List.{prefix_len, list_all}
 use Rattle.std.specs.Str.Parse.{IsNumeral, digits_value}
 use Rattle.std.proofs.Math.Numerals.{one-add}
 use Rattle.std.proofs.Math.Seq.{take-append_seam, drop-append_seam}
-use Rattle.std.proofs.lemmas.Bool.{cond-true, and_parts, and_from, or_cases, or_left, or_right, both_ways, cond-false, eqb-true, eqb-false, ne_eqb, leb-true, le-leb, ltb-true, ltb-false, lt-ltb, false_from_ne_true}
+use Rattle.std.proofs.lemmas.Bool.{cond-true, or_from, both_ways, cond-false, eqb-true, eqb-false, ne_eqb, ltb-true, ltb-false, lt-ltb, false_from_ne_true}
 use Rattle.std.proofs.lemmas.List.{take-append-drop}
 use Rattle.std.proofs.lemmas.List.Elements.{All-cons, All-head}
 use Rattle.std.proofs.lemmas.Slice.Eq.{bytes_eq-Decides}
@@ -14,12 +13,13 @@ use Rattle.po_syntax.specs.declared.fault.PoFault.TheVariants.{BadPluralIndex, B
 use Rattle.po_syntax.specs.declared.item.Keyword.{Keyword}
 use Rattle.po_syntax.specs.declared.item.Keyword.TheVariants.{MsgCtxt, MsgId, MsgIdPlural, MsgStr, MsgStrAt}
 use Rattle.po_syntax.specs.Escapes.{NoDigitFirst}
-use Rattle.po_syntax.specs.LineFaults.{BeginsWithNoBlank, NoBracketFirst, KeywordFault, no_keyword, no_index, large_index, not_closed_index, TokensFault, no_token, in_keyword}
+use Rattle.po_syntax.specs.declared.fault.PoFault.{PoFault}
+use Rattle.po_syntax.specs.LineFaults.{IndexFault, no_index, large_index, not_closed_index, KeywordFault, no_keyword, in_index, TokensFault, no_token, in_keyword}
 use Rattle.po_syntax.specs.Internal.QuotedString.{digit_count}
-use Rattle.po_syntax.specs.Facts.Runs.{FailsFirst, parts_of, run_length, all_pass}
-use Rattle.po_syntax.specs.Spelling.{IsBlank, space, tab, vertical_tab, form_feed, carriage_return, IsWordByte, upper, lower, digit, underscore, EndsWord, HasNoBracket, SpellsKeyword, msgctxt, msgid, msgid_plural, msgstr, form}
-use Rattle.po_syntax.specs.Internal.Token.{Token, LineEnd, OpeningQuote, KeywordToken, WrongToken, is_word_byte, close_token, index_token, bracket_token, keyword_token, word_token, first_token, token_at}
-use Rattle.po_syntax.specs.Blanks.{is_blank, skip_blanks}
+use Rattle.po_syntax.specs.Facts.Runs.{parts_of, run_length, all_pass}
+use Rattle.po_syntax.specs.Spelling.{is_word_byte, SpellsKeyword, msgctxt, msgid, msgid_plural, msgstr, form}
+use Rattle.po_syntax.specs.Internal.Token.{Token, LineEnd, OpeningQuote, KeywordToken, WrongToken, close_token, index_token, bracket_token, keyword_token, word_token, first_token, token_at}
+use Rattle.po_syntax.specs.Blanks.{is_blank, IsBlank, skip_blanks, FailsFirst}
 use Rattle.po_syntax.proofs.Escapes.{all_digits, positive}
 use Rattle.po_syntax.proofs.SpeltEscapes.{count_all}
 
@@ -27,49 +27,12 @@ pub or_step : {P : Type 0} (x y : Bool) → (x ≡ true → P) → (y ≡ true �
 or_step true y p q e = p refl
 or_step false y p q e = q e
 
-pub blank_says : (b : ℕ) → is_blank b ≡ true → IsBlank b
-blank_says b e =
+-- what holds of each blank
+pub of_blank : (P : ℕ → Type 0) → P 32 → P 9 → P 11 → P 12 → P 13 → (b : ℕ) → IsBlank b → P b
+of_blank P space tab vertical_tab form_feed return b e =
     or_step (b == 32 || b == 9 || b == 11 || b == 12) (b == 13) (or_step (b == 32 || b == 9 || b == 11) (b == 12) (or_step (b == 32 || b == 9) (b == 11) (or_step (b == 32) (b == 9)
-    (λ h. subst IsBlank (sym (eqb-true b 32 h)) space) (λ h. subst IsBlank (sym (eqb-true b 9 h)) tab)) (λ h. subst IsBlank (sym (eqb-true b 11 h)) vertical_tab))
-    (λ h. subst IsBlank (sym (eqb-true b 12 h)) form_feed)) (λ h. subst IsBlank (sym (eqb-true b 13 h)) carriage_return) e
-
-pub blank_passes : {b : ℕ} → IsBlank b → is_blank b ≡ true
-blank_passes space = refl
-blank_passes tab = refl
-blank_passes vertical_tab = refl
-blank_passes form_feed = refl
-blank_passes carriage_return = refl
-
-blanks_pass : (blanks : List ℕ) → All IsBlank blanks → All (λ b. is_blank b ≡ true) blanks
-blanks_pass blanks h = λ k d below. blank_passes (h k d below)
-
-blanks_say : (blanks : List ℕ) → All (λ b. is_blank b ≡ true) blanks → All IsBlank blanks
-blanks_say blanks h = λ k d below. blank_says _ (h k d below)
-
-range_says : (low high b : ℕ) → is_in_range low high b ≡ true → (low ≤ b) × (b ≤ high)
-range_says low high b e = let p = and_parts _ _ e in (leb-true low b p.0, leb-true b high p.1)
-
-range_passes : (low high b : ℕ) → low ≤ b → b ≤ high → is_in_range low high b ≡ true
-range_passes low high b least most = and_from _ _ (le-leb low b least) (le-leb b high most)
-
-pub word_byte_says : (b : ℕ) → is_word_byte b ≡ true → IsWordByte b
-word_byte_says b e =
-    elim (or_cases ((is_in_range 48 57 b || is_in_range 65 90 b) || is_in_range 97 122 b) (b == 95) e) [
-      | inl h ↦ elim (or_cases (is_in_range 48 57 b || is_in_range 65 90 b) (is_in_range 97 122 b) h) [
-        | inl more ↦ elim (or_cases (is_in_range 48 57 b) (is_in_range 65 90 b) more) [
-          | inl one ↦ digit (range_says 48 57 b one).0 (range_says 48 57 b one).1
-          | inr one ↦ upper (range_says 65 90 b one).0 (range_says 65 90 b one).1
-        ]
-        | inr one ↦ lower (range_says 97 122 b one).0 (range_says 97 122 b one).1
-      ]
-      | inr h ↦ subst IsWordByte (sym (eqb-true b 95 h)) underscore
-    ]
-
-pub word_byte_passes : {b : ℕ} → IsWordByte b → is_word_byte b ≡ true
-word_byte_passes (upper {b = b} least most) = or_left _ _ (or_left _ _ (or_right _ _ (range_passes 65 90 b least most)))
-word_byte_passes (lower {b = b} least most) = or_left _ _ (or_right _ _ (range_passes 97 122 b least most))
-word_byte_passes (digit {b = b} least most) = or_left _ _ (or_left _ _ (or_left _ _ (range_passes 48 57 b least most)))
-word_byte_passes underscore = refl
+    (λ h. subst P (sym (eqb-true b 32 h)) space) (λ h. subst P (sym (eqb-true b 9 h)) tab)) (λ h. subst P (sym (eqb-true b 11 h)) vertical_tab))
+    (λ h. subst P (sym (eqb-true b 12 h)) form_feed)) (λ h. subst P (sym (eqb-true b 13 h)) return) e
 
 -- a text is blanks, and a rest that begins with none
 pub record SkipsBlanks (text : List ℕ) : Type 0 where
@@ -82,73 +45,47 @@ pub skips : (text : List ℕ) → SkipsBlanks text
 skips text =
     let parts = parts_of is_blank text in record {
       blanks = take (prefix_len is_blank text) text;
-      are_blanks = blanks_say _ parts.passes;
+      are_blanks = parts.passes;
       whole = parts.whole;
       other = parts.ends;
     }
 
 pub skip_prefix : (blanks rest : List ℕ) → All IsBlank blanks → FailsFirst is_blank rest → skip_blanks (blanks ++ rest) ≡ rest
 skip_prefix blanks rest all other =
-    ap (λ n. drop n (blanks ++ rest)) (run_length is_blank blanks rest (blanks_pass blanks all) other) ∙ drop-append_seam blanks rest
+    ap (λ n. drop n (blanks ++ rest)) (run_length is_blank blanks rest all other) ∙ drop-append_seam blanks rest
 
-ends_fails : (rest : List ℕ) → EndsWord rest → FailsFirst is_word_byte rest
-ends_fails [] h = tt
-ends_fails (b ∷ rest) h = false_from_ne_true (is_word_byte b) (λ passes. h (word_byte_says b passes))
-
-fails_ends : (rest : List ℕ) → FailsFirst is_word_byte rest → EndsWord rest
-fails_ends [] h = tt
-fails_ends (b ∷ rest) h = λ is. both_ways (is_word_byte b) h (word_byte_passes is)
-
-pub word_prefix : (word rest : List ℕ) → list_all is_word_byte word ≡ true → EndsWord rest → word_token (word ++ rest) ≡ keyword_token word rest
+pub word_prefix : (word rest : List ℕ) → All (λ c. is_word_byte c ≡ true) word → FailsFirst is_word_byte rest → word_token (word ++ rest) ≡ keyword_token word rest
 word_prefix word rest all ends =
-    let count = run_length is_word_byte word rest (all_pass is_word_byte word all) (ends_fails rest ends) in
+    let count = run_length is_word_byte word rest all ends in
     rw (count, take-append_seam word rest, drop-append_seam word rest) refl
 
 -- a word that begins with `m`
-pub m_read : (word rest : List ℕ) → list_all is_word_byte (109 ∷ word) ≡ true → EndsWord rest → token_at ((109 ∷ word) ++ rest) ≡ keyword_token (109 ∷ word) rest
+pub m_read : (word rest : List ℕ) → list_all is_word_byte (109 ∷ word) ≡ true → FailsFirst is_word_byte rest → token_at ((109 ∷ word) ++ rest) ≡ keyword_token (109 ∷ word) rest
 unfolding first_token
-m_read word rest all ends = word_prefix (109 ∷ word) rest all ends
+m_read word rest all ends = word_prefix (109 ∷ word) rest (all_pass is_word_byte (109 ∷ word) all) ends
 
-pub blank_no_word : {b : ℕ} → IsBlank b → IsWordByte b → ⊥
-blank_no_word {b} blank is = both_ways (is_word_byte b) (no_word blank) (word_byte_passes is) where
-  no_word : {a : ℕ} → IsBlank a → is_word_byte a ≡ false
-  no_word space = refl
-  no_word tab = refl
-  no_word vertical_tab = refl
-  no_word form_feed = refl
-  no_word carriage_return = refl
+pub blank_no_word : (b : ℕ) → IsBlank b → is_word_byte b ≡ false
+blank_no_word b is = of_blank (λ a. is_word_byte a ≡ false) refl refl refl refl refl b is
 
-bracket_no_word : IsWordByte 91 → ⊥
-bracket_no_word is = both_ways (is_word_byte 91) refl (word_byte_passes is)
+pub ends_before_bracket : (blanks rest : List ℕ) → All IsBlank blanks → FailsFirst is_word_byte (blanks ++ 91 ∷ rest)
+ends_before_bracket [] rest all = refl
+ends_before_bracket (b ∷ blanks) rest all = blank_no_word b (All-head IsBlank b blanks all)
 
-pub ends_before_bracket : (blanks rest : List ℕ) → All IsBlank blanks → EndsWord (blanks ++ 91 ∷ rest)
-ends_before_bracket [] rest all = bracket_no_word
-ends_before_bracket (b ∷ blanks) rest all = blank_no_word (All-head IsBlank b blanks all)
-
-no_bracket_token : (rest after : List ℕ) → ((inside : List ℕ) → after ≡ 91 ∷ inside → ⊥) → bracket_token rest after ≡ KeywordToken MsgStr rest
+no_bracket_token : (rest after : List ℕ) → FailsFirst (λ b. b == 91) after → bracket_token rest after ≡ KeywordToken MsgStr rest
 no_bracket_token rest [] none = refl
-no_bracket_token rest (b ∷ inside) none = cond-false (b == 91) (index_token (skip_blanks inside)) (KeywordToken MsgStr rest) (ne_eqb b 91 (λ is. none inside (ap (λ a. a ∷ inside) is)))
+no_bracket_token rest (b ∷ inside) none = cond-false (b == 91) (index_token (skip_blanks inside)) (KeywordToken MsgStr rest) none
 
-bracket_missing : (rest : List ℕ) → HasNoBracket rest → bracket_token rest (skip_blanks rest) ≡ KeywordToken MsgStr rest
-bracket_missing rest none =
-    let parts = skips rest in
-    no_bracket_token rest (skip_blanks rest) (λ inside is. none parts.blanks inside parts.are_blanks (sym parts.whole ∙ ap (λ l. parts.blanks ++ l) is))
-
-blank_no_digit : {b : ℕ} → IsBlank b → 10 ≤ digit_value b
-blank_no_digit space = ltb-false (digit_value 32) 10 refl
-blank_no_digit tab = ltb-false (digit_value 9) 10 refl
-blank_no_digit vertical_tab = ltb-false (digit_value 11) 10 refl
-blank_no_digit form_feed = ltb-false (digit_value 12) 10 refl
-blank_no_digit carriage_return = ltb-false (digit_value 13) 10 refl
+blank_no_digit : (b : ℕ) → IsBlank b → is_digit b 10 ≡ false
+blank_no_digit b is = of_blank (λ a. is_digit a 10 ≡ false) refl refl refl refl refl b is
 
 no_digit_before_bracket : (blanks rest : List ℕ) → All IsBlank blanks → NoDigitFirst 10 (blanks ++ 93 ∷ rest)
-no_digit_before_bracket [] rest all = ltb-false (digit_value 93) 10 refl
-no_digit_before_bracket (b ∷ blanks) rest all = blank_no_digit (All-head IsBlank b blanks all)
+no_digit_before_bracket [] rest all = refl
+no_digit_before_bracket (b ∷ blanks) rest all = blank_no_digit b (All-head IsBlank b blanks all)
 
 pub digits_no_blank : (digits rest : List ℕ) → IsNumeral 10 digits → FailsFirst is_blank (digits ++ rest)
 digits_no_blank [] rest numeral = absurd (omega (arith, numeral.0))
 digits_no_blank (d ∷ digits) rest numeral =
-    false_from_ne_true (is_blank d) (λ passes. let most = numeral.1.0 in omega (arith, most, blank_no_digit (blank_says d passes)))
+    false_from_ne_true (is_blank d) (λ passes. both_ways (is_digit d 10) (blank_no_digit d passes) (lt-ltb (digit_value d) 10 numeral.1.0))
 
 index_read : (digits after rest : List ℕ) → IsNumeral 10 digits → digits_value 10 digits < 2 ^ 32 → All IsBlank after → index_token (digits ++ (after ++ 93 ∷ rest)) ≡ KeywordToken (MsgStrAt (digits_value 10 digits)) rest
 unfolding index_token
@@ -170,7 +107,7 @@ unfolding keyword_token
 keyword_read (msgctxt {rest = rest} ends) = m_read (codes "sgctxt") rest refl ends
 keyword_read (msgid {rest = rest} ends) = m_read (codes "sgid") rest refl ends
 keyword_read (msgid_plural {rest = rest} ends) = m_read (codes "sgid_plural") rest refl ends
-keyword_read (msgstr {rest = rest} ends none) = m_read (codes "sgstr") rest refl ends ∙ bracket_missing rest none
+keyword_read (msgstr {rest = rest} ends none) = m_read (codes "sgstr") rest refl ends ∙ no_bracket_token rest (skip_blanks rest) none
 keyword_read (form before inside digits after {rest = rest} p q numeral fits r) =
     let closing = before ++ 91 ∷ (inside ++ (digits ++ (after ++ 93 ∷ rest))) in
     m_read (codes "sgstr") closing refl (ends_before_bracket before _ p) ∙ form_read before inside digits after rest p q numeral fits r
@@ -180,7 +117,7 @@ abbrev pub TokenSays : List ℕ → Token → Type 0
 TokenSays text LineEnd = text ≡ []
 TokenSays text (OpeningQuote rest) = text ≡ 34 ∷ rest
 TokenSays text (KeywordToken word rest) = SpellsKeyword text word rest
-TokenSays text (WrongToken fault) = BeginsWithNoBlank text → TokensFault text fault
+TokenSays text (WrongToken fault) = FailsFirst is_blank text → TokensFault text fault
 
 if_says : (text : List ℕ) (test : Bool) (s t : Token) → (test ≡ true → TokenSays text s) → (test ≡ false → TokenSays text t) → TokenSays text (if test then s else t)
 if_says text true s t p q = p refl
@@ -191,29 +128,29 @@ record IsOpened (whole before inside index : List ℕ) : Type 0 where
   text : whole ≡ codes "msgstr" ++ (before ++ 91 ∷ (inside ++ index))
   before_blank : All IsBlank before
   inside_blank : All IsBlank inside
-  index_begins : BeginsWithNoBlank index
+  index_begins : FailsFirst is_blank index
 
-pub fails_begins : (rest : List ℕ) → FailsFirst is_blank rest → BeginsWithNoBlank rest
-fails_begins [] h = tt
-fails_begins (b ∷ rest) h = λ is. both_ways (is_blank b) h (blank_passes is)
-
--- an index that no closing bracket follows
-not_closed_says : (whole before inside index digits : List ℕ) → IsOpened whole before inside index → IsNumeral 10 digits → digits_value 10 digits < 2 ^ 32 → (rest after end : List ℕ) → index ≡ digits ++ rest → rest ≡ after ++ end → NoDigitFirst 10 rest → All IsBlank after → NoBracketFirst end
-    → KeywordFault whole BadToken
-not_closed_says whole before inside index digits opened numeral fits rest after end is ends none all other =
-    let text = opened.text ∙ ap (λ l. codes "msgstr" ++ (before ++ 91 ∷ (inside ++ l))) (is ∙ ap (λ l. digits ++ l) ends) in
-    subst (λ t. KeywordFault t BadToken) (sym text) (not_closed_index before inside digits after end opened.before_blank opened.inside_blank numeral (subst (NoDigitFirst 10) ends none) fits all other)
+fault_opened : {fault : PoFault} (whole before inside index : List ℕ) → IsOpened whole before inside index → IndexFault index fault → TokensFault whole fault
+fault_opened {fault} whole before inside index opened h =
+    in_keyword (subst (λ t. KeywordFault t fault) (sym opened.text) (in_index before inside index opened.before_blank opened.inside_blank h))
 
 close_says : (whole before inside index digits : List ℕ) → IsOpened whole before inside index → IsNumeral 10 digits → digits_value 10 digits < 2 ^ 32 → (rest after end : List ℕ) → index ≡ digits ++ rest → rest ≡ after ++ end → NoDigitFirst 10 rest → All IsBlank after → FailsFirst is_blank end
     → TokenSays whole (close_token (digits_value 10 digits) end)
-close_says whole before inside index digits opened numeral fits rest after [] is ends none all begins = λ _. in_keyword (not_closed_says whole before inside index digits opened numeral fits rest after [] is ends none all tt)
-close_says whole before inside index digits opened numeral fits rest after (b ∷ end) is ends none all begins =
-    if_says whole (b == 93) _ _
-    (λ e.
-    let closing : rest ≡ after ++ 93 ∷ end = ends ∙ ap (λ a. after ++ a ∷ end) (eqb-true b 93 e) in
-    let text = opened.text ∙ ap (λ l. codes "msgstr" ++ (before ++ 91 ∷ (inside ++ l))) (is ∙ ap (λ l. digits ++ l) closing) in
-    subst (λ t. SpellsKeyword t (MsgStrAt (digits_value 10 digits)) end) (sym text) (form before inside digits after opened.before_blank opened.inside_blank numeral fits all))
-    (λ other _. in_keyword (not_closed_says whole before inside index digits opened numeral fits rest after (b ∷ end) is ends none all (fails_begins (b ∷ end) begins, eqb-false b 93 other)))
+close_says whole before inside index digits opened numeral fits rest after end is ends none all begins = at end ends begins where
+  unclosed : (last : List ℕ) → rest ≡ after ++ last → FailsFirst (λ b. is_blank b || b == 93) last → TokensFault whole BadToken
+  unclosed last e other =
+      let parts : index ≡ digits ++ (after ++ last) = is ∙ ap (λ l. digits ++ l) e in
+      fault_opened whole before inside index opened (subst (λ t. IndexFault t BadToken) (sym parts) (not_closed_index digits after last numeral (subst (NoDigitFirst 10) e none) fits all other))
+
+  at : (last : List ℕ) → rest ≡ after ++ last → FailsFirst is_blank last → TokenSays whole (close_token (digits_value 10 digits) last)
+  at [] e begins = λ _. unclosed [] e tt
+  at (b ∷ last) e begins =
+      if_says whole (b == 93) _ _
+      (λ closes.
+      let closing : rest ≡ after ++ 93 ∷ last = e ∙ ap (λ a. after ++ a ∷ last) (eqb-true b 93 closes) in
+      let text = opened.text ∙ ap (λ l. codes "msgstr" ++ (before ++ 91 ∷ (inside ++ l))) (is ∙ ap (λ l. digits ++ l) closing) in
+      subst (λ t. SpellsKeyword t (MsgStrAt (digits_value 10 digits)) last) (sym text) (form before inside digits after opened.before_blank opened.inside_blank numeral fits all))
+      (λ other _. unclosed (b ∷ last) e (or_from _ _ begins other))
 
 index_says : (whole before inside index : List ℕ) → IsOpened whole before inside index → TokenSays whole (index_token index)
 unfolding index_token
@@ -226,7 +163,7 @@ index_says whole before inside index opened =
     if_says whole (count == 0) _ _
     (λ zero _.
     let none : NoDigitFirst 10 index = subst (λ n. NoDigitFirst 10 (drop n index)) (eqb-true count 0 zero) all.2 in
-    in_keyword (subst (λ t. KeywordFault t BadToken) (sym opened.text) (no_index before inside index opened.before_blank opened.inside_blank opened.index_begins none)))
+    fault_opened whole before inside index opened (no_index opened.index_begins none))
     (λ other.
     let some : 0 < length digits = omega (arith, positive count other, all.1) in
     if_says whole (nat_lt (digits_value 10 digits) (2 ^ 32)) _ _
@@ -234,17 +171,11 @@ index_says whole before inside index opened =
     let parts = skips rest in
     close_says whole before inside index digits opened (some, all.0) (ltb-true _ _ less) rest parts.blanks (skip_blanks rest) parted (sym parts.whole) all.2 parts.are_blanks parts.other)
     (λ past _.
-    let text = opened.text ∙ ap (λ l. codes "msgstr" ++ (before ++ 91 ∷ (inside ++ l))) parted in
-    in_keyword (subst (λ t. KeywordFault t BadPluralIndex) (sym text) (large_index before inside digits rest opened.before_blank opened.inside_blank (some, all.0) all.2 (ltb-false _ _ past)))))
+    fault_opened whole before inside index opened (subst (λ t. IndexFault t BadPluralIndex) (sym parted) (large_index digits rest (some, all.0) all.2 (ltb-false _ _ past)))))
 
-no_bracket_from : (rest after : List ℕ) → skip_blanks rest ≡ after → ((inside : List ℕ) → after ≡ 91 ∷ inside → ⊥) → HasNoBracket rest
-no_bracket_from rest after is none blanks inside all e = none inside (sym is ∙ ap skip_blanks e ∙ skip_prefix blanks (91 ∷ inside) all refl)
-
-bracket_says : (whole rest : List ℕ) → whole ≡ codes "msgstr" ++ rest → EndsWord rest → (before after : List ℕ) → skip_blanks rest ≡ after → rest ≡ before ++ after → All IsBlank before → TokenSays whole (bracket_token rest after)
+bracket_says : (whole rest : List ℕ) → whole ≡ codes "msgstr" ++ rest → FailsFirst is_word_byte rest → (before after : List ℕ) → skip_blanks rest ≡ after → rest ≡ before ++ after → All IsBlank before → TokenSays whole (bracket_token rest after)
 bracket_says whole rest text ends before [] is parts all =
-    subst (λ t. SpellsKeyword t MsgStr rest) (sym text) (msgstr ends (no_bracket_from rest [] is (λ inside e. nil_no_cons inside e))) where
-      nil_no_cons : (inside : List ℕ) → [] ≡ 91 ∷ inside → ⊥
-      nil_no_cons inside e = cc
+    subst (λ t. SpellsKeyword t MsgStr rest) (sym text) (msgstr ends (subst (FailsFirst (λ b. b == 91)) (sym is) tt))
 bracket_says whole rest text ends before (b ∷ inside) is parts all =
     if_says whole (b == 91) _ (KeywordToken MsgStr rest)
     (λ e.
@@ -253,13 +184,11 @@ bracket_says whole rest text ends before (b ∷ inside) is parts all =
       text = text ∙ ap (λ l. codes "msgstr" ++ l) (parts ∙ ap (λ a. before ++ a ∷ inside) (eqb-true b 91 e) ∙ ap (λ l. before ++ 91 ∷ l) (sym more.whole));
       before_blank = all;
       inside_blank = more.are_blanks;
-      index_begins = fails_begins (skip_blanks inside) more.other;
+      index_begins = more.other;
     }))
-    (λ other. subst (λ t. SpellsKeyword t MsgStr rest) (sym text) (msgstr ends (no_bracket_from rest (b ∷ inside) is (λ more e. eqb-false b 91 other (head_same more e))))) where
-      head_same : (more : List ℕ) → b ∷ inside ≡ 91 ∷ more → b ≡ 91
-      head_same more e = cc
+    (λ other. subst (λ t. SpellsKeyword t MsgStr rest) (sym text) (msgstr ends (subst (FailsFirst (λ b. b == 91)) (sym is) other)))
 
-keyword_says : (whole : List ℕ) (b : ℕ) (word rest : List ℕ) → whole ≡ (b ∷ word) ++ rest → All IsWordByte (b ∷ word) → EndsWord rest → TokenSays whole (keyword_token (b ∷ word) rest)
+keyword_says : (whole : List ℕ) (b : ℕ) (word rest : List ℕ) → whole ≡ (b ∷ word) ++ rest → All (λ c. is_word_byte c ≡ true) (b ∷ word) → FailsFirst is_word_byte rest → TokenSays whole (keyword_token (b ∷ word) rest)
 unfolding keyword_token
 keyword_says whole b word rest text all ends =
     let read = b ∷ word in
@@ -283,9 +212,9 @@ word_says b rest is =
     let count = prefix_len is_word_byte rest in
     let parts = parts_of is_word_byte rest in
     let counted : prefix_len is_word_byte (b ∷ rest) ≡ suc count = cond-true (is_word_byte b) (1 + count) 0 is ∙ one-add count in
-    let bytes : All IsWordByte (b ∷ take count rest) = All-cons IsWordByte b (take count rest) (word_byte_says b is) (λ k d below. word_byte_says _ (parts.passes k d below)) in
+    let bytes = All-cons (λ c. is_word_byte c ≡ true) b (take count rest) is parts.passes in
     subst (TokenSays (b ∷ rest)) (ap (λ n. keyword_token (take n (b ∷ rest)) (drop n (b ∷ rest))) (sym counted))
-    (keyword_says (b ∷ rest) b (take count rest) (drop count rest) (ap (λ l. b ∷ l) (sym parts.whole)) bytes (fails_ends (drop count rest) parts.ends))
+    (keyword_says (b ∷ rest) b (take count rest) (drop count rest) (ap (λ l. b ∷ l) (sym parts.whole)) bytes parts.ends)
 
 pub first_says : (text : List ℕ) → TokenSays text (first_token text)
 unfolding first_token
@@ -293,4 +222,4 @@ first_says [] = refl
 first_says (b ∷ rest) =
     if_says (b ∷ rest) (b == 34) (OpeningQuote rest) _ (λ e. ap (λ a. a ∷ rest) (eqb-true b 34 e)) (λ no_quote.
     if_says (b ∷ rest) (is_word_byte b) _ _ (word_says b rest)
-    (λ no_word no_blank. no_token no_blank (eqb-false b 34 no_quote) (λ is. both_ways (is_word_byte b) no_word (word_byte_passes is))))
+    (λ no_word no_blank. no_token no_blank (eqb-false b 34 no_quote) no_word))

@@ -1,8 +1,8 @@
 -- Each line is read as the items that it holds, and holds what is read of it, or has the fault at which reading it stops.
-use Rattle.std.proofs.Common.{◌≡◌, ◌⊎◌, inl, inr, ◌==◌, ◌∙◌, refl, sym, ap, subst, ℕ, ◌+◌, Bool, true, false, if◌then◌else◌, List, [], ◌∷◌, ◌++◌, drop, All, arith}
+use Rattle.std.proofs.Common.{◌≡◌, ◌⊎◌, inl, inr, ◌==◌, ◌||◌, ◌∙◌, refl, sym, ap, subst, ℕ, ◌+◌, Bool, true, false, if◌then◌else◌, List, [], ◌∷◌, ◌++◌, drop, All, arith}
 use Rattle.std.specs.List.{prefix_len}
 use Rattle.std.proofs.Math.Numerals.{one-add}
-use Rattle.std.proofs.lemmas.Bool.{both_ways, cond-true, cond-false, eqb-true, eqb-false, ne_eqb, eq-eqb}
+use Rattle.std.proofs.lemmas.Bool.{or_from, or_parts, cond-true, cond-false, eqb-true, eqb-false, ne_eqb}
 use Rattle.std.proofs.lemmas.List.Elements.{All-head, All-tail}
 use Rattle.po_syntax.specs.declared.fault.PoFault.{PoFault}
 use Rattle.po_syntax.specs.declared.fault.PoFault.TheVariants.{BadToken}
@@ -12,16 +12,14 @@ use Rattle.po_syntax.specs.declared.item.Marks.{Marks}
 use Rattle.po_syntax.specs.Internal.Line as line
 use Rattle.po_syntax.specs.Internal.Line.{Shape, CommentLine, Tokens, NoShape, comment_shape, obsolete_shape, tilde_shape, hash_shape, first_shape, shape_of, SpellsTokens, none, word, SpellsLine, TokensStop, halt, after_word, LineStops, no_shape, in_tokens}
 use Rattle.po_syntax.specs.ItemContents.{trim_returns}
-use Rattle.po_syntax.specs.LineFaults.{TokensFault, blank as fault_blank, in_string as fault_in_string, after_keyword, after_string as fault_after_string, BeginsTokens, BeginsWithNoBar, LineFault, indented as fault_indent, previous_again, obsolete_again, live as fault_live, previous as fault_previous, obsolete as fault_obsolete, obsolete_previous as fault_obsolete_previous}
-use Rattle.po_syntax.specs.Facts.Returns.{kept_text}
-use Rattle.po_syntax.specs.Facts.Runs.{FailsFirst, kept_is}
-use Rattle.po_syntax.specs.Spelling.{IsBlank, HoldsTokens, end, blank, keyword, string, IsMark, dot, colon, comma, bar, tilde, SpellsComment, extracted, reference, flags, translator, IsWithoutReturns, marked, HoldsItems, indented, comment, obsolete_comment, live, previous, obsolete, obsolete_previous}
+use Rattle.po_syntax.specs.LineFaults.{TokensFault, blank as fault_blank, in_string as fault_in_string, after_keyword, after_string as fault_after_string, BeginsTokens, LineFault, indented as fault_indent, previous_again, obsolete_again, live as fault_live, previous as fault_previous, obsolete as fault_obsolete, obsolete_previous as fault_obsolete_previous}
+use Rattle.po_syntax.specs.Spelling.{HoldsTokens, end, blank, keyword, string, is_mark, SpellsComment, extracted, reference, flags, translator, own_marks, previous_marks, HoldsItems, indented, comment, obsolete_comment, live, previous, obsolete, obsolete_previous}
 use Rattle.po_syntax.specs.TextItem.{TextItem, Comment, Str}
 use Rattle.po_syntax.specs.Internal.Token.{Token, LineEnd, OpeningQuote, KeywordToken, WrongToken, first_token, token_at}
-use Rattle.po_syntax.specs.Blanks.{is_blank, skip_blanks}
+use Rattle.po_syntax.specs.Blanks.{is_blank, IsBlank, skip_blanks, FailsFirst}
 use Rattle.po_syntax.proofs.Escapes.{quoted_spelt, string_fault}
 use Rattle.po_syntax.proofs.SpeltEscapes.{spelt_quoted}
-use Rattle.po_syntax.proofs.SpeltKeywords.{blank_passes, skips, skip_prefix, fails_begins, keyword_read, TokenSays, first_says}
+use Rattle.po_syntax.proofs.SpeltKeywords.{of_blank, skips, skip_prefix, keyword_read, TokenSays, first_says}
 
 -- blanks before tokens
 after_blanks : {marks : Marks} {number : ℕ} {items : List TextItem} (blanks text : List ℕ) → All IsBlank blanks → HoldsTokens marks number text items → HoldsTokens marks number (blanks ++ text) items
@@ -52,7 +50,7 @@ same_tokens same (line.string e quoted more) = line.string (same ∙ e) quoted m
 
 pub blank_skipped : (b : ℕ) (text : List ℕ) → IsBlank b → skip_blanks (b ∷ text) ≡ skip_blanks text
 blank_skipped b text h =
-    let count = cond-true (is_blank b) (1 + prefix_len is_blank text) 0 (blank_passes h) ∙ one-add (prefix_len is_blank text) in
+    let count = cond-true (is_blank b) (1 + prefix_len is_blank text) 0 h ∙ one-add (prefix_len is_blank text) in
     ap (λ n. drop n (b ∷ text)) count
 
 pub quote_opens : (text : List ℕ) → token_at (34 ∷ text) ≡ OpeningQuote text
@@ -75,14 +73,6 @@ no_tokens (none e) h = cc
 no_tokens (word e more) h = cc
 no_tokens (line.string e quoted more) h = cc
 
--- the text of a comment is the rest without the CRs at its end
-return_passes : (returns : List ℕ) → All (λ b. b ≡ 13) returns → All (λ b. (b == 13) ≡ true) returns
-return_passes returns h = λ k d below. eq-eqb _ 13 (h k d below)
-
-pub is_trimmed : (text kept : List ℕ) → IsWithoutReturns text kept → kept ≡ trim_returns text
-is_trimmed text kept h =
-    sym (ap trim_returns h.whole ∙ kept_is (λ b. b == 13) kept (λ before b is. ne_eqb b 13 (λ same. h.none_left before (is ∙ ap (λ a. before ++ a ∷ []) same))) h.returns (return_passes h.returns h.are_returns))
-
 -- what a shape says of the line that it is read from
 abbrev ShapeSays : List ℕ → Shape → Type 0
 ShapeSays text (CommentLine kind rest) = (number : ℕ) → HoldsItems number text (Comment kind (trim_returns rest) number ∷ [])
@@ -104,13 +94,6 @@ if_comment : (text : List ℕ) (test : Bool) (s t : Shape) → (test ≡ true �
 if_comment text true s t p q = p refl
 if_comment text false s t p q = q refl
 
-no_mark : (b : ℕ) → (b == 46) ≡ false → (b == 58) ≡ false → (b == 44) ≡ false → (b == 124) ≡ false → (b == 126) ≡ false → IsMark b → ⊥
-no_mark b p q r s t dot = eqb-false 46 46 p refl
-no_mark b p q r s t colon = eqb-false 58 58 q refl
-no_mark b p q r s t comma = eqb-false 44 44 r refl
-no_mark b p q r s t bar = eqb-false 124 124 s refl
-no_mark b p q r s t tilde = eqb-false 126 126 t refl
-
 comment_says : (text : List ℕ) → CommentSays text (comment_shape text)
 comment_says [] = translator tt
 comment_says (b ∷ rest) =
@@ -118,19 +101,19 @@ comment_says (b ∷ rest) =
     if_comment (b ∷ rest) (b == 58) (CommentLine Reference rest) _ (λ e. subst (λ a. SpellsComment (a ∷ rest) Reference rest) (sym (eqb-true b 58 e)) reference) (λ q.
     if_comment (b ∷ rest) (b == 44) (CommentLine Flags rest) _ (λ e. subst (λ a. SpellsComment (a ∷ rest) Flags rest) (sym (eqb-true b 44 e)) flags) (λ r.
     if_comment (b ∷ rest) (b == 124) NoShape _ (λ e. (rest, inl (ap (λ a. a ∷ rest) (eqb-true b 124 e)))) (λ s.
-    if_comment (b ∷ rest) (b == 126) NoShape (CommentLine Translator (b ∷ rest)) (λ e. (rest, inr (ap (λ a. a ∷ rest) (eqb-true b 126 e)))) (λ t. translator (no_mark b p q r s t))))))
+    if_comment (b ∷ rest) (b == 126) NoShape (CommentLine Translator (b ∷ rest)) (λ e. (rest, inr (ap (λ a. a ∷ rest) (eqb-true b 126 e)))) (λ t. translator (or_from _ _ (or_from _ _ (or_from _ _ (or_from _ _ p q) r) s) t))))))
 
 -- a text that no bar and no tilde begins
 abbrev BeginsComment : List ℕ → Type 0
 BeginsComment text = (rest : List ℕ) → (text ≡ 124 ∷ rest) ⊎ (text ≡ 126 ∷ rest) → ⊥
 
 comment_line : (text : List ℕ) (shape : Shape) → BeginsComment text → CommentSays text shape → ShapeSays (35 ∷ text) shape
-comment_line text (CommentLine kind rest) other h = λ number. comment h (kept_text rest)
+comment_line text (CommentLine kind rest) other h = λ number. comment h
 comment_line text (Tokens marks rest) other h = absurd h
 comment_line text NoShape other h = absurd (other h.0 h.1)
 
 obsolete_comment_line : (blanks text : List ℕ) (shape : Shape) → All IsBlank blanks → CommentSays text shape → ShapeSays (35 ∷ 126 ∷ (blanks ++ 35 ∷ text)) shape
-obsolete_comment_line blanks text (CommentLine kind rest) all h = λ number. obsolete_comment blanks all h (kept_text rest)
+obsolete_comment_line blanks text (CommentLine kind rest) all h = λ number. obsolete_comment blanks all h
 obsolete_comment_line blanks text (Tokens marks rest) all h = absurd h
 obsolete_comment_line blanks text NoShape all h =
     let Q : List ℕ → Type 0 = λ t. LineFault (35 ∷ 126 ∷ (blanks ++ 35 ∷ t)) BadToken in
@@ -138,29 +121,29 @@ obsolete_comment_line blanks text NoShape all h =
 
 -- a text that begins with no blank, and not with `#`
 begins_tokens : (b : ℕ) (text : List ℕ) → FailsFirst is_blank (b ∷ text) → (b == 35) ≡ false → BeginsTokens (b ∷ text)
-begins_tokens b text fails other = (λ is. both_ways (is_blank b) fails (blank_passes is), eqb-false b 35 other)
+begins_tokens b text fails other = or_from _ _ fails other
 
-obsolete_says : (blanks after : List ℕ) → All IsBlank blanks → BeginsWithNoBar (blanks ++ after) → FailsFirst is_blank after → ShapeSays (35 ∷ 126 ∷ (blanks ++ after)) (obsolete_shape after)
+obsolete_says : (blanks after : List ℕ) → All IsBlank blanks → FailsFirst (λ b. b == 124) (blanks ++ after) → FailsFirst is_blank after → ShapeSays (35 ∷ 126 ∷ (blanks ++ after)) (obsolete_shape after)
 unfolding obsolete_shape
 obsolete_says blanks [] all no_bar fails = (λ number items h. obsolete (after_blanks blanks [] all h), λ fault h. fault_obsolete blanks all tt no_bar h)
 obsolete_says blanks (b ∷ rest) all no_bar fails =
-    if_says (35 ∷ 126 ∷ (blanks ++ b ∷ rest)) (b == 35) _ (Tokens (marked true false) (b ∷ rest))
+    if_says (35 ∷ 126 ∷ (blanks ++ b ∷ rest)) (b == 35) _ (Tokens (own_marks true) (b ∷ rest))
     (λ e. subst (λ a. ShapeSays (35 ∷ 126 ∷ (blanks ++ a ∷ rest)) (comment_shape rest)) (sym (eqb-true b 35 e)) (obsolete_comment_line blanks rest (comment_shape rest) all (comment_says rest)))
     (λ other. (λ number items h. obsolete (after_blanks blanks (b ∷ rest) all h), λ fault h. fault_obsolete blanks all (begins_tokens b rest fails other) no_bar h))
 
-obsolete_line : (text : List ℕ) → BeginsWithNoBar text → ShapeSays (35 ∷ 126 ∷ text) (obsolete_shape (skip_blanks text))
+obsolete_line : (text : List ℕ) → FailsFirst (λ b. b == 124) text → ShapeSays (35 ∷ 126 ∷ text) (obsolete_shape (skip_blanks text))
 obsolete_line text no_bar =
     let parts = skips text in
     subst (λ t. ShapeSays (35 ∷ 126 ∷ t) (obsolete_shape (skip_blanks text))) parts.whole
-    (obsolete_says parts.blanks (skip_blanks text) parts.are_blanks (subst BeginsWithNoBar (sym parts.whole) no_bar) parts.other)
+    (obsolete_says parts.blanks (skip_blanks text) parts.are_blanks (subst (FailsFirst (λ b. b == 124)) (sym parts.whole) no_bar) parts.other)
 
 tilde_says : (text : List ℕ) → ShapeSays (35 ∷ 126 ∷ text) (tilde_shape text)
 unfolding tilde_shape
 tilde_says [] = obsolete_line [] tt
 tilde_says (b ∷ rest) =
-    if_says (35 ∷ 126 ∷ b ∷ rest) (b == 124) (Tokens (marked true true) rest) _
-    (λ e. subst (λ a. ShapeSays (35 ∷ 126 ∷ a ∷ rest) (Tokens (marked true true) rest)) (sym (eqb-true b 124 e)) (λ number items h. obsolete_previous h, λ fault h. fault_obsolete_previous h))
-    (λ other. obsolete_line (b ∷ rest) (eqb-false b 124 other))
+    if_says (35 ∷ 126 ∷ b ∷ rest) (b == 124) (Tokens (previous_marks true) rest) _
+    (λ e. subst (λ a. ShapeSays (35 ∷ 126 ∷ a ∷ rest) (Tokens (previous_marks true) rest)) (sym (eqb-true b 124 e)) (λ number items h. obsolete_previous h, λ fault h. fault_obsolete_previous h))
+    (λ other. obsolete_line (b ∷ rest) other)
 
 nothing_begins : BeginsComment []
 nothing_begins rest (inl e) = cc
@@ -174,8 +157,8 @@ hash_says : (text : List ℕ) → ShapeSays (35 ∷ text) (hash_shape text)
 unfolding hash_shape
 hash_says [] = comment_line [] (comment_shape []) nothing_begins (comment_says [])
 hash_says (b ∷ rest) =
-    if_says (35 ∷ b ∷ rest) (b == 124) (Tokens (marked false true) rest) _
-    (λ e. subst (λ a. ShapeSays (35 ∷ a ∷ rest) (Tokens (marked false true) rest)) (sym (eqb-true b 124 e)) (λ number items h. previous h, λ fault h. fault_previous h)) (λ no_bar.
+    if_says (35 ∷ b ∷ rest) (b == 124) (Tokens (previous_marks false) rest) _
+    (λ e. subst (λ a. ShapeSays (35 ∷ a ∷ rest) (Tokens (previous_marks false) rest)) (sym (eqb-true b 124 e)) (λ number items h. previous h, λ fault h. fault_previous h)) (λ no_bar.
     if_says (35 ∷ b ∷ rest) (b == 126) _ _
     (λ e. subst (λ a. ShapeSays (35 ∷ a ∷ rest) (tilde_shape rest)) (sym (eqb-true b 126 e)) (tilde_says rest))
     (λ no_tilde. comment_line (b ∷ rest) (comment_shape (b ∷ rest)) (other_begins b rest no_bar no_tilde) (comment_says (b ∷ rest))))
@@ -184,7 +167,7 @@ shape_says : (text : List ℕ) → FailsFirst is_blank text → ShapeSays text (
 unfolding first_shape
 shape_says [] fails = (λ number items h. live h, λ fault h. fault_live tt h)
 shape_says (b ∷ rest) fails =
-    if_says (b ∷ rest) (b == 35) _ (Tokens (marked false false) (b ∷ rest))
+    if_says (b ∷ rest) (b == 35) _ (Tokens (own_marks false) (b ∷ rest))
     (λ e. subst (λ a. ShapeSays (a ∷ rest) (hash_shape rest)) (sym (eqb-true b 35 e)) (hash_says rest))
     (λ other. (λ number items h. live h, λ fault h. fault_live (begins_tokens b rest fails other) h))
 
@@ -216,7 +199,7 @@ fault_after_skipped {fault} text h =
     subst (λ t. TokensFault t fault) parts.whole (fault_after_blanks parts.blanks (skip_blanks text) parts.are_blanks h)
 
 tokens_fault : {text : List ℕ} {fault : PoFault} → TokensStop text fault → TokensFault text fault
-tokens_fault (halt {text = text} {fault = fault} e) = fault_after_skipped text (says_at text (WrongToken fault) e (fails_begins (skip_blanks text) (skips text).other))
+tokens_fault (halt {text = text} {fault = fault} e) = fault_after_skipped text (says_at text (WrongToken fault) e (skips text).other)
 tokens_fault (line.in_string {text = text} {inner = inner} {fault = fault} e h) =
     fault_after_skipped text (subst (λ t. TokensFault t fault) (sym (says_at text (OpeningQuote inner) e)) (fault_in_string (string_fault h)))
 tokens_fault (after_word {text = text} {rest = rest} {keyword = key} e h) = fault_after_skipped text (after_keyword (says_at text (KeywordToken key rest) e) (tokens_fault h))
@@ -247,7 +230,11 @@ comment_read reference = refl
 comment_read flags = refl
 comment_read (translator {text = []} h) = refl
 comment_read (translator {text = b ∷ rest} h) =
-    rw (ne_eqb b 46 (λ is. h (subst IsMark (sym is) dot)), ne_eqb b 58 (λ is. h (subst IsMark (sym is) colon)), ne_eqb b 44 (λ is. h (subst IsMark (sym is) comma)), ne_eqb b 124 (λ is. h (subst IsMark (sym is) bar)), ne_eqb b 126 (λ is. h (subst IsMark (sym is) tilde))) refl
+    let tilde = or_parts _ (b == 126) h in
+    let bar = or_parts _ (b == 124) tilde.0 in
+    let comma = or_parts (b == 46 || b == 58) (b == 44) bar.0 in
+    let others = or_parts (b == 46) (b == 58) comma.0 in
+    rw (others.0, others.1, comma.1, bar.1, tilde.1) refl
 
 comment_hash : {text rest : List ℕ} {kind : CommentKind} → SpellsComment text kind rest → hash_shape text ≡ comment_shape text
 unfolding hash_shape
@@ -256,13 +243,14 @@ comment_hash reference = refl
 comment_hash flags = refl
 comment_hash (translator {text = []} h) = refl
 comment_hash (translator {text = b ∷ rest} h) =
-    cond-false (b == 124) _ _ (ne_eqb b 124 (λ is. h (subst IsMark (sym is) bar))) ∙ cond-false (b == 126) _ _ (ne_eqb b 126 (λ is. h (subst IsMark (sym is) tilde)))
+    let tilde = or_parts _ (b == 126) h in
+    cond-false (b == 124) _ _ (or_parts _ (b == 124) tilde.0).1 ∙ cond-false (b == 126) _ _ tilde.1
 
 pub hash_first : (text : List ℕ) → shape_of (35 ∷ text) ≡ hash_shape text
 unfolding first_shape
 hash_first text = refl
 
-pub bar_first : (text : List ℕ) → hash_shape (124 ∷ text) ≡ Tokens (marked false true) text
+pub bar_first : (text : List ℕ) → hash_shape (124 ∷ text) ≡ Tokens (previous_marks false) text
 unfolding hash_shape
 bar_first text = refl
 
@@ -270,7 +258,7 @@ pub tilde_first : (text : List ℕ) → hash_shape (126 ∷ text) ≡ tilde_shap
 unfolding hash_shape
 tilde_first text = refl
 
-pub tilde_bar_first : (text : List ℕ) → tilde_shape (124 ∷ text) ≡ Tokens (marked true true) text
+pub tilde_bar_first : (text : List ℕ) → tilde_shape (124 ∷ text) ≡ Tokens (previous_marks true) text
 unfolding tilde_shape
 tilde_bar_first text = refl
 
@@ -278,16 +266,14 @@ pub obsolete_hash : (text : List ℕ) → obsolete_shape (35 ∷ text) ≡ comme
 unfolding obsolete_shape
 obsolete_hash text = refl
 
-blank_no_bar : {b : ℕ} → IsBlank b → (b == 124) ≡ false
-blank_no_bar {b} is = ne_eqb b 124 (λ same. bar_no_blank (subst IsBlank same is)) where
-  bar_no_blank : IsBlank 124 → ⊥
-  bar_no_blank h = let t = blank_passes h in cc
+blank_no_bar : (b : ℕ) → IsBlank b → (b == 124) ≡ false
+blank_no_bar b is = of_blank (λ a. (a == 124) ≡ false) refl refl refl refl refl b is
 
 pub tilde_comment : (blanks text : List ℕ) → All IsBlank blanks → tilde_shape (blanks ++ 35 ∷ text) ≡ comment_shape text
 unfolding tilde_shape
 tilde_comment [] text all = obsolete_hash text
 tilde_comment (b ∷ blanks) text all =
-    cond-false (b == 124) (Tokens (marked true true) (blanks ++ 35 ∷ text)) _ (blank_no_bar (All-head IsBlank b blanks all))
+    cond-false (b == 124) (Tokens (previous_marks true) (blanks ++ 35 ∷ text)) _ (blank_no_bar b (All-head IsBlank b blanks all))
     ∙ ap obsolete_shape (skip_prefix (b ∷ blanks) (35 ∷ text) all refl) ∙ obsolete_hash text
 
 -- tokens begin with no `#` and no `|`
@@ -306,17 +292,17 @@ skipped_twice text = skip_prefix [] (skip_blanks text) (λ k d below. absurd (om
 tokens_skipped : {marks : Marks} {number : ℕ} {text : List ℕ} {items : List TextItem} → SpellsTokens marks number text items → SpellsTokens marks number (skip_blanks text) items
 tokens_skipped {text = text} h = same_tokens (ap first_token (skipped_twice text)) h
 
-live_shape : {number : ℕ} {marks : Marks} {items : List TextItem} (text : List ℕ) → SpellsTokens marks number text items → first_shape text ≡ Tokens (marked false false) text
+live_shape : {number : ℕ} {marks : Marks} {items : List TextItem} (text : List ℕ) → SpellsTokens marks number text items → first_shape text ≡ Tokens (own_marks false) text
 unfolding first_shape
 live_shape [] h = refl
 live_shape (b ∷ text) h = cond-false (b == 35) _ _ (ne_eqb b 35 (λ is. no_tokens h (wrong_first b text is)))
 
-obsolete_tokens : {number : ℕ} {marks : Marks} {items : List TextItem} (text : List ℕ) → SpellsTokens marks number text items → obsolete_shape text ≡ Tokens (marked true false) text
+obsolete_tokens : {number : ℕ} {marks : Marks} {items : List TextItem} (text : List ℕ) → SpellsTokens marks number text items → obsolete_shape text ≡ Tokens (own_marks true) text
 unfolding obsolete_shape
 obsolete_tokens [] h = refl
 obsolete_tokens (b ∷ text) h = cond-false (b == 35) _ _ (ne_eqb b 35 (λ is. no_tokens h (wrong_first b text is)))
 
-tilde_tokens : {number : ℕ} {marks : Marks} {items : List TextItem} (text : List ℕ) → SpellsTokens marks number text items → tilde_shape text ≡ Tokens (marked true false) (skip_blanks text)
+tilde_tokens : {number : ℕ} {marks : Marks} {items : List TextItem} (text : List ℕ) → SpellsTokens marks number text items → tilde_shape text ≡ Tokens (own_marks true) (skip_blanks text)
 unfolding tilde_shape
 tilde_tokens [] h = obsolete_tokens [] h
 tilde_tokens (b ∷ text) h =
@@ -324,12 +310,10 @@ tilde_tokens (b ∷ text) h =
 
 pub hold_line : {number : ℕ} {text : List ℕ} {items : List TextItem} → HoldsItems number text items → SpellsLine number text items
 hold_line (indented {b = b} {text = text} is more) = same_line (ap first_shape (blank_skipped b text is)) (hold_line more)
-hold_line {number} (comment {kind = kind} {text = text} {rest = rest} {shown = shown} spelt without) =
-    subst (λ t. SpellsLine number (35 ∷ text) (Comment kind t number ∷ [])) (sym (is_trimmed rest shown without)) (line.comment (hash_first text ∙ comment_hash spelt ∙ comment_read spelt))
-hold_line {number} (obsolete_comment blanks {kind = kind} {text = text} {rest = rest} {shown = shown} all spelt without) =
+hold_line (comment {text = text} spelt) = line.comment (hash_first text ∙ comment_hash spelt ∙ comment_read spelt)
+hold_line (obsolete_comment blanks {text = text} all spelt) =
     let whole = blanks ++ 35 ∷ text in
-    subst (λ t. SpellsLine number (35 ∷ 126 ∷ whole) (Comment kind t number ∷ [])) (sym (is_trimmed rest shown without))
-    (line.comment (hash_first (126 ∷ whole) ∙ tilde_first whole ∙ tilde_comment blanks text all ∙ comment_read spelt))
+    line.comment (hash_first (126 ∷ whole) ∙ tilde_first whole ∙ tilde_comment blanks text all ∙ comment_read spelt)
 hold_line (live {text = text} h) = let read = tokens_skipped (hold_tokens h) in line.tokens (live_shape (skip_blanks text) read) read
 hold_line (previous {text = text} h) = line.tokens (hash_first (124 ∷ text) ∙ bar_first text) (hold_tokens h)
 hold_line (obsolete {text = text} h) = let read = hold_tokens h in line.tokens (hash_first (126 ∷ text) ∙ tilde_first text ∙ tilde_tokens text read) (tokens_skipped read)

@@ -1,32 +1,33 @@
 -- What spells a string between double quotes, with a case for each escape (manual, "The Format of
 -- PO Files").
-use Rattle.std.specs.Prelude.{◌≡◌, ◌≢◌, ◌⊎◌, ℕ, ◌<◌, ◌≤◌, List, [], ◌∷◌, ◌++◌, length}
-use Rattle.std.specs.Char.{digit_value}
+use Rattle.std.specs.Prelude.{◌≡◌, ◌≢◌, ◌⊎◌, ℕ, ◌<◌, ◌≤◌, ◌==◌, List, [], ◌∷◌, ◌++◌, length, Option, Some, option_map}
+use Rattle.std.specs.Char.{is_digit}
+use Rattle.std.specs.List.{find}
 use Rattle.std.specs.Str.Parse.{IsNumeral, digits_value}
+use Rattle.po_syntax.specs.Blanks.{FailsFirst}
 
 -- no digit of the base stands first in the text
 abbrev pub NoDigitFirst : ℕ → List ℕ → Type 0
-NoDigitFirst base [] = Unit {0}
-NoDigitFirst base (b ∷ text) = base ≤ digit_value b
+NoDigitFirst base text = FailsFirst (λ b. is_digit b base) text
 
 -- the number of a byte that a string may hold: any but NUL
 abbrev pub IsByteNumber : ℕ → Type 0
 IsByteNumber number = (0 < number) × (number < 256)
 
--- After a backslash the text spells this byte, and the rest stands after the escape: `\a` is 7, `\b`
--- 8, `\t` 9, `\n` 10, `\v` 11, `\f` 12, `\r` 13, `\\` and `\"` themselves. Octal digits give the
--- byte's number, as many as stand there, up to three; or hex digits after an `x` do, all that stand
+-- What stands after a backslash for a byte, with the byte: `\a` is 7, `\b` 8, `\t` 9, `\n` 10, `\v` 11,
+-- `\f` 12, `\r` 13, `\\` and `\"` themselves.
+abbrev pub escape_letters : List (ℕ × ℕ)
+escape_letters = (97, 7) ∷ (98, 8) ∷ (116, 9) ∷ (110, 10) ∷ (118, 11) ∷ (102, 12) ∷ (114, 13) ∷ (92, 92) ∷ (34, 34) ∷ []
+
+-- the byte that a letter, a backslash or a quote after a backslash stands for, if it is one of these
+abbrev pub letter_value : ℕ → Option ℕ
+letter_value letter = option_map (λ p. p.1) (find (λ p. letter == p.0) escape_letters)
+
+-- After a backslash the text spells this byte, and the rest stands after the escape. Octal digits give
+-- the byte's number, as many as stand there, up to three; or hex digits after an `x` do, all that stand
 -- there. C's `\'` and `\?` and a backslash at the end of a line are no escapes: this project's choice.
 pub data SpellsEscape : List ℕ → ℕ → List ℕ → Type 0 where
-  alert : {rest : List ℕ} → SpellsEscape (97 ∷ rest) 7 rest
-  backspace : {rest : List ℕ} → SpellsEscape (98 ∷ rest) 8 rest
-  form_feed : {rest : List ℕ} → SpellsEscape (102 ∷ rest) 12 rest
-  line_feed : {rest : List ℕ} → SpellsEscape (110 ∷ rest) 10 rest
-  carriage_return : {rest : List ℕ} → SpellsEscape (114 ∷ rest) 13 rest
-  tab : {rest : List ℕ} → SpellsEscape (116 ∷ rest) 9 rest
-  vertical_tab : {rest : List ℕ} → SpellsEscape (118 ∷ rest) 11 rest
-  backslash : {rest : List ℕ} → SpellsEscape (92 ∷ rest) 92 rest
-  quote : {rest : List ℕ} → SpellsEscape (34 ∷ rest) 34 rest
+  letter : {b value : ℕ} {rest : List ℕ} → letter_value b ≡ Some value → SpellsEscape (b ∷ rest) value rest
   octal : (digits : List ℕ) {rest : List ℕ} → IsNumeral 8 digits → length digits ≤ 3
       → (length digits ≡ 3) ⊎ NoDigitFirst 8 rest → IsByteNumber (digits_value 8 digits)
       → SpellsEscape (digits ++ rest) (digits_value 8 digits) rest

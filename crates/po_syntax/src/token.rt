@@ -2,7 +2,8 @@
 
 ghost use Rattle.std.specs.Prelude.{◌≡◌, ◌<◌, ◌≤◌, length};
 ghost use Rattle.std.specs.List.{prefix_len};
-ghost use Rattle.po_syntax.specs.Internal.Token.{is_word_byte, index_token, bracket_token, keyword_token, token_at};
+ghost use Rattle.po_syntax.specs.Internal.Token.{index_token, bracket_token, keyword_token, token_at};
+ghost use Rattle.po_syntax.specs.Spelling.{is_word_byte};
 ghost use Rattle.po_syntax.specs.Blanks.{is_blank, skip_blanks};
 ghost use Rattle.po_syntax.specs.Internal.LineView.{IsKeywordOf, IsTokenOf};
 

@@ -11,7 +11,7 @@ use Rattle.po_entry.specs.Bytes.{Lacks, AreDistinct}
 use Rattle.po_entry.specs.TextEntry.{TextEntry, TextPrevious, with_line, previous_texts}
 use Rattle.po_syntax.specs.ItemContents.{IsText, IsComment}
 use Rattle.po_entry.specs.Validity.{IsTranslatorComment, IsReference, IsFlag, IsEntry}
-use Rattle.po_entry.specs.Comments.{comments_of, extracted_of, references_of, all_listed_flags, fuzzy_of, flags_of, listed_references, listed_flags, is_fuzzy_flag, with_flag, is_comma}
+use Rattle.po_entry.specs.Comments.{texts_of, references_of, all_listed_flags, fuzzy_of, flags_of, listed_references, listed_flags, is_fuzzy_flag, with_flag, is_comma}
 use Rattle.po_entry.specs.EntryParts.{CommentText, Body}
 use Rattle.po_entry.specs.Spelling.{own_marks, previous_marks, entry_from, SpellsHead, SpellsEntry, entry}
 use Rattle.po_writer.specs.WrittenText.{all_flags, previous_prefix, own_prefix, entry_lines}
@@ -68,8 +68,8 @@ entry_back e line h =
     let R = elements_text (32 ∷ []) e.references in
     let F = elements_text (44 ∷ 32 ∷ []) (all_flags e.fuzzy e.flags) in
     let written : all_listed_flags (entry_comments e) ≡ all_flags e.fuzzy e.flags = ap (flat_map listed_flags) (flag_texts e.comments e.extracted R F) ∙ flag_elements_kept (all_flags e.fuzzy e.flags) h.flags in
-    let comments : comments_of (entry_comments e) ≡ e.comments = comments_kept e.comments e.extracted R F in
-    let extracted : extracted_of (entry_comments e) ≡ e.extracted = extracted_kept e.comments e.extracted R F in
+    let comments : texts_of Translator (entry_comments e) ≡ e.comments = comments_kept e.comments e.extracted R F in
+    let extracted : texts_of Extracted (entry_comments e) ≡ e.extracted = extracted_kept e.comments e.extracted R F in
     let references : references_of (entry_comments e) ≡ e.references = ap (flat_map listed_references) (reference_texts e.comments e.extracted R F) ∙ references_kept e.references h.references in
     let fuzzy : fuzzy_of (entry_comments e) ≡ e.fuzzy = ap (list_any is_fuzzy_flag) written ∙ fuzzy_kept e.fuzzy e.flags h.not_fuzzy in
     let flags : flags_of (entry_comments e) ≡ e.flags = ap (fold with_flag []) written ∙ flags_kept e.fuzzy e.flags h.not_fuzzy h.distinct in

@@ -1,12 +1,13 @@
 -- The comments and previous texts that stand before an entry's own lines.
-use Rattle.std.proofs.Common.{◌≡◌, refl, sym, subst, ℕ, List, [], ◌∷◌, ◌++◌, append_assoc, codes, All, Contains, arith}
+use Rattle.std.proofs.Common.{◌≡◌, ◌==◌, ◌||◌, refl, sym, subst, ℕ, true, List, [], ◌∷◌, ◌++◌, append_assoc, codes, All, Contains, arith}
+use Rattle.std.proofs.lemmas.Bool.{eqb-true, false_from_ne_true}
 use Rattle.std.proofs.lemmas.List.Elements.{All-head, All-tail}
 use Rattle.po_syntax.specs.declared.item.CommentKind.{CommentKind}
 use Rattle.po_syntax.specs.declared.item.CommentKind.TheVariants.{Translator, Extracted, Reference, Flags}
-use Rattle.po_syntax.specs.Facts.Returns.{kept_text}
 use Rattle.po_syntax.specs.ItemContents.{trim_returns}
-use Rattle.po_syntax.specs.Spelling.{IsMark, dot, colon, comma, bar, tilde, SpellsComment, extracted, reference, flags, translator, IsWithoutReturns, HoldsItems, comment}
+use Rattle.po_syntax.specs.Spelling.{is_mark, SpellsComment, extracted, reference, flags, translator, HoldsItems, comment}
 use Rattle.po_syntax.specs.TextItem.{TextItem, Comment}
+use Rattle.po_syntax.proofs.SpeltKeywords.{or_step}
 use Rattle.po_entry.specs.EntryParts.{CommentText, PreviousText}
 use Rattle.po_entry.specs.Spelling.{SpellsHead, nothing, head_comment, previous_text}
 use Rattle.po_entry.specs.Validity.{IsTranslatorComment}
@@ -40,7 +41,7 @@ IsCommentLine kind (b ∷ text) rest = (b ≡ 35) × SpellsComment text kind res
 comment_held : (kind : CommentKind) (line rest : List ℕ) (number : ℕ) → IsCommentLine kind line rest → trim_returns rest ≡ rest → HoldsItems number line (Comment kind rest number ∷ [])
 comment_held kind [] rest number h trimmed = absurd h
 comment_held kind (b ∷ text) rest number h trimmed =
-    subst (λ a. HoldsItems number (a ∷ text) (Comment kind rest number ∷ [])) (sym h.0) (comment h.1 (subst (IsWithoutReturns rest) trimmed (kept_text rest)))
+    subst (λ a. HoldsItems number (a ∷ text) (Comment kind rest number ∷ [])) (sym h.0) (subst (λ shown. HoldsItems number (35 ∷ text) (Comment kind shown number ∷ [])) trimmed (comment h.1))
 
 -- a line that is such a comment
 pub comment_block : (kind : CommentKind) (line rest : List ℕ) → IsLine line → BeginsLow line → IsCommentLine kind line rest → trim_returns rest ≡ rest → Block (HeadPart (comment_of kind rest ∷ []) []) (line ++ 10 ∷ [])
@@ -74,13 +75,11 @@ reference_shape text = (refl, reference)
 pub flags_shape : (text : List ℕ) → IsCommentLine Flags (codes "#," ++ text) text
 flags_shape text = (refl, flags)
 
-mark_contained : {b : ℕ} → IsMark b → Contains (codes ".:,|~") b
-mark_contained dot = (0, omega arith, refl)
-mark_contained colon = (1, omega arith, refl)
-mark_contained comma = (2, omega arith, refl)
-mark_contained bar = (3, omega arith, refl)
-mark_contained tilde = (4, omega arith, refl)
+mark_contained : (b : ℕ) → is_mark b ≡ true → Contains (codes ".:,|~") b
+mark_contained b e =
+    or_step (b == 46 || b == 58 || b == 44 || b == 124) (b == 126) (or_step (b == 46 || b == 58 || b == 44) (b == 124) (or_step (b == 46 || b == 58) (b == 44) (or_step (b == 46) (b == 58)
+    (λ h. (0, omega arith, sym (eqb-true b 46 h))) (λ h. (1, omega arith, sym (eqb-true b 58 h)))) (λ h. (2, omega arith, sym (eqb-true b 44 h)))) (λ h. (3, omega arith, sym (eqb-true b 124 h)))) (λ h. (4, omega arith, sym (eqb-true b 126 h))) e
 
 pub translator_shape : (text : List ℕ) → IsTranslatorComment text → IsCommentLine Translator (codes "#" ++ text) text
 translator_shape [] h = (refl, translator tt)
-translator_shape (b ∷ text) h = (refl, translator (λ is. h.plain refl b text refl (mark_contained is)))
+translator_shape (b ∷ text) h = (refl, translator (false_from_ne_true (is_mark b) (λ is. h.plain refl b text refl (mark_contained b is))))

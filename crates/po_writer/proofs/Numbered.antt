@@ -7,7 +7,8 @@ use Rattle.std.proofs.lemmas.Str.Parse.{digit_from_value}
 use Rattle.std.proofs.lemmas.Bool.{ne_eqb}
 use Rattle.std.proofs.lemmas.List.Elements.{All-nil}
 use Rattle.po_syntax.specs.declared.item.Keyword.TheVariants.{MsgCtxt, MsgId, MsgIdPlural, MsgStr, MsgStrAt}
-use Rattle.po_syntax.specs.Spelling.{IsBlank, SpellsKeyword, form}
+use Rattle.po_syntax.specs.Blanks.{IsBlank}
+use Rattle.po_syntax.specs.Spelling.{SpellsKeyword, form}
 use Rattle.po_writer.proofs.KeywordTexts.{IsLineKeyword}
 use Rattle.po_writer.proofs.Tokens.{context_keyword, id_keyword, plural_keyword, single_keyword}
 use Rattle.po_writer.proofs.Utf8.{IsPlainText, plain_one, no_text, line-ascii, line-append, plain_line}

@@ -9,8 +9,8 @@ use Rattle.std.proofs.lemmas.List.Splits.{slice_split_at, slice_split_none}
 use Rattle.std.proofs.lemmas.List.Sums.{prefix_len-le-length, suffix_len-le-length, suffix_len_is}
 use Rattle.std.proofs.lemmas.Bool.{ne_eqb, or_parts}
 use Rattle.po_syntax.specs.ItemContents.{trim_returns}
-use Rattle.po_syntax.specs.Blanks.{is_blank, skip_blanks}
-use Rattle.po_entry.specs.Bytes.{trimmed, without_end_blanks}
+use Rattle.po_syntax.specs.Blanks.{is_blank, skip_blanks, without_end}
+use Rattle.po_entry.specs.Bytes.{trimmed}
 use Rattle.po_entry.specs.Comments.{listed_references, listed_flags, is_comma, is_not_empty}
 
 -- the element holds a byte, and ends with no blank
@@ -94,7 +94,7 @@ skip_blank : (text : List ℕ) → skip_blanks (32 ∷ text) ≡ skip_blanks tex
 skip_blank text = ap (λ n. drop n (32 ∷ text)) (one_more (prefix_len is_blank text))
 
 trimmed_element : (element : List ℕ) → IsFlagElement element → trimmed (32 ∷ element) ≡ element
-trimmed_element element h = ap without_end_blanks (skip_blank element) ∙ h.no_blank_ends
+trimmed_element element h = ap (without_end is_blank) (skip_blank element) ∙ h.no_blank_ends
 
 pub flags_cut : (element : List ℕ) (elements : List (List ℕ)) → IsFlagElement element → All IsFlagElement elements → listed_flags (32 ∷ element ++ following (44 ∷ 32 ∷ []) elements) ≡ element ∷ elements
 flags_cut element [] h g =

@@ -3,12 +3,13 @@ use Rattle.std.specs.Prelude.{◌≡◌, List}
 use Rattle.po_reader.specs.declared.head.Head.{Head}
 use Rattle.po_entry.specs.TextEntry.{slice_texts, texts}
 use Rattle.po_entry.specs.EntryParts.{CommentText, PreviousText}
-use Rattle.po_entry.specs.Comments.{comments_of, extracted_of, references_of, all_listed_flags, previous_of}
+use Rattle.po_syntax.specs.declared.item.CommentKind.TheVariants.{Translator, Extracted}
+use Rattle.po_entry.specs.Comments.{texts_of, references_of, all_listed_flags, previous_of}
 
 -- the head holds these comments
 pub record HoldsComments (head : Head) (comment_texts : List CommentText) : Type 0 where
-  pub comments : texts head.comments.items ≡ comments_of comment_texts
-  pub extracted : texts head.extracted.items ≡ extracted_of comment_texts
+  pub comments : texts head.comments.items ≡ texts_of Translator comment_texts
+  pub extracted : texts head.extracted.items ≡ texts_of Extracted comment_texts
   pub references : texts head.references.items ≡ references_of comment_texts
   pub flags : slice_texts head.flags.items ≡ all_listed_flags comment_texts
 

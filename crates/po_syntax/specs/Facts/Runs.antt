@@ -8,11 +8,7 @@ use Rattle.std.proofs.lemmas.List.{take-append-drop, take-append-le, take_all, l
 use Rattle.std.proofs.lemmas.List.{reverse-reverse, same_from_push}
 use Rattle.std.proofs.lemmas.List.Sums.{suffix_len-le-length}
 use Rattle.std.proofs.lemmas.List.Elements.{All-nil, All-cons, All-head, All-tail, All-append}
-
--- the first element, if there is one, fails the test
-abbrev pub FailsFirst : {X : Type 0} → (X → Bool) → List X → Type 0
-FailsFirst test [] = Unit {0}
-FailsFirst test (x ∷ xs) = test x ≡ false
+use Rattle.po_syntax.specs.Blanks.{FailsFirst, without_end}
 
 -- the list is a run of elements that pass, and a rest that begins with none
 pub record Parts {X : Type 0} (test : X → Bool) (xs : List X) : Type 0 where
@@ -53,10 +49,6 @@ pub all_pass : {X : Type 0} (test : X → Bool) (xs : List X) → list_all test 
 all_pass test [] e = All-nil (λ x. test x ≡ true)
 all_pass test (x ∷ xs) e =
     let p = and_parts (test x) (list_all test xs) e in All-cons (λ y. test y ≡ true) x xs p.0 (all_pass test xs p.1)
-
--- the list without the elements at its end that pass
-abbrev pub without_end : {X : Type 0} → (X → Bool) → List X → List X
-without_end test xs = take (length xs - suffix_len test xs) xs
 
 -- the list doesn't end with an element that passes
 abbrev pub FailsLast : {X : Type 0} → (X → Bool) → List X → Type 0

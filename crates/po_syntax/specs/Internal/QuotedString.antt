@@ -6,6 +6,7 @@ use Rattle.std.specs.Prelude.{◌≡◌, ℕ, ◌==◌, nat_lt, if◌then◌else
 use Rattle.std.specs.List.{prefix_len}
 use Rattle.std.specs.Char.{is_digit}
 use Rattle.std.specs.Str.Parse.{digits_value}
+use Rattle.po_syntax.specs.Escapes.{letter_value}
 use Rattle.po_syntax.specs.declared.fault.PoFault.{PoFault}
 use Rattle.po_syntax.specs.declared.fault.PoFault.TheVariants.{UnterminatedString, BadEscape, ForbiddenByte}
 
@@ -31,22 +32,7 @@ numbered number rest =
 abbrev pub number_step : ℕ → ℕ → List ℕ → Step
 number_step base count text = numbered (digits_value base (take count text)) (drop count text)
 
--- the byte that a letter, a backslash or a quote after a backslash stands for: `\a` 7, `\b` 8,
--- `\f` 12, `\n` 10, `\r` 13, `\t` 9, `\v` 11, `\\` 92 and `\"` 34
-abbrev pub letter_value : ℕ → Option ℕ
-letter_value letter =
-    if letter == 97 then Some 7
-    else if letter == 98 then Some 8
-    else if letter == 102 then Some 12
-    else if letter == 110 then Some 10
-    else if letter == 114 then Some 13
-    else if letter == 116 then Some 9
-    else if letter == 118 then Some 11
-    else if letter == 92 then Some 92
-    else if letter == 34 then Some 34
-    else None
-
--- that byte; after any other character the escape is a bad one
+-- the byte of a letter; after any other character the escape is a bad one
 abbrev pub letter_step : Option ℕ → List ℕ → Step
 letter_step None rest = Stop BadEscape
 letter_step (Some byte) rest = Byte byte rest

@@ -3,7 +3,6 @@
 use Rattle.std.specs.Prelude.{ℕ, ◌^◌, Bool, ◌||◌, ◌==◌, nat_lt, if◌then◌else◌, List, [], ◌∷◌, take, drop, codes}
 use Rattle.std.specs.Prelude.{bytes_eq}
 use Rattle.std.specs.List.{prefix_len}
-use Rattle.std.specs.Char.{is_ascii_alphanumeric}
 use Rattle.std.specs.Str.Parse.{digits_value}
 use Rattle.po_syntax.specs.declared.fault.PoFault.{PoFault}
 use Rattle.po_syntax.specs.declared.fault.PoFault.TheVariants.{BadToken, BadPluralIndex}
@@ -11,6 +10,7 @@ use Rattle.po_syntax.specs.declared.item.Keyword.{Keyword}
 use Rattle.po_syntax.specs.declared.item.Keyword.TheVariants.{MsgCtxt, MsgId, MsgIdPlural, MsgStr, MsgStrAt}
 use Rattle.po_syntax.specs.Internal.QuotedString.{digit_count}
 use Rattle.po_syntax.specs.Blanks.{skip_blanks}
+use Rattle.po_syntax.specs.Spelling.{is_word_byte}
 
 -- The next token of a line: none, at its end; an opening quote or a keyword, with the text after
 -- it; or a fault.
@@ -19,10 +19,6 @@ pub data Token : Type 0 where
   OpeningQuote : List ℕ → Token
   KeywordToken : Keyword → List ℕ → Token
   WrongToken : PoFault → Token
-
--- an ASCII letter, a digit or `_`
-abbrev pub is_word_byte : ℕ → Bool
-is_word_byte b = is_ascii_alphanumeric b || b == 95
 
 -- after an index and blanks: the closing bracket (93)
 abbrev pub close_token : ℕ → List ℕ → Token
