@@ -82,10 +82,10 @@ impl Rows {
     {
         let numbers = self.keys.numbers(alloc)?;
         let mut seen = Vec::new(alloc);
-        if let Some((first, later)) = repeated_lines(alloc, &mut seen, 1, &numbers, &self.read)? {
+        if let Some((first, later)) = repeated_lines(&mut seen, 1, &numbers, &self.read)? {
             return Err(duplicate_at(first, later));
         }
-        match repeated_lines(alloc, &mut seen, 2, &numbers, &self.kept)? {
+        match repeated_lines(&mut seen, 2, &numbers, &self.kept)? {
             Some((first, _)) => Err(duplicate_at(first, 0)),
             None => Ok(()),
         }

@@ -1,17 +1,17 @@
 -- Inputs that are read, and the first duplicate in one of them.
 use Rattle.std.proofs.Common.{◌≡◌, refl, sym, ap, ap₂, ◌∙◌, subst, ℕ, ◌+◌, ◌<◌, ◌≤◌, filter, List, [], ◌∷◌, ◌++◌, append-nil, append_assoc, arith, length, get_or, take, drop, map, inl, inr}
-use Rattle.std.specs.Prelude.{All, Contains}
+use Rattle.std.specs.Prelude.{All}
 use Rattle.std.specs.List.{AllZip}
 use Rattle.std.proofs.Math.Seq.{take-append_seam, drop-append_seam}
 use Rattle.std.proofs.lemmas.Grind.{flat_map-append}
-use Rattle.std.proofs.lemmas.List.{length-map, map-append, take-append-drop, take_all, take_more}
-use Rattle.std.proofs.lemmas.List.Elements.{All-filter, All-head, All-nil, All-push, All-tail}
+use Rattle.std.proofs.lemmas.List.{drop-map, length-map, map-append, take-append-drop, take-map, take_all, take_more}
+use Rattle.std.proofs.lemmas.List.Elements.{All-head, All-nil, All-push, All-tail}
 use Rattle.std.proofs.lemmas.Simd.{map-map}
 use Rattle.po_syntax.specs.declared.fault.PoFault.TheVariants.{Duplicate}
 use Rattle.po_entry.specs.Facts.AllAppend.{All-left, All-right}
 use Rattle.po_entry.specs.ReadsText.{ReadsText}
 use Rattle.po_entry.specs.TextEntry.{TextEntry}
-use Rattle.po_messages.specs.Duplicate.{HasNoDuplicate}
+use Rattle.po_messages.specs.Duplicate.{AllDiffer, HasNoDuplicate}
 use Rattle.po_messages.specs.FirstOnes.{group_numbers}
 use Rattle.po_messages.specs.Joined.{is_live}
 use Rattle.po_messages.specs.Message.{entry_message, same_message}
@@ -21,13 +21,12 @@ use Rattle.po_messages.specs.Facts.Zips.{zip_at, zip_length, zip_more, zip_split
 use Rattle.msgcat.specs.Internal.Entries.{HoldEntries, unnamed}
 use Rattle.msgcat.specs.Internal.Inputs.{AddsEntries, AreReadUpTo, IsFaultOfFirst, IsFirstRepeating, IsReadInput, IsTextOf}
 use Rattle.msgcat.specs.Msgcat.{AreReadAs, IsFileFault}
-use Rattle.po_messages.specs.Places.{IsEarliestRepeat, NumbersDiffer, are_numbered, are_placed, numbered, place_of}
+use Rattle.po_messages.specs.Places.{AreNumbered, IsNumbered, RepeatsOnLines, are_placed, number_in, place_of}
 use Rattle.msgcat.specs.declared.entries.Entries.{Entries}
 use Rattle.msgcat.specs.declared.inputs.FileFault.{FileFault}
 use Rattle.msgcat.specs.declared.inputs.ReadInput.{ReadInput}
 use Rattle.msgcat.specs.declared.inputs.ReadInputs.{ReadInputs}
-use Rattle.po_messages.proofs.PlaceLemmas.{AreAmong, all_among, numbers_differ}
-use Rattle.po_messages.proofs.NumberLemmas.{number_in, numbers_are, own_of, repeats_in}
+use Rattle.po_messages.proofs.NumberLemmas.{are_numbered, repeats_of}
 use Rattle.runs.specs.NamedFile.{NamedFile}
 
 pub unnamed_named : (name : List ℕ) (entries : List TextEntry) → unnamed (map (named name) entries) ≡ entries
@@ -43,16 +42,32 @@ entries_first input rest partial =
 -- what is left of the inputs, the first of which have no duplicate
 pub record AreLeft (read : List Named) (partial : List NamedEntry) (i : ℕ) (rest : List ℕ) : Type 0 where
   pub distinct : All (λ input. HasNoDuplicate input.entries) (take i read)
-  pub rest_is : rest ≡ are_numbered (number_in (unnamed (all_entries read ++ partial))) (unnamed (all_entries (drop i read) ++ partial))
-
-pub numbers_of : (entries : List NamedEntry) (numbers : List ℕ) → numbers ≡ message_numbers entries → numbers ≡ are_numbered (number_in (unnamed entries)) (unnamed entries)
-numbers_of entries numbers is = numbers_are (unnamed entries) numbers (is ∙ ap (group_numbers same_message) (sym (map-map entry_message (λ (e : NamedEntry). e.entry) entries)))
+  pub numbered : AreNumbered (unnamed (all_entries read ++ partial)) (unnamed (all_entries (drop i read) ++ partial)) rest
 
 pub message_numbers_of : (entries : List NamedEntry) (numbers : List ℕ) → numbers ≡ group_numbers same_message (map entry_message (unnamed entries)) → numbers ≡ message_numbers entries
 message_numbers_of entries numbers is = is ∙ ap (group_numbers same_message) (map-map entry_message (λ (e : NamedEntry). e.entry) entries)
 
 pub all_left : (read : List Named) (partial : List NamedEntry) (numbers : List ℕ) → numbers ≡ message_numbers (all_entries read ++ partial) → AreLeft read partial 0 numbers
-all_left read partial numbers is = record { distinct = All-nil (λ input. HasNoDuplicate input.entries); rest_is = numbers_of (all_entries read ++ partial) numbers is }
+all_left read partial numbers is =
+    let all = all_entries read ++ partial in
+    record {
+      distinct = All-nil (λ input. HasNoDuplicate input.entries);
+      numbered = are_numbered (unnamed all) numbers (is ∙ ap (group_numbers same_message) (sym (map-map entry_message (λ (e : NamedEntry). e.entry) all)));
+    }
+
+-- the numbers of the first of some entries, and of the others
+module _ (all own others : List TextEntry) (numbers : List ℕ) (are : AreNumbered all (own ++ others) numbers) where
+  numbered_first : AreNumbered all own (take (length own) numbers)
+  numbered_first = record {
+    among = All-left (IsNumbered all) own others are.among;
+    numbers_are = ap (take (length own)) are.numbers_are ∙ take-map (number_in all) (length own) (own ++ others) ∙ ap (map (number_in all)) (take-append_seam own others);
+  }
+
+  numbered_rest : AreNumbered all others (drop (length own) numbers)
+  numbered_rest = record {
+    among = All-right (IsNumbered all) own others are.among;
+    numbers_are = ap (drop (length own)) are.numbers_are ∙ drop-map (number_in all) (length own) (own ++ others) ∙ ap (map (number_in all)) (drop-append_seam own others);
+  }
 
 pub none_left : (read : List Named) (partial : List NamedEntry) (inputs : List ReadInput) (i : ℕ) (rest : List ℕ) → AllZip IsReadInput read inputs → length inputs ≤ i → AreLeft read partial i rest
     → All (λ input. HasNoDuplicate input.entries) read
@@ -77,43 +92,27 @@ module _ (read : List Named) (partial : List NamedEntry) (inputs : List ReadInpu
   pub places_are : input.places.items ≡ are_placed is_live own
   places_are = at.1.places
 
-  count : length input.places.items ≡ length (are_numbered (number_in all) own)
-  count = ap length places_are ∙ length-map own (place_of is_live) ∙ sym (length-map own (λ e. number_in all (entry_message e)))
+  count : length input.places.items ≡ length own
+  count = ap length places_are ∙ length-map own (place_of is_live)
 
-  parts : rest ≡ are_numbered (number_in all) own ++ are_numbered (number_in all) others
-  parts = left.rest_is ∙ ap (are_numbered (number_in all)) split ∙ map-append (λ e. number_in all (entry_message e)) own others
+  numbered : AreNumbered all (own ++ others) rest
+  numbered = subst (λ l. AreNumbered all l rest) split left.numbered
 
-  pub own_numbers : take (length input.places.items) rest ≡ are_numbered (number_in all) own
-  own_numbers = ap₂ (λ n l. take n l) count parts ∙ take-append_seam (are_numbered (number_in all) own) (are_numbered (number_in all) others)
-
-  other_numbers : drop (length input.places.items) rest ≡ are_numbered (number_in all) others
-  other_numbers = ap₂ (λ n l. drop n l) count parts ∙ drop-append_seam (are_numbered (number_in all) own) (are_numbered (number_in all) others)
+  pub own_numbered : AreNumbered all own (take (length input.places.items) rest)
+  own_numbered = subst (λ n. AreNumbered all own (take n rest)) (sym count) (numbered_first all own others rest numbered)
 
   pub own_count : length (take (length input.places.items) rest) ≡ length input.places.items
-  own_count = ap length own_numbers ∙ sym count
+  own_count = ap length own_numbered.numbers_are ∙ length-map own (number_in all) ∙ sym count
 
   -- an input without a duplicate
-  pub left_after : NumbersDiffer (map (numbered (number_in all)) (filter is_live own)) → AreLeft read partial (i + 1) (drop (length input.places.items) rest)
+  pub left_after : AllDiffer (filter is_live own) → AreLeft read partial (i + 1) (drop (length input.places.items) rest)
   left_after differ = record {
-    distinct =
-        subst (All (λ input. HasNoDuplicate input.entries)) (sym at.2)
-        (All-push (λ input. HasNoDuplicate input.entries) (take i read) at.0 left.distinct (numbers_differ (number_in all) (filter is_live own) differ));
-    rest_is = other_numbers;
+    distinct = subst (All (λ input. HasNoDuplicate input.entries)) (sym at.2) (All-push (λ input. HasNoDuplicate input.entries) (take i read) at.0 left.distinct differ);
+    numbered = subst (λ n. AreNumbered all others (drop n rest)) (sym count) (numbered_rest all own others rest numbered);
   }
 
-  own_among : AreAmong (map entry_message all) own
-  own_among =
-      let Known : TextEntry → Type 0 = λ e. Contains (map entry_message all) (entry_message e) in
-      let front = unnamed (all_entries (take i read)) in
-      let whole : all ≡ front ++ (own ++ others) =
-      ap (λ l. unnamed (all_entries l ++ partial)) (sym (take-append-drop i read)) ∙ ap (λ l. unnamed (l ++ partial)) (flat_map-append (λ (n : Named). map (named n.name) n.entries) (take i read) (drop i read))
-      ∙ ap unnamed (append_assoc (all_entries (take i read)) (all_entries (drop i read)) partial) ∙ map-append (λ (e : NamedEntry). e.entry) (all_entries (take i read)) (all_entries (drop i read) ++ partial)
-      ∙ ap (λ l. front ++ l) split in
-      All-left Known own others (All-right Known front (own ++ others) (subst (All Known) whole (all_among all)))
-
   -- one with a duplicate
-  pub repeating : (lines : ℕ × ℕ) (fault : FileFault) → IsEarliestRepeat (map (numbered (number_in all)) (filter is_live own)) lines → fault.name.now ≡ input.name.now
-      → fault.error ≡ record { kind = Duplicate lines.0; line = lines.1 } → IsFirstRepeating read fault
+  pub repeating : (lines : ℕ × ℕ) (fault : FileFault) → RepeatsOnLines (filter is_live own) lines → fault.name.now ≡ input.name.now → fault.error ≡ record { kind = Duplicate lines.0; line = lines.1 } → IsFirstRepeating read fault
   repeating lines fault found name_is error_is = record {
     before = take i read;
     input = at.0;
@@ -121,8 +120,7 @@ module _ (read : List Named) (partial : List NamedEntry) (inputs : List ReadInpu
     order = sym (take-append-drop i read) ∙ ap (λ l. take i read ++ l) at.3;
     distinct = left.distinct;
     name = name_is ∙ at.1.name;
-    repeats =
-        repeats_in (map entry_message all) (number_in all) own lines fault.error (own_of all) (All-filter is_live (λ e. Contains (map entry_message all) (entry_message e)) own own_among) found error_is;
+    repeats = repeats_of own lines fault.error found error_is;
   }
 
 -- files whose texts have no duplicate

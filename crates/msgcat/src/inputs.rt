@@ -182,7 +182,7 @@ fn first_duplicate<'a>(
     let mut rest = numbers;
     for (index, input) in inputs.iter().enumerate() {
         let (own, after) = split_at_most(rest, input.places.len());
-        let found = repeated_lines(alloc, &mut seen, index + 1, own, &input.places)?;
+        let found = repeated_lines(&mut seen, index + 1, own, &input.places)?;
         if let Some((first, later)) = found {
             return Ok(Some(FileFault {
                 name: input.name,

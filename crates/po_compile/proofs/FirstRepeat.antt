@@ -14,7 +14,8 @@ use Rattle.po_syntax.specs.declared.fault.PoFault.TheVariants.{Duplicate}
 use Rattle.po_entry.specs.TextEntry.{TextEntry}
 use Rattle.po_entry.specs.Validity.{IsCatalogueEntry}
 use Rattle.po_messages.specs.Joined.{InputEntry, is_live, entries_of}
-use Rattle.po_messages.specs.Duplicate.{AllDiffer, IsDuplicateFault, live_entries}
+use Rattle.po_messages.specs.Duplicate.{AllDiffer, IsDuplicateFault, IsSameMessage, live_entries}
+use Rattle.po_messages.specs.Facts.FirstRepeats.{pairs_of_map}
 use Rattle.po_messages.proofs.DuplicateLemmas.{split_at}
 use Rattle.po_compile.specs.Internal.LiveRows.{LiveMessage, live_message, row_view}
 use Rattle.po_compile.specs.Internal.JoinedRows.{AreJoinedRows, InputMessage, input_message, input_view, row_fault}
@@ -148,6 +149,7 @@ repeat_fault use_fuzzy entries rows sorted index a b valid are permuted in_order
     let keys : key_of_entry first.entry ≡ key_of_entry last.entry =
     sym (ap (λ (m : InputMessage). m.message.key) view_first) ∙ found.same d ∙ ap (λ (m : InputMessage). m.message.key) view_last in
     let differ = entries_before use_fuzzy live rows sorted made placed permuted later.index (keys_before sorted index d found) in
+    let front = take earlier.index (take later.index live) ++ first ∷ drop (suc earlier.index) (take later.index live) in
     inr (
       first,
       last,
@@ -157,7 +159,7 @@ repeat_fault use_fuzzy entries rows sorted index a b valid are permuted in_order
         after = drop (suc later.index) live;
         order = split_at live later.index e later_inside ∙ ap (λ es. es ++ last ∷ drop (suc later.index) live) first_split;
         same = query_key_is_one first.entry.context last.entry.context first.entry.id last.entry.id clean_first.context_eot clean_last.context_eot clean_first.id_eot clean_last.id_eot keys;
-        differ = subst (λ (es : List InputEntry). AllDiffer (entries_of es)) first_split differ;
+        differ = pairs_of_map (λ x y. ¬ IsSameMessage x y) entry_of front (subst (λ (es : List InputEntry). AllDiffer (entries_of es)) first_split differ);
       },
       ap₂ row_fault earlier_is later_is ∙ ap₂ view_fault view_first view_last,
     ) where

@@ -14,13 +14,3 @@ element_at {X = X} f g xs ys zs i d e is js inside = rw (is, js) (found xs i (rw
       let less : i < length (map f xs) = omega (arith, inside) in
       let later = found xs i less in
       (later.0, rw add-one (rw add-one at (ap (λ l. y ∷ l) later.1)), rw add-one (rw add-one at later.2), later.3, later.4)
-
--- one more element, if it passes a test
-pub filtered_more : {X Y : Type 0} (p : X → Bool) (f : X → Y) (xs : List X) (i : ℕ) (x : X) (b : Bool) → take (i + 1) xs ≡ take i xs ++ x ∷ [] → p x ≡ b
-    → map f (filter p (take (i + 1) xs)) ≡ map f (filter p (take i xs)) ++ cond b (f x ∷ []) []
-filtered_more {Y = Y} p f xs i x b one passes =
-    ap (λ l. map f (filter p l)) one ∙ ap (map f) (filter-append p (take i xs) (x ∷ []) ∙ ap (λ (c : Bool). filter p (take i xs) ++ cond c (x ∷ []) []) passes)
-    ∙ map-append f (filter p (take i xs)) (cond b (x ∷ []) []) ∙ ap (λ (l : List Y). map f (filter p (take i xs)) ++ l) (kept b) where
-      kept : (b : Bool) → map f (cond b (x ∷ []) []) ≡ cond b (f x ∷ []) []
-      kept true = refl
-      kept false = refl

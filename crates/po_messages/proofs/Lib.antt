@@ -10,5 +10,4 @@ pub mod CountedOnce
 pub mod WrittenCounts
 pub mod EarlierNamed
 pub mod KeyLemmas
-pub mod PlaceLemmas
 pub mod NumberLemmas

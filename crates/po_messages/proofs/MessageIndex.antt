@@ -74,14 +74,15 @@ contexts_are None (Some y) h = cc
 contexts_are (Some x) None h = cc
 contexts_are (Some x) (Some y) h = ap (λ (t : List ℕ). Some t) ((bytes_eq-Decides x y).0 h)
 
+pub message_made : (a b : Message) → a.context ≡ b.context → a.id ≡ b.id → a ≡ b
+message_made a b context id = ap₂ make context id where
+  make : Option (List ℕ) → List ℕ → Message
+  make c i = record { context = c; id = i }
+
 pub messages_are : (a b : Message) → same_message a b ≡ true → a ≡ b
 messages_are a b h =
     let parts = and_parts (option_eq bytes_eq a.context b.context) (bytes_eq a.id b.id) h in
-    let contexts : a.context ≡ b.context = contexts_are a.context b.context parts.0 in
-    let ids : a.id ≡ b.id = (bytes_eq-Decides a.id b.id).0 parts.1 in
-    ap₂ make contexts ids where
-      make : Option (List ℕ) → List ℕ → Message
-      make c i = record { context = c; id = i }
+    message_made a b (contexts_are a.context b.context parts.0) ((bytes_eq-Decides a.id b.id).0 parts.1)
 
 -- messages have one number exactly where they are the same
 pub numbers_tell : (ms : List Message) (i j : ℕ) (d : Message) → i < length ms → j < length ms

@@ -1,105 +1,119 @@
--- The earliest number that stands twice in a list, and the message of it.
-use Rattle.std.proofs.Common.{◌≡◌, ◌≢◌, ◌⊎◌, inl, inr, sym, ap, ◌∙◌, subst, ℕ, ◌+◌, ◌<◌, cond, List, [], ◌∷◌, ◌++◌, Option, Some, None, length, length-append, length-take, get_or, get_or-take, take, map, arith, All, AllPairs}
+-- The indexes that are kept of numbers, and the first number that stands twice.
+use Rattle.std.proofs.Common.{◌≡◌, ◌≢◌, ◌⊎◌, inl, inr, sym, ap, ◌∙◌, subst, ℕ, ◌+◌, ◌<◌, Bool, true, false, cond, filter, List, [], ◌∷◌, ◌++◌, Option, Some, None, length, length-append, get_or, arith, append_assoc, append-nil, All, AllPairs}
 use Rattle.std.proofs.Math.ListN.{get_or-append}
 use Rattle.std.proofs.Math.Seq.{get_or-append_seam}
 use Rattle.std.proofs.lemmas.Bool.{cases_eq, ne_eqb}
-use Rattle.std.proofs.lemmas.List.{get_or-map, length-map, take-map}
-use Rattle.std.proofs.lemmas.List.Elements.{All-nil, All-cons, All-append}
+use Rattle.std.proofs.lemmas.List.Elements.{All-nil, All-push, filter-append}
 use Rattle.std.proofs.lemmas.List.Quantifiers.{all_pairs_push}
-use Rattle.std.specs.List.{position_or_len}
-use Rattle.po_messages.specs.FirstOnes.{first_ones, group_numbers}
-use Rattle.po_messages.specs.Message.{IsFirstRepeat, Message, same_message}
-use Rattle.po_messages.specs.Repeats.{IsUnseen, index_seen}
+use Rattle.po_messages.specs.Repeats.{IsFirstRepeat, IsUnseen, index_seen}
 use Rattle.po_messages.specs.declared.repeats.Seen.{Seen}
-use Rattle.po_messages.proofs.MessageIndex.{numbers_tell}
-
--- the indexes that are seen are those of these numbers, no two of which are the same
-pub record IsSeen (at : ℕ → Option ℕ) (done : List ℕ) : Type 0 where
-  pub found : (number index : ℕ) → at number ≡ Some index → (index < length done) × ((d : ℕ) → get_or done index d ≡ number)
-  pub absent : (number : ℕ) → at number ≡ None → All (λ n. n ≢ number) done
-  pub differ : AllPairs (λ a b. a ≢ b) done
-
-pub seen_none : (at : ℕ → Option ℕ) → ((number : ℕ) → at number ≡ None) → IsSeen at []
-seen_none at none = record {
-  found = λ number index is. absurd (let no = none number in cc (is, no));
-  absent = λ number is. All-nil (λ n. n ≢ number);
-  differ = λ i j d below inside. absurd (omega (arith, inside));
-}
 
 -- no index was kept in an empty table
 pub none_kept : (seen : List Seen) → seen ≡ [] → (round : ℕ) → 0 < round → IsUnseen round seen
 none_kept seen empty round after number =
     ap (λ l. index_seen round l number) empty ∙ ap (λ b. cond b (Some 0) None) (ne_eqb 0 round (λ same. omega (arith, same, after)))
 
--- one more number
-module _ (old new : ℕ → Option ℕ) (xs : List ℕ) (i x : ℕ) (one : take (i + 1) xs ≡ take i xs ++ x ∷ []) (inside : i < length xs) (seen : IsSeen old (take i xs)) where
-  abbrev done : List ℕ
-  done = take i xs
+-- one more index
+pub within_more : (old new : ℕ → Option ℕ) (n i : ℕ) → ((q k : ℕ) → old q ≡ Some k → k < i) → new n ≡ Some i → ((q : ℕ) → q ≢ n → new q ≡ old q) → (q k : ℕ) → new q ≡ Some k → k < i + 1
+within_more old new n i within kept others q k is = elim (cases_eq q n) [
+  | inl same ↦
+      let both : Some i ≡ Some k = sym kept ∙ sym (ap new same) ∙ is in
+      let at : i ≡ k = cc in
+      omega (arith, at)
+  | inr other ↦ omega (arith, within q k (sym (others q other) ∙ is))
+]
 
-  long : length done ≡ i
-  long = omega (arith, length-take i xs, inside)
+module _ {X : Type 0} (number_of : X → ℕ) (p : X → Bool) where
+  -- the element of a number among those that pass, at its index
+  pub record IsFound (done : List X) (number index : ℕ) : Type 0 where
+    pub first : X
+    pub before : List X
+    pub between : List X
+    pub inside : index < length done
+    pub here : (d : X) → get_or done index d ≡ first
+    pub split : filter p done ≡ before ++ first ∷ between
+    pub number_is : number_of first ≡ number
 
-  -- which none before it is
-  module _ (none : old x ≡ None) (kept : new x ≡ Some i) (others : (q : ℕ) → q ≢ x → new q ≡ old q) where
-    found_more : (q index : ℕ) → new q ≡ Some index → (q ≡ x) ⊎ (q ≡ x → ⊥) → (index < length (done ++ x ∷ [])) × ((d : ℕ) → get_or (done ++ x ∷ []) index d ≡ q)
-    found_more q index is (inl same) =
-        let at : Some i ≡ Some index = sym kept ∙ sym (ap new same) ∙ is in
-        let here : i ≡ index = cc in
-        let end : index ≡ length done = sym here ∙ sym long in (
-          omega (arith, end, length-append done (x ∷ [])),
-          λ d. ap (λ n. get_or (done ++ x ∷ []) n d) end ∙ get_or-append_seam done x [] d ∙ sym same,
-        )
-    found_more q index is (inr other) =
-        let before = seen.found q index (sym (others q other) ∙ is) in
-        (omega (arith, before.0, length-append done (x ∷ [])), λ d. get_or-append done (x ∷ []) d index before.0 ∙ before.1 d)
+  -- the indexes are those of the elements so far that pass, no two of which have one number
+  pub record IsSeen (at : ℕ → Option ℕ) (done : List X) : Type 0 where
+    pub found : (number index : ℕ) → at number ≡ Some index → IsFound done number index
+    pub absent : (number : ℕ) → at number ≡ None → All (λ x. number_of x ≢ number) (filter p done)
+    pub differ : AllPairs (λ a b. number_of a ≢ number_of b) (filter p done)
 
-    absent_more : (q : ℕ) → new q ≡ None → (q ≡ x) ⊎ (q ≡ x → ⊥) → All (λ n. n ≢ q) (done ++ x ∷ [])
-    absent_more q is (inl same) = absurd (let at : Some i ≡ None = sym kept ∙ sym (ap new same) ∙ is in cc)
-    absent_more q is (inr other) =
-        All-append (λ n. n ≢ q) done (x ∷ []) (seen.absent q (sym (others q other) ∙ is))
-        (All-cons (λ n. n ≢ q) x [] (λ same. other (sym same)) (All-nil (λ n. n ≢ q)))
+  pub seen_none : (at : ℕ → Option ℕ) → ((number : ℕ) → at number ≡ None) → IsSeen at []
+  seen_none at none = record {
+    found = λ number index is. absurd (let no = none number in cc (is, no));
+    absent = λ number is. All-nil (λ x. number_of x ≢ number);
+    differ = λ i j d below inside. absurd (omega (arith, inside));
+  }
 
-    pub seen_more : IsSeen new (take (i + 1) xs)
-    seen_more =
-        subst (IsSeen new) (sym one) (record {
-          found = λ q index is. found_more q index is (cases_eq q x);
-          absent = λ q is. absent_more q is (cases_eq q x);
-          differ = all_pairs_push (λ a b. a ≢ b) done x seen.differ (seen.absent x none);
-        })
+  module _ (done : List X) (x : X) where
+    filtered : (b : Bool) → p x ≡ b → filter p (done ++ x ∷ []) ≡ filter p done ++ cond b (x ∷ []) []
+    filtered b is = filter-append p done (x ∷ []) ∙ ap (λ (c : Bool). filter p done ++ cond c (x ∷ []) []) is
 
-  -- which one before it is
-  pub seen_repeats : (first : ℕ) → ((d : ℕ) → x ≡ get_or xs i d) → old x ≡ Some first → IsFirstRepeat xs first i
-  seen_repeats first here is =
-      let found = seen.found x first is in
-      let before : first < i = omega (arith, found.0, long) in
-      record {
-        earlier = before;
-        within = inside;
-        same = λ d. sym (get_or-take i xs first d before) ∙ found.1 d ∙ here d;
-        apart = seen.differ;
-      }
+    found_on : (number index : ℕ) (more : List X) → filter p (done ++ x ∷ []) ≡ filter p done ++ more → IsFound done number index → IsFound (done ++ x ∷ []) number index
+    found_on number index more is f = record {
+      first = f.first;
+      before = f.before;
+      between = f.between ++ more;
+      inside = omega (arith, f.inside, length-append done (x ∷ []));
+      here = λ d. get_or-append done (x ∷ []) d index f.inside ∙ f.here d;
+      split = is ∙ ap (λ l. l ++ more) f.split ∙ append_assoc f.before (f.first ∷ f.between) more;
+      number_is = f.number_is;
+    }
 
--- where what is given to elements differs, so do they
-pub images_apart : {X : Type 0} (f : X → ℕ) (xs : List X) → AllPairs (λ a b. a ≢ b) (map f xs) → AllPairs (λ a b. a ≢ b) xs
-images_apart f xs apart = λ i j d below inside same.
-    apart i j (f d) below (omega (arith, inside, length-map xs f))
-    (get_or-map f xs i d (f d) (omega (arith, below, inside)) ∙ ap f same ∙ sym (get_or-map f xs j d (f d) inside))
+    -- one that doesn't pass
+    pub seen_skipped : (at : ℕ → Option ℕ) → IsSeen at done → p x ≡ false → IsSeen at (done ++ x ∷ [])
+    seen_skipped at seen fails =
+        let same = filtered false fails in
+        let none = sym (same ∙ append-nil (filter p done)) in
+        record {
+          found = λ number index is. found_on number index [] same (seen.found number index is);
+          absent = λ number is. subst (All (λ y. number_of y ≢ number)) none (seen.absent number is);
+          differ = subst (AllPairs (λ a b. number_of a ≢ number_of b)) none seen.differ;
+        }
 
-module _ (ms : List Message) (numbers : List ℕ) (are : numbers ≡ group_numbers same_message ms) where
-  abbrev number : Message → ℕ
-  number m = position_or_len (same_message m) (first_ones same_message ms)
+    -- one that passes
+    module _ (n i : ℕ) (number_is : number_of x ≡ n) (long : length done ≡ i) (passes : p x ≡ true) where
+      -- whose number none before it has
+      module _ (old new : ℕ → Option ℕ) (seen : IsSeen old done) (none : old n ≡ None) (kept : new n ≡ Some i) (others : (q : ℕ) → q ≢ n → new q ≡ old q) where
+        found_more : (q index : ℕ) → new q ≡ Some index → (q ≡ n) ⊎ (q ≡ n → ⊥) → IsFound (done ++ x ∷ []) q index
+        found_more q index is (inl same) =
+            let both : Some i ≡ Some index = sym kept ∙ sym (ap new same) ∙ is in
+            let at : i ≡ index = cc in
+            let end : length done ≡ index = long ∙ at in
+            record {
+              first = x;
+              before = filter p done;
+              between = [];
+              inside = omega (arith, end, length-append done (x ∷ []));
+              here = λ d. ap (λ m. get_or (done ++ x ∷ []) m d) (sym end) ∙ get_or-append_seam done x [] d;
+              split = filtered true passes;
+              number_is = number_is ∙ sym same;
+            }
+        found_more q index is (inr other) = found_on q index (x ∷ []) (filtered true passes) (seen.found q index (sym (others q other) ∙ is))
 
-  pub messages_apart : AllPairs (λ a b. a ≢ b) numbers → AllPairs (λ a b. a ≢ b) ms
-  messages_apart apart = images_apart number ms (subst (AllPairs (λ a b. a ≢ b)) are apart)
+        absent_more : (q : ℕ) → new q ≡ None → (q ≡ n) ⊎ (q ≡ n → ⊥) → All (λ y. number_of y ≢ q) (filter p done ++ x ∷ [])
+        absent_more q is (inl same) = absurd (let both : Some i ≡ None = sym kept ∙ sym (ap new same) ∙ is in cc)
+        absent_more q is (inr other) = All-push (λ y. number_of y ≢ q) (filter p done) x (seen.absent q (sym (others q other) ∙ is)) (λ same. other (sym same ∙ number_is))
 
-  -- the first number that stands twice is that of the first message that does
-  pub message_repeats : (first later : ℕ) → IsFirstRepeat numbers first later → IsFirstRepeat ms first later
-  message_repeats first later repeat =
-      let inside : later < length ms = omega (arith, repeat.within, ap length are, length-map ms number) in
-      let same : get_or (group_numbers same_message ms) first 0 ≡ get_or (group_numbers same_message ms) later 0 = subst (λ ns. get_or ns first 0 ≡ get_or ns later 0) are (repeat.same 0) in
-      record {
-        earlier = repeat.earlier;
-        within = inside;
-        same = λ d. (numbers_tell ms first later d (omega (arith, inside, repeat.earlier)) inside).0 same;
-        apart = images_apart number (take later ms) (subst (AllPairs (λ a b. a ≢ b)) (ap (take later) are ∙ take-map number later ms) repeat.apart);
+        pub seen_more : IsSeen new (done ++ x ∷ [])
+        seen_more = record {
+          found = λ q index is. found_more q index is (cases_eq q n);
+          absent = λ q is. subst (All (λ y. number_of y ≢ q)) (sym (filtered true passes)) (absent_more q is (cases_eq q n));
+          differ =
+              subst (AllPairs (λ a b. number_of a ≢ number_of b)) (sym (filtered true passes))
+              (all_pairs_push (λ a b. number_of a ≢ number_of b) (filter p done) x seen.differ (subst (λ m. All (λ y. number_of y ≢ m) (filter p done)) (sym number_is) (seen.absent n none)));
+        }
+
+      -- whose number one before it has
+      pub seen_repeats : (at : ℕ → Option ℕ) (index : ℕ) (after : List X) (f : IsFound done n index) → IsSeen at done
+          → IsFirstRepeat (λ a b. number_of a ≡ number_of b) (filter p (done ++ x ∷ after)) f.first x
+      seen_repeats at index after f seen = record {
+        before = f.before;
+        between = f.between;
+        after = filter p after;
+        order = filter-append p done (x ∷ after) ∙ ap (λ (c : Bool). filter p done ++ cond c (x ∷ filter p after) (filter p after)) passes ∙ ap (λ l. l ++ x ∷ filter p after) f.split;
+        same = f.number_is ∙ sym number_is;
+        differ = subst (AllPairs (λ a b. number_of a ≢ number_of b)) f.split seen.differ;
       }

@@ -1,6 +1,6 @@
 -- Live entries with one context and msgid (manual, "The Format of PO Files": a msgid may appear
 -- twice only under another context).
-use Rattle.std.specs.Prelude.{◌≡◌, ◌⊎◌, ℕ, Bool, ◌&&◌, List, ◌∷◌, ◌++◌, map, filter, AllPairs, Option}
+use Rattle.std.specs.Prelude.{◌≡◌, ◌⊎◌, ℕ, Bool, ◌&&◌, List, map, filter, AllPairs, Option}
 use Rattle.std.specs.Option.{option_eq}
 use Rattle.std.specs.Str.{bytes_eq}
 use Rattle.po_entry.specs.TextEntry.{TextEntry}
@@ -9,6 +9,7 @@ use Rattle.po_syntax.specs.declared.fault.PoFault.TheVariants.{Duplicate}
 use Rattle.po_syntax.specs.declared.fault.PoError.{PoError}
 use Rattle.po_messages.specs.declared.duplicate.JoinError.{JoinError}
 use Rattle.po_messages.specs.Joined.{InputEntry, is_live, in_input, entries_of}
+use Rattle.po_messages.specs.Repeats.{IsFirstRepeat}
 
 -- the entry has this context, or none where this is none, and this msgid
 abbrev pub is_of_message : Option (List ℕ) → List ℕ → TextEntry → Bool
@@ -30,15 +31,10 @@ HasNoDuplicate entries = AllDiffer (filter is_live entries)
 abbrev pub live_entries : List InputEntry → List InputEntry
 live_entries entries = filter (λ e. is_live e.entry) entries
 
--- `later` is the earliest live entry that repeats an earlier live one, and `first` is that one: the
--- live entries before `later` all differ
-pub record IsFirstDuplicate (entries : List InputEntry) (first later : InputEntry) : Type 0 where
-  pub before : List InputEntry
-  pub between : List InputEntry
-  pub after : List InputEntry
-  pub order : live_entries entries ≡ (before ++ first ∷ between) ++ later ∷ after
-  pub same : IsSameMessage first.entry later.entry
-  pub differ : AllDiffer (entries_of (before ++ first ∷ between))
+-- `later` is the earliest live entry that repeats an earlier live one, and `first` is that one
+abbrev pub IsFirstDuplicate : List InputEntry → InputEntry → InputEntry → Type 0
+IsFirstDuplicate entries first later =
+    IsFirstRepeat (λ a b. IsSameMessage a.entry b.entry) (live_entries entries) first later
 
 -- what is reported of a duplicate: where the later entry stands (`input`, and the line of the
 -- error), and where the first does (`first_input`, and the line in the kind of the fault)

@@ -1,2 +1,3 @@
 -- Facts of lists that every crate may cite, over any relation.
+pub mod FirstRepeats
 pub mod Zips

@@ -1,6 +1,6 @@
 -- What a message is known by (manual, "The Format of PO Files": a msgid may appear twice only under
 -- another context).
-use Rattle.std.specs.Prelude.{◌≡◌, ◌≢◌, ℕ, ◌<◌, Bool, ◌&&◌, List, length, map, take, AllPairs, Option, get_or}
+use Rattle.std.specs.Prelude.{ℕ, Bool, ◌&&◌, List, map, Option}
 use Rattle.std.specs.Option.{option_eq}
 use Rattle.std.specs.Str.{bytes_eq}
 use Rattle.po_entry.specs.TextEntry.{TextEntry}
@@ -19,10 +19,3 @@ entry_message entry = record { context = entry.context; id = entry.id }
 
 abbrev pub entry_messages : List TextEntry → List Message
 entry_messages entries = map entry_message entries
-
--- what stands at `later` is the first that stands before it too, at `first`
-pub record IsFirstRepeat {X : Type 0} (list : List X) (first later : ℕ) : Type 0 where
-  pub earlier : first < later
-  pub within : later < length list
-  pub same : (d : X) → get_or list first d ≡ get_or list later d
-  pub apart : AllPairs (λ a b. a ≢ b) (take later list)

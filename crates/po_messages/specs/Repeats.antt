@@ -1,6 +1,16 @@
--- The numbers of a list that were seen, and where, by a table.
-use Rattle.std.specs.Prelude.{◌≡◌, ◌==◌, ℕ, List, Option, None, Some, get_or, if◌then◌else◌}
+-- What stands twice in a list, and a table by which numbers that do are found.
+use Rattle.std.specs.Prelude.{◌≡◌, ◌==◌, ℕ, List, ◌∷◌, ◌++◌, AllPairs, Option, None, Some, get_or, if◌then◌else◌}
 use Rattle.po_messages.specs.declared.repeats.Seen.{Seen}
+
+-- `later` is the earliest element that is like one before it, and `first` is that one: no two of those
+-- before `later` are alike
+pub record IsFirstRepeat {X : Type 0} (Alike : X → X → Type 0) (list : List X) (first later : X) : Type 0 where
+  pub before : List X
+  pub between : List X
+  pub after : List X
+  pub order : list ≡ (before ++ first ∷ between) ++ later ∷ after
+  pub same : Alike first later
+  pub differ : AllPairs (λ a b. ¬ Alike a b) (before ++ first ∷ between)
 
 -- the index that was kept of a number in this round
 abbrev pub index_of_round : ℕ → Seen → Option ℕ

@@ -3,7 +3,7 @@
 ghost use Rattle.std.specs.Prelude.{◌≡◌, ◌<◌, ◌^◌, length, IfOk, MatchResult, IsOkUnless};
 ghost use Rattle.po_messages.specs.JoinedView.{input_entry, input_entries};
 ghost use Rattle.po_messages.specs.Joined.{joined, joined_entries, entries_of};
-ghost use Rattle.po_messages.specs.Duplicate.{HasNoDuplicate, IsDuplicateFault, IsDuplicateFaultOf, duplicate_fault, join_out_of_memory, live_entries};
+ghost use Rattle.po_messages.specs.Duplicate.{HasNoDuplicate, IsDuplicateFault, IsDuplicateFaultOf, duplicate_fault, join_out_of_memory};
 ghost use Rattle.po_messages.specs.Message.{entry_messages};
 ghost use Rattle.po_messages.specs.MessageView.{messages_of_keys};
 ghost use Rattle.po_entry.specs.Validity.{out_of_memory};
@@ -11,7 +11,7 @@ ghost use Rattle.po_entry.specs.Validity.{out_of_memory};
 use crate::joining::{InputEntry, add_entries, is_live, joined};
 use crate::message_index::{MessageKey, grouped, message_key};
 use crate::places::duplicate_at;
-use crate::repeats::first_repeat;
+use crate::repeats::keep_index;
 use po_entry::Catalogue;
 use po_syntax::PoError;
 use std::alloc::{AllocError, AllocFailed, Global};
@@ -86,31 +86,18 @@ fn first_duplicate(alloc: Global, entries: &[InputEntry<'_>]) -> Result<(), Join
     ensures exact { MatchResult result (λ _. HasNoDuplicate (entries_of (input_entries entries.now)))
         (IsDuplicateFault (input_entries entries.now)) }
 {
-    let live = live_entries(alloc, entries)?;
-    let keys = keys_of(alloc, &live)?;
+    let keys = keys_of(alloc, entries)?;
     let numbers = grouped(alloc, &keys)?;
     let mut seen = Vec::new(alloc);
-    match first_repeat(&mut seen, 1, &numbers)? {
-        Some(repeat) => Err(duplicate(&live[repeat.first], &live[repeat.later])),
-        None => Ok(()),
-    }
-}
-
-/// The live ones of the entries.
-fn live_entries<'a>(
-    alloc: Global,
-    entries: &[InputEntry<'a>],
-) -> Result<Vec<InputEntry<'a>>, AllocError>
-    ensures { IfOk result (λ live. input_entries live.items ≡ live_entries (input_entries entries.now)) }
-{
-    let mut live = Vec::with_capacity(alloc, entries.len())?;
-    for entry in entries {
-        if !is_live(entry.entry) {
+    for (i, later) in entries.iter().enumerate() {
+        if !is_live(later.entry) {
             continue;
         }
-        live.push(*entry)?;
+        if let Some(first) = keep_index(&mut seen, 1, numbers[i], i)? {
+            return Err(duplicate(&entries[first], later));
+        }
     }
-    Ok(live)
+    Ok(())
 }
 
 /// The keys of the entries' messages.

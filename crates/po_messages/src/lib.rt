@@ -25,5 +25,5 @@ pub use crate::joining::{InputEntry, is_live, is_live_header, joined};
 pub use crate::keys::{KeyBuffer, KeySpans, split_at_most};
 pub use crate::message_index::{MessageKey, grouped, message_key};
 pub use crate::places::{EntryPlace, duplicate_at, repeated_lines};
-pub use crate::repeats::{Repeat, Seen, first_repeat};
+pub use crate::repeats::Seen;
 pub use crate::stats::{Stats, entry_statistics, has_translation, statistics};

@@ -1,15 +1,15 @@
 //! Live entries that repeat an earlier one.
 
-ghost use Rattle.std.specs.Prelude.{◌≡◌, ◌<◌, ℕ, Bool, IfOk, List, MatchOption, OnOk, filter, length, map};
+ghost use Rattle.std.specs.Prelude.{◌≡◌, ◌<◌, ℕ, Bool, IfOk, List, MatchOption, OnOk, filter, length};
 ghost use Rattle.po_entry.specs.TextEntry.{TextEntry};
-ghost use Rattle.po_messages.specs.Message.{Message};
+ghost use Rattle.po_messages.specs.Duplicate.{AllDiffer};
 ghost use Rattle.po_messages.specs.Repeats.{IsUnseen};
 ghost use Rattle.po_syntax.specs.declared.fault.PoFault.{PoFault};
-ghost use Rattle.po_messages.specs.Places.{AreLive, IsEarliestRepeat, NumbersDiffer, are_numbered, are_placed, numbered};
+ghost use Rattle.po_messages.specs.Places.{AreNumbered, RepeatsOnLines, are_placed};
 
-use crate::repeats::{Seen, first_repeat};
+use crate::repeats::{Seen, keep_index};
 use po_syntax::{PoError, PoFault};
-use std::alloc::{AllocError, Global};
+use std::alloc::AllocError;
 
 /// Where an entry stands, and whether it is looked at.
 #[derive(Clone, Copy)]
@@ -20,46 +20,9 @@ pub struct EntryPlace {
     pub is_live: bool,
 }
 
-/// The live ones of some entries.
-#[derive(Drop)]
-struct LiveOnes {
-    /// The numbers of their messages.
-    numbers: Vec<usize>,
-    /// The lines of their msgids.
-    lines: Vec<u32>,
-}
-
-/// The live ones of the entries of these numbers and places.
-fn live_ones(
-    alloc: Global,
-    numbers: &[usize],
-    places: &[EntryPlace],
-) -> Result<LiveOnes, AllocError>
-    requires { length numbers.now ≡ length places.now }
-    ensures live { IfOk result (λ live. (number_of : Message → ℕ) (is_there : TextEntry → Bool) (entries : List TextEntry)
-        → numbers.now ≡ are_numbered number_of entries → places.now ≡ are_placed is_there entries
-        → AreLive number_of (filter is_there entries) live) }
-    ensures lengths { IfOk result (λ live. length live.numbers.items ≡ length live.lines.items) }
-{
-    let mut live = LiveOnes {
-        numbers: Vec::with_capacity(alloc, numbers.len())?,
-        lines: Vec::with_capacity(alloc, numbers.len())?,
-    };
-    for i in 0..numbers.len() {
-        let place = places[i];
-        if !place.is_live {
-            continue;
-        }
-        live.numbers.push(numbers[i])?;
-        live.lines.push(place.line)?;
-    }
-    Ok(live)
-}
-
 /// Of the entries of these numbers and places, the earliest live one that repeats an earlier live
 /// one: the lines of both. The table has none of this round, and is left so for later ones.
 pub fn repeated_lines(
-    alloc: Global,
     seen: &mut Vec<Seen>,
     round: usize,
     numbers: &[usize],
@@ -68,19 +31,22 @@ pub fn repeated_lines(
     requires lengths { length numbers.now ≡ length places.now }
     requires round { 0 < round }
     requires unseen { IsUnseen round seen.old.items }
-    ensures found { IfOk result (λ found. (number_of : Message → ℕ) (is_there : TextEntry → Bool)
-        (entries : List TextEntry)
-        → numbers.now ≡ are_numbered number_of entries → places.now ≡ are_placed is_there entries
-        → MatchOption found (NumbersDiffer (map (numbered number_of) (filter is_there entries)))
-        (IsEarliestRepeat (map (numbered number_of) (filter is_there entries)))) }
+    ensures found { IfOk result (λ found. (all entries : List TextEntry) (is_there : TextEntry → Bool)
+        → AreNumbered all entries numbers.now → places.now ≡ are_placed is_there entries
+        → MatchOption found (AllDiffer (filter is_there entries)) (RepeatsOnLines (filter is_there entries))) }
     ensures later { OnOk result ((later : ℕ) → round < later → IsUnseen later seen.old.items
         → IsUnseen later seen.new.items) }
 {
-    let live = live_ones(alloc, numbers, places)?;
-    match first_repeat(seen, round, &live.numbers)? {
-        Some(repeat) => Ok(Some((live.lines[repeat.first], live.lines[repeat.later]))),
-        None => Ok(None),
+    for i in 0..numbers.len() {
+        let place = places[i];
+        if !place.is_live {
+            continue;
+        }
+        if let Some(first) = keep_index(seen, round, numbers[i], i)? {
+            return Ok(Some((places[first].line, place.line)));
+        }
     }
+    Ok(None)
 }
 
 /// The fault of a message that stands on this line and, again, on a later one.

@@ -1,12 +1,12 @@
-use Rattle.std.proofs.Common.{◌++◌, ◌+◌, ◌∙◌, ap, arith, drop, filter, length, map, refl, subst, sym, take}
+use Rattle.std.proofs.Common.{◌++◌, ◌+◌, ◌∙◌, ap, arith, drop, filter, length, refl, subst, sym, take}
 use Rattle.std.specs.Prelude.{MatchOption}
+use Rattle.po_messages.specs.Duplicate.{AllDiffer}
 use Rattle.po_messages.specs.Joined.{is_live}
 use Rattle.po_merge.specs.Inputs.{all_entries}
 use Rattle.msgcat.specs.Internal.Entries.{unnamed}
-use Rattle.po_messages.specs.Places.{IsEarliestRepeat, NumbersDiffer, numbered}
-use Rattle.msgcat.proofs.InputLemmas.{AreLeft, all_left, left_after, none_left, own, own_count, own_numbers, places_are, repeating}
+use Rattle.po_messages.specs.Places.{AreNumbered, RepeatsOnLines}
+use Rattle.msgcat.proofs.InputLemmas.{AreLeft, all_left, left_after, none_left, own, own_count, own_numbered, places_are, repeating}
 use Rattle.po_messages.proofs.RepeatLemmas.{none_kept}
-use Rattle.po_messages.proofs.NumberLemmas.{number_in}
 use Rattle.msgcat.proofs.inputs.first_duplicate.Goals as goal
 
 pub loop-index-init : goal.loop-index-init
@@ -36,11 +36,11 @@ returns-in-Some c = λ read partial known numbers.
     let long = c.len.ensures ∙ input.places.ok.0 in
     let left = c.loop-index.invariant.left read partial known numbers in
     let mine = own read partial inputs i input rest known inside here left in
-    let f = number_in (unnamed (all_entries read ++ partial)) in
-    let list = map (numbered f) (filter is_live mine) in
-    let own_are = c.split_at_most.ensures.first ∙ ap (λ n. take n rest) long ∙ own_numbers read partial inputs i input rest known inside here left in
+    let all = unnamed (all_entries read ++ partial) in
+    let list = filter is_live mine in
+    let own_are = subst (AreNumbered all mine) (sym (c.split_at_most.ensures.first ∙ ap (λ n. take n rest) long)) (own_numbered read partial inputs i input rest known inside here left) in
     let places = c.deref.ensures.value ∙ places_are read partial inputs i input rest known inside here left in
-    let found = subst (λ o. MatchOption o (NumbersDiffer list) (IsEarliestRepeat list)) c.in-Some.is (c.in_ok-found.ensures.found f is_live mine own_are places) in
+    let found = subst (λ o. MatchOption o (AllDiffer list) (RepeatsOnLines list)) c.in-Some.is (c.in_ok-found.ensures.found all mine is_live own_are places) in
     repeating read partial inputs i input rest known inside here left (c.in-Some.first, c.in-Some.later) _ found refl c.duplicate_at.ensures
 
 pub loop-index-preserved : goal.loop-index-preserved
@@ -56,11 +56,11 @@ loop-index-preserved c = record {
       let long = c.len.ensures ∙ input.places.ok.0 in
       let left = c.loop-index.invariant.left read partial known numbers in
       let mine = own read partial inputs i input rest known inside here left in
-      let f = number_in (unnamed (all_entries read ++ partial)) in
-      let list = map (numbered f) (filter is_live mine) in
-      let own_are = c.split_at_most.ensures.first ∙ ap (λ n. take n rest) long ∙ own_numbers read partial inputs i input rest known inside here left in
+      let all = unnamed (all_entries read ++ partial) in
+      let list = filter is_live mine in
+      let own_are = subst (AreNumbered all mine) (sym (c.split_at_most.ensures.first ∙ ap (λ n. take n rest) long)) (own_numbered read partial inputs i input rest known inside here left) in
       let places = c.deref.ensures.value ∙ places_are read partial inputs i input rest known inside here left in
-      let differ = subst (λ o. MatchOption o (NumbersDiffer list) (IsEarliestRepeat list)) c.in_default.is (c.in_ok-found.ensures.found f is_live mine own_are places) in
+      let differ = subst (λ o. MatchOption o (AllDiffer list) (RepeatsOnLines list)) c.in_default.is (c.in_ok-found.ensures.found all mine is_live own_are places) in
       subst (AreLeft read partial (i + 1)) (sym (c.split_at_most.ensures.rest ∙ ap (λ n. drop n rest) long)) (left_after read partial inputs i input rest known inside here left differ);
 }
 
