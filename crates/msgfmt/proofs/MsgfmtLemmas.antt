@@ -10,10 +10,9 @@ use Rattle.po_entry.specs.TextEntry.{TextEntry}
 use Rattle.po_messages.specs.Joined.{joined_entries}
 use Rattle.po_messages.specs.declared.duplicate.JoinError.{JoinError}
 use Rattle.po_compile.specs.Accepted.{AreRead, IsCompileFault}
-use Rattle.po_compile.specs.Collected.{HoldsEntries}
+use Rattle.po_compile.specs.Collected.{LiveMessage, live_messages}
 use Rattle.po_compile.specs.CompiledInputs.{AreCollected}
 use Rattle.po_compile.specs.Compiling.{IsCompilation}
-use Rattle.po_compile.specs.declared.collecting.Collected.{Collected}
 use Rattle.po_compile.specs.declared.options.Compiled.{Compiled}
 use Rattle.po_compile.specs.declared.options.Options.{Options}
 use Rattle.msgfmt.specs.declared.options.MsgfmtOptions.{MsgfmtOptions}
@@ -25,10 +24,10 @@ use Rattle.msgfmt.specs.Profile.{Reported}
 use Rattle.runs.specs.Run.{RunView, refusal, run_view}
 
 -- each input is collected
-pub collected-count : (use_fuzzy : Bool) (inputs : List (Bor (List ℕ) × Bor (List ℕ))) (collected : List Collected) → AreCollected use_fuzzy (input_texts (named_files inputs)) collected
+pub collected-count : (use_fuzzy : Bool) (inputs : List (Bor (List ℕ) × Bor (List ℕ))) (collected : List (List LiveMessage)) → AreCollected use_fuzzy (input_texts (named_files inputs)) collected
     → length collected ≡ length inputs
 collected-count use_fuzzy inputs collected of =
-    AllZip-long (HoldsEntries use_fuzzy) of.catalogues collected of.held ∙ AllZip-long ReadsText (input_texts (named_files inputs)) of.catalogues of.read
+    ap length of.held.messages ∙ length-map of.catalogues (live_messages use_fuzzy) ∙ AllZip-long ReadsText (input_texts (named_files inputs)) of.catalogues of.read
     ∙ length-map (named_files inputs) (λ file. file.bytes) ∙ length-map inputs named_file
 
 -- the run of inputs that aren't compiled

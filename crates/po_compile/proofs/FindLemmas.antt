@@ -1,17 +1,15 @@
 -- Looking for the one message under a key, in whatever order the messages stand.
-use Rattle.std.proofs.Common.{◌≡◌, ◌≢◌, ℕ, ◌-◌, ◌<◌, suc, Bool, true, false, cond, List, [], ◌∷◌, Option, None, Some, refl, sym, ap, ◌∙◌, subst, length, get_or, arith, All, Contains, find, IsPermutation, ⊎_elim}
+use Rattle.std.proofs.Common.{◌≡◌, ◌≢◌, ℕ, ◌<◌, suc, Bool, true, false, cond, List, [], ◌∷◌, Option, None, Some, refl, sym, ap, ap₂, ◌∙◌, inl, inr, length, get_or, arith, All, Contains, find, IsPermutation}
 use Rattle.std.specs.Str.{bytes_eq}
-use Rattle.std.specs.declared.cmp.Ordering.TheVariants.{Less, Equal}
-use Rattle.std.proofs.Math.ListN.{get_or-map}
 use Rattle.std.proofs.lemmas.Bool.{cases_lt}
-use Rattle.std.proofs.lemmas.Cmp.{nat_list_cmp_total, tied_itself}
-use Rattle.std.proofs.lemmas.List.{length-map, get_or_default}
+use Rattle.std.proofs.lemmas.List.{get_or_default}
 use Rattle.std.proofs.lemmas.List.Elements.{All-cons, All-nil, All-contains}
 use Rattle.std.proofs.lemmas.List.Sorted.{All-permutation, Contains-permutation}
 use Rattle.std.proofs.lemmas.Slice.Eq.{bytes_eq-Decides}
 use Rattle.mo_file.specs.Message.{Message}
-use Rattle.mo_file.specs.Key.{AreRising, key_at, key_cmp, key_of, keys}
-use Rattle.mo_lookup.proofs.RisingLemmas.{rising_between}
+use Rattle.mo_file.specs.Key.{AreRising, key_cmp, key_of, keys}
+use Rattle.mo_lookup.proofs.RisingLemmas.{less_is_other}
+use Rattle.po_compile.proofs.RisingKeys.{below_from_rising}
 
 -- what a search finds is in the list and passes the test
 pub record IsFound {X : Type 0} (test : X → Bool) (xs : List X) (x : X) : Type 0 where
@@ -37,30 +35,21 @@ pub find_missed : {X : Type 0} (test : X → Bool) (xs : List X) → find test x
 find_missed test [] e = All-nil (λ y. test y ≡ false)
 find_missed test (x ∷ xs) e = missed_step test x xs (test x) refl e (find_missed test xs)
 
-pub rising_differ : (ks : List (List ℕ)) → AreRising ks → (i j : ℕ) → i < j → j < length ks → key_at ks i ≢ key_at ks j
-rising_differ ks rising i j below inside same =
-    let less : key_cmp (key_at ks j) (key_at ks j) ≡ Less = subst (λ k. key_cmp k (key_at ks j) ≡ Less) same (rising_between ks rising i j below inside) in
-    let equal : key_cmp (key_at ks j) (key_at ks j) ≡ Equal = tied_itself nat_list_cmp_total (key_at ks j) in
-    cc
-
-one_place : (ks : List (List ℕ)) → AreRising ks → (i j : ℕ) → i < length ks → j < length ks → key_at ks i ≡ key_at ks j → i ≡ j
-one_place ks rising i j a b same =
-    ⊎_elim (λ below. absurd (rising_differ ks rising i j below b same))
-    (λ above. ⊎_elim (λ below. absurd (rising_differ ks rising j i below a (sym same))) (λ le. omega arith) (cases_lt j i)) (cases_lt i j)
-
-key_at_place : (messages : List Message) (i : ℕ) (m : Message) → i < length messages → get_or messages i m ≡ m → key_at (keys messages) i ≡ key_of m.original
-key_at_place messages i m inside is =
-    get_or_default (keys messages) i [] (key_of m.original) (omega (arith, length-map messages (λ (m : Message). key_of m.original)))
-    ∙ get_or-map (λ (m : Message). key_of m.original) messages i m ∙ ap (λ (m : Message). key_of m.original) is
-
 -- messages with rising keys that have one key are one
 pub one_message : (messages : List Message) → AreRising (keys messages) → (m n : Message) → Contains messages m → Contains messages n
     → key_of m.original ≡ key_of n.original → m ≡ n
-one_message messages rising m n at_m at_n same =
-    let long : length (keys messages) ≡ length messages = length-map messages (λ (m : Message). key_of m.original) in
-    let place : at_m.0 ≡ at_n.0 = one_place (keys messages) rising at_m.0 at_n.0 (omega (arith, at_m.1)) (omega (arith, at_n.1))
-    (key_at_place messages at_m.0 m at_m.1 at_m.2 ∙ same ∙ sym (key_at_place messages at_n.0 n at_n.1 at_n.2)) in
-    sym at_m.2 ∙ ap (λ i. get_or messages i m) place ∙ get_or_default messages at_n.0 m n at_n.1 ∙ at_n.2
+one_message messages rising m n (i, in_i, at_i) (j, in_j, at_j) same =
+    let key : Message → List ℕ = λ x. key_of x.original in
+    let at : (k : ℕ) (x : Message) → k < length messages → get_or messages k x ≡ x → get_or messages k m ≡ x = λ k x inside is. get_or_default messages k m x inside ∙ is in
+    let apart : (k l : ℕ) (x y : Message) → k < l → l < length messages → get_or messages k m ≡ x → get_or messages l m ≡ y → key x ≢ key y = λ k l x y below inside is_x is_y.
+    less_is_other (key x) (key y) (ap₂ (λ a b. key_cmp (key a) (key b)) (sym is_x) (sym is_y) ∙ below_from_rising key messages rising k l m below inside) in
+    elim (cases_lt i j) [
+      | inl below ↦ absurd (apart i j m n below in_j (at i m in_i at_i) (at j n in_j at_j) same)
+      | inr past ↦ elim (cases_lt j i) [
+        | inl above ↦ absurd (apart j i n m above in_i (at j n in_j at_j) (at i m in_i at_i) (sym same))
+        | inr others ↦ let equal : i ≡ j = omega (arith, past, others) in sym (at i m in_i at_i) ∙ ap (λ k. get_or messages k m) equal ∙ at j n in_j at_j
+      ]
+    ]
 
 abbrev pub has_key : List ℕ → Message → Bool
 has_key key m = bytes_eq (key_of m.original) key

@@ -1,26 +1,22 @@
 -- What texts are compiled to is taken apart.
-use Rattle.std.proofs.Common.{◌≡◌, ◌≢◌, ℕ, false, List, [], ◌++◌, Option, None, Some, refl, sym, ap, ◌∙◌, get_or, slice_get, arith, append-nil, All, AllPairs, IfSome}
+use Rattle.std.proofs.Common.{◌≡◌, ◌≢◌, ℕ, false, List, ◌++◌, Option, None, Some, refl, sym, ap, ◌∙◌, get_or, slice_get, arith, append-nil, All, IfSome}
 use Rattle.std.specs.List.{slice_split}
-use Rattle.std.specs.Str.{bytes_eq}
 use Rattle.std.proofs.Math.ListN.{get_or-map}
 use Rattle.std.proofs.lemmas.Bool.{false_from_ne_true}
 use Rattle.std.proofs.lemmas.Bool.Decides.{Decides-eqb}
-use Rattle.std.proofs.lemmas.Cmp.{nat_list_eq_equiv}
-use Rattle.std.proofs.lemmas.List.{length-map, get_or_default}
+use Rattle.std.proofs.lemmas.List.{length-map}
 use Rattle.std.proofs.lemmas.List.Elements.{All-weaker}
 use Rattle.std.proofs.lemmas.List.Sorted.{IsPermutation-map, IsPermutation-sym}
 use Rattle.std.proofs.lemmas.List.Splits.{slice_split_none, slice_split_at}
-use Rattle.std.proofs.lemmas.Map.Keys.{IsDistinct-IsPermutation}
-use Rattle.std.proofs.lemmas.Map.Made.{AllPairs-from_IsDistinct, IsDistinct-from_AllPairs}
-use Rattle.std.proofs.lemmas.Slice.Eq.{bytes_eq-Decides}
 use Rattle.mo_file.specs.Message.{Message}
-use Rattle.mo_file.specs.Key.{AreRising, is_nul, key_of, keys, query_key}
+use Rattle.mo_file.specs.Key.{is_nul, key_of, keys, query_key}
 use Rattle.po_entry.specs.Bytes.{Lacks}
 use Rattle.po_entry.specs.Validity.{IsEntry}
 use Rattle.po_compile.specs.CompiledMessages.{plural_part, original_of, message_of, messages_of_entries}
 use Rattle.po_compile.specs.MessageLaws.{MessagesHaveParts, MessagesDiffer}
-use Rattle.po_compile.proofs.FindLemmas.{rising_differ}
+use Rattle.po_compile.proofs.KeysApart.{apart_permuted}
 use Rattle.po_compile.proofs.MeaningLemmas.{LacksSeparators, entry_lacks_separators, key_of-original, forms-translation}
+use Rattle.po_compile.proofs.RisingKeys.{rising_apart}
 use Rattle.po_compile.proofs.TextLemmas.{query_key_lacks}
 
 lacks_nul : (text : List ℕ) → Lacks 0 text → All (λ b. is_nul b ≡ false) text
@@ -40,20 +36,12 @@ messages_have_parts entry valid =
       forms_are = forms-translation entry clean;
     }
 
--- keys that rise are different
-rising_distinct : (ks : List (List ℕ)) → AreRising ks → AllPairs (λ x y. x ≢ y) ks
-rising_distinct ks rising i j d below inside same =
-    rising_differ ks rising i j below inside (get_or_default ks i [] d (omega arith) ∙ same ∙ get_or_default ks j d [] inside)
-
 pub messages_differ : MessagesDiffer
 messages_differ entries messages valid are =
     let all : All LacksSeparators entries = All-weaker IsEntry LacksSeparators entry_lacks_separators entries valid in
     let key : Message → List ℕ = λ m. key_of m.original in
     let ks = keys (messages_of_entries entries) in
-    let distinct = AllPairs-from_IsDistinct bytes_eq-Decides ks
-    (IsDistinct-IsPermutation bytes_eq nat_list_eq_equiv.symm (keys messages) ks
-    (IsPermutation-sym ks (keys messages) (IsPermutation-map key (messages_of_entries entries) messages are.all))
-    (IsDistinct-from_AllPairs bytes_eq-Decides (keys messages) (rising_distinct (keys messages) are.rising))) in
+    let distinct = apart_permuted (keys messages) ks (IsPermutation-sym ks (keys messages) (IsPermutation-map key (messages_of_entries entries) messages are.all)) (rising_apart (keys messages) are.rising) in
     λ i j d below inside same.
     let long = length-map (messages_of_entries entries) key in
     let long' = length-map entries message_of in

@@ -79,13 +79,13 @@ digits_split (suc m) (suc k) n (byte ∷ text) is =
     let power : 256 ^ k ≡ 256 ^ m * 256 ^ n = ap (λ j. 256 ^ j) left ∙ pow-add 256 m n in
     ap₂ (λ x d. byte * x + d) power rest ∙ share byte (256 ^ m) (256 ^ n) (digits m text) (digits n (drop m text))
 
--- prefixes that differ decide as the keys do
-pub prefix_first : (a b : List ℕ) → Bytes a → Bytes b → ordering_then (nat_cmp (prefix_of a) (prefix_of b)) (key_cmp a b) ≡ key_cmp a b
-prefix_first a b in_a in_b =
-    by_order (prefix_of a) (prefix_of b) (key_cmp a b)
-    (λ h. digits_rise 16 a b in_a in_b h)
-    (λ h. ap prefix_of (equal_is_same a b h))
-    (λ h. digits_rise 16 b a in_b in_a (nat_list_cmp_total.antisymm b a ∙ ap ordering_reverse h))
+-- first digits that differ decide as the keys do
+digits_first : (n : ℕ) (a b : List ℕ) → Bytes a → Bytes b → ordering_then (nat_cmp (digits n a) (digits n b)) (key_cmp a b) ≡ key_cmp a b
+digits_first n a b in_a in_b =
+    by_order (digits n a) (digits n b) (key_cmp a b)
+    (λ h. digits_rise n a b in_a in_b h)
+    (λ h. ap (digits n) (equal_is_same a b h))
+    (λ h. digits_rise n b a in_b in_a (nat_list_cmp_total.antisymm b a ∙ ap ordering_reverse h))
 
 below_next : (n p byte : ℕ) → p < 256 ^ n → byte < 256 → p * 256 + byte < 256 ^ suc n
 below_next n p byte below small = omega (arith, below, small)
@@ -136,35 +136,23 @@ then_decided Greater o other is = is
 pub prefix_decides : (m n : ℕ) (a b : List ℕ) → m ≡ prefix_of a → n ≡ prefix_of b → Bytes a → Bytes b → (order : Ordering) → order ≡ nat_cmp m n → order ≢ Equal → order ≡ key_cmp a b
 prefix_decides m n a b first second in_a in_b order is other =
     let by_prefix : order ≡ nat_cmp (prefix_of a) (prefix_of b) = is ∙ ap₂ nat_cmp first second in
-    then_decided order (key_cmp a b) other (ap (λ o. ordering_then o (key_cmp a b)) by_prefix ∙ prefix_first a b in_a in_b)
+    then_decided order (key_cmp a b) other (ap (λ o. ordering_then o (key_cmp a b)) by_prefix ∙ digits_first 16 a b in_a in_b)
 
--- thirty-two digits decide as the keys do
-digits_first : (a b : List ℕ) → Bytes a → Bytes b → ordering_then (nat_cmp (digits 32 a) (digits 32 b)) (key_cmp a b) ≡ key_cmp a b
-digits_first a b in_a in_b =
-    by_order (digits 32 a) (digits 32 b) (key_cmp a b)
-    (λ h. digits_rise 32 a b in_a in_b h)
-    (λ h. ap (digits 32) (equal_is_same a b h))
-    (λ h. digits_rise 32 b a in_b in_a (nat_list_cmp_total.antisymm b a ∙ ap ordering_reverse h))
+order_is : (m n : ℕ) (o : Ordering) → MatchOrdering o (m < n) (m ≡ n) (n < m) → nat_cmp m n ≡ o
+order_is m n o is = by_both (nat_cmp m n) o (ranked m n (nat_cmp m n) refl) is where
+  by_both : (p o : Ordering) → MatchOrdering p (m < n) (m ≡ n) (n < m) → MatchOrdering o (m < n) (m ≡ n) (n < m) → p ≡ o
+  by_both Less Less h k = refl
+  by_both Equal Equal h k = refl
+  by_both Greater Greater h k = refl
+  by_both p o h k = absurd (omega (arith, h, k))
 
 -- numbers with the same first part stand as their second parts do
 same_prefix : (f m n : ℕ) → nat_cmp (f + m) (f + n) ≡ nat_cmp m n
 same_prefix f m n = by_parts (nat_cmp m n) (ranked m n (nat_cmp m n) refl) where
   by_parts : (o : Ordering) → MatchOrdering o (m < n) (m ≡ n) (n < m) → nat_cmp (f + m) (f + n) ≡ o
-  by_parts Less h = by_whole (nat_cmp (f + m) (f + n)) (ranked (f + m) (f + n) (nat_cmp (f + m) (f + n)) refl) h where
-    by_whole : (p : Ordering) → MatchOrdering p (f + m < f + n) (f + m ≡ f + n) (f + n < f + m) → m < n → p ≡ Less
-    by_whole Less g h = refl
-    by_whole Equal g h = absurd (omega (arith, g, h))
-    by_whole Greater g h = absurd (omega (arith, g, h))
-  by_parts Equal h = by_whole (nat_cmp (f + m) (f + n)) (ranked (f + m) (f + n) (nat_cmp (f + m) (f + n)) refl) h where
-    by_whole : (p : Ordering) → MatchOrdering p (f + m < f + n) (f + m ≡ f + n) (f + n < f + m) → m ≡ n → p ≡ Equal
-    by_whole Less g h = absurd (omega (arith, g, h))
-    by_whole Equal g h = refl
-    by_whole Greater g h = absurd (omega (arith, g, h))
-  by_parts Greater h = by_whole (nat_cmp (f + m) (f + n)) (ranked (f + m) (f + n) (nat_cmp (f + m) (f + n)) refl) h where
-    by_whole : (p : Ordering) → MatchOrdering p (f + m < f + n) (f + m ≡ f + n) (f + n < f + m) → n < m → p ≡ Greater
-    by_whole Less g h = absurd (omega (arith, g, h))
-    by_whole Equal g h = absurd (omega (arith, g, h))
-    by_whole Greater g h = refl
+  by_parts Less h = order_is (f + m) (f + n) Less (omega (arith, h))
+  by_parts Equal h = order_is (f + m) (f + n) Equal (omega (arith, h))
+  by_parts Greater h = order_is (f + m) (f + n) Greater (omega (arith, h))
 
 pub second_decides : (m n : ℕ) (a b : List ℕ) → m ≡ second_prefix_of a → n ≡ second_prefix_of b → prefix_of a ≡ prefix_of b → Bytes a → Bytes b → (order : Ordering) → order ≡ nat_cmp m n → order ≢ Equal → order ≡ key_cmp a b
 second_decides m n a b first second same in_a in_b order is other =
@@ -172,4 +160,4 @@ second_decides m n a b first second same in_a in_b order is other =
     let whole_b : digits 32 b ≡ prefix_of a * 256 ^ 16 + second_prefix_of b = digits_split 16 32 16 b refl ∙ ap (λ p. p * 256 ^ 16 + second_prefix_of b) (sym same) in
     let by_digits : order ≡ nat_cmp (digits 32 a) (digits 32 b) =
     is ∙ ap₂ nat_cmp first second ∙ sym (same_prefix (prefix_of a * 256 ^ 16) (second_prefix_of a) (second_prefix_of b)) ∙ sym (ap₂ nat_cmp whole_a whole_b) in
-    then_decided order (key_cmp a b) other (ap (λ o. ordering_then o (key_cmp a b)) by_digits ∙ digits_first a b in_a in_b)
+    then_decided order (key_cmp a b) other (ap (λ o. ordering_then o (key_cmp a b)) by_digits ∙ digits_first 32 a b in_a in_b)

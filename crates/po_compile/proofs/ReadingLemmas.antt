@@ -6,7 +6,7 @@ use Rattle.std.proofs.Math.Seq.{drop-cons}
 use Rattle.std.proofs.lemmas.List.{take_more, take-append-drop, map-append, length-map}
 use Rattle.po_syntax.specs.declared.fault.PoError.{PoError}
 use Rattle.po_syntax.specs.declared.fault.PoFault.{PoFault}
-use Rattle.po_syntax.specs.declared.fault.PoFault.TheVariants.{NotUtf8, BadToken, UnterminatedString, BadEscape, ForbiddenByte, BadOrder, BadPluralIndex, MixedObsolete, Duplicate, ForeignCharset, TooLarge, OutOfMemory}
+use Rattle.po_syntax.specs.declared.fault.PoFault.TheVariants.{OutOfMemory}
 use Rattle.po_entry.specs.TextEntry.{TextEntry, slice_texts}
 use Rattle.po_messages.specs.Joined.{joined_entries, entries_of, in_input}
 use Rattle.po_messages.specs.Duplicate.{HasNoDuplicate}
@@ -16,18 +16,8 @@ use Rattle.po_messages.specs.DistinctText.{ReadsDistinct, IsTextFault}
 use Rattle.po_compile.specs.Accepted.{AreRead, IsReadingFault, fault_input, fault_of_input}
 
 input_of_fault : (input : ℕ) (kind : PoFault) → kind ≢ OutOfMemory → fault_input input kind ≡ input
-input_of_fault input NotUtf8 other = refl
-input_of_fault input BadToken other = refl
-input_of_fault input UnterminatedString other = refl
-input_of_fault input BadEscape other = refl
-input_of_fault input ForbiddenByte other = refl
-input_of_fault input BadOrder other = refl
-input_of_fault input BadPluralIndex other = refl
-input_of_fault input MixedObsolete other = refl
-input_of_fault input (Duplicate line) other = refl
-input_of_fault input ForeignCharset other = refl
-input_of_fault input TooLarge other = refl
 input_of_fault input OutOfMemory other = absurd (other refl)
+input_of_fault input kind other = refl
 
 module _ (texts : List (Bor (List ℕ))) (i : ℕ) (text : Bor (List ℕ)) (inside : i < length texts) (here : text ≡ get_or texts i text) where
   pub more_texts : slice_texts (take (i + 1) texts) ≡ slice_texts (take i texts) ++ text.now ∷ []

@@ -1,6 +1,6 @@
 -- Sorting the messages of entries of which no two are of one message brings their keys into rising
 -- order.
-use Rattle.std.proofs.Common.{◌≡◌, ◌≢◌, ℕ, Bool, true, false, ◌&&◌, ◌||◌, not, ◌≤◌, length-append, cond, List, [], ◌∷◌, ◌++◌, refl, sym, ap, ◌∙◌, subst, length, filter, arith, All}
+use Rattle.std.proofs.Common.{◌≢◌, ℕ, Bool, ◌&&◌, ◌||◌, not, ◌≤◌, length-append, List, [], ◌∷◌, ◌++◌, sym, ◌∙◌, subst, length, filter, arith, All}
 use Rattle.std.proofs.lemmas.List.{length-map}
 use Rattle.std.proofs.lemmas.List.Elements.{All-weaker, All-filter}
 use Rattle.std.proofs.lemmas.List.Kept.{AllPairs-filter}
@@ -17,6 +17,7 @@ use Rattle.po_messages.specs.Joined.{is_live}
 use Rattle.po_messages.specs.Duplicate.{IsSameMessage, AllDiffer, HasNoDuplicate}
 use Rattle.po_compile.specs.CompiledList.{is_compiled, compiled_list}
 use Rattle.po_compile.specs.CompiledMessages.{original_of}
+use Rattle.po_compile.proofs.Filters.{filter_twice}
 use Rattle.po_compile.proofs.TextLemmas.{query_key_is_one}
 use Rattle.po_compile.proofs.MeaningLemmas.{LacksSeparators, key_of-original}
 
@@ -25,16 +26,6 @@ pub keys_differ : (e f : TextEntry) → LacksSeparators e → LacksSeparators f 
 keys_differ e f ce cf apart same =
     apart (query_key_is_one e.context f.context e.id f.id ce.context_eot cf.context_eot ce.id_eot cf.id_eot
     (sym (key_of-original e ce) ∙ same ∙ key_of-original f cf))
-
-filter_both : (p q : TextEntry → Bool) (a b : Bool) (x : TextEntry) (xs : List TextEntry) → p x ≡ a → q x ≡ b
-    → cond (a && b) (x ∷ filter q (filter p xs)) (filter q (filter p xs)) ≡ filter q (cond a (x ∷ filter p xs) (filter p xs))
-filter_both p q true b x xs e f = ap (λ c. cond c (x ∷ filter q (filter p xs)) (filter q (filter p xs))) (sym f)
-filter_both p q false b x xs e f = refl
-
-filter_twice : (p q : TextEntry → Bool) (xs : List TextEntry) → filter (λ e. p e && q e) xs ≡ filter q (filter p xs)
-filter_twice p q [] = refl
-filter_twice p q (x ∷ xs) =
-    ap (λ l. cond (p x && q x) (x ∷ l) l) (filter_twice p q xs) ∙ filter_both p q (p x) (q x) x xs refl refl
 
 -- where no live entry repeats another, no compiled one does
 pub compiled_differ : (use_fuzzy : Bool) (entries : List TextEntry) → HasNoDuplicate entries → AllDiffer (compiled_list use_fuzzy entries)

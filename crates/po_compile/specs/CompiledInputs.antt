@@ -6,17 +6,17 @@ use Rattle.mo_file.specs.Message.{Message}
 use Rattle.po_entry.specs.TextEntry.{TextEntry}
 use Rattle.po_entry.specs.ReadsText.{ReadsText}
 use Rattle.po_messages.specs.Joined.{InputEntry}
-use Rattle.po_compile.specs.Collected.{HoldsEntries}
+use Rattle.po_compile.specs.Collected.{HoldCatalogues, LiveMessage}
 use Rattle.po_compile.specs.CompiledList.{is_compiled}
 use Rattle.po_compile.specs.CompiledMessages.{message_of}
-use Rattle.po_compile.specs.declared.collecting.Collected.{Collected}
 use Rattle.po_compile.specs.declared.messages.CompiledMessage.{CompiledMessage}
 
 -- the texts read as catalogues, whose live entries are collected
-pub record AreCollected (use_fuzzy : Bool) (texts : List (List ℕ)) (inputs : List Collected) : Type 0 where
+pub record AreCollected (use_fuzzy : Bool) (texts : List (List ℕ)) (inputs : List (List LiveMessage))
+    : Type 0 where
   pub catalogues : List (List TextEntry)
   pub read : AllZip ReadsText texts catalogues
-  pub held : AllZip (HoldsEntries use_fuzzy) catalogues inputs
+  pub held : HoldCatalogues use_fuzzy catalogues inputs
 
 -- the entries of a joined list that are compiled
 abbrev pub compiled_inputs : Bool → List InputEntry → List InputEntry

@@ -1,6 +1,5 @@
 -- What private functions, proofs and laws cite; no clause of a public function does.
+pub mod Cutting
 pub mod Prefix
+pub mod Rows
 pub mod Repeats
-pub mod JoinedRows
-pub mod LiveRows
-pub mod InputMessages

@@ -1,59 +1,110 @@
 //! What compiling needs of the entries of an input, gathered in one buffer.
 
-ghost use Rattle.std.specs.Prelude.{◌≡◌, ◌++◌, ◌∷◌, ℕ, List, IfOk, IfErr, OnOk};
-ghost use Rattle.std.specs.List.{join_with_byte};
+ghost use Rattle.std.specs.Prelude.{◌≡◌, ◌==◌, ◌++◌, ◌∷◌, ℕ, [], List, IfOk, IfErr, OnOk, count_by, filter, length};
+ghost use Rattle.std.specs.List.{join_with_byte, list_any};
 ghost use Rattle.mo_file.specs.Key.{query_key};
+ghost use Rattle.po_entry.specs.ReadsText.{ReadsText};
 ghost use Rattle.po_entry.specs.TextEntry.{TextEntry, texts};
 ghost use Rattle.po_reader.specs.Internal.Keeping.{IsTextError};
 ghost use Rattle.po_compile.specs.CompiledList.{is_compiled};
 ghost use Rattle.po_compile.specs.CompiledMessages.{plural_part, translation_of};
-ghost use Rattle.po_compile.specs.Collected.{message_bytes, lengths_of, status_of, HoldsLive};
-ghost use Rattle.po_compile.specs.Internal.LiveRows.{ReadsLive};
+ghost use Rattle.po_compile.specs.Collected.{live_messages, status_of};
+ghost use Rattle.po_compile.specs.Internal.Cutting.{message_bytes, lengths_of};
+ghost use Rattle.po_compile.specs.Internal.Rows.{has_no_key};
+ghost use Rattle.po_compile.specs.declared.collecting.Lengths.{Lengths as LengthsSeen};
 
 use po_entry::Entry;
 use po_messages::has_translation;
 use po_reader::{PIECE, next_messages};
 use po_syntax::{Pieces, PoError};
 use std::alloc::{AllocError, Global};
+use std::marker::Model;
 
 /// How many bytes an entry usually has in a text, at least.
 const USUAL_LEN: usize = 128;
 
 /// Whether a live entry is compiled, and what the statistics count it as.
 #[derive(Clone, Copy)]
-pub struct Status {
-    /// It is compiled.
-    pub compiled: bool,
-    /// It counts as translated.
-    pub translated: bool,
-    /// It counts as fuzzy.
-    pub fuzzy: bool,
-    /// It counts as untranslated.
-    pub untranslated: bool,
+pub(crate) struct Status {
+    pub(crate) compiled: bool,
+    pub(crate) translated: bool,
+    pub(crate) fuzzy: bool,
+    pub(crate) untranslated: bool,
 }
 
 /// How long the parts of a live entry's message are, in bytes, and the entry's line and status.
 #[derive(Clone, Copy)]
-pub struct Lengths {
+pub(crate) struct Lengths {
     /// 0 for a header alone.
-    pub key: usize,
+    pub(crate) key: usize,
     /// The key, and after it a NUL and the plural, where there is one.
-    pub original: usize,
+    pub(crate) original: usize,
     /// The forms, with a NUL between them.
-    pub translation: usize,
+    pub(crate) translation: usize,
     /// The line of its msgid.
-    pub line: u32,
-    /// Whether it is compiled, and what it counts as.
-    pub status: Status,
+    pub(crate) line: u32,
+    pub(crate) status: Status,
 }
 
 /// The messages of the live entries of an input, in their order.
 #[derive(Drop)]
 pub struct Collected {
     /// The original and the translation of each, one after another.
-    pub bytes: Vec<u8>,
-    /// How long the parts of each are.
-    pub lengths: Vec<Lengths>,
+    pub(crate) bytes: Vec<u8>,
+    pub(crate) lengths: Vec<Lengths>,
+}
+
+impl Model for Collected {
+    ghost use Rattle.std.specs.Prelude.{List};
+    ghost use Rattle.po_compile.specs.Collected.{LiveMessage};
+
+    ghost Value = { List LiveMessage };
+
+    ghost use Rattle.po_compile.specs.Internal.Cutting.{Fit, cut};
+
+    ghost view = { λ c. cut c.lengths.items c.bytes.items };
+
+    ghost invariant = { λ c. Fit c.lengths.items c.bytes.items };
+}
+
+impl Collected {
+    /// No messages.
+    pub(crate) fn new(alloc: Global) -> Collected
+        ensures { result ≡ [] }
+    {
+        Collected {
+            bytes: Vec::new(alloc),
+            lengths: Vec::new(alloc),
+        }
+    }
+
+    /// Whether one of the entries is a header.
+    pub(crate) fn has_header(&self) -> bool
+        ensures { result ≡ list_any has_no_key self.now }
+    {
+        any_header(&self.lengths)
+    }
+
+    /// How many of the entries are headers.
+    pub(crate) fn header_count(&self) -> usize
+        ensures { result ≡ length (filter has_no_key self.now) }
+    {
+        count_headers(&self.lengths)
+    }
+}
+
+/// Whether one of the entries is a header.
+fn any_header(lengths: &[Lengths]) -> bool
+    ensures { result ≡ list_any (λ (l : LengthsSeen). l.key == 0) lengths.now }
+{
+    lengths.iter().any(|l| l.key == 0)
+}
+
+/// How many of the entries are headers.
+fn count_headers(lengths: &[Lengths]) -> usize
+    ensures { result ≡ count_by (λ (l : LengthsSeen). l.key == 0) lengths.now }
+{
+    lengths.iter().filter(|l| l.key == 0).count()
 }
 
 /// Appends the key of an entry.
@@ -147,27 +198,30 @@ fn is_compiled(entry: &Entry, use_fuzzy: bool) -> bool
 }
 
 /// Adds the live ones of further entries.
-pub(crate) fn add_messages(
-    collected: &mut Collected,
+pub(crate) fn with_entries(
+    collected: Collected,
     entries: &[Entry],
     use_fuzzy: bool,
-) -> Result<(), AllocError>
-    ensures { OnOk result ((before : List TextEntry) → HoldsLive use_fuzzy before collected.old
-        → HoldsLive use_fuzzy (before ++ entries.now) collected.new) }
+) -> Result<Collected, AllocError>
+    ensures { IfOk result (λ all. all ≡ collected ++ live_messages use_fuzzy entries.now) }
 {
+    let Collected {
+        mut bytes,
+        mut lengths,
+    } = collected;
     for entry in entries {
         if !entry.obsolete() {
-            let lengths = add_message(&mut collected.bytes, entry, use_fuzzy)?;
-            collected.lengths.push(lengths)?;
+            lengths.push(add_message(&mut bytes, entry, use_fuzzy)?)?;
         }
     }
-    Ok(())
+    Ok(Collected { bytes, lengths })
 }
 
 /// Collects the messages of the live entries of a text, piece by piece. Comments and references
 /// aren't read, and what else an entry holds is dropped before the next piece is read.
 pub(crate) fn collect(alloc: Global, text: &[u8], use_fuzzy: bool) -> Result<Collected, PoError>
-    ensures found { IfOk result (ReadsLive use_fuzzy text.now) }
+    ensures found { IfOk result (λ collected. (entries : List TextEntry)
+        × ReadsText text.now entries × (collected ≡ live_messages use_fuzzy entries)) }
     ensures fault { IfErr result (IsTextError text.now) }
 {
     let mut pieces = Pieces::of(text)?;
@@ -177,7 +231,7 @@ pub(crate) fn collect(alloc: Global, text: &[u8], use_fuzzy: bool) -> Result<Col
     };
     while !pieces.are_over() {
         let piece = next_messages(alloc, &mut pieces, PIECE)?;
-        add_messages(&mut collected, piece.entries(), use_fuzzy)?;
+        collected = with_entries(collected, piece.entries(), use_fuzzy)?;
     }
     Ok(collected)
 }

@@ -1,21 +1,18 @@
 //! The MO file of PO texts.
 
-ghost use Rattle.std.specs.Prelude.{◌≢◌, ◌⊎◌, ◌<◌, ◌^◌, ℕ, [], ◌∷◌, List, length, IfOk, IfErr, MatchResult};
-ghost use Rattle.std.specs.List.{AllZip};
-ghost use Rattle.po_entry.specs.TextEntry.{TextEntry, slice_texts};
+ghost use Rattle.std.specs.Prelude.{◌≢◌, ◌<◌, ◌^◌, ℕ, [], ◌∷◌, List, length, IfOk, IfErr, MatchResult};
+ghost use Rattle.po_entry.specs.TextEntry.{slice_texts};
 ghost use Rattle.po_messages.specs.Joined.{joined_entries};
-ghost use Rattle.po_compile.specs.Collected.{HoldsEntries};
-ghost use Rattle.po_compile.specs.Internal.JoinedRows.{HaveNoDuplicate, IsLargeList, IsRepeatFault};
 ghost use Rattle.po_compile.specs.Accepted.{AreCompiled, AreRead, IsCompileFault, fault_of_only_input};
 ghost use Rattle.po_compile.specs.CompiledInputs.{AreCollected};
 ghost use Rattle.po_compile.specs.Compiling.{IsCompilation, IsReportedFault};
 
 use crate::collecting::Collected;
-use crate::inputs::{collect_all, distinct_rows};
+use crate::inputs::collect_all;
 use crate::laws::messages_mean_entries;
 use crate::options::{Compiled, Options};
 use crate::rows::compiled_pairs;
-use crate::sorting::statistics_of;
+use crate::sorting::{sorted_rows, statistics_of};
 use mo_file::{BuildError, build_sorted, layout_is_mo_file};
 use po_messages::JoinError;
 use po_messages::laws::no_first_duplicate_where_none;
@@ -66,26 +63,7 @@ pub fn compile_collected(
     ensures fault { IfErr result (λ e. (texts : List (List ℕ)) → AreCollected options.use_fuzzy texts inputs.now
         → IsCompileFault options texts e) }
 {
-    compile_inputs(alloc, inputs, options)
-}
-
-/// Compiles the joined list of inputs whose live entries are collected.
-fn compile_inputs(
-    alloc: Global,
-    inputs: &[Collected],
-    options: Options,
-) -> Result<Compiled, JoinError>
-    requires few { length inputs.now < 2 ^ 32 }
-    requires held { (catalogues : List (List TextEntry))
-        × AllZip (HoldsEntries options.use_fuzzy) catalogues inputs.now }
-    ensures found { IfOk result (λ compiled. (catalogues : List (List TextEntry))
-        → AllZip (HoldsEntries options.use_fuzzy) catalogues inputs.now
-        → HaveNoDuplicate catalogues × IsCompilation options (joined_entries catalogues) compiled) }
-    ensures fault { IfErr result (λ e. (catalogues : List (List TextEntry))
-        → AllZip (HoldsEntries options.use_fuzzy) catalogues inputs.now
-        → IsRepeatFault catalogues e ⊎ IsLargeList options catalogues e) }
-{
-    let rows = distinct_rows(alloc, inputs)?;
+    let rows = sorted_rows(alloc, inputs)?;
     let pairs = compiled_pairs(alloc, &rows)?;
     let count = pairs.len();
     layout_is_mo_file();

@@ -5,7 +5,7 @@
 //! [`compiled_messages`] are those that are compiled, before they are sorted.
 //!
 //! The modules in reading order: `options`, `compiling`, `inputs`, `collecting`, `prefix`, `row`,
-//! `rows`, `sorting`, `messages`; then `laws`.
+//! `rows`, `sorting`, `repeats`, `messages`; then `laws`.
 
 #![tactic(auto)]
 
@@ -16,11 +16,12 @@ pub mod laws;
 mod messages;
 mod options;
 mod prefix;
+mod repeats;
 mod row;
 mod rows;
 mod sorting;
 
-pub use crate::collecting::{Collected, Lengths, Status};
+pub use crate::collecting::Collected;
 pub use crate::compiling::{compile, compile_all, compile_collected};
 pub use crate::inputs::{collect_all, collect_catalogues};
 pub use crate::messages::{CompiledMessage, compiled_messages};

@@ -4,8 +4,7 @@ ghost use Rattle.std.specs.Prelude.{◌≡◌, ◌<◌, ◌^◌, All, IfOk, OnOk
 ghost use Rattle.po_messages.specs.Joined.{joined, joined_entries};
 ghost use Rattle.po_entry.specs.Validity.{IsCatalogueEntry};
 ghost use Rattle.po_compile.specs.CompiledInputs.{compiled_inputs, compiled_message, compiled_view};
-ghost use Rattle.po_compile.specs.Internal.InputMessages.{is_compiled_message, view_of_message};
-ghost use Rattle.po_compile.specs.Internal.JoinedRows.{input_view};
+ghost use Rattle.po_compile.specs.Internal.Rows.{row_view, view_of_message};
 ghost use Rattle.po_compile.specs.OfInputs.{OfAllInputs};
 
 use crate::collecting::Collected;
@@ -43,7 +42,7 @@ pub fn compiled_messages<'b>(
 /// The messages of the rows that are compiled, in their order.
 fn messages_of<'b>(alloc: Global, rows: &[Row<'b>]) -> Result<Vec<CompiledMessage<'b>>, AllocError>
     ensures { IfOk result (λ messages. map compiled_view messages.items
-        ≡ map view_of_message (filter is_compiled_message (map input_view rows.now))) }
+        ≡ map view_of_message (filter (λ m. m.message.status.compiled) (map row_view rows.now))) }
 {
     let mut messages = Vec::with_capacity(alloc, rows.len())?;
     for row in rows {

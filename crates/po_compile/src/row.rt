@@ -19,8 +19,6 @@ pub(crate) struct Row<'b> {
     pub(crate) key: &'b [u8],
     pub(crate) original: &'b [u8],
     pub(crate) translation: &'b [u8],
-    /// How many live entries stand before it in the joined list.
-    pub(crate) index: usize,
     /// The input of its entry, counted from 0.
     pub(crate) input: u32,
     /// The line of its msgid.

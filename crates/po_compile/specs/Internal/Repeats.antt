@@ -1,42 +1,56 @@
--- Live entries that repeat earlier ones, in rows that are sorted by their keys (manual, "The Format
--- of PO Files").
-use Rattle.std.specs.Prelude.{◌≡◌, ◌⊎◌, ◌≤◌, ◌<◌, ℕ, suc, List, Option, None, Some, length, get_or}
-use Rattle.std.specs.List.Sorted.{IsSortedBy}
-use Rattle.std.specs.Ordering.{is_lt, nat_cmp, ordering_then}
-use Rattle.std.specs.declared.cmp.Ordering.{Ordering}
-use Rattle.std.specs.declared.cmp.Ordering.TheVariants.{Less}
-use Rattle.mo_file.specs.Key.{key_cmp}
-use Rattle.po_compile.specs.declared.row.Row.{Row}
+-- Messages that repeat earlier ones (manual, "The Format of PO Files").
+use Rattle.std.specs.Prelude.{◌≡◌, ◌⊎◌, ◌<◌, ℕ, List, [], All, map, length, take, get_or, None}
+use Rattle.po_messages.specs.Duplicate.{join_out_of_memory}
+use Rattle.po_messages.specs.Message.{Message}
+use Rattle.po_messages.specs.declared.duplicate.JoinError.{JoinError}
+use Rattle.po_syntax.specs.declared.fault.PoFault.TheVariants.{Duplicate}
+use Rattle.po_compile.specs.Accepted.{fault_of_input}
+use Rattle.po_compile.specs.Collected.{LiveMessage}
+use Rattle.po_compile.specs.Internal.Rows.{AllApart, InputMessage, all_messages, in_input_message, input_keys, message_keys}
 
--- how two rows are sorted: by their keys, and those with the same key by their indexes
-abbrev pub row_cmp : Row → Row → Ordering
-row_cmp a b = ordering_then (key_cmp a.key.now b.key.now) (nat_cmp a.index b.index)
+-- a key as that of a message without a context
+abbrev pub key_message : List ℕ → Message
+key_message key = record { context = None; id = key }
 
-abbrev pub AreSorted : List Row → Type 0
-AreSorted rows = IsSortedBy (λ a b. is_lt (row_cmp a b)) rows
+-- the key at `later` is the earliest that stands before it too, at `first`
+pub record IsFirstRepeat (keys : List (List ℕ)) (first later : ℕ) : Type 0 where
+  pub earlier : first < later
+  pub within : later < length keys
+  pub same : get_or keys first [] ≡ get_or keys later []
+  pub apart : AllApart (take later keys)
 
--- each row has the index at which it stands
-abbrev pub ArePlaced : List Row → Type 0
-ArePlaced rows = (i : ℕ) (d : Row) → i < length rows → (get_or rows i d).index ≡ i
+-- what is reported of a message that repeats an earlier one
+abbrev pub repeat_fault : InputMessage → InputMessage → JoinError
+repeat_fault first later =
+    record {
+      input = later.input;
+      first_input = first.input;
+      error =
+          record { kind = Duplicate first.message.line; line = later.message.line };
+    }
 
--- of two neighbours the second key is above the first; or it is the same, and the second has this
--- index or a later one
-abbrev pub IsStep : ℕ → Row → Row → Type 0
-IsStep index a b = (key_cmp a.key.now b.key.now ≡ Less) ⊎ ((a.key.now ≡ b.key.now) × (index ≤ b.index))
+-- the error is that of the first message that repeats an earlier one
+pub record IsRepeat (messages : List InputMessage) (error : JoinError) : Type 0 where
+  pub first : ℕ
+  pub later : ℕ
+  pub repeat : IsFirstRepeat (input_keys messages) first later
+  pub error_is : (d : InputMessage) → error ≡ repeat_fault (get_or messages first d) (get_or messages later d)
 
--- of the rows before an index that have the key of the row before them, the one at this index
--- stands first in the text
-pub record IsEarliestRepeat (rows : List Row) (end index : ℕ) : Type 0 where
-  pub before : ℕ
-  pub next : index ≡ suc before
-  pub inside : index < length rows
-  pub same : (d : Row) → (get_or rows before d).key.now ≡ (get_or rows index d).key.now
-  pub earliest : (k : ℕ) (d : Row) → suc k < end
-      → IsStep (get_or rows index d).index (get_or rows k d) (get_or rows (suc k) d)
+-- no message repeats another of its input
+abbrev pub EachApart : List (List LiveMessage) → Type 0
+EachApart inputs = All (λ messages. AllApart (message_keys messages)) inputs
 
--- one of these two rows, whose index is at most that of either
-abbrev pub IsEarlier : List Row → Option ℕ → ℕ → ℕ → Type 0
-IsEarlier rows None i earlier = earlier ≡ i
-IsEarlier rows (Some index) i earlier =
-    ((earlier ≡ i) × ((d : Row) → (get_or rows i d).index ≤ (get_or rows index d).index))
-    ⊎ ((earlier ≡ index) × ((d : Row) → (get_or rows index d).index ≤ (get_or rows i d).index))
+-- the first input in which a message repeats another, and its first repeat
+pub record IsRepeatInInput (inputs : List (List LiveMessage)) (error : JoinError) : Type 0 where
+  pub index : ℕ
+  pub inside : index < length inputs
+  pub before : EachApart (take index inputs)
+  pub alone : JoinError
+  pub repeat : IsRepeat (map (in_input_message 0) (get_or inputs index [])) alone
+  pub error_is : error ≡ fault_of_input index alone.error
+
+-- a repeat in an input, which is reported first, or one across the inputs; or out of memory
+abbrev pub IsRepeatFault : List (List LiveMessage) → JoinError → Type 0
+IsRepeatFault inputs error =
+    (error ≡ join_out_of_memory) ⊎ IsRepeatInInput inputs error
+    ⊎ (EachApart inputs × IsRepeat (all_messages inputs) error)

@@ -1,8 +1,9 @@
-use Rattle.std.proofs.Common.{[], ◌++◌, append-nil, append_assoc}
+use Rattle.std.proofs.Common.{[], ◌++◌, append-nil, append_assoc, refl, sym, ap, ap₂, ◌∙◌}
 use Rattle.std.proofs.lemmas.Result.{err_from_is_err_and}
 use Rattle.po_entry.specs.Faults.IsReadFault.{in_text}
 use Rattle.po_reader.proofs.PieceReading.{fault_of_text, left_over, whole_left}
-use Rattle.po_compile.proofs.CollectedLemmas.{holds_whole}
+use Rattle.po_compile.specs.Collected.{live_messages}
+use Rattle.po_compile.proofs.Cuts.{live_append, uncommented}
 use Rattle.po_compile.proofs.collecting.collect.Goals as goal
 
 pub returns-in_err-pieces-clause-fault : goal.returns-in_err-pieces-clause-fault
@@ -15,7 +16,7 @@ returns-in_err-pieces-clause-fault c =
 
 pub loop-pieces-init : goal.loop-pieces-init
 loop-pieces-init c = record {
-  reads = ([], whole_left c.args.text.now c.in_ok-pieces.pieces c.in_ok-pieces.ensures.found, record { bytes = c.in_ok-with_capacity.ensures.items; lengths = c.in_ok-with_capacity-2.ensures.items });
+  reads = ([], whole_left c.args.text.now c.in_ok-pieces.pieces c.in_ok-pieces.ensures.found, rw (c.in_ok-with_capacity.ensures.items, c.in_ok-with_capacity-2.ensures.items) refl);
   faults = fault_of_text c.args.text.now c.in_ok-pieces.pieces c.in_ok-pieces.ensures.found c.in_ok-pieces.ensures.stops;
 }
 
@@ -23,12 +24,12 @@ pub loop-pieces-preserved : goal.loop-pieces-preserved
 loop-pieces-preserved c =
     let so_far = c.loop-pieces.invariant.reads in
     let piece = c.in_ok-piece.ensures.found in
-    let added = rw (c.entries.ensures.entries, piece.1) at (c.in_ok-add_messages.ensures so_far.0 so_far.2) in
+    let added = c.in_ok-collected.ensures ∙ ap (λ es. c.loop-pieces.collected ++ live_messages c.args.use_fuzzy es) (c.entries.ensures.entries ∙ piece.1) in
     record {
       reads = (
         so_far.0 ++ piece.0,
         λ more h. rw append_assoc (so_far.1 (piece.0 ++ more) (piece.2 more h)),
-        holds_whole c.args.use_fuzzy so_far.0 piece.0 _ added,
+        added ∙ ap₂ (λ a b. a ++ b) so_far.2 (uncommented c.args.use_fuzzy piece.0) ∙ sym (live_append c.args.use_fuzzy so_far.0 piece.0),
       );
       faults = λ fault line h. c.loop-pieces.invariant.faults fault line (c.in_ok-piece.ensures.faults fault line h);
     }
@@ -36,8 +37,4 @@ loop-pieces-preserved c =
 pub returns-clause-found : goal.returns-clause-found
 returns-clause-found c =
     let so_far = c.loop-pieces.invariant.reads in
-    record {
-      entries = so_far.0;
-      reads = rw append-nil at (so_far.1 [] (left_over c.loop-pieces.pieces (c.are_over.ensures.over c.loop-pieces-test.false)));
-      holds = so_far.2;
-    }
+    (so_far.0, rw append-nil at (so_far.1 [] (left_over c.loop-pieces.pieces (c.are_over.ensures.over c.loop-pieces-test.false))), so_far.2)

@@ -1,22 +1,18 @@
 use Rattle.std.proofs.Common.{ap, sym, subst, ℕ, List, length, arith, Result, Ok, Err, IfOk, IfErr, MatchResult}
 use Rattle.std.specs.Borrow.{Bor}
 use Rattle.std.proofs.lemmas.List.{length-map}
-use Rattle.std.proofs.lemmas.Slice.Zip.{AllZip-long}
 use Rattle.po_entry.specs.TextEntry.{slice_texts}
-use Rattle.po_entry.specs.ReadsText.{ReadsText}
 use Rattle.po_reader.proofs.Results.{ok_step, err_step}
 use Rattle.po_compile.specs.Accepted.{AreCompiled, IsCompileFault}
-use Rattle.po_compile.specs.Collected.{HoldsEntries}
 use Rattle.po_compile.specs.CompiledInputs.{AreCollected}
+use Rattle.po_compile.proofs.InputLemmas.{collected_count}
 use Rattle.po_compile.proofs.compiling.compile_all.Goals as goal
 
 pub compile_collected-requires-clause-few : goal.compile_collected-requires-clause-few
 compile_collected-requires-clause-few c =
     let texts = c.args.texts.now in
-    let of = c.in-Ok.ensures.found in
-    let read = AllZip-long ReadsText (slice_texts texts) of.catalogues of.read in
-    let held = AllZip-long (HoldsEntries c.args.options.use_fuzzy) of.catalogues c.in-Ok.inputs.items of.held in
-    omega (arith, read, held, ap length c.deref.ensures.value, length-map texts (λ (s : Bor (List ℕ)). s.now), c.requires)
+    let count = collected_count c.args.options.use_fuzzy (slice_texts texts) c.in-Ok.inputs.items c.in-Ok.ensures.found in
+    omega (arith, count, ap length c.deref.ensures.value, length-map texts (λ (s : Bor (List ℕ)). s.now), c.requires)
 
 pub compile_collected-requires-clause-read : goal.compile_collected-requires-clause-read
 compile_collected-requires-clause-read c =

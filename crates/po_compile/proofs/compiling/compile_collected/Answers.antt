@@ -1,16 +1,78 @@
-use Rattle.po_reader.proofs.Results.{ok_step, err_step}
-use Rattle.po_compile.proofs.InputLemmas.{inputs_refused, read_distinct}
+use Rattle.std.proofs.Common.{refl, sym, ap, ◌∙◌, subst, inl, arith, length, ◌<◌, ◌^◌}
+use Rattle.std.proofs.lemmas.List.{length-map}
+use Rattle.std.proofs.lemmas.List.Sorted.{length_permutation}
+use Rattle.std.proofs.lemmas.Result.{err_from_is_err_and}
+use Rattle.mo_file.specs.Building.{IsBuildFault}
+use Rattle.mo_file.specs.Layout.{layout}
+use Rattle.mo_file.specs.MoFile.{IsMoFile}
+use Rattle.mo_file.specs.Pairs.{borrowed_message, messages_of_borrowed}
+use Rattle.po_messages.specs.Joined.{joined_entries}
+use Rattle.po_compile.specs.CompiledList.{compiled_list}
+use Rattle.po_compile.specs.CompiledMessages.{message_of, messages_of_entries}
+use Rattle.po_compile.specs.Internal.Rows.{counts_of}
+use Rattle.po_compile.proofs.InputLemmas.{build_refused, pairs_are, sorted_read}
+use Rattle.po_compile.proofs.JoinedRows.{joined_valid}
+use Rattle.po_compile.proofs.SortLemmas.{compiled_valid, count_below_layout}
+use Rattle.po_compile.proofs.SortedRows.{counts_mean}
+use Rattle.po_compile.proofs.TextRepeats.{inputs_refused}
 use Rattle.po_compile.proofs.compiling.compile_collected.Goals as goal
 
-pub compile_inputs-requires-clause-held : goal.compile_inputs-requires-clause-held
-compile_inputs-requires-clause-held c = let of = c.requires.read.1 in (of.catalogues, of.held)
+pub overflow_cast-result : goal.overflow_cast-result
+overflow_cast-result c =
+    let order = c.args.options.order in
+    let pairs = c.in_ok-pairs.pairs.items in
+    let fits = subst (λ ms. length (layout order ms) < 2 ^ 32) (ap messages_of_borrowed c.deref-2.ensures.value) c.in-Ok.ensures.fits in
+    omega (arith, fits, count_below_layout order (messages_of_borrowed pairs), length-map pairs borrowed_message, c.len-count.ensures, c.in_ok-pairs.pairs.ok.0)
 
-pub returns-clause-found : goal.returns-clause-found
-returns-clause-found c =
-    ok_step c.compile_inputs.result
-    (λ compiled found. λ texts of. let h = found of.catalogues of.held in (read_distinct texts of.catalogues of.read h.0, h.1)) c.compile_inputs.ensures.found
+pub returns-in-Ok-clause-found : goal.returns-in-Ok-clause-found
+returns-in-Ok-clause-found c = λ texts of.
+    let use_fuzzy = c.args.options.use_fuzzy in
+    let inputs = c.args.inputs.now in
+    let entries = joined_entries of.catalogues in
+    let order = c.args.options.order in
+    let rows = c.in_ok-rows.rows.items in
+    let messages = messages_of_borrowed c.in_ok-pairs.pairs.items in
+    let list = compiled_list use_fuzzy entries in
+    let sorted = c.in_ok-rows.ensures.rows in
+    let are = pairs_are use_fuzzy texts inputs rows of sorted messages messages (rw c.deref.ensures.value at c.in_ok-pairs.ensures) refl in
+    let pairs = ap messages_of_borrowed c.deref-2.ensures.value in
+    let bytes = c.in-Ok.ensures.layout ∙ ap (layout order) pairs in
+    let fits = subst (λ ms. length (layout order ms) < 2 ^ 32) pairs c.in-Ok.ensures.fits in (
+      sorted_read use_fuzzy texts inputs rows of c.in_ok-rows.ensures.each sorted,
+      record {
+        messages = messages;
+        are_messages = are;
+        bytes = bytes;
+        small = fits;
+        valid = subst (λ b. IsMoFile order b messages) (sym bytes) (c.layout_is_mo_file.ensures order messages are.rising fits);
+        means = c.messages_mean_entries.ensures list messages (compiled_valid use_fuzzy entries (joined_valid of.catalogues of.held.valid)) are;
+        count = omega (arith, c.len-count.ensures, c.in_ok-pairs.pairs.ok.0, length-map c.in_ok-pairs.pairs.items borrowed_message, length_permutation (messages_of_entries list) messages are.all, length-map list message_of);
+        file_count = omega (arith, c.len-count.ensures, c.in_ok-pairs.pairs.ok.0, length-map c.in_ok-pairs.pairs.items borrowed_message);
+        stats = c.statistics_of.ensures ∙ ap counts_of c.deref-in-Ok.ensures.value ∙ counts_mean use_fuzzy of.catalogues inputs rows of.held sorted;
+      },
+    )
+
+pub build_sorted-requires : goal.build_sorted-requires
+build_sorted-requires c =
+    (pairs_are c.args.options.use_fuzzy c.requires.read.0 c.args.inputs.now c.in_ok-rows.rows.items c.requires.read.1 c.in_ok-rows.ensures.rows (messages_of_borrowed c.in_ok-pairs.pairs.items) (messages_of_borrowed c.deref-2.result.now)
+    (rw c.deref.ensures.value at c.in_ok-pairs.ensures) (ap messages_of_borrowed c.deref-2.ensures.value)).rising
+
+pub reported_fault-requires : goal.reported_fault-requires
+reported_fault-requires c = λ same.
+    let are = pairs_are c.args.options.use_fuzzy c.requires.read.0 c.args.inputs.now c.in_ok-rows.rows.items c.requires.read.1 c.in_ok-rows.ensures.rows (messages_of_borrowed c.in_ok-pairs.pairs.items) (messages_of_borrowed c.deref-2.result.now)
+    (rw c.deref.ensures.value at c.in_ok-pairs.ensures) (ap messages_of_borrowed c.deref-2.ensures.value) in
+    (subst (IsBuildFault c.args.options.order (messages_of_borrowed c.deref-2.result.now)) same c.in-Err.ensures.fault).1 are.rising
+
+pub returns-in_err-rows-clause-fault : goal.returns-in_err-rows-clause-fault
+returns-in_err-rows-clause-fault c =
+    let p = err_from_is_err_and c.from_residual.result c.from_residual.ensures.1 in
+    rw (p.1, p.2) (λ texts of. inl (inputs_refused c.args.options.use_fuzzy texts of.catalogues c.args.inputs.now c.in_err-rows.field-0.0 of.read of.held c.in_err-rows.ensures.fault))
 
 pub returns-clause-fault : goal.returns-clause-fault
-returns-clause-fault c =
-    err_step c.compile_inputs.result
-    (λ error fault. λ texts of. inputs_refused c.args.options texts of.catalogues error of.read (fault of.catalogues of.held)) c.compile_inputs.ensures.fault
+returns-clause-fault c = λ texts of.
+    let use_fuzzy = c.args.options.use_fuzzy in
+    let rows = c.in_ok-rows.rows.items in
+    let sorted = c.in_ok-rows.ensures.rows in
+    let given = messages_of_borrowed c.deref-2.result.now in
+    let are = pairs_are use_fuzzy texts c.args.inputs.now rows of sorted (messages_of_borrowed c.in_ok-pairs.pairs.items) given (rw c.deref.ensures.value at c.in_ok-pairs.ensures) (ap messages_of_borrowed c.deref-2.ensures.value) in
+    build_refused c.args.options texts of.catalogues given c.in-Err.error c.reported_fault.result (sorted_read use_fuzzy texts c.args.inputs.now rows of c.in_ok-rows.ensures.each sorted) are c.in-Err.ensures.fault c.reported_fault.ensures

@@ -1,4 +1,4 @@
-use Rattle.po_compile.proofs.AcceptedLemmas.{same_catalogues}
+use Rattle.po_compile.proofs.FaultLemmas.{same_catalogues}
 use Rattle.po_compile.proofs.laws.catalogues_are_one.Goals as goal
 
 pub returns : goal.returns

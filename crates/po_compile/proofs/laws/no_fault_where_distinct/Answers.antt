@@ -1,4 +1,4 @@
-use Rattle.po_compile.proofs.AcceptedLemmas.{text_faultless}
+use Rattle.po_compile.proofs.FaultLemmas.{text_faultless}
 use Rattle.po_compile.proofs.laws.no_fault_where_distinct.Goals as goal
 
 pub returns : goal.returns

@@ -1,4 +1,4 @@
-use Rattle.po_compile.proofs.OneFaultLemmas.{text_fault_once}
+use Rattle.po_compile.proofs.FaultLemmas.{text_fault_once}
 use Rattle.po_compile.proofs.laws.one_text_fault.Goals as goal
 
 pub returns : goal.returns

@@ -1,17 +1,19 @@
-use Rattle.std.proofs.Common.{Ok, Err, OnOk, Result}
+use Rattle.std.proofs.Common.{ap, ◌∙◌, filter, map, Ok, Err, OnOk, Result}
 use Rattle.po_reader.proofs.Results.{ok_step}
-use Rattle.po_compile.proofs.CompiledRows.{compiled_rows}
-use Rattle.po_compile.proofs.JoinedLemmas.{all_valid}
+use Rattle.po_compile.specs.Internal.Rows.{InputMessage, all_messages, view_of_message}
+use Rattle.po_compile.proofs.JoinedRows.{joined_valid}
+use Rattle.po_compile.proofs.SortedRows.{compiled_views}
 use Rattle.po_compile.proofs.messages.compiled_messages.Goals as goal
 
 pub returns-clause-messages : goal.returns-clause-messages
 returns-clause-messages c =
     ok_step c.messages_of.result
-    (λ messages made. compiled_rows c.args.inputs.now c.in_ok-rows.rows.items messages.items c.in_ok-rows.ensures (rw c.deref.ensures.value at made)) c.messages_of.ensures
+    (λ messages made. λ use_fuzzy catalogues held.
+    (rw c.deref.ensures.value at made) ∙ ap (λ ms. map view_of_message (filter (λ (m : InputMessage). m.message.status.compiled) ms)) (c.in_ok-rows.ensures ∙ ap all_messages held.messages) ∙ compiled_views use_fuzzy catalogues) c.messages_of.ensures
 
 always : {T E : Type 0} {P : Type 0} (r : Result T E) → P → OnOk r P
 always (Ok x) p = p
 always (Err e) p = tt
 
 pub returns-clause-valid : goal.returns-clause-valid
-returns-clause-valid c = always c.messages_of.result (λ use_fuzzy catalogues h. all_valid use_fuzzy catalogues c.args.inputs.now h)
+returns-clause-valid c = always c.messages_of.result (λ use_fuzzy catalogues held. joined_valid catalogues held.valid)

@@ -1,6 +1,6 @@
-use Rattle.po_compile.specs.OfInputs.{OfAllInputs}
-use Rattle.po_compile.proofs.JoinedLemmas.{HasSoFar}
+use Rattle.std.proofs.Common.{◌≡◌, ◌++◌, drop, map}
+use Rattle.po_compile.specs.Internal.Rows.{all_messages, joined_messages, row_view}
 use Rattle.po_compile.proofs.rows.joined_rows.Given as goal
 
 abbrev pub invariant-loop-input : goal.invariant-loop-input
-invariant-loop-input l = OfAllInputs l.inputs (λ use_fuzzy catalogues. HasSoFar use_fuzzy catalogues l.input l.headed l.rows.items)
+invariant-loop-input l = map row_view l.rows.items ++ joined_messages l.input l.headed (drop l.input l.inputs) ≡ all_messages l.inputs

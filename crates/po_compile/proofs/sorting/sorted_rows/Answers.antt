@@ -1,26 +1,28 @@
-use Rattle.std.proofs.Common.{refl, map}
-use Rattle.po_messages.specs.Joined.{joined, joined_entries}
-use Rattle.po_compile.specs.Internal.LiveRows.{compiled_of, row_view}
-use Rattle.po_compile.proofs.FirstRepeat.{repeat_fault}
-use Rattle.po_compile.proofs.JoinedLemmas.{all_valid, made_alone}
-use Rattle.po_compile.proofs.RowLemmas.{counts_mean, rows_mean}
+use Rattle.std.proofs.Common.{map}
+use Rattle.po_compile.specs.declared.row.Row.{Row}
+use Rattle.po_compile.proofs.KeysApart.{all_apart, inputs_apart, sorted_all, sorted_apart}
+use Rattle.po_compile.proofs.RisingKeys.{rising_apart, rising_from_sorted}
 use Rattle.po_compile.proofs.sorting.sorted_rows.Goals as goal
 
-pub returns-in-None-clause-rows : goal.returns-in-None-clause-rows
-returns-in-None-clause-rows c = λ use_fuzzy catalogues h.
-    let entries = joined_entries catalogues in
+pub returns-then-have_one_header-clause-rows : goal.returns-then-have_one_header-clause-rows
+returns-then-have_one_header-clause-rows c = record {
+  all = sorted_all c.args.inputs.now c.in_ok-rows.rows.items c.sort_rows.new.rows.items c.in_ok-rows.ensures c.sort_rows.ensures.permutation;
+  rising = rw c.deref.ensures.value at (c.are_rising.ensures c.if-are_rising.true);
+}
+
+pub returns-then-have_one_header-clause-each : goal.returns-then-have_one_header-clause-each
+returns-then-have_one_header-clause-each c =
+    let sorted = c.sort_rows.new.rows.items in
+    let rising = rw c.deref.ensures.value at (c.are_rising.ensures c.if-are_rising.true) in
+    inputs_apart c.args.inputs.now (c.have_one_header.ensures c.if-have_one_header.true)
+    (all_apart c.args.inputs.now c.in_ok-rows.rows.items sorted c.in_ok-rows.ensures c.sort_rows.ensures.permutation (rising_apart (map (λ (r : Row). r.key.now) sorted) rising))
+
+pub returns-clause-rows : goal.returns-clause-rows
+returns-clause-rows c =
+    let inputs = c.args.inputs.now in
     let rows = c.in_ok-rows.rows.items in
     let sorted = c.sort_rows.new.rows.items in
-    let made = made_alone use_fuzzy (joined catalogues) rows (c.in_ok-rows.ensures use_fuzzy catalogues h) in
-    let rising = rw c.deref.ensures.value at (c.in-None.ensures.rising refl) in
     record {
-      sorted = rows_mean use_fuzzy entries rows sorted (compiled_of (map row_view sorted)) (all_valid use_fuzzy catalogues c.args.inputs.now h) made c.sort_rows.ensures.permutation rising refl;
-      counts = counts_mean use_fuzzy entries rows sorted made c.sort_rows.ensures.permutation;
+      all = sorted_all inputs rows sorted c.in_ok-rows.ensures c.sort_rows.ensures.permutation;
+      rising = rising_from_sorted (λ (r : Row). r.key.now) sorted c.sort_rows.ensures.sorted (sorted_apart inputs rows sorted c.in_ok-rows.ensures c.sort_rows.ensures.permutation c.in_ok-check_joined.ensures.apart);
     }
-
-pub returns-clause-fault : goal.returns-clause-fault
-returns-clause-fault c = λ use_fuzzy catalogues h.
-    let found = rw c.deref.ensures.value at c.in-Some.ensures.repeat in
-    rw c.row_fault.ensures
-    (repeat_fault use_fuzzy (joined catalogues) c.in_ok-rows.rows.items c.sort_rows.new.rows.items c.in-Some.index c.index.result.now c.index-in-Some.result.now (all_valid use_fuzzy catalogues c.args.inputs.now h) (c.in_ok-rows.ensures use_fuzzy catalogues h)
-    c.sort_rows.ensures.permutation c.sort_rows.ensures.sorted found c.index.ensures c.index-in-Some.ensures)

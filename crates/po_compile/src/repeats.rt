@@ -1,0 +1,108 @@
+//! Messages that repeat an earlier one, looked for in the order of the texts.
+
+ghost use Rattle.std.specs.Prelude.{◌≡◌, ◌⊎◌, ◌<◌, ◌^◌, IfErr, IfOk, MatchOption, OnOk, length, map};
+ghost use Rattle.po_messages.specs.Duplicate.{join_out_of_memory};
+ghost use Rattle.po_messages.specs.MessageView.{messages_of_keys};
+ghost use Rattle.po_compile.specs.Accepted.{fault_of_input};
+ghost use Rattle.po_compile.specs.Internal.Repeats.{EachApart, IsFirstRepeat, IsRepeat, IsRepeatInInput, key_message, repeat_fault};
+ghost use Rattle.po_compile.specs.Internal.Rows.{AllApart, all_messages, input_keys, row_view};
+
+use crate::collecting::Collected;
+use crate::row::Row;
+use crate::rows::joined_rows;
+use po_messages::laws::{messages_are_numbered_in_order, one_number_is_one_message};
+use po_messages::{JoinError, MessageKey, grouped};
+use po_syntax::{PoError, PoFault};
+use std::alloc::{AllocError, Global};
+use std::slice::from_ref;
+
+/// The keys of rows, each as that of a message without a context.
+fn keys_of<'b>(alloc: Global, rows: &[Row<'b>]) -> Result<Vec<MessageKey<'b>>, AllocError>
+    ensures { IfOk result (λ keys. messages_of_keys keys.items ≡ map key_message (input_keys (map row_view rows.now))) }
+{
+    let mut keys = Vec::with_capacity(alloc, rows.len())?;
+    for row in rows {
+        keys.push(MessageKey {
+            context: None,
+            id: row.key,
+        })?;
+    }
+    Ok(keys)
+}
+
+/// The first row that has the key of an earlier one: the indexes of both. Keys are numbered in the
+/// order in which they first appear, so it is the first whose number isn't its index.
+fn first_repeat(alloc: Global, rows: &[Row<'_>]) -> Result<Option<(usize, usize)>, AllocError>
+    ensures { IfOk result (λ found. MatchOption found (AllApart (input_keys (map row_view rows.now)))
+        (λ at. IsFirstRepeat (input_keys (map row_view rows.now)) at.0 at.1)) }
+{
+    messages_are_numbered_in_order();
+    one_number_is_one_message();
+    let keys = keys_of(alloc, rows)?;
+    let numbers = grouped(alloc, &keys)?;
+    for (later, first) in numbers.iter().enumerate() {
+        if *first < later {
+            return Ok(Some((*first, later)));
+        }
+    }
+    Ok(None)
+}
+
+/// What is reported of a row that repeats an earlier one.
+fn row_fault(first: &Row<'_>, later: &Row<'_>) -> JoinError
+    ensures { result ≡ repeat_fault (row_view first.now) (row_view later.now) }
+{
+    JoinError {
+        input: later.input,
+        first_input: first.input,
+        error: PoError {
+            kind: PoFault::Duplicate(first.line),
+            line: later.line,
+        },
+    }
+}
+
+/// Whether no message of the joined list of the inputs repeats another. Refused with the fault of
+/// `joined_duplicates`; and where an allocation failed.
+pub(crate) fn check_joined(alloc: Global, inputs: &[Collected]) -> Result<(), JoinError>
+    requires { length inputs.now < 2 ^ 32 }
+    ensures apart { OnOk result (AllApart (input_keys (all_messages inputs.now))) }
+    ensures fault { IfErr result (λ e. (e ≡ join_out_of_memory) ⊎ IsRepeat (all_messages inputs.now) e) }
+{
+    let rows = joined_rows(alloc, inputs)?;
+    match first_repeat(alloc, &rows)? {
+        Some((first, later)) => Err(row_fault(&rows[first], &rows[later])),
+        None => Ok(()),
+    }
+}
+
+/// Whether no message of an input repeats another of the same input. Refused with the fault of
+/// `duplicates`, of the first input that has one; and where an allocation failed.
+pub(crate) fn check_each(alloc: Global, inputs: &[Collected]) -> Result<(), JoinError>
+    requires { length inputs.now < 2 ^ 32 }
+    ensures apart { OnOk result (EachApart inputs.now) }
+    ensures fault { IfErr result (λ e. (e ≡ join_out_of_memory) ⊎ IsRepeatInInput inputs.now e) }
+{
+    for (input, collected) in inputs.iter().enumerate() {
+        match check_joined(alloc, from_ref(collected)) {
+            Ok(()) => {}
+            Err(error) => return Err(fault_of_input(input as u32, error.error)),
+        }
+    }
+    Ok(())
+}
+
+/// The fault of an input. Out of memory is of no input.
+pub(crate) fn fault_of_input(input: u32, error: PoError) -> JoinError
+    ensures { result ≡ fault_of_input input error }
+{
+    let input = match error.kind {
+        PoFault::OutOfMemory => 0,
+        _ => input,
+    };
+    JoinError {
+        input,
+        first_input: input,
+        error,
+    }
+}
