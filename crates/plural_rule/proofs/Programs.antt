@@ -1,9 +1,10 @@
 -- The program of a tree: how it runs, and how many nodes begin in it.
-use Rattle.std.proofs.Common.{◌≡◌, ℕ, zero, suc, ◌+◌, ◌*◌, ◌/◌, ◌%◌, ◌^◌, ◌<◌, ◌≤◌, true, false, nat_lt, inl, inr, List, [], ◌∷◌, length, drop, get_or, Option, Some, None, option_and_then, refl, sym, ap, ◌∙◌, drop-cons, add-one, length-drop, arith}
+use Rattle.std.proofs.Common.{◌≡◌, ℕ, zero, suc, ◌+◌, ◌-◌, ◌*◌, ◌/◌, ◌%◌, ◌^◌, ◌<◌, ◌≤◌, true, false, nat_lt, inl, inr, List, [], ◌∷◌, length, drop, get_or, set, Option, Some, None, option_and_then, refl, sym, ap, ◌∙◌, drop-cons, add-one, arith}
 use Rattle.std.proofs.Math.Seq.{drop-nil}
 use Rattle.std.proofs.lemmas.Bool.{cases_Bool}
 use Rattle.std.proofs.lemmas.Bool.Decides.{nat_tests}
-use Rattle.std.proofs.lemmas.List.{drop-drop, drop_all}
+use Rattle.std.proofs.lemmas.List.{drop-drop, get_or-set_same, get_or-set_other}
+use Rattle.plural_rule.specs.declared.evaluator.Effect.{Effect}
 use Rattle.std.proofs.lemmas.Nat.{div-add-mod'}
 use Rattle.plural_rule.specs.declared.operator.Operator.{Operator}
 use Rattle.plural_rule.specs.declared.operator.Operator.TheVariants.{Or, And}
@@ -11,9 +12,9 @@ use Rattle.plural_rule.specs.declared.instruction.Instruction.{Instruction}
 use Rattle.plural_rule.specs.declared.instruction.Action.{Action}
 use Rattle.plural_rule.specs.declared.instruction.Action.TheVariants.{Binary as BinaryAction, Branch as BranchAction}
 use Rattle.plural_rule.specs.Instruction.{operator_of-code, action_of, count_instruction, number_instruction, wide_instruction, low_instruction, not_instruction, binary_instruction, branch_instruction, choose_instruction, jump_instruction, begins}
-use Rattle.plural_rule.specs.Expression.{Tree, Count, Number, Not, Binary, Conditional, nodes, is_zero, needs_right, short_circuit_value, combined, negated, binary_value, chosen, value, visited, visited_right}
+use Rattle.plural_rule.specs.Expression.{Tree, Count, Number, Not, Binary, Conditional, nodes, is_zero, needs_right, short_circuit_value, combined, truth, negated, binary_value, chosen, value, visited, visited_right}
 use Rattle.plural_rule.specs.Program.{is_lazy, branch_then, size, program, program_then, length-program, drop-program, low_of}
-use Rattle.plural_rule.specs.Internal.Run.{Next, act, with_value, Outcome, outcome, newest_value, go_on, run}
+use Rattle.plural_rule.specs.Internal.Run.{Next, act, with_value, left_with, left_by, Outcome, outcome, go_on, run}
 
 pub nodes-le-size : (t : Tree) → nodes t ≤ size t
 nodes-le-size Count = omega arith
@@ -37,8 +38,13 @@ always-needed _ x e = refl
 
 module _ (room n : ℕ) where
   -- one instruction
-  step : (i : Instruction) (rest : List Instruction) (values : List ℕ) (s : ℕ) → length values < room → run room n (i ∷ rest) 0 values s ≡ go_on (run room n rest) (act n (action_of i) (low_of rest) values s)
-  step i rest values s inside = let e : nat_lt (length values) room ≡ true = grind (arith, nat_tests) in rw e refl
+  step : (i : Instruction) (rest : List Instruction) (y x : ℕ) (older : List ℕ) (s : ℕ) → length older + 1 < room → run room n (i ∷ rest) 0 (y ∷ x ∷ older) s ≡ go_on (run room n rest) s (act n (action_of i) (low_of rest) (y ∷ x ∷ older))
+  step i rest y x older s inside =
+      let e : nat_lt (1 + length older) room ≡ true = grind (arith, nat_tests) in rw e refl
+
+  -- where no node begins
+  none-begins : (rest : List Instruction) (skip : ℕ) (values : List ℕ) (s : ℕ) → run room n rest skip values (s + 0) ≡ run room n rest skip values s
+  none-begins rest skip values s = ap (run room n rest skip values) (omega arith)
 
   -- instructions that are skipped
   run-drop : (p : List Instruction) (skip : ℕ) (values : List ℕ) (s : ℕ) → run room n p skip values s ≡ run room n (drop skip p) 0 values s
@@ -57,130 +63,178 @@ module _ (room n : ℕ) where
 
   -- the program of an operand, which others follow
   abbrev Runs : ℕ → Tree → List Instruction → Type 0
-  Runs k t rest = (values : List ℕ) (s later : ℕ) → later ≡ s + k + visited t n → 2 * length values + size t + 3 ≤ 2 * room → run room n (program_then k t rest) 0 values s ≡ resumed rest values (value t n) later
+  Runs k t rest = (y x : ℕ) (older : List ℕ) (s later : ℕ) → later ≡ s + k + visited t n → 2 * length older + size t + 5 ≤ 2 * room → run room n (program_then k t rest) 0 (y ∷ x ∷ older) s ≡ resumed rest (y ∷ x ∷ older) (value t n) later
 
-  after-not : (rest : List Instruction) (values : List ℕ) (v : Option ℕ) (s : ℕ) → length values + 1 < room → resumed (not_instruction ∷ rest) values v s ≡ resumed rest values (negated v) s
-  after-not rest values None s inside = refl
-  after-not rest values (Some x) s inside = step not_instruction rest (x ∷ values) s (omega arith)
+  after-not : (rest : List Instruction) (y : ℕ) (older : List ℕ) (v : Option ℕ) (s : ℕ) → length older + 1 < room → resumed (not_instruction ∷ rest) (y ∷ older) v s ≡ resumed rest (y ∷ older) (negated v) s
+  after-not rest y older None s inside = refl
+  after-not rest y older (Some x) s inside =
+      step not_instruction rest x y older s inside ∙ none-begins rest 0 (truth (is_zero x) ∷ y ∷ older) s
 
-  after-binary : (op : Operator) (rest : List Instruction) (values : List ℕ) (x : ℕ) (v : Option ℕ) (s : ℕ) → length values + 2 < room → resumed (binary_instruction op ∷ rest) (x ∷ values) v s ≡ resumed rest values (option_and_then (combined op x) v) s
+  after-binary : (op : Operator) (rest : List Instruction) (values : List ℕ) (x : ℕ) (v : Option ℕ) (s : ℕ) → length values + 1 < room → resumed (binary_instruction op ∷ rest) (x ∷ values) v s ≡ resumed rest values (option_and_then (combined op x) v) s
   after-binary op rest values x None s inside = refl
   after-binary op rest values x (Some y) s inside =
-      step (binary_instruction op) rest (y ∷ x ∷ values) s (omega arith)
-      ∙ ap (λ o. go_on (run room n rest) (act n (BinaryAction o) (low_of rest) (y ∷ x ∷ values) s)) (operator_of-code op)
+      step (binary_instruction op) rest y x values s inside
+      ∙ ap (λ o. go_on (run room n rest) s (act n (BinaryAction o) (low_of rest) (y ∷ x ∷ values))) (operator_of-code op)
       ∙ ended (combined op x y)
     where
-      ended : (v : Option ℕ) → go_on (run room n rest) (with_value v values s) ≡ resumed rest values v s
-      ended None = refl
-      ended (Some v) = refl
+      ended : (v : Option ℕ) → go_on (run room n rest) s (with_value v values) ≡ resumed rest values v s
+      ended None = ap (λ k. Some (record { value = None; steps = k })) (omega arith)
+      ended (Some v) = none-begins rest 0 (v ∷ values) s
 
-  needed : (op : Operator) (b : Tree) (rest : List Instruction) (values : List ℕ) (x s later : ℕ) → Runs 0 b (binary_instruction op ∷ rest) → needs_right op x ≡ true → later ≡ s + visited_right op (Some x) (visited b n) → 2 * length values + size b + 5 ≤ 2 * room → run room n (program_then 0 b (binary_instruction op ∷ rest)) 0 (x ∷ values) s ≡ resumed rest values (binary_value op (Some x) (value b n)) later
-  needed op b rest values x s later runs e at inside =
+  needed : (op : Operator) (b : Tree) (rest : List Instruction) (y : ℕ) (older : List ℕ) (x s later : ℕ) → Runs 0 b (binary_instruction op ∷ rest) → needs_right op x ≡ true → later ≡ s + visited_right op (Some x) (visited b n) → 2 * length older + size b + 5 ≤ 2 * room → run room n (program_then 0 b (binary_instruction op ∷ rest)) 0 (x ∷ y ∷ older) s ≡ resumed rest (y ∷ older) (binary_value op (Some x) (value b n)) later
+  needed op b rest y older x s later runs e at inside =
       let all : later ≡ s + 0 + visited b n = omega (arith, rw e at at) in
-      rw e (runs (x ∷ values) s later all (omega (arith, inside)) ∙ after-binary op rest values x (value b n) later (omega (arith, inside, size-some b)))
+      rw e (runs x y older s later all (omega (arith, inside)) ∙ after-binary op rest (y ∷ older) x (value b n) later (omega (arith, inside, size-some b)))
 
-  after-first : (op : Operator) (b : Tree) (rest : List Instruction) (values : List ℕ) (v : Option ℕ) (s later : ℕ) → Runs 0 b (binary_instruction op ∷ rest) → later ≡ s + visited_right op v (visited b n) → 2 * length values + size b + 5 ≤ 2 * room → resumed (branch_then op (size b + 1) (program_then 0 b (binary_instruction op ∷ rest))) values v s ≡ resumed rest values (binary_value op v (value b n)) later
-  after-first op b rest values None s later runs at inside = ap (λ k. resumed rest values None k) (omega arith)
-  after-first op b rest values (Some x) s later runs at inside =
+  after-first : (op : Operator) (b : Tree) (rest : List Instruction) (y : ℕ) (older : List ℕ) (v : Option ℕ) (s later : ℕ) → Runs 0 b (binary_instruction op ∷ rest) → later ≡ s + visited_right op v (visited b n) → 2 * length older + size b + 5 ≤ 2 * room → resumed (branch_then op (size b + 1) (program_then 0 b (binary_instruction op ∷ rest))) (y ∷ older) v s ≡ resumed rest (y ∷ older) (binary_value op v (value b n)) later
+  after-first op b rest y older None s later runs at inside = ap (λ k. resumed rest (y ∷ older) None k) (omega arith)
+  after-first op b rest y older (Some x) s later runs at inside =
       let code = program_then 0 b (binary_instruction op ∷ rest) in
       let branch = branch_instruction op (size b + 1) in
       elim (cases_Bool (is_lazy op)) [
         | inl lazy ↦
-            rw lazy (step branch code (x ∷ values) s (omega (arith, inside))
-            ∙ ap (λ o. go_on (run room n code) (act n (BranchAction o (size b + 1)) (low_of code) (x ∷ values) s)) (operator_of-code op)
+            rw lazy (step branch code x y older s (omega (arith, inside))
+            ∙ ap (λ o. go_on (run room n code) s (act n (BranchAction o (size b + 1)) (low_of code) (x ∷ y ∷ older))) (operator_of-code op)
             ∙ elim (cases_Bool (needs_right op x)) [
-              | inl e ↦ rw (← needed op b rest values x s later runs e at inside) (rw e refl)
+              | inl e ↦
+                  rw (← needed op b rest y older x s later runs e at inside) (rw e (none-begins code 0 (x ∷ y ∷ older) s))
               | inr e ↦
                   let none : s ≡ later = omega (arith, rw e at at) in
-                  rw e (over b (binary_instruction op ∷ rest) 1 (short_circuit_value op ∷ values) s ∙ ap (run room n rest 0 (short_circuit_value op ∷ values)) none)
+                  rw e (none-begins code (size b + 1) (short_circuit_value op ∷ y ∷ older) s
+                  ∙ over b (binary_instruction op ∷ rest) 1 (short_circuit_value op ∷ y ∷ older) s ∙ ap (run room n rest 0 (short_circuit_value op ∷ y ∷ older)) none)
             ])
-        | inr strict ↦ rw strict (needed op b rest values x s later runs (always-needed op x strict) at inside)
+        | inr strict ↦ rw strict (needed op b rest y older x s later runs (always-needed op x strict) at inside)
       ]
 
-  after-condition : (b c : Tree) (rest : List Instruction) (values : List ℕ) (v : Option ℕ) (s later : ℕ) → Runs 0 b (jump_instruction (size c) ∷ program_then 0 c rest) → Runs 0 c rest → later ≡ s + chosen v (visited b n) (visited c n) 0 → 2 * length values + size b + size c + 4 ≤ 2 * room → resumed (choose_instruction (size b + 1) ∷ program_then 0 b (jump_instruction (size c) ∷ program_then 0 c rest)) values v s ≡ resumed rest values (chosen v (value b n) (value c n) None) later
-  after-condition b c rest values None s later runs runs' at inside = ap (λ k. resumed rest values None k) (omega arith)
-  after-condition b c rest values (Some x) s later runs runs' at inside =
+  after-condition : (b c : Tree) (rest : List Instruction) (y x : ℕ) (older : List ℕ) (v : Option ℕ) (s later : ℕ) → Runs 0 b (jump_instruction (size c) ∷ program_then 0 c rest) → Runs 0 c rest → later ≡ s + chosen v (visited b n) (visited c n) 0 → 2 * length older + size b + size c + 6 ≤ 2 * room → resumed (choose_instruction (size b + 1) ∷ program_then 0 b (jump_instruction (size c) ∷ program_then 0 c rest)) (y ∷ x ∷ older) v s ≡ resumed rest (y ∷ x ∷ older) (chosen v (value b n) (value c n) None) later
+  after-condition b c rest y x older None s later runs runs' at inside = ap (λ k. resumed rest (y ∷ x ∷ older) None k) (omega arith)
+  after-condition b c rest y x older (Some v) s later runs runs' at inside =
+      let values = y ∷ x ∷ older in
       let third = program_then 0 c rest in
-      step (choose_instruction (size b + 1)) (program_then 0 b (jump_instruction (size c) ∷ third)) (x ∷ values) s (omega (arith, inside, size-some b))
-      ∙ elim (cases_Bool (is_zero x)) [
+      let second = program_then 0 b (jump_instruction (size c) ∷ third) in
+      step (choose_instruction (size b + 1)) second v y (x ∷ older) s (omega (arith, inside, size-some b))
+      ∙ elim (cases_Bool (is_zero v)) [
         | inl e ↦
             let all : later ≡ s + 0 + visited c n = omega (arith, rw e at at) in
-            rw e (over b (jump_instruction (size c) ∷ third) 1 values s ∙ runs' values s later all (omega (arith, inside)))
+            rw e (none-begins second (size b + 1) values s ∙ over b (jump_instruction (size c) ∷ third) 1 values s ∙ runs' y x older s later all (omega (arith, inside)))
         | inr e ↦
             let all : later ≡ s + 0 + visited b n = omega (arith, rw e at at) in
-            rw e (runs values s later all (omega (arith, inside)) ∙ jumped (value b n))
+            rw e (none-begins second 0 values s ∙ runs y x older s later all (omega (arith, inside)) ∙ jumped (value b n))
       ]
     where
-      jumped : (w : Option ℕ) → resumed (jump_instruction (size c) ∷ program_then 0 c rest) values w later ≡ resumed rest values w later
+      jumped : (w : Option ℕ) → resumed (jump_instruction (size c) ∷ program_then 0 c rest) (y ∷ x ∷ older) w later ≡ resumed rest (y ∷ x ∷ older) w later
       jumped None = refl
-      jumped (Some y) =
+      jumped (Some w) =
           let all : size c ≡ size c + 0 = omega arith in
-          step (jump_instruction (size c)) (program_then 0 c rest) (y ∷ values) later (omega (arith, inside, size-some b))
-          ∙ ap (λ k. run room n (program_then 0 c rest) k (y ∷ values) later) all ∙ over c rest 0 (y ∷ values) later
+          step (jump_instruction (size c)) (program_then 0 c rest) w y (x ∷ older) later (omega (arith, inside, size-some b))
+          ∙ none-begins (program_then 0 c rest) (size c) (w ∷ y ∷ x ∷ older) later
+          ∙ ap (λ k. run room n (program_then 0 c rest) k (w ∷ y ∷ x ∷ older) later) all ∙ over c rest 0 (w ∷ y ∷ x ∷ older) later
 
   -- the program of a tree runs to the tree's value, and begins as many nodes as the tree's evaluation visits, where
   -- there is room for half as many values as instructions
   run-program : (t : Tree) (k : ℕ) (rest : List Instruction) → Runs k t rest
-  run-program Count k rest values s later at inside =
+  run-program Count k rest y x older s later at inside =
       let begun : s + (1 + k) ≡ later = omega arith in
-      step (count_instruction (1 + k)) rest values s (omega (arith, inside)) ∙ ap (run room n rest 0 (n ∷ values)) begun
-  run-program (Number v) k rest values s later at inside =
+      step (count_instruction (1 + k)) rest y x older s (omega (arith, inside)) ∙ ap (run room n rest 0 (n ∷ y ∷ x ∷ older)) begun
+  run-program (Number v) k rest y x older s later at inside =
       let begun : s + (1 + k) ≡ later = omega arith in
+      let values = y ∷ x ∷ older in
       elim (cases_Bool (nat_lt v (2 ^ 32))) [
         | inl small ↦
-            rw small (step (number_instruction (1 + k) v) rest values s (omega (arith, rw small at inside)) ∙ ap (run room n rest 0 (v ∷ values)) begun)
+            rw small (step (number_instruction (1 + k) v) rest y x older s (omega (arith, rw small at inside)) ∙ ap (run room n rest 0 (v ∷ values)) begun)
         | inr large ↦
-            rw large (step (wide_instruction (1 + k) (v / 2 ^ 32)) (low_instruction (v % 2 ^ 32) ∷ rest) values s (omega (arith, rw large at inside))
+            rw large (step (wide_instruction (1 + k) (v / 2 ^ 32)) (low_instruction (v % 2 ^ 32) ∷ rest) y x older s (omega (arith, rw large at inside))
             ∙ ap (λ x. run room n rest 0 (x ∷ values) (s + (1 + k))) (div-add-mod' v (2 ^ 32)) ∙ ap (run room n rest 0 (v ∷ values)) begun)
       ]
-  run-program (Not a) k rest values s later at inside =
-      run-program a (1 + k) (not_instruction ∷ rest) values s later (omega arith) (omega (arith, inside))
-      ∙ after-not rest values (value a n) later (omega (arith, inside, size-some a))
-  run-program (Binary op a b) k rest values s later at inside =
+  run-program (Not a) k rest y x older s later at inside =
+      run-program a (1 + k) (not_instruction ∷ rest) y x older s later (omega arith) (omega (arith, inside))
+      ∙ after-not rest y (x ∷ older) (value a n) later (omega (arith, inside, size-some a))
+  run-program (Binary op a b) k rest y x older s later at inside =
       let first = s + (1 + k) + visited a n in
-      run-program a (1 + k) _ values s first refl (omega (arith, inside))
-      ∙ after-first op b rest values (value a n) first later (run-program b 0 (binary_instruction op ∷ rest)) (omega arith) (omega (arith, inside, size-some a))
-  run-program (Conditional a b c) k rest values s later at inside =
+      run-program a (1 + k) _ y x older s first refl (omega (arith, inside))
+      ∙ after-first op b rest y (x ∷ older) (value a n) first later (run-program b 0 (binary_instruction op ∷ rest)) (omega arith) (omega (arith, inside, size-some a))
+  run-program (Conditional a b c) k rest y x older s later at inside =
       let first = s + (1 + k) + visited a n in
-      run-program a (1 + k) _ values s first refl (omega (arith, inside))
-      ∙ after-condition b c rest values (value a n) first later (run-program b 0 _) (run-program c 0 rest) (omega arith) (omega (arith, inside, size-some a))
+      run-program a (1 + k) _ y x older s first refl (omega (arith, inside))
+      ∙ after-condition b c rest y x older (value a n) first later (run-program b 0 _) (run-program c 0 rest) (omega arith) (omega (arith, inside, size-some a))
 
--- a program between two instructions
-pub record Running (room n : ℕ) (p : List Instruction) (i : ℕ) (values : List ℕ) (steps : ℕ) (o : Outcome) : Type 0 where
-  pub runs : run room n (drop i p) 0 values steps ≡ Some o
-  pub fits : i < length p → length values < room
-
-fits-by : (room n : ℕ) (o : Outcome) (p : List Instruction) (values : List ℕ) (steps : ℕ) → 0 < length p → run room n p 0 values steps ≡ Some o → length values < room
-fits-by room n o [] values steps some runs = absurd (omega arith)
-fits-by room n o (i ∷ p) values steps some runs =
-    elim (cases_Bool (nat_lt (length values) room)) [ inl e ↦ grind (arith, nat_tests) | inr e ↦ absurd (let none = rw e at runs in cc) ]
-
-pub running : {room n : ℕ} {p : List Instruction} {j : ℕ} {values : List ℕ} {steps : ℕ} {o : Outcome} (i skip : ℕ) → j ≡ i + skip → run room n (drop i p) skip values steps ≡ Some o → Running room n p j values steps o
-running {room} {n} {p} {j} {values} {steps} {o} i skip at runs =
-    let there : run room n (drop j p) 0 values steps ≡ Some o =
-    ap (λ k. run room n (drop k p) 0 values steps) at ∙ ap (λ q. run room n q 0 values steps) (sym (drop-drop skip i p)) ∙ sym (run-drop room n (drop i p) skip values steps) ∙ runs in
-    record { runs = there; fits = λ more. fits-by room n o (drop j p) values steps (omega (arith, more, length-drop j p)) there }
-
-pub acts : {room n : ℕ} {p : List Instruction} {i : ℕ} {values : List ℕ} {steps : ℕ} {o : Outcome} (d : Instruction) (action : Action) (next : Next) → i < length p → Running room n p i values steps o → action ≡ action_of (get_or p i d) → act n action (low_of (drop (i + 1) p)) values steps ≡ next → go_on (run room n (drop (i + 1) p)) next ≡ Some o
-acts {room} {n} {p} {i} {values} {steps} d action next inside r is leads =
-    ap (go_on (run room n (drop (i + 1) p))) (sym leads)
-    ∙ ap (λ a. go_on (run room n (drop (i + 1) p)) (act n a (low_of (drop (i + 1) p)) values steps)) is
-    ∙ ap (λ k. go_on (run room n (drop k p)) (act n (action_of (get_or p i d)) (low_of (drop k p)) values steps)) (add-one i)
-    ∙ sym (step room n (get_or p i d) (drop (suc i) p) values steps (r.fits inside))
-    ∙ ap (λ q. run room n q 0 values steps) (sym (drop-cons p i d inside)) ∙ r.runs
-
-pub ends : {room n : ℕ} {p : List Instruction} {i : ℕ} {values : List ℕ} {steps : ℕ} {o : Outcome} → length p ≤ i → Running room n p i values steps o → record { value = newest_value values; steps = steps } ≡ o
-ends {room} {n} {p} {i} {values} {steps} past r =
-    let done = ap (λ q. run room n q 0 values steps) (sym (drop_all i p past)) ∙ r.runs in cc
-
-pub starts : (room n : ℕ) (p : List Instruction) (t : Tree) → p ≡ program 0 t → length p + 3 ≤ 2 * room → Running room n p 0 [] 0 (outcome t n)
-starts room n p t is inside =
-    running 0 0 refl
-    (ap (λ q. run room n q 0 [] 0) is ∙ run-program room n t 0 [] [] 0 (visited t n) (omega arith) (omega (arith, inside, ap length is, length-program t 0 [])) ∙ alone (value t n))
+pub starts : (room n y x : ℕ) (p : List Instruction) (t : Tree) → p ≡ program 0 t → length p + 5 ≤ 2 * room → run room n p 0 (y ∷ x ∷ []) 0 ≡ Some (outcome t n)
+starts room n y x p t is inside =
+    ap (λ q. run room n q 0 (y ∷ x ∷ []) 0) is
+    ∙ run-program room n t 0 [] y x [] 0 (visited t n) (omega arith) (omega (arith, inside, ap length is, length-program t 0 [])) ∙ alone (value t n)
   where
-    alone : (v : Option ℕ) → resumed room n [] [] v (visited t n) ≡ Some (record { value = v; steps = visited t n })
+    alone : (v : Option ℕ) → resumed room n [] (y ∷ x ∷ []) v (visited t n) ≡ Some (record { value = v; steps = visited t n })
     alone None = refl
     alone (Some v) = refl
+
+room-left : (room n : ℕ) (i : Instruction) (p : List Instruction) (y x : ℕ) (older : List ℕ) (s : ℕ) {o : Outcome} → run room n (i ∷ p) 0 (y ∷ x ∷ older) s ≡ Some o → length older + 1 < room
+room-left room n i p y x older s runs =
+    elim (cases_Bool (nat_lt (1 + length older) room)) [ inl e ↦ grind (arith, nat_tests) | inr e ↦ absurd (let none = rw e at runs in cc) ]
+
+-- an instruction inside of a program
+pub acts : (room n : ℕ) (p : List Instruction) (i y x : ℕ) (older : List ℕ) (s : ℕ) {o : Outcome} (d : Instruction) (action : Action) (next : Next) → i < length p → run room n (drop i p) 0 (y ∷ x ∷ older) s ≡ Some o → action ≡ action_of (get_or p i d) → act n action (low_of (drop (i + 1) p)) (y ∷ x ∷ older) ≡ next → go_on (run room n (drop (i + 1) p)) s next ≡ Some o
+acts room n p i y x older s d action next inside runs is leads =
+    let whole = ap (λ q. run room n q 0 (y ∷ x ∷ older) s) (sym (drop-cons p i d inside)) ∙ runs in
+    ap (go_on (run room n (drop (i + 1) p)) s) (sym leads)
+    ∙ ap (λ a. go_on (run room n (drop (i + 1) p)) s (act n a (low_of (drop (i + 1) p)) (y ∷ x ∷ older))) is
+    ∙ ap (λ k. go_on (run room n (drop k p)) s (act n (action_of (get_or p i d)) (low_of (drop k p)) (y ∷ x ∷ older))) (add-one i)
+    ∙ sym (step room n (get_or p i d) (drop (suc i) p) y x older s (room-left room n (get_or p i d) (drop (suc i) p) y x older s whole)) ∙ whole
+
+pub skips : (room n : ℕ) (p : List Instruction) (i skip : ℕ) (values : List ℕ) (s : ℕ) {o : Outcome} → run room n (drop i p) skip values s ≡ Some o → run room n (drop (i + skip) p) 0 values s ≡ Some o
+skips room n p i skip values s runs =
+    ap (λ q. run room n q 0 values s) (sym (drop-drop skip i p)) ∙ sym (run-drop room n (drop i p) skip values s) ∙ runs
+
+-- an operator right after an operand
+pub fused : (room n : ℕ) (p : List Instruction) (i x s : ℕ) (values : List ℕ) (e : Effect) {o : Outcome} → e.skip ≡ 1 → e.taken ≡ 1 → go_on (run room n (drop (i + 1) p)) (s + e.begins) (with_value e.value values) ≡ Some o → go_on (run room n (drop i p)) s (left_by e (x ∷ values)) ≡ Some o
+fused room n p i x s values e {o} skip taken runs = by e.value runs where
+  by : (v : Option ℕ) → go_on (run room n (drop (i + 1) p)) (s + e.begins) (with_value v values) ≡ Some o → go_on (run room n (drop i p)) s (left_with v e (x ∷ values)) ≡ Some o
+  by None runs = ap (λ k. Some (record { value = None; steps = k })) (omega arith) ∙ runs
+  by (Some v) runs =
+      rw (skip, taken) (run-drop room n (drop i p) 1 (v ∷ values) (s + e.begins) ∙ ap (λ q. run room n q 0 (v ∷ values) (s + e.begins)) (drop-drop 1 i p)
+      ∙ sym (none-begins room n (drop (i + 1) p) 0 (v ∷ values) (s + e.begins)) ∙ runs)
+
+-- the first `len` values of an array, last first
+abbrev pub stored : List ℕ → ℕ → List ℕ
+stored stack zero = []
+stored stack (suc k) = get_or stack k 0 ∷ stored stack k
+
+length-stored : (stack : List ℕ) (k : ℕ) → length (stored stack k) ≡ k
+length-stored stack zero = refl
+length-stored stack (suc k) = omega (arith, length-stored stack k)
+
+pub stored-cons : (stack : List ℕ) (len : ℕ) → 1 ≤ len → stored stack len ≡ get_or stack (len - 1) 0 ∷ stored stack (len - 1)
+stored-cons stack zero some = absurd (omega arith)
+stored-cons stack (suc k) some = let same : k ≡ suc k - 1 = omega arith in ap (λ j. get_or stack j 0 ∷ stored stack j) same
+
+stored-set : (stack : List ℕ) (k i y : ℕ) → k ≤ i → stored (set stack i y) k ≡ stored stack k
+stored-set stack zero i y h = refl
+stored-set stack (suc k) i y h =
+    rw (get_or-set_other stack i k y 0 (λ e. omega arith), stored-set stack k i y (omega arith)) refl
+
+-- the values after an instruction that takes some and adds one, once the newest is written to the array
+pub stored-after : (stack : List ℕ) (len newest taken : ℕ) → 1 ≤ len → len < length stack → taken ≤ 2 → drop taken (newest ∷ stored stack len) ≡ stored (set stack len newest) (len + 1 - taken)
+stored-after stack len newest zero some inside few =
+    let more : suc len ≡ len + 1 - 0 = omega arith in
+    sym (rw (get_or-set_same stack len newest 0 inside, stored-set stack len len newest (omega arith)) refl) ∙ ap (stored (set stack len newest)) more
+stored-after stack len newest (suc zero) some inside few =
+    let same : len ≡ len + 1 - 1 = omega arith in
+    sym (stored-set stack len len newest (omega arith)) ∙ ap (stored (set stack len newest)) same
+stored-after stack len newest (suc (suc zero)) some inside few =
+    let less : len - 1 ≡ len + 1 - 2 = omega arith in
+    ap (drop 1) (stored-cons stack len some) ∙ sym (stored-set stack (len - 1) len newest (omega arith)) ∙ ap (stored (set stack len newest)) less
+stored-after stack len newest (suc (suc (suc taken))) some inside few = absurd (omega arith)
+
+-- before an instruction there are two values, and there is room for another one
+pub record Ready (room len : ℕ) : Type 0 where
+  pub some : 1 ≤ len
+  pub inside : len < room
+
+pub ready : (room n : ℕ) (p : List Instruction) (stack : List ℕ) (len newest s : ℕ) {o : Outcome} → 0 < length p → run room n p 0 (newest ∷ stored stack len) s ≡ Some o → Ready room len
+ready room n [] stack len newest s some runs = absurd (omega arith)
+ready room n (i ∷ p) stack zero newest s some runs = absurd cc
+ready room n (i ∷ p) stack (suc k) newest s some runs =
+    let left = room-left room n i p newest (get_or stack k 0) (stored stack k) s runs in
+    record { some = omega arith; inside = omega (arith, left, length-stored stack k) }
 
 -- how many nodes begin with instructions
 abbrev pub all_begin : List Instruction → ℕ

@@ -1,17 +1,16 @@
 //! The value of an expression at a count, by its program: one instruction after the other, with
 //! jumps that go forward only.
-ghost use Rattle.std.specs.Prelude.{◌≡◌, ℕ, ◌+◌, ◌*◌, ◌^◌, ◌<◌, ◌≤◌, List, ◌∷◌, length, drop, slice_index_or, ⊤, MatchOption};
+ghost use Rattle.std.specs.Prelude.{◌≡◌, ℕ, ◌+◌, ◌*◌, ◌^◌, ◌<◌, ◌≤◌, List, ◌∷◌, length, drop, slice_index_or, ⊤, Some, MatchOption};
 ghost use Rattle.plural_rule.specs.declared.instruction.Instruction.{Instruction};
-ghost use Rattle.plural_rule.specs.declared.instruction.Action.TheVariants.{Binary, Branch};
+ghost use Rattle.plural_rule.specs.declared.instruction.Action.TheVariants.{Binary};
 ghost use Rattle.plural_rule.specs.Instruction.{action_of};
 ghost use Rattle.plural_rule.specs.Expression.{nodes, value, visited};
 ghost use Rattle.plural_rule.specs.PluralRule.{expression_limit};
 ghost use Rattle.plural_rule.specs.Program.{program, tree_of, low_of};
-ghost use Rattle.plural_rule.specs.Internal.Run.{act, Go, next_of, outcome};
+ghost use Rattle.plural_rule.specs.Internal.Run.{act, Go, left_by, go_on, run, Outcome, outcome};
 
 use crate::instruction::{Action, Instruction};
 use crate::operator::{Operator, truth};
-use crate::values::Values;
 
 /// The most instructions of a program that runs with the smallest stack: a larger one takes longer
 /// to set up.
@@ -34,50 +33,88 @@ pub fn evaluate(instructions: &[Instruction], count: u64) -> (Option<u64>, u32)
     ensures bound { result.1 ≤ nodes (tree_of instructions.now) }
 {
     if instructions.len() <= TINY {
-        evaluate_within::<10>(instructions, count)
+        evaluate_within::<11>(instructions, count)
     } else if instructions.len() <= SHORT {
-        evaluate_within::<26>(instructions, count)
+        evaluate_within::<27>(instructions, count)
     } else if instructions.len() <= MEDIUM {
-        evaluate_within::<66>(instructions, count)
+        evaluate_within::<67>(instructions, count)
     } else {
-        evaluate_within::<2050>(instructions, count)
+        evaluate_within::<2051>(instructions, count)
     }
 }
 
+/// What an instruction does: it takes some of the newest values, adds one, and skips instructions.
+#[derive(Clone, Copy, Drop)]
+struct Effect {
+    /// The value that it adds, or `None` where it divides by 0.
+    value: Option<u64>,
+    /// How many values it takes, two at most.
+    taken: usize,
+    /// How many instructions it skips.
+    skip: u16,
+    /// How many nodes begin with it.
+    begins: u16,
+}
+
 /// The same with room for `N` values: half of the instructions suffice, since an operator takes two.
+///
+/// The newest value isn't in the array, whose first value is none of the program's.
 #[inline(never)]
 fn evaluate_within<const N: usize>(instructions: &[Instruction], count: u64) -> (Option<u64>, u32)
     requires program { instructions.now ≡ program 0 (tree_of instructions.now) }
-    requires room { length instructions.now + 3 ≤ 2 * N }
+    requires room { length instructions.now + 5 ≤ 2 * N }
     requires size { N ≤ expression_limit }
     ensures { record { value = result.0; steps = result.1 } ≡ outcome (tree_of instructions.now) count }
 {
     let mut stack = [0; N];
-    let mut values = Values::new(&mut stack);
+    let mut len = 1;
+    let mut newest = 0;
     let mut steps = 0;
     let mut index = 0;
     while index < instructions.len() {
-        let instruction = instructions[index];
-        index += 1;
-        if let Some(operand) = leaf(instruction, count) {
-            steps += instruction.count as u32;
-            let Some(operator) = operator_at(instructions, index) else {
-                values.push(operand);
-                continue;
-            };
-            let Some(skip) = apply(operator, operand, &mut values) else {
-                return (None, steps);
-            };
-            index += 1 + skip as usize;
-            continue;
-        }
-        let action = instruction.action();
-        let Some(skip) = act(action, instructions, index, count, &mut values, &mut steps) else {
+        let effect = step(instructions, index, count, newest, stack[len - 1]);
+        steps += effect.begins as u32;
+        let Some(value) = effect.value else {
             return (None, steps);
         };
-        index += skip as usize;
+        stack[len] = newest;
+        newest = value;
+        len = len + 1 - effect.taken;
+        index = index + 1 + effect.skip as usize;
     }
-    (values.pop(), steps)
+    (Some(newest), steps)
+}
+
+/// What the instruction at an index does, where these are the newest values, and with it an operator
+/// right after an operand.
+#[inline(always)]
+fn step(instructions: &[Instruction], index: usize, count: u64, newest: u64, below: u64) -> Effect
+    requires { index < length instructions.now }
+    ensures next { (room : ℕ) (older : List ℕ) (steps : ℕ) (o : Outcome) →
+        run room count (drop index instructions.now) 0 (newest ∷ below ∷ older) steps ≡ Some o →
+        go_on (run room count (drop (index + 1) instructions.now)) steps (left_by result (newest ∷ below ∷ older)) ≡ Some o }
+    ensures taken { result.taken ≤ 2 }
+{
+    let instruction = instructions[index];
+    let Some(operand) = leaf(instruction, count) else {
+        return act(
+            instruction.action(),
+            count,
+            low_at(instructions, index + 1),
+            newest,
+            below,
+        );
+    };
+    let (value, taken, skip) = match operator_at(instructions, index + 1) {
+        Some(operator) => (operator.combined(newest, operand), 1, 1),
+        None => (Some(operand), 0, 0),
+    };
+    Effect {
+        value,
+        taken,
+        skip,
+        begins: instruction.count,
+    }
 }
 
 /// The number of the instruction at an index.
@@ -95,9 +132,8 @@ fn low_at(instructions: &[Instruction], index: usize) -> u32
 /// The value of `n` or of a numeral below 2^32.
 #[inline(always)]
 fn leaf(instruction: Instruction, count: u64) -> Option<u64>
-    ensures next { MatchOption result ⊤ (λ operand. (low : ℕ) (values : List ℕ) (steps : ℕ) →
-        act count (action_of instruction) low values steps ≡ Go 0 (operand ∷ values) (steps + instruction.count)) }
-    ensures fits { instruction.count < 2 ^ 16 }
+    ensures { MatchOption result ⊤ (λ operand. (low : ℕ) (values : List ℕ) →
+        act count (action_of instruction) low values ≡ Go 0 (operand ∷ values) instruction.count) }
 {
     match instruction.action() {
         Action::Count(_) => Some(count),
@@ -122,82 +158,34 @@ fn operator_at(instructions: &[Instruction], index: usize) -> Option<Operator>
     }
 }
 
-/// Carries out an operator whose second operand is known: nothing is skipped, or `None` where it
-/// divides by 0.
+/// What an instruction does, where these are the newest values, and `low` is the number of the next
+/// instruction.
 #[inline(always)]
-fn apply<const N: usize>(operator: Operator, right: u64, values: &mut Values<'_, N>) -> Option<u16>
-    requires { length values.old ≤ N }
-    ensures { (count low steps : ℕ) →
-        act count (Binary operator) low (right ∷ values.old) steps ≡ next_of result values.new steps }
+fn act(action: Action, count: u64, low: u32, newest: u64, below: u64) -> Effect
+    ensures next { (older : List ℕ) →
+        act count action low (newest ∷ below ∷ older) ≡ left_by result (newest ∷ below ∷ older) }
+    ensures taken { result.taken ≤ 2 }
 {
-    let left = values.pop()?;
-    values.push(operator.combined(left, right)?);
-    Some(0)
-}
-
-/// Carries out `||` or `&&` before the second operand.
-#[inline(always)]
-fn branch<const N: usize>(operator: Operator, skip: u16, values: &mut Values<'_, N>) -> Option<u16>
-    requires { length values.old ≤ N }
-    ensures { (count low steps : ℕ) →
-        act count (Branch operator skip) low values.old steps ≡ next_of result values.new steps }
-{
-    let left = values.pop()?;
-    if operator.needs_right(left) {
-        values.push(left);
-        return Some(0);
-    }
-    values.push(operator.short_circuit_value());
-    Some(skip)
-}
-
-/// Carries out an instruction, where the next one stands at an index: how many are then skipped, or
-/// `None` where it divides by 0.
-#[inline(always)]
-fn act<const N: usize>(
-    action: Action,
-    instructions: &[Instruction],
-    next: usize,
-    count: u64,
-    values: &mut Values<'_, N>,
-    steps: &mut u32,
-) -> Option<u16>
-    requires room { length values.old < N }
-    requires steps { steps.old + 2 ^ 16 < 2 ^ 32 }
-    ensures next { act count action (low_of (drop next instructions.now)) values.old steps.old
-        ≡ next_of result values.new steps.new }
-    ensures bound { steps.new < steps.old + 2 ^ 16 }
-{
-    match action {
-        Action::Count(begins) => {
-            values.push(count);
-            *steps += begins as u32;
-            Some(0)
+    let (value, taken, skip, begins) = match action {
+        Action::Count(begins) => (Some(count), 0, 0, begins),
+        Action::Number(begins, number) => (Some(number as u64), 0, 0, begins),
+        Action::Wide(begins, high) => (Some(high as u64 * 4294967296 + low as u64), 0, 1, begins),
+        Action::Not => (Some(truth(newest == 0)), 1, 0, 0),
+        Action::Binary(operator) => (operator.combined(below, newest), 2, 0, 0),
+        Action::Branch(operator, skip) => {
+            if operator.needs_right(newest) {
+                (Some(newest), 1, 0, 0)
+            } else {
+                (Some(operator.short_circuit_value()), 1, skip, 0)
+            }
         }
-        Action::Number(begins, number) => {
-            values.push(number as u64);
-            *steps += begins as u32;
-            Some(0)
-        }
-        Action::Wide(begins, high) => {
-            values.push(high as u64 * 4294967296 + low_at(instructions, next) as u64);
-            *steps += begins as u32;
-            Some(1)
-        }
-        Action::Not => {
-            let operand = values.pop()?;
-            values.push(truth(operand == 0));
-            Some(0)
-        }
-        Action::Binary(operator) => {
-            let right = values.pop()?;
-            apply(operator, right, values)
-        }
-        Action::Branch(operator, skip) => branch(operator, skip, values),
-        Action::Choose(skip) => {
-            let condition = values.pop()?;
-            Some(if condition == 0 { skip } else { 0 })
-        }
-        Action::Jump(skip) => Some(skip),
+        Action::Choose(skip) => (Some(below), 2, if newest == 0 { skip } else { 0 }, 0),
+        Action::Jump(skip) => (Some(newest), 1, skip, 0),
+    };
+    Effect {
+        value,
+        taken,
+        skip,
+        begins,
     }
 }

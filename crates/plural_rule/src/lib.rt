@@ -9,7 +9,7 @@
 //! computes its value at a count.
 //!
 //! The modules in reading order: `operator`, `token`, `lexer`, `instruction`, `pending`, `parts`,
-//! `parser`, `values`, `evaluator`, `header`, `rule`, `laws`.
+//! `parser`, `evaluator`, `header`, `rule`, `laws`.
 
 #![tactic(auto)]
 
@@ -24,7 +24,6 @@ mod parts;
 mod pending;
 mod rule;
 mod token;
-mod values;
 
 pub use evaluator::evaluate;
 pub use instruction::Instruction;

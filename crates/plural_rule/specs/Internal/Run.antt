@@ -1,5 +1,7 @@
 -- Internal: a program that runs.
-use Rattle.std.specs.Prelude.{ℕ, zero, suc, ◌+◌, ◌*◌, ◌^◌, nat_lt, List, [], ◌∷◌, length, Option, Some, None, if◌then◌else◌}
+use Rattle.std.specs.Prelude.{ℕ, zero, suc, ◌+◌, ◌*◌, ◌^◌, nat_lt, List, [], ◌∷◌, length, drop, Option, Some, None}
+use Rattle.std.specs.Prelude.{if◌then◌else◌}
+use Rattle.plural_rule.specs.declared.evaluator.Effect.{Effect}
 use Rattle.plural_rule.specs.declared.instruction.Instruction.{Instruction}
 use Rattle.plural_rule.specs.declared.instruction.Action.{Action}
 use Rattle.plural_rule.specs.declared.instruction.Action.TheVariants.{Count, Number, Wide, Not, Binary, Branch, Choose, Jump}
@@ -8,32 +10,35 @@ use Rattle.plural_rule.specs.Expression.{Tree, truth, is_zero, needs_right, shor
 use Rattle.plural_rule.specs.Program.{low_of}
 
 -- what an instruction leaves: how many instructions are skipped, the values, newest first, and how
--- many nodes have begun; or it divides by 0
+-- many nodes begin with it; or it divides by 0
 pub data Next : Type 0 where
   Go : ℕ → List ℕ → ℕ → Next
   Undefined : ℕ → Next
 
--- what is left with so many skipped instructions, or none where it divides by 0
-abbrev pub next_of : Option ℕ → List ℕ → ℕ → Next
-next_of None values steps = Undefined steps
-next_of (Some skip) values steps = Go skip values steps
-
-abbrev pub with_value : Option ℕ → List ℕ → ℕ → Next
-with_value None values steps = Undefined steps
-with_value (Some v) values steps = Go 0 (v ∷ values) steps
+abbrev pub with_value : Option ℕ → List ℕ → Next
+with_value None values = Undefined 0
+with_value (Some v) values = Go 0 (v ∷ values) 0
 
 -- an instruction at a count, with the number of the next one
-abbrev pub act : ℕ → Action → ℕ → List ℕ → ℕ → Next
-act n (Count begins) low values steps = Go 0 (n ∷ values) (steps + begins)
-act n (Number begins v) low values steps = Go 0 (v ∷ values) (steps + begins)
-act n (Wide begins high) low values steps = Go 1 ((high * 2 ^ 32 + low) ∷ values) (steps + begins)
-act n Not low (x ∷ values) steps = Go 0 (truth (is_zero x) ∷ values) steps
-act n (Binary op) low (y ∷ x ∷ values) steps = with_value (combined op x y) values steps
-act n (Branch op skip) low (x ∷ values) steps =
-    if needs_right op x then Go 0 (x ∷ values) steps else Go skip (short_circuit_value op ∷ values) steps
-act n (Choose skip) low (x ∷ values) steps = if is_zero x then Go skip values steps else Go 0 values steps
-act n (Jump skip) low values steps = Go skip values steps
-act n action low values steps = Undefined steps
+abbrev pub act : ℕ → Action → ℕ → List ℕ → Next
+act n (Count begins) low values = Go 0 (n ∷ values) begins
+act n (Number begins v) low values = Go 0 (v ∷ values) begins
+act n (Wide begins high) low values = Go 1 ((high * 2 ^ 32 + low) ∷ values) begins
+act n Not low (x ∷ values) = Go 0 (truth (is_zero x) ∷ values) 0
+act n (Binary op) low (y ∷ x ∷ values) = with_value (combined op x y) values
+act n (Branch op skip) low (x ∷ values) =
+    if needs_right op x then Go 0 (x ∷ values) 0 else Go skip (short_circuit_value op ∷ values) 0
+act n (Choose skip) low (x ∷ values) = Go (if is_zero x then skip else 0) values 0
+act n (Jump skip) low values = Go skip values 0
+act n action low values = Undefined 0
+
+-- the same from what the code says of the instruction
+abbrev pub left_with : Option ℕ → Effect → List ℕ → Next
+left_with None e values = Undefined e.begins
+left_with (Some v) e values = Go e.skip (v ∷ drop e.taken values) e.begins
+
+abbrev pub left_by : Effect → List ℕ → Next
+left_by e values = left_with e.value e values
 
 -- the value of a tree, and how many nodes are visited for it
 pub record Outcome : Type 0 where
@@ -47,14 +52,16 @@ abbrev pub newest_value : List ℕ → Option ℕ
 newest_value [] = None
 newest_value (v ∷ values) = Some v
 
-abbrev pub go_on : (ℕ → List ℕ → ℕ → Option Outcome) → Next → Option Outcome
-go_on go (Go skip values steps) = go skip values steps
-go_on go (Undefined steps) = Some (record { value = None; steps = steps })
+abbrev pub go_on : (ℕ → List ℕ → ℕ → Option Outcome) → ℕ → Next → Option Outcome
+go_on go steps (Go skip values begins) = go skip values (steps + begins)
+go_on go steps (Undefined begins) = Some (record { value = None; steps = steps + begins })
 
--- the outcome of a program at a count, from that behind `skip` instructions on; none where there is no room
--- for one more value before an instruction
+-- the outcome of a program at a count, from that behind `skip` instructions on; none where there aren't two
+-- values before an instruction, or no room for another one besides the newest
 abbrev pub run : ℕ → ℕ → List Instruction → ℕ → List ℕ → ℕ → Option Outcome
 run room n [] skip values steps = Some (record { value = newest_value values; steps = steps })
 run room n (i ∷ rest) (suc skip) values steps = run room n rest skip values steps
-run room n (i ∷ rest) zero values steps =
-    if nat_lt (length values) room then go_on (run room n rest) (act n (action_of i) (low_of rest) values steps) else None
+run room n (i ∷ rest) zero (y ∷ x ∷ older) steps =
+    if nat_lt (1 + length older) room then go_on (run room n rest) steps (act n (action_of i) (low_of rest) (y ∷ x ∷ older))
+    else None
+run room n (i ∷ rest) zero values steps = None

@@ -1,66 +1,48 @@
-use Rattle.std.proofs.Common.{◌≡◌, ◌+◌, List, ℕ, [], ◌∷◌, Option, None, Some, MatchOption, refl, drop, arith}
-use Rattle.plural_rule.specs.Program.{tree_of, low_of}
-use Rattle.plural_rule.specs.Internal.Run.{newest_value}
-use Rattle.plural_rule.specs.declared.instruction.Instruction.{Instruction}
-use Rattle.plural_rule.proofs.Programs.{starts, acts, running, ends}
+use Rattle.std.proofs.Common.{◌+◌, ◌-◌, ◌∷◌, length, drop, ap, ◌∙◌, sym, arith, length-drop, rules, ◌<◌}
+use Rattle.std.proofs.lemmas.List.{drop_all, length-replicate}
+use Rattle.plural_rule.specs.Program.{tree_of}
+use Rattle.plural_rule.specs.Internal.Run.{run}
+use Rattle.plural_rule.proofs.Programs.{stored, stored-cons, stored-after, starts, skips, ready}
 use Rattle.plural_rule.proofs.evaluator.evaluate_within.Goals as goal
-
-abbrev none : Instruction
-none = record { kind = 0; operator = 0; count = 0; number = 0 }
 
 pub loop-index-init : goal.loop-index-init
 loop-index-init g c = record {
-  running =
-      rw c.new-values.ensures (starts g.row.N c.args.count c.args.instructions.now (tree_of c.args.instructions.now) c.requires.program c.requires.room);
+  runs = starts g.row.N c.args.count _ _ c.args.instructions.now (tree_of c.args.instructions.now) c.requires.program c.requires.room;
+  some = λ h. omega arith;
+  inside = λ h. omega (arith, c.requires.room);
+  size = length-replicate g.row.N 0;
   bound = omega arith;
 }
 
+pub returns-in_default : goal.returns-in_default
+returns-in_default g c =
+    let loop = c.loop-index in
+    let before = ap (λ vs. run g.row.N c.args.count (drop loop.index c.args.instructions.now) 0 (loop.newest ∷ vs) loop.steps) (sym (stored-cons loop.stack loop.len (loop.invariant.some c.loop-index-test.true))) ∙ loop.invariant.runs in
+    let on = c.step-effect.ensures.next g.row.N (stored loop.stack (loop.len - 1)) loop.steps _ before in
+    let done = rw c.in_default.is at on in cc
+
 pub loop-index-preserved : goal.loop-index-preserved
 loop-index-preserved g c =
-    let on = acts none _ _ c.loop-index-test.true c.loop-index.invariant.running c.action-action.ensures c.in-Some-act.ensures.next in
-    record {
-      running = running (c.loop-index.index + 1) c.in-Some-act.skip refl on;
-      bound = omega (arith, c.act.ensures.bound, c.loop-index.invariant.bound);
-    }
-
-pub returns-in_default-act : goal.returns-in_default-act
-returns-in_default-act g c =
-    let on = acts none _ _ c.loop-index-test.true c.loop-index.invariant.running c.action-action.ensures c.in_default-act.ensures.next in cc
-
-pub loop-index-preserved-in_default-operator_at : goal.loop-index-preserved-in_default-operator_at
-loop-index-preserved-in_default-operator_at g c =
-    let on = acts none _ _ c.loop-index-test.true c.loop-index.invariant.running refl (c.in-Some.ensures.next _ c.loop-index.values c.loop-index.steps) in
-    record {
-      running = rw c.push.ensures (running (c.loop-index.index + 1) 0 (omega arith) on);
-      bound = omega (arith, c.loop-index.invariant.bound, c.leaf.ensures.fits);
-    }
-
-pub loop-index-preserved-in-Some : goal.loop-index-preserved-in-Some
-loop-index-preserved-in-Some g c =
+    let loop = c.loop-index in
     let code = c.args.instructions.now in
-    let i = c.loop-index.index + 1 in
-    let at = c.in-Some-operator_at.ensures in
-    let on = acts none _ _ c.loop-index-test.true c.loop-index.invariant.running refl (c.in-Some.ensures.next (low_of (drop i code)) c.loop-index.values c.loop-index.steps) in
-    let on' = acts none _ _ at.0 (running i 0 (omega arith) on) (at.1 none) (c.in-Some-apply.ensures c.args.count (low_of (drop (i + 1) code)) _) in
+    let e = c.step-effect.result in
+    let i = loop.index + 1 in
+    let some = loop.invariant.some c.loop-index-test.true in
+    let before = ap (λ vs. run g.row.N c.args.count (drop loop.index code) 0 (loop.newest ∷ vs) loop.steps) (sym (stored-cons loop.stack loop.len some)) ∙ loop.invariant.runs in
+    let on = rw c.in-Some.is at (c.step-effect.ensures.next g.row.N (stored loop.stack (loop.len - 1)) loop.steps _ before) in
+    let values = stored-after loop.stack loop.len loop.newest e.taken some (rw (← loop.invariant.size) at (loop.invariant.inside c.loop-index-test.true)) c.step-effect.ensures.taken in
+    let runs = ap (λ vs. run g.row.N c.args.count (drop (i + e.skip) code) 0 (c.in-Some.value ∷ vs) (loop.steps + e.begins)) (sym values ∙ ap (λ vs. drop e.taken (loop.newest ∷ vs)) (stored-cons loop.stack loop.len some))
+    ∙ skips g.row.N c.args.count code i e.skip _ _ on in
+    let there = λ (h : i + e.skip < length code). ready g.row.N c.args.count (drop (i + e.skip) code) _ _ _ _ (omega (arith, h, length-drop (i + e.skip) code)) runs in
     record {
-      running = running (i + 1) c.in-Some-apply.skip (omega arith) on';
-      bound = omega (arith, c.loop-index.invariant.bound, c.leaf.ensures.fits);
+      runs = runs;
+      some = λ h. (there h).some;
+      inside = λ h. (there h).inside;
+      size = search rules;
+      bound = omega (arith, loop.invariant.bound);
     }
-
-pub returns-in_default-apply : goal.returns-in_default-apply
-returns-in_default-apply g c =
-    let code = c.args.instructions.now in
-    let i = c.loop-index.index + 1 in
-    let at = c.in-Some-operator_at.ensures in
-    let on = acts none _ _ c.loop-index-test.true c.loop-index.invariant.running refl (c.in-Some.ensures.next (low_of (drop i code)) c.loop-index.values c.loop-index.steps) in
-    let on' = acts none _ _ at.0 (running i 0 (omega arith) on) (at.1 none) (c.in_default-apply.ensures c.args.count (low_of (drop (i + 1) code)) _) in
-    cc
-
-popped : (values new : List ℕ) (v : Option ℕ) → MatchOption v (values ≡ []) (λ value. values ≡ value ∷ new) → v ≡ newest_value values
-popped values new None h = rw h refl
-popped values new (Some v) h = rw h refl
 
 pub returns : goal.returns
 returns g c =
-    let value = popped c.loop-index.values c.pop.new.self c.pop.result c.pop.ensures in
-    rw value (ends c.loop-index-test.false c.loop-index.invariant.running)
+    let loop = c.loop-index in
+    let done = ap (λ p. run g.row.N c.args.count p 0 (loop.newest ∷ stored loop.stack loop.len) loop.steps) (sym (drop_all loop.index c.args.instructions.now c.loop-index-test.false)) ∙ loop.invariant.runs in cc
