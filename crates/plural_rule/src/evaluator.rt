@@ -99,8 +99,9 @@ fn step(instructions: &[Instruction], index: usize, count: u64, newest: u64, bel
     let Some(operand) = leaf(instruction, count) else {
         return act(
             instruction.action(),
+            instructions,
+            index + 1,
             count,
-            low_at(instructions, index + 1),
             newest,
             below,
         );
@@ -158,18 +159,27 @@ fn operator_at(instructions: &[Instruction], index: usize) -> Option<Operator>
     }
 }
 
-/// What an instruction does, where these are the newest values, and `low` is the number of the next
-/// instruction.
+/// What an instruction does, where these are the newest values, and the next one stands at an index.
 #[inline(always)]
-fn act(action: Action, count: u64, low: u32, newest: u64, below: u64) -> Effect
-    ensures next { (older : List ℕ) →
-        act count action low (newest ∷ below ∷ older) ≡ left_by result (newest ∷ below ∷ older) }
+fn act(
+    action: Action,
+    instructions: &[Instruction],
+    next: usize,
+    count: u64,
+    newest: u64,
+    below: u64,
+) -> Effect
+    ensures next { (older : List ℕ) → act count action (low_of (drop next instructions.now)) (newest ∷ below ∷ older)
+        ≡ left_by result (newest ∷ below ∷ older) }
     ensures taken { result.taken ≤ 2 }
 {
     let (value, taken, skip, begins) = match action {
         Action::Count(begins) => (Some(count), 0, 0, begins),
         Action::Number(begins, number) => (Some(number as u64), 0, 0, begins),
-        Action::Wide(begins, high) => (Some(high as u64 * 4294967296 + low as u64), 0, 1, begins),
+        Action::Wide(begins, high) => {
+            let low = low_at(instructions, next) as u64;
+            (Some(high as u64 * 4294967296 + low), 0, 1, begins)
+        }
         Action::Not => (Some(truth(newest == 0)), 1, 0, 0),
         Action::Binary(operator) => (operator.combined(below, newest), 2, 0, 0),
         Action::Branch(operator, skip) => {

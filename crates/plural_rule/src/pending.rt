@@ -1,7 +1,7 @@
 //! What waits for its last operand while an expression is read.
 ghost use Rattle.std.specs.Prelude.{◌≡◌, ◌<◌, ◌≤◌, [], ◌∷◌, length, ◌==◌, MatchOption};
 ghost use Rattle.plural_rule.specs.PluralRule.{expression_limit};
-ghost use Rattle.plural_rule.specs.Internal.Pending.{binds, pending_of, within};
+ghost use Rattle.plural_rule.specs.Internal.Pending.{binds, first_of, pending_of, within};
 
 use crate::operator::Operator;
 use std::marker::Model;
@@ -34,6 +34,16 @@ impl Pending {
         }
     }
 
+    /// Where the operand begins that it makes of one that begins at `start`.
+    pub(crate) fn first_of(self, start: u16) -> u16
+        ensures { result ≡ first_of self start }
+    {
+        match self {
+            Pending::Binary(_, first) | Pending::Question(first) | Pending::Colon(first) => first,
+            Pending::Open | Pending::Not => start,
+        }
+    }
+
     /// The number that stands for it: 12 bits for the index, and 4 for the rest.
     #[inline(always)]
     fn code(self) -> u16
@@ -45,7 +55,7 @@ impl Pending {
             Pending::Question(first) => 4096 + first % 4096,
             Pending::Colon(first) => 8192 + first % 4096,
             Pending::Binary(operator, first) => {
-                12288 + 4096 * operator.code() as u16 + first % 4096
+                4096 * (3 + operator.code() as u16) + first % 4096
             }
         }
     }

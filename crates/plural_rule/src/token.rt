@@ -1,4 +1,7 @@
 //! The tokens of a plural expression.
+ghost use Rattle.std.specs.Prelude.{◌≡◌};
+ghost use Rattle.plural_rule.specs.Internal.ShiftReduce.{closing_level};
+
 use crate::operator::Operator;
 
 /// A token of a plural expression.
@@ -20,4 +23,18 @@ pub(crate) enum Token {
     Open,
     /// `)`
     Close,
+}
+
+impl Token {
+    /// The level down to which an operand before it is completed: that of an operator of two operands.
+    /// `?:` groups to the right, so `?` leaves what waits after a `:`.
+    pub(crate) fn closing_level(self) -> u8
+        ensures { result ≡ closing_level self }
+    {
+        match self {
+            Token::Binary(operator) => operator.level(),
+            Token::Question => 1,
+            _ => 0,
+        }
+    }
 }

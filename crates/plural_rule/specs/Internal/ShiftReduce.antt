@@ -62,13 +62,21 @@ want_step stack NotToken = Some (Want (WaitNot ∷ stack))
 want_step stack Open = Some (Want (WaitOpen ∷ stack))
 want_step stack _ = None
 
+-- the level down to which an operand is completed before a token
+abbrev pub closing_level : Token → ℕ
+closing_level (BinaryToken op) = level op
+closing_level Question = 1
+closing_level _ = 0
+
+abbrev pub at_operator : Operand → Token → Option State
+at_operator o (BinaryToken op) = Some (Want (WaitBinary op o.tree ∷ o.stack))
+at_operator o Question = Some (Want (WaitQuestion o.tree ∷ o.stack))
+at_operator o Colon = at_colon o.stack o.tree
+at_operator o Close = at_close o.stack o.tree
+at_operator o _ = None
+
 abbrev pub have_step : List Waiting → Tree → Token → Option State
-have_step stack t (BinaryToken op) =
-    let o = reduce (level op) stack t in Some (Want (WaitBinary op o.tree ∷ o.stack))
-have_step stack t Question = let o = reduce 1 stack t in Some (Want (WaitQuestion o.tree ∷ o.stack))
-have_step stack t Colon = let o = reduce 0 stack t in at_colon o.stack o.tree
-have_step stack t Close = let o = reduce 0 stack t in at_close o.stack o.tree
-have_step stack t _ = None
+have_step stack t token = at_operator (reduce (closing_level token) stack t) token
 
 abbrev pub step : State → Token → Option State
 step (Want stack) token = want_step stack token
