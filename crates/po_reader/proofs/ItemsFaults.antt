@@ -5,7 +5,10 @@ use Rattle.po_syntax.specs.TextItem.{TextItem, line_of}
 use Rattle.po_entry.specs.TextEntry.{TextEntry}
 use Rattle.po_entry.specs.Spelling.{SpellsEntries}
 use Rattle.po_entry.specs.Viable.{IsViable, Misfit, index, mixed, order, ItemsFault, at, at_end, last_line}
-use Rattle.po_reader.proofs.Blocked.{shorter}
+
+-- what could become entries could do so from its prefix
+shorter : (items more : List TextItem) → IsViable (items ++ more) → IsViable items
+shorter items more viable = (more ++ viable.0, viable.1, subst (λ (i : List TextItem). SpellsEntries i viable.1) (append_assoc items more viable.0) viable.2)
 
 -- what reads is viable up to each of its items
 viable_up_to : (prefix : List TextItem) (item : TextItem) (rest : List TextItem) → IsViable (prefix ++ item ∷ rest) → IsViable (prefix ++ item ∷ [])

@@ -1,49 +1,31 @@
--- What is wrong with an item that a place refuses.
-use Rattle.std.proofs.Common.{◌≡◌, ◌≢◌, ℕ, Bool, true, false, not, ◌&&◌, ◌||◌, nat_lt, List, [], ◌∷◌, ◌++◌, refl, sym, ap, subst, ◌∙◌, true≢false}
+-- What is wrong with an item that is refused.
+use Rattle.std.proofs.Common.{◌≡◌, ◌≢◌, ℕ, Bool, true, false, ◌&&◌, nat_lt, List, [], ◌∷◌, ◌++◌, refl, sym, ap, subst, ◌∙◌, true≢false}
 use Rattle.std.specs.Prelude.{if◌then◌else◌}
 use Rattle.std.proofs.lemmas.Bool.{eqb-true, eqb-false, eq-eqb, ne_eqb}
 use Rattle.std.specs.Bool.{beq}
 use Rattle.std.specs.Cmp.{bool_eq_equiv}
 use Rattle.po_syntax.specs.declared.fault.PoFault.{PoFault}
 use Rattle.po_syntax.specs.declared.fault.PoFault.TheVariants.{BadOrder, BadPluralIndex, MixedObsolete}
-use Rattle.po_syntax.specs.declared.item.CommentKind.TheVariants.{Translator}
+use Rattle.po_syntax.specs.declared.item.CommentKind.{CommentKind}
 use Rattle.po_syntax.specs.declared.item.Keyword.{Keyword}
-use Rattle.po_syntax.specs.declared.item.Keyword.TheVariants.{MsgId, MsgStr, MsgStrAt}
+use Rattle.po_syntax.specs.declared.item.Keyword.TheVariants.{MsgStrAt}
 use Rattle.po_syntax.specs.declared.item.Marks.{Marks}
-use Rattle.po_syntax.specs.TextItem.{TextItem, Comment, Word, Str}
-use Rattle.po_entry.specs.Spelling.{own_marks}
+use Rattle.po_syntax.specs.TextItem.{TextItem, Comment, Word, Str, line_of}
 use Rattle.po_entry.specs.EntryParts.{rank}
-use Rattle.po_reader.specs.Internal.Strings as string
-use Rattle.po_reader.specs.Internal.Keywords as word
-use Rattle.po_reader.specs.Internal.Head as head
+use Rattle.po_entry.specs.Spelling.{own_marks, previous_marks}
 use Rattle.po_entry.specs.Viable.{IsViable, IsOwn, IsWrongIndex, IsMixed, with_obsolete, Misfit, index, mixed, order}
-use Rattle.po_reader.proofs.Steps.{keyword_reported, head_reported}
-use Rattle.po_reader.proofs.Blocked.{Point, AtString, AtKeyword, AtHead, Refuses, Accepts, Alike}
+use Rattle.po_reader.specs.Internal.Stage.{SoFar, Wanted, Id, Translation, Form, Gap, InHead, Before, AfterForm, Stage, Between, In, Stop, no_lines, with_entry}
+use Rattle.po_reader.specs.Internal.Turn.{turn, turn_gap, turn_head, turn_own, opened, closed, same_marks, stray_string, is_form, is_wanted, is_wrong_form, begins_body}
+use Rattle.po_reader.proofs.SameMarks.{marked}
+use Rattle.po_reader.proofs.SpeltRuns.{string_step}
+use Rattle.po_reader.proofs.Viability.{goes_on}
 
--- the item may not stand there, whatever follows
-abbrev pub Shuns : Point → TextItem → Type 0
-Shuns point item = (fault : PoFault) × ((rest : List TextItem) → Refuses point (item ∷ rest) fault)
+-- the item is refused with this fault, on its own line
+abbrev pub Refused : List TextItem → TextItem → PoFault → ℕ → Type 0
+Refused prefix item fault line = Misfit prefix item fault × (line ≡ line_of item)
 
--- what looks like the item and may not stand at the place could not follow the prefix
-abbrev pub NeverAfter : List TextItem → Point → TextItem → Type 0
-NeverAfter prefix point item = (other : TextItem) → Alike (item ∷ []) (other ∷ []) → Shuns point other → IsViable (prefix ++ other ∷ []) → ⊥
-
--- what may stand at the place could follow the prefix
-abbrev pub CouldFollow : List TextItem → Point → Type 0
-CouldFollow prefix point = (other : TextItem) → Accepts point other → IsViable (prefix ++ other ∷ [])
-
-obsolete_alike : (obsolete : Bool) (item : TextItem) → Alike (item ∷ []) (with_obsolete obsolete item ∷ [])
-obsolete_alike obsolete (Word (MsgStrAt found) marks line) = (refl, refl)
-obsolete_alike obsolete item = (refl, refl)
-
-not_mixed : (prefix : List TextItem) (point : Point) (item : TextItem) → NeverAfter prefix point item → ((obsolete : Bool) → IsOwn item → Shuns point (with_obsolete obsolete item)) → IsMixed prefix item → ⊥
-not_mixed prefix point item never shuns w = never (with_obsolete w.1.0 item) (obsolete_alike w.1.0 item) (shuns w.1.0 w.0) w.1.1
-
-not_index : (prefix : List TextItem) (point : Point) (item : TextItem) → NeverAfter prefix point item
-    → ((found other : ℕ) (obsolete : Bool) (marks : Marks) (line : ℕ) → item ≡ Word (MsgStrAt found) marks line → other ≢ found → Shuns point (Word (MsgStrAt other) (own_marks obsolete) line)) → IsWrongIndex prefix item → ⊥
-not_index prefix point (Word (MsgStrAt found) marks line) never shuns w =
-    never (Word (MsgStrAt w.1) (own_marks w.2) line) (refl, ap not w.0) (shuns found w.1 w.2 marks line refl w.3) w.4
-not_index prefix point item never shuns w = w
+refused : (prefix : List TextItem) (item : TextItem) (found fault : PoFault) (line : ℕ) → Stop found (line_of item) ≡ Stop fault line → Misfit prefix item found → Refused prefix item fault line
+refused prefix item found fault line e misfit = let same : found ≡ fault = cc in (subst (Misfit prefix item) same misfit, cc)
 
 index_own : (prefix : List TextItem) (item : TextItem) → IsWrongIndex prefix item → IsOwn item
 index_own prefix (Word (MsgStrAt found) marks line) w = w.0
@@ -53,147 +35,173 @@ index_own prefix item w = absurd w
 foreign : (prefix : List TextItem) (item : TextItem) → (IsOwn item → ⊥) → Misfit prefix item BadOrder
 foreign prefix item not_own = order (λ w. not_own (index_own prefix item w)) (λ w. not_own w.0)
 
-not_both : {p : Bool} → p ≡ true → p ≡ false → ⊥
-not_both t f = true≢false (sym t ∙ f)
+-- what own keywords could follow the prefix on this line, by the step from there, among forms or among other keywords
+record Words (prefix : List TextItem) (form : Bool) (line : ℕ) (step : TextItem → Stage) : Type 0 where
+  could : (keyword : Keyword) (obsolete : Bool) → is_form (Word keyword (own_marks obsolete) line) ≡ form → goes_on (step (Word keyword (own_marks obsolete) line)) ≡ true → IsViable (prefix ++ Word keyword (own_marks obsolete) line ∷ [])
+  never : (keyword : Keyword) (obsolete : Bool) → is_form (Word keyword (own_marks obsolete) line) ≡ form → goes_on (step (Word keyword (own_marks obsolete) line)) ≡ false → IsViable (prefix ++ Word keyword (own_marks obsolete) line ∷ []) → ⊥
 
-unlike : (a p q : Bool) → p ≡ true → q ≡ false → (a && beq p q) ≡ false
-unlike true true false e f = refl
-unlike false true false e f = refl
-unlike a false q e f = cc
-unlike a true true e f = cc
+one_form : (keyword : Keyword) (o p : Bool) (line : ℕ) → is_form (Word keyword (own_marks o) line) ≡ is_form (Word keyword (own_marks p) line)
+one_form (MsgStrAt number) o p line = refl
+one_form keyword o p line = refl
 
-like : (a p q : Bool) → p ≡ false → q ≡ false → (beq a a && beq p q) ≡ true
-like true false false e f = refl
-like false false false e f = refl
-like a true q e f = cc
-like a false true e f = cc
+no_index : (prefix : List TextItem) (form : Bool) (line : ℕ) (step : TextItem → Stage) (keyword : Keyword) (obsolete : Bool) → Words prefix form line step → is_form (Word keyword (own_marks obsolete) line) ≡ form
+    → ((found other : ℕ) (o : Bool) → keyword ≡ MsgStrAt found → other ≢ found → goes_on (step (Word (MsgStrAt other) (own_marks o) line)) ≡ false) → IsWrongIndex prefix (Word keyword (own_marks obsolete) line) → ⊥
+no_index prefix form line step (MsgStrAt found) obsolete words is none w = words.never (MsgStrAt w.1) w.2 is (none found w.1 w.2 refl w.3) w.4
+no_index prefix form line step keyword obsolete words is none w = w
 
-string_misfit : (prefix : List TextItem) (marks found : Marks) (bytes : List ℕ) (line : ℕ) (rest : List TextItem) (fault : PoFault) → NeverAfter prefix (AtString marks) (Str bytes found line) → CouldFollow prefix (AtString marks)
-    → string.string_step marks (Str bytes found line ∷ rest) ≡ string.Refuse fault → Misfit prefix (Str bytes found line) fault
-string_misfit prefix marks found bytes line rest fault never could e = chosen (string.same_marks marks found) e where
-  kind : (p q : Bool) → marks.previous ≡ p → found.previous ≡ q → Misfit prefix (Str bytes found line) (if p || q then BadOrder else MixedObsolete)
-  kind p true e f = subst (λ (s : Bool). Misfit prefix (Str bytes found line) (if s then BadOrder else MixedObsolete)) (sym (either p)) (foreign prefix (Str bytes found line) (not_both f)) where
-    either : (p : Bool) → (p || true) ≡ true
-    either true = refl
-    either false = refl
-  kind true false e f =
-      order (λ w. w)
-      (not_mixed prefix (AtString marks) (Str bytes found line) never (λ obsolete own. (_, λ others. ap (λ (s : Bool). if s then string.Take bytes others else string.Refuse (string.stray_string marks (record { obsolete = obsolete; previous = found.previous }))) (unlike (beq marks.obsolete obsolete) marks.previous found.previous e f))))
-  kind false false e f =
-      mixed (λ w. w)
-      (f, (marks.obsolete, could (with_obsolete marks.obsolete (Str bytes found line)) (bytes, λ others. ap (λ (s : Bool). if s then string.Take bytes others else string.Refuse (string.stray_string marks (record { obsolete = marks.obsolete; previous = found.previous }))) (like marks.obsolete marks.previous found.previous e f))))
+no_mark : (prefix : List TextItem) (form : Bool) (line : ℕ) (step : TextItem → Stage) (keyword : Keyword) (obsolete : Bool) → Words prefix form line step → is_form (Word keyword (own_marks obsolete) line) ≡ form
+    → ((o : Bool) → goes_on (step (Word keyword (own_marks o) line)) ≡ false) → IsMixed prefix (Word keyword (own_marks obsolete) line) → ⊥
+no_mark prefix form line step keyword obsolete words is none w = words.never keyword w.1.0 (one_form keyword w.1.0 obsolete line ∙ is) (none w.1.0) w.1.1
 
-  chosen : (s : Bool) → (if s then string.Take bytes rest else string.Refuse (string.stray_string marks found)) ≡ string.Refuse fault → Misfit prefix (Str bytes found line) fault
-  chosen true q = absurd cc
-  chosen false q = let same : string.stray_string marks found ≡ fault = cc in subst (λ (f : PoFault). Misfit prefix (Str bytes found line) f) same (kind marks.previous found.previous refl refl)
-
-keyword_accepted : (wanted : word.Wanted) (obsolete : Bool) (keyword : Keyword) (marks : Marks) (line : ℕ) → marks.obsolete ≡ obsolete → marks.previous ≡ false → word.is_wanted wanted keyword ≡ true → Accepts (AtKeyword wanted obsolete) (Word keyword marks line)
-keyword_accepted wanted obsolete keyword marks line o p w = (keyword, line, λ rest. reported rest marks.previous (word.is_wanted wanted keyword) (beq obsolete marks.obsolete) p w (ap (beq obsolete) o ∙ bool_eq_equiv.refl obsolete)) where
-  reported : (rest : List TextItem) (p w s : Bool) → p ≡ false → w ≡ true → s ≡ true → keyword_reported p w s (word.is_wrong_form wanted keyword) keyword line rest ≡ word.Take keyword line rest
-  reported rest true w s p q r = cc
-  reported rest false true true p q r = refl
-  reported rest false false s p q r = cc
-  reported rest false true false p q r = cc
-
-keyword_shunned : (wanted : word.Wanted) (obsolete : Bool) (keyword : Keyword) (marks : Marks) (line : ℕ) → word.is_wanted wanted keyword ≡ false → Shuns (AtKeyword wanted obsolete) (Word keyword marks line)
-keyword_shunned wanted obsolete keyword marks line w = reported marks.previous (word.is_wanted wanted keyword) (word.is_wrong_form wanted keyword) w where
-  reported : (p w f : Bool) → w ≡ false → (fault : PoFault) × ((rest : List TextItem) → keyword_reported p w (beq obsolete marks.obsolete) f keyword line rest ≡ word.Refuse fault)
-  reported true w f q = (BadOrder, λ rest. refl)
-  reported false true f q = cc
-  reported false false true q = (BadPluralIndex, λ rest. refl)
-  reported false false false q = (BadOrder, λ rest. refl)
+shunned : (read : SoFar) (wanted : Wanted) (keyword : Keyword) (obsolete : Bool) (line : ℕ) → is_wanted wanted keyword ≡ false → goes_on (turn_own read wanted (Word keyword (own_marks obsolete) line)) ≡ false
+shunned read wanted keyword obsolete line w = chosen (is_wanted wanted keyword) (is_wrong_form wanted keyword) w where
+  chosen : (w f : Bool) → w ≡ false → goes_on (if w then (if beq read.own.obsolete obsolete then opened read read.own keyword line else Stop MixedObsolete line) else if f then Stop BadPluralIndex line else Stop BadOrder line) ≡ false
+  chosen true f e = cc
+  chosen false true e = refl
+  chosen false false e = refl
 
 -- where a form is wanted and stands, no other index would do
-only_index : (wanted : word.Wanted) (found other : ℕ) → word.is_wanted wanted (MsgStrAt found) ≡ true → other ≢ found → word.is_wanted wanted (MsgStrAt other) ≡ false
-only_index word.Id found other w ne = refl
-only_index word.Translation found other w ne = refl
-only_index (word.Form n) found other w ne = ne_eqb other n (λ e. ne (e ∙ sym (eqb-true found n w)))
+only_index : (wanted : Wanted) (found other : ℕ) → is_wanted wanted (MsgStrAt found) ≡ true → other ≢ found → is_wanted wanted (MsgStrAt other) ≡ false
+only_index Id found other w ne = refl
+only_index Translation found other w ne = refl
+only_index (Form n) found other w ne = ne_eqb other n (λ e. ne (e ∙ sym (eqb-true found n w)))
 
 -- where no form is wanted, no index would do
-no_index : (wanted : word.Wanted) (found other : ℕ) → word.is_wrong_form wanted (MsgStrAt found) ≡ false → word.is_wanted wanted (MsgStrAt other) ≡ false
-no_index word.Id found other f = refl
-no_index word.Translation found other f = refl
-no_index (word.Form n) found other f = cc
+other_wanted : (wanted : Wanted) (found other : ℕ) → is_wrong_form wanted (MsgStrAt found) ≡ false → is_wanted wanted (MsgStrAt other) ≡ false
+other_wanted Id found other f = refl
+other_wanted Translation found other f = refl
+other_wanted (Form n) found other f = cc
 
 -- where another form is wanted, its index would do
-other_index : (prefix : List TextItem) (wanted : word.Wanted) (obsolete : Bool) (keyword : Keyword) (marks : Marks) (line : ℕ) → CouldFollow prefix (AtKeyword wanted obsolete) → marks.previous ≡ false → word.is_wanted wanted keyword ≡ false
-    → word.is_wrong_form wanted keyword ≡ true → IsWrongIndex prefix (Word keyword marks line)
-other_index prefix (word.Form n) obsolete (MsgStrAt found) marks line could p w f =
-    (p, n, obsolete, λ e. eqb-false found n w (sym e), could (Word (MsgStrAt n) (own_marks obsolete) line) (keyword_accepted (word.Form n) obsolete (MsgStrAt n) (own_marks obsolete) line refl refl (eq-eqb n n refl)))
-other_index prefix wanted obsolete keyword marks line could p w f = absurd cc
+other_index : (prefix : List TextItem) (form : Bool) (line : ℕ) (read : SoFar) (wanted : Wanted) (keyword : Keyword) (obsolete : Bool) → Words prefix form line (turn_own read wanted)
+    → is_form (Word keyword (own_marks obsolete) line) ≡ form → is_wanted wanted keyword ≡ false → is_wrong_form wanted keyword ≡ true → IsWrongIndex prefix (Word keyword (own_marks obsolete) line)
+other_index prefix form line read (Form n) (MsgStrAt found) obsolete words is w f =
+    (refl, n, read.own.obsolete, λ e. eqb-false found n w (sym e), words.could (MsgStrAt n) read.own.obsolete is (rw (eq-eqb n n refl, bool_eq_equiv.refl read.own.obsolete) refl))
+other_index prefix form line read wanted keyword obsolete words is w f = absurd cc
 
-abbrev keyword_of : TextItem → Keyword → Keyword
-keyword_of (Word keyword marks line) other = keyword
-keyword_of (Comment kind text line) other = other
-keyword_of (Str bytes marks line) other = other
+own_refused : (prefix : List TextItem) (form : Bool) (line : ℕ) (read : SoFar) (wanted : Wanted) (keyword : Keyword) (obsolete : Bool) (fault : PoFault) (at : ℕ) → Words prefix form line (turn_own read wanted)
+    → is_form (Word keyword (own_marks obsolete) line) ≡ form → turn_own read wanted (Word keyword (own_marks obsolete) line) ≡ Stop fault at → Refused prefix (Word keyword (own_marks obsolete) line) fault at
+own_refused prefix form line read wanted keyword obsolete fault at words is e = chosen (is_wanted wanted keyword) refl (beq read.own.obsolete obsolete) (is_wrong_form wanted keyword) refl e where
+  chosen : (w : Bool) → is_wanted wanted keyword ≡ w → (s f : Bool) → is_wrong_form wanted keyword ≡ f
+      → (if w then (if s then opened read read.own keyword line else Stop MixedObsolete line) else if f then Stop BadPluralIndex line else Stop BadOrder line) ≡ Stop fault at → Refused prefix (Word keyword (own_marks obsolete) line) fault at
+  chosen true w true f g e = absurd cc
+  chosen true w false f g e =
+      refused prefix (Word keyword (own_marks obsolete) line) MixedObsolete fault at e
+      (mixed (no_index prefix form line (turn_own read wanted) keyword obsolete words is (λ found other o same ne. shunned read wanted (MsgStrAt other) o line (only_index wanted found other (subst (λ k. is_wanted wanted k ≡ true) same w) ne)))
+      (refl, (read.own.obsolete, words.could keyword read.own.obsolete (one_form keyword read.own.obsolete obsolete line ∙ is) (rw (w, bool_eq_equiv.refl read.own.obsolete) refl))))
+  chosen false w s true g e = refused prefix (Word keyword (own_marks obsolete) line) BadPluralIndex fault at e (index (other_index prefix form line read wanted keyword obsolete words is w g))
+  chosen false w s false g e =
+      refused prefix (Word keyword (own_marks obsolete) line) BadOrder fault at e
+      (order (no_index prefix form line (turn_own read wanted) keyword obsolete words is (λ found other o same ne. shunned read wanted (MsgStrAt other) o line (other_wanted wanted found other (subst (λ k. is_wrong_form wanted k ≡ false) same g))))
+      (no_mark prefix form line (turn_own read wanted) keyword obsolete words is (λ o. shunned read wanted keyword o line w)))
 
-keyword_misfit : (prefix : List TextItem) (wanted : word.Wanted) (obsolete : Bool) (keyword : Keyword) (marks : Marks) (line : ℕ) (rest : List TextItem) (fault : PoFault) → NeverAfter prefix (AtKeyword wanted obsolete) (Word keyword marks line)
-    → CouldFollow prefix (AtKeyword wanted obsolete) → word.next_keyword wanted obsolete (Word keyword marks line ∷ rest) ≡ word.Refuse fault → Misfit prefix (Word keyword marks line) fault
-keyword_misfit prefix wanted obsolete keyword marks line rest fault never could e =
-    chosen marks.previous refl (word.is_wanted wanted keyword) refl (beq obsolete marks.obsolete) (word.is_wrong_form wanted keyword) refl e where
-      reported : {other : PoFault} → word.Refuse other ≡ word.Refuse fault → Misfit prefix (Word keyword marks line) other → Misfit prefix (Word keyword marks line) fault
-      reported {other} q misfit = let same : other ≡ fault = cc in subst (λ (f : PoFault). Misfit prefix (Word keyword marks line) f) same misfit
+head_refused : (prefix : List TextItem) (form : Bool) (line : ℕ) (read : SoFar) (above : ℕ) (keyword : Keyword) (obsolete : Bool) (fault : PoFault) (at : ℕ) → Words prefix form line (turn_head read above)
+    → is_form (Word keyword (own_marks obsolete) line) ≡ form → turn_head read above (Word keyword (own_marks obsolete) line) ≡ Stop fault at → Refused prefix (Word keyword (own_marks obsolete) line) fault at
+head_refused prefix form line read above keyword obsolete fault at words is e = chosen (begins_body keyword) refl e where
+  chosen : (b : Bool) → begins_body keyword ≡ b → (if b then opened read (no_lines obsolete) keyword line else Stop BadOrder line) ≡ Stop fault at → Refused prefix (Word keyword (own_marks obsolete) line) fault at
+  chosen true b e = absurd cc
+  chosen false b e =
+      refused prefix (Word keyword (own_marks obsolete) line) BadOrder fault at e
+      (order (no_index prefix form line (turn_head read above) keyword obsolete words is (λ found other o same ne. refl)) (no_mark prefix form line (turn_head read above) keyword obsolete words is (λ o. rw b refl)))
 
-      chosen : (p : Bool) → marks.previous ≡ p → (w : Bool) → word.is_wanted wanted keyword ≡ w → (s f : Bool) → word.is_wrong_form wanted keyword ≡ f → keyword_reported p w s f keyword line rest ≡ word.Refuse fault → Misfit prefix (Word keyword marks line) fault
-      chosen true p w e s f g q = reported q (foreign prefix (Word keyword marks line) (not_both p))
-      chosen false p true w true f g q = absurd cc
-      chosen false p true w false f g q =
-          reported q
-          (mixed (not_index prefix (AtKeyword wanted obsolete) (Word keyword marks line) never (λ found other o m l same ne. keyword_shunned wanted obsolete (MsgStrAt other) (own_marks o) l (only_index wanted found other (subst (λ (i : TextItem). word.is_wanted wanted (keyword_of i keyword) ≡ true) same w) ne)))
-          (p, (obsolete, could (with_obsolete obsolete (Word keyword marks line)) (keyword_accepted wanted obsolete keyword (record { obsolete = obsolete; previous = marks.previous }) line refl p w))))
-      chosen false p false w s true g q = reported q (index (other_index prefix wanted obsolete keyword marks line could p w g))
-      chosen false p false w s false g q =
-          reported q
-          (order (not_index prefix (AtKeyword wanted obsolete) (Word keyword marks line) never (λ found other o m l same ne. keyword_shunned wanted obsolete (MsgStrAt other) (own_marks o) l (no_index wanted found other (subst (λ (i : TextItem). word.is_wrong_form wanted (keyword_of i keyword) ≡ false) same g))))
-          (not_mixed prefix (AtKeyword wanted obsolete) (Word keyword marks line) never (λ o own. keyword_shunned wanted obsolete keyword (record { obsolete = o; previous = marks.previous }) line w)))
+own_word : (prefix : List TextItem) (gap : Gap) (keyword : Keyword) (obsolete : Bool) (line : ℕ) (fault : PoFault) (at : ℕ) → ((form : Bool) → Words prefix form line (turn_gap gap))
+    → turn_gap gap (Word keyword (own_marks obsolete) line) ≡ Stop fault at → Refused prefix (Word keyword (own_marks obsolete) line) fault at
+own_word prefix (InHead read above) keyword obsolete line fault at words e = head_refused prefix _ line read above keyword obsolete fault at (words _) refl e
+own_word prefix (Before read wanted) keyword obsolete line fault at words e = own_refused prefix _ line read wanted keyword obsolete fault at (words _) refl e
+own_word prefix (AfterForm read number) keyword obsolete line fault at words e = chosen (is_form (Word keyword (own_marks obsolete) line)) refl e where
+  chosen : (b : Bool) → is_form (Word keyword (own_marks obsolete) line) ≡ b
+      → (if b then turn_own read (Form number) (Word keyword (own_marks obsolete) line) else turn_head (with_entry read) 0 (Word keyword (own_marks obsolete) line)) ≡ Stop fault at
+      → Refused prefix (Word keyword (own_marks obsolete) line) fault at
+  chosen true is e =
+      own_refused prefix true line read (Form number) keyword obsolete fault at
+      (record { could = λ k o f goes. (words true).could k o f (rw f goes); never = λ k o f stops. (words true).never k o f (rw f stops) }) is e
+  chosen false is e =
+      head_refused prefix false line (with_entry read) 0 keyword obsolete fault at
+      (record { could = λ k o f goes. (words false).could k o f (rw f goes); never = λ k o f stops. (words false).never k o f (rw f stops) }) is e
 
-head_misfit : (prefix : List TextItem) (above : ℕ) (keyword : Keyword) (marks : Marks) (line : ℕ) (rest : List TextItem) (fault : PoFault) → NeverAfter prefix (AtHead above) (Word keyword marks line)
-    → head.head_step above (Word keyword marks line ∷ rest) ≡ head.Refuse fault → Misfit prefix (Word keyword marks line) fault
-head_misfit prefix above keyword marks line rest fault never e = chosen marks.previous refl (nat_lt above (rank keyword)) (head.begins_body keyword) refl e where
-  reported : head.Refuse BadOrder ≡ head.Refuse fault → Misfit prefix (Word keyword marks line) BadOrder → Misfit prefix (Word keyword marks line) fault
-  reported q misfit = let same : BadOrder ≡ fault = cc in subst (λ (f : PoFault). Misfit prefix (Word keyword marks line) f) same misfit
+previous_in_head : (prefix : List TextItem) (read : SoFar) (above : ℕ) (keyword : Keyword) (obsolete : Bool) (line : ℕ) (fault : PoFault) (at : ℕ) → turn_head read above (Word keyword (previous_marks obsolete) line) ≡ Stop fault at
+    → Refused prefix (Word keyword (previous_marks obsolete) line) fault at
+previous_in_head prefix read above keyword obsolete line fault at e = ranked (nat_lt above (rank keyword)) e where
+  ranked : (b : Bool) → (if b then In read keyword (previous_marks obsolete) false [] else Stop BadOrder line) ≡ Stop fault at → Refused prefix (Word keyword (previous_marks obsolete) line) fault at
+  ranked true e = absurd cc
+  ranked false e = refused prefix (Word keyword (previous_marks obsolete) line) BadOrder fault at e (foreign prefix (Word keyword (previous_marks obsolete) line) (λ own. true≢false own))
 
-  shunned : (p b : Bool) → p ≡ false → b ≡ false → (m : Marks) (others : List TextItem)
-      → head_reported p (nat_lt above (rank keyword)) b keyword m others ≡ head.Refuse BadOrder
-  shunned true b p q m others = cc
-  shunned false true p q m others = cc
-  shunned false false p q m others = refl
+no_form : (keyword : Keyword) (obsolete : Bool) (line : ℕ) → is_form (Word keyword (previous_marks obsolete) line) ≡ false
+no_form (MsgStrAt number) obsolete line = refl
+no_form keyword obsolete line = refl
 
-  chosen : (p : Bool) → marks.previous ≡ p → (r b : Bool) → head.begins_body keyword ≡ b
-      → head_reported p r b keyword marks rest ≡ head.Refuse fault → Misfit prefix (Word keyword marks line) fault
-  chosen true p true b g q = absurd cc
-  chosen true p false b g q = reported q (foreign prefix (Word keyword marks line) (not_both p))
-  chosen false p r true g q = absurd cc
-  chosen false p r false g q =
-      reported q
-      (order (not_index prefix (AtHead above) (Word keyword marks line) never (λ found other o m l same ne. (BadOrder, λ others. refl)))
-      (not_mixed prefix (AtHead above) (Word keyword marks line) never (λ o own. (BadOrder, λ others. shunned marks.previous (head.begins_body keyword) p g (record { obsolete = o; previous = marks.previous }) others))))
+previous_word : (prefix : List TextItem) (gap : Gap) (keyword : Keyword) (obsolete : Bool) (line : ℕ) (fault : PoFault) (at : ℕ) → turn_gap gap (Word keyword (previous_marks obsolete) line) ≡ Stop fault at
+    → Refused prefix (Word keyword (previous_marks obsolete) line) fault at
+previous_word prefix (InHead read above) keyword obsolete line fault at e = previous_in_head prefix read above keyword obsolete line fault at e
+previous_word prefix (Before read wanted) keyword obsolete line fault at e = refused prefix (Word keyword (previous_marks obsolete) line) BadOrder fault at e (foreign prefix (Word keyword (previous_marks obsolete) line) (λ own. true≢false own))
+previous_word prefix (AfterForm read number) keyword obsolete line fault at e = previous_in_head prefix (with_entry read) 0 keyword obsolete line fault at (rw (no_form keyword obsolete line) at e)
 
--- an item that is out of order wherever it stands
-stray : (prefix : List TextItem) (point : Point) (item : TextItem) (fault : PoFault) → BadOrder ≡ fault → NeverAfter prefix point item
-    → ((found other : ℕ) (obsolete : Bool) (marks : Marks) (line : ℕ) → item ≡ Word (MsgStrAt found) marks line → other ≢ found → Shuns point (Word (MsgStrAt other) (own_marks obsolete) line))
-    → ((obsolete : Bool) → IsOwn item → Shuns point (with_obsolete obsolete item)) → Misfit prefix item fault
-stray prefix point item fault e never other obsolete = subst (λ (f : PoFault). Misfit prefix item f) e (order (not_index prefix point item never other) (not_mixed prefix point item never obsolete))
+word_refused : (prefix : List TextItem) (gap : Gap) (keyword : Keyword) (o p : Bool) (line : ℕ) (fault : PoFault) (at : ℕ) → ((form : Bool) → Words prefix form line (turn_gap gap))
+    → turn_gap gap (Word keyword (record { obsolete = o; previous = p }) line) ≡ Stop fault at → Refused prefix (Word keyword (record { obsolete = o; previous = p }) line) fault at
+word_refused prefix gap keyword o true line fault at words e = previous_word prefix gap keyword o line fault at e
+word_refused prefix gap keyword o false line fault at words e = own_word prefix gap keyword o line fault at words e
 
-pub misfit_at : (prefix : List TextItem) (point : Point) (item : TextItem) (rest : List TextItem) (fault : PoFault) → NeverAfter prefix point item → CouldFollow prefix point → Refuses point (item ∷ rest) fault → Misfit prefix item fault
-misfit_at prefix (AtString marks) (Comment kind text line) rest fault never could e = stray prefix (AtString marks) (Comment kind text line) fault (cc) never (λ f o b m l same ne. (BadOrder, λ others. refl)) (λ o own. absurd own)
-misfit_at prefix (AtString marks) (Word keyword found line) rest fault never could e = stray prefix (AtString marks) (Word keyword found line) fault (cc) never (λ f o b m l same ne. (BadOrder, λ others. refl)) (λ o own. (BadOrder, λ others. refl))
-misfit_at prefix (AtString marks) (Str bytes found line) rest fault never could e = string_misfit prefix marks found bytes line rest fault never could e
-misfit_at prefix (AtKeyword wanted obsolete) (Comment kind text line) rest fault never could e = subst (λ (f : PoFault). Misfit prefix (Comment kind text line) f) (cc) (foreign prefix (Comment kind text line) (λ own. own))
-misfit_at prefix (AtKeyword wanted obsolete) (Word keyword marks line) rest fault never could e = keyword_misfit prefix wanted obsolete keyword marks line rest fault never could e
-misfit_at prefix (AtKeyword wanted obsolete) (Str bytes marks line) rest fault never could e = subst (λ (f : PoFault). Misfit prefix (Str bytes marks line) f) (cc) (order (λ w. w) (not_mixed prefix (AtKeyword wanted obsolete) (Str bytes marks line) never (λ o own. (BadOrder, λ others. refl))))
-misfit_at prefix (AtHead above) (Comment kind text line) rest fault never could e = absurd cc
-misfit_at prefix (AtHead above) (Word keyword marks line) rest fault never could e = head_misfit prefix above keyword marks line rest fault never e
-misfit_at prefix (AtHead above) (Str bytes marks line) rest fault never could e = stray prefix (AtHead above) (Str bytes marks line) fault (cc) never (λ f o b m l same ne. (BadOrder, λ others. refl)) (λ o own. (BadOrder, λ others. refl))
+comment_refused : (prefix : List TextItem) (gap : Gap) (kind : CommentKind) (text : List ℕ) (line : ℕ) (fault : PoFault) (at : ℕ) → turn_gap gap (Comment kind text line) ≡ Stop fault at → Refused prefix (Comment kind text line) fault at
+comment_refused prefix (InHead read above) kind text line fault at e = absurd cc
+comment_refused prefix (Before read wanted) kind text line fault at e = refused prefix (Comment kind text line) BadOrder fault at e (foreign prefix (Comment kind text line) (λ own. own))
+comment_refused prefix (AfterForm read number) kind text line fault at e = absurd cc
 
--- some item may stand at any place
-pub stands : (point : Point) → (item : TextItem) × Accepts point item
-stands (AtString marks) =
-    (Str [] marks 0, ([], λ rest. ap (λ (s : Bool). if s then string.Take [] rest else string.Refuse (string.stray_string marks marks)) (both (beq marks.obsolete marks.obsolete) (beq marks.previous marks.previous) (bool_eq_equiv.refl marks.obsolete) (bool_eq_equiv.refl marks.previous)))) where
-      both : (a b : Bool) → a ≡ true → b ≡ true → (a && b) ≡ true
-      both true b e f = f
-      both false b e f = e
-stands (AtKeyword word.Id obsolete) = (Word MsgId (own_marks obsolete) 0, keyword_accepted word.Id obsolete MsgId (own_marks obsolete) 0 refl refl refl)
-stands (AtKeyword word.Translation obsolete) = (Word MsgStr (own_marks obsolete) 0, keyword_accepted word.Translation obsolete MsgStr (own_marks obsolete) 0 refl refl refl)
-stands (AtKeyword (word.Form n) obsolete) = (Word (MsgStrAt n) (own_marks obsolete) 0, keyword_accepted (word.Form n) obsolete (MsgStrAt n) (own_marks obsolete) 0 refl refl (eq-eqb n n refl))
-stands (AtHead above) = (Comment Translator [] 0, (Translator, [], λ rest. refl))
+-- a string that no keyword precedes
+string_out : (gap : Gap) (bytes : List ℕ) (marks : Marks) (line : ℕ) → turn_gap gap (Str bytes marks line) ≡ Stop BadOrder line
+string_out (InHead read above) bytes marks line = refl
+string_out (Before read wanted) bytes marks line = refl
+string_out (AfterForm read number) bytes marks line = refl
+
+-- what could follow the prefix, by the step from its place
+abbrev Could : List TextItem → Stage → Type 0
+Could prefix stage = (item : TextItem) → goes_on (turn stage item) ≡ true → IsViable (prefix ++ item ∷ [])
+
+abbrev Never : List TextItem → Stage → Type 0
+Never prefix stage = (item : TextItem) → goes_on (turn stage item) ≡ false → IsViable (prefix ++ item ∷ []) → ⊥
+
+unlike : (read : SoFar) (keyword : Keyword) (marks : Marks) (text : List ℕ) (line : ℕ) (fault : PoFault) (same : Bool) → goes_on (if same && false then In read keyword marks true text else Stop fault line) ≡ false
+unlike read keyword marks text line fault true = refl
+unlike read keyword marks text line fault false = refl
+
+stray : (prefix : List TextItem) (read : SoFar) (keyword : Keyword) (some : Bool) (text bytes : List ℕ) (line : ℕ) (a p b q : Bool) → Could prefix (In read keyword (marked a p) some text) → Never prefix (In read keyword (marked a p) some text)
+    → Misfit prefix (Str bytes (marked b q) line) (stray_string (marked a p) (marked b q))
+stray prefix read keyword some text bytes line a true b true could never = foreign prefix (Str bytes (previous_marks b) line) (λ own. true≢false own)
+stray prefix read keyword some text bytes line a false b true could never = foreign prefix (Str bytes (previous_marks b) line) (λ own. true≢false own)
+stray prefix read keyword some text bytes line a true b false could never =
+    order (λ w. w) (λ w. never (Str bytes (own_marks w.1.0) line) (unlike read keyword (previous_marks a) (text ++ bytes) line _ (beq a w.1.0)) w.1.1)
+stray prefix read keyword some text bytes line a false b false could never =
+    mixed (λ w. w) (refl, (a, could (Str bytes (own_marks a) line) (ap goes_on (string_step read keyword (own_marks a) some text bytes line))))
+
+string_refused : (prefix : List TextItem) (read : SoFar) (keyword : Keyword) (marks : Marks) (some : Bool) (text bytes : List ℕ) (found : Marks) (line : ℕ) (fault : PoFault) (at : ℕ) → Could prefix (In read keyword marks some text)
+    → Never prefix (In read keyword marks some text) → turn (In read keyword marks some text) (Str bytes found line) ≡ Stop fault at → Refused prefix (Str bytes found line) fault at
+string_refused prefix read keyword marks some text bytes found line fault at could never e = chosen (same_marks marks found) e where
+  chosen : (same : Bool) → (if same then In read keyword marks true (text ++ bytes) else Stop (stray_string marks found) line) ≡ Stop fault at → Refused prefix (Str bytes found line) fault at
+  chosen true e = absurd cc
+  chosen false e =
+      refused prefix (Str bytes found line) (stray_string marks found) fault at e
+      (stray prefix read keyword some text bytes line marks.obsolete marks.previous found.obsolete found.previous could never)
+
+-- a keyword where a string is wanted
+no_word : (prefix : List TextItem) (read : SoFar) (keyword : Keyword) (marks : Marks) (text : List ℕ) (other : Keyword) (o p : Bool) (line : ℕ) → Never prefix (In read keyword marks false text) → Misfit prefix (Word other (marked o p) line) BadOrder
+no_word prefix read keyword marks text other o true line never = foreign prefix (Word other (previous_marks o) line) (λ own. true≢false own)
+no_word prefix read keyword marks text other o false line never =
+    order (λ w. wrong other w) (λ w. never (Word other (own_marks w.1.0) line) refl w.1.1) where
+      wrong : (other : Keyword) → IsWrongIndex prefix (Word other (own_marks o) line) → ⊥
+      wrong (MsgStrAt found) w = never (Word (MsgStrAt w.1) (own_marks w.2) line) refl w.4
+      wrong other w = w
+
+pub refused_at : (prefix : List TextItem) (stage : Stage) (item : TextItem) (fault : PoFault) (at : ℕ) → goes_on stage ≡ true → Could prefix stage → Never prefix stage → turn stage item ≡ Stop fault at → Refused prefix item fault at
+refused_at prefix (Stop other line) item fault at on could never e = absurd cc
+refused_at prefix (Between gap) (Comment kind text line) fault at on could never e = comment_refused prefix gap kind text line fault at e
+refused_at prefix (Between gap) (Word keyword marks line) fault at on could never e =
+    word_refused prefix gap keyword marks.obsolete marks.previous line fault at (λ form. record { could = λ k o f. could (Word k (own_marks o) line); never = λ k o f. never (Word k (own_marks o) line) }) e
+refused_at prefix (Between gap) (Str bytes marks line) fault at on could never e =
+    refused prefix (Str bytes marks line) BadOrder fault at (sym (string_out gap bytes marks line) ∙ e)
+    (order (λ w. w) (λ w. never (with_obsolete w.1.0 (Str bytes marks line)) (ap goes_on (string_out gap bytes (record { obsolete = w.1.0; previous = marks.previous }) line)) w.1.1))
+refused_at prefix (In read keyword marks some text) (Str bytes found line) fault at on could never e = string_refused prefix read keyword marks some text bytes found line fault at could never e
+refused_at prefix (In read keyword marks true text) (Comment kind bytes line) fault at on could never e = comment_refused prefix (closed read keyword marks text) kind bytes line fault at e
+refused_at prefix (In read keyword marks true text) (Word other found line) fault at on could never e =
+    word_refused prefix (closed read keyword marks text) other found.obsolete found.previous line fault at (λ form. record { could = λ k o f. could (Word k (own_marks o) line); never = λ k o f. never (Word k (own_marks o) line) }) e
+refused_at prefix (In read keyword marks false text) (Comment kind bytes line) fault at on could never e = refused prefix (Comment kind bytes line) BadOrder fault at e (foreign prefix (Comment kind bytes line) (λ own. own))
+refused_at prefix (In read keyword marks false text) (Word other found line) fault at on could never e =
+    refused prefix (Word other found line) BadOrder fault at e (no_word prefix read keyword marks text other found.obsolete found.previous line never)

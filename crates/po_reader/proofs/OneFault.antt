@@ -10,7 +10,8 @@ use Rattle.po_entry.specs.Faults as fault
 use Rattle.po_entry.specs.Viable.{ItemsFault}
 use Rattle.po_entry.proofs.TextsFaults.{no_texts_fault, one_texts_fault}
 use Rattle.po_reader.proofs.ItemsFaults.{fault_unread, items_fault_once}
-use Rattle.po_reader.proofs.OneReading.{spelt_once, texts_go_on}
+use Rattle.po_reader.proofs.Faults.{spelt_once}
+use Rattle.po_reader.proofs.OneReading.{texts_go_on}
 use Rattle.po_syntax.proofs.Uniqueness.{text_once as items_once, text_not_faulty as no_fault, fault_once}
 
 -- the same fault on the same line

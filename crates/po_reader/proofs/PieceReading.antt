@@ -8,7 +8,7 @@ use Rattle.po_syntax.specs.TextItem.{TextItem, Word, Str}
 use Rattle.po_syntax.specs.declared.item.Keyword.TheVariants.{MsgStrAt}
 use Rattle.po_entry.specs.TextEntry.{TextEntry}
 use Rattle.po_entry.specs.ReadsText.{ReadsText, ReadsLeft}
-use Rattle.po_reader.proofs.SpeltReads.{IsApart}
+use Rattle.po_reader.proofs.SpeltRuns.{IsApart}
 use Rattle.po_reader.proofs.RestFaults.{items_stop_after, reads_joined, reads_nothing, no_entries, nothing_stops}
 use Rattle.po_entry.specs.Faults.{IsReadFault}
 use Rattle.po_entry.specs.Faults as faults

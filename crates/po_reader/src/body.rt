@@ -1,25 +1,25 @@
-//! The second half of an entry: msgid, plural and translations.
+//! The second half of an entry: context, msgid, plural and translations.
 
-ghost use Rattle.std.specs.Prelude.{◌≡◌, ◌≢◌, ◌<◌, length, IfOk, OnOk, IfErr, IfSome, MatchOption, ◌^◌};
-ghost use Rattle.po_reader.specs.Internal.Body.{begins_form, body_start, IsForms, IsTranslationText, IsBody};
-ghost use Rattle.po_reader.specs.Internal.Body as spec;
+ghost use Rattle.std.specs.Prelude.{◌≡◌, ◌≢◌, ◌<◌, ◌≤◌, [], ℕ, true, length, IfOk, OnOk, IfErr, ◌^◌};
 ghost use Rattle.po_entry.specs.TextEntry.{texts, optional_text};
-ghost use Rattle.po_entry.specs.Faults.{IsStop};
-ghost use Rattle.po_reader.specs.Internal.Stops.{FormsStop, TranslationStops, BodyStops};
-ghost use Rattle.po_reader.specs.Internal.ReaderView.{start_view, body_view};
+ghost use Rattle.po_reader.specs.Internal.Stage.{SoFar, Between, Before, InHead, no_lines, with_own, with_context, with_entry, with_forms, with_translation};
+ghost use Rattle.po_reader.specs.Internal.Stage as stage;
+ghost use Rattle.po_reader.specs.Internal.Turn.{begins_form, begins_own};
+ghost use Rattle.po_reader.specs.Internal.Reads.{comes, Fails};
+ghost use Rattle.po_reader.specs.Internal.ReaderView.{body_view, original_view};
 
 use crate::cursor::Cursor;
-use crate::keywords::{Wanted, take_keyword_text};
+use crate::keywords::{Wanted, own_marks, take_keyword_text};
 use crate::strings::take_strings;
-use po_syntax::{Item, Keyword, Marks, PoError, PoFault};
+use po_syntax::{Keyword, PoError};
 use std::alloc::Global;
 
 /// Whether a `msgstr[i]` is the first item, and not one of a previous text.
 fn begins_form(rest: &Cursor<'_, '_>) -> bool
-    ensures { result ≡ begins_form rest.now }
+    ensures { result ≡ begins_form rest.now.items }
 {
-    match rest.first() {
-        Some(Item::Word(Keyword::MsgStrAt(_), marks, _)) => !marks.previous,
+    match rest.first_word() {
+        Some((Keyword::MsgStrAt(_), marks, _)) => !marks.previous,
         _ => false,
     }
 }
@@ -29,18 +29,19 @@ fn take_forms(
     alloc: Global,
     rest: &mut Cursor<'_, '_>,
     obsolete: bool,
-    end: u32,
 ) -> Result<Vec<Vec<u8>>, PoError>
-    requires { length rest.old < 2 ^ 32 }
-    ensures found { IfOk result (λ forms. IsForms obsolete 0 rest.old (texts forms.items) rest.new) }
-    ensures fewer { OnOk result (length rest.new < length rest.old) }
-    ensures fault { IfErr result (IsStop (FormsStop end obsolete 0 rest.old)) }
-    ensures memory { IfErr result (λ e. e.kind ≡ PoFault.OutOfMemory → e.line ≡ 0) }
+    requires { length rest.old.items < 2 ^ 32 }
+    ensures found { IfOk result (λ forms. (read : SoFar) → read.own.obsolete ≡ obsolete
+        → comes (Between (Before (with_forms read []) (stage.Form 0))) rest.old
+        ≡ comes (Between (InHead (with_entry (with_forms read (texts forms.items))) 0)) rest.new) }
+    ensures fewer { OnOk result (length rest.new.items < length rest.old.items) }
+    ensures fault { IfErr result (λ e. (read : SoFar) → read.own.obsolete ≡ obsolete
+        → Fails (Between (Before (with_forms read []) (stage.Form 0))) rest.old e) }
 {
     let mut forms = Vec::new(alloc);
     let mut index = 0;
     loop {
-        let form = take_keyword_text(alloc, rest, Wanted::Form(index), obsolete, end)?;
+        let form = take_keyword_text(alloc, rest, Wanted::Form(index), obsolete)?;
         forms.push(form.text)?;
         if !begins_form(rest) {
             return Ok(forms);
@@ -61,18 +62,19 @@ fn take_translation(
     alloc: Global,
     rest: &mut Cursor<'_, '_>,
     obsolete: bool,
-    end: u32,
 ) -> Result<Translation, PoError>
-    requires { length rest.old < 2 ^ 32 }
-    ensures found { IfOk result (λ t. IsTranslationText obsolete rest.old (optional_text t.plural)
-        (texts t.forms.items) rest.new) }
-    ensures fewer { OnOk result (length rest.new < length rest.old) }
-    ensures fault { IfErr result (IsStop (TranslationStops end obsolete rest.old)) }
-    ensures memory { IfErr result (λ e. e.kind ≡ PoFault.OutOfMemory → e.line ≡ 0) }
+    requires { length rest.old.items < 2 ^ 32 }
+    ensures found { IfOk result (λ t. (read : SoFar) → read.own.obsolete ≡ obsolete
+        → comes (Between (Before read stage.Translation)) rest.old
+        ≡ comes (Between (InHead (with_entry (with_translation read (optional_text t.plural) (texts t.forms.items))) 0))
+        rest.new) }
+    ensures fewer { OnOk result (length rest.new.items < length rest.old.items) }
+    ensures fault { IfErr result (λ e. (read : SoFar) → read.own.obsolete ≡ obsolete
+        → Fails (Between (Before read stage.Translation)) rest.old e) }
 {
-    let first = take_keyword_text(alloc, rest, Wanted::Translation, obsolete, end)?;
+    let first = take_keyword_text(alloc, rest, Wanted::Translation, obsolete)?;
     if let Keyword::MsgIdPlural = first.keyword {
-        let forms = take_forms(alloc, rest, obsolete, end)?;
+        let forms = take_forms(alloc, rest, obsolete)?;
         return Ok(Translation {
             plural: Some(first.text),
             forms,
@@ -95,6 +97,47 @@ pub(crate) struct Original {
     pub(crate) line: u32,
 }
 
+/// Takes the context, if there is one, which stands first; and gives whether the entry is obsolete.
+fn take_context(
+    alloc: Global,
+    rest: &mut Cursor<'_, '_>,
+) -> Result<(Option<Vec<u8>>, bool), PoError>
+    requires { begins_own rest.old.items ≡ true }
+    ensures found { IfOk result (λ p. (read : SoFar) (above : ℕ) → comes (Between (InHead read above)) rest.old
+        ≡ comes (Between (Before (with_own read (with_context (no_lines p.1) (optional_text p.0))) stage.Id)) rest.new) }
+    ensures fewer { OnOk result (length rest.new.items ≤ length rest.old.items) }
+    ensures fault { IfErr result (λ e. (read : SoFar) (above : ℕ) → Fails (Between (InHead read above)) rest.old e) }
+{
+    let Some((keyword, marks, _)) = rest.first_word() else {
+        unreachable!()
+    };
+    let obsolete = marks.obsolete;
+    if let Keyword::MsgCtxt = keyword {
+        rest.advance();
+        let context = take_strings(alloc, rest, own_marks(obsolete))?;
+        return Ok((Some(context), obsolete));
+    }
+    Ok((None, obsolete))
+}
+
+/// Takes the context, if there is one, and the msgid of an entry, which stand first.
+fn take_original(alloc: Global, rest: &mut Cursor<'_, '_>) -> Result<Original, PoError>
+    requires { begins_own rest.old.items ≡ true }
+    ensures found { IfOk result (λ o. (read : SoFar) (above : ℕ) → comes (Between (InHead read above)) rest.old
+        ≡ comes (Between (Before (with_own read (original_view o)) stage.Translation)) rest.new) }
+    ensures fewer { OnOk result (length rest.new.items < length rest.old.items) }
+    ensures fault { IfErr result (λ e. (read : SoFar) (above : ℕ) → Fails (Between (InHead read above)) rest.old e) }
+{
+    let (context, obsolete) = take_context(alloc, rest)?;
+    let id = take_keyword_text(alloc, rest, Wanted::Id, obsolete)?;
+    Ok(Original {
+        context,
+        id: id.text,
+        obsolete,
+        line: id.line,
+    })
+}
+
 /// The own lines of an entry.
 #[derive(Drop)]
 pub(crate) struct Body {
@@ -102,98 +145,19 @@ pub(crate) struct Body {
     pub(crate) translation: Translation,
 }
 
-/// What an entry's own lines begin with.
-#[derive(Clone, Copy)]
-enum Start {
-    /// `msgctxt`, with the entry's obsolete mark.
-    WithContext(bool),
-    /// `msgid`, with the entry's obsolete mark and the line.
-    WithoutContext(bool, u32),
-}
-
-/// Takes the keyword with which a body begins, or nothing where none does.
-fn take_start(rest: &mut Cursor<'_, '_>) -> Option<Start>
-    ensures start { MatchOption result (body_start rest.old ≡ spec.NoStart)
-        (λ start. body_start rest.old ≡ start_view start rest.new) }
-    ensures fewer { IfSome result (λ _. length rest.new < length rest.old) }
+/// Takes the own lines of an entry, which stand first.
+pub(crate) fn take_body(alloc: Global, rest: &mut Cursor<'_, '_>) -> Result<Body, PoError>
+    requires few { length rest.old.items < 2 ^ 32 }
+    requires begins { begins_own rest.old.items ≡ true }
+    ensures found { IfOk result (λ b. (read : SoFar) (above : ℕ) → comes (Between (InHead read above)) rest.old
+        ≡ comes (Between (InHead (with_entry (with_own read (body_view b))) 0)) rest.new) }
+    ensures fewer { OnOk result (length rest.new.items < length rest.old.items) }
+    ensures fault { IfErr result (λ e. (read : SoFar) (above : ℕ) → Fails (Between (InHead read above)) rest.old e) }
 {
-    match rest.first() {
-        Some(Item::Word(Keyword::MsgCtxt, marks, _)) if !marks.previous => {
-            rest.advance();
-            Some(Start::WithContext(marks.obsolete))
-        }
-        Some(Item::Word(Keyword::MsgId, marks, line)) if !marks.previous => {
-            rest.advance();
-            Some(Start::WithoutContext(marks.obsolete, *line))
-        }
-        _ => None,
-    }
-}
-
-/// Takes the rest of a body, whose context and msgid are taken.
-fn take_body_after(
-    alloc: Global,
-    rest: &mut Cursor<'_, '_>,
-    original: Original,
-    end: u32,
-) -> Result<Body, PoError>
-    requires { length rest.old < 2 ^ 32 }
-    ensures found { IfOk result (λ b. IsTranslationText original.obsolete rest.old
-        (optional_text b.translation.plural) (texts b.translation.forms.items) rest.new) }
-    ensures original { IfOk result (λ b. b.original ≡ original) }
-    ensures fewer { OnOk result (length rest.new < length rest.old) }
-    ensures fault { IfErr result (IsStop (TranslationStops end original.obsolete rest.old)) }
-    ensures memory { IfErr result (λ e. e.kind ≡ PoFault.OutOfMemory → e.line ≡ 0) }
-{
-    let translation = take_translation(alloc, rest, original.obsolete, end)?;
+    let original = take_original(alloc, rest)?;
+    let translation = take_translation(alloc, rest, original.obsolete)?;
     Ok(Body {
         original,
         translation,
     })
-}
-
-/// Takes the own lines of an entry, which stand first.
-pub(crate) fn take_body(alloc: Global, rest: &mut Cursor<'_, '_>, end: u32) -> Result<Body, PoError>
-    requires few { length rest.old < 2 ^ 32 }
-    requires begins { body_start rest.old ≢ spec.NoStart }
-    ensures found { IfOk result (λ b. IsBody rest.old (body_view b) rest.new) }
-    ensures fewer { OnOk result (length rest.new < length rest.old) }
-    ensures fault { IfErr result (IsStop (BodyStops end rest.old)) }
-    ensures memory { IfErr result (λ e. e.kind ≡ PoFault.OutOfMemory → e.line ≡ 0) }
-{
-    let start = match take_start(rest) {
-        Some(start) => start,
-        None => unreachable!(),
-    };
-    match start {
-        Start::WithoutContext(obsolete, line) => {
-            let marks = Marks {
-                obsolete,
-                previous: false,
-            };
-            let id = take_strings(alloc, rest, marks, end)?;
-            let original = Original {
-                context: None,
-                id,
-                obsolete,
-                line,
-            };
-            take_body_after(alloc, rest, original, end)
-        }
-        Start::WithContext(obsolete) => {
-            let marks = Marks {
-                obsolete,
-                previous: false,
-            };
-            let context = take_strings(alloc, rest, marks, end)?;
-            let id = take_keyword_text(alloc, rest, Wanted::Id, obsolete, end)?;
-            let original = Original {
-                context: Some(context),
-                id: id.text,
-                obsolete,
-                line: id.line,
-            };
-            take_body_after(alloc, rest, original, end)
-        }
-    }
 }

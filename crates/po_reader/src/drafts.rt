@@ -1,24 +1,24 @@
 //! The entries of items, before their texts are checked.
 
-ghost use Rattle.std.specs.Prelude.{◌≡◌, ◌<◌, ◌^◌, List, map, length, IfOk, IfErr};
+ghost use Rattle.std.specs.Prelude.{◌≡◌, ◌<◌, ◌^◌, [], List, map, length, IfOk, IfErr};
 ghost use Rattle.po_syntax.specs.TextItem.{views};
 ghost use Rattle.po_entry.specs.EntryView.{entry_view};
 ghost use Rattle.po_entry.specs.EntryParts.{CommentText, PreviousText};
-ghost use Rattle.po_reader.specs.Internal.Reads.{Reads};
 ghost use Rattle.po_entry.specs.Spelling.{entry_from};
 ghost use Rattle.po_entry.specs.TextEntry.{TextEntry};
 ghost use Rattle.po_reader.specs.KeptComments.{kept_entry};
 ghost use Rattle.po_reader.specs.Internal.HeadView.{HoldsHead};
 ghost use Rattle.po_reader.specs.Internal.ReaderView.{body_view};
-ghost use Rattle.po_entry.specs.Faults.{IsStop};
-ghost use Rattle.po_reader.specs.Internal.Stops.{EntriesStop};
+ghost use Rattle.po_reader.specs.Internal.Stage.{Entries};
+ghost use Rattle.po_reader.specs.Internal.Turn.{comes_to};
+ghost use Rattle.po_reader.specs.Internal.Reads.{start, Fails};
 
 use crate::body::{Body, Original, Translation, take_body};
 use crate::cursor::Cursor;
 use crate::flags::flags_of;
 use crate::head::{Head, take_head};
 use po_entry::Fields;
-use po_syntax::{Item, PoError, PoFault};
+use po_syntax::{Item, PoError};
 use std::alloc::{AllocError, Global};
 
 /// How many items an entry has at least: two keywords and their strings.
@@ -74,19 +74,19 @@ pub(crate) fn drafts_of(
     with_comments: bool,
 ) -> Result<Vec<Fields>, PoError>
     requires { length items.now < 2 ^ 32 }
-    ensures found { IfOk result (λ drafts. (entries : List TextEntry) × Reads (views items.now) entries
+    ensures found { IfOk result (λ drafts. (entries : List TextEntry)
+        × (comes_to end (start []) (views items.now) ≡ Entries entries)
         × (map entry_view drafts.items ≡ map (kept_entry with_comments) entries)) }
-    ensures fault { IfErr result (IsStop (EntriesStop end (views items.now))) }
-    ensures memory { IfErr result (λ e. e.kind ≡ PoFault.OutOfMemory → e.line ≡ 0) }
+    ensures fault { IfErr result (Fails (start []) (record { items = views items.now; end = end })) }
 {
     let mut drafts = Vec::with_capacity(alloc, items.len() / LEAST_ITEMS)?;
-    let mut rest = Cursor::of(items);
+    let mut rest = Cursor::of(items, end);
     loop {
-        let head = take_head(alloc, &mut rest, end, with_comments)?;
+        let head = take_head(alloc, &mut rest, with_comments)?;
         if rest.is_empty() {
             return Ok(drafts);
         }
-        let body = take_body(alloc, &mut rest, end)?;
+        let body = take_body(alloc, &mut rest)?;
         drafts.push(fields_of(alloc, head, body)?)?;
     }
 }

@@ -1,15 +1,15 @@
 //! The first half of an entry: comments, previous texts and context.
 
-ghost use Rattle.std.specs.Prelude.{◌≡◌, ◌≢◌, ◌<◌, ◌≤◌, ◌++◌, ◌∷◌, [], Some, List, length, IfOk, IfErr, OnOk, MatchResult, ◌||◌};
+ghost use Rattle.std.specs.Prelude.{◌≡◌, ◌≢◌, ◌<◌, ◌≤◌, ◌++◌, ◌∷◌, [], ℕ, Some, List, length, IfOk, IfErr, OnOk, ◌||◌};
 ghost use Rattle.po_entry.specs.EntryParts.{CommentText, PreviousText, rank};
-ghost use Rattle.po_reader.specs.Internal.Head.{IsHead, head_step, begins_body};
-ghost use Rattle.po_reader.specs.Internal.Head as spec;
 ghost use Rattle.po_entry.specs.Comments.{same_kind, with_previous};
+ghost use Rattle.po_entry.specs.TextEntry.{TextEntry};
 ghost use Rattle.po_syntax.specs.declared.item.CommentKind.TheVariants.{Flags};
 ghost use Rattle.po_reader.specs.KeptComments.{kept_comments};
-ghost use Rattle.po_entry.specs.Faults.{IsStop};
-ghost use Rattle.po_reader.specs.Internal.Stops.{HeadStops};
-ghost use Rattle.po_reader.specs.Internal.ReaderView.{head_view};
+ghost use Rattle.po_reader.specs.Internal.Stage.{SoFar, Between, InHead, Fault, after_head};
+ghost use Rattle.po_reader.specs.Internal.Turn.{begins_body, EndsHead};
+ghost use Rattle.po_reader.specs.Internal.Reads.{comes, line_at, start, Fails};
+ghost use Rattle.po_reader.specs.Internal.ReaderView.{stepped, IsOfPrevious};
 ghost use Rattle.po_reader.specs.Internal.HeadView.{HoldsHead, HoldsComments};
 
 use crate::comment_texts::{add_flags, add_references};
@@ -61,12 +61,15 @@ fn begins_body(keyword: Keyword) -> bool
 
 /// Takes the first item, where the head goes on with it; `above` is the rank of the last previous text, or 0.
 fn take_step<'i>(rest: &mut Cursor<'i, '_>, above: u32) -> Result<Step<'i>, PoFault>
-    ensures step { MatchResult result
-        (λ step. head_step above rest.old ≡ head_view step rest.new)
-        (λ fault. (head_step above rest.old ≡ spec.Refuse fault) × (rest.new ≡ rest.old)) }
-    ensures fewer { IfOk result
-        (λ step. head_view step rest.new ≢ spec.Over → length rest.new < length rest.old) }
-    ensures kept { IfOk result (λ step. head_view step rest.new ≡ spec.Over → rest.new ≡ rest.old) }
+    ensures found { IfOk result (λ step. (read : SoFar)
+        → comes (Between (InHead read above)) rest.old ≡ comes (stepped read above step) rest.new) }
+    ensures fewer { IfOk result (λ step. step ≢ Step.Over → length rest.new.items < length rest.old.items) }
+    ensures within { length rest.new.items ≤ length rest.old.items }
+    ensures over { IfOk result (λ step. step ≡ Step.Over → EndsHead above rest.new.items) }
+    ensures previous { IfOk result IsOfPrevious }
+    ensures fault { IfErr result (λ fault. (read : SoFar)
+        → comes (Between (InHead read above)) rest.old ≡ Fault fault (line_at rest.new)) }
+    ensures other { IfErr result (λ fault. fault ≢ PoFault.OutOfMemory) }
 {
     match rest.first() {
         None => if above == 0 {
@@ -160,15 +163,15 @@ fn set_previous(previous: &mut Previous, keyword: Keyword, text: Vec<u8>)
 pub(crate) fn take_head<'i>(
     alloc: Global,
     rest: &mut Cursor<'i, '_>,
-    end: u32,
     with_comments: bool,
 ) -> Result<Head<'i>, PoError>
-    ensures found { IfOk result (λ head. (comment_texts : List CommentText) × (previous : List PreviousText)
-        × IsHead 0 rest.old comment_texts previous rest.new
-        × HoldsHead head (kept_comments with_comments comment_texts) previous) }
-    ensures fewer { OnOk result (length rest.new ≤ length rest.old) }
-    ensures fault { IfErr result (IsStop (HeadStops end 0 rest.old)) }
-    ensures memory { IfErr result (λ e. e.kind ≡ PoFault.OutOfMemory → e.line ≡ 0) }
+    ensures found { IfOk result (λ head. (comment_texts : List CommentText) × (previous : List PreviousText) × (above : ℕ)
+        × HoldsHead head (kept_comments with_comments comment_texts) previous
+        × ((entries : List TextEntry) → comes (start entries) rest.old
+        ≡ comes (Between (InHead (after_head entries comment_texts previous) above)) rest.new)
+        × EndsHead above rest.new.items) }
+    ensures fewer { OnOk result (length rest.new.items ≤ length rest.old.items) }
+    ensures fault { IfErr result (λ e. (entries : List TextEntry) → Fails (start entries) rest.old e) }
 {
     let mut head = Head {
         comments: Vec::new(alloc),
@@ -180,13 +183,13 @@ pub(crate) fn take_head<'i>(
     let mut above = 0;
     loop {
         match take_step(rest, above) {
-            Err(kind) => return Err(rest.refusal(end, kind)),
+            Err(kind) => return Err(rest.refusal(kind)),
             Ok(Step::Over) => return Ok(head),
             Ok(Step::HeadComment(kind, text)) => {
                 add_comment(alloc, &mut head, with_comments, kind, text)?;
             }
             Ok(Step::Previous(keyword, marks)) => {
-                let text = take_strings(alloc, rest, marks, end)?;
+                let text = take_strings(alloc, rest, marks)?;
                 set_previous(&mut head.previous, keyword, text);
                 above = rank(keyword);
             }

@@ -1,16 +1,16 @@
 //! A keyword that is wanted here, and its string.
 
-ghost use Rattle.std.specs.Prelude.{◌≡◌, ◌<◌, length, IfOk, IfErr, OnOk, MatchResult, MatchOption, ℕ, List};
-ghost use Rattle.po_syntax.specs.TextItem.{TextItem};
-ghost use Rattle.po_reader.specs.Internal.Keywords.{IsKeywordText, next_keyword, keyword_step, is_wanted, is_wrong_form};
-ghost use Rattle.po_reader.specs.Internal.Keywords as spec;
+ghost use Rattle.std.specs.Prelude.{◌≡◌, ◌≢◌, ◌<◌, true, length, IfOk, IfErr, IfSome, OnOk, MatchOption, None, ℕ};
+ghost use Rattle.po_reader.specs.Internal.Stage.{SoFar, Between, Before, Stop, Fault};
+ghost use Rattle.po_syntax.specs.TextItem.{Word};
+ghost use Rattle.po_entry.specs.Spelling.{own_marks};
+ghost use Rattle.po_reader.specs.Internal.Turn.{is_wanted, is_wrong_form, opened, turn_own, and_text};
+ghost use Rattle.po_reader.specs.Internal.Reads.{comes, line_at, Fails};
 ghost use Rattle.po_reader.specs.Internal.ReaderView.{wanted_view};
-ghost use Rattle.po_entry.specs.Faults.{IsStop};
-ghost use Rattle.po_reader.specs.Internal.Stops.{KeywordTextStops};
 
 use crate::cursor::Cursor;
 use crate::strings::take_strings;
-use po_syntax::{Item, Keyword, Marks, PoError, PoFault};
+use po_syntax::{Keyword, Marks, PoError, PoFault};
 use std::alloc::Global;
 
 /// What is wanted next of an entry.
@@ -45,9 +45,11 @@ fn is_wrong_form(wanted: Wanted, keyword: Keyword) -> bool
 
 /// The fault of a keyword, if it isn't the wanted one or isn't obsolete or live as its entry is.
 fn keyword_fault(wanted: Wanted, obsolete: bool, keyword: Keyword, marks: Marks) -> Option<PoFault>
-    ensures { (line : ℕ) (rest : List TextItem) → MatchOption result
-        (keyword_step (wanted_view wanted) obsolete keyword marks line rest ≡ spec.Take keyword line rest)
-        (λ fault. keyword_step (wanted_view wanted) obsolete keyword marks line rest ≡ spec.Refuse fault) }
+    ensures step { (read : SoFar) (line : ℕ) → read.own.obsolete ≡ obsolete → MatchOption result
+        (turn_own read (wanted_view wanted) (Word keyword marks line) ≡ opened read read.own keyword line)
+        (λ fault. turn_own read (wanted_view wanted) (Word keyword marks line) ≡ Stop fault line) }
+    ensures wanted { result ≡ None → is_wanted (wanted_view wanted) keyword ≡ true }
+    ensures other { IfSome result (λ fault. fault ≢ PoFault.OutOfMemory) }
 {
     if marks.previous {
         Some(PoFault::BadOrder)
@@ -70,23 +72,22 @@ fn take_keyword(
     wanted: Wanted,
     obsolete: bool,
 ) -> Result<(Keyword, u32), PoFault>
-    ensures step { MatchResult result
-        (λ p. next_keyword (wanted_view wanted) obsolete rest.old ≡ spec.Take p.0 p.1 rest.new)
-        (λ fault. (next_keyword (wanted_view wanted) obsolete rest.old ≡ spec.Refuse fault) × (rest.new ≡ rest.old)) }
-    ensures fewer { OnOk result (length rest.new < length rest.old) }
+    ensures found { IfOk result (λ p. (read : SoFar) → read.own.obsolete ≡ obsolete
+        → comes (Between (Before read (wanted_view wanted))) rest.old ≡ comes (opened read read.own p.0 p.1) rest.new) }
+    ensures wanted { IfOk result (λ p. is_wanted (wanted_view wanted) p.0 ≡ true) }
+    ensures fewer { OnOk result (length rest.new.items < length rest.old.items) }
+    ensures fault { IfErr result (λ fault. (read : SoFar) → read.own.obsolete ≡ obsolete
+        → comes (Between (Before read (wanted_view wanted))) rest.old ≡ Fault fault (line_at rest.new)) }
+    ensures other { IfErr result (λ fault. fault ≢ PoFault.OutOfMemory) }
 {
-    match rest.first() {
-        Some(Item::Word(keyword, marks, line)) => {
-            match keyword_fault(wanted, obsolete, *keyword, *marks) {
-                None => {
-                    rest.advance();
-                    Ok((*keyword, *line))
-                }
-                Some(fault) => Err(fault),
-            }
-        }
-        _ => Err(PoFault::BadOrder),
+    let Some((keyword, marks, line)) = rest.first_word() else {
+        return Err(PoFault::BadOrder);
+    };
+    if let Some(fault) = keyword_fault(wanted, obsolete, keyword, marks) {
+        return Err(fault);
     }
+    rest.advance();
+    Ok((keyword, line))
 }
 
 /// A keyword of an entry's own lines, with its text.
@@ -103,26 +104,33 @@ pub(crate) fn take_keyword_text(
     rest: &mut Cursor<'_, '_>,
     wanted: Wanted,
     obsolete: bool,
-    end: u32,
 ) -> Result<KeywordText, PoError>
-    ensures found { IfOk result (λ w. IsKeywordText (wanted_view wanted) obsolete rest.old
-        w.keyword w.line w.text.items rest.new) }
-    ensures fewer { OnOk result (length rest.new < length rest.old) }
-    ensures fault { IfErr result (IsStop (KeywordTextStops end (wanted_view wanted) obsolete rest.old)) }
-    ensures memory { IfErr result (λ e. e.kind ≡ PoFault.OutOfMemory → e.line ≡ 0) }
+    ensures found { IfOk result (λ w. (read : SoFar) → read.own.obsolete ≡ obsolete
+        → comes (Between (Before read (wanted_view wanted))) rest.old
+        ≡ comes (Between (and_text read w.keyword w.line w.text.items)) rest.new) }
+    ensures wanted { IfOk result (λ w. is_wanted (wanted_view wanted) w.keyword ≡ true) }
+    ensures fewer { OnOk result (length rest.new.items < length rest.old.items) }
+    ensures fault { IfErr result (λ e. (read : SoFar) → read.own.obsolete ≡ obsolete
+        → Fails (Between (Before read (wanted_view wanted))) rest.old e) }
 {
     let (keyword, line) = match take_keyword(rest, wanted, obsolete) {
         Ok(found) => found,
-        Err(kind) => return Err(rest.refusal(end, kind)),
+        Err(kind) => return Err(rest.refusal(kind)),
     };
-    let marks = Marks {
-        obsolete,
-        previous: false,
-    };
-    let text = take_strings(alloc, rest, marks, end)?;
+    let text = take_strings(alloc, rest, own_marks(obsolete))?;
     Ok(KeywordText {
         keyword,
         line,
         text,
     })
+}
+
+/// The marks of an entry's own lines.
+pub(crate) fn own_marks(obsolete: bool) -> Marks
+    ensures { result ≡ own_marks obsolete }
+{
+    Marks {
+        obsolete,
+        previous: false,
+    }
 }

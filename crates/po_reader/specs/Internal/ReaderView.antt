@@ -1,41 +1,47 @@
--- What contracts see of the steps that the code takes.
-use Rattle.std.specs.Prelude.{List}
+-- What contracts see of the records of the code.
+use Rattle.std.specs.Prelude.{◌≡◌, ℕ, ◌<◌, true, false, [], None}
 use Rattle.po_reader.specs.declared.keywords.Wanted.{Wanted}
 use Rattle.po_reader.specs.declared.keywords.Wanted.TheVariants as code
-use Rattle.po_reader.specs.declared.body.Start.{Start}
-use Rattle.po_reader.specs.declared.body.Start.TheVariants as start
+use Rattle.po_reader.specs.declared.body.Original.{Original}
 use Rattle.po_reader.specs.declared.body.Body.{Body}
 use Rattle.po_reader.specs.declared.head.Step.{Step}
 use Rattle.po_reader.specs.declared.head.Step.TheVariants as step
-use Rattle.po_syntax.specs.TextItem.{TextItem}
 use Rattle.po_entry.specs.EntryParts as parts
+use Rattle.po_entry.specs.EntryParts.{rank}
 use Rattle.po_entry.specs.TextEntry.{texts, optional_text}
-use Rattle.po_reader.specs.Internal.Keywords as spec
-use Rattle.po_reader.specs.Internal.Body as body
-use Rattle.po_reader.specs.Internal.Head as head
+use Rattle.po_reader.specs.Internal.Stage as spec
+use Rattle.po_reader.specs.Internal.Stage.{SoFar, Stage, Between, In, InHead, with_comment}
 
 abbrev pub wanted_view : Wanted → spec.Wanted
 wanted_view code.Id = spec.Id
 wanted_view code.Translation = spec.Translation
 wanted_view (code.Form index) = spec.Form index
 
--- the start with the items after its keyword
-abbrev pub start_view : Start → List TextItem → body.Start
-start_view (start.WithContext obsolete) rest = body.WithContext obsolete rest
-start_view (start.WithoutContext obsolete line) rest = body.WithoutContext obsolete line rest
-
-abbrev pub body_view : Body → parts.Body
-body_view own = record {
-  context = optional_text own.original.context;
-  id = own.original.id.items;
-  plural = optional_text own.translation.plural;
-  forms = texts own.translation.forms.items;
-  obsolete = own.original.obsolete;
-  line = own.original.line;
+-- own lines up to the msgid
+abbrev pub original_view : Original → parts.Body
+original_view original = record {
+  context = optional_text original.context;
+  id = original.id.items;
+  plural = None;
+  forms = [];
+  obsolete = original.obsolete;
+  line = original.line;
 }
 
--- the step with the items after it
-abbrev pub head_view : Step → List TextItem → head.HeadStep
-head_view (step.HeadComment kind text) rest = head.HeadComment kind text.now rest
-head_view (step.Previous keyword marks) rest = head.Previous keyword marks rest
-head_view step.Over rest = head.Over
+abbrev pub body_view : Body → parts.Body
+body_view own = record (original_view own.original) {
+  plural = optional_text own.translation.plural;
+  forms = texts own.translation.forms.items;
+}
+
+-- after this step of a head
+abbrev pub stepped : SoFar → ℕ → Step → Stage
+stepped read above (step.HeadComment kind text) =
+    Between (InHead (with_comment read (record { kind = kind; text = text.now })) above)
+stepped read above (step.Previous keyword marks) = In read keyword marks false []
+stepped read above step.Over = Between (InHead read above)
+
+-- the keyword and the marks of a step are those of a previous text
+abbrev pub IsOfPrevious : Step → Type 0
+IsOfPrevious (step.Previous keyword marks) = (0 < rank keyword) × (marks.previous ≡ true)
+IsOfPrevious step = Unit {0}

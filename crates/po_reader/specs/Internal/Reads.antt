@@ -1,17 +1,44 @@
--- The reader's way through the items of a text: a head, a body, and on with the rest. Internal to
--- this crate, but for the law that ties it to the spellings.
-use Rattle.std.specs.Prelude.{List, [], ◌∷◌}
-use Rattle.po_syntax.specs.TextItem.{TextItem}
+-- Which entries the reader finds.
+use Rattle.std.specs.Prelude.{◌≡◌, ℕ, List, [], ◌∷◌}
+use Rattle.po_syntax.specs.TextItem.{TextItem, line_of}
 use Rattle.po_entry.specs.TextEntry.{TextEntry}
-use Rattle.po_entry.specs.EntryParts.{CommentText, PreviousText, Body}
-use Rattle.po_entry.specs.Spelling.{entry_from, AreComments}
-use Rattle.po_reader.specs.Internal.Body.{IsBody}
-use Rattle.po_reader.specs.Internal.Head.{IsHead}
+use Rattle.po_entry.specs.Viable.{last_line}
+use Rattle.po_reader.specs.Internal.Stage.{Stage, Between, InHead, Outcome, Entries, Fault, only}
+use Rattle.po_syntax.specs.declared.fault.PoError.{PoError}
+use Rattle.po_reader.specs.Internal.Turn.{comes_to}
+use Rattle.po_reader.specs.PieceRead.{IsFaultOf}
+
+-- before a head, with these entries read
+abbrev pub start : List TextEntry → Stage
+start entries = Between (InHead (only entries) 0)
+
+-- what the items of a whole text come to
+abbrev pub come_to : List TextItem → Outcome
+come_to items = comes_to (last_line items) (start []) items
 
 -- going through these items from the left, the reader finds these entries
-pub data Reads : List TextItem → List TextEntry → Type 0 where
-  comments : {items : List TextItem} → AreComments items → Reads items []
-  entry : {items own rest : List TextItem} {comment_texts : List CommentText} {previous : List PreviousText}
-      {body : Body} {entries : List TextEntry} → IsHead 0 items comment_texts previous own → IsBody own body rest
-      → Reads rest entries
-      → Reads items (entry_from comment_texts previous body ∷ entries)
+abbrev pub Reads : List TextItem → List TextEntry → Type 0
+Reads items entries = come_to items ≡ Entries entries
+
+-- the items that are left to be read, and the line that is reported where they end: that of the
+-- text's last item
+pub record Rest : Type 0 where
+  pub items : List TextItem
+  pub end : ℕ
+
+-- from this place on, the rest comes to this
+abbrev pub comes : Stage → Rest → Outcome
+comes stage rest = comes_to rest.end stage rest.items
+
+-- the line of the first item, or this one where there is none
+abbrev pub first_line : ℕ → List TextItem → ℕ
+first_line end [] = end
+first_line end (item ∷ items) = line_of item
+
+-- the line on which the first item of the rest is refused
+abbrev pub line_at : Rest → ℕ
+line_at rest = first_line rest.end rest.items
+
+-- the rest comes to this error from there on; or it is out of memory, without a line
+abbrev pub Fails : Stage → Rest → PoError → Type 0
+Fails stage rest error = IsFaultOf (λ fault line. comes stage rest ≡ Fault fault line) error

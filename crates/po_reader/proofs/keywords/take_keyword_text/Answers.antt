@@ -1,14 +1,12 @@
-use Rattle.po_reader.specs.Internal.Keywords.{keyword_text}
-use Rattle.po_reader.specs.Internal.Stops.KeywordTextStops.{refused, in_text}
+use Rattle.std.proofs.Common.{◌∙◌, ap, sym}
+use Rattle.po_entry.specs.Spelling.{own_marks}
+use Rattle.po_reader.specs.Internal.Stage.{with_own}
+use Rattle.po_reader.specs.Internal.Turn.{with_keyword}
 use Rattle.po_reader.proofs.Results.{passed_on}
+use Rattle.po_reader.proofs.Turns.{fails_from}
 use Rattle.po_reader.proofs.keywords.take_keyword_text.Goals as goal
 
-pub returns-clause-found : goal.returns-clause-found
-returns-clause-found c = keyword_text c.in-Ok.ensures.step c.in_ok-text.ensures.found
-
-pub returns-in-Err-clause-fault : goal.returns-in-Err-clause-fault
-returns-in-Err-clause-fault c =
-    λ other. rw c.refusal.ensures.kind (refused c.in-Err.ensures.step.0 (rw c.in-Err.ensures.step.1 at c.refusal.ensures.line))
-
 pub returns-in_err-text-clause-fault : goal.returns-in_err-text-clause-fault
-returns-in_err-text-clause-fault c = passed_on c.from_residual.result _ c.from_residual.ensures.1 (λ other. in_text c.in-Ok.ensures.step (c.in_err-text.ensures.fault other))
+returns-in_err-text-clause-fault c = passed_on c.from_residual.result _ c.from_residual.ensures.1 (λ read same.
+    fails_from (c.in-Ok.ensures.found read same)
+    (rw (c.own_marks.ensures ∙ ap own_marks (sym same)) at (c.in_err-text.ensures.fault (with_own read (with_keyword c.in-Ok.found.0 c.in-Ok.found.1 read.own)) c.in-Ok.found.0)))

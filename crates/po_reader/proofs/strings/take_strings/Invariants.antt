@@ -1,16 +1,16 @@
-use Rattle.std.proofs.Common.{ℕ, List, ◌++◌, ◌≤◌, length}
-use Rattle.po_syntax.specs.declared.fault.PoFault.{PoFault}
-use Rattle.po_syntax.specs.TextItem.{TextItem}
-use Rattle.po_reader.specs.Internal.Strings.{IsStrings}
-use Rattle.po_reader.specs.Internal.Stops.{StringsStop}
+use Rattle.std.proofs.Common.{◌≡◌, Bool, true, false, [], ◌≤◌, length}
+use Rattle.po_syntax.specs.declared.item.Keyword.{Keyword}
+use Rattle.po_reader.specs.Internal.Stage.{SoFar, In}
+use Rattle.po_reader.specs.Internal.Turn.{begins_string}
+use Rattle.po_reader.specs.Internal.Reads.{comes}
 use Rattle.po_reader.proofs.strings.take_strings.Given as goal
 
 abbrev pub invariant-loop-bytes : goal.invariant-loop-bytes
 invariant-loop-bytes l = record {
-  spelt : (more : List ℕ) (rest : List TextItem) → IsStrings l.marks l.rest more rest → IsStrings l.marks l.fn.rest (l.text.items ++ more) rest;
-  stops : (fault : PoFault) (line : ℕ) → StringsStop l.end l.marks l.rest fault line → StringsStop l.end l.marks l.fn.rest fault line;
-  fewer : length l.rest ≤ length l.fn.rest;
+  reads : (some : Bool) × (some ≡ true → begins_string l.rest.items ≡ true)
+      × ((read : SoFar) (keyword : Keyword) → comes (In read keyword l.marks false []) l.fn.rest ≡ comes (In read keyword l.marks some l.text.items) l.rest);
+  fewer : length l.rest.items ≤ length l.fn.rest.items;
 }
 
 abbrev pub decreases-loop-bytes : goal.decreases-loop-bytes
-decreases-loop-bytes l = length l.rest
+decreases-loop-bytes l = length l.rest.items

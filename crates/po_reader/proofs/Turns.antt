@@ -1,0 +1,134 @@
+-- Steps of the reader that hang on what the next item is.
+use Rattle.std.proofs.Common.{◌≡◌, ◌≢◌, ℕ, nat_lt, Bool, true, false, not, ◌&&◌, ◌==◌, List, [], ◌∷◌, ◌++◌, refl, sym, ap, ◌∙◌}
+use Rattle.std.proofs.lemmas.List.Folds.{fold_stays}
+use Rattle.po_syntax.specs.declared.fault.PoFault.{PoFault}
+use Rattle.po_syntax.specs.declared.item.Keyword.{Keyword}
+use Rattle.po_syntax.specs.declared.item.Marks.{Marks}
+use Rattle.po_syntax.specs.TextItem.{TextItem, Comment, Word, Str, line_of}
+use Rattle.po_entry.specs.TextEntry.{TextEntry}
+use Rattle.po_entry.specs.EntryParts.{rank}
+use Rattle.po_reader.specs.Internal.Stage.{SoFar, Wanted, Id, Translation, Form, Outcome, InHead, Before, AfterForm, Stage, Between, In, Stop, Entries, Fault, no_lines, with_own, with_entry, with_previous_text}
+use Rattle.po_reader.specs.Internal.Turn.{closed, turn, comes_to, outcome, begins_string, begins_form, begins_word, begins_own, begins_body, EndsHead, turn_head, opened, is_wanted, same_marks, stray_string}
+use Rattle.po_reader.specs.Internal.Reads.{first_line}
+use Rattle.po_reader.specs.PieceRead.{IsFaultOf}
+use Rattle.po_reader.proofs.SameMarks.{marked}
+use Rattle.std.specs.Cmp.{bool_eq_equiv}
+use Rattle.po_syntax.specs.declared.item.Keyword.TheVariants.{MsgCtxt, MsgId, MsgIdPlural, MsgStr, MsgStrAt}
+use Rattle.po_syntax.specs.declared.fault.PoError.{PoError}
+use Rattle.std.specs.Prelude.{if◌then◌else◌}
+use Rattle.std.proofs.lemmas.Bool.{false≢true, eqb-true, eq-eqb}
+use Rattle.po_syntax.specs.declared.fault.PoFault.TheVariants.{BadOrder}
+
+-- after a refused item nothing is read
+pub stopped : (end : ℕ) (fault : PoFault) (line : ℕ) (items : List TextItem) → comes_to end (Stop fault line) items ≡ Fault fault line
+stopped end fault line items = ap (outcome end) (fold_stays turn (Stop fault line) (λ item. refl) items)
+
+pub never : (end : ℕ) (fault : PoFault) (line : ℕ) (items : List TextItem) (entries : List TextEntry) → comes_to end (Stop fault line) items ≡ Entries entries → ⊥
+never end fault line items entries e = let fails = stopped end fault line items in cc
+
+-- a text ends where no string stands
+pub text_ends : (end : ℕ) (read : SoFar) (keyword : Keyword) (marks : Marks) (text : List ℕ) (rest : List TextItem) → begins_string rest ≡ false
+    → comes_to end (In read keyword marks true text) rest ≡ comes_to end (Between (closed read keyword marks text)) rest
+text_ends end read keyword marks text [] e = refl
+text_ends end read keyword marks text (Comment kind bytes line ∷ rest) e = refl
+text_ends end read keyword marks text (Word other found line ∷ rest) e = refl
+text_ends end read keyword marks text (Str bytes found line ∷ rest) e = cc
+
+-- an entry ends where no further form stands
+pub forms_end : (end : ℕ) (read : SoFar) (index : ℕ) (rest : List TextItem) → begins_form rest ≡ false
+    → comes_to end (Between (AfterForm read index)) rest ≡ comes_to end (Between (InHead (with_entry read) 0)) rest
+forms_end end read index [] e = refl
+forms_end end read index (item ∷ rest) e = rw e refl
+
+-- a string is wanted, and something else stands first
+pub no_string : (end : ℕ) (items : List TextItem) → begins_string items ≡ false → (read : SoFar) (keyword : Keyword) (marks : Marks) (some : Bool) (text : List ℕ) → (some ≡ true → begins_string items ≡ true)
+    → comes_to end (In read keyword marks some text) items ≡ Fault BadOrder (first_line end items)
+no_string end items none read keyword marks true text begins = absurd (false≢true (sym none ∙ begins refl))
+no_string end [] none read keyword marks false text begins = refl
+no_string end (Comment kind bytes line ∷ items) none read keyword marks false text begins = stopped end BadOrder line items
+no_string end (Word other found line ∷ items) none read keyword marks false text begins = stopped end BadOrder line items
+no_string end (Str bytes found line ∷ items) none read keyword marks false text begins = cc
+
+-- a string under other marks stands first
+pub other_string : (end : ℕ) (items rest : List TextItem) (bytes : List ℕ) (found : Marks) (line : ℕ) → items ≡ Str bytes found line ∷ rest → (read : SoFar) (keyword : Keyword) (marks : Marks) (some : Bool) (text : List ℕ) → same_marks marks found ≡ false
+    → comes_to end (In read keyword marks some text) items ≡ Fault (stray_string marks found) (first_line end items)
+other_string end items rest bytes found line is read keyword marks some text other = rw is (chosen (same_marks marks found) other) where
+  chosen : (b : Bool) → b ≡ false → comes_to end (if b then In read keyword marks true (text ++ bytes) else Stop (stray_string marks found) line) rest ≡ Fault (stray_string marks found) line
+  chosen true e = cc
+  chosen false e = stopped end (stray_string marks found) line rest
+
+-- a keyword of own lines is wanted, and no keyword stands first
+pub no_keyword : (end : ℕ) (items : List TextItem) → begins_word items ≡ false → (read : SoFar) (wanted : Wanted) → comes_to end (Between (Before read wanted)) items ≡ Fault BadOrder (first_line end items)
+no_keyword end [] none read wanted = refl
+no_keyword end (Comment kind bytes line ∷ items) none read wanted = stopped end BadOrder line items
+no_keyword end (Str bytes found line ∷ items) none read wanted = stopped end BadOrder line items
+no_keyword end (Word other found line ∷ items) none read wanted = cc
+
+-- an item that is refused stands first
+pub first_refused : (end : ℕ) (items rest : List TextItem) (item : TextItem) (fault : PoFault) → items ≡ item ∷ rest → (stage : Stage) → turn stage item ≡ Stop fault (line_of item) → comes_to end stage items ≡ Fault fault (first_line end items)
+first_refused end items rest item fault is stage e = rw is (ap (λ next. comes_to end next rest) e ∙ stopped end fault (line_of item) rest)
+
+-- a head ends at the end of the items, where its last previous text is followed by nothing
+pub head_unended : (end above : ℕ) (items : List TextItem) (read : SoFar) → items ≡ [] → (above == 0) ≡ false → comes_to end (Between (InHead read above)) items ≡ Fault BadOrder (first_line end items)
+head_unended end above items read none e = rw (none, e) refl
+
+-- what a later place comes to an earlier one does
+pub fails_from : {earlier later : Outcome} {error : PoError} → earlier ≡ later → IsFaultOf (λ fault line. later ≡ Fault fault line) error → IsFaultOf (λ fault line. earlier ≡ Fault fault line) error
+fails_from same fails = record { fault = λ other. same ∙ fails.fault other; memory = fails.memory }
+
+pub form_follows : (end : ℕ) (read : SoFar) (index : ℕ) (rest : List TextItem) → begins_form rest ≡ true → comes_to end (Between (AfterForm read index)) rest ≡ comes_to end (Between (Before read (Form index))) rest
+form_follows end read index [] e = cc
+form_follows end read index (item ∷ rest) e = rw e refl
+
+-- which keywords are wanted
+pub form_wanted : (index : ℕ) (keyword : Keyword) → is_wanted (Form index) keyword ≡ true → keyword ≡ MsgStrAt index
+form_wanted index (MsgStrAt found) e = ap (λ i. MsgStrAt i) (eqb-true found index e)
+form_wanted index keyword e = cc
+
+pub single_wanted : (keyword : Keyword) → is_wanted Translation keyword ≡ true → (keyword ≡ MsgIdPlural → ⊥) → keyword ≡ MsgStr
+single_wanted MsgStr e other = refl
+single_wanted MsgIdPlural e other = absurd (other refl)
+single_wanted keyword e other = cc
+
+pub id_wanted : (keyword : Keyword) → is_wanted Id keyword ≡ true → keyword ≡ MsgId
+id_wanted MsgId e = refl
+id_wanted keyword e = cc
+
+-- own lines begin with a context, or with a msgid
+pub context_begins : (end : ℕ) (items rest : List TextItem) (marks : Marks) (line : ℕ) → items ≡ Word MsgCtxt marks line ∷ rest → begins_own items ≡ true → (read : SoFar) (above : ℕ)
+    → comes_to end (Between (InHead read above)) items ≡ comes_to end (opened read (no_lines marks.obsolete) MsgCtxt line) rest
+context_begins end items rest marks line is begins read above = rw is (own marks.previous (rw is at begins)) where
+  own : (p : Bool) → (not p && true) ≡ true → comes_to end (Between (InHead read above)) (Word MsgCtxt (marked marks.obsolete p) line ∷ rest) ≡ comes_to end (opened read (no_lines marks.obsolete) MsgCtxt line) rest
+  own true e = cc
+  own false e = refl
+
+pub id_begins : (end : ℕ) (items rest : List TextItem) (keyword : Keyword) (marks : Marks) (line : ℕ) → items ≡ Word keyword marks line ∷ rest → (keyword ≡ MsgCtxt → ⊥) → begins_own items ≡ true → (read : SoFar) (above : ℕ)
+    → comes_to end (Between (InHead read above)) items ≡ comes_to end (Between (Before (with_own read (no_lines marks.obsolete)) Id)) items
+id_begins end items rest keyword marks line is other begins read above = rw is (own keyword other marks.previous (rw is at begins)) where
+  own : (keyword : Keyword) → (keyword ≡ MsgCtxt → ⊥) → (p : Bool) → (not p && begins_body keyword) ≡ true
+      → comes_to end (Between (InHead read above)) (Word keyword (marked marks.obsolete p) line ∷ rest) ≡ comes_to end (Between (Before (with_own read (no_lines marks.obsolete)) Id)) (Word keyword (marked marks.obsolete p) line ∷ rest)
+  own keyword other true e = cc
+  own MsgId other false e = rw (bool_eq_equiv.refl marks.obsolete) refl
+  own MsgCtxt other false e = absurd (other refl)
+  own keyword other false e = cc
+
+-- a previous text ends in its head
+pub previous_closed : (read : SoFar) (keyword : Keyword) (marks : Marks) (text : List ℕ) → marks.previous ≡ true
+    → closed read keyword marks text ≡ InHead (with_previous_text read (record { keyword = keyword; text = text })) (rank keyword)
+previous_closed read keyword marks text e = rw e refl
+
+-- keywords with which a head doesn't go on
+pub low_previous : (read : SoFar) (above : ℕ) (keyword : Keyword) (marks : Marks) (line : ℕ) → marks.previous ≡ true → nat_lt above (rank keyword) ≡ false → turn_head read above (Word keyword marks line) ≡ Stop BadOrder line
+low_previous read above keyword marks line p low = rw (p, low) refl
+
+pub stray_word : (read : SoFar) (above : ℕ) (keyword : Keyword) (marks : Marks) (line : ℕ) → marks.previous ≡ false → begins_body keyword ≡ false → turn_head read above (Word keyword marks line) ≡ Stop BadOrder line
+stray_word read above keyword marks line p b = rw (p, b) refl
+
+-- a head that ends at the end of the items is followed by nothing
+pub head_over : (end above : ℕ) (items : List TextItem) (read : SoFar) → items ≡ [] → EndsHead above items → comes_to end (Between (InHead read above)) items ≡ Entries read.entries
+head_over end above [] read none ends = rw (eq-eqb above 0 ends) refl
+head_over end above (item ∷ items) read none ends = cc
+
+pub own_lines_begin : (above : ℕ) (items : List TextItem) → EndsHead above items → items ≢ [] → begins_own items ≡ true
+own_lines_begin above [] ends some = absurd (some refl)
+own_lines_begin above (item ∷ items) ends some = ends
