@@ -22,7 +22,6 @@ pub mod PieceReading
 pub mod SeenFlags
 pub mod Kept
 pub mod KeptEntries
-pub mod Advancing
 pub mod Turns
 pub mod SpeltRuns
 pub mod RunsSpelt

@@ -68,10 +68,6 @@ no_keyword end (Word other found line ∷ items) none read wanted = cc
 pub first_refused : (end : ℕ) (items rest : List TextItem) (item : TextItem) (fault : PoFault) → items ≡ item ∷ rest → (stage : Stage) → turn stage item ≡ Stop fault (line_of item) → comes_to end stage items ≡ Fault fault (first_line end items)
 first_refused end items rest item fault is stage e = rw is (ap (λ next. comes_to end next rest) e ∙ stopped end fault (line_of item) rest)
 
--- a head ends at the end of the items, where its last previous text is followed by nothing
-pub head_unended : (end above : ℕ) (items : List TextItem) (read : SoFar) → items ≡ [] → (above == 0) ≡ false → comes_to end (Between (InHead read above)) items ≡ Fault BadOrder (first_line end items)
-head_unended end above items read none e = rw (none, e) refl
-
 -- what a later place comes to an earlier one does
 pub fails_from : {earlier later : Outcome} {error : PoError} → earlier ≡ later → IsFaultOf (λ fault line. later ≡ Fault fault line) error → IsFaultOf (λ fault line. earlier ≡ Fault fault line) error
 fails_from same fails = record { fault = λ other. same ∙ fails.fault other; memory = fails.memory }

@@ -2,7 +2,8 @@
 
 ghost use Rattle.std.specs.Prelude.{◌≡◌, ◌≢◌, ◌<◌, ◌≤◌, [], ℕ, true, length, IfOk, OnOk, IfErr, ◌^◌};
 ghost use Rattle.po_entry.specs.TextEntry.{texts, optional_text};
-ghost use Rattle.po_reader.specs.Internal.Stage.{SoFar, Between, Before, InHead, no_lines, with_own, with_context, with_entry, with_forms, with_translation};
+ghost use Rattle.po_reader.specs.Internal.Stage.{SoFar, Between, Before, InHead, no_lines, with_own, with_entry};
+ghost use Rattle.po_reader.specs.Internal.Stage.{with_context, with_forms, with_translation};
 ghost use Rattle.po_reader.specs.Internal.Stage as stage;
 ghost use Rattle.po_reader.specs.Internal.Turn.{begins_form, begins_own};
 ghost use Rattle.po_reader.specs.Internal.Reads.{comes, Fails};
@@ -104,7 +105,8 @@ fn take_context(
 ) -> Result<(Option<Vec<u8>>, bool), PoError>
     requires { begins_own rest.old.items ≡ true }
     ensures found { IfOk result (λ p. (read : SoFar) (above : ℕ) → comes (Between (InHead read above)) rest.old
-        ≡ comes (Between (Before (with_own read (with_context (no_lines p.1) (optional_text p.0))) stage.Id)) rest.new) }
+        ≡ comes (Between (Before (with_own read (with_context (no_lines p.1) (optional_text p.0))) stage.Id))
+        rest.new) }
     ensures fewer { OnOk result (length rest.new.items ≤ length rest.old.items) }
     ensures fault { IfErr result (λ e. (read : SoFar) (above : ℕ) → Fails (Between (InHead read above)) rest.old e) }
 {

@@ -165,8 +165,8 @@ pub(crate) fn take_head<'i>(
     rest: &mut Cursor<'i, '_>,
     with_comments: bool,
 ) -> Result<Head<'i>, PoError>
-    ensures found { IfOk result (λ head. (comment_texts : List CommentText) × (previous : List PreviousText) × (above : ℕ)
-        × HoldsHead head (kept_comments with_comments comment_texts) previous
+    ensures found { IfOk result (λ head. (comment_texts : List CommentText) × (previous : List PreviousText)
+        × (above : ℕ) × HoldsHead head (kept_comments with_comments comment_texts) previous
         × ((entries : List TextEntry) → comes (start entries) rest.old
         ≡ comes (Between (InHead (after_head entries comment_texts previous) above)) rest.new)
         × EndsHead above rest.new.items) }
