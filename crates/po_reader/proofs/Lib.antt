@@ -27,4 +27,3 @@ pub mod SpeltRuns
 pub mod RunsSpelt
 pub mod Viability
 pub mod Faults
-pub mod Forgotten

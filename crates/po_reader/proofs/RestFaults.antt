@@ -19,7 +19,6 @@ use Rattle.po_entry.specs.Viable.{ItemsFault, last_line}
 use Rattle.po_reader.specs.Internal.Turn.{comes_to}
 use Rattle.po_reader.specs.Internal.Reads.{start}
 use Rattle.po_reader.proofs.SpeltRuns.{IsApart, spelt_go_on}
-use Rattle.po_reader.proofs.Forgotten.{same_fault}
 use Rattle.po_reader.proofs.Faults.{items_fault, fault_comes, spelt_once}
 use Rattle.po_reader.proofs.OneReading.{read_or_stopped}
 
@@ -32,9 +31,9 @@ last_after (first ∷ second ∷ front) item rest = last_after (second ∷ front
 fault_after : (front rest : List TextItem) {entries : List TextEntry} {line : ℕ} {fault : PoFault} → SpellsEntries front entries → EndsInString front → IsApart rest → ItemsFault rest fault line → ItemsFault (front ++ rest) fault line
 fault_after front [] read ends apart wrong = absurd (fault_unread wrong (spelling.comments tt))
 fault_after front (item ∷ rest) {entries} {line} {fault} read ends apart wrong =
-    items_fault (front ++ item ∷ rest) fault line
+    items_fault [] (front ++ item ∷ rest) fault line
     (ap (λ end. comes_to end (start []) (front ++ item ∷ rest)) (last_after front item rest) ∙ spelt_go_on read (last_line (item ∷ rest)) [] (item ∷ rest) ends apart
-    ∙ same_fault (last_line (item ∷ rest)) (item ∷ rest) entries fault line (fault_comes wrong))
+    ∙ fault_comes entries wrong)
 
 texts_stop_after : (entries : List TextEntry) {others : List TextEntry} {fault : PoFault} {line : ℕ} → All HasTexts entries → faults.TextsStop others fault line → faults.TextsStop (entries ++ others) fault line
 texts_stop_after [] h stops = stops

@@ -295,7 +295,9 @@ left end (Word other found line ∷ items) (In read keyword marks true text) ent
 left end (Comment kind bytes line ∷ items) (In read keyword marks false text) entries e = absurd (never end BadOrder line items entries e)
 left end (Word other found line ∷ items) (In read keyword marks false text) entries e = absurd (never end BadOrder line items entries e)
 
-pub runs_spelt : (end : ℕ) (items : List TextItem) (entries : List TextEntry) → comes_to end (Between (InHead (only []) 0)) items ≡ Entries entries → spell.SpellsEntries items entries
-runs_spelt end items entries e =
-    let others = others_left [] entries items (left end items (Between (InHead (only []) 0)) entries e) in
-    subst (spell.SpellsEntries items) (sym others.2) others.1
+-- after these entries, the items spell those that the reader finds
+pub runs_spelt : (end : ℕ) (before : List TextEntry) (items : List TextItem) (all : List TextEntry) → comes_to end (Between (InHead (only before) 0)) items ≡ Entries all → (more : List TextEntry) × spell.SpellsEntries items more × (all ≡ before ++ more)
+runs_spelt end before items all e = others_left before all items (left end items (Between (InHead (only before) 0)) all e)
+
+pub whole_spelt : (end : ℕ) (items : List TextItem) (entries : List TextEntry) → comes_to end (Between (InHead (only []) 0)) items ≡ Entries entries → spell.SpellsEntries items entries
+whole_spelt end items entries e = let spelt = runs_spelt end [] items entries e in subst (spell.SpellsEntries items) (sym spelt.2) spelt.1

@@ -66,21 +66,22 @@ completed (In read keyword marks some text) e =
       λ end. ap (λ stage. comes_to end stage more.after) (string_step read keyword marks some text [] 0) ∙ text_ends end read keyword marks (text ++ []) more.after more.apart ∙ more.comes end,
     )
 
--- where a list of items leads
-abbrev pub led : List TextItem → Stage
-led items = fold turn (start []) items
+-- where a list of items leads, after these entries
+abbrev pub led : List TextEntry → List TextItem → Stage
+led before items = fold turn (start before) items
 
-led_on : (end : ℕ) (items after : List TextItem) → comes_to end (start []) (items ++ after) ≡ comes_to end (led items) after
-led_on end items after = ap (outcome end) (fold-append turn (start []) items after)
+led_on : (end : ℕ) (before : List TextEntry) (items after : List TextItem) → comes_to end (start before) (items ++ after) ≡ comes_to end (led before items) after
+led_on end before items after = ap (outcome end) (fold-append turn (start before) items after)
 
-pub viable : (items : List TextItem) → goes_on (led items) ≡ true → IsViable items
-viable items e =
-    let more = completed (led items) e in
-    (more.0, more.1, runs_spelt 0 (items ++ more.0) more.1 (led_on 0 items more.0 ∙ more.2 0))
+pub viable : (before : List TextEntry) (items : List TextItem) → goes_on (led before items) ≡ true → IsViable items
+viable before items e =
+    let more = completed (led before items) e in
+    let spelt = runs_spelt 0 before (items ++ more.0) more.1 (led_on 0 before items more.0 ∙ more.2 0) in
+    (more.0, spelt.0, spelt.1)
 
-pub not_viable : (items : List TextItem) → goes_on (led items) ≡ false → IsViable items → ⊥
-not_viable items e (after, entries, spelt) = refused (led items) refl e where
-  refused : (stage : Stage) → led items ≡ stage → goes_on stage ≡ false → ⊥
+pub not_viable : (before : List TextEntry) (items : List TextItem) → goes_on (led before items) ≡ false → IsViable items → ⊥
+not_viable before items e (after, entries, spelt) = refused (led before items) refl e where
+  refused : (stage : Stage) → led before items ≡ stage → goes_on stage ≡ false → ⊥
   refused (Stop fault line) is e =
-      let fails = sym (stopped 0 fault line after) ∙ ap (λ stage. comes_to 0 stage after) (sym is) ∙ sym (led_on 0 items after) ∙ spelt_runs spelt 0 [] in cc
+      let fails = sym (stopped 0 fault line after) ∙ ap (λ stage. comes_to 0 stage after) (sym is) ∙ sym (led_on 0 before items after) ∙ spelt_runs spelt 0 before in cc
   refused stage is e = cc

@@ -1,11 +1,11 @@
-use Rattle.std.proofs.Common.{◌∙◌, List, subst, sym}
+use Rattle.std.proofs.Common.{◌∙◌, [], List, subst, sym}
 use Rattle.std.specs.Prelude.{All}
 use Rattle.std.proofs.lemmas.List.Elements.{All-map}
 use Rattle.po_entry.specs.Header.{HasAdmittedCharset}
 use Rattle.po_entry.specs.EntryView.{entry_view}
 use Rattle.po_entry.specs.Validity.{HasTexts}
 use Rattle.po_entry.specs.TextEntry.{TextEntry}
-use Rattle.po_reader.proofs.RunsSpelt.{runs_spelt}
+use Rattle.po_reader.proofs.RunsSpelt.{whole_spelt}
 use Rattle.po_reader.proofs.Faults.{items_fault}
 use Rattle.po_entry.specs.Faults.{CharsetStops, TextsStop}
 use Rattle.po_entry.specs.Faults.ItemsStop.{in_items, in_texts, in_charset}
@@ -18,7 +18,7 @@ use Rattle.po_reader.proofs.items.read_items.Goals as goal
 pub returns-in_err-drafts-clause-fault : goal.returns-in_err-drafts-clause-fault
 returns-in_err-drafts-clause-fault c =
     let stops = rw (c.last_line.ensures, c.deref.ensures.value, c.deref-2.ensures.value) at c.in_err-drafts.ensures.fault in
-    passed_on c.from_residual.result _ c.from_residual.ensures.1 (λ other. in_items (items_fault _ _ _ (stops.fault other)))
+    passed_on c.from_residual.result _ c.from_residual.ensures.1 (λ other. in_items (items_fault [] _ _ _ (stops.fault other)))
 
 pub returns-in_err-drafts-clause-memory : goal.returns-in_err-drafts-clause-memory
 returns-in_err-drafts-clause-memory c = passed_on c.from_residual.result _ c.from_residual.ensures.1 c.in_err-drafts.ensures.fault.memory
@@ -28,7 +28,7 @@ returns-in_err-check_drafts-clause-fault c =
     let spelt = rw c.deref.ensures.value at c.in_ok-drafts.ensures.found in
     let stops = rw c.deref-3.ensures.value at c.in_err-check_drafts.ensures.fault in
     let kept = subst (λ (es : List TextEntry). TextsStop es c.in_err-check_drafts.field-0.0.kind c.in_err-check_drafts.field-0.0.line) spelt.2 stops in
-    passed_on c.from_residual-in_err-check_drafts.result _ c.from_residual-in_err-check_drafts.ensures.1 (λ other. in_texts (runs_spelt _ _ _ spelt.1) (kept_texts_stop c.args.with_comments spelt.0 kept))
+    passed_on c.from_residual-in_err-check_drafts.result _ c.from_residual-in_err-check_drafts.ensures.1 (λ other. in_texts (whole_spelt _ _ _ spelt.1) (kept_texts_stop c.args.with_comments spelt.0 kept))
 
 pub returns-in_err-check_drafts-clause-memory : goal.returns-in_err-check_drafts-clause-memory
 returns-in_err-check_drafts-clause-memory c = passed_on c.from_residual-in_err-check_drafts.result _ c.from_residual-in_err-check_drafts.ensures.1 (λ memory. absurd (texts_reported c.in_err-check_drafts.ensures.fault memory))
@@ -36,7 +36,7 @@ returns-in_err-check_drafts-clause-memory c = passed_on c.from_residual-in_err-c
 pub catalogue_of-requires : goal.catalogue_of-requires
 catalogue_of-requires c =
     let spelt = rw c.deref.ensures.value at c.in_ok-drafts.ensures.found in
-    let sound = subst (All SoundEntry) (sym spelt.2) (kept_sound c.args.with_comments spelt.0 (entries_sound (runs_spelt _ _ _ spelt.1) c.requires.hold)) in
+    let sound = subst (All SoundEntry) (sym spelt.2) (kept_sound c.args.with_comments spelt.0 (entries_sound (whole_spelt _ _ _ spelt.1) c.requires.hold)) in
     let asked = rw c.deref-3.ensures.value at c.in_ok-check_drafts.ensures.ok in
     drafts_valid _ sound asked
 
@@ -48,7 +48,7 @@ returns-clause-found c =
     let admitted = ok_step c.catalogue_of.result (λ _ charsets. kept_admitted c.args.with_comments spelt.0 (subst (All HasAdmittedCharset) spelt.2 charsets)) c.catalogue_of.ensures.charsets in
     ok_both c.catalogue_of.result (λ made is charsets. (
       spelt.0,
-      record { reads = runs_spelt _ _ _ spelt.1; texts = texts; charsets = charsets },
+      record { reads = whole_spelt _ _ _ spelt.1; texts = texts; charsets = charsets },
       is ∙ spelt.2,
     )) c.catalogue_of.ensures.entries admitted
 
@@ -60,4 +60,4 @@ returns-clause-fault c =
     err_step c.catalogue_of.result (λ e h other.
     let foreign = h other in
     let stops = kept_charset_stops c.args.with_comments spelt.0 (subst (λ (es : List TextEntry). CharsetStops es e.line) spelt.2 foreign.1) in
-    rw foreign.0 (in_charset (runs_spelt _ _ _ spelt.1) texts stops)) c.catalogue_of.ensures.fault
+    rw foreign.0 (in_charset (whole_spelt _ _ _ spelt.1) texts stops)) c.catalogue_of.ensures.fault

@@ -1,8 +1,8 @@
 use Rattle.std.proofs.Common.{[]}
 use Rattle.po_reader.proofs.SpeltRuns.{spelt_runs}
-use Rattle.po_reader.proofs.RunsSpelt.{runs_spelt}
+use Rattle.po_reader.proofs.RunsSpelt.{whole_spelt}
 use Rattle.po_entry.specs.Viable.{last_line}
 use Rattle.po_reader.proofs.laws.entries_are_spelt.Goals as goal
 
 pub returns : goal.returns
-returns c = λ items entries. (λ h. runs_spelt (last_line items) items entries h, λ h. spelt_runs h (last_line items) [])
+returns c = λ items entries. (λ h. whole_spelt (last_line items) items entries h, λ h. spelt_runs h (last_line items) [])
