@@ -1,5 +1,5 @@
 -- What is selected of the entries of a text.
-use Rattle.std.proofs.Common.{◌≡◌, ◌≢◌, refl, sym, ap, subst, ◌∙◌, ℕ, Bool, true, false, cond, not, ◌&&◌, List, [], ◌∷◌, ◌++◌, map, filter, inl, inr}
+use Rattle.std.proofs.Common.{◌≡◌, ◌≢◌, sym, ap, subst, ◌∙◌, ℕ, List, ◌++◌, map, filter, inl, inr}
 use Rattle.std.proofs.lemmas.List.{map-append}
 use Rattle.std.proofs.lemmas.List.Elements.{filter-append}
 use Rattle.po_syntax.specs.declared.fault.PoError.{PoError}
@@ -7,9 +7,10 @@ use Rattle.po_syntax.specs.declared.fault.PoFault.TheVariants.{Duplicate, OutOfM
 use Rattle.po_entry.specs.TextEntry.{TextEntry}
 use Rattle.po_messages.specs.Duplicate.{AllDiffer, HasNoDuplicate, IsSameMessage}
 use Rattle.po_messages.specs.Facts.FirstRepeats.{pairs_map, repeat_map}
+use Rattle.po_messages.specs.Facts.Mapped.{filter_map, filter_twice}
 use Rattle.po_messages.specs.Joined.{in_input, is_live}
 use Rattle.po_select.specs.declared.selection.Selection.{Selection}
-use Rattle.po_select.specs.Selected.{changed, is_kept, obsolete_after, selected}
+use Rattle.po_select.specs.Selected.{changed, is_kept, selected}
 use Rattle.msgattrib.specs.Msgattrib.{IsMsgattribRun, error_line}
 use Rattle.po_messages.specs.Places.{RepeatsOnLines}
 use Rattle.po_messages.specs.Repeats.{IsFirstRepeat}
@@ -25,14 +26,7 @@ selected_joined s before entries =
 
 -- the selected entries that are live
 live_selected : (s : Selection) (entries : List TextEntry) → filter is_live (selected s entries) ≡ map (changed s) (filter (stays_live s) entries)
-live_selected s [] = refl
-live_selected s (e ∷ entries) = step (is_kept s e) (not (obsolete_after s e)) refl (live_selected s entries) where
-  step : (b c : Bool) → not (obsolete_after s e) ≡ c → filter is_live (selected s entries) ≡ map (changed s) (filter (stays_live s) entries)
-      → filter is_live (map (changed s) (cond b (e ∷ filter (is_kept s) entries) (filter (is_kept s) entries)))
-      ≡ map (changed s) (cond (b && c) (e ∷ filter (stays_live s) entries) (filter (stays_live s) entries))
-  step false c is more = more
-  step true true is more = ap (λ (b : Bool). cond b (changed s e ∷ filter is_live (selected s entries)) (filter is_live (selected s entries))) is ∙ ap (λ l. changed s e ∷ l) more
-  step true false is more = ap (λ (b : Bool). cond b (changed s e ∷ filter is_live (selected s entries)) (filter is_live (selected s entries))) is ∙ more
+live_selected s entries = filter_map is_live (changed s) (filter (is_kept s) entries) ∙ ap (map (changed s)) (filter_twice (is_kept s) (λ e. is_live (changed s e)) entries)
 
 -- one that stands twice among those that are selected
 pub repeats_selected : (s : Selection) (entries : List TextEntry) (lines : ℕ × ℕ) (error : PoError) → HasNoDuplicate entries

@@ -12,6 +12,7 @@ use Rattle.po_entry.specs.Header.{HasAdmittedCharset, is_header}
 use Rattle.po_entry.specs.ReadsText.{ReadsText}
 use Rattle.po_entry.specs.TextEntry.{TextEntry, SameButLine, with_line}
 use Rattle.po_entry.specs.Validity.{IsCatalogueEntry}
+use Rattle.po_messages.specs.Facts.Mapped.{filter_map}
 use Rattle.po_messages.specs.Joined.{is_live}
 use Rattle.po_messages.specs.Message.{same_message}
 use Rattle.po_merge.specs.declared.definition.NamedEntry.{NamedEntry as BorrowedEntry}
@@ -138,17 +139,10 @@ order_unlined [] = refl
 order_unlined (e ∷ es) = ap (λ l. entry_lines e ++ l) (further_unlined es)
 
 module _ (p : Bool → Bool) where
-  filter_unlined : (es : List TextEntry) → filter (λ e. p e.obsolete) (map (with_line 0) es) ≡ map (with_line 0) (filter (λ e. p e.obsolete) es)
-  filter_unlined [] = refl
-  filter_unlined (e ∷ es) = ap (λ l. cond (p e.obsolete) (with_line 0 e ∷ l) l) (filter_unlined es) ∙ found (p e.obsolete) where
-    found : (b : Bool) → cond b (with_line 0 e ∷ map (with_line 0) (filter (λ x. p x.obsolete) es)) (map (with_line 0) (filter (λ x. p x.obsolete) es)) ≡ map (with_line 0) (cond b (e ∷ filter (λ x. p x.obsolete) es) (filter (λ x. p x.obsolete) es))
-    found true = refl
-    found false = refl
-
   part_unlined : (es fs : List TextEntry) → map (with_line 0) es ≡ map (with_line 0) fs → in_order (filter (λ e. p e.obsolete) es) ≡ in_order (filter (λ e. p e.obsolete) fs)
   part_unlined es fs same =
-      sym (order_unlined (filter (λ e. p e.obsolete) es)) ∙ ap in_order (sym (filter_unlined es)) ∙ ap (λ l. in_order (filter (λ e. p e.obsolete) l)) same
-      ∙ ap in_order (filter_unlined fs) ∙ order_unlined (filter (λ e. p e.obsolete) fs)
+      sym (order_unlined (filter (λ e. p e.obsolete) es)) ∙ ap in_order (sym (filter_map (λ (e : TextEntry). p e.obsolete) (with_line 0) es)) ∙ ap (λ l. in_order (filter (λ e. p e.obsolete) l)) same
+      ∙ ap in_order (filter_map (λ (e : TextEntry). p e.obsolete) (with_line 0) fs) ∙ order_unlined (filter (λ e. p e.obsolete) fs)
 
 -- the last entry, but for its line
 pub last_unlined : (before : List TextEntry) (a b : TextEntry) (parts : TextParts) → SameButLine a b → AreParts (before ++ a ∷ []) parts → AreParts (before ++ b ∷ []) parts

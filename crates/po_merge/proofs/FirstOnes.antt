@@ -1,26 +1,21 @@
 -- The first ones of a list, where being alike is an equivalence.
-use Rattle.std.proofs.Common.{◌≡◌, ℕ, ◌+◌, ◌<◌, Bool, true, false, cond, not, ◌||◌, List, [], ◌∷◌, ◌++◌, refl, sym, ap, ap₂, ◌∙◌, subst, length, map, filter, fold, suc, append-nil, get_or, set, arith}
+use Rattle.std.proofs.Common.{◌≡◌, ℕ, ◌+◌, Bool, true, false, cond, not, ◌||◌, List, [], ◌∷◌, ◌++◌, refl, sym, ap, ap₂, ◌∙◌, map, filter, fold, get_or}
 use Rattle.std.specs.Prelude.{All, if◌then◌else◌}
 use Rattle.std.specs.List.{list_any, position_or_len}
 use Rattle.std.specs.Cmp.{IsEquivalence}
 use Rattle.std.proofs.lemmas.List.Folds.{list_any-append, list_any_at}
 use Rattle.std.proofs.lemmas.List.{map-append}
-use Rattle.std.proofs.lemmas.List.Elements.{All-head, All-nil, All-push, All-tail, filter-append}
+use Rattle.std.proofs.lemmas.List.Elements.{All-head, All-nil, All-push, All-tail}
 use Rattle.std.proofs.lemmas.Bool.{cond_both, or_parts, false_from_ne_true, false≢true}
 use Rattle.std.proofs.Math.Bool.{or-false}
 use Rattle.std.proofs.lemmas.List.Sums.{fold_push}
-use Rattle.po_messages.proofs.FirstOnes.{any_alike, any_first_ones}
+use Rattle.po_messages.specs.Facts.Mapped.{any_map}
 use Rattle.po_merge.specs.Groups.{with_new, first_ones}
 
 -- no two elements are alike
 abbrev pub Apart : {X : Type 0} → (X → X → Bool) → List X → Type 0
 Apart alike [] = Unit {0}
 Apart alike (x ∷ xs) = (list_any (alike x) xs ≡ false) × Apart alike xs
-
--- of two values that are mapped a test takes what it takes of them
-pub cond_ap : {X Y : Type 0} (f : X → Y) (b : Bool) (x y : X) → cond b (f x) (f y) ≡ f (cond b x y)
-cond_ap f true x y = refl
-cond_ap f false x y = refl
 
 -- where no element passes, each one fails
 pub none_all : {X : Type 0} (p : X → Bool) (xs : List X) → list_any p xs ≡ false → All (λ x. p x ≡ false) xs
@@ -57,49 +52,6 @@ module _ {X : Type 0} (alike : X → X → Bool) (laws : IsEquivalence alike) wh
   pub apart_first_ones : (xs : List X) → Apart alike (first_ones alike xs)
   apart_first_ones xs = apart_fold [] xs tt
 
-  -- one more element that is like none of the first ones leaves their groups
-  pub skipped : (xs : List X) (x : X) (fs : List X) → list_any (alike x) fs ≡ false → map (group_of alike (xs ++ x ∷ [])) fs ≡ map (group_of alike xs) fs
-  skipped xs x [] h = refl
-  skipped xs x (f ∷ fs) h =
-      let parts = or_parts (alike x f) (list_any (alike x) fs) h in
-      let here : group_of alike (xs ++ x ∷ []) f ≡ group_of alike xs f = filter-append (λ y. alike y f) xs (x ∷ []) ∙ ap (λ (b : Bool). group_of alike xs f ++ cond b (x ∷ []) []) parts.0 ∙ append-nil (group_of alike xs f) in
-      ap₂ (λ (g : List X) (gs : List (List X)). g ∷ gs) here (skipped xs x fs parts.1)
-
-  more_of : (xs : List X) (x f : X) → alike x f ≡ true → group_of alike (xs ++ x ∷ []) f ≡ group_of alike xs f ++ x ∷ []
-  more_of xs x f e = filter-append (λ y. alike y f) xs (x ∷ []) ∙ ap (λ (b : Bool). group_of alike xs f ++ cond b (x ∷ []) []) e
-
-  -- one more element that is like a first one grows its group alone
-  pub grown : (xs : List X) (x : X) (fs : List X) (i : ℕ) (d : List X) → Apart alike fs → position_or_len (alike x) fs ≡ i → i < length fs
-      → map (group_of alike (xs ++ x ∷ [])) fs ≡ set (map (group_of alike xs) fs) i (get_or (map (group_of alike xs) fs) i d ++ x ∷ [])
-  grown xs x [] i d h e less = absurd (omega (arith, less))
-  grown xs x (f ∷ fs) i d h e less = found (alike x f) refl e (λ more. grown xs x fs (position_or_len (alike x) fs) d h.1 refl more) where
-    P : ℕ → Type 0
-    P j = map (group_of alike (xs ++ x ∷ [])) (f ∷ fs) ≡ set (map (group_of alike xs) (f ∷ fs)) j (get_or (map (group_of alike xs) (f ∷ fs)) j d ++ x ∷ [])
-
-    found : (b : Bool) → alike x f ≡ b → cond (not b) (1 + position_or_len (alike x) fs) 0 ≡ i
-        → (position_or_len (alike x) fs < length fs
-        → map (group_of alike (xs ++ x ∷ [])) fs ≡ set (map (group_of alike xs) fs) (position_or_len (alike x) fs) (get_or (map (group_of alike xs) fs) (position_or_len (alike x) fs) d ++ x ∷ []))
-        → P i
-    found true a q more = subst P q (ap₂ (λ (g : List X) (gs : List (List X)). g ∷ gs) (more_of xs x f a) (skipped xs x fs (any_alike alike laws x f a fs ∙ h.0)))
-    found false a q more =
-        let suc_is : suc (position_or_len (alike x) fs) ≡ i = omega (arith, q) in
-        let here : group_of alike (xs ++ x ∷ []) f ≡ group_of alike xs f = filter-append (λ y. alike y f) xs (x ∷ []) ∙ ap (λ (b : Bool). group_of alike xs f ++ cond b (x ∷ []) []) a ∙ append-nil (group_of alike xs f) in
-        subst P suc_is (ap₂ (λ (g : List X) (gs : List (List X)). g ∷ gs) here (more (omega (arith, less, q))))
-
-  pub none_alike : (x : X) (xs : List X) → list_any (alike x) xs ≡ false → group_of alike xs x ≡ []
-  none_alike x [] h = refl
-  none_alike x (y ∷ ys) h =
-      let parts = or_parts (alike x y) (list_any (alike x) ys) h in
-      ap (λ (b : Bool). cond b (y ∷ group_of alike ys x) (group_of alike ys x)) (laws.symm y x ∙ parts.0) ∙ none_alike x ys parts.1
-
-  -- one more element that is like no first one makes a group of its own
-  pub grouped_new : (xs : List X) (x : X) → list_any (alike x) (first_ones alike xs) ≡ false
-      → map (group_of alike (xs ++ x ∷ [])) (first_ones alike xs ++ x ∷ []) ≡ map (group_of alike xs) (first_ones alike xs) ++ (x ∷ []) ∷ []
-  grouped_new xs x h =
-      let F = first_ones alike xs in
-      let alone : group_of alike (xs ++ x ∷ []) x ≡ x ∷ [] = more_of xs x x (laws.refl x) ∙ ap (λ (l : List X). l ++ x ∷ []) (none_alike x xs (sym (any_first_ones alike laws x xs) ∙ h)) in
-      map-append (group_of alike (xs ++ x ∷ [])) F (x ∷ []) ∙ ap₂ (λ (a : List (List X)) (b : List X). a ++ b ∷ []) (skipped xs x F h) alone
-
   pub firsts_same : (xs : List X) (x : X) → list_any (alike x) (first_ones alike xs) ≡ true → first_ones alike (xs ++ x ∷ []) ≡ first_ones alike xs
   firsts_same xs x h = fold_push (with_new alike) [] xs x ∙ ap (λ (b : Bool). if b then first_ones alike xs else first_ones alike xs ++ x ∷ []) h
 
@@ -107,13 +59,9 @@ module _ {X : Type 0} (alike : X → X → Bool) (laws : IsEquivalence alike) wh
   firsts_more xs x h = fold_push (with_new alike) [] xs x ∙ ap (λ (b : Bool). if b then first_ones alike xs else first_ones alike xs ++ x ∷ []) h
 
 module _ {X Y : Type 0} (f : X → Y) (alike : Y → Y → Bool) where
-  any_map : (y : Y) (xs : List X) → list_any (alike y) (map f xs) ≡ list_any (λ x. alike y (f x)) xs
-  any_map y [] = refl
-  any_map y (x ∷ xs) = ap (λ (b : Bool). alike y (f x) || b) (any_map y xs)
-
   firsts_from : (fs xs : List X) → fold (with_new alike) (map f fs) (map f xs) ≡ map f (fold (with_new (λ a b. alike (f a) (f b))) fs xs)
   firsts_from fs [] = refl
-  firsts_from fs (x ∷ xs) = ap (λ (l : List Y). fold (with_new alike) l (map f xs)) (one (list_any (λ y. alike (f x) (f y)) fs) (any_map (f x) fs)) ∙ firsts_from (with_new (λ a b. alike (f a) (f b)) fs x) xs where
+  firsts_from fs (x ∷ xs) = ap (λ (l : List Y). fold (with_new alike) l (map f xs)) (one (list_any (λ y. alike (f x) (f y)) fs) (any_map (alike (f x)) f fs)) ∙ firsts_from (with_new (λ a b. alike (f a) (f b)) fs x) xs where
     one : (b : Bool) → list_any (alike (f x)) (map f fs) ≡ b → with_new alike (map f fs) (f x) ≡ map f (if b then fs else fs ++ x ∷ [])
     one true e = ap (λ (t : Bool). if t then map f fs else map f fs ++ f x ∷ []) e
     one false e = ap (λ (t : Bool). if t then map f fs else map f fs ++ f x ∷ []) e ∙ sym (map-append f fs (x ∷ []))

@@ -14,6 +14,7 @@ use Rattle.po_entry.specs.Header.{HasAdmittedCharset, is_header}
 use Rattle.po_entry.specs.TextEntry.{TextEntry}
 use Rattle.po_entry.specs.Validity.{IsRefusedEntry}
 use Rattle.po_messages.specs.Joined.{is_live}
+use Rattle.po_messages.specs.Facts.Mapped.{cond_ap, filter_map}
 use Rattle.po_messages.proofs.FirstOnes.{any_first_ones}
 use Rattle.po_merge.specs.declared.definition.NamedEntry.{NamedEntry as BorrowedEntry}
 use Rattle.po_merge.specs.declared.input.MergeOptions.{MergeOptions}
@@ -23,7 +24,7 @@ use Rattle.po_merge.specs.Groups.{same_message, first_ones, groups, definitions,
 use Rattle.po_merge.specs.Grouping.{IsDefinition, IsGroup, group_entries}
 use Rattle.po_merge.specs.MergedEntry.{merged_entry}
 use Rattle.po_merge.specs.Merged.{is_kept, is_kept_by, is_wanted, merged_messages, IsMergeFault}
-use Rattle.po_merge.proofs.FirstOnes.{group_of, cond_ap}
+use Rattle.po_merge.proofs.FirstOnes.{group_of}
 use Rattle.po_merge.proofs.Messages.{same_message_laws}
 use Rattle.po_merge.proofs.Views.{any_named}
 
@@ -57,10 +58,7 @@ pub definitions_valid : (group : List NamedEntry) → IsGroup group → IsGroup 
 definitions_valid group h = cond_both (list_any (λ d. is_live d.entry) group) (filter (λ d. is_live d.entry) group) group IsGroup (live_valid group h) (λ _. h)
 
 live_named : (ds : List BorrowedEntry) → named_entries (filter (λ d. is_live d.entry.now) ds) ≡ filter (λ d. is_live d.entry) (named_entries ds)
-live_named [] = refl
-live_named (d ∷ ds) =
-    let live = filter (λ x. is_live x.entry.now) ds in
-    sym (cond_ap named_entries (is_live d.entry.now) (d ∷ live) live) ∙ ap (λ (l : List NamedEntry). cond (is_live d.entry.now) (named_entry d ∷ l) l) (live_named ds)
+live_named ds = sym (filter_map (λ (d : NamedEntry). is_live d.entry) named_entry ds)
 
 -- what defines a message, and whether it is kept, by the entries as the code holds them
 pub definitions_named : (ds : List BorrowedEntry) → named_entries (definitions_by (λ d. is_live d.entry.now) ds) ≡ definitions (named_entries ds)

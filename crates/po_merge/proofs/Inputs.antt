@@ -1,7 +1,8 @@
 -- The entries of the inputs so far, and of one more.
-use Rattle.std.proofs.Common.{◌≡◌, ℕ, ◌+◌, ◌<◌, List, [], ◌∷◌, ◌++◌, sym, ap, ◌∙◌, map, take, get_or, length, append-nil, append_assoc}
+use Rattle.std.proofs.Common.{◌≡◌, ℕ, ◌+◌, ◌<◌, List, [], ◌∷◌, ◌++◌, sym, ap, ◌∙◌, map, take, get_or, length, append-nil}
 use Rattle.std.specs.Prelude.{All, IsUtf8}
 use Rattle.std.proofs.lemmas.List.{take_more, map-append}
+use Rattle.std.proofs.lemmas.Grind.{flat_map-append}
 use Rattle.std.proofs.lemmas.List.Elements.{All-map, All-append, All-weaker}
 use Rattle.po_entry.specs.Bytes.{Lacks}
 use Rattle.po_entry.specs.TextEntry.{TextEntry}
@@ -13,8 +14,8 @@ use Rattle.po_merge.specs.Grouping.{IsDefinition}
 use Rattle.po_merge.specs.MergeLaws.{StandInTurn, no_input, no_further, first_entry}
 
 entries_append : (xs : List Named) (y : Named) → all_entries (xs ++ y ∷ []) ≡ all_entries xs ++ map (named y.name) y.entries
-entries_append [] y = append-nil (map (named y.name) y.entries)
-entries_append (x ∷ xs) y = ap (λ (l : List NamedEntry). map (named x.name) x.entries ++ l) (entries_append xs y) ∙ sym (append_assoc (map (named x.name) x.entries) (all_entries xs) (map (named y.name) y.entries))
+entries_append xs y =
+    flat_map-append (λ (n : Named). map (named n.name) n.entries) xs (y ∷ []) ∙ ap (λ (l : List NamedEntry). all_entries xs ++ l) (append-nil (map (named y.name) y.entries))
 
 pub entries_more : (inputs : List BorrowedInput) (i : ℕ) (input : BorrowedInput) (entries : List TextEntry) → i < length inputs → input ≡ get_or inputs i input → entries ≡ input.catalogue
     → all_entries (inputs_view (take (i + 1) inputs)) ≡ all_entries (inputs_view (take i inputs)) ++ map (named input.name.now) entries

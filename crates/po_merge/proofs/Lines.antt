@@ -1,5 +1,5 @@
 -- The lines of definitions, which change nothing but the line of what they are merged to.
-use Rattle.std.proofs.Common.{◌≡◌, refl, sym, ap, ap₂, ◌∙◌, ℕ, Bool, cond, not, ◌&&◌, ◌||◌, List, [], ◌∷◌, ◌++◌, Option, Some, None, filter, find, fold, length, map, max, nat_lt}
+use Rattle.std.proofs.Common.{◌≡◌, refl, sym, ap, ap₂, ◌∙◌, ℕ, Bool, not, ◌&&◌, ◌||◌, List, [], ◌∷◌, ◌++◌, Option, Some, None, filter, find, fold, length, map, max, nat_lt}
 use Rattle.std.specs.Prelude.{option_map, slice_get, if◌then◌else◌}
 use Rattle.std.specs.List.{AllZip, range_with_len}
 use Rattle.std.specs.Option.{option_map_or}
@@ -7,13 +7,14 @@ use Rattle.std.proofs.lemmas.List.{length-map}
 use Rattle.po_syntax.specs.declared.item.CommentKind.{CommentKind}
 use Rattle.po_syntax.specs.declared.item.CommentKind.TheVariants.{Translator, Extracted, Reference, Flags}
 use Rattle.po_entry.specs.TextEntry.{TextEntry, with_line}
+use Rattle.po_messages.specs.Facts.Mapped.{filter_map, find_map}
 use Rattle.po_messages.specs.Statistics.{has_translation}
 use Rattle.po_merge.specs.declared.input.MergeOptions.{MergeOptions}
 use Rattle.po_merge.specs.EntryLaws.{IsSameButLine, LinesAreNotMerged}
 use Rattle.po_merge.specs.Inputs.{NamedEntry, named}
 use Rattle.po_merge.specs.Groups.{first_ones}
 use Rattle.po_merge.specs.MergedEntry.{comment_of, first_of, first_translated, first_with, has_plural, has_previous, is_joined, joined_form, joined_forms, marked, merged_entry, same_forms, texts_of, translations, with_others}
-use Rattle.po_merge.proofs.FirstOnes.{first_ones-map, cond_ap}
+use Rattle.po_merge.proofs.FirstOnes.{first_ones-map}
 
 abbrev unlined : NamedEntry → NamedEntry
 unlined d = named d.name (with_line 0 d.entry)
@@ -29,19 +30,11 @@ first_unlined [] = refl
 first_unlined (d ∷ ds) = refl
 
 module _ (has : TextEntry → Bool) (same : (e : TextEntry) → has (with_line 0 e) ≡ has e) where
-  find_unlined : (ds : List NamedEntry) → find (λ d. has d.entry) (map unlined ds) ≡ option_map unlined (find (λ d. has d.entry) ds)
-  find_unlined [] = refl
-  find_unlined (d ∷ ds) = ap₂ (λ (b : Bool) (o : Option NamedEntry). cond b (Some (unlined d)) o) (same d.entry) (find_unlined ds) ∙ cond_ap (option_map unlined) (has d.entry) (Some d) (find (λ x. has x.entry) ds)
-
   with_unlined : (ds : List NamedEntry) → first_with has (map unlined ds) ≡ with_line 0 (first_with has ds)
-  with_unlined ds = ap₂ (λ (o : Option NamedEntry) (e : TextEntry). option_map_or (λ (d : NamedEntry). d.entry) o e) (find_unlined ds) (first_unlined ds) ∙ found (find (λ d. has d.entry) ds) where
+  with_unlined ds = ap₂ (λ (o : Option NamedEntry) (e : TextEntry). option_map_or (λ (d : NamedEntry). d.entry) o e) (find_map (λ (d : NamedEntry). has d.entry) unlined ds ∙ (λ i. option_map unlined (find (λ d. same d.entry i) ds))) (first_unlined ds) ∙ found (find (λ d. has d.entry) ds) where
     found : (o : Option NamedEntry) → option_map_or (λ (d : NamedEntry). d.entry) (option_map unlined o) (with_line 0 (first_of ds)) ≡ with_line 0 (option_map_or (λ (d : NamedEntry). d.entry) o (first_of ds))
     found None = refl
     found (Some d) = refl
-
-  filter_unlined : (ds : List NamedEntry) → filter (λ d. has d.entry) (map unlined ds) ≡ map unlined (filter (λ d. has d.entry) ds)
-  filter_unlined [] = refl
-  filter_unlined (d ∷ ds) = ap₂ (λ (b : Bool) (l : List NamedEntry). cond b (unlined d ∷ l) l) (same d.entry) (filter_unlined ds) ∙ cond_ap (map unlined) (has d.entry) (d ∷ filter (λ x. has x.entry) ds) (filter (λ x. has x.entry) ds)
 
 translated_unlined : (ds : List NamedEntry) → first_translated (map unlined ds) ≡ with_line 0 (first_translated ds)
 translated_unlined ds = with_unlined has_translation (λ e. refl) ds
@@ -61,7 +54,7 @@ comment_unlined o kind ds =
     ap₂ (λ (a b : List (List ℕ)). if o.use_first then a else b) (ap (texts_of kind) (translated_unlined ds) ∙ texts_unlined kind (first_translated ds)) (collected_unlined kind [] ds)
 
 translations_unlined : (ds : List NamedEntry) → translations (map unlined ds) ≡ map unlined (translations ds)
-translations_unlined ds = ap (first_ones same_forms) (filter_unlined has_translation (λ e. refl) ds) ∙ first_ones-map unlined same_forms (filter (λ d. has_translation d.entry) ds)
+translations_unlined ds = ap (first_ones same_forms) (filter_map (λ (d : NamedEntry). has_translation d.entry) unlined ds) ∙ first_ones-map unlined same_forms (filter (λ d. has_translation d.entry) ds)
 
 joined_unlined : (o : MergeOptions) (ds : List NamedEntry) → is_joined o (map unlined ds) ≡ is_joined o ds
 joined_unlined o ds = ap (λ n. not o.use_first && nat_lt 1 n) (ap length (translations_unlined ds) ∙ length-map (translations ds) unlined)

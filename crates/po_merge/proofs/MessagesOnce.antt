@@ -12,6 +12,7 @@ use Rattle.std.proofs.lemmas.List.Elements.{All-head, All-tail, All-filter, All-
 use Rattle.po_entry.specs.TextEntry.{TextEntry, plain_entry}
 use Rattle.po_messages.specs.Joined.{is_live}
 use Rattle.po_messages.specs.Duplicate.{IsSameMessage, AllDiffer, is_of_message}
+use Rattle.po_messages.specs.Facts.Mapped.{any_map}
 use Rattle.po_messages.proofs.FirstOnes.{any_first_ones}
 use Rattle.po_messages.proofs.MessageIndex.{contexts_are}
 use Rattle.po_merge.specs.declared.input.MergeOptions.{MergeOptions}
@@ -125,8 +126,7 @@ module _ (o : MergeOptions) (es : List NamedEntry) where
         ∙ any_same (same_message wanted) (λ (e : NamedEntry). is_of_message context id e.entry) (λ e. same_message_laws.symm wanted e) es
 
 any_named : (p : TextEntry → Bool) (name : List ℕ) (entries : List TextEntry) → list_any (λ e. p e.entry) (map (named name) entries) ≡ list_any p entries
-any_named p name [] = refl
-any_named p name (e ∷ entries) = ap (λ (b : Bool). p e || b) (any_named p name entries)
+any_named p name entries = any_map (λ (e : NamedEntry). p e.entry) (named name) entries
 
 any_input : (p : TextEntry → Bool) (inputs : List Named) → list_any (λ e. p e.entry) (all_entries inputs) ≡ list_any (λ input. list_any p input.entries) inputs
 any_input p [] = refl

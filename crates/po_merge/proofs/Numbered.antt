@@ -1,5 +1,5 @@
 -- One more thing among those that are grouped by their numbers.
-use Rattle.std.proofs.Common.{◌≡◌, ◌≢◌, refl, sym, ap, ◌∙◌, subst, ℕ, zero, suc, ◌<◌, ◌≤◌, Bool, true, false, cond, ◌==◌, List, [], ◌∷◌, ◌++◌, append-nil, length, map, get_or, set, take, arith, get_or-set_other, get_or-set_same, inl, inr, ◌⊎◌}
+use Rattle.std.proofs.Common.{◌≡◌, ◌≢◌, refl, sym, ap, ◌∙◌, subst, ℕ, ◌<◌, ◌≤◌, Bool, true, false, cond, ◌==◌, List, [], ◌∷◌, ◌++◌, append-nil, length, map, get_or, set, take, arith, get_or-set_other, get_or-set_same, inl, inr, ◌⊎◌}
 use Rattle.std.proofs.lemmas.Bool.Decides.{eqb_tells}
 use Rattle.std.proofs.lemmas.List.{get_or-map, length-map, map-set, take_all}
 use Rattle.std.specs.Global.{Vec}
@@ -17,13 +17,6 @@ module _ {X : Type 0} where
         moved : (b : Bool) (l r : List X) → cond b (y ∷ (l ++ r)) (l ++ r) ≡ cond b (y ∷ l) l ++ r
         moved true l r = refl
         moved false l r = refl
-
-  -- a list without elements, after others, is what stands past their end
-  pub empty_more : (gs : List (List X)) (n : ℕ) → get_or (gs ++ [] ∷ []) n [] ≡ get_or gs n []
-  empty_more [] zero = refl
-  empty_more [] (suc n) = refl
-  empty_more (h ∷ gs) zero = refl
-  empty_more (h ∷ gs) (suc n) = empty_more gs n
 
 -- the things are grouped by their numbers
 abbrev pub AreGrouped : (X : Type 0) → List (List X) → List ℕ → List X → Type 0

@@ -9,6 +9,7 @@ use Rattle.std.proofs.lemmas.Simd.{map-map}
 use Rattle.std.proofs.lemmas.List.Elements.{filter_agree}
 use Rattle.std.specs.Cmp.{IsEquivalence}
 use Rattle.po_merge.specs.Inputs.{NamedEntry}
+use Rattle.po_messages.specs.Facts.Mapped.{cond_ap}
 use Rattle.po_messages.specs.FirstOnes.{first_ones as firsts_of}
 use Rattle.po_messages.specs.Message.{Message, entry_message, same_message as one_message}
 use Rattle.po_merge.specs.declared.definition.NamedEntry.{NamedEntry as BorrowedEntry}
@@ -16,7 +17,7 @@ use Rattle.po_merge.specs.InputsView.{named_entries, named_entry}
 use Rattle.po_merge.specs.Grouping.{group_entries, message_numbers, named_messages}
 use Rattle.po_merge.specs.Groups.{by_number, first_ones, groups, same_message, with_number}
 use Rattle.po_merge.specs.MergeLaws.{GroupsByNumber}
-use Rattle.po_merge.proofs.FirstOnes.{Apart, group_of, apart_first_ones, first_ones-map, place-map, cond_ap, none_all}
+use Rattle.po_merge.proofs.FirstOnes.{Apart, group_of, apart_first_ones, first_ones-map, place-map, none_all}
 use Rattle.po_merge.proofs.Messages.{same_message_laws}
 
 same_next : (p j : ℕ) → (1 + p == suc j) ≡ (p == j)

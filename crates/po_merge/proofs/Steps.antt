@@ -1,10 +1,12 @@
 -- What one more text or definition adds.
-use Rattle.std.proofs.Common.{◌≡◌, ℕ, ◌+◌, ◌<◌, Bool, true, false, cond, List, [], ◌∷◌, ◌++◌, Option, Some, None, refl, sym, ap, ◌∙◌, filter, take, get_or, length, append_assoc, append-nil, nat_lt, max, ◌≤◌, zero, suc, arith}
-use Rattle.std.specs.Prelude.{slice_get, if◌then◌else◌}
+use Rattle.std.proofs.Common.{◌≡◌, ℕ, ◌+◌, ◌<◌, Bool, true, false, cond, List, [], ◌∷◌, ◌++◌, Option, Some, None, refl, sym, ap, ◌∙◌, filter, take, get_or, length, append-nil, nat_lt, max, ◌≤◌, arith}
+use Rattle.std.specs.Prelude.{option_map, slice_get, if◌then◌else◌}
 use Rattle.std.specs.List.{list_any, flat_map}
 use Rattle.std.specs.Option.{option_map_or}
 use Rattle.std.specs.Global.{Vec}
-use Rattle.std.proofs.lemmas.List.{take_more, map-append}
+use Rattle.std.proofs.lemmas.List.{length-map, take_more, map-append}
+use Rattle.std.proofs.lemmas.Grind.{flat_map-append}
+use Rattle.std.proofs.lemmas.Option.{slice_get-get_or, slice_get-map, slice_get_past}
 use Rattle.std.proofs.lemmas.List.Elements.{filter-append}
 use Rattle.std.proofs.lemmas.Bool.{ltb-false}
 use Rattle.std.proofs.lemmas.List.Sums.{fold_push}
@@ -48,8 +50,7 @@ pub form_count_more : (ds : List BorrowedEntry) (i : ℕ) (d : BorrowedEntry) �
 form_count_more ds i d below at = ap form_count (named_more ds i d below at) ∙ fold_push (λ (count : ℕ) (t : NamedEntry). max count (length t.entry.forms)) 0 (named_entries (take i ds)) (named_entry d)
 
 flat_map_push : {X A : Type 0} (f : X → List A) (xs : List X) (x : X) → flat_map f (xs ++ x ∷ []) ≡ flat_map f xs ++ f x
-flat_map_push f [] x = append-nil (f x)
-flat_map_push f (y ∷ xs) x = ap (λ (l : List _). f y ++ l) (flat_map_push f xs x) ∙ sym (append_assoc (f y) (flat_map f xs) (f x))
+flat_map_push f xs x = flat_map-append f xs (x ∷ []) ∙ ap (λ (l : List _). flat_map f xs ++ l) (append-nil (f x))
 
 pub joined_form_more : (ds : List BorrowedEntry) (i index : ℕ) (d : BorrowedEntry) (form : Option (List ℕ)) → i < length ds → d ≡ get_or ds i d → slice_get d.entry.now.forms index ≡ form
     → joined_form (named_entries (take (i + 1) ds)) index ≡ joined_form (named_entries (take i ds)) index ++ option_map_or (marked d.name.now) form []
@@ -62,25 +63,17 @@ joined_form_more ds i index d form below at is =
 pub with_form_keeps : (index j : ℕ) (ts : List NamedEntry) → index ≤ j → joined_form (with_form index ts) j ≡ joined_form ts j
 with_form_keeps index j [] h = refl
 with_form_keeps index j (t ∷ ts) h = found (nat_lt index (length t.entry.forms)) refl (with_form_keeps index j ts h) where
-  nothing : (forms : List (List ℕ)) (k : ℕ) → length forms ≤ k → slice_get forms k ≡ None
-  nothing [] k l = refl
-  nothing (f ∷ forms) zero l = absurd (omega (arith, l))
-  nothing (f ∷ forms) (suc k) l = let less : length forms ≤ k = omega (arith, l) in nothing forms k less
-
   found : (b : Bool) → nat_lt index (length t.entry.forms) ≡ b → joined_form (with_form index ts) j ≡ joined_form ts j
       → joined_form (cond b (t ∷ with_form index ts) (with_form index ts)) j ≡ option_map_or (marked t.name) (slice_get t.entry.forms j) [] ++ joined_form ts j
   found true e more = ap (λ (l : List ℕ). option_map_or (marked t.name) (slice_get t.entry.forms j) [] ++ l) more
   found false e more =
       let short : length t.entry.forms ≤ index = ltb-false index (length t.entry.forms) e in
       let none : length t.entry.forms ≤ j = omega (arith, short, h) in
-      more ∙ ap (λ (o : Option (List ℕ)). option_map_or (marked t.name) o [] ++ joined_form ts j) (sym (nothing t.entry.forms j none))
+      more ∙ ap (λ (o : Option (List ℕ)). option_map_or (marked t.name) o [] ++ joined_form ts j) (sym (slice_get_past t.entry.forms j none))
 
 pub form_at : (forms : List (Vec ℕ)) (i : ℕ) (v : Vec ℕ) → i < length forms → v ≡ get_or forms i v → slice_get (texts forms) i ≡ Some v.items
-form_at [] i v l e = absurd (omega (arith, l))
-form_at (f ∷ forms) zero v l e = ap (λ (x : Vec ℕ). Some x.items) (sym e)
-form_at (f ∷ forms) (suc i) v l e = let less : i < length forms = omega (arith, l) in form_at forms i v less e
+form_at forms i v l e =
+    slice_get-map (λ (x : Vec ℕ). x.items) forms i ∙ ap (option_map (λ (x : Vec ℕ). x.items)) (slice_get-get_or forms i v l ∙ ap (λ (x : Vec ℕ). Some x) (sym e))
 
 pub no_form : (forms : List (Vec ℕ)) (i : ℕ) → length forms ≤ i → slice_get (texts forms) i ≡ None
-no_form [] i l = refl
-no_form (f ∷ forms) zero l = absurd (omega (arith, l))
-no_form (f ∷ forms) (suc i) l = let less : length forms ≤ i = omega (arith, l) in no_form forms i less
+no_form forms i l = slice_get_past (texts forms) i (omega (arith, l, length-map forms (λ v. v.items)))

@@ -1,17 +1,17 @@
 -- Tests of definitions, as the code holds them and as contracts see them.
-use Rattle.std.proofs.Common.{◌≡◌, ℕ, ◌<◌, Bool, true, false, cond, ◌||◌, List, [], ◌∷◌, Option, Some, None, refl, sym, ap, ◌∙◌, find, take, get_or, length, arith, suc, zero}
+use Rattle.std.proofs.Common.{◌≡◌, ℕ, ◌<◌, Bool, true, false, cond, List, [], ◌∷◌, Option, Some, None, refl, sym, ap, ◌∙◌, find, take, get_or, length, arith, suc, zero}
 use Rattle.std.specs.List.{list_any}
 use Rattle.std.specs.Option.{option_map_or}
 use Rattle.std.proofs.lemmas.Bool.{or_parts}
 use Rattle.po_entry.specs.TextEntry.{TextEntry}
+use Rattle.po_messages.specs.Facts.Mapped.{any_map}
 use Rattle.po_merge.specs.declared.definition.NamedEntry.{NamedEntry as BorrowedEntry}
 use Rattle.po_merge.specs.Inputs.{NamedEntry}
 use Rattle.po_merge.specs.InputsView.{named_entry, named_entries}
 use Rattle.po_merge.specs.MergedEntry.{first_with, first_of}
 
 pub any_named : (p : TextEntry → Bool) (ds : List BorrowedEntry) → list_any (λ d. p d.entry.now) ds ≡ list_any (λ d. p d.entry) (named_entries ds)
-any_named p [] = refl
-any_named p (d ∷ ds) = ap (λ (b : Bool). p d.entry.now || b) (any_named p ds)
+any_named p ds = sym (any_map (λ (d : NamedEntry). p d.entry) named_entry ds)
 
 -- the first definition that has the part, after ones that have not
 pub first_at : (p : TextEntry → Bool) (ds : List BorrowedEntry) (i : ℕ) (d : BorrowedEntry) → i < length ds → d ≡ get_or ds i d → list_any (λ x. p x.entry.now) (take i ds) ≡ false → p d.entry.now ≡ true

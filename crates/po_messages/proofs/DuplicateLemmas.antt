@@ -1,5 +1,5 @@
 -- The first duplicate is the first live entry whose number an earlier live one has.
-use Rattle.std.proofs.Common.{◌≡◌, ◌≢◌, ℕ, ◌+◌, ◌<◌, Bool, true, false, cond, List, [], ◌∷◌, ◌++◌, refl, sym, ap, ap₂, ◌∙◌, subst, length, length-take, take, drop, map, filter, get_or, arith, All, AllPairs, suc, ⊎_elim, Result, Ok, Err, MatchResult, IsOkUnless}
+use Rattle.std.proofs.Common.{◌≡◌, ◌≢◌, ℕ, ◌+◌, ◌<◌, List, [], ◌∷◌, ◌++◌, refl, sym, ap, ap₂, ◌∙◌, subst, length, add-one, take, drop, map, filter, get_or, arith, All, AllPairs, suc, ⊎_elim, Result, Ok, Err, MatchResult, IsOkUnless}
 use Rattle.std.proofs.Math.Seq.{drop-cons}
 use Rattle.std.proofs.lemmas.List.{take-append-drop, map-append, length-map, get_or-map, take_more}
 use Rattle.std.proofs.lemmas.List.Elements.{All-filter}
@@ -10,6 +10,7 @@ use Rattle.po_messages.specs.FirstOnes.{group_numbers}
 use Rattle.po_messages.specs.Message.{Message, entry_message, entry_messages, same_message}
 use Rattle.po_messages.specs.Duplicate.{IsSameMessage, AllDiffer, HasNoDuplicate, live_entries, IsFirstDuplicate, IsDuplicateFault, join_out_of_memory}
 use Rattle.po_messages.specs.Facts.FirstRepeats.{none_repeats, pairs_map, pairs_of_map}
+use Rattle.po_messages.specs.Facts.Mapped.{filter_map}
 use Rattle.po_messages.specs.JoinedView.{input_entry, input_entries}
 use Rattle.po_messages.specs.MessageView.{message_of_key, messages_of_keys}
 use Rattle.po_messages.specs.Places.{IsNumbered, number_in}
@@ -17,16 +18,11 @@ use Rattle.po_messages.specs.Repeats.{IsFirstRepeat}
 use Rattle.po_messages.specs.declared.duplicate.JoinError.{JoinError}
 use Rattle.po_messages.specs.declared.joining.InputEntry.{InputEntry as BorrowedEntry}
 use Rattle.po_messages.specs.declared.message_index.MessageKey.{MessageKey}
+use Rattle.po_messages.proofs.RepeatLemmas.{IsNext}
 use Rattle.po_messages.proofs.NumberLemmas.{all_numbered, are_numbered, message_repeats, messages_differ}
 
-entry_of_kept : (b : Bool) (x : InputEntry) (xs : List InputEntry) → cond b (x.entry ∷ entries_of xs) (entries_of xs) ≡ entries_of (cond b (x ∷ xs) xs)
-entry_of_kept true x xs = refl
-entry_of_kept false x xs = refl
-
 pub live_of_entries : (xs : List InputEntry) → filter is_live (entries_of xs) ≡ entries_of (live_entries xs)
-live_of_entries [] = refl
-live_of_entries (x ∷ xs) =
-    ap (λ l. cond (is_live x.entry) (x.entry ∷ l) l) (live_of_entries xs) ∙ entry_of_kept (is_live x.entry) x (live_entries xs)
+live_of_entries xs = filter_map is_live (λ (e : InputEntry). e.entry) xs
 
 -- a list of entries, around two of them
 pub split_at : (entries : List InputEntry) (i : ℕ) (d : InputEntry) → i < length entries → entries ≡ take i entries ++ get_or entries i d ∷ drop (suc i) entries
@@ -75,17 +71,15 @@ module _ (entries : List BorrowedEntry) (i : ℕ) (x : BorrowedEntry) (inside : 
   at : get_or list i (input_entry x) ≡ input_entry x
   at = get_or-map input_entry entries i x (input_entry x) inside ∙ sym (ap input_entry here)
 
-  pub taken : take (i + 1) list ≡ take i list ++ input_entry x ∷ []
-  taken = take_more list i (input_entry x) long ∙ ap (λ y. take i list ++ y ∷ []) at
-
-  pub around : list ≡ take i list ++ input_entry x ∷ drop (suc i) list
-  around = split_at list i (input_entry x) long ∙ ap (λ y. take i list ++ y ∷ drop (suc i) list) at
+  pub next : IsNext list i (input_entry x)
+  next = record {
+    inside = long;
+    one = take_more list i (input_entry x) long ∙ ap (λ y. take i list ++ y ∷ []) at;
+    rest = drop-cons list i (input_entry x) long ∙ (rw add-one (ap (λ y. y ∷ drop (suc i) list) at));
+  }
 
   pub number_here : (numbers : List ℕ) (d : ℕ) → numbers ≡ map (number list) list → get_or numbers i d ≡ number list (input_entry x)
   number_here numbers d are = ap (λ l. get_or l i d) are ∙ get_or-map (number list) list i (input_entry x) d long ∙ ap (number list) at
-
-  pub taken_length : length (take i list) ≡ i
-  taken_length = omega (arith, length-take i list, long)
 
 pub entries_of_input : (input : ℕ) (xs : List TextEntry) → entries_of (map (in_input input) xs) ≡ xs
 entries_of_input input [] = refl

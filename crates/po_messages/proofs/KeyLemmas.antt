@@ -1,7 +1,5 @@
 -- Lists made of the same elements, element by element.
-use Rattle.std.proofs.Common.{◌≡◌, refl, ap, ℕ, zero, suc, ◌+◌, ◌<◌, List, [], ◌∷◌, ◌++◌, ◌∙◌, Bool, cond, true, false, filter, length, get_or, take, drop, map, arith, add-one}
-use Rattle.std.proofs.lemmas.List.{map-append}
-use Rattle.std.proofs.lemmas.List.Elements.{filter-append}
+use Rattle.std.proofs.Common.{◌≡◌, refl, ap, ℕ, zero, suc, ◌+◌, ◌<◌, List, [], ◌∷◌, ◌++◌, length, get_or, take, drop, map, arith, add-one}
 
 -- the element at an index, and what two functions give of it
 pub element_at : {X Y Z : Type 0} (f : X → Y) (g : X → Z) (xs : List X) (ys : List Y) (zs : List Z) (i : ℕ) (d : Y) (e : Z) → ys ≡ map f xs → zs ≡ map g xs → i < length ys

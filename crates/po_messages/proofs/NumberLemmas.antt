@@ -1,5 +1,5 @@
 -- Entries by the numbers of their messages: which are of one message, and the first that repeats an earlier one.
-use Rattle.std.proofs.Common.{◌≡◌, ◌≢◌, refl, sym, ap, ap₂, ◌∙◌, subst, ℕ, ◌<◌, Bool, true, false, cond, filter, List, [], ◌∷◌, ◌++◌, length, get_or, map, arith, All, AllPairs}
+use Rattle.std.proofs.Common.{◌≡◌, ◌≢◌, refl, sym, ap, ◌∙◌, subst, ℕ, filter, List, get_or, map, arith, All, AllPairs}
 use Rattle.std.specs.List.{position_or_len}
 use Rattle.std.proofs.lemmas.List.{get_or-map, length-map}
 use Rattle.std.proofs.lemmas.Simd.{map-map}
@@ -10,6 +10,7 @@ use Rattle.po_syntax.specs.declared.fault.PoFault.TheVariants.{Duplicate}
 use Rattle.po_entry.specs.TextEntry.{TextEntry}
 use Rattle.po_messages.specs.Duplicate.{IsFirstDuplicate, IsSameMessage, live_entries}
 use Rattle.po_messages.specs.Facts.FirstRepeats.{all_of_both, repeat_by, repeat_map}
+use Rattle.po_messages.specs.Facts.Mapped.{filter_map}
 use Rattle.po_messages.specs.FirstOnes.{first_ones, group_numbers}
 use Rattle.po_messages.specs.Joined.{InputEntry, in_input, is_live}
 use Rattle.po_messages.specs.Message.{Message, entry_message, entry_messages, same_message}
@@ -59,11 +60,7 @@ module _ (all : List TextEntry) where
         (λ x y. number_same (entry x) (entry y)) h
 
 live_in : (input : ℕ) (entries : List TextEntry) → live_entries (map (in_input input) entries) ≡ map (in_input input) (filter is_live entries)
-live_in input [] = refl
-live_in input (e ∷ entries) = ap (λ l. cond (is_live e) (in_input input e ∷ l) l) (live_in input entries) ∙ kept (is_live e) where
-  kept : (b : Bool) → cond b (in_input input e ∷ map (in_input input) (filter is_live entries)) (map (in_input input) (filter is_live entries)) ≡ map (in_input input) (cond b (e ∷ filter is_live entries) (filter is_live entries))
-  kept true = refl
-  kept false = refl
+live_in input entries = filter_map (λ (e : InputEntry). is_live e.entry) (in_input input) entries
 
 -- the first duplicate of the entries of an input
 pub duplicate_in : (input : ℕ) (entries : List TextEntry) (first later : TextEntry) → IsFirstRepeat IsSameMessage (filter is_live entries) first later

@@ -1,8 +1,9 @@
 -- The indexes that are kept of numbers, and the first number that stands twice.
-use Rattle.std.proofs.Common.{◌≡◌, ◌≢◌, ◌⊎◌, inl, inr, sym, ap, ◌∙◌, subst, ℕ, ◌+◌, ◌<◌, Bool, true, false, cond, filter, List, [], ◌∷◌, ◌++◌, Option, Some, None, length, length-append, get_or, arith, append_assoc, append-nil, All, AllPairs}
+use Rattle.std.proofs.Common.{◌≡◌, ◌≢◌, ◌⊎◌, inl, inr, sym, ap, ◌∙◌, subst, ℕ, ◌+◌, ◌<◌, Bool, true, false, cond, filter, List, [], ◌∷◌, ◌++◌, Option, Some, None, length, length-append, length-take, get_or, get_or-take, take, drop, arith, append_assoc, append-nil, All, AllPairs}
 use Rattle.std.proofs.Math.ListN.{get_or-append}
 use Rattle.std.proofs.Math.Seq.{get_or-append_seam}
 use Rattle.std.proofs.lemmas.Bool.{cases_eq, ne_eqb}
+use Rattle.std.proofs.lemmas.List.{take-append-drop}
 use Rattle.std.proofs.lemmas.List.Elements.{All-nil, All-push, filter-append}
 use Rattle.std.proofs.lemmas.List.Quantifiers.{all_pairs_push}
 use Rattle.po_messages.specs.Repeats.{IsFirstRepeat, IsUnseen, index_seen}
@@ -22,6 +23,12 @@ within_more old new n i within kept others q k is = elim (cases_eq q n) [
       omega (arith, at)
   | inr other ↦ omega (arith, within q k (sym (others q other) ∙ is))
 ]
+
+-- the element at an index, with the list around it
+pub record IsNext {X : Type 0} (xs : List X) (i : ℕ) (x : X) : Type 0 where
+  pub inside : i < length xs
+  pub one : take (i + 1) xs ≡ take i xs ++ x ∷ []
+  pub rest : drop i xs ≡ x ∷ drop (i + 1) xs
 
 module _ {X : Type 0} (number_of : X → ℕ) (p : X → Bool) where
   -- the element of a number among those that pass, at its index
@@ -47,7 +54,13 @@ module _ {X : Type 0} (number_of : X → ℕ) (p : X → Bool) where
     differ = λ i j d below inside. absurd (omega (arith, inside));
   }
 
-  module _ (done : List X) (x : X) where
+  module _ (xs : List X) (i : ℕ) (x : X) (next : IsNext xs i x) where
+    abbrev done : List X
+    done = take i xs
+
+    long : length done ≡ i
+    long = omega (arith, length-take i xs, next.inside)
+
     filtered : (b : Bool) → p x ≡ b → filter p (done ++ x ∷ []) ≡ filter p done ++ cond b (x ∷ []) []
     filtered b is = filter-append p done (x ∷ []) ∙ ap (λ (c : Bool). filter p done ++ cond c (x ∷ []) []) is
 
@@ -63,18 +76,18 @@ module _ {X : Type 0} (number_of : X → ℕ) (p : X → Bool) where
     }
 
     -- one that doesn't pass
-    pub seen_skipped : (at : ℕ → Option ℕ) → IsSeen at done → p x ≡ false → IsSeen at (done ++ x ∷ [])
+    pub seen_skipped : (at : ℕ → Option ℕ) → IsSeen at done → p x ≡ false → IsSeen at (take (i + 1) xs)
     seen_skipped at seen fails =
         let same = filtered false fails in
         let none = sym (same ∙ append-nil (filter p done)) in
-        record {
+        subst (IsSeen at) (sym next.one) (record {
           found = λ number index is. found_on number index [] same (seen.found number index is);
           absent = λ number is. subst (All (λ y. number_of y ≢ number)) none (seen.absent number is);
           differ = subst (AllPairs (λ a b. number_of a ≢ number_of b)) none seen.differ;
-        }
+        })
 
     -- one that passes
-    module _ (n i : ℕ) (number_is : number_of x ≡ n) (long : length done ≡ i) (passes : p x ≡ true) where
+    module _ (n : ℕ) (number_is : number_of x ≡ n) (passes : p x ≡ true) where
       -- whose number none before it has
       module _ (old new : ℕ → Option ℕ) (seen : IsSeen old done) (none : old n ≡ None) (kept : new n ≡ Some i) (others : (q : ℕ) → q ≢ n → new q ≡ old q) where
         found_more : (q index : ℕ) → new q ≡ Some index → (q ≡ n) ⊎ (q ≡ n → ⊥) → IsFound (done ++ x ∷ []) q index
@@ -97,23 +110,31 @@ module _ {X : Type 0} (number_of : X → ℕ) (p : X → Bool) where
         absent_more q is (inl same) = absurd (let both : Some i ≡ None = sym kept ∙ sym (ap new same) ∙ is in cc)
         absent_more q is (inr other) = All-push (λ y. number_of y ≢ q) (filter p done) x (seen.absent q (sym (others q other) ∙ is)) (λ same. other (sym same ∙ number_is))
 
-        pub seen_more : IsSeen new (done ++ x ∷ [])
-        seen_more = record {
+        pub seen_more : IsSeen new (take (i + 1) xs)
+        seen_more = subst (IsSeen new) (sym next.one) (record {
           found = λ q index is. found_more q index is (cases_eq q n);
           absent = λ q is. subst (All (λ y. number_of y ≢ q)) (sym (filtered true passes)) (absent_more q is (cases_eq q n));
           differ =
               subst (AllPairs (λ a b. number_of a ≢ number_of b)) (sym (filtered true passes))
               (all_pairs_push (λ a b. number_of a ≢ number_of b) (filter p done) x seen.differ (subst (λ m. All (λ y. number_of y ≢ m) (filter p done)) (sym number_is) (seen.absent n none)));
-        }
+        })
 
       -- whose number one before it has
-      pub seen_repeats : (at : ℕ → Option ℕ) (index : ℕ) (after : List X) (f : IsFound done n index) → IsSeen at done
-          → IsFirstRepeat (λ a b. number_of a ≡ number_of b) (filter p (done ++ x ∷ after)) f.first x
-      seen_repeats at index after f seen = record {
-        before = f.before;
-        between = f.between;
-        after = filter p after;
-        order = filter-append p done (x ∷ after) ∙ ap (λ (c : Bool). filter p done ++ cond c (x ∷ filter p after) (filter p after)) passes ∙ ap (λ l. l ++ x ∷ filter p after) f.split;
-        same = f.number_is ∙ sym number_is;
-        differ = subst (AllPairs (λ a b. number_of a ≢ number_of b)) f.split seen.differ;
-      }
+      pub seen_repeats : (at : ℕ → Option ℕ) (index : ℕ) (f : IsFound done n index) → IsSeen at done → IsFirstRepeat (λ a b. number_of a ≡ number_of b) (filter p xs) f.first x
+      seen_repeats at index f seen =
+          let after = drop (i + 1) xs in
+          let whole : xs ≡ done ++ x ∷ after = sym (take-append-drop i xs) ∙ ap (λ l. done ++ l) next.rest in
+          record {
+            before = f.before;
+            between = f.between;
+            after = filter p after;
+            order =
+                ap (filter p) whole ∙ filter-append p done (x ∷ after) ∙ ap (λ (c : Bool). filter p done ++ cond c (x ∷ filter p after) (filter p after)) passes
+                ∙ ap (λ l. l ++ x ∷ filter p after) f.split;
+            same = f.number_is ∙ sym number_is;
+            differ = subst (AllPairs (λ a b. number_of a ≢ number_of b)) f.split seen.differ;
+          }
+
+      -- which stands at its index
+      pub found_at : (index : ℕ) (f : IsFound done n index) (d : X) → get_or xs index d ≡ f.first
+      found_at index f d = sym (get_or-take i xs index d (omega (arith, f.inside, long))) ∙ f.here d

@@ -8,7 +8,7 @@ use Rattle.po_entry.specs.Validity.{out_of_memory}
 use Rattle.po_syntax.specs.declared.fault.PoFault.TheVariants.{Duplicate}
 use Rattle.po_syntax.specs.declared.fault.PoError.{PoError}
 use Rattle.po_messages.specs.declared.duplicate.JoinError.{JoinError}
-use Rattle.po_messages.specs.Joined.{InputEntry, is_live, in_input, entries_of}
+use Rattle.po_messages.specs.Joined.{InputEntry, is_live, in_input}
 use Rattle.po_messages.specs.Repeats.{IsFirstRepeat}
 
 -- the entry has this context, or none where this is none, and this msgid

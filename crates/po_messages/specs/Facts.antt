@@ -1,3 +1,4 @@
 -- Facts of lists that every crate may cite, over any relation.
 pub mod FirstRepeats
+pub mod Mapped
 pub mod Zips

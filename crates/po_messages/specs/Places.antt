@@ -6,7 +6,7 @@ use Rattle.po_entry.specs.TextEntry.{TextEntry}
 use Rattle.po_messages.specs.Duplicate.{IsFirstDuplicate, IsSameMessage, duplicate_fault}
 use Rattle.po_messages.specs.FirstOnes.{first_ones}
 use Rattle.po_messages.specs.Joined.{InputEntry, in_input}
-use Rattle.po_messages.specs.Message.{Message, entry_message, entry_messages, same_message}
+use Rattle.po_messages.specs.Message.{entry_message, entry_messages, same_message}
 use Rattle.po_messages.specs.Repeats.{IsFirstRepeat}
 use Rattle.po_messages.specs.declared.places.EntryPlace.{EntryPlace}
 
