@@ -1,6 +1,6 @@
 -- Texts are accepted or have a fault, and only one: what they read as, what refuses them, and that there
 -- is always one of both.
-use Rattle.std.proofs.Common.{◌≡◌, ℕ, ◌≤◌, ◌^◌, List, [], ◌∷◌, ◌++◌, refl, sym, ◌∙◌, subst, length, map, inl, inr, arith, suc, ap, ◌≢◌, ◌⊎◌}
+use Rattle.std.proofs.Common.{◌≡◌, ℕ, ◌≤◌, ◌^◌, List, [], ◌∷◌, ◌++◌, refl, sym, ◌∙◌, subst, length, map, inl, inr, arith, suc, ap, ◌≢◌, ◌⊎◌, ap₂}
 use Rattle.std.specs.List.{AllZip}
 use Rattle.mo_file.specs.Layout.{layout}
 use Rattle.po_syntax.specs.declared.fault.PoError.{PoError}
@@ -25,8 +25,7 @@ use Rattle.po_entry.specs.Validity.{IsEntry}
 use Rattle.po_compile.specs.Compiling.{layout_fault}
 use Rattle.po_compile.proofs.HeadlineLemmas.{EntriesCanStand, read_valid}
 use Rattle.po_compile.proofs.MeaningLemmas.{LacksSeparators, entry_lacks_separators}
-use Rattle.po_compile.proofs.SortLemmas.{compiled_differ, compiled_valid}
-use Rattle.po_compile.proofs.MessageOrder.{messages_exist}
+use Rattle.po_compile.proofs.MessageOrder.{compiled_differ, compiled_valid, messages_exist}
 
 abbrev pub OneReading : Type 0
 OneReading = (text : List ℕ) (entries others : List TextEntry) → ReadsText text entries → ReadsText text others → entries ≡ others
@@ -99,29 +98,19 @@ OneReadFault = (text : List ℕ) (fault other : PoFault) (line place : ℕ) → 
 abbrev pub OneFirstDuplicate : Type 0
 OneFirstDuplicate = (entries : List InputEntry) (first later other last : InputEntry) → IsFirstDuplicate entries first later → IsFirstDuplicate entries other last → (first ≡ other) × (later ≡ last)
 
-same_duplicate : (first later other last : InputEntry) → first ≡ other → later ≡ last → duplicate_fault first later ≡ duplicate_fault other last
-same_duplicate first later other last p q =
-    ap (λ (e : InputEntry). duplicate_fault e later) p ∙ ap (λ (e : InputEntry). duplicate_fault other e) q
-
-same_error : (a b : PoError) → a.kind ≡ b.kind → a.line ≡ b.line → a ≡ b
-same_error a b kind line =
-    ap (λ (k : PoFault). record a { kind = k }) kind ∙ ap (λ (n : ℕ). record b { line = n }) line
-
-same_join_error : (a b : JoinError) → a.input ≡ b.input → a.first_input ≡ b.first_input → a.error ≡ b.error → a ≡ b
-same_join_error a b input first_input error =
-    ap (λ (n : ℕ). record a { input = n }) input ∙ ap (λ (n : ℕ). record { input = b.input; first_input = n; error = a.error }) first_input
-    ∙ ap (λ (e : PoError). record b { error = e }) error
+abbrev error_of : PoFault → ℕ → PoError
+error_of kind line = record { kind = kind; line = line }
 
 module _ (one : OneReading) (no_fault : NoReadFault) (no_first : NoFirstDuplicate) (one_fault : OneReadFault) (one_first : OneFirstDuplicate) where
   pub text_fault_once : (text : List ℕ) (a b : PoError) → IsTextFault text a → IsTextFault text b → a ≡ b
-  text_fault_once text a b (inl f) (inl g) = let same = one_fault text a.kind b.kind a.line b.line f g in same_error a b same.0 same.1
+  text_fault_once text a b (inl f) (inl g) = let same = one_fault text a.kind b.kind a.line b.line f g in ap₂ error_of same.0 same.1
   text_fault_once text a b (inl f) (inr g) = absurd (no_fault text g.entries a.kind a.line g.reads f)
   text_fault_once text a b (inr f) (inl g) = absurd (no_fault text f.entries b.kind b.line f.reads g)
   text_fault_once text a b (inr f) (inr g) =
       let entries : g.entries ≡ f.entries = one text g.entries f.entries g.reads f.reads in
       let again = subst (λ list. IsFirstDuplicate (map (in_input 0) list) g.first g.later) entries g.duplicate in
       let same = one_first (map (in_input 0) f.entries) f.first f.later g.first g.later f.duplicate again in
-      f.error_is ∙ ap (λ (e : JoinError). e.error) (same_duplicate f.first f.later g.first g.later same.0 same.1) ∙ sym g.error_is
+      f.error_is ∙ ap (λ (e : JoinError). e.error) (ap₂ duplicate_fault same.0 same.1) ∙ sym g.error_is
 
   -- the first inputs with a fault are one
   first_once : (before others : List (List ℕ)) (text other : List ℕ) (after rest : List (List ℕ)) (cs ds : List (List TextEntry)) (a b : PoError)
@@ -148,14 +137,14 @@ module _ (one : OneReading) (no_fault : NoReadFault) (no_first : NoFirstDuplicat
   input_fault_once : (texts : List (List ℕ)) (a b : JoinError) → IsFaultOfInput texts a → IsFaultOfInput texts b → a ≡ b
   input_fault_once texts a b f g =
       let same = first_once f.before g.before f.text g.text f.after g.after f.catalogues g.catalogues a.error b.error (sym f.order ∙ g.order) f.faultless g.faultless f.fault g.fault in
-      same_join_error a b (f.input ∙ same.0 ∙ sym g.input) (f.first_input ∙ same.0 ∙ sym g.first_input) same.1
+      ap₂ (λ n m. record { input = n; first_input = m; error = a.error }) (f.input ∙ same.0 ∙ sym g.input) (f.first_input ∙ same.0 ∙ sym g.first_input) ∙ ap (λ e. record b { error = e }) same.1
 
   joined_duplicate_once : (texts : List (List ℕ)) (a b : JoinError) → HasJoinedDuplicate texts a → HasJoinedDuplicate texts b → a ≡ b
   joined_duplicate_once texts a b f g =
       let catalogues : g.catalogues ≡ f.catalogues = same_catalogues one texts g.catalogues f.catalogues g.each f.each in
       let again = subst (λ list. IsFirstDuplicate (joined list) g.first g.later) catalogues g.duplicate in
       let same = one_first (joined f.catalogues) f.first f.later g.first g.later f.duplicate again in
-      f.error_is ∙ same_duplicate f.first f.later g.first g.later same.0 same.1 ∙ sym g.error_is
+      f.error_is ∙ ap₂ duplicate_fault same.0 same.1 ∙ sym g.error_is
 
   pub compile_fault_once : OneCompileFault
   compile_fault_once options texts a b (inl (inl memory)) g other also = absurd (other memory)

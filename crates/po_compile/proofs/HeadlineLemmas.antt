@@ -12,7 +12,7 @@ use Rattle.po_messages.specs.DistinctText.{ReadsDistinct}
 use Rattle.po_compile.specs.CompiledList.{compiled_list}
 use Rattle.po_compile.specs.Headline.{LookUpMeansEntries, MessagesAreOne, MessagesMeanEntries}
 use Rattle.po_compile.proofs.JoinedRows.{joined_valid}
-use Rattle.po_compile.proofs.SortLemmas.{compiled_valid}
+use Rattle.po_compile.proofs.MessageOrder.{compiled_valid}
 
 -- a text that reads as entries has entries that a catalogue may hold
 abbrev pub EntriesCanStand : Type 0

@@ -1,7 +1,31 @@
--- The inputs that are collected, and why they are refused.
-use Rattle.std.proofs.Common.{◌≡◌, ◌≢◌, ◌⊎◌, ℕ, List, [], ◌∷◌, ◌++◌, refl, sym, ap, ap₂, subst, ◌∙◌, inl, inr, length, length-append, map, arith, All, Bool}
-use Rattle.std.proofs.lemmas.List.{length-map, map-append}
-use Rattle.std.proofs.lemmas.List.Elements.{All-push}
+-- The inputs that are collected, and why they are refused: the repeats of messages that are collected are
+-- the duplicates of the texts.
+use Rattle.std.proofs.Common.{◌≡◌, ◌⊎◌, sym, ap, ap₂, ◌∙◌, subst, inl, inr, ℕ, ◌<◌, zero, suc, Bool, List, [], ◌∷◌, ◌++◌, append_assoc, append-nil, length, length-take, get_or, get_or-take, take, drop, map, arith, All, AllPairs, ◌≢◌, refl, length-append}
+use Rattle.std.specs.List.{AllZip}
+use Rattle.std.proofs.Math.ListN.{get_or-map as map_at}
+use Rattle.std.proofs.Math.Seq.{drop-cons}
+use Rattle.std.proofs.lemmas.List.{get_or-map, length-map, take-append-drop, take-map, map-append}
+use Rattle.std.proofs.lemmas.List.Elements.{All-filter, All-push}
+use Rattle.std.proofs.lemmas.Simd.{map-map}
+use Rattle.po_entry.specs.ReadsText.{ReadsText}
+use Rattle.po_entry.specs.TextEntry.{TextEntry}
+use Rattle.po_entry.specs.Validity.{IsCatalogueEntry, out_of_memory}
+use Rattle.po_messages.specs.Duplicate.{IsSameMessage, IsFirstDuplicate, duplicate_fault, join_out_of_memory, live_entries}
+use Rattle.po_messages.specs.Facts.FirstRepeats.{pairs_of_map}
+use Rattle.po_messages.specs.Facts.Zips.{zip_get, zip_length, zip_more}
+use Rattle.po_messages.specs.Joined.{InputEntry, entries_of, in_input, is_live, joined, joined_entries}
+use Rattle.po_messages.specs.declared.duplicate.JoinError.{JoinError}
+use Rattle.po_messages.proofs.DuplicateLemmas.{entries_of_input}
+use Rattle.po_compile.specs.Accepted.{IsFaultOfInput, IsReadingFault, fault_input, AreRead, IsCompileFault, fault_of_only_input}
+use Rattle.po_compile.specs.Collected.{HoldCatalogues, LiveMessage, live_messages}
+use Rattle.po_compile.specs.Internal.Repeats.{EachApart, IsFirstRepeat, IsRepeat, IsRepeatFault, IsRepeatInInput, repeat_fault}
+use Rattle.po_compile.specs.Internal.Rows.{AllApart, InputMessage, all_messages, in_input_message, input_keys, input_message, AreSortedRows, compiled_of, row_view}
+use Rattle.po_compile.proofs.JoinedRows.{all_are, joined_valid, live_of, of_input}
+use Rattle.po_compile.proofs.KeysApart.{entries_differ, key_of_entry, read_distinct, joined_distinct, sorted_keys}
+use Rattle.po_compile.proofs.MeaningLemmas.{entry_lacks_separators}
+use Rattle.po_compile.proofs.RisingKeys.{first_of, rising_apart}
+use Rattle.po_compile.proofs.SortedRows.{at_entry, are_messages}
+use Rattle.po_compile.proofs.TextLemmas.{query_key_is_one}
 use Rattle.std.proofs.lemmas.Slice.Zip.{AllZip-long}
 use Rattle.mo_file.specs.Message.{Message}
 use Rattle.mo_file.specs.Building.{IsBuildFault}
@@ -10,31 +34,125 @@ use Rattle.mo_file.specs.declared.building.BuildError.TheVariants.{TooLarge, Not
 use Rattle.po_syntax.specs.declared.fault.PoError.{PoError}
 use Rattle.po_syntax.specs.declared.fault.PoFault.{PoFault}
 use Rattle.po_syntax.specs.declared.fault.PoFault.TheVariants.{OutOfMemory}
-use Rattle.po_entry.specs.TextEntry.{TextEntry}
-use Rattle.po_entry.specs.ReadsText.{ReadsText}
-use Rattle.po_entry.specs.Validity.{IsCatalogueEntry, out_of_memory}
 use Rattle.po_entry.specs.Faults.{IsReadFault}
 use Rattle.po_reader.specs.PieceRead.{IsFaultOf}
-use Rattle.po_messages.specs.Joined.{joined, joined_entries}
-use Rattle.po_messages.specs.Facts.Zips.{zip_more}
-use Rattle.po_messages.specs.declared.duplicate.JoinError.{JoinError}
 use Rattle.po_messages.specs.DistinctText.{IsTextFault, ReadsDistinct}
-use Rattle.po_compile.specs.Accepted.{AreRead, IsCompileFault, fault_of_only_input}
-use Rattle.po_compile.specs.Collected.{HoldCatalogues, LiveMessage, live_messages}
 use Rattle.po_compile.specs.CompiledInputs.{AreCollected}
 use Rattle.po_compile.specs.CompiledList.{compiled_list}
 use Rattle.po_compile.specs.CompiledMessages.{AreMessagesOf}
 use Rattle.po_compile.specs.Compiling.{IsReportedFault}
-use Rattle.po_compile.specs.Internal.Repeats.{EachApart}
-use Rattle.po_compile.specs.Internal.Rows.{AllApart, AreSortedRows, all_messages, compiled_of, input_keys, row_view}
 use Rattle.po_compile.specs.declared.options.Options.{Options}
 use Rattle.po_compile.specs.declared.row.Row.{Row}
 use Rattle.po_compile.proofs.FaultLemmas.{NoFirstDuplicate}
 use Rattle.po_compile.proofs.HeadlineLemmas.{EntriesCanStand}
-use Rattle.po_compile.proofs.KeysApart.{joined_distinct, read_distinct, sorted_keys}
 use Rattle.po_compile.proofs.ReadingLemmas.{distinct_of_one}
-use Rattle.po_compile.proofs.RisingKeys.{rising_apart}
-use Rattle.po_compile.proofs.SortedRows.{are_messages}
+
+-- a list around one of its elements
+pub split_at : {X : Type 0} (xs : List X) (i : ℕ) (d : X) → i < length xs → xs ≡ take i xs ++ get_or xs i d ∷ drop (suc i) xs
+split_at xs i d inside = sym (take-append-drop i xs) ∙ ap (λ l. take i xs ++ l) (drop-cons xs i d inside)
+
+zip_take : {X Y : Type 0} (R : X → Y → Type 0) (n : ℕ) (xs : List X) (ys : List Y) → AllZip R xs ys → AllZip R (take n xs) (take n ys)
+zip_take R zero [] [] h = tt
+zip_take R (suc n) [] [] h = tt
+zip_take R n [] (y ∷ ys) h = absurd h
+zip_take R n (x ∷ xs) [] h = absurd h
+zip_take R zero (x ∷ xs) (y ∷ ys) h = tt
+zip_take R (suc n) (x ∷ xs) (y ∷ ys) h = (h.0, zip_take R n xs ys h.1)
+
+module _ (use_fuzzy : Bool) where
+  -- the first repeat of the live entries' messages is their first duplicate
+  repeat_is : (entries : List InputEntry) (error : JoinError) → All IsCatalogueEntry (entries_of entries) → IsRepeat (map (input_message use_fuzzy) (live_entries entries)) error
+      → (first later : InputEntry) × IsFirstDuplicate entries first later × (error ≡ duplicate_fault first later)
+  repeat_is entries error valid r =
+      let live = live_entries entries in
+      let entry : InputEntry → TextEntry = λ e. e.entry in
+      let key : InputEntry → List ℕ = λ e. key_of_entry e.entry in
+      let keys : input_keys (map (input_message use_fuzzy) live) ≡ map key live = map-map (λ (m : InputMessage). m.message.key) (input_message use_fuzzy) live in
+      let repeat = subst (λ ks. IsFirstRepeat ks r.first r.later) keys r.repeat in
+      let inside : r.later < length live = omega (arith, repeat.within, length-map live key) in
+      let earlier : r.first < length live = omega (arith, inside, repeat.earlier) in
+      let d = first_of live (omega (arith, inside)) in
+      let prefix = take r.later live in
+      let first = get_or live r.first d in
+      let later = get_or live r.later d in
+      let first_is : get_or prefix r.first d ≡ first = get_or-take r.later live r.first d repeat.earlier in
+      let split : prefix ≡ take r.first prefix ++ first ∷ drop (suc r.first) prefix =
+      split_at prefix r.first d (omega (arith, repeat.earlier, inside, length-take r.later live)) ∙ ap (λ e. take r.first prefix ++ e ∷ drop (suc r.first) prefix) first_is in
+      let live_valid : All IsCatalogueEntry (entries_of live) = subst (All IsCatalogueEntry) (live_of entries) (All-filter is_live IsCatalogueEntry (entries_of entries) valid) in
+      let one = entry_lacks_separators first.entry (at_entry IsCatalogueEntry live r.first d earlier live_valid).valid in
+      let other = entry_lacks_separators later.entry (at_entry IsCatalogueEntry live r.later d inside live_valid).valid in
+      let same : key_of_entry first.entry ≡ key_of_entry later.entry = sym (get_or-map key live r.first d [] earlier) ∙ repeat.same ∙ get_or-map key live r.later d [] inside in
+      let apart : AllApart (map key_of_entry (entries_of prefix)) = subst AllApart (take-map key r.later live ∙ sym (map-map key_of_entry entry prefix)) repeat.apart in (
+        first,
+        later,
+        record {
+          before = take r.first prefix;
+          between = drop (suc r.first) prefix;
+          after = drop (suc r.later) live;
+          order = split_at live r.later d inside ∙ ap (λ es. es ++ later ∷ drop (suc r.later) live) split;
+          same = query_key_is_one first.entry.context later.entry.context first.entry.id later.entry.id one.context_eot other.context_eot one.id_eot other.id_eot same;
+          differ = subst (λ (es : List InputEntry). AllPairs (λ a b. ¬ IsSameMessage a.entry b.entry) es) split (pairs_of_map (λ a b. ¬ IsSameMessage a b) entry prefix (entries_differ (entries_of prefix) apart));
+        },
+        r.error_is (input_message use_fuzzy d) ∙ ap₂ repeat_fault (map_at (input_message use_fuzzy) live r.first d) (map_at (input_message use_fuzzy) live r.later d),
+      )
+
+  module _ (texts more : List (List ℕ)) (catalogues : List (List TextEntry)) (inputs : List (List LiveMessage)) (read : AllZip ReadsText texts catalogues) (held : HoldCatalogues use_fuzzy catalogues inputs) (error : JoinError) where
+    -- the first input with a duplicate, whatever inputs are after these
+    pub input_refused : IsRepeatInInput inputs error → IsFaultOfInput (texts ++ more) error
+    input_refused r =
+        let i = r.index in
+        let many : length inputs ≡ length catalogues = ap length held.messages ∙ length-map catalogues (live_messages use_fuzzy) in
+        let inside : i < length catalogues = omega (arith, r.inside, many) in
+        let long : length texts ≡ length catalogues = zip_length ReadsText texts catalogues read in
+        let within : i < length texts = omega (arith, inside, long) in
+        let entries = get_or catalogues i [] in
+        let here : get_or inputs i [] ≡ live_messages use_fuzzy entries = ap (λ ms. get_or ms i []) held.messages ∙ get_or-map (live_messages use_fuzzy) catalogues i [] [] inside in
+        let messages = ap (map (in_input_message 0)) here ∙ of_input use_fuzzy 0 entries in
+        let valid : All IsCatalogueEntry entries = held.valid i [] inside in
+        let found = repeat_is (map (in_input 0) entries) r.alone (subst (All IsCatalogueEntry) (sym (entries_of_input 0 entries)) valid) (subst (λ ms. IsRepeat ms r.alone) messages r.repeat) in
+        let before : EachApart (map (live_messages use_fuzzy) (take i catalogues)) = subst EachApart (ap (take i) held.messages ∙ take-map (live_messages use_fuzzy) i catalogues) r.before in
+        let alone : r.alone.error ≡ (duplicate_fault found.0 found.1).error = ap (λ (e : JoinError). e.error) found.3 in
+        let index : fault_input i r.alone.error.kind ≡ i = ap (λ (e : JoinError). fault_input i e.error.kind) found.3 in
+        let count : length (take i texts) ≡ i = omega (arith, within, length-take i texts) in
+        record {
+          before = take i texts;
+          text = get_or texts i [];
+          after = drop (suc i) texts ++ more;
+          order = ap (λ ts. ts ++ more) (split_at texts i [] within) ∙ append_assoc (take i texts) (get_or texts i [] ∷ drop (suc i) texts) more;
+          catalogues = take i catalogues;
+          faultless = read_distinct use_fuzzy (take i texts) (take i catalogues) (zip_take ReadsText i texts catalogues read) before;
+          input = ap (λ (e : JoinError). e.input) r.error_is ∙ index ∙ sym count;
+          first_input = ap (λ (e : JoinError). e.first_input) r.error_is ∙ index ∙ sym count;
+          fault = inr (record {
+            entries = entries;
+            reads = zip_get ReadsText texts catalogues i [] [] read inside;
+            first = found.0;
+            later = found.1;
+            duplicate = found.2;
+            error_is = ap (λ (e : JoinError). e.error) r.error_is ∙ alone;
+          });
+        }
+
+    pub each_refused : (error ≡ join_out_of_memory) ⊎ IsRepeatInInput inputs error → IsReadingFault (texts ++ more) error
+    each_refused (inl memory) = inl memory
+    each_refused (inr repeat) = inr (inl (input_refused repeat))
+
+-- what is refused of all inputs
+pub inputs_refused : (use_fuzzy : Bool) (texts : List (List ℕ)) (catalogues : List (List TextEntry)) (inputs : List (List LiveMessage)) (error : JoinError) → AllZip ReadsText texts catalogues → HoldCatalogues use_fuzzy catalogues inputs
+    → IsRepeatFault inputs error → IsReadingFault texts error
+inputs_refused use_fuzzy texts catalogues inputs error read held (inl memory) = inl memory
+inputs_refused use_fuzzy texts catalogues inputs error read held (inr (inl repeat)) =
+    inr (inl (subst (λ ts. IsFaultOfInput ts error) (append-nil texts) (input_refused use_fuzzy texts [] catalogues inputs read held error repeat)))
+inputs_refused use_fuzzy texts catalogues inputs error read held (inr (inr across)) =
+    let found = repeat_is use_fuzzy (joined catalogues) error (joined_valid catalogues held.valid) (subst (λ ms. IsRepeat ms error) (ap all_messages held.messages ∙ all_are use_fuzzy catalogues) across.1) in
+    inr (inr (record {
+      catalogues = catalogues;
+      each = read_distinct use_fuzzy texts catalogues read (subst EachApart held.messages across.0);
+      first = found.0;
+      later = found.1;
+      duplicate = found.2;
+      error_is = found.3;
+    }))
 
 module _ (use_fuzzy : Bool) where
   -- one more catalogue

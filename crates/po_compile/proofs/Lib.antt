@@ -1,9 +1,7 @@
 pub mod TextLemmas
-pub mod FindLemmas
 pub mod Filters
 pub mod Cuts
 pub mod MeaningLemmas
-pub mod SortLemmas
 pub mod ReadingLemmas
 pub mod HeadlineLemmas
 pub mod MessageOrder
@@ -17,4 +15,3 @@ pub mod RisingKeys
 pub mod KeysApart
 pub mod NumberedKeys
 pub mod SortedRows
-pub mod TextRepeats

@@ -1,5 +1,5 @@
 -- Rows that are sorted, of which those that are compiled are the messages.
-use Rattle.std.proofs.Common.{◌≡◌, refl, sym, ap, ap₂, ◌∙◌, subst, Bool, true, false, ◌&&◌, List, [], ◌∷◌, ℕ, ◌<◌, arith, get_or, length, filter, map, All, IsPermutation, count_by}
+use Rattle.std.proofs.Common.{◌≡◌, refl, sym, ap, ap₂, ◌∙◌, subst, Bool, false, List, [], ◌∷◌, ℕ, ◌<◌, arith, get_or, length, filter, map, All, IsPermutation, count_by}
 use Rattle.std.proofs.lemmas.List.{get_or-map, length-map}
 use Rattle.std.proofs.lemmas.List.Elements.{All-filter, All-head, All-map, All-tail, filter_agree}
 use Rattle.std.proofs.lemmas.List.Sorted.{All-permutation, IsPermutation-map, length_permutation}
@@ -23,18 +23,6 @@ use Rattle.po_compile.proofs.JoinedRows.{all_are, joined_valid, live_of}
 use Rattle.po_compile.proofs.MeaningLemmas.{entry_lacks_separators, key_of-original}
 use Rattle.po_compile.proofs.RisingKeys.{rising_filter}
 
-dead_stays : (b w : Bool) → b ≡ false → b && w ≡ false
-dead_stays true w e = absurd (cc)
-dead_stays false w e = refl
-
-both_dead : (b v w : Bool) → b ≡ false → (b && v) && w ≡ false
-both_dead true v w e = absurd (cc)
-both_dead false v w e = refl
-
-three_dead : (b v w x : Bool) → b ≡ false → (b && v) && w && x ≡ false
-three_dead true v w x e = absurd (cc)
-three_dead false v w x e = refl
-
 -- what holds of each entry of several inputs
 pub at_entry : (P : TextEntry → Type 0) (entries : List InputEntry) (k : ℕ) (d : InputEntry) → k < length entries → All P (entries_of entries) → P (get_or entries k d).entry
 at_entry P entries k d inside all =
@@ -50,7 +38,7 @@ module _ (use_fuzzy : Bool) where
   kept_entries : (entries : List InputEntry) → filter (λ (m : InputMessage). m.message.status.compiled) (map (input_message use_fuzzy) (live_entries entries)) ≡ map (input_message use_fuzzy) (compiled_inputs use_fuzzy entries)
   kept_entries entries =
       filter-map (λ (m : InputMessage). m.message.status.compiled) (input_message use_fuzzy) (live_entries entries)
-      ∙ ap (map (input_message use_fuzzy)) (filter_within (λ (e : InputEntry). is_live e.entry) (λ (e : InputEntry). is_compiled use_fuzzy e.entry) (λ e. dead_stays (is_live e.entry) _) entries)
+      ∙ ap (map (input_message use_fuzzy)) (filter_within (λ (e : InputEntry). is_live e.entry) (λ (e : InputEntry). is_compiled use_fuzzy e.entry) (λ e dead. rw dead refl) entries)
 
   -- the messages that are compiled, in the order of the joined list
   pub compiled_views : (catalogues : List (List TextEntry))
@@ -119,7 +107,7 @@ module _ (use_fuzzy : Bool) where
     -- the statistics of the entries
     pub counts_mean : counts_of rows ≡ stats_of (joined_entries catalogues)
     counts_mean =
-        let translated = count_of is_translated (λ m. m.status.translated) (λ e. refl) (λ e dead. three_dead (is_live e) _ _ _ dead) in
-        let fuzzy = count_of is_fuzzy (λ m. m.status.fuzzy) (λ e. refl) (λ e dead. three_dead (is_live e) _ _ _ dead) in
-        let untranslated = count_of is_untranslated (λ m. m.status.untranslated) (λ e. refl) (λ e dead. both_dead (is_live e) _ _ dead) in
+        let translated = count_of is_translated (λ m. m.status.translated) (λ e. refl) (λ e dead. rw dead refl) in
+        let fuzzy = count_of is_fuzzy (λ m. m.status.fuzzy) (λ e. refl) (λ e dead. rw dead refl) in
+        let untranslated = count_of is_untranslated (λ m. m.status.untranslated) (λ e. refl) (λ e dead. rw dead refl) in
         cc

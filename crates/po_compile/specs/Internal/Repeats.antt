@@ -6,7 +6,8 @@ use Rattle.po_messages.specs.declared.duplicate.JoinError.{JoinError}
 use Rattle.po_syntax.specs.declared.fault.PoFault.TheVariants.{Duplicate}
 use Rattle.po_compile.specs.Accepted.{fault_of_input}
 use Rattle.po_compile.specs.Collected.{LiveMessage}
-use Rattle.po_compile.specs.Internal.Rows.{AllApart, InputMessage, all_messages, in_input_message, input_keys, message_keys}
+use Rattle.po_compile.specs.Internal.Rows.{AllApart, InputMessage, all_messages, in_input_message, input_keys}
+use Rattle.po_compile.specs.Internal.Rows.{message_keys}
 
 -- a key as that of a message without a context
 abbrev pub key_message : List ℕ → Message

@@ -10,11 +10,10 @@ use Rattle.po_messages.specs.Joined.{joined_entries}
 use Rattle.po_compile.specs.CompiledList.{compiled_list}
 use Rattle.po_compile.specs.CompiledMessages.{message_of, messages_of_entries}
 use Rattle.po_compile.specs.Internal.Rows.{counts_of}
-use Rattle.po_compile.proofs.InputLemmas.{build_refused, pairs_are, sorted_read}
+use Rattle.po_compile.proofs.InputLemmas.{build_refused, inputs_refused, pairs_are, sorted_read}
 use Rattle.po_compile.proofs.JoinedRows.{joined_valid}
-use Rattle.po_compile.proofs.SortLemmas.{compiled_valid, count_below_layout}
+use Rattle.po_compile.proofs.MessageOrder.{compiled_valid, count_below_layout}
 use Rattle.po_compile.proofs.SortedRows.{counts_mean}
-use Rattle.po_compile.proofs.TextRepeats.{inputs_refused}
 use Rattle.po_compile.proofs.compiling.compile_collected.Goals as goal
 
 pub overflow_cast-result : goal.overflow_cast-result

@@ -6,10 +6,9 @@ use Rattle.po_entry.specs.TextEntry.{slice_texts}
 use Rattle.po_compile.specs.Accepted.{IsReadingFault}
 use Rattle.po_compile.specs.CompiledInputs.{AreCollected}
 use Rattle.po_compile.specs.Internal.Repeats.{EachApart}
-use Rattle.po_compile.proofs.InputLemmas.{collected_count, collected_more, text_fault}
+use Rattle.po_compile.proofs.InputLemmas.{collected_count, collected_more, each_refused, text_fault}
 use Rattle.po_compile.proofs.KeysApart.{read_distinct}
 use Rattle.po_compile.proofs.ReadingLemmas.{more_texts, refused_input, split_texts}
-use Rattle.po_compile.proofs.TextRepeats.{each_refused}
 use Rattle.po_compile.proofs.inputs.collect_all.Goals as goal
 
 abbrev none : Bor (List ℕ)
