@@ -32,8 +32,6 @@ IsNotRising order bytes i =
 -- the later of the two keys. The numbers are whole, so sums of offsets and lengths don't wrap
 -- around.
 abbrev pub HasFaultIn : Order → List ℕ → MoError → Type 0
-HasFaultIn order bytes TooShort = ⊥
-HasFaultIn order bytes BadMagic = ⊥
 HasFaultIn order bytes BadRevision = 1 < revision order bytes / 65536
 HasFaultIn order bytes TableOutside =
     (length bytes < originals_table order bytes + 8 * message_count order bytes)
@@ -42,6 +40,7 @@ HasFaultIn order bytes (StringOutside i) = (i < message_count order bytes) × Is
 HasFaultIn order bytes (NoTerminator i) = (i < message_count order bytes) × IsUnterminated order bytes i
 HasFaultIn order bytes (NotSorted i) =
     (j : ℕ) × (i ≡ j + 1) × (i < message_count order bytes) × IsNotRising order bytes j
+HasFaultIn order bytes f = ⊥
 
 -- these bytes have this fault, whatever others they have
 abbrev pub HasFault : List ℕ → MoError → Type 0

@@ -22,13 +22,9 @@ table order at (s ∷ ss) = (word_bytes order (length s) ++ word_bytes order at)
 -- 28 + 8N, and a hash table of no entries at 28 + 16N, where the strings begin
 abbrev pub header : Order → ℕ → List ℕ
 header order count =
-    magic order
-    ++ word_bytes order 0
-    ++ word_bytes order count
-    ++ word_bytes order 28
-    ++ word_bytes order (28 + 8 * count)
-    ++ word_bytes order 0
-    ++ word_bytes order (28 + 16 * count)
+    magic order ++ word_bytes order 0 ++ word_bytes order count
+    ++ word_bytes order 28 ++ word_bytes order (28 + 8 * count)
+    ++ word_bytes order 0 ++ word_bytes order (28 + 16 * count)
 
 -- where the originals begin
 abbrev pub originals_offset : List Message → ℕ

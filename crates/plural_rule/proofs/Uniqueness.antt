@@ -1,5 +1,5 @@
 -- Laws of visits and of the rule of a header.
-use Rattle.std.proofs.Common.{◌≡◌, ℕ, ◌+◌, ◌<◌, ◌≤◌, inl, inr, List, length, Option, Some, None, refl, sym, ap, subst, ◌∙◌, arith}
+use Rattle.std.proofs.Common.{◌≡◌, ◌≢◌, ℕ, ◌+◌, ◌<◌, ◌≤◌, inl, inr, List, length, Option, Some, None, refl, sym, ap, subst, ◌∙◌, arith}
 use Rattle.std.specs.Prelude.{◌↔◌}
 use Rattle.std.proofs.lemmas.Bool.{cases_Bool}
 use Rattle.plural_rule.specs.declared.operator.Operator.{Operator}
@@ -10,7 +10,7 @@ use Rattle.plural_rule.specs.declared.rule.Reason.TheVariants.{NoNumber, NoExpre
 use Rattle.plural_rule.specs.Expression.{Tree, Count, Number, Not, Binary, Conditional, nodes, is_zero, needs_right, chosen, value, visited, visited_right}
 use Rattle.plural_rule.specs.Grammar.{Spelt}
 use Rattle.plural_rule.specs.Header.{nplurals_of, expression_of}
-use Rattle.plural_rule.specs.PluralRule.{RuleView, IsReadable, IsTooLong, IsReason, Gives, IsRuleOf, IsWithin, default_rule}
+use Rattle.plural_rule.specs.PluralRule.{RuleView, IsReadable, IsReason, Gives, IsRuleOf, IsWithin, default_rule}
 use Rattle.plural_rule.proofs.Complete.{complete}
 use Rattle.plural_rule.proofs.Lexing.{one_list}
 use Rattle.plural_rule.specs.Internal.ShiftReduce.{outcome}
@@ -47,32 +47,37 @@ same o x y e e' = cc
 named : {A : Type 0} (o : Option A) (x : A) → o ≡ Some x → o ≡ None → ⊥
 named o x e e' = cc
 
-not-too_long : (limit : ℕ) (header text : List ℕ) → expression_of header ≡ Some text → length text ≤ limit → IsTooLong limit header → ⊥
-not-too_long limit header text e fits h =
-    let fits_not = h.text_fits_not in omega (arith, ap length (same _ text h.text e h.text_is))
+not-too_long : (limit : ℕ) (header text : List ℕ) → expression_of header ≡ Some text → length text ≤ limit → IsReason limit header TooLong → ⊥
+not-too_long limit header text e fits h = let past = h.3 in omega (arith, ap length (same _ text h.1 e h.2))
 
 -- a rule that can be read has no reason for the default
 readable-no_reason : (limit : ℕ) (header : List ℕ) (nplurals : ℕ) (tree : Tree) (reason : Reason) → IsReadable limit header nplurals tree → IsReason limit header reason → ⊥
 readable-no_reason limit header nplurals tree NoNumber r h = named _ _ r.nplurals_is h
-readable-no_reason limit header nplurals tree NoExpression r h = named _ _ r.text_is h.text_is
+readable-no_reason limit header nplurals tree NoExpression r h = named _ _ r.text_is h.1
 readable-no_reason limit header nplurals tree Unreadable r h =
-    elim h.wrong [
-      | inl large ↦ let fits = r.nplurals_fits in omega (arith, same _ nplurals h.nplurals r.nplurals_is h.nplurals_is)
-      | inr nothing ↦ nothing tree (subst (Spelt tree) (same _ r.text h.text r.text_is h.text_is) r.spelt)
+    elim h.5 [
+      | inl large ↦ let fits = r.nplurals_fits in omega (arith, same _ nplurals h.0 r.nplurals_is h.2)
+      | inr nothing ↦ nothing tree (subst (Spelt tree) (same _ r.text h.1 r.text_is h.3) r.spelt)
     ]
 readable-no_reason limit header nplurals tree TooLong r h = not-too_long limit header r.text r.text_is r.text_fits h
 
 one_reason : (limit : ℕ) (header : List ℕ) (a b : Reason) → IsReason limit header a → IsReason limit header b → a ≡ b
 one_reason limit header NoNumber NoNumber h k = refl
+one_reason limit header NoNumber NoExpression h k = absurd (k.0 h)
+one_reason limit header NoNumber TooLong h k = absurd (k.0 h)
+one_reason limit header NoNumber Unreadable h k = absurd (named _ _ k.2 h)
+one_reason limit header NoExpression NoNumber h k = absurd (h.0 k)
 one_reason limit header NoExpression NoExpression h k = refl
-one_reason limit header Unreadable Unreadable h k = refl
+one_reason limit header NoExpression TooLong h k = absurd (named _ _ k.2 h.1)
+one_reason limit header NoExpression Unreadable h k = absurd (named _ _ k.3 h.1)
+one_reason limit header TooLong NoNumber h k = absurd (h.0 k)
+one_reason limit header TooLong NoExpression h k = absurd (named _ _ h.2 k.1)
 one_reason limit header TooLong TooLong h k = refl
-one_reason limit header NoNumber b h k = absurd (named _ _ k.nplurals_is h)
-one_reason limit header a NoNumber h k = absurd (named _ _ h.nplurals_is k)
-one_reason limit header NoExpression b h k = absurd (named _ _ k.text_is h.text_is)
-one_reason limit header a NoExpression h k = absurd (named _ _ h.text_is k.text_is)
-one_reason limit header Unreadable TooLong h k = absurd (not-too_long limit header h.text h.text_is h.text_fits k)
-one_reason limit header TooLong Unreadable h k = absurd (not-too_long limit header k.text k.text_is k.text_fits h)
+one_reason limit header TooLong Unreadable h k = absurd (not-too_long limit header k.1 k.3 k.4 h)
+one_reason limit header Unreadable NoNumber h k = absurd (named _ _ h.2 k)
+one_reason limit header Unreadable NoExpression h k = absurd (named _ _ h.3 k.1)
+one_reason limit header Unreadable TooLong h k = absurd (not-too_long limit header h.1 h.3 h.4 k)
+one_reason limit header Unreadable Unreadable h k = refl
 
 same-rule : (rule other : RuleView) → rule.source ≡ other.source → rule.nplurals ≡ other.nplurals → rule.tree ≡ other.tree → rule ≡ other
 same-rule rule other source nplurals tree = rw (source, nplurals, tree) refl
@@ -93,22 +98,22 @@ pub one_rule : (limit : ℕ) (header : List ℕ) (rule other : RuleView) → IsR
 one_rule limit header rule other h k = one_rule-by limit header rule other rule.source other.source refl refl h k
 
 -- within a limit: the text that the header names fits it
-within : (limit : ℕ) (header text : List ℕ) (nplurals : ℕ) → IsWithin limit header → nplurals_of header ≡ Some nplurals → expression_of header ≡ Some text → length text ≤ limit
-within limit header text nplurals (inl none) e e' = absurd (named _ _ e none)
-within limit header text nplurals (inr short) e e' = short text e'
+within : (limit : ℕ) (header text : List ℕ) → IsWithin limit header → nplurals_of header ≢ None → expression_of header ≡ Some text → length text ≤ limit
+within limit header text (inl none) some e = absurd (some none)
+within limit header text (inr short) some e = short text e
 
 -- under another limit, where the text that the header names fits that if it fits the first
-other-limit : (limit other : ℕ) (header : List ℕ) (rule : RuleView) (source : Source) → ((text : List ℕ) (nplurals : ℕ) → nplurals_of header ≡ Some nplurals → expression_of header ≡ Some text → (length text ≤ limit → length text ≤ other) × (limit < length text → other < length text)) → Gives limit header rule source → Gives other header rule source
+other-limit : (limit other : ℕ) (header : List ℕ) (rule : RuleView) (source : Source) → ((text : List ℕ) → nplurals_of header ≢ None → expression_of header ≡ Some text → (length text ≤ limit → length text ≤ other) × (limit < length text → other < length text)) → Gives limit header rule source → Gives other header rule source
 other-limit limit other header rule Header within h =
-    record { text = h.text; nplurals_is = h.nplurals_is; nplurals_fits = h.nplurals_fits; text_is = h.text_is; text_fits = (within h.text rule.nplurals h.nplurals_is h.text_is).0 h.text_fits; spelt = h.spelt }
+    let fits = (within h.text (λ none. named _ _ h.nplurals_is none) h.text_is).0 h.text_fits in
+    record { text = h.text; nplurals_is = h.nplurals_is; nplurals_fits = h.nplurals_fits; text_is = h.text_is; text_fits = fits; spelt = h.spelt }
 other-limit limit other header rule (Default Unreadable) within (h, is) =
-    (record { nplurals = h.nplurals; text = h.text; nplurals_is = h.nplurals_is; text_is = h.text_is; text_fits = (within h.text h.nplurals h.nplurals_is h.text_is).0 h.text_fits; wrong = h.wrong }, is)
-other-limit limit other header rule (Default TooLong) within (h, is) =
-    (record { nplurals = h.nplurals; text = h.text; nplurals_is = h.nplurals_is; text_is = h.text_is; text_fits_not = (within h.text h.nplurals h.nplurals_is h.text_is).1 h.text_fits_not }, is)
+    ((h.0, h.1, h.2, h.3, (within h.1 (λ none. named _ _ h.2 none) h.3).0 h.4, h.5), is)
+other-limit limit other header rule (Default TooLong) within (h, is) = ((h.0, h.1, h.2, (within h.1 h.0 h.2).1 h.3), is)
 other-limit limit other header rule (Default reason) within h = h
 
 pub longer_limit : (limit longer : ℕ) (header : List ℕ) (rule : RuleView) → limit ≤ longer → IsWithin limit header → IsRuleOf limit header rule ↔ IsRuleOf longer header rule
 longer_limit limit longer header rule le w = (
-  other-limit limit longer header rule rule.source (λ text n e e'. let fits = within limit header text n w e e' in (λ _. omega arith, λ long. absurd (omega arith))),
-  other-limit longer limit header rule rule.source (λ text n e e'. let fits = within limit header text n w e e' in (λ _. fits, λ long. absurd (omega arith))),
+  other-limit limit longer header rule rule.source (λ text n e. let fits = within limit header text w n e in (λ _. omega arith, λ long. absurd (omega arith))),
+  other-limit longer limit header rule rule.source (λ text n e. let fits = within limit header text w n e in (λ _. fits, λ long. absurd (omega arith))),
 )

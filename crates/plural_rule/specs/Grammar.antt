@@ -5,8 +5,7 @@
 use Rattle.std.specs.Prelude.{ℕ, suc, ◌^◌, ◌<◌, List, [], ◌∷◌, ◌++◌}
 use Rattle.plural_rule.specs.declared.operator.Operator.{Operator}
 use Rattle.plural_rule.specs.declared.operator.Operator.TheVariants.{Or, And, Equal, NotEqual, Less, Greater, AtMost}
-use Rattle.plural_rule.specs.declared.operator.Operator.TheVariants.{AtLeast, Add, Subtract, Multiply, Divide}
-use Rattle.plural_rule.specs.declared.operator.Operator.TheVariants.{Remainder}
+use Rattle.plural_rule.specs.declared.operator.Operator.TheVariants.{AtLeast, Add, Subtract}
 use Rattle.plural_rule.specs.declared.token.Token.{Token}
 use Rattle.plural_rule.specs.declared.token.Token.TheVariants.{Count as CountToken, Number as NumberToken}
 use Rattle.plural_rule.specs.declared.token.Token.TheVariants.{Not as NotToken, Binary as BinaryToken, Question, Colon}
@@ -26,9 +25,7 @@ level AtMost = 4
 level AtLeast = 4
 level Add = 5
 level Subtract = 5
-level Multiply = 6
-level Divide = 6
-level Remainder = 6
+level op = 6
 
 -- The tokens spell the tree as an operand of this level: 0 is a whole expression, 7 an operand of
 -- `!`, as is an expression in parentheses. Operators of two operands group to the left, `?:` to the

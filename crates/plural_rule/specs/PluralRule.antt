@@ -1,6 +1,6 @@
 -- The rule that a header text gives, within a limit on the bytes of its expression.
 -- GNU gettext manual, "Plural forms".
-use Rattle.std.specs.Prelude.{◌≡◌, ℕ, ◌^◌, ◌<◌, ◌≤◌, ◌⊎◌, List, Some, None, length, take}
+use Rattle.std.specs.Prelude.{◌≡◌, ◌≢◌, ℕ, ◌^◌, ◌<◌, ◌≤◌, ◌⊎◌, List, Some, None, length, take}
 use Rattle.plural_rule.specs.declared.operator.Operator.TheVariants.{NotEqual}
 use Rattle.plural_rule.specs.declared.rule.Source.{Source}
 use Rattle.plural_rule.specs.declared.rule.Source.TheVariants.{Header, Default}
@@ -51,36 +51,17 @@ pub record IsReadable (limit : ℕ) (header : List ℕ) (nplurals : ℕ) (tree :
   pub text_fits : length text ≤ limit
   pub spelt : Spelt tree text
 
--- the header names a number, and no expression
-pub record HasNoExpression (header : List ℕ) : Type 0 where
-  pub nplurals : ℕ
-  pub nplurals_is : nplurals_of header ≡ Some nplurals
-  pub text_is : expression_of header ≡ None
-
--- the header names a number, and an expression past the limit
-pub record IsTooLong (limit : ℕ) (header : List ℕ) : Type 0 where
-  pub nplurals : ℕ
-  pub text : List ℕ
-  pub nplurals_is : nplurals_of header ≡ Some nplurals
-  pub text_is : expression_of header ≡ Some text
-  pub text_fits_not : limit < length text
-
--- the header names a number and an expression within the limit, and the number is too large or the
--- expression spells no tree
-pub record IsUnreadable (limit : ℕ) (header : List ℕ) : Type 0 where
-  pub nplurals : ℕ
-  pub text : List ℕ
-  pub nplurals_is : nplurals_of header ≡ Some nplurals
-  pub text_is : expression_of header ≡ Some text
-  pub text_fits : length text ≤ limit
-  pub wrong : (2 ^ 64 ≤ nplurals) ⊎ ((tree : Tree) → Spelt tree text → ⊥)
-
--- the reason for the default rule holds of the header; of each header at most one does
+-- The reason for the default rule holds of the header: it names no number; a number, and no expression;
+-- both, where the expression is past the limit; or both within it, and the number is too large or the
+-- expression spells no tree. Of each header at most one does.
 abbrev pub IsReason : ℕ → List ℕ → Reason → Type 0
 IsReason limit header NoNumber = nplurals_of header ≡ None
-IsReason limit header NoExpression = HasNoExpression header
-IsReason limit header TooLong = IsTooLong limit header
-IsReason limit header Unreadable = IsUnreadable limit header
+IsReason limit header NoExpression = (nplurals_of header ≢ None) × (expression_of header ≡ None)
+IsReason limit header TooLong =
+    (nplurals_of header ≢ None) × (text : List ℕ) × (expression_of header ≡ Some text) × (limit < length text)
+IsReason limit header Unreadable =
+    (nplurals : ℕ) × (text : List ℕ) × (nplurals_of header ≡ Some nplurals) × (expression_of header ≡ Some text)
+    × (length text ≤ limit) × ((2 ^ 64 ≤ nplurals) ⊎ ((tree : Tree) → Spelt tree text → ⊥))
 
 -- the header gives the rule, whose source is this one
 abbrev pub Gives : ℕ → List ℕ → RuleView → Source → Type 0
