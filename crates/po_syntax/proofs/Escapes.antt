@@ -3,7 +3,7 @@ use Rattle.std.proofs.Common.{◌≡◌, ◌==◌, ◌⊎◌, inl, inr, refl, sy
 use Rattle.std.specs.Char.{digit_value, is_digit}
 use Rattle.std.specs.Str.Parse.{AllDigits, digits_value}
 use Rattle.std.proofs.lemmas.List.{take-append-drop, length-take}
-use Rattle.std.proofs.lemmas.Bool.{eqb-true, eqb-false, ltb-true, ltb-false}
+use Rattle.std.proofs.lemmas.Bool.{cond_both, eqb-true, eqb-false, ltb-true, ltb-false}
 use Rattle.po_syntax.specs.declared.fault.PoFault.{PoFault}
 use Rattle.po_syntax.specs.declared.fault.PoFault.TheVariants.{BadEscape, ForbiddenByte}
 use Rattle.po_syntax.specs.LineFaults.{EscapeFault, at_end, no_escape, octal as octal_fault, no_digit, hexadecimal_digits, NumberFault, nul, large, StringFault, not_closed, in_escape, after_plain, after_escape}
@@ -43,10 +43,6 @@ EscapeSays text (End rest) = ⊥
 EscapeSays text (Byte b rest) = SpellsEscape text b rest
 EscapeSays text (Stop fault) = EscapeFault text fault
 
-if_escape : (text : List ℕ) (test : Bool) (s t : Step) → (test ≡ true → EscapeSays text s) → (test ≡ false → EscapeSays text t) → EscapeSays text (if test then s else t)
-if_escape text true s t p q = p refl
-if_escape text false s t p q = q refl
-
 pub positive : (n : ℕ) → (n == 0) ≡ false → 0 < n
 positive zero e = absurd (cc)
 positive (suc n) e = omega arith
@@ -56,8 +52,8 @@ number_says : (base count : ℕ) (text whole : List ℕ) → ((0 < digits_value 
     → ((fault : PoFault) → NumberFault (digits_value base (take count text)) fault → EscapeFault whole fault) → EscapeSays whole (number_step base count text)
 number_says base count text whole spells stops =
     let number = digits_value base (take count text) in
-    if_escape whole (number == 0) _ _ (λ none. stops ForbiddenByte (subst (λ n. NumberFault n ForbiddenByte) (sym (eqb-true number 0 none)) nul)) (λ other.
-    if_escape whole (nat_lt number 256) (Byte number (drop count text)) (Stop BadEscape) (λ less. spells (positive number other, ltb-true number 256 less)) (λ past. stops BadEscape (large (ltb-false number 256 past))))
+    cond_both (number == 0) _ _ (EscapeSays whole) (λ none. stops ForbiddenByte (subst (λ n. NumberFault n ForbiddenByte) (sym (eqb-true number 0 none)) nul)) (λ other.
+    cond_both (nat_lt number 256) (Byte number (drop count text)) (Stop BadEscape) (EscapeSays whole) (λ less. spells (positive number other, ltb-true number 256 less)) (λ past. stops BadEscape (large (ltb-false number 256 past))))
 
 octal_says : (b : ℕ) (text : List ℕ) → is_digit b 8 ≡ true → EscapeSays (b ∷ text) (number_step 8 (digit_count 8 (take 3 (b ∷ text))) (b ∷ text))
 octal_says b text e =
@@ -95,11 +91,11 @@ pub escape_says : (text : List ℕ) → EscapeSays text (escape_at text)
 unfolding escape_at
 escape_says [] = at_end
 escape_says (b ∷ text) =
-    if_escape (b ∷ text) (is_digit b 8) _ _ (λ e. octal_says b text e) (λ no_octal.
-    if_escape (b ∷ text) (b == 120) _ _
+    cond_both (is_digit b 8) _ _ (EscapeSays (b ∷ text)) (λ e. octal_says b text e) (λ no_octal.
+    cond_both (b == 120) _ _ (EscapeSays (b ∷ text))
     (λ is.
     subst (λ x. EscapeSays (x ∷ text) (if digit_count 16 text == 0 then Stop BadEscape else number_step 16 (digit_count 16 text) text)) (sym (eqb-true b 120 is))
-    (if_escape (120 ∷ text) (digit_count 16 text == 0) (Stop BadEscape) _ (no_digit_says text) (hexadecimal_says text)))
+    (cond_both (digit_count 16 text == 0) (Stop BadEscape) _ (EscapeSays (120 ∷ text)) (no_digit_says text) (hexadecimal_says text)))
     (λ no_x. letter_says b text no_octal no_x (letter_value b) refl))
 
 -- what stands after an escape is shorter
@@ -114,10 +110,6 @@ StepSays text (End rest) = SpellsString text [] rest
 StepSays text (Byte b next) = ((bytes rest : List ℕ) → SpellsString next bytes rest → SpellsString text (b ∷ bytes) rest) × ((fault : PoFault) → StringFault next fault → StringFault text fault) × (length next < length text)
 StepSays text (Stop fault) = StringFault text fault
 
-if_step : (text : List ℕ) (test : Bool) (s t : Step) → (test ≡ true → StepSays text s) → (test ≡ false → StepSays text t) → StepSays text (if test then s else t)
-if_step text true s t p q = p refl
-if_step text false s t p q = q refl
-
 after_backslash : (text : List ℕ) (step : Step) → EscapeSays text step → StepSays (92 ∷ text) step
 after_backslash text (End rest) h = absurd h
 after_backslash text (Byte b next) h = (λ bytes rest more. escape h more, λ fault more. after_escape h more, omega (arith, escape_shorter h))
@@ -127,8 +119,8 @@ pub step_says : (text : List ℕ) → StepSays text (step_at text)
 unfolding step_at
 step_says [] = not_closed
 step_says (b ∷ text) =
-    if_step (b ∷ text) (b == 34) (End text) _ (λ is. subst (λ x. SpellsString (x ∷ text) [] text) (sym (eqb-true b 34 is)) closed) (λ inside.
-    if_step (b ∷ text) (b == 92) _ (Byte b text) (λ is. subst (λ x. StepSays (x ∷ text) (escape_at text)) (sym (eqb-true b 92 is)) (after_backslash text (escape_at text) (escape_says text))) (λ raw. (λ bytes rest more. plain (eqb-false b 34 inside) (eqb-false b 92 raw) more, λ fault more. after_plain (eqb-false b 34 inside) (eqb-false b 92 raw) more, omega arith)))
+    cond_both (b == 34) (End text) _ (StepSays (b ∷ text)) (λ is. subst (λ x. SpellsString (x ∷ text) [] text) (sym (eqb-true b 34 is)) closed) (λ inside.
+    cond_both (b == 92) _ (Byte b text) (StepSays (b ∷ text)) (λ is. subst (λ x. StepSays (x ∷ text) (escape_at text)) (sym (eqb-true b 92 is)) (after_backslash text (escape_at text) (escape_says text))) (λ raw. (λ bytes rest more. plain (eqb-false b 34 inside) (eqb-false b 92 raw) more, λ fault more. after_plain (eqb-false b 34 inside) (eqb-false b 92 raw) more, omega arith)))
 
 pub quoted_spelt : {text bytes rest : List ℕ} → IsQuoted text bytes rest → SpellsString text bytes rest
 quoted_spelt (ended {text = text} e) = subst (StepSays text) e (step_says text)

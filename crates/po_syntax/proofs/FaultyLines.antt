@@ -1,10 +1,10 @@
 -- A line is read up to its first fault.
-use Rattle.std.proofs.Common.{◌≡◌, ◌≢◌, ◌⊎◌, ◌==◌, ◌||◌, ◌∙◌, refl, sym, ap, subst, ℕ, ◌^◌, ◌<◌, ◌≤◌, true, false, List, [], ◌∷◌, ◌++◌, drop, length, codes, bytes_eq, None, All, arith}
+use Rattle.std.proofs.Common.{◌≡◌, ◌≢◌, ◌⊎◌, ◌==◌, ◌||◌, ◌∙◌, refl, ap, subst, ℕ, ◌^◌, ◌<◌, ◌≤◌, true, false, List, [], ◌∷◌, ◌++◌, drop, length, codes, bytes_eq, None, All, arith}
 use Rattle.std.specs.Char.{digit_value, is_digit}
 use Rattle.std.specs.Str.Parse.{IsNumeral, digits_value}
 use Rattle.std.proofs.Math.Seq.{take-append_seam, drop-append_seam}
 use Rattle.std.proofs.lemmas.Bool.{both_ways, or_parts, cond-true, cond-false, ne_eqb, lt-ltb, le-ltb, false_from_ne_true}
-use Rattle.std.proofs.lemmas.List.Elements.{All-head, All-tail}
+use Rattle.std.proofs.lemmas.List.Elements.{All-head}
 use Rattle.std.proofs.lemmas.Slice.Eq.{bytes_eq-Decides}
 use Rattle.po_syntax.specs.declared.fault.PoFault.{PoFault}
 use Rattle.po_syntax.specs.declared.fault.PoFault.TheVariants.{UnterminatedString, BadEscape, BadToken, BadPluralIndex}
@@ -13,7 +13,7 @@ use Rattle.po_syntax.specs.Internal.Line as line
 use Rattle.po_syntax.specs.Internal.Line.{Tokens, obsolete_shape, tilde_shape, first_shape, shape_of, TokensStop, halt, after_word, LineStops, no_shape, in_tokens}
 use Rattle.po_syntax.specs.LineFaults.{NumberFault, nul, large, EscapeFault, at_end, no_escape, octal, no_digit, hexadecimal_digits, StringFault, not_closed, in_escape, after_plain, after_escape, IsNoKeyword, IndexFault, no_index, large_index, not_closed_index, KeywordFault, no_keyword, in_index, TokensFault, no_token, blank, in_keyword, in_string, after_keyword, after_string, BeginsTokens, LineFault, indented, previous_again, obsolete_again, live, previous, obsolete, obsolete_previous}
 use Rattle.po_syntax.specs.Internal.QuotedString.{Stop, numbered, number_step, letter_step, escape_at, step_at, QuotedStops, here, later}
-use Rattle.po_syntax.specs.Spelling.{is_word_byte, own_marks, previous_marks}
+use Rattle.po_syntax.specs.Spelling.{is_word_byte, own_marks}
 use Rattle.po_syntax.specs.Internal.Token.{WrongToken, close_token, index_token, bracket_token, keyword_token, first_token, token_at}
 use Rattle.po_syntax.specs.Blanks.{is_blank, IsBlank, skip_blanks, FailsFirst}
 use Rattle.po_syntax.proofs.SpeltEscapes.{count_prefix, count_all, plain_read, backslash_read, spelt_quoted}

@@ -164,30 +164,25 @@ stops_after (suc count) number (first ∷ lines) items fault line h g =
     let sum : number + suc count ≡ (number + 1) + count = omega arith in
     inr (h.0, h.2, stops_after count (number + 1) lines h.1 fault line h.3 (subst (λ (n : ℕ). LinesStop n (drop count lines) fault line) sum g))
 
--- one line more
+-- one line more: what stands before it, and it alone
+last_line : (count : ℕ) (lines : List (List ℕ)) (line : List ℕ) (others : List (List ℕ)) → drop count lines ≡ line ∷ others
+    → (take count (take (suc count) lines) ≡ take count lines) × (drop count (take (suc count) lines) ≡ line ∷ [])
+last_line zero [] line others e = absurd (cc)
+last_line zero (first ∷ lines) line others e = (refl, let same : first ≡ line = cc in rw same refl)
+last_line (suc count) [] line others e = absurd (cc)
+last_line (suc count) (first ∷ lines) line others e = let h = last_line count lines line others e in (ap (λ l. first ∷ l) h.0, h.1)
+
 spelt_more : (count number : ℕ) (lines : List (List ℕ)) (line : List ℕ) (others : List (List ℕ)) (items here : List TextItem) → SpellsLines number (take count lines) items → drop count lines ≡ line ∷ others → HoldsItems (number + count) line here
     → SpellsLines number (take (suc count) lines) (items ++ here)
-spelt_more zero number [] line others items here h e g = absurd (cc)
-spelt_more zero number (first ∷ lines) line others items here h e g =
-    let same : line ≡ first = cc in
-    let sum : number + 0 ≡ number = omega arith in
-    rw h (here, [], subst (λ (n : ℕ). HoldsItems n first here) sum (subst (λ (l : List ℕ). HoldsItems (number + 0) l here) same g), refl, sym (append-nil here))
-spelt_more (suc count) number [] line others items here h e g = absurd (cc)
-spelt_more (suc count) number (first ∷ lines) line others items here h e g =
-    let sum : number + suc count ≡ (number + 1) + count = omega arith in (
-      h.0,
-      h.1 ++ here,
-      h.2,
-      spelt_more count (number + 1) lines line others h.1 here h.3 e (subst (λ (n : ℕ). HoldsItems n line here) sum g),
-      ap (λ (x : List TextItem). x ++ here) h.4 ∙ append_assoc h.0 h.1 here,
-    )
+spelt_more count number lines line others items here h e s =
+    let parts = last_line count lines line others e in
+    joined_after count number (take (suc count) lines) items here (subst (λ l. SpellsLines number l items) (sym parts.0) h)
+    (subst (λ l. SpellsLines (number + count) l here) (sym parts.1) (here, [], s, refl, sym (append-nil here)))
 
 len_more : (count : ℕ) (lines : List (List ℕ)) (line : List ℕ) (others : List (List ℕ)) → drop count lines ≡ line ∷ others → lines_len (take (suc count) lines) ≡ lines_len (take count lines) + (length line + 1)
-len_more zero [] line others e = absurd (cc)
-len_more zero (first ∷ lines) line others e = let same : first ≡ line = cc in rw same refl
-len_more (suc count) [] line others e = absurd (cc)
-len_more (suc count) (first ∷ lines) line others e =
-    omega (arith, len_more count lines line others e, sum_by-cons (λ (l : List ℕ). length l + 1) first (take (suc count) lines), sum_by-cons (λ (l : List ℕ). length l + 1) first (take count lines))
+len_more count lines line others e =
+    let parts = last_line count lines line others e in
+    omega (arith, sum_by-take-drop (λ (l : List ℕ). length l + 1) (take (suc count) lines) count, ap lines_len parts.0, ap lines_len parts.1, sum_by-cons (λ (l : List ℕ). length l + 1) line [])
 
 -- So many lines of `old` are read, which have these items and this length, and `now` is left; and
 -- no piece could end before.

@@ -2,22 +2,14 @@
 use Rattle.std.proofs.Common.{◌≤◌, ◌+◌, ◌*◌, ℕ, List, [], ◌∷◌, length, arith, lit≤}
 use Rattle.std.proofs.lemmas.List.{length-append}
 use Rattle.po_syntax.specs.QuotedForm.{quoted, written_byte, written_bytes}
-use Rattle.po_syntax.specs.WrittenForm.{WritesByte, alert, backspace, tab, line_feed, vertical_tab, form_feed, carriage_return, quote, backslash, delete, control, plain}
+use Rattle.po_syntax.specs.WrittenForm.{WritesByte, letter, delete, control, plain}
 use Rattle.po_syntax.proofs.WrittenForms.{byte_written}
 
 byte_at_most : {b : ℕ} {text : List ℕ} → WritesByte b text → length text ≤ 4
-byte_at_most alert = lit≤ tt
-byte_at_most backspace = lit≤ tt
-byte_at_most tab = lit≤ tt
-byte_at_most line_feed = lit≤ tt
-byte_at_most vertical_tab = lit≤ tt
-byte_at_most form_feed = lit≤ tt
-byte_at_most carriage_return = lit≤ tt
-byte_at_most quote = lit≤ tt
-byte_at_most backslash = lit≤ tt
+byte_at_most (letter e) = lit≤ tt
 byte_at_most delete = lit≤ tt
 byte_at_most (control low range) = lit≤ tt
-byte_at_most (plain low no_quote no_backslash no_delete) = lit≤ tt
+byte_at_most (plain low none no_delete) = lit≤ tt
 
 bytes_at_most : (bytes : List ℕ) → length (written_bytes bytes) ≤ 4 * length bytes
 bytes_at_most [] = lit≤ tt

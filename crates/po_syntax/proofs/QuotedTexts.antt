@@ -1,14 +1,17 @@
 -- The quoted form of a UTF-8 text is UTF-8, and holds no byte below space.
-use Rattle.std.proofs.Common.{◌≡◌, ◌==◌, ◌/◌, ◌%◌, refl, sym, subst, inl, inr, ℕ, ◌+◌, ◌<◌, ◌≤◌, Bool, true, false, nat_lt, if◌then◌else◌, List, [], ◌∷◌, ◌++◌, append-nil, length, get_or, All, IsUtf8, arith}
+use Rattle.std.proofs.Common.{◌≡◌, ◌==◌, ◌/◌, ◌%◌, refl, sym, subst, inl, inr, Option, Some, None, ℕ, ◌+◌, ◌<◌, ◌≤◌, true, nat_lt, if◌then◌else◌, List, [], ◌∷◌, ◌++◌, append-nil, length, get_or, All, IsUtf8, arith}
 use Rattle.std.specs.Char.{digit_char}
 use Rattle.std.specs.Str.{IsAscii}
 use lib.Utf8.{encode, encodes, scalars, scalar}
-use Rattle.std.proofs.lemmas.Bool.{cases_lt, cond-true, lt-ltb, le-ltb, ltb-true, ltb-false, eqb-true, ne_eqb, or_parts, and_parts, or_cases}
+use Rattle.std.proofs.lemmas.Bool.{cond_both, cases_lt, cond-true, lt-ltb, le-ltb, ltb-true, ltb-false, eqb-true, ne_eqb, or_parts, and_parts, or_cases}
 use Rattle.std.proofs.lemmas.Grind.{flat_map-append}
 use Rattle.std.proofs.lemmas.List.{take_all}
 use Rattle.std.proofs.lemmas.List.Elements.{All-append, All-cons, All-head, All-tail}
 use Rattle.std.proofs.lemmas.Str.{IsUtf8-nil, IsUtf8-append, IsUtf8-from_ascii, encode_ascii, inside_one}
 use Rattle.std.proofs.lemmas.Str.Ascii.{IsAscii-cons}
+use Rattle.std.specs.Option.{option_map_or}
+use Rattle.po_syntax.specs.Escapes.{escape_letter}
+use Rattle.po_syntax.proofs.SpeltEscapes.{of_each_byte}
 use Rattle.po_syntax.specs.QuotedForm.{is_control, is_raw, octal_escape, written_byte, written_bytes, quoted}
 use Rattle.po_syntax.proofs.RawRuns.{written_run}
 
@@ -23,10 +26,6 @@ none_shown most = λ k d inside. absurd (omega arith)
 letter_shown : (most letter : ℕ) → 128 ≤ most → 32 ≤ letter → letter < 128 → All (Shown most) (92 ∷ letter ∷ [])
 letter_shown most letter bound low high =
     All-cons (Shown most) 92 (letter ∷ []) (omega arith, omega arith) (All-cons (Shown most) letter [] (low, omega arith) (none_shown most))
-
-if_shown : (most : ℕ) (test : Bool) (s t : List ℕ) → (test ≡ true → All (Shown most) s) → (test ≡ false → All (Shown most) t) → All (Shown most) (if test then s else t)
-if_shown most true s t p q = p refl
-if_shown most false s t p q = q refl
 
 control_ascii : (b : ℕ) → is_control b ≡ true → b < 128
 control_ascii b e =
@@ -46,19 +45,15 @@ octal_shown most b bound less =
 -- what is written for a byte, or an ASCII byte
 written_shown : (most b : ℕ) → 128 ≤ most → b < most → All (Shown most) (written_byte b)
 unfolding written_byte
-written_shown most b bound less =
-    if_shown most (b == 7) _ _ (λ _. letter_shown most 97 bound (omega arith) (omega arith)) (λ _.
-    if_shown most (b == 8) _ _ (λ _. letter_shown most 98 bound (omega arith) (omega arith)) (λ _.
-    if_shown most (b == 9) _ _ (λ _. letter_shown most 116 bound (omega arith) (omega arith)) (λ _.
-    if_shown most (b == 10) _ _ (λ _. letter_shown most 110 bound (omega arith) (omega arith)) (λ _.
-    if_shown most (b == 11) _ _ (λ _. letter_shown most 118 bound (omega arith) (omega arith)) (λ _.
-    if_shown most (b == 12) _ _ (λ _. letter_shown most 102 bound (omega arith) (omega arith)) (λ _.
-    if_shown most (b == 13) _ _ (λ _. letter_shown most 114 bound (omega arith) (omega arith)) (λ _.
-    if_shown most (b == 34) _ _ (λ _. letter_shown most 34 bound (omega arith) (omega arith)) (λ _.
-    if_shown most (b == 92) _ _ (λ _. letter_shown most 92 bound (omega arith) (omega arith)) (λ _.
-    if_shown most (is_control b) _ (b ∷ []) (λ e. octal_shown most b bound (control_ascii b e)) (λ plain.
-    let low = or_parts (nat_lt b 32) (b == 127) plain in
-    All-cons (Shown most) b [] (ltb-false b 32 low.0, less) (none_shown most)))))))))))
+written_shown most b bound less = by (escape_letter b) refl where
+  by : (found : Option ℕ) → escape_letter b ≡ found → All (Shown most) (option_map_or (λ l. 92 ∷ l ∷ []) found (if is_control b then octal_escape b else b ∷ []))
+  by (Some letter) e =
+      let range = of_each_byte (λ l _. (32 ≤ l) × (l < 128)) b letter ((omega arith, omega arith), ((omega arith, omega arith), ((omega arith, omega arith), ((omega arith, omega arith), ((omega arith, omega arith), ((omega arith, omega arith), ((omega arith, omega arith), ((omega arith, omega arith), ((omega arith, omega arith), tt))))))))) e in
+      letter_shown most letter bound range.0 range.1
+  by None e =
+      cond_both (is_control b) (octal_escape b) (b ∷ []) (All (Shown most)) (λ e. octal_shown most b bound (control_ascii b e)) (λ plain.
+      let low = or_parts (nat_lt b 32) (b == 127) plain in
+      All-cons (Shown most) b [] (ltb-false b 32 low.0, less) (none_shown most))
 
 -- bytes that are no control bytes
 bytes_shown : (bytes : List ℕ) → All (λ b. b < 256) bytes → All (Shown 256) (written_bytes bytes)

@@ -1,11 +1,11 @@
 -- Each spelling of a quoted string is read by its steps.
-use Rattle.std.proofs.Common.{◌≡◌, ◌==◌, ◌⊎◌, inl, inr, refl, sym, subst, Bool, true, false, cond, Option, Some, option_map, find, ℕ, zero, suc, ◌≤◌, List, [], ◌∷◌, ◌++◌, length, take, arith}
+use Rattle.std.proofs.Common.{◌≡◌, ◌==◌, ◌⊎◌, inl, inr, refl, sym, subst, Bool, true, false, cond, Some, option_map, find, ℕ, zero, suc, ◌≤◌, List, [], ◌∷◌, ◌++◌, length, take, arith}
 use Rattle.std.specs.Char.{digit_value}
 use Rattle.std.specs.Str.Parse.{AllDigits, IsNumeral, digits_value}
 use Rattle.std.proofs.Math.Seq.{take-append_seam, drop-append_seam}
 use Rattle.std.proofs.lemmas.Bool.{eqb-true, ne_eqb, lt-ltb}
 use Rattle.po_syntax.specs.Internal.QuotedString.{End, Byte, digit_count, number_step, escape_at, step_at, IsQuoted, ended, spelt}
-use Rattle.po_syntax.specs.Escapes.{NoDigitFirst, IsByteNumber, escape_letters, letter_value, SpellsEscape, letter, octal, hexadecimal, SpellsString, closed, plain, escape}
+use Rattle.po_syntax.specs.Escapes.{NoDigitFirst, IsByteNumber, escape_letters, letter_value, escape_letter, SpellsEscape, letter, octal, hexadecimal, SpellsString, closed, plain, escape}
 
 -- as many digits as there are, up to so many
 pub count_prefix : (base most : ℕ) (digits rest : List ℕ) → AllDigits base digits → length digits ≤ most → (length digits ≡ most) ⊎ NoDigitFirst base rest → digit_count base (take most (digits ++ rest)) ≡ length digits
@@ -50,6 +50,18 @@ abbrev HoldsOfEach : (ℕ → ℕ → Type 0) → List (ℕ × ℕ) → Type 0
 HoldsOfEach P [] = Unit {0}
 HoldsOfEach P (p ∷ table) = P p.0 p.1 × HoldsOfEach P table
 
+of_byte : (P : ℕ → ℕ → Type 0) (b key : ℕ) (table : List (ℕ × ℕ)) → HoldsOfEach P table → option_map (λ p. p.0) (find (λ p. b == p.1) table) ≡ Some key → P key b
+of_byte P b key [] each e = absurd (cc)
+of_byte P b key (p ∷ table) each e = at (b == p.1) refl e (of_byte P b key table each.1) where
+  at : (test : Bool) → (b == p.1) ≡ test → option_map (λ q. q.0) (cond test (Some p) (find (λ q. b == q.1) table)) ≡ Some key
+      → (option_map (λ q. q.0) (find (λ q. b == q.1) table) ≡ Some key → P key b) → P key b
+  at true is same later = let found : p.0 ≡ key = cc in subst (λ l. P l b) found (subst (P p.0) (sym (eqb-true b p.1 is)) each.0)
+  at false other same later = later same
+
+-- what holds of each escape's letter and its byte, by the byte
+pub of_each_byte : (P : ℕ → ℕ → Type 0) (b key : ℕ) → HoldsOfEach P escape_letters → escape_letter b ≡ Some key → P key b
+of_each_byte P b key each e = of_byte P b key escape_letters each e
+
 of_letter : (P : ℕ → ℕ → Type 0) (b value : ℕ) (table : List (ℕ × ℕ)) → HoldsOfEach P table → option_map (λ p. p.1) (find (λ p. b == p.0) table) ≡ Some value → P b value
 of_letter P b value [] each e = absurd (cc)
 of_letter P b value (p ∷ table) each e = at (b == p.0) refl e (of_letter P b value table each.1) where
@@ -62,7 +74,7 @@ of_letter P b value (p ∷ table) each e = at (b == p.0) refl e (of_letter P b v
 pub of_each_letter : (P : ℕ → ℕ → Type 0) (b value : ℕ) → HoldsOfEach P escape_letters → letter_value b ≡ Some value → P b value
 of_each_letter P b value each e = of_letter P b value escape_letters each e
 
-letter_read : (b value : ℕ) (rest : List ℕ) → letter_value b ≡ Some value → escape_at (b ∷ rest) ≡ Byte value rest
+pub letter_read : (b value : ℕ) (rest : List ℕ) → letter_value b ≡ Some value → escape_at (b ∷ rest) ≡ Byte value rest
 unfolding escape_at
 letter_read b value rest e = of_each_letter (λ a v. escape_at (a ∷ rest) ≡ Byte v rest) b value (refl, (refl, (refl, (refl, (refl, (refl, (refl, (refl, (refl, tt))))))))) e
 

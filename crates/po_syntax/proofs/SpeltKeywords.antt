@@ -1,11 +1,11 @@
 -- Each keyword is read where it is spelt, and what is read as one is spelt, or has a fault.
-use Rattle.std.proofs.Common.{◌≡◌, ◌∙◌, refl, sym, ap, subst, ℕ, suc, ◌+◌, ◌^◌, ◌<◌, ◌≤◌, ◌==◌, ◌||◌, Bool, true, false, if◌then◌else◌, nat_lt, List, [], ◌∷◌, ◌++◌, length, take, drop, codes, bytes_eq, All, inl, inr, arith}
+use Rattle.std.proofs.Common.{◌≡◌, ◌∙◌, refl, sym, ap, subst, ℕ, suc, ◌+◌, ◌^◌, ◌<◌, ◌==◌, ◌||◌, Bool, true, false, nat_lt, List, [], ◌∷◌, ◌++◌, length, take, drop, codes, bytes_eq, All, arith}
 use Rattle.std.specs.Char.{digit_value, is_digit}
 use Rattle.std.specs.List.{prefix_len, list_all}
 use Rattle.std.specs.Str.Parse.{IsNumeral, digits_value}
 use Rattle.std.proofs.Math.Numerals.{one-add}
 use Rattle.std.proofs.Math.Seq.{take-append_seam, drop-append_seam}
-use Rattle.std.proofs.lemmas.Bool.{cond-true, or_from, both_ways, cond-false, eqb-true, eqb-false, ne_eqb, ltb-true, ltb-false, lt-ltb, false_from_ne_true}
+use Rattle.std.proofs.lemmas.Bool.{cond_both, cond-true, or_from, both_ways, cond-false, eqb-true, eqb-false, ne_eqb, ltb-true, ltb-false, lt-ltb, false_from_ne_true}
 use Rattle.std.proofs.lemmas.List.{take-append-drop}
 use Rattle.std.proofs.lemmas.List.Elements.{All-cons, All-head}
 use Rattle.std.proofs.lemmas.Slice.Eq.{bytes_eq-Decides}
@@ -119,10 +119,6 @@ TokenSays text (OpeningQuote rest) = text ≡ 34 ∷ rest
 TokenSays text (KeywordToken word rest) = SpellsKeyword text word rest
 TokenSays text (WrongToken fault) = FailsFirst is_blank text → TokensFault text fault
 
-if_says : (text : List ℕ) (test : Bool) (s t : Token) → (test ≡ true → TokenSays text s) → (test ≡ false → TokenSays text t) → TokenSays text (if test then s else t)
-if_says text true s t p q = p refl
-if_says text false s t p q = q refl
-
 -- after `msgstr`, blanks and a bracket, with blanks before the index
 record IsOpened (whole before inside index : List ℕ) : Type 0 where
   text : whole ≡ codes "msgstr" ++ (before ++ 91 ∷ (inside ++ index))
@@ -145,7 +141,7 @@ close_says whole before inside index digits opened numeral fits rest after end i
   at : (last : List ℕ) → rest ≡ after ++ last → FailsFirst is_blank last → TokenSays whole (close_token (digits_value 10 digits) last)
   at [] e begins = λ _. unclosed [] e tt
   at (b ∷ last) e begins =
-      if_says whole (b == 93) _ _
+      cond_both (b == 93) _ _ (TokenSays whole)
       (λ closes.
       let closing : rest ≡ after ++ 93 ∷ last = e ∙ ap (λ a. after ++ a ∷ last) (eqb-true b 93 closes) in
       let text = opened.text ∙ ap (λ l. codes "msgstr" ++ (before ++ 91 ∷ (inside ++ l))) (is ∙ ap (λ l. digits ++ l) closing) in
@@ -160,13 +156,13 @@ index_says whole before inside index opened =
     let rest = drop count index in
     let all = all_digits 10 index in
     let parted : index ≡ digits ++ rest = sym (take-append-drop count index) in
-    if_says whole (count == 0) _ _
+    cond_both (count == 0) _ _ (TokenSays whole)
     (λ zero _.
     let none : NoDigitFirst 10 index = subst (λ n. NoDigitFirst 10 (drop n index)) (eqb-true count 0 zero) all.2 in
     fault_opened whole before inside index opened (no_index opened.index_begins none))
     (λ other.
     let some : 0 < length digits = omega (arith, positive count other, all.1) in
-    if_says whole (nat_lt (digits_value 10 digits) (2 ^ 32)) _ _
+    cond_both (nat_lt (digits_value 10 digits) (2 ^ 32)) _ _ (TokenSays whole)
     (λ less.
     let parts = skips rest in
     close_says whole before inside index digits opened (some, all.0) (ltb-true _ _ less) rest parts.blanks (skip_blanks rest) parted (sym parts.whole) all.2 parts.are_blanks parts.other)
@@ -177,7 +173,7 @@ bracket_says : (whole rest : List ℕ) → whole ≡ codes "msgstr" ++ rest → 
 bracket_says whole rest text ends before [] is parts all =
     subst (λ t. SpellsKeyword t MsgStr rest) (sym text) (msgstr ends (subst (FailsFirst (λ b. b == 91)) (sym is) tt))
 bracket_says whole rest text ends before (b ∷ inside) is parts all =
-    if_says whole (b == 91) _ (KeywordToken MsgStr rest)
+    cond_both (b == 91) _ (KeywordToken MsgStr rest) (TokenSays whole)
     (λ e.
     let more = skips inside in
     index_says whole before more.blanks (skip_blanks inside) (record {
@@ -194,10 +190,10 @@ keyword_says whole b word rest text all ends =
     let read = b ∷ word in
     let is = λ (name : List ℕ) (e : bytes_eq read name ≡ true). text ∙ ap (λ w. w ++ rest) ((bytes_eq-Decides read name).0 e) in
     let differs = λ (name : List ℕ) (e : bytes_eq read name ≡ false) (same : read ≡ name). both_ways (bytes_eq read name) e ((bytes_eq-Decides read name).1 same) in
-    if_says whole (bytes_eq read (codes "msgctxt")) (KeywordToken MsgCtxt rest) _ (λ e. subst (λ t. SpellsKeyword t MsgCtxt rest) (sym (is (codes "msgctxt") e)) (msgctxt ends)) (λ no_context.
-    if_says whole (bytes_eq read (codes "msgid")) (KeywordToken MsgId rest) _ (λ e. subst (λ t. SpellsKeyword t MsgId rest) (sym (is (codes "msgid") e)) (msgid ends)) (λ no_id.
-    if_says whole (bytes_eq read (codes "msgid_plural")) (KeywordToken MsgIdPlural rest) _ (λ e. subst (λ t. SpellsKeyword t MsgIdPlural rest) (sym (is (codes "msgid_plural") e)) (msgid_plural ends)) (λ no_plural.
-    if_says whole (bytes_eq read (codes "msgstr")) _ (WrongToken BadToken)
+    cond_both (bytes_eq read (codes "msgctxt")) (KeywordToken MsgCtxt rest) _ (TokenSays whole) (λ e. subst (λ t. SpellsKeyword t MsgCtxt rest) (sym (is (codes "msgctxt") e)) (msgctxt ends)) (λ no_context.
+    cond_both (bytes_eq read (codes "msgid")) (KeywordToken MsgId rest) _ (TokenSays whole) (λ e. subst (λ t. SpellsKeyword t MsgId rest) (sym (is (codes "msgid") e)) (msgid ends)) (λ no_id.
+    cond_both (bytes_eq read (codes "msgid_plural")) (KeywordToken MsgIdPlural rest) _ (TokenSays whole) (λ e. subst (λ t. SpellsKeyword t MsgIdPlural rest) (sym (is (codes "msgid_plural") e)) (msgid_plural ends)) (λ no_plural.
+    cond_both (bytes_eq read (codes "msgstr")) _ (WrongToken BadToken) (TokenSays whole)
     (λ e. let parts = skips rest in bracket_says whole rest (is (codes "msgstr") e) ends parts.blanks (skip_blanks rest) refl (sym parts.whole) parts.are_blanks)
     (λ no_translation _.
     in_keyword (subst (λ t. KeywordFault t BadToken) (sym text) (no_keyword b word rest all ends (record {
@@ -220,6 +216,6 @@ pub first_says : (text : List ℕ) → TokenSays text (first_token text)
 unfolding first_token
 first_says [] = refl
 first_says (b ∷ rest) =
-    if_says (b ∷ rest) (b == 34) (OpeningQuote rest) _ (λ e. ap (λ a. a ∷ rest) (eqb-true b 34 e)) (λ no_quote.
-    if_says (b ∷ rest) (is_word_byte b) _ _ (word_says b rest)
+    cond_both (b == 34) (OpeningQuote rest) _ (TokenSays (b ∷ rest)) (λ e. ap (λ a. a ∷ rest) (eqb-true b 34 e)) (λ no_quote.
+    cond_both (is_word_byte b) _ _ (TokenSays (b ∷ rest)) (word_says b rest)
     (λ no_word no_blank. no_token no_blank (eqb-false b 34 no_quote) no_word))

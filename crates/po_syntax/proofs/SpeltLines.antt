@@ -1,8 +1,8 @@
 -- Each line is read as the items that it holds, and holds what is read of it, or has the fault at which reading it stops.
-use Rattle.std.proofs.Common.{◌≡◌, ◌⊎◌, inl, inr, ◌==◌, ◌||◌, ◌∙◌, refl, sym, ap, subst, ℕ, ◌+◌, Bool, true, false, if◌then◌else◌, List, [], ◌∷◌, ◌++◌, drop, All, arith}
+use Rattle.std.proofs.Common.{◌≡◌, ◌⊎◌, inl, inr, ◌==◌, ◌||◌, ◌∙◌, refl, sym, ap, subst, ℕ, ◌+◌, true, false, List, [], ◌∷◌, ◌++◌, drop, All, arith}
 use Rattle.std.specs.List.{prefix_len}
 use Rattle.std.proofs.Math.Numerals.{one-add}
-use Rattle.std.proofs.lemmas.Bool.{or_from, or_parts, cond-true, cond-false, eqb-true, eqb-false, ne_eqb}
+use Rattle.std.proofs.lemmas.Bool.{cond_both, or_from, or_parts, cond-true, cond-false, eqb-true, eqb-false, ne_eqb}
 use Rattle.std.proofs.lemmas.List.Elements.{All-head, All-tail}
 use Rattle.po_syntax.specs.declared.fault.PoFault.{PoFault}
 use Rattle.po_syntax.specs.declared.fault.PoFault.TheVariants.{BadToken}
@@ -13,7 +13,7 @@ use Rattle.po_syntax.specs.Internal.Line as line
 use Rattle.po_syntax.specs.Internal.Line.{Shape, CommentLine, Tokens, NoShape, comment_shape, obsolete_shape, tilde_shape, hash_shape, first_shape, shape_of, SpellsTokens, none, word, SpellsLine, TokensStop, halt, after_word, LineStops, no_shape, in_tokens}
 use Rattle.po_syntax.specs.ItemContents.{trim_returns}
 use Rattle.po_syntax.specs.LineFaults.{TokensFault, blank as fault_blank, in_string as fault_in_string, after_keyword, after_string as fault_after_string, BeginsTokens, LineFault, indented as fault_indent, previous_again, obsolete_again, live as fault_live, previous as fault_previous, obsolete as fault_obsolete, obsolete_previous as fault_obsolete_previous}
-use Rattle.po_syntax.specs.Spelling.{HoldsTokens, end, blank, keyword, string, is_mark, SpellsComment, extracted, reference, flags, translator, own_marks, previous_marks, HoldsItems, indented, comment, obsolete_comment, live, previous, obsolete, obsolete_previous}
+use Rattle.po_syntax.specs.Spelling.{HoldsTokens, end, blank, keyword, string, SpellsComment, extracted, reference, flags, translator, own_marks, previous_marks, HoldsItems, indented, comment, obsolete_comment, live, previous, obsolete, obsolete_previous}
 use Rattle.po_syntax.specs.TextItem.{TextItem, Comment, Str}
 use Rattle.po_syntax.specs.Internal.Token.{Token, LineEnd, OpeningQuote, KeywordToken, WrongToken, first_token, token_at}
 use Rattle.po_syntax.specs.Blanks.{is_blank, IsBlank, skip_blanks, FailsFirst}
@@ -80,28 +80,20 @@ ShapeSays text (Tokens marks rest) =
     ((number : ℕ) (items : List TextItem) → HoldsTokens marks number rest items → HoldsItems number text items) × ((fault : PoFault) → TokensFault rest fault → LineFault text fault)
 ShapeSays text NoShape = LineFault text BadToken
 
-if_says : (text : List ℕ) (test : Bool) (s t : Shape) → (test ≡ true → ShapeSays text s) → (test ≡ false → ShapeSays text t) → ShapeSays text (if test then s else t)
-if_says text true s t p q = p refl
-if_says text false s t p q = q refl
-
 -- what a comment's shape says of the text after its `#`
 abbrev CommentSays : List ℕ → Shape → Type 0
 CommentSays text (CommentLine kind rest) = SpellsComment text kind rest
 CommentSays text (Tokens marks rest) = ⊥
 CommentSays text NoShape = (rest : List ℕ) × ((text ≡ 124 ∷ rest) ⊎ (text ≡ 126 ∷ rest))
 
-if_comment : (text : List ℕ) (test : Bool) (s t : Shape) → (test ≡ true → CommentSays text s) → (test ≡ false → CommentSays text t) → CommentSays text (if test then s else t)
-if_comment text true s t p q = p refl
-if_comment text false s t p q = q refl
-
 comment_says : (text : List ℕ) → CommentSays text (comment_shape text)
 comment_says [] = translator tt
 comment_says (b ∷ rest) =
-    if_comment (b ∷ rest) (b == 46) (CommentLine Extracted rest) _ (λ e. subst (λ a. SpellsComment (a ∷ rest) Extracted rest) (sym (eqb-true b 46 e)) extracted) (λ p.
-    if_comment (b ∷ rest) (b == 58) (CommentLine Reference rest) _ (λ e. subst (λ a. SpellsComment (a ∷ rest) Reference rest) (sym (eqb-true b 58 e)) reference) (λ q.
-    if_comment (b ∷ rest) (b == 44) (CommentLine Flags rest) _ (λ e. subst (λ a. SpellsComment (a ∷ rest) Flags rest) (sym (eqb-true b 44 e)) flags) (λ r.
-    if_comment (b ∷ rest) (b == 124) NoShape _ (λ e. (rest, inl (ap (λ a. a ∷ rest) (eqb-true b 124 e)))) (λ s.
-    if_comment (b ∷ rest) (b == 126) NoShape (CommentLine Translator (b ∷ rest)) (λ e. (rest, inr (ap (λ a. a ∷ rest) (eqb-true b 126 e)))) (λ t. translator (or_from _ _ (or_from _ _ (or_from _ _ (or_from _ _ p q) r) s) t))))))
+    cond_both (b == 46) (CommentLine Extracted rest) _ (CommentSays (b ∷ rest)) (λ e. subst (λ a. SpellsComment (a ∷ rest) Extracted rest) (sym (eqb-true b 46 e)) extracted) (λ p.
+    cond_both (b == 58) (CommentLine Reference rest) _ (CommentSays (b ∷ rest)) (λ e. subst (λ a. SpellsComment (a ∷ rest) Reference rest) (sym (eqb-true b 58 e)) reference) (λ q.
+    cond_both (b == 44) (CommentLine Flags rest) _ (CommentSays (b ∷ rest)) (λ e. subst (λ a. SpellsComment (a ∷ rest) Flags rest) (sym (eqb-true b 44 e)) flags) (λ r.
+    cond_both (b == 124) NoShape _ (CommentSays (b ∷ rest)) (λ e. (rest, inl (ap (λ a. a ∷ rest) (eqb-true b 124 e)))) (λ s.
+    cond_both (b == 126) NoShape (CommentLine Translator (b ∷ rest)) (CommentSays (b ∷ rest)) (λ e. (rest, inr (ap (λ a. a ∷ rest) (eqb-true b 126 e)))) (λ t. translator (or_from _ _ (or_from _ _ (or_from _ _ (or_from _ _ p q) r) s) t))))))
 
 -- a text that no bar and no tilde begins
 abbrev BeginsComment : List ℕ → Type 0
@@ -127,7 +119,7 @@ obsolete_says : (blanks after : List ℕ) → All IsBlank blanks → FailsFirst 
 unfolding obsolete_shape
 obsolete_says blanks [] all no_bar fails = (λ number items h. obsolete (after_blanks blanks [] all h), λ fault h. fault_obsolete blanks all tt no_bar h)
 obsolete_says blanks (b ∷ rest) all no_bar fails =
-    if_says (35 ∷ 126 ∷ (blanks ++ b ∷ rest)) (b == 35) _ (Tokens (own_marks true) (b ∷ rest))
+    cond_both (b == 35) _ (Tokens (own_marks true) (b ∷ rest)) (ShapeSays (35 ∷ 126 ∷ (blanks ++ b ∷ rest)))
     (λ e. subst (λ a. ShapeSays (35 ∷ 126 ∷ (blanks ++ a ∷ rest)) (comment_shape rest)) (sym (eqb-true b 35 e)) (obsolete_comment_line blanks rest (comment_shape rest) all (comment_says rest)))
     (λ other. (λ number items h. obsolete (after_blanks blanks (b ∷ rest) all h), λ fault h. fault_obsolete blanks all (begins_tokens b rest fails other) no_bar h))
 
@@ -141,7 +133,7 @@ tilde_says : (text : List ℕ) → ShapeSays (35 ∷ 126 ∷ text) (tilde_shape 
 unfolding tilde_shape
 tilde_says [] = obsolete_line [] tt
 tilde_says (b ∷ rest) =
-    if_says (35 ∷ 126 ∷ b ∷ rest) (b == 124) (Tokens (previous_marks true) rest) _
+    cond_both (b == 124) (Tokens (previous_marks true) rest) _ (ShapeSays (35 ∷ 126 ∷ b ∷ rest))
     (λ e. subst (λ a. ShapeSays (35 ∷ 126 ∷ a ∷ rest) (Tokens (previous_marks true) rest)) (sym (eqb-true b 124 e)) (λ number items h. obsolete_previous h, λ fault h. fault_obsolete_previous h))
     (λ other. obsolete_line (b ∷ rest) other)
 
@@ -157,9 +149,9 @@ hash_says : (text : List ℕ) → ShapeSays (35 ∷ text) (hash_shape text)
 unfolding hash_shape
 hash_says [] = comment_line [] (comment_shape []) nothing_begins (comment_says [])
 hash_says (b ∷ rest) =
-    if_says (35 ∷ b ∷ rest) (b == 124) (Tokens (previous_marks false) rest) _
+    cond_both (b == 124) (Tokens (previous_marks false) rest) _ (ShapeSays (35 ∷ b ∷ rest))
     (λ e. subst (λ a. ShapeSays (35 ∷ a ∷ rest) (Tokens (previous_marks false) rest)) (sym (eqb-true b 124 e)) (λ number items h. previous h, λ fault h. fault_previous h)) (λ no_bar.
-    if_says (35 ∷ b ∷ rest) (b == 126) _ _
+    cond_both (b == 126) _ _ (ShapeSays (35 ∷ b ∷ rest))
     (λ e. subst (λ a. ShapeSays (35 ∷ a ∷ rest) (tilde_shape rest)) (sym (eqb-true b 126 e)) (tilde_says rest))
     (λ no_tilde. comment_line (b ∷ rest) (comment_shape (b ∷ rest)) (other_begins b rest no_bar no_tilde) (comment_says (b ∷ rest))))
 
@@ -167,7 +159,7 @@ shape_says : (text : List ℕ) → FailsFirst is_blank text → ShapeSays text (
 unfolding first_shape
 shape_says [] fails = (λ number items h. live h, λ fault h. fault_live tt h)
 shape_says (b ∷ rest) fails =
-    if_says (b ∷ rest) (b == 35) _ (Tokens (own_marks false) (b ∷ rest))
+    cond_both (b == 35) _ (Tokens (own_marks false) (b ∷ rest)) (ShapeSays (b ∷ rest))
     (λ e. subst (λ a. ShapeSays (a ∷ rest) (hash_shape rest)) (sym (eqb-true b 35 e)) (hash_says rest))
     (λ other. (λ number items h. live h, λ fault h. fault_live (begins_tokens b rest fails other) h))
 

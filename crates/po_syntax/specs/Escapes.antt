@@ -23,6 +23,10 @@ escape_letters = (97, 7) ∷ (98, 8) ∷ (116, 9) ∷ (110, 10) ∷ (118, 11) �
 abbrev pub letter_value : ℕ → Option ℕ
 letter_value letter = option_map (λ p. p.1) (find (λ p. letter == p.0) escape_letters)
 
+-- what stands after a backslash for a byte, if it is one of these
+abbrev pub escape_letter : ℕ → Option ℕ
+escape_letter b = option_map (λ p. p.0) (find (λ p. b == p.1) escape_letters)
+
 -- After a backslash the text spells this byte, and the rest stands after the escape. Octal digits give
 -- the byte's number, as many as stand there, up to three; or hex digits after an `x` do, all that stand
 -- there. C's `\'` and `\?` and a backslash at the end of a line are no escapes: this project's choice.

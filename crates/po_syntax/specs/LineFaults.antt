@@ -1,7 +1,7 @@
 -- The first fault of a line, with a case for each place that can have one: this project's own, as the
 -- manual names no faults (FORMATS.md, "Which fault is reported").
-use Rattle.std.specs.Prelude.{◌≡◌, ◌≢◌, ◌⊎◌, ℕ, ◌^◌, ◌<◌, ◌≤◌, false, ◌||◌, ◌==◌, IsTrue, List, [], ◌∷◌, ◌++◌, length, All}
-use Rattle.std.specs.Prelude.{None, codes}
+use Rattle.std.specs.Prelude.{◌≡◌, ◌≢◌, ◌⊎◌, ℕ, ◌^◌, ◌<◌, ◌≤◌, false, ◌||◌, ◌==◌, List, [], ◌∷◌, ◌++◌, length, All}
+use Rattle.std.specs.Prelude.{IsTrue, None, codes}
 use Rattle.std.specs.Char.{is_digit}
 use Rattle.std.specs.Str.Parse.{IsNumeral, digits_value}
 use Rattle.po_syntax.specs.declared.fault.PoFault.{PoFault}
@@ -88,6 +88,7 @@ pub data LineFault : List ℕ → PoFault → Type 0 where
   live : {text : List ℕ} {fault : PoFault} → BeginsTokens text → TokensFault text fault → LineFault text fault
   previous : {text : List ℕ} {fault : PoFault} → TokensFault text fault → LineFault (35 ∷ 124 ∷ text) fault
   obsolete : (blanks : List ℕ) {text : List ℕ} {fault : PoFault} → All IsBlank blanks → BeginsTokens text
-      → FailsFirst (λ b. b == 124) (blanks ++ text) → TokensFault text fault → LineFault (35 ∷ 126 ∷ (blanks ++ text)) fault
+      → FailsFirst (λ b. b == 124) (blanks ++ text) → TokensFault text fault
+      → LineFault (35 ∷ 126 ∷ (blanks ++ text)) fault
   obsolete_previous : {text : List ℕ} {fault : PoFault} → TokensFault text fault
       → LineFault (35 ∷ 126 ∷ 124 ∷ text) fault

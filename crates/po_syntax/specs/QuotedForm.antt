@@ -1,7 +1,9 @@
 -- The quoted form of a text, as it is written in a PO file (manual, "The Format of PO Files").
 use Rattle.std.specs.Prelude.{ℕ, ◌/◌, ◌%◌, Bool, not, ◌==◌, ◌||◌, nat_lt, if◌then◌else◌, List, [], ◌∷◌, ◌++◌}
 use Rattle.std.specs.List.{flat_map}
+use Rattle.std.specs.Option.{option_map_or}
 use Rattle.std.specs.Char.{digit_char}
+use Rattle.po_syntax.specs.Escapes.{escape_letter}
 
 -- a backslash and the three octal digits of a byte
 abbrev pub octal_escape : ℕ → List ℕ
@@ -19,17 +21,7 @@ is_raw b = not (is_control b || b == 34 || b == 92)
 -- control bytes, and the byte itself for all else.
 unfoldable pub written_byte : ℕ → List ℕ
 written_byte b =
-    if b == 7 then 92 ∷ 97 ∷ []
-    else if b == 8 then 92 ∷ 98 ∷ []
-    else if b == 9 then 92 ∷ 116 ∷ []
-    else if b == 10 then 92 ∷ 110 ∷ []
-    else if b == 11 then 92 ∷ 118 ∷ []
-    else if b == 12 then 92 ∷ 102 ∷ []
-    else if b == 13 then 92 ∷ 114 ∷ []
-    else if b == 34 then 92 ∷ 34 ∷ []
-    else if b == 92 then 92 ∷ 92 ∷ []
-    else if is_control b then octal_escape b
-    else b ∷ []
+    option_map_or (λ letter. 92 ∷ letter ∷ []) (escape_letter b) (if is_control b then octal_escape b else b ∷ [])
 
 -- what is written for each byte of a text
 abbrev pub written_bytes : List ℕ → List ℕ

@@ -23,7 +23,8 @@ is_word_byte b = is_ascii_alphanumeric b || b == 95
 pub data SpellsKeyword : List ℕ → Keyword → List ℕ → Type 0 where
   msgctxt : {rest : List ℕ} → FailsFirst is_word_byte rest → SpellsKeyword (codes "msgctxt" ++ rest) MsgCtxt rest
   msgid : {rest : List ℕ} → FailsFirst is_word_byte rest → SpellsKeyword (codes "msgid" ++ rest) MsgId rest
-  msgid_plural : {rest : List ℕ} → FailsFirst is_word_byte rest → SpellsKeyword (codes "msgid_plural" ++ rest) MsgIdPlural rest
+  msgid_plural : {rest : List ℕ} → FailsFirst is_word_byte rest
+      → SpellsKeyword (codes "msgid_plural" ++ rest) MsgIdPlural rest
   msgstr : {rest : List ℕ} → FailsFirst is_word_byte rest → FailsFirst (λ b. b == 91) (skip_blanks rest)
       → SpellsKeyword (codes "msgstr" ++ rest) MsgStr rest
   form : (before inside digits after : List ℕ) {rest : List ℕ} → All IsBlank before → All IsBlank inside

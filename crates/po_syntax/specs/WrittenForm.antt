@@ -1,28 +1,29 @@
 -- How a text stands between quotes where it is written, with a case for each escape (manual, "The
 -- Format of PO Files").
-use Rattle.std.specs.Prelude.{◌≡◌, ◌≢◌, ◌⊎◌, ℕ, ◌+◌, ◌/◌, ◌%◌, ◌<◌, ◌≤◌, List, [], ◌∷◌, ◌++◌, codes}
+use Rattle.std.specs.Prelude.{◌≡◌, ◌≢◌, ℕ, ◌+◌, ◌/◌, ◌%◌, ◌<◌, ◌≤◌, List, [], ◌∷◌, ◌++◌, codes, Some, None}
+use Rattle.po_syntax.specs.Escapes.{escape_letter}
 
--- What is written for a byte. A control byte without an escape of its own is written as three octal
--- digits.
+-- What is written for a byte: a backslash and its letter, where it has one (`escape_letters`); of the
+-- other control bytes three octal digits; and the byte itself for all else.
 pub data WritesByte : ℕ → List ℕ → Type 0 where
-  alert : WritesByte 7 (codes "\\a")
-  backspace : WritesByte 8 (codes "\\b")
-  tab : WritesByte 9 (codes "\\t")
-  line_feed : WritesByte 10 (codes "\\n")
-  vertical_tab : WritesByte 11 (codes "\\v")
-  form_feed : WritesByte 12 (codes "\\f")
-  carriage_return : WritesByte 13 (codes "\\r")
-  quote : WritesByte 34 (codes "\\\"")
-  backslash : WritesByte 92 (codes "\\\\")
+  letter : {b letter : ℕ} → escape_letter b ≡ Some letter → WritesByte b (92 ∷ letter ∷ [])
   delete : WritesByte 127 (codes "\\177")
-  control : {b : ℕ} → b < 32 → (b < 7) ⊎ (13 < b) → WritesByte b (92 ∷ 48 ∷ (48 + b / 8) ∷ (48 + b % 8) ∷ [])
-  plain : {b : ℕ} → 32 ≤ b → b ≢ 34 → b ≢ 92 → b ≢ 127 → WritesByte b (b ∷ [])
+  control : {b : ℕ} → b < 32 → escape_letter b ≡ None → WritesByte b (92 ∷ 48 ∷ (48 + b / 8) ∷ (48 + b % 8) ∷ [])
+  plain : {b : ℕ} → 32 ≤ b → escape_letter b ≡ None → b ≢ 127 → WritesByte b (b ∷ [])
 
 -- after the opening quote: what is written for each byte, and the closing quote
 pub data WritesString : List ℕ → List ℕ → Type 0 where
   closing_quote : WritesString [] (34 ∷ [])
   byte : {b : ℕ} {bytes here later : List ℕ} → WritesByte b here → WritesString bytes later
       → WritesString (b ∷ bytes) (here ++ later)
+
+-- the bytes that have an escape of one letter, and what stands for them in a quoted form, worked out by
+-- hand
+abbrev pub lettered_bytes : List ℕ
+lettered_bytes = 7 ∷ 8 ∷ 9 ∷ 10 ∷ 11 ∷ 12 ∷ 13 ∷ 34 ∷ 92 ∷ []
+
+abbrev pub lettered_text : List ℕ
+lettered_text = codes "\\a\\b\\t\\n\\v\\f\\r\\\"\\\\"
 
 -- the quoted form of the bytes is this text
 abbrev pub WritesQuoted : List ℕ → List ℕ → Type 0

@@ -15,7 +15,7 @@ ghost use Rattle.po_syntax.specs.Internal.QuotedString.{IsQuoted};
 ghost use Rattle.po_syntax.specs.Spelling.{HoldsItems};
 ghost use Rattle.po_syntax.specs.TextItem.{TextItem};
 ghost use Rattle.po_syntax.specs.Internal.Token.{OpeningQuote, token_at};
-ghost use Rattle.po_syntax.specs.WrittenForm.{WritesQuoted};
+ghost use Rattle.po_syntax.specs.WrittenForm.{WritesQuoted, lettered_bytes, lettered_text};
 
 /// A text spells at most one list of items.
 pub fn one_reading()
@@ -94,6 +94,12 @@ pub fn byte_order_mark_is_omitted()
 /// The quoted form of bytes is a quote, what is written for each byte, and a quote.
 pub fn quoted_form_is_written()
     ensures { (bytes : List ℕ) → WritesQuoted bytes (quoted bytes) }
+{}
+
+/// Each escape of one letter is read and written as the manual has it, worked out by hand.
+pub fn letters_are_escaped()
+    ensures read { (rest : List ℕ) → SpellsString (lettered_text ++ 34 ∷ rest) lettered_bytes rest }
+    ensures written { quoted lettered_bytes ≡ 34 ∷ (lettered_text ++ 34 ∷ []) }
 {}
 
 /// The quoted form of bytes without NUL spells just these bytes, and its last byte is the closing

@@ -1,0 +1,13 @@
+use Rattle.std.proofs.Common.{refl}
+use Rattle.po_syntax.specs.Escapes.{letter, closed, escape}
+use Rattle.po_syntax.specs.QuotedForm.{written_byte}
+use Rattle.po_syntax.proofs.laws.letters_are_escaped.Goals as goal
+
+pub returns-clause-read : goal.returns-clause-read
+returns-clause-read c = λ rest.
+    escape (letter refl) (escape (letter refl) (escape (letter refl) (escape (letter refl) (escape (letter refl)
+    (escape (letter refl) (escape (letter refl) (escape (letter refl) (escape (letter refl) closed))))))))
+
+pub returns-clause-written : goal.returns-clause-written
+unfolding written_byte
+returns-clause-written c = refl
