@@ -43,12 +43,29 @@ pub data AsksPaths : Option (List Asked) → List (List ℕ) → Option (List As
   next : {before between after : Option (List Asked)} {path : List ℕ} {paths : List (List ℕ)}
       → AsksAt before between path → AsksPaths between paths after → AsksPaths before (path ∷ paths) after
 
--- the catalogues of a text domain, given by an argument or an option: those at the paths that the
--- environment's variables choose
-pub record AreFound (variable : List ℕ → Option (List ℕ) → Type 0) (file : List ℕ → Reading → Type 0)
-    (before after : Option (List Asked)) (argument option : Option (List ℕ))
-    (catalogues : List NamedFile) : Type 0 where
+-- what a search for catalogues asks of a system: what each variable and each file may be read as, and
+-- what was asked for before the search and after it
+pub record Searching : Type 1 where
+  pub variable : List ℕ → Option (List ℕ) → Type 0
+  pub file : List ℕ → Reading → Type 0
+  pub before : Option (List Asked)
+  pub after : Option (List Asked)
+
+abbrev pub searching : (List ℕ → Option (List ℕ) → Type 0) → (List ℕ → Reading → Type 0)
+    → (before after : Option (List Asked)) → Searching
+searching variable file before after = record { variable = variable; file = file; before = before; after = after }
+
+-- the text domain that an argument and the option `-d` give, where they do
+pub record GivenDomain : Type 0 where
+  pub argument : Option (List ℕ)
+  pub option : Option (List ℕ)
+
+abbrev pub given_domain : (argument option : Option (List ℕ)) → GivenDomain
+given_domain argument option = record { argument = argument; option = option }
+
+-- the catalogues of a text domain: those at the paths that the environment's variables choose
+pub record AreFound (system : Searching) (domain : GivenDomain) (catalogues : List NamedFile) : Type 0 where
   pub environment : Environment
-  pub is_read : IsEnvironment variable (environment_view environment)
-  pub are_read : AreCatalogues file (paths_of argument option environment) catalogues
-  pub asked : AsksPaths before (paths_of argument option environment) after
+  pub is_read : IsEnvironment system.variable (environment_view environment)
+  pub are_read : AreCatalogues system.file (paths_of domain.argument domain.option environment) catalogues
+  pub asked : AsksPaths system.before (paths_of domain.argument domain.option environment) system.after

@@ -1,18 +1,7 @@
 -- What the options of a command line mean (manual, "Invoking the gettext program" and "Invoking the ngettext program").
 use Rattle.std.specs.Prelude.{◌≡◌, ℕ, Bool, List, Option, codes}
-use Rattle.gettext.specs.Catalogues.{AreFound}
 use Rattle.gettext.specs.Gettext.{GettextRequest, NgettextRequest}
-use Rattle.runs.specs.Inputs.{Asked, Reading}
-use Rattle.runs.specs.NamedFile.{NamedFile}
 use Rattle.gettext.specs.Usage.{GettextUsage, NgettextUsage}
-
--- the catalogues of the text domain that an argument or the option `-d` gives
-pub record AreFoundBy (text : List ℕ → Option (List ℕ) → Type 0) (variable : List ℕ → Option (List ℕ) → Type 0)
-    (file : List ℕ → Reading → Type 0) (before after : Option (List Asked)) (argument : Option (List ℕ))
-    (catalogues : List NamedFile) : Type 0 where
-  pub option : Option (List ℕ)
-  pub option_is : text (codes "domain") option
-  pub found : AreFound variable file before after argument option catalogues
 
 -- what gettext is asked for: its messages, and its options
 pub record IsGettextRequest (flag : List ℕ → Bool → Type 0) (text : List ℕ → Option (List ℕ) → Type 0)
@@ -33,11 +22,6 @@ pub record IsNgettextRequest (flag : List ℕ → Bool → Type 0) (text : List 
   pub count : o.count ≡ form.count
 
 -- the options' names, as the manual has them
-pub domain_named : {text variable : List ℕ → Option (List ℕ) → Type 0} {file : List ℕ → Reading → Type 0}
-    {before after : Option (List Asked)} {argument : Option (List ℕ)} {catalogues : List NamedFile}
-    → (found : AreFoundBy text variable file before after argument catalogues) → text (codes "domain") found.option
-domain_named found = found.option_is
-
 pub gettext_named : {flag : List ℕ → Bool → Type 0} {text : List ℕ → Option (List ℕ) → Type 0} {form : GettextUsage}
     (o : GettextRequest) → IsGettextRequest flag text form o
     → text (codes "context") o.context × flag (codes "expand") o.expand × flag (codes "no-newline") o.no_newline

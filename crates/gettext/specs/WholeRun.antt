@@ -1,25 +1,21 @@
 -- What gettext and ngettext do as a whole: they look for the catalogues of a text domain, and write
 -- their run of those that are read (manual, "Invoking the gettext program" and "Invoking the ngettext program").
-use Rattle.std.specs.Prelude.{◌≡◌, ◌-◌, ◌^◌, ℕ, List, Option, Result, Err, codes, take}
+use Rattle.std.specs.Prelude.{◌≡◌, ◌-◌, ◌^◌, ℕ, List, Result, Err, codes, take}
 use Rattle.runs.specs.declared.program_fault.ProgramFault.{ProgramFault}
 use Rattle.runs.specs.declared.program_fault.ProgramFault.TheVariants.{OutOfMemory}
-use Rattle.runs.specs.Inputs.{Asked, Reading}
 use Rattle.runs.specs.NamedFile.{NamedFile}
 use Rattle.runs.specs.Outputs.{SystemView}
 use Rattle.runs.specs.Run.{RunView}
 use Rattle.runs.specs.ToolRuns.{Writes}
-use Rattle.gettext.specs.Catalogues.{AreFound}
+use Rattle.gettext.specs.Catalogues.{AreFound, GivenDomain, Searching}
 
--- What a tool does that looks messages up in the text domain that an argument or the option `-d` gives.
--- `IsRun` says which run catalogues have; a chain counts at most 4,294,967,295 of them.
-pub data RunsLookUp (variable : List ℕ → Option (List ℕ) → Type 0) (file : List ℕ → Reading → Type 0)
-    (IsRun : List NamedFile → RunView → Type 0) (argument domain : Option (List ℕ))
-    (asked asked' : Option (List Asked)) (before after : SystemView) : Result ℕ ProgramFault → Type 0 where
+-- What a tool does that looks messages up in a text domain. `IsRun` says which run catalogues have; a
+-- chain counts at most 4,294,967,295 of them.
+pub data RunsLookUp (system : Searching) (domain : GivenDomain) (IsRun : List NamedFile → RunView → Type 0)
+    (before after : SystemView) : Result ℕ ProgramFault → Type 0 where
   -- the run is written to standard output, or isn't
   runs : {catalogues : List NamedFile} {run : RunView} {result : Result ℕ ProgramFault}
-      → AreFound variable file asked asked' argument domain catalogues → IsRun (take (2 ^ 32 - 1) catalogues) run
-      → Writes run (codes "-") before after result
-      → RunsLookUp variable file IsRun argument domain asked asked' before after result
+      → AreFound system domain catalogues → IsRun (take (2 ^ 32 - 1) catalogues) run
+      → Writes run (codes "-") before after result → RunsLookUp system domain IsRun before after result
   -- reading or planning takes more memory than there is, and nothing is written
-  no_memory : after ≡ before
-      → RunsLookUp variable file IsRun argument domain asked asked' before after (Err OutOfMemory)
+  no_memory : after ≡ before → RunsLookUp system domain IsRun before after (Err OutOfMemory)

@@ -1,7 +1,8 @@
 //! The compiled catalogues of a text domain.
 ghost use Rattle.std.specs.Prelude.{◌≡◌, ◌-◌, ◌^◌, ◌<◌, IfOk, IfSome, OnErr, OnOk, length, map, option_map, take};
 ghost use Rattle.std.specs.Option.{option_copied};
-ghost use Rattle.gettext.specs.Catalogues.{AreCatalogues, AreFound, AsksAt, AsksPaths, IsCatalogueAt, catalogue_file, catalogue_files};
+ghost use Rattle.gettext.specs.Catalogues.{AreCatalogues, AreFound, AsksAt, AsksPaths, IsCatalogueAt};
+ghost use Rattle.gettext.specs.Catalogues.{catalogue_file, catalogue_files, given_domain, searching};
 ghost use Rattle.runs.specs.NamedFile.{named_files};
 
 use crate::environment::{OwnedEnvironment, VariableSource};
@@ -28,8 +29,9 @@ pub fn find_catalogues<S: InputSource + VariableSource>(
     argument: Option<&str>,
     option: Option<&str>,
 ) -> Result<Vec<CatalogueFile>, AllocError>
-    ensures { IfOk result (λ found. AreFound (S.variable source.old) S.file
-        (S.asked source.old) (S.asked source.new) (option_copied argument.entry) (option_copied option.entry) (catalogue_files found.items)) }
+    ensures { IfOk result (λ found. AreFound
+        (searching (S.variable source.old) S.file (S.asked source.old) (S.asked source.new))
+        (given_domain (option_copied argument.entry) (option_copied option.entry)) (catalogue_files found.items)) }
 {
     let environment = OwnedEnvironment::read(alloc, &*source)?;
     let Ok(paths) = catalogue_paths(

@@ -24,7 +24,7 @@ pub use catalogues::{CatalogueFile, borrowed_catalogues, find_catalogues, read_c
 pub use count::{OTHER_COUNT, count_of};
 pub use environment::{OwnedEnvironment, VariableSource};
 pub use escape::{Expanded, expand};
-pub use options::{find_domain, gettext_options_of, ngettext_options_of};
+pub use options::{gettext_options_of, ngettext_options_of};
 pub use paths::{DEFAULT_FOLDER, catalogue_path, catalogue_paths};
 pub use plan::{GettextOptions, NgettextOptions, plan_gettext, plan_ngettext};
 pub use whole_run::{run_gettext, run_ngettext};

@@ -1,30 +1,11 @@
 //! What the options of a command line mean for gettext and ngettext.
-ghost use Rattle.std.specs.Prelude.{IfOk};
-ghost use Rattle.std.specs.Option.{option_copied};
-ghost use Rattle.gettext.specs.Catalogues.{catalogue_files};
 ghost use Rattle.gettext.specs.GettextView.{gettext_view, ngettext_view};
-ghost use Rattle.gettext.specs.Options.{AreFoundBy, IsGettextRequest, IsNgettextRequest};
+ghost use Rattle.gettext.specs.Options.{IsGettextRequest, IsNgettextRequest};
 ghost use Rattle.gettext.specs.UsageView.{gettext_arguments, ngettext_arguments};
 
 use crate::arguments::{GettextArguments, NgettextArguments};
-use crate::catalogues::{CatalogueFile, find_catalogues};
-use crate::environment::VariableSource;
 use crate::plan::{GettextOptions, NgettextOptions};
-use runs::{Arguments, InputSource};
-use std::alloc::{AllocError, Global};
-
-/// Reads the catalogues of the text domain that an argument or the option `-d` gives.
-pub fn find_domain<S: InputSource + VariableSource, A: Arguments>(
-    alloc: Global,
-    source: &mut S,
-    arguments: &A,
-    argument: Option<&str>,
-) -> Result<Vec<CatalogueFile>, AllocError>
-    ensures { IfOk result (λ found. AreFoundBy (A.text arguments.now) (S.variable source.old) S.file
-        (S.asked source.old) (S.asked source.new) (option_copied argument.entry) (catalogue_files found.items)) }
-{
-    find_catalogues(alloc, source, argument, arguments.text_of("domain"))
-}
+use runs::Arguments;
 
 /// What `gettext` is asked for, with its arguments.
 pub fn gettext_options_of<'a, A: Arguments>(

@@ -1,6 +1,7 @@
 //! gettext and ngettext as a whole: catalogues are looked for, and their run is written.
 ghost use Rattle.std.specs.Prelude.{◌^◌, ◌<◌};
 ghost use Rattle.std.specs.Option.{option_copied};
+ghost use Rattle.gettext.specs.Catalogues.{given_domain, searching};
 ghost use Rattle.gettext.specs.Gettext.{IsGettextRun, IsNgettextRun};
 ghost use Rattle.gettext.specs.GettextView.{gettext_view, ngettext_view};
 ghost use Rattle.gettext.specs.WholeRun.{RunsLookUp};
@@ -24,10 +25,9 @@ pub fn run_gettext<S: InputSource + VariableSource, F: OutputFiles, O: ByteOut, 
 ) -> Result<u8, ProgramFault<'static>>
     requires out { system.old.out.failures < 2 ^ 63 }
     requires err { system.old.err.failures < 2 ^ 63 }
-    ensures { RunsLookUp (S.variable source.old) S.file
-        (λ files run. IsGettextRun files (gettext_view options.now) run)
-        (option_copied argument.entry) (option_copied domain.entry)
-        (S.asked source.old) (S.asked source.new) system.old system.new result }
+    ensures { RunsLookUp (searching (S.variable source.old) S.file (S.asked source.old) (S.asked source.new))
+        (given_domain (option_copied argument.entry) (option_copied domain.entry))
+        (λ files run. IsGettextRun files (gettext_view options.now) run) system.old system.new result }
 {
     let found = find_catalogues(alloc, source, argument, domain)?;
     let borrowed = borrowed_catalogues(alloc, found.as_slice())?;
@@ -48,10 +48,9 @@ pub fn run_ngettext<S: InputSource + VariableSource, F: OutputFiles, O: ByteOut,
 ) -> Result<u8, ProgramFault<'static>>
     requires out { system.old.out.failures < 2 ^ 63 }
     requires err { system.old.err.failures < 2 ^ 63 }
-    ensures { RunsLookUp (S.variable source.old) S.file
-        (λ files run. IsNgettextRun files (ngettext_view options.now) run)
-        (option_copied argument.entry) (option_copied domain.entry)
-        (S.asked source.old) (S.asked source.new) system.old system.new result }
+    ensures { RunsLookUp (searching (S.variable source.old) S.file (S.asked source.old) (S.asked source.new))
+        (given_domain (option_copied argument.entry) (option_copied domain.entry))
+        (λ files run. IsNgettextRun files (ngettext_view options.now) run) system.old system.new result }
 {
     let found = find_catalogues(alloc, source, argument, domain)?;
     let borrowed = borrowed_catalogues(alloc, found.as_slice())?;

@@ -1,2 +1,1 @@
 pub mod SelectedLemmas
-mod WholeRuns

@@ -3,11 +3,10 @@ use Rattle.std.specs.Prelude.{◌≡◌, ◌⊎◌, ℕ, List, Option, None, Som
 use Rattle.msgfmt.specs.declared.options.MsgfmtOptions.{MsgfmtOptions}
 use Rattle.msgfmt.specs.Msgfmt.{AreWrong, IsMsgfmtRun, IsRefused, NoneRefused}
 use Rattle.runs.specs.declared.program_fault.ProgramFault.{ProgramFault}
-use Rattle.runs.specs.Inputs.{Asked, Reading}
 use Rattle.runs.specs.NamedFile.{NamedFile}
 use Rattle.runs.specs.Outputs.{SystemView}
 use Rattle.runs.specs.Run.{RunView}
-use Rattle.runs.specs.ToolRuns.{RunsInputs}
+use Rattle.runs.specs.ToolRuns.{Asking, Planning, RunsInputs}
 
 -- what is planned of inputs: the run of all; or, where the next one can't be read, the refusal of these
 abbrev pub IsPlanOf : MsgfmtOptions → List NamedFile → Option (List ℕ) → RunView → Type 0
@@ -25,9 +24,11 @@ HaveNoRun o inputs unread text =
     ((text ≡ codes "wrong number of arguments") × AreWrong inputs unread)
     ⊎ ((unread ≡ Some text) × NoneRefused inputs o)
 
--- what msgfmt does, by the arguments for its inputs, that for its output and its options
-abbrev pub RunsMsgfmt : (List ℕ → Reading → Type 0) → (Reading → Type 0) → Type 0 → List (List ℕ) → List ℕ
-    → MsgfmtOptions → Option (List Asked) → Option (List Asked) → SystemView → SystemView
+abbrev pub msgfmt_plan : MsgfmtOptions → Planning
+msgfmt_plan o = record { is_run = IsRunOf o; has_no_run = HaveNoRun o }
+
+-- what msgfmt does, by its options, the arguments for its inputs and that for its output
+abbrev pub RunsMsgfmt : Asking → MsgfmtOptions → List (List ℕ) → List ℕ → SystemView → SystemView
     → Result ℕ ProgramFault → Type 0
-RunsMsgfmt file standard refused arguments output o asked asked' before after result =
-    RunsInputs file standard refused (IsRunOf o) (HaveNoRun o) arguments output asked asked' before after result
+RunsMsgfmt source o arguments output before after result =
+    RunsInputs source (msgfmt_plan o) arguments output before after result

@@ -2,6 +2,7 @@
 ghost use Rattle.std.specs.Prelude.{◌^◌, ◌<◌, false, map};
 ghost use Rattle.msgfmt.specs.WholeRun.{RunsMsgfmt};
 ghost use Rattle.runs.specs.Inputs.{AsksFirst, asked_by};
+ghost use Rattle.runs.specs.ToolRuns.{asking};
 
 use crate::options::MsgfmtOptions;
 use crate::plan_inputs::plan_msgfmt_of;
@@ -25,9 +26,8 @@ pub fn run<'a, S: InputSource, F: OutputFiles, O: ByteOut, E: ByteOut>(
     // Each input is asked for in its turn, and standard input once at most.
     ensures asked { AsksFirst (S.asked source.old) (S.asked source.new)
         (asked_by false (map (λ argument. argument.now) arguments.now)) }
-    ensures run { RunsMsgfmt S.file S.standard (S.refused source.new)
-        (map (λ argument. argument.now) arguments.now) output.now options.now
-        (S.asked source.old) (S.asked source.new) system.old system.new result }
+    ensures run { RunsMsgfmt (asking S.file S.standard (S.asked source.old) (S.asked source.new) (S.refused source.new))
+        options.now (map (λ argument. argument.now) arguments.now) output.now system.old system.new result }
 {
     let inputs = Inputs::read(alloc, source, arguments)?;
     let run = plan_msgfmt_of(alloc, &inputs, options)?;

@@ -3,7 +3,7 @@ ghost use Rattle.std.specs.Prelude.{◌^◌, ◌<◌, false};
 ghost use Rattle.msgunfmt.specs.Msgunfmt.{IsMsgunfmtRun};
 ghost use Rattle.runs.specs.Inputs.{Asks, asked_for};
 ghost use Rattle.runs.specs.Run.{is_standard};
-ghost use Rattle.runs.specs.ToolRuns.{RunsInput};
+ghost use Rattle.runs.specs.ToolRuns.{RunsInput, asking};
 
 use crate::plan::plan_msgunfmt;
 use runs::{ByteOut, InputSource, OutputFiles, OutputSystem, ProgramFault, read_one, shown_name};
@@ -25,8 +25,8 @@ pub fn run<'a, S: InputSource, F: OutputFiles, O: ByteOut, E: ByteOut>(
     // The input is asked for once, and nothing else.
     ensures asked { Asks (S.asked source.old) (S.asked source.new)
         (asked_for argument.now (is_standard argument.now) false) }
-    ensures run { RunsInput S.file S.standard (S.refused source.new) IsMsgunfmtRun argument.now output.now
-        system.old system.new result }
+    ensures run { RunsInput (asking S.file S.standard (S.asked source.old) (S.asked source.new) (S.refused source.new))
+        IsMsgunfmtRun argument.now output.now system.old system.new result }
 {
     let bytes = read_one(alloc, source, argument)?;
     let Ok(run) = plan_msgunfmt(alloc, &bytes, shown_name(argument)) else {

@@ -1,5 +1,6 @@
 -- What each tool does as a whole, by what its command line gives.
 use Rattle.std.specs.Prelude.{◌≡◌, ◌+◌, ℕ, Bool, List, Option, None, Some, Result, Ok, Err, codes, false}
+use Rattle.gettext.specs.Catalogues.{given_domain, searching}
 use Rattle.gettext.specs.Gettext.{GettextRequest, NgettextRequest, IsGettextRun, IsNgettextRun}
 use Rattle.gettext.specs.WholeRun.{RunsLookUp}
 use Rattle.gettext.specs.Options.{IsGettextRequest, IsNgettextRequest}
@@ -26,7 +27,7 @@ use Rattle.envsubst.specs.Usage.{EnvsubstUsage, envsubst_usage}
 use Rattle.gettext.specs.Usage.{GettextUsage, NgettextUsage, gettext_usage, ngettext_usage}
 use Rattle.runs.specs.ProgramFaults.{program_text, stdin_text}
 use Rattle.runs.specs.Run.{RunView, is_standard}
-use Rattle.runs.specs.ToolRuns.{RunsInput}
+use Rattle.runs.specs.ToolRuns.{Asking, RunsInput, asking}
 use Rattle.runs.specs.declared.tool.Tool.{Tool}
 use Rattle.runs.specs.declared.tool.Tool.TheVariants.{Msgfmt, Msgunfmt, Msgattrib, Msgcat, Gettext, Ngettext, Envsubst}
 
@@ -74,8 +75,11 @@ reader_of left calls failures = record { left = left; calls = calls; failures = 
 abbrev pub reached : Option (List Asked) → ReaderView → SystemView → Reached
 reached asked reader written = record { asked = asked; reader = reader; written = written }
 
--- A tool of one input is run, by the arguments for its input and its output. Here and below `refused`
--- says that the input that was asked for last can't be read.
+-- what a tool asks of its inputs, where `refused` says that the one that was asked for last can't be read
+abbrev pub asked_of : Answers → (before after : Reached) → (refused : Type 0) → Asking
+asked_of answers before after refused = asking answers.file answers.standard before.asked after.asked refused
+
+-- a tool of one input is run, by the arguments for its input and its output
 pub record RunsOne (line : CommandLine) (answers : Answers) (refused : Type 0) (IsRun : NamedFile → RunView → Type 0)
     (before after : Reached) (result : Result ℕ ProgramFault) : Type 0 where
   pub argument : List ℕ
@@ -83,7 +87,7 @@ pub record RunsOne (line : CommandLine) (answers : Answers) (refused : Type 0) (
   pub argument_is : IsTextOr line.text (codes "FILE") (codes "-") argument
   pub output_is : IsTextOr line.text (codes "output-file") (codes "-") output
   pub asks : Asks before.asked after.asked (asked_for argument (is_standard argument) false)
-  pub runs : RunsInput answers.file answers.standard refused IsRun argument output before.written after.written result
+  pub runs : RunsInput (asked_of answers before after refused) IsRun argument output before.written after.written result
   pub unread : after.reader ≡ before.reader
 
 -- msgfmt is run, by all its arguments and options
@@ -95,7 +99,7 @@ pub record RunsMsgfmtLine (line : CommandLine) (answers : Answers) (refused : Ty
   pub arguments_are : line.texts (codes "FILE") arguments
   pub output_is : IsTextOr line.text (codes "output-file") default_output output
   pub options_are : AreMsgfmtOptions line.flag line.text options
-  pub runs : RunsMsgfmt answers.file answers.standard refused arguments output options before.asked after.asked
+  pub runs : RunsMsgfmt (asked_of answers before after refused) options arguments output
       before.written after.written result
   pub unread : after.reader ≡ before.reader
 
@@ -116,7 +120,7 @@ pub record RunsMsgcatLine (line : CommandLine) (answers : Answers) (refused : Ty
   pub arguments_are : line.texts (codes "FILE") arguments
   pub output_is : IsTextOr line.text (codes "output-file") (codes "-") output
   pub options_are : AreMergeOptions line.flag line.number options
-  pub runs : RunsMsgcat answers.file answers.standard refused arguments output options before.asked after.asked
+  pub runs : RunsMsgcat (asked_of answers before after refused) options arguments output
       before.written after.written result
   pub unread : after.reader ≡ before.reader
 
@@ -132,8 +136,8 @@ pub record LooksUp (line : CommandLine) (answers : Answers) (IsRun : List NamedF
     (argument : Option (List ℕ)) (before after : Reached) (result : Result ℕ ProgramFault) : Type 0 where
   pub domain : Option (List ℕ)
   pub domain_is : line.text (codes "domain") domain
-  pub runs : RunsLookUp answers.variable answers.file IsRun argument domain before.asked after.asked
-      before.written after.written result
+  pub runs : RunsLookUp (searching answers.variable answers.file before.asked after.asked)
+      (given_domain argument domain) IsRun before.written after.written result
   pub unread : after.reader ≡ before.reader
 
 -- gettext is run, by its arguments and options, or these fit no usage

@@ -19,8 +19,8 @@ mod tool_run;
 pub use envsubst::{EntrySource, EnvsubstArguments, envsubst};
 pub use gettext::{
     CatalogueFile, GettextArguments, GettextOptions, NgettextArguments, NgettextOptions,
-    VariableSource, borrowed_catalogues, find_catalogues, find_domain, gettext_options_of,
-    ngettext_options_of, plan_gettext, plan_ngettext, read_catalogues,
+    VariableSource, borrowed_catalogues, find_catalogues, gettext_options_of, ngettext_options_of,
+    plan_gettext, plan_ngettext, read_catalogues,
 };
 pub use msgattrib::{plan_msgattrib, selection_of};
 pub use msgcat::{merge_options_of, plan_msgcat, plan_msgcat_before, plan_msgcat_of};

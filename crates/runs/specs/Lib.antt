@@ -22,3 +22,4 @@ pub mod Delivered
 pub mod ToolRuns
 pub mod WrittenLaw
 pub mod Internal
+pub mod Facts

@@ -3,7 +3,8 @@ use Rattle.std.proofs.lemmas.Result.{err_from_is_err_and}
 use Rattle.runs.specs.Inputs.{named_inputs}
 use Rattle.runs.specs.Run.{run_view}
 use Rattle.runs.specs.ToolRuns.{no_memory_to_read, runs}
-use Rattle.msgfmt.proofs.WholeRuns.{ended, none_unread, planned}
+use Rattle.runs.specs.Facts.RunEnds.{inputs_ended, none_unread}
+use Rattle.msgfmt.proofs.WholeRuns.{no_run, planned}
 use Rattle.msgfmt.proofs.whole_run.run.Goals as goal
 
 pub returns-in_err-inputs-clause-run : goal.returns-in_err-inputs-clause-run
@@ -15,9 +16,10 @@ pub returns-in_err-run-clause-run : goal.returns-in_err-run-clause-run
 returns-in_err-run-clause-run g c =
     let p = err_from_is_err_and c.from_residual-in_err-run.result c.from_residual-in_err-run.ensures.1 in
     let read = c.in_ok-inputs.ensures in
-    rw (p.1, p.2) (ended c.in_ok-inputs.inputs.fault c.in_err-run.field-0.0
-    (record { are = read.inputs; asks = read.asked_read })
-    (none_unread _ c.in_ok-inputs.inputs.fault c.in_err-run.field-0.0 read.fault c.in_err-run.ensures.first) c.in_err-run.ensures.fault)
+    let next = c.in_ok-inputs.inputs.fault in
+    let reported = c.in_err-run.field-0.0 in
+    rw (p.1, p.2) (inputs_ended reported (record { are = read.inputs; asks = read.asked_read })
+    (none_unread _ next reported read.fault c.in_err-run.ensures.first) (no_run c.args.options.now next reported c.in_err-run.ensures.fault))
 
 pub returns-clause-run : goal.returns-clause-run
 returns-clause-run g c =

@@ -1,7 +1,7 @@
 use Rattle.std.proofs.Common.{Err, ap, refl}
 use Rattle.std.proofs.lemmas.Result.{err_from_is_err_and}
 use Rattle.runs.specs.ToolRuns.{out_of_memory, runs_one}
-use Rattle.msgunfmt.proofs.WholeRuns.{input_ended}
+use Rattle.runs.specs.Facts.RunEnds.{input_ended}
 use Rattle.msgunfmt.proofs.whole_run.run.Goals as goal
 
 pub returns-in_err-bytes-clause-run : goal.returns-in_err-bytes-clause-run
