@@ -1,17 +1,16 @@
 -- The charset that is found in a header's text is the one that it names.
-use Rattle.std.proofs.Common.{◌≡◌, ◌⊎◌, inl, inr, ◌∙◌, refl, sym, ap, subst, ℕ, suc, ◌≤◌, Bool, true, false, not, ◌||◌, ◌==◌, nat_eq, List, [], ◌∷◌, ◌++◌, drop, length, codes, All, arith}
+use Rattle.std.proofs.Common.{◌≡◌, ◌⊎◌, inl, inr, ◌∙◌, refl, sym, ap, subst, ℕ, suc, ◌≤◌, Bool, true, false, not, nat_eq, List, [], ◌∷◌, ◌++◌, drop, get_or, length, codes, All, arith}
 use Rattle.std.specs.Prelude.{◌↔◌}
 use Rattle.std.specs.List.{starts_with, before_first, position_or_len}
-use Rattle.std.proofs.lemmas.Bool.{cases_Bool, cond-true, cond-false, eqb-true, false≢true, not-true}
+use Rattle.std.proofs.lemmas.Bool.{cases_Bool, cond-true, cond-false, false≢true, not-true}
 use Rattle.std.proofs.lemmas.Bool.Decides.{Decides-eqb}
 use Rattle.std.proofs.lemmas.List.{append_cancel_left, drop_at}
 use Rattle.std.proofs.lemmas.List.Elements.{All-head, All-tail}
 use Rattle.std.proofs.lemmas.Slice.Eq.{starts_is}
 use Rattle.po_syntax.specs.Blanks.{FailsFirst}
 use Rattle.po_syntax.specs.Facts.Runs.{parts_of}
-use Rattle.po_syntax.proofs.SpeltKeywords.{or_step}
 use Rattle.po_entry.specs.Header.{after_charset, ends_name, charset_of}
-use Rattle.po_entry.specs.Charset.{EndsName, space, tab, carriage_return, line_feed, semicolon, IsAfterName, at_end, at_byte, IsAround, NamesCharset, unnamed, named}
+use Rattle.po_entry.specs.Charset.{EndsName, IsAfterName, at_end, at_byte, IsAround, NamesCharset, unnamed, named}
 
 -- no `charset=` stands in the text before this many bytes
 abbrev IsEarliest : List ℕ → ℕ → Type 0
@@ -63,25 +62,12 @@ found (b ∷ text) =
       | inr e ↦ subst (Found (b ∷ text)) (sym (cond-false (starts (b ∷ text)) _ _ e)) (found_more b text (after_charset text) e (found text))
     ]
 
-ends_said : (b : ℕ) → ends_name b ≡ true → EndsName b
-ends_said b e =
-    or_step (b == 32 || b == 9 || b == 13 || b == 10) (b == 59) (or_step (b == 32 || b == 9 || b == 13) (b == 10) (or_step (b == 32 || b == 9) (b == 13) (or_step (b == 32) (b == 9)
-    (λ h. subst EndsName (sym (eqb-true b 32 h)) space) (λ h. subst EndsName (sym (eqb-true b 9 h)) tab)) (λ h. subst EndsName (sym (eqb-true b 13 h)) carriage_return))
-    (λ h. subst EndsName (sym (eqb-true b 10 h)) line_feed)) (λ h. subst EndsName (sym (eqb-true b 59 h)) semicolon) e
-
-ends_passes : {b : ℕ} → EndsName b → ends_name b ≡ true
-ends_passes space = refl
-ends_passes tab = refl
-ends_passes carriage_return = refl
-ends_passes line_feed = refl
-ends_passes semicolon = refl
-
 not_end : (b : ℕ) → not (ends_name b) ≡ true → EndsName b → ⊥
-not_end b e h = false≢true (sym (not-true (ends_name b) e) ∙ ends_passes h)
+not_end b e h = false≢true (sym (not-true (ends_name b) e) ∙ h)
 
 after_name : (rest : List ℕ) → FailsFirst (λ b. not (ends_name b)) rest → IsAfterName rest
 after_name [] h = at_end
-after_name (b ∷ rest) h = at_byte (ends_said b (true_of (ends_name b) h)) where
+after_name (b ∷ rest) h = at_byte (true_of (ends_name b) h) where
   true_of : (t : Bool) → not t ≡ false → t ≡ true
   true_of true e = refl
   true_of false e = cc
@@ -94,7 +80,7 @@ pub record IsName (text : List ℕ) : Type 0 where
   ends : IsAfterName rest
 
 all_not_end : (name : List ℕ) → All (λ b. not (ends_name b) ≡ true) name → All (λ b. EndsName b → ⊥) name
-all_not_end name h = λ k d below. not_end _ (h k d below)
+all_not_end name h = λ k d below. not_end (get_or name k d) (h k d below)
 
 name_at : (text : List ℕ) → IsName text
 name_at text =

@@ -1,14 +1,10 @@
 -- The name of a charset in a header's text, with a case each for a header that names one and one
 -- that doesn't (manual, "Filling in the Header Entry").
-use Rattle.std.specs.Prelude.{◌≡◌, ℕ, ◌≤◌, List, [], ◌∷◌, ◌++◌, All, length, codes}
+use Rattle.std.specs.Prelude.{◌≡◌, ℕ, ◌≤◌, IsTrue, List, [], ◌∷◌, ◌++◌, All, length, codes}
+use Rattle.po_entry.specs.Header.{ends_name}
 
--- a space, TAB, CR, LF or semicolon ends a charset's name
-pub data EndsName : ℕ → Type 0 where
-  space : EndsName 32
-  tab : EndsName 9
-  carriage_return : EndsName 13
-  line_feed : EndsName 10
-  semicolon : EndsName 59
+abbrev pub EndsName : ℕ → Type 0
+EndsName b = IsTrue (ends_name b)
 
 -- a name ends where the text does, or before a byte that ends it
 pub data IsAfterName : List ℕ → Type 0 where

@@ -22,7 +22,7 @@ same_kind a b = false
 
 -- the texts of the comments of a kind, in order
 abbrev pub texts_of : CommentKind → List CommentText → List (List ℕ)
-texts_of kind comments = map (λ (c : CommentText). c.text) (filter (λ (c : CommentText). same_kind kind c.kind) comments)
+texts_of kind all = map (λ (c : CommentText). c.text) (filter (λ (c : CommentText). same_kind kind c.kind) all)
 
 abbrev pub is_not_empty : List ℕ → Bool
 is_not_empty text = not (length text == 0)
