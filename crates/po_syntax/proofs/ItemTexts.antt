@@ -1,5 +1,6 @@
 -- What the comments and strings of clean lines hold.
-use Rattle.std.proofs.Common.{◌≡◌, ◌≢◌, ◌∙◌, refl, sym, subst, ℕ, zero, suc, ◌+◌, ◌<◌, true, List, [], ◌∷◌, ◌++◌, get_or, take, All, Contains, codes, arith}
+use Rattle.std.proofs.Common.{◌≡◌, ◌≢◌, ◌∙◌, refl, sym, subst, ℕ, zero, suc, ◌+◌, ◌<◌, ◌-◌, ◌==◌, true, List, [], ◌∷◌, ◌++◌, length, get_or, take, All, Contains, codes, arith}
+use Rattle.std.specs.List.{suffix_len}
 use Rattle.std.proofs.lemmas.Bool.{both_ways}
 use Rattle.std.proofs.lemmas.List.Elements.{All-append, All-cons, All-head, All-nil, All-take, All-tail}
 use Rattle.std.proofs.lemmas.Str.{IsUtf8-drop, IsCharBoundary-after_ascii}
@@ -18,7 +19,7 @@ use Rattle.po_syntax.proofs.Rests.{All-rest}
 use Rattle.po_syntax.proofs.SpeltEscapes.{of_each_letter}
 use Rattle.po_syntax.proofs.SpeltKeywords.{of_blank}
 use Rattle.po_syntax.proofs.Tokens.{keyword_behind}
-use Rattle.po_syntax.proofs.TrimmedReturns.{trim_end, trim_returns-utf8, trim_returns-twice}
+use Rattle.po_syntax.proofs.TrimmedReturns.{trim_returns-utf8, trim_returns-twice}
 
 -- a clean line after an ASCII byte, or after several
 clean_tail : (b : ℕ) (text : List ℕ) → b < 128 → IsCleanLine (b ∷ text) → IsCleanLine text
@@ -63,14 +64,14 @@ comment_rest (translator {text = c ∷ text} h) clean = (clean, λ e b rest same
 comment_text : {text rest : List ℕ} {kind : CommentKind} → SpellsComment text kind rest → IsCleanLine text → IsCommentOf kind (trim_returns rest)
 comment_text {rest = rest} spelt clean =
     let read = comment_rest spelt clean in
-    let end = trim_end rest in
+    let n = length rest - suffix_len (λ b. b == 13) rest in
     record {
       comment = record {
-        valid = record { utf8 = trim_returns-utf8 rest read.0.utf8; no_nul = rw end.2 (All-take (λ b. b ≢ 0) end.0 rest read.0.no_nul) };
-        one_line = rw end.2 (All-take (λ b. b ≢ 10) end.0 rest read.0.one_line);
+        valid = record { utf8 = trim_returns-utf8 rest read.0.utf8; no_nul = All-take (λ b. b ≢ 0) n rest read.0.no_nul };
+        one_line = All-take (λ b. b ≢ 10) n rest read.0.one_line;
         no_final_return = trim_returns-twice rest;
       };
-      plain = λ is b more e. let first = take_first end.0 rest b more (sym end.2 ∙ e) in read.1 is b first.0 first.1;
+      plain = λ is b more e. let first = take_first n rest b more e in read.1 is b first.0 first.1;
     }
 
 -- a quoted string of a text without NUL holds none, and neither does the rest

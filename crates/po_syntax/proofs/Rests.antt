@@ -13,9 +13,6 @@ whole_rest text = (0, refl)
 pub rest-drop : (n : ℕ) {rest : List ℕ} (text : List ℕ) → IsRest rest text → IsRest (drop n rest) text
 rest-drop n text h = (h.0 + n, ap (drop n) h.1 ∙ drop-drop n h.0 text)
 
-pub rest-cons : (b : ℕ) (text : List ℕ) {rest : List ℕ} → IsRest rest text → IsRest rest (b ∷ text)
-rest-cons b text h = (suc h.0, h.1)
-
 pub rest-tail : (b : ℕ) {rest : List ℕ} (text : List ℕ) → IsRest (b ∷ rest) text → IsRest rest text
 rest-tail b text h = rest-drop 1 text h
 

@@ -7,7 +7,7 @@ use Rattle.std.proofs.Math.Numerals.{one-add}
 use Rattle.std.proofs.Math.Seq.{take-append_seam, drop-append_seam}
 use Rattle.std.proofs.lemmas.Bool.{cond_both, cond-true, or_from, both_ways, cond-false, eqb-true, eqb-false, ne_eqb, ltb-true, ltb-false, lt-ltb, false_from_ne_true}
 use Rattle.std.proofs.lemmas.List.{take-append-drop}
-use Rattle.std.proofs.lemmas.List.Elements.{All-cons, All-head}
+use Rattle.std.proofs.lemmas.List.Elements.{All-cons, All-head, All-tail}
 use Rattle.std.proofs.lemmas.Slice.Eq.{bytes_eq-Decides}
 use Rattle.po_syntax.specs.declared.fault.PoFault.TheVariants.{BadPluralIndex, BadToken}
 use Rattle.po_syntax.specs.declared.item.Keyword.{Keyword}
@@ -49,6 +49,14 @@ skips text =
       whole = parts.whole;
       other = parts.ends;
     }
+
+-- what holds of a text also after a blank holds after blanks
+pub over_blanks : (P : List ℕ → Type 0) → ((b : ℕ) (text : List ℕ) → IsBlank b → P text → P (b ∷ text)) → (blanks text : List ℕ) → All IsBlank blanks → P text → P (blanks ++ text)
+over_blanks P more [] text all h = h
+over_blanks P more (b ∷ blanks) text all h = more b (blanks ++ text) (All-head IsBlank b blanks all) (over_blanks P more blanks text (All-tail IsBlank b blanks all) h)
+
+pub over_skipped : (P : List ℕ → Type 0) → ((b : ℕ) (text : List ℕ) → IsBlank b → P text → P (b ∷ text)) → (text : List ℕ) → P (skip_blanks text) → P text
+over_skipped P more text h = let parts = skips text in subst P parts.whole (over_blanks P more parts.blanks (skip_blanks text) parts.are_blanks h)
 
 pub skip_prefix : (blanks rest : List ℕ) → All IsBlank blanks → FailsFirst is_blank rest → skip_blanks (blanks ++ rest) ≡ rest
 skip_prefix blanks rest all other =

@@ -19,28 +19,22 @@ use Rattle.po_syntax.specs.Internal.Token.{Token, LineEnd, OpeningQuote, Keyword
 use Rattle.po_syntax.specs.Blanks.{is_blank, IsBlank, skip_blanks, FailsFirst}
 use Rattle.po_syntax.proofs.Escapes.{quoted_spelt, string_fault}
 use Rattle.po_syntax.proofs.SpeltEscapes.{spelt_quoted}
-use Rattle.po_syntax.proofs.SpeltKeywords.{of_blank, skips, skip_prefix, keyword_read, TokenSays, first_says}
+use Rattle.po_syntax.proofs.Tokens.{says}
+use Rattle.po_syntax.proofs.SpeltKeywords.{of_blank, over_blanks, over_skipped, skips, skip_prefix, keyword_read, TokenSays, first_says}
 
--- blanks before tokens
 after_blanks : {marks : Marks} {number : ℕ} {items : List TextItem} (blanks text : List ℕ) → All IsBlank blanks → HoldsTokens marks number text items → HoldsTokens marks number (blanks ++ text) items
-after_blanks [] text all h = h
-after_blanks (b ∷ blanks) text all h = blank (All-head IsBlank b blanks all) (after_blanks blanks text (All-tail IsBlank b blanks all) h)
+after_blanks {marks} {number} {items} = over_blanks (λ t. HoldsTokens marks number t items) (λ b t is h. blank is h)
 
 after_skipped : {marks : Marks} {number : ℕ} {items : List TextItem} (text : List ℕ) → HoldsTokens marks number (skip_blanks text) items → HoldsTokens marks number text items
-after_skipped {marks} {number} {items} text h =
-    let parts = skips text in
-    subst (λ t. HoldsTokens marks number t items) parts.whole (after_blanks parts.blanks (skip_blanks text) parts.are_blanks h)
-
-says_at : (text : List ℕ) (token : Token) → token_at text ≡ token → TokenSays (skip_blanks text) token
-says_at text token e = subst (TokenSays (skip_blanks text)) e (first_says (skip_blanks text))
+after_skipped {marks} {number} {items} = over_skipped (λ t. HoldsTokens marks number t items) (λ b t is h. blank is h)
 
 tokens_hold : {marks : Marks} {number : ℕ} {text : List ℕ} {items : List TextItem} → SpellsTokens marks number text items → HoldsTokens marks number text items
-tokens_hold {marks} {number} (none {text = text} e) = after_skipped text (subst (λ t. HoldsTokens marks number t []) (sym (says_at text LineEnd e)) end)
-tokens_hold (word {text = text} {rest = rest} {keyword = key} e more) = after_skipped text (keyword (says_at text (KeywordToken key rest) e) (tokens_hold more))
+tokens_hold {marks} {number} (none {text = text} e) = after_skipped text (subst (λ t. HoldsTokens marks number t []) (sym (says text e)) end)
+tokens_hold (word {text = text} {rest = rest} {keyword = key} e more) = after_skipped text (keyword (says text e) (tokens_hold more))
 tokens_hold {marks} {number} (line.string {text = text} {inner = inner} {bytes = bytes} {rest = rest} {items = items} e quoted more) =
     let spelt = Str bytes marks number ∷ items in
     let read : HoldsTokens marks number (34 ∷ inner) spelt = string (quoted_spelt quoted) (tokens_hold more) in
-    after_skipped text (subst (λ t. HoldsTokens marks number t spelt) (sym (says_at text (OpeningQuote inner) e)) read)
+    after_skipped text (subst (λ t. HoldsTokens marks number t spelt) (sym (says text e)) read)
 
 -- a text whose first token is that of another spells the same tokens
 same_tokens : {marks : Marks} {number : ℕ} {text other : List ℕ} {items : List TextItem} → token_at text ≡ token_at other → SpellsTokens marks number other items → SpellsTokens marks number text items
@@ -163,15 +157,8 @@ shape_says (b ∷ rest) fails =
     (λ e. subst (λ a. ShapeSays (a ∷ rest) (hash_shape rest)) (sym (eqb-true b 35 e)) (hash_says rest))
     (λ other. (λ number items h. live h, λ fault h. fault_live (begins_tokens b rest fails other) h))
 
--- blanks before a line's items
-indented_all : {number : ℕ} {items : List TextItem} (blanks text : List ℕ) → All IsBlank blanks → HoldsItems number text items → HoldsItems number (blanks ++ text) items
-indented_all [] text all h = h
-indented_all (b ∷ blanks) text all h = indented (All-head IsBlank b blanks all) (indented_all blanks text (All-tail IsBlank b blanks all) h)
-
 after_indent : {number : ℕ} {items : List TextItem} (text : List ℕ) → HoldsItems number (skip_blanks text) items → HoldsItems number text items
-after_indent {number} {items} text h =
-    let parts = skips text in
-    subst (λ t. HoldsItems number t items) parts.whole (indented_all parts.blanks (skip_blanks text) parts.are_blanks h)
+after_indent {number} {items} = over_skipped (λ t. HoldsItems number t items) (λ b t is h. indented is h)
 
 line_says : (text : List ℕ) (shape : Shape) → shape_of text ≡ shape → ShapeSays (skip_blanks text) shape
 line_says text shape e = subst (ShapeSays (skip_blanks text)) e (shape_says (skip_blanks text) (skips text).other)
@@ -180,32 +167,19 @@ pub line_holds : {number : ℕ} {text : List ℕ} {items : List TextItem} → Sp
 line_holds {number} (line.comment {text = text} {rest = rest} {kind = kind} e) = after_indent text (line_says text (CommentLine kind rest) e number)
 line_holds {number} (line.tokens {text = text} {rest = rest} {marks = marks} {items = items} e more) = after_indent text ((line_says text (Tokens marks rest) e).0 number items (tokens_hold more))
 
--- blanks before a fault
-fault_after_blanks : {fault : PoFault} (blanks text : List ℕ) → All IsBlank blanks → TokensFault text fault → TokensFault (blanks ++ text) fault
-fault_after_blanks [] text all h = h
-fault_after_blanks (b ∷ blanks) text all h = fault_blank (All-head IsBlank b blanks all) (fault_after_blanks blanks text (All-tail IsBlank b blanks all) h)
-
 fault_after_skipped : {fault : PoFault} (text : List ℕ) → TokensFault (skip_blanks text) fault → TokensFault text fault
-fault_after_skipped {fault} text h =
-    let parts = skips text in
-    subst (λ t. TokensFault t fault) parts.whole (fault_after_blanks parts.blanks (skip_blanks text) parts.are_blanks h)
+fault_after_skipped {fault} = over_skipped (λ t. TokensFault t fault) (λ b t is h. fault_blank is h)
 
 tokens_fault : {text : List ℕ} {fault : PoFault} → TokensStop text fault → TokensFault text fault
-tokens_fault (halt {text = text} {fault = fault} e) = fault_after_skipped text (says_at text (WrongToken fault) e (skips text).other)
+tokens_fault (halt {text = text} {fault = fault} e) = fault_after_skipped text (says text e (skips text).other)
 tokens_fault (line.in_string {text = text} {inner = inner} {fault = fault} e h) =
-    fault_after_skipped text (subst (λ t. TokensFault t fault) (sym (says_at text (OpeningQuote inner) e)) (fault_in_string (string_fault h)))
-tokens_fault (after_word {text = text} {rest = rest} {keyword = key} e h) = fault_after_skipped text (after_keyword (says_at text (KeywordToken key rest) e) (tokens_fault h))
+    fault_after_skipped text (subst (λ t. TokensFault t fault) (sym (says text e)) (fault_in_string (string_fault h)))
+tokens_fault (after_word {text = text} {rest = rest} {keyword = key} e h) = fault_after_skipped text (after_keyword (says text e) (tokens_fault h))
 tokens_fault (line.after_string {text = text} {inner = inner} {fault = fault} e quoted h) =
-    fault_after_skipped text (subst (λ t. TokensFault t fault) (sym (says_at text (OpeningQuote inner) e)) (fault_after_string (quoted_spelt quoted) (tokens_fault h)))
-
-fault_indented : {fault : PoFault} (blanks text : List ℕ) → All IsBlank blanks → LineFault text fault → LineFault (blanks ++ text) fault
-fault_indented [] text all h = h
-fault_indented (b ∷ blanks) text all h = fault_indent (All-head IsBlank b blanks all) (fault_indented blanks text (All-tail IsBlank b blanks all) h)
+    fault_after_skipped text (subst (λ t. TokensFault t fault) (sym (says text e)) (fault_after_string (quoted_spelt quoted) (tokens_fault h)))
 
 fault_after_indent : {fault : PoFault} (text : List ℕ) → LineFault (skip_blanks text) fault → LineFault text fault
-fault_after_indent {fault} text h =
-    let parts = skips text in
-    subst (λ t. LineFault t fault) parts.whole (fault_indented parts.blanks (skip_blanks text) parts.are_blanks h)
+fault_after_indent {fault} = over_skipped (λ t. LineFault t fault) (λ b t is h. fault_indent is h)
 
 pub line_fault : {text : List ℕ} {fault : PoFault} → LineStops text fault → LineFault text fault
 line_fault (no_shape {text = text} e) = fault_after_indent text (line_says text NoShape e)

@@ -32,17 +32,11 @@ keyword_behind (form before inside digits after {rest = rest} p q numeral fits r
     let in_opening = rest-rest opening in_index (rest-tail 91 opening (behind before (91 ∷ index))) in
     (rest-rest (codes "msgstr" ++ opening) in_opening (behind (codes "msgstr") opening), omega (arith, rest-le opening in_opening))
 
-says : (text : List ℕ) {token : Token} → token_at text ≡ token → TokenSays (skip_blanks text) token
+pub says : (text : List ℕ) {token : Token} → token_at text ≡ token → TokenSays (skip_blanks text) token
 says text e = subst (TokenSays (skip_blanks text)) e (first_says (skip_blanks text))
 
 skipped : (text : List ℕ) → IsRest (skip_blanks text) text
 skipped text = skip_blanks-rest text (whole_rest text)
-
-pub keyword-rest : (text : List ℕ) {keyword : Keyword} {rest : List ℕ} → token_at text ≡ KeywordToken keyword rest → IsRest rest text
-keyword-rest text e = rest-rest text (keyword_behind (says text e)).0 (skipped text)
-
-pub quote-rest : (text : List ℕ) {inside : List ℕ} → token_at text ≡ OpeningQuote inside → IsRest inside text
-quote-rest text {inside = inside} e = rest-tail 34 text (subst (λ t. IsRest t text) (says text e) (skipped text))
 
 pub keyword-shorter : (text : List ℕ) {keyword : Keyword} {rest : List ℕ} → token_at text ≡ KeywordToken keyword rest → length rest < length text
 keyword-shorter text e = omega (arith, rest-le text (skipped text), (keyword_behind (says text e)).1)
