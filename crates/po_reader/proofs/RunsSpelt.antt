@@ -1,5 +1,5 @@
 -- What the reader comes to is what items spell: what is left at each place completes the entry that was begun.
-use Rattle.std.proofs.Common.{◌≡◌, ℕ, ◌<◌, Bool, true, false, ◌==◌, nat_lt, List, [], ◌∷◌, ◌++◌, Option, append_assoc, append-nil, refl, sym, ap, subst, ◌∙◌, inl, inr, ◌⊎◌, arith}
+use Rattle.std.proofs.Common.{◌≡◌, ℕ, ◌+◌, ◌<◌, Bool, true, false, ◌==◌, nat_lt, List, [], ◌∷◌, ◌++◌, Option, append_assoc, append-nil, refl, sym, ap, subst, ◌∙◌, inl, inr, ◌⊎◌, arith}
 use Rattle.std.specs.Prelude.{if◌then◌else◌}
 use Rattle.std.specs.Bool.{beq}
 use Rattle.std.specs.Cmp.{booleans_Decides}
@@ -16,7 +16,7 @@ use Rattle.po_entry.specs.Spelling.{own_marks, previous_marks, entry_from}
 use Rattle.po_reader.specs.Internal.Stage.{SoFar, Wanted, Id, Translation, Form, Gap, InHead, Before, AfterForm, Stage, Between, In, Stop, Entries, Fault, no_lines, only, with_own, with_text, with_entry}
 use Rattle.po_reader.specs.Internal.Turn.{turn, turn_head, turn_own, turn_gap, opened, closed, with_keyword, comes_to, same_marks, is_form, is_wanted, is_wrong_form, stray_string}
 use Rattle.po_reader.proofs.Turns.{never}
-use Rattle.po_reader.proofs.SameMarks.{same_marks_true}
+use Rattle.po_reader.proofs.Turns.{same_marks_true}
 use Rattle.po_reader.proofs.PreviousOrder.{Rise, keywords, rise_order}
 
 -- these own items, where that is wanted, make this body of what was read of it
@@ -82,78 +82,63 @@ others_left entries all items (entry {head = head} {own = own} {rest = rest} {co
   same,
 )
 
+-- own lines that go on after a keyword's text
+more_left : (read later : SoFar) (wanted next : Wanted) (items own rest : List TextItem) (entries : List TextEntry) → items ≡ own ++ rest → (left : OwnLeft later next rest entries)
+    → Completes wanted read.own (own ++ left.own) left.body → OwnLeft (with_own later read.own) wanted items entries
+more_left read later wanted next items own rest entries split left completes = record {
+  own = own ++ left.own;
+  rest = left.rest;
+  body = left.body;
+  more = left.more;
+  split = joined items own rest left.own left.rest split left.split;
+  completes = completes;
+  after = left.after;
+  all = left.all;
+}
+
+-- own lines that end with a form's text
+last_left : (read : SoFar) (wanted : Wanted) (items own rest : List TextItem) (body : Body) (entries : List TextEntry) → items ≡ own ++ rest → HeadLeft (with_entry (with_own read body)) 0 rest entries → Completes wanted read.own own body
+    → OwnLeft read wanted items entries
+last_left read wanted items own rest body entries split left completes =
+    let others = others_left _ entries rest left in
+    record {
+      own = own;
+      rest = rest;
+      body = body;
+      more = others.0;
+      split = split;
+      completes = completes;
+      after = others.1;
+      all = others.2 ∙ append_assoc read.entries (_ ∷ []) others.0;
+    }
+
 -- after a keyword of own lines, what is left completes them from the keyword on
 after_keyword : (read : SoFar) (wanted : Wanted) (keyword : Keyword) (line : ℕ) (items : List TextItem) (entries : List TextEntry) → is_wanted wanted keyword ≡ true
     → Left (opened read read.own keyword line) items entries → OwnLeft read wanted (Word keyword (own_marks read.own.obsolete) line ∷ items) entries
 after_keyword read Id MsgId line items entries w left =
     let text = text_left (with_own read (with_keyword MsgId line read.own)) MsgId (own_marks read.own.obsolete) line items entries left in
     let own = text.5 in
-    record {
-      own = text.0 ++ own.own;
-      rest = own.rest;
-      body = own.body;
-      more = own.more;
-      split = joined _ text.0 text.1 own.own own.rest text.3 own.split;
-      completes = (line, text.0, text.2, own.own, own.completes.0, own.completes.1, refl, text.4, own.completes.2, own.completes.3);
-      after = own.after;
-      all = own.all;
-    }
+    more_left read _ Id Translation _ text.0 text.1 entries text.3 own (line, text.0, text.2, own.own, own.completes.0, own.completes.1, refl, text.4, own.completes.2, own.completes.3)
 after_keyword read Translation MsgStr line items entries w left =
     let text = text_left read MsgStr (own_marks read.own.obsolete) line items entries left in
-    let others = others_left _ entries text.1 text.5 in
-    record {
-      own = text.0;
-      rest = text.1;
-      body = with_text MsgStr text.2 read.own;
-      more = others.0;
-      split = text.3;
-      completes = (_, _, spell.single text.4, refl);
-      after = others.1;
-      all = others.2 ∙ append_assoc read.entries (_ ∷ []) others.0;
-    }
+    last_left read Translation _ text.0 text.1 (with_text MsgStr text.2 read.own) entries text.3 text.5 (_, _, spell.single text.4, refl)
 after_keyword read Translation MsgIdPlural line items entries w left =
     let text = text_left read MsgIdPlural (own_marks read.own.obsolete) line items entries left in
     let own = text.5 in
-    record {
-      own = text.0 ++ own.own;
-      rest = own.rest;
-      body = own.body;
-      more = own.more;
-      split = joined _ text.0 text.1 own.own own.rest text.3 own.split;
-      completes = (_, _, spell.plural text.4 own.completes.1, own.completes.2);
-      after = own.after;
-      all = own.all;
-    }
+    more_left read _ Translation (Form 0) _ text.0 text.1 entries text.3 own (_, _, spell.plural text.4 own.completes.1, own.completes.2)
 after_keyword read (Form index) (MsgStrAt found) line items entries w left =
     let text = text_left read (MsgStrAt found) (own_marks read.own.obsolete) line items entries left in
     let same : found ≡ index = eqb-true found index w in
     elim text.5 [
-      | inl own ↦ record {
-        own = text.0 ++ own.own;
-        rest = own.rest;
-        body = own.body;
-        more = own.more;
-        split = joined _ text.0 text.1 own.own own.rest text.3 own.split;
-        completes = (
-          text.2 ∷ own.completes.0,
-          subst (λ i. spell.SpellsForms read.own.obsolete i (text.0 ++ own.own) (text.2 ∷ own.completes.0)) same (spell.more_forms text.4 own.completes.1),
-          own.completes.2 ∙ ap (λ forms. record (read.own) { forms = forms }) (append_assoc read.own.forms (text.2 ∷ []) own.completes.0),
-        );
-        after = own.after;
-        all = own.all;
-      }
+      | inl own ↦
+          more_left read _ (Form index) (Form (found + 1)) _ text.0 text.1 entries text.3 own (
+            text.2 ∷ own.completes.0,
+            subst (λ i. spell.SpellsForms read.own.obsolete i (text.0 ++ own.own) (text.2 ∷ own.completes.0)) same (spell.more_forms text.4 own.completes.1),
+            own.completes.2 ∙ ap (λ forms. record (read.own) { forms = forms }) (append_assoc read.own.forms (text.2 ∷ []) own.completes.0),
+          )
       | inr head ↦
-          let others = others_left _ entries text.1 head in
-          record {
-            own = text.0;
-            rest = text.1;
-            body = with_text (MsgStrAt found) text.2 read.own;
-            more = others.0;
-            split = text.3;
-            completes = (text.2 ∷ [], subst (λ i. spell.SpellsForms read.own.obsolete i text.0 (text.2 ∷ [])) same (spell.last_form text.4), refl);
-            after = others.1;
-            all = others.2 ∙ append_assoc read.entries (_ ∷ []) others.0;
-          }
+          last_left read (Form index) _ text.0 text.1 (with_text (MsgStrAt found) text.2 read.own) entries text.3 head
+          (text.2 ∷ [], subst (λ i. spell.SpellsForms read.own.obsolete i text.0 (text.2 ∷ [])) same (spell.last_form text.4), refl)
     ]
 after_keyword read wanted keyword line items entries w left = absurd cc
 

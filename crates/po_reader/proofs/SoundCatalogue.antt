@@ -1,22 +1,46 @@
--- The entries that the items of a text spell are entries, if they can have their texts.
-use Rattle.std.proofs.Common.{◌≡◌, ◌<◌, List, [], ◌++◌, None, get_or, length, map}
+-- The entries that the items of a text spell are entries, if they can have their texts; kept with their comments or without.
+use Rattle.std.proofs.Common.{◌≡◌, ℕ, ◌<◌, Bool, List, None, length, refl, arith, [], ◌++◌, get_or, map, true, false, ◌∷◌, subst}
 use Rattle.std.specs.Prelude.{All}
-use Rattle.std.proofs.lemmas.List.Elements.{All-nil, All-cons, All-weaker}
+use Rattle.std.proofs.lemmas.List.Elements.{All-nil, All-cons, All-head, All-tail, All-weaker, All-map}
+use Rattle.po_syntax.specs.ItemContents.{IsCommentOf, HoldsText, IsComment}
+use Rattle.po_syntax.specs.TextItem.{TextItem, Comment}
+use Rattle.po_entry.specs.EntryParts.{CommentText, PreviousText, Body}
+use Rattle.po_entry.specs.Facts.AllAppend.{All-right, All-left}
 use Rattle.po_syntax.specs.declared.item.CommentKind.TheVariants.{Translator, Extracted, Reference, Flags}
 use Rattle.po_entry.specs.declared.fields.Fields.{Fields}
 use Rattle.po_entry.specs.EntryView.{entry_view}
-use Rattle.po_syntax.specs.TextItem.{TextItem}
 use Rattle.po_entry.specs.TextEntry.{TextEntry}
 use Rattle.po_entry.specs.Bytes.{AreDistinct}
-use Rattle.po_entry.specs.EntryParts.{Body, CommentText, PreviousText}
 use Rattle.po_entry.specs.Comments.{texts_of, references_of, all_listed_flags, flags_of}
-use Rattle.po_entry.specs.Validity.{HasTexts, IsEntry, IsTranslatorComment, IsReference, IsFlag}
-use Rattle.po_entry.specs.Facts.AllAppend.{All-left, All-right}
-use Rattle.po_entry.specs.Spelling.{entry_from, SpellsEntries, comments, entries, entry}
-use Rattle.po_syntax.specs.ItemContents.{IsComment, IsCommentOf, HoldsText}
-use Rattle.po_reader.proofs.Kept.{all_unmapped}
-use Rattle.po_reader.proofs.SoundEntries.{SoundCommentText, SoundBody, body_sound, head_sound}
-use Rattle.po_reader.proofs.SoundFields.{SoundFlagElement, SoundFlags, kind_sound, references_sound, all_flag_elements_sound, flags_sound}
+use Rattle.po_entry.specs.Validity.{HasTexts, IsEntry, IsTranslatorComment, IsReference, IsFlag, EntryTextFault}
+use Rattle.po_entry.specs.Spelling.{entry_from, SpellsEntries}
+use Rattle.po_reader.proofs.Heads.{all_unmapped, all_kept}
+use Rattle.po_reader.proofs.SoundFields.{SoundCommentText, SoundFlagElement, SoundFlags, kind_sound, references_sound, all_flag_elements_sound, flags_sound}
+use Rattle.po_syntax.specs.declared.fault.PoFault.{PoFault}
+use Rattle.po_entry.specs.Header.{HasAdmittedCharset}
+use Rattle.po_reader.specs.KeptComments.{kept_entry, without_comments}
+use Rattle.po_entry.specs.Spelling as spell
+use Rattle.po_entry.specs.Validity as validity
+use Rattle.po_entry.specs.Faults as faults
+
+pub head_sound : {own : List TextItem} {comment_texts : List CommentText} {previous : List PreviousText} → spell.SpellsHead own comment_texts previous → All HoldsText own → All SoundCommentText comment_texts
+head_sound spell.nothing h = All-nil SoundCommentText
+head_sound (spell.head_comment {kind = kind} {text = text} {line = line} {items = items} {comment_texts = comment_texts} more) h =
+    All-cons SoundCommentText (record { kind = kind; text = text }) comment_texts (All-head HoldsText (Comment kind text line) items h) (head_sound more (All-tail HoldsText (Comment kind text line) items h))
+head_sound (spell.previous_text {own = own} {items = items} w more) h = head_sound more (All-right HoldsText own items h)
+
+-- some form, and one alone where there is no plural
+pub record SoundBody (own : Body) : Type 0 where
+  pub some_form : 0 < length own.forms
+  pub one_form : own.plural ≡ None → length own.forms ≡ 1
+
+forms_sound : {obsolete : Bool} {index : ℕ} {own : List TextItem} {forms : List (List ℕ)} → spell.SpellsForms obsolete index own forms → 0 < length forms
+forms_sound (spell.last_form w) = omega arith
+forms_sound (spell.more_forms w f) = omega arith
+
+pub body_sound : {items : List TextItem} {own : Body} → spell.SpellsBody items own → SoundBody own
+body_sound (spell.own_lines c w (spell.single v)) = record { some_form = omega arith; one_form = λ none. refl }
+body_sound (spell.own_lines c w (spell.plural v f)) = record { some_form = forms_sound f; one_form = λ none. absurd cc }
 
 -- an entry that sound items spell, but for what its texts must be
 pub record SoundEntry (spelt : TextEntry) : Type 0 where
@@ -47,8 +71,8 @@ entry_sound comment_texts previous own n b =
 
 -- every entry that sound items spell
 pub entries_sound : {items : List TextItem} {entries : List TextEntry} → SpellsEntries items entries → All HoldsText items → All SoundEntry entries
-entries_sound (comments only) h = All-nil SoundEntry
-entries_sound (entries {items = rest} {others = others} (entry {head = head} {own = own} {comment_texts = comment_texts} {previous = previous} {body = body} above order lines) more) h =
+entries_sound (spell.comments only) h = All-nil SoundEntry
+entries_sound (spell.entries {items = rest} {others = others} (spell.entry {head = head} {own = own} {comment_texts = comment_texts} {previous = previous} {body = body} above order lines) more) h =
     let first = All-left HoldsText head own (All-left HoldsText (head ++ own) rest h) in
     All-cons SoundEntry (entry_from comment_texts previous body) others (entry_sound comment_texts previous body (head_sound above first) (body_sound lines))
     (entries_sound more (All-right HoldsText (head ++ own) rest h))
@@ -71,3 +95,55 @@ entry_valid spelt h t = record {
 -- the entries of drafts whose texts were checked
 pub drafts_valid : (made : List Fields) → All SoundEntry (map entry_view made) → All (λ draft. HasTexts (entry_view draft)) made → All (λ draft. IsEntry (entry_view draft)) made
 drafts_valid made h t = λ k d inside. entry_valid (entry_view (get_or made k d)) (all_unmapped SoundEntry entry_view made h k d inside) (t k d inside)
+
+sound_one : (all : Bool) (entry : TextEntry) → SoundEntry entry → SoundEntry (kept_entry all entry)
+sound_one true entry h = h
+sound_one false entry h = record {
+  comments = All-nil IsTranslatorComment;
+  extracted = All-nil IsComment;
+  references = All-nil IsReference;
+  flags = h.flags;
+  distinct_flags = h.distinct_flags;
+  some_form = h.some_form;
+  one_form = h.one_form;
+}
+
+pub kept_sound : (all : Bool) (entries : List TextEntry) → All SoundEntry entries → All SoundEntry (map (kept_entry all) entries)
+kept_sound all entries h = All-map SoundEntry (kept_entry all) entries (λ k d inside. sound_one all (get_or entries k d) (h k d inside))
+
+texts_one : (all : Bool) (entry : TextEntry) → HasTexts (kept_entry all entry) → HasTexts entry
+texts_one true entry h = h
+texts_one false entry h = record { utf8 = h.utf8; clean = record { no_nul = h.clean.no_nul; context = h.clean.context; id = h.clean.id } }
+
+pub kept_texts : (all : Bool) (entries : List TextEntry) → All HasTexts (map (kept_entry all) entries) → All HasTexts entries
+kept_texts all entries h = λ k d inside. texts_one all (get_or entries k d) (all_unmapped HasTexts (kept_entry all) entries h k d inside)
+
+admitted_one : (all : Bool) (entry : TextEntry) → HasAdmittedCharset (kept_entry all entry) → HasAdmittedCharset entry
+admitted_one true entry h = h
+admitted_one false entry h = h
+
+pub kept_admitted : (all : Bool) (entries : List TextEntry) → All HasAdmittedCharset (map (kept_entry all) entries) → All HasAdmittedCharset entries
+kept_admitted all entries h = λ k d inside. admitted_one all (get_or entries k d) (all_unmapped HasAdmittedCharset (kept_entry all) entries h k d inside)
+
+whole_fault : (entry : TextEntry) (fault : PoFault) → EntryTextFault (without_comments entry) fault → EntryTextFault entry fault
+whole_fault entry fault (validity.not_utf8 some) = validity.not_utf8 some
+whole_fault entry fault (validity.forbidden utf8 some) =
+    validity.forbidden utf8 (λ clean. some (record { no_nul = clean.no_nul; context = clean.context; id = clean.id }))
+
+bare_texts_stop : (entries : List TextEntry) {fault : PoFault} {line : ℕ} → faults.TextsStop (map without_comments entries) fault line → faults.TextsStop entries fault line
+bare_texts_stop [] stops = elim stops [ ]
+bare_texts_stop (entry ∷ entries) {fault} (faults.TextsStop.here f e) = faults.TextsStop.here (whole_fault entry fault f) e
+bare_texts_stop (entry ∷ entries) (faults.TextsStop.later r s) = faults.TextsStop.later (texts_one false entry r) (bare_texts_stop entries s)
+
+pub kept_texts_stop : (all : Bool) (entries : List TextEntry) {fault : PoFault} {line : ℕ} → faults.TextsStop (map (kept_entry all) entries) fault line → faults.TextsStop entries fault line
+kept_texts_stop true entries {fault} {line} s = subst (λ (es : List TextEntry). faults.TextsStop es fault line) (all_kept entries) s
+kept_texts_stop false entries s = bare_texts_stop entries s
+
+bare_charset_stops : (entries : List TextEntry) {line : ℕ} → faults.CharsetStops (map without_comments entries) line → faults.CharsetStops entries line
+bare_charset_stops [] stops = elim stops [ ]
+bare_charset_stops (entry ∷ entries) (faults.CharsetStops.here f e) = faults.CharsetStops.here f e
+bare_charset_stops (entry ∷ entries) (faults.CharsetStops.later r s) = faults.CharsetStops.later r (bare_charset_stops entries s)
+
+pub kept_charset_stops : (all : Bool) (entries : List TextEntry) {line : ℕ} → faults.CharsetStops (map (kept_entry all) entries) line → faults.CharsetStops entries line
+kept_charset_stops true entries {line} s = subst (λ (es : List TextEntry). faults.CharsetStops es line) (all_kept entries) s
+kept_charset_stops false entries s = bare_charset_stops entries s

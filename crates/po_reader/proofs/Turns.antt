@@ -1,23 +1,40 @@
 -- Steps of the reader that hang on what the next item is.
-use Rattle.std.proofs.Common.{◌≡◌, ◌≢◌, ℕ, nat_lt, Bool, true, false, not, ◌&&◌, List, [], ◌∷◌, ◌++◌, refl, sym, ap, ◌∙◌}
+use Rattle.std.proofs.Common.{◌≡◌, Bool, true, refl, ap₂, ◌≢◌, ℕ, nat_lt, false, not, ◌&&◌, List, [], ◌∷◌, ◌++◌, sym, ap, ◌∙◌}
+use Rattle.std.specs.Bool.{beq}
+use Rattle.std.specs.Cmp.{bool_eq_equiv, booleans_Decides}
+use Rattle.std.proofs.lemmas.Bool.{and_parts, false≢true, eqb-true, eq-eqb}
+use Rattle.po_syntax.specs.declared.item.Marks.{Marks}
+use Rattle.po_reader.specs.Internal.Turn.{same_marks, closed, turn, comes_to, outcome, begins_string, begins_form, begins_word, begins_own, begins_body, EndsHead, turn_head, opened, is_wanted, stray_string}
 use Rattle.std.proofs.lemmas.List.Folds.{fold_stays}
 use Rattle.po_syntax.specs.declared.fault.PoFault.{PoFault}
 use Rattle.po_syntax.specs.declared.item.Keyword.{Keyword}
-use Rattle.po_syntax.specs.declared.item.Marks.{Marks}
 use Rattle.po_syntax.specs.TextItem.{TextItem, Comment, Word, Str, line_of}
 use Rattle.po_entry.specs.TextEntry.{TextEntry}
 use Rattle.po_entry.specs.EntryParts.{rank}
 use Rattle.po_reader.specs.Internal.Stage.{SoFar, Wanted, Id, Translation, Form, Outcome, InHead, Before, AfterForm, Stage, Between, In, Stop, Entries, Fault, no_lines, with_own, with_entry, with_previous_text}
-use Rattle.po_reader.specs.Internal.Turn.{closed, turn, comes_to, outcome, begins_string, begins_form, begins_word, begins_own, begins_body, EndsHead, turn_head, opened, is_wanted, same_marks, stray_string}
 use Rattle.po_reader.specs.Internal.Reads.{first_line}
 use Rattle.po_reader.specs.PieceRead.{IsFaultOf}
-use Rattle.po_reader.proofs.SameMarks.{marked}
-use Rattle.std.specs.Cmp.{bool_eq_equiv}
 use Rattle.po_syntax.specs.declared.item.Keyword.TheVariants.{MsgCtxt, MsgId, MsgIdPlural, MsgStr, MsgStrAt}
 use Rattle.po_syntax.specs.declared.fault.PoError.{PoError}
 use Rattle.std.specs.Prelude.{if◌then◌else◌}
-use Rattle.std.proofs.lemmas.Bool.{false≢true, eqb-true, eq-eqb}
 use Rattle.po_syntax.specs.declared.fault.PoFault.TheVariants.{BadOrder}
+
+abbrev pub marked : Bool → Bool → Marks
+marked obsolete previous = record { obsolete = obsolete; previous = previous }
+
+pub same_marks-refl : (marks : Marks) → same_marks marks marks ≡ true
+same_marks-refl marks = rw (bool_eq_equiv.refl marks.obsolete, bool_eq_equiv.refl marks.previous) refl
+
+pub same_marks_true : (a b : Marks) → same_marks a b ≡ true → a ≡ b
+same_marks_true a b e =
+    let both = and_parts (beq a.obsolete b.obsolete) (beq a.previous b.previous) e in
+    let same : marked a.obsolete a.previous ≡ marked b.obsolete b.previous = ap₂ marked ((booleans_Decides a.obsolete b.obsolete).0 both.0) ((booleans_Decides a.previous b.previous).0 both.1) in
+    same
+
+-- no item was refused
+abbrev pub goes_on : Stage → Bool
+goes_on (Stop fault line) = false
+goes_on stage = true
 
 -- after a refused item nothing is read
 pub stopped : (end : ℕ) (fault : PoFault) (line : ℕ) (items : List TextItem) → comes_to end (Stop fault line) items ≡ Fault fault line

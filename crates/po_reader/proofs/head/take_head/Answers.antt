@@ -5,7 +5,7 @@ use Rattle.po_reader.specs.Internal.Reads.{comes}
 use Rattle.po_reader.specs.KeptComments.{kept_comments}
 use Rattle.po_reader.proofs.Results.{passed_on}
 use Rattle.po_reader.proofs.Heads.{holds_nothing, holds_previous}
-use Rattle.po_reader.proofs.Kept.{kept_nothing}
+use Rattle.po_reader.proofs.Heads.{kept_nothing}
 use Rattle.po_reader.proofs.Turns.{fails_from, previous_closed}
 use Rattle.po_reader.proofs.head.take_head.Goals as goal
 

@@ -9,9 +9,9 @@ use Rattle.po_reader.proofs.RunsSpelt.{whole_spelt}
 use Rattle.po_reader.proofs.Faults.{items_fault}
 use Rattle.po_entry.specs.Faults.{CharsetStops, TextsStop}
 use Rattle.po_entry.specs.Faults.ItemsStop.{in_items, in_texts, in_charset}
-use Rattle.po_reader.proofs.KeptEntries.{kept_sound, kept_texts, kept_admitted, kept_texts_stop, kept_charset_stops}
+use Rattle.po_reader.proofs.SoundCatalogue.{kept_sound, kept_texts, kept_admitted, kept_texts_stop, kept_charset_stops}
 use Rattle.po_reader.proofs.SoundCatalogue.{SoundEntry, entries_sound, drafts_valid}
-use Rattle.po_reader.proofs.NoMemory.{texts_reported}
+use Rattle.po_reader.proofs.Texts.{texts_reported}
 use Rattle.po_reader.proofs.Results.{ok_both, ok_step, err_step, passed_on}
 use Rattle.po_reader.proofs.items.read_items.Goals as goal
 

@@ -1,4 +1,4 @@
-use Rattle.po_reader.proofs.NoMemory.{read_reported}
+use Rattle.po_reader.proofs.Texts.{read_reported}
 use Rattle.po_reader.proofs.laws.no_fault_is_memory.Goals as goal
 
 pub returns : goal.returns

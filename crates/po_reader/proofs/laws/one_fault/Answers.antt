@@ -1,4 +1,4 @@
-use Rattle.po_reader.proofs.OneFault.{text_fault_once}
+use Rattle.po_reader.proofs.Texts.{text_fault_once}
 use Rattle.po_reader.proofs.laws.one_fault.Goals as goal
 
 pub returns : goal.returns

@@ -1,6 +1,6 @@
 use Rattle.std.proofs.Common.{subst, sym, ◌∙◌}
 use Rattle.po_reader.specs.PieceRead.{ReadsOn}
-use Rattle.po_reader.proofs.Kept.{all_kept}
+use Rattle.po_reader.proofs.Heads.{all_kept}
 use Rattle.po_reader.proofs.Results.{ok_step}
 use Rattle.po_reader.proofs.piecewise.next_catalogue.Goals as goal
 
