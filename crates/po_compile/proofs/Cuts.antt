@@ -14,7 +14,7 @@ use Rattle.po_compile.specs.Internal.Rows.{has_no_key}
 use Rattle.po_compile.specs.declared.collecting.Lengths.{Lengths}
 use Rattle.std.proofs.lemmas.Simd.{map-map}
 use Rattle.po_reader.specs.KeptComments.{without_comments}
-use Rattle.po_compile.proofs.Filters.{filter-map}
+use Rattle.po_messages.specs.Facts.Mapped.{filter_map}
 
 drop_seam : (xs ys : List ℕ) → drop (length xs) (xs ++ ys) ≡ ys
 drop_seam [] ys = refl
@@ -116,4 +116,4 @@ module _ (use_fuzzy : Bool) where
   -- comments make no difference
   pub uncommented : (entries : List TextEntry) → live_messages use_fuzzy (map without_comments entries) ≡ live_messages use_fuzzy entries
   uncommented entries =
-      ap (map (live_message use_fuzzy)) (filter-map is_live without_comments entries) ∙ map-map (live_message use_fuzzy) without_comments (filter is_live entries)
+      ap (map (live_message use_fuzzy)) (filter_map is_live without_comments entries) ∙ map-map (live_message use_fuzzy) without_comments (filter is_live entries)

@@ -1,6 +1,9 @@
 -- Texts are accepted or have a fault, and only one: what they read as, what refuses them, and that there
 -- is always one of both.
-use Rattle.std.proofs.Common.{◌≡◌, ℕ, ◌≤◌, ◌^◌, List, [], ◌∷◌, ◌++◌, refl, sym, ◌∙◌, subst, length, map, inl, inr, arith, suc, ap, ◌≢◌, ◌⊎◌, ap₂}
+use Rattle.std.proofs.Common.{◌≡◌, ℕ, ◌≤◌, ◌^◌, List, [], ◌∷◌, ◌++◌, refl, sym, ◌∙◌, subst, length, map, inl, inr, arith, suc, ap, ◌≢◌, ◌⊎◌, ap₂, append-nil, length-append, get_or, le_antisymm}
+use Rattle.std.proofs.Math.Seq.{get_or-append_seam}
+use Rattle.std.proofs.lemmas.List.{get_or_append_left}
+use Rattle.po_messages.specs.Facts.Zips.{zip_get, zip_length}
 use Rattle.std.specs.List.{AllZip}
 use Rattle.mo_file.specs.Layout.{layout}
 use Rattle.po_syntax.specs.declared.fault.PoError.{PoError}
@@ -23,7 +26,7 @@ use Rattle.std.proofs.lemmas.List.Elements.{All-weaker}
 use Rattle.po_syntax.specs.declared.fault.PoFault.TheVariants.{OutOfMemory}
 use Rattle.po_entry.specs.Validity.{IsEntry}
 use Rattle.po_compile.specs.Compiling.{layout_fault}
-use Rattle.po_compile.proofs.HeadlineLemmas.{EntriesCanStand, read_valid}
+use Rattle.po_compile.proofs.ReadingLemmas.{EntriesCanStand, read_valid}
 use Rattle.po_compile.proofs.MeaningLemmas.{LacksSeparators, entry_lacks_separators}
 use Rattle.po_compile.proofs.MessageOrder.{compiled_differ, compiled_valid, messages_exist}
 
@@ -47,14 +50,6 @@ same_catalogues one (t ∷ ts) (c ∷ cs) (d ∷ ds) a b =
     let head : c ≡ d = one t c d a.0.reads b.0.reads in
     let tail = same_catalogues one ts cs ds a.1 b.1 in cc
 
--- each of the texts reads
-read_at : (before : List (List ℕ)) (text : List ℕ) (after : List (List ℕ)) (catalogues : List (List TextEntry)) → AllZip ReadsDistinct (before ++ text ∷ after) catalogues
-    → (entries : List TextEntry) × ReadsDistinct text entries
-read_at [] text after [] each = absurd each
-read_at [] text after (c ∷ cs) each = (c, each.0)
-read_at (b ∷ before) text after [] each = absurd each
-read_at (b ∷ before) text after (c ∷ cs) each = read_at before text after cs each.1
-
 -- a text that reads, without a duplicate, has no fault
 pub text_faultless : OneReading → NoReadFault → NoFirstDuplicate → (text : List ℕ) (entries : List TextEntry) (error : PoError) → ReadsDistinct text entries → IsTextFault text error → ⊥
 text_faultless one no_fault no_first text entries error read (inl fault) = no_fault text entries error.kind error.line read.reads fault
@@ -63,10 +58,22 @@ text_faultless one no_fault no_first text entries error read (inr found) =
     let list : found.entries ≡ entries_of (map (in_input 0) found.entries) = sym (entries_of_input 0 found.entries) in
     no_first (map (in_input 0) found.entries) found.first found.later (subst HasNoDuplicate (same ∙ list) read.distinct) found.duplicate
 
+-- the text with a fault is none of those that read before it
+fault_after : OneReading → NoReadFault → NoFirstDuplicate → (texts before : List (List ℕ)) (catalogues : List (List TextEntry)) (after : List (List ℕ)) (error : JoinError) → texts ≡ before ++ after → AllZip ReadsDistinct before catalogues
+    → (fault : IsFaultOfInput texts error) → length before ≤ length fault.before
+fault_after one no_fault no_first texts before catalogues after error order each fault = elim (cases_lt (length fault.before) (length before)) [
+  | inl inside ↦
+      let i = length fault.before in
+      let here : get_or before i [] ≡ fault.text =
+      sym (get_or_append_left before after [] i inside) ∙ ap (λ ts. get_or ts i []) (sym order ∙ fault.order) ∙ get_or-append_seam fault.before fault.text fault.after [] in
+      let reads = zip_get ReadsDistinct before catalogues i [] [] each (omega (arith, inside, zip_length ReadsDistinct before catalogues each)) in
+      absurd (text_faultless one no_fault no_first fault.text (get_or catalogues i []) error.error (subst (λ t. ReadsDistinct t (get_or catalogues i [])) here reads) fault.fault)
+  | inr past ↦ past
+]
+
 pub input_faultless : OneReading → NoReadFault → NoFirstDuplicate → (texts : List (List ℕ)) (catalogues : List (List TextEntry)) (error : JoinError) → AllZip ReadsDistinct texts catalogues → IsFaultOfInput texts error → ⊥
 input_faultless one no_fault no_first texts catalogues error each fault =
-    let here = read_at fault.before fault.text fault.after catalogues (subst (λ list. AllZip ReadsDistinct list catalogues) fault.order each) in
-    text_faultless one no_fault no_first fault.text here.0 error.error here.1 fault.fault
+    omega (arith, fault_after one no_fault no_first texts texts catalogues [] error (sym (append-nil texts)) each fault, ap length fault.order, length-append fault.before (fault.text ∷ fault.after))
 
 pub joined_faultless : OneReading → NoFirstDuplicate → (texts : List (List ℕ)) (catalogues : List (List TextEntry)) (error : JoinError) → AreRead texts catalogues → HasJoinedDuplicate texts error → ⊥
 joined_faultless one no_first texts catalogues error read found =
@@ -112,32 +119,14 @@ module _ (one : OneReading) (no_fault : NoReadFault) (no_first : NoFirstDuplicat
       let same = one_first (map (in_input 0) f.entries) f.first f.later g.first g.later f.duplicate again in
       f.error_is ∙ ap (λ (e : JoinError). e.error) (ap₂ duplicate_fault same.0 same.1) ∙ sym g.error_is
 
-  -- the first inputs with a fault are one
-  first_once : (before others : List (List ℕ)) (text other : List ℕ) (after rest : List (List ℕ)) (cs ds : List (List TextEntry)) (a b : PoError)
-      → before ++ text ∷ after ≡ others ++ other ∷ rest → AllZip ReadsDistinct before cs → AllZip ReadsDistinct others ds → IsTextFault text a → IsTextFault other b
-      → (length before ≡ length others) × (a ≡ b)
-  first_once [] [] text other after rest cs ds a b e reads also f g =
-      let same : other ≡ text = cc in
-      (refl, text_fault_once text a b f (subst (λ t. IsTextFault t b) same g))
-  first_once [] (t ∷ others) text other after rest cs [] a b e reads also f g = absurd also
-  first_once [] (t ∷ others) text other after rest cs (d ∷ ds) a b e reads also f g =
-      let same : text ≡ t = cc in
-      absurd (text_faultless one no_fault no_first t d a also.0 (subst (λ x. IsTextFault x a) same f))
-  first_once (t ∷ before) [] text other after rest [] ds a b e reads also f g = absurd reads
-  first_once (t ∷ before) [] text other after rest (c ∷ cs) ds a b e reads also f g =
-      let same : other ≡ t = cc in
-      absurd (text_faultless one no_fault no_first t c b reads.0 (subst (λ x. IsTextFault x b) same g))
-  first_once (t ∷ before) (u ∷ others) text other after rest [] ds a b e reads also f g = absurd reads
-  first_once (t ∷ before) (u ∷ others) text other after rest (c ∷ cs) [] a b e reads also f g = absurd also
-  first_once (t ∷ before) (u ∷ others) text other after rest (c ∷ cs) (d ∷ ds) a b e reads also f g =
-      let following : before ++ text ∷ after ≡ others ++ other ∷ rest = cc in
-      let same = first_once before others text other after rest cs ds a b following reads.1 also.1 f g in
-      (ap suc same.0, same.1)
-
   input_fault_once : (texts : List (List ℕ)) (a b : JoinError) → IsFaultOfInput texts a → IsFaultOfInput texts b → a ≡ b
   input_fault_once texts a b f g =
-      let same = first_once f.before g.before f.text g.text f.after g.after f.catalogues g.catalogues a.error b.error (sym f.order ∙ g.order) f.faultless g.faultless f.fault g.fault in
-      ap₂ (λ n m. record { input = n; first_input = m; error = a.error }) (f.input ∙ same.0 ∙ sym g.input) (f.first_input ∙ same.0 ∙ sym g.first_input) ∙ ap (λ e. record b { error = e }) same.1
+      let same : length f.before ≡ length g.before =
+      le_antisymm (fault_after one no_fault no_first texts f.before f.catalogues (f.text ∷ f.after) b f.order f.faultless g) (fault_after one no_fault no_first texts g.before g.catalogues (g.text ∷ g.after) a g.order g.faultless f) in
+      let text : f.text ≡ g.text =
+      sym (get_or-append_seam f.before f.text f.after []) ∙ ap₂ (λ ts i. get_or ts i []) (sym f.order ∙ g.order) same ∙ get_or-append_seam g.before g.text g.after [] in
+      let error = text_fault_once g.text a.error b.error (subst (λ t. IsTextFault t a.error) text f.fault) g.fault in
+      ap₂ (λ n m. record { input = n; first_input = m; error = a.error }) (f.input ∙ same ∙ sym g.input) (f.first_input ∙ same ∙ sym g.first_input) ∙ ap (λ e. record b { error = e }) error
 
   joined_duplicate_once : (texts : List (List ℕ)) (a b : JoinError) → HasJoinedDuplicate texts a → HasJoinedDuplicate texts b → a ≡ b
   joined_duplicate_once texts a b f g =

@@ -1,37 +1,19 @@
 -- Filters, one after another, of lists that are mapped, and of lists that are permuted.
 use Rattle.std.proofs.Common.{◌≡◌, refl, sym, ap, ◌∙◌, Bool, true, false, ◌&&◌, cond, List, [], ◌∷◌, map, filter, subst, ℕ, zero, suc, ◌<◌, ◌++◌, append_assoc, length, get_or, set, arith, IsPermutation}
 use Rattle.std.proofs.lemmas.List.Elements.{filter_agree}
+use Rattle.po_messages.specs.Facts.Mapped.{filter_twice}
 use Rattle.std.specs.List.{swap}
 use Rattle.std.proofs.lemmas.List.Edits.{swap_is}
 use Rattle.std.proofs.lemmas.List.Sorted.{IsPermutation-refl, IsPermutation-trans, IsPermutation-append_left, IsPermutation-append_right, IsPermutation-append_comm, IsPermutation-keeps}
-
-module _ {X Y : Type 0} (p : Y → Bool) (f : X → Y) where
-  pub filter-map : (xs : List X) → filter p (map f xs) ≡ map f (filter (λ x. p (f x)) xs)
-  filter-map [] = refl
-  filter-map (x ∷ xs) = one (p (f x)) (filter-map xs) where
-    one : (b : Bool) → filter p (map f xs) ≡ map f (filter (λ x. p (f x)) xs)
-        → cond b (f x ∷ filter p (map f xs)) (filter p (map f xs)) ≡ map f (cond b (x ∷ filter (λ x. p (f x)) xs) (filter (λ x. p (f x)) xs))
-    one true more = ap (λ l. f x ∷ l) more
-    one false more = more
 
 within : (a b : Bool) → (a ≡ false → b ≡ false) → a && b ≡ b
 within true b only = refl
 within false b only = sym (only refl)
 
 module _ {X : Type 0} where
-  filter_both : (p q : X → Bool) (a b : Bool) (x : X) (xs : List X) → p x ≡ a → q x ≡ b
-      → cond (a && b) (x ∷ filter q (filter p xs)) (filter q (filter p xs)) ≡ filter q (cond a (x ∷ filter p xs) (filter p xs))
-  filter_both p q true b x xs e f = ap (λ c. cond c (x ∷ filter q (filter p xs)) (filter q (filter p xs))) (sym f)
-  filter_both p q false b x xs e f = refl
-
-  pub filter_twice : (p q : X → Bool) (xs : List X) → filter (λ x. p x && q x) xs ≡ filter q (filter p xs)
-  filter_twice p q [] = refl
-  filter_twice p q (x ∷ xs) =
-      ap (λ l. cond (p x && q x) (x ∷ l) l) (filter_twice p q xs) ∙ filter_both p q (p x) (q x) x xs refl refl
-
   -- what passes the second test passes the first
   pub filter_within : (p q : X → Bool) → ((x : X) → p x ≡ false → q x ≡ false) → (xs : List X) → filter q (filter p xs) ≡ filter q xs
-  filter_within p q only xs = sym (filter_twice p q xs) ∙ filter_agree (λ x. p x && q x) q (λ x. within (p x) (q x) (only x)) xs
+  filter_within p q only xs = filter_twice p q xs ∙ filter_agree (λ x. p x && q x) q (λ x. within (p x) (q x) (only x)) xs
 
   pub filter_all : (p : X → Bool) → ((x : X) → p x ≡ true) → (xs : List X) → filter p xs ≡ xs
   filter_all p all [] = refl

@@ -21,9 +21,8 @@ use Rattle.po_compile.specs.Collected.{HoldCatalogues, LiveMessage, live_message
 use Rattle.po_compile.specs.Internal.Repeats.{EachApart, IsFirstRepeat, IsRepeat, IsRepeatFault, IsRepeatInInput, repeat_fault}
 use Rattle.po_compile.specs.Internal.Rows.{AllApart, InputMessage, all_messages, in_input_message, input_keys, input_message, AreSortedRows, compiled_of, row_view}
 use Rattle.po_compile.proofs.JoinedRows.{all_are, joined_valid, live_of, of_input}
-use Rattle.po_compile.proofs.KeysApart.{entries_differ, key_of_entry, read_distinct, joined_distinct, sorted_keys}
+use Rattle.po_compile.proofs.KeysApart.{entries_differ, first_of, joined_distinct, key_of_entry, read_distinct, rising_apart, sorted_keys}
 use Rattle.po_compile.proofs.MeaningLemmas.{entry_lacks_separators}
-use Rattle.po_compile.proofs.RisingKeys.{first_of, rising_apart}
 use Rattle.po_compile.proofs.SortedRows.{at_entry, are_messages}
 use Rattle.po_compile.proofs.TextLemmas.{query_key_is_one}
 use Rattle.std.proofs.lemmas.Slice.Zip.{AllZip-long}
@@ -44,8 +43,7 @@ use Rattle.po_compile.specs.Compiling.{IsReportedFault}
 use Rattle.po_compile.specs.declared.options.Options.{Options}
 use Rattle.po_compile.specs.declared.row.Row.{Row}
 use Rattle.po_compile.proofs.FaultLemmas.{NoFirstDuplicate}
-use Rattle.po_compile.proofs.HeadlineLemmas.{EntriesCanStand}
-use Rattle.po_compile.proofs.ReadingLemmas.{distinct_of_one}
+use Rattle.po_compile.proofs.ReadingLemmas.{EntriesCanStand, distinct_of_one}
 
 -- a list around one of its elements
 pub split_at : {X : Type 0} (xs : List X) (i : ℕ) (d : X) → i < length xs → xs ≡ take i xs ++ get_or xs i d ∷ drop (suc i) xs

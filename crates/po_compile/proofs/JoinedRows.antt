@@ -16,7 +16,8 @@ use Rattle.po_messages.proofs.JoiningLemmas.{kept_valid}
 use Rattle.po_messages.proofs.DuplicateLemmas.{entries_of_input}
 use Rattle.po_compile.specs.Collected.{LiveMessage, live_message, live_messages}
 use Rattle.po_compile.specs.Internal.Rows.{InputMessage, all_messages, has_no_key, in_input_message, input_message, is_joined, joined_messages}
-use Rattle.po_compile.proofs.Filters.{filter-map, filter_all, filter_twice}
+use Rattle.po_messages.specs.Facts.Mapped.{filter_map, filter_twice}
+use Rattle.po_compile.proofs.Filters.{filter_all}
 
 -- one more row, or none, before those that are left
 pub rows_more : (input : ℕ) (headed : Bool) (old new : List InputMessage) (row : InputMessage) (m : LiveMessage) (rest : List LiveMessage) → row ≡ in_input_message input m
@@ -67,20 +68,20 @@ module _ (use_fuzzy : Bool) where
   kept_live true entries =
       let joins : TextEntry → Bool = λ e. is_joined true (live_message use_fuzzy e) in
       let stays : TextEntry → Bool = λ e. not (is_live_header e) in
-      sym (filter_twice is_live joins entries)
+      filter_twice is_live joins entries
       ∙ filter_agree (λ e. is_live e && joins e) (λ e. stays e && is_live e) (λ e. ap (λ h. is_live e && not h) (header_seen use_fuzzy e) ∙ exchanged (is_live e) (is_header e)) entries
-      ∙ filter_twice stays is_live entries
+      ∙ sym (filter_twice stays is_live entries)
 
   -- the live entries of one input
   pub of_input : (input : ℕ) (entries : List TextEntry) → map (in_input_message input) (live_messages use_fuzzy entries) ≡ map (input_message use_fuzzy) (live_entries (map (in_input input) entries))
   of_input input entries =
       map-map (in_input_message input) (live_message use_fuzzy) (filter is_live entries) ∙ sym (map-map (input_message use_fuzzy) (in_input input) (filter is_live entries))
-      ∙ sym (ap (map (input_message use_fuzzy)) (filter-map (λ e. is_live e.entry) (in_input input) entries))
+      ∙ sym (ap (map (input_message use_fuzzy)) (filter_map (λ e. is_live e.entry) (in_input input) entries))
 
   kept_of_input : (input : ℕ) (headed : Bool) (entries : List TextEntry)
       → map (in_input_message input) (filter (is_joined headed) (live_messages use_fuzzy entries)) ≡ map (input_message use_fuzzy) (live_entries (map (in_input input) (kept_entries headed entries)))
   kept_of_input input headed entries =
-      ap (map (in_input_message input)) (filter-map (is_joined headed) (live_message use_fuzzy) (filter is_live entries) ∙ ap (map (live_message use_fuzzy)) (kept_live headed entries)) ∙ of_input input (kept_entries headed entries)
+      ap (map (in_input_message input)) (filter_map (is_joined headed) (live_message use_fuzzy) (filter is_live entries) ∙ ap (map (live_message use_fuzzy)) (kept_live headed entries)) ∙ of_input input (kept_entries headed entries)
 
   joined_are : (input : ℕ) (headed : Bool) (catalogues : List (List TextEntry)) → joined_messages input headed (map (live_messages use_fuzzy) catalogues) ≡ map (input_message use_fuzzy) (live_entries (joined_from input headed catalogues))
   joined_are input headed [] = refl
@@ -96,7 +97,7 @@ module _ (use_fuzzy : Bool) where
   all_are catalogues = joined_are 0 false catalogues
 
 pub live_of : (entries : List InputEntry) → filter is_live (entries_of entries) ≡ entries_of (live_entries entries)
-live_of entries = filter-map is_live (λ e. e.entry) entries
+live_of entries = filter_map is_live (λ e. e.entry) entries
 
 valid_from : (input : ℕ) (headed : Bool) (catalogues : List (List TextEntry)) → All (All IsCatalogueEntry) catalogues → All IsCatalogueEntry (entries_of (joined_from input headed catalogues))
 valid_from input headed [] valid = All-nil IsCatalogueEntry

@@ -1,18 +1,18 @@
 -- The messages of entries mean these entries: the one message under a key is found in whatever order the
--- messages stand.
-use Rattle.std.proofs.Common.{◌≡◌, ◌≢◌, ℕ, ◌<◌, suc, Bool, true, false, cond, List, [], ◌∷◌, Option, None, Some, refl, sym, ap, ap₂, ◌∙◌, inl, inr, length, get_or, arith, All, Contains, find, IsPermutation, ◌==◌, ◌++◌, subst, IfSome, option_to_list}
+-- messages stand, and is taken apart again.
+use Rattle.std.proofs.Common.{◌≡◌, ◌≢◌, ℕ, ◌<◌, suc, Bool, true, false, cond, List, [], ◌∷◌, Option, None, Some, refl, sym, ap, ap₂, ◌∙◌, inl, inr, length, get_or, arith, All, Contains, find, IsPermutation, ◌==◌, ◌++◌, subst, IfSome, option_to_list, slice_get, append-nil}
 use Rattle.std.specs.Str.{bytes_eq}
-use Rattle.std.proofs.lemmas.Bool.{cases_lt, and_parts, not-true, or_parts}
-use Rattle.std.proofs.lemmas.List.{get_or_default}
+use Rattle.std.proofs.lemmas.Bool.{cases_lt, and_parts, not-true, or_parts, false_from_ne_true}
+use Rattle.std.proofs.lemmas.List.{get_or_default, length-map}
 use Rattle.std.proofs.lemmas.List.Elements.{All-cons, All-nil, All-contains, All-head, All-tail, All-weaker}
-use Rattle.std.proofs.lemmas.List.Sorted.{All-permutation, Contains-permutation}
+use Rattle.std.proofs.lemmas.List.Sorted.{All-permutation, Contains-permutation, IsPermutation-map, IsPermutation-sym}
 use Rattle.std.proofs.lemmas.Slice.Eq.{bytes_eq-Decides}
 use Rattle.mo_file.specs.Message.{Message}
-use Rattle.mo_file.specs.Key.{AreRising, key_cmp, key_of, keys, query_key}
+use Rattle.mo_file.specs.Key.{AreRising, key_cmp, key_of, keys, query_key, is_nul}
 use Rattle.mo_lookup.proofs.RisingLemmas.{less_is_other}
-use Rattle.po_compile.proofs.RisingKeys.{below_from_rising}
+use Rattle.po_compile.proofs.KeysApart.{below_from_rising, apart_permuted, rising_apart}
 use Rattle.std.specs.Bool.{Decides, one_answer}
-use Rattle.std.specs.List.{list_any, join_with_byte}
+use Rattle.std.specs.List.{list_any, join_with_byte, slice_split}
 use Rattle.std.specs.Option.{option_map, option_map_or, option_eq, unwrap_or}
 use Rattle.std.proofs.lemmas.Bool.Decides.{Decides-eqb, Decides-and, Decides-like}
 use Rattle.mo_lookup.specs.Answer.{form_at, answer}
@@ -26,10 +26,13 @@ use Rattle.po_entry.specs.Header.{first_form}
 use Rattle.po_entry.specs.Validity.{IsEntry}
 use Rattle.po_messages.specs.Duplicate.{is_of_message}
 use Rattle.po_syntax.specs.ItemContents.{IsText}
-use Rattle.po_compile.specs.CompiledMessages.{original_of, translation_of, message_of, messages_of_entries, AreMessagesOf}
+use Rattle.po_compile.specs.CompiledMessages.{original_of, translation_of, message_of, messages_of_entries, AreMessagesOf, plural_part}
 use Rattle.po_compile.specs.Meaning.{header_of}
 use Rattle.po_compile.specs.Headline.{MessagesMeanEntries}
 use Rattle.po_compile.proofs.TextLemmas.{key_of-plural_part, query_key_lacks, query_key_is_one, slice_split-join}
+use Rattle.std.proofs.Math.ListN.{get_or-map}
+use Rattle.std.proofs.lemmas.List.Splits.{slice_split_none, slice_split_at}
+use Rattle.po_compile.specs.MessageLaws.{MessagesHaveParts, MessagesDiffer}
 
 -- what a search finds is in the list and passes the test
 pub record IsFound {X : Type 0} (test : X → Bool) (xs : List X) (x : X) : Type 0 where
@@ -239,3 +242,35 @@ mean_entries entries messages valid are =
       rule = λ rule view. subst (λ text. IsRuleOf expression_limit text rule) (header_text_is entries messages all are) view.rule_of_header;
       answers = λ rule query. ap (λ found. answer found rule query) (found_if_key entries messages all are query (can_be_key query.context query.id) refl);
     }
+
+lacks_nul : (text : List ℕ) → Lacks 0 text → All (λ b. is_nul b ≡ false) text
+lacks_nul text lacks = All-weaker (λ b. b ≢ 0) (λ b. is_nul b ≡ false) (λ b h. false_from_ne_true (is_nul b) (λ e. h ((Decides-eqb b 0).0 e))) text lacks
+
+second_piece : (key : List ℕ) (plural : Option (List ℕ)) → Lacks 0 key → IfSome plural (Lacks 0) → slice_get (slice_split is_nul (key ++ plural_part plural)) 1 ≡ plural
+second_piece key None lacks none = rw (append-nil key, slice_split_none is_nul key (lacks_nul key lacks)) refl
+second_piece key (Some plural) lacks some =
+    rw (slice_split_at is_nul key 0 plural (lacks_nul key lacks) refl, slice_split_none is_nul plural (lacks_nul plural some)) refl
+
+pub messages_have_parts : MessagesHaveParts
+messages_have_parts entry valid =
+    let clean = entry_lacks_separators entry valid in
+    record {
+      key = key_of-original entry clean;
+      plural = second_piece (query_key entry.context entry.id) entry.plural (query_key_lacks entry.context entry.id clean.context_nul clean.id_nul) clean.plural_nul;
+      forms_are = forms-translation entry clean;
+    }
+
+pub messages_differ : MessagesDiffer
+messages_differ entries messages valid are =
+    let all : All LacksSeparators entries = All-weaker IsEntry LacksSeparators entry_lacks_separators entries valid in
+    let key : Message → List ℕ = λ m. key_of m.original in
+    let ks = keys (messages_of_entries entries) in
+    let distinct = apart_permuted (keys messages) ks (IsPermutation-sym ks (keys messages) (IsPermutation-map key (messages_of_entries entries) messages are.all)) (rising_apart (keys messages) are.rising) in
+    λ i j d below inside same.
+    let long = length-map (messages_of_entries entries) key in
+    let long' = length-map entries message_of in
+    let at : (k : ℕ) → get_or ks k (key (message_of d)) ≡ key_of (original_of (get_or entries k d)) = λ k. get_or-map key (messages_of_entries entries) k (message_of d) ∙ ap key (get_or-map message_of entries k d) in
+    let first = key_of-original (get_or entries i d) (all i d (omega arith)) in
+    let later = key_of-original (get_or entries j d) (all j d inside) in
+    distinct i j (key (message_of d)) below (omega (arith, long, long'))
+    (at i ∙ first ∙ ap (λ c. query_key c (get_or entries i d).id) same.0 ∙ ap (query_key (get_or entries j d).context) same.1 ∙ sym later ∙ sym (at j))

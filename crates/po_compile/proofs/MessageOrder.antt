@@ -16,14 +16,14 @@ use Rattle.po_messages.specs.Joined.{is_live}
 use Rattle.po_messages.specs.Duplicate.{IsSameMessage, AllDiffer, HasNoDuplicate}
 use Rattle.po_compile.specs.CompiledList.{is_compiled, compiled_list}
 use Rattle.po_compile.specs.CompiledMessages.{original_of, messages_of_entries, message_of, AreMessagesOf}
-use Rattle.po_compile.proofs.Filters.{filter_twice}
+use Rattle.po_messages.specs.Facts.Mapped.{filter_twice}
 use Rattle.po_compile.proofs.TextLemmas.{query_key_is_one}
 use Rattle.po_compile.proofs.MeaningLemmas.{LacksSeparators, key_of-original}
 use Rattle.std.specs.declared.cmp.Ordering.TheVariants.{Less, Equal, Greater}
 use Rattle.std.proofs.lemmas.Cmp.{nat_list_cmp_total, tied_itself}
 use Rattle.std.proofs.lemmas.List.Sorted.{Contains-permutation, IsPermutation-sym, IsPermutation-trans, All-permutation, IsPermutation-refl, IsPermutation-cons, IsPermutation-middle}
 use Rattle.po_compile.specs.Headline.{MessagesAreOne}
-use Rattle.po_compile.proofs.RisingKeys.{below_from_rising, rising_from_below}
+use Rattle.po_compile.proofs.KeysApart.{below_from_rising, rising_from_below}
 use Rattle.std.specs.declared.cmp.Ordering.{Ordering}
 use Rattle.std.proofs.lemmas.Map.Lookups.{exact_bytes}
 use Rattle.std.specs.Ordering.{ordering_reverse}
@@ -38,7 +38,7 @@ keys_differ e f ce cf apart same =
 pub compiled_differ : (use_fuzzy : Bool) (entries : List TextEntry) → HasNoDuplicate entries → AllDiffer (compiled_list use_fuzzy entries)
 compiled_differ use_fuzzy entries none =
     let wanted : TextEntry → Bool = λ e. has_translation e && (use_fuzzy || not e.fuzzy || is_header e) in
-    subst AllDiffer (sym (filter_twice is_live wanted entries))
+    subst AllDiffer (filter_twice is_live wanted entries)
     (AllPairs-filter (λ a b. ¬ IsSameMessage a b) wanted (filter is_live entries) none)
 
 pub compiled_valid : (use_fuzzy : Bool) (entries : List TextEntry) → All IsCatalogueEntry entries → All IsEntry (compiled_list use_fuzzy entries)

@@ -18,10 +18,11 @@ use Rattle.po_compile.specs.CompiledList.{is_compiled, compiled_list}
 use Rattle.po_compile.specs.CompiledMessages.{AreMessagesOf, message_of, messages_of_entries}
 use Rattle.po_compile.specs.Internal.Rows.{AreSortedRows, InputMessage, all_messages, compiled_of, counts_of, input_message, row_view, view_of_message}
 use Rattle.po_compile.specs.declared.row.Row.{Row}
-use Rattle.po_compile.proofs.Filters.{IsPermutation-filter, filter-map, filter_within}
+use Rattle.po_messages.specs.Facts.Mapped.{filter_map}
+use Rattle.po_compile.proofs.Filters.{IsPermutation-filter, filter_within}
 use Rattle.po_compile.proofs.JoinedRows.{all_are, joined_valid, live_of}
 use Rattle.po_compile.proofs.MeaningLemmas.{entry_lacks_separators, key_of-original}
-use Rattle.po_compile.proofs.RisingKeys.{rising_filter}
+use Rattle.po_compile.proofs.KeysApart.{rising_filter}
 
 -- what holds of each entry of several inputs
 pub at_entry : (P : TextEntry → Type 0) (entries : List InputEntry) (k : ℕ) (d : InputEntry) → k < length entries → All P (entries_of entries) → P (get_or entries k d).entry
@@ -37,7 +38,7 @@ module _ (use_fuzzy : Bool) where
   -- the compiled ones of the live entries
   kept_entries : (entries : List InputEntry) → filter (λ (m : InputMessage). m.message.status.compiled) (map (input_message use_fuzzy) (live_entries entries)) ≡ map (input_message use_fuzzy) (compiled_inputs use_fuzzy entries)
   kept_entries entries =
-      filter-map (λ (m : InputMessage). m.message.status.compiled) (input_message use_fuzzy) (live_entries entries)
+      filter_map (λ (m : InputMessage). m.message.status.compiled) (input_message use_fuzzy) (live_entries entries)
       ∙ ap (map (input_message use_fuzzy)) (filter_within (λ (e : InputEntry). is_live e.entry) (λ (e : InputEntry). is_compiled use_fuzzy e.entry) (λ e dead. rw dead refl) entries)
 
   -- the messages that are compiled, in the order of the joined list
@@ -52,7 +53,7 @@ module _ (use_fuzzy : Bool) where
       let message : InputMessage → Message = λ m. m.message.message in
       let entry : InputEntry → TextEntry = λ e. e.entry in
       ap (map message) (kept_entries entries) ∙ map-map message (input_message use_fuzzy) (compiled_inputs use_fuzzy entries)
-      ∙ sym (ap (map message_of) (filter-map (is_compiled use_fuzzy) entry entries) ∙ map-map message_of entry (compiled_inputs use_fuzzy entries))
+      ∙ sym (ap (map message_of) (filter_map (is_compiled use_fuzzy) entry entries) ∙ map-map message_of entry (compiled_inputs use_fuzzy entries))
 
   module _ (catalogues : List (List TextEntry)) (inputs : List (List LiveMessage)) (rows : List Row) (held : HoldCatalogues use_fuzzy catalogues inputs) (are : AreSortedRows inputs rows) where
     abbrev live : List InputEntry
@@ -99,10 +100,10 @@ module _ (use_fuzzy : Bool) where
         let entry : InputEntry → TextEntry = λ e. e.entry in
         let h : InputEntry → Bool = λ e. f e.entry in
         let is_there : InputEntry → Bool = λ e. is_live e.entry in
-        sym (length-filter p rows) ∙ sym (length-map (filter p rows) row_view) ∙ sym (ap length (filter-map q row_view rows))
+        sym (length-filter p rows) ∙ sym (length-map (filter p rows) row_view) ∙ sym (ap length (filter_map q row_view rows))
         ∙ length_permutation (filter q given) (filter q (map row_view rows)) (IsPermutation-filter q given (map row_view rows) moved)
-        ∙ ap length (filter-map q (input_message use_fuzzy) live ∙ ap (map (input_message use_fuzzy)) (filter_agree (λ e. g (live_message use_fuzzy e.entry)) h (λ e. same e.entry) live ∙ filter_within is_there h (λ e. only e.entry) (joined catalogues)))
-        ∙ length-map (filter h (joined catalogues)) (input_message use_fuzzy) ∙ sym (length-map (filter h (joined catalogues)) entry) ∙ sym (ap length (filter-map f entry (joined catalogues)))
+        ∙ ap length (filter_map q (input_message use_fuzzy) live ∙ ap (map (input_message use_fuzzy)) (filter_agree (λ e. g (live_message use_fuzzy e.entry)) h (λ e. same e.entry) live ∙ filter_within is_there h (λ e. only e.entry) (joined catalogues)))
+        ∙ length-map (filter h (joined catalogues)) (input_message use_fuzzy) ∙ sym (length-map (filter h (joined catalogues)) entry) ∙ sym (ap length (filter_map f entry (joined catalogues)))
 
     -- the statistics of the entries
     pub counts_mean : counts_of rows ≡ stats_of (joined_entries catalogues)

@@ -1,7 +1,7 @@
 use Rattle.std.proofs.Common.{arith, sym, ◌∙◌}
 use Rattle.std.proofs.lemmas.List.{length-map}
 use Rattle.po_compile.specs.declared.row.Row.{Row}
-use Rattle.po_compile.proofs.RisingKeys.{rise_more}
+use Rattle.po_compile.proofs.KeysApart.{rise_more}
 use Rattle.po_compile.proofs.sorting.are_rising.Goals as goal
 
 pub loop-i-preserved : goal.loop-i-preserved

@@ -1,5 +1,5 @@
 use Rattle.po_compile.specs.declared.row.Row.{Row}
-use Rattle.po_compile.proofs.RisingKeys.{RiseUpTo}
+use Rattle.po_compile.proofs.KeysApart.{RiseUpTo}
 use Rattle.po_compile.proofs.sorting.are_rising.Given as goal
 
 abbrev pub invariant-loop-i : goal.invariant-loop-i

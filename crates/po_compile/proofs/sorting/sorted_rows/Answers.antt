@@ -1,7 +1,6 @@
 use Rattle.std.proofs.Common.{map}
 use Rattle.po_compile.specs.declared.row.Row.{Row}
-use Rattle.po_compile.proofs.KeysApart.{all_apart, inputs_apart, sorted_all, sorted_apart}
-use Rattle.po_compile.proofs.RisingKeys.{rising_apart, rising_from_sorted}
+use Rattle.po_compile.proofs.KeysApart.{all_apart, inputs_apart, rising_apart, rising_from_sorted, sorted_all, sorted_apart}
 use Rattle.po_compile.proofs.sorting.sorted_rows.Goals as goal
 
 pub returns-then-have_one_header-clause-rows : goal.returns-then-have_one_header-clause-rows
