@@ -9,10 +9,10 @@ use Rattle.plural_rule.specs.declared.pending.Pending.{Pending}
 use Rattle.plural_rule.specs.declared.pending.Pending.TheVariants.{Question as QuestionPending, Colon as ColonPending}
 use Rattle.plural_rule.specs.Expression.{Tree, Count, Number, Not, Binary, Conditional}
 use Rattle.plural_rule.specs.Instruction.{count_instruction, number_instruction, wide_instruction, low_instruction, not_instruction, binary_instruction, branch_instruction, choose_instruction, jump_instruction}
-use Rattle.plural_rule.specs.Program.{program, program_then, program-append, branch-append, size, length-program, is_lazy, branch_then}
+use Rattle.plural_rule.specs.Program.{program, program_then, program-append, branch-append, size, length-program, is_lazy}
 use Rattle.plural_rule.specs.Internal.ShiftReduce.{Waiting, WaitNot, WaitOpen, WaitBinary, WaitQuestion, WaitColon, Operand, completed, reduce, reduce_by, at_colon}
-use Rattle.plural_rule.specs.Internal.ParserState.{waiting_then, start_after, pending, pendings, Held, IsWaiting, IsOperand, Answers, counted, edited, begun, with_skip, skipping, completed_after, completed_program}
-use Rattle.plural_rule.specs.Internal.Pending.{binds, first_of}
+use Rattle.plural_rule.specs.Internal.ParserState.{waiting_then, start_after, pending, pendings, Held, IsWaiting, IsOperand, Answers, counted, edited, begun, with_skip, skipping, completed_program, first_of}
+use Rattle.plural_rule.specs.Internal.Pending.{binds}
 use Rattle.plural_rule.proofs.Programs.{size-some}
 
 -- an instruction in the middle
@@ -40,11 +40,11 @@ short len room h = omega (arith, length-take len room)
 waiting-append : (stack : List Waiting) (xs ys : List Instruction) → waiting_then stack xs ++ ys ≡ waiting_then stack (xs ++ ys)
 waiting-append [] xs ys = refl
 waiting-append (WaitBinary op a ∷ stack) xs ys =
-    waiting-append stack _ ys ∙ ap (waiting_then stack) (program-append a 0 _ ys ∙ ap (program_then 0 a) (branch-append op 0 xs ys))
-waiting-append (WaitQuestion a ∷ stack) xs ys = waiting-append stack _ ys ∙ ap (waiting_then stack) (program-append a 0 _ ys)
+    waiting-append stack _ ys ∙ ap (waiting_then stack) (program-append a 1 _ ys ∙ ap (program_then 1 a) (branch-append op 0 xs ys))
+waiting-append (WaitQuestion a ∷ stack) xs ys = waiting-append stack _ ys ∙ ap (waiting_then stack) (program-append a 1 _ ys)
 waiting-append (WaitColon a b ∷ stack) xs ys =
-    waiting-append stack _ ys ∙ ap (waiting_then stack) (program-append a 0 _ ys
-    ∙ ap (λ p. program_then 0 a (choose_instruction (size b + 1) ∷ p)) (program-append b 0 _ ys))
+    waiting-append stack _ ys ∙ ap (waiting_then stack) (program-append a 1 _ ys
+    ∙ ap (λ p. program_then 1 a (choose_instruction (size b + 1) ∷ p)) (program-append b 0 _ ys))
 waiting-append (w ∷ stack) xs ys = waiting-append stack xs ys
 
 -- the first instruction of a program, with which one more node begins
@@ -70,25 +70,16 @@ first-of k (Not a) rest most h = first-of (1 + k) a _ most (omega arith)
 first-of k (Binary op a b) rest most h = first-of (1 + k) a _ most (omega arith)
 first-of k (Conditional a b c) rest most h = first-of (1 + k) a _ most (omega arith)
 
-begun-seam : (xs p q : List Instruction) → First p q 4096 → begun (length xs) (xs ++ p) ≡ xs ++ q
-begun-seam xs p q f =
+-- one more node begins with the last operand
+begun-operand : (stack : List Waiting) (t : Tree) (code : List Instruction) (start : ℕ) → code ≡ waiting_then stack (program 0 t) → start ≡ start_after stack → length code ≤ 4096 → begun start code ≡ waiting_then stack (program 1 t)
+begun-operand stack t code start is at fits =
+    let xs = waiting_then stack [] in
+    let split : code ≡ xs ++ program 0 t = is ∙ sym (waiting-append stack [] (program 0 t)) in
+    let f = first-of 0 t [] 4096 (omega (arith, ap length split, length-append xs (program 0 t), length-program t 0 [])) in
     let next : counted f.first ≡ more f.first =
     ap (λ n. record { kind = f.first.kind; operator = f.first.operator; count = n; number = f.first.number }) (grind (arith, f.small)) in
-    ap (λ p. begun (length xs) (xs ++ p)) f.is ∙ edited-seam counted xs f.first f.rest ∙ ap (λ i. xs ++ i ∷ f.rest) next ∙ ap (λ p. xs ++ p) (sym f.next)
-
--- one more node begins with the operand that begins after what waits
-begun-first : (stack : List Waiting) (t : Tree) (ys code : List Instruction) → code ≡ waiting_then stack (program_then 0 t ys) → length code ≤ 4096 → begun (start_after stack) code ≡ waiting_then stack (program_then 1 t ys)
-begun-first stack t ys code is fits =
-    let xs = waiting_then stack [] in
-    let split : code ≡ xs ++ program_then 0 t ys = is ∙ sym (waiting-append stack [] (program_then 0 t ys)) in
-    let small : 0 + size t ≤ 4096 = omega (arith, fits, ap length split, length-append xs (program_then 0 t ys), length-program t 0 ys) in
-    ap (begun (length xs)) split ∙ begun-seam xs _ _ (first-of 0 t ys 4096 small) ∙ waiting-append stack [] (program_then 1 t ys)
-
--- and no instruction is added by that
-same-length : (stack : List Waiting) (t : Tree) (ys : List Instruction) → length (waiting_then stack (program_then 0 t ys)) ≡ length (waiting_then stack (program_then 1 t ys))
-same-length stack t ys =
-    let xs = waiting_then stack [] in
-    omega (arith, ap length (waiting-append stack [] (program_then 0 t ys)), ap length (waiting-append stack [] (program_then 1 t ys)), length-append xs (program_then 0 t ys), length-append xs (program_then 1 t ys), length-program t 0 ys, length-program t 1 ys)
+    ap (λ i. begun i code) at ∙ ap (begun (length xs)) (split ∙ ap (λ p. xs ++ p) f.is) ∙ edited-seam counted xs f.first f.rest
+    ∙ ap (λ i. xs ++ i ∷ f.rest) next ∙ ap (λ p. xs ++ p) (sym f.next) ∙ waiting-append stack [] (program 1 t)
 
 -- the instruction before the last operand skips that and more
 skips : (before : List Instruction → List Instruction) → ((ys : List Instruction) → before ys ≡ before [] ++ ys) → (i : Instruction) (t : Tree) (code : List Instruction) (start extra : ℕ) → code ≡ before (i ∷ program 0 t) → start ≡ length (before (i ∷ [])) → skipping (start - 1) (length code - start + extra) code ≡ before (with_skip (size t + extra) i ∷ program 0 t)
@@ -131,20 +122,15 @@ completes k WaitNot below t parser h fits b =
     record {
       tree = Not t;
       is = refl;
-      code_is =
-          ap (λ p. p ++ not_instruction ∷ []) (ap (λ i. begun i parser.code) h.start_is ∙ begun-first below t [] parser.code h.code_is fits)
-          ∙ simp (waiting-append, program-append);
+      code_is = ap (λ p. p ++ not_instruction ∷ []) (begun-operand below t parser.code parser.start h.code_is h.start_is fits) ∙ simp (waiting-append, program-append);
       start_is = h.start_is;
     }
 completes k (WaitBinary op a) below t parser h fits b =
     let last : List Instruction = binary_instruction op ∷ [] in
-    let code = begun (start_after below) parser.code in
-    let is : code ≡ waiting_then below (program_then 1 a (branch_then op 0 (program 0 t))) = begun-first below a _ parser.code h.code_is fits in
-    let start : parser.start ≡ length (waiting_then below (program_then 1 a (branch_then op 0 []))) = h.start_is ∙ same-length below a (branch_then op 0 []) in
     elim (cases_Bool (is_lazy op)) [
       | inl lazy ↦
           let before = λ (ys : List Instruction). waiting_then below (program_then 1 a ys) in
-          let done = skips before (λ ys. sym (simp (waiting-append, program-append))) (branch_instruction op 0) t code parser.start 1 (rw lazy at is) (rw lazy at start) in
+          let done = skips before (λ ys. sym (simp (waiting-append, program-append))) (branch_instruction op 0) t parser.code parser.start 1 (rw lazy at h.code_is) (rw lazy at h.start_is) in
           record {
             tree = Binary op a t;
             is = rw b refl;
@@ -156,22 +142,20 @@ completes k (WaitBinary op a) below t parser h fits b =
             tree = Binary op a t;
             is = rw b refl;
             code_is =
-                rw strict (ap (λ p. p ++ last) (rw strict at is) ∙ waiting-append below (program_then 1 a (program 0 t)) last
+                rw strict (ap (λ p. p ++ last) (rw strict at h.code_is) ∙ waiting-append below (program_then 1 a (program 0 t)) last
                 ∙ ap (waiting_then below) (program-append a 1 (program 0 t) last ∙ ap (program_then 1 a) (program-append t 0 [] last)));
             start_is = refl;
           }
     ]
 completes k (WaitColon a c) below t parser h fits b =
     let before = λ (ys : List Instruction). waiting_then below (program_then 1 a (choose_instruction (size c + 1) ∷ program_then 0 c ys)) in
-    let code = begun (start_after below) parser.code in
-    let is : code ≡ before (jump_instruction 0 ∷ program 0 t) = begun-first below a _ parser.code h.code_is fits in
-    let done = skips before (λ ys. sym (simp (waiting-append, program-append))) (jump_instruction 0) t code parser.start 0 is (h.start_is ∙ same-length below a _) in
+    let done = skips before (λ ys. sym (simp (waiting-append, program-append))) (jump_instruction 0) t parser.code parser.start 0 h.code_is h.start_is in
     let none : size t + 0 ≡ size t = omega arith in
-    let skip : length code - parser.start ≡ length code - parser.start + 0 = omega arith in
+    let skip : length parser.code - parser.start ≡ length parser.code - parser.start + 0 = omega arith in
     record {
       tree = Conditional a c t;
       is = rw b refl;
-      code_is = ap (λ n. skipping (parser.start - 1) n code) skip ∙ done ∙ ap (λ n. before (jump_instruction n ∷ program 0 t)) none;
+      code_is = ap (λ n. skipping (parser.start - 1) n parser.code) skip ∙ done ∙ ap (λ n. before (jump_instruction n ∷ program 0 t)) none;
       start_is = refl;
     }
 completes k WaitOpen below t parser h fits b = absurd cc
@@ -239,21 +223,22 @@ first-operand parser stack t code start h at is =
     }
 
 -- what an operand begins to wait for, with the instructions `after` it
-pub waits : (parser : Held) (stack : List Waiting) (t : Tree) (w : Waiting) (after code : List Instruction) (entry : Pending) (start : ℕ) → IsOperand parser stack t → length parser.code ≤ 4096 → code ≡ parser.code ++ after → waiting_then (w ∷ stack) [] ≡ waiting_then stack (program_then 0 t after) → entry ≡ pending (parser.start % 4096) w → IsWaiting (record { code = code; entries = entry ∷ parser.entries; start = start }) (w ∷ stack)
+pub waits : (parser : Held) (stack : List Waiting) (t : Tree) (w : Waiting) (after code : List Instruction) (entry : Pending) (start : ℕ) → IsOperand parser stack t → length parser.code ≤ 4096 → code ≡ begun parser.start parser.code ++ after → waiting_then (w ∷ stack) [] ≡ waiting_then stack (program_then 1 t after) → entry ≡ pending (parser.start % 4096) w → IsWaiting (record { code = code; entries = entry ∷ parser.entries; start = start }) (w ∷ stack)
 waits parser stack t w after code entry start h fits is waiting is' =
     let xs = waiting_then stack [] in
     let inside : start_after stack < 4096 =
     omega (arith, fits, ap length h.code_is, ap length (waiting-append stack [] (program 0 t)), length-append xs (program 0 t), length-program t 0 [], size-some t) in
     let place : parser.start % 4096 ≡ start_after stack = grind (arith, inside, h.start_is) in
     record {
-      code_is = is ∙ ap (λ p. p ++ after) h.code_is ∙ waiting-append stack (program 0 t) after ∙ ap (waiting_then stack) (program-append t 0 [] after) ∙ sym waiting;
+      code_is = is ∙ ap (λ p. p ++ after) (begun-operand stack t parser.code parser.start h.code_is h.start_is fits)
+          ∙ waiting-append stack (program 1 t) after ∙ ap (waiting_then stack) (program-append t 1 [] after) ∙ sym waiting;
       entries_are = ap (λ e. e ∷ parser.entries) (is' ∙ ap (λ i. pending i w) place) ∙ ap (λ es. pending (start_after stack) w ∷ es) h.entries_are;
     }
 
 -- `:` after an operand, where `?` waits for it
 pub answers-colon : (parser : Held) (first start : ℕ) (rest : List Pending) (stack : List Waiting) (t : Tree) (code : List Instruction) (entries : List Pending) → IsOperand parser stack t → parser.entries ≡ QuestionPending first ∷ rest → code ≡ skipping (parser.start - 1) (length parser.code - parser.start + 1) parser.code ++ jump_instruction 0 ∷ [] → entries ≡ ColonPending first ∷ rest → Answers (at_colon stack t) (Some false) (record { code = code; entries = entries; start = start })
 answers-colon parser first start rest (WaitQuestion a ∷ below) t code entries h e is is' =
-    let before = λ (ys : List Instruction). waiting_then below (program_then 0 a ys) in
+    let before = λ (ys : List Instruction). waiting_then below (program_then 1 a ys) in
     let done = skips before (λ ys. sym (simp (waiting-append, program-append))) (choose_instruction 0) t parser.code parser.start 1 h.code_is h.start_is in
     let same = sym e ∙ h.entries_are in
     (refl, record { code_is = is ∙ ap (λ p. p ++ jump_instruction 0 ∷ []) done ∙ simp (waiting-append, program-append); entries_are = cc })

@@ -14,7 +14,7 @@ use Rattle.plural_rule.specs.declared.instruction.Action.TheVariants.{Binary as 
 use Rattle.plural_rule.specs.Instruction.{operator_of-code, action_of, count_instruction, number_instruction, wide_instruction, low_instruction, not_instruction, binary_instruction, branch_instruction, choose_instruction, jump_instruction, begins}
 use Rattle.plural_rule.specs.Expression.{Tree, Count, Number, Not, Binary, Conditional, nodes, is_zero, needs_right, short_circuit_value, combined, truth, negated, binary_value, chosen, value, visited, visited_right}
 use Rattle.plural_rule.specs.Program.{is_lazy, branch_then, size, program, program_then, length-program, drop-program, low_of}
-use Rattle.plural_rule.specs.Internal.Run.{Next, act, with_value, left_with, left_by, Outcome, outcome, go_on, run}
+use Rattle.plural_rule.specs.Internal.Run.{Next, act, with_value, left_with, left_by, Outcome, outcome, go_on, run, stored}
 
 pub nodes-le-size : (t : Tree) → nodes t ≤ size t
 nodes-le-size Count = omega arith
@@ -193,11 +193,6 @@ fused room n p i x s values e {o} skip taken runs = by e.value runs where
       rw (skip, taken) (run-drop room n (drop i p) 1 (v ∷ values) (s + e.begins) ∙ ap (λ q. run room n q 0 (v ∷ values) (s + e.begins)) (drop-drop 1 i p)
       ∙ sym (none-begins room n (drop (i + 1) p) 0 (v ∷ values) (s + e.begins)) ∙ runs)
 
--- the first `len` values of an array, last first
-abbrev pub stored : List ℕ → ℕ → List ℕ
-stored stack zero = []
-stored stack (suc k) = get_or stack k 0 ∷ stored stack k
-
 length-stored : (stack : List ℕ) (k : ℕ) → length (stored stack k) ≡ k
 length-stored stack zero = refl
 length-stored stack (suc k) = omega (arith, length-stored stack k)
@@ -211,18 +206,9 @@ stored-set stack zero i y h = refl
 stored-set stack (suc k) i y h =
     rw (get_or-set_other stack i k y 0 (λ e. omega arith), stored-set stack k i y (omega arith)) refl
 
--- the values after an instruction that takes some and adds one, once the newest is written to the array
-pub stored-after : (stack : List ℕ) (len newest taken : ℕ) → 1 ≤ len → len < length stack → taken ≤ 2 → drop taken (newest ∷ stored stack len) ≡ stored (set stack len newest) (len + 1 - taken)
-stored-after stack len newest zero some inside few =
-    let more : suc len ≡ len + 1 - 0 = omega arith in
-    sym (rw (get_or-set_same stack len newest 0 inside, stored-set stack len len newest (omega arith)) refl) ∙ ap (stored (set stack len newest)) more
-stored-after stack len newest (suc zero) some inside few =
-    let same : len ≡ len + 1 - 1 = omega arith in
-    sym (stored-set stack len len newest (omega arith)) ∙ ap (stored (set stack len newest)) same
-stored-after stack len newest (suc (suc zero)) some inside few =
-    let less : len - 1 ≡ len + 1 - 2 = omega arith in
-    ap (drop 1) (stored-cons stack len some) ∙ sym (stored-set stack (len - 1) len newest (omega arith)) ∙ ap (stored (set stack len newest)) less
-stored-after stack len newest (suc (suc (suc taken))) some inside few = absurd (omega arith)
+pub stored-more : (stack : List ℕ) (len y : ℕ) → len < length stack → stored (set stack len y) (len + 1) ≡ y ∷ stored stack len
+stored-more stack len y inside =
+    ap (stored (set stack len y)) (add-one len) ∙ rw (get_or-set_same stack len y 0 inside, stored-set stack len len y (omega arith)) refl
 
 -- before an instruction there are two values, and there is room for another one
 pub record Ready (room len : ℕ) : Type 0 where

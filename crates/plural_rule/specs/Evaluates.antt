@@ -2,9 +2,8 @@
 -- quotient and a remainder by 0 have no case.
 -- GNU gettext manual, "Plural forms"; C standard, "Expressions", over unsigned numbers of 64 bits.
 use Rattle.std.specs.Prelude.{◌≡◌, ◌≢◌, ℕ, ◌+◌, ◌-◌, ◌*◌, ◌/◌, ◌%◌, ◌^◌, ◌<◌, ◌≤◌}
-use Rattle.plural_rule.specs.declared.operator.Operator.TheVariants.{Or, And, Equal, NotEqual, Less, Greater, AtMost}
-use Rattle.plural_rule.specs.declared.operator.Operator.TheVariants.{AtLeast, Add, Subtract, Multiply, Divide}
-use Rattle.plural_rule.specs.declared.operator.Operator.TheVariants.{Remainder}
+use Rattle.plural_rule.specs.declared.operator.Operator.TheVariants.{Or, And, Equal, NotEqual, Less, Greater, Remainder}
+use Rattle.plural_rule.specs.declared.operator.Operator.TheVariants.{AtMost, AtLeast, Add, Subtract, Multiply, Divide}
 use Rattle.plural_rule.specs.Expression.{Tree, Count, Number, Not, Binary, Conditional}
 
 -- at the count n the expression has the value

@@ -4,9 +4,8 @@
 use Rattle.std.specs.Prelude.{ℕ, ◌+◌, ◌-◌, ◌*◌, ◌/◌, ◌%◌, ◌^◌, Bool, true, false, not, nat_lt, nat_le, ◌==◌, Option}
 use Rattle.std.specs.Prelude.{Some, None, option_and_then, if◌then◌else◌}
 use Rattle.plural_rule.specs.declared.operator.Operator.{Operator}
-use Rattle.plural_rule.specs.declared.operator.Operator.TheVariants.{Or, And, Equal, NotEqual, Less, Greater, AtMost}
-use Rattle.plural_rule.specs.declared.operator.Operator.TheVariants.{AtLeast, Add, Subtract, Multiply, Divide}
-use Rattle.plural_rule.specs.declared.operator.Operator.TheVariants.{Remainder}
+use Rattle.plural_rule.specs.declared.operator.Operator.TheVariants.{Or, And, Equal, NotEqual, Less, Greater, Remainder}
+use Rattle.plural_rule.specs.declared.operator.Operator.TheVariants.{AtMost, AtLeast, Add, Subtract, Multiply, Divide}
 
 -- an expression: `n`, for which the count stands, a numeral, `!a`, an operator with two operands,
 -- or `a ? b : c`

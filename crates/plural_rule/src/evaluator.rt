@@ -7,7 +7,7 @@ ghost use Rattle.plural_rule.specs.Instruction.{action_of};
 ghost use Rattle.plural_rule.specs.Expression.{nodes, value, visited};
 ghost use Rattle.plural_rule.specs.PluralRule.{expression_limit};
 ghost use Rattle.plural_rule.specs.Program.{program, tree_of, low_of};
-ghost use Rattle.plural_rule.specs.Internal.Run.{act, Go, left_by, go_on, run, Outcome, outcome};
+ghost use Rattle.plural_rule.specs.Internal.Run.{act, Go, left_by, go_on, run, stored, Outcome, outcome};
 
 use crate::instruction::{Action, Instruction};
 use crate::operator::{Operator, truth};
@@ -77,12 +77,29 @@ fn evaluate_within<const N: usize>(instructions: &[Instruction], count: u64) -> 
         let Some(value) = effect.value else {
             return (None, steps);
         };
-        stack[len] = newest;
+        len = keep(&mut stack, len, newest, effect.taken);
         newest = value;
-        len = len + 1 - effect.taken;
         index = index + 1 + effect.skip as usize;
     }
     (Some(newest), steps)
+}
+
+/// Keeps the values before the newest, where an instruction takes some and adds one: how many there are.
+#[inline(always)]
+fn keep<const N: usize>(stack: &mut [u64; N], len: usize, newest: u64, taken: usize) -> usize
+    requires some { 1 ≤ len }
+    requires room { len < N }
+    requires taken { taken ≤ 2 }
+    ensures { stored stack.new result ≡ drop taken (newest ∷ stored stack.old len) }
+{
+    match taken {
+        0 => {
+            stack[len] = newest;
+            len + 1
+        }
+        1 => len,
+        _ => len - 1,
+    }
 }
 
 /// What the instruction at an index does, where these are the newest values, and with it an operator

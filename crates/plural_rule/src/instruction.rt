@@ -8,7 +8,7 @@ use crate::operator::Operator;
 ///
 /// What isn't named below is 0.
 #[repr(C)]
-#[derive(Clone, Copy, Debug, Default, Drop)]
+#[derive(Clone, Copy, Default, Drop)]
 pub struct Instruction {
     /// 0 for `n`, the count that the rule is asked for; 1 for a numeral below 2^32; 2 for the high
     /// half of another one, whose low half is in the next instruction; 3 for `!`, and 4 for an

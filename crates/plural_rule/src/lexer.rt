@@ -1,9 +1,8 @@
 //! The tokens of an expression's text, and the numerals and blanks of a header text.
 ghost use Rattle.std.specs.Prelude.{◌≡◌, ◌^◌, ◌<◌, ◌≤◌, [], ◌∷◌, length, take_while, slice_index, MatchOption, SomeIff, true, false};
-ghost use Rattle.std.specs.List.{prefix_len};
 ghost use Rattle.std.specs.Str.Parse.{AllDigits, digits_value};
 ghost use Rattle.std.specs.Char.{is_ascii_digit};
-ghost use Rattle.plural_rule.specs.Tokens.{is_blank, operator_bytes, IsSpelling};
+ghost use Rattle.plural_rule.specs.Tokens.{is_blank, IsSpelling};
 ghost use Rattle.plural_rule.specs.Header.{without_blanks};
 ghost use Rattle.plural_rule.specs.Internal.Scanner.{IsTokenAt, HasNoToken, BeginsWithDouble, HasNoDouble};
 
@@ -17,45 +16,29 @@ fn is_blank(byte: u8) -> bool
     byte == b' ' || byte == b'\t'
 }
 
-/// How many blanks the text begins with.
-fn leading_blank_count(text: &[u8]) -> usize
-    ensures count { result ≡ prefix_len is_blank text.now }
-    ensures within { result ≤ length text.now }
-{
-    for (index, byte) in text.iter().enumerate() {
-        if !is_blank(*byte) {
-            return index;
-        }
-    }
-    text.len()
-}
-
-/// How many decimal digits the text begins with.
-fn leading_digit_count(text: &[u8]) -> usize
-    ensures count { result ≡ prefix_len is_ascii_digit text.now }
-    ensures within { result ≤ length text.now }
-{
-    for (index, byte) in text.iter().enumerate() {
-        if !byte.is_ascii_digit() {
-            return index;
-        }
-    }
-    text.len()
-}
-
 /// The text without the spaces and TABs at its beginning.
 pub(crate) fn without_blanks(text: &[u8]) -> &[u8]
     ensures value { result.now ≡ without_blanks text.now }
     ensures shorter { length result.now ≤ length text.now }
 {
-    &text[leading_blank_count(text)..]
+    for (index, byte) in text.iter().enumerate() {
+        if !is_blank(*byte) {
+            return &text[index..];
+        }
+    }
+    &text[text.len()..]
 }
 
 /// The decimal digits at the beginning of the text.
 pub(crate) fn leading_digits(text: &[u8]) -> &[u8]
     ensures { result.now ≡ take_while is_ascii_digit text.now }
 {
-    &text[..leading_digit_count(text)]
+    for (index, byte) in text.iter().enumerate() {
+        if !byte.is_ascii_digit() {
+            return &text[..index];
+        }
+    }
+    text
 }
 
 /// The number that decimal digits spell, or `None` where it is 2^64 or more.
@@ -111,20 +94,10 @@ fn numeral(text: &[u8]) -> Option<(Token, usize)>
 fn double_at(text: &[u8]) -> Option<Operator>
     ensures { MatchOption result (HasNoDouble text.now) (λ op. BeginsWithDouble text.now op) }
 {
-    if text.len() > 1 {
-        double(text[0], text[1])
-    } else {
-        None
+    if text.len() < 2 {
+        return None;
     }
-}
-
-/// The operator that two bytes spell.
-#[inline(always)]
-fn double(first: u8, second: u8) -> Option<Operator>
-    ensures { MatchOption result ((op : Operator) → operator_bytes op ≡ first ∷ second ∷ [] → ⊥)
-        (λ op. operator_bytes op ≡ first ∷ second ∷ []) }
-{
-    match (first, second) {
+    match (text[0], text[1]) {
         (b'|', b'|') => Some(Operator::Or),
         (b'&', b'&') => Some(Operator::And),
         (b'=', b'=') => Some(Operator::Equal),

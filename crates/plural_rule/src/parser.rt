@@ -17,9 +17,8 @@
 //! The instructions stand in memory of the caller, and what waits for an operand in an array of fixed
 //! size, so the machine's stack doesn't grow with the expression.
 ghost use Rattle.std.specs.Prelude.{◌≡◌, ◌≤◌, List, Some, None, true, length, take, MatchBool, OnSome};
-ghost use Rattle.plural_rule.specs.declared.instruction.Instruction.{Instruction};
 ghost use Rattle.plural_rule.specs.Expression.{Tree};
-ghost use Rattle.plural_rule.specs.Internal.ShiftReduce.{Waiting, State, reduce, want_step, have_step, at_colon, at_close, step, finish};
+ghost use Rattle.plural_rule.specs.Internal.ShiftReduce.{Waiting, State, reduce, want_step, have_step, step, finish};
 ghost use Rattle.plural_rule.specs.Internal.ParserState.{held, IsWaiting, IsOperand, Represents, Answers, HoldsTree, HoldsExpression, HasRoom, Grows, most_added};
 ghost use Rattle.plural_rule.specs.Grammar.{Spelt};
 ghost use Rattle.plural_rule.specs.PluralRule.{expression_limit};
@@ -27,7 +26,7 @@ ghost use Rattle.plural_rule.specs.PluralRule.{expression_limit};
 use crate::instruction::Instruction;
 use crate::lexer;
 use crate::operator::Operator;
-use crate::parts::{Parser, Room, complete, push, push_branch, push_numeral, skip_operand};
+use crate::parts::{Parser, Room, begin, complete, push, push_branch, push_numeral, skip_operand};
 use crate::pending::{Pending, Stack};
 use crate::token::Token;
 
@@ -99,47 +98,34 @@ fn take_operator<const N: usize>(
     reduce(room, parser, token.closing_level());
     match token {
         Token::Binary(operator) => {
+            begin(room, parser.len, parser.start);
             push_branch(room, &mut parser.len, operator);
             parser.waiting.push(Pending::Binary(operator, parser.start));
             Some(false)
         }
         Token::Question => {
+            begin(room, parser.len, parser.start);
             push(room, &mut parser.len, Instruction::CHOOSE);
             parser.waiting.push(Pending::Question(parser.start));
             Some(false)
         }
-        Token::Colon => take_colon(room, parser),
-        Token::Close => take_close(parser),
+        Token::Colon => {
+            let Some(Pending::Question(first)) = parser.waiting.pop() else {
+                return None;
+            };
+            skip_operand(room, parser.len, parser.start, 1);
+            push(room, &mut parser.len, Instruction::JUMP);
+            parser.waiting.push(Pending::Colon(first));
+            Some(false)
+        }
+        Token::Close => {
+            let Some(Pending::Open) = parser.waiting.pop() else {
+                return None;
+            };
+            Some(true)
+        }
         _ => None,
     }
-}
-
-/// Reads `:` after an operand, where nothing binds it but `(` and `?`.
-fn take_colon<const N: usize>(room: &mut Room, parser: &mut Parser<'_, N>) -> Option<bool>
-    requires room { HasRoom parser.old 1 1 }
-    ensures step { (waiting : List Waiting) (tree : Tree) → IsOperand (held room.old parser.old) waiting tree →
-        Answers (at_colon waiting tree) result (held room.new parser.new) }
-    ensures room { OnSome result (Grows parser.old parser.new 1 1) }
-{
-    let Some(Pending::Question(first)) = parser.waiting.pop() else {
-        return None;
-    };
-    skip_operand(room, parser.len, parser.start, 1);
-    push(room, &mut parser.len, Instruction::JUMP);
-    parser.waiting.push(Pending::Colon(first));
-    Some(false)
-}
-
-/// Reads `)` after an operand, where nothing binds it but `(` and `?`.
-fn take_close<const N: usize>(parser: &mut Parser<'_, N>) -> Option<bool>
-    ensures step { (code : List Instruction) (waiting : List Waiting) (tree : Tree) → IsOperand (held code parser.old) waiting tree →
-        Answers (at_close waiting tree) result (held code parser.new) }
-    ensures room { OnSome result (Grows parser.old parser.new 0 0) }
-{
-    let Some(Pending::Open) = parser.waiting.pop() else {
-        return None;
-    };
-    Some(true)
 }
 
 /// Reads a token: whether an operand is complete after it, or `None` where the token can't stand
@@ -173,7 +159,7 @@ fn finish<const N: usize>(room: &mut Room, parser: &mut Parser<'_, N>, complete:
         return false;
     }
     reduce(room, parser, 0);
-    parser.waiting.is_empty()
+    parser.waiting.pop().is_none()
 }
 
 /// Whether a text spells an expression, whose program is then the first `len` instructions of `room`.

@@ -1,7 +1,7 @@
 //! What the parser holds: the instructions so far, and what waits for an operand.
 ghost use Rattle.std.specs.Prelude.{◌≡◌, ◌+◌, ◌-◌, ◌<◌, ◌≤◌, [], ◌∷◌, ◌++◌, length, take};
-ghost use Rattle.plural_rule.specs.Internal.ParserState.{begun, skipping, completed_program};
-ghost use Rattle.plural_rule.specs.Internal.Pending.{first_of, weight_of};
+ghost use Rattle.plural_rule.specs.Internal.ParserState.{begun, skipping, completed_program, first_of};
+ghost use Rattle.plural_rule.specs.Internal.Pending.{weight_of};
 ghost use Rattle.plural_rule.specs.PluralRule.{expression_limit};
 ghost use Rattle.plural_rule.specs.Program.{numeral_then, branch_then};
 
@@ -114,8 +114,7 @@ pub(crate) fn push_numeral(room: &mut Room, len: &mut usize, value: u64) -> u16
     index
 }
 
-/// Completes what waits for the last operand, which begins at `start`: where the new one begins, and
-/// one more node with it.
+/// Completes what waits for the last operand, which begins at `start`: where the new one begins.
 #[inline(always)]
 pub(crate) fn complete(room: &mut Room, len: &mut usize, start: u16, top: Pending) -> u16
     requires { len.old + weight_of top ≤ expression_limit }
@@ -123,20 +122,24 @@ pub(crate) fn complete(room: &mut Room, len: &mut usize, start: u16, top: Pendin
     ensures start { result ≡ first_of top start }
     ensures len { len.new ≤ len.old + weight_of top }
 {
-    let first = top.first_of(start);
-    begin(room, *len, first);
     match top {
         Pending::Not => {
+            begin(room, *len, start);
             push(room, len, Instruction::NOT);
+            start
         }
-        Pending::Binary(operator, _) => {
+        Pending::Binary(operator, first) => {
             if operator.is_lazy() {
                 skip_operand(room, *len, start, 1);
             }
             push(room, len, Instruction::binary(operator));
+            first
         }
-        Pending::Colon(_) => skip_operand(room, *len, start, 0),
-        _ => {}
+        Pending::Colon(first) => {
+            skip_operand(room, *len, start, 0);
+            first
+        }
+        Pending::Question(first) => first,
+        Pending::Open => start,
     }
-    first
 }

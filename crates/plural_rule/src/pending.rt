@@ -1,7 +1,7 @@
 //! What waits for its last operand while an expression is read.
-ghost use Rattle.std.specs.Prelude.{◌≡◌, ◌<◌, ◌≤◌, [], ◌∷◌, length, ◌==◌, MatchOption};
+ghost use Rattle.std.specs.Prelude.{◌≡◌, ◌<◌, ◌≤◌, [], ◌∷◌, length, MatchOption};
 ghost use Rattle.plural_rule.specs.PluralRule.{expression_limit};
-ghost use Rattle.plural_rule.specs.Internal.Pending.{binds, first_of, pending_of, within};
+ghost use Rattle.plural_rule.specs.Internal.Pending.{binds, pending_of, within};
 
 use crate::operator::Operator;
 use std::marker::Model;
@@ -31,16 +31,6 @@ impl Pending {
             Pending::Binary(operator, _) => next_level <= operator.level(),
             Pending::Colon(_) => next_level == 0,
             Pending::Open | Pending::Question(_) => false,
-        }
-    }
-
-    /// Where the operand begins that it makes of one that begins at `start`.
-    pub(crate) fn first_of(self, start: u16) -> u16
-        ensures { result ≡ first_of self start }
-    {
-        match self {
-            Pending::Binary(_, first) | Pending::Question(first) | Pending::Colon(first) => first,
-            Pending::Open | Pending::Not => start,
         }
     }
 
@@ -106,13 +96,6 @@ impl<'s, const N: usize> Stack<'s, N> {
         ensures { result ≡ [] }
     {
         Stack { codes, count: 0 }
-    }
-
-    /// Whether nothing waits.
-    pub(crate) fn is_empty(&self) -> bool
-        ensures { result ≡ (length self.now == 0) }
-    {
-        self.count == 0
     }
 
     /// Adds to what waits, with an index below 4,096.

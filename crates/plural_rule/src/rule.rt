@@ -52,7 +52,7 @@ pub struct Rule {
 }
 
 /// A plural rule whose program stands in memory of the caller.
-#[derive(Clone, Copy, Debug, PartialEq, Eq, Drop)]
+#[derive(Clone, Copy, Drop)]
 pub struct ParsedRule {
     /// Where the rule comes from.
     pub source: Source,

@@ -15,7 +15,7 @@ use Rattle.plural_rule.specs.Instruction.{count_instruction, not_instruction, bi
 use Rattle.plural_rule.specs.Instruction.{jump_instruction}
 use Rattle.plural_rule.specs.PluralRule.{IsReadable, expression_limit}
 use Rattle.plural_rule.specs.Program.{program, program_then, size, is_lazy, branch_then}
-use Rattle.plural_rule.specs.Internal.Pending.{first_of, weight}
+use Rattle.plural_rule.specs.Internal.Pending.{weight}
 use Rattle.plural_rule.specs.Internal.ShiftReduce.{Waiting, WaitNot, WaitOpen, WaitBinary, WaitQuestion, WaitColon, State, Want}
 use Rattle.plural_rule.specs.Internal.ShiftReduce.{Have}
 
@@ -23,10 +23,10 @@ use Rattle.plural_rule.specs.Internal.ShiftReduce.{Have}
 -- yet
 abbrev pub waiting_then : List Waiting → List Instruction → List Instruction
 waiting_then [] rest = rest
-waiting_then (WaitBinary op a ∷ stack) rest = waiting_then stack (program_then 0 a (branch_then op 0 rest))
-waiting_then (WaitQuestion a ∷ stack) rest = waiting_then stack (program_then 0 a (choose_instruction 0 ∷ rest))
+waiting_then (WaitBinary op a ∷ stack) rest = waiting_then stack (program_then 1 a (branch_then op 0 rest))
+waiting_then (WaitQuestion a ∷ stack) rest = waiting_then stack (program_then 1 a (choose_instruction 0 ∷ rest))
 waiting_then (WaitColon a b ∷ stack) rest =
-    waiting_then stack (program_then 0 a (choose_instruction (size b + 1) ∷ program_then 0 b (jump_instruction 0 ∷ rest)))
+    waiting_then stack (program_then 1 a (choose_instruction (size b + 1) ∷ program_then 0 b (jump_instruction 0 ∷ rest)))
 waiting_then (w ∷ stack) rest = waiting_then stack rest
 
 -- what waits, as the parser's stack has it, whose instructions begin at an index
@@ -96,16 +96,19 @@ with_skip skip i = record { kind = i.kind; operator = i.operator; count = skip; 
 abbrev pub skipping : ℕ → ℕ → List Instruction → List Instruction
 skipping index skip code = edited (with_skip skip) index code
 
--- the instructions once an operand completes what waits, with which one more node then begins
-abbrev pub completed_after : Pending → ℕ → List Instruction → List Instruction
-completed_after NotPending start code = code ++ not_instruction ∷ []
-completed_after (BinaryPending op first) start code =
-    (if is_lazy op then skipping (start - 1) (length code - start + 1) code else code) ++ binary_instruction op ∷ []
-completed_after (ColonPending first) start code = skipping (start - 1) (length code - start) code
-completed_after _ start code = code
-
+-- the instructions once an operand completes what waits, and where the new operand begins
 abbrev pub completed_program : Pending → ℕ → List Instruction → List Instruction
-completed_program top start code = completed_after top start (begun (first_of top start) code)
+completed_program NotPending start code = begun start code ++ not_instruction ∷ []
+completed_program (BinaryPending op first) start code =
+    (if is_lazy op then skipping (start - 1) (length code - start + 1) code else code) ++ binary_instruction op ∷ []
+completed_program (ColonPending first) start code = skipping (start - 1) (length code - start) code
+completed_program _ start code = code
+
+abbrev pub first_of : Pending → ℕ → ℕ
+first_of (BinaryPending op first) start = first
+first_of (QuestionPending first) start = first
+first_of (ColonPending first) start = first
+first_of _ start = start
 
 -- how many instructions a token adds at most
 abbrev pub most_added : Token → ℕ

@@ -32,13 +32,6 @@ binds k (BinaryPending op first) = nat_le k (level op)
 binds k (ColonPending first) = k == 0
 binds k _ = false
 
--- where the operand begins that it makes of one that begins at `start`
-abbrev pub first_of : Pending → ℕ → ℕ
-first_of (BinaryPending op first) start = first
-first_of (QuestionPending first) start = first
-first_of (ColonPending first) start = first
-first_of _ start = start
-
 -- how many instructions are added for what waits once it is complete
 abbrev pub weight_of : Pending → ℕ
 weight_of NotPending = 1

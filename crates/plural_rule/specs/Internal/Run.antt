@@ -1,5 +1,5 @@
 -- Internal: a program that runs.
-use Rattle.std.specs.Prelude.{ℕ, zero, suc, ◌+◌, ◌*◌, ◌^◌, nat_lt, List, [], ◌∷◌, length, drop, Option, Some, None}
+use Rattle.std.specs.Prelude.{ℕ, zero, suc, ◌+◌, ◌*◌, ◌^◌, nat_lt, List, [], ◌∷◌, length, drop, slice_index_or, Option, Some, None}
 use Rattle.std.specs.Prelude.{if◌then◌else◌}
 use Rattle.plural_rule.specs.declared.evaluator.Effect.{Effect}
 use Rattle.plural_rule.specs.declared.instruction.Instruction.{Instruction}
@@ -48,20 +48,21 @@ pub record Outcome : Type 0 where
 abbrev pub outcome : Tree → ℕ → Outcome
 outcome tree n = record { value = value tree n; steps = visited tree n }
 
-abbrev pub newest_value : List ℕ → Option ℕ
-newest_value [] = None
-newest_value (v ∷ values) = Some v
-
 abbrev pub go_on : (ℕ → List ℕ → ℕ → Option Outcome) → ℕ → Next → Option Outcome
 go_on go steps (Go skip values begins) = go skip values (steps + begins)
 go_on go steps (Undefined begins) = Some (record { value = None; steps = steps + begins })
 
--- the outcome of a program at a count, from that behind `skip` instructions on; none where there aren't two
--- values before an instruction, or no room for another one besides the newest
+-- the outcome of a program at a count, from that behind `skip` instructions on; none where there is no
+-- value at the end, or before an instruction there aren't two or no room for one besides the newest
 abbrev pub run : ℕ → ℕ → List Instruction → ℕ → List ℕ → ℕ → Option Outcome
-run room n [] skip values steps = Some (record { value = newest_value values; steps = steps })
+run room n [] skip (y ∷ older) steps = Some (record { value = Some y; steps = steps })
 run room n (i ∷ rest) (suc skip) values steps = run room n rest skip values steps
 run room n (i ∷ rest) zero (y ∷ x ∷ older) steps =
-    if nat_lt (1 + length older) room then go_on (run room n rest) steps (act n (action_of i) (low_of rest) (y ∷ x ∷ older))
-    else None
-run room n (i ∷ rest) zero values steps = None
+    if nat_lt (1 + length older) room
+    then go_on (run room n rest) steps (act n (action_of i) (low_of rest) (y ∷ x ∷ older)) else None
+run room n p skip values steps = None
+
+-- the first `len` values of an array, last first
+abbrev pub stored : List ℕ → ℕ → List ℕ
+stored stack zero = []
+stored stack (suc k) = slice_index_or stack k 0 ∷ stored stack k

@@ -1,8 +1,8 @@
-use Rattle.std.proofs.Common.{◌+◌, ◌-◌, ◌∷◌, length, drop, ap, ◌∙◌, sym, arith, length-drop, rules, ◌<◌}
-use Rattle.std.proofs.lemmas.List.{drop_all, length-replicate}
+use Rattle.std.proofs.Common.{◌+◌, ◌-◌, ◌∷◌, length, drop, ap, ◌∙◌, sym, arith, length-drop, ◌<◌}
+use Rattle.std.proofs.lemmas.List.{drop_all}
 use Rattle.plural_rule.specs.Program.{tree_of}
-use Rattle.plural_rule.specs.Internal.Run.{run}
-use Rattle.plural_rule.proofs.Programs.{stored, stored-cons, stored-after, starts, skips, ready}
+use Rattle.plural_rule.specs.Internal.Run.{run, stored}
+use Rattle.plural_rule.proofs.Programs.{stored-cons, starts, skips, ready}
 use Rattle.plural_rule.proofs.evaluator.evaluate_within.Goals as goal
 
 pub loop-index-init : goal.loop-index-init
@@ -10,7 +10,6 @@ loop-index-init g c = record {
   runs = starts g.row.N c.args.count _ _ c.args.instructions.now (tree_of c.args.instructions.now) c.requires.program c.requires.room;
   some = λ h. omega arith;
   inside = λ h. omega (arith, c.requires.room);
-  size = length-replicate g.row.N 0;
   bound = omega arith;
 }
 
@@ -30,15 +29,13 @@ loop-index-preserved g c =
     let some = loop.invariant.some c.loop-index-test.true in
     let before = ap (λ vs. run g.row.N c.args.count (drop loop.index code) 0 (loop.newest ∷ vs) loop.steps) (sym (stored-cons loop.stack loop.len some)) ∙ loop.invariant.runs in
     let on = rw c.in-Some.is at (c.step-effect.ensures.next g.row.N (stored loop.stack (loop.len - 1)) loop.steps _ before) in
-    let values = stored-after loop.stack loop.len loop.newest e.taken some (rw (← loop.invariant.size) at (loop.invariant.inside c.loop-index-test.true)) c.step-effect.ensures.taken in
-    let runs = ap (λ vs. run g.row.N c.args.count (drop (i + e.skip) code) 0 (c.in-Some.value ∷ vs) (loop.steps + e.begins)) (sym values ∙ ap (λ vs. drop e.taken (loop.newest ∷ vs)) (stored-cons loop.stack loop.len some))
+    let runs = ap (λ vs. run g.row.N c.args.count (drop (i + e.skip) code) 0 (c.in-Some.value ∷ vs) (loop.steps + e.begins)) (c.keep-len.ensures ∙ ap (λ vs. drop e.taken (loop.newest ∷ vs)) (stored-cons loop.stack loop.len some))
     ∙ skips g.row.N c.args.count code i e.skip _ _ on in
     let there = λ (h : i + e.skip < length code). ready g.row.N c.args.count (drop (i + e.skip) code) _ _ _ _ (omega (arith, h, length-drop (i + e.skip) code)) runs in
     record {
       runs = runs;
       some = λ h. (there h).some;
       inside = λ h. (there h).inside;
-      size = search rules;
       bound = omega (arith, loop.invariant.bound);
     }
 

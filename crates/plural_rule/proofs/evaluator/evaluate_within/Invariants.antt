@@ -1,7 +1,6 @@
 use Rattle.std.proofs.Common.{◌≡◌, ◌-◌, ◌*◌, ◌^◌, ◌<◌, ◌≤◌, ◌∷◌, length, drop, Some}
 use Rattle.plural_rule.specs.Program.{tree_of}
-use Rattle.plural_rule.specs.Internal.Run.{run, outcome}
-use Rattle.plural_rule.proofs.Programs.{stored}
+use Rattle.plural_rule.specs.Internal.Run.{run, stored, outcome}
 use Rattle.plural_rule.proofs.evaluator.evaluate_within.Given as goal
 
 abbrev pub invariant-loop-index : goal.invariant-loop-index
@@ -9,7 +8,6 @@ invariant-loop-index g l = record {
   runs : run g.row.N l.count (drop l.index l.instructions) 0 (l.newest ∷ stored l.stack l.len) l.steps ≡ Some (outcome (tree_of l.instructions) l.count);
   some : l.index < length l.instructions → 1 ≤ l.len;
   inside : l.index < length l.instructions → l.len < g.row.N;
-  size : length l.stack ≡ g.row.N;
   bound : l.steps ≤ 2 ^ 16 * l.index;
 }
 
