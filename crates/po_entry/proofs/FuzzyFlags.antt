@@ -1,11 +1,12 @@
 -- Where an entry's comments make it fuzzy, and which charsets are admitted.
-use Rattle.std.proofs.Common.{◌≡◌, ◌↔◌, ℕ, ◌<◌, Bool, true, false, ◌||◌, List, [], ◌∷◌, refl, sym, ap, ◌∙◌, subst, map, suc, zero, get_or, codes, arith}
+use Rattle.std.proofs.Common.{◌≡◌, ◌↔◌, ℕ, ◌<◌, Bool, true, false, ◌||◌, List, [], ◌∷◌, refl, sym, ap, ◌∙◌, subst, map, suc, zero, get_or, codes, bytes_eq, arith}
 use Rattle.std.specs.Prelude.{All, Contains, Decides}
 use Rattle.std.specs.List.{list_any}
 use Rattle.std.specs.Char.{to_ascii_lowercase}
 use Rattle.std.proofs.lemmas.Bool.{false≢true, or_left, or_right}
-use Rattle.std.proofs.lemmas.List.Folds.{list_any-append}
-use Rattle.std.proofs.lemmas.List.Elements.{All-nil, All-cons, All-contains, All-weaker}
+use Rattle.std.proofs.lemmas.List.Folds.{list_any-append, list_any_at}
+use Rattle.std.proofs.lemmas.List.Elements.{All-nil, All-cons, All-weaker}
+use Rattle.std.proofs.lemmas.Map.Views.{Contains-from_any}
 use Rattle.std.proofs.lemmas.Slice.Eq.{bytes_eq-Decides}
 use Rattle.po_syntax.specs.declared.item.CommentKind.{CommentKind}
 use Rattle.po_syntax.specs.declared.item.CommentKind.TheVariants.{Translator, Extracted, Reference, Flags}
@@ -24,19 +25,10 @@ module _ {X : Type 0} (p : X → Bool) where
       (All-weaker (λ y. p y ≡ true → list_any p xs ≡ true) (λ y. p y ≡ true → (p x || list_any p xs) ≡ true) (λ y c h. or_right (p x) (list_any p xs) (c h)) xs (any_passing xs))
 
 fuzzy_among : (flags : List (List ℕ)) → list_any is_fuzzy_flag flags ≡ true → Contains flags (codes "fuzzy")
-fuzzy_among [] h = absurd (false≢true h)
-fuzzy_among (flag ∷ flags) h = found (is_fuzzy_flag flag) refl h (fuzzy_among flags) where
-  found : (b : Bool) → is_fuzzy_flag flag ≡ b → (b || list_any is_fuzzy_flag flags) ≡ true → (list_any is_fuzzy_flag flags ≡ true → Contains flags (codes "fuzzy"))
-      → Contains (flag ∷ flags) (codes "fuzzy")
-  found true e g more = (0, omega arith, (bytes_eq-Decides flag (codes "fuzzy")).0 e)
-  found false e g more = let among = more g in let less = among.1 in (suc among.0, omega (arith, less), among.2)
+fuzzy_among flags h = Contains-from_any {eq = λ x y. bytes_eq y x} (λ x y same. sym ((bytes_eq-Decides y x).0 same)) (codes "fuzzy") flags h
 
 among_fuzzy : (flags : List (List ℕ)) → Contains flags (codes "fuzzy") → list_any is_fuzzy_flag flags ≡ true
-among_fuzzy flags h = All-contains (λ y. is_fuzzy_flag y ≡ true → list_any is_fuzzy_flag flags ≡ true) flags (codes "fuzzy") (any_passing is_fuzzy_flag flags) h refl
-
--- the texts of the flag lines, where the first comment is of this kind
-abbrev with_kind : CommentKind → List ℕ → List CommentText → List (List ℕ)
-with_kind kind text after = texts_of Flags (record { kind = kind; text = text } ∷ after)
+among_fuzzy flags h = list_any_at is_fuzzy_flag flags h.0 (codes "fuzzy") h.1 ((bytes_eq-Decides _ (codes "fuzzy")).1 h.2)
 
 lists : (text : List ℕ) → ListsFlags text (listed_flags text)
 lists text = (flags_listed text (listed_flags text)).0 refl

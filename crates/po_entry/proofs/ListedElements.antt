@@ -168,10 +168,10 @@ flags_listed text flags = (λ e. subst (ListsFlags text) (sym e) (list_flags tex
 
 -- the flags that are kept
 
-among_says : (flags : List (List ℕ)) (element : List ℕ) → list_any (bytes_eq element) flags ≡ true → Contains flags element
+pub among_says : (flags : List (List ℕ)) (element : List ℕ) → list_any (bytes_eq element) flags ≡ true → Contains flags element
 among_says flags element e = Contains-from_any {eq = bytes_eq} (λ x y same. (bytes_eq-Decides x y).0 same) element flags e
 
-among_passes : (flags : List (List ℕ)) (element : List ℕ) → Contains flags element → list_any (bytes_eq element) flags ≡ true
+pub among_passes : (flags : List (List ℕ)) (element : List ℕ) → Contains flags element → list_any (bytes_eq element) flags ≡ true
 among_passes flags element h = list_any_at (bytes_eq element) flags h.0 element h.1 ((bytes_eq-Decides element _).1 (sym h.2))
 
 -- a flag is kept exactly where it is named and isn't `fuzzy`

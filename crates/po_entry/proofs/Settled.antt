@@ -1,9 +1,10 @@
 -- It is known of the texts and of the charset of an entry whether they are admitted.
 use Rattle.std.proofs.Common.{◌≢◌, ℕ, List, [], ◌∷◌, Option, Some, None, map, codes, IsUtf8, inl, inr, ◌⊎◌, sym, ◌∙◌, arith}
 use Rattle.std.specs.Prelude.{All, Contains, IfSome, bytes_eq}
+use Rattle.std.specs.List.{list_any}
 use Rattle.std.specs.Str.{is_utf8}
 use Rattle.std.proofs.lemmas.Bool.{cases_Bool, cases_eq, false≢true}
-use Rattle.std.proofs.lemmas.List.Elements.{All-nil, All-cons, All-head, All-tail, Contains-append_cases, Contains-append_left, Contains-append_right, Contains-push, Contains-push_cases}
+use Rattle.std.proofs.lemmas.List.Elements.{All-nil, All-cons, All-head, All-tail}
 use Rattle.std.proofs.lemmas.Slice.Eq.{bytes_eq-Decides}
 use Rattle.std.proofs.lemmas.Str.{IsUtf8-from_is_utf8, is_utf8-from_IsUtf8}
 use Rattle.std.specs.Char.{to_ascii_lowercase}
@@ -12,6 +13,7 @@ use Rattle.po_syntax.specs.declared.fault.PoFault.TheVariants.{NotUtf8, Forbidde
 use Rattle.po_entry.specs.TextEntry.{TextEntry, quoted_texts}
 use Rattle.po_entry.specs.Bytes.{Lacks}
 use Rattle.po_entry.specs.Header.{HasAdmittedCharset, charset_of, first_form, is_header}
+use Rattle.po_entry.proofs.ListedElements.{among_says, among_passes}
 use Rattle.po_entry.specs.Validity.{HasTexts, IsClean, EntryTextFault, not_utf8, forbidden}
 
 -- the claim holds, or it doesn't
@@ -40,16 +42,9 @@ lacks_settled byte text =
     all_settled (λ b. b ≢ byte) (λ b. elim (cases_eq b byte) [ inl same ↦ inr (λ other. other same) | inr other ↦ inl other ]) text
 
 contains_settled : (texts : List (List ℕ)) (text : List ℕ) → Settled (Contains texts text)
-contains_settled [] text = inr (λ h. omega (arith, h.1))
-contains_settled (first ∷ texts) text = elim (cases_Bool (bytes_eq first text)) [
-  | inl is ↦ inl (Contains-append_left (first ∷ []) texts text (rw ((bytes_eq-Decides first text).0 is) (Contains-push [] text)))
-  | inr never ↦ elim (contains_settled texts text) [
-    | inl later ↦ inl (Contains-append_right (first ∷ []) texts text later)
-    | inr none ↦ inr (λ h. elim (Contains-append_cases (first ∷ []) texts text h) [
-      | inl here ↦ elim (Contains-push_cases [] first text here) [ inl before ↦ omega (arith, before.1) | inr same ↦ false≢true (sym never ∙ (bytes_eq-Decides first text).1 same) ]
-      | inr later ↦ none later
-    ])
-  ]
+contains_settled texts text = elim (cases_Bool (list_any (bytes_eq text) texts)) [
+  | inl is ↦ inl (among_says texts text is)
+  | inr never ↦ inr (λ h. false≢true (sym never ∙ among_passes texts text h))
 ]
 
 clean_settled : (entry : TextEntry) → Settled (IsClean entry)
