@@ -30,7 +30,7 @@ IsNotRising order bytes i =
 -- The faults after the magic number, of bytes that are read in this order. The major revision is 0
 -- or 1, and the minor one is anything; a message is named by its index, for `NotSorted` by that of
 -- the later of the two keys. The numbers are whole, so sums of offsets and lengths don't wrap
--- around.
+-- around. `TooShort` and `BadMagic` are none of these.
 abbrev pub HasFaultIn : Order → List ℕ → MoError → Type 0
 HasFaultIn order bytes BadRevision = 1 < revision order bytes / 65536
 HasFaultIn order bytes TableOutside =

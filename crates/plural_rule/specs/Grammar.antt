@@ -13,7 +13,7 @@ use Rattle.plural_rule.specs.declared.token.Token.TheVariants.{Open, Close}
 use Rattle.plural_rule.specs.Expression.{Tree, Count, Number, Not, Binary, Conditional}
 use Rattle.plural_rule.specs.Tokens.{Lexes}
 
--- the level of an operator: the higher, the tighter it binds
+-- the level of an operator: the higher, the tighter it binds; the last line is `*`, `/` and `%`
 abbrev pub level : Operator → ℕ
 level Or = 1
 level And = 2

@@ -52,8 +52,8 @@ pub record IsReadable (limit : ℕ) (header : List ℕ) (nplurals : ℕ) (tree :
   pub spelt : Spelt tree text
 
 -- The reason for the default rule holds of the header: it names no number; a number, and no expression;
--- both, where the expression is past the limit; or both within it, and the number is too large or the
--- expression spells no tree. Of each header at most one does.
+-- both, the expression past the limit; or both, the expression within the limit, and the number is 2^64
+-- or more or the expression spells no tree. Of each header at most one does.
 abbrev pub IsReason : ℕ → List ℕ → Reason → Type 0
 IsReason limit header NoNumber = nplurals_of header ≡ None
 IsReason limit header NoExpression = (nplurals_of header ≢ None) × (expression_of header ≡ None)

@@ -1,5 +1,5 @@
--- Texts that lack a byte, texts without the blanks at their ends, and texts that differ (manual,
--- "The Format of PO Files").
+-- What a text lacks, and what is left of it without the blanks at its ends (manual, "The Format of PO
+-- Files").
 use Rattle.std.specs.Prelude.{◌≢◌, ℕ, List, [], ◌∷◌, All, Contains}
 use Rattle.po_syntax.specs.Blanks.{is_blank, skip_blanks, without_end}
 

@@ -24,8 +24,8 @@ ends_name b = b == 32 || b == 9 || b == 13 || b == 10 || b == 59
 abbrev pub charset_of : List ℕ → List ℕ
 charset_of text = before_first ends_name (after_charset text)
 
--- a charset's name is admitted, whatever the case of its letters: none, UTF-8, ASCII, and the `CHARSET`
--- of a template
+-- a charset's name is admitted, whatever the case of its letters: the empty one, UTF-8, ASCII, and the
+-- `CHARSET` of a template
 abbrev pub IsAdmittedName : List ℕ → Type 0
 IsAdmittedName name =
     Contains ([] ∷ codes "utf-8" ∷ codes "utf8" ∷ codes "us-ascii" ∷ codes "ascii" ∷ codes "charset" ∷ [])

@@ -1,4 +1,4 @@
--- What stands twice in a list, and a table by which numbers that do are found.
+-- What stands twice in a list, and what a table keeps of numbers.
 use Rattle.std.specs.Prelude.{◌≡◌, ◌==◌, ℕ, List, ◌∷◌, ◌++◌, AllPairs, Option, None, Some, get_or, if◌then◌else◌}
 use Rattle.po_messages.specs.declared.repeats.Seen.{Seen}
 

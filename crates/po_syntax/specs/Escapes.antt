@@ -1,5 +1,5 @@
--- What spells a string between double quotes, with a case for each escape (manual, "The Format of
--- PO Files").
+-- What spells a string between double quotes, with a table of the escapes of one letter and a case for
+-- each other (manual, "The Format of PO Files").
 use Rattle.std.specs.Prelude.{◌≡◌, ◌≢◌, ◌⊎◌, ℕ, ◌<◌, ◌≤◌, ◌==◌, List, [], ◌∷◌, ◌++◌, length, Option, Some, option_map}
 use Rattle.std.specs.Char.{is_digit}
 use Rattle.std.specs.List.{find}
@@ -27,9 +27,10 @@ letter_value letter = option_map (λ p. p.1) (find (λ p. letter == p.0) escape_
 abbrev pub escape_letter : ℕ → Option ℕ
 escape_letter b = option_map (λ p. p.0) (find (λ p. b == p.1) escape_letters)
 
--- After a backslash the text spells this byte, and the rest stands after the escape. Octal digits give
--- the byte's number, as many as stand there, up to three; or hex digits after an `x` do, all that stand
--- there. C's `\'` and `\?` and a backslash at the end of a line are no escapes: this project's choice.
+-- After a backslash the text spells this byte, and the rest stands after the escape. A letter gives its
+-- byte (`letter_value`); octal digits give the byte's number, as many as stand there, up to three; or
+-- hex digits after an `x` do, all that stand there. C's `\'` and `\?` and a backslash at the end of a
+-- line are no escapes: this project's choice.
 pub data SpellsEscape : List ℕ → ℕ → List ℕ → Type 0 where
   letter : {b value : ℕ} {rest : List ℕ} → letter_value b ≡ Some value → SpellsEscape (b ∷ rest) value rest
   octal : (digits : List ℕ) {rest : List ℕ} → IsNumeral 8 digits → length digits ≤ 3

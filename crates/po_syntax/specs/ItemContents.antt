@@ -1,11 +1,11 @@
--- What the items that a text spells hold (manual, "The Format of PO Files").
+-- What the items of a text hold (manual, "The Format of PO Files").
 use Rattle.std.specs.Prelude.{◌≡◌, ◌≢◌, ℕ, ◌==◌, List, ◌∷◌, All, Contains, IsUtf8, codes}
 use Rattle.po_syntax.specs.declared.item.CommentKind.{CommentKind}
 use Rattle.po_syntax.specs.declared.item.CommentKind.TheVariants.{Translator}
 use Rattle.po_syntax.specs.Blanks.{without_end}
 use Rattle.po_syntax.specs.TextItem.{TextItem, Comment, Word, Str}
 
--- a comment's text ends before the CRs at its end; one inside, or before another blank, stays
+-- the text without the CRs at its end; a CR inside, or before another blank, stays
 abbrev pub trim_returns : List ℕ → List ℕ
 trim_returns text = without_end (λ b. b == 13) text
 

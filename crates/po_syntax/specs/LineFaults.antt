@@ -54,8 +54,8 @@ pub data IndexFault : List ℕ → PoFault → Type 0 where
       → digits_value 10 digits < 2 ^ 32 → All IsBlank after → FailsFirst (λ b. is_blank b || b == 93) rest
       → IndexFault (digits ++ (after ++ rest)) BadToken
 
--- the text begins with a word that is no keyword, or with `msgstr` and a bracket, after which the index
--- has a fault
+-- the text begins with a word that is no keyword, or with `msgstr` and a bracket, after which there is an
+-- index fault
 pub data KeywordFault : List ℕ → PoFault → Type 0 where
   no_keyword : (b : ℕ) (word rest : List ℕ) → All (λ c. IsTrue (is_word_byte c)) (b ∷ word)
       → FailsFirst is_word_byte rest → IsNoKeyword (b ∷ word) → KeywordFault ((b ∷ word) ++ rest) BadToken

@@ -57,7 +57,7 @@ pub data SpellsComment : List ℕ → CommentKind → List ℕ → Type 0 where
 abbrev pub own_marks : Bool → Marks
 own_marks obsolete = record { obsolete = obsolete; previous = false }
 
--- the marks of previous texts, whose lines begin with `#|`, or `#~|` where the entry is obsolete
+-- the marks of previous texts, whose lines begin with `#|`, or with `#~|` where `obsolete` is true
 abbrev pub previous_marks : Bool → Marks
 previous_marks obsolete = record { obsolete = obsolete; previous = true }
 
