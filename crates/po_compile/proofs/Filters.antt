@@ -1,5 +1,5 @@
 -- Filters, one after another, of lists that are mapped, and of lists that are permuted.
-use Rattle.std.proofs.Common.{◌≡◌, refl, sym, ap, ◌∙◌, Bool, true, false, ◌&&◌, cond, List, [], ◌∷◌, map, filter, subst, ℕ, zero, suc, ◌<◌, ◌++◌, append_assoc, length, get_or, set, arith, IsPermutation}
+use Rattle.std.proofs.Common.{◌≡◌, refl, sym, ap, ◌∙◌, Bool, true, false, ◌&&◌, cond, List, [], ◌∷◌, filter, subst, ℕ, zero, suc, ◌<◌, ◌++◌, append_assoc, length, get_or, set, arith, IsPermutation}
 use Rattle.std.proofs.lemmas.List.Elements.{filter_agree}
 use Rattle.po_messages.specs.Facts.Mapped.{filter_twice}
 use Rattle.std.specs.List.{swap}

@@ -33,6 +33,7 @@ use Rattle.po_compile.proofs.TextLemmas.{key_of-plural_part, query_key_lacks, qu
 use Rattle.std.proofs.Math.ListN.{get_or-map}
 use Rattle.std.proofs.lemmas.List.Splits.{slice_split_none, slice_split_at}
 use Rattle.po_compile.specs.MessageLaws.{MessagesHaveParts, MessagesDiffer}
+use Rattle.po_messages.specs.Facts.Mapped.{find_map}
 
 -- what a search finds is in the list and passes the test
 pub record IsFound {X : Type 0} (test : X → Bool) (xs : List X) (x : X) : Type 0 where
@@ -177,19 +178,17 @@ same_test context id can_be entry c =
     (λ e. query_key_is_one entry.context context entry.id id c.context_eot (context_lacks_eot context parts.0) c.id_eot (text_lacks_eot id parts.1) (sym key ∙ e))
     (Decides-and (option_eq bytes_eq entry.context context) (bytes_eq entry.id id) (option_decides entry.context context) (bytes_eq-Decides entry.id id)))
 
-found_message : (b : Bool) (entry : TextEntry) (rest : Option TextEntry) → cond b (Some (message_of entry)) (option_map message_of rest) ≡ option_map message_of (cond b (Some entry) rest)
-found_message true entry rest = refl
-found_message false entry rest = refl
+find_agree : (p q : TextEntry → Bool) (entries : List TextEntry) → All (λ e. p e ≡ q e) entries → find p entries ≡ find q entries
+find_agree p q [] same = refl
+find_agree p q (entry ∷ entries) same =
+    ap₂ (λ b r. cond b (Some entry) r) (All-head (λ e. p e ≡ q e) entry entries same) (find_agree p q entries (All-tail (λ e. p e ≡ q e) entry entries same))
 
 find_messages : (context : Option (List ℕ)) (id : List ℕ) → can_be_key context id ≡ true → (entries : List TextEntry) → All LacksSeparators entries
     → find (has_key (query_key context id)) (messages_of_entries entries) ≡ option_map message_of (find (is_of_message context id) entries)
-find_messages context id can_be [] all = refl
-find_messages context id can_be (entry ∷ entries) all =
-    let same = same_test context id can_be entry (All-head LacksSeparators entry entries all) in
-    let rest = find_messages context id can_be entries (All-tail LacksSeparators entry entries all) in
-    ap (λ b. cond b (Some (message_of entry)) (find (has_key (query_key context id)) (messages_of_entries entries))) same
-    ∙ ap (λ r. cond (is_of_message context id entry) (Some (message_of entry)) r) rest
-    ∙ found_message (is_of_message context id entry) entry (find (is_of_message context id) entries)
+find_messages context id can_be entries all =
+    let test : TextEntry → Bool = λ e. has_key (query_key context id) (message_of e) in
+    find_map (has_key (query_key context id)) message_of entries
+    ∙ ap (option_map message_of) (find_agree test (is_of_message context id) entries (All-weaker LacksSeparators (λ e. test e ≡ is_of_message context id e) (same_test context id can_be) entries all))
 
 -- the translation under a key is that of the entry that the key defines
 translation_of_definition : (entries : List TextEntry) (messages : List Message) → All LacksSeparators entries → AreMessagesOf entries messages

@@ -27,21 +27,27 @@ input_of_fault : (input : ℕ) (kind : PoFault) → kind ≢ OutOfMemory → fau
 input_of_fault input OutOfMemory other = absurd (other refl)
 input_of_fault input kind other = refl
 
-module _ (texts : List (Bor (List ℕ))) (i : ℕ) (text : Bor (List ℕ)) (inside : i < length texts) (here : text ≡ get_or texts i text) where
-  pub more_texts : slice_texts (take (i + 1) texts) ≡ slice_texts (take i texts) ++ text.now ∷ []
+-- what stands for a text beyond the last
+abbrev pub no_text : Bor (List ℕ)
+no_text = record { ref_ptr = (0, 0); now = [] }
+
+module _ (texts : List (Bor (List ℕ))) (i : ℕ) (inside : i < length texts) where
+  abbrev its_text : Bor (List ℕ)
+  its_text = get_or texts i no_text
+
+  pub more_texts : slice_texts (take (i + 1) texts) ≡ slice_texts (take i texts) ++ its_text.now ∷ []
   more_texts =
       let now : Bor (List ℕ) → List ℕ = λ s. s.now in
-      ap slice_texts (take_more texts i text inside) ∙ map-append now (take i texts) (get_or texts i text ∷ []) ∙ ap (λ (t : Bor (List ℕ)). slice_texts (take i texts) ++ t.now ∷ []) (sym here)
+      ap slice_texts (take_more texts i no_text inside) ∙ map-append now (take i texts) (its_text ∷ [])
 
-  pub split_texts : slice_texts texts ≡ slice_texts (take i texts) ++ text.now ∷ slice_texts (drop (suc i) texts)
+  pub split_texts : slice_texts texts ≡ slice_texts (take i texts) ++ its_text.now ∷ slice_texts (drop (suc i) texts)
   split_texts =
       let now : Bor (List ℕ) → List ℕ = λ s. s.now in
       ap slice_texts (sym (take-append-drop i texts)) ∙ map-append now (take i texts) (drop i texts)
-      ∙ ap (λ ts. slice_texts (take i texts) ++ slice_texts ts) (drop-cons texts i text inside)
-      ∙ ap (λ (t : Bor (List ℕ)). slice_texts (take i texts) ++ t.now ∷ slice_texts (drop (suc i) texts)) (sym here)
+      ∙ ap (λ ts. slice_texts (take i texts) ++ slice_texts ts) (drop-cons texts i no_text inside)
 
   pub refused_input : (catalogues : List (List TextEntry)) (error : PoError) → AllZip ReadsDistinct (slice_texts (take i texts)) catalogues
-      → (error ≡ out_of_memory) ⊎ ((error.kind ≢ OutOfMemory) × IsTextFault text.now error) → IsReadingFault (slice_texts texts) (fault_of_input i error)
+      → (error ≡ out_of_memory) ⊎ ((error.kind ≢ OutOfMemory) × IsTextFault its_text.now error) → IsReadingFault (slice_texts texts) (fault_of_input i error)
   refused_input catalogues error each why =
       ⊎_elim (λ memory. inl (ap (fault_of_input i) memory))
       (λ fault.
@@ -49,7 +55,7 @@ module _ (texts : List (Bor (List ℕ))) (i : ℕ) (text : Bor (List ℕ)) (insi
       let long : i ≡ length (slice_texts (take i texts)) = omega (arith, length-take i texts, length-map (take i texts) (λ (s : Bor (List ℕ)). s.now)) in
       inr (inl (record {
         before = slice_texts (take i texts);
-        text = text.now;
+        text = its_text.now;
         after = slice_texts (drop (suc i) texts);
         order = split_texts;
         catalogues = catalogues;

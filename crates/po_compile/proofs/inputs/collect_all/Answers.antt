@@ -1,6 +1,6 @@
 use Rattle.std.proofs.Common.{refl, ap, sym, subst, ◌∙◌, ℕ, ◌+◌, suc, List, [], ◌∷◌, ◌++◌, length, length-take, get_or, take, drop, arith}
 use Rattle.std.specs.Borrow.{Bor}
-use Rattle.std.proofs.lemmas.List.{get_or_default, length-map, take_all}
+use Rattle.std.proofs.lemmas.List.{length-map, take_all}
 use Rattle.std.proofs.lemmas.Result.{err_from_is_err_and}
 use Rattle.po_entry.specs.TextEntry.{slice_texts}
 use Rattle.po_compile.specs.Accepted.{IsReadingFault}
@@ -8,11 +8,8 @@ use Rattle.po_compile.specs.CompiledInputs.{AreCollected}
 use Rattle.po_compile.specs.Internal.Repeats.{EachApart}
 use Rattle.po_compile.proofs.InputLemmas.{collected_count, collected_more, each_refused, text_fault}
 use Rattle.po_compile.proofs.KeysApart.{read_distinct}
-use Rattle.po_compile.proofs.ReadingLemmas.{more_texts, refused_input, split_texts}
+use Rattle.po_compile.proofs.ReadingLemmas.{more_texts, no_text, refused_input, split_texts}
 use Rattle.po_compile.proofs.inputs.collect_all.Goals as goal
-
-abbrev none : Bor (List ℕ)
-none = record { ref_ptr = (0, 0); now = [] }
 
 pub loop-input-init : goal.loop-input-init
 loop-input-init c = rw c.in_ok-inputs.ensures.items (record { catalogues = []; read = tt; held = record { valid = λ k d inside. absurd (omega (arith, inside)); messages = refl } })
@@ -21,12 +18,11 @@ pub loop-input-preserved : goal.loop-input-preserved
 loop-input-preserved c =
     let texts = c.args.texts.now in
     let i = c.loop-input.input in
-    let text = get_or texts i none in
-    let here = get_or_default texts i none text c.loop-input-test.true in
+    let text = get_or texts i no_text in
     let inputs = c.loop-input.inputs.items in
     let more = collected_more c.args.use_fuzzy c.entries_can_stand.ensures (slice_texts (take i texts)) inputs text.now c.in-Ok.collected c.loop-input.invariant c.in-Ok.ensures.found in
     subst (AreCollected c.args.use_fuzzy (slice_texts (take (i + 1) texts))) (sym c.in_ok-push-in-Ok.ensures.items)
-    (subst (λ ts. AreCollected c.args.use_fuzzy ts (inputs ++ c.in-Ok.collected ∷ [])) (sym (more_texts texts i text c.loop-input-test.true here)) more)
+    (subst (λ ts. AreCollected c.args.use_fuzzy ts (inputs ++ c.in-Ok.collected ∷ [])) (sym (more_texts texts i c.loop-input-test.true)) more)
 
 pub returns-clause-found : goal.returns-clause-found
 returns-clause-found c =
@@ -44,23 +40,21 @@ pub returns-in-Err-clause-fault : goal.returns-in-Err-clause-fault
 returns-in-Err-clause-fault c =
     let texts = c.args.texts.now in
     let i = c.loop-input.input in
-    let text = get_or texts i none in
-    let here = get_or_default texts i none text c.loop-input-test.true in
+    let text = get_or texts i no_text in
     let of = c.loop-input.invariant in
     let apart = subst EachApart (c.deref.ensures.value ∙ of.held.messages) c.in_ok-check_each-in-Err.ensures.apart in
     rw c.fault_of_input.ensures
-    (refused_input texts i text c.loop-input-test.true here of.catalogues c.in-Err.error (read_distinct c.args.use_fuzzy (slice_texts (take i texts)) of.catalogues of.read apart)
+    (refused_input texts i c.loop-input-test.true of.catalogues c.in-Err.error (read_distinct c.args.use_fuzzy (slice_texts (take i texts)) of.catalogues of.read apart)
     (text_fault text.now c.in-Err.error c.in-Err.ensures.fault))
 
 pub returns-in_err-check_each-in-Err-clause-fault : goal.returns-in_err-check_each-in-Err-clause-fault
 returns-in_err-check_each-in-Err-clause-fault c =
     let texts = c.args.texts.now in
     let i = c.loop-input.input in
-    let text = get_or texts i none in
-    let here = get_or_default texts i none text c.loop-input-test.true in
+    let text = get_or texts i no_text in
     let of = c.loop-input.invariant in
     let error = c.in_err-check_each-in-Err.field-0.0 in
     let why = rw c.deref.ensures.value at c.in_err-check_each-in-Err.ensures.fault in
     let refused = each_refused c.args.use_fuzzy (slice_texts (take i texts)) (text.now ∷ slice_texts (drop (suc i) texts)) of.catalogues c.loop-input.inputs.items of.read of.held error why in
     let p = err_from_is_err_and c.from_residual-in_err-check_each-in-Err.result c.from_residual-in_err-check_each-in-Err.ensures.1 in
-    rw (p.1, p.2) (subst (λ ts. IsReadingFault ts error) (sym (split_texts texts i text c.loop-input-test.true here)) refused)
+    rw (p.1, p.2) (subst (λ ts. IsReadingFault ts error) (sym (split_texts texts i c.loop-input-test.true)) refused)
