@@ -3,7 +3,7 @@ use Rattle.std.proofs.Common.{◌≡◌, ◌≢◌, ◌⊎◌, inl, inr, ◌↔�
 use Rattle.std.specs.Prelude.{if◌then◌else◌}
 use Rattle.std.specs.List.{list_any, ends_with}
 use Rattle.std.specs.Option.{option_map_or}
-use Rattle.std.proofs.lemmas.Bool.{and_parts, eqb-true, eqb-false, lt-ltb, ltb-true, not-false, not-true, cond_both}
+use Rattle.std.proofs.lemmas.Bool.{and_parts, or_parts, eqb-true, eqb-false, lt-ltb, ltb-true, not-false, not-true, cond_both}
 use Rattle.std.proofs.lemmas.List.Elements.{filter_agree, All-weaker}
 use Rattle.std.proofs.lemmas.List.Folds.{list_any-append, list_any_none}
 use Rattle.std.proofs.lemmas.List.Prefix.{end_rest}
@@ -71,6 +71,11 @@ forms_are_joined o ds before after t i form joined split has inside =
     ∙ ap (λ (f : Option (List ℕ)). joined_form before i ++ (option_map_or (marked t.name) f [] ++ joined_form after i)) has
     ∙ ap (λ (l : List ℕ). joined_form before i ++ (l ++ joined_form after i)) (marked_is t.name form)
     ∙ sym (append_assoc (joined_form before i) (input_line t.name ++ ended form) (joined_form after i))
+
+pub find_none : {X : Type 0} (p : X → Bool) (xs : List X) → list_any p xs ≡ false → find p xs ≡ None
+find_none p [] none = refl
+find_none p (x ∷ xs) none =
+    let parts = or_parts (p x) (list_any p xs) none in ap (λ (b : Bool). cond b (Some x) (find p xs)) parts.0 ∙ find_none p xs parts.1
 
 -- what the first definition has that has something
 first_found : (has : TextEntry → Bool) (before : List NamedEntry) (d : NamedEntry) (after : List NamedEntry) → list_any (λ b. has b.entry) before ≡ false → has d.entry ≡ true

@@ -1,37 +1,28 @@
 -- An input in which no message stands twice, alone and together with itself.
-use Rattle.std.proofs.Common.{◌≡◌, ℕ, Bool, true, false, cond, not, ◌&&◌, ◌||◌, List, [], ◌∷◌, ◌++◌, Some, None, refl, sym, ap, ap₂, ◌∙◌, map, filter, fold, length, nat_lt, get_or, arith, append-nil, append_assoc, zero, suc}
-use Rattle.std.specs.Prelude.{All, bytes_eq, if◌then◌else◌}
+use Rattle.std.proofs.Common.{◌≡◌, ℕ, Bool, true, false, cond, ◌||◌, List, [], ◌∷◌, ◌++◌, refl, sym, ap, ap₂, ◌∙◌, map, filter, fold, get_or, arith, append-nil, append_assoc, zero, suc}
+use Rattle.std.specs.Prelude.{All, if◌then◌else◌}
 use Rattle.std.specs.List.{list_any}
-use Rattle.std.specs.Option.{option_map_or}
-use Rattle.std.proofs.lemmas.Slice.Eq.{bytes_eq-Decides, slice_eq-Decides}
-use Rattle.std.proofs.lemmas.List.Folds.{list_any-append, list_any_at, list_any_none}
+use Rattle.std.proofs.lemmas.List.Folds.{list_any-append, list_any_none}
+use Rattle.std.proofs.lemmas.List.Sums.{fold-append}
 use Rattle.std.proofs.lemmas.List.Elements.{All-nil, All-cons, All-head, All-tail, All-map, All-weaker, filter-append}
-use Rattle.std.proofs.lemmas.Bool.{cond_both, false_from_ne_true}
+use Rattle.std.proofs.lemmas.Bool.{false_from_ne_true}
 use Rattle.std.proofs.Math.Bool.{or-true}
-use Rattle.po_syntax.specs.declared.item.CommentKind.{CommentKind}
-use Rattle.po_syntax.specs.declared.item.CommentKind.TheVariants.{Translator, Extracted, Reference, Flags}
 use Rattle.po_entry.specs.TextEntry.{TextEntry}
 use Rattle.po_entry.specs.Header.{is_header}
-use Rattle.po_entry.specs.Equality.{texts_eq}
 use Rattle.po_messages.specs.Joined.{is_live}
 use Rattle.po_messages.specs.Duplicate.{IsSameMessage, AllDiffer}
-use Rattle.po_messages.specs.Statistics.{has_translation}
 use Rattle.po_merge.specs.declared.input.MergeOptions.{MergeOptions}
 use Rattle.po_merge.specs.Inputs.{Named, NamedEntry, named}
 use Rattle.po_merge.specs.Groups.{with_new, first_ones, same_message, definitions}
-use Rattle.po_merge.specs.MergedEntry.{first_with, has_previous, has_plural, first_translated, texts_of, with_others, collected, comment_of, same_forms, translations, is_joined, joined_forms, merged_entry}
+use Rattle.po_merge.specs.MergedEntry.{merged_entry}
 use Rattle.po_merge.specs.Merged.{is_kept, merged_messages}
 use Rattle.po_merge.specs.MergeLaws.{keep_all, OneInputStays, WithItself}
-use Rattle.po_merge.proofs.FirstOnes.{Apart, group_of, none_all}
+use Rattle.po_merge.proofs.FirstOnes.{Apart, group_of, none_all, none_pass}
 use Rattle.po_merge.proofs.Messages.{same_message_laws}
 use Rattle.po_merge.proofs.MessagesOnce.{same_is}
-use Rattle.po_merge.proofs.OneDefinition.{all_kept, rebuilt, one_definition}
+use Rattle.po_merge.proofs.OneDefinition.{merged_to_it, one_definition}
 
 -- lists whose elements differ
-
-pub none_pass : {X : Type 0} (p : X → Bool) (xs : List X) → All (λ x. p x ≡ false) xs → filter p xs ≡ []
-none_pass p [] h = refl
-none_pass p (x ∷ xs) h = ap (λ (b : Bool). cond b (x ∷ filter p xs) (filter p xs)) (All-head (λ y. p y ≡ false) x xs h) ∙ none_pass p xs (All-tail (λ y. p y ≡ false) x xs h)
 
 firsts_of_apart : (done xs : List NamedEntry) → All (λ x. list_any (same_message x) done ≡ false) xs → Apart same_message xs → fold (with_new same_message) done xs ≡ done ++ xs
 firsts_of_apart done [] h apart = sym (append-nil done)
@@ -49,10 +40,6 @@ firsts_known done [] h = refl
 firsts_known done (x ∷ xs) h =
     ap (λ (b : Bool). fold (with_new same_message) (if b then done else done ++ x ∷ []) xs) (All-head (λ y. list_any (same_message y) done ≡ true) x xs h)
     ∙ firsts_known done xs (All-tail (λ y. list_any (same_message y) done ≡ true) x xs h)
-
-fold_both : (done xs ys : List NamedEntry) → fold (with_new same_message) done (xs ++ ys) ≡ fold (with_new same_message) (fold (with_new same_message) done xs) ys
-fold_both done [] ys = refl
-fold_both done (x ∷ xs) ys = fold_both (with_new same_message done x) xs ys
 
 -- the entries of an input
 
@@ -124,42 +111,9 @@ one_input use_first input h =
 
 -- an entry twice
 
-first_of_two : (has : TextEntry → Bool) (n m : List ℕ) (e : TextEntry) → first_with has (named n e ∷ named m e ∷ []) ≡ e
-first_of_two has n m e = found (has e) where
-  found : (b : Bool) → option_map_or (λ (d : NamedEntry). d.entry) (cond b (Some (named n e)) (cond b (Some (named m e)) None)) e ≡ e
-  found true = refl
-  found false = refl
-
-nothing_new : (ts : List (List ℕ)) → with_others ts ts ≡ ts
-nothing_new ts =
-    ap (λ (l : List (List ℕ)). ts ++ l)
-    (none_pass (λ t. not (list_any (bytes_eq t) ts)) ts (λ k d below. ap (λ (b : Bool). not b) (list_any_at (bytes_eq (get_or ts k d)) ts k d below ((bytes_eq-Decides (get_or ts k d) (get_or ts k d)).1 refl))))
-    ∙ append-nil ts
-
-comment_of_two : (o : MergeOptions) (kind : CommentKind) (n m : List ℕ) (e : TextEntry) → comment_of o kind (named n e ∷ named m e ∷ []) ≡ texts_of kind e
-comment_of_two o kind n m e =
-    let ds = named n e ∷ named m e ∷ [] in
-    cond_both o.use_first (texts_of kind (first_translated ds)) (collected (texts_of kind) ds) (λ l. l ≡ texts_of kind e) (λ _. ap (texts_of kind) (first_of_two has_translation n m e))
-    (λ _. ap (λ (l : List (List ℕ)). with_others l (texts_of kind e)) (all_kept (texts_of kind e)) ∙ nothing_new (texts_of kind e))
-
-not_joined : (o : MergeOptions) (n m : List ℕ) (e : TextEntry) → is_joined o (named n e ∷ named m e ∷ []) ≡ false
-not_joined o n m e = found (has_translation e) (not o.use_first) where
-  one : first_ones same_forms (named n e ∷ named m e ∷ []) ≡ named n e ∷ []
-  one = ap (λ (t : Bool). if t || false then named n e ∷ [] else named n e ∷ named m e ∷ []) ((slice_eq-Decides bytes_eq-Decides e.forms e.forms (texts_eq e.forms e.forms) refl).1 refl)
-
-  found : (b c : Bool) → (c && nat_lt 1 (length (first_ones same_forms (cond b (named n e ∷ cond b (named m e ∷ []) []) (cond b (named m e ∷ []) []))))) ≡ false
-  found true true = ap (λ (l : List NamedEntry). nat_lt 1 (length l)) one
-  found true false = refl
-  found false true = refl
-  found false false = refl
-
 same_twice : (o : MergeOptions) (n m : List ℕ) (e : TextEntry) → merged_entry o (named n e ∷ named m e ∷ []) ≡ e
 same_twice o n m e =
-    let ds = named n e ∷ named m e ∷ [] in
-    let fuzzy : (is_joined o ds || (first_translated ds).fuzzy) ≡ e.fuzzy = ap₂ (λ (a b : Bool). a || b) (not_joined o n m e) (ap (λ (x : TextEntry). x.fuzzy) (first_of_two has_translation n m e)) in
-    let forms : (if is_joined o ds then joined_forms (translations ds) else (first_translated ds).forms) ≡ e.forms =
-    ap₂ (λ (b : Bool) (fs : List (List ℕ)). if b then joined_forms (translations ds) else fs) (not_joined o n m e) (ap (λ (x : TextEntry). x.forms) (first_of_two has_translation n m e)) in
-    λ i. rebuilt (comment_of_two o Translator n m e i) (comment_of_two o Extracted n m e i) (comment_of_two o Reference n m e i) (fuzzy i) (comment_of_two o Flags n m e i) (first_of_two has_previous n m e i).previous (first_of_two has_plural n m e i).plural (forms i) e
+    let Of : NamedEntry → Type 0 = λ d. d.entry ≡ e in merged_to_it e o (named n e ∷ named m e ∷ []) (omega arith) (All-cons Of (named n e) (named m e ∷ []) refl (All-cons Of (named m e) [] refl (All-nil Of)))
 
 two_live : (n m : List ℕ) (e : TextEntry) → definitions (named n e ∷ named m e ∷ []) ≡ named n e ∷ named m e ∷ []
 two_live n m e = found (is_live e) where
@@ -186,7 +140,7 @@ twice use_first input name h =
     let known : All (λ x. list_any (same_message x) ones ≡ true) others =
     All-map (λ x. list_any (same_message x) ones ≡ true) (named name) es (each n name es) in
     let firsts : first_ones same_message all ≡ ones =
-    fold_both [] ones others ∙ ap (λ (l : List NamedEntry). fold (with_new same_message) l others) (firsts_of_apart [] ones (λ k d below. refl) (apart_named n es h)) ∙ firsts_known ones others known in
+    fold-append (with_new same_message) [] ones others ∙ ap (λ (l : List NamedEntry). fold (with_new same_message) l others) (firsts_of_apart [] ones (λ k d below. refl) (apart_named n es h)) ∙ firsts_known ones others known in
     ap (λ (l : List NamedEntry). merged_messages o (map definitions (map (group_of same_message (ones ++ l)) (first_ones same_message (ones ++ l))))) (append-nil others)
     ∙ ap (λ (fs : List NamedEntry). merged_messages o (map definitions (map (group_of same_message all) fs))) firsts
     ∙ all_stay o all n es (λ k d below. two_alone use_first n name (get_or es k d) (group_of same_message all (named n (get_or es k d))) (filter-append (λ y. same_message y (named n (get_or es k d))) ones others ∙ ap₂ (λ (a b : List NamedEntry). a ++ b) (alone n n es h k d below) (alone n name es h k d below))) where

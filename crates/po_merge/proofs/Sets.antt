@@ -1,9 +1,9 @@
 -- What sets of texts and of form lists hold.
-use Rattle.std.proofs.Common.{◌≡◌, ℕ, Bool, true, false, cond, not, ◌&&◌, ◌||◌, List, [], ◌∷◌, ◌++◌, refl, sym, ap, ap₂, ◌∙◌, filter}
+use Rattle.std.proofs.Common.{◌≡◌, ℕ, Bool, true, false, cond, not, ◌||◌, List, [], ◌∷◌, ◌++◌, refl, sym, ap, ap₂, ◌∙◌, filter}
 use Rattle.std.specs.List.{list_any}
 use Rattle.std.specs.Ordering.{nat_cmp, is_eq}
 use Rattle.std.specs.Cmp.{both_tied}
-use Rattle.std.specs.Cmp.Lexicographic.{slice_cmp, nat_list_eq_equiv, texts_ties}
+use Rattle.std.specs.Cmp.Lexicographic.{slice_cmp, lists_equiv, nat_list_eq_equiv, texts_ties}
 use Rattle.std.specs.Str.{bytes_eq}
 use Rattle.std.specs.Borrow.{Bor}
 use Rattle.std.specs.Global.{Vec}
@@ -26,12 +26,6 @@ forms_tie [] (y ∷ ys) = refl
 forms_tie (x ∷ xs) [] = refl
 forms_tie (x ∷ xs) (y ∷ ys) = both_tied _ _ (slice_cmp nat_cmp x.items y.items) (slice_cmp (λ v w. slice_cmp nat_cmp v.items w.items) xs ys) (texts_ties x.items y.items) (forms_tie xs ys)
 
-pub texts_eq_symm : (a b : List (List ℕ)) → texts_eq a b ≡ texts_eq b a
-texts_eq_symm [] [] = refl
-texts_eq_symm [] (y ∷ ys) = refl
-texts_eq_symm (x ∷ xs) [] = refl
-texts_eq_symm (x ∷ xs) (y ∷ ys) = ap₂ (λ (s t : Bool). s && t) (nat_list_eq_equiv.symm x y) (texts_eq_symm xs ys)
-
 pub one_definition_more : (old new : BTreeSet (Bor (List (Vec ℕ)))) (k : Bor (List (Vec ℕ))) (d : NamedEntry) (found : List NamedEntry) → HasForms old found → texts k.now ≡ d.entry.forms
     → ((q : Bor (List (Vec ℕ))) → contains (λ x y. slice_cmp (λ v w. slice_cmp nat_cmp v.items w.items) x.now y.now) new q
     ≡ cond (is_at (λ y. slice_cmp (λ v w. slice_cmp nat_cmp v.items w.items) k.now y.now) q) true (contains (λ x y. slice_cmp (λ v w. slice_cmp nat_cmp v.items w.items) x.now y.now) old q))
@@ -39,7 +33,7 @@ pub one_definition_more : (old new : BTreeSet (Bor (List (Vec ℕ)))) (k : Bor (
 one_definition_more old new k d found h forms updated q =
     let tests : Bool = texts_eq (texts q.now) d.entry.forms in
     updated q ∙ cond_or (is_at (λ y. slice_cmp (λ v w. slice_cmp nat_cmp v.items w.items) k.now y.now) q) tests (contains (λ x y. slice_cmp (λ v w. slice_cmp nat_cmp v.items w.items) x.now y.now) old q)
-    (sym (forms_tie k.now q.now) ∙ texts_eq_symm (texts k.now) (texts q.now) ∙ ap (texts_eq (texts q.now)) forms)
+    (sym (forms_tie k.now q.now) ∙ (lists_equiv nat_list_eq_equiv).symm (texts k.now) (texts q.now) ∙ ap (texts_eq (texts q.now)) forms)
     ∙ ap₂ (λ (s t : Bool). s || t) (h q) (sym (or-false tests)) ∙ sym (list_any-append (λ e. texts_eq (texts q.now) e.entry.forms) found (d ∷ []))
 
 -- what both have, the one has whatever is omitted of the other

@@ -1,11 +1,13 @@
 -- When translations are joined, and which definition's forms a merged entry has.
-use Rattle.std.proofs.Common.{◌≡◌, ◌≢◌, ◌==◌, ℕ, ◌<◌, ◌≤◌, Bool, true, false, cond, not, ◌&&◌, ◌||◌, nat_lt, max, List, [], ◌∷◌, Option, Some, None, refl, sym, ap, ap₂, ◌∙◌, filter, find, fold, get_or, length, arith, suc, is_none, ◌⊎◌, inl, inr}
+use Rattle.std.proofs.Common.{◌≡◌, ◌≢◌, ◌==◌, ℕ, ◌<◌, ◌≤◌, Bool, true, false, not, ◌&&◌, ◌||◌, nat_lt, max, List, [], ◌∷◌, Option, None, refl, sym, ap, ap₂, ◌∙◌, filter, fold, get_or, length, arith, suc, is_none, ◌⊎◌, inl, inr}
 use Rattle.std.specs.Prelude.{All, Contains, if◌then◌else◌}
 use Rattle.std.specs.List.{list_any}
 use Rattle.std.specs.Option.{option_map_or}
-use Rattle.std.specs.Cmp.{IsEquivalence}
+use Rattle.std.specs.Cmp.{IsEquivalence, on_equiv}
+use Rattle.std.specs.Cmp.Lexicographic.{lists_equiv, nat_list_eq_equiv}
 use Rattle.std.proofs.lemmas.Bool.{cond_both, and_parts, lt-ltb, ltb-true, ltb-false, ne_eqb, not-true, or_parts, false≢true}
 use Rattle.std.proofs.lemmas.List.Elements.{All-nil, All-cons, All-head, All-tail, All-contains, All-contains_itself, All-filter, All-weaker, filter_passes}
+use Rattle.std.proofs.lemmas.List.Folds.{list_any_none}
 use Rattle.std.proofs.lemmas.Map.Views.{list_any-from_Contains}
 use Rattle.std.proofs.Math.Bool.{or-false}
 use Rattle.std.proofs.lemmas.List.FromFn.{length-map-range_with_len}
@@ -22,7 +24,7 @@ use Rattle.po_merge.specs.Inputs.{NamedEntry}
 use Rattle.po_merge.specs.MergedEntry.{collected, form_count, joined_form, joined_forms, merged_entry, first_translated, same_forms, texts_of, translations}
 use Rattle.po_merge.specs.Merged.{is_wanted}
 use Rattle.po_merge.specs.TranslationLaws.{IsTranslated, IsUntranslated, TranslationsDiffer, JoinedWhereTheyDiffer, JoinedAsLongest, IsFirstTranslated, translated, none, FormsOfFirst, CommentsOfFirst, HeadersAreKept}
-use Rattle.po_merge.proofs.EntryLaws.{first_is, texts_merged}
+use Rattle.po_merge.proofs.EntryLaws.{find_none, first_is, texts_merged}
 use Rattle.po_merge.proofs.Valid.{at_least}
 use Rattle.po_merge.proofs.FirstOnes.{all_first_ones, Apart, apart_first_ones}
 
@@ -52,18 +54,8 @@ is_has d h = bytes_some (first_form d.entry.forms) h
 forms_decide : (a b : NamedEntry) → (same_forms a b ≡ true → a.entry.forms ≡ b.entry.forms) × (a.entry.forms ≡ b.entry.forms → same_forms a b ≡ true)
 forms_decide a b = slice_eq-Decides bytes_eq-Decides a.entry.forms b.entry.forms (texts_eq a.entry.forms b.entry.forms) refl
 
-tests_alike : (s t : Bool) → (s ≡ true → t ≡ true) → (t ≡ true → s ≡ true) → s ≡ t
-tests_alike true true f g = refl
-tests_alike true false f g = sym (f refl)
-tests_alike false true f g = g refl
-tests_alike false false f g = refl
-
 pub forms_laws : IsEquivalence same_forms
-forms_laws = record {
-  refl = λ a. (forms_decide a a).1 refl;
-  symm = λ a b. tests_alike (same_forms a b) (same_forms b a) (λ h. (forms_decide b a).1 (sym ((forms_decide a b).0 h))) (λ h. (forms_decide a b).1 (sym ((forms_decide b a).0 h)));
-  congr = λ a b c h. tests_alike (same_forms a c) (same_forms b c) (λ g. (forms_decide b c).1 (sym ((forms_decide a b).0 h) ∙ (forms_decide a c).0 g)) (λ g. (forms_decide a c).1 ((forms_decide a b).0 h ∙ (forms_decide b c).0 g));
-}
+forms_laws = on_equiv (λ (d : NamedEntry). d.entry.forms) (lists_equiv nat_list_eq_equiv)
 
 -- a definition of the message that has a translation
 record IsOne (ds : List NamedEntry) (d : NamedEntry) : Type 0 where
@@ -185,18 +177,11 @@ joined_as_longest o ds joined =
 
 -- where no definition before it has a translation, none is found there
 none_has : (ds : List NamedEntry) → All IsUntranslated ds → list_any has ds ≡ false
-none_has [] h = refl
-none_has (d ∷ ds) h =
-    ap₂ (λ (a b : Bool). a || b) (no_bytes (first_form d.entry.forms) (All-head IsUntranslated d ds h)) (none_has ds (All-tail IsUntranslated d ds h))
-
-none_found : (ds : List NamedEntry) → All IsUntranslated ds → find has ds ≡ None
-none_found [] h = refl
-none_found (d ∷ ds) h =
-    ap (λ (b : Bool). cond b (Some d) (find has ds)) (no_bytes (first_form d.entry.forms) (All-head IsUntranslated d ds h)) ∙ none_found ds (All-tail IsUntranslated d ds h)
+none_has ds h = list_any_none has ds (All-weaker IsUntranslated (λ d. has d ≡ false) (λ d. no_bytes (first_form d.entry.forms)) ds h)
 
 first_translated_is : {ds : List NamedEntry} {d : NamedEntry} → IsFirstTranslated ds d → first_translated ds ≡ d.entry
 first_translated_is (translated before after {d = d} before_has_none is) = first_is has_translation before d after (none_has before before_has_none) (is_has d is)
-first_translated_is (none {d = d} {after = after} h) = ap (λ (r : Option NamedEntry). option_map_or (λ (x : NamedEntry). x.entry) r d.entry) (none_found (d ∷ after) h)
+first_translated_is (none {d = d} {after = after} h) = ap (λ (r : Option NamedEntry). option_map_or (λ (x : NamedEntry). x.entry) r d.entry) (find_none has (d ∷ after) (none_has (d ∷ after) h))
 
 pub forms_of_first : (o : MergeOptions) (ds : List NamedEntry) (d : NamedEntry) → FormsOfFirst o ds d
 forms_of_first o ds d apart first =

@@ -1,7 +1,7 @@
 -- The first duplicate is the first live entry whose number an earlier live one has.
 use Rattle.std.proofs.Common.{◌≡◌, ◌≢◌, ℕ, ◌+◌, ◌<◌, List, [], ◌∷◌, ◌++◌, refl, sym, ap, ap₂, ◌∙◌, subst, length, add-one, take, drop, map, filter, get_or, arith, All, AllPairs, suc, ⊎_elim, Result, Ok, Err, MatchResult, IsOkUnless}
 use Rattle.std.proofs.Math.Seq.{drop-cons}
-use Rattle.std.proofs.lemmas.List.{take-append-drop, map-append, length-map, get_or-map, take_more}
+use Rattle.std.proofs.lemmas.List.{map-append, length-map, get_or-map, take_more}
 use Rattle.std.proofs.lemmas.List.Elements.{All-filter}
 use Rattle.std.proofs.lemmas.Simd.{map-map}
 use Rattle.po_entry.specs.TextEntry.{TextEntry}
@@ -23,10 +23,6 @@ use Rattle.po_messages.proofs.NumberLemmas.{all_numbered, are_numbered, message_
 
 pub live_of_entries : (xs : List InputEntry) → filter is_live (entries_of xs) ≡ entries_of (live_entries xs)
 live_of_entries xs = filter_map is_live (λ (e : InputEntry). e.entry) xs
-
--- a list of entries, around two of them
-pub split_at : (entries : List InputEntry) (i : ℕ) (d : InputEntry) → i < length entries → entries ≡ take i entries ++ get_or entries i d ∷ drop (suc i) entries
-split_at entries i d inside = sym (take-append-drop i entries) ∙ ap (λ l. take i entries ++ l) (drop-cons entries i d inside)
 
 -- the number of an entry's message, among those of all
 abbrev pub number : List InputEntry → InputEntry → ℕ
