@@ -56,8 +56,11 @@ joined (last {b = b} {line = line} lacks) = append-nil (b ∷ line)
 joined (ended line {text = text} {lines = lines} lacks others) =
     ap (λ rest. (line ++ 10 ∷ []) ++ rest) (joined others) ∙ append_assoc line (10 ∷ []) text
 
+pub flat_lines : (text : List ℕ) → flat_map (λ line. line) (lines_with_ends text) ≡ text
+flat_lines text = joined (lines_are text)
+
 pub lines_joined : (text : List ℕ) → concat (lines_with_ends text) ≡ text
-lines_joined text = concat_is (lines_with_ends text) ∙ joined (lines_are text)
+lines_joined text = concat_is (lines_with_ends text) ∙ flat_lines text
 
 nothing_there : (before after : List (List ℕ)) (line : List ℕ) → [] ≡ before ++ line ∷ after → ⊥
 nothing_there before after line is = omega (arith, ap length is, length-append before (line ∷ after))

@@ -1,11 +1,11 @@
 -- A keyword with its text, on one line or more, spells the keyword and strings that give the text.
-use Rattle.std.proofs.Common.{◌≡◌, ◌≢◌, ◌∙◌, ◌==◌, nat_lt, refl, sym, ap, subst, ℕ, ◌<◌, Bool, true, false, if◌then◌else◌, List, [], ◌∷◌, ◌++◌, append_assoc, length, All, arith}
-use Rattle.std.specs.List.{flat_map, onto_first}
+use Rattle.std.proofs.Common.{◌≡◌, ◌≢◌, ◌∙◌, nat_lt, refl, sym, ap, subst, ℕ, ◌<◌, List, [], ◌∷◌, ◌++◌, append_assoc, length, All, arith}
+use Rattle.std.specs.List.{flat_map}
 use Rattle.std.specs.Str.{IsUtf8}
 use Rattle.std.proofs.lemmas.Str.{IsUtf8-nil}
 use Rattle.std.proofs.lemmas.List.{append-nil}
 use Rattle.std.proofs.lemmas.List.Elements.{All-nil, All-cons, All-head, All-tail}
-use Rattle.std.proofs.lemmas.Bool.{cond_both, eqb-true, ltb-true}
+use Rattle.std.proofs.lemmas.Bool.{cond_both, ltb-true}
 use Rattle.po_entry.specs.Facts.AllAppend.{All-left, All-right}
 use Rattle.po_syntax.specs.declared.item.Keyword.{Keyword}
 use Rattle.po_syntax.specs.declared.item.Marks.{Marks}
@@ -13,6 +13,7 @@ use Rattle.po_syntax.specs.QuotedForm.{quoted}
 use Rattle.po_syntax.specs.TextItem.{TextItem, Word, Str}
 use Rattle.po_entry.specs.Spelling.{SpellsStrings, last, more, SpellsKeywordText, keyword_text}
 use Rattle.po_writer.specs.WrittenText.{lines_with_ends, string_line, keyword_lines}
+use Rattle.po_writer.proofs.CutLines.{flat_lines}
 use Rattle.po_writer.proofs.Utf8.{IsLine, line-append, quoted_line, text_some, lines_utf8, line-ascii, plain_one, no_text}
 use Rattle.po_writer.proofs.Blocks.{Block, BeginsLow, low-append, two_blocks, weaker_block, line_block}
 use Rattle.po_writer.proofs.Tokens.{IsPrefix, IsKeyword, string_spells, keyword_spells}
@@ -47,8 +48,7 @@ one_string prefix marks text p h =
 
 -- the pieces one after the other
 abbrev pub joined : List (List ℕ) → List ℕ
-joined [] = []
-joined (piece ∷ pieces) = piece ++ joined pieces
+joined pieces = flat_map (λ piece. piece) pieces
 
 -- one string a line
 strings_block : (prefix : List ℕ) (marks : Marks) (piece : List ℕ) (pieces : List (List ℕ)) → IsLinePrefix prefix marks → All IsQuotable (piece ∷ pieces)
@@ -58,18 +58,6 @@ strings_block prefix marks piece [] p h =
 strings_block prefix marks piece (next ∷ pieces) p h =
     two_blocks (one_string prefix marks piece p (All-head IsQuotable piece (next ∷ pieces) h)) (strings_block prefix marks next pieces p (All-tail IsQuotable piece (next ∷ pieces) h))
     (λ before later g i. rw g.1 (more i))
-
-onto_joined : (b : ℕ) (pieces : List (List ℕ)) → joined (onto_first b pieces) ≡ b ∷ joined pieces
-onto_joined b [] = refl
-onto_joined b (piece ∷ pieces) = refl
-
-feed_joined : (b : ℕ) (feed : Bool) (pieces : List (List ℕ)) → (feed ≡ true → b ≡ 10) → joined (if feed then (10 ∷ []) ∷ pieces else onto_first b pieces) ≡ b ∷ joined pieces
-feed_joined b true pieces h = ap (λ c. c ∷ joined pieces) (sym (h refl))
-feed_joined b false pieces h = onto_joined b pieces
-
-joined_lines : (text : List ℕ) → joined (lines_with_ends text) ≡ text
-joined_lines [] = refl
-joined_lines (b ∷ text) = feed_joined b (b == 10) (lines_with_ends text) (λ e. eqb-true b 10 e) ∙ ap (λ t. b ∷ t) (joined_lines text)
 
 quotable_pieces : (pieces : List (List ℕ)) → All IsUtf8 pieces → All (λ b. b ≢ 0) (joined pieces) → All IsQuotable pieces
 quotable_pieces [] h g = All-nil IsQuotable
@@ -115,5 +103,5 @@ pub text_block : (prefix spelling : List ℕ) (keyword : Keyword) (marks : Marks
     → Block (TextPart keyword marks text) (keyword_lines prefix spelling text)
 text_block prefix spelling keyword marks text p k h =
     cond_both (nat_lt 1 (length (lines_with_ends text))) (string_line [] [] ++ flat_map (string_line prefix) (lines_with_ends text)) (string_line [] text) (λ l. Block (TextPart keyword marks text) ((prefix ++ spelling) ++ 32 ∷ l))
-    (λ several. several_lines prefix spelling keyword marks text (lines_with_ends text) p k (ltb-true 1 (length (lines_with_ends text)) several) (quotable_pieces (lines_with_ends text) (lines_utf8 text h.utf8) (subst (All (λ b. b ≢ 0)) (sym (joined_lines text)) h.no_nul)) (joined_lines text))
+    (λ several. several_lines prefix spelling keyword marks text (lines_with_ends text) p k (ltb-true 1 (length (lines_with_ends text)) several) (quotable_pieces (lines_with_ends text) (lines_utf8 text h.utf8) (subst (All (λ b. b ≢ 0)) (sym (flat_lines text)) h.no_nul)) (flat_lines text))
     (λ one. weaker_block (keyword_line prefix spelling keyword marks text p k h) (λ items g. (g.0, rw g.1 (keyword_text last))))

@@ -10,26 +10,26 @@ use Rattle.po_writer.proofs.Separated.{all_pass, none_pass}
 use Rattle.po_writer.specs.WrittenText.{entry_lines, arranged, written_text}
 
 -- the entries without their lines
-abbrev unnumbered : List TextEntry → List TextEntry
+abbrev pub unnumbered : List TextEntry → List TextEntry
 unnumbered entries = map (with_line 0) entries
 
 further_same : (entries : List TextEntry) → flat_map (λ e. (10 ∷ []) ++ entry_lines e) (unnumbered entries) ≡ flat_map (λ e. (10 ∷ []) ++ entry_lines e) entries
 further_same [] = refl
 further_same (e ∷ entries) = ap (λ t. ((10 ∷ []) ++ entry_lines e) ++ t) (further_same entries)
 
-join_same : (entries : List TextEntry) → join_by entry_lines (10 ∷ []) (unnumbered entries) ≡ join_by entry_lines (10 ∷ []) entries
+pub join_same : (entries : List TextEntry) → join_by entry_lines (10 ∷ []) (unnumbered entries) ≡ join_by entry_lines (10 ∷ []) entries
 join_same [] = refl
 join_same (e ∷ entries) = ap (λ t. entry_lines e ++ t) (further_same entries)
 
 -- a test of the obsolete mark
-abbrev kept : (Bool → Bool) → List TextEntry → List TextEntry
+abbrev pub kept : (Bool → Bool) → List TextEntry → List TextEntry
 kept test entries = filter (λ e. test e.obsolete) entries
 
 map_cond : (test : Bool) (e : TextEntry) (xs ys : List TextEntry) → xs ≡ unnumbered ys → cond test (with_line 0 e ∷ xs) xs ≡ unnumbered (cond test (e ∷ ys) ys)
 map_cond true e xs ys h = ap (λ t. with_line 0 e ∷ t) h
 map_cond false e xs ys h = h
 
-kept_same : (test : Bool → Bool) (entries : List TextEntry) → kept test (unnumbered entries) ≡ unnumbered (kept test entries)
+pub kept_same : (test : Bool → Bool) (entries : List TextEntry) → kept test (unnumbered entries) ≡ unnumbered (kept test entries)
 kept_same test [] = refl
 kept_same test (e ∷ entries) = map_cond (test e.obsolete) e _ (kept test entries) (kept_same test entries)
 
