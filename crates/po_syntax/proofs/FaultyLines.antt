@@ -16,8 +16,8 @@ use Rattle.po_syntax.specs.Internal.QuotedString.{Stop, numbered, number_step, l
 use Rattle.po_syntax.specs.Spelling.{is_word_byte, own_marks}
 use Rattle.po_syntax.specs.Internal.Token.{WrongToken, close_token, index_token, bracket_token, keyword_token, first_token, token_at}
 use Rattle.po_syntax.specs.Blanks.{is_blank, IsBlank, skip_blanks, FailsFirst}
-use Rattle.po_syntax.proofs.SpeltEscapes.{count_prefix, count_all, plain_read, backslash_read, spelt_quoted}
-use Rattle.po_syntax.proofs.SpeltKeywords.{skip_prefix, keyword_read, m_read, word_prefix, ends_before_bracket, blank_no_word, digits_no_blank}
+use Rattle.po_syntax.proofs.SpeltEscapes.{octal_at, hexadecimal_at, count_all, plain_read, backslash_read, spelt_quoted}
+use Rattle.po_syntax.proofs.SpeltKeywords.{index_at, skip_prefix, keyword_read, m_read, word_prefix, ends_before_bracket, blank_no_word, digits_no_blank}
 use Rattle.po_syntax.proofs.SpeltLines.{quote_opens, blank_skipped, hash_first, bar_first, tilde_first, tilde_bar_first, tilde_comment}
 
 -- escapes
@@ -28,18 +28,6 @@ number_stops rest (large {number = number} past) = rw (ne_eqb number 0 (λ none.
 
 digits_stop : {fault : PoFault} (base : ℕ) (digits rest : List ℕ) → NumberFault (digits_value base digits) fault → number_step base (length digits) (digits ++ rest) ≡ Stop fault
 digits_stop base digits rest h = rw (take-append_seam digits rest, drop-append_seam digits rest) (number_stops rest h)
-
-octal_stops : {fault : PoFault} (digits rest : List ℕ) → IsNumeral 8 digits → length digits ≤ 3 → (length digits ≡ 3) ⊎ NoDigitFirst 8 rest → NumberFault (digits_value 8 digits) fault → escape_at (digits ++ rest) ≡ Stop fault
-unfolding escape_at
-octal_stops [] rest numeral within end h = absurd (omega (arith, numeral.0))
-octal_stops (d ∷ digits) rest numeral within end h =
-    rw (count_prefix 8 3 (d ∷ digits) rest numeral.1 within end, lt-ltb (digit_value d) 8 numeral.1.0) (digits_stop 8 (d ∷ digits) rest h)
-
-hexadecimal_stops : {fault : PoFault} (digits rest : List ℕ) → IsNumeral 16 digits → NoDigitFirst 16 rest → NumberFault (digits_value 16 digits) fault → escape_at (120 ∷ digits ++ rest) ≡ Stop fault
-unfolding escape_at
-hexadecimal_stops digits rest numeral none h =
-    let some = ne_eqb (length digits) 0 (λ same. omega (arith, same, numeral.0)) in
-    rw (count_all 16 digits rest numeral.1 none, some) (digits_stop 16 digits rest h)
 
 no_digit_stops : (rest : List ℕ) → NoDigitFirst 16 rest → escape_at (120 ∷ rest) ≡ Stop BadEscape
 unfolding escape_at
@@ -57,9 +45,9 @@ nothing_stops = refl
 escape_stops : {text : List ℕ} {fault : PoFault} → EscapeFault text fault → escape_at text ≡ Stop fault
 escape_stops at_end = nothing_stops
 escape_stops (no_escape {b = b} {text = text} other no_x none) = other_stops b text other no_x none
-escape_stops (octal digits rest numeral within end h) = octal_stops digits rest numeral within end h
+escape_stops (octal digits rest numeral within end h) = octal_at digits rest numeral within end ∙ digits_stop 8 digits rest h
 escape_stops (no_digit {rest = rest} none) = no_digit_stops rest none
-escape_stops (hexadecimal_digits digits rest numeral none h) = hexadecimal_stops digits rest numeral none h
+escape_stops (hexadecimal_digits digits rest numeral none h) = hexadecimal_at digits rest numeral none ∙ digits_stop 16 digits rest h
 
 end_stops : step_at [] ≡ Stop UnterminatedString
 unfolding step_at
@@ -107,10 +95,7 @@ unfolding index_token
 no_index_stops rest none = rw (count_all 10 [] rest tt none) refl
 
 large_stops : (digits rest : List ℕ) → IsNumeral 10 digits → NoDigitFirst 10 rest → 2 ^ 32 ≤ digits_value 10 digits → index_token (digits ++ rest) ≡ WrongToken BadPluralIndex
-unfolding index_token
-large_stops digits rest numeral none past =
-    let some = ne_eqb (length digits) 0 (λ same. omega (arith, same, numeral.0)) in
-    rw (count_all 10 digits rest numeral.1 none, some, take-append_seam digits rest, le-ltb (digits_value 10 digits) (2 ^ 32) past) refl
+large_stops digits rest numeral none past = index_at digits rest numeral none ∙ cond-false _ _ _ (le-ltb (digits_value 10 digits) (2 ^ 32) past)
 
 not_closing : (index : ℕ) (rest : List ℕ) → FailsFirst (λ b. is_blank b || b == 93) rest → close_token index rest ≡ WrongToken BadToken
 not_closing index [] h = refl
@@ -122,11 +107,9 @@ no_blank_first byte [] h = tt
 no_blank_first byte (b ∷ rest) h = (or_parts (is_blank b) (b == byte) h).0
 
 open_stops : (digits after rest : List ℕ) → IsNumeral 10 digits → NoDigitFirst 10 (after ++ rest) → digits_value 10 digits < 2 ^ 32 → All IsBlank after → FailsFirst (λ b. is_blank b || b == 93) rest → index_token (digits ++ (after ++ rest)) ≡ WrongToken BadToken
-unfolding index_token
 open_stops digits after rest numeral none fits all other =
-    let some = ne_eqb (length digits) 0 (λ same. omega (arith, same, numeral.0)) in
-    rw (count_all 10 digits (after ++ rest) numeral.1 none, some, take-append_seam digits (after ++ rest), drop-append_seam digits (after ++ rest), lt-ltb (digits_value 10 digits) (2 ^ 32) fits, skip_prefix after rest all (no_blank_first 93 rest other))
-    (not_closing (digits_value 10 digits) rest other)
+    index_at digits (after ++ rest) numeral none ∙ cond-true _ _ _ (lt-ltb (digits_value 10 digits) (2 ^ 32) fits)
+    ∙ ap (close_token (digits_value 10 digits)) (skip_prefix after rest all (no_blank_first 93 rest other)) ∙ not_closing (digits_value 10 digits) rest other
 
 index_stops : {index : List ℕ} {fault : PoFault} → IndexFault index fault → FailsFirst is_blank index × (index_token index ≡ WrongToken fault)
 index_stops (no_index {text = text} first none) = (first, no_index_stops text none)

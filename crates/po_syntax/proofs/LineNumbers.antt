@@ -15,7 +15,7 @@ use Rattle.po_syntax.specs.declared.fault.PoFault.{PoFault}
 use Rattle.po_syntax.specs.declared.fault.PoFault.TheVariants.{NotUtf8, ForbiddenByte}
 use Rattle.po_syntax.specs.declared.item.Marks.{Marks}
 use Rattle.po_syntax.specs.LineFaults.{LineFault}
-use Rattle.po_syntax.specs.LineNumbers.{HasFeeds, none, feed, other, BeginsLine, at_start, after_feed, at_end, before_feed, HasLine, IsOnItsLine, ItemsAreOnTheirLines, HasFaultOnLine, no_line, not_utf8, nul, in_line, marked_text, MarkIsOmitted}
+use Rattle.po_syntax.specs.LineNumbers.{HasFeeds, none, feed, other, BeginsLine, at_start, after_feed, EndsLine, at_end, before_feed, HasLine, IsOnItsLine, ItemsAreOnTheirLines, HasFaultOnLine, no_line, not_utf8, nul, in_line, marked_text, MarkIsOmitted}
 use Rattle.po_syntax.specs.PoText.{HasNoNul, line_number, lines_of, LinesStop, SpellsLines, TextFault, without_byte_order_mark}
 use Rattle.po_syntax.specs.PoText as text_faults
 use Rattle.po_syntax.specs.Spelling.{HoldsItems, HoldsTokens}
@@ -99,31 +99,24 @@ record Left (text before rest : List ℕ) (count : ℕ) : Type 0 where
   begins : BeginsLine before
   counted : HasFeeds before count
 
-last_has : (text before rest : List ℕ) (count : ℕ) → Left text before rest count → All (λ b. b ≢ 10) rest → HasLine text rest (1 + count)
-last_has text before rest count left lacks = record {
+line_has : (text before line after : List ℕ) (count : ℕ) → Left text before (line ++ after) count → All (λ b. b ≢ 10) line → EndsLine after → HasLine text line (1 + count)
+line_has text before line after count left lacks ends = record {
   before = before;
-  after = [];
-  feeds = count;
-  whole = left.whole ∙ ap (λ l. before ++ l) (sym (append-nil rest));
-  begins = left.begins;
-  one_line = lacks;
-  ends = at_end;
-  counted = left.counted;
-  number_is = refl;
-}
-
-first_has : (text before first rest : List ℕ) (count : ℕ) → Left text before (first ++ 10 ∷ rest) count → All (λ b. b ≢ 10) first → HasLine text first (1 + count)
-first_has text before first rest count left lacks = record {
-  before = before;
-  after = 10 ∷ rest;
+  after = after;
   feeds = count;
   whole = left.whole;
   begins = left.begins;
   one_line = lacks;
-  ends = before_feed;
+  ends = ends;
   counted = left.counted;
   number_is = refl;
 }
+
+last_has : (text before rest : List ℕ) (count : ℕ) → Left text before rest count → All (λ b. b ≢ 10) rest → HasLine text rest (1 + count)
+last_has text before rest count left lacks = line_has text before rest [] count (subst (λ l. Left text before l count) (sym (append-nil rest)) left) lacks at_end
+
+first_has : (text before first rest : List ℕ) (count : ℕ) → Left text before (first ++ 10 ∷ rest) count → All (λ b. b ≢ 10) first → HasLine text first (1 + count)
+first_has text before first rest count left lacks = line_has text before first (10 ∷ rest) count left lacks before_feed
 
 left_after : (text before first rest : List ℕ) (count : ℕ) → Left text before (first ++ 10 ∷ rest) count → All (λ b. b ≢ 10) first → Left text (before ++ first ++ 10 ∷ []) rest (count + 1)
 left_after text before first rest count left lacks = record {

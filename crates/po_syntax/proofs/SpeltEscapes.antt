@@ -1,5 +1,5 @@
 -- Each spelling of a quoted string is read by its steps.
-use Rattle.std.proofs.Common.{◌≡◌, ◌==◌, ◌⊎◌, inl, inr, refl, sym, subst, Bool, true, false, cond, Some, option_map, find, ℕ, zero, suc, ◌≤◌, List, [], ◌∷◌, ◌++◌, length, take, arith}
+use Rattle.std.proofs.Common.{◌≡◌, ◌∙◌, ◌==◌, ◌⊎◌, inl, inr, refl, sym, subst, Bool, true, false, cond, Some, option_map, find, ℕ, zero, suc, ◌≤◌, List, [], ◌∷◌, ◌++◌, length, take, arith}
 use Rattle.std.specs.Char.{digit_value}
 use Rattle.std.specs.Str.Parse.{AllDigits, IsNumeral, digits_value}
 use Rattle.std.proofs.Math.Seq.{take-append_seam, drop-append_seam}
@@ -30,20 +30,17 @@ number_read : (base : ℕ) (digits rest : List ℕ) → IsByteNumber (digits_val
 number_read base digits rest small =
     rw (take-append_seam digits rest, drop-append_seam digits rest, ne_eqb (digits_value base digits) 0 (λ none. omega (arith, small.0, none)), lt-ltb (digits_value base digits) 256 small.1) refl
 
-octal_read : (digits rest : List ℕ) → IsNumeral 8 digits → length digits ≤ 3 → (length digits ≡ 3) ⊎ NoDigitFirst 8 rest → IsByteNumber (digits_value 8 digits) → escape_at (digits ++ rest) ≡ Byte (digits_value 8 digits) rest
+-- what an escape of digits is read as: the byte with their number, or a fault
+pub octal_at : (digits rest : List ℕ) → IsNumeral 8 digits → length digits ≤ 3 → (length digits ≡ 3) ⊎ NoDigitFirst 8 rest → escape_at (digits ++ rest) ≡ number_step 8 (length digits) (digits ++ rest)
 unfolding escape_at
-octal_read [] rest numeral within end small = absurd (omega (arith, numeral.0))
-octal_read (d ∷ digits) rest numeral within end small =
-    let count = count_prefix 8 3 (d ∷ digits) rest numeral.1 within end in
-    let first = lt-ltb (digit_value d) 8 numeral.1.0 in
-    rw (count, first) (number_read 8 (d ∷ digits) rest small)
+octal_at [] rest numeral within end = absurd (omega (arith, numeral.0))
+octal_at (d ∷ digits) rest numeral within end =
+    rw (count_prefix 8 3 (d ∷ digits) rest numeral.1 within end, lt-ltb (digit_value d) 8 numeral.1.0) refl
 
-hexadecimal_read : (digits rest : List ℕ) → IsNumeral 16 digits → NoDigitFirst 16 rest → IsByteNumber (digits_value 16 digits) → escape_at (120 ∷ digits ++ rest) ≡ Byte (digits_value 16 digits) rest
+pub hexadecimal_at : (digits rest : List ℕ) → IsNumeral 16 digits → NoDigitFirst 16 rest → escape_at (120 ∷ digits ++ rest) ≡ number_step 16 (length digits) (digits ++ rest)
 unfolding escape_at
-hexadecimal_read digits rest numeral none small =
-    let count = count_all 16 digits rest numeral.1 none in
-    let some = ne_eqb (length digits) 0 (λ same. omega (arith, same, numeral.0)) in
-    rw (count, some) (number_read 16 digits rest small)
+hexadecimal_at digits rest numeral none =
+    rw (count_all 16 digits rest numeral.1 none, ne_eqb (length digits) 0 (λ same. omega (arith, same, numeral.0))) refl
 
 -- what holds of each letter of a table and its byte
 abbrev HoldsOfEach : (ℕ → ℕ → Type 0) → List (ℕ × ℕ) → Type 0
@@ -80,8 +77,8 @@ letter_read b value rest e = of_each_letter (λ a v. escape_at (a ∷ rest) ≡ 
 
 escape_read : {text rest : List ℕ} {b : ℕ} → SpellsEscape text b rest → escape_at text ≡ Byte b rest
 escape_read (letter {b = b} {value = value} {rest = rest} e) = letter_read b value rest e
-escape_read (octal digits {rest = rest} numeral within end small) = octal_read digits rest numeral within end small
-escape_read (hexadecimal digits {rest = rest} numeral none small) = hexadecimal_read digits rest numeral none small
+escape_read (octal digits {rest = rest} numeral within end small) = octal_at digits rest numeral within end ∙ number_read 8 digits rest small
+escape_read (hexadecimal digits {rest = rest} numeral none small) = hexadecimal_at digits rest numeral none ∙ number_read 16 digits rest small
 
 closing_quote : (rest : List ℕ) → step_at (34 ∷ rest) ≡ End rest
 unfolding step_at

@@ -1,5 +1,5 @@
 -- Each keyword is read where it is spelt, and what is read as one is spelt, or has a fault.
-use Rattle.std.proofs.Common.{◌≡◌, ◌∙◌, refl, sym, ap, subst, ℕ, suc, ◌+◌, ◌^◌, ◌<◌, ◌==◌, ◌||◌, Bool, true, false, nat_lt, List, [], ◌∷◌, ◌++◌, length, take, drop, codes, bytes_eq, All, arith}
+use Rattle.std.proofs.Common.{◌≡◌, ◌∙◌, refl, sym, ap, subst, ℕ, suc, ◌+◌, ◌^◌, ◌<◌, ◌==◌, ◌||◌, Bool, true, false, if◌then◌else◌, nat_lt, List, [], ◌∷◌, ◌++◌, length, take, drop, codes, bytes_eq, All, arith}
 use Rattle.std.specs.Char.{digit_value, is_digit}
 use Rattle.std.specs.List.{prefix_len, list_all}
 use Rattle.std.specs.Str.Parse.{IsNumeral, digits_value}
@@ -95,13 +95,18 @@ digits_no_blank [] rest numeral = absurd (omega (arith, numeral.0))
 digits_no_blank (d ∷ digits) rest numeral =
     false_from_ne_true (is_blank d) (λ passes. both_ways (is_digit d 10) (blank_no_digit d passes) (lt-ltb (digit_value d) 10 numeral.1.0))
 
-index_read : (digits after rest : List ℕ) → IsNumeral 10 digits → digits_value 10 digits < 2 ^ 32 → All IsBlank after → index_token (digits ++ (after ++ 93 ∷ rest)) ≡ KeywordToken (MsgStrAt (digits_value 10 digits)) rest
+-- what an index is read as, by its digits
+pub index_at : (digits rest : List ℕ) → IsNumeral 10 digits → NoDigitFirst 10 rest
+    → index_token (digits ++ rest) ≡ (if nat_lt (digits_value 10 digits) (2 ^ 32) then close_token (digits_value 10 digits) (skip_blanks rest) else WrongToken BadPluralIndex)
 unfolding index_token
-index_read digits after rest numeral fits all =
-    let closing = after ++ 93 ∷ rest in
-    let count = count_all 10 digits closing numeral.1 (no_digit_before_bracket after rest all) in
+index_at digits rest numeral none =
     let some = ne_eqb (length digits) 0 (λ same. omega (arith, same, numeral.0)) in
-    rw (count, some, take-append_seam digits closing, drop-append_seam digits closing, lt-ltb (digits_value 10 digits) (2 ^ 32) fits, skip_prefix after (93 ∷ rest) all refl) refl
+    rw (count_all 10 digits rest numeral.1 none, some, take-append_seam digits rest, drop-append_seam digits rest) refl
+
+index_read : (digits after rest : List ℕ) → IsNumeral 10 digits → digits_value 10 digits < 2 ^ 32 → All IsBlank after → index_token (digits ++ (after ++ 93 ∷ rest)) ≡ KeywordToken (MsgStrAt (digits_value 10 digits)) rest
+index_read digits after rest numeral fits all =
+    index_at digits (after ++ 93 ∷ rest) numeral (no_digit_before_bracket after rest all)
+    ∙ cond-true _ _ _ (lt-ltb (digits_value 10 digits) (2 ^ 32) fits) ∙ ap (close_token (digits_value 10 digits)) (skip_prefix after (93 ∷ rest) all refl)
 
 form_read : (before inside digits after rest : List ℕ) → All IsBlank before → All IsBlank inside → IsNumeral 10 digits → digits_value 10 digits < 2 ^ 32 → All IsBlank after
     → bracket_token (before ++ 91 ∷ (inside ++ (digits ++ (after ++ 93 ∷ rest)))) (skip_blanks (before ++ 91 ∷ (inside ++ (digits ++ (after ++ 93 ∷ rest))))) ≡ KeywordToken (MsgStrAt (digits_value 10 digits)) rest
