@@ -2,7 +2,7 @@
 use Rattle.std.proofs.Common.{◌≡◌, refl, sym, ap, ap₂, ◌∙◌, subst, ℕ, suc, ◌+◌, ◌<◌, ◌==◌, Bool, true, false, cond, not, ◌||◌, filter, List, [], ◌∷◌, ◌++◌, append-nil, arith, length, get_or, take, map, inl, inr}
 use Rattle.std.specs.Prelude.{All, IsUtf8, if◌then◌else◌}
 use Rattle.std.specs.Global.{Vec}
-use Rattle.std.specs.List.{AllZip, flat_map, list_any, range_with_len}
+use Rattle.std.specs.List.{AllZip, list_any, range_with_len}
 use Rattle.std.proofs.lemmas.List.{map-append, take_more}
 use Rattle.std.proofs.lemmas.List.Elements.{All-cons, All-nil, All-push}
 use Rattle.po_syntax.specs.declared.fault.PoError.{PoError}
@@ -12,7 +12,6 @@ use Rattle.po_entry.specs.Header.{HasAdmittedCharset, is_header}
 use Rattle.po_entry.specs.ReadsText.{ReadsText}
 use Rattle.po_entry.specs.TextEntry.{TextEntry, SameButLine, with_line}
 use Rattle.po_entry.specs.Validity.{IsCatalogueEntry}
-use Rattle.po_messages.specs.Facts.Mapped.{filter_map}
 use Rattle.po_messages.specs.Joined.{is_live}
 use Rattle.po_messages.specs.Message.{same_message}
 use Rattle.po_merge.specs.declared.definition.NamedEntry.{NamedEntry as BorrowedEntry}
@@ -26,6 +25,7 @@ use Rattle.po_merge.specs.Merged.{IsMergeFault, is_kept, is_kept_by, is_wanted, 
 use Rattle.po_merge.specs.MergeLaws.{GroupsByNumber}
 use Rattle.po_merge.specs.MergedEntry.{merged_entry}
 use Rattle.po_merge.proofs.GroupsMerged.{dropped_one, groups_valid, kept_one}
+use Rattle.po_writer.proofs.Rewritten.{join_same, kept, kept_same}
 use Rattle.po_writer.specs.TextParts.{AreParts, AreSeparated, separated}
 use Rattle.po_writer.specs.WrittenText.{arranged, entry_lines, in_order, written_text}
 use Rattle.po_writer.specs.declared.parts.TextParts.{TextParts}
@@ -130,19 +130,10 @@ obsolete_text e own dead is = found e.obsolete refl dead where
   }
 
 -- the lines of entries aren't written
-further_unlined : (es : List TextEntry) → flat_map (λ e. (10 ∷ []) ++ entry_lines e) (map (with_line 0) es) ≡ flat_map (λ e. (10 ∷ []) ++ entry_lines e) es
-further_unlined [] = refl
-further_unlined (e ∷ es) = ap (λ l. ((10 ∷ []) ++ entry_lines e) ++ l) (further_unlined es)
-
-order_unlined : (es : List TextEntry) → in_order (map (with_line 0) es) ≡ in_order es
-order_unlined [] = refl
-order_unlined (e ∷ es) = ap (λ l. entry_lines e ++ l) (further_unlined es)
-
 module _ (p : Bool → Bool) where
   part_unlined : (es fs : List TextEntry) → map (with_line 0) es ≡ map (with_line 0) fs → in_order (filter (λ e. p e.obsolete) es) ≡ in_order (filter (λ e. p e.obsolete) fs)
   part_unlined es fs same =
-      sym (order_unlined (filter (λ e. p e.obsolete) es)) ∙ ap in_order (sym (filter_map (λ (e : TextEntry). p e.obsolete) (with_line 0) es)) ∙ ap (λ l. in_order (filter (λ e. p e.obsolete) l)) same
-      ∙ ap in_order (filter_map (λ (e : TextEntry). p e.obsolete) (with_line 0) fs) ∙ order_unlined (filter (λ e. p e.obsolete) fs)
+      sym (join_same (kept p es)) ∙ ap in_order (sym (kept_same p es)) ∙ ap (λ l. in_order (kept p l)) same ∙ ap in_order (kept_same p fs) ∙ join_same (kept p fs)
 
 -- the last entry, but for its line
 pub last_unlined : (before : List TextEntry) (a b : TextEntry) (parts : TextParts) → SameButLine a b → AreParts (before ++ a ∷ []) parts → AreParts (before ++ b ∷ []) parts

@@ -13,21 +13,14 @@ use Rattle.msgcat.proofs.merged_text.merge_groups.Goals as goal
 pub loop-group-init : goal.loop-group-init
 loop-group-init c = λ all h. record { parts_are = c.in_ok-parts.ensures; admitted = All-nil HasAdmittedCharset }
 
-pub push_group-requires-clause-some : goal.push_group-requires-clause-some
-push_group-requires-clause-some c =
+pub push_group-requires : goal.push_group-requires
+push_group-requires c =
     let given = c.into_iter-group-iterator.ensures.into_iter_gives in
     let list = YieldsList-from_vec {s = c.into_iter-group-iterator.result} c.args.groups.items given.0 (given.1 ∙ c.args.groups.ok.0) in
     let turn = YieldsList-turn list c.loop-group.yielded c.loop-group.group-iterator c.loop-group.yielded_by c.next.result c.next.new.self c.in-Some.group c.in-Some.is c.next.ensures.steps in
     let i = length c.loop-group.yielded in
-    (group_at c.args.text.now c.requires.0 c.args.groups.items i c.in-Some.group c.requires.1 turn.0 turn.1).some
-
-pub push_group-requires-clause-rows : goal.push_group-requires-clause-rows
-push_group-requires-clause-rows c =
-    let given = c.into_iter-group-iterator.ensures.into_iter_gives in
-    let list = YieldsList-from_vec {s = c.into_iter-group-iterator.result} c.args.groups.items given.0 (given.1 ∙ c.args.groups.ok.0) in
-    let turn = YieldsList-turn list c.loop-group.yielded c.loop-group.group-iterator c.loop-group.yielded_by c.next.result c.next.new.self c.in-Some.group c.in-Some.is c.next.ensures.steps in
-    let i = length c.loop-group.yielded in
-    (get_or c.requires.0 i [], (group_at c.args.text.now c.requires.0 c.args.groups.items i c.in-Some.group c.requires.1 turn.0 turn.1).rows)
+    let group = group_at c.args.text.now c.requires.0 c.args.groups.items i c.in-Some.group c.requires.1 turn.0 turn.1 in
+    record { some = group.some; rows = (get_or c.requires.0 i [], group.rows) }
 
 pub returns-in-Err : goal.returns-in-Err
 returns-in-Err c = λ all h.
