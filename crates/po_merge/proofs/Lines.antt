@@ -1,9 +1,10 @@
 -- The lines of definitions, which change nothing but the line of what they are merged to.
-use Rattle.std.proofs.Common.{◌≡◌, refl, sym, ap, ap₂, ◌∙◌, ℕ, Bool, not, ◌&&◌, ◌||◌, List, [], ◌∷◌, ◌++◌, Option, Some, None, filter, find, fold, length, map, max, nat_lt}
+use Rattle.std.proofs.Common.{◌≡◌, refl, sym, ap, ap₂, ◌∙◌, ℕ, Bool, not, ◌&&◌, ◌||◌, List, [], ◌∷◌, Option, Some, None, filter, find, fold, length, map, max, nat_lt}
 use Rattle.std.specs.Prelude.{option_map, slice_get, if◌then◌else◌}
 use Rattle.std.specs.List.{AllZip, range_with_len}
 use Rattle.std.specs.Option.{option_map_or}
 use Rattle.std.proofs.lemmas.List.{length-map}
+use Rattle.std.proofs.lemmas.List.Folds.{flat_map-map, fold-map}
 use Rattle.po_syntax.specs.declared.item.CommentKind.{CommentKind}
 use Rattle.po_syntax.specs.declared.item.CommentKind.TheVariants.{Translator, Extracted, Reference, Flags}
 use Rattle.po_entry.specs.TextEntry.{TextEntry, with_line}
@@ -45,9 +46,7 @@ texts_unlined kind e = refl
 
 collected_unlined : (kind : CommentKind) (done : List (List ℕ)) (ds : List NamedEntry)
     → fold (λ done d. with_others done (texts_of kind d.entry)) done (map unlined ds) ≡ fold (λ done d. with_others done (texts_of kind d.entry)) done ds
-collected_unlined kind done [] = refl
-collected_unlined kind done (d ∷ ds) =
-    ap (λ ts. fold (λ done x. with_others done (texts_of kind x.entry)) (with_others done ts) (map unlined ds)) (texts_unlined kind d.entry) ∙ collected_unlined kind (with_others done (texts_of kind d.entry)) ds
+collected_unlined kind done ds = fold-map (λ done d. with_others done (texts_of kind d.entry)) unlined done ds ∙ (λ i. fold (λ done d. with_others done (texts_unlined kind d.entry i)) done ds)
 
 comment_unlined : (o : MergeOptions) (kind : CommentKind) (ds : List NamedEntry) → comment_of o kind (map unlined ds) ≡ comment_of o kind ds
 comment_unlined o kind ds =
@@ -60,12 +59,10 @@ joined_unlined : (o : MergeOptions) (ds : List NamedEntry) → is_joined o (map 
 joined_unlined o ds = ap (λ n. not o.use_first && nat_lt 1 n) (ap length (translations_unlined ds) ∙ length-map (translations ds) unlined)
 
 form_unlined : (i : ℕ) (ts : List NamedEntry) → joined_form (map unlined ts) i ≡ joined_form ts i
-form_unlined i [] = refl
-form_unlined i (t ∷ ts) = ap (λ l. option_map_or (marked t.name) (slice_get t.entry.forms i) [] ++ l) (form_unlined i ts)
+form_unlined i ts = flat_map-map (λ (t : NamedEntry). option_map_or (marked t.name) (slice_get t.entry.forms i) []) unlined ts
 
 count_unlined : (n : ℕ) (ts : List NamedEntry) → fold (λ count t. max count (length t.entry.forms)) n (map unlined ts) ≡ fold (λ count t. max count (length t.entry.forms)) n ts
-count_unlined n [] = refl
-count_unlined n (t ∷ ts) = count_unlined (max n (length t.entry.forms)) ts
+count_unlined n ts = fold-map (λ count (t : NamedEntry). max count (length t.entry.forms)) unlined n ts
 
 forms_unlined : (ts : List NamedEntry) → joined_forms (map unlined ts) ≡ joined_forms ts
 forms_unlined ts = λ i. map (λ index. form_unlined index ts i) (range_with_len 0 (count_unlined 0 ts i))
