@@ -1,5 +1,5 @@
 -- What the comments and strings of clean lines hold.
-use Rattle.std.proofs.Common.{◌≡◌, ◌≢◌, ◌∙◌, refl, sym, subst, ℕ, zero, suc, ◌+◌, ◌<◌, ◌-◌, ◌==◌, true, List, [], ◌∷◌, ◌++◌, length, get_or, take, All, Contains, codes, arith}
+use Rattle.std.proofs.Common.{◌≡◌, ◌≢◌, refl, subst, ℕ, zero, suc, ◌+◌, ◌<◌, ◌-◌, ◌==◌, true, List, [], ◌∷◌, ◌++◌, length, get_or, take, All, Contains, codes, arith}
 use Rattle.std.specs.List.{suffix_len}
 use Rattle.std.proofs.lemmas.Bool.{both_ways}
 use Rattle.std.proofs.lemmas.List.Elements.{All-append, All-cons, All-head, All-nil, All-take, All-tail}

@@ -3,7 +3,7 @@ use Rattle.std.proofs.Common.{◌≡◌, ◌⊎◌, inl, inr, ◌==◌, ◌||◌
 use Rattle.std.specs.List.{prefix_len}
 use Rattle.std.proofs.Math.Numerals.{one-add}
 use Rattle.std.proofs.lemmas.Bool.{cond_both, or_from, or_parts, cond-true, cond-false, eqb-true, eqb-false, ne_eqb}
-use Rattle.std.proofs.lemmas.List.Elements.{All-head, All-tail}
+use Rattle.std.proofs.lemmas.List.Elements.{All-head}
 use Rattle.po_syntax.specs.declared.fault.PoFault.{PoFault}
 use Rattle.po_syntax.specs.declared.fault.PoFault.TheVariants.{BadToken}
 use Rattle.po_syntax.specs.declared.item.CommentKind.{CommentKind}
@@ -15,12 +15,12 @@ use Rattle.po_syntax.specs.ItemContents.{trim_returns}
 use Rattle.po_syntax.specs.LineFaults.{TokensFault, blank as fault_blank, in_string as fault_in_string, after_keyword, after_string as fault_after_string, BeginsTokens, LineFault, indented as fault_indent, previous_again, obsolete_again, live as fault_live, previous as fault_previous, obsolete as fault_obsolete, obsolete_previous as fault_obsolete_previous}
 use Rattle.po_syntax.specs.Spelling.{HoldsTokens, end, blank, keyword, string, SpellsComment, extracted, reference, flags, translator, own_marks, previous_marks, HoldsItems, indented, comment, obsolete_comment, live, previous, obsolete, obsolete_previous}
 use Rattle.po_syntax.specs.TextItem.{TextItem, Comment, Str}
-use Rattle.po_syntax.specs.Internal.Token.{Token, LineEnd, OpeningQuote, KeywordToken, WrongToken, first_token, token_at}
+use Rattle.po_syntax.specs.Internal.Token.{LineEnd, OpeningQuote, WrongToken, first_token, token_at}
 use Rattle.po_syntax.specs.Blanks.{is_blank, IsBlank, skip_blanks, FailsFirst}
 use Rattle.po_syntax.proofs.Escapes.{quoted_spelt, string_fault}
 use Rattle.po_syntax.proofs.SpeltEscapes.{spelt_quoted}
 use Rattle.po_syntax.proofs.Tokens.{says}
-use Rattle.po_syntax.proofs.SpeltKeywords.{of_blank, over_blanks, over_skipped, skips, skip_prefix, keyword_read, TokenSays, first_says}
+use Rattle.po_syntax.proofs.SpeltKeywords.{of_blank, over_blanks, over_skipped, skips, skip_prefix, keyword_read}
 
 after_blanks : {marks : Marks} {number : ℕ} {items : List TextItem} (blanks text : List ℕ) → All IsBlank blanks → HoldsTokens marks number text items → HoldsTokens marks number (blanks ++ text) items
 after_blanks {marks} {number} {items} = over_blanks (λ t. HoldsTokens marks number t items) (λ b t is h. blank is h)
