@@ -48,6 +48,7 @@ fn is_nul(bytes: &[u8], at: usize) -> bool
 }
 
 /// Checks that each key is above the one before it, by one comparison for each two neighbours.
+#[inline(always)]
 pub(crate) fn check_keys<T: FileOrder>(
     header: FileHeader,
     bytes: &[u8],

@@ -48,6 +48,7 @@ impl<'a> MoView<'a> {
     ///
     /// The meter counts the comparisons of two neighbouring keys: one less than there are messages,
     /// `i` where [`MoError::NotSorted`] names message `i`, and none on any other refusal.
+    #[inline(always)]
     pub fn open(bytes: &'a [u8], meter: &mut Meter) -> Result<MoView<'a>, MoError>
         requires { meter.old < 2 ^ 63 }
         ensures exact { MatchResult result
@@ -69,6 +70,7 @@ impl<'a> MoView<'a> {
     }
 
     /// Checks bytes after the magic number, which shows this byte order.
+    #[inline(always)]
     fn open_in<T: FileOrder>(bytes: &'a [u8], meter: &mut Meter) -> Result<MoView<'a>, MoError>
         requires long { 28 ≤ length bytes.now }
         requires shows { HasMagicOf T.order bytes.now }
