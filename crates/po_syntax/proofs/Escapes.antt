@@ -1,4 +1,4 @@
--- Each step inside a quoted string reads what spells its byte, or stops at a fault.
+-- What is read after a backslash is what spells its byte, or has a fault.
 use Rattle.std.proofs.Common.{◌≡◌, ◌==◌, ◌⊎◌, inl, inr, refl, sym, subst, ℕ, zero, suc, ◌+◌, ◌<◌, ◌≤◌, Bool, true, false, cond, if◌then◌else◌, nat_lt, List, [], ◌∷◌, ◌++◌, length, length-append, take, drop, Option, Some, None, arith}
 use Rattle.std.specs.Char.{digit_value, is_digit}
 use Rattle.std.specs.Str.Parse.{AllDigits, digits_value}
@@ -6,8 +6,8 @@ use Rattle.std.proofs.lemmas.List.{take-append-drop, length-take}
 use Rattle.std.proofs.lemmas.Bool.{cond_both, eqb-true, eqb-false, ltb-true, ltb-false}
 use Rattle.po_syntax.specs.declared.fault.PoFault.{PoFault}
 use Rattle.po_syntax.specs.declared.fault.PoFault.TheVariants.{BadEscape, ForbiddenByte}
-use Rattle.po_syntax.specs.LineFaults.{EscapeFault, at_end, no_escape, octal as octal_fault, no_digit, hexadecimal_digits, NumberFault, nul, large, StringFault, not_closed, in_escape, after_plain, after_escape}
-use Rattle.po_syntax.specs.Internal.QuotedString.{Step, End, Byte, Stop, digit_count, number_step, letter_step, escape_at, step_at, IsQuoted, ended, spelt, QuotedStops, here, later}
+use Rattle.po_syntax.specs.LineFaults.{EscapeFault, at_end, no_escape, octal as octal_fault, no_digit, hexadecimal_digits, NumberFault, nul, large}
+use Rattle.po_syntax.specs.Internal.QuotedString.{Step, End, Byte, Stop, digit_count, number_step, letter_step, escape_at}
 use Rattle.po_syntax.specs.Escapes.{NoDigitFirst, letter_value, SpellsEscape, letter, octal, hexadecimal, SpellsString, closed, plain, escape}
 
 -- the first n bytes are digits, at most so many, and no digit follows where there are fewer
@@ -103,33 +103,6 @@ pub escape_shorter : {text rest : List ℕ} {b : ℕ} → SpellsEscape text b re
 escape_shorter (octal digits {rest = rest} numeral few ends byte) = omega (arith, numeral.0, length-append digits rest)
 escape_shorter (hexadecimal digits {rest = rest} numeral ends byte) = omega (arith, length-append digits rest)
 escape_shorter _ = omega arith
-
--- what a step inside a quoted string says of the text
-abbrev pub StepSays : List ℕ → Step → Type 0
-StepSays text (End rest) = SpellsString text [] rest
-StepSays text (Byte b next) = ((bytes rest : List ℕ) → SpellsString next bytes rest → SpellsString text (b ∷ bytes) rest) × ((fault : PoFault) → StringFault next fault → StringFault text fault) × (length next < length text)
-StepSays text (Stop fault) = StringFault text fault
-
-after_backslash : (text : List ℕ) (step : Step) → EscapeSays text step → StepSays (92 ∷ text) step
-after_backslash text (End rest) h = absurd h
-after_backslash text (Byte b next) h = (λ bytes rest more. escape h more, λ fault more. after_escape h more, omega (arith, escape_shorter h))
-after_backslash text (Stop fault) h = in_escape h
-
-pub step_says : (text : List ℕ) → StepSays text (step_at text)
-unfolding step_at
-step_says [] = not_closed
-step_says (b ∷ text) =
-    cond_both (b == 34) (End text) _ (StepSays (b ∷ text)) (λ is. subst (λ x. SpellsString (x ∷ text) [] text) (sym (eqb-true b 34 is)) closed) (λ inside.
-    cond_both (b == 92) _ (Byte b text) (StepSays (b ∷ text)) (λ is. subst (λ x. StepSays (x ∷ text) (escape_at text)) (sym (eqb-true b 92 is)) (after_backslash text (escape_at text) (escape_says text))) (λ raw. (λ bytes rest more. plain (eqb-false b 34 inside) (eqb-false b 92 raw) more, λ fault more. after_plain (eqb-false b 34 inside) (eqb-false b 92 raw) more, omega arith)))
-
-pub quoted_spelt : {text bytes rest : List ℕ} → IsQuoted text bytes rest → SpellsString text bytes rest
-quoted_spelt (ended {text = text} e) = subst (StepSays text) e (step_says text)
-quoted_spelt (spelt {text = text} {bytes = bytes} {rest = rest} e h) =
-    let says = subst (StepSays text) e (step_says text) in says.0 bytes rest (quoted_spelt h)
-
-pub string_fault : {text : List ℕ} {fault : PoFault} → QuotedStops text fault → StringFault text fault
-string_fault (here {text = text} e) = subst (StepSays text) e (step_says text)
-string_fault (later {text = text} {fault = fault} e h) = let says = subst (StepSays text) e (step_says text) in says.1 fault (string_fault h)
 
 -- what stands after a quoted string is shorter
 pub string_shorter : {text bytes rest : List ℕ} → SpellsString text bytes rest → length rest < length text

@@ -15,10 +15,9 @@ use Rattle.po_syntax.specs.Spelling.{is_mark, SpellsComment, extracted, referenc
 use Rattle.po_syntax.specs.TextItem.{TextItem}
 use Rattle.po_syntax.specs.CleanLine.{IsCleanLine, AreCleanLines}
 use Rattle.po_syntax.proofs.CleanLines.{clean_lines}
-use Rattle.po_syntax.proofs.Rests.{All-rest}
 use Rattle.po_syntax.proofs.SpeltEscapes.{of_each_letter}
 use Rattle.po_syntax.proofs.SpeltKeywords.{of_blank}
-use Rattle.po_syntax.proofs.Tokens.{keyword_behind}
+use Rattle.po_syntax.proofs.Tokens.{keyword_rest}
 use Rattle.po_syntax.proofs.TrimmedReturns.{trim_returns-utf8, trim_returns-twice}
 
 -- a clean line after an ASCII byte, or after several
@@ -104,7 +103,8 @@ no_items = All-nil HoldsText
 token_texts : {marks : Marks} {line : ℕ} {text : List ℕ} {items : List TextItem} → HoldsTokens marks line text items → HasNone text → All HoldsText items
 token_texts end h = no_items
 token_texts (blank {b = b} {text = text} is more) h = token_texts more (rest_of (b ∷ []) text h)
-token_texts (keyword {text = text} s more) h = All-cons HoldsText _ _ tt (token_texts more (All-rest (λ b. b ≢ 0) text h (keyword_behind s).0))
+token_texts (keyword {text = text} {rest = rest} s more) h =
+    let own = keyword_rest s in All-cons HoldsText _ _ tt (token_texts more (rest_of own.0 rest (subst HasNone own.1 h)))
 token_texts (string {text = text} s more) h =
     let read = string_nonzero s (rest_of (34 ∷ []) text h) in
     All-cons HoldsText _ _ read.0 (token_texts more read.1)

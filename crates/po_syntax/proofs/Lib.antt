@@ -8,7 +8,6 @@ pub mod Uniqueness
 pub mod Totality
 pub mod QuotedForms
 pub mod QuotedLengths
-pub mod Rests
 pub mod CleanLines
 pub mod TrimmedReturns
 pub mod ItemTexts
@@ -18,6 +17,9 @@ pub mod Escapes
 pub mod SpeltEscapes
 pub mod SpeltKeywords
 pub mod SpeltLines
+pub mod Once
+pub mod OneString
+pub mod OneLine
 pub mod WrittenForms
 pub mod LineNumbers
 pub mod FaultyLines

@@ -8,12 +8,12 @@ use Rattle.po_syntax.specs.Spelling.{HoldsTokens, end, blank, keyword, string, H
 use Rattle.po_syntax.specs.PoText.{SpellsLines, lines_of, without_byte_order_mark}
 use Rattle.po_syntax.specs.TextItem.{TextItem}
 use Rattle.po_syntax.proofs.Escapes.{string_shorter}
-use Rattle.po_syntax.proofs.Tokens.{keyword_behind}
+use Rattle.po_syntax.proofs.Tokens.{rest_shorter}
 
 tokens-few : {marks : Marks} {line : ℕ} {text : List ℕ} {items : List TextItem} → HoldsTokens marks line text items → length items ≤ length text
 tokens-few end = omega arith
 tokens-few (blank b h) = omega (arith, tokens-few h)
-tokens-few (keyword s h) = omega (arith, (keyword_behind s).1, tokens-few h)
+tokens-few (keyword s h) = omega (arith, rest_shorter s, tokens-few h)
 tokens-few (string s h) = omega (arith, string_shorter s, tokens-few h)
 
 pub line-few : {line : ℕ} {text : List ℕ} {items : List TextItem} → HoldsItems line text items → length items ≤ length text

@@ -1,19 +1,18 @@
 -- The quoted form of a UTF-8 text is UTF-8, and holds no byte below space.
-use Rattle.std.proofs.Common.{◌≡◌, ◌==◌, ◌/◌, ◌%◌, refl, sym, subst, inl, inr, Option, Some, None, ℕ, ◌+◌, ◌<◌, ◌≤◌, true, nat_lt, if◌then◌else◌, List, [], ◌∷◌, ◌++◌, append-nil, length, get_or, All, IsUtf8, arith}
-use Rattle.std.specs.Char.{digit_char}
+use Rattle.std.proofs.Common.{◌≡◌, ◌/◌, ◌%◌, sym, refl, subst, inl, inr, ℕ, ◌+◌, ◌<◌, ◌≤◌, true, List, [], ◌∷◌, ◌++◌, append-nil, length, get_or, All, IsUtf8, arith}
 use Rattle.std.specs.Str.{IsAscii}
 use lib.Utf8.{encode, encodes, scalars, scalar}
-use Rattle.std.proofs.lemmas.Bool.{cond_both, cases_lt, cond-true, lt-ltb, le-ltb, ltb-true, ltb-false, eqb-true, ne_eqb, or_parts, and_parts, or_cases}
+use Rattle.std.proofs.lemmas.Bool.{cases_lt, le-ltb, ne_eqb, and_parts}
 use Rattle.std.proofs.lemmas.Grind.{flat_map-append}
 use Rattle.std.proofs.lemmas.List.{take_all}
 use Rattle.std.proofs.lemmas.List.Elements.{All-append, All-cons, All-head, All-tail}
 use Rattle.std.proofs.lemmas.Str.{IsUtf8-nil, IsUtf8-append, IsUtf8-from_ascii, encode_ascii, inside_one}
 use Rattle.std.proofs.lemmas.Str.Ascii.{IsAscii-cons}
-use Rattle.std.specs.Option.{option_map_or}
-use Rattle.po_syntax.specs.Escapes.{escape_letter}
-use Rattle.po_syntax.proofs.SpeltEscapes.{of_each_byte}
-use Rattle.po_syntax.specs.QuotedForm.{is_control, is_raw, octal_escape, written_byte, written_bytes, quoted}
+use Rattle.po_syntax.specs.QuotedForm.{is_raw, written_byte, written_bytes, quoted}
+use Rattle.po_syntax.specs.WrittenForm.{WritesByte, letter, delete, control, plain}
 use Rattle.po_syntax.proofs.RawRuns.{written_run}
+use Rattle.po_syntax.proofs.SpeltEscapes.{of_each_byte}
+use Rattle.po_syntax.proofs.WrittenForms.{byte_written}
 
 -- a byte that is no control byte, and below a bound
 abbrev Shown : ℕ → ℕ → Type 0
@@ -22,44 +21,28 @@ Shown most b = (32 ≤ b) × (b < most)
 none_shown : (most : ℕ) → All (Shown most) []
 none_shown most = λ k d inside. absurd (omega arith)
 
--- a backslash and a letter, a backslash or a quote
-letter_shown : (most letter : ℕ) → 128 ≤ most → 32 ≤ letter → letter < 128 → All (Shown most) (92 ∷ letter ∷ [])
-letter_shown most letter bound low high =
-    All-cons (Shown most) 92 (letter ∷ []) (omega arith, omega arith) (All-cons (Shown most) letter [] (low, omega arith) (none_shown most))
+one_shown : (most b : ℕ) → Shown most b → All (Shown most) (b ∷ [])
+one_shown most b shown = All-cons (Shown most) b [] shown (none_shown most)
 
-control_ascii : (b : ℕ) → is_control b ≡ true → b < 128
-control_ascii b e =
-    elim (or_cases (nat_lt b 32) (b == 127) e) [ inl low ↦ omega (arith, ltb-true b 32 low) | inr delete ↦ omega (arith, eqb-true b 127 delete) ]
-
-digit_shown : (most d : ℕ) → 128 ≤ most → d < 8 → Shown most (digit_char d)
-digit_shown most d bound small =
-    rw (cond-true (nat_lt d 10) (48 + d) (87 + d) (lt-ltb d 10 (omega arith))) (omega arith, omega arith)
-
-octal_shown : (most b : ℕ) → 128 ≤ most → b < 128 → All (Shown most) (octal_escape b)
-octal_shown most b bound less =
-    let low = digit_char (b % 8) ∷ [] in
-    let middle = digit_char ((b / 8) % 8) ∷ low in
-    let high = digit_char (b / 64) ∷ middle in
-    All-cons (Shown most) 92 high (omega arith, omega arith) (All-cons (Shown most) (digit_char (b / 64)) middle (digit_shown most (b / 64) bound (omega arith)) (All-cons (Shown most) (digit_char ((b / 8) % 8)) low (digit_shown most ((b / 8) % 8) bound (omega arith)) (All-cons (Shown most) (digit_char (b % 8)) [] (digit_shown most (b % 8) bound (omega arith)) (none_shown most))))
+-- a backslash and three digits
+escape_shown : (most : ℕ) → 128 ≤ most → (x y z : ℕ) → 32 ≤ x → x < 128 → 32 ≤ y → y < 128 → 32 ≤ z → z < 128 → All (Shown most) (92 ∷ x ∷ y ∷ z ∷ [])
+escape_shown most bound x y z a b c d e f =
+    All-cons (Shown most) 92 (x ∷ y ∷ z ∷ []) (omega arith, omega arith) (All-cons (Shown most) x (y ∷ z ∷ []) (a, omega arith) (All-cons (Shown most) y (z ∷ []) (c, omega arith) (one_shown most z (e, omega arith))))
 
 -- what is written for a byte, or an ASCII byte
-written_shown : (most b : ℕ) → 128 ≤ most → b < most → All (Shown most) (written_byte b)
-unfolding written_byte
-written_shown most b bound less = by (escape_letter b) refl where
-  by : (found : Option ℕ) → escape_letter b ≡ found → All (Shown most) (option_map_or (λ l. 92 ∷ l ∷ []) found (if is_control b then octal_escape b else b ∷ []))
-  by (Some letter) e =
-      let range = of_each_byte (λ l _. (32 ≤ l) × (l < 128)) b letter ((omega arith, omega arith), ((omega arith, omega arith), ((omega arith, omega arith), ((omega arith, omega arith), ((omega arith, omega arith), ((omega arith, omega arith), ((omega arith, omega arith), ((omega arith, omega arith), ((omega arith, omega arith), tt))))))))) e in
-      letter_shown most letter bound range.0 range.1
-  by None e =
-      cond_both (is_control b) (octal_escape b) (b ∷ []) (All (Shown most)) (λ e. octal_shown most b bound (control_ascii b e)) (λ plain.
-      let low = or_parts (nat_lt b 32) (b == 127) plain in
-      All-cons (Shown most) b [] (ltb-false b 32 low.0, less) (none_shown most))
+written_shown : (most : ℕ) → 128 ≤ most → {b : ℕ} {text : List ℕ} → b < most → WritesByte b text → All (Shown most) text
+written_shown most bound {b} less (letter {letter = l} e) =
+    let range = of_each_byte (λ _ key. (32 ≤ key) × (key < 128)) b l ((omega arith, omega arith), ((omega arith, omega arith), ((omega arith, omega arith), ((omega arith, omega arith), ((omega arith, omega arith), ((omega arith, omega arith), ((omega arith, omega arith), ((omega arith, omega arith), ((omega arith, omega arith), tt))))))))) e in
+    All-cons (Shown most) 92 (l ∷ []) (omega arith, omega arith) (one_shown most l (range.0, omega arith))
+written_shown most bound less delete = escape_shown most bound 49 55 55 (omega arith) (omega arith) (omega arith) (omega arith) (omega arith) (omega arith)
+written_shown most bound {b} less (control low none) = escape_shown most bound 48 (48 + b / 8) (48 + b % 8) (omega arith) (omega arith) (omega arith) (omega arith) (omega arith) (omega arith)
+written_shown most bound {b} less (plain high none no_delete) = one_shown most b (high, less)
 
 -- bytes that are no control bytes
 bytes_shown : (bytes : List ℕ) → All (λ b. b < 256) bytes → All (Shown 256) (written_bytes bytes)
 bytes_shown [] h = none_shown 256
 bytes_shown (b ∷ bytes) h =
-    All-append (Shown 256) (written_byte b) (written_bytes bytes) (written_shown 256 b (omega arith) (All-head (λ c. c < 256) b bytes h)) (bytes_shown bytes (All-tail (λ c. c < 256) b bytes h))
+    All-append (Shown 256) (written_byte b) (written_bytes bytes) (written_shown 256 (omega arith) (All-head (λ c. c < 256) b bytes h) (byte_written b)) (bytes_shown bytes (All-tail (λ c. c < 256) b bytes h))
 
 ascii_from_shown : (bytes : List ℕ) → All (Shown 128) bytes → IsAscii bytes
 ascii_from_shown [] h = λ k. omega arith
@@ -79,7 +62,7 @@ high_byte c k high inside =
 char_written : (c : ℕ) → scalar c ≡ true → IsUtf8 (written_bytes (encode c))
 char_written c is =
     elim (cases_lt c 128) [
-      | inl low ↦ rw (encode_ascii c low, append-nil) (IsUtf8-from_ascii _ (ascii_from_shown _ (written_shown 128 c (omega arith) low)))
+      | inl low ↦ rw (encode_ascii c low, append-nil) (IsUtf8-from_ascii _ (ascii_from_shown _ (written_shown 128 (omega arith) low (byte_written c))))
       | inr high ↦
           let run = written_run (length (encode c)) (encode c) (λ k inside. raw_high _ (high_byte c k high inside)) (omega arith) in
           let same = rw (take_all (length (encode c)) (encode c) (omega arith)) at run in

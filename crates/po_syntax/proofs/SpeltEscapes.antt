@@ -1,11 +1,13 @@
--- Each spelling of a quoted string is read by its steps.
-use Rattle.std.proofs.Common.{◌≡◌, ◌∙◌, ◌==◌, ◌⊎◌, inl, inr, refl, sym, subst, Bool, true, false, cond, Some, option_map, find, ℕ, zero, suc, ◌≤◌, List, [], ◌∷◌, ◌++◌, length, take, arith}
-use Rattle.std.specs.Char.{digit_value}
+-- Each escape is read as the byte that it spells, or as its fault.
+use Rattle.std.proofs.Common.{◌≡◌, ◌∙◌, ◌==◌, ◌⊎◌, inl, inr, refl, sym, ap, subst, Bool, true, false, cond, Some, option_map, find, ℕ, zero, suc, ◌≤◌, List, [], ◌∷◌, ◌++◌, length, take, arith}
+use Rattle.std.specs.Char.{digit_value, is_digit}
 use Rattle.std.specs.Str.Parse.{AllDigits, IsNumeral, digits_value}
 use Rattle.std.proofs.Math.Seq.{take-append_seam, drop-append_seam}
-use Rattle.std.proofs.lemmas.Bool.{eqb-true, ne_eqb, lt-ltb}
-use Rattle.po_syntax.specs.Internal.QuotedString.{End, Byte, digit_count, number_step, escape_at, step_at, IsQuoted, ended, spelt}
-use Rattle.po_syntax.specs.Escapes.{NoDigitFirst, IsByteNumber, escape_letters, letter_value, escape_letter, SpellsEscape, letter, octal, hexadecimal, SpellsString, closed, plain, escape}
+use Rattle.std.proofs.lemmas.Bool.{cond-false, eqb-true, ne_eqb, lt-ltb, le-ltb}
+use Rattle.po_syntax.specs.declared.fault.PoFault.{PoFault}
+use Rattle.po_syntax.specs.Internal.QuotedString.{Byte, Stop, digit_count, numbered, number_step, letter_step, escape_at}
+use Rattle.po_syntax.specs.Escapes.{NoDigitFirst, IsByteNumber, escape_letters, letter_value, escape_letter, SpellsEscape, letter, octal, hexadecimal}
+use Rattle.po_syntax.specs.LineFaults.{NumberFault, nul, large, EscapeFault, at_end, no_escape, octal as octal_fault, no_digit, hexadecimal_digits}
 
 -- as many digits as there are, up to so many
 pub count_prefix : (base most : ℕ) (digits rest : List ℕ) → AllDigits base digits → length digits ≤ most → (length digits ≡ most) ⊎ NoDigitFirst base rest → digit_count base (take most (digits ++ rest)) ≡ length digits
@@ -42,57 +44,49 @@ unfolding escape_at
 hexadecimal_at digits rest numeral none =
     rw (count_all 16 digits rest numeral.1 none, ne_eqb (length digits) 0 (λ same. omega (arith, same, numeral.0))) refl
 
--- what holds of each letter of a table and its byte
-abbrev HoldsOfEach : (ℕ → ℕ → Type 0) → List (ℕ × ℕ) → Type 0
-HoldsOfEach P [] = Unit {0}
-HoldsOfEach P (p ∷ table) = P p.0 p.1 × HoldsOfEach P table
+-- what holds of each row of a table
+abbrev OfEach : (ℕ × ℕ → Type 0) → List (ℕ × ℕ) → Type 0
+OfEach P [] = Unit {0}
+OfEach P (row ∷ table) = P row × OfEach P table
 
-of_byte : (P : ℕ → ℕ → Type 0) (b key : ℕ) (table : List (ℕ × ℕ)) → HoldsOfEach P table → option_map (λ p. p.0) (find (λ p. b == p.1) table) ≡ Some key → P key b
-of_byte P b key [] each e = absurd (cc)
-of_byte P b key (p ∷ table) each e = at (b == p.1) refl e (of_byte P b key table each.1) where
-  at : (test : Bool) → (b == p.1) ≡ test → option_map (λ q. q.0) (cond test (Some p) (find (λ q. b == q.1) table)) ≡ Some key
-      → (option_map (λ q. q.0) (find (λ q. b == q.1) table) ≡ Some key → P key b) → P key b
-  at true is same later = let found : p.0 ≡ key = cc in subst (λ l. P l b) found (subst (P p.0) (sym (eqb-true b p.1 is)) each.0)
+-- what holds of each row holds of what stands in the row of a key
+of_found : (key value : ℕ × ℕ → ℕ) (P : ℕ → ℕ → Type 0) (k v : ℕ) (table : List (ℕ × ℕ)) → OfEach (λ row. P (key row) (value row)) table
+    → option_map value (find (λ row. k == key row) table) ≡ Some v → P k v
+of_found key value P k v [] each e = absurd (cc)
+of_found key value P k v (row ∷ table) each e = at (k == key row) refl e (of_found key value P k v table each.1) where
+  at : (test : Bool) → (k == key row) ≡ test → option_map value (cond test (Some row) (find (λ other. k == key other) table)) ≡ Some v
+      → (option_map value (find (λ other. k == key other) table) ≡ Some v → P k v) → P k v
+  at true is same later = let found : value row ≡ v = cc in subst (P k) found (subst (λ x. P x (value row)) (sym (eqb-true k (key row) is)) each.0)
   at false other same later = later same
 
--- what holds of each escape's letter and its byte, by the byte
-pub of_each_byte : (P : ℕ → ℕ → Type 0) (b key : ℕ) → HoldsOfEach P escape_letters → escape_letter b ≡ Some key → P key b
-of_each_byte P b key each e = of_byte P b key escape_letters each e
+-- what holds of each escape's byte and its letter, and of each letter and its byte
+pub of_each_byte : (P : ℕ → ℕ → Type 0) (b key : ℕ) → OfEach (λ row. P row.1 row.0) escape_letters → escape_letter b ≡ Some key → P b key
+of_each_byte P b key each e = of_found (λ row. row.1) (λ row. row.0) P b key escape_letters each e
 
-of_letter : (P : ℕ → ℕ → Type 0) (b value : ℕ) (table : List (ℕ × ℕ)) → HoldsOfEach P table → option_map (λ p. p.1) (find (λ p. b == p.0) table) ≡ Some value → P b value
-of_letter P b value [] each e = absurd (cc)
-of_letter P b value (p ∷ table) each e = at (b == p.0) refl e (of_letter P b value table each.1) where
-  at : (test : Bool) → (b == p.0) ≡ test → option_map (λ q. q.1) (cond test (Some p) (find (λ q. b == q.0) table)) ≡ Some value
-      → (option_map (λ q. q.1) (find (λ q. b == q.0) table) ≡ Some value → P b value) → P b value
-  at true is same later = let byte : p.1 ≡ value = cc in subst (P b) byte (subst (λ a. P a p.1) (sym (eqb-true b p.0 is)) each.0)
-  at false other same later = later same
-
--- what holds of each escape's letter and its byte
-pub of_each_letter : (P : ℕ → ℕ → Type 0) (b value : ℕ) → HoldsOfEach P escape_letters → letter_value b ≡ Some value → P b value
-of_each_letter P b value each e = of_letter P b value escape_letters each e
+pub of_each_letter : (P : ℕ → ℕ → Type 0) (b value : ℕ) → OfEach (λ row. P row.0 row.1) escape_letters → letter_value b ≡ Some value → P b value
+of_each_letter P b value each e = of_found (λ row. row.0) (λ row. row.1) P b value escape_letters each e
 
 pub letter_read : (b value : ℕ) (rest : List ℕ) → letter_value b ≡ Some value → escape_at (b ∷ rest) ≡ Byte value rest
 unfolding escape_at
 letter_read b value rest e = of_each_letter (λ a v. escape_at (a ∷ rest) ≡ Byte v rest) b value (refl, (refl, (refl, (refl, (refl, (refl, (refl, (refl, (refl, tt))))))))) e
 
-escape_read : {text rest : List ℕ} {b : ℕ} → SpellsEscape text b rest → escape_at text ≡ Byte b rest
+pub escape_read : {text rest : List ℕ} {b : ℕ} → SpellsEscape text b rest → escape_at text ≡ Byte b rest
 escape_read (letter {b = b} {value = value} {rest = rest} e) = letter_read b value rest e
 escape_read (octal digits {rest = rest} numeral within end small) = octal_at digits rest numeral within end ∙ number_read 8 digits rest small
 escape_read (hexadecimal digits {rest = rest} numeral none small) = hexadecimal_at digits rest numeral none ∙ number_read 16 digits rest small
 
-closing_quote : (rest : List ℕ) → step_at (34 ∷ rest) ≡ End rest
-unfolding step_at
-closing_quote rest = refl
+number_stops : {number : ℕ} {fault : PoFault} (rest : List ℕ) → NumberFault number fault → numbered number rest ≡ Stop fault
+number_stops rest nul = refl
+number_stops rest (large {number = number} past) = rw (ne_eqb number 0 (λ none. omega (arith, past, none)), le-ltb number 256 past) refl
 
-pub plain_read : (b : ℕ) (text : List ℕ) → (b ≡ 34 → ⊥) → (b ≡ 92 → ⊥) → step_at (b ∷ text) ≡ Byte b text
-unfolding step_at
-plain_read b text inside raw = rw (ne_eqb b 34 inside, ne_eqb b 92 raw) refl
+digits_stop : {fault : PoFault} (base : ℕ) (digits rest : List ℕ) → NumberFault (digits_value base digits) fault → number_step base (length digits) (digits ++ rest) ≡ Stop fault
+digits_stop base digits rest h = rw (take-append_seam digits rest, drop-append_seam digits rest) (number_stops rest h)
 
-pub backslash_read : (text : List ℕ) {rest : List ℕ} {b : ℕ} → SpellsEscape text b rest → step_at (92 ∷ text) ≡ Byte b rest
-unfolding step_at
-backslash_read text h = escape_read h
-
-pub spelt_quoted : {text bytes rest : List ℕ} → SpellsString text bytes rest → IsQuoted text bytes rest
-spelt_quoted (closed {rest = rest}) = ended (closing_quote rest)
-spelt_quoted (plain {b = b} {text = text} inside raw more) = spelt (plain_read b text inside raw) (spelt_quoted more)
-spelt_quoted (escape {text = text} h more) = spelt (backslash_read text h) (spelt_quoted more)
+pub escape_stops : {text : List ℕ} {fault : PoFault} → EscapeFault text fault → escape_at text ≡ Stop fault
+unfolding escape_at
+escape_stops at_end = refl
+escape_stops (no_escape {b = b} {text = text} other no_x none) =
+    cond-false (is_digit b 8) _ _ other ∙ cond-false (b == 120) _ _ (ne_eqb b 120 no_x) ∙ ap (λ v. letter_step v text) none
+escape_stops (octal_fault digits rest numeral within end h) = octal_at digits rest numeral within end ∙ digits_stop 8 digits rest h
+escape_stops (no_digit {rest = rest} none) = rw (count_all 16 [] rest tt none) refl
+escape_stops (hexadecimal_digits digits rest numeral none h) = hexadecimal_at digits rest numeral none ∙ digits_stop 16 digits rest h

@@ -7,7 +7,7 @@ use Rattle.po_syntax.specs.Escapes.{escape_letter}
 use Rattle.po_syntax.specs.QuotedForm.{is_control, octal_escape, quoted, written_byte, written_bytes}
 use Rattle.po_syntax.specs.WrittenForm.{WritesByte, letter, delete, control, plain, WritesString, closing_quote, byte, WritesQuoted}
 
-digit_is : (d : ℕ) → d < 10 → digit_char d ≡ 48 + d
+pub digit_is : (d : ℕ) → d < 10 → digit_char d ≡ 48 + d
 digit_is d less = cond-true (nat_lt d 10) (48 + d) (87 + d) (lt-ltb d 10 less)
 
 low_octal : (b : ℕ) → b < 32 → octal_escape b ≡ 92 ∷ 48 ∷ (48 + b / 8) ∷ (48 + b % 8) ∷ []

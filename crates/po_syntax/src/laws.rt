@@ -1,17 +1,15 @@
 //! Laws of PO texts, each the contract of a function that does nothing: a call brings the law into
 //! a proof.
-ghost use Rattle.std.specs.Prelude.{◌≡◌, ◌≢◌, ◌↔◌, ◌⊎◌, ◌<◌, ◌≤◌, ℕ, List, [], ◌∷◌, ◌++◌, length, All, IsUtf8};
+ghost use Rattle.std.specs.Prelude.{◌≡◌, ◌≢◌, ◌⊎◌, ◌<◌, ◌≤◌, ℕ, List, [], ◌∷◌, ◌++◌, length, All, IsUtf8};
 ghost use Rattle.po_syntax.specs.declared.fault.PoFault.{PoFault};
 ghost use Rattle.po_syntax.specs.Escapes.{SpellsString};
 ghost use Rattle.po_syntax.specs.ItemContents.{HoldsText};
-ghost use Rattle.po_syntax.specs.Internal.Line.{LineStops, SpellsLine};
 ghost use Rattle.po_syntax.specs.LineFaults.{LineFault};
 ghost use Rattle.po_syntax.specs.LineNumbers.{HasFaultOnLine, ItemsAreOnTheirLines, MarkIsOmitted};
 ghost use Rattle.po_syntax.specs.LinesLeft.{LinesLeft, SpellsLeft, LeftStops};
 ghost use Rattle.po_syntax.specs.Piece.{IsPiece, EndsInString, LeftAnew};
 ghost use Rattle.po_syntax.specs.PoText.{SpellsText, TextFault};
 ghost use Rattle.po_syntax.specs.QuotedForm.{quoted, written_bytes};
-ghost use Rattle.po_syntax.specs.Internal.QuotedString.{IsQuoted};
 ghost use Rattle.po_syntax.specs.Spelling.{HoldsItems};
 ghost use Rattle.po_syntax.specs.TextItem.{TextItem};
 ghost use Rattle.po_syntax.specs.Internal.Token.{OpeningQuote, token_at};
@@ -52,29 +50,20 @@ pub fn no_fault_is_memory()
 /// After an opening quote a text spells at most one string, which ends at one place.
 pub fn one_string()
     ensures { (text bytes others rest end : List ℕ)
-        → IsQuoted text bytes rest → IsQuoted text others end
+        → SpellsString text bytes rest → SpellsString text others end
         → (bytes ≡ others) × (rest ≡ end) }
 {}
 
-/// After an opening quote a string is read, step by step, exactly where it is spelt: each of its
-/// bytes by itself or by an escape, and then the closing quote.
-pub fn strings_are_spelt()
-    ensures { (text bytes rest : List ℕ)
-        → IsQuoted text bytes rest ↔ SpellsString text bytes rest }
-{}
-
-/// A line is read, by its first bytes and token by token, as the items that it holds: a comment, or
-/// keywords and strings under the line's marks.
-pub fn lines_are_spelt()
-    ensures { (line : ℕ) (text : List ℕ) (items : List TextItem)
-        → SpellsLine line text items ↔ HoldsItems line text items }
-{}
-
-/// Reading a line stops at exactly the fault that it has: at the first place where no comment,
-/// keyword, index, string or escape can go on. So a line has at most one such fault, and none if it
-/// holds items.
-pub fn line_faults_are_first()
-    ensures { (text : List ℕ) (fault : PoFault) → LineStops text fault ↔ LineFault text fault }
+/// A line holds items, at most one list of them, or has a fault, at most one, and not both.
+pub fn items_or_fault_of_line()
+    ensures some { (line : ℕ) (text : List ℕ)
+        → ((items : List TextItem) × HoldsItems line text items) ⊎ ((fault : PoFault) × LineFault text fault) }
+    ensures items { (line : ℕ) (text : List ℕ) (items others : List TextItem)
+        → HoldsItems line text items → HoldsItems line text others → items ≡ others }
+    ensures fault { (text : List ℕ) (fault other : PoFault)
+        → LineFault text fault → LineFault text other → fault ≡ other }
+    ensures either { (line : ℕ) (text : List ℕ) (items : List TextItem) (fault : PoFault)
+        → HoldsItems line text items → LineFault text fault → ⊥ }
 {}
 
 /// The line of an item is one more than the LFs before it, and that line holds the item. So is the
@@ -109,7 +98,7 @@ pub fn quoted_form_spells()
         → SpellsString (written_bytes bytes ++ 34 ∷ rest) bytes rest }
     ensures read { (bytes rest : List ℕ) → All (λ b. (0 < b) × (b < 256)) bytes
         → (inside : List ℕ) × (token_at (quoted bytes ++ rest) ≡ OpeningQuote inside)
-        × IsQuoted inside bytes rest }
+        × SpellsString inside bytes rest }
 {}
 
 /// The comments of a text are UTF-8 on one line without NUL and without CRs at their end, and its

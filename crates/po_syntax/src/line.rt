@@ -2,9 +2,9 @@
 
 ghost use Rattle.std.specs.Prelude.{◌≡◌, ◌≢◌, ◌≤◌, ◌==◌, length, IfErr, OnOk};
 ghost use Rattle.std.specs.List.{suffix_len};
-ghost use Rattle.po_syntax.specs.Internal.Line.{shape_of, hash_shape, tilde_shape, comment_shape, SpellsTokens, TokensStop};
-ghost use Rattle.po_syntax.specs.LineFaults.{LineFault};
-ghost use Rattle.po_syntax.specs.Spelling.{HoldsItems};
+ghost use Rattle.po_syntax.specs.Internal.Line.{shape_of, hash_shape, tilde_shape, comment_shape};
+ghost use Rattle.po_syntax.specs.LineFaults.{LineFault, TokensFault};
+ghost use Rattle.po_syntax.specs.Spelling.{HoldsItems, HoldsTokens};
 ghost use Rattle.po_syntax.specs.ItemContents.{trim_returns};
 ghost use Rattle.po_syntax.specs.Internal.LineView.{AddsItems, IsShapeOf};
 
@@ -120,8 +120,8 @@ fn add_tokens<'a>(
     line: u32,
 ) -> Result<(), PoFault>
     ensures found { OnOk result
-        (AddsItems (SpellsTokens marks line text.now) items.old.items items.new.items) }
-    ensures fault { IfErr result (λ e. e ≢ PoFault.OutOfMemory → TokensStop text.now e) }
+        (AddsItems (HoldsTokens marks line text.now) items.old.items items.new.items) }
+    ensures fault { IfErr result (λ e. e ≢ PoFault.OutOfMemory → TokensFault text.now e) }
 {
     let mut rest = text;
     loop {

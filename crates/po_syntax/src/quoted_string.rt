@@ -2,7 +2,8 @@
 
 ghost use Rattle.std.specs.Prelude.{◌≡◌, ◌≢◌, ℕ, ◌+◌, ◌<◌, ◌⊎◌, List, ◌∷◌, ◌++◌, length, IfOk, IfErr};
 ghost use Rattle.std.specs.Cow.{cow_slice_items};
-ghost use Rattle.po_syntax.specs.Internal.QuotedString.{IsQuoted, QuotedStops};
+ghost use Rattle.po_syntax.specs.Escapes.{SpellsString};
+ghost use Rattle.po_syntax.specs.LineFaults.{StringFault};
 
 use crate::escape::escape;
 use crate::fault::PoFault;
@@ -13,8 +14,8 @@ use std::borrow::CowSlice;
 /// Splits off the bytes that stand for themselves, up to the first quote or backslash.
 fn split_plain(text: &[u8]) -> (&[u8], &[u8])
     ensures spelt { (bytes end : List ℕ)
-        → IsQuoted result.1.now bytes end → IsQuoted text.now (result.0.now ++ bytes) end }
-    ensures stops { (fault : PoFault) → QuotedStops result.1.now fault → QuotedStops text.now fault }
+        → SpellsString result.1.now bytes end → SpellsString text.now (result.0.now ++ bytes) end }
+    ensures stops { (fault : PoFault) → StringFault result.1.now fault → StringFault text.now fault }
     ensures special { (b : ℕ) (after : List ℕ)
         → result.1.now ≡ b ∷ after → (b ≡ 34) ⊎ (b ≡ 92) }
     ensures parts { length result.0.now + length result.1.now ≡ length text.now }
@@ -26,8 +27,8 @@ fn split_plain(text: &[u8]) -> (&[u8], &[u8])
 /// Appends what the text spells up to the closing quote, and gives the text after that.
 fn add_bytes<'a>(bytes: &mut Vec<u8>, text: &'a [u8]) -> Result<&'a [u8], PoFault>
     ensures found { IfOk result (λ rest. (spelt : List ℕ)
-        × IsQuoted text.now spelt rest.now × (bytes.new.items ≡ bytes.old.items ++ spelt)) }
-    ensures fault { IfErr result (λ e. e ≢ PoFault.OutOfMemory → QuotedStops text.now e) }
+        × SpellsString text.now spelt rest.now × (bytes.new.items ≡ bytes.old.items ++ spelt)) }
+    ensures fault { IfErr result (λ e. e ≢ PoFault.OutOfMemory → StringFault text.now e) }
 {
     let mut rest = text;
     loop {
@@ -51,8 +52,8 @@ pub(crate) fn quoted_string(
     alloc: Global,
     text: &[u8],
 ) -> Result<(CowSlice<'_, u8>, &[u8]), PoFault>
-    ensures found { IfOk result (λ p. IsQuoted text.now (cow_slice_items p.0) p.1.now) }
-    ensures fault { IfErr result (λ e. e ≢ PoFault.OutOfMemory → QuotedStops text.now e) }
+    ensures found { IfOk result (λ p. SpellsString text.now (cow_slice_items p.0) p.1.now) }
+    ensures fault { IfErr result (λ e. e ≢ PoFault.OutOfMemory → StringFault text.now e) }
 {
     let (plain, end) = split_plain(text);
     let Some((mark, after)) = end.split_first() else {

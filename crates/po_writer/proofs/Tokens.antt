@@ -6,7 +6,6 @@ use Rattle.po_syntax.specs.declared.item.Marks.{Marks}
 use Rattle.po_syntax.specs.QuotedForm.{quoted, written_bytes}
 use Rattle.po_syntax.specs.Spelling.{SpellsKeyword, msgctxt, msgid, msgid_plural, msgstr, HoldsTokens, end, blank, keyword, string, own_marks, previous_marks, HoldsItems, live, previous, obsolete, obsolete_previous}
 use Rattle.po_syntax.specs.TextItem.{TextItem, Word, Str}
-use Rattle.po_syntax.proofs.Escapes.{quoted_spelt}
 use Rattle.po_syntax.proofs.QuotedForms.{bytes_spell}
 
 -- after the prefix, tokens stand under these marks
@@ -26,7 +25,7 @@ pub own_obsolete : IsPrefix (codes "#~ ") (own_marks true)
 own_obsolete number rest items h = obsolete (blank refl h)
 
 string_tokens : (marks : Marks) (number : ℕ) (text : List ℕ) → All (λ b. (0 < b) × (b < 256)) text → HoldsTokens marks number (quoted text) (Str text marks number ∷ [])
-string_tokens marks number text some = string (quoted_spelt (bytes_spell text [] some)) end
+string_tokens marks number text some = string (bytes_spell text [] some) end
 
 -- a prefix and a string
 pub string_spells : (prefix : List ℕ) (marks : Marks) (number : ℕ) (text : List ℕ) → IsPrefix prefix marks → All (λ b. (0 < b) × (b < 256)) text

@@ -1,17 +1,10 @@
 -- The lines of a PO text: comments, and tokens under marks (manual, "The Format of PO Files").
--- This is how a line is read, token by token; `Spelling` has what spells it, with a case for each
--- form, and `LineFaults` its first fault.
-use Rattle.std.specs.Prelude.{◌≡◌, ℕ, ◌==◌, true, false, if◌then◌else◌, List, [], ◌∷◌}
-use Rattle.po_syntax.specs.declared.fault.PoFault.{PoFault}
-use Rattle.po_syntax.specs.declared.fault.PoFault.TheVariants.{BadToken}
+-- This is how the kind of a line is read; `Spelling` has what spells it, with a case for each form,
+-- and `LineFaults` its first fault.
+use Rattle.std.specs.Prelude.{ℕ, ◌==◌, true, false, if◌then◌else◌, List, [], ◌∷◌}
 use Rattle.po_syntax.specs.declared.item.CommentKind.{CommentKind}
 use Rattle.po_syntax.specs.declared.item.CommentKind.TheVariants.{Translator, Extracted, Reference, Flags}
-use Rattle.po_syntax.specs.declared.item.Keyword.{Keyword}
 use Rattle.po_syntax.specs.declared.item.Marks.{Marks}
-use Rattle.po_syntax.specs.Internal.QuotedString.{IsQuoted, QuotedStops}
-use Rattle.po_syntax.specs.ItemContents.{trim_returns}
-use Rattle.po_syntax.specs.TextItem.{TextItem, Comment, Word, Str}
-use Rattle.po_syntax.specs.Internal.Token.{LineEnd, OpeningQuote, KeywordToken, WrongToken, token_at}
 use Rattle.po_syntax.specs.Blanks.{skip_blanks}
 
 -- What a line is by its first bytes: a comment with its text; tokens under marks, with the text
@@ -67,37 +60,3 @@ first_shape (b ∷ rest) =
 -- the shape of a line, before which blanks may stand
 abbrev pub shape_of : List ℕ → Shape
 shape_of line = first_shape (skip_blanks line)
-
--- Under these marks, on the line of this number, the text spells these items: keywords and strings,
--- to its end.
-pub data SpellsTokens (marks : Marks) (line : ℕ) : List ℕ → List TextItem → Type 0 where
-  none : {text : List ℕ} → token_at text ≡ LineEnd → SpellsTokens marks line text []
-  word : {text rest : List ℕ} {keyword : Keyword} {items : List TextItem} → token_at text ≡ KeywordToken keyword rest
-      → SpellsTokens marks line rest items
-      → SpellsTokens marks line text (Word keyword marks line ∷ items)
-  string : {text inner bytes rest : List ℕ} {items : List TextItem} → token_at text ≡ OpeningQuote inner
-      → IsQuoted inner bytes rest → SpellsTokens marks line rest items
-      → SpellsTokens marks line text (Str bytes marks line ∷ items)
-
--- the first place where no token can be read has this fault
-pub data TokensStop : List ℕ → PoFault → Type 0 where
-  halt : {text : List ℕ} {fault : PoFault} → token_at text ≡ WrongToken fault → TokensStop text fault
-  in_string : {text inner : List ℕ} {fault : PoFault} → token_at text ≡ OpeningQuote inner → QuotedStops inner fault
-      → TokensStop text fault
-  after_word : {text rest : List ℕ} {keyword : Keyword} {fault : PoFault} → token_at text ≡ KeywordToken keyword rest
-      → TokensStop rest fault → TokensStop text fault
-  after_string : {text inner bytes rest : List ℕ} {fault : PoFault} → token_at text ≡ OpeningQuote inner
-      → IsQuoted inner bytes rest → TokensStop rest fault → TokensStop text fault
-
--- the line of this number spells these items
-pub data SpellsLine (line : ℕ) : List ℕ → List TextItem → Type 0 where
-  comment : {text rest : List ℕ} {kind : CommentKind} → shape_of text ≡ CommentLine kind rest
-      → SpellsLine line text (Comment kind (trim_returns rest) line ∷ [])
-  tokens : {text rest : List ℕ} {marks : Marks} {items : List TextItem} → shape_of text ≡ Tokens marks rest
-      → SpellsTokens marks line rest items → SpellsLine line text items
-
--- the line spells no items: its first fault is this one
-pub data LineStops : List ℕ → PoFault → Type 0 where
-  no_shape : {text : List ℕ} → shape_of text ≡ NoShape → LineStops text BadToken
-  in_tokens : {text rest : List ℕ} {marks : Marks} {fault : PoFault} → shape_of text ≡ Tokens marks rest
-      → TokensStop rest fault → LineStops text fault

@@ -2,7 +2,7 @@
 -- Format of PO Files"). A text here is what is left of a line, so that its end is the line's end.
 -- This is how a string is read, step by step; `Escapes` has what spells it, with a case for each
 -- escape.
-use Rattle.std.specs.Prelude.{◌≡◌, ℕ, ◌==◌, nat_lt, if◌then◌else◌, List, [], ◌∷◌, take, drop, Option, Some, None}
+use Rattle.std.specs.Prelude.{ℕ, ◌==◌, nat_lt, if◌then◌else◌, List, [], ◌∷◌, take, drop, Option, Some, None}
 use Rattle.std.specs.List.{prefix_len}
 use Rattle.std.specs.Char.{is_digit}
 use Rattle.std.specs.Str.Parse.{digits_value}
@@ -53,16 +53,3 @@ escape_at (b ∷ text) =
 unfoldable pub step_at : List ℕ → Step
 step_at [] = Stop UnterminatedString
 step_at (b ∷ text) = if b == 34 then End text else if b == 92 then escape_at text else Byte b text
-
--- After an opening quote the text spells these bytes, and the rest stands after the closing quote.
-pub data IsQuoted : List ℕ → List ℕ → List ℕ → Type 0 where
-  ended : {text rest : List ℕ} → step_at text ≡ End rest → IsQuoted text [] rest
-  spelt : {text next bytes rest : List ℕ} {b : ℕ} → step_at text ≡ Byte b next → IsQuoted next bytes rest
-      → IsQuoted text (b ∷ bytes) rest
-
--- After an opening quote the first place where no byte and no closing quote can be read has this
--- fault.
-pub data QuotedStops : List ℕ → PoFault → Type 0 where
-  here : {text : List ℕ} {fault : PoFault} → step_at text ≡ Stop fault → QuotedStops text fault
-  later : {text next : List ℕ} {b : ℕ} {fault : PoFault} → step_at text ≡ Byte b next → QuotedStops next fault
-      → QuotedStops text fault

@@ -1,12 +1,11 @@
 use Rattle.std.proofs.Common.{[], ◌∷◌, ◌++◌, append_assoc, refl}
 use Rattle.po_syntax.specs.QuotedForm.{written_bytes}
 use Rattle.po_syntax.specs.Internal.Token.{first_token}
-use Rattle.po_syntax.proofs.Escapes.{quoted_spelt}
 use Rattle.po_syntax.proofs.QuotedForms.{bytes_spell}
 use Rattle.po_syntax.proofs.laws.quoted_form_spells.Goals as goal
 
 pub returns-clause-spelt : goal.returns-clause-spelt
-returns-clause-spelt c = λ bytes rest h. quoted_spelt (bytes_spell bytes rest h)
+returns-clause-spelt c = bytes_spell
 
 pub returns-clause-read : goal.returns-clause-read
 unfolding first_token

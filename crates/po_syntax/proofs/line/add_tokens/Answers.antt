@@ -1,46 +1,46 @@
-use Rattle.std.proofs.Common.{◌≡◌, ◌∙◌, ap, [], ◌∷◌, ◌++◌, append_assoc, append-nil, arith}
+use Rattle.std.proofs.Common.{◌≡◌, ◌∙◌, refl, ap, [], ◌∷◌, ◌++◌, append_assoc, append-nil, Ok, Err, arith}
 use Rattle.std.proofs.lemmas.List.{map_push}
 use Rattle.std.proofs.lemmas.Result.{err_from_is_err_and}
 use Rattle.std.specs.Cow.{cow_slice_items}
-use Rattle.po_syntax.specs.Internal.QuotedString.{IsQuoted}
-use Rattle.po_syntax.specs.Internal.Line.{none, word, string, halt, in_string, after_word, after_string}
+use Rattle.po_syntax.specs.Escapes.{SpellsString}
 use Rattle.po_syntax.specs.TextItem.{Word, Str}
 use Rattle.po_syntax.specs.Internal.Token.{LineEnd, OpeningQuote, KeywordToken, token_at}
 use Rattle.po_syntax.specs.Internal.LineView.{token_view}
-use Rattle.po_syntax.proofs.QuotedStrings.{quoted-shorter}
+use Rattle.po_syntax.proofs.Escapes.{string_shorter}
+use Rattle.po_syntax.proofs.OneLine.{tokens_at}
 use Rattle.po_syntax.proofs.Tokens.{keyword-shorter, quote-shorter}
 use Rattle.po_syntax.proofs.line.add_tokens.Goals as goal
 
 pub returns-in_err-next_token-clause-fault : goal.returns-in_err-next_token-clause-fault
 returns-in_err-next_token-clause-fault c =
     let p = err_from_is_err_and c.from_residual.result c.from_residual.ensures.1 in
-    rw (p.1, p.2) (λ _. c.loop-inside.invariant.3 _ (halt c.in_err-next_token.ensures))
+    rw (p.1, p.2) (λ _. c.loop-inside.invariant.3 _ (tokens_at c.args.marks c.args.line _ (Err _) c.in_err-next_token.ensures refl))
 
 pub returns-in-LineEnd-clause-found : goal.returns-in-LineEnd-clause-found
 returns-in-LineEnd-clause-found c =
     let ends : token_at c.loop-inside.rest.now ≡ LineEnd = c.in_ok-next_token.ensures ∙ ap token_view c.in-LineEnd.is in
-    (c.loop-inside.invariant.0, rw append-nil at (c.loop-inside.invariant.2 [] (none ends)), c.loop-inside.invariant.1)
+    (c.loop-inside.invariant.0, rw append-nil at (c.loop-inside.invariant.2 [] (tokens_at c.args.marks c.args.line _ (Ok []) ends refl)), c.loop-inside.invariant.1)
 
 pub returns-in_err-bytes-in-OpeningQuote-clause-fault : goal.returns-in_err-bytes-in-OpeningQuote-clause-fault
 returns-in_err-bytes-in-OpeningQuote-clause-fault c =
     let opens : token_at c.loop-inside.rest.now ≡ OpeningQuote c.in-OpeningQuote.inside.now = c.in_ok-next_token.ensures ∙ ap token_view c.in-OpeningQuote.is in
     let p = err_from_is_err_and c.from_residual-in_err-bytes-in-OpeningQuote.result c.from_residual-in_err-bytes-in-OpeningQuote.ensures.1 in
-    rw (p.1, p.2) (λ reported. c.loop-inside.invariant.3 _ (in_string opens (c.in_err-bytes-in-OpeningQuote.ensures.fault reported)))
+    rw (p.1, p.2) (λ reported. c.loop-inside.invariant.3 _ (tokens_at c.args.marks c.args.line _ (Err _) opens (Err _, c.in_err-bytes-in-OpeningQuote.ensures.fault reported, refl)))
 
 pub loop-inside-smaller-in-OpeningQuote : goal.loop-inside-smaller-in-OpeningQuote
 loop-inside-smaller-in-OpeningQuote c =
     let opens : token_at c.loop-inside.rest.now ≡ OpeningQuote c.in-OpeningQuote.inside.now = c.in_ok-next_token.ensures ∙ ap token_view c.in-OpeningQuote.is in
-    let quoted : IsQuoted c.in-OpeningQuote.inside.now (cow_slice_items c.in_ok-bytes-in-OpeningQuote.bytes) c.in_ok-bytes-in-OpeningQuote.after.now = c.in_ok-bytes-in-OpeningQuote.ensures.found in
-    omega (arith, quote-shorter c.loop-inside.rest.now opens, quoted-shorter quoted)
+    let quoted : SpellsString c.in-OpeningQuote.inside.now (cow_slice_items c.in_ok-bytes-in-OpeningQuote.bytes) c.in_ok-bytes-in-OpeningQuote.after.now = c.in_ok-bytes-in-OpeningQuote.ensures.found in
+    omega (arith, quote-shorter c.loop-inside.rest.now opens, string_shorter quoted)
 
 pub loop-inside-preserved-in-OpeningQuote : goal.loop-inside-preserved-in-OpeningQuote
 loop-inside-preserved-in-OpeningQuote c =
     let opens : token_at c.loop-inside.rest.now ≡ OpeningQuote c.in-OpeningQuote.inside.now = c.in_ok-next_token.ensures ∙ ap token_view c.in-OpeningQuote.is in
-    let quoted : IsQuoted c.in-OpeningQuote.inside.now (cow_slice_items c.in_ok-bytes-in-OpeningQuote.bytes) c.in_ok-bytes-in-OpeningQuote.after.now = c.in_ok-bytes-in-OpeningQuote.ensures.found in (
+    let quoted : SpellsString c.in-OpeningQuote.inside.now (cow_slice_items c.in_ok-bytes-in-OpeningQuote.bytes) c.in_ok-bytes-in-OpeningQuote.after.now = c.in_ok-bytes-in-OpeningQuote.ensures.found in (
       c.loop-inside.invariant.0 ++ Str (cow_slice_items c.in_ok-bytes-in-OpeningQuote.bytes) c.args.marks c.args.line ∷ [],
       rw (c.in_ok-push-in-OpeningQuote.ensures.items, map_push, c.loop-inside.invariant.1, append_assoc),
-      λ more h. rw append_assoc (c.loop-inside.invariant.2 _ (string opens quoted h)),
-      λ fault h. c.loop-inside.invariant.3 _ (after_string opens quoted h),
+      λ more h. rw append_assoc (c.loop-inside.invariant.2 _ (tokens_at c.args.marks c.args.line _ (Ok _) opens (Ok (_, _), quoted, (Ok more, h, refl)))),
+      λ fault h. c.loop-inside.invariant.3 _ (tokens_at c.args.marks c.args.line _ (Err _) opens (Ok (_, _), quoted, (Err fault, h, refl))),
     )
 
 pub loop-inside-smaller : goal.loop-inside-smaller
@@ -53,6 +53,6 @@ loop-inside-preserved c =
     let key : token_at c.loop-inside.rest.now ≡ KeywordToken c.in-Keyword.keyword c.in-Keyword.after.now = c.in_ok-next_token.ensures ∙ ap token_view c.in-Keyword.is in (
       c.loop-inside.invariant.0 ++ Word c.in-Keyword.keyword c.args.marks c.args.line ∷ [],
       rw (c.in_ok-push-in-Keyword.ensures.items, map_push, c.loop-inside.invariant.1, append_assoc),
-      λ more h. rw append_assoc (c.loop-inside.invariant.2 _ (word key h)),
-      λ fault h. c.loop-inside.invariant.3 _ (after_word key h),
+      λ more h. rw append_assoc (c.loop-inside.invariant.2 _ (tokens_at c.args.marks c.args.line _ (Ok _) key (Ok more, h, refl))),
+      λ fault h. c.loop-inside.invariant.3 _ (tokens_at c.args.marks c.args.line _ (Err _) key (Err fault, h, refl)),
     )

@@ -1,6 +1,7 @@
 use Rattle.std.proofs.Common.{◌≡◌, ◌++◌, List, length}
 use Rattle.po_syntax.specs.declared.fault.PoFault.{PoFault}
-use Rattle.po_syntax.specs.Internal.Line.{SpellsTokens, TokensStop}
+use Rattle.po_syntax.specs.LineFaults.{TokensFault}
+use Rattle.po_syntax.specs.Spelling.{HoldsTokens}
 use Rattle.po_syntax.specs.TextItem.{TextItem, views}
 use Rattle.po_syntax.proofs.line.add_tokens.Given as goal
 
@@ -8,8 +9,8 @@ abbrev pub invariant-loop-inside : goal.invariant-loop-inside
 invariant-loop-inside l =
     (spelt : List TextItem)
     × (views l.items.items ≡ views l.initial.items.items ++ spelt)
-    × ((more : List TextItem) → SpellsTokens l.marks l.line l.rest more → SpellsTokens l.marks l.line l.text (spelt ++ more))
-    × ((fault : PoFault) → TokensStop l.rest fault → TokensStop l.text fault)
+    × ((more : List TextItem) → HoldsTokens l.marks l.line l.rest more → HoldsTokens l.marks l.line l.text (spelt ++ more))
+    × ((fault : PoFault) → TokensFault l.rest fault → TokensFault l.text fault)
 
 abbrev pub decreases-loop-inside : goal.decreases-loop-inside
 decreases-loop-inside l = length l.rest

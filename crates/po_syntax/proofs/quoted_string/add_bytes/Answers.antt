@@ -1,7 +1,9 @@
-use Rattle.std.proofs.Common.{◌∙◌, [], ◌∷◌, ◌++◌, append_assoc, append-nil, arith}
+use Rattle.std.proofs.Common.{subst, [], ◌∷◌, ◌++◌, append_assoc, append-nil, arith}
 use Rattle.std.proofs.lemmas.Result.{err_from_is_err_and}
-use Rattle.po_syntax.specs.Internal.QuotedString.{ended, spelt, here, later}
-use Rattle.po_syntax.proofs.QuotedStrings.{quote_ends, escape_begins, stops_at_end, escape-rest}
+use Rattle.po_syntax.specs.Escapes.{SpellsString, escape}
+use Rattle.po_syntax.specs.LineFaults.{StringFault, in_escape, after_escape}
+use Rattle.po_syntax.proofs.Escapes.{escape_shorter}
+use Rattle.po_syntax.proofs.QuotedStrings.{closes, backslash, stops_at_end, escape_is}
 use Rattle.po_syntax.proofs.quoted_string.add_bytes.Goals as goal
 
 pub returns-in_default-clause-fault : goal.returns-in_default-clause-fault
@@ -10,7 +12,7 @@ returns-in_default-clause-fault c = λ _. c.loop-mark.invariant.3 _ (c.split_pla
 pub returns-then-mark-eq34-clause-found : goal.returns-then-mark-eq34-clause-found
 returns-then-mark-eq34-clause-found c =
     let plain = c.split_plain.result.0.now in
-    let ends = ended (quote_ends _ _ _ c.in-Some.ensures.cases.0 c.if-mark-eq34.true) in (
+    let ends = closes _ _ _ c.in-Some.ensures.cases.0 c.if-mark-eq34.true in (
       c.loop-mark.invariant.0 ++ plain,
       c.loop-mark.invariant.2 _ _ (rw append-nil at (c.split_plain.ensures.spelt [] _ ends)),
       rw (c.in_ok-extend_from_slice.ensures.items, c.loop-mark.invariant.1, append_assoc),
@@ -19,19 +21,19 @@ returns-then-mark-eq34-clause-found c =
 pub returns-in_err-byte-clause-fault : goal.returns-in_err-byte-clause-fault
 returns-in_err-byte-clause-fault c =
     let p = err_from_is_err_and c.from_residual-in_err-byte.result c.from_residual-in_err-byte.ensures.1 in
-    let begins = escape_begins _ _ _ c.in-Some.ensures.cases.0 c.split_plain.ensures.special c.if-mark-eq34.false in
-    rw (p.1, p.2) (λ _. c.loop-mark.invariant.3 _ (c.split_plain.ensures.stops _ (here (begins ∙ c.in_err-byte.ensures))))
+    let begins = backslash _ _ _ c.in-Some.ensures.cases.0 c.split_plain.ensures.special c.if-mark-eq34.false in
+    rw (p.1, p.2) (λ _. c.loop-mark.invariant.3 _ (c.split_plain.ensures.stops _ (subst (λ t. StringFault t c.in_err-byte.field-0.0) begins (in_escape (escape_is _ c.in_err-byte.ensures)))))
 
 pub loop-mark-smaller : goal.loop-mark-smaller
-loop-mark-smaller c = omega (arith, c.split_plain.ensures.parts, c.in-Some.ensures.cases, escape-rest _ c.in_ok-byte.ensures)
+loop-mark-smaller c = omega (arith, c.split_plain.ensures.parts, c.in-Some.ensures.cases, escape_shorter (escape_is _ c.in_ok-byte.ensures))
 
 pub loop-mark-preserved : goal.loop-mark-preserved
 loop-mark-preserved c =
     let plain = c.split_plain.result.0.now in
     let byte = c.in_ok-byte.byte ∷ [] in
-    let begins = escape_begins _ _ _ c.in-Some.ensures.cases.0 c.split_plain.ensures.special c.if-mark-eq34.false in (
+    let begins = backslash _ _ _ c.in-Some.ensures.cases.0 c.split_plain.ensures.special c.if-mark-eq34.false in (
       c.loop-mark.invariant.0 ++ (plain ++ byte),
       rw (c.in_ok-push.ensures.items, c.in_ok-extend_from_slice.ensures.items, c.loop-mark.invariant.1) (simp append_assoc),
-      λ more end h. simp append_assoc (c.loop-mark.invariant.2 _ _ (c.split_plain.ensures.spelt (c.in_ok-byte.byte ∷ more) _ (spelt (begins ∙ c.in_ok-byte.ensures) h))),
-      λ fault h. c.loop-mark.invariant.3 _ (c.split_plain.ensures.stops _ (later (begins ∙ c.in_ok-byte.ensures) h)),
+      λ more end h. simp append_assoc (c.loop-mark.invariant.2 _ _ (c.split_plain.ensures.spelt (c.in_ok-byte.byte ∷ more) _ (subst (λ t. SpellsString t (c.in_ok-byte.byte ∷ more) end) begins (escape (escape_is _ c.in_ok-byte.ensures) h)))),
+      λ fault h. c.loop-mark.invariant.3 _ (c.split_plain.ensures.stops _ (subst (λ t. StringFault t fault) begins (after_escape (escape_is _ c.in_ok-byte.ensures) h))),
     )

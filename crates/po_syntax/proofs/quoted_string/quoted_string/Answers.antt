@@ -1,6 +1,5 @@
 use Rattle.std.proofs.Common.{[], append-nil}
-use Rattle.po_syntax.specs.Internal.QuotedString.{ended}
-use Rattle.po_syntax.proofs.QuotedStrings.{quote_ends, stops_at_end}
+use Rattle.po_syntax.proofs.QuotedStrings.{closes, stops_at_end}
 use Rattle.po_syntax.proofs.quoted_string.quoted_string.Goals as goal
 
 pub returns-in_default-clause-fault : goal.returns-in_default-clause-fault
@@ -8,5 +7,4 @@ returns-in_default-clause-fault c = λ _. c.split_plain.ensures.stops _ (stops_a
 
 pub returns-then-mark-eq34-clause-found : goal.returns-then-mark-eq34-clause-found
 returns-then-mark-eq34-clause-found c =
-    let ends = ended (quote_ends _ _ _ c.in-Some.ensures.cases.0 c.if-mark-eq34.true) in
-    rw append-nil at (c.split_plain.ensures.spelt [] _ ends)
+    rw append-nil at (c.split_plain.ensures.spelt [] _ (closes _ _ _ c.in-Some.ensures.cases.0 c.if-mark-eq34.true))
