@@ -42,11 +42,8 @@ untranslated query = record { text = untranslated_text query.id query.plural; fo
 abbrev pub translated : List (List ℕ) → RuleView → Option (List ℕ × ℕ) → AnswerView
 translated forms rule None = record { text = form_at forms 0; found = true; steps = 0 }
 translated forms rule (Some plural) =
-    record {
-      text = selected_form forms rule.nplurals (value rule.tree plural.1);
-      found = true;
-      steps = visited rule.tree plural.1;
-    }
+    let index = value rule.tree plural.1 in
+    record { text = selected_form forms rule.nplurals index; found = true; steps = visited rule.tree plural.1 }
 
 -- the answer to a query, from the forms of its translation, where it has one, and the plural rule
 abbrev pub answer : Option (List (List ℕ)) → RuleView → Query → AnswerView

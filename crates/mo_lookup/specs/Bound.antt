@@ -4,9 +4,8 @@ use Rattle.std.specs.Prelude.{ℕ, zero, suc, ◌+◌, ◌-◌, ◌/◌, ◌^◌
 
 -- how often n can be halved, rounded down, until it is 0, up to `most` times
 abbrev pub halvings_within : ℕ → ℕ → ℕ
-halvings_within zero n = 0
-halvings_within (suc most) zero = 0
 halvings_within (suc most) (suc n) = 1 + halvings_within most (suc n / 2)
+halvings_within most n = 0
 
 -- The most comparisons that a binary search of n keys makes. More than n halvings are never needed.
 -- For n above 0 it is floor(log2 n) + 1.

@@ -21,9 +21,8 @@ keys_left ks key = half (key_cmp (key_at ks (length ks / 2)) key) ks
 
 -- how many keys are compared, up to `most`, until it is found or none is left
 abbrev pub comparisons_within : ℕ → List (List ℕ) → List ℕ → ℕ
-comparisons_within zero ks key = 0
-comparisons_within (suc most) [] key = 0
 comparisons_within (suc most) (k ∷ ks) key = 1 + comparisons_within most (keys_left (k ∷ ks) key) key
+comparisons_within most ks key = 0
 
 -- how many of these keys a binary search compares with the one that is searched
 unfoldable pub comparisons : List (List ℕ) → List ℕ → ℕ

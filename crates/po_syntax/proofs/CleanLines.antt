@@ -1,5 +1,5 @@
 -- The lines of a text: UTF-8 without NUL and LF, as the text is UTF-8 without NUL.
-use Rattle.std.proofs.Common.{◌≡◌, ◌≢◌, refl, sym, ◌==◌, ℕ, zero, suc, ◌+◌, ◌<◌, ◌≤◌, Bool, true, false, not, if◌then◌else◌, List, [], ◌∷◌, length, get_or, take, length-take, drop, length-drop, All, IsUtf8, None, Some, nat_eq, arith, inl, inr}
+use Rattle.std.proofs.Common.{◌≡◌, ◌≢◌, refl, sym, ◌==◌, ℕ, zero, suc, ◌+◌, ◌<◌, ◌≤◌, Bool, true, false, not, if◌then◌else◌, List, [], ◌∷◌, length, get_or, take, length-take, drop, length-drop, All, IsUtf8, None, Some, position, nat_eq, arith, inl, inr}
 use Rattle.std.specs.List.{position_or_len, starts_with}
 use Rattle.std.proofs.lemmas.Bool.{cases_lt, not-true, not-false, eqb-true, eqb-false, cond-true, lt-ltb}
 use Rattle.std.proofs.lemmas.List.{take_all, take-append-drop, get_or-take}
@@ -10,7 +10,7 @@ use Rattle.std.proofs.lemmas.Slice.Eq.{bytes_eq-Decides}
 use Rattle.std.proofs.lemmas.Str.{IsUtf8-take, IsUtf8-drop, IsUtf8-past_char, IsCharBoundary-after_ascii}
 use lib.Utf8.{encode}
 use Rattle.po_syntax.specs.CleanLine.{AreCleanLines}
-use Rattle.po_syntax.specs.PoText.{HasNoNul, lines_of, without_byte_order_mark}
+use Rattle.po_syntax.specs.PoText.{lines_of, without_byte_order_mark}
 
 abbrev is_feed : ℕ → Bool
 is_feed b = b == 10
@@ -56,13 +56,13 @@ after_mark : (P : ℕ → Type 0) (text : List ℕ) (marked : Bool) → All P te
 after_mark P text true h = All-drop P 3 text h
 after_mark P text false h = h
 
-pub no_nul_all : (text : List ℕ) → HasNoNul text → All (λ b. b ≢ 0) text
+pub no_nul_all : (text : List ℕ) → position (λ b. b == 0) text ≡ None → All (λ b. b ≢ 0) text
 no_nul_all text h =
     elim (cases_lt (position_or_len (λ b. b == 0) text) (length text)) [
       | inl inside ↦ absurd (let found = cond-true _ (Some (position_or_len (λ b. b == 0) text)) None (lt-ltb _ _ inside) in cc)
       | inr none ↦ lacks_all 0 text none
     ]
 
-pub clean_lines : (text : List ℕ) → IsUtf8 text → HasNoNul text → AreCleanLines (lines_of (without_byte_order_mark text))
+pub clean_lines : (text : List ℕ) → IsUtf8 text → All (λ b. b ≢ 0) text → AreCleanLines (lines_of (without_byte_order_mark text))
 clean_lines text utf8 no_nul =
-    lines_below (length (without_byte_order_mark text) + 1) (without_byte_order_mark text) (omega arith) (mark_cases text _ refl utf8) (after_mark (λ b. b ≢ 0) text _ (no_nul_all text no_nul))
+    lines_below (length (without_byte_order_mark text) + 1) (without_byte_order_mark text) (omega arith) (mark_cases text _ refl utf8) (after_mark (λ b. b ≢ 0) text _ no_nul)

@@ -1,27 +1,27 @@
 -- Items and faults are on the lines that they name, and a byte order mark is no part of a text.
-use Rattle.std.proofs.Common.{◌≡◌, ◌≢◌, ◌==◌, inl, inr, ℕ, zero, suc, ◌+◌, ◌<◌, Bool, true, false, not, cond, if◌then◌else◌, nat_eq, List, [], ◌∷◌, ◌++◌, append_assoc, append-nil, length, length-append, length-take, fold, get_or, take, drop, Some, None, All, IsUtf8, refl, sym, subst, ap, ◌∙◌, arith}
-use Rattle.std.specs.List.{position, position_or_len, onto_first, starts_with, count_by}
+use Rattle.std.proofs.Common.{◌≡◌, ◌≢◌, ◌==◌, inl, inr, ℕ, zero, suc, ◌+◌, ◌<◌, Bool, true, false, cond, if◌then◌else◌, nat_eq, List, [], ◌∷◌, ◌++◌, append_assoc, append-nil, length, length-append, length-take, fold, get_or, take, drop, Some, All, IsUtf8, refl, sym, subst, ap, ◌∙◌, arith}
+use Rattle.std.specs.List.{position, onto_first, starts_with, count_by}
 use Rattle.std.specs.Str.Lossy.{utf8_valid_len}
-use Rattle.std.proofs.lemmas.Bool.{cases_lt, cond-true, cond-false, eqb-true, eqb-false, le-ltb, lt-ltb, not-false}
-use Rattle.std.proofs.lemmas.List.{take-append-drop}
+use Rattle.std.proofs.lemmas.Bool.{eqb-true, eqb-false}
+use Rattle.std.proofs.lemmas.List.{get_or-take, take-append-drop}
+use Rattle.std.proofs.lemmas.List.Quantifiers.{position-Some}
+use Rattle.std.proofs.lemmas.Grind.{get_or_default_zero}
 use Rattle.std.proofs.Math.Seq.{drop-cons}
 use Rattle.std.proofs.lemmas.List.Elements.{All-nil, All-cons, All-append, All-contains_itself, All-head, All-tail}
 use Rattle.std.proofs.lemmas.List.Splits.{slice_split-cons_no}
 use lib.Utf8.{encode}
-use Rattle.std.proofs.lemmas.List.Sums.{prefix_len_stops}
 use Rattle.std.proofs.lemmas.Slice.Eq.{bytes_eq-Decides}
 use Rattle.std.proofs.lemmas.Str.{IsUtf8-append, utf8_valid_len_le}
 use Rattle.po_syntax.specs.declared.fault.PoFault.{PoFault}
 use Rattle.po_syntax.specs.declared.fault.PoFault.TheVariants.{NotUtf8, ForbiddenByte}
 use Rattle.po_syntax.specs.declared.item.Marks.{Marks}
 use Rattle.po_syntax.specs.LineFaults.{LineFault}
-use Rattle.po_syntax.specs.LineNumbers.{HasFeeds, none, feed, other, BeginsLine, at_start, after_feed, EndsLine, at_end, before_feed, HasLine, IsOnItsLine, ItemsAreOnTheirLines, HasFaultOnLine, no_line, not_utf8, nul, in_line, marked_text, MarkIsOmitted}
-use Rattle.po_syntax.specs.PoText.{HasNoNul, line_number, lines_of, LinesStop, SpellsLines, TextFault, without_byte_order_mark}
+use Rattle.po_syntax.specs.LineNumbers.{HasFeeds, none, feed, other, BeginsLine, at_start, after_feed, at_end, before_feed, HasLine, IsOnItsLine, ItemsAreOnTheirLines, HasFaultOnLine, no_line, not_utf8, nul, in_line, marked_text, MarkIsOmitted}
+use Rattle.po_syntax.specs.PoText.{line_number, lines_of, LinesStop, SpellsLines, TextFault, without_byte_order_mark}
 use Rattle.po_syntax.specs.PoText as text_faults
 use Rattle.po_syntax.specs.Spelling.{HoldsItems, HoldsTokens}
 use Rattle.po_syntax.specs.Spelling as spelt
 use Rattle.po_syntax.specs.TextItem.{TextItem, line_of}
-use Rattle.po_syntax.proofs.CleanLines.{lacks_before, no_nul_all}
 
 -- how many LFs a text has
 abbrev feeds : List ℕ → ℕ
@@ -93,99 +93,56 @@ on_line text line number items has holds = λ k d below.
       among = All-contains_itself items k d below;
     }
 
--- the first line of what is left of a text, and what stands before the others
-record Left (text before rest : List ℕ) (count : ℕ) : Type 0 where
-  whole : text ≡ before ++ rest
-  begins : BeginsLine before
-  counted : HasFeeds before count
+-- the text has these lines, from this number on
+abbrev HasLines : List ℕ → ℕ → List (List ℕ) → Type 0
+HasLines text number [] = Unit {0}
+HasLines text number (line ∷ lines) = HasLine text line number × HasLines text (number + 1) lines
 
-line_has : (text before line after : List ℕ) (count : ℕ) → Left text before (line ++ after) count → All (λ b. b ≢ 10) line → EndsLine after → HasLine text line (1 + count)
-line_has text before line after count left lacks ends = record {
-  before = before;
-  after = after;
-  feeds = count;
-  whole = left.whole;
-  begins = left.begins;
-  one_line = lacks;
-  ends = ends;
-  counted = left.counted;
-  number_is = refl;
-}
+lines_left : (n : ℕ) (text before rest : List ℕ) (count : ℕ) → Cut rest → length rest < n → text ≡ before ++ rest → BeginsLine before → HasFeeds before count
+    → HasLines text (1 + count) (lines_of rest)
+lines_left zero text before rest count parts less whole begins counted = absurd (omega (arith, less))
+lines_left (suc n) text before rest count (only_line lacks is) less whole begins counted =
+    let all : text ≡ before ++ (rest ++ []) = whole ∙ ap (λ l. before ++ l) (sym (append-nil rest)) in
+    rw is (record { before = before; after = []; feeds = count; whole = all; begins = begins; one_line = lacks; ends = at_end; counted = counted; number_is = refl }, tt)
+lines_left (suc n) text before rest count (first_line first more lacks is) less whole begins counted =
+    let longer = before ++ first ++ 10 ∷ [] in
+    let all : text ≡ longer ++ more = whole ∙ sym (append_assoc (before ++ first) (10 ∷ []) more ∙ append_assoc before first (10 ∷ more)) in
+    let feeds : HasFeeds longer (count + 1) = subst (HasFeeds longer) (omega arith) (feeds_append (feeds_append counted (no_feeds first lacks)) (feed none)) in
+    let others = lines_left n text longer more (count + 1) (cut more) (omega (arith, less, length-append first (10 ∷ more))) all (after_feed (before ++ first)) feeds in
+    rw is (
+      record { before = before; after = 10 ∷ more; feeds = count; whole = whole; begins = begins; one_line = lacks; ends = before_feed; counted = counted; number_is = refl },
+      subst (λ m. HasLines text m (lines_of more)) (omega arith) others,
+    )
 
-last_has : (text before rest : List ℕ) (count : ℕ) → Left text before rest count → All (λ b. b ≢ 10) rest → HasLine text rest (1 + count)
-last_has text before rest count left lacks = line_has text before rest [] count (subst (λ l. Left text before l count) (sym (append-nil rest)) left) lacks at_end
+has_lines : (text : List ℕ) → HasLines text 1 (lines_of text)
+has_lines text = lines_left (length text + 1) text [] text 0 (cut text) (omega arith) refl at_start none
 
-first_has : (text before first rest : List ℕ) (count : ℕ) → Left text before (first ++ 10 ∷ rest) count → All (λ b. b ≢ 10) first → HasLine text first (1 + count)
-first_has text before first rest count left lacks = line_has text before first (10 ∷ rest) count left lacks before_feed
-
-left_after : (text before first rest : List ℕ) (count : ℕ) → Left text before (first ++ 10 ∷ rest) count → All (λ b. b ≢ 10) first → Left text (before ++ first ++ 10 ∷ []) rest (count + 1)
-left_after text before first rest count left lacks = record {
-  whole = left.whole ∙ sym (append_assoc (before ++ first) (10 ∷ []) rest ∙ append_assoc before first (10 ∷ rest));
-  begins = after_feed (before ++ first);
-  counted = subst (HasFeeds (before ++ first ++ 10 ∷ [])) (omega arith) (feeds_append (feeds_append left.counted (no_feeds first lacks)) (feed none));
-}
-
-items_placed : (n : ℕ) (text before rest : List ℕ) (count : ℕ) (items : List TextItem) → Cut rest → length rest < n → Left text before rest count
-    → SpellsLines (1 + count) (lines_of rest) items → All (IsOnItsLine text) items
-items_placed zero text before rest count items parts less left h = absurd (omega (arith, less))
-items_placed (suc n) text before rest count items (only_line lacks is) less left h =
-    let s = subst (λ l. SpellsLines (1 + count) l items) is h in
-    let whole : items ≡ s.0 = s.4 ∙ ap (λ l. s.0 ++ l) s.3 ∙ append-nil s.0 in
-    subst (All (IsOnItsLine text)) (sym whole) (on_line text rest (1 + count) s.0 (last_has text before rest count left lacks) s.2)
-items_placed (suc n) text before rest count items (first_line first more lacks is) less left h =
-    let s = subst (λ l. SpellsLines (1 + count) l items) is h in
-    let number : 1 + count + 1 ≡ 1 + (count + 1) = omega arith in
-    let shorter : length more < n = omega (arith, less, length-append first (10 ∷ more)) in
-    let here = on_line text first (1 + count) s.0 (first_has text before first more count left lacks) s.2 in
-    let later = items_placed n text (before ++ first ++ 10 ∷ []) more (count + 1) s.1 (cut more) shorter (left_after text before first more count left lacks) (subst (λ m. SpellsLines m (lines_of more) s.1) number s.3) in
-    subst (All (IsOnItsLine text)) (sym s.4) (All-append (IsOnItsLine text) s.0 s.1 here later)
-
-start : (text : List ℕ) → Left text [] text 0
-start text = record { whole = refl; begins = at_start; counted = none }
+items_placed : (text : List ℕ) (number : ℕ) (lines : List (List ℕ)) (items : List TextItem) → HasLines text number lines → SpellsLines number lines items → All (IsOnItsLine text) items
+items_placed text number [] items has h = rw h (All-nil (IsOnItsLine text))
+items_placed text number (line ∷ lines) items has h =
+    rw h.4 (All-append (IsOnItsLine text) h.0 h.1 (on_line text line number h.0 has.0 h.2) (items_placed text (number + 1) lines h.1 has.1 h.3))
 
 pub items_on_lines : (text : List ℕ) (items : List TextItem) → ItemsAreOnTheirLines text items
-items_on_lines text items h =
-    let own = without_byte_order_mark text in
-    items_placed (length own + 1) own [] own 0 items (cut own) (omega arith) (start own) h.lines
+items_on_lines text items h = let own = without_byte_order_mark text in items_placed own 1 (lines_of own) items (has_lines own) h.lines
 
--- the line that stops
-record StopsAt (text : List ℕ) (fault : PoFault) (number : ℕ) : Type 0 where
-  line : List ℕ
-  has : HasLine text line number
-  stops : LineFault line fault
-
-fault_placed : (n : ℕ) (text before rest : List ℕ) (count : ℕ) (fault : PoFault) (number : ℕ) → Cut rest → length rest < n → Left text before rest count
-    → LinesStop (1 + count) (lines_of rest) fault number → StopsAt text fault number
-fault_placed zero text before rest count fault number parts less left h = absurd (omega (arith, less))
-fault_placed (suc n) text before rest count fault number (only_line lacks is) less left h = by (subst (λ l. LinesStop (1 + count) l fault number) is h) where
-  by : LinesStop (1 + count) (rest ∷ []) fault number → StopsAt text fault number
-  by (inl s) = record { line = rest; has = subst (HasLine text rest) (sym s.1) (last_has text before rest count left lacks); stops = s.0 }
-  by (inr s) = absurd s.2
-fault_placed (suc n) text before rest count fault number (first_line first more lacks is) less left h =
-    by (subst (λ l. LinesStop (1 + count) l fault number) is h)
-    (λ s. fault_placed n text (before ++ first ++ 10 ∷ []) more (count + 1) fault number (cut more) (omega (arith, less, length-append first (10 ∷ more))) (left_after text before first more count left lacks) s) where
-      by : LinesStop (1 + count) (first ∷ lines_of more) fault number → (LinesStop (1 + (count + 1)) (lines_of more) fault number → StopsAt text fault number) → StopsAt text fault number
-      by (inl s) later = record { line = first; has = subst (HasLine text first) (sym s.1) (first_has text before first more count left lacks); stops = s.0 }
-      by (inr s) later = let number_is : 1 + count + 1 ≡ 1 + (count + 1) = omega arith in later (subst (λ m. LinesStop m (lines_of more) fault number) number_is s.2)
+fault_placed : (text : List ℕ) (number : ℕ) (lines : List (List ℕ)) (fault : PoFault) (at : ℕ) → HasLines text number lines → LinesStop number lines fault at
+    → (line : List ℕ) × HasLine text line at × LineFault line fault
+fault_placed text number [] fault at has stops = absurd stops
+fault_placed text number (line ∷ lines) fault at has (inl here) = (line, subst (HasLine text line) (sym here.1) has.0, here.0)
+fault_placed text number (line ∷ lines) fault at has (inr later) = fault_placed text (number + 1) lines fault at has.1 later.2
 
 -- where a text has a byte
 byte_splits : (text : List ℕ) (index d : ℕ) → index < length text → text ≡ take index text ++ get_or text index d ∷ drop (suc index) text
 byte_splits text index d below = sym (take-append-drop index text) ∙ ap (λ l. take index text ++ l) (drop-cons text index d below)
 
-nul_splits : (text : List ℕ) (index : ℕ) → position_or_len (λ b. b == 0) text < length text → position_or_len (λ b. b == 0) text ≡ index → HasFaultOnLine text ForbiddenByte (line_number text index)
-nul_splits text index inside same =
-    let found = position_or_len (λ b. b == 0) text in
-    let is_nul : get_or text found 0 ≡ 0 = eqb-true _ _ (not-false _ (prefix_len_stops (λ b. not (b == 0)) text 0 inside)) in
-    let whole : text ≡ take found text ++ 0 ∷ drop (suc found) text = byte_splits text found 0 inside ∙ ap (λ b. take found text ++ b ∷ drop (suc found) text) is_nul in
-    subst (λ i. HasFaultOnLine text ForbiddenByte (line_number text i)) same
-    (subst (λ l. HasFaultOnLine l ForbiddenByte (1 + feeds (take found text))) (sym whole) (nul (take found text) (drop (suc found) text) (lacks_before 0 text found (omega arith)) (feeds_are (take found text))))
-
 nul_placed : (text : List ℕ) (index : ℕ) → position (λ b. b == 0) text ≡ Some index → HasFaultOnLine text ForbiddenByte (line_number text index)
 nul_placed text index h =
-    elim (cases_lt (position_or_len (λ b. b == 0) text) (length text)) [
-      | inl inside ↦ nul_splits text index inside (let found = cond-true _ (Some (position_or_len (λ b. b == 0) text)) None (lt-ltb _ _ inside) in cc)
-      | inr none_there ↦ absurd (let found = cond-false _ (Some (position_or_len (λ b. b == 0) text)) None (le-ltb _ _ none_there) in cc)
-    ]
+    let found = position-Some (λ b. b == 0) text index 0 h in
+    let whole : text ≡ take index text ++ 0 ∷ drop (suc index) text = byte_splits text index 0 found.0 ∙ ap (λ b. take index text ++ b ∷ drop (suc index) text) (eqb-true _ _ found.1) in
+    let lacks : All (λ b. b ≢ 0) (take index text) = λ k d inside.
+        let less : k < index = omega (arith, length-take index text) in
+        rw (get_or-take index text k d less) (eqb-false _ _ (rw (get_or_default_zero text k d (omega (arith, found.0))) (found.2 k less))) in
+    subst (λ l. HasFaultOnLine l ForbiddenByte (1 + feeds (take index text))) (sym whole) (nul (take index text) (drop (suc index) text) lacks (feeds_are (take index text)))
 
 pub fault_on_line : {text : List ℕ} {fault : PoFault} {line : ℕ} → TextFault text fault line → HasFaultOnLine text fault line
 fault_on_line (text_faults.too_large large) = no_line large
@@ -197,20 +154,12 @@ fault_on_line (text_faults.not_utf8 {text = text} small invalid is) =
 fault_on_line (text_faults.nul {text = text} {index = index} small utf8 found is) = subst (HasFaultOnLine text ForbiddenByte) (sym is) (nul_placed text index found)
 fault_on_line (text_faults.stops {text = text} {fault = fault} {line = line} small utf8 no_nul stops) =
     let own = without_byte_order_mark text in
-    let at = fault_placed (length own + 1) own [] own 0 fault line (cut own) (omega arith) (start own) stops in
-    in_line at.has at.stops
+    let at = fault_placed own 1 (lines_of own) fault line (has_lines own) stops in in_line at.1 at.2
 
 -- a byte order mark is UTF-8 without NUL
 mark_utf8 : IsUtf8 (0xEF ∷ 0xBB ∷ 0xBF ∷ [])
 unfolding encode
 mark_utf8 = (0xFEFF ∷ [], (refl, refl))
-
-no_nul_there : (text : List ℕ) → All (λ b. b ≢ 0) text → HasNoNul text
-no_nul_there text all =
-    elim (cases_lt (position_or_len (λ b. b == 0) text) (length text)) [
-      | inl inside ↦ absurd (let is_nul = eqb-true _ _ (not-false _ (prefix_len_stops (λ b. not (b == 0)) text 0 inside)) in all (position_or_len (λ b. b == 0) text) 0 inside is_nul)
-      | inr none_there ↦ cond-false _ (Some (position_or_len (λ b. b == 0) text)) None (le-ltb _ _ none_there)
-    ]
 
 unmarked : (text : List ℕ) → ((rest : List ℕ) → text ≢ marked_text rest) → without_byte_order_mark text ≡ text
 unmarked text unlike = by (starts_with nat_eq text (0xEF ∷ 0xBB ∷ 0xBF ∷ [])) refl where
@@ -224,7 +173,7 @@ pub mark_omitted : (text : List ℕ) (items : List TextItem) → MarkIsOmitted t
 mark_omitted text items small unlike h = record {
   small = small;
   utf8 = IsUtf8-append (0xEF ∷ 0xBB ∷ 0xBF ∷ []) text mark_utf8 h.utf8;
-  no_nul = no_nul_there (marked_text text) (All-append (λ b. b ≢ 0) (0xEF ∷ 0xBB ∷ 0xBF ∷ []) text mark_has_none (no_nul_all text h.no_nul));
+  no_nul = All-append (λ b. b ≢ 0) (0xEF ∷ 0xBB ∷ 0xBF ∷ []) text mark_has_none h.no_nul;
   lines = subst (λ l. SpellsLines 1 (lines_of l) items) (unmarked text unlike) h.lines;
 } where
   mark_has_none : All (λ (b : ℕ). b ≢ 0) (0xEF ∷ 0xBB ∷ 0xBF ∷ [])

@@ -3,7 +3,7 @@ use Rattle.std.proofs.Common.{◌≢◌, inl, inr, ◌+◌, ℕ, List, [], ◌�
 use Rattle.po_syntax.specs.declared.fault.PoFault.{PoFault}
 use Rattle.po_syntax.specs.declared.fault.PoFault.TheVariants.{OutOfMemory}
 use Rattle.po_syntax.specs.LineFaults as fault
-use Rattle.po_syntax.specs.PoText.{LinesStop, TextFault, too_large, not_utf8, nul, stops}
+use Rattle.po_syntax.specs.PoText.{LinesStop, TextFault, stops}
 
 abbrev IsReported : PoFault → Type 0
 IsReported kind = kind ≢ OutOfMemory
@@ -13,11 +13,9 @@ number_reported fault.nul = λ e. cc
 number_reported (fault.large h) = λ e. cc
 
 escape_reported : {text : List ℕ} {kind : PoFault} → fault.EscapeFault text kind → IsReported kind
-escape_reported fault.at_end = λ e. cc
-escape_reported (fault.no_escape digit x letter) = λ e. cc
 escape_reported (fault.octal digits rest all few ends h) = number_reported h
-escape_reported (fault.no_digit h) = λ e. cc
 escape_reported (fault.hexadecimal_digits digits rest all ends h) = number_reported h
+escape_reported _ = λ e. cc
 
 string_reported : {text : List ℕ} {kind : PoFault} → fault.StringFault text kind → IsReported kind
 string_reported fault.not_closed = λ e. cc
@@ -27,8 +25,7 @@ string_reported (fault.after_escape s h) = string_reported h
 
 index_reported : {text : List ℕ} {kind : PoFault} → fault.IndexFault text kind → IsReported kind
 index_reported (fault.no_index p q) = λ e. cc
-index_reported (fault.large_index digits rest p q r) = λ e. cc
-index_reported (fault.not_closed_index digits after rest p q r s t) = λ e. cc
+index_reported _ = λ e. cc
 
 keyword_reported : {text : List ℕ} {kind : PoFault} → fault.KeywordFault text kind → IsReported kind
 keyword_reported (fault.no_keyword b word rest all ends none) = λ e. cc
@@ -44,12 +41,11 @@ tokens_reported (fault.after_string s h) = tokens_reported h
 
 line_reported : {text : List ℕ} {kind : PoFault} → fault.LineFault text kind → IsReported kind
 line_reported (fault.indented b h) = line_reported h
-line_reported (fault.previous_again blanks rest all) = λ e. cc
-line_reported (fault.obsolete_again blanks rest all) = λ e. cc
 line_reported (fault.live b h) = tokens_reported h
 line_reported (fault.previous h) = tokens_reported h
 line_reported (fault.obsolete blanks all b n h) = tokens_reported h
 line_reported (fault.obsolete_previous h) = tokens_reported h
+line_reported _ = λ e. cc
 
 lines_reported : (number : ℕ) (lines : List (List ℕ)) (kind : PoFault) (at : ℕ) → LinesStop number lines kind at → IsReported kind
 lines_reported number [] kind at s = absurd s
@@ -57,7 +53,5 @@ lines_reported number (line ∷ lines) kind at (inl first) = line_reported first
 lines_reported number (line ∷ lines) kind at (inr after) = lines_reported (number + 1) lines kind at after.2
 
 pub text_reported : (text : List ℕ) (kind : PoFault) (line : ℕ) → TextFault text kind line → kind ≢ OutOfMemory
-text_reported text kind line (too_large long) = λ e. cc
-text_reported text kind line (not_utf8 small other is) = λ e. cc
-text_reported text kind line (nul small utf8 found is) = λ e. cc
 text_reported text kind line (stops small utf8 no_nul s) = lines_reported 1 _ kind line s
+text_reported text kind line _ = λ e. cc

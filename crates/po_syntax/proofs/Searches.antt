@@ -1,9 +1,9 @@
 -- What a search for a byte finds, in terms of lists.
-use Rattle.std.proofs.Common.{◌≡◌, ℕ, ◌<◌, Bool, List, [], ◌∷◌, length, take, drop, Option, Some, None, unwrap_or, position, arith}
+use Rattle.std.proofs.Common.{◌≡◌, ◌≢◌, ℕ, ◌<◌, Bool, List, [], ◌∷◌, length, take, drop, Option, Some, None, unwrap_or, position, All, arith}
 use Rattle.std.specs.List.{position_or_len}
 use Rattle.std.proofs.lemmas.List.Sums.{position_or_len_is}
 use Rattle.std.proofs.lemmas.List.Splits.{slice_split_none, slice_split_first}
-use Rattle.std.proofs.lemmas.Bool.{cond-true, cond-false, lt-ltb, le-ltb, false_from_ne_true}
+use Rattle.std.proofs.lemmas.Bool.{cond-true, cond-false, eqb-false, lt-ltb, le-ltb, false_from_ne_true}
 use Rattle.std.proofs.lemmas.Grind.{get_or_default_zero}
 use Rattle.std.proofs.lemmas.List.{drop-drop}
 use Rattle.memchr.specs.Find.{IsFirstByte, is_byte}
@@ -23,6 +23,10 @@ position_found test text None h =
     rw (found_or_len test text None h) (cond-false _ _ _ (le-ltb (length text) (length text) (omega arith)))
 position_found test text (Some index) h =
     rw (found_or_len test text (Some index) h) (cond-true _ _ _ (lt-ltb index (length text) (omega (arith, h.0.high))))
+
+pub none_found : (byte : ℕ) (text : List ℕ) → IsFirstByte (is_byte byte) text None → All (λ b. b ≢ byte) text
+none_found byte text h = λ k d inside.
+    rw (get_or_default_zero text k d inside) (eqb-false _ _ (false_from_ne_true _ (h k (omega arith) inside)))
 
 -- a text without LF is its only line
 pub one_line : (text : List ℕ) → IsFirstByte (is_byte 10) text None → lines_of text ≡ text ∷ []

@@ -8,6 +8,7 @@ use Rattle.std.proofs.Math.Seq.{take-append_seam, drop-append_seam}
 use Rattle.std.proofs.lemmas.Bool.{cond_both, cond-true, or_from, both_ways, cond-false, eqb-true, eqb-false, ne_eqb, ltb-true, ltb-false, lt-ltb, false_from_ne_true}
 use Rattle.std.proofs.lemmas.List.{take-append-drop}
 use Rattle.std.proofs.lemmas.List.Elements.{All-cons, All-head, All-tail}
+use Rattle.std.proofs.lemmas.List.Sums.{AllPass-from_list_all}
 use Rattle.std.proofs.lemmas.Slice.Eq.{bytes_eq-Decides}
 use Rattle.po_syntax.specs.declared.fault.PoFault.TheVariants.{BadPluralIndex, BadToken}
 use Rattle.po_syntax.specs.declared.item.Keyword.{Keyword}
@@ -16,7 +17,7 @@ use Rattle.po_syntax.specs.Escapes.{NoDigitFirst}
 use Rattle.po_syntax.specs.declared.fault.PoFault.{PoFault}
 use Rattle.po_syntax.specs.LineFaults.{IndexFault, no_index, large_index, not_closed_index, KeywordFault, no_keyword, in_index, TokensFault, no_token, in_keyword}
 use Rattle.po_syntax.specs.Internal.QuotedString.{digit_count}
-use Rattle.po_syntax.specs.Facts.Runs.{parts_of, run_length, all_pass}
+use Rattle.po_syntax.specs.Facts.Runs.{parts_of, run_length}
 use Rattle.po_syntax.specs.Spelling.{is_word_byte, SpellsKeyword, msgctxt, msgid, msgid_plural, msgstr, form}
 use Rattle.po_syntax.specs.Internal.Token.{Token, LineEnd, OpeningQuote, KeywordToken, WrongToken, close_token, index_token, bracket_token, keyword_token, word_token, first_token, token_at}
 use Rattle.po_syntax.specs.Blanks.{is_blank, IsBlank, skip_blanks, FailsFirst}
@@ -70,7 +71,7 @@ word_prefix word rest all ends =
 -- a word that begins with `m`
 pub m_read : (word rest : List ℕ) → list_all is_word_byte (109 ∷ word) ≡ true → FailsFirst is_word_byte rest → token_at ((109 ∷ word) ++ rest) ≡ keyword_token (109 ∷ word) rest
 unfolding first_token
-m_read word rest all ends = word_prefix (109 ∷ word) rest (all_pass is_word_byte (109 ∷ word) all) ends
+m_read word rest all ends = word_prefix (109 ∷ word) rest (AllPass-from_list_all is_word_byte (109 ∷ word) all) ends
 
 pub blank_no_word : (b : ℕ) → IsBlank b → is_word_byte b ≡ false
 blank_no_word b is = of_blank (λ a. is_word_byte a ≡ false) refl refl refl refl refl b is

@@ -10,6 +10,7 @@ use Rattle.po_syntax.specs.PoText.{IsSmall, line_number, without_byte_order_mark
 use Rattle.po_syntax.specs.LineFaults.{LineFault}
 use Rattle.po_syntax.specs.Spelling.{HoldsItems}
 use Rattle.po_syntax.specs.TextItem.{TextItem}
+use Rattle.po_syntax.proofs.CleanLines.{no_nul_all}
 use Rattle.po_syntax.proofs.OneLine.{Outcome, LineIs, line_once}
 
 abbrev LineEnds : ℕ → List ℕ → Type 0
@@ -38,8 +39,8 @@ TextEnds text = ((items : List TextItem) × SpellsText text items) ⊎ ((fault :
 
 text_without_nul : (text : List ℕ) → IsSmall text → IsUtf8 text → (found : Option ℕ) → position (λ b. b == 0) text ≡ found → TextEnds text
 text_without_nul text small utf8 (Some index) e = inr (ForbiddenByte, line_number text index, nul small utf8 e refl)
-text_without_nul text small utf8 None e =
-    elim (lines_end 1 (lines_of (without_byte_order_mark text))) [ inl found ↦ inl (found.0, record { small = small; utf8 = utf8; no_nul = e; lines = found.1 }) | inr found ↦ inr (found.0, found.1, stops small utf8 e found.2) ]
+text_without_nul text small utf8 None e = let no_nul = no_nul_all text e in
+    elim (lines_end 1 (lines_of (without_byte_order_mark text))) [ inl found ↦ inl (found.0, record { small = small; utf8 = utf8; no_nul = no_nul; lines = found.1 }) | inr found ↦ inr (found.0, found.1, stops small utf8 no_nul found.2) ]
 
 pub text_ends : (text : List ℕ) → TextEnds text
 text_ends text =

@@ -1,5 +1,7 @@
 -- A text spells at most one list of items, or has at most one first fault, and not both.
-use Rattle.std.proofs.Common.{◌≡◌, ◌∙◌, sym, ap, refl, inl, inr, Ok, Err, ℕ, ◌+◌, List, [], ◌∷◌, arith}
+use Rattle.std.proofs.Common.{◌≡◌, ◌∙◌, sym, ap, refl, inl, inr, Ok, Err, Some, ◌≢◌, ◌==◌, position, All, ℕ, ◌+◌, List, [], ◌∷◌, arith}
+use Rattle.std.proofs.lemmas.Bool.{eqb-true}
+use Rattle.std.proofs.lemmas.List.Quantifiers.{position-Some}
 use Rattle.po_syntax.specs.declared.fault.PoFault.{PoFault}
 use Rattle.po_syntax.specs.PoText.{SpellsLines, LinesStop, SpellsText, TextFault, too_large, not_utf8, nul, stops}
 use Rattle.po_syntax.specs.Escapes.{SpellsString}
@@ -44,10 +46,13 @@ lines_stop_once number (line ∷ lines) (inr h) (inr g) = lines_stop_once (numbe
 pub text_once : (text : List ℕ) (items others : List TextItem) → SpellsText text items → SpellsText text others → items ≡ others
 text_once text items others h g = lines_once 1 _ h.lines g.lines
 
+no_nul_found : (text : List ℕ) {index : ℕ} → All (λ b. b ≢ 0) text → position (λ b. b == 0) text ≡ Some index → ⊥
+no_nul_found text {index} lacks e = let found = position-Some (λ b. b == 0) text index 0 e in lacks index 0 found.0 (eqb-true _ _ found.1)
+
 pub text_not_faulty : (text : List ℕ) (items : List TextItem) (fault : PoFault) (line : ℕ) → SpellsText text items → TextFault text fault line → ⊥
 text_not_faulty text items fault line h (too_large large) = omega (arith, h.small)
 text_not_faulty text items fault line h (not_utf8 small other e) = other h.utf8
-text_not_faulty text items fault line h (nul small utf8 found e) = let none = h.no_nul in cc
+text_not_faulty text items fault line h (nul small utf8 found e) = no_nul_found text h.no_nul found
 text_not_faulty text items fault line h (stops small utf8 no_nul g) = lines_not_stopped 1 _ items fault line h.lines g
 
 pub fault_once : (text : List ℕ) (fault other : PoFault) (line other_line : ℕ) → TextFault text fault line → TextFault text other other_line → (fault ≡ other) × (line ≡ other_line)
@@ -62,8 +67,8 @@ fault_once text fault other line other_line (not_utf8 p v d) (stops q u n g) = a
 fault_once text fault other line other_line (nul p v h d) (too_large q) = absurd (omega arith)
 fault_once text fault other line other_line (nul p v h d) (not_utf8 q u e) = absurd (u v)
 fault_once text fault other line other_line (nul {index = a} p v h d) (nul {index = b} q u f e) = let same : a ≡ b = cc in (refl, d ∙ rw same (sym e))
-fault_once text fault other line other_line (nul p v h d) (stops q u n g) = absurd (cc)
+fault_once text fault other line other_line (nul p v h d) (stops q u n g) = absurd (no_nul_found text n h)
 fault_once text fault other line other_line (stops p v m h) (too_large q) = absurd (omega arith)
 fault_once text fault other line other_line (stops p v m h) (not_utf8 q u e) = absurd (u v)
-fault_once text fault other line other_line (stops p v m h) (nul q u f e) = absurd (cc)
+fault_once text fault other line other_line (stops p v m h) (nul q u f e) = absurd (no_nul_found text m f)
 fault_once text fault other line other_line (stops p v m h) (stops q u n g) = lines_stop_once 1 _ h g

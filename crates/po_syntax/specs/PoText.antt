@@ -1,7 +1,7 @@
 -- The items of a PO text (manual, "The Format of PO Files"), and its first fault: this project's own,
 -- as the manual names no faults (FORMATS.md, "Which fault is reported").
-use Rattle.std.specs.Prelude.{◌≡◌, ℕ, ◌+◌, ◌^◌, ◌<◌, ◌≤◌, ◌⊎◌, ◌==◌, List, [], ◌∷◌, ◌++◌, take, drop, length}
-use Rattle.std.specs.Prelude.{if◌then◌else◌, IsUtf8, nat_eq, position, count_by, Some, None}
+use Rattle.std.specs.Prelude.{◌≡◌, ◌≢◌, ℕ, ◌+◌, ◌^◌, ◌<◌, ◌≤◌, ◌⊎◌, ◌==◌, List, [], ◌∷◌, ◌++◌, take, drop, length}
+use Rattle.std.specs.Prelude.{if◌then◌else◌, IsUtf8, nat_eq, position, count_by, Some, All}
 use Rattle.std.specs.List.{slice_split, starts_with}
 use Rattle.std.specs.Str.Lossy.{utf8_valid_len}
 use Rattle.po_syntax.specs.declared.fault.PoFault.{PoFault}
@@ -13,10 +13,6 @@ use Rattle.po_syntax.specs.TextItem.{TextItem}
 -- at most 2,147,483,647 bytes, this project's limit; a byte order mark counts
 abbrev pub IsSmall : List ℕ → Type 0
 IsSmall text = length text < 2 ^ 31
-
--- no byte of the text is 0
-abbrev pub HasNoNul : List ℕ → Type 0
-HasNoNul text = position (λ b. b == 0) text ≡ None
 
 -- the number of the line on which this index of the text stands, counted from 1
 abbrev pub line_number : List ℕ → ℕ → ℕ
@@ -51,7 +47,7 @@ LinesStop number (line ∷ lines) fault at =
 pub record SpellsText (text : List ℕ) (items : List TextItem) : Type 0 where
   pub small : IsSmall text
   pub utf8 : IsUtf8 text
-  pub no_nul : HasNoNul text
+  pub no_nul : All (λ b. b ≢ 0) text
   pub lines : SpellsLines 1 (lines_of (without_byte_order_mark text)) items
 
 -- The first fault of a text, with its line: it is too long, which has no line (0); it is not UTF-8,
@@ -63,5 +59,5 @@ pub data TextFault : List ℕ → PoFault → ℕ → Type 0 where
       → line ≡ line_number text (utf8_valid_len text) → TextFault text NotUtf8 line
   nul : {text : List ℕ} {line index : ℕ} → IsSmall text → IsUtf8 text → position (λ b. b == 0) text ≡ Some index
       → line ≡ line_number text index → TextFault text ForbiddenByte line
-  stops : {text : List ℕ} {fault : PoFault} {line : ℕ} → IsSmall text → IsUtf8 text → HasNoNul text
+  stops : {text : List ℕ} {fault : PoFault} {line : ℕ} → IsSmall text → IsUtf8 text → All (λ b. b ≢ 0) text
       → LinesStop 1 (lines_of (without_byte_order_mark text)) fault line → TextFault text fault line

@@ -1,7 +1,7 @@
 //! The lines of a text, and the items of each.
 
-ghost use Rattle.std.specs.Prelude.{◌≡◌, ◌≢◌, ◌+◌, ◌<◌, ◌≤◌, ◌^◌, ◌∷◌, [], length, IfOk, IfErr, IfSome, OnOk, IsUtf8, MatchOption};
-ghost use Rattle.po_syntax.specs.PoText.{TextFault, IsSmall, HasNoNul, line_number, without_byte_order_mark, lines_of};
+ghost use Rattle.std.specs.Prelude.{◌≡◌, ◌≢◌, ◌+◌, ◌<◌, ◌≤◌, ◌^◌, ◌∷◌, [], length, IfOk, IfErr, IfSome, OnOk, All, IsUtf8, MatchOption};
+ghost use Rattle.po_syntax.specs.PoText.{TextFault, IsSmall, line_number, without_byte_order_mark, lines_of};
 ghost use Rattle.po_syntax.specs.LineFaults.{LineFault};
 ghost use Rattle.po_syntax.specs.Spelling.{HoldsItems};
 ghost use Rattle.po_syntax.specs.Internal.LineView.{AddsItems};
@@ -81,7 +81,7 @@ pub(crate) fn valid_text(text: &[u8]) -> Result<&[u8], PoError>
     ensures found { IfOk result (λ rest. rest.now ≡ without_byte_order_mark text.now) }
     ensures small { OnOk result (IsSmall text.now) }
     ensures utf8 { OnOk result (IsUtf8 text.now) }
-    ensures no_nul { OnOk result (HasNoNul text.now) }
+    ensures no_nul { OnOk result (All (λ b. b ≢ 0) text.now) }
     ensures fault { IfErr result (λ e. TextFault text.now e.kind e.line) }
     ensures memory { IfErr result (λ e. e.kind ≢ PoFault.OutOfMemory) }
 {

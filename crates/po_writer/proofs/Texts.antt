@@ -5,7 +5,7 @@ use Rattle.std.specs.Str.{IsUtf8}
 use Rattle.std.proofs.lemmas.List.{append-nil}
 use Rattle.std.proofs.lemmas.List.Elements.{All-nil, All-cons, All-head, All-tail, All-append, All-weaker, All-filter}
 use Rattle.std.proofs.lemmas.Bool.{ne_eqb, le-ltb}
-use Rattle.po_syntax.specs.PoText.{IsSmall, HasNoNul, SpellsText, without_byte_order_mark}
+use Rattle.po_syntax.specs.PoText.{IsSmall, SpellsText, without_byte_order_mark}
 use Rattle.po_syntax.specs.TextItem.{TextItem}
 use Rattle.po_syntax.specs.Spelling.{end, live}
 use Rattle.po_entry.specs.Bytes.{Lacks}
@@ -100,13 +100,6 @@ short_entries : (entries : List TextEntry) → length (join_by entry_lines (10 �
 short_entries entries small =
     All-weaker (FitsIn (length (join_by entry_lines (10 ∷ []) entries))) IsShort (λ e g. omega (arith, g, few_in_entry e, small)) entries (list_fit entries)
 
-no_nul_found : (text : List ℕ) → All (λ b. b ≢ 0) text → position_or_len (λ b. b == 0) text ≡ length text
-no_nul_found [] h = refl
-no_nul_found (b ∷ text) h = rw (ne_eqb b 0 (All-head (λ c. c ≢ 0) b text h), no_nul_found text (All-tail (λ c. c ≢ 0) b text h)) (omega arith)
-
-no_nul : (text : List ℕ) → All (λ b. b ≢ 0) text → HasNoNul text
-no_nul text h = rw (no_nul_found text h, le-ltb (length text) (length text) (omega arith)) refl
-
 no_mark : (text : List ℕ) → BeginsLow text → without_byte_order_mark text ≡ text
 no_mark [] h = refl
 no_mark (b ∷ text) h = rw (ne_eqb 0xEF b (λ e. omega (arith, e, h))) refl
@@ -116,7 +109,7 @@ spelt_text P text block small =
     let s = block.spelling 1 in
     let end : Spells s.next [] [] = ([], [], live end, refl, refl) in
     let whole = rw (append-nil text, append-nil s.items) at (s.before [] [] end) in
-    (s.items, s.holds, record { small = small; utf8 = block.utf8; no_nul = no_nul text block.no_nul; lines = rw (no_mark text block.low) whole })
+    (s.items, s.holds, record { small = small; utf8 = block.utf8; no_nul = block.no_nul; lines = rw (no_mark text block.low) whole })
 
 numbered_all : (P Q : TextEntry → Type 0) (entries read : List TextEntry) → ((e : TextEntry) (line : ℕ) → P e → Q (with_line line e)) → IsNumbered entries read → All P entries → All Q read
 numbered_all P Q [] read each same h = rw same (All-nil Q)

@@ -1,9 +1,10 @@
 -- The runs at the start and at the end of a list, of the elements that pass a test. Lemmas over any
 -- test, which no clause can say.
-use Rattle.std.proofs.Common.{◌≡◌, ◌∙◌, refl, sym, ap, subst, ℕ, suc, ◌+◌, ◌-◌, ◌≤◌, Bool, true, false, cond, List, []}
+use Rattle.std.proofs.Common.{◌≡◌, ◌∙◌, refl, sym, ap, subst, ℕ, ◌+◌, ◌-◌, ◌≤◌, Bool, true, false, cond, List, []}
 use Rattle.std.proofs.Common.{◌∷◌, ◌++◌, append_assoc, append-nil, take, drop, length, reverse, All, arith}
-use Rattle.std.specs.List.{prefix_len, suffix_len, list_all}
-use Rattle.std.proofs.lemmas.Bool.{and_parts, cond-true, cond-false}
+use Rattle.std.specs.List.{prefix_len, suffix_len}
+use Rattle.std.proofs.Math.Numerals.{one-add}
+use Rattle.std.proofs.lemmas.Bool.{cond_both, cond-true, cond-false}
 use Rattle.std.proofs.lemmas.List.{take-append-drop, take-append-le, take_all, length-append, reverse-append}
 use Rattle.std.proofs.lemmas.List.{reverse-reverse, same_from_push}
 use Rattle.std.proofs.lemmas.List.Sums.{suffix_len-le-length}
@@ -19,15 +20,12 @@ pub record Parts {X : Type 0} (test : X → Bool) (xs : List X) : Type 0 where
 abbrev PartsAt : {X : Type 0} → (X → Bool) → List X → ℕ → Type 0
 PartsAt test xs n = All (λ x. test x ≡ true) (take n xs) × FailsFirst test (drop n xs)
 
-step : {X : Type 0} (test : X → Bool) (x : X) (xs : List X) (n more : ℕ) (b : Bool) → more ≡ suc n → test x ≡ b
-    → PartsAt test xs n → PartsAt test (x ∷ xs) (cond b more 0)
-step test x xs n more true is e h = rw is (All-cons (λ y. test y ≡ true) x (take n xs) e h.0, h.1)
-step test x xs n more false is e h = (All-nil (λ y. test y ≡ true), e)
-
 at_run : {X : Type 0} (test : X → Bool) (xs : List X) → PartsAt test xs (prefix_len test xs)
 at_run test [] = (All-nil (λ y. test y ≡ true), tt)
 at_run test (x ∷ xs) =
-    step test x xs (prefix_len test xs) (1 + prefix_len test xs) (test x) (omega arith) refl (at_run test xs)
+    cond_both (test x) (1 + prefix_len test xs) 0 (PartsAt test (x ∷ xs))
+    (λ is. let h = at_run test xs in rw (one-add (prefix_len test xs)) (All-cons (λ y. test y ≡ true) x (take (prefix_len test xs) xs) is h.0, h.1))
+    (λ fails. (All-nil (λ y. test y ≡ true), fails))
 
 pub parts_of : {X : Type 0} (test : X → Bool) (xs : List X) → Parts test xs
 parts_of test xs = record {
@@ -43,12 +41,6 @@ run_length test [] (x ∷ rest) passes ends = cond-false (test x) _ 0 ends
 run_length test (x ∷ run) rest passes ends =
     cond-true (test x) _ 0 (All-head (λ y. test y ≡ true) x run passes)
     ∙ omega (arith, run_length test run rest (All-tail (λ y. test y ≡ true) x run passes) ends)
-
--- a test that passes everywhere in a list
-pub all_pass : {X : Type 0} (test : X → Bool) (xs : List X) → list_all test xs ≡ true → All (λ x. test x ≡ true) xs
-all_pass test [] e = All-nil (λ x. test x ≡ true)
-all_pass test (x ∷ xs) e =
-    let p = and_parts (test x) (list_all test xs) e in All-cons (λ y. test y ≡ true) x xs p.0 (all_pass test xs p.1)
 
 -- the list doesn't end with an element that passes
 abbrev pub FailsLast : {X : Type 0} → (X → Bool) → List X → Type 0

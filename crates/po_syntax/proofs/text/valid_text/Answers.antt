@@ -1,7 +1,7 @@
 use Rattle.std.proofs.Common.{◌∙◌, ap, arith}
 use Rattle.memchr.specs.Find.{is_byte}
 use Rattle.po_syntax.specs.PoText.{line_number, too_large, not_utf8, nul}
-use Rattle.po_syntax.proofs.Searches.{position_found}
+use Rattle.po_syntax.proofs.Searches.{none_found, position_found}
 use Rattle.po_syntax.proofs.text.valid_text.Goals as goal
 
 pub returns-then-text-gt-MAX_LEN-clause-fault : goal.returns-then-text-gt-MAX_LEN-clause-fault
@@ -16,4 +16,4 @@ returns-in-Some-clause-fault c =
     nul (omega arith) c.in_default.ensures.cases.1 (position_found (is_byte 0) c.args.text.now c.memchr.result c.memchr.ensures ∙ c.in-Some.is) c.line_number-line-in-Some.ensures
 
 pub returns-clause-no_nul : goal.returns-clause-no_nul
-returns-clause-no_nul c = position_found (is_byte 0) c.args.text.now c.memchr.result c.memchr.ensures ∙ c.in_default-memchr.is
+returns-clause-no_nul c = none_found 0 c.args.text.now (rw c.in_default-memchr.is at c.memchr.ensures)
