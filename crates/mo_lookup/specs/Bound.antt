@@ -1,6 +1,6 @@
 -- The bound of the binary search: how often a list can be halved (manual, "The Format of GNU MO
 -- Files").
-use Rattle.std.specs.Prelude.{ℕ, zero, suc, ◌+◌, ◌-◌, ◌/◌, ◌^◌, ◌<◌, ◌≤◌, ◌≡◌}
+use Rattle.std.specs.Prelude.{ℕ, suc, ◌+◌, ◌-◌, ◌/◌, ◌^◌, ◌<◌, ◌≤◌, ◌≡◌}
 
 -- how often n can be halved, rounded down, until it is 0, up to `most` times
 abbrev pub halvings_within : ℕ → ℕ → ℕ
