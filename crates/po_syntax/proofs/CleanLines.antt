@@ -3,13 +3,13 @@ use Rattle.std.proofs.Common.{◌≡◌, ◌≢◌, refl, sym, ◌==◌, ℕ, ze
 use Rattle.std.specs.List.{position_or_len, starts_with}
 use Rattle.std.proofs.lemmas.Bool.{cases_lt, not-true, not-false, eqb-true, eqb-false, cond-true, lt-ltb}
 use Rattle.std.proofs.lemmas.List.{take_all, take-append-drop, get_or-take}
-use Rattle.std.proofs.lemmas.List.Elements.{All-take, All-drop}
+use Rattle.std.proofs.lemmas.List.Elements.{All-nil, All-cons, All-take, All-drop}
 use Rattle.std.proofs.lemmas.List.Splits.{slice_split_none, slice_split_first}
 use Rattle.std.proofs.lemmas.List.Sums.{prefix_len_passes, prefix_len_stops}
 use Rattle.std.proofs.lemmas.Slice.Eq.{bytes_eq-Decides}
 use Rattle.std.proofs.lemmas.Str.{IsUtf8-take, IsUtf8-drop, IsUtf8-past_char, IsCharBoundary-after_ascii}
 use lib.Utf8.{encode}
-use Rattle.po_syntax.specs.CleanLine.{AreCleanLines}
+use Rattle.po_syntax.specs.CleanLine.{IsCleanLine}
 use Rattle.po_syntax.specs.PoText.{lines_of, without_byte_order_mark}
 
 abbrev is_feed : ℕ → Bool
@@ -28,7 +28,7 @@ lacks_all : (byte : ℕ) (text : List ℕ) → length text ≤ position_or_len (
 lacks_all byte text h = rw (take_all (length text) text (omega arith)) at (lacks_before byte text (length text) h)
 
 -- the lines of a text that is UTF-8 without NUL
-lines_below : (n : ℕ) (text : List ℕ) → length text < n → IsUtf8 text → All (λ b. b ≢ 0) text → AreCleanLines (lines_of text)
+lines_below : (n : ℕ) (text : List ℕ) → length text < n → IsUtf8 text → All (λ b. b ≢ 0) text → All IsCleanLine (lines_of text)
 lines_below zero text h utf8 no_nul = absurd (omega arith)
 lines_below (suc n) text h utf8 no_nul =
     let index = position_or_len is_feed text in
@@ -36,12 +36,11 @@ lines_below (suc n) text h utf8 no_nul =
       | inl inside ↦
           let feed : get_or text index 0 ≡ 10 = eqb-true _ _ (not-false _ (prefix_len_stops (λ b. not (is_feed b)) text 0 inside)) in
           let after = IsCharBoundary-after_ascii text index utf8 inside (omega arith) in
-          rw (slice_split_first is_feed text 0 inside) (
-            record { utf8 = IsUtf8-take text index utf8 (omega arith, λ within lead. absurd (omega arith)); no_nul = All-take (λ b. b ≢ 0) index text no_nul; one_line = lacks_before 10 text index (omega arith) },
-            lines_below n (drop (index + 1) text) (omega (arith, length-drop (index + 1) text)) (IsUtf8-drop text (index + 1) utf8 after) (All-drop (λ b. b ≢ 0) (index + 1) text no_nul),
-          )
+          rw (slice_split_first is_feed text 0 inside) (All-cons IsCleanLine (take index text) _
+          (record { utf8 = IsUtf8-take text index utf8 (omega arith, λ within lead. absurd (omega arith)); no_nul = All-take (λ b. b ≢ 0) index text no_nul; one_line = lacks_before 10 text index (omega arith) })
+          (lines_below n (drop (index + 1) text) (omega (arith, length-drop (index + 1) text)) (IsUtf8-drop text (index + 1) utf8 after) (All-drop (λ b. b ≢ 0) (index + 1) text no_nul)))
       | inr none ↦
-          rw (slice_split_none is_feed text (λ k d inside. before_first_passes is_feed text k d (omega arith))) (record { utf8 = utf8; no_nul = no_nul; one_line = lacks_all 10 text none }, tt)
+          rw (slice_split_none is_feed text (λ k d inside. before_first_passes is_feed text k d (omega arith))) (All-cons IsCleanLine text [] (record { utf8 = utf8; no_nul = no_nul; one_line = lacks_all 10 text none }) (All-nil IsCleanLine))
     ]
 
 -- a byte order mark is a character of its own
@@ -63,6 +62,6 @@ no_nul_all text h =
       | inr none ↦ lacks_all 0 text none
     ]
 
-pub clean_lines : (text : List ℕ) → IsUtf8 text → All (λ b. b ≢ 0) text → AreCleanLines (lines_of (without_byte_order_mark text))
+pub clean_lines : (text : List ℕ) → IsUtf8 text → All (λ b. b ≢ 0) text → All IsCleanLine (lines_of (without_byte_order_mark text))
 clean_lines text utf8 no_nul =
     lines_below (length (without_byte_order_mark text) + 1) (without_byte_order_mark text) (omega arith) (mark_cases text _ refl utf8) (after_mark (λ b. b ≢ 0) text _ no_nul)

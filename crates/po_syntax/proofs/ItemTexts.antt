@@ -13,7 +13,7 @@ use Rattle.po_syntax.specs.ItemContents.{trim_returns, IsCommentOf, HoldsText}
 use Rattle.po_syntax.specs.PoText.{SpellsLines, SpellsText}
 use Rattle.po_syntax.specs.Spelling.{is_mark, SpellsComment, extracted, reference, flags, translator, HoldsTokens, end, blank, keyword, string, HoldsItems, indented, comment, obsolete_comment, live, previous, obsolete, obsolete_previous}
 use Rattle.po_syntax.specs.TextItem.{TextItem}
-use Rattle.po_syntax.specs.CleanLine.{IsCleanLine, AreCleanLines}
+use Rattle.po_syntax.specs.CleanLine.{IsCleanLine}
 use Rattle.po_syntax.proofs.CleanLines.{clean_lines}
 use Rattle.po_syntax.proofs.SpeltEscapes.{of_each_letter}
 use Rattle.po_syntax.proofs.SpeltKeywords.{of_blank}
@@ -120,10 +120,10 @@ line_texts (previous {text = text} h) clean = token_texts h (rest_of (35 ∷ 124
 line_texts (obsolete {text = text} h) clean = token_texts h (rest_of (35 ∷ 126 ∷ []) text clean.no_nul)
 line_texts (obsolete_previous {text = text} h) clean = token_texts h (rest_of (35 ∷ 126 ∷ 124 ∷ []) text clean.no_nul)
 
-pub lines_texts : (number : ℕ) (lines : List (List ℕ)) (items : List TextItem) → SpellsLines number lines items → AreCleanLines lines → All HoldsText items
+pub lines_texts : (number : ℕ) (lines : List (List ℕ)) (items : List TextItem) → SpellsLines number lines items → All IsCleanLine lines → All HoldsText items
 lines_texts number [] items h clean = rw h no_items
 lines_texts number (line ∷ lines) items h clean =
-    rw h.4 (All-append HoldsText h.0 h.1 (line_texts h.2 clean.0) (lines_texts (number + 1) lines h.1 h.3 clean.1))
+    rw h.4 (All-append HoldsText h.0 h.1 (line_texts h.2 (All-head IsCleanLine line lines clean)) (lines_texts (number + 1) lines h.1 h.3 (All-tail IsCleanLine line lines clean)))
 
 pub text_items : (text : List ℕ) (items : List TextItem) → SpellsText text items → All HoldsText items
 text_items text items h = lines_texts 1 _ items h.lines (clean_lines text h.utf8 h.no_nul)

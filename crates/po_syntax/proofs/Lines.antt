@@ -60,7 +60,7 @@ mark_cases false text = omega arith
 pub without_byte_order_mark-le : (text : List ℕ) → length (without_byte_order_mark text) ≤ length text
 without_byte_order_mark-le text = mark_cases _ text
 
-some_length : (lines : List (List ℕ)) → lines ≢ [] → 0 < length lines
+pub some_length : (lines : List (List ℕ)) → lines ≢ [] → 0 < length lines
 some_length [] some = absurd (some refl)
 some_length (line ∷ lines) some = omega arith
 

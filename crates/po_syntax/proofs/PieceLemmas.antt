@@ -2,23 +2,23 @@
 use Rattle.std.proofs.Common.{◌≡◌, ◌≢◌, ◌⊎◌, ◌↔◌, ◌∙◌, inl, inr, refl, sym, subst, ap, ℕ, zero, suc, ◌+◌, ◌-◌, ◌<◌, ◌≤◌, ◌^◌, true, List, [], ◌∷◌, ◌++◌, append-nil, append_assoc, length, get_or, take, drop, length-drop, All, Option, Some, None, arith}
 use Rattle.std.specs.Borrow.{Bor}
 use Rattle.std.specs.Prelude.{is_some, MatchOption}
-use Rattle.std.proofs.Math.Seq.{take-append_seam, drop-append_seam}
+use Rattle.std.proofs.Math.Seq.{take-append_seam, drop-append_seam, drop-cons}
 use Rattle.std.proofs.lemmas.Bool.{cases_lt}
-use Rattle.std.proofs.lemmas.List.{drop-drop, drop_all, length-map}
-use Rattle.std.proofs.lemmas.List.Elements.{All-cons, All-drop, All-head, All-tail}
+use Rattle.std.proofs.lemmas.List.{drop-drop, drop_all, drop-take, take-take, length-map}
+use Rattle.std.proofs.lemmas.List.Elements.{All-cons, All-drop, All-head, All-tail, All-take}
 use Rattle.std.proofs.lemmas.List.Sums.{sum_by-take-drop, sum_by-take-le, sum_by-cons}
 use Rattle.po_syntax.specs.declared.fault.PoFault.{PoFault}
 use Rattle.po_syntax.specs.declared.item.Item.{Item}
-use Rattle.po_syntax.specs.CleanLine.{AreCleanLines}
+use Rattle.po_syntax.specs.CleanLine.{IsCleanLine}
 use Rattle.po_syntax.specs.ItemContents.{HoldsText}
 use Rattle.po_syntax.specs.LineFaults.{LineFault}
 use Rattle.po_syntax.specs.Spelling.{HoldsItems}
 use Rattle.po_syntax.specs.LinesLeft.{LinesLeft, SpellsLeft, LeftStops, AreOfText, left_after, lines_len, lines_of_rest}
-use Rattle.po_syntax.specs.Piece.{IsString, IsTranslationWord, IsTranslation, EndsTranslation, IsNew, BeginsAnew, LineBeginsAnew, CanEnd, IsPiece, EndsInString, LeftAnew}
+use Rattle.po_syntax.specs.Piece.{IsString, IsTranslationWord, IsTranslation, EndsTranslation, IsNew, BeginsAnew, LineBeginsAnew, CanEnd, HasRead, IsPiece, EndsInString, LeftAnew}
 use Rattle.po_syntax.specs.PoText.{SpellsLines, LinesStop, lines_of}
 use Rattle.po_syntax.specs.TextItem.{TextItem, Comment, Word, Str, view, views}
 use Rattle.po_syntax.proofs.ItemTexts.{lines_texts}
-use Rattle.po_syntax.proofs.Lines.{lines-few, lines_some}
+use Rattle.po_syntax.proofs.Lines.{lines-few, lines_some, some_length}
 use Rattle.po_syntax.proofs.Uniqueness.{line_once, lines_once}
 
 -- where some text is left, a line is
@@ -32,49 +32,31 @@ lines_begin text line None h = h
 lines_begin text line (Some rest) h = h
 
 -- items that are cut off again
-pub cut_back : (before after : List Item) (here : List TextItem) (own : ℕ) → own ≡ length before → views after ≡ views before ++ here → take own (views after) ≡ views before
-cut_back before after here own own_is is =
+pub cut_at : (before after : List Item) (here : List TextItem) (own : ℕ) → own ≡ length before → views after ≡ views before ++ here
+    → (take own (views after) ≡ views before) × (drop own (views after) ≡ here)
+cut_at before after here own own_is is =
     let long : own ≡ length (views before) = own_is ∙ sym (length-map before view) in
-    ap (take own) is ∙ ap (λ (n : ℕ). take n (views before ++ here)) long ∙ take-append_seam (views before) here
+    rw (is, long) (take-append_seam (views before) here, drop-append_seam (views before) here)
 
-pub cut_rest : (before after : List Item) (here : List TextItem) (own : ℕ) → own ≡ length before → views after ≡ views before ++ here → drop own (views after) ≡ here
-cut_rest before after here own own_is is =
-    let long : own ≡ length (views before) = own_is ∙ sym (length-map before view) in
-    ap (drop own) is ∙ ap (λ (n : ℕ). drop n (views before ++ here)) long ∙ drop-append_seam (views before) here
+-- what is read at an index is the first of the items from it on
+pub first_at : (items : List Item) (n : ℕ) (item : Item) → n < length items → item ≡ get_or items n item → drop n (views items) ≡ view item ∷ drop (suc n) (views items)
+first_at [] n item h is = absurd (omega arith)
+first_at (x ∷ items) zero item h is = ap (λ i. view i ∷ views items) (sym is)
+first_at (x ∷ items) (suc n) item h is = first_at items n item (omega arith) is
 
 -- a string more before strings
 pub strings_more : (items : List Item) (n m : ℕ) (item : Item) → m ≡ n + 1 → n < length items → item ≡ get_or items n item → IsString (view item) → All IsString (drop m (views items)) → All IsString (drop n (views items))
-strings_more [] n m item e h is string more = absurd (omega arith)
-strings_more (first ∷ items) zero zero item e h is string more = absurd (omega arith)
-strings_more (first ∷ items) zero (suc m) item e h is string more =
-    let none : m ≡ 0 = omega arith in
-    All-cons IsString (view first) (views items) (subst (λ (i : Item). IsString (view i)) is string) (subst (λ (n : ℕ). All IsString (drop n (views items))) none more)
-strings_more (first ∷ items) (suc n) zero item e h is string more = absurd (omega arith)
-strings_more (first ∷ items) (suc n) (suc m) item e h is string more = strings_more items n m item (omega arith) (omega arith) is string more
-
--- what is read at an index is the first of the items from it on
-pub item_first : (items : List Item) (n : ℕ) (item : Item) (first : TextItem) (others : List TextItem) → item ≡ get_or items n item → drop n (views items) ≡ first ∷ others → first ≡ view item
-item_first [] zero item first others is e = absurd (cc)
-item_first [] (suc n) item first others is e = absurd (cc)
-item_first (x ∷ items) zero item first others is e = let front : view x ≡ first = cc in sym (ap view is ∙ front)
-item_first (x ∷ items) (suc n) item first others is e = item_first items n item first others is e
+strings_more items n m item e h is string more =
+    let next : m ≡ suc n = omega arith in
+    rw (first_at items n item h is) (All-cons IsString (view item) (drop (suc n) (views items)) string (subst (λ k. All IsString (drop k (views items))) next more))
 
 no_string_word : (item : TextItem) → IsTranslationWord item → IsString item → ⊥
 no_string_word (Comment kind text line) word string = string
 no_string_word (Word keyword marks line) word string = string
 no_string_word (Str bytes marks line) word string = word
 
--- a list that is dropped to its end, or has a first item
-dropped : (n : ℕ) (items : List TextItem) → n < length items → (first : TextItem) × (others : List TextItem) × (drop n items ≡ first ∷ others)
-dropped n [] h = absurd (omega arith)
-dropped zero (first ∷ items) h = (first, items, refl)
-dropped (suc n) (first ∷ items) h = dropped n items (omega arith)
-
 drop_rest : {X : Type 0} (n : ℕ) (xs : List X) (first : X) (others : List X) → drop n xs ≡ first ∷ others → drop (suc n) xs ≡ others
-drop_rest zero [] first others e = absurd (cc)
-drop_rest zero (x ∷ xs) first others e = cc
-drop_rest (suc n) [] first others e = absurd (cc)
-drop_rest (suc n) (x ∷ xs) first others e = drop_rest n xs first others e
+drop_rest n xs first others e = let next : suc n ≡ n + 1 = omega arith in rw next (sym (drop-drop 1 n xs) ∙ ap (drop 1) e)
 
 some_line : {X : Type 0} (n : ℕ) (xs : List X) (first : X) (others : List X) → drop n xs ≡ first ∷ others → suc n ≤ length xs
 some_line n xs first others e = omega (arith, length-drop n xs, ap length e)
@@ -103,9 +85,9 @@ translation_at items count before within strings last is = found (drop before it
             elim (cases_lt (before + 1) count) [
               | inr le ↦ omega arith
               | inl later ↦
-                  let first = dropped (count - 1) items (omega arith) in
+                  let first = drop-cons items (count - 1) word (omega arith) in
                   let all : All IsString (drop (suc before) items) = subst (All IsString) (sym (drop_rest before items word others e)) is.2 in
-                  absurd (last (count - 1) first.0 first.1 (omega arith) first.2 (string_at (suc before) (count - 1) items first.0 first.1 all (omega arith) first.2))
+                  absurd (last (count - 1) _ _ (omega arith) first (string_at (suc before) (count - 1) items _ _ all (omega arith) first))
             ]
       ]
 
@@ -115,17 +97,13 @@ pub ends_at : (items : List Item) (count : ℕ) (item : Item) → 0 < count → 
 ends_at items count item some within strings last is =
     let all = views items in
     let long = length-map items view in
-    let found = dropped (count - 1) all (omega arith) in
-    let first : found.0 ≡ view item = item_first items (count - 1) item found.0 found.1 is found.2 in
     let next : suc (count - 1) ≡ count = omega arith in
-    let rest : drop count all ≡ found.1 = sym (ap (λ (n : ℕ). drop n all) next) ∙ drop_rest (count - 1) all found.0 found.1 found.2 in
-    let string = dropped count all (omega arith) in
-    let more : found.1 ≢ [] = λ none. let e : string.0 ∷ string.1 ≡ [] = sym string.2 ∙ rest ∙ none in absurd (cc) in (
-      λ word. (count - 1, subst IsTranslation (sym found.2) (subst IsTranslationWord (sym first) word, more, subst (All IsString) rest strings)),
+    let here : drop (count - 1) all ≡ view item ∷ drop count all = subst (λ k. drop (count - 1) all ≡ view item ∷ drop k all) next (first_at items (count - 1) item (omega arith) is) in (
+      λ word. (count - 1, subst IsTranslation (sym here) (word, λ none. omega (arith, ap length none, length-drop count all), strings)),
       λ ends.
           let at : ends.0 ≡ count - 1 = let e = translation_at all count ends.0 (omega arith) strings last ends.1 in omega arith in
-          let here : IsTranslation (found.0 ∷ found.1) = subst IsTranslation (ap (λ (n : ℕ). drop n all) at ∙ found.2) ends.1 in
-          subst IsTranslationWord first here.0,
+          let found : IsTranslation (view item ∷ drop count all) = subst IsTranslation (ap (λ n. drop n all) at ∙ here) ends.1 in
+          found.0,
     )
 
 -- items that are strings alone, or end in no string, end no translation
@@ -167,10 +145,9 @@ stops_after (suc count) number (first ∷ lines) items fault line h g =
 -- one line more: what stands before it, and it alone
 last_line : (count : ℕ) (lines : List (List ℕ)) (line : List ℕ) (others : List (List ℕ)) → drop count lines ≡ line ∷ others
     → (take count (take (suc count) lines) ≡ take count lines) × (drop count (take (suc count) lines) ≡ line ∷ [])
-last_line zero [] line others e = absurd (cc)
-last_line zero (first ∷ lines) line others e = (refl, let same : first ≡ line = cc in rw same refl)
-last_line (suc count) [] line others e = absurd (cc)
-last_line (suc count) (first ∷ lines) line others e = let h = last_line count lines line others e in (ap (λ l. first ∷ l) h.0, h.1)
+last_line count lines line others e =
+    let next : suc count ≡ count + 1 = omega arith in
+    (take-take count (suc count) lines (omega arith), ap (λ k. drop count (take k lines)) next ∙ drop-take count 1 lines ∙ ap (take 1) e)
 
 spelt_more : (count number : ℕ) (lines : List (List ℕ)) (line : List ℕ) (others : List (List ℕ)) (items here : List TextItem) → SpellsLines number (take count lines) items → drop count lines ≡ line ∷ others → HoldsItems (number + count) line here
     → SpellsLines number (take (suc count) lines) (items ++ here)
@@ -184,111 +161,91 @@ len_more count lines line others e =
     let parts = last_line count lines line others e in
     omega (arith, sum_by-take-drop (λ (l : List ℕ). length l + 1) (take (suc count) lines) count, ap lines_len parts.0, ap lines_len parts.1, sum_by-cons (λ (l : List ℕ). length l + 1) line [])
 
--- So many lines of `old` are read, which have these items and this length, and `now` is left; and
--- no piece could end before.
-pub record HasRead (size : ℕ) (old now : LinesLeft) (items : List TextItem) (len : ℕ) : Type 0 where
-  pub count : ℕ
-  pub within : count ≤ length old.lines
-  pub rest : now ≡ left_after old count
-  pub spelt : SpellsLines old.number (take count old.lines) items
-  pub len_is : len ≡ lines_len (take count old.lines)
-  pub fewest : (fewer : ℕ) → fewer < count → CanEnd size old fewer → ⊥
+-- so many bytes are read so far
+pub record ReadSoFar (size : ℕ) (old now : LinesLeft) (items : List TextItem) (len : ℕ) : Type 0 where
+  pub read : HasRead size old now items
+  pub len_is : len ≡ lines_len (take read.count old.lines)
 
-next_line : {size : ℕ} {old now : LinesLeft} {items : List TextItem} {len : ℕ} (read : HasRead size old now items len) (line : List ℕ) (others : List (List ℕ)) → now.lines ≡ line ∷ others → drop read.count old.lines ≡ line ∷ others
-next_line read line others e = sym (ap (λ (left : LinesLeft). left.lines) read.rest) ∙ e
+pub none_read : (size : ℕ) (old : LinesLeft) → ReadSoFar size old old [] 0
+none_read size old = record {
+  read = record { count = 0; within = omega arith; rest = let same : old.number + 0 ≡ old.number = omega arith in rw same refl; spelt = refl; fewest = λ fewer less. absurd (omega (arith, less)) };
+  len_is = refl;
+}
 
-here_spelt : {size : ℕ} {old now : LinesLeft} {items : List TextItem} {len : ℕ} (read : HasRead size old now items len) (line : List ℕ) (here : List TextItem) → HoldsItems now.number line here → HoldsItems (old.number + read.count) line here
-here_spelt read line here spelt = subst (λ (left : LinesLeft). HoldsItems left.number line here) read.rest spelt
+next_line : {size : ℕ} {old now : LinesLeft} {items : List TextItem} (read : HasRead size old now items) {lines : List (List ℕ)} → now.lines ≡ lines → drop read.count old.lines ≡ lines
+next_line read e = sym (ap (λ (left : LinesLeft). left.lines) read.rest) ∙ e
+
+here_spelt : {size : ℕ} {old now : LinesLeft} {items here : List TextItem} {line : List ℕ} (read : HasRead size old now items) → HoldsItems now.number line here → HoldsItems (old.number + read.count) line here
+here_spelt {here = here} {line = line} read spelt = subst (λ (left : LinesLeft). HoldsItems left.number line here) read.rest spelt
 
 -- a piece can end before a line only where its items and those before them say so
-no_end : {size : ℕ} {old now : LinesLeft} {items : List TextItem} {len : ℕ} (read : HasRead size old now items len) (line : List ℕ) (others : List (List ℕ)) (here : List TextItem) → now.lines ≡ line ∷ others → HoldsItems now.number line here
-    → (size ≤ len → EndsTranslation items → BeginsAnew here → ⊥) → CanEnd size old read.count → ⊥
-no_end {size} {old} read line others here e spelt none can =
-    let items = lines_once old.number (take read.count old.lines) can.entry.spelt read.spelt in
-    let anew : LineBeginsAnew (old.number + read.count) (line ∷ others) = subst (LineBeginsAnew (old.number + read.count)) (next_line read line others e) can.entry.anew in
-    let same = line_once anew.1 (here_spelt read line here spelt) in
-    none (subst (λ (l : ℕ). size ≤ l) (sym read.len_is) can.large) (subst EndsTranslation items can.entry.ends) (subst BeginsAnew same anew.2)
+no_end : {size len : ℕ} {old now : LinesLeft} {items here : List TextItem} {line : List ℕ} {others : List (List ℕ)} (so_far : ReadSoFar size old now items len)
+    → now.lines ≡ line ∷ others → HoldsItems now.number line here → (size ≤ len → EndsTranslation items → BeginsAnew here → ⊥) → CanEnd size old so_far.read.count → ⊥
+no_end {size} {old = old} so_far e spelt none can =
+    let read = so_far.read in
+    let items = lines_once old.number (take read.count old.lines) can.spelt read.spelt in
+    let anew = subst (LineBeginsAnew (old.number + read.count)) (next_line read e) can.anew in
+    let same = line_once anew.1 (here_spelt read spelt) in
+    none (subst (λ (l : ℕ). size ≤ l) (sym so_far.len_is) can.large) (subst EndsTranslation items can.ends) (subst BeginsAnew same anew.2)
 
 -- a line more is read
-pub read_on : (size : ℕ) (old now : LinesLeft) (items : List TextItem) (len : ℕ) (line : List ℕ) (others : List (List ℕ)) (here : List TextItem) → HasRead size old now items len → now.lines ≡ line ∷ others → HoldsItems now.number line here
-    → (size ≤ len → EndsTranslation items → BeginsAnew here → ⊥) → HasRead size old (record { number = now.number + 1; lines = others }) (items ++ here) (len + (length line + 1))
-read_on size old now items len line others here read e spelt none =
-    let next = next_line read line others e in
+pub read_on : {size len : ℕ} {old now : LinesLeft} {items here : List TextItem} {line : List ℕ} {others : List (List ℕ)} → ReadSoFar size old now items len
+    → now.lines ≡ line ∷ others → HoldsItems now.number line here → (size ≤ len → EndsTranslation items → BeginsAnew here → ⊥)
+    → ReadSoFar size old (record { number = now.number + 1; lines = others }) (items ++ here) (len + (length line + 1))
+read_on {size} {old = old} {now = now} {items = items} {here = here} {line = line} {others = others} so_far e spelt none =
+    let read = so_far.read in
+    let next = next_line read e in
     let number : now.number ≡ old.number + read.count = ap (λ (left : LinesLeft). left.number) read.rest in
-    let rest : record { number = now.number + 1; lines = others } ≡ left_after old (suc read.count) =
     let counted : now.number + 1 ≡ old.number + suc read.count = omega arith in
-    rw (counted, ← drop_rest read.count old.lines line others next) refl in
     record {
-      count = suc read.count;
-      within = some_line read.count old.lines line others next;
-      rest = rest;
-      spelt = spelt_more read.count old.number old.lines line others items here read.spelt next (here_spelt read line here spelt);
-      len_is = omega (arith, len_more read.count old.lines line others next, read.len_is);
-      fewest = λ fewer less can.
-          elim (cases_lt fewer read.count) [
-            | inl before ↦ read.fewest fewer before can
-            | inr last ↦
-                let same : fewer ≡ read.count = omega arith in
-                no_end read line others here e spelt none (subst (CanEnd size old) same can)
-          ];
+      read = record {
+        count = suc read.count;
+        within = some_line read.count old.lines line others next;
+        rest = rw (counted, ← drop_rest read.count old.lines line others next) refl;
+        spelt = spelt_more read.count old.number old.lines line others items here read.spelt next (here_spelt read spelt);
+        fewest = λ fewer less can.
+            elim (cases_lt fewer read.count) [
+              | inl before ↦ read.fewest fewer before can
+              | inr last ↦ let same : fewer ≡ read.count = omega arith in no_end so_far e spelt none (subst (CanEnd size old) same can)
+            ];
+      };
+      len_is = omega (arith, len_more read.count old.lines line others next, so_far.len_is);
     }
 
 -- a piece ends before a line that begins anew
-pub ended_before : (size : ℕ) (old now : LinesLeft) (items : List TextItem) (len : ℕ) (line : List ℕ) (others : List (List ℕ)) (here : List TextItem) → HasRead size old now items len → now.lines ≡ line ∷ others → HoldsItems now.number line here
-    → size ≤ len → EndsTranslation items → BeginsAnew here → IsPiece size old now items
-ended_before size old now items len line others here read e spelt large ends anew = record {
-  count = read.count;
-  within = read.within;
-  rest = read.rest;
-  spelt = read.spelt;
+pub ended_before : {size len : ℕ} {old now : LinesLeft} {items here : List TextItem} {line : List ℕ} {others : List (List ℕ)} → ReadSoFar size old now items len
+    → now.lines ≡ line ∷ others → HoldsItems now.number line here → size ≤ len → EndsTranslation items → BeginsAnew here → IsPiece size old now items
+ended_before {size} {old = old} {items = items} {here = here} so_far e spelt large ends anew = let read = so_far.read in record {
+  read = read;
   ends = inr (record {
-    large = subst (λ (l : ℕ). size ≤ l) read.len_is large;
-    entry = record {
-      items = items;
-      spelt = read.spelt;
-      ends = ends;
-      anew = subst (LineBeginsAnew (old.number + read.count)) (sym (next_line read line others e)) (here, here_spelt read line here spelt, anew);
-    };
+    large = subst (λ (l : ℕ). size ≤ l) so_far.len_is large;
+    items = items;
+    spelt = read.spelt;
+    ends = ends;
+    anew = subst (LineBeginsAnew (old.number + read.count)) (sym (next_line read e)) (here, here_spelt read spelt, anew);
   });
-  fewest = read.fewest;
-}
-
--- a piece ends where no line is left
-pub ended_after : (size : ℕ) (old now : LinesLeft) (items : List TextItem) (len : ℕ) → HasRead size old now items len → now.lines ≡ [] → IsPiece size old now items
-ended_after size old now items len read over = record {
-  count = read.count;
-  within = read.within;
-  rest = read.rest;
-  spelt = read.spelt;
-  ends = inl over;
-  fewest = read.fewest;
 }
 
 -- the fault of the line that is read next
-pub line_stops : (size : ℕ) (old now : LinesLeft) (items : List TextItem) (len : ℕ) (line : List ℕ) (others : List (List ℕ)) (fault : PoFault) → HasRead size old now items len → now.lines ≡ line ∷ others → LineFault line fault → LeftStops old fault now.number
-line_stops size old now items len line others fault read e stops =
+pub line_stops : {size : ℕ} {old now : LinesLeft} {items : List TextItem} {line : List ℕ} {others : List (List ℕ)} {fault : PoFault} → HasRead size old now items → now.lines ≡ line ∷ others → LineFault line fault → LeftStops old fault now.number
+line_stops {old = old} {now = now} {items = items} {fault = fault} read e stops =
     let number : now.number ≡ old.number + read.count = ap (λ (left : LinesLeft). left.number) read.rest in
-    stops_after read.count old.number old.lines items fault now.number read.spelt (subst (λ (lines : List (List ℕ)). LinesStop (old.number + read.count) lines fault now.number) (sym (next_line read line others e)) (inl (stops, number)))
+    stops_after read.count old.number old.lines items fault now.number read.spelt (subst (λ (lines : List (List ℕ)). LinesStop (old.number + read.count) lines fault now.number) (sym (next_line read e)) (inl (stops, number)))
 
 -- what is left of lines of a text
 pub of_text_after : (count : ℕ) (left : LinesLeft) → AreOfText left → count ≤ length left.lines → AreOfText (left_after left count)
 of_text_after count left h within = record {
-  clean = clean_after count left.lines h.clean;
+  clean = All-drop IsCleanLine count left.lines h.clean;
   small = omega (arith, h.small, count_le count left.lines within, sum_by-take-drop (λ (l : List ℕ). length l + 1) left.lines count);
 } where
-  clean_after : (count : ℕ) (lines : List (List ℕ)) → AreCleanLines lines → AreCleanLines (drop count lines)
-  clean_after zero lines h = h
-  clean_after (suc count) [] h = h
-  clean_after (suc count) (line ∷ lines) h = clean_after count lines h.1
-
   count_le : (count : ℕ) (lines : List (List ℕ)) → count ≤ length lines → count ≤ lines_len (take count lines)
   count_le zero lines h = omega arith
   count_le (suc count) [] h = absurd (omega arith)
   count_le (suc count) (line ∷ lines) h = omega (arith, count_le count lines (omega arith), sum_by-cons (λ (l : List ℕ). length l + 1) line (take count lines))
 
 -- what is left of a text that is read
-pub read_of_text : (size : ℕ) (old now : LinesLeft) (items : List TextItem) (len : ℕ) → HasRead size old now items len → AreOfText old → AreOfText now
-read_of_text size old now items len read h = subst AreOfText (sym read.rest) (of_text_after read.count old h read.within)
+pub read_of_text : {size : ℕ} {old now : LinesLeft} {items : List TextItem} → HasRead size old now items → AreOfText old → AreOfText now
+read_of_text {old = old} read h = subst AreOfText (sym read.rest) (of_text_after read.count old h read.within)
 
 -- a piece above 2 ^ 31 bytes is all that is left
 pub piece_whole : {size : ℕ} {old new : LinesLeft} {items : List TextItem} → IsPiece size old new items → AreOfText old → 2 ^ 31 < size → new.lines ≡ []
@@ -297,21 +254,17 @@ piece_whole {size} {old} {new} piece h large = ended piece.ends where
   some_next number [] anew = absurd anew
   some_next number (line ∷ lines) anew = omega (arith, sum_by-cons (λ (l : List ℕ). length l + 1) line lines)
 
-  ended : (new.lines ≡ []) ⊎ CanEnd size old piece.count → new.lines ≡ []
+  ended : (new.lines ≡ []) ⊎ CanEnd size old piece.read.count → new.lines ≡ []
   ended (inl over) = over
   ended (inr can) =
-      let next = some_next (old.number + piece.count) (drop piece.count old.lines) can.entry.anew in
-      absurd (omega (arith, can.large, h.small, next, sum_by-take-drop (λ (l : List ℕ). length l + 1) old.lines piece.count))
+      let next = some_next (old.number + piece.read.count) (drop piece.read.count old.lines) can.anew in
+      absurd (omega (arith, can.large, h.small, next, sum_by-take-drop (λ (l : List ℕ). length l + 1) old.lines piece.read.count))
 
 pub piece_hold : {size : ℕ} {old new : LinesLeft} {items : List TextItem} → IsPiece size old new items → AreOfText old → All HoldsText items
-piece_hold {size} {old} {new} {items} piece h = lines_texts old.number (take piece.count old.lines) items piece.spelt (clean_before piece.count old.lines h.clean) where
-  clean_before : (count : ℕ) (lines : List (List ℕ)) → AreCleanLines lines → AreCleanLines (take count lines)
-  clean_before zero lines h = tt
-  clean_before (suc count) [] h = h
-  clean_before (suc count) (line ∷ lines) h = (h.0, clean_before count lines h.1)
+piece_hold {size} {old} {new} {items} piece h = lines_texts old.number (take piece.read.count old.lines) items piece.read.spelt (All-take IsCleanLine piece.read.count old.lines h.clean)
 
 pub piece_few : {size : ℕ} {old new : LinesLeft} {items : List TextItem} → IsPiece size old new items → AreOfText old → length items ≤ 2 ^ 31
-piece_few {size} {old} {new} {items} piece h = few (take piece.count old.lines) piece.spelt (sum_by-take-le (λ (l : List ℕ). length l + 1) old.lines piece.count) where
+piece_few {size} {old} {new} {items} piece h = few (take piece.read.count old.lines) piece.read.spelt (sum_by-take-le (λ (l : List ℕ). length l + 1) old.lines piece.read.count) where
   few : (lines : List (List ℕ)) → SpellsLines old.number lines items → lines_len lines ≤ lines_len old.lines → length items ≤ 2 ^ 31
   few [] spelt le = omega (arith, ap length spelt)
   few (line ∷ lines) spelt le = omega (arith, lines-few old.number (line ∷ lines) items spelt, h.small)
@@ -319,7 +272,7 @@ piece_few {size} {old} {new} {items} piece h = few (take piece.count old.lines) 
 -- what is left after a piece, in what was left before
 pub piece_spelt : (size : ℕ) (old new : LinesLeft) (items more : List TextItem) → IsPiece size old new items → SpellsLeft new more → SpellsLeft old (items ++ more)
 piece_spelt size old new items more piece h =
-    joined_after piece.count old.number old.lines items more piece.spelt (subst (λ (left : LinesLeft). SpellsLeft left more) piece.rest h)
+    joined_after piece.read.count old.number old.lines items more piece.read.spelt (subst (λ (left : LinesLeft). SpellsLeft left more) piece.read.rest h)
 
 -- where no line is left after a piece, what was left before spells its items
 pub piece_all : (size : ℕ) (old new : LinesLeft) (items : List TextItem) → IsPiece size old new items → new.lines ≡ [] → SpellsLeft old items
@@ -329,7 +282,7 @@ piece_all size old new items piece over =
 
 pub piece_stops : (size : ℕ) (old new : LinesLeft) (items : List TextItem) (fault : PoFault) (line : ℕ) → IsPiece size old new items → LeftStops new fault line → LeftStops old fault line
 piece_stops size old new items fault line piece h =
-    stops_after piece.count old.number old.lines items fault line piece.spelt (subst (λ (left : LinesLeft). LeftStops left fault line) piece.rest h)
+    stops_after piece.read.count old.number old.lines items fault line piece.read.spelt (subst (λ (left : LinesLeft). LeftStops left fault line) piece.read.rest h)
 
 -- items that end a translation end in a string
 ends_in_string : (before : ℕ) (items : List TextItem) → IsTranslation (drop before items) → EndsInString items
@@ -345,11 +298,11 @@ ends_in_string (suc before) (item ∷ next ∷ items) is = ends_in_string before
 
 pub piece_ends : (size : ℕ) (old new : LinesLeft) (items : List TextItem) → IsPiece size old new items → (new.lines ≡ []) ⊎ EndsInString items
 piece_ends size old new items piece = ended piece.ends where
-  ended : (new.lines ≡ []) ⊎ CanEnd size old piece.count → (new.lines ≡ []) ⊎ EndsInString items
+  ended : (new.lines ≡ []) ⊎ CanEnd size old piece.read.count → (new.lines ≡ []) ⊎ EndsInString items
   ended (inl over) = inl over
   ended (inr can) =
-      let same = lines_once old.number (take piece.count old.lines) can.entry.spelt piece.spelt in
-      inr (subst EndsInString same (ends_in_string can.entry.ends.0 can.entry.items can.entry.ends.1))
+      let same = lines_once old.number (take piece.read.count old.lines) can.spelt piece.read.spelt in
+      inr (subst EndsInString same (ends_in_string can.ends.0 can.items can.ends.1))
 
 -- where the items of a line begin anew, so does whatever the lines from it on spell
 line_anew : (number : ℕ) (lines : List (List ℕ)) (item : TextItem) (items : List TextItem) → LineBeginsAnew number lines → SpellsLines number lines (item ∷ items) → IsNew item
@@ -363,22 +316,18 @@ line_anew number (line ∷ lines) item items anew h = first anew.0 anew.2 (line_
 
 pub piece_anew : (size : ℕ) (old new : LinesLeft) (items : List TextItem) → IsPiece size old new items → LeftAnew new
 piece_anew size old new items piece item more h = ended piece.ends where
-  ended : (new.lines ≡ []) ⊎ CanEnd size old piece.count → IsNew item
+  ended : (new.lines ≡ []) ⊎ CanEnd size old piece.read.count → IsNew item
   ended (inl over) = let none : item ∷ more ≡ [] = subst (λ (lines : List (List ℕ)). SpellsLines new.number lines (item ∷ more)) over h in absurd (cc)
-  ended (inr can) = line_anew (old.number + piece.count) (drop piece.count old.lines) item more can.entry.anew (subst (λ (left : LinesLeft). SpellsLeft left (item ∷ more)) piece.rest h)
+  ended (inr can) = line_anew (old.number + piece.read.count) (drop piece.read.count old.lines) item more can.anew (subst (λ (left : LinesLeft). SpellsLeft left (item ∷ more)) piece.read.rest h)
 
 pub piece_shorter : (size : ℕ) (old new : LinesLeft) (items : List TextItem) → IsPiece size old new items → old.lines ≢ [] → length new.lines < length old.lines
 piece_shorter size old new items piece some = ended piece.ends where
-  some_length : (lines : List (List ℕ)) → lines ≢ [] → 0 < length lines
-  some_length [] some = absurd (some refl)
-  some_length (line ∷ lines) some = omega arith
-
   counted : (count : ℕ) (others : List TextItem) → SpellsLines old.number (take count old.lines) others → EndsTranslation others → 0 < count
   counted zero others spelt ends = absurd (subst IsTranslation (drop_all ends.0 [] (omega arith)) (subst (λ (x : List TextItem). IsTranslation (drop ends.0 x)) spelt ends.1))
   counted (suc count) others spelt ends = omega arith
 
-  ended : (new.lines ≡ []) ⊎ CanEnd size old piece.count → length new.lines < length old.lines
+  ended : (new.lines ≡ []) ⊎ CanEnd size old piece.read.count → length new.lines < length old.lines
   ended (inl over) = rw over (some_length old.lines some)
   ended (inr can) =
-      let length_is = ap (λ (left : LinesLeft). length left.lines) piece.rest in
-      omega (arith, length_is, length-drop piece.count old.lines, counted piece.count can.entry.items can.entry.spelt can.entry.ends, some_length old.lines some)
+      let length_is = ap (λ (left : LinesLeft). length left.lines) piece.read.rest in
+      omega (arith, length_is, length-drop piece.read.count old.lines, counted piece.read.count can.items can.spelt can.ends, some_length old.lines some)

@@ -1,8 +1,8 @@
 -- The lines of a text that are left to be read, for a text that is read in pieces (manual, "The
 -- Format of PO Files").
-use Rattle.std.specs.Prelude.{ℕ, ◌+◌, ◌≤◌, ◌^◌, List, [], length, drop, sum_by, Option, Some, None}
+use Rattle.std.specs.Prelude.{ℕ, ◌+◌, ◌≤◌, ◌^◌, List, [], length, drop, sum_by, All, Option, Some, None}
 use Rattle.std.specs.Borrow.{Bor}
-use Rattle.po_syntax.specs.CleanLine.{AreCleanLines}
+use Rattle.po_syntax.specs.CleanLine.{IsCleanLine}
 use Rattle.po_syntax.specs.PoText.{SpellsLines, LinesStop, lines_of}
 use Rattle.po_syntax.specs.TextItem.{TextItem}
 use Rattle.po_syntax.specs.declared.fault.PoFault.{PoFault}
@@ -35,5 +35,5 @@ lines_of_rest (Some rest) = lines_of rest.now
 
 -- lines of a text of at most 2,147,483,647 bytes that is UTF-8 without NUL
 pub record AreOfText (left : LinesLeft) : Type 0 where
-  pub clean : AreCleanLines left.lines
+  pub clean : All IsCleanLine left.lines
   pub small : left.number + lines_len left.lines ≤ 2 ^ 31 + 1

@@ -44,28 +44,29 @@ abbrev pub LineBeginsAnew : ℕ → List (List ℕ) → Type 0
 LineBeginsAnew number [] = ⊥
 LineBeginsAnew number (line ∷ lines) = (here : List TextItem) × HoldsItems number line here × BeginsAnew here
 
--- an entry ends after so many of the lines that are left: what these spell ends a translation, and
--- the line after them begins anew
-pub record EndsEntry (left : LinesLeft) (count : ℕ) : Type 0 where
+-- A piece of at least this many bytes can end after so many of the lines that are left, as an entry ends
+-- there: what these spell ends a translation, and the line after them begins anew.
+pub record CanEnd (size : ℕ) (left : LinesLeft) (count : ℕ) : Type 0 where
+  pub large : size ≤ lines_len (take count left.lines)
   pub items : List TextItem
   pub spelt : SpellsLines left.number (take count left.lines) items
   pub ends : EndsTranslation items
   pub anew : LineBeginsAnew (left.number + count) (drop count left.lines)
 
--- a piece of at least this many bytes can end after so many of the lines that are left
-pub record CanEnd (size : ℕ) (left : LinesLeft) (count : ℕ) : Type 0 where
-  pub large : size ≤ lines_len (take count left.lines)
-  pub entry : EndsEntry left count
-
--- From `old` a piece was read that has these items, and `new` is left: the piece is the fewest
--- lines after which it can end, or all of them where it can't.
-pub record IsPiece (size : ℕ) (old new : LinesLeft) (items : List TextItem) : Type 0 where
+-- from `old` so many lines were read, which have these items, `new` is left, and no piece could end
+-- before
+pub record HasRead (size : ℕ) (old new : LinesLeft) (items : List TextItem) : Type 0 where
   pub count : ℕ
   pub within : count ≤ length old.lines
   pub rest : new ≡ left_after old count
   pub spelt : SpellsLines old.number (take count old.lines) items
-  pub ends : (new.lines ≡ []) ⊎ CanEnd size old count
   pub fewest : (fewer : ℕ) → fewer < count → CanEnd size old fewer → ⊥
+
+-- From `old` a piece was read that has these items, and `new` is left: the piece is the fewest
+-- lines after which it can end, or all of them where it can't.
+pub record IsPiece (size : ℕ) (old new : LinesLeft) (items : List TextItem) : Type 0 where
+  pub read : HasRead size old new items
+  pub ends : (new.lines ≡ []) ⊎ CanEnd size old read.count
 
 -- the last item, where there is one, is a quoted string
 abbrev pub EndsInString : List TextItem → Type 0

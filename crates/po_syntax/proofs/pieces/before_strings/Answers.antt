@@ -1,6 +1,7 @@
 use Rattle.std.proofs.Common.{◌≡◌, ◌-◌, subst, arith}
 use Rattle.po_syntax.specs.Piece.{IsString}
-use Rattle.po_syntax.proofs.PieceLemmas.{item_first, strings_more}
+use Rattle.po_syntax.specs.TextItem.{view}
+use Rattle.po_syntax.proofs.PieceLemmas.{first_at, strings_more}
 use Rattle.po_syntax.proofs.pieces.before_strings.Goals as goal
 
 pub loop-count-preserved : goal.loop-count-preserved
@@ -12,6 +13,7 @@ loop-count-preserved c = record {
 pub returns-else-is_string-clause-last : goal.returns-else-is_string-clause-last
 returns-else-is_string-clause-last c = λ before item strings at e string.
     let index : c.loop-count.count - 1 ≡ before = omega arith in
-    let is = item_first c.args.items.now before c.index-items-count.result item strings (rw index at c.index-items-count.is) e in
+    let first = first_at c.args.items.now before c.index-items-count.result (omega arith) (rw index at c.index-items-count.is) in
+    let is : item ≡ view c.index-items-count.result = cc in
     let found = c.is_string.ensures.1 (subst IsString is string) in
     absurd (cc (found, c.if-is_string.false))

@@ -1,10 +1,10 @@
-use Rattle.std.proofs.Common.{◌≡◌, ◌∙◌, ap, sym, subst, length, arith}
+use Rattle.std.proofs.Common.{◌≡◌, ◌∙◌, [], rules, ap, sym, subst, inl, length, arith}
 use Rattle.std.proofs.lemmas.List.{length-map, take-map}
 use Rattle.std.proofs.lemmas.Result.{err_from_is_err_and}
 use Rattle.po_syntax.specs.LinesLeft.{AreOfText, lines_of_rest}
 use Rattle.po_syntax.specs.Piece.{BeginsAnew, EndsTranslation}
 use Rattle.po_syntax.specs.TextItem.{view, views}
-use Rattle.po_syntax.proofs.PieceLemmas.{cut_back, cut_rest, ended_after, ended_before, line_stops, lines_begin, piece_few, piece_hold, piece_whole, read_of_text, read_on}
+use Rattle.po_syntax.proofs.PieceLemmas.{cut_at, ended_before, line_stops, lines_begin, none_read, piece_few, piece_hold, piece_whole, read_of_text, read_on}
 use Rattle.po_syntax.proofs.pieces.Pieces.next.Goals as goal
 use Rattle.po_syntax.proofs.pieces.Pieces.next.Goals.{else-len-size-via-then-len-size+else-ends_entry, else-len-size-via-else-len-size, in-Some+in_ok-add_items+then-len-size+then-ends_entry, in_default}
 
@@ -13,45 +13,47 @@ returns-in_err-add_items-clause-fault c =
     let p = err_from_is_err_and c.from_residual-in_err-add_items.result c.from_residual-in_err-add_items.ensures.1 in
     let e = c.in_err-add_items.field-0.0 in
     let lines = ap lines_of_rest c.in-Some.is ∙ lines_begin c.in-Some.text.now c.first_line.result.0.now c.first_line.result.1 c.first_line.ensures.cut in
-    rw (p.1, p.2) (λ other. rw (c.in_err-add_items.ensures.line other) (line_stops c.args.size c.args.self.now _ (views c.loop-rest.items.items) c.loop-rest.len _ _ e.kind c.loop-rest.invariant lines (c.in_err-add_items.ensures.fault other)))
+    rw (p.1, p.2) (λ other. rw (c.in_err-add_items.ensures.line other) (line_stops c.loop-rest.invariant.read lines (c.in_err-add_items.ensures.fault other)))
+
+pub loop-rest-init : goal.loop-rest-init
+loop-rest-init c =
+    let none : views c.in_ok-items.items.items ≡ [] = search rules in rw (← c.self.view_is, none) (none_read _ _)
 
 pub overflow_add-line : goal.overflow_add-line
 overflow_add-line c =
-    let now = read_of_text c.args.size c.args.self.now _ (views c.loop-rest.items.items) c.loop-rest.len c.loop-rest.invariant (subst AreOfText c.self.view_is c.self.invariant) in
+    let now = read_of_text c.loop-rest.invariant.read (subst AreOfText c.self.view_is c.self.invariant) in
     omega (arith, now.small)
 
 pub loop-rest-preserved : goal.loop-rest-preserved
 loop-rest-preserved c =
     let found = c.in_ok-add_items.ensures.found in
     let own : c.len-count.result ≡ length c.loop-rest.items.items = omega (arith, c.len-count.ensures, c.loop-rest.items.ok.0) in
-    let before = cut_back c.loop-rest.items.items c.add_items.new.items.items found.0 c.len-count.result own found.2 in
-    let here = cut_rest c.loop-rest.items.items c.add_items.new.items.items found.0 c.len-count.result own found.2 in
+    let cut = cut_at c.loop-rest.items.items c.add_items.new.items.items found.0 c.len-count.result own found.2 in
     let lines = ap lines_of_rest c.in-Some.is ∙ lines_begin c.in-Some.text.now c.first_line.result.0.now c.first_line.result.1 c.first_line.ensures.cut in
-    rw found.2 (read_on c.args.size c.args.self.now _ (views c.loop-rest.items.items) c.loop-rest.len c.first_line.result.0.now (lines_of_rest c.first_line.result.1) found.0 c.loop-rest.invariant lines found.1
+    rw found.2 (read_on c.loop-rest.invariant lines found.1
     (λ large ends anew. elim c.else-len-size.branch [
       | else-len-size-via-then-len-size+else-ends_entry w ↦
           let entry = rw w.deref.ensures.value at w.ends_entry.ensures.1 in
-          let is = entry (subst EndsTranslation (sym before) ends, subst BeginsAnew (sym here) anew) in
+          let is = entry (subst EndsTranslation (sym cut.0) ends, subst BeginsAnew (sym cut.1) anew) in
           absurd (cc (is, w.if-ends_entry.false))
       | else-len-size-via-else-len-size w ↦ absurd (omega (arith, w.if-len-size.false))
     ]))
 
 pub invariant_of-self : goal.invariant_of-self
-invariant_of-self c = read_of_text c.args.size c.args.self.now _ (views c.loop-rest.items.items) c.loop-rest.len c.loop-rest.invariant (subst AreOfText c.self.view_is c.self.invariant)
+invariant_of-self c = read_of_text c.loop-rest.invariant.read (subst AreOfText c.self.view_is c.self.invariant)
 
 pub returns-clause-piece : goal.returns-clause-piece
 returns-clause-piece c = elim c.match-rest.branch [
   | in-Some+in_ok-add_items+then-len-size+then-ends_entry w ↦
       let found = w.in_ok-add_items.ensures.found in
       let own : w.len-count.result ≡ length c.loop-rest.items.items = omega (arith, w.len-count.ensures, c.loop-rest.items.ok.0) in
-      let before = cut_back c.loop-rest.items.items w.add_items.new.items.items found.0 w.len-count.result own found.2 in
-      let here = cut_rest c.loop-rest.items.items w.add_items.new.items.items found.0 w.len-count.result own found.2 in
+      let cut = cut_at c.loop-rest.items.items w.add_items.new.items.items found.0 w.len-count.result own found.2 in
       let lines = ap lines_of_rest w.in-Some.is ∙ lines_begin w.in-Some.text.now w.first_line.result.0.now w.first_line.result.1 w.first_line.ensures.cut in
       let entry = rw w.deref.ensures.value at (w.ends_entry.ensures.0 w.if-ends_entry.true) in
-      rw (w.items-is, w.truncate.ensures.items, ← take-map view, before) (ended_before c.args.size c.args.self.now _ (views c.loop-rest.items.items) c.loop-rest.len w.first_line.result.0.now (lines_of_rest w.first_line.result.1) found.0 c.loop-rest.invariant lines found.1
-      w.if-len-size.true (subst EndsTranslation before entry.0) (subst BeginsAnew here entry.1))
+      rw (w.items-is, w.truncate.ensures.items, ← take-map view, cut.0) (ended_before c.loop-rest.invariant lines found.1
+      w.if-len-size.true (subst EndsTranslation cut.0 entry.0) (subst BeginsAnew cut.1 entry.1))
   | in_default w ↦
-      rw w.items-is (ended_after c.args.size c.args.self.now _ (views c.loop-rest.items.items) c.loop-rest.len c.loop-rest.invariant (ap lines_of_rest w.in_default.is))
+      rw w.items-is (record { read = c.loop-rest.invariant.read; ends = inl (ap lines_of_rest w.in_default.is) })
 ]
 
 pub returns-clause-whole : goal.returns-clause-whole
