@@ -140,8 +140,8 @@ nul_placed text index h =
     let found = position-Some (λ b. b == 0) text index 0 h in
     let whole : text ≡ take index text ++ 0 ∷ drop (suc index) text = byte_splits text index 0 found.0 ∙ ap (λ b. take index text ++ b ∷ drop (suc index) text) (eqb-true _ _ found.1) in
     let lacks : All (λ b. b ≢ 0) (take index text) = λ k d inside.
-        let less : k < index = omega (arith, length-take index text) in
-        rw (get_or-take index text k d less) (eqb-false _ _ (rw (get_or_default_zero text k d (omega (arith, found.0))) (found.2 k less))) in
+    let less : k < index = omega (arith, length-take index text) in
+    rw (get_or-take index text k d less) (eqb-false _ _ (rw (get_or_default_zero text k d (omega (arith, found.0))) (found.2 k less))) in
     subst (λ l. HasFaultOnLine l ForbiddenByte (1 + feeds (take index text))) (sym whole) (nul (take index text) (drop (suc index) text) lacks (feeds_are (take index text)))
 
 pub fault_on_line : {text : List ℕ} {fault : PoFault} {line : ℕ} → TextFault text fault line → HasFaultOnLine text fault line

@@ -16,18 +16,21 @@ ghost use Rattle.po_syntax.specs.Internal.Token.{OpeningQuote, token_at};
 ghost use Rattle.po_syntax.specs.WrittenForm.{WritesQuoted, lettered_bytes, lettered_text};
 
 /// A text spells at most one list of items.
+#[tactic(auto, using(crate::proofs::Uniqueness::text_once))]
 pub fn one_reading()
     ensures { (text : List ℕ) (items others : List TextItem)
         → SpellsText text items → SpellsText text others → items ≡ others }
 {}
 
 /// No text both spells items and has a fault.
+#[tactic(auto, using(crate::proofs::Uniqueness::text_not_faulty))]
 pub fn no_fault_where_items()
     ensures { (text : List ℕ) (items : List TextItem) (fault : PoFault) (line : ℕ)
         → SpellsText text items → TextFault text fault line → ⊥ }
 {}
 
 /// A text has at most one first fault, on one line.
+#[tactic(auto, using(crate::proofs::Uniqueness::fault_once))]
 pub fn one_fault()
     ensures { (text : List ℕ) (fault other : PoFault) (line index : ℕ)
         → TextFault text fault line → TextFault text other index
@@ -42,12 +45,14 @@ pub fn items_or_fault()
 {}
 
 /// No fault of a text is out of memory.
+#[tactic(auto, using(crate::proofs::NoMemory::text_reported))]
 pub fn no_fault_is_memory()
     ensures { (text : List ℕ) (fault : PoFault) (line : ℕ)
         → TextFault text fault line → fault ≢ PoFault.OutOfMemory }
 {}
 
 /// After an opening quote a text spells at most one string, which ends at one place.
+#[tactic(auto, using(crate::proofs::Uniqueness::strings_once))]
 pub fn one_string()
     ensures { (text bytes others rest end : List ℕ)
         → SpellsString text bytes rest → SpellsString text others end
@@ -68,6 +73,7 @@ pub fn items_or_fault_of_line()
 
 /// The line of an item is one more than the LFs before it, and that line holds the item. So is the
 /// line of a fault, which is 0 only for a text that is too long.
+#[tactic(auto, using(crate::proofs::LineNumbers::items_on_lines, crate::proofs::LineNumbers::fault_on_line))]
 pub fn lines_are_numbered()
     ensures items { (text : List ℕ) (items : List TextItem) → ItemsAreOnTheirLines text items }
     ensures fault { (text : List ℕ) (fault : PoFault) (line : ℕ)
@@ -81,6 +87,7 @@ pub fn byte_order_mark_is_omitted()
 {}
 
 /// The quoted form of bytes is a quote, what is written for each byte, and a quote.
+#[tactic(auto, using(crate::proofs::WrittenForms::quoted_written))]
 pub fn quoted_form_is_written()
     ensures { (bytes : List ℕ) → WritesQuoted bytes (quoted bytes) }
 {}
@@ -103,11 +110,13 @@ pub fn quoted_form_spells()
 
 /// The comments of a text are UTF-8 on one line without NUL and without CRs at their end, and its
 /// strings hold no NUL.
+#[tactic(auto, using(crate::proofs::ItemTexts::text_items))]
 pub fn items_hold_text()
     ensures { (text : List ℕ) (items : List TextItem) → SpellsText text items → All HoldsText items }
 {}
 
 /// The quoted form of a UTF-8 text is UTF-8, and that of any bytes holds no byte below space.
+#[tactic(auto, using(crate::proofs::QuotedTexts::quoted_utf8, crate::proofs::QuotedTexts::quoted_shown))]
 pub fn quoted_form_holds_text()
     ensures utf8 { (bytes : List ℕ) → IsUtf8 bytes → IsUtf8 (quoted bytes) }
     ensures shown { (bytes : List ℕ)

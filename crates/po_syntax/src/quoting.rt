@@ -18,6 +18,7 @@ fn is_raw(byte: u8) -> bool
 
 /// Whether all bytes of a block stand in a quoted string as they are. All are tested, which takes
 /// few instructions, since a processor tests several at once.
+#[tactic(auto, using(crate::proofs::RawRuns::raw_more))]
 fn is_raw_block(block: &[u8; 16]) -> bool
     ensures { result ≡ true → prefix_len is_raw block.now ≡ length block.now }
 {
@@ -61,6 +62,7 @@ fn raw_count(bytes: &[u8]) -> usize
 }
 
 /// Splits off the bytes that are written as they are.
+#[tactic(auto, using(crate::proofs::RawRuns::written_prefix))]
 fn split_raw(bytes: &[u8]) -> (&[u8], &[u8])
     ensures parts { result.0.now ++ result.1.now ≡ bytes.now }
     ensures raw { written_bytes result.0.now ≡ result.0.now }

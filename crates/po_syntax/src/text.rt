@@ -39,6 +39,7 @@ fn line_number(text: &[u8], index: usize) -> u32
 }
 
 /// Cuts off the first line: its text, and what stands after its LF, if it has one.
+#[tactic(auto, using(crate::proofs::Searches::one_line, crate::proofs::Searches::line_cut))]
 pub(crate) fn first_line(text: &[u8]) -> (&[u8], Option<&[u8]>)
     ensures cut { MatchOption result.1 (lines_of text.now ≡ result.0.now ∷ [])
         (λ rest. lines_of text.now ≡ result.0.now ∷ lines_of rest.now) }
@@ -77,6 +78,7 @@ pub(crate) fn add_items<'a>(
 
 /// The text after a byte order mark at its start. Refused with `TooLarge`, `NotUtf8` or
 /// `ForbiddenByte`, as `items` is.
+#[tactic(auto, using(crate::proofs::Searches::none_found, crate::proofs::Searches::position_found, crate::specs::PoText::too_large, crate::specs::PoText::not_utf8, crate::specs::PoText::nul))]
 pub(crate) fn valid_text(text: &[u8]) -> Result<&[u8], PoError>
     ensures found { IfOk result (λ rest. rest.now ≡ without_byte_order_mark text.now) }
     ensures small { OnOk result (IsSmall text.now) }
