@@ -1,7 +1,7 @@
 -- The lines of a text: UTF-8 without NUL and LF, as the text is UTF-8 without NUL.
-use Rattle.std.proofs.Common.{◌≡◌, ◌≢◌, refl, sym, ◌==◌, ℕ, zero, suc, ◌+◌, ◌<◌, ◌≤◌, Bool, true, false, not, if◌then◌else◌, List, [], ◌∷◌, length, get_or, take, length-take, drop, length-drop, All, IsUtf8, None, Some, position, nat_eq, arith, inl, inr}
+use Rattle.std.proofs.Common.{◌≡◌, ◌≢◌, sym, ◌==◌, ℕ, zero, suc, ◌+◌, ◌<◌, ◌≤◌, Bool, false, not, List, [], ◌∷◌, length, get_or, take, length-take, drop, length-drop, All, IsUtf8, None, Some, position, nat_eq, arith, inl, inr}
 use Rattle.std.specs.List.{position_or_len, starts_with}
-use Rattle.std.proofs.lemmas.Bool.{cases_lt, not-true, not-false, eqb-true, eqb-false, cond-true, lt-ltb}
+use Rattle.std.proofs.lemmas.Bool.{cond_both, cases_lt, not-true, not-false, eqb-true, eqb-false, cond-true, lt-ltb}
 use Rattle.std.proofs.lemmas.List.{take_all, take-append-drop, get_or-take}
 use Rattle.std.proofs.lemmas.List.Elements.{All-nil, All-cons, All-take, All-drop}
 use Rattle.std.proofs.lemmas.List.Splits.{slice_split_none, slice_split_first}
@@ -44,16 +44,12 @@ lines_below (suc n) text h utf8 no_nul =
     ]
 
 -- a byte order mark is a character of its own
-mark_cases : (text : List ℕ) (marked : Bool) → starts_with nat_eq text (0xEF ∷ 0xBB ∷ 0xBF ∷ []) ≡ marked → IsUtf8 text → IsUtf8 (if marked then drop 3 text else text)
+utf8_after_mark : (text : List ℕ) → IsUtf8 text → IsUtf8 (without_byte_order_mark text)
 unfolding encode
-mark_cases text true e utf8 =
+utf8_after_mark text utf8 =
+    cond_both (starts_with nat_eq text (0xEF ∷ 0xBB ∷ 0xBF ∷ [])) (drop 3 text) text IsUtf8 (λ e.
     let mark : 0xEF ∷ 0xBB ∷ 0xBF ∷ [] ≡ take 3 text = (bytes_eq-Decides (0xEF ∷ 0xBB ∷ 0xBF ∷ []) (take 3 text)).0 e in
-    IsUtf8-past_char text (drop 3 text) 0xFEFF utf8 (sym (rw (sym mark) at (take-append-drop 3 text)))
-mark_cases text false e utf8 = utf8
-
-after_mark : (P : ℕ → Type 0) (text : List ℕ) (marked : Bool) → All P text → All P (if marked then drop 3 text else text)
-after_mark P text true h = All-drop P 3 text h
-after_mark P text false h = h
+    IsUtf8-past_char text (drop 3 text) 0xFEFF utf8 (sym (rw (sym mark) at (take-append-drop 3 text)))) (λ _. utf8)
 
 pub no_nul_all : (text : List ℕ) → position (λ b. b == 0) text ≡ None → All (λ b. b ≢ 0) text
 no_nul_all text h =
@@ -64,4 +60,6 @@ no_nul_all text h =
 
 pub clean_lines : (text : List ℕ) → IsUtf8 text → All (λ b. b ≢ 0) text → All IsCleanLine (lines_of (without_byte_order_mark text))
 clean_lines text utf8 no_nul =
-    lines_below (length (without_byte_order_mark text) + 1) (without_byte_order_mark text) (omega arith) (mark_cases text _ refl utf8) (after_mark (λ b. b ≢ 0) text _ no_nul)
+    let own = without_byte_order_mark text in
+    let lacks = cond_both (starts_with nat_eq text (0xEF ∷ 0xBB ∷ 0xBF ∷ [])) (drop 3 text) text (All (λ b. b ≢ 0)) (λ _. All-drop (λ b. b ≢ 0) 3 text no_nul) (λ _. no_nul) in
+    lines_below (length own + 1) own (omega arith) (utf8_after_mark text utf8) lacks

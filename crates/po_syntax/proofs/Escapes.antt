@@ -1,5 +1,5 @@
 -- What is read after a backslash is what spells its byte, or has a fault.
-use Rattle.std.proofs.Common.{◌≡◌, ◌==◌, ◌⊎◌, inl, inr, refl, sym, subst, ℕ, zero, suc, ◌+◌, ◌<◌, ◌≤◌, Bool, true, false, cond, if◌then◌else◌, nat_lt, List, [], ◌∷◌, ◌++◌, length, length-append, take, drop, Option, Some, None, arith}
+use Rattle.std.proofs.Common.{◌≡◌, ◌==◌, ◌⊎◌, inl, inr, refl, sym, subst, ℕ, zero, suc, ◌+◌, ◌<◌, ◌≤◌, Bool, true, false, cond, nat_lt, List, [], ◌∷◌, ◌++◌, length, length-append, take, drop, Option, Some, None, arith}
 use Rattle.std.specs.Char.{digit_value, is_digit}
 use Rattle.std.specs.Str.Parse.{AllDigits, digits_value}
 use Rattle.std.proofs.lemmas.List.{take-append-drop, length-take}
@@ -8,6 +8,7 @@ use Rattle.po_syntax.specs.declared.fault.PoFault.{PoFault}
 use Rattle.po_syntax.specs.declared.fault.PoFault.TheVariants.{BadEscape, ForbiddenByte}
 use Rattle.po_syntax.specs.LineFaults.{EscapeFault, at_end, no_escape, octal as octal_fault, no_digit, hexadecimal_digits, NumberFault, nul, large}
 use Rattle.po_syntax.specs.Internal.QuotedString.{Step, End, Byte, Stop, digit_count, number_step, letter_step, escape_at}
+use Rattle.po_syntax.proofs.SpeltEscapes.{by_byte}
 use Rattle.po_syntax.specs.Escapes.{NoDigitFirst, letter_value, SpellsEscape, letter, octal, hexadecimal, SpellsString, closed, plain, escape}
 
 -- the first n bytes are digits, at most so many, and no digit follows where there are fewer
@@ -92,10 +93,7 @@ unfolding escape_at
 escape_says [] = at_end
 escape_says (b ∷ text) =
     cond_both (is_digit b 8) _ _ (EscapeSays (b ∷ text)) (λ e. octal_says b text e) (λ no_octal.
-    cond_both (b == 120) _ _ (EscapeSays (b ∷ text))
-    (λ is.
-    subst (λ x. EscapeSays (x ∷ text) (if digit_count 16 text == 0 then Stop BadEscape else number_step 16 (digit_count 16 text) text)) (sym (eqb-true b 120 is))
-    (cond_both (digit_count 16 text == 0) (Stop BadEscape) _ (EscapeSays (120 ∷ text)) (no_digit_says text) (hexadecimal_says text)))
+    by_byte (λ x s. EscapeSays (x ∷ text) s) b 120 (cond_both (digit_count 16 text == 0) (Stop BadEscape) _ (EscapeSays (120 ∷ text)) (no_digit_says text) (hexadecimal_says text))
     (λ no_x. letter_says b text no_octal no_x (letter_value b) refl))
 
 -- what stands after an escape is shorter

@@ -20,8 +20,7 @@ not_among word name h = false_from_ne_true (bytes_eq word name) (λ e. h ((bytes
 no_keyword_token : (word rest : List ℕ) → IsNoKeyword word → keyword_token word rest ≡ WrongToken BadToken
 unfolding keyword_token
 no_keyword_token word rest h =
-    cond-false (bytes_eq word (codes "msgctxt")) _ _ (not_among word (codes "msgctxt") h.context) ∙ cond-false (bytes_eq word (codes "msgid")) _ _ (not_among word (codes "msgid") h.id)
-    ∙ cond-false (bytes_eq word (codes "msgid_plural")) _ _ (not_among word (codes "msgid_plural") h.plural) ∙ cond-false (bytes_eq word (codes "msgstr")) _ _ (not_among word (codes "msgstr") h.translation)
+    rw (not_among word (codes "msgctxt") h.context, not_among word (codes "msgid") h.id, not_among word (codes "msgid_plural") h.plural, not_among word (codes "msgstr") h.translation) refl
 
 word_token_at : (b : ℕ) (word rest : List ℕ) → All (λ c. is_word_byte c ≡ true) (b ∷ word) → FailsFirst is_word_byte rest → token_at ((b ∷ word) ++ rest) ≡ keyword_token (b ∷ word) rest
 unfolding first_token

@@ -1,14 +1,15 @@
 -- What the comments and strings of clean lines hold.
-use Rattle.std.proofs.Common.{◌≡◌, ◌≢◌, refl, subst, ℕ, zero, suc, ◌+◌, ◌<◌, ◌-◌, ◌==◌, true, List, [], ◌∷◌, ◌++◌, length, get_or, take, All, Contains, codes, arith}
+use Rattle.std.proofs.Common.{rules, ◌≡◌, ◌≢◌, ◌∙◌, refl, sym, ap, drop, subst, ℕ, zero, suc, ◌+◌, ◌<◌, ◌-◌, ◌==◌, true, List, [], ◌∷◌, ◌++◌, length, get_or, take, All, Contains, codes, arith, append-nil, IsUtf8}
 use Rattle.std.specs.List.{suffix_len}
-use Rattle.std.proofs.lemmas.Bool.{both_ways}
+use Rattle.std.proofs.lemmas.Bool.{both_ways, eqb-true}
+use Rattle.std.proofs.lemmas.List.{take-append-drop}
 use Rattle.std.proofs.lemmas.List.Elements.{All-append, All-cons, All-head, All-nil, All-take, All-tail}
 use Rattle.std.proofs.lemmas.Str.{IsUtf8-drop, IsCharBoundary-after_ascii}
 use Rattle.po_syntax.specs.declared.item.Marks.{Marks}
 use Rattle.po_syntax.specs.declared.item.CommentKind.{CommentKind}
 use Rattle.po_syntax.specs.declared.item.CommentKind.TheVariants.{Translator}
 use Rattle.po_syntax.specs.Escapes.{SpellsEscape, letter, octal, hexadecimal, SpellsString, closed, plain, escape}
-use Rattle.po_syntax.specs.Blanks.{IsBlank}
+use Rattle.po_syntax.specs.Blanks.{IsBlank, without_end}
 use Rattle.po_syntax.specs.ItemContents.{trim_returns, IsCommentOf, HoldsText}
 use Rattle.po_syntax.specs.PoText.{SpellsLines, SpellsText}
 use Rattle.po_syntax.specs.Spelling.{is_mark, SpellsComment, extracted, reference, flags, translator, HoldsTokens, end, blank, keyword, string, HoldsItems, indented, comment, obsolete_comment, live, previous, obsolete, obsolete_previous}
@@ -18,7 +19,25 @@ use Rattle.po_syntax.proofs.CleanLines.{clean_lines}
 use Rattle.po_syntax.proofs.SpeltEscapes.{of_each_letter}
 use Rattle.po_syntax.proofs.SpeltKeywords.{of_blank}
 use Rattle.po_syntax.proofs.Tokens.{keyword_rest}
-use Rattle.po_syntax.proofs.TrimmedReturns.{trim_returns-utf8, trim_returns-twice}
+use Rattle.std.specs.Str.{IsAscii}
+use Rattle.std.proofs.lemmas.Str.Ascii.{IsAscii-cons}
+use Rattle.simdutf8.proofs.StepsLemmas.{IsUtf8-append_ascii}
+use Rattle.po_syntax.specs.Facts.Runs.{end_parts, kept_is}
+
+returns_ascii : (run : List ℕ) → All (λ b. (b == 13) ≡ true) run → IsAscii run
+returns_ascii [] h = λ k. omega arith
+returns_ascii (b ∷ run) h =
+    IsAscii-cons b run (omega (arith, eqb-true b 13 (All-head (λ c. (c == 13) ≡ true) b run h))) (returns_ascii run (All-tail (λ c. (c == 13) ≡ true) b run h))
+
+pub trim_returns-utf8 : (text : List ℕ) → IsUtf8 text → IsUtf8 (trim_returns text)
+trim_returns-utf8 text utf8 =
+    let parts = end_parts (λ b. b == 13) text in
+    (IsUtf8-append_ascii (trim_returns text) parts.end (returns_ascii parts.end parts.passes)).0 (subst IsUtf8 parts.whole utf8)
+
+pub trim_returns-twice : (text : List ℕ) → trim_returns (trim_returns text) ≡ trim_returns text
+trim_returns-twice text =
+    ap (without_end (λ b. b == 13)) (sym (append-nil (trim_returns text)))
+    ∙ kept_is (λ b. b == 13) (trim_returns text) (end_parts (λ b. b == 13) text).fails [] (All-nil (λ b. (b == 13) ≡ true))
 
 -- a clean line after an ASCII byte, or after several
 clean_tail : (b : ℕ) (text : List ℕ) → b < 128 → IsCleanLine (b ∷ text) → IsCleanLine text
@@ -45,9 +64,7 @@ mark_at (suc (suc (suc (suc (suc k))))) b less e = absurd (omega arith)
 
 -- a text begins as its prefix does
 take_first : (n : ℕ) (text : List ℕ) (b : ℕ) (more : List ℕ) → take n text ≡ b ∷ more → (others : List ℕ) × (text ≡ b ∷ others)
-take_first zero text b more e = absurd (cc)
-take_first (suc n) [] b more e = absurd (cc)
-take_first (suc n) (c ∷ text) b more e = let same : c ≡ b = cc in (text, rw same)
+take_first n text b more e = (more ++ drop n text, sym (take-append-drop n text) ∙ ap (λ l. l ++ drop n text) e)
 
 abbrev NoMark : CommentKind → List ℕ → Type 0
 NoMark kind text = kind ≡ Translator → (b : ℕ) (rest : List ℕ) → text ≡ b ∷ rest → Contains (codes ".:,|~") b → ⊥
@@ -83,7 +100,7 @@ rest_of (b ∷ own) rest h = rest_of own rest (All-tail (λ b. b ≢ 0) b (own +
 
 escape_nonzero : {text rest : List ℕ} {b : ℕ} → SpellsEscape text b rest → HasNone text → (b ≢ 0) × HasNone rest
 escape_nonzero (letter {b = b} {value = value} {rest = rest} e) h =
-    (λ none. omega (arith, none, of_each_letter (λ _ byte. 0 < byte) b value (omega arith, (omega arith, (omega arith, (omega arith, (omega arith, (omega arith, (omega arith, (omega arith, (omega arith, tt))))))))) e), rest_of (b ∷ []) rest h)
+    (λ none. omega (arith, none, of_each_letter (λ _ byte. 0 < byte) b value (search (rules, arith)) e), rest_of (b ∷ []) rest h)
 escape_nonzero (octal digits {rest = rest} all few ends byte) h = (λ e. omega (arith, byte.0), rest_of digits rest h)
 escape_nonzero (hexadecimal digits {rest = rest} all ends byte) h = (λ e. omega (arith, byte.0), rest_of (120 ∷ digits) rest h)
 

@@ -7,9 +7,7 @@ pub mod RawRuns
 pub mod Uniqueness
 pub mod Totality
 pub mod QuotedForms
-pub mod QuotedLengths
 pub mod CleanLines
-pub mod TrimmedReturns
 pub mod ItemTexts
 pub mod QuotedTexts
 pub mod NoMemory
@@ -17,7 +15,6 @@ pub mod Escapes
 pub mod SpeltEscapes
 pub mod SpeltKeywords
 pub mod SpeltLines
-pub mod Once
 pub mod OneString
 pub mod OneLine
 pub mod WrittenForms

@@ -1,8 +1,8 @@
 -- Items and faults are on the lines that they name, and a byte order mark is no part of a text.
-use Rattle.std.proofs.Common.{◌≡◌, ◌≢◌, ◌==◌, inl, inr, ℕ, zero, suc, ◌+◌, ◌<◌, Bool, true, false, cond, if◌then◌else◌, nat_eq, List, [], ◌∷◌, ◌++◌, append_assoc, append-nil, length, length-append, length-take, fold, get_or, take, drop, Some, All, IsUtf8, refl, sym, subst, ap, ◌∙◌, arith}
+use Rattle.std.proofs.Common.{◌≡◌, ◌≢◌, ◌==◌, inl, inr, ℕ, zero, suc, ◌+◌, ◌<◌, false, cond, nat_eq, List, [], ◌∷◌, ◌++◌, append_assoc, append-nil, length, length-append, length-take, get_or, take, drop, Some, All, IsUtf8, refl, sym, subst, ap, ◌∙◌, arith}
 use Rattle.std.specs.List.{position, onto_first, starts_with, count_by}
 use Rattle.std.specs.Str.Lossy.{utf8_valid_len}
-use Rattle.std.proofs.lemmas.Bool.{eqb-true, eqb-false}
+use Rattle.std.proofs.lemmas.Bool.{cond_both, eqb-true, eqb-false}
 use Rattle.std.proofs.lemmas.List.{get_or-take, take-append-drop}
 use Rattle.std.proofs.lemmas.List.Quantifiers.{position-Some}
 use Rattle.std.proofs.lemmas.Grind.{get_or_default_zero}
@@ -12,6 +12,8 @@ use Rattle.std.proofs.lemmas.List.Splits.{slice_split-cons_no}
 use lib.Utf8.{encode}
 use Rattle.std.proofs.lemmas.Slice.Eq.{bytes_eq-Decides}
 use Rattle.std.proofs.lemmas.Str.{IsUtf8-append, utf8_valid_len_le}
+use Rattle.std.proofs.lemmas.List.Sums.{sum_by-cons}
+use Rattle.po_syntax.proofs.SpeltEscapes.{by_byte}
 use Rattle.po_syntax.specs.declared.fault.PoFault.{PoFault}
 use Rattle.po_syntax.specs.declared.fault.PoFault.TheVariants.{NotUtf8, ForbiddenByte}
 use Rattle.po_syntax.specs.declared.item.Marks.{Marks}
@@ -27,19 +29,12 @@ use Rattle.po_syntax.specs.TextItem.{TextItem, line_of}
 abbrev feeds : List ℕ → ℕ
 feeds text = count_by (λ b. b == 10) text
 
-abbrev count_from : ℕ → List ℕ → ℕ
-count_from n text = fold (λ a x. a + cond (x == 10) 1 0) n text
-
-counted_from : (n : ℕ) (text : List ℕ) → (m : ℕ) × HasFeeds text m × (count_from n text ≡ n + m)
-counted_from n [] = (0, none, omega arith)
-counted_from n (b ∷ text) = by (b == 10) refl (λ k. counted_from k text) where
-  by : (is : Bool) → (b == 10) ≡ is → ((k : ℕ) → (m : ℕ) × HasFeeds text m × (count_from k text ≡ k + m))
-      → (m : ℕ) × HasFeeds (b ∷ text) m × (count_from (n + cond is 1 0) text ≡ n + m)
-  by true e more = let r = more (n + 1) in let same = r.2 in (1 + r.0, subst (λ x. HasFeeds (x ∷ text) (1 + r.0)) (sym (eqb-true b 10 e)) (feed r.1), omega (arith, same))
-  by false e more = let r = more (n + 0) in let same = r.2 in (r.0, other (eqb-false b 10 e) r.1, omega (arith, same))
-
 feeds_are : (text : List ℕ) → HasFeeds text (feeds text)
-feeds_are text = let r = counted_from 0 text in let same : count_from 0 text ≡ 0 + r.0 = r.2 in subst (HasFeeds text) (sym (same ∙ omega arith)) r.1
+feeds_are [] = none
+feeds_are (b ∷ text) =
+    subst (HasFeeds (b ∷ text)) (sym (sum_by-cons (λ (x : ℕ). cond (x == 10) 1 0) b text))
+    (by_byte (λ a n. HasFeeds (a ∷ text) (n + feeds text)) b 10 {x = 1} {y = 0} (feed (feeds_are text)) (λ no.
+    let same : feeds text ≡ 0 + feeds text = omega arith in subst (HasFeeds (b ∷ text)) same (other (eqb-false b 10 no) (feeds_are text))))
 
 feeds_append : {first second : List ℕ} {m n : ℕ} → HasFeeds first m → HasFeeds second n → HasFeeds (first ++ second) (m + n)
 feeds_append {second = second} {n = n} none h = subst (HasFeeds second) (omega arith) h
@@ -55,15 +50,14 @@ data Cut : List ℕ → Type 0 where
   only_line : {text : List ℕ} → All (λ b. b ≢ 10) text → lines_of text ≡ text ∷ [] → Cut text
   first_line : (first rest : List ℕ) → All (λ b. b ≢ 10) first → lines_of (first ++ 10 ∷ rest) ≡ first ∷ lines_of rest → Cut (first ++ 10 ∷ rest)
 
-cut_more : (b : ℕ) (text : List ℕ) (is : Bool) → (b == 10) ≡ is → Cut text → Cut (b ∷ text)
-cut_more b text true e others = subst (λ x. Cut (x ∷ text)) (sym (eqb-true b 10 e)) (first_line [] text (All-nil (λ x. x ≢ 10)) refl)
-cut_more b text false e (only_line lacks is) = only_line (All-cons (λ x. x ≢ 10) b text (eqb-false b 10 e) lacks) (slice_split-cons_no (λ x. x == 10) b text e ∙ ap (onto_first b) is)
-cut_more b text false e (first_line first rest lacks is) =
+cut_other : (b : ℕ) (text : List ℕ) → (b == 10) ≡ false → Cut text → Cut (b ∷ text)
+cut_other b text e (only_line lacks is) = only_line (All-cons (λ x. x ≢ 10) b text (eqb-false b 10 e) lacks) (slice_split-cons_no (λ x. x == 10) b text e ∙ ap (onto_first b) is)
+cut_other b text e (first_line first rest lacks is) =
     first_line (b ∷ first) rest (All-cons (λ x. x ≢ 10) b first (eqb-false b 10 e) lacks) (slice_split-cons_no (λ x. x == 10) b (first ++ 10 ∷ rest) e ∙ ap (onto_first b) is)
 
 cut : (text : List ℕ) → Cut text
 cut [] = only_line (All-nil (λ x. x ≢ 10)) refl
-cut (b ∷ text) = cut_more b text (b == 10) refl (cut text)
+cut (b ∷ text) = by_byte (λ (a : ℕ) (u : Unit {0}). Cut (a ∷ text)) b 10 {x = tt} {y = tt} (first_line [] text (All-nil (λ x. x ≢ 10)) refl) (λ e. cut_other b text e (cut text))
 
 -- the items of a line have its number
 tokens_numbered : {marks : Marks} {number : ℕ} {text : List ℕ} {items : List TextItem} → HoldsTokens marks number text items → All (λ i. line_of i ≡ number) items
@@ -162,12 +156,10 @@ unfolding encode
 mark_utf8 = (0xFEFF ∷ [], (refl, refl))
 
 unmarked : (text : List ℕ) → ((rest : List ℕ) → text ≢ marked_text rest) → without_byte_order_mark text ≡ text
-unmarked text unlike = by (starts_with nat_eq text (0xEF ∷ 0xBB ∷ 0xBF ∷ [])) refl where
-  by : (b : Bool) → starts_with nat_eq text (0xEF ∷ 0xBB ∷ 0xBF ∷ []) ≡ b → (if b then drop 3 text else text) ≡ text
-  by true e =
-      let mark : 0xEF ∷ 0xBB ∷ 0xBF ∷ [] ≡ take 3 text = (bytes_eq-Decides (0xEF ∷ 0xBB ∷ 0xBF ∷ []) (take 3 text)).0 e in
-      absurd (unlike (drop 3 text) (sym (take-append-drop 3 text) ∙ ap (λ l. l ++ drop 3 text) (sym mark)))
-  by false e = refl
+unmarked text unlike =
+    cond_both (starts_with nat_eq text (0xEF ∷ 0xBB ∷ 0xBF ∷ [])) (drop 3 text) text (λ t. t ≡ text) (λ e.
+    let mark : 0xEF ∷ 0xBB ∷ 0xBF ∷ [] ≡ take 3 text = (bytes_eq-Decides (0xEF ∷ 0xBB ∷ 0xBF ∷ []) (take 3 text)).0 e in
+    absurd (unlike (drop 3 text) (sym (take-append-drop 3 text) ∙ ap (λ l. l ++ drop 3 text) (sym mark)))) (λ _. refl)
 
 pub mark_omitted : (text : List ℕ) (items : List TextItem) → MarkIsOmitted text items
 mark_omitted text items small unlike h = record {

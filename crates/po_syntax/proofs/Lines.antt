@@ -1,6 +1,8 @@
 -- A text spells at most one item for each of its bytes.
-use Rattle.std.proofs.Common.{◌≡◌, ◌≢◌, refl, ◌<◌, ◌==◌, ap, ℕ, ◌+◌, ◌≤◌, Bool, true, false, cond, if◌then◌else◌, List, [], ◌∷◌, length, length-append, drop, length-drop, arith}
+use Rattle.std.proofs.Common.{◌≡◌, ◌≢◌, refl, ◌<◌, ◌==◌, ap, ℕ, ◌+◌, ◌≤◌, List, [], ◌∷◌, length, length-append, drop, length-drop, arith}
 use Rattle.std.specs.List.{onto_first}
+use Rattle.std.proofs.lemmas.Bool.{cond_both}
+use Rattle.std.proofs.lemmas.List.Splits.{length-slice_split}
 use Rattle.std.proofs.lemmas.List.Sums.{sum_by-cons}
 use Rattle.po_syntax.specs.LinesLeft.{lines_len}
 use Rattle.po_syntax.specs.declared.item.Marks.{Marks}
@@ -35,30 +37,21 @@ onto_first-len b [] some = absurd (some refl)
 onto_first-len b (line ∷ lines) some =
     omega (arith, sum_by-cons (λ (l : List ℕ). length l + 1) line lines, sum_by-cons (λ (l : List ℕ). length l + 1) (b ∷ line) lines)
 
-cut_cases : (b : ℕ) (lines : List (List ℕ)) (feed : Bool) → lines ≢ [] → lines_len (cond feed ([] ∷ lines) (onto_first b lines)) ≡ lines_len lines + 1
-cut_cases b lines true some = omega (arith, sum_by-cons (λ (l : List ℕ). length l + 1) [] lines)
-cut_cases b lines false some = onto_first-len b lines some
-
-cut_some : (cut : List (List ℕ)) (b : ℕ) (feed : Bool) → cut ≢ [] → cond feed ([] ∷ cut) (onto_first b cut) ≢ []
-cut_some cut b true h = λ e. absurd (cc)
-cut_some [] b false h = λ e. h refl
-cut_some (line ∷ cut) b false h = λ e. absurd (cc)
-
 -- a text has a line, though it be empty
 pub lines_some : (text : List ℕ) → lines_of text ≢ []
-lines_some [] = λ e. absurd (cc)
-lines_some (b ∷ text) = cut_some (lines_of text) b (b == 10) (lines_some text)
+lines_some text = λ e. omega (arith, ap length e, length-slice_split (λ b. b == 10) text)
 
 pub lines_len-lines_of : (text : List ℕ) → lines_len (lines_of text) ≡ length text + 1
 lines_len-lines_of [] = refl
-lines_len-lines_of (b ∷ text) = omega (arith, cut_cases b (lines_of text) (b == 10) (lines_some text), lines_len-lines_of text)
-
-mark_cases : (marked : Bool) (text : List ℕ) → length (if marked then drop 3 text else text) ≤ length text
-mark_cases true text = omega (arith, length-drop 3 text)
-mark_cases false text = omega arith
+lines_len-lines_of (b ∷ text) =
+    let lines = lines_of text in
+    let more = cond_both (b == 10) ([] ∷ lines) (onto_first b lines) (λ l. lines_len l ≡ lines_len lines + 1) (λ _. omega (arith, sum_by-cons (λ (l : List ℕ). length l + 1) [] lines))
+    (λ _. onto_first-len b lines (lines_some text)) in
+    omega (arith, more, lines_len-lines_of text)
 
 pub without_byte_order_mark-le : (text : List ℕ) → length (without_byte_order_mark text) ≤ length text
-without_byte_order_mark-le text = mark_cases _ text
+without_byte_order_mark-le text =
+    cond_both _ (drop 3 text) text (λ t. length t ≤ length text) (λ _. omega (arith, length-drop 3 text)) (λ _. omega arith)
 
 pub some_length : (lines : List (List ℕ)) → lines ≢ [] → 0 < length lines
 some_length [] some = absurd (some refl)

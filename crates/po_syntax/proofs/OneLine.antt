@@ -15,8 +15,7 @@ use Rattle.po_syntax.specs.Spelling.{SpellsKeyword, HoldsTokens, end, blank, key
 use Rattle.po_syntax.specs.TextItem.{TextItem, Comment, Word, Str}
 use Rattle.po_syntax.proofs.Escapes.{string_shorter}
 use Rattle.po_syntax.proofs.FaultyLines.{keyword_stops, no_token_stops}
-use Rattle.po_syntax.proofs.Once.{Once, Reads, ends, goes_on, reads_once}
-use Rattle.po_syntax.proofs.OneString.{Reading, StringIs, string_once}
+use Rattle.po_syntax.proofs.OneString.{Once, Reads, ends, goes_on, reads_once, Reading, StringIs, string_once}
 use Rattle.po_syntax.proofs.SpeltKeywords.{over_blanks, over_skipped, skips, skip_prefix, keyword_read, TokenSays, first_says}
 use Rattle.po_syntax.proofs.SpeltLines.{ShapeSays, shape_says, comment_read, comment_hash, tilde_comment, blank_skipped}
 use Rattle.po_syntax.proofs.Tokens.{keyword-shorter, quote-shorter}

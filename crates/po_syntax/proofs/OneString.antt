@@ -1,13 +1,44 @@
 -- After an opening quote a text spells one string or has one fault, and not both.
-use Rattle.std.proofs.Common.{◌≡◌, ◌==◌, refl, ℕ, ◌<◌, false, List, [], ◌∷◌, length, Result, Ok, Err, arith}
-use Rattle.std.proofs.lemmas.Bool.{cond_both, eqb-true, eqb-false, ne_eqb}
+use Rattle.std.proofs.Common.{◌≡◌, ◌==◌, refl, ℕ, ◌<◌, false, List, [], ◌∷◌, length, Result, Ok, Err, arith, ◌∙◌, sym, ap, zero, suc, ◌+◌}
+use Rattle.std.proofs.lemmas.Bool.{eqb-false, ne_eqb}
 use Rattle.po_syntax.specs.declared.fault.PoFault.{PoFault}
 use Rattle.po_syntax.specs.Escapes.{SpellsString, closed, plain, escape}
 use Rattle.po_syntax.specs.Internal.QuotedString.{Step, End, Byte, Stop, escape_at, step_at}
 use Rattle.po_syntax.specs.LineFaults.{StringFault, not_closed, in_escape, after_plain, after_escape}
 use Rattle.po_syntax.proofs.Escapes.{EscapeSays, escape_says, escape_shorter}
-use Rattle.po_syntax.proofs.Once.{Once, Reads, ends, goes_on, reads_once}
-use Rattle.po_syntax.proofs.SpeltEscapes.{escape_read, escape_stops}
+use Rattle.po_syntax.proofs.SpeltEscapes.{by_byte, escape_read, escape_stops}
+
+-- it holds of this outcome, and of no other
+pub record Once {O : Type 0} (Is : O → Type 0) : Type 0 where
+  pub outcome : O
+  pub holds : Is outcome
+  pub only : (other : O) → Is other → other ≡ outcome
+
+pub same : {O : Type 0} {Is : O → Type 0} → Once Is → {one other : O} → Is one → Is other → one ≡ other
+same once {one = one} {other = other} is also = once.only one is ∙ sym (once.only other also)
+
+-- it holds of one outcome, or of those that come of a shorter text
+pub data Reads {O : Type 0} (Is : List ℕ → O → Type 0) (text : List ℕ) : Type 0 where
+  ends : Once (Is text) → Reads Is text
+  goes_on : (make : O → O) (next : List ℕ) → length next < length text
+      → ((outcome : O) → Is next outcome → Is text (make outcome))
+      → ((outcome : O) → Is text outcome → (before : O) × Is next before × (outcome ≡ make before))
+      → Reads Is text
+
+once_below : {O : Type 0} (Is : List ℕ → O → Type 0) → ((text : List ℕ) → Reads Is text) → (n : ℕ) (text : List ℕ) → length text < n → Once (Is text)
+once_below Is reads zero text h = absurd (omega arith)
+once_below {O} Is reads (suc n) text h = by (reads text) (once_below Is reads n) where
+  by : Reads Is text → ((next : List ℕ) → length next < n → Once (Is next)) → Once (Is text)
+  by (ends once) below = once
+  by (goes_on make next less holds comes) below =
+      let once = below next (omega arith) in record {
+        outcome = make once.outcome;
+        holds = holds once.outcome once.holds;
+        only = λ other is. let before = comes other is in before.2 ∙ ap make (once.only before.0 before.1);
+      }
+
+pub reads_once : {O : Type 0} (Is : List ℕ → O → Type 0) → ((text : List ℕ) → Reads Is text) → (text : List ℕ) → Once (Is text)
+reads_once Is reads text = once_below Is reads (length text + 1) text (omega arith)
 
 -- the bytes of a string and the text after it, or the fault of the text
 abbrev pub Reading : Type 0
@@ -66,8 +97,8 @@ says : (text : List ℕ) → Says text (step_at text)
 unfolding step_at
 says [] = not_closed
 says (b ∷ text) =
-    cond_both (b == 34) (End text) _ (Says (b ∷ text)) (λ is. rw (eqb-true b 34 is) closed) (λ inside.
-    cond_both (b == 92) _ (Byte b text) (Says (b ∷ text)) (λ is. rw (eqb-true b 92 is) (after_backslash text (escape_at text) (escape_says text))) (λ raw. (omega arith, after_plain_byte b text inside raw)))
+    let P = λ (a : ℕ) (step : Step). Says (a ∷ text) step in
+    by_byte P b 34 closed (λ inside. by_byte P b 92 (after_backslash text (escape_at text) (escape_says text)) (λ raw. (omega arith, after_plain_byte b text inside raw)))
 
 string_reads : (text : List ℕ) → Reads StringIs text
 string_reads text = by (step_at text) (says text) (follows text) where

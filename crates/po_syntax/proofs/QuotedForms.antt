@@ -1,5 +1,5 @@
 -- What is written for a byte spells that byte.
-use Rattle.std.proofs.Common.{◌≡◌, ◌≢◌, refl, subst, inl, Some, None, ◌/◌, ◌%◌, ℕ, suc, ◌+◌, ◌<◌, List, [], ◌∷◌, ◌++◌, append_assoc, All, arith}
+use Rattle.std.proofs.Common.{rules, ◌≡◌, ◌≢◌, refl, subst, inl, Some, None, ◌/◌, ◌%◌, ℕ, suc, ◌+◌, ◌<◌, List, [], ◌∷◌, ◌++◌, append_assoc, All, arith}
 use Rattle.std.specs.Char.{digit_value}
 use Rattle.std.specs.Str.Parse.{digits_value}
 use Rattle.std.proofs.lemmas.Str.{digit_value-digit_char}
@@ -16,7 +16,7 @@ digit d small = subst (λ c. digit_value c ≡ d) (digit_is d (omega arith)) (di
 byte_spells : {b : ℕ} {written : List ℕ} → 0 < b → WritesByte b written → {text bytes rest : List ℕ} → SpellsString text bytes rest
     → SpellsString (written ++ text) (b ∷ bytes) rest
 byte_spells {b} positive (letter {letter = l} e) more =
-    escape (letter_escape (of_each_byte (λ v key. letter_value key ≡ Some v) b l (refl, (refl, (refl, (refl, (refl, (refl, (refl, (refl, (refl, tt))))))))) e)) more
+    escape (letter_escape (of_each_byte (λ v key. letter_value key ≡ Some v) b l (search rules) e)) more
 byte_spells positive delete more =
     escape (octal (49 ∷ 55 ∷ 55 ∷ []) (omega arith, (omega arith, (omega arith, (omega arith, tt)))) (omega arith) (inl refl) (omega arith, omega arith)) more
 byte_spells {b} positive (control low none) {text} {bytes} {rest} more =

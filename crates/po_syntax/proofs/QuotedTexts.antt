@@ -1,5 +1,5 @@
 -- The quoted form of a UTF-8 text is UTF-8, and holds no byte below space.
-use Rattle.std.proofs.Common.{◌≡◌, ◌/◌, ◌%◌, sym, refl, subst, inl, inr, ℕ, ◌+◌, ◌<◌, ◌≤◌, true, List, [], ◌∷◌, ◌++◌, append-nil, length, get_or, All, IsUtf8, arith}
+use Rattle.std.proofs.Common.{rules, ◌≡◌, ◌/◌, ◌%◌, sym, refl, subst, inl, inr, ℕ, ◌+◌, ◌<◌, ◌≤◌, true, List, [], ◌∷◌, ◌++◌, append-nil, length, get_or, All, IsUtf8, arith}
 use Rattle.std.specs.Str.{IsAscii}
 use lib.Utf8.{encode, encodes, scalars, scalar}
 use Rattle.std.proofs.lemmas.Bool.{cases_lt, le-ltb, ne_eqb, and_parts}
@@ -32,7 +32,7 @@ escape_shown most bound x y z a b c d e f =
 -- what is written for a byte, or an ASCII byte
 written_shown : (most : ℕ) → 128 ≤ most → {b : ℕ} {text : List ℕ} → b < most → WritesByte b text → All (Shown most) text
 written_shown most bound {b} less (letter {letter = l} e) =
-    let range = of_each_byte (λ _ key. (32 ≤ key) × (key < 128)) b l ((omega arith, omega arith), ((omega arith, omega arith), ((omega arith, omega arith), ((omega arith, omega arith), ((omega arith, omega arith), ((omega arith, omega arith), ((omega arith, omega arith), ((omega arith, omega arith), ((omega arith, omega arith), tt))))))))) e in
+    let range = of_each_byte (λ _ key. (32 ≤ key) × (key < 128)) b l (search (rules, arith)) e in
     All-cons (Shown most) 92 (l ∷ []) (omega arith, omega arith) (one_shown most l (range.0, omega arith))
 written_shown most bound less delete = escape_shown most bound 49 55 55 (omega arith) (omega arith) (omega arith) (omega arith) (omega arith) (omega arith)
 written_shown most bound {b} less (control low none) = escape_shown most bound 48 (48 + b / 8) (48 + b % 8) (omega arith) (omega arith) (omega arith) (omega arith) (omega arith) (omega arith)

@@ -1,13 +1,17 @@
 -- Each escape is read as the byte that it spells, or as its fault.
-use Rattle.std.proofs.Common.{◌≡◌, ◌∙◌, ◌==◌, ◌⊎◌, inl, inr, refl, sym, ap, subst, Bool, true, false, cond, Some, option_map, find, ℕ, zero, suc, ◌≤◌, List, [], ◌∷◌, ◌++◌, length, take, arith}
+use Rattle.std.proofs.Common.{rules, ◌≡◌, ◌∙◌, ◌==◌, ◌⊎◌, inl, inr, refl, sym, ap, subst, Bool, true, false, cond, Some, option_map, find, ℕ, zero, suc, ◌≤◌, List, [], ◌∷◌, ◌++◌, length, take, arith}
 use Rattle.std.specs.Char.{digit_value, is_digit}
 use Rattle.std.specs.Str.Parse.{AllDigits, IsNumeral, digits_value}
 use Rattle.std.proofs.Math.Seq.{take-append_seam, drop-append_seam}
-use Rattle.std.proofs.lemmas.Bool.{cond-false, eqb-true, ne_eqb, lt-ltb, le-ltb}
+use Rattle.std.proofs.lemmas.Bool.{cond_both, cond-false, eqb-true, ne_eqb, lt-ltb, le-ltb}
 use Rattle.po_syntax.specs.declared.fault.PoFault.{PoFault}
 use Rattle.po_syntax.specs.Internal.QuotedString.{Byte, Stop, digit_count, numbered, number_step, letter_step, escape_at}
 use Rattle.po_syntax.specs.Escapes.{NoDigitFirst, IsByteNumber, escape_letters, letter_value, escape_letter, SpellsEscape, letter, octal, hexadecimal}
 use Rattle.po_syntax.specs.LineFaults.{NumberFault, nul, large, EscapeFault, at_end, no_escape, octal as octal_fault, no_digit, hexadecimal_digits}
+
+-- what holds where a byte is this one, and where it is another
+pub by_byte : {A : Type 0} (P : ℕ → A → Type 0) (b k : ℕ) {x y : A} → P k x → ((b == k) ≡ false → P b y) → P b (cond (b == k) x y)
+by_byte P b k {x} {y} is other = cond_both (b == k) x y (P b) (λ e. subst (λ a. P a x) (sym (eqb-true b k e)) is) other
 
 -- as many digits as there are, up to so many
 pub count_prefix : (base most : ℕ) (digits rest : List ℕ) → AllDigits base digits → length digits ≤ most → (length digits ≡ most) ⊎ NoDigitFirst base rest → digit_count base (take most (digits ++ rest)) ≡ length digits
@@ -68,7 +72,7 @@ of_each_letter P b value each e = of_found (λ row. row.0) (λ row. row.1) P b v
 
 pub letter_read : (b value : ℕ) (rest : List ℕ) → letter_value b ≡ Some value → escape_at (b ∷ rest) ≡ Byte value rest
 unfolding escape_at
-letter_read b value rest e = of_each_letter (λ a v. escape_at (a ∷ rest) ≡ Byte v rest) b value (refl, (refl, (refl, (refl, (refl, (refl, (refl, (refl, (refl, tt))))))))) e
+letter_read b value rest e = of_each_letter (λ a v. escape_at (a ∷ rest) ≡ Byte v rest) b value (search rules) e
 
 pub escape_read : {text rest : List ℕ} {b : ℕ} → SpellsEscape text b rest → escape_at text ≡ Byte b rest
 escape_read (letter {b = b} {value = value} {rest = rest} e) = letter_read b value rest e

@@ -22,7 +22,7 @@ use Rattle.po_syntax.specs.Spelling.{is_word_byte, SpellsKeyword, msgctxt, msgid
 use Rattle.po_syntax.specs.Internal.Token.{Token, LineEnd, OpeningQuote, KeywordToken, WrongToken, close_token, index_token, bracket_token, keyword_token, word_token, first_token, token_at}
 use Rattle.po_syntax.specs.Blanks.{is_blank, IsBlank, skip_blanks, FailsFirst}
 use Rattle.po_syntax.proofs.Escapes.{all_digits, positive}
-use Rattle.po_syntax.proofs.SpeltEscapes.{count_all}
+use Rattle.po_syntax.proofs.SpeltEscapes.{by_byte, count_all}
 
 pub or_step : {P : Type 0} (x y : Bool) → (x ≡ true → P) → (y ≡ true → P) → (x || y) ≡ true → P
 or_step true y p q e = p refl
@@ -155,12 +155,12 @@ close_says whole before inside index digits opened numeral fits rest after end i
   at : (last : List ℕ) → rest ≡ after ++ last → FailsFirst is_blank last → TokenSays whole (close_token (digits_value 10 digits) last)
   at [] e begins = λ _. unclosed [] e tt
   at (b ∷ last) e begins =
-      cond_both (b == 93) _ _ (TokenSays whole)
-      (λ closes.
-      let closing : rest ≡ after ++ 93 ∷ last = e ∙ ap (λ a. after ++ a ∷ last) (eqb-true b 93 closes) in
+      by_byte (λ a t. rest ≡ after ++ a ∷ last → TokenSays whole t) b 93
+      (λ closing.
       let text = opened.text ∙ ap (λ l. codes "msgstr" ++ (before ++ 91 ∷ (inside ++ l))) (is ∙ ap (λ l. digits ++ l) closing) in
-      subst (λ t. SpellsKeyword t (MsgStrAt (digits_value 10 digits)) last) (sym text) (form before inside digits after opened.before_blank opened.inside_blank numeral fits all))
-      (λ other _. unclosed (b ∷ last) e (or_from _ _ begins other))
+      rw text (form before inside digits after opened.before_blank opened.inside_blank numeral fits all))
+      (λ other _ _. unclosed (b ∷ last) e (or_from _ _ begins other))
+      e
 
 index_says : (whole before inside index : List ℕ) → IsOpened whole before inside index → TokenSays whole (index_token index)
 unfolding index_token
@@ -185,18 +185,19 @@ index_says whole before inside index opened =
 
 bracket_says : (whole rest : List ℕ) → whole ≡ codes "msgstr" ++ rest → FailsFirst is_word_byte rest → (before after : List ℕ) → skip_blanks rest ≡ after → rest ≡ before ++ after → All IsBlank before → TokenSays whole (bracket_token rest after)
 bracket_says whole rest text ends before [] is parts all =
-    subst (λ t. SpellsKeyword t MsgStr rest) (sym text) (msgstr ends (subst (FailsFirst (λ b. b == 91)) (sym is) tt))
+    rw text (msgstr ends (subst (FailsFirst (λ b. b == 91)) (sym is) tt))
 bracket_says whole rest text ends before (b ∷ inside) is parts all =
-    cond_both (b == 91) _ (KeywordToken MsgStr rest) (TokenSays whole)
-    (λ e.
+    by_byte (λ a t. rest ≡ before ++ a ∷ inside → TokenSays whole t) b 91
+    (λ opens.
     let more = skips inside in
     index_says whole before more.blanks (skip_blanks inside) (record {
-      text = text ∙ ap (λ l. codes "msgstr" ++ l) (parts ∙ ap (λ a. before ++ a ∷ inside) (eqb-true b 91 e) ∙ ap (λ l. before ++ 91 ∷ l) (sym more.whole));
+      text = text ∙ ap (λ l. codes "msgstr" ++ l) (opens ∙ ap (λ l. before ++ 91 ∷ l) (sym more.whole));
       before_blank = all;
       inside_blank = more.are_blanks;
       index_begins = more.other;
     }))
-    (λ other. subst (λ t. SpellsKeyword t MsgStr rest) (sym text) (msgstr ends (subst (FailsFirst (λ b. b == 91)) (sym is) other)))
+    (λ other _. rw text (msgstr ends (subst (FailsFirst (λ b. b == 91)) (sym is) other)))
+    parts
 
 keyword_says : (whole : List ℕ) (b : ℕ) (word rest : List ℕ) → whole ≡ (b ∷ word) ++ rest → All (λ c. is_word_byte c ≡ true) (b ∷ word) → FailsFirst is_word_byte rest → TokenSays whole (keyword_token (b ∷ word) rest)
 unfolding keyword_token
@@ -204,9 +205,9 @@ keyword_says whole b word rest text all ends =
     let read = b ∷ word in
     let is = λ (name : List ℕ) (e : bytes_eq read name ≡ true). text ∙ ap (λ w. w ++ rest) ((bytes_eq-Decides read name).0 e) in
     let differs = λ (name : List ℕ) (e : bytes_eq read name ≡ false) (same : read ≡ name). both_ways (bytes_eq read name) e ((bytes_eq-Decides read name).1 same) in
-    cond_both (bytes_eq read (codes "msgctxt")) (KeywordToken MsgCtxt rest) _ (TokenSays whole) (λ e. subst (λ t. SpellsKeyword t MsgCtxt rest) (sym (is (codes "msgctxt") e)) (msgctxt ends)) (λ no_context.
-    cond_both (bytes_eq read (codes "msgid")) (KeywordToken MsgId rest) _ (TokenSays whole) (λ e. subst (λ t. SpellsKeyword t MsgId rest) (sym (is (codes "msgid") e)) (msgid ends)) (λ no_id.
-    cond_both (bytes_eq read (codes "msgid_plural")) (KeywordToken MsgIdPlural rest) _ (TokenSays whole) (λ e. subst (λ t. SpellsKeyword t MsgIdPlural rest) (sym (is (codes "msgid_plural") e)) (msgid_plural ends)) (λ no_plural.
+    cond_both (bytes_eq read (codes "msgctxt")) (KeywordToken MsgCtxt rest) _ (TokenSays whole) (λ e. rw (is (codes "msgctxt") e) (msgctxt ends)) (λ no_context.
+    cond_both (bytes_eq read (codes "msgid")) (KeywordToken MsgId rest) _ (TokenSays whole) (λ e. rw (is (codes "msgid") e) (msgid ends)) (λ no_id.
+    cond_both (bytes_eq read (codes "msgid_plural")) (KeywordToken MsgIdPlural rest) _ (TokenSays whole) (λ e. rw (is (codes "msgid_plural") e) (msgid_plural ends)) (λ no_plural.
     cond_both (bytes_eq read (codes "msgstr")) _ (WrongToken BadToken) (TokenSays whole)
     (λ e. let parts = skips rest in bracket_says whole rest (is (codes "msgstr") e) ends parts.blanks (skip_blanks rest) refl (sym parts.whole) parts.are_blanks)
     (λ no_translation _.
@@ -230,6 +231,6 @@ pub first_says : (text : List ℕ) → TokenSays text (first_token text)
 unfolding first_token
 first_says [] = refl
 first_says (b ∷ rest) =
-    cond_both (b == 34) (OpeningQuote rest) _ (TokenSays (b ∷ rest)) (λ e. ap (λ a. a ∷ rest) (eqb-true b 34 e)) (λ no_quote.
+    by_byte (λ a t. TokenSays (a ∷ rest) t) b 34 refl (λ no_quote.
     cond_both (is_word_byte b) _ _ (TokenSays (b ∷ rest)) (word_says b rest)
     (λ no_word no_blank. no_token no_blank (eqb-false b 34 no_quote) no_word))

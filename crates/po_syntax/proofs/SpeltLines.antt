@@ -2,19 +2,19 @@
 use Rattle.std.proofs.Common.{◌≡◌, ◌⊎◌, inl, inr, ◌==◌, ◌||◌, ◌∙◌, refl, sym, ap, subst, ℕ, ◌+◌, true, false, List, [], ◌∷◌, ◌++◌, drop, All}
 use Rattle.std.specs.List.{prefix_len}
 use Rattle.std.proofs.Math.Numerals.{one-add}
-use Rattle.std.proofs.lemmas.Bool.{cond_both, or_from, or_parts, cond-true, cond-false, eqb-true, eqb-false}
+use Rattle.std.proofs.lemmas.Bool.{both_ways, or_from, or_parts, cond-true, cond-false}
 use Rattle.std.proofs.lemmas.List.Elements.{All-head}
 use Rattle.po_syntax.specs.declared.fault.PoFault.{PoFault}
 use Rattle.po_syntax.specs.declared.fault.PoFault.TheVariants.{BadToken}
 use Rattle.po_syntax.specs.declared.item.CommentKind.{CommentKind}
-use Rattle.po_syntax.specs.declared.item.CommentKind.TheVariants.{Translator, Extracted, Reference, Flags}
 use Rattle.po_syntax.specs.declared.item.Marks.{Marks}
 use Rattle.po_syntax.specs.Internal.Line.{Shape, CommentLine, Tokens, NoShape, comment_shape, obsolete_shape, tilde_shape, hash_shape, first_shape}
 use Rattle.po_syntax.specs.ItemContents.{trim_returns}
 use Rattle.po_syntax.specs.LineFaults.{TokensFault, BeginsTokens, LineFault, previous_again, obsolete_again, live as fault_live, previous as fault_previous, obsolete as fault_obsolete, obsolete_previous as fault_obsolete_previous}
-use Rattle.po_syntax.specs.Spelling.{HoldsTokens, blank, SpellsComment, extracted, reference, flags, translator, own_marks, previous_marks, HoldsItems, comment, obsolete_comment, live, previous, obsolete, obsolete_previous}
+use Rattle.po_syntax.specs.Spelling.{HoldsTokens, blank, SpellsComment, extracted, reference, flags, translator, previous_marks, HoldsItems, comment, obsolete_comment, live, previous, obsolete, obsolete_previous}
 use Rattle.po_syntax.specs.TextItem.{TextItem, Comment}
 use Rattle.po_syntax.specs.Blanks.{is_blank, IsBlank, skip_blanks, FailsFirst}
+use Rattle.po_syntax.proofs.SpeltEscapes.{by_byte}
 use Rattle.po_syntax.proofs.SpeltKeywords.{of_blank, over_blanks, skips, skip_prefix}
 
 after_blanks : {marks : Marks} {number : ℕ} {items : List TextItem} (blanks text : List ℕ) → All IsBlank blanks → HoldsTokens marks number text items → HoldsTokens marks number (blanks ++ text) items
@@ -41,20 +41,19 @@ CommentSays text NoShape = (rest : List ℕ) × ((text ≡ 124 ∷ rest) ⊎ (te
 comment_says : (text : List ℕ) → CommentSays text (comment_shape text)
 comment_says [] = translator tt
 comment_says (b ∷ rest) =
-    cond_both (b == 46) (CommentLine Extracted rest) _ (CommentSays (b ∷ rest)) (λ e. subst (λ a. SpellsComment (a ∷ rest) Extracted rest) (sym (eqb-true b 46 e)) extracted) (λ p.
-    cond_both (b == 58) (CommentLine Reference rest) _ (CommentSays (b ∷ rest)) (λ e. subst (λ a. SpellsComment (a ∷ rest) Reference rest) (sym (eqb-true b 58 e)) reference) (λ q.
-    cond_both (b == 44) (CommentLine Flags rest) _ (CommentSays (b ∷ rest)) (λ e. subst (λ a. SpellsComment (a ∷ rest) Flags rest) (sym (eqb-true b 44 e)) flags) (λ r.
-    cond_both (b == 124) NoShape _ (CommentSays (b ∷ rest)) (λ e. (rest, inl (ap (λ a. a ∷ rest) (eqb-true b 124 e)))) (λ s.
-    cond_both (b == 126) NoShape (CommentLine Translator (b ∷ rest)) (CommentSays (b ∷ rest)) (λ e. (rest, inr (ap (λ a. a ∷ rest) (eqb-true b 126 e)))) (λ t. translator (or_from _ _ (or_from _ _ (or_from _ _ (or_from _ _ p q) r) s) t))))))
+    let P = λ (a : ℕ) (s : Shape). CommentSays (a ∷ rest) s in
+    by_byte P b 46 extracted (λ p. by_byte P b 58 reference (λ q. by_byte P b 44 flags (λ r.
+    by_byte P b 124 (rest, inl refl) (λ s. by_byte P b 126 (rest, inr refl) (λ t. translator (or_from _ _ (or_from _ _ (or_from _ _ (or_from _ _ p q) r) s) t))))))
 
 -- a text that no bar and no tilde begins
 abbrev BeginsComment : List ℕ → Type 0
-BeginsComment text = (rest : List ℕ) → (text ≡ 124 ∷ rest) ⊎ (text ≡ 126 ∷ rest) → ⊥
+BeginsComment text = FailsFirst (λ b. b == 124 || b == 126) text
 
 comment_line : (text : List ℕ) (shape : Shape) → BeginsComment text → CommentSays text shape → ShapeSays (35 ∷ text) shape
 comment_line text (CommentLine kind rest) other h = λ number. comment h
 comment_line text (Tokens marks rest) other h = absurd h
-comment_line text NoShape other h = absurd (other h.0 h.1)
+comment_line text NoShape other h =
+    elim h.1 [ inl is ↦ absurd (both_ways true (subst BeginsComment is other) refl) | inr is ↦ absurd (both_ways true (subst BeginsComment is other) refl) ]
 
 obsolete_comment_line : (blanks text : List ℕ) (shape : Shape) → All IsBlank blanks → CommentSays text shape → ShapeSays (35 ∷ 126 ∷ (blanks ++ 35 ∷ text)) shape
 obsolete_comment_line blanks text (CommentLine kind rest) all h = λ number. obsolete_comment blanks all h
@@ -71,8 +70,7 @@ obsolete_says : (blanks after : List ℕ) → All IsBlank blanks → FailsFirst 
 unfolding obsolete_shape
 obsolete_says blanks [] all no_bar fails = (λ number items h. obsolete (after_blanks blanks [] all h), λ fault h. fault_obsolete blanks all tt no_bar h)
 obsolete_says blanks (b ∷ rest) all no_bar fails =
-    cond_both (b == 35) _ (Tokens (own_marks true) (b ∷ rest)) (ShapeSays (35 ∷ 126 ∷ (blanks ++ b ∷ rest)))
-    (λ e. subst (λ a. ShapeSays (35 ∷ 126 ∷ (blanks ++ a ∷ rest)) (comment_shape rest)) (sym (eqb-true b 35 e)) (obsolete_comment_line blanks rest (comment_shape rest) all (comment_says rest)))
+    by_byte (λ a s. ShapeSays (35 ∷ 126 ∷ (blanks ++ a ∷ rest)) s) b 35 (obsolete_comment_line blanks rest (comment_shape rest) all (comment_says rest))
     (λ other. (λ number items h. obsolete (after_blanks blanks (b ∷ rest) all h), λ fault h. fault_obsolete blanks all (begins_tokens b rest fails other) no_bar h))
 
 obsolete_line : (text : List ℕ) → FailsFirst (λ b. b == 124) text → ShapeSays (35 ∷ 126 ∷ text) (obsolete_shape (skip_blanks text))
@@ -85,35 +83,21 @@ tilde_says : (text : List ℕ) → ShapeSays (35 ∷ 126 ∷ text) (tilde_shape 
 unfolding tilde_shape
 tilde_says [] = obsolete_line [] tt
 tilde_says (b ∷ rest) =
-    cond_both (b == 124) (Tokens (previous_marks true) rest) _ (ShapeSays (35 ∷ 126 ∷ b ∷ rest))
-    (λ e. subst (λ a. ShapeSays (35 ∷ 126 ∷ a ∷ rest) (Tokens (previous_marks true) rest)) (sym (eqb-true b 124 e)) (λ number items h. obsolete_previous h, λ fault h. fault_obsolete_previous h))
-    (λ other. obsolete_line (b ∷ rest) other)
-
-nothing_begins : BeginsComment []
-nothing_begins rest (inl e) = cc
-nothing_begins rest (inr e) = cc
-
-other_begins : (b : ℕ) (text : List ℕ) → (b == 124) ≡ false → (b == 126) ≡ false → BeginsComment (b ∷ text)
-other_begins b text no_bar no_tilde rest (inl e) = eqb-false b 124 no_bar cc
-other_begins b text no_bar no_tilde rest (inr e) = eqb-false b 126 no_tilde cc
+    by_byte (λ a s. ShapeSays (35 ∷ 126 ∷ a ∷ rest) s) b 124 (λ number items h. obsolete_previous h, λ fault h. fault_obsolete_previous h) (obsolete_line (b ∷ rest))
 
 hash_says : (text : List ℕ) → ShapeSays (35 ∷ text) (hash_shape text)
 unfolding hash_shape
-hash_says [] = comment_line [] (comment_shape []) nothing_begins (comment_says [])
+hash_says [] = comment_line [] (comment_shape []) tt (comment_says [])
 hash_says (b ∷ rest) =
-    cond_both (b == 124) (Tokens (previous_marks false) rest) _ (ShapeSays (35 ∷ b ∷ rest))
-    (λ e. subst (λ a. ShapeSays (35 ∷ a ∷ rest) (Tokens (previous_marks false) rest)) (sym (eqb-true b 124 e)) (λ number items h. previous h, λ fault h. fault_previous h)) (λ no_bar.
-    cond_both (b == 126) _ _ (ShapeSays (35 ∷ b ∷ rest))
-    (λ e. subst (λ a. ShapeSays (35 ∷ a ∷ rest) (tilde_shape rest)) (sym (eqb-true b 126 e)) (tilde_says rest))
-    (λ no_tilde. comment_line (b ∷ rest) (comment_shape (b ∷ rest)) (other_begins b rest no_bar no_tilde) (comment_says (b ∷ rest))))
+    let P = λ (a : ℕ) (s : Shape). ShapeSays (35 ∷ a ∷ rest) s in
+    by_byte P b 124 (λ number items h. previous h, λ fault h. fault_previous h) (λ no_bar.
+    by_byte P b 126 (tilde_says rest) (λ no_tilde. comment_line (b ∷ rest) (comment_shape (b ∷ rest)) (or_from _ _ no_bar no_tilde) (comment_says (b ∷ rest))))
 
 pub shape_says : (text : List ℕ) → FailsFirst is_blank text → ShapeSays text (first_shape text)
 unfolding first_shape
 shape_says [] fails = (λ number items h. live h, λ fault h. fault_live tt h)
 shape_says (b ∷ rest) fails =
-    cond_both (b == 35) _ (Tokens (own_marks false) (b ∷ rest)) (ShapeSays (b ∷ rest))
-    (λ e. subst (λ a. ShapeSays (a ∷ rest) (hash_shape rest)) (sym (eqb-true b 35 e)) (hash_says rest))
-    (λ other. (λ number items h. live h, λ fault h. fault_live (begins_tokens b rest fails other) h))
+    by_byte (λ a s. ShapeSays (a ∷ rest) s) b 35 (hash_says rest) (λ other. (λ number items h. live h, λ fault h. fault_live (begins_tokens b rest fails other) h))
 
 pub comment_read : {text rest : List ℕ} {kind : CommentKind} → SpellsComment text kind rest → comment_shape text ≡ CommentLine kind rest
 comment_read extracted = refl

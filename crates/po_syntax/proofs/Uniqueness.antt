@@ -8,9 +8,8 @@ use Rattle.po_syntax.specs.Escapes.{SpellsString}
 use Rattle.po_syntax.specs.LineFaults.{LineFault}
 use Rattle.po_syntax.specs.Spelling.{HoldsItems}
 use Rattle.po_syntax.specs.TextItem.{TextItem}
-use Rattle.po_syntax.proofs.Once.{same}
 use Rattle.po_syntax.proofs.OneLine.{line_once as once_of_line}
-use Rattle.po_syntax.proofs.OneString.{string_once}
+use Rattle.po_syntax.proofs.OneString.{same, string_once}
 
 pub strings_once : {text bytes rest others end : List ℕ} → SpellsString text bytes rest → SpellsString text others end → (bytes ≡ others) × (rest ≡ end)
 strings_once {text = text} {bytes = bytes} {rest = rest} {others = others} {end = end} h g =

@@ -148,7 +148,7 @@ fn write_quoted(bytes: &[u8], out: &mut Vec<u8>) -> Result<(), AllocError>
 
 /// Makes room for the quoted form, whose length is asked only where there isn't room for four bytes for
 /// each.
-#[tactic(auto, using(crate::proofs::QuotedLengths::quoted_at_most))]
+#[tactic(auto, using(crate::proofs::WrittenForms::quoted_at_most))]
 fn make_room(bytes: &[u8], out: &mut Vec<u8>) -> Result<(), AllocError>
     ensures unchanged { out.new.items ≡ out.old.items }
     ensures room { OnOk result (vec_len out.new + length (quoted bytes.now) ≤ vec_capacity out.new) }
