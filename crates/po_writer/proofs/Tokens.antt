@@ -1,5 +1,5 @@
 -- What a written line spells: the marks of its prefix, its keyword and its string.
-use Rattle.std.proofs.Common.{◌≡◌, refl, sym, ap, ℕ, ◌<◌, false, true, List, [], ◌∷◌, ◌++◌, codes, All, get_or, arith}
+use Rattle.std.proofs.Common.{refl, ℕ, ◌<◌, false, true, List, [], ◌∷◌, ◌++◌, codes, All}
 use Rattle.po_syntax.specs.declared.item.Keyword.{Keyword}
 use Rattle.po_syntax.specs.declared.item.Keyword.TheVariants.{MsgCtxt, MsgId, MsgIdPlural, MsgStr}
 use Rattle.po_syntax.specs.declared.item.Marks.{Marks}
