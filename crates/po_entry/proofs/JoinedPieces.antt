@@ -1,9 +1,10 @@
 -- The items of two pieces of a text, joined, where those of the first end in a string.
 use Rattle.std.proofs.Common.{◌≡◌, refl, List, [], ◌∷◌, ◌++◌, append_assoc}
 use Rattle.po_syntax.specs.Piece.{EndsInString}
-use Rattle.po_syntax.specs.TextItem.{TextItem, Comment, Word, Str}
+use Rattle.po_syntax.specs.TextItem.{TextItem}
+use Rattle.po_entry.specs.EntryParts.{CommentText}
 use Rattle.po_entry.specs.TextEntry.{TextEntry}
-use Rattle.po_entry.specs.Spelling.{AreComments, SpellsEntries, comments, entries}
+use Rattle.po_entry.specs.Spelling.{SpellsHead, nothing, head_comment, SpellsEntries, comments, entries}
 
 -- what is left of items that end in a string ends in it
 pub ends_rest : (own items : List TextItem) → EndsInString (own ++ items) → EndsInString items
@@ -13,15 +14,12 @@ ends_rest (item ∷ []) (next ∷ items) h = h
 ends_rest (item ∷ second ∷ own) (next ∷ items) h = ends_rest (second ∷ own) (next ∷ items) h
 
 -- comments that end in a string are none
-pub no_comment_last : (items : List TextItem) → AreComments items → EndsInString items → items ≡ []
-no_comment_last [] c h = refl
-no_comment_last (Comment kind text line ∷ []) c h = absurd h
-no_comment_last (Comment kind text line ∷ next ∷ items) c h =
-    let none : next ∷ items ≡ [] = no_comment_last (next ∷ items) c h in absurd (cc)
-no_comment_last (Word keyword marks line ∷ items) c h = absurd c
-no_comment_last (Str bytes marks line ∷ items) c h = absurd c
+pub no_comment_last : {items : List TextItem} {comment_texts : List CommentText} → SpellsHead items comment_texts [] → EndsInString items → items ≡ []
+no_comment_last nothing h = refl
+no_comment_last (head_comment {items = []} c) h = absurd h
+no_comment_last (head_comment {items = next ∷ items} c) h = let none : next ∷ items ≡ [] = no_comment_last c h in absurd (cc)
 
 pub entries_joined : {prefix rest : List TextItem} {first others : List TextEntry} → SpellsEntries prefix first → EndsInString prefix → SpellsEntries rest others → SpellsEntries (prefix ++ rest) (first ++ others)
-entries_joined (comments {items = items} c) ends g = rw (no_comment_last items c ends) g
+entries_joined (comments c) ends g = rw (no_comment_last c ends) g
 entries_joined (entries {own = own} {items = items} spelt more) ends g =
     rw append_assoc (entries spelt (entries_joined more (ends_rest own items ends) g))

@@ -1,5 +1,5 @@
 -- The references and flags that are found in comment lines are those that the lines list.
-use Rattle.std.proofs.Common.{◌≡◌, ◌≢◌, inl, inr, ◌∙◌, refl, sym, ap, subst, ℕ, true, false, not, ◌||◌, cond, List, [], ◌∷◌, ◌++◌, append_assoc, append-nil, length, get_or, take, map, filter, fold, codes, bytes_eq, All, arith}
+use Rattle.std.proofs.Common.{◌≡◌, ◌==◌, ◌≢◌, inl, inr, ◌∙◌, refl, sym, ap, subst, ℕ, true, false, not, ◌||◌, cond, List, [], ◌∷◌, ◌++◌, append_assoc, append-nil, length, get_or, take, map, filter, fold, codes, bytes_eq, All, arith}
 use Rattle.std.specs.Prelude.{◌↔◌, Contains}
 use Rattle.std.specs.List.{list_any, prefix_len}
 use Rattle.std.proofs.lemmas.Bool.{cases_Bool, or_from, or_left, or_right, cond-true, cond-false, eqb-true, eqb-false, ne_eqb, both_ways, false_from_ne_true}
@@ -14,7 +14,7 @@ use Rattle.po_syntax.specs.Blanks.{is_blank, IsBlank, skip_blanks, FailsFirst, w
 use Rattle.po_syntax.proofs.SpeltKeywords.{skip_prefix}
 use Rattle.po_entry.specs.Bytes.{Lacks, trimmed}
 use Rattle.po_entry.specs.EntryParts.{CommentText}
-use Rattle.po_entry.specs.Comments.{is_not_empty, listed_references, is_comma, listed_flags, all_listed_flags, is_fuzzy_flag, with_flag, flags_of}
+use Rattle.po_entry.specs.Comments.{is_not_empty, listed_references, listed_flags, all_listed_flags, is_fuzzy_flag, with_flag, flags_of}
 use Rattle.po_entry.specs.CommentLists.{EndsReference, ListsReferences, no_text, blank, reference, IsWithoutBlanks, NamesFlag, no_flag, flag, ListsFlags, last, more, KeepsFlags, none, first, fuzzy, repeated}
 
 no_blank : (b : ℕ) → is_blank b ≡ false → IsBlank b → ⊥
@@ -126,30 +126,30 @@ kept_append : (element : List ℕ) (elements : List (List ℕ)) → kept element
 kept_append [] elements = refl
 kept_append (b ∷ element) elements = ap (λ l. l ++ elements) (some_kept b element []) ∙ sym (some_kept b element elements)
 
-comma_says : (b : ℕ) → is_comma b ≡ true → b ≡ 44
+comma_says : (b : ℕ) → (b == 44) ≡ true → b ≡ 44
 comma_says b e = eqb-true b 44 e
 
-lacks_comma : (text : List ℕ) → All (λ b. is_comma b ≡ false) text → Lacks 44 text
+lacks_comma : (text : List ℕ) → All (λ b. (b == 44) ≡ false) text → Lacks 44 text
 lacks_comma text all = λ k d below e. eqb-false _ 44 (all k d below) e
 
-no_comma : (text : List ℕ) → Lacks 44 text → All (λ b. is_comma b ≡ false) text
+no_comma : (text : List ℕ) → Lacks 44 text → All (λ b. (b == 44) ≡ false) text
 no_comma text lacks = λ k d below. ne_eqb _ 44 (lacks k d below)
 
 abbrev flags_in : List (List ℕ) → List (List ℕ)
 flags_in texts = filter is_not_empty (map trimmed texts)
 
-list_flags : (text prefix : List ℕ) → All (λ b. is_comma b ≡ false) prefix → ListsFlags (prefix ++ text) (listed_flags (prefix ++ text))
+list_flags : (text prefix : List ℕ) → All (λ b. (b == 44) ≡ false) prefix → ListsFlags (prefix ++ text) (listed_flags (prefix ++ text))
 list_flags [] prefix all =
     let text : prefix ++ [] ≡ prefix = append-nil prefix in
-    let cut = slice_split_none is_comma prefix all in
+    let cut = slice_split_none (λ b. b == 44) prefix all in
     subst (λ t. ListsFlags t (listed_flags t)) (sym text) (subst (λ l. ListsFlags prefix (flags_in l)) (sym cut) (last (lacks_comma prefix all) (names prefix)))
 list_flags (b ∷ text) prefix all =
-    elim (cases_Bool (is_comma b)) [
-      | inl e ↦ let later = list_flags text [] (All-nil (λ c. is_comma c ≡ false)) in
+    elim (cases_Bool ((b == 44))) [
+      | inl e ↦ let later = list_flags text [] (All-nil (λ c. (c == 44) ≡ false)) in
           let here = more (lacks_comma prefix all) (names prefix) later in
-          subst (λ l. ListsFlags (prefix ++ b ∷ text) (flags_in l)) (sym (slice_split_at is_comma prefix b text all e))
+          subst (λ l. ListsFlags (prefix ++ b ∷ text) (flags_in l)) (sym (slice_split_at (λ b. b == 44) prefix b text all e))
           (subst (λ a. ListsFlags (prefix ++ a ∷ text) (kept (trimmed prefix) (listed_flags text))) (sym (comma_says b e)) (subst (ListsFlags (prefix ++ 44 ∷ text)) (kept_append (trimmed prefix) (listed_flags text)) here))
-      | inr e ↦ let longer = All-append (λ c. is_comma c ≡ false) prefix (b ∷ []) all (All-cons (λ c. is_comma c ≡ false) b [] e (All-nil (λ c. is_comma c ≡ false))) in
+      | inr e ↦ let longer = All-append (λ c. (c == 44) ≡ false) prefix (b ∷ []) all (All-cons (λ c. (c == 44) ≡ false) b [] e (All-nil (λ c. (c == 44) ≡ false))) in
           subst (λ t. ListsFlags t (listed_flags t)) (append_assoc prefix (b ∷ []) text) (list_flags text (prefix ++ b ∷ []) longer)
     ]
 
@@ -158,13 +158,13 @@ named_is (no_flag {text = text} h) = ap (λ w. kept w []) (sym (is_trimmed text 
 named_is (flag {text = text} {kept = element} some h) = sym (elements_prefix element some []) ∙ ap (λ w. kept w []) (sym (is_trimmed text element h))
 
 are_flags : {text : List ℕ} {flags : List (List ℕ)} → ListsFlags text flags → flags ≡ listed_flags text
-are_flags (last {text = text} lacks here) = named_is here ∙ sym (ap flags_in (slice_split_none is_comma text (no_comma text lacks)))
+are_flags (last {text = text} lacks here) = named_is here ∙ sym (ap flags_in (slice_split_none (λ b. b == 44) text (no_comma text lacks)))
 are_flags (more {text = text} {rest = rest} {here = here} {later = later} lacks named others) =
     ap (λ l. l ++ later) (named_is named) ∙ kept_append (trimmed text) later ∙ ap (kept (trimmed text)) (are_flags others)
-    ∙ sym (ap flags_in (slice_split_at is_comma text 44 rest (no_comma text lacks) refl))
+    ∙ sym (ap flags_in (slice_split_at (λ b. b == 44) text 44 rest (no_comma text lacks) refl))
 
 pub flags_listed : (text : List ℕ) (flags : List (List ℕ)) → (flags ≡ listed_flags text) ↔ ListsFlags text flags
-flags_listed text flags = (λ e. subst (ListsFlags text) (sym e) (list_flags text [] (All-nil (λ c. is_comma c ≡ false))), λ h. are_flags h)
+flags_listed text flags = (λ e. subst (ListsFlags text) (sym e) (list_flags text [] (All-nil (λ c. (c == 44) ≡ false))), λ h. are_flags h)
 
 -- the flags that are kept
 

@@ -1,11 +1,10 @@
 -- It is known of the texts and of the charset of an entry whether they are admitted.
-use Rattle.std.proofs.Common.{◌≢◌, ℕ, List, [], ◌∷◌, Option, Some, None, map, codes, IsUtf8, inl, inr, ◌⊎◌, sym, ◌∙◌, arith}
+use Rattle.std.proofs.Common.{◌≢◌, ℕ, List, [], ◌∷◌, Option, Some, None, map, codes, IsUtf8, inl, inr, ◌⊎◌, sym, ◌∙◌}
 use Rattle.std.specs.Prelude.{All, Contains, IfSome, bytes_eq}
 use Rattle.std.specs.List.{list_any}
 use Rattle.std.specs.Str.{is_utf8}
 use Rattle.std.proofs.lemmas.Bool.{cases_Bool, cases_eq, false≢true}
 use Rattle.std.proofs.lemmas.List.Elements.{All-nil, All-cons, All-head, All-tail}
-use Rattle.std.proofs.lemmas.Slice.Eq.{bytes_eq-Decides}
 use Rattle.std.proofs.lemmas.Str.{IsUtf8-from_is_utf8, is_utf8-from_IsUtf8}
 use Rattle.std.specs.Char.{to_ascii_lowercase}
 use Rattle.po_syntax.specs.declared.fault.PoFault.{PoFault}

@@ -31,13 +31,10 @@ is_not_empty text = not (length text == 0)
 abbrev pub listed_references : List ℕ → List (List ℕ)
 listed_references text = filter is_not_empty (slice_split is_blank text)
 
-abbrev pub is_comma : ℕ → Bool
-is_comma b = b == 44
-
 -- the elements of one flag line, between commas and without blanks at their ends; empty ones are
 -- left out
 abbrev pub listed_flags : List ℕ → List (List ℕ)
-listed_flags text = filter is_not_empty (map trimmed (slice_split is_comma text))
+listed_flags text = filter is_not_empty (map trimmed (slice_split (λ b. b == 44) text))
 
 -- the elements of all reference lines, in order, repeats too
 abbrev pub references_of : List CommentText → List (List ℕ)

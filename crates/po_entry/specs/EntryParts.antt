@@ -1,6 +1,6 @@
--- What the items of an entry say, part by part: its comments, its previous texts, and its own lines
--- (manual, "The Format of PO Files").
-use Rattle.std.specs.Prelude.{ℕ, Bool, List, Option}
+-- What the items of an entry's head say, part by part: its comments and its previous texts (manual,
+-- "The Format of PO Files").
+use Rattle.std.specs.Prelude.{ℕ, List}
 use Rattle.po_syntax.specs.declared.item.CommentKind.{CommentKind}
 use Rattle.po_syntax.specs.declared.item.Keyword.{Keyword}
 use Rattle.po_syntax.specs.declared.item.Keyword.TheVariants.{MsgCtxt, MsgId, MsgIdPlural}
@@ -22,13 +22,3 @@ rank MsgCtxt = 1
 rank MsgId = 2
 rank MsgIdPlural = 3
 rank keyword = 0
-
--- what an entry's own lines say, from its context or msgid to its last form; `id` is its msgid, and
--- `line` the line of the keyword `msgid`
-pub record Body : Type 0 where
-  pub context : Option (List ℕ)
-  pub id : List ℕ
-  pub plural : Option (List ℕ)
-  pub forms : List (List ℕ)
-  pub obsolete : Bool
-  pub line : ℕ

@@ -1,6 +1,6 @@
 -- What spells the entries of a PO text (manual, "The Format of PO Files"): the items of each entry
 -- in turn, and then comments that belong to no entry.
-use Rattle.std.specs.Prelude.{ℕ, ◌+◌, Bool, true, false, List, [], ◌∷◌, ◌++◌, map, Option, Some, None}
+use Rattle.std.specs.Prelude.{ℕ, ◌+◌, Bool, List, [], ◌∷◌, ◌++◌, map, Option, Some, None}
 use Rattle.po_syntax.specs.declared.item.CommentKind.{CommentKind}
 use Rattle.po_syntax.specs.declared.item.CommentKind.TheVariants.{Translator, Extracted}
 use Rattle.po_syntax.specs.declared.item.Keyword.{Keyword}
@@ -9,7 +9,7 @@ use Rattle.po_syntax.specs.declared.item.Marks.{Marks}
 pub use Rattle.po_syntax.specs.Spelling.{own_marks, previous_marks}
 use Rattle.po_syntax.specs.TextItem.{TextItem, Comment, Word, Str}
 use Rattle.po_entry.specs.TextEntry.{TextEntry}
-use Rattle.po_entry.specs.EntryParts.{CommentText, PreviousText, Body}
+use Rattle.po_entry.specs.EntryParts.{CommentText, PreviousText}
 use Rattle.po_entry.specs.Comments.{texts_of, references_of, fuzzy_of, flags_of, previous_of}
 
 -- one string or more, all under these marks: their bytes, joined
@@ -51,66 +51,51 @@ pub data SpellsContext (obsolete : Bool) : List TextItem → Option (List ℕ) �
   context : {line : ℕ} {items : List TextItem} {text : List ℕ}
       → SpellsKeywordText MsgCtxt (own_marks obsolete) line items text → SpellsContext obsolete items (Some text)
 
--- `msgstr` with each plural form from this index on, one at least
+-- `msgstr` with each plural form from this index on
 pub data SpellsForms (obsolete : Bool) : ℕ → List TextItem → List (List ℕ) → Type 0 where
-  last_form : {index line : ℕ} {items : List TextItem} {form : List ℕ}
-      → SpellsKeywordText (MsgStrAt index) (own_marks obsolete) line items form
-      → SpellsForms obsolete index items (form ∷ [])
+  no_form : {index : ℕ} → SpellsForms obsolete index [] []
   more_forms : {index line : ℕ} {own items : List TextItem} {form : List ℕ} {forms : List (List ℕ)}
       → SpellsKeywordText (MsgStrAt index) (own_marks obsolete) line own form
-      → SpellsForms obsolete (index + 1) items forms
-      → SpellsForms obsolete index (own ++ items) (form ∷ forms)
+      → SpellsForms obsolete (index + 1) items forms → SpellsForms obsolete index (own ++ items) (form ∷ forms)
 
--- `msgstr` with the one form; or `msgid_plural` with the plural, and then the plural forms
+-- `msgstr` with the one form; or `msgid_plural` with the plural, and then the plural forms, one at
+-- least
 pub data SpellsTranslation (obsolete : Bool) : List TextItem → Option (List ℕ) → List (List ℕ) → Type 0 where
   single : {line : ℕ} {items : List TextItem} {form : List ℕ}
       → SpellsKeywordText MsgStr (own_marks obsolete) line items form
       → SpellsTranslation obsolete items None (form ∷ [])
-  plural : {line : ℕ} {own items : List TextItem} {text : List ℕ} {forms : List (List ℕ)}
-      → SpellsKeywordText MsgIdPlural (own_marks obsolete) line own text → SpellsForms obsolete 0 items forms
-      → SpellsTranslation obsolete (own ++ items) (Some text) forms
+  plural : {line : ℕ} {own items : List TextItem} {text form : List ℕ} {forms : List (List ℕ)}
+      → SpellsKeywordText MsgIdPlural (own_marks obsolete) line own text → SpellsForms obsolete 0 items (form ∷ forms)
+      → SpellsTranslation obsolete (own ++ items) (Some text) (form ∷ forms)
 
 -- An entry's own lines: its context, if any, its msgid with its line, its plural, if any, and its
 -- forms. All are obsolete or none is, and no comment stands among them.
-pub data SpellsBody : List TextItem → Body → Type 0 where
-  own_lines : {obsolete : Bool} {line : ℕ} {first own last : List TextItem} {context : Option (List ℕ)} {id : List ℕ}
-      {plural : Option (List ℕ)} {forms : List (List ℕ)} → SpellsContext obsolete first context
-      → SpellsKeywordText MsgId (own_marks obsolete) line own id → SpellsTranslation obsolete last plural forms
-      → SpellsBody (first ++ own ++ last)
-      (record { context = context; id = id; plural = plural; forms = forms; obsolete = obsolete; line = line })
+pub data SpellsBody : List TextItem → TextEntry → Type 0 where
+  own_lines : {entry : TextEntry} {first own last : List TextItem} → SpellsContext entry.obsolete first entry.context
+      → SpellsKeywordText MsgId (own_marks entry.obsolete) entry.line own entry.id
+      → SpellsTranslation entry.obsolete last entry.plural entry.forms → SpellsBody (first ++ own ++ last) entry
 
--- the entry with this head and this body
-abbrev pub entry_from : List CommentText → List PreviousText → Body → TextEntry
-entry_from comment_texts previous body = record {
+-- the entry with this head in place of its own
+abbrev pub with_head : List CommentText → List PreviousText → TextEntry → TextEntry
+with_head comment_texts previous entry = record entry {
   comments = texts_of Translator comment_texts;
   extracted = texts_of Extracted comment_texts;
   references = references_of comment_texts;
   fuzzy = fuzzy_of comment_texts;
   flags = flags_of comment_texts;
   previous = previous_of previous;
-  context = body.context;
-  id = body.id;
-  plural = body.plural;
-  forms = body.forms;
-  obsolete = body.obsolete;
-  line = body.line;
 }
 
 -- an entry: its head, and then its own lines, whose marks alone say whether it is obsolete
 pub data SpellsEntry : List TextItem → TextEntry → Type 0 where
-  entry : {head own : List TextItem} {comment_texts : List CommentText} {previous : List PreviousText} {body : Body}
+  entry : {head own : List TextItem} {comment_texts : List CommentText} {previous : List PreviousText} {body : TextEntry}
       → SpellsHead head comment_texts previous → AreInOrder previous → SpellsBody own body
-      → SpellsEntry (head ++ own) (entry_from comment_texts previous body)
-
--- comments of any kind, and no other items
-abbrev pub AreComments : List TextItem → Type 0
-AreComments [] = Unit {0}
-AreComments (Comment kind text line ∷ items) = AreComments items
-AreComments (item ∷ items) = ⊥
+      → SpellsEntry (head ++ own) (with_head comment_texts previous body)
 
 -- the items of each entry in turn, and then comments that belong to no entry, which are dropped;
 -- comments between two entries are in the head of the second
 pub data SpellsEntries : List TextItem → List TextEntry → Type 0 where
-  comments : {items : List TextItem} → AreComments items → SpellsEntries items []
+  comments : {items : List TextItem} {comment_texts : List CommentText} → SpellsHead items comment_texts []
+      → SpellsEntries items []
   entries : {own items : List TextItem} {first : TextEntry} {others : List TextEntry} → SpellsEntry own first
       → SpellsEntries items others → SpellsEntries (own ++ items) (first ∷ others)

@@ -77,5 +77,5 @@ previous_texts previous =
 -- the texts that an entry's quoted strings spell: those of all its keywords, and of no comment
 abbrev pub quoted_texts : TextEntry → List (List ℕ)
 quoted_texts entry =
-    previous_texts entry.previous ++ option_to_list entry.context ++ (entry.id ∷ []) ++ option_to_list entry.plural
-    ++ entry.forms
+    option_to_list entry.previous.context ++ option_to_list entry.previous.id ++ option_to_list entry.previous.plural
+    ++ option_to_list entry.context ++ (entry.id ∷ []) ++ option_to_list entry.plural ++ entry.forms

@@ -2,7 +2,7 @@
 use Rattle.std.proofs.Common.{◌≡◌, List, [], ◌∷◌, ◌++◌, sym, ap, ◌∙◌, ℕ, Bool, true, false, cond, filter, map, refl, subst}
 use Rattle.std.proofs.lemmas.List.Sums.{fold_push}
 use Rattle.po_entry.specs.TextEntry.{no_previous, TextPrevious, TextEntry}
-use Rattle.po_entry.specs.EntryParts.{CommentText, PreviousText, Body}
+use Rattle.po_entry.specs.EntryParts.{CommentText, PreviousText}
 use Rattle.po_entry.specs.Comments.{with_previous, same_kind, texts_of, listed_references, listed_flags, is_fuzzy_flag, with_flag, previous_of}
 use Rattle.po_reader.specs.declared.head.Head.{Head}
 use Rattle.po_reader.specs.Internal.HeadView.{HoldsHead}
@@ -11,7 +11,7 @@ use Rattle.std.specs.List.{list_any}
 use Rattle.std.proofs.lemmas.List.Elements.{All-nil, All-cons, All-head, All-tail}
 use Rattle.po_syntax.specs.declared.item.CommentKind.{CommentKind}
 use Rattle.po_syntax.specs.declared.item.CommentKind.TheVariants.{Translator, Extracted, Reference, Flags}
-use Rattle.po_entry.specs.Spelling.{entry_from}
+use Rattle.po_entry.specs.Spelling.{with_head}
 use Rattle.po_reader.specs.KeptComments.{kept_comments, kept_entry}
 
 pub holds_nothing : (head : Head) → head.comments.items ≡ [] → head.extracted.items ≡ [] → head.references.items ≡ [] → head.flags.items ≡ [] → head.previous ≡ no_previous → HoldsHead head [] []
@@ -56,24 +56,18 @@ flags_kept (comment_text ∷ comment_texts) = found (same_kind Flags comment_tex
       ap (λ b. map (λ (n : CommentText). n.text) (cond b (comment_text ∷ filter is_flags (filter is_flags comment_texts)) (filter is_flags (filter is_flags comment_texts)))) t ∙ ap (λ ts. comment_text.text ∷ ts) more
   found false t more = more
 
-abbrev entry_with : List PreviousText → Body → (comments extracted references flags : List (List ℕ)) → TextEntry
-entry_with previous body comments extracted references flags = record {
+abbrev entry_with : List PreviousText → TextEntry → (comments extracted references flags : List (List ℕ)) → TextEntry
+entry_with previous body comments extracted references flags = record body {
   comments = comments;
   extracted = extracted;
   references = flat_map listed_references references;
   fuzzy = list_any is_fuzzy_flag (flat_map listed_flags flags);
   flags = fold with_flag [] (flat_map listed_flags flags);
   previous = previous_of previous;
-  context = body.context;
-  id = body.id;
-  plural = body.plural;
-  forms = body.forms;
-  obsolete = body.obsolete;
-  line = body.line;
 }
 
 -- the entry that is made of the comments that are kept
-pub kept_from : (all : Bool) (comment_texts : List CommentText) (previous : List PreviousText) (body : Body) → entry_from (kept_comments all comment_texts) previous body ≡ kept_entry all (entry_from comment_texts previous body)
+pub kept_from : (all : Bool) (comment_texts : List CommentText) (previous : List PreviousText) (body : TextEntry) → with_head (kept_comments all comment_texts) previous body ≡ kept_entry all (with_head comment_texts previous body)
 kept_from true comment_texts previous body = refl
 kept_from false comment_texts previous body =
     let kept : List CommentText = filter is_flags comment_texts in

@@ -34,7 +34,7 @@ last_after (first ∷ []) item rest = refl
 last_after (first ∷ second ∷ front) item rest = last_after (second ∷ front) item rest
 
 fault_after : (front rest : List TextItem) {entries : List TextEntry} {line : ℕ} {fault : PoFault} → SpellsEntries front entries → EndsInString front → IsApart rest → ItemsFault rest fault line → ItemsFault (front ++ rest) fault line
-fault_after front [] read ends apart wrong = absurd (fault_unread wrong (spelling.comments tt))
+fault_after front [] read ends apart wrong = absurd (fault_unread wrong (spelling.comments spelling.nothing))
 fault_after front (item ∷ rest) {entries} {line} {fault} read ends apart wrong =
     items_fault [] (front ++ item ∷ rest) fault line
     (ap (λ end. comes_to end (start []) (front ++ item ∷ rest)) (last_after front item rest) ∙ spelt_go_on read (last_line (item ∷ rest)) [] (item ∷ rest) ends apart
@@ -70,10 +70,10 @@ reads_joined {entries = entries} {others = others} read ends more = record {
 
 -- no items read as no entries
 pub reads_nothing : ReadsItems [] []
-reads_nothing = record { reads = spelling.comments tt; texts = All-nil HasTexts; charsets = All-nil HasAdmittedCharset }
+reads_nothing = record { reads = spelling.comments spelling.nothing; texts = All-nil HasTexts; charsets = All-nil HasAdmittedCharset }
 
 pub no_entries : {rest : List TextItem} {entries : List TextEntry} → SpellsEntries rest entries → rest ≡ [] → entries ≡ []
-no_entries read none = spelt_once none read (spelling.comments tt)
+no_entries read none = spelt_once none read (spelling.comments spelling.nothing)
 
 -- no items have no fault
 pub nothing_stops : {fault : PoFault} {line : ℕ} (rest : List TextItem) → rest ≡ [] → ItemsStop rest fault line → ⊥

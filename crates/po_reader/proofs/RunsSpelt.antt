@@ -1,5 +1,5 @@
 -- What the reader comes to is what items spell: what is left at each place completes the entry that was begun.
-use Rattle.std.proofs.Common.{◌≡◌, ℕ, ◌+◌, ◌<◌, Bool, true, false, ◌==◌, nat_lt, List, [], ◌∷◌, ◌++◌, Option, append_assoc, append-nil, refl, sym, ap, subst, ◌∙◌, inl, inr, ◌⊎◌, arith}
+use Rattle.std.proofs.Common.{◌≡◌, ℕ, ◌+◌, ◌<◌, Bool, true, false, ◌==◌, nat_lt, List, [], ◌∷◌, ◌++◌, Option, append_assoc, append-nil, refl, sym, ap, subst, subst₂, ◌∙◌, inl, inr, ◌⊎◌, arith}
 use Rattle.std.specs.Prelude.{if◌then◌else◌}
 use Rattle.std.specs.Bool.{beq}
 use Rattle.std.specs.Cmp.{booleans_Decides}
@@ -10,9 +10,9 @@ use Rattle.po_syntax.specs.declared.item.Keyword.TheVariants.{MsgCtxt, MsgId, Ms
 use Rattle.po_syntax.specs.declared.item.Marks.{Marks}
 use Rattle.po_syntax.specs.TextItem.{TextItem, Comment, Word, Str}
 use Rattle.po_entry.specs.TextEntry.{TextEntry}
-use Rattle.po_entry.specs.EntryParts.{CommentText, PreviousText, Body, rank}
+use Rattle.po_entry.specs.EntryParts.{CommentText, PreviousText, rank}
 use Rattle.po_entry.specs.Spelling as spell
-use Rattle.po_entry.specs.Spelling.{own_marks, previous_marks, entry_from}
+use Rattle.po_entry.specs.Spelling.{own_marks, previous_marks, with_head}
 use Rattle.po_reader.specs.Internal.Stage.{SoFar, Wanted, Id, Translation, Form, Gap, InHead, Before, AfterForm, Stage, Between, In, Stop, Entries, Fault, no_lines, only, with_own, with_text, with_entry}
 use Rattle.po_reader.specs.Internal.Turn.{turn, turn_head, turn_own, turn_gap, opened, closed, with_keyword, comes_to, same_marks, is_form, is_wanted, is_wrong_form, stray_string}
 use Rattle.po_reader.proofs.Turns.{never}
@@ -20,7 +20,7 @@ use Rattle.po_reader.proofs.Turns.{same_marks_true}
 use Rattle.po_reader.proofs.PreviousOrder.{Rise, keywords, rise_order}
 
 -- these own items, where that is wanted, make this body of what was read of it
-abbrev Completes : Wanted → Body → List TextItem → Body → Type 0
+abbrev Completes : Wanted → TextEntry → List TextItem → TextEntry → Type 0
 Completes Id before items body =
     (line : ℕ) × (own : List TextItem) × (id : List ℕ) × (last : List TextItem) × (plural : Option (List ℕ)) × (forms : List (List ℕ))
     × (items ≡ own ++ last) × spell.SpellsKeywordText MsgId (own_marks before.obsolete) line own id × spell.SpellsTranslation before.obsolete last plural forms
@@ -28,25 +28,25 @@ Completes Id before items body =
 Completes Translation before items body =
     (plural : Option (List ℕ)) × (forms : List (List ℕ)) × spell.SpellsTranslation before.obsolete items plural forms × (body ≡ record before { plural = plural; forms = forms })
 Completes (Form index) before items body =
-    (forms : List (List ℕ)) × spell.SpellsForms before.obsolete index items forms × (body ≡ record before { forms = before.forms ++ forms })
+    (form : List ℕ) × (forms : List (List ℕ)) × spell.SpellsForms before.obsolete index items (form ∷ forms) × (body ≡ record before { forms = before.forms ++ form ∷ forms })
 
 -- what is left completes the entry, and then come others
 record OwnLeft (read : SoFar) (wanted : Wanted) (items : List TextItem) (entries : List TextEntry) : Type 0 where
   own : List TextItem
   rest : List TextItem
-  body : Body
+  body : TextEntry
   more : List TextEntry
   split : items ≡ own ++ rest
   completes : Completes wanted read.own own body
   after : spell.SpellsEntries rest more
-  all : entries ≡ read.entries ++ entry_from read.comment_texts read.previous body ∷ more
+  all : entries ≡ read.entries ++ with_head read.comment_texts read.previous body ∷ more
 
 -- only comments are left; or the rest of a head, own lines, and other entries
 data HeadLeft (read : SoFar) (above : ℕ) : List TextItem → List TextEntry → Type 0 where
-  over : {items : List TextItem} {entries : List TextEntry} → spell.AreComments items → above ≡ 0 → entries ≡ read.entries → HeadLeft read above items entries
-  entry : {items head own rest : List TextItem} {comment_texts : List CommentText} {previous : List PreviousText} {body : Body} {more entries : List TextEntry}
+  over : {items : List TextItem} {comment_texts : List CommentText} {entries : List TextEntry} → spell.SpellsHead items comment_texts [] → above ≡ 0 → entries ≡ read.entries → HeadLeft read above items entries
+  entry : {items head own rest : List TextItem} {comment_texts : List CommentText} {previous : List PreviousText} {body : TextEntry} {more entries : List TextEntry}
       → spell.SpellsHead head comment_texts previous → Rise above (keywords previous) → spell.SpellsBody own body → spell.SpellsEntries rest more → items ≡ head ++ (own ++ rest)
-      → entries ≡ read.entries ++ entry_from (read.comment_texts ++ comment_texts) (read.previous ++ previous) body ∷ more → HeadLeft read above items entries
+      → entries ≡ read.entries ++ with_head (read.comment_texts ++ comment_texts) (read.previous ++ previous) body ∷ more → HeadLeft read above items entries
 
 abbrev GapLeft : Gap → List TextItem → List TextEntry → Type 0
 GapLeft (InHead read above) items entries = HeadLeft read above items entries
@@ -77,8 +77,8 @@ joined items own rest last after e f = e ∙ ap (λ (x : List TextItem). own ++ 
 others_left : (entries all : List TextEntry) (items : List TextItem) → HeadLeft (only entries) 0 items all → (more : List TextEntry) × spell.SpellsEntries items more × (all ≡ entries ++ more)
 others_left entries all items (over comments zero same) = ([], spell.comments comments, same ∙ sym (append-nil entries))
 others_left entries all items (entry {head = head} {own = own} {rest = rest} {comment_texts = comment_texts} {previous = previous} {body = body} {more = more} h rise b after split same) = (
-  entry_from comment_texts previous body ∷ more,
-  subst (λ (x : List TextItem). spell.SpellsEntries x (entry_from comment_texts previous body ∷ more)) (sym (split ∙ sym (append_assoc head own rest))) (spell.entries (spell.entry h (rise_order previous rise) b) after),
+  with_head comment_texts previous body ∷ more,
+  subst (λ (x : List TextItem). spell.SpellsEntries x (with_head comment_texts previous body ∷ more)) (sym (split ∙ sym (append_assoc head own rest))) (spell.entries (spell.entry h (rise_order previous rise) b) after),
   same,
 )
 
@@ -97,7 +97,7 @@ more_left read later wanted next items own rest entries split left completes = r
 }
 
 -- own lines that end with a form's text
-last_left : (read : SoFar) (wanted : Wanted) (items own rest : List TextItem) (body : Body) (entries : List TextEntry) → items ≡ own ++ rest → HeadLeft (with_entry (with_own read body)) 0 rest entries → Completes wanted read.own own body
+last_left : (read : SoFar) (wanted : Wanted) (items own rest : List TextItem) (body : TextEntry) (entries : List TextEntry) → items ≡ own ++ rest → HeadLeft (with_entry (with_own read body)) 0 rest entries → Completes wanted read.own own body
     → OwnLeft read wanted items entries
 last_left read wanted items own rest body entries split left completes =
     let others = others_left _ entries rest left in
@@ -125,20 +125,21 @@ after_keyword read Translation MsgStr line items entries w left =
 after_keyword read Translation MsgIdPlural line items entries w left =
     let text = text_left read MsgIdPlural (own_marks read.own.obsolete) line items entries left in
     let own = text.5 in
-    more_left read _ Translation (Form 0) _ text.0 text.1 entries text.3 own (_, _, spell.plural text.4 own.completes.1, own.completes.2)
+    more_left read _ Translation (Form 0) _ text.0 text.1 entries text.3 own (_, _, spell.plural text.4 own.completes.2, own.completes.3)
 after_keyword read (Form index) (MsgStrAt found) line items entries w left =
     let text = text_left read (MsgStrAt found) (own_marks read.own.obsolete) line items entries left in
     let same : found ≡ index = eqb-true found index w in
     elim text.5 [
       | inl own ↦
           more_left read _ (Form index) (Form (found + 1)) _ text.0 text.1 entries text.3 own (
-            text.2 ∷ own.completes.0,
-            subst (λ i. spell.SpellsForms read.own.obsolete i (text.0 ++ own.own) (text.2 ∷ own.completes.0)) same (spell.more_forms text.4 own.completes.1),
-            own.completes.2 ∙ ap (λ forms. record (read.own) { forms = forms }) (append_assoc read.own.forms (text.2 ∷ []) own.completes.0),
+            text.2,
+            own.completes.0 ∷ own.completes.1,
+            subst (λ i. spell.SpellsForms read.own.obsolete i (text.0 ++ own.own) (text.2 ∷ own.completes.0 ∷ own.completes.1)) same (spell.more_forms text.4 own.completes.2),
+            own.completes.3 ∙ ap (λ forms. record (read.own) { forms = forms }) (append_assoc read.own.forms (text.2 ∷ []) (own.completes.0 ∷ own.completes.1)),
           )
       | inr head ↦
           last_left read (Form index) _ text.0 text.1 (with_text (MsgStrAt found) text.2 read.own) entries text.3 head
-          (text.2 ∷ [], subst (λ i. spell.SpellsForms read.own.obsolete i text.0 (text.2 ∷ [])) same (spell.last_form text.4), refl)
+          (text.2, [], subst₂ (λ i (own : List TextItem). spell.SpellsForms read.own.obsolete i own (text.2 ∷ [])) same (append-nil text.0) (spell.more_forms text.4 spell.no_form), refl)
     ]
 after_keyword read wanted keyword line items entries w left = absurd cc
 
@@ -148,7 +149,7 @@ Goes end items = (stage : Stage) (entries : List TextEntry) → comes_to end sta
 
 comment_left : (read : SoFar) (above : ℕ) (text : CommentText) (line : ℕ) (items : List TextItem) (entries : List TextEntry) → HeadLeft (record read { comment_texts = read.comment_texts ++ text ∷ [] }) above items entries
     → HeadLeft read above (Comment text.kind text.text line ∷ items) entries
-comment_left read above text line items entries (over comments zero same) = over comments zero same
+comment_left read above text line items entries (over comments zero same) = over (spell.head_comment comments) zero same
 comment_left read above text line items entries (entry {comment_texts = comment_texts} h rise b after split same) =
     entry (spell.head_comment h) rise b after (ap (λ (x : List TextItem). Comment text.kind text.text line ∷ x) split) (rw (append_assoc read.comment_texts (text ∷ []) comment_texts) at same)
 
@@ -159,8 +160,8 @@ previous_left read above keyword obsolete line items own rest text entries lt sp
     entry (spell.previous_text w h) (lt, rise) b more (joined items own rest head (body ++ after) split again) (rw (append_assoc read.previous (record { keyword = keyword; text = text } ∷ []) previous) at same)
 
 -- own lines that begin here are an entry, with the head that was read
-body_left : (read : SoFar) (above : ℕ) (items own rest : List TextItem) (body : Body) (more entries : List TextEntry) → items ≡ own ++ rest → spell.SpellsBody own body → spell.SpellsEntries rest more
-    → entries ≡ read.entries ++ entry_from read.comment_texts read.previous body ∷ more → HeadLeft read above items entries
+body_left : (read : SoFar) (above : ℕ) (items own rest : List TextItem) (body : TextEntry) (more entries : List TextEntry) → items ≡ own ++ rest → spell.SpellsBody own body → spell.SpellsEntries rest more
+    → entries ≡ read.entries ++ with_head read.comment_texts read.previous body ∷ more → HeadLeft read above items entries
 body_left read above items own rest body more entries split b after same =
     entry {comment_texts = []} {previous = []} spell.nothing tt b after split (rw (append-nil read.comment_texts, append-nil read.previous) same)
 
@@ -230,10 +231,10 @@ gap_left end item items goes (AfterForm read index) entries e = chosen (is_form 
 gap_over : (end : ℕ) (gap : Gap) (entries : List TextEntry) → comes_to end (Between gap) [] ≡ Entries entries → GapLeft gap [] entries
 gap_over end (InHead read above) entries e = chosen (above == 0) refl e where
   chosen : (b : Bool) → (above == 0) ≡ b → (if b then Entries read.entries else Fault BadOrder end) ≡ Entries entries → HeadLeft read above [] entries
-  chosen true zero e = over tt (eqb-true above 0 zero) cc
+  chosen true zero e = over spell.nothing (eqb-true above 0 zero) cc
   chosen false zero e = absurd cc
 gap_over end (Before read wanted) entries e = absurd cc
-gap_over end (AfterForm read index) entries e = inr (over tt refl cc)
+gap_over end (AfterForm read index) entries e = inr (over spell.nothing refl cc)
 
 -- a text to which nothing is added
 text_over : (read : SoFar) (keyword : Keyword) (marks : Marks) (text : List ℕ) (items : List TextItem) (entries : List TextEntry) → GapLeft (closed read keyword marks text) items entries → Left (In read keyword marks true text) items entries

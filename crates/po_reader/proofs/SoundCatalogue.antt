@@ -1,10 +1,10 @@
 -- The entries that the items of a text spell are entries, if they can have their texts; kept with their comments or without.
-use Rattle.std.proofs.Common.{◌≡◌, ℕ, ◌<◌, Bool, List, None, length, refl, arith, [], ◌++◌, get_or, map, true, false, ◌∷◌, subst}
+use Rattle.std.proofs.Common.{◌≡◌, ℕ, ◌<◌, Bool, List, Option, None, length, refl, arith, [], ◌++◌, get_or, map, true, false, ◌∷◌, subst}
 use Rattle.std.specs.Prelude.{All}
 use Rattle.std.proofs.lemmas.List.Elements.{All-nil, All-cons, All-head, All-tail, All-weaker, All-map}
 use Rattle.po_syntax.specs.ItemContents.{IsCommentOf, HoldsText, IsComment}
 use Rattle.po_syntax.specs.TextItem.{TextItem, Comment}
-use Rattle.po_entry.specs.EntryParts.{CommentText, PreviousText, Body}
+use Rattle.po_entry.specs.EntryParts.{CommentText, PreviousText}
 use Rattle.po_entry.specs.Facts.AllAppend.{All-right, All-left}
 use Rattle.po_syntax.specs.declared.item.CommentKind.TheVariants.{Translator, Extracted, Reference, Flags}
 use Rattle.po_entry.specs.declared.fields.Fields.{Fields}
@@ -13,7 +13,7 @@ use Rattle.po_entry.specs.TextEntry.{TextEntry}
 use Rattle.po_entry.specs.Bytes.{AreDistinct}
 use Rattle.po_entry.specs.Comments.{texts_of, references_of, all_listed_flags, flags_of}
 use Rattle.po_entry.specs.Validity.{HasTexts, IsEntry, IsTranslatorComment, IsReference, IsFlag, EntryTextFault}
-use Rattle.po_entry.specs.Spelling.{entry_from, SpellsEntries}
+use Rattle.po_entry.specs.Spelling.{with_head, SpellsEntries}
 use Rattle.po_reader.proofs.Heads.{all_unmapped, all_kept}
 use Rattle.po_reader.proofs.SoundFields.{SoundCommentText, SoundFlagElement, SoundFlags, kind_sound, references_sound, all_flag_elements_sound, flags_sound}
 use Rattle.po_syntax.specs.declared.fault.PoFault.{PoFault}
@@ -30,17 +30,9 @@ head_sound (spell.head_comment {kind = kind} {text = text} {line = line} {items 
 head_sound (spell.previous_text {own = own} {items = items} w more) h = head_sound more (All-right HoldsText own items h)
 
 -- some form, and one alone where there is no plural
-pub record SoundBody (own : Body) : Type 0 where
-  pub some_form : 0 < length own.forms
-  pub one_form : own.plural ≡ None → length own.forms ≡ 1
-
-forms_sound : {obsolete : Bool} {index : ℕ} {own : List TextItem} {forms : List (List ℕ)} → spell.SpellsForms obsolete index own forms → 0 < length forms
-forms_sound (spell.last_form w) = omega arith
-forms_sound (spell.more_forms w f) = omega arith
-
-pub body_sound : {items : List TextItem} {own : Body} → spell.SpellsBody items own → SoundBody own
-body_sound (spell.own_lines c w (spell.single v)) = record { some_form = omega arith; one_form = λ none. refl }
-body_sound (spell.own_lines c w (spell.plural v f)) = record { some_form = forms_sound f; one_form = λ none. absurd cc }
+translation_sound : {obsolete : Bool} {items : List TextItem} {plural : Option (List ℕ)} {forms : List (List ℕ)} → spell.SpellsTranslation obsolete items plural forms → (0 < length forms) × (plural ≡ None → length forms ≡ 1)
+translation_sound (spell.single w) = (omega arith, λ none. refl)
+translation_sound (spell.plural w f) = (omega arith, λ none. absurd cc)
 
 -- an entry that sound items spell, but for what its texts must be
 pub record SoundEntry (spelt : TextEntry) : Type 0 where
@@ -52,8 +44,8 @@ pub record SoundEntry (spelt : TextEntry) : Type 0 where
   pub some_form : 0 < length spelt.forms
   pub one_form : spelt.plural ≡ None → length spelt.forms ≡ 1
 
-entry_sound : (comment_texts : List CommentText) (previous : List PreviousText) (own : Body) → All SoundCommentText comment_texts → SoundBody own → SoundEntry (entry_from comment_texts previous own)
-entry_sound comment_texts previous own n b =
+entry_sound : (comment_texts : List CommentText) (previous : List PreviousText) {items : List TextItem} (own : TextEntry) → All SoundCommentText comment_texts → spell.SpellsBody items own → SoundEntry (with_head comment_texts previous own)
+entry_sound comment_texts previous own n (spell.own_lines c w t) =
     let translator : All (IsCommentOf Translator) (texts_of Translator comment_texts) = kind_sound Translator comment_texts n in
     let extracted : All (IsCommentOf Extracted) (texts_of Extracted comment_texts) = kind_sound Extracted comment_texts n in
     let references : All IsReference (references_of comment_texts) = references_sound (texts_of Reference comment_texts) (kind_sound Reference comment_texts n) in
@@ -65,8 +57,8 @@ entry_sound comment_texts previous own n b =
       references = references;
       flags = flags.all;
       distinct_flags = flags.distinct;
-      some_form = b.some_form;
-      one_form = b.one_form;
+      some_form = (translation_sound t).0;
+      one_form = (translation_sound t).1;
     }
 
 -- every entry that sound items spell
@@ -74,7 +66,7 @@ pub entries_sound : {items : List TextItem} {entries : List TextEntry} → Spell
 entries_sound (spell.comments only) h = All-nil SoundEntry
 entries_sound (spell.entries {items = rest} {others = others} (spell.entry {head = head} {own = own} {comment_texts = comment_texts} {previous = previous} {body = body} above order lines) more) h =
     let first = All-left HoldsText head own (All-left HoldsText (head ++ own) rest h) in
-    All-cons SoundEntry (entry_from comment_texts previous body) others (entry_sound comment_texts previous body (head_sound above first) (body_sound lines))
+    All-cons SoundEntry (with_head comment_texts previous body) others (entry_sound comment_texts previous body (head_sound above first) lines)
     (entries_sound more (All-right HoldsText (head ++ own) rest h))
 
 -- with texts that it can have, it is an entry

@@ -1,16 +1,16 @@
 -- What items spell is what the reader comes to.
-use Rattle.std.proofs.Common.{◌≡◌, ℕ, ◌+◌, Bool, true, false, List, [], ◌∷◌, ◌++◌, Option, Some, append_assoc, append-nil, refl, sym, ap, ◌∙◌}
+use Rattle.std.proofs.Common.{◌≡◌, ℕ, Bool, true, false, List, [], ◌∷◌, ◌++◌, Option, Some, None, append_assoc, append-nil, refl, sym, ap, ◌∙◌}
 use Rattle.std.proofs.lemmas.Bool.{lt-ltb, eq-eqb}
 use Rattle.std.specs.Cmp.{bool_eq_equiv}
 use Rattle.po_syntax.specs.declared.item.Keyword.{Keyword}
-use Rattle.po_syntax.specs.declared.item.Keyword.TheVariants.{MsgIdPlural, MsgStrAt}
+use Rattle.po_syntax.specs.declared.item.Keyword.TheVariants.{MsgId, MsgIdPlural, MsgStrAt}
 use Rattle.po_syntax.specs.declared.item.Marks.{Marks}
-use Rattle.po_syntax.specs.TextItem.{TextItem, Comment, Word, Str}
-use Rattle.po_entry.specs.TextEntry.{TextEntry}
-use Rattle.po_entry.specs.EntryParts.{CommentText, PreviousText, Body, rank}
+use Rattle.po_syntax.specs.TextItem.{TextItem, Word, Str}
+use Rattle.po_entry.specs.TextEntry.{TextEntry, plain_entry}
+use Rattle.po_entry.specs.EntryParts.{CommentText, PreviousText, rank}
 use Rattle.po_entry.specs.Spelling as spell
-use Rattle.po_entry.specs.Spelling.{own_marks, entry_from}
-use Rattle.po_reader.specs.Internal.Stage.{SoFar, Id, Translation, Form, InHead, Before, Stage, Between, In, Entries, no_lines, only, with_own, with_text, with_entry}
+use Rattle.po_entry.specs.Spelling.{own_marks}
+use Rattle.po_reader.specs.Internal.Stage.{SoFar, Id, Translation, Form, InHead, Before, AfterForm, Stage, Between, In, Entries, no_lines, only, with_own, with_text, with_entry}
 use Rattle.po_reader.specs.Internal.Turn.{turn, closed, comes_to, begins_string, begins_form}
 use Rattle.po_reader.specs.Internal.Reads.{start}
 use Rattle.po_syntax.specs.Piece.{EndsInString}
@@ -45,21 +45,23 @@ keyword_begins (spell.keyword_text s) rest = refl
 form_begins : {index line : ℕ} {obsolete : Bool} {own : List TextItem} {form : List ℕ} → spell.SpellsKeywordText (MsgStrAt index) (own_marks obsolete) line own form → (rest : List TextItem) → begins_form (own ++ rest) ≡ true
 form_begins (spell.keyword_text s) rest = refl
 
-forms_begin : {obsolete : Bool} {index : ℕ} {own : List TextItem} {forms : List (List ℕ)} → spell.SpellsForms obsolete index own forms → (rest : List TextItem) → (begins_string (own ++ rest) ≡ false) × (begins_form (own ++ rest) ≡ true)
-forms_begin (spell.last_form w) rest = (keyword_begins w rest, form_begins w rest)
-forms_begin (spell.more_forms {own = own} {items = items} w f) rest = rw (append_assoc own items rest) (keyword_begins w (items ++ rest), form_begins w (items ++ rest))
+forms_begin : {obsolete : Bool} {index : ℕ} {own : List TextItem} {form : List ℕ} {forms : List (List ℕ)} → spell.SpellsForms obsolete index own (form ∷ forms) → (rest : List TextItem) → begins_form (own ++ rest) ≡ true
+forms_begin (spell.more_forms {own = own} {items = items} w f) rest = rw (append_assoc own items rest) (form_begins w (items ++ rest))
 
+forms_apart : {obsolete : Bool} {index : ℕ} {own : List TextItem} {forms : List (List ℕ)} → spell.SpellsForms obsolete index own forms → (rest : List TextItem) → begins_string rest ≡ false → begins_string (own ++ rest) ≡ false
+forms_apart spell.no_form rest apart = apart
+forms_apart (spell.more_forms {own = own} {items = items} w f) rest apart = rw (append_assoc own items rest) (keyword_begins w (items ++ rest))
+
+-- further forms, after one or after a plural
 forms_run : {obsolete : Bool} {index : ℕ} {own : List TextItem} {forms : List (List ℕ)} → spell.SpellsForms obsolete index own forms → (end : ℕ) (read : SoFar) (rest : List TextItem) → read.own.obsolete ≡ obsolete → IsApart rest
-    → comes_to end (Between (Before read (Form index))) (own ++ rest) ≡ comes_to end (Between (InHead (with_entry (with_own read (record read.own { forms = read.own.forms ++ forms }))) 0)) rest
-forms_run {obsolete} {index} (spell.last_form {form = form} w) end read rest same apart =
-    keyword_run w end (Between (Before read (Form index))) read rest (rw (same, bool_eq_equiv.refl obsolete, eq-eqb index index refl) refl) apart.0
-    ∙ forms_end end (with_own read (with_text (MsgStrAt index) form read.own)) (index + 1) rest apart.1
+    → comes_to end (Between (AfterForm read index)) (own ++ rest) ≡ comes_to end (Between (InHead (with_entry (with_own read (record read.own { forms = read.own.forms ++ forms }))) 0)) rest
+forms_run {index = index} spell.no_form end read rest same apart = rw (append-nil read.own.forms) (forms_end end read index rest apart.1)
 forms_run {obsolete} {index} (spell.more_forms {own = own} {items = items} {form = form} {forms = forms} w f) end read rest same apart =
-    let begins = forms_begin f rest in
     let next : SoFar = with_own read (with_text (MsgStrAt index) form read.own) in
     rw (append_assoc own items rest, sym (append_assoc read.own.forms (form ∷ []) forms))
-    (keyword_run w end (Between (Before read (Form index))) read (items ++ rest) (rw (same, bool_eq_equiv.refl obsolete, eq-eqb index index refl) refl) begins.0
-    ∙ form_follows end next (index + 1) (items ++ rest) begins.1 ∙ forms_run f end next rest same apart)
+    (form_follows end read index (own ++ (items ++ rest)) (form_begins w (items ++ rest))
+    ∙ keyword_run w end (Between (Before read (Form index))) read (items ++ rest) (rw (same, bool_eq_equiv.refl obsolete, eq-eqb index index refl) refl) (forms_apart f rest apart.0)
+    ∙ forms_run f end next rest same apart)
 
 translation_begins : {obsolete : Bool} {own : List TextItem} {plural : Option (List ℕ)} {forms : List (List ℕ)} → spell.SpellsTranslation obsolete own plural forms → (rest : List TextItem) → begins_string (own ++ rest) ≡ false
 translation_begins (spell.single w) rest = keyword_begins w rest
@@ -69,30 +71,40 @@ translation_run : (read : SoFar) {own : List TextItem} {plural : Option (List �
     → comes_to end (Between (Before read Translation)) (own ++ rest) ≡ comes_to end (Between (InHead (with_entry (with_own read (record read.own { plural = plural; forms = forms }))) 0)) rest
 translation_run read (spell.single w) end rest apart = keyword_run w end (Between (Before read Translation)) read rest (rw (bool_eq_equiv.refl read.own.obsolete) refl) apart.0
 translation_run read (spell.plural {own = own} {items = items} {text = text} w f) end rest apart =
+    let next : SoFar = with_own read (with_text MsgIdPlural text read.own) in
     rw (append_assoc own items rest)
-    (keyword_run w end (Between (Before read Translation)) read (items ++ rest) (rw (bool_eq_equiv.refl read.own.obsolete) refl) (forms_begin f rest).0
-    ∙ forms_run f end (with_own read (with_text MsgIdPlural text read.own)) rest refl apart)
+    (keyword_run w end (Between (Before read Translation)) read (items ++ rest) (rw (bool_eq_equiv.refl read.own.obsolete) refl) (forms_apart f rest apart.0)
+    ∙ sym (form_follows end next 0 (items ++ rest) (forms_begin f rest)) ∙ forms_run f end next rest refl apart)
 
 -- the entry with these own lines is read
-abbrev and_entry : SoFar → Body → SoFar
+abbrev and_entry : SoFar → TextEntry → SoFar
 and_entry read body = with_entry (with_own read body)
 
-body_run : {own : List TextItem} {body : Body} → spell.SpellsBody own body → (end : ℕ) (read : SoFar) (above : ℕ) (rest : List TextItem) → IsApart rest
-    → comes_to end (Between (InHead read above)) (own ++ rest) ≡ comes_to end (Between (InHead (and_entry read body) 0)) rest
-body_run (spell.own_lines {obsolete = obsolete} {line = line} {own = own} {last = last} {id = id} spell.no_context w t) end read above rest apart =
-    rw (append_assoc own last rest)
-    (keyword_run w end (Between (InHead read above)) (with_own read (record (no_lines obsolete) { line = line })) (last ++ rest) refl (translation_begins t rest)
-    ∙ translation_run (with_own read (record (no_lines obsolete) { line = line; id = id })) t end rest apart)
-body_run (spell.own_lines {obsolete = obsolete} {line = line} {own = own} {last = last} {id = id} (spell.context {items = first} {text = context} c) w t) end read above rest apart =
+-- a context, if there is one, and a msgid
+original_run : {obsolete : Bool} {line : ℕ} {first own : List TextItem} {context : Option (List ℕ)} {id : List ℕ} → spell.SpellsContext obsolete first context → spell.SpellsKeywordText MsgId (own_marks obsolete) line own id
+    → (end : ℕ) (read : SoFar) (above : ℕ) (rest : List TextItem) → begins_string rest ≡ false
+    → comes_to end (Between (InHead read above)) ((first ++ own) ++ rest) ≡ comes_to end (Between (Before (with_own read (record (plain_entry context id None []) { obsolete = obsolete; line = line })) Translation)) rest
+original_run {obsolete} {line} spell.no_context w end read above rest begins = keyword_run w end (Between (InHead read above)) (with_own read (record (no_lines obsolete) { line = line })) rest refl begins
+original_run {obsolete} {line} {own = own} (spell.context {items = first} {text = context} c) w end read above rest begins =
     let started : SoFar = with_own read (record (no_lines obsolete) { context = Some context }) in
-    rw (append_assoc (first ++ own) last rest, append_assoc first own (last ++ rest))
-    (keyword_run c end (Between (InHead read above)) (with_own read (no_lines obsolete)) (own ++ (last ++ rest)) refl (keyword_begins w (last ++ rest))
-    ∙ keyword_run w end (Between (Before started Id)) (with_own started (record started.own { line = line })) (last ++ rest) (rw (bool_eq_equiv.refl obsolete) refl) (translation_begins t rest)
-    ∙ translation_run (with_own started (record started.own { line = line; id = id })) t end rest apart)
+    rw (append_assoc first own rest)
+    (keyword_run c end (Between (InHead read above)) (with_own read (no_lines obsolete)) (own ++ rest) refl (keyword_begins w rest)
+    ∙ keyword_run w end (Between (Before started Id)) (with_own started (record started.own { line = line })) rest (rw (bool_eq_equiv.refl obsolete) refl) begins)
 
-pub body_apart : {own : List TextItem} {body : Body} → spell.SpellsBody own body → (rest : List TextItem) → IsApart (own ++ rest)
-body_apart (spell.own_lines spell.no_context (spell.keyword_text s) t) rest = (refl, refl)
-body_apart (spell.own_lines (spell.context (spell.keyword_text s)) w t) rest = (refl, refl)
+body_run : {own : List TextItem} {body : TextEntry} → spell.SpellsBody own body → (end : ℕ) (read : SoFar) (above : ℕ) (rest : List TextItem) → IsApart rest
+    → comes_to end (Between (InHead read above)) (own ++ rest) ≡ comes_to end (Between (InHead (and_entry read body) 0)) rest
+body_run (spell.own_lines {entry = e} {first = first} {own = own} {last = last} c w t) end read above rest apart =
+    rw (append_assoc (first ++ own) last rest)
+    (original_run c w end read above (last ++ rest) (translation_begins t rest)
+    ∙ translation_run (with_own read (record (plain_entry e.context e.id None []) { obsolete = e.obsolete; line = e.line })) t end rest apart)
+
+original_apart : {obsolete : Bool} {line : ℕ} {first own : List TextItem} {context : Option (List ℕ)} {id : List ℕ} → spell.SpellsContext obsolete first context → spell.SpellsKeywordText MsgId (own_marks obsolete) line own id
+    → (rest : List TextItem) → IsApart ((first ++ own) ++ rest)
+original_apart spell.no_context (spell.keyword_text s) rest = (refl, refl)
+original_apart (spell.context (spell.keyword_text s)) w rest = (refl, refl)
+
+pub body_apart : {own : List TextItem} {body : TextEntry} → spell.SpellsBody own body → (rest : List TextItem) → IsApart (own ++ rest)
+body_apart (spell.own_lines {first = first} {own = own} {last = last} c w t) rest = rw (append_assoc (first ++ own) last rest) (original_apart c w (last ++ rest))
 
 -- a previous text is no plural form
 previous_apart : (keyword : Keyword) (obsolete : Bool) (line : ℕ) (rest : List TextItem) → IsApart (Word keyword (spell.previous_marks obsolete) line ∷ rest)
@@ -104,14 +116,8 @@ head_apart spell.nothing rest apart = apart
 head_apart (spell.head_comment h) rest apart = (refl, refl)
 head_apart (spell.previous_text {keyword = keyword} {obsolete = obsolete} {line = line} {items = items} (spell.keyword_text {strings = strings} s) h) rest apart = previous_apart keyword obsolete line (strings ++ items ++ rest)
 
-comments_apart : (items : List TextItem) → spell.AreComments items → IsApart items
-comments_apart [] all = (refl, refl)
-comments_apart (Comment kind text line ∷ items) all = (refl, refl)
-comments_apart (Word keyword marks line ∷ items) all = absurd all
-comments_apart (Str bytes marks line ∷ items) all = absurd all
-
 pub entries_apart : {items : List TextItem} {entries : List TextEntry} → spell.SpellsEntries items entries → IsApart items
-entries_apart (spell.comments {items = items} all) = comments_apart items all
+entries_apart (spell.comments {items = items} h) = rw append-nil at (head_apart h [] (refl, refl))
 entries_apart (spell.entries {items = items} (spell.entry {head = prefix} {own = own} h order b) more) =
     rw (append_assoc prefix own items) (head_apart h (own ++ items) (body_apart b items))
 
@@ -134,11 +140,9 @@ head_run (spell.previous_text {keyword = keyword} {obsolete = obsolete} {text = 
           (keyword_run w end (Between (InHead read above)) read (items ++ rest) (rw (lt-ltb above (rank keyword) rise.0) refl) (head_apart h rest apart).0 ∙ more.1),
     )
 
-comments_run : (items : List TextItem) → spell.AreComments items → (end : ℕ) (read : SoFar) → comes_to end (Between (InHead read 0)) items ≡ Entries read.entries
-comments_run [] all end read = refl
-comments_run (Comment kind text line ∷ items) all end read = comments_run items all end (record read { comment_texts = read.comment_texts ++ record { kind = kind; text = text } ∷ [] })
-comments_run (Word keyword marks line ∷ items) all end read = absurd all
-comments_run (Str bytes marks line ∷ items) all end read = absurd all
+comments_run : {items : List TextItem} {comment_texts : List CommentText} → spell.SpellsHead items comment_texts [] → (end : ℕ) (read : SoFar) → comes_to end (Between (InHead read 0)) items ≡ Entries read.entries
+comments_run spell.nothing end read = refl
+comments_run (spell.head_comment {kind = kind} {text = text} h) end read = comments_run h end (record read { comment_texts = read.comment_texts ++ record { kind = kind; text = text } ∷ [] })
 
 entry_run : {own : List TextItem} {first : TextEntry} → spell.SpellsEntry own first → (end : ℕ) (before : List TextEntry) (rest : List TextItem) → IsApart rest
     → comes_to end (start before) (own ++ rest) ≡ comes_to end (start (before ++ first ∷ [])) rest
@@ -147,7 +151,7 @@ entry_run (spell.entry {head = prefix} {own = own} {comment_texts = comment_text
     rw (append_assoc prefix own rest) (head.1 ∙ body_run b end (and_head (only before) comment_texts previous) head.0 rest apart)
 
 pub spelt_runs : {items : List TextItem} {entries : List TextEntry} → spell.SpellsEntries items entries → (end : ℕ) (before : List TextEntry) → comes_to end (start before) items ≡ Entries (before ++ entries)
-spelt_runs (spell.comments {items = items} comments) end before = rw append-nil (comments_run items comments end (only before))
+spelt_runs (spell.comments comments) end before = rw append-nil (comments_run comments end (only before))
 spelt_runs (spell.entries {items = items} {first = first} {others = others} e more) end before =
     rw (sym (append_assoc before (first ∷ []) others)) (entry_run e end before items (entries_apart more) ∙ spelt_runs more end (before ++ first ∷ []))
 
@@ -162,7 +166,7 @@ apart_joined (item ∷ items) rest a b = (string item a.0, a.1) where
 -- after entries that end in a string, what stands after them goes on with the next entry
 pub spelt_go_on : {items : List TextItem} {entries : List TextEntry} → spell.SpellsEntries items entries → (end : ℕ) (before : List TextEntry) (rest : List TextItem) → EndsInString items → IsApart rest
     → comes_to end (start before) (items ++ rest) ≡ comes_to end (start (before ++ entries)) rest
-spelt_go_on (spell.comments {items = items} comments) end before rest ends apart = rw (no_comment_last items comments ends, append-nil) refl
+spelt_go_on (spell.comments comments) end before rest ends apart = rw (no_comment_last comments ends, append-nil) refl
 spelt_go_on (spell.entries {own = own} {items = items} {first = first} {others = others} e more) end before rest ends apart =
     rw (append_assoc own items rest, sym (append_assoc before (first ∷ []) others))
     (entry_run e end before (items ++ rest) (apart_joined items rest (entries_apart more) apart) ∙ spelt_go_on more end (before ++ first ∷ []) rest (ends_rest own items ends) apart)

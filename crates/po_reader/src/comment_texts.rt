@@ -1,21 +1,14 @@
 //! The references and flags that comments spell.
 
-ghost use Rattle.std.specs.Prelude.{◌≡◌, ◌<◌, ◌≤◌, ◌++◌, ◌∷◌, [], ℕ, Bool, length, position, IfSome, MatchOption, OnOk};
+ghost use Rattle.std.specs.Prelude.{◌≡◌, ◌==◌, ◌<◌, ◌≤◌, ◌++◌, ◌∷◌, [], ℕ, Bool, length, position, IfSome, MatchOption, OnOk};
 ghost use Rattle.std.specs.List.{slice_split, suffix_len};
 ghost use Rattle.po_syntax.specs.Blanks.{is_blank};
 ghost use Rattle.po_entry.specs.Bytes.{trimmed};
 ghost use Rattle.po_entry.specs.TextEntry.{slice_texts, texts};
-ghost use Rattle.po_entry.specs.Comments.{is_comma, listed_references, listed_flags};
+ghost use Rattle.po_entry.specs.Comments.{listed_references, listed_flags};
 
 use po_syntax::{is_blank, skip_blanks};
 use std::alloc::{AllocError, Global};
-
-/// Whether the byte is a comma.
-fn is_comma(byte: u8) -> bool
-    ensures { result ≡ is_comma byte }
-{
-    byte == b','
-}
 
 /// The text without the blanks at its ends.
 fn trimmed(text: &[u8]) -> &[u8]
@@ -43,10 +36,10 @@ fn first_blank(text: &[u8]) -> Option<usize>
 
 /// The index of the first comma.
 fn first_comma(text: &[u8]) -> Option<usize>
-    ensures first { result ≡ position is_comma text.now }
+    ensures first { result ≡ position (λ b. b == 44) text.now }
     ensures within { IfSome result (λ i. i < length text.now) }
 {
-    text.iter().position(|b| is_comma(*b))
+    text.iter().position(|b| *b == b',')
 }
 
 /// The text before an index, and that after the byte there; where there is none, all of the text.

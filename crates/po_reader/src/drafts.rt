@@ -4,7 +4,7 @@ ghost use Rattle.std.specs.Prelude.{◌≡◌, ◌<◌, ◌^◌, [], List, map, 
 ghost use Rattle.po_syntax.specs.TextItem.{views};
 ghost use Rattle.po_entry.specs.EntryView.{entry_view};
 ghost use Rattle.po_entry.specs.EntryParts.{CommentText, PreviousText};
-ghost use Rattle.po_entry.specs.Spelling.{entry_from};
+ghost use Rattle.po_entry.specs.Spelling.{with_head};
 ghost use Rattle.po_entry.specs.TextEntry.{TextEntry};
 ghost use Rattle.po_reader.specs.KeptComments.{kept_entry};
 ghost use Rattle.po_reader.specs.Internal.HeadView.{HoldsHead};
@@ -28,7 +28,7 @@ const LEAST_ITEMS: usize = 4;
 fn fields_of(alloc: Global, head: Head<'_>, body: Body) -> Result<Fields, AllocError>
     ensures { IfOk result (λ fields. (comment_texts : List CommentText) (previous : List PreviousText)
         → HoldsHead head.entry comment_texts previous
-        → entry_view fields ≡ entry_from comment_texts previous (body_view body)) }
+        → entry_view fields ≡ with_head comment_texts previous (body_view body)) }
 {
     let Head {
         comments,

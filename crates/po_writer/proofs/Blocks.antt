@@ -1,13 +1,13 @@
 -- Blocks of whole lines, and the items that they spell wherever they stand in a text.
-use Rattle.std.proofs.Common.{◌≡◌, ◌≢◌, ◌==◌, ◌&&◌, not, refl, ℕ, zero, suc, ◌+◌, ◌<◌, Bool, true, false, List, [], ◌∷◌, ◌++◌, append_assoc, All, arith}
-use Rattle.std.specs.Str.{IsUtf8}
-use Rattle.std.proofs.lemmas.Str.{IsUtf8-append, IsUtf8-nil}
-use Rattle.std.proofs.lemmas.List.Elements.{All-nil, All-cons, All-append, All-weaker}
+use Rattle.std.proofs.Common.{◌≢◌, ◌==◌, refl, ℕ, ◌+◌, ◌<◌, false, List, [], ◌∷◌, ◌++◌, ◌≡◌, append_assoc, arith}
+use Rattle.std.proofs.lemmas.Bool.{ne_eqb}
+use Rattle.std.proofs.lemmas.List.Elements.{All-weaker}
 use Rattle.std.proofs.lemmas.List.Splits.{slice_split_at}
 use Rattle.po_syntax.specs.PoText.{SpellsLines, lines_of}
 use Rattle.po_syntax.specs.Spelling.{HoldsItems}
+use Rattle.po_syntax.specs.ItemContents.{IsText}
 use Rattle.po_syntax.specs.TextItem.{TextItem}
-use Rattle.po_writer.proofs.Utf8.{IsLine, is_plain, ascii_utf8}
+use Rattle.po_writer.proofs.Utf8.{IsLine, text-empty, text-feed, text-append}
 
 -- the lines of a text, from this number on, spell these items
 abbrev pub Spells : ℕ → List ℕ → List TextItem → Type 0
@@ -26,8 +26,7 @@ BeginsLow [] = Unit {0}
 BeginsLow (b ∷ text) = b < 128
 
 pub record Block (P : List TextItem → Type 0) (text : List ℕ) : Type 0 where
-  pub utf8 : IsUtf8 text
-  pub no_nul : All (λ b. b ≢ 0) text
+  pub valid : IsText text
   pub low : BeginsLow text
   pub spelling : (number : ℕ) → Spelling P text number
 
@@ -36,20 +35,18 @@ low-append [] ys h g = g
 low-append (b ∷ xs) ys h g = h
 
 pub empty_block : {P : List TextItem → Type 0} → P [] → Block P []
-empty_block h = record { utf8 = IsUtf8-nil; no_nul = All-nil (λ b. b ≢ 0); low = tt; spelling = λ number. record { items = []; holds = h; next = number; before = λ rest later g. g } }
+empty_block h = record { valid = text-empty; low = tt; spelling = λ number. record { items = []; holds = h; next = number; before = λ rest later g. g } }
 
 pub weaker_block : {P Q : List TextItem → Type 0} {text : List ℕ} → Block P text → ((items : List TextItem) → P items → Q items) → Block Q text
 weaker_block block more = record {
-  utf8 = block.utf8;
-  no_nul = block.no_nul;
+  valid = block.valid;
   low = block.low;
   spelling = λ number. let s = block.spelling number in record { items = s.items; holds = more s.items s.holds; next = s.next; before = s.before };
 }
 
 pub two_blocks : {P Q R : List TextItem → Type 0} {xs ys : List ℕ} → Block P xs → Block Q ys → ((here later : List TextItem) → P here → Q later → R (here ++ later)) → Block R (xs ++ ys)
 two_blocks {xs = xs} {ys = ys} first second join = record {
-  utf8 = IsUtf8-append xs ys first.utf8 second.utf8;
-  no_nul = All-append (λ b. b ≢ 0) xs ys first.no_nul second.no_nul;
+  valid = text-append xs ys first.valid second.valid;
   low = low-append xs ys first.low second.low;
   spelling = λ number.
       let s = first.spelling number in
@@ -62,23 +59,13 @@ two_blocks {xs = xs} {ys = ys} first second join = record {
       };
 }
 
-plain_some : (b : ℕ) → is_plain b ≡ true → b ≢ 0
-plain_some zero h = λ e. cc
-plain_some (suc b) h = λ e. omega (arith, e)
-
-plain_feed : (b : ℕ) (nul feed : Bool) → (b == 10) ≡ feed → (nul && not feed) ≡ true → (b == 10) ≡ false
-plain_feed b true true e h = cc
-plain_feed b true false e h = e
-plain_feed b false feed e h = cc
-
 -- what a line spells, whatever its number is
 abbrev pub LineItems : (List TextItem → Type 0) → List ℕ → Type 0
 LineItems P line = (number : ℕ) → (here : List TextItem) × P here × HoldsItems number line here
 
 pub line_block : {P : List TextItem → Type 0} (line : List ℕ) → IsLine line → BeginsLow line → LineItems P line → Block P (line ++ 10 ∷ [])
 line_block line clean low spells = record {
-  utf8 = IsUtf8-append line (10 ∷ []) clean.utf8 (ascii_utf8 10 (omega arith));
-  no_nul = All-append (λ b. b ≢ 0) line (10 ∷ []) (All-weaker (λ b. is_plain b ≡ true) (λ b. b ≢ 0) plain_some line clean.plain) (All-cons (λ b. b ≢ 0) 10 [] (λ e. omega (arith, e)) (All-nil (λ b. b ≢ 0)));
+  valid = text-append line (10 ∷ []) clean.valid text-feed;
   low = low-append line (10 ∷ []) low (omega arith);
   spelling = λ number.
       let h = spells number in
@@ -87,6 +74,6 @@ line_block line clean low spells = record {
         holds = h.1;
         next = number + 1;
         before = λ rest later g.
-            rw (append_assoc line (10 ∷ []) rest, slice_split_at (λ b. b == 10) line 10 rest (All-weaker (λ b. is_plain b ≡ true) (λ b. (b == 10) ≡ false) (λ b plain. plain_feed b (not (b == 0)) (b == 10) refl plain) line clean.plain) refl) (h.0, later, h.2, g, refl);
+            rw (append_assoc line (10 ∷ []) rest, slice_split_at (λ b. b == 10) line 10 rest (All-weaker (λ b. b ≢ 10) (λ b. (b == 10) ≡ false) (λ b h. ne_eqb b 10 h) line clean.one_line) refl) (h.0, later, h.2, g, refl);
       };
 }

@@ -4,8 +4,8 @@ use Rattle.std.specs.List.{flat_map}
 use Rattle.po_entry.specs.TextEntry.{TextEntry}
 use Rattle.po_entry.specs.Validity.{IsEntry}
 use Rattle.po_writer.specs.EntryLines.{WritesComments, no_comments, comment, WritesFurther, line_end, next_element, WritesElements, no_line, line, WritesFlags, plain, fuzzy, IsPreviousPrefix, previous_live, previous_obsolete, IsOwnPrefix, own_live, own_obsolete, WritesKeyword, written, WritesOptional, absent, present}
-use Rattle.po_writer.specs.EntryLines.{WritesForms, no_forms, form, WritesTranslation, only, with_plural, WritesEntry, HasParts, no_entries, live_first, obsolete_first, IsArranged, FollowEntries, no_further, after_empty_line, StandInOrder, no_text, first_entry}
-use Rattle.po_writer.specs.WrittenText.{all_flags, arranged, comment_lines, elements_line, entry_lines, form_lines, in_order, keyword_lines, optional_lines, own_lines, own_prefix, previous_lines, previous_prefix, translation_lines}
+use Rattle.po_writer.specs.EntryLines.{WritesForms, no_forms, form, WritesTranslation, only, with_plural, previous, own, WritesEntry, entry, live_before, HasParts, no_entries, live_first, obsolete_first, IsArranged, FollowEntries, no_further, after_empty_line, StandInOrder, no_text, first_entry}
+use Rattle.po_writer.specs.WrittenText.{all_flags, arranged, comment_lines, elements_line, entry_lines, form_lines, in_order, keyword_lines, optional_lines, own_prefix, previous_prefix, translation_lines}
 use Rattle.po_writer.proofs.CutLines.{texts_are_written}
 
 comments_written : (mark : List ℕ) (texts : List (List ℕ)) → WritesComments mark texts (comment_lines mark texts)
@@ -60,42 +60,10 @@ translation_written prefix (Some plural) forms one = with_plural (keyword_writte
 pub entry_written : (e : TextEntry) → IsEntry e → WritesEntry e (entry_lines e)
 entry_written e valid =
     let before = previous_prefix e.obsolete in
-    let own = own_prefix e.obsolete in
-    record {
-      comments = comment_lines (codes "#") e.comments;
-      extracted = comment_lines (codes "#.") e.extracted;
-      references = elements_line (codes "#: ") (codes " ") e.references;
-      flags = elements_line (codes "#, ") (codes ", ") (all_flags e.fuzzy e.flags);
-      previous_prefix = before;
-      previous = previous_lines before e.previous;
-      own_prefix = own;
-      own = own_lines own e;
-      first = comments_written (codes "#") e.comments;
-      second = comments_written (codes "#.") e.extracted;
-      third = elements_written (codes "#: ") (codes " ") e.references;
-      fourth = flags_written e.fuzzy e.flags;
-      fifth = record {
-        context = optional_lines before (codes "msgctxt") e.previous.context;
-        id = optional_lines before (codes "msgid") e.previous.id;
-        plural = optional_lines before (codes "msgid_plural") e.previous.plural;
-        prefix_is = before_previous e.obsolete;
-        first = optional_written before (codes "msgctxt") e.previous.context;
-        second = optional_written before (codes "msgid") e.previous.id;
-        third = optional_written before (codes "msgid_plural") e.previous.plural;
-        whole = refl;
-      };
-      last = record {
-        context = optional_lines own (codes "msgctxt") e.context;
-        id = keyword_lines own (codes "msgid") e.id;
-        translation = translation_lines own e.plural e.forms;
-        prefix_is = before_own e.obsolete;
-        first = optional_written own (codes "msgctxt") e.context;
-        second = keyword_written own (codes "msgid") e.id;
-        third = translation_written own e.plural e.forms valid.one_form;
-        whole = refl;
-      };
-      whole = refl;
-    }
+    let prefix = own_prefix e.obsolete in
+    entry (comments_written (codes "#") e.comments) (comments_written (codes "#.") e.extracted) (elements_written (codes "#: ") (codes " ") e.references) (flags_written e.fuzzy e.flags)
+    (previous (before_previous e.obsolete) (optional_written before (codes "msgctxt") e.previous.context) (optional_written before (codes "msgid") e.previous.id) (optional_written before (codes "msgid_plural") e.previous.plural))
+    (own (before_own e.obsolete) (optional_written prefix (codes "msgctxt") e.context) (keyword_written prefix (codes "msgid") e.id) (translation_written prefix e.plural e.forms valid.one_form))
 
 parts : (entries : List TextEntry) → HasParts entries (filter (λ e. not e.obsolete) entries) (filter (λ e. e.obsolete) entries)
 parts [] = no_entries
@@ -111,12 +79,7 @@ parts (e ∷ entries) = by e.obsolete refl (parts entries) where
   by false is rest = live_first is rest
 
 pub entries_arranged : (entries : List TextEntry) → IsArranged entries (arranged entries)
-entries_arranged entries = record {
-  live = filter (λ e. not e.obsolete) entries;
-  obsolete = filter (λ e. e.obsolete) entries;
-  parts = parts entries;
-  whole = refl;
-}
+entries_arranged entries = live_before (parts entries)
 
 follow : (entries : List TextEntry) → FollowEntries entries (flat_map (λ e. 10 ∷ entry_lines e) entries)
 follow [] = no_further

@@ -1,5 +1,5 @@
 -- The comments of a written entry give its fields back.
-use Rattle.std.proofs.Common.{◌≡◌, ◌∙◌, ◌||◌, refl, sym, ap, ap₂, ℕ, ◌<◌, Bool, true, false, List, [], ◌∷◌, ◌++◌, append_assoc, length, map, filter, fold, bytes_eq, codes, All, Contains, slice_index_or}
+use Rattle.std.proofs.Common.{◌≡◌, ◌∙◌, ◌||◌, refl, sym, ap, ap₂, ℕ, ◌<◌, Bool, true, false, cond, List, [], ◌∷◌, ◌++◌, append_assoc, length, map, filter, fold, bytes_eq, codes, All, Contains, slice_index_or}
 use Rattle.std.specs.List.{flat_map, list_any}
 use Rattle.std.proofs.lemmas.List.{append-nil, map-append, get_or_default}
 use Rattle.std.proofs.lemmas.List.Elements.{All-head, All-tail, filter-append}
@@ -12,11 +12,12 @@ use Rattle.po_entry.specs.Bytes.{AreDistinct}
 use Rattle.po_entry.specs.EntryParts.{CommentText}
 use Rattle.po_entry.specs.Comments.{same_kind, texts_of, listed_flags, listed_references, is_fuzzy_flag, with_flag}
 use Rattle.po_entry.specs.Spelling.{nothing}
+use Rattle.po_entry.specs.Validity.{IsReference}
 use Rattle.po_writer.specs.WrittenText.{elements_line, all_flags}
-use Rattle.po_writer.proofs.Utf8.{IsLine, line-append, line-empty}
+use Rattle.po_writer.proofs.Utf8.{IsLine, line-append, plain_line}
 use Rattle.po_writer.proofs.Blocks.{Block, BeginsLow, empty_block}
 use Rattle.po_writer.proofs.Heads.{HeadPart, head_comments, IsCommentLine, comment_block}
-use Rattle.po_writer.proofs.WrittenElements.{following, IsEnded, elements_kept, IsElement, references_cut, IsFlagElement, flags_cut}
+use Rattle.po_writer.proofs.WrittenElements.{following, IsListed, listed_after, elements_listed, no_return, references_cut, IsFlagElement, flags_cut}
 
 -- the text of the comment that holds these elements, where there are any
 abbrev pub elements_text : List ℕ → List (List ℕ) → List (List ℕ)
@@ -27,52 +28,32 @@ texts_of-append : (kind : CommentKind) (xs ys : List CommentText) → texts_of k
 texts_of-append kind xs ys =
     ap (map (λ (comment_text : CommentText). comment_text.text)) (filter-append (λ (comment_text : CommentText). same_kind kind comment_text.kind) xs ys) ∙ map-append (λ (comment_text : CommentText). comment_text.text) (filter (λ (comment_text : CommentText). same_kind kind comment_text.kind) xs) (filter (λ (comment_text : CommentText). same_kind kind comment_text.kind) ys)
 
-own_texts : (kind : CommentKind) (texts : List (List ℕ)) → same_kind kind kind ≡ true → texts_of kind (head_comments kind texts) ≡ texts
-own_texts kind [] h = refl
-own_texts kind (text ∷ texts) h = rw h (ap (λ t. text ∷ t) (own_texts kind texts h))
-
-other_texts : (kind other : CommentKind) (texts : List (List ℕ)) → same_kind kind other ≡ false → texts_of kind (head_comments other texts) ≡ []
-other_texts kind other [] h = refl
-other_texts kind other (text ∷ texts) h = rw h (other_texts kind other texts h)
+-- of the comments of one kind, those of a kind
+one_kind : (kind other : CommentKind) (b : Bool) → same_kind kind other ≡ b → (texts : List (List ℕ)) → texts_of kind (head_comments other texts) ≡ cond b texts []
+one_kind kind other true is [] = refl
+one_kind kind other false is [] = refl
+one_kind kind other true is (text ∷ texts) = rw is (ap (λ t. text ∷ t) (one_kind kind other true is texts))
+one_kind kind other false is (text ∷ texts) = rw is (one_kind kind other false is texts)
 
 -- the comments of all kinds, in the order in which they are written
 abbrev pub all_comments : List (List ℕ) → List (List ℕ) → List (List ℕ) → List (List ℕ) → List CommentText
 all_comments comments extracted references flags =
     ((head_comments Translator comments ++ head_comments Extracted extracted) ++ head_comments Reference references) ++ head_comments Flags flags
 
-texts_split : (kind : CommentKind) (comments extracted references flags : List (List ℕ)) → texts_of kind (all_comments comments extracted references flags)
-    ≡ ((texts_of kind (head_comments Translator comments) ++ texts_of kind (head_comments Extracted extracted)) ++ texts_of kind (head_comments Reference references)) ++ texts_of kind (head_comments Flags flags)
-texts_split kind comments extracted references flags =
+pub kind_texts : (kind : CommentKind) (comments extracted references flags : List (List ℕ)) → texts_of kind (all_comments comments extracted references flags)
+    ≡ ((cond (same_kind kind Translator) comments [] ++ cond (same_kind kind Extracted) extracted []) ++ cond (same_kind kind Reference) references []) ++ cond (same_kind kind Flags) flags []
+kind_texts kind comments extracted references flags =
     let T = head_comments Translator comments in
     let E = head_comments Extracted extracted in
     let R = head_comments Reference references in
     let F = head_comments Flags flags in
     texts_of-append kind ((T ++ E) ++ R) F ∙ ap (λ t. t ++ texts_of kind F) (texts_of-append kind (T ++ E) R ∙ ap (λ t. t ++ texts_of kind R) (texts_of-append kind T E))
+    ∙ rw (one_kind kind Translator _ refl comments, one_kind kind Extracted _ refl extracted, one_kind kind Reference _ refl references, one_kind kind Flags _ refl flags) refl
 
-pub comments_kept : (comments extracted references flags : List (List ℕ)) → texts_of Translator (all_comments comments extracted references flags) ≡ comments
-comments_kept comments extracted references flags =
-    texts_split Translator comments extracted references flags
-    ∙ rw (own_texts Translator comments refl, other_texts Translator Extracted extracted refl, other_texts Translator Reference references refl, other_texts Translator Flags flags refl, append-nil comments, append-nil comments, append-nil comments) refl
-
-pub extracted_kept : (comments extracted references flags : List (List ℕ)) → texts_of Extracted (all_comments comments extracted references flags) ≡ extracted
-extracted_kept comments extracted references flags =
-    texts_split Extracted comments extracted references flags
-    ∙ rw (own_texts Extracted extracted refl, other_texts Extracted Translator comments refl, other_texts Extracted Reference references refl, other_texts Extracted Flags flags refl, append-nil extracted, append-nil extracted) refl
-
-pub reference_texts : (comments extracted references flags : List (List ℕ)) → texts_of Reference (all_comments comments extracted references flags) ≡ references
-reference_texts comments extracted references flags =
-    texts_split Reference comments extracted references flags
-    ∙ rw (own_texts Reference references refl, other_texts Reference Translator comments refl, other_texts Reference Extracted extracted refl, other_texts Reference Flags flags refl, append-nil references) refl
-
-pub flag_texts : (comments extracted references flags : List (List ℕ)) → texts_of Flags (all_comments comments extracted references flags) ≡ flags
-flag_texts comments extracted references flags =
-    texts_split Flags comments extracted references flags
-    ∙ rw (own_texts Flags flags refl, other_texts Flags Translator comments refl, other_texts Flags Extracted extracted refl, other_texts Flags Reference references refl) refl
-
-pub references_kept : (elements : List (List ℕ)) → All IsElement elements → flat_map listed_references (elements_text (32 ∷ []) elements) ≡ elements
+pub references_kept : (elements : List (List ℕ)) → All IsReference elements → flat_map listed_references (elements_text (32 ∷ []) elements) ≡ elements
 references_kept [] h = refl
 references_kept (element ∷ elements) h =
-    append-nil (listed_references (32 ∷ element ++ following (32 ∷ []) elements)) ∙ references_cut element elements (All-head IsElement element elements h) (All-tail IsElement element elements h)
+    append-nil (listed_references (32 ∷ element ++ following (32 ∷ []) elements)) ∙ references_cut element elements (All-head IsReference element elements h) (All-tail IsReference element elements h)
 
 pub flag_elements_kept : (elements : List (List ℕ)) → All IsFlagElement elements → flat_map listed_flags (elements_text (44 ∷ 32 ∷ []) elements) ≡ elements
 flag_elements_kept [] h = refl
@@ -116,16 +97,11 @@ pub flags_kept : (fuzzy : Bool) (flags : List (List ℕ)) → All IsPlainFlag fl
 flags_kept true flags p d = flags_added [] flags p d (λ k e inside. refl)
 flags_kept false flags p d = flags_added [] flags p d (λ k e inside. refl)
 
-following_line : (separator : List ℕ) (elements : List (List ℕ)) → IsLine separator → All IsLine elements → IsLine (following separator elements)
-following_line separator [] s h = line-empty
-following_line separator (element ∷ elements) s h =
-    line-append (separator ++ element) (following separator elements) (line-append separator element s (All-head IsLine element elements h)) (following_line separator elements s (All-tail IsLine element elements h))
-
 -- a line of elements after the mark of its kind
-pub elements_block : (kind : CommentKind) (mark separator : List ℕ) (elements : List (List ℕ)) → ((text : List ℕ) → IsCommentLine kind (mark ++ text) (32 ∷ text)) → IsLine mark → ((text : List ℕ) → BeginsLow (mark ++ text)) → IsLine separator → All IsLine elements → All IsEnded elements
+pub elements_block : (kind : CommentKind) (mark separator : List ℕ) (elements : List (List ℕ)) → ((text : List ℕ) → IsCommentLine kind (mark ++ text) (32 ∷ text)) → IsLine mark → ((text : List ℕ) → BeginsLow (mark ++ text)) → IsLine separator → All IsListed elements
     → Block (HeadPart (head_comments kind (elements_text separator elements)) []) (elements_line mark separator elements)
-elements_block kind mark separator [] shape m low s h g = empty_block nothing
-elements_block kind mark separator (element ∷ elements) shape m low s h g =
+elements_block kind mark separator [] shape m low s h = empty_block nothing
+elements_block kind mark separator (element ∷ elements) shape m low s h =
     let text = element ++ following separator elements in
-    let clean = line-append element (following separator elements) (All-head IsLine element elements h) (following_line separator elements s (All-tail IsLine element elements h)) in
-    comment_block kind (mark ++ text) (32 ∷ text) (line-append mark text m clean) (low text) (shape text) (elements_kept separator (32 ∷ []) element elements (All-head IsEnded element elements g) (All-tail IsEnded element elements g))
+    let all = elements_listed separator element elements s (All-head IsListed element elements h) (All-tail IsListed element elements h) in
+    comment_block kind (mark ++ text) (32 ∷ text) (line-append mark text m all.line) (low text) (shape text) (no_return (32 ∷ text) (listed_after (32 ∷ []) text (plain_line (32 ∷ []) refl) all))

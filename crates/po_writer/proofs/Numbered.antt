@@ -1,20 +1,15 @@
 -- The keywords of an entry's lines, that of a plural form with its index.
-use Rattle.std.proofs.Common.{◌≡◌, ◌^◌, refl, sym, subst, ℕ, ◌<◌, ◌≤◌, List, [], ◌∷◌, ◌++◌, append_assoc, codes, decimal, arith}
-use Rattle.std.specs.Char.{digit_value}
+use Rattle.std.proofs.Common.{◌≡◌, ◌^◌, refl, sym, subst, ℕ, ◌<◌, ◌≤◌, List, [], ◌∷◌, ◌++◌, append_assoc, codes, decimal, All, arith}
 use Rattle.std.specs.Str.Parse.{AllDigits, IsNumeral, digits_value}
 use Rattle.std.proofs.lemmas.Fmt.{decimal_is_IsNumeral}
 use Rattle.std.proofs.lemmas.Str.Parse.{digit_from_value}
-use Rattle.std.proofs.lemmas.Bool.{ne_eqb}
-use Rattle.std.proofs.lemmas.List.Elements.{All-nil}
+use Rattle.std.proofs.lemmas.List.Elements.{All-nil, All-cons}
 use Rattle.po_syntax.specs.declared.item.Keyword.TheVariants.{MsgCtxt, MsgId, MsgIdPlural, MsgStr, MsgStrAt}
 use Rattle.po_syntax.specs.Blanks.{IsBlank}
 use Rattle.po_syntax.specs.Spelling.{SpellsKeyword, form}
 use Rattle.po_writer.proofs.KeywordTexts.{IsLineKeyword}
 use Rattle.po_writer.proofs.Tokens.{context_keyword, id_keyword, plural_keyword, single_keyword}
-use Rattle.po_writer.proofs.Utf8.{IsPlainText, plain_one, no_text, line-ascii, line-append, plain_line}
-
-digit_facts : (d : ℕ) → digit_value d < 10 → (48 ≤ d) × (d < 58)
-digit_facts d h = let range = digit_from_value d h in (omega (arith, range), omega (arith, range))
+use Rattle.po_writer.proofs.Utf8.{ascii_line, line-append, plain_line}
 
 numbered_keyword : (digits rest : List ℕ) (index : ℕ) → IsNumeral 10 digits → digits_value 10 digits ≡ index → index < 2 ^ 32
     → SpellsKeyword ((codes "msgstr[" ++ digits ++ codes "]") ++ rest) (MsgStrAt index) rest
@@ -23,11 +18,9 @@ numbered_keyword digits rest index h value below =
     let spelt = form [] [] digits [] {rest = rest} none none h (subst (λ i. i < 2 ^ 32) (sym value) below) none in
     rw (append_assoc digits (93 ∷ []) rest) (subst (λ i. SpellsKeyword (codes "msgstr[" ++ (digits ++ 93 ∷ rest)) (MsgStrAt i) rest) value spelt)
 
-plain_digits : (digits : List ℕ) → AllDigits 10 digits → IsPlainText digits
-plain_digits [] h = no_text
-plain_digits (d ∷ digits) h =
-    let range = digit_facts d h.0 in
-    plain_one d digits (omega (arith, range.1)) (rw (ne_eqb d 0 (λ e. omega (arith, e, range.0)), ne_eqb d 10 (λ e. omega (arith, e, range.0))) refl) (plain_digits digits h.1)
+plain_digits : (digits : List ℕ) → AllDigits 10 digits → All (λ b. (32 ≤ b) × (b < 128)) digits
+plain_digits [] h = All-nil (λ b. (32 ≤ b) × (b < 128))
+plain_digits (d ∷ digits) h = let range = digit_from_value d h.0 in All-cons (λ b. (32 ≤ b) × (b < 128)) d digits (omega (arith, range), omega (arith, range)) (plain_digits digits h.1)
 
 pub context_written : IsLineKeyword (codes "msgctxt") MsgCtxt
 context_written = record { token = context_keyword; line = plain_line (codes "msgctxt") refl; low = omega arith }
@@ -46,6 +39,6 @@ numbered index below =
     let digits = decimal_is_IsNumeral index (omega (arith, below)) in
     record {
       token = λ rest. numbered_keyword (decimal index) (32 ∷ 34 ∷ rest) index digits.0 digits.1 below;
-      line = line-append (codes "msgstr[" ++ decimal index) (codes "]") (line-append (codes "msgstr[") (decimal index) (plain_line (codes "msgstr[") refl) (line-ascii (decimal index) (plain_digits (decimal index) digits.0.1))) (plain_line (codes "]") refl);
+      line = line-append (codes "msgstr[" ++ decimal index) (codes "]") (line-append (codes "msgstr[") (decimal index) (plain_line (codes "msgstr[") refl) (ascii_line (decimal index) (plain_digits (decimal index) digits.0.1))) (plain_line (codes "]") refl);
       low = omega arith;
     }

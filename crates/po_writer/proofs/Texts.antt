@@ -1,10 +1,10 @@
 -- The written text of a list of entries reads as the arranged list, but for the lines.
-use Rattle.std.proofs.Common.{◌≡◌, ◌^◌, not, refl, ap, ℕ, ◌+◌, ◌<◌, ◌≤◌, List, [], ◌∷◌, ◌++◌, length, length-append, map, filter, codes, decimal, Option, Some, None, All, arith}
-use Rattle.std.specs.List.{flat_map, join_by}
+use Rattle.std.proofs.Common.{◌≡◌, ◌≢◌, ◌==◌, ◌^◌, not, refl, ap, ℕ, ◌<◌, List, [], ◌∷◌, ◌++◌, length, length-append, map, filter, All, arith}
+use Rattle.std.specs.List.{flat_map, join_by, position_or_len}
 use Rattle.std.specs.Str.{IsUtf8}
 use Rattle.std.proofs.lemmas.List.{append-nil}
 use Rattle.std.proofs.lemmas.List.Elements.{All-nil, All-cons, All-head, All-tail, All-append, All-weaker, All-filter}
-use Rattle.std.proofs.lemmas.Bool.{ne_eqb}
+use Rattle.std.proofs.lemmas.Bool.{ne_eqb, le-ltb}
 use Rattle.po_syntax.specs.PoText.{IsSmall, SpellsText, without_byte_order_mark}
 use Rattle.po_syntax.specs.TextItem.{TextItem}
 use Rattle.po_syntax.specs.Spelling.{end, live}
@@ -13,13 +13,12 @@ use Rattle.po_entry.specs.TextEntry.{TextEntry, with_line, quoted_texts}
 use Rattle.po_entry.specs.Header.{HasAdmittedCharset}
 use Rattle.po_syntax.specs.ItemContents.{IsText}
 use Rattle.po_entry.specs.Validity.{IsEntry, IsCatalogueEntry, HasTexts}
-use Rattle.po_entry.specs.Spelling.{SpellsEntries, comments, entries as joined_entries}
+use Rattle.po_entry.specs.Spelling.{SpellsEntries, nothing, comments, entries as joined_entries}
 use Rattle.po_entry.specs.ReadsText.{ReadsText}
-use Rattle.po_writer.specs.WrittenText.{keyword_lines, form_lines, translation_lines, own_lines, own_prefix, entry_lines, arranged, written_text}
-use Rattle.po_writer.proofs.Separated.{keyword_some}
-use Rattle.po_writer.proofs.Utf8.{line-empty}
+use Rattle.po_writer.specs.WrittenText.{entry_lines, arranged, written_text}
+use Rattle.po_writer.proofs.Utf8.{plain_line}
 use Rattle.po_writer.proofs.Blocks.{Spells, Block, BeginsLow, empty_block, two_blocks, line_block}
-use Rattle.po_writer.proofs.Entries.{EntryPart, IsShort, entry_block}
+use Rattle.po_writer.proofs.Entries.{EntryPart, entry_block}
 
 -- the second list is the first, whatever the lines are
 abbrev IsNumbered : List TextEntry → List TextEntry → Type 0
@@ -31,74 +30,28 @@ abbrev ListPart : List TextEntry → List TextItem → Type 0
 ListPart entries here = (read : List TextEntry) × SpellsEntries here read × IsNumbered entries read
 
 empty_line : Block (λ here. here ≡ []) (10 ∷ [])
-empty_line = line_block [] line-empty tt (λ number. ([], refl, live end))
+empty_line = line_block [] (plain_line [] refl) tt (λ number. ([], refl, live end))
 
 one_more : (e : TextEntry) (entries : List TextEntry) (here later : List TextItem) → EntryPart e here → ListPart entries later → ListPart (e ∷ entries) (here ++ later)
 one_more e entries here later h g = (with_line h.0 e ∷ g.0, joined_entries h.1 g.1, (h.0, g.0, refl, g.2))
 
-no_entries : ListPart [] []
-no_entries = ([], comments tt, refl)
+-- entries, each after an empty line
+abbrev further_lines : List TextEntry → List ℕ
+further_lines entries = flat_map (λ e. (10 ∷ []) ++ entry_lines e) entries
 
-further_block : (entries : List TextEntry) → All IsEntry entries → All IsShort entries → Block (ListPart entries) (flat_map (λ e. (10 ∷ []) ++ entry_lines e) entries)
-further_block [] h short = empty_block no_entries
-further_block (e ∷ entries) h short =
+further_block : (entries : List TextEntry) → All IsEntry entries → length (further_lines entries) < 2 ^ 32 → Block (ListPart entries) (further_lines entries)
+further_block [] h few = empty_block ([], comments nothing, refl)
+further_block (e ∷ entries) h few =
+    let size = length-append ((10 ∷ []) ++ entry_lines e) (further_lines entries) in
     let own : Block (EntryPart e) ((10 ∷ []) ++ entry_lines e) =
-    two_blocks empty_line (entry_block e (All-head IsEntry e entries h) (All-head IsShort e entries short)) (λ here later g i. rw g i) in
-    two_blocks own (further_block entries (All-tail IsEntry e entries h) (All-tail IsShort e entries short)) (one_more e entries)
+    two_blocks empty_line (entry_block e (All-head IsEntry e entries h) (omega (arith, few, size))) (λ here later g i. rw g i) in
+    two_blocks own (further_block entries (All-tail IsEntry e entries h) (omega (arith, few, size))) (one_more e entries)
 
-list_block : (entries : List TextEntry) → All IsEntry entries → All IsShort entries → Block (ListPart entries) (join_by entry_lines (10 ∷ []) entries)
-list_block [] h short = empty_block no_entries
-list_block (e ∷ entries) h short =
-    two_blocks (entry_block e (All-head IsEntry e entries h) (All-head IsShort e entries short)) (further_block entries (All-tail IsEntry e entries h) (All-tail IsShort e entries short)) (one_more e entries)
-
--- each form takes a byte
-few_forms : (prefix : List ℕ) (index : ℕ) (forms : List (List ℕ)) → length forms ≤ length (form_lines prefix index forms)
-few_forms prefix index [] = omega arith
-few_forms prefix index (form ∷ forms) =
-    let line = keyword_lines prefix (codes "msgstr[" ++ decimal index ++ codes "]") form in
-    omega (arith, length-append line (form_lines prefix (index + 1) forms), keyword_some prefix (codes "msgstr[" ++ decimal index ++ codes "]") form, few_forms prefix (index + 1) forms)
-
-few_singles : (prefix : List ℕ) (forms : List (List ℕ)) → length forms ≤ length (flat_map (keyword_lines prefix (codes "msgstr")) forms)
-few_singles prefix [] = omega arith
-few_singles prefix (form ∷ forms) =
-    omega (arith, length-append (keyword_lines prefix (codes "msgstr") form) (flat_map (keyword_lines prefix (codes "msgstr")) forms), keyword_some prefix (codes "msgstr") form, few_singles prefix forms)
-
-few_translations : (prefix : List ℕ) (plural : Option (List ℕ)) (forms : List (List ℕ)) → length forms ≤ length (translation_lines prefix plural forms)
-few_translations prefix None forms = few_singles prefix forms
-few_translations prefix (Some plural) forms =
-    omega (arith, length-append (keyword_lines prefix (codes "msgid_plural") plural) (form_lines prefix 0 forms), few_forms prefix 0 forms)
-
-after_length : (xs ys : List ℕ) (n : ℕ) → n ≤ length ys → n ≤ length (xs ++ ys)
-after_length xs ys n h = omega (arith, h, length-append xs ys)
-
-few_in_entry : (e : TextEntry) → length e.forms ≤ length (entry_lines e)
-few_in_entry e =
-    let prefix = own_prefix e.obsolete in
-    after_length _ (own_lines prefix e) (length e.forms) (after_length _ (translation_lines prefix e.plural e.forms) (length e.forms) (few_translations prefix e.plural e.forms))
-
--- an entry's text stands in the whole
-abbrev FitsIn : ℕ → TextEntry → Type 0
-FitsIn size e = length (entry_lines e) ≤ size
-
-further_fit : (entries : List TextEntry) → All (FitsIn (length (flat_map (λ e. (10 ∷ []) ++ entry_lines e) entries))) entries
-further_fit [] = All-nil (FitsIn 0)
-further_fit (e ∷ entries) =
-    let rest = flat_map (λ x. (10 ∷ []) ++ entry_lines x) entries in
-    let size = length (((10 ∷ []) ++ entry_lines e) ++ rest) in
-    let whole = length-append ((10 ∷ []) ++ entry_lines e) rest in
-    All-cons (FitsIn size) e entries (omega (arith, whole)) (All-weaker (FitsIn (length rest)) (FitsIn size) (λ x g. omega (arith, g, whole)) entries (further_fit entries))
-
-list_fit : (entries : List TextEntry) → All (FitsIn (length (join_by entry_lines (10 ∷ []) entries))) entries
-list_fit [] = All-nil (FitsIn 0)
-list_fit (e ∷ entries) =
-    let rest = flat_map (λ x. (10 ∷ []) ++ entry_lines x) entries in
-    let size = length (entry_lines e ++ rest) in
-    let whole = length-append (entry_lines e) rest in
-    All-cons (FitsIn size) e entries (omega (arith, whole)) (All-weaker (FitsIn (length rest)) (FitsIn size) (λ x g. omega (arith, g, whole)) entries (further_fit entries))
-
-short_entries : (entries : List TextEntry) → length (join_by entry_lines (10 ∷ []) entries) < 2 ^ 31 → All IsShort entries
-short_entries entries small =
-    All-weaker (FitsIn (length (join_by entry_lines (10 ∷ []) entries))) IsShort (λ e g. omega (arith, g, few_in_entry e, small)) entries (list_fit entries)
+list_block : (entries : List TextEntry) → All IsEntry entries → length (join_by entry_lines (10 ∷ []) entries) < 2 ^ 32 → Block (ListPart entries) (join_by entry_lines (10 ∷ []) entries)
+list_block [] h few = empty_block ([], comments nothing, refl)
+list_block (e ∷ entries) h few =
+    let size = length-append (entry_lines e) (further_lines entries) in
+    two_blocks (entry_block e (All-head IsEntry e entries h) (omega (arith, few, size))) (further_block entries (All-tail IsEntry e entries h) (omega (arith, few, size))) (one_more e entries)
 
 no_mark : (text : List ℕ) → BeginsLow text → without_byte_order_mark text ≡ text
 no_mark [] h = refl
@@ -109,7 +62,7 @@ spelt_text P text block small =
     let s = block.spelling 1 in
     let end : Spells s.next [] [] = ([], [], live end, refl, refl) in
     let whole = rw (append-nil text, append-nil s.items) at (s.before [] [] end) in
-    (s.items, s.holds, record { small = small; utf8 = block.utf8; no_nul = block.no_nul; lines = rw (no_mark text block.low) whole })
+    (s.items, s.holds, record { small = small; utf8 = block.valid.utf8; no_nul = block.valid.no_nul; lines = rw (no_mark text block.low) whole })
 
 numbered_all : (P Q : TextEntry → Type 0) (entries read : List TextEntry) → ((e : TextEntry) (line : ℕ) → P e → Q (with_line line e)) → IsNumbered entries read → All P entries → All Q read
 numbered_all P Q [] read each same h = rw same (All-nil Q)
@@ -135,7 +88,7 @@ pub written_reads : (entries : List TextEntry) → All IsCatalogueEntry entries 
     → (read : List TextEntry) × ReadsText (written_text entries) read × (map (with_line 0) read ≡ map (with_line 0) (arranged entries))
 written_reads entries h small =
     let all = all_arranged entries h in
-    let block = list_block (arranged entries) (All-weaker IsCatalogueEntry IsEntry (λ e g. g.valid) (arranged entries) all) (short_entries (arranged entries) small) in
+    let block = list_block (arranged entries) (All-weaker IsCatalogueEntry IsEntry (λ e g. g.valid) (arranged entries) all) (omega (arith, small)) in
     let spelt = spelt_text (ListPart (arranged entries)) (written_text entries) block small in
     let read = spelt.1.0 in (
       read,

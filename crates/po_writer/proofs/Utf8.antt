@@ -1,17 +1,20 @@
--- The written bytes of UTF-8 are UTF-8, without NUL and LF.
-use Rattle.std.proofs.Common.{◌≡◌, ◌≢◌, ◌==◌, ◌&&◌, ◌/◌, ◌%◌, not, nat_lt, refl, sym, subst, ℕ, zero, suc, ◌+◌, ◌<◌, ◌≤◌, Bool, true, false, cond, List, [], ◌∷◌, ◌++◌, All, get_or, length, length-append, append_assoc, slice_index, arith, ⊎_elim}
+-- Texts that may stand on a line, as the written bytes of UTF-8 may.
+use Rattle.std.proofs.Common.{◌≡◌, ◌≢◌, ◌&&◌, ◌/◌, ◌%◌, nat_lt, sym, subst, ℕ, ◌+◌, ◌<◌, ◌≤◌, Bool, true, false, cond, List, [], ◌∷◌, ◌++◌, All, get_or, length, length-append, append_assoc, arith, ⊎_elim}
 use Rattle.std.specs.List.{list_all}
 use Rattle.std.specs.Str.{IsUtf8, encode_utf8_all, all_scalars}
-use Rattle.std.proofs.Math.Utf8.{encode, scalar_cases, low_scalar}
+use Rattle.std.proofs.Math.Utf8.{encode, scalar_cases}
 use Rattle.std.proofs.Math.Seq.{take-append_seam, drop-append_seam, get_or-append_seam}
-use Rattle.std.proofs.lemmas.Str.{IsUtf8-append, IsUtf8-nil, IsUtf8-encode, IsUtf8-from_ascii, IsUtf8-take, IsUtf8-drop, IsCharBoundary-after_ascii, encode_ascii}
-use Rattle.std.proofs.lemmas.List.Elements.{All-nil, All-cons, All-head, All-tail, All-append, All-weaker}
-use Rattle.std.proofs.lemmas.Bool.{cond_both, ne_eqb, ltb-true, and_parts}
+use Rattle.std.proofs.lemmas.Str.{IsUtf8-append, IsUtf8-nil, IsUtf8-from_ascii, IsUtf8-take, IsUtf8-drop, IsCharBoundary-after_ascii}
+use Rattle.std.proofs.lemmas.Str.Ascii.{IsAscii-from_all, IsAscii-cons, IsAscii-nil}
+use Rattle.std.proofs.lemmas.List.Elements.{All-nil, All-cons, All-append}
+use Rattle.std.proofs.lemmas.Bool.{cond_both, ltb-true, and_parts}
+use Rattle.po_syntax.specs.Facts.Runs.{all_pass}
+use Rattle.po_syntax.specs.ItemContents.{IsText}
 use Rattle.po_syntax.specs.QuotedForm.{quoted}
 use Rattle.po_syntax.proofs.QuotedTexts.{quoted_utf8, quoted_shown}
+use Rattle.po_entry.specs.Bytes.{Lacks}
+use Rattle.po_entry.specs.Facts.AllAppend.{All-left, All-right}
 use Rattle.po_writer.specs.TextLines.{ContainsLines, none, last, ended}
-use Rattle.po_writer.specs.WrittenText.{lines_with_ends}
-use Rattle.po_writer.proofs.CutLines.{lines_are}
 
 abbrev IsByte : ℕ → Type 0
 IsByte b = b < 256
@@ -46,94 +49,66 @@ all_bytes (c ∷ cs) h =
 utf8_bytes : (text : List ℕ) → IsUtf8 text → All IsByte text
 utf8_bytes text h = subst (All IsByte) h.1.1 (all_bytes h.0 h.1.0)
 
-positive : (b : ℕ) → b ≢ 0 → 0 < b
-positive zero h = absurd (h refl)
-positive (suc b) h = omega arith
+pub text_some : (text : List ℕ) → IsText text → All (λ b. (0 < b) × (b < 256)) text
+text_some text h = λ k d inside. (omega (arith, h.no_nul k d inside), utf8_bytes text h.utf8 k d inside)
 
-pub text_some : (text : List ℕ) → IsUtf8 text → All (λ b. b ≢ 0) text → All (λ b. (0 < b) × (b < 256)) text
-text_some text utf8 h = λ k d inside. (positive (get_or text k d) (h k d inside), utf8_bytes text utf8 k d inside)
+pub text-empty : IsText []
+text-empty = record { utf8 = IsUtf8-nil; no_nul = All-nil (λ b. b ≢ 0) }
 
--- neither NUL nor LF
-abbrev pub is_plain : ℕ → Bool
-is_plain b = not (b == 0) && not (b == 10)
+pub text-feed : IsText (10 ∷ [])
+text-feed = record { utf8 = IsUtf8-from_ascii (10 ∷ []) (IsAscii-cons 10 [] (omega arith) IsAscii-nil); no_nul = All-cons (λ b. b ≢ 0) 10 [] (λ e. cc) (All-nil (λ b. b ≢ 0)) }
 
--- ASCII without NUL and LF
-abbrev pub IsPlainText : List ℕ → Type 0
-IsPlainText text = All (λ b. (b < 128) × (is_plain b ≡ true)) text
+pub text-append : (xs ys : List ℕ) → IsText xs → IsText ys → IsText (xs ++ ys)
+text-append xs ys h g = record { utf8 = IsUtf8-append xs ys h.utf8 g.utf8; no_nul = All-append (λ b. b ≢ 0) xs ys h.no_nul g.no_nul }
 
-pub plain_one : (b : ℕ) (text : List ℕ) → b < 128 → is_plain b ≡ true → IsPlainText text → IsPlainText (b ∷ text)
-plain_one b text low plain more = All-cons (λ b. (b < 128) × (is_plain b ≡ true)) b text (low, plain) more
-
-at_or_zero : (text : List ℕ) (i : ℕ) → IsPlainText text → slice_index text i < 128
-at_or_zero [] i h = omega arith
-at_or_zero (b ∷ text) zero h = (All-head (λ b. (b < 128) × (is_plain b ≡ true)) b text h).0
-at_or_zero (b ∷ text) (suc i) h = at_or_zero text i (All-tail (λ b. (b < 128) × (is_plain b ≡ true)) b text h)
-
-pub no_text : IsPlainText []
-no_text = All-nil (λ b. (b < 128) × (is_plain b ≡ true))
-
--- a text that may stand on a line: UTF-8 without NUL and LF
+-- a text that may stand on a line: one without LF
 pub record IsLine (text : List ℕ) : Type 0 where
-  pub utf8 : IsUtf8 text
-  pub plain : All (λ b. is_plain b ≡ true) text
+  pub valid : IsText text
+  pub one_line : Lacks 10 text
 
 pub line-append : (xs ys : List ℕ) → IsLine xs → IsLine ys → IsLine (xs ++ ys)
-line-append xs ys h g = record { utf8 = IsUtf8-append xs ys h.utf8 g.utf8; plain = All-append (λ b. is_plain b ≡ true) xs ys h.plain g.plain }
+line-append xs ys h g = record { valid = text-append xs ys h.valid g.valid; one_line = All-append (λ b. b ≢ 10) xs ys h.one_line g.one_line }
 
-pub line-ascii : (text : List ℕ) → IsPlainText text → IsLine text
-line-ascii text h = record {
-  utf8 = IsUtf8-from_ascii text (λ i. at_or_zero text i h);
-  plain = All-weaker (λ b. (b < 128) × (is_plain b ≡ true)) (λ b. is_plain b ≡ true) (λ b g. g.1) text h;
+-- bytes from space on are neither NUL nor LF
+shown_line : (text : List ℕ) → IsUtf8 text → All (λ b. 32 ≤ b) text → IsLine text
+shown_line text utf8 shown = record {
+  valid = record { utf8 = utf8; no_nul = λ k d inside e. omega (arith, shown k d inside) };
+  one_line = λ k d inside e. omega (arith, shown k d inside);
 }
-
-pub line-empty : IsLine []
-line-empty = record { utf8 = IsUtf8-nil; plain = All-nil (λ b. is_plain b ≡ true) }
-
-shown_plain : (b : ℕ) → 32 ≤ b → is_plain b ≡ true
-shown_plain b h = rw (ne_eqb b 0 (λ e. omega (arith, e, h)), ne_eqb b 10 (λ e. omega (arith, e, h))) refl
 
 pub quoted_line : (text : List ℕ) → IsUtf8 text → IsLine (quoted text)
-quoted_line text utf8 = record {
-  utf8 = quoted_utf8 text utf8;
-  plain = All-weaker (λ b. 32 ≤ b) (λ b. is_plain b ≡ true) shown_plain (quoted text) (quoted_shown text (utf8_bytes text utf8));
-}
+quoted_line text utf8 = shown_line (quoted text) (quoted_utf8 text utf8) (quoted_shown text (utf8_bytes text utf8))
 
-pub ascii_utf8 : (b : ℕ) → b < 128 → IsUtf8 (b ∷ [])
-ascii_utf8 b low = subst IsUtf8 (encode_ascii b low) (IsUtf8-encode b (low_scalar b (omega arith)))
+pub ascii_line : (text : List ℕ) → All (λ b. (32 ≤ b) × (b < 128)) text → IsLine text
+ascii_line text h = shown_line text (IsUtf8-from_ascii text (IsAscii-from_all text (λ k d inside. (h k d inside).1))) (λ k d inside. (h k d inside).0)
+
+abbrev is_shown_ascii : ℕ → Bool
+is_shown_ascii b = nat_lt 31 b && nat_lt b 128
+
+-- a text of such bytes, as it computes
+pub plain_line : (text : List ℕ) → list_all is_shown_ascii text ≡ true → IsLine text
+plain_line text e =
+    ascii_line text (λ k d inside.
+    let both = and_parts _ _ (all_pass is_shown_ascii text e k d inside) in
+    (omega (arith, ltb-true 31 (get_or text k d) both.0), ltb-true (get_or text k d) 128 both.1))
 
 -- the line of a LF, and the text after it
-feed_parts : (line text : List ℕ) → IsUtf8 (line ++ 10 ∷ text) → IsUtf8 (line ++ 10 ∷ []) × IsUtf8 text
+feed_parts : (line text : List ℕ) → IsText (line ++ 10 ∷ text) → IsText (line ++ 10 ∷ []) × IsText text
 feed_parts line text h =
     let ended = line ++ 10 ∷ [] in
     let whole : line ++ 10 ∷ text ≡ ended ++ text = sym (append_assoc line (10 ∷ []) text) in
     let inside : length line < length (line ++ 10 ∷ text) = omega (arith, length-append line (10 ∷ text)) in
     let low : get_or (line ++ 10 ∷ text) (length line) 0 < 128 = rw get_or-append_seam (omega arith) in
-    let after = IsCharBoundary-after_ascii (line ++ 10 ∷ text) (length line) h inside low in
+    let after = IsCharBoundary-after_ascii (line ++ 10 ∷ text) (length line) h.utf8 inside low in
     let long : length line + 1 ≡ length ended = omega (arith, length-append line (10 ∷ [])) in
-    let before = rw (long, whole, take-append_seam) at (IsUtf8-take (line ++ 10 ∷ text) (length line + 1) h after) in
-    let rest = rw (long, whole, drop-append_seam) at (IsUtf8-drop (line ++ 10 ∷ text) (length line + 1) h after) in
-    (before, rest)
+    let before = rw (long, whole, take-append_seam) at (IsUtf8-take (line ++ 10 ∷ text) (length line + 1) h.utf8 after) in
+    let rest = rw (long, whole, drop-append_seam) at (IsUtf8-drop (line ++ 10 ∷ text) (length line + 1) h.utf8 after) in
+    let no_nul = rw whole at h.no_nul in
+    (record { utf8 = before; no_nul = All-left (λ b. b ≢ 0) ended text no_nul }, record { utf8 = rest; no_nul = All-right (λ b. b ≢ 0) ended text no_nul })
 
-utf8_lines : {text : List ℕ} {lines : List (List ℕ)} → ContainsLines text lines → IsUtf8 text → All IsUtf8 lines
-utf8_lines none h = All-nil IsUtf8
-utf8_lines (last {b = b} {line = line} lacks) h = All-cons IsUtf8 (b ∷ line) [] h (All-nil IsUtf8)
-utf8_lines (ended line {text = text} {lines = lines} lacks more) h =
-    let parts = feed_parts line text h in All-cons IsUtf8 (line ++ 10 ∷ []) lines parts.0 (utf8_lines more parts.1)
-
--- the lines of a text are UTF-8
-pub lines_utf8 : (text : List ℕ) → IsUtf8 text → All IsUtf8 (lines_with_ends text)
-lines_utf8 text h = utf8_lines (lines_are text) h
-
-abbrev pub is_plain_ascii : ℕ → Bool
-is_plain_ascii b = nat_lt b 128 && is_plain b
-
-plain_ascii : (text : List ℕ) → list_all is_plain_ascii text ≡ true → IsPlainText text
-plain_ascii [] h = no_text
-plain_ascii (b ∷ text) h =
-    let both = and_parts _ _ h in
-    let here = and_parts _ _ both.0 in
-    plain_one b text (ltb-true b 128 here.0) here.1 (plain_ascii text both.1)
-
--- a text of ASCII bytes, as it computes
-pub plain_line : (text : List ℕ) → list_all is_plain_ascii text ≡ true → IsLine text
-plain_line text h = line-ascii text (plain_ascii text h)
+-- the lines of a text may stand in it
+pub text_lines : {text : List ℕ} {lines : List (List ℕ)} → ContainsLines text lines → IsText text → All IsText lines
+text_lines none h = All-nil IsText
+text_lines (last {b = b} {line = line} lacks) h = All-cons IsText (b ∷ line) [] h (All-nil IsText)
+text_lines (ended line {text = text} {lines = lines} lacks more) h =
+    let parts = feed_parts line text h in All-cons IsText (line ++ 10 ∷ []) lines parts.0 (text_lines more parts.1)

@@ -1,106 +1,88 @@
 -- A line of elements between separators gives the elements back.
-use Rattle.std.proofs.Common.{◌≡◌, ◌∙◌, ◌==◌, refl, sym, ap, subst, ℕ, suc, ◌+◌, ◌-◌, ◌<◌, Bool, true, false, cond, List, [], ◌∷◌, ◌++◌, append_assoc, length, length-drop, drop, map, filter, All, arith}
-use Rattle.std.specs.Prelude.{reverse}
-use Rattle.std.specs.List.{flat_map, slice_split, prefix_len, suffix_len}
-use Rattle.std.proofs.lemmas.List.{append-nil, take_all, length-take, reverse-append, length-reverse}
-use Rattle.std.proofs.lemmas.List.Elements.{All-cons, All-head, All-tail}
-use Rattle.std.proofs.lemmas.List.Folds.{prefix_len-append}
+use Rattle.std.proofs.Common.{◌≡◌, ◌≢◌, ◌∙◌, ◌==◌, refl, sym, ap, subst, ℕ, suc, ◌+◌, ◌<◌, false, List, [], ◌∷◌, ◌++◌, append_assoc, append-nil, length, length-append, drop, map, filter, All, arith}
+use Rattle.std.specs.List.{flat_map, slice_split, prefix_len}
+use Rattle.std.proofs.lemmas.List.{same_from_push}
+use Rattle.std.proofs.lemmas.List.Elements.{All-nil, All-cons, All-head, All-tail}
 use Rattle.std.proofs.lemmas.List.Splits.{slice_split_at, slice_split_none}
-use Rattle.std.proofs.lemmas.List.Sums.{prefix_len-le-length, suffix_len-le-length, suffix_len_is}
 use Rattle.std.proofs.lemmas.Bool.{ne_eqb, or_parts}
+use Rattle.po_syntax.specs.Facts.Runs.{FailsLast, from_end, end_parts, kept_is}
 use Rattle.po_syntax.specs.ItemContents.{trim_returns}
 use Rattle.po_syntax.specs.Blanks.{is_blank, skip_blanks, without_end}
 use Rattle.po_entry.specs.Bytes.{trimmed}
-use Rattle.po_entry.specs.Comments.{listed_references, listed_flags, is_comma, is_not_empty}
+use Rattle.po_entry.specs.Comments.{listed_references, listed_flags, is_not_empty}
+use Rattle.po_entry.specs.Facts.AllAppend.{All-right}
+use Rattle.po_entry.specs.Validity.{IsReference}
+use Rattle.po_writer.proofs.Utf8.{IsLine, line-append}
 
--- the element holds a byte, and ends with no blank
-abbrev pub IsEnded : List ℕ → Type 0
-IsEnded element = (0 < length element) × (suffix_len is_blank element ≡ 0)
+-- the text may stand on a line, holds a byte, and ends with no blank
+pub record IsListed (text : List ℕ) : Type 0 where
+  pub line : IsLine text
+  pub some : 0 < length text
+  pub ends : FailsLast is_blank text
 
-no_return : (b : ℕ) → is_blank b ≡ false → (b == 13) ≡ false
-no_return b h = (or_parts _ (b == 13) h).1
+last_after : (xs ys : List ℕ) → 0 < length ys → FailsLast is_blank ys → FailsLast is_blank (xs ++ ys)
+last_after xs =
+    from_end (λ ys. 0 < length ys → FailsLast is_blank ys → FailsLast is_blank (xs ++ ys)) (λ some. absurd (omega (arith, some)))
+    (λ ys y ih some h before x e. let same = same_from_push (xs ++ ys) before y x (append_assoc xs ys (y ∷ []) ∙ e) in ap is_blank (sym same.1) ∙ h ys y refl)
 
-head_fails : (test : Bool) (n : ℕ) → cond test (1 + n) 0 ≡ 0 → test ≡ false
-head_fails true n h = absurd (omega (arith, h))
-head_fails false n h = refl
-
-none_before : (xs : List ℕ) → prefix_len is_blank xs ≡ 0 → prefix_len (λ b. b == 13) xs ≡ 0
-none_before [] h = refl
-none_before (b ∷ xs) h = rw (no_return b (head_fails (is_blank b) (prefix_len is_blank xs) h)) refl
-
-suffix_after_prefix : (test : ℕ → Bool) (prefix element : List ℕ) → 0 < length element → suffix_len test element ≡ 0 → suffix_len test (prefix ++ element) ≡ 0
-suffix_after_prefix test prefix element some h =
-    let turned : prefix_len test (reverse (prefix ++ element)) ≡ prefix_len test (reverse element ++ reverse prefix) = ap (prefix_len test) (reverse-append prefix element) in
-    let differ : (prefix_len test (reverse element) == length (reverse element)) ≡ false = ne_eqb _ _ (λ e. omega (arith, e, h, some, length-reverse element)) in
-    turned ∙ prefix_len-append test (reverse element) (reverse prefix) ∙ rw (differ, h) refl
+pub listed_after : (xs ys : List ℕ) → IsLine xs → IsListed ys → IsListed (xs ++ ys)
+listed_after xs ys h g = record { line = line-append xs ys h g.line; some = omega (arith, g.some, length-append xs ys); ends = last_after xs ys g.some g.ends }
 
 -- elements after a first one, each after the separator
 abbrev pub following : List ℕ → List (List ℕ) → List ℕ
 following separator elements = flat_map (λ element. separator ++ element) elements
 
-elements_end : (separator prefix element : List ℕ) (elements : List (List ℕ)) → IsEnded element → All IsEnded elements → suffix_len is_blank (prefix ++ (element ++ following separator elements)) ≡ 0
-elements_end separator prefix element [] h g = rw (append-nil element) (suffix_after_prefix is_blank prefix element h.0 h.1)
-elements_end separator prefix element (next ∷ elements) h g =
-    let rest = next ++ following separator elements in
-    let moved : ((prefix ++ element) ++ separator) ++ rest ≡ prefix ++ (element ++ ((separator ++ next) ++ following separator elements)) =
-    append_assoc (prefix ++ element) separator rest ∙ append_assoc prefix element (separator ++ rest) ∙ ap (λ t. prefix ++ (element ++ t)) (sym (append_assoc separator next (following separator elements))) in
-    subst (λ t. suffix_len is_blank t ≡ 0) moved (elements_end separator ((prefix ++ element) ++ separator) next elements (All-head IsEnded next elements g) (All-tail IsEnded next elements g))
+pub elements_listed : (separator element : List ℕ) (elements : List (List ℕ)) → IsLine separator → IsListed element → All IsListed elements → IsListed (element ++ following separator elements)
+elements_listed separator element [] s h g = rw (append-nil element) h
+elements_listed separator element (next ∷ elements) s h g =
+    rw (append_assoc separator next (following separator elements))
+    (listed_after element _ h.line (listed_after separator _ s (elements_listed separator next elements s (All-head IsListed next elements g) (All-tail IsListed next elements g))))
 
--- a line of elements ends with no CR
-pub elements_kept : (separator prefix element : List ℕ) (elements : List (List ℕ)) → IsEnded element → All IsEnded elements → trim_returns (prefix ++ (element ++ following separator elements)) ≡ prefix ++ (element ++ following separator elements)
-elements_kept separator prefix element elements h g =
-    let text = prefix ++ (element ++ following separator elements) in
-    let none : suffix_len (λ b. b == 13) text ≡ 0 = none_before (reverse text) (elements_end separator prefix element elements h g) in
-    take_all (length text - suffix_len (λ b. b == 13) text) text (omega (arith, none))
+-- such a text ends with no CR
+pub no_return : (text : List ℕ) → IsListed text → trim_returns text ≡ text
+no_return text h =
+    ap (without_end (λ b. b == 13)) (sym (append-nil text)) ∙ kept_is (λ b. b == 13) text (λ before b e. (or_parts _ (b == 13) (h.ends before b e)).1) [] (All-nil _)
+
+pub some_text : (text : List ℕ) → text ≢ [] → 0 < length text
+some_text [] h = absurd (h refl)
+some_text (b ∷ text) h = omega arith
 
 one_element : (element : List ℕ) (elements : List (List ℕ)) → 0 < length element → filter is_not_empty (element ∷ elements) ≡ element ∷ filter is_not_empty elements
 one_element element elements some = rw (ne_eqb (length element) 0 (λ e. omega (arith, e, some))) refl
 
--- an element of a `#:` line
-abbrev pub IsElement : List ℕ → Type 0
-IsElement element = (0 < length element) × All (λ b. is_blank b ≡ false) element
+pub reference_listed : (text : List ℕ) → IsReference text → IsListed text
+reference_listed text h = record {
+  line = record { valid = h.valid; one_line = h.one_line };
+  some = some_text text h.some_byte;
+  ends = λ before b e. All-head (λ c. is_blank c ≡ false) b [] (All-right (λ c. is_blank c ≡ false) before (b ∷ []) (subst (All (λ c. is_blank c ≡ false)) e h.no_blank));
+}
 
-pub element_ended : (element : List ℕ) → IsElement element → IsEnded element
-element_ended element h =
-    let last : suffix_len is_blank element ≡ length element - length element =
-    suffix_len_is is_blank element (length element) 0 (omega arith) (λ k low high. absurd (omega (arith, low, high))) (λ some. h.1 (length element - 1) 0 (omega (arith, some))) in
-    (h.0, omega (arith, last))
-
-pub references_cut : (element : List ℕ) (elements : List (List ℕ)) → IsElement element → All IsElement elements → listed_references (element ++ following (32 ∷ []) elements) ≡ element ∷ elements
-references_cut element [] h g = rw (append-nil element, slice_split_none is_blank element h.1) (one_element element [] h.0)
+pub references_cut : (element : List ℕ) (elements : List (List ℕ)) → IsReference element → All IsReference elements → listed_references (element ++ following (32 ∷ []) elements) ≡ element ∷ elements
+references_cut element [] h g = rw (append-nil element, slice_split_none is_blank element h.no_blank) (one_element element [] (some_text element h.some_byte))
 references_cut element (next ∷ elements) h g =
-    ap (filter is_not_empty) (slice_split_at is_blank element 32 (next ++ following (32 ∷ []) elements) h.1 refl) ∙ one_element element (slice_split is_blank (next ++ following (32 ∷ []) elements)) h.0 ∙ ap (λ t. element ∷ t) (references_cut next elements (All-head IsElement next elements g) (All-tail IsElement next elements g))
+    ap (filter is_not_empty) (slice_split_at is_blank element 32 (next ++ following (32 ∷ []) elements) h.no_blank refl) ∙ one_element element (slice_split is_blank (next ++ following (32 ∷ []) elements)) (some_text element h.some_byte) ∙ ap (λ t. element ∷ t) (references_cut next elements (All-head IsReference next elements g) (All-tail IsReference next elements g))
 
 -- an element of a `#,` line
 pub record IsFlagElement (element : List ℕ) : Type 0 where
+  pub line : IsLine element
   pub some : 0 < length element
   pub no_blank_ends : trimmed element ≡ element
-  pub no_comma : All (λ b. is_comma b ≡ false) element
+  pub no_comma : All (λ b. (b == 44) ≡ false) element
 
-pub flag_ended : (element : List ℕ) → IsFlagElement element → IsEnded element
-flag_ended element h =
-    let after = skip_blanks element in
-    let same = ap length h.no_blank_ends in
-    let kept = length-take (length after - suffix_len is_blank after) after in
-    let cut = length-drop (prefix_len is_blank element) element in
-    let whole : prefix_len is_blank element ≡ 0 = omega (arith, same, kept, cut, h.some, prefix_len-le-length is_blank element, suffix_len-le-length is_blank after) in
-    let nothing : suffix_len is_blank after ≡ 0 = omega (arith, same, kept, cut, h.some, prefix_len-le-length is_blank element, suffix_len-le-length is_blank after) in
-    (h.some, subst (λ n. suffix_len is_blank (drop n element) ≡ 0) whole nothing)
-
-one_more : (n : ℕ) → 1 + n ≡ suc n
-one_more n = omega arith
+pub flag_listed : (element : List ℕ) → IsFlagElement element → IsListed element
+flag_listed element h = record { line = h.line; some = h.some; ends = subst (FailsLast is_blank) h.no_blank_ends (end_parts is_blank (skip_blanks element)).fails }
 
 skip_blank : (text : List ℕ) → skip_blanks (32 ∷ text) ≡ skip_blanks text
-skip_blank text = ap (λ n. drop n (32 ∷ text)) (one_more (prefix_len is_blank text))
+skip_blank text = let next : 1 + prefix_len is_blank text ≡ suc (prefix_len is_blank text) = omega arith in ap (λ n. drop n (32 ∷ text)) next
 
 trimmed_element : (element : List ℕ) → IsFlagElement element → trimmed (32 ∷ element) ≡ element
 trimmed_element element h = ap (without_end is_blank) (skip_blank element) ∙ h.no_blank_ends
 
 pub flags_cut : (element : List ℕ) (elements : List (List ℕ)) → IsFlagElement element → All IsFlagElement elements → listed_flags (32 ∷ element ++ following (44 ∷ 32 ∷ []) elements) ≡ element ∷ elements
 flags_cut element [] h g =
-    let whole = All-cons (λ b. is_comma b ≡ false) 32 element refl h.no_comma in
-    rw (append-nil element, slice_split_none is_comma (32 ∷ element) whole, trimmed_element element h) (one_element element [] h.some)
+    let whole = All-cons (λ b. (b == 44) ≡ false) 32 element refl h.no_comma in
+    rw (append-nil element, slice_split_none (λ b. b == 44) (32 ∷ element) whole, trimmed_element element h) (one_element element [] h.some)
 flags_cut element (next ∷ elements) h g =
-    let whole = All-cons (λ b. is_comma b ≡ false) 32 element refl h.no_comma in
-    ap (λ t. filter is_not_empty (map trimmed t)) (slice_split_at is_comma (32 ∷ element) 44 (32 ∷ next ++ following (44 ∷ 32 ∷ []) elements) whole refl)
-    ∙ rw (trimmed_element element h) (one_element element (map trimmed (slice_split is_comma (32 ∷ next ++ following (44 ∷ 32 ∷ []) elements))) h.some) ∙ ap (λ t. element ∷ t) (flags_cut next elements (All-head IsFlagElement next elements g) (All-tail IsFlagElement next elements g))
+    let whole = All-cons (λ b. (b == 44) ≡ false) 32 element refl h.no_comma in
+    ap (λ t. filter is_not_empty (map trimmed t)) (slice_split_at (λ b. b == 44) (32 ∷ element) 44 (32 ∷ next ++ following (44 ∷ 32 ∷ []) elements) whole refl)
+    ∙ rw (trimmed_element element h) (one_element element (map trimmed (slice_split (λ b. b == 44) (32 ∷ next ++ following (44 ∷ 32 ∷ []) elements))) h.some) ∙ ap (λ t. element ∷ t) (flags_cut next elements (All-head IsFlagElement next elements g) (All-tail IsFlagElement next elements g))

@@ -69,44 +69,28 @@ pub data WritesTranslation (prefix : List ℕ) : Option (List ℕ) → List (Lis
   with_plural : {text here later : List ℕ} {forms : List (List ℕ)}
       → WritesKeyword prefix (codes "msgid_plural") text here → WritesForms prefix 0 forms later → WritesTranslation prefix (Some text) forms (here ++ later)
 
--- the previous texts of an entry, and its own ones
-pub record WritesPrevious (e : TextEntry) (prefix lines : List ℕ) : Type 0 where
-  pub context : List ℕ
-  pub id : List ℕ
-  pub plural : List ℕ
-  pub prefix_is : IsPreviousPrefix e.obsolete prefix
-  pub first : WritesOptional prefix (codes "msgctxt") e.previous.context context
-  pub second : WritesOptional prefix (codes "msgid") e.previous.id id
-  pub third : WritesOptional prefix (codes "msgid_plural") e.previous.plural plural
-  pub whole : lines ≡ context ++ id ++ plural
+-- the previous texts of an entry
+pub data WritesPrevious (e : TextEntry) : List ℕ → Type 0 where
+  previous : {prefix context id plural : List ℕ} → IsPreviousPrefix e.obsolete prefix
+      → WritesOptional prefix (codes "msgctxt") e.previous.context context
+      → WritesOptional prefix (codes "msgid") e.previous.id id
+      → WritesOptional prefix (codes "msgid_plural") e.previous.plural plural
+      → WritesPrevious e (context ++ id ++ plural)
 
-pub record WritesOwn (e : TextEntry) (prefix lines : List ℕ) : Type 0 where
-  pub context : List ℕ
-  pub id : List ℕ
-  pub translation : List ℕ
-  pub prefix_is : IsOwnPrefix e.obsolete prefix
-  pub first : WritesOptional prefix (codes "msgctxt") e.context context
-  pub second : WritesKeyword prefix (codes "msgid") e.id id
-  pub third : WritesTranslation prefix e.plural e.forms translation
-  pub whole : lines ≡ context ++ id ++ translation
+-- its own texts
+pub data WritesOwn (e : TextEntry) : List ℕ → Type 0 where
+  own : {prefix context id translation : List ℕ} → IsOwnPrefix e.obsolete prefix
+      → WritesOptional prefix (codes "msgctxt") e.context context
+      → WritesKeyword prefix (codes "msgid") e.id id
+      → WritesTranslation prefix e.plural e.forms translation
+      → WritesOwn e (context ++ id ++ translation)
 
 -- an entry: its comments, its references, its flags, its previous texts, and its own texts
-pub record WritesEntry (e : TextEntry) (text : List ℕ) : Type 0 where
-  pub comments : List ℕ
-  pub extracted : List ℕ
-  pub references : List ℕ
-  pub flags : List ℕ
-  pub previous_prefix : List ℕ
-  pub previous : List ℕ
-  pub own_prefix : List ℕ
-  pub own : List ℕ
-  pub first : WritesComments (codes "#") e.comments comments
-  pub second : WritesComments (codes "#.") e.extracted extracted
-  pub third : WritesReferences e.references references
-  pub fourth : WritesFlags e.fuzzy e.flags flags
-  pub fifth : WritesPrevious e previous_prefix previous
-  pub last : WritesOwn e own_prefix own
-  pub whole : text ≡ comments ++ extracted ++ references ++ flags ++ previous ++ own
+pub data WritesEntry (e : TextEntry) : List ℕ → Type 0 where
+  entry : {comments extracted references flags previous own : List ℕ} → WritesComments (codes "#") e.comments comments
+      → WritesComments (codes "#.") e.extracted extracted → WritesReferences e.references references
+      → WritesFlags e.fuzzy e.flags flags → WritesPrevious e previous → WritesOwn e own
+      → WritesEntry e (comments ++ extracted ++ references ++ flags ++ previous ++ own)
 
 -- the live entries of a list and the obsolete ones, both in its order
 pub data HasParts : List TextEntry → List TextEntry → List TextEntry → Type 0 where
@@ -117,11 +101,8 @@ pub data HasParts : List TextEntry → List TextEntry → List TextEntry → Typ
       → HasParts entries live obsolete → HasParts (e ∷ entries) live (e ∷ obsolete)
 
 -- the live entries are before the obsolete ones
-pub record IsArranged (entries done : List TextEntry) : Type 0 where
-  pub live : List TextEntry
-  pub obsolete : List TextEntry
-  pub parts : HasParts entries live obsolete
-  pub whole : done ≡ live ++ obsolete
+pub data IsArranged (entries : List TextEntry) : List TextEntry → Type 0 where
+  live_before : {live obsolete : List TextEntry} → HasParts entries live obsolete → IsArranged entries (live ++ obsolete)
 
 -- further entries, each after an empty line
 pub data FollowEntries : List TextEntry → List ℕ → Type 0 where

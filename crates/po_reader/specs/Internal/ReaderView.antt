@@ -6,9 +6,8 @@ use Rattle.po_reader.specs.declared.body.Original.{Original}
 use Rattle.po_reader.specs.declared.body.Body.{Body}
 use Rattle.po_reader.specs.declared.head.Step.{Step}
 use Rattle.po_reader.specs.declared.head.Step.TheVariants as step
-use Rattle.po_entry.specs.EntryParts as parts
 use Rattle.po_entry.specs.EntryParts.{rank}
-use Rattle.po_entry.specs.TextEntry.{texts, optional_text}
+use Rattle.po_entry.specs.TextEntry.{TextEntry, plain_entry, texts, optional_text}
 use Rattle.po_reader.specs.Internal.Stage as spec
 use Rattle.po_reader.specs.Internal.Stage.{SoFar, Stage, Between, In, InHead, with_comment}
 
@@ -18,17 +17,13 @@ wanted_view code.Translation = spec.Translation
 wanted_view (code.Form index) = spec.Form index
 
 -- own lines up to the msgid
-abbrev pub original_view : Original → parts.Body
-original_view original = record {
-  context = optional_text original.context;
-  id = original.id.items;
-  plural = None;
-  forms = [];
+abbrev pub original_view : Original → TextEntry
+original_view original = record (plain_entry (optional_text original.context) original.id.items None []) {
   obsolete = original.obsolete;
   line = original.line;
 }
 
-abbrev pub body_view : Body → parts.Body
+abbrev pub body_view : Body → TextEntry
 body_view own = record (original_view own.original) {
   plural = optional_text own.translation.plural;
   forms = texts own.translation.forms.items;

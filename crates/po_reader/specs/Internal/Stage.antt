@@ -4,20 +4,20 @@ use Rattle.po_syntax.specs.declared.fault.PoFault.{PoFault}
 use Rattle.po_syntax.specs.declared.item.Keyword.{Keyword}
 use Rattle.po_syntax.specs.declared.item.Keyword.TheVariants.{MsgCtxt, MsgId, MsgIdPlural, MsgStr, MsgStrAt}
 use Rattle.po_syntax.specs.declared.item.Marks.{Marks}
-use Rattle.po_entry.specs.TextEntry.{TextEntry}
-use Rattle.po_entry.specs.EntryParts.{CommentText, PreviousText, Body}
-use Rattle.po_entry.specs.Spelling.{entry_from}
+use Rattle.po_entry.specs.TextEntry.{TextEntry, plain_entry}
+use Rattle.po_entry.specs.EntryParts.{CommentText, PreviousText}
+use Rattle.po_entry.specs.Spelling.{with_head}
 
 -- what was read: whole entries, and of the next one its comments, its previous texts and its own lines
 pub record SoFar : Type 0 where
   pub entries : List TextEntry
   pub comment_texts : List CommentText
   pub previous : List PreviousText
-  pub own : Body
+  pub own : TextEntry
 
 -- own lines of which nothing but the obsolete mark was read
-abbrev pub no_lines : Bool → Body
-no_lines obsolete = record { context = None; id = []; plural = None; forms = []; obsolete = obsolete; line = 0 }
+abbrev pub no_lines : Bool → TextEntry
+no_lines obsolete = record (plain_entry None [] None []) { obsolete = obsolete }
 
 -- these entries, and nothing of the next one
 abbrev pub only : List TextEntry → SoFar
@@ -30,12 +30,12 @@ after_head entries comment_texts previous =
 
 -- the entry that was read is a whole one
 abbrev pub with_entry : SoFar → SoFar
-with_entry read = only (read.entries ++ entry_from read.comment_texts read.previous read.own ∷ [])
+with_entry read = only (read.entries ++ with_head read.comment_texts read.previous read.own ∷ [])
 
-abbrev pub with_own : SoFar → Body → SoFar
+abbrev pub with_own : SoFar → TextEntry → SoFar
 with_own read own = record read { own = own }
 
-abbrev pub with_context : Body → Option (List ℕ) → Body
+abbrev pub with_context : TextEntry → Option (List ℕ) → TextEntry
 with_context own context = record own { context = context }
 
 -- the own lines with these forms
@@ -55,7 +55,7 @@ abbrev pub with_previous_text : SoFar → PreviousText → SoFar
 with_previous_text read text = record read { previous = read.previous ++ text ∷ [] }
 
 -- the own lines with the text that stands under this keyword
-abbrev pub with_text : Keyword → List ℕ → Body → Body
+abbrev pub with_text : Keyword → List ℕ → TextEntry → TextEntry
 with_text MsgCtxt text own = record own { context = Some text }
 with_text MsgId text own = record own { id = text }
 with_text MsgIdPlural text own = record own { plural = Some text; forms = [] }

@@ -8,7 +8,8 @@ use Rattle.po_syntax.specs.declared.item.Keyword.{Keyword}
 use Rattle.po_syntax.specs.declared.item.Keyword.TheVariants.{MsgCtxt, MsgId, MsgIdPlural, MsgStr, MsgStrAt}
 use Rattle.po_syntax.specs.declared.item.Marks.{Marks}
 use Rattle.po_syntax.specs.TextItem.{TextItem, Comment, Word, Str, line_of}
-use Rattle.po_entry.specs.EntryParts.{Body, rank}
+use Rattle.po_entry.specs.TextEntry.{TextEntry}
+use Rattle.po_entry.specs.EntryParts.{rank}
 use Rattle.po_entry.specs.Spelling.{own_marks}
 use Rattle.po_reader.specs.Internal.Stage.{SoFar, Wanted, Id, Translation, Form, Gap, InHead, Before, AfterForm}
 use Rattle.po_reader.specs.Internal.Stage.{Stage, Between, In, Stop, Outcome, Entries, Fault}
@@ -69,12 +70,12 @@ begins_word (Word keyword marks line ∷ rest) = true
 begins_word _ = false
 
 -- the own lines after this keyword, of which `msgid` gives an entry its line
-abbrev pub with_keyword : Keyword → ℕ → Body → Body
+abbrev pub with_keyword : Keyword → ℕ → TextEntry → TextEntry
 with_keyword MsgId line own = record own { line = line }
 with_keyword keyword line own = own
 
 -- after a keyword of these own lines
-abbrev pub opened : SoFar → Body → Keyword → ℕ → Stage
+abbrev pub opened : SoFar → TextEntry → Keyword → ℕ → Stage
 opened read own keyword line =
     In (with_own read (with_keyword keyword line own)) keyword (own_marks own.obsolete) false []
 

@@ -1,7 +1,7 @@
 use Rattle.std.proofs.Common.{[], ◌∷◌, ◌++◌, ◌∙◌, ap, arith}
 use Rattle.std.proofs.lemmas.List.{map_push}
 use Rattle.po_entry.specs.TextEntry.{TextEntry}
-use Rattle.po_entry.specs.Spelling.{entry_from}
+use Rattle.po_entry.specs.Spelling.{with_head}
 use Rattle.po_reader.specs.KeptComments.{kept_comments, kept_entry}
 use Rattle.po_reader.specs.Internal.Stage.{after_head}
 use Rattle.po_reader.specs.Internal.ReaderView.{body_view}
@@ -38,7 +38,7 @@ loop-drafts-preserved c =
     let head = c.in_ok-head.ensures.found in
     let body = body_view c.in_ok-body.body in
     let made = c.in_ok-fields_of.ensures (kept_comments c.args.with_comments head.0) head.1 head.3 ∙ kept_from c.args.with_comments head.0 head.1 body in
-    let first : TextEntry = entry_from head.0 head.1 body in
+    let first : TextEntry = with_head head.0 head.1 body in
     record {
       reads = (
         reads.0 ++ first ∷ [],
