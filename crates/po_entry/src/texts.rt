@@ -1,9 +1,9 @@
 //! What the texts of an entry may hold: UTF-8, and no byte that can't be written.
 
-ghost use Rattle.std.specs.Prelude.{MatchResult, All, IsUtf8, IsTrue, ◌↔◌, option_to_list, option_copied};
+ghost use Rattle.std.specs.Prelude.{MatchResult, All, IsTrue, ◌↔◌, option_to_list, option_copied};
 ghost use Rattle.po_entry.specs.EntryView.{entry_view};
 ghost use Rattle.po_entry.specs.TextEntry.{quoted_texts, previous_texts, texts};
-ghost use Rattle.po_entry.specs.Bytes.{Lacks};
+ghost use Rattle.po_entry.specs.Internal.Needs.{Meets};
 ghost use Rattle.po_entry.specs.Validity.{EntryTextFault, HasTexts, IsClean};
 
 use crate::fields::Fields;
@@ -22,7 +22,7 @@ const EOT: u8 = 4;
 pub fn check_texts(fields: &Fields) -> Result<(), PoFault>
     ensures { MatchResult result (λ _. HasTexts (entry_view fields.now)) (EntryTextFault (entry_view fields.now)) }
 {
-    if !are_utf8(fields) {
+    if !quoted_meet(Need::Utf8, fields) {
         return Err(PoFault::NotUtf8);
     }
     if !are_clean(fields) {
@@ -31,104 +31,74 @@ pub fn check_texts(fields: &Fields) -> Result<(), PoFault>
     Ok(())
 }
 
-/// Whether all texts of quoted strings are UTF-8.
-fn are_utf8(fields: &Fields) -> bool
-    ensures { IsTrue result ↔ All IsUtf8 (quoted_texts (entry_view fields.now)) }
-{
-    // `&` here and below, and not `&&`: without branches, so that the proof takes one operand after
-    // another.
-    previous_is_utf8(&fields.previous)
-        & optional_is_utf8(fields.context.as_deref())
-        & is_utf8(&fields.id)
-        & optional_is_utf8(fields.plural.as_deref())
-        & all_utf8(&fields.forms)
-}
-
-/// Whether the previous texts are UTF-8.
-fn previous_is_utf8(previous: &Previous) -> bool
-    ensures { IsTrue result ↔ All IsUtf8 (previous_texts previous.now) }
-{
-    optional_is_utf8(previous.context.as_deref())
-        & optional_is_utf8(previous.id.as_deref())
-        & optional_is_utf8(previous.plural.as_deref())
-}
-
-/// Whether the text is UTF-8, where there is one.
-fn optional_is_utf8(text: Option<&[u8]>) -> bool
-    ensures { IsTrue result ↔ All IsUtf8 (option_to_list (option_copied text.entry)) }
-{
-    match text {
-        Some(bytes) => is_utf8(bytes),
-        None => true,
-    }
-}
-
-/// Whether each text of the list is UTF-8.
-fn all_utf8(list: &[Vec<u8>]) -> bool
-    ensures { IsTrue result ↔ All IsUtf8 (texts list.now) }
-{
-    for text in list {
-        if !is_utf8(text) {
-            return false;
-        }
-    }
-    true
+/// What a text is tested for.
+#[derive(Clone, Copy)]
+enum Need {
+    /// That it is UTF-8.
+    Utf8,
+    /// That it lacks this byte.
+    Without(u8),
 }
 
 /// Whether no quoted text has a NUL, and neither context nor msgid an EOT.
 fn are_clean(fields: &Fields) -> bool
     ensures { IsTrue result ↔ IsClean (entry_view fields.now) }
 {
-    quoted_lack(NUL, fields)
-        & optional_lacks(EOT, fields.context.as_deref())
-        & lacks(EOT, &fields.id)
+    quoted_meet(Need::Without(NUL), fields)
+        & optional_meets(Need::Without(EOT), fields.context.as_deref())
+        & meets(Need::Without(EOT), &fields.id)
 }
 
-/// Whether no text of a quoted string has the byte.
-fn quoted_lack(byte: u8, fields: &Fields) -> bool
-    ensures { IsTrue result ↔ All (Lacks byte) (quoted_texts (entry_view fields.now)) }
+/// Whether all texts of quoted strings meet the need.
+fn quoted_meet(need: Need, fields: &Fields) -> bool
+    ensures { IsTrue result ↔ All (Meets need) (quoted_texts (entry_view fields.now)) }
 {
-    previous_lacks(byte, &fields.previous)
-        & optional_lacks(byte, fields.context.as_deref())
-        & lacks(byte, &fields.id)
-        & optional_lacks(byte, fields.plural.as_deref())
-        & all_lack(byte, &fields.forms)
+    // `&` here and below, and not `&&`: without branches, so that the proof takes one operand after
+    // another.
+    previous_meets(need, &fields.previous)
+        & optional_meets(need, fields.context.as_deref())
+        & meets(need, &fields.id)
+        & optional_meets(need, fields.plural.as_deref())
+        & all_meet(need, &fields.forms)
 }
 
-/// Whether no previous text has the byte.
-fn previous_lacks(byte: u8, previous: &Previous) -> bool
-    ensures { IsTrue result ↔ All (Lacks byte) (previous_texts previous.now) }
+/// Whether the previous texts meet the need.
+fn previous_meets(need: Need, previous: &Previous) -> bool
+    ensures { IsTrue result ↔ All (Meets need) (previous_texts previous.now) }
 {
-    optional_lacks(byte, previous.context.as_deref())
-        & optional_lacks(byte, previous.id.as_deref())
-        & optional_lacks(byte, previous.plural.as_deref())
+    optional_meets(need, previous.context.as_deref())
+        & optional_meets(need, previous.id.as_deref())
+        & optional_meets(need, previous.plural.as_deref())
 }
 
-/// Whether the text lacks the byte, where there is one.
-fn optional_lacks(byte: u8, text: Option<&[u8]>) -> bool
-    ensures { IsTrue result ↔ All (Lacks byte) (option_to_list (option_copied text.entry)) }
+/// Whether the text meets the need, where there is one.
+fn optional_meets(need: Need, text: Option<&[u8]>) -> bool
+    ensures { IsTrue result ↔ All (Meets need) (option_to_list (option_copied text.entry)) }
 {
     match text {
-        Some(bytes) => lacks(byte, bytes),
+        Some(bytes) => meets(need, bytes),
         None => true,
     }
 }
 
-/// Whether each text of the list lacks the byte.
-fn all_lack(byte: u8, list: &[Vec<u8>]) -> bool
-    ensures { IsTrue result ↔ All (Lacks byte) (texts list.now) }
+/// Whether each text of the list meets the need.
+fn all_meet(need: Need, list: &[Vec<u8>]) -> bool
+    ensures { IsTrue result ↔ All (Meets need) (texts list.now) }
 {
     for text in list {
-        if !lacks(byte, text) {
+        if !meets(need, text) {
             return false;
         }
     }
     true
 }
 
-/// Whether the byte isn't in the text.
-fn lacks(byte: u8, text: &[u8]) -> bool
-    ensures { IsTrue result ↔ Lacks byte text.now }
+/// Whether the text meets the need.
+fn meets(need: Need, text: &[u8]) -> bool
+    ensures { IsTrue result ↔ Meets need text.now }
 {
-    memchr(byte, text).is_none()
+    match need {
+        Need::Utf8 => is_utf8(text),
+        Need::Without(byte) => memchr(byte, text).is_none(),
+    }
 }
