@@ -20,22 +20,26 @@ pub fn equal_but_line()
 
 /// The charset that is found in a header's text is the one that it names: the bytes after its first
 /// `charset=`, up to a space, TAB, CR, LF or semicolon or the text's end; none without `charset=`.
+#[tactic(auto, using(crate::proofs::CharsetNames::charset_named))]
 pub fn charset_is_named()
     ensures { (text name : List ℕ) → (name ≡ charset_of text) ↔ NamesCharset text name }
 {}
 
 /// The admitted charsets are none, UTF-8, ASCII and the `CHARSET` of a template, by their names,
 /// whatever the case of its letters.
+#[tactic(auto, using(crate::proofs::FuzzyFlags::admitted))]
 pub fn charsets_are_admitted()
     ensures { (name : List ℕ) → IsAdmittedName name ↔ NamesAdmitted (map to_ascii_lowercase name) }
 {}
 
 /// An entry is fuzzy exactly if one of its comments lists the flag `fuzzy`, wherever it stands.
+#[tactic(auto, using(crate::proofs::FuzzyFlags::fuzzy_where_flagged))]
 pub fn fuzzy_where_flagged()
     ensures { (comment_texts : List CommentText) → Decides (fuzzy_of comment_texts) (HaveFuzzyFlag comment_texts) }
 {}
 
 /// The references that are found in the text of a comment are those that it lists, between blanks.
+#[tactic(auto, using(crate::proofs::ListedElements::references_listed))]
 pub fn references_are_listed()
     ensures { (text : List ℕ) (references : List (List ℕ))
         → (references ≡ listed_references text) ↔ ListsReferences text references }
@@ -43,6 +47,7 @@ pub fn references_are_listed()
 
 /// The flags that are found in the text of a comment are those that it lists, between commas and
 /// without the blanks at their ends.
+#[tactic(auto, using(crate::proofs::ListedElements::flags_listed))]
 pub fn flags_are_listed()
     ensures { (text : List ℕ) (flags : List (List ℕ))
         → (flags ≡ listed_flags text) ↔ ListsFlags text flags }
@@ -50,6 +55,7 @@ pub fn flags_are_listed()
 
 /// Of all the flags that an entry's comments list, the entry keeps each where it first stands, and
 /// never `fuzzy`.
+#[tactic(auto, using(crate::proofs::ListedElements::flags_kept))]
 pub fn flags_are_kept_once()
     ensures { (comment_texts : List CommentText) (flags : List (List ℕ))
         → (flags ≡ flags_of comment_texts) ↔ KeepsFlags (all_listed_flags comment_texts) flags }
@@ -58,6 +64,7 @@ pub fn flags_are_kept_once()
 /// The items of two pieces, one after the other, spell the entries of the first and then those of
 /// the second, if the items of the first end in a string. So no comment at its end belongs to an
 /// entry of the second.
+#[tactic(auto, using(crate::proofs::JoinedPieces::entries_joined))]
 pub fn joined_pieces()
     ensures { (prefix rest : List TextItem) (first others : List TextEntry)
         → SpellsEntries prefix first → EndsInString prefix → SpellsEntries rest others
