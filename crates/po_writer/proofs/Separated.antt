@@ -4,9 +4,10 @@ use Rattle.std.specs.Prelude.{fold}
 use Rattle.std.specs.List.{flat_map, join_by}
 use Rattle.std.specs.Bool.{beq}
 use Rattle.std.proofs.lemmas.List.{append-nil}
-use Rattle.std.proofs.lemmas.List.Elements.{All-head, All-tail, All-push, filter_agree}
+use Rattle.std.proofs.lemmas.List.Elements.{All-push, filter_agree}
 use Rattle.std.proofs.lemmas.List.Sums.{fold-append, fold_push}
 use Rattle.std.proofs.lemmas.Bool.{ne_eqb}
+use Rattle.po_entry.specs.Facts.Filters.{all_pass, none_pass}
 use Rattle.po_entry.specs.TextEntry.{TextEntry}
 use Rattle.po_writer.specs.Separated.{with_entry, entries_marked}
 use Rattle.po_writer.specs.WrittenText.{own_prefix, optional_lines, keyword_lines, text_lines, translation_lines, own_lines, entry_lines, arranged, written_text}
@@ -57,15 +58,6 @@ separated entries =
 
 abbrev pub IsLive : TextEntry → Type 0
 IsLive entry = entry.obsolete ≡ false
-
--- where each element passes, all are kept; where none does, none is
-pub all_pass : {X : Type 0} (p : X → Bool) (xs : List X) → All (λ x. p x ≡ true) xs → filter p xs ≡ xs
-all_pass p [] h = refl
-all_pass p (x ∷ xs) h = ap (λ b. cond b (x ∷ filter p xs) (filter p xs)) (All-head (λ y. p y ≡ true) x xs h) ∙ ap (λ l. x ∷ l) (all_pass p xs (All-tail (λ y. p y ≡ true) x xs h))
-
-pub none_pass : {X : Type 0} (p : X → Bool) (xs : List X) → All (λ x. p x ≡ false) xs → filter p xs ≡ []
-none_pass p [] h = refl
-none_pass p (x ∷ xs) h = ap (λ b. cond b (x ∷ filter p xs) (filter p xs)) (All-head (λ y. p y ≡ false) x xs h) ∙ none_pass p xs (All-tail (λ y. p y ≡ false) x xs h)
 
 -- live entries are arranged as they stand
 pub live_stay : (entries : List TextEntry) → All IsLive entries → arranged entries ≡ entries
