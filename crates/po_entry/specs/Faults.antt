@@ -16,28 +16,26 @@ use Rattle.po_entry.specs.Viable.{ItemsFault}
 abbrev pub IsStop : (PoFault → ℕ → Type 0) → PoError → Type 0
 IsStop Stops error = error.kind ≢ OutOfMemory → Stops error.kind error.line
 
--- the first entry that can't have its texts has this fault and this line
-pub data TextsStop : List TextEntry → PoFault → ℕ → Type 0 where
-  here : {entry : TextEntry} {entries : List TextEntry} {fault : PoFault} {line : ℕ} → EntryTextFault entry fault
-      → line ≡ entry.line → TextsStop (entry ∷ entries) fault line
-  later : {entry : TextEntry} {entries : List TextEntry} {fault : PoFault} {line : ℕ} → HasTexts entry
-      → TextsStop entries fault line → TextsStop (entry ∷ entries) fault line
+-- the first entry without P fails with this fault, and has this line
+pub data EntriesStop (P : TextEntry → Type 0) (Fails : TextEntry → PoFault → Type 0)
+    : List TextEntry → PoFault → ℕ → Type 0 where
+  here : {entry : TextEntry} {entries : List TextEntry} {fault : PoFault} {line : ℕ} → Fails entry fault
+      → line ≡ entry.line → EntriesStop P Fails (entry ∷ entries) fault line
+  later : {entry : TextEntry} {entries : List TextEntry} {fault : PoFault} {line : ℕ} → P entry
+      → EntriesStop P Fails entries fault line → EntriesStop P Fails (entry ∷ entries) fault line
 
--- the first header whose charset is not admitted has this line
-pub data CharsetStops : List TextEntry → ℕ → Type 0 where
-  here : {entry : TextEntry} {entries : List TextEntry} {line : ℕ} → (HasAdmittedCharset entry → ⊥) → line ≡ entry.line
-      → CharsetStops (entry ∷ entries) line
-  later : {entry : TextEntry} {entries : List TextEntry} {line : ℕ} → HasAdmittedCharset entry
-      → CharsetStops entries line → CharsetStops (entry ∷ entries) line
+-- the entry is a header whose charset is not admitted
+pub data IsForeign (entry : TextEntry) : PoFault → Type 0 where
+  foreign : (HasAdmittedCharset entry → ⊥) → IsForeign entry ForeignCharset
 
 -- The first fault of items that don't read, with its line: that of items that spell no entries; the
 -- first entry that can't have its texts; the first header whose charset is not admitted.
 pub data ItemsStop (items : List TextItem) : PoFault → ℕ → Type 0 where
   in_items : {fault : PoFault} {line : ℕ} → ItemsFault items fault line → ItemsStop items fault line
   in_texts : {entries : List TextEntry} {fault : PoFault} {line : ℕ} → SpellsEntries items entries
-      → TextsStop entries fault line → ItemsStop items fault line
-  in_charset : {entries : List TextEntry} {line : ℕ} → SpellsEntries items entries → All HasTexts entries
-      → CharsetStops entries line → ItemsStop items ForeignCharset line
+      → EntriesStop HasTexts EntryTextFault entries fault line → ItemsStop items fault line
+  in_charset : {entries : List TextEntry} {fault : PoFault} {line : ℕ} → SpellsEntries items entries
+      → All HasTexts entries → EntriesStop HasAdmittedCharset IsForeign entries fault line → ItemsStop items fault line
 
 -- The first fault of a text, with its line: a fault of the text or of one of its lines; or that of
 -- its items.

@@ -88,8 +88,8 @@ with_head comment_texts previous entry = record entry {
 
 -- an entry: its head, and then its own lines, whose marks alone say whether it is obsolete
 pub data SpellsEntry : List TextItem → TextEntry → Type 0 where
-  entry : {head own : List TextItem} {comment_texts : List CommentText} {previous : List PreviousText} {body : TextEntry}
-      → SpellsHead head comment_texts previous → AreInOrder previous → SpellsBody own body
+  entry : {head own : List TextItem} {comment_texts : List CommentText} {previous : List PreviousText}
+      {body : TextEntry} → SpellsHead head comment_texts previous → AreInOrder previous → SpellsBody own body
       → SpellsEntry (head ++ own) (with_head comment_texts previous body)
 
 -- the items of each entry in turn, and then comments that belong to no entry, which are dropped;

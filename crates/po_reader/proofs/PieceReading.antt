@@ -40,15 +40,10 @@ fault_after front (item ∷ rest) {entries} {line} {fault} read ends apart wrong
     (ap (λ end. comes_to end (start []) (front ++ item ∷ rest)) (last_after front item rest) ∙ spelt_go_on read (last_line (item ∷ rest)) [] (item ∷ rest) ends apart
     ∙ fault_comes entries wrong)
 
-texts_stop_after : (entries : List TextEntry) {others : List TextEntry} {fault : PoFault} {line : ℕ} → All HasTexts entries → faults.TextsStop others fault line → faults.TextsStop (entries ++ others) fault line
-texts_stop_after [] h stops = stops
-texts_stop_after (first ∷ entries) h stops =
-    faults.TextsStop.later (All-head HasTexts first entries h) (texts_stop_after entries (All-tail HasTexts first entries h) stops)
-
-charset_stops_after : (entries : List TextEntry) {others : List TextEntry} {line : ℕ} → All HasAdmittedCharset entries → faults.CharsetStops others line → faults.CharsetStops (entries ++ others) line
-charset_stops_after [] h stops = stops
-charset_stops_after (first ∷ entries) h stops =
-    faults.CharsetStops.later (All-head HasAdmittedCharset first entries h) (charset_stops_after entries (All-tail HasAdmittedCharset first entries h) stops)
+entries_stop_after : {P : TextEntry → Type 0} {F : TextEntry → PoFault → Type 0} (entries : List TextEntry) {others : List TextEntry} {fault : PoFault} {line : ℕ} → All P entries → faults.EntriesStop P F others fault line → faults.EntriesStop P F (entries ++ others) fault line
+entries_stop_after [] h stops = stops
+entries_stop_after {P} (first ∷ entries) h stops =
+    faults.EntriesStop.later (All-head P first entries h) (entries_stop_after entries (All-tail P first entries h) stops)
 
 -- the fault of items that begin anew is that of them after items that read
 pub items_stop_after : (front rest : List TextItem) (entries : List TextEntry) {fault : PoFault} {line : ℕ} → ReadsItems front entries → EndsInString front → IsApart rest → ItemsStop rest fault line
@@ -56,9 +51,9 @@ pub items_stop_after : (front rest : List TextItem) (entries : List TextEntry) {
 items_stop_after front rest entries read ends apart (ItemsStop.in_items stops) =
     ItemsStop.in_items (fault_after front rest read.reads ends apart stops)
 items_stop_after front rest entries read ends apart (ItemsStop.in_texts reads stops) =
-    ItemsStop.in_texts (entries_joined read.reads ends reads) (texts_stop_after entries read.texts stops)
+    ItemsStop.in_texts (entries_joined read.reads ends reads) (entries_stop_after entries read.texts stops)
 items_stop_after front rest entries read ends apart (ItemsStop.in_charset {entries = others} reads texts stops) =
-    ItemsStop.in_charset (entries_joined read.reads ends reads) (All-append HasTexts entries others read.texts texts) (charset_stops_after entries read.charsets stops)
+    ItemsStop.in_charset (entries_joined read.reads ends reads) (All-append HasTexts entries others read.texts texts) (entries_stop_after entries read.charsets stops)
 
 -- what stands after items that end in a string reads with them
 pub reads_joined : {front rest : List TextItem} {entries others : List TextEntry} → ReadsItems front entries → EndsInString front → ReadsItems rest others → ReadsItems (front ++ rest) (entries ++ others)

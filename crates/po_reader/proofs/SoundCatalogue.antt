@@ -1,5 +1,5 @@
 -- The entries that the items of a text spell are entries, if they can have their texts; kept with their comments or without.
-use Rattle.std.proofs.Common.{◌≡◌, ℕ, ◌<◌, Bool, List, Option, None, length, refl, arith, [], ◌++◌, get_or, map, true, false, ◌∷◌, subst}
+use Rattle.std.proofs.Common.{◌≡◌, ℕ, ◌<◌, Bool, List, Option, None, length, refl, ◌∙◌, arith, [], ◌++◌, get_or, map, true, false, ◌∷◌}
 use Rattle.std.specs.Prelude.{All}
 use Rattle.std.proofs.lemmas.List.Elements.{All-nil, All-cons, All-head, All-tail, All-weaker, All-map}
 use Rattle.po_syntax.specs.ItemContents.{IsCommentOf, HoldsText, IsComment}
@@ -14,11 +14,11 @@ use Rattle.po_entry.specs.Bytes.{AreDistinct}
 use Rattle.po_entry.specs.Comments.{texts_of, references_of, all_listed_flags, flags_of}
 use Rattle.po_entry.specs.Validity.{HasTexts, IsEntry, IsTranslatorComment, IsReference, IsFlag, EntryTextFault}
 use Rattle.po_entry.specs.Spelling.{with_head, SpellsEntries}
-use Rattle.po_reader.proofs.Heads.{all_unmapped, all_kept}
+use Rattle.po_reader.proofs.Heads.{all_unmapped}
 use Rattle.po_reader.proofs.SoundFields.{SoundCommentText, SoundFlagElement, SoundFlags, kind_sound, references_sound, all_flag_elements_sound, flags_sound}
 use Rattle.po_syntax.specs.declared.fault.PoFault.{PoFault}
 use Rattle.po_entry.specs.Header.{HasAdmittedCharset}
-use Rattle.po_reader.specs.KeptComments.{kept_entry, without_comments}
+use Rattle.po_reader.specs.KeptComments.{kept_entry}
 use Rattle.po_entry.specs.Spelling as spell
 use Rattle.po_entry.specs.Validity as validity
 use Rattle.po_entry.specs.Faults as faults
@@ -103,39 +103,37 @@ sound_one false entry h = record {
 pub kept_sound : (all : Bool) (entries : List TextEntry) → All SoundEntry entries → All SoundEntry (map (kept_entry all) entries)
 kept_sound all entries h = All-map SoundEntry (kept_entry all) entries (λ k d inside. sound_one all (get_or entries k d) (h k d inside))
 
-texts_one : (all : Bool) (entry : TextEntry) → HasTexts (kept_entry all entry) → HasTexts entry
+pub texts_one : (all : Bool) (entry : TextEntry) → HasTexts (kept_entry all entry) → HasTexts entry
 texts_one true entry h = h
 texts_one false entry h = record { utf8 = h.utf8; clean = record { no_nul = h.clean.no_nul; context = h.clean.context; id = h.clean.id } }
 
 pub kept_texts : (all : Bool) (entries : List TextEntry) → All HasTexts (map (kept_entry all) entries) → All HasTexts entries
 kept_texts all entries h = λ k d inside. texts_one all (get_or entries k d) (all_unmapped HasTexts (kept_entry all) entries h k d inside)
 
-admitted_one : (all : Bool) (entry : TextEntry) → HasAdmittedCharset (kept_entry all entry) → HasAdmittedCharset entry
+pub admitted_one : (all : Bool) (entry : TextEntry) → HasAdmittedCharset (kept_entry all entry) → HasAdmittedCharset entry
 admitted_one true entry h = h
 admitted_one false entry h = h
 
 pub kept_admitted : (all : Bool) (entries : List TextEntry) → All HasAdmittedCharset (map (kept_entry all) entries) → All HasAdmittedCharset entries
 kept_admitted all entries h = λ k d inside. admitted_one all (get_or entries k d) (all_unmapped HasAdmittedCharset (kept_entry all) entries h k d inside)
 
-whole_fault : (entry : TextEntry) (fault : PoFault) → EntryTextFault (without_comments entry) fault → EntryTextFault entry fault
-whole_fault entry fault (validity.not_utf8 some) = validity.not_utf8 some
-whole_fault entry fault (validity.forbidden utf8 some) =
+pub whole_fault : (all : Bool) (entry : TextEntry) (kind : PoFault) → EntryTextFault (kept_entry all entry) kind → EntryTextFault entry kind
+whole_fault true entry kind fails = fails
+whole_fault false entry kind (validity.not_utf8 some) = validity.not_utf8 some
+whole_fault false entry kind (validity.forbidden utf8 some) =
     validity.forbidden utf8 (λ clean. some (record { no_nul = clean.no_nul; context = clean.context; id = clean.id }))
 
-bare_texts_stop : (entries : List TextEntry) {fault : PoFault} {line : ℕ} → faults.TextsStop (map without_comments entries) fault line → faults.TextsStop entries fault line
-bare_texts_stop [] stops = elim stops [ ]
-bare_texts_stop (entry ∷ entries) {fault} (faults.TextsStop.here f e) = faults.TextsStop.here (whole_fault entry fault f) e
-bare_texts_stop (entry ∷ entries) (faults.TextsStop.later r s) = faults.TextsStop.later (texts_one false entry r) (bare_texts_stop entries s)
+pub whole_foreign : (all : Bool) (entry : TextEntry) (kind : PoFault) → faults.IsForeign (kept_entry all entry) kind → faults.IsForeign entry kind
+whole_foreign true entry kind fails = fails
+whole_foreign false entry kind (faults.foreign refused) = faults.foreign refused
 
-pub kept_texts_stop : (all : Bool) (entries : List TextEntry) {fault : PoFault} {line : ℕ} → faults.TextsStop (map (kept_entry all) entries) fault line → faults.TextsStop entries fault line
-kept_texts_stop true entries {fault} {line} s = subst (λ (es : List TextEntry). faults.TextsStop es fault line) (all_kept entries) s
-kept_texts_stop false entries s = bare_texts_stop entries s
+kept_line : (all : Bool) (entry : TextEntry) → (kept_entry all entry).line ≡ entry.line
+kept_line true entry = refl
+kept_line false entry = refl
 
-bare_charset_stops : (entries : List TextEntry) {line : ℕ} → faults.CharsetStops (map without_comments entries) line → faults.CharsetStops entries line
-bare_charset_stops [] stops = elim stops [ ]
-bare_charset_stops (entry ∷ entries) (faults.CharsetStops.here f e) = faults.CharsetStops.here f e
-bare_charset_stops (entry ∷ entries) (faults.CharsetStops.later r s) = faults.CharsetStops.later r (bare_charset_stops entries s)
-
-pub kept_charset_stops : (all : Bool) (entries : List TextEntry) {line : ℕ} → faults.CharsetStops (map (kept_entry all) entries) line → faults.CharsetStops entries line
-kept_charset_stops true entries {line} s = subst (λ (es : List TextEntry). faults.CharsetStops es line) (all_kept entries) s
-kept_charset_stops false entries s = bare_charset_stops entries s
+-- the first entry that fails, of those that are kept, is the first of all
+pub kept_stop : {P : TextEntry → Type 0} {F : TextEntry → PoFault → Type 0} (all : Bool) → ((entry : TextEntry) → P (kept_entry all entry) → P entry) → ((entry : TextEntry) (kind : PoFault) → F (kept_entry all entry) kind → F entry kind)
+    → (entries : List TextEntry) {kind : PoFault} {line : ℕ} → faults.EntriesStop P F (map (kept_entry all) entries) kind line → faults.EntriesStop P F entries kind line
+kept_stop all passes fails [] stops = elim stops [ ]
+kept_stop all passes fails (entry ∷ entries) {kind} (faults.EntriesStop.here f e) = faults.EntriesStop.here (fails entry kind f) (e ∙ kept_line all entry)
+kept_stop all passes fails (entry ∷ entries) (faults.EntriesStop.later r s) = faults.EntriesStop.later (passes entry r) (kept_stop all passes fails entries s)

@@ -5,8 +5,8 @@ ghost use Rattle.po_syntax.specs.ItemContents.{HoldsText};
 ghost use Rattle.po_syntax.specs.TextItem.{views};
 ghost use Rattle.po_entry.specs.EntryView.{entry_view};
 ghost use Rattle.po_entry.specs.Header.{HasAdmittedCharset};
-ghost use Rattle.po_entry.specs.Validity.{IsEntry, HasTexts};
-ghost use Rattle.po_entry.specs.Faults.{CharsetStops, IsStop, ItemsStop, TextsStop};
+ghost use Rattle.po_entry.specs.Validity.{IsEntry, HasTexts, EntryTextFault};
+ghost use Rattle.po_entry.specs.Faults.{EntriesStop, IsForeign, IsStop, ItemsStop};
 ghost use Rattle.po_reader.specs.Internal.Keeping.{KeepsItems};
 ghost use Rattle.po_entry.specs.Viable.{last_line};
 
@@ -47,7 +47,7 @@ fn last_line(items: &[Item<'_>]) -> u32
 /// Whether entries can have the texts that were read for them, checked in their order.
 fn check_drafts(drafts: &[Fields]) -> Result<(), PoError>
     ensures ok { OnOk result (All (λ draft. HasTexts (entry_view draft)) drafts.now) }
-    ensures fault { IfErr result (λ e. TextsStop (map entry_view drafts.now) e.kind e.line) }
+    ensures fault { IfErr result (λ e. EntriesStop HasTexts EntryTextFault (map entry_view drafts.now) e.kind e.line) }
 {
     for draft in drafts {
         if let Err(kind) = check_texts(draft) {
@@ -65,8 +65,7 @@ fn catalogue_of(alloc: Global, drafts: Vec<Fields>) -> Result<Catalogue, PoError
     requires { All (λ draft. IsEntry (entry_view draft)) drafts.items }
     ensures entries { IfOk result (λ c. c ≡ map entry_view drafts.items) }
     ensures charsets { OnOk result (All HasAdmittedCharset (map entry_view drafts.items)) }
-    ensures fault { IfErr result (λ e. e.kind ≢ PoFault.OutOfMemory → (e.kind ≡ PoFault.ForeignCharset)
-        × CharsetStops (map entry_view drafts.items) e.line) }
+    ensures fault { IfErr result (IsStop (EntriesStop HasAdmittedCharset IsForeign (map entry_view drafts.items))) }
     ensures memory { IfErr result (λ e. e.kind ≡ PoFault.OutOfMemory → e.line ≡ 0) }
 {
     let mut catalogue = Catalogue::with_capacity(alloc, drafts.len())?;

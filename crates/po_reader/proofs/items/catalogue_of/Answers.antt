@@ -1,4 +1,4 @@
-use Rattle.std.proofs.Common.{◌≤◌, ◌∷◌, ◌++◌, [], length, ap, ◌∙◌, inl, inr, arith}
+use Rattle.std.proofs.Common.{◌≤◌, ◌∷◌, ◌++◌, [], length, ap, subst, sym, ◌∙◌, inl, inr, arith}
 use Rattle.std.proofs.lemmas.List.{length_push, map_push}
 use Rattle.std.proofs.lemmas.List.Elements.{All-map}
 use Rattle.std.proofs.lemmas.Iterator.Consumers.{YieldsList-turn, YieldsList-end}
@@ -6,7 +6,8 @@ use Rattle.std.proofs.lemmas.Iterator.Adapters.{YieldsList-from_vec}
 use Rattle.po_syntax.specs.declared.fault.PoError.{PoError}
 use Rattle.po_entry.specs.EntryView.{entry_view}
 use Rattle.po_entry.specs.Header.{HasAdmittedCharset}
-use Rattle.po_entry.specs.Faults.CharsetStops.{here, later}
+use Rattle.po_entry.specs.Faults.{IsForeign, foreign}
+use Rattle.po_entry.specs.Faults.EntriesStop.{here, later}
 use Rattle.po_reader.proofs.Loops.{drop_here, take_here, asked_more, asked_all}
 use Rattle.po_reader.proofs.items.catalogue_of.Goals as goal
 
@@ -21,7 +22,7 @@ loop-draft-preserved c =
     record {
       built = rw (count, c.in_default.ensures.ok, c.of.ensures, taken, map_push) (ap (λ es. es ++ entry_view c.in-Some.draft ∷ []) c.loop-draft.invariant.built);
       admitted = rw count (asked_more (λ draft. HasAdmittedCharset (entry_view draft)) _ _ _ turn.0 turn.1 c.loop-draft.invariant.admitted admitted);
-      stops = λ line h. c.loop-draft.invariant.stops _ (rw (drop_here _ _ _ turn.0 turn.1) (later admitted (rw count at h)));
+      stops = λ fault line h. c.loop-draft.invariant.stops _ _ (rw (drop_here _ _ _ turn.0 turn.1) (later admitted (rw count at h)));
     }
 
 pub returns-in-Err-clause-fault : goal.returns-in-Err-clause-fault
@@ -31,10 +32,9 @@ returns-in-Err-clause-fault c =
     let turn = YieldsList-turn list c.loop-draft.yielded c.loop-draft.draft-iterator c.loop-draft.yielded_by c.next.result c.next.new.self c.in-Some.draft c.in-Some.is c.next.ensures.steps in
     let fault = rw c.of.ensures at c.in-Err.ensures.fault in
     λ other. elim fault [
-      | inl (foreign, is) ↦ (
-        ap (λ (e : PoError). e.kind) is,
-        c.loop-draft.invariant.stops _ (rw (drop_here _ _ _ turn.0 turn.1) (here foreign (ap (λ (e : PoError). e.line) is))),
-      )
+      | inl (refused, is) ↦
+          let fails = subst (IsForeign (entry_view c.in-Some.draft)) (sym (ap (λ (e : PoError). e.kind) is)) (foreign refused) in
+          c.loop-draft.invariant.stops _ _ (rw (drop_here _ _ _ turn.0 turn.1) (here fails (ap (λ (e : PoError). e.line) is)))
       | inr memory ↦ absurd (other (ap (λ (e : PoError). e.kind) memory))
     ]
 

@@ -1,7 +1,7 @@
 use Rattle.po_entry.specs.EntryView.{entry_view}
 use Rattle.po_entry.specs.Validity.{HasTexts}
 use Rattle.std.proofs.Common.{refl}
-use Rattle.po_entry.specs.Faults.TextsStop.{here, later}
+use Rattle.po_entry.specs.Faults.EntriesStop.{here, later}
 use Rattle.po_reader.proofs.Loops.{drop_here, asked_more, asked_all}
 use Rattle.po_reader.proofs.items.check_drafts.Goals as goal
 

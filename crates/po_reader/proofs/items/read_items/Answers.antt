@@ -3,13 +3,13 @@ use Rattle.std.specs.Prelude.{All}
 use Rattle.std.proofs.lemmas.List.Elements.{All-map}
 use Rattle.po_entry.specs.Header.{HasAdmittedCharset}
 use Rattle.po_entry.specs.EntryView.{entry_view}
-use Rattle.po_entry.specs.Validity.{HasTexts}
+use Rattle.po_entry.specs.Validity.{HasTexts, EntryTextFault}
 use Rattle.po_entry.specs.TextEntry.{TextEntry}
 use Rattle.po_reader.proofs.RunsSpelt.{whole_spelt}
 use Rattle.po_reader.proofs.Faults.{items_fault}
-use Rattle.po_entry.specs.Faults.{CharsetStops, TextsStop}
+use Rattle.po_entry.specs.Faults.{EntriesStop, IsForeign}
 use Rattle.po_entry.specs.Faults.ItemsStop.{in_items, in_texts, in_charset}
-use Rattle.po_reader.proofs.SoundCatalogue.{kept_sound, kept_texts, kept_admitted, kept_texts_stop, kept_charset_stops}
+use Rattle.po_reader.proofs.SoundCatalogue.{kept_sound, kept_texts, kept_admitted, kept_stop, texts_one, admitted_one, whole_fault, whole_foreign}
 use Rattle.po_reader.proofs.SoundCatalogue.{SoundEntry, entries_sound, drafts_valid}
 use Rattle.po_reader.proofs.Texts.{texts_reported}
 use Rattle.po_reader.proofs.Results.{ok_both, ok_step, err_step, passed_on}
@@ -27,8 +27,8 @@ pub returns-in_err-check_drafts-clause-fault : goal.returns-in_err-check_drafts-
 returns-in_err-check_drafts-clause-fault c =
     let spelt = rw c.deref.ensures.value at c.in_ok-drafts.ensures.found in
     let stops = rw c.deref-3.ensures.value at c.in_err-check_drafts.ensures.fault in
-    let kept = subst (λ (es : List TextEntry). TextsStop es c.in_err-check_drafts.field-0.0.kind c.in_err-check_drafts.field-0.0.line) spelt.2 stops in
-    passed_on c.from_residual-in_err-check_drafts.result _ c.from_residual-in_err-check_drafts.ensures.1 (λ other. in_texts (whole_spelt _ _ _ spelt.1) (kept_texts_stop c.args.with_comments spelt.0 kept))
+    let kept = subst (λ (es : List TextEntry). EntriesStop HasTexts EntryTextFault es c.in_err-check_drafts.field-0.0.kind c.in_err-check_drafts.field-0.0.line) spelt.2 stops in
+    passed_on c.from_residual-in_err-check_drafts.result _ c.from_residual-in_err-check_drafts.ensures.1 (λ other. in_texts (whole_spelt _ _ _ spelt.1) (kept_stop c.args.with_comments (texts_one c.args.with_comments) (whole_fault c.args.with_comments) spelt.0 kept))
 
 pub returns-in_err-check_drafts-clause-memory : goal.returns-in_err-check_drafts-clause-memory
 returns-in_err-check_drafts-clause-memory c = passed_on c.from_residual-in_err-check_drafts.result _ c.from_residual-in_err-check_drafts.ensures.1 (λ memory. absurd (texts_reported c.in_err-check_drafts.ensures.fault memory))
@@ -58,6 +58,5 @@ returns-clause-fault c =
     let asked = rw c.deref-3.ensures.value at c.in_ok-check_drafts.ensures.ok in
     let texts = kept_texts c.args.with_comments spelt.0 (subst (All HasTexts) spelt.2 (All-map HasTexts entry_view c.in_ok-drafts.drafts.items asked)) in
     err_step c.catalogue_of.result (λ e h other.
-    let foreign = h other in
-    let stops = kept_charset_stops c.args.with_comments spelt.0 (subst (λ (es : List TextEntry). CharsetStops es e.line) spelt.2 foreign.1) in
-    rw foreign.0 (in_charset (whole_spelt _ _ _ spelt.1) texts stops)) c.catalogue_of.ensures.fault
+    let stops = kept_stop c.args.with_comments (admitted_one c.args.with_comments) (whole_foreign c.args.with_comments) spelt.0 (subst (λ (es : List TextEntry). EntriesStop HasAdmittedCharset IsForeign es e.kind e.line) spelt.2 (h other)) in
+    in_charset (whole_spelt _ _ _ spelt.1) texts stops) c.catalogue_of.ensures.fault
