@@ -1,7 +1,7 @@
 -- Steps of the loops over drafts, and the last item of a text.
 use Rattle.std.proofs.Common.{◌≡◌, ℕ, ◌+◌, ◌-◌, ◌<◌, ◌≤◌, List, [], ◌∷◌, ◌++◌, Some, length, take, drop, get_or, sym, ap, ◌∙◌, subst, arith, zero, suc, add-one, drop-cons}
 use Rattle.std.specs.Prelude.{All, slice_get}
-use Rattle.std.proofs.lemmas.List.{take_all}
+use Rattle.std.proofs.lemmas.List.{take_all, take_more}
 use Rattle.std.proofs.lemmas.List.Elements.{All-more}
 use Rattle.po_syntax.specs.declared.item.Item.{Item}
 use Rattle.po_syntax.specs.TextItem.{line_of, view, views}
@@ -32,8 +32,4 @@ some_length (first ∷ items) item e = omega arith
 
 -- one more element at the beginning
 pub take_here : {X : Type 0} (xs : List X) (i : ℕ) (x : X) → i < length xs → x ≡ get_or xs i x → take (i + 1) xs ≡ take i xs ++ x ∷ []
-take_here [] i x below is = absurd (omega arith)
-take_here (y ∷ xs) zero x below is = ap (λ z. z ∷ []) (sym is)
-take_here (y ∷ xs) (suc i) x below is =
-    let inside : i < length xs = omega arith in
-    rw add-one (ap (λ zs. y ∷ zs) (rw add-one at (take_here xs i x inside is)))
+take_here xs i x below is = take_more xs i x below ∙ ap (λ y. take i xs ++ y ∷ []) (sym is)

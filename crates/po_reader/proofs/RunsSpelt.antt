@@ -4,7 +4,8 @@ use Rattle.std.specs.Prelude.{if◌then◌else◌}
 use Rattle.std.specs.Bool.{beq}
 use Rattle.std.specs.Cmp.{booleans_Decides}
 use Rattle.std.proofs.lemmas.Bool.{ltb-true, eqb-true}
-use Rattle.po_syntax.specs.declared.fault.PoFault.TheVariants.{BadOrder, BadPluralIndex, MixedObsolete}
+use Rattle.po_syntax.specs.declared.fault.PoFault.{PoFault}
+use Rattle.po_syntax.specs.declared.fault.PoFault.TheVariants.{BadOrder, MixedObsolete}
 use Rattle.po_syntax.specs.declared.item.Keyword.{Keyword}
 use Rattle.po_syntax.specs.declared.item.Keyword.TheVariants.{MsgCtxt, MsgId, MsgIdPlural, MsgStr, MsgStrAt}
 use Rattle.po_syntax.specs.declared.item.Marks.{Marks}
@@ -14,7 +15,7 @@ use Rattle.po_entry.specs.EntryParts.{CommentText, PreviousText, rank}
 use Rattle.po_entry.specs.Spelling as spell
 use Rattle.po_entry.specs.Spelling.{own_marks, previous_marks, with_head}
 use Rattle.po_reader.specs.Internal.Stage.{SoFar, Wanted, Id, Translation, Form, Gap, InHead, Before, AfterForm, Stage, Between, In, Stop, Entries, Fault, no_lines, only, with_own, with_text, with_entry}
-use Rattle.po_reader.specs.Internal.Turn.{turn, turn_head, turn_own, turn_gap, opened, closed, with_keyword, comes_to, same_marks, is_form, is_wanted, is_wrong_form, stray_string}
+use Rattle.po_reader.specs.Internal.Turn.{turn, turn_head, turn_own, turn_gap, opened, closed, with_keyword, comes_to, same_marks, is_form, is_wanted, unwanted, stray_string}
 use Rattle.po_reader.proofs.Turns.{never}
 use Rattle.po_reader.proofs.Turns.{same_marks_true}
 use Rattle.po_reader.proofs.PreviousOrder.{Rise, keywords, rise_order}
@@ -184,19 +185,22 @@ context_left read above line obsolete items entries left =
     body_left read above _ (text.0 ++ own.own) own.rest own.body own.more entries (joined _ text.0 text.1 own.own own.rest text.3 own.split)
     (subst (λ (x : List TextItem). spell.SpellsBody x own.body) (sym lines) body) own.after own.all
 
+-- the test passes where the items would be refused otherwise
+only_if : (end : ℕ) (items : List TextItem) (entries : List TextEntry) (b : Bool) (stage : Stage) (fault : PoFault) (line : ℕ) → comes_to end (if b then stage else Stop fault line) items ≡ Entries entries
+    → (b ≡ true) × (comes_to end stage items ≡ Entries entries)
+only_if end items entries true stage fault line e = (refl, e)
+only_if end items entries false stage fault line e = absurd (never end fault line items entries e)
+
 head_left : (end : ℕ) (item : TextItem) (items : List TextItem) → Goes end items → (read : SoFar) (above : ℕ) (entries : List TextEntry) → comes_to end (turn_head read above item) items ≡ Entries entries → HeadLeft read above (item ∷ items) entries
 head_left end (Comment kind text line) items goes read above entries e = comment_left read above (record { kind = kind; text = text }) line items entries (goes _ entries e)
 head_left end (Str bytes marks line) items goes read above entries e = absurd (never end BadOrder line items entries e)
 head_left end (Word keyword marks line) items goes read above entries e = word keyword marks.obsolete marks.previous e where
   word : (keyword : Keyword) (o p : Bool) → comes_to end (turn_head read above (Word keyword (record { obsolete = o; previous = p }) line)) items ≡ Entries entries
       → HeadLeft read above (Word keyword (record { obsolete = o; previous = p }) line ∷ items) entries
-  word keyword o true e = ranked (nat_lt above (rank keyword)) refl e where
-    ranked : (b : Bool) → nat_lt above (rank keyword) ≡ b → comes_to end (if b then In read keyword (previous_marks o) false [] else Stop BadOrder line) items ≡ Entries entries
-        → HeadLeft read above (Word keyword (previous_marks o) line ∷ items) entries
-    ranked true lt e =
-        let text = text_left read keyword (previous_marks o) line items entries (goes _ entries e) in
-        previous_left read above keyword o line _ text.0 text.1 text.2 entries (ltb-true _ _ lt) text.3 text.4 text.5
-    ranked false lt e = absurd (never end BadOrder line items entries e)
+  word keyword o true e =
+      let higher = only_if end items entries (nat_lt above (rank keyword)) (In read keyword (previous_marks o) false []) BadOrder line e in
+      let text = text_left read keyword (previous_marks o) line items entries (goes _ entries higher.1) in
+      previous_left read above keyword o line _ text.0 text.1 text.2 entries (ltb-true _ _ higher.0) text.3 text.4 text.5
   word MsgId o false e = id_left read above line o items entries (goes _ entries e)
   word MsgCtxt o false e = context_left read above line o items entries (goes _ entries e)
   word keyword o false e = absurd (never end BadOrder line items entries e)
@@ -208,15 +212,10 @@ own_left end (Word keyword marks line) items goes read wanted entries e = word m
   word : (o p : Bool) → comes_to end (turn_own read wanted (Word keyword (record { obsolete = o; previous = p }) line)) items ≡ Entries entries
       → OwnLeft read wanted (Word keyword (record { obsolete = o; previous = p }) line ∷ items) entries
   word o true e = absurd (never end BadOrder line items entries e)
-  word o false e = chosen (is_wanted wanted keyword) refl (beq read.own.obsolete o) refl (is_wrong_form wanted keyword) e where
-    chosen : (w : Bool) → is_wanted wanted keyword ≡ w → (s : Bool) → beq read.own.obsolete o ≡ s → (f : Bool)
-        → comes_to end (if w then (if s then opened read read.own keyword line else Stop MixedObsolete line) else if f then Stop BadPluralIndex line else Stop BadOrder line) items ≡ Entries entries
-        → OwnLeft read wanted (Word keyword (own_marks o) line ∷ items) entries
-    chosen true w true s f e =
-        subst (λ b. OwnLeft read wanted (Word keyword (own_marks b) line ∷ items) entries) ((booleans_Decides read.own.obsolete o).0 s) (after_keyword read wanted keyword line items entries w (goes _ entries e))
-    chosen true w false s f e = absurd (never end MixedObsolete line items entries e)
-    chosen false w s t true e = absurd (never end BadPluralIndex line items entries e)
-    chosen false w s t false e = absurd (never end BadOrder line items entries e)
+  word o false e =
+      let fits = only_if end items entries (is_wanted wanted keyword) (if beq read.own.obsolete o then opened read read.own keyword line else Stop MixedObsolete line) (unwanted wanted keyword) line e in
+      let same = only_if end items entries (beq read.own.obsolete o) (opened read read.own keyword line) MixedObsolete line fits.1 in
+      subst (λ b. OwnLeft read wanted (Word keyword (own_marks b) line ∷ items) entries) ((booleans_Decides read.own.obsolete o).0 same.0) (after_keyword read wanted keyword line items entries fits.0 (goes _ entries same.1))
 
 gap_left : (end : ℕ) (item : TextItem) (items : List TextItem) → Goes end items → (gap : Gap) (entries : List TextEntry) → comes_to end (turn_gap gap item) items ≡ Entries entries → GapLeft gap (item ∷ items) entries
 gap_left end item items goes (InHead read above) entries e = head_left end item items goes read above entries e
@@ -258,13 +257,10 @@ string_left read keyword marks some text bytes line items entries (own, rest, ot
 
 found_left : (end : ℕ) (items : List TextItem) → Goes end items → (read : SoFar) (keyword : Keyword) (marks found : Marks) (some : Bool) (text bytes : List ℕ) (line : ℕ) (entries : List TextEntry)
     → comes_to end (turn (In read keyword marks some text) (Str bytes found line)) items ≡ Entries entries → Left (In read keyword marks some text) (Str bytes found line ∷ items) entries
-found_left end items goes read keyword marks found some text bytes line entries e = chosen (same_marks marks found) refl e where
-  chosen : (b : Bool) → same_marks marks found ≡ b → comes_to end (if b then In read keyword marks true (text ++ bytes) else Stop (stray_string marks found) line) items ≡ Entries entries
-      → Left (In read keyword marks some text) (Str bytes found line ∷ items) entries
-  chosen true same e =
-      subst (λ (m : Marks). Left (In read keyword marks some text) (Str bytes m line ∷ items) entries) (same_marks_true marks found same)
-      (string_left read keyword marks some text bytes line items entries (goes (In read keyword marks true (text ++ bytes)) entries e))
-  chosen false same e = absurd (never end (stray_string marks found) line items entries e)
+found_left end items goes read keyword marks found some text bytes line entries e =
+    let same = only_if end items entries (same_marks marks found) (In read keyword marks true (text ++ bytes)) (stray_string marks found) line e in
+    subst (λ (m : Marks). Left (In read keyword marks some text) (Str bytes m line ∷ items) entries) (same_marks_true marks found same.0)
+    (string_left read keyword marks some text bytes line items entries (goes (In read keyword marks true (text ++ bytes)) entries same.1))
 
 left : (end : ℕ) (items : List TextItem) → Goes end items
 left end [] (Between gap) entries e = gap_over end gap entries e

@@ -1,8 +1,8 @@
 -- Steps of the reader that hang on what the next item is.
-use Rattle.std.proofs.Common.{◌≡◌, Bool, true, refl, ap₂, ◌≢◌, ℕ, nat_lt, false, not, ◌&&◌, List, [], ◌∷◌, ◌++◌, sym, ap, ◌∙◌}
+use Rattle.std.proofs.Common.{◌≡◌, Bool, true, refl, ap₂, ◌≢◌, ℕ, nat_lt, false, List, [], ◌∷◌, sym, ap, ◌∙◌}
 use Rattle.std.specs.Bool.{beq}
 use Rattle.std.specs.Cmp.{bool_eq_equiv, booleans_Decides}
-use Rattle.std.proofs.lemmas.Bool.{and_parts, false≢true, eqb-true, eq-eqb}
+use Rattle.std.proofs.lemmas.Bool.{and_parts, not-true, false≢true, eqb-true, eq-eqb}
 use Rattle.po_syntax.specs.declared.item.Marks.{Marks}
 use Rattle.po_reader.specs.Internal.Turn.{same_marks, closed, turn, comes_to, outcome, begins_string, begins_form, begins_word, begins_own, begins_body, EndsHead, turn_head, opened, is_wanted, stray_string}
 use Rattle.std.proofs.lemmas.List.Folds.{fold_stays}
@@ -16,7 +16,6 @@ use Rattle.po_reader.specs.Internal.Reads.{first_line}
 use Rattle.po_reader.specs.PieceRead.{IsFaultOf}
 use Rattle.po_syntax.specs.declared.item.Keyword.TheVariants.{MsgCtxt, MsgId, MsgIdPlural, MsgStr, MsgStrAt}
 use Rattle.po_syntax.specs.declared.fault.PoError.{PoError}
-use Rattle.std.specs.Prelude.{if◌then◌else◌}
 use Rattle.po_syntax.specs.declared.fault.PoFault.TheVariants.{BadOrder}
 
 abbrev pub marked : Bool → Bool → Marks
@@ -66,13 +65,9 @@ no_string end (Comment kind bytes line ∷ items) none read keyword marks false 
 no_string end (Word other found line ∷ items) none read keyword marks false text begins = stopped end BadOrder line items
 no_string end (Str bytes found line ∷ items) none read keyword marks false text begins = cc
 
--- a string under other marks stands first
-pub other_string : (end : ℕ) (items rest : List TextItem) (bytes : List ℕ) (found : Marks) (line : ℕ) → items ≡ Str bytes found line ∷ rest → (read : SoFar) (keyword : Keyword) (marks : Marks) (some : Bool) (text : List ℕ) → same_marks marks found ≡ false
-    → comes_to end (In read keyword marks some text) items ≡ Fault (stray_string marks found) (first_line end items)
-other_string end items rest bytes found line is read keyword marks some text other = rw is (chosen (same_marks marks found) other) where
-  chosen : (b : Bool) → b ≡ false → comes_to end (if b then In read keyword marks true (text ++ bytes) else Stop (stray_string marks found) line) rest ≡ Fault (stray_string marks found) line
-  chosen true e = cc
-  chosen false e = stopped end (stray_string marks found) line rest
+-- a string under other marks
+pub other_string : (read : SoFar) (keyword : Keyword) (marks found : Marks) (some : Bool) (text bytes : List ℕ) (line : ℕ) → same_marks marks found ≡ false → turn (In read keyword marks some text) (Str bytes found line) ≡ Stop (stray_string marks found) line
+other_string read keyword marks found some text bytes line other = rw other refl
 
 -- a keyword of own lines is wanted, and no keyword stands first
 pub no_keyword : (end : ℕ) (items : List TextItem) → begins_word items ≡ false → (read : SoFar) (wanted : Wanted) → comes_to end (Between (Before read wanted)) items ≡ Fault BadOrder (first_line end items)
@@ -110,20 +105,19 @@ id_wanted keyword e = cc
 -- own lines begin with a context, or with a msgid
 pub context_begins : (end : ℕ) (items rest : List TextItem) (marks : Marks) (line : ℕ) → items ≡ Word MsgCtxt marks line ∷ rest → begins_own items ≡ true → (read : SoFar) (above : ℕ)
     → comes_to end (Between (InHead read above)) items ≡ comes_to end (opened read (no_lines marks.obsolete) MsgCtxt line) rest
-context_begins end items rest marks line is begins read above = rw is (own marks.previous (rw is at begins)) where
-  own : (p : Bool) → (not p && true) ≡ true → comes_to end (Between (InHead read above)) (Word MsgCtxt (marked marks.obsolete p) line ∷ rest) ≡ comes_to end (opened read (no_lines marks.obsolete) MsgCtxt line) rest
-  own true e = cc
-  own false e = refl
+context_begins end items rest marks line is begins read above = let own : marks.previous ≡ false = not-true _ (and_parts _ _ (rw is at begins)).0 in rw (is, own) refl
+
+own_id : (keyword : Keyword) → (keyword ≡ MsgCtxt → ⊥) → begins_body keyword ≡ true → keyword ≡ MsgId
+own_id MsgId other e = refl
+own_id MsgCtxt other e = absurd (other refl)
+own_id keyword other e = cc
 
 pub id_begins : (end : ℕ) (items rest : List TextItem) (keyword : Keyword) (marks : Marks) (line : ℕ) → items ≡ Word keyword marks line ∷ rest → (keyword ≡ MsgCtxt → ⊥) → begins_own items ≡ true → (read : SoFar) (above : ℕ)
     → comes_to end (Between (InHead read above)) items ≡ comes_to end (Between (Before (with_own read (no_lines marks.obsolete)) Id)) items
-id_begins end items rest keyword marks line is other begins read above = rw is (own keyword other marks.previous (rw is at begins)) where
-  own : (keyword : Keyword) → (keyword ≡ MsgCtxt → ⊥) → (p : Bool) → (not p && begins_body keyword) ≡ true
-      → comes_to end (Between (InHead read above)) (Word keyword (marked marks.obsolete p) line ∷ rest) ≡ comes_to end (Between (Before (with_own read (no_lines marks.obsolete)) Id)) (Word keyword (marked marks.obsolete p) line ∷ rest)
-  own keyword other true e = cc
-  own MsgId other false e = rw (bool_eq_equiv.refl marks.obsolete) refl
-  own MsgCtxt other false e = absurd (other refl)
-  own keyword other false e = cc
+id_begins end items rest keyword marks line is other begins read above =
+    let both = and_parts _ _ (rw is at begins) in
+    let own : marks.previous ≡ false = not-true _ both.0 in
+    rw (is, own_id keyword other both.1, own, bool_eq_equiv.refl marks.obsolete) refl
 
 -- a previous text ends in its head
 pub previous_closed : (read : SoFar) (keyword : Keyword) (marks : Marks) (text : List ℕ) → marks.previous ≡ true

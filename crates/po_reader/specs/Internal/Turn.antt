@@ -110,6 +110,10 @@ turn_head read above (Word keyword marks line) =
     else if begins_body keyword then opened read (no_lines marks.obsolete) keyword line
     else Stop BadOrder line
 
+-- the fault of a keyword that isn't wanted: of its index, if it is a form, or of its order
+abbrev pub unwanted : Wanted → Keyword → PoFault
+unwanted wanted keyword = if is_wrong_form wanted keyword then BadPluralIndex else BadOrder
+
 -- Among own lines: a wanted keyword, under the entry's obsolete mark. A form of another index is
 -- reported first, then a keyword out of order, then mixed lines.
 abbrev pub turn_own : SoFar → Wanted → TextItem → Stage
@@ -117,8 +121,7 @@ turn_own read wanted (Word keyword marks line) =
     if marks.previous then Stop BadOrder line
     else if is_wanted wanted keyword
     then (if beq read.own.obsolete marks.obsolete then opened read read.own keyword line else Stop MixedObsolete line)
-    else if is_wrong_form wanted keyword then Stop BadPluralIndex line
-    else Stop BadOrder line
+    else Stop (unwanted wanted keyword) line
 turn_own read wanted item = Stop BadOrder (line_of item)
 
 abbrev pub turn_gap : Gap → TextItem → Stage
