@@ -102,7 +102,8 @@ pub data HasParts : List TextEntry → List TextEntry → List TextEntry → Typ
 
 -- the live entries are before the obsolete ones
 pub data IsArranged (entries : List TextEntry) : List TextEntry → Type 0 where
-  live_before : {live obsolete : List TextEntry} → HasParts entries live obsolete → IsArranged entries (live ++ obsolete)
+  live_before : {live obsolete : List TextEntry} → HasParts entries live obsolete
+      → IsArranged entries (live ++ obsolete)
 
 -- further entries, each after an empty line
 pub data FollowEntries : List TextEntry → List ℕ → Type 0 where
