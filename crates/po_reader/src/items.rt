@@ -35,6 +35,7 @@ pub(crate) fn read_items(
 }
 
 /// The line of the last item, and 0 where there is none.
+#[tactic(auto, using(crate::proofs::Loops::last_at, crate::proofs::Loops::some_length))]
 fn last_line(items: &[Item<'_>]) -> u32
     ensures { result ≡ last_line (views items.now) }
 {

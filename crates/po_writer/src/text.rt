@@ -51,6 +51,7 @@ pub(crate) fn push_entries(
 /// Appends a live entry to a text, as that of live entries, after an empty line if it isn't the
 /// first.
 /// Refused only where an allocation failed; then the text may end within the entry.
+#[tactic(auto, using(crate::proofs::Separated::one_more))]
 pub fn append(text: &mut Vec<u8>, entry: &Entry) -> Result<(), PoError>
     requires { entry.now.obsolete ≡ false }
     ensures any { OnOk result (text.new.items ≡ with_entry text.old.items entry.now) }
@@ -65,6 +66,7 @@ pub fn append(text: &mut Vec<u8>, entry: &Entry) -> Result<(), PoError>
 /// The text of a catalogue (GNU gettext manual, "The Format of PO Files"): the live entries in
 /// order, then the obsolete ones in order, with an empty line between two. Refused only where an
 /// allocation failed.
+#[tactic(auto, using(crate::proofs::Separated::separated))]
 pub fn write(alloc: Global, catalogue: &Catalogue) -> Result<Vec<u8>, PoError>
     ensures text { IfOk result (λ text. text.items ≡ written_text catalogue.now) }
     ensures memory { IfErr result (λ e. e ≡ out_of_memory) }
