@@ -1,10 +1,10 @@
 -- Steps of the reader that hang on what the next item is.
-use Rattle.std.proofs.Common.{◌≡◌, Bool, true, refl, ap₂, ◌≢◌, ℕ, nat_lt, false, List, [], ◌∷◌, sym, ap, ◌∙◌}
+use Rattle.std.proofs.Common.{◌≡◌, Bool, true, refl, ap₂, ◌≢◌, ℕ, false, List, [], ◌∷◌, sym, ap, ◌∙◌}
 use Rattle.std.specs.Bool.{beq}
 use Rattle.std.specs.Cmp.{bool_eq_equiv, booleans_Decides}
 use Rattle.std.proofs.lemmas.Bool.{and_parts, not-true, false≢true, eqb-true, eq-eqb}
 use Rattle.po_syntax.specs.declared.item.Marks.{Marks}
-use Rattle.po_reader.specs.Internal.Turn.{same_marks, closed, turn, comes_to, outcome, begins_string, begins_form, begins_word, begins_own, begins_body, EndsHead, turn_head, opened, is_wanted, stray_string}
+use Rattle.po_reader.specs.Internal.Turn.{same_marks, closed, turn, comes_to, outcome, begins_string, begins_form, begins_word, begins_own, begins_body, EndsHead, opened, is_wanted, stray_string}
 use Rattle.std.proofs.lemmas.List.Folds.{fold_stays}
 use Rattle.po_syntax.specs.declared.fault.PoFault.{PoFault}
 use Rattle.po_syntax.specs.declared.item.Keyword.{Keyword}
@@ -123,13 +123,6 @@ id_begins end items rest keyword marks line is other begins read above =
 pub previous_closed : (read : SoFar) (keyword : Keyword) (marks : Marks) (text : List ℕ) → marks.previous ≡ true
     → closed read keyword marks text ≡ InHead (with_previous_text read (record { keyword = keyword; text = text })) (rank keyword)
 previous_closed read keyword marks text e = rw e refl
-
--- keywords with which a head doesn't go on
-pub low_previous : (read : SoFar) (above : ℕ) (keyword : Keyword) (marks : Marks) (line : ℕ) → marks.previous ≡ true → nat_lt above (rank keyword) ≡ false → turn_head read above (Word keyword marks line) ≡ Stop BadOrder line
-low_previous read above keyword marks line p low = rw (p, low) refl
-
-pub stray_word : (read : SoFar) (above : ℕ) (keyword : Keyword) (marks : Marks) (line : ℕ) → marks.previous ≡ false → begins_body keyword ≡ false → turn_head read above (Word keyword marks line) ≡ Stop BadOrder line
-stray_word read above keyword marks line p b = rw (p, b) refl
 
 -- a head that ends at the end of the items is followed by nothing
 pub head_over : (end above : ℕ) (items : List TextItem) (read : SoFar) → items ≡ [] → EndsHead above items → comes_to end (Between (InHead read above)) items ≡ Entries read.entries
