@@ -80,7 +80,7 @@ impl Rows {
             → MatchResult result (λ _. HaveNoDuplicate selection entries)
             (λ error. (error.kind ≡ PoFault.OutOfMemory) ⊎ IsRowsFault selection entries error) }
     {
-        let numbers = self.keys.numbers(alloc)?;
+        let (numbers, _) = self.keys.numbers(alloc)?;
         let mut seen = Vec::new(alloc);
         if let Some((first, later)) = repeated_lines(&mut seen, 1, &numbers, &self.read)? {
             return Err(duplicate_at(first, later));

@@ -15,7 +15,7 @@ use Rattle.po_messages.specs.Duplicate.{AllDiffer, HasNoDuplicate}
 use Rattle.po_messages.specs.FirstOnes.{group_numbers}
 use Rattle.po_messages.specs.Joined.{is_live}
 use Rattle.po_messages.specs.Message.{entry_message, same_message}
-use Rattle.po_merge.specs.Grouping.{message_numbers}
+use Rattle.po_merge.specs.Grouping.{message_numbers, named_messages}
 use Rattle.po_merge.specs.Inputs.{Named, NamedEntry, all_entries, named}
 use Rattle.po_messages.specs.Facts.Zips.{zip_at, zip_length, zip_more, zip_split}
 use Rattle.msgcat.specs.Internal.Entries.{HoldEntries, unnamed}
@@ -44,15 +44,18 @@ pub record AreLeft (read : List Named) (partial : List NamedEntry) (i : ℕ) (re
   pub distinct : All (λ input. HasNoDuplicate input.entries) (take i read)
   pub numbered : AreNumbered (unnamed (all_entries read ++ partial)) (unnamed (all_entries (drop i read) ++ partial)) rest
 
+pub messages_of : (entries : List NamedEntry) → map entry_message (unnamed entries) ≡ named_messages entries
+messages_of entries = map-map entry_message (λ (e : NamedEntry). e.entry) entries
+
 pub message_numbers_of : (entries : List NamedEntry) (numbers : List ℕ) → numbers ≡ group_numbers same_message (map entry_message (unnamed entries)) → numbers ≡ message_numbers entries
-message_numbers_of entries numbers is = is ∙ ap (group_numbers same_message) (map-map entry_message (λ (e : NamedEntry). e.entry) entries)
+message_numbers_of entries numbers is = is ∙ ap (group_numbers same_message) (messages_of entries)
 
 pub all_left : (read : List Named) (partial : List NamedEntry) (numbers : List ℕ) → numbers ≡ message_numbers (all_entries read ++ partial) → AreLeft read partial 0 numbers
 all_left read partial numbers is =
     let all = all_entries read ++ partial in
     record {
       distinct = All-nil (λ input. HasNoDuplicate input.entries);
-      numbered = are_numbered (unnamed all) numbers (is ∙ ap (group_numbers same_message) (sym (map-map entry_message (λ (e : NamedEntry). e.entry) all)));
+      numbered = are_numbered (unnamed all) numbers (is ∙ ap (group_numbers same_message) (sym (messages_of all)));
     }
 
 -- the numbers of the first of some entries, and of the others

@@ -249,9 +249,8 @@ one_of (r ∷ []) d some few = refl
 one_of (r ∷ s ∷ rows) d some few = absurd (omega (arith, few))
 
 -- the groups of rows by the numbers of their messages
-pub groups_hold : (text now : List ℕ) (es : List NamedEntry) (rows list : List EntryRow) (found : List (Vec EntryRow)) (ns : List ℕ) → AreRows text es rows → now ≡ text → list ≡ rows → ns ≡ message_numbers es
-    → map (λ g. g.items) found ≡ by_number (length (first_ones same_message (named_messages es))) ns list → GroupsByNumber es → AreGroups now (groups es) found
-groups_hold text now es rows list found ns h now_is list_is numbers of_rows law =
+pub groups_hold : (text now : List ℕ) (es : List NamedEntry) (rows list : List EntryRow) (found : List (Vec EntryRow)) (ns : List ℕ) (count : ℕ) → AreRows text es rows → now ≡ text → list ≡ rows → ns ≡ message_numbers es → count ≡ length (first_ones same_message (named_messages es))
+    → map (λ g. g.items) found ≡ by_number count ns list → GroupsByNumber es → AreGroups now (groups es) found
+groups_hold text now es rows list found ns count h now_is list_is numbers count_is of_rows law =
     let held : AreRows now es list = subst (λ t. AreRows t es list) (sym now_is) (subst (AreRows text es) (sym list_is) h) in
-    let count = length (first_ones same_message (named_messages es)) in
-    groups_are now count ns es list found (groups es) held of_rows (ap (λ (l : List ℕ). by_number count l es) numbers ∙ law) (groups_valid es (all_valid now es list held))
+    groups_are now count ns es list found (groups es) held of_rows (ap₂ (λ (n : ℕ) (l : List ℕ). by_number n l es) count_is numbers ∙ law) (groups_valid es (all_valid now es list held))

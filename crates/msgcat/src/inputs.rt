@@ -73,6 +73,8 @@ pub(crate) struct NumberedEntries<'a> {
     pub(crate) rows: Vec<EntryRow<'a>>,
     /// For each entry the number of its message.
     pub(crate) numbers: Vec<usize>,
+    /// How many messages there are.
+    pub(crate) count: usize,
 }
 
 /// Where an entry stands.
@@ -212,7 +214,7 @@ pub(crate) fn read_inputs<'a>(
         fault,
     } = read_each(alloc, inputs)?;
     let Entries { text, rows, keys } = entries;
-    let numbers = keys.numbers(alloc)?;
+    let (numbers, count) = keys.numbers(alloc)?;
     if let Some(fault) = first_duplicate(alloc, &read, &numbers)? {
         return Err(fault);
     }
@@ -222,6 +224,7 @@ pub(crate) fn read_inputs<'a>(
             text,
             rows,
             numbers,
+            count,
         }),
     }
 }

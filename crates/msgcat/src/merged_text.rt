@@ -189,7 +189,7 @@ pub(crate) fn merged_text(
         (IsMergeFault (merged_messages options.now (map definitions (groups entries)))) }
 {
     groups_are_numbered();
-    let groups = groups_of(alloc, &inputs.rows, &inputs.numbers)?;
+    let groups = groups_of(alloc, &inputs.rows, &inputs.numbers, inputs.count)?;
     match merge_groups(alloc, &inputs.text, groups, options) {
         Ok(parts) => Ok(parts.join()?),
         Err(error) => Err(error),

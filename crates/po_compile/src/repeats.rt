@@ -39,7 +39,7 @@ fn first_repeat(alloc: Global, rows: &[Row<'_>]) -> Result<Option<(usize, usize)
     messages_are_numbered_in_order();
     one_number_is_one_message();
     let keys = keys_of(alloc, rows)?;
-    let numbers = grouped(alloc, &keys)?;
+    let (numbers, _) = grouped(alloc, &keys)?;
     for (later, first) in numbers.iter().enumerate() {
         if *first < later {
             return Ok(Some((*first, later)));

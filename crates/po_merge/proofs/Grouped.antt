@@ -17,27 +17,6 @@ use Rattle.po_merge.proofs.FirstOnes.{firsts_same, firsts_more}
 abbrev message : NamedEntry → Message
 message e = entry_message e.entry
 
--- a message by its number among those before it
-module _ (ms : List Message) (i : ℕ) (d : Message) (number : ℕ) (inside : i < length ms) (is : number ≡ position_or_len (same_message (get_or ms i d)) (first_ones same_message (take i ms))) where
-  abbrev F : List Message
-  F = first_ones same_message (take i ms)
-
-  -- its number is among theirs, or the next one
-  pub count_more : (number ≤ length F) × (length (first_ones same_message (take (i + 1) ms)) ≡ max (length F) (number + 1))
-  count_more = found (list_any (same_message (get_or ms i d)) F) refl where
-    taken : length (first_ones same_message (take (i + 1) ms)) ≡ length (first_ones same_message (take i ms ++ get_or ms i d ∷ []))
-    taken = ap (λ l. length (first_ones same_message l)) (take_more ms i d inside)
-
-    found : (b : Bool) → list_any (same_message (get_or ms i d)) F ≡ b → (number ≤ length F) × (length (first_ones same_message (take (i + 1) ms)) ≡ max (length F) (number + 1))
-    found true met =
-        let less = found_within (same_message (get_or ms i d)) F met in
-        let same = ap length (firsts_same same_message same_message_laws (take i ms) (get_or ms i d) met) in
-        (omega (arith, less, is), omega (arith, taken, same, less, is))
-    found false unmet =
-        let last = unfound (same_message (get_or ms i d)) F unmet in
-        let more = ap length (firsts_more same_message same_message_laws (take i ms) (get_or ms i d) unmet) ∙ length-append F (get_or ms i d ∷ []) in
-        (omega (arith, last, is), omega (arith, taken, more, last, is))
-
 -- the entries, with one more
 pub entries_taken : (ds : List BorrowedEntry) (i : ℕ) (d : BorrowedEntry) → i < length ds → d ≡ get_or ds i d → take (i + 1) (named_entries ds) ≡ take i (named_entries ds) ++ named_entry d ∷ []
 entries_taken ds i d inside here =

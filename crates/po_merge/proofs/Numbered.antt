@@ -1,7 +1,8 @@
 -- One more thing among those that are grouped by their numbers.
-use Rattle.std.proofs.Common.{◌≡◌, ◌≢◌, refl, sym, ap, ◌∙◌, subst, ℕ, ◌<◌, ◌≤◌, Bool, true, false, cond, ◌==◌, List, [], ◌∷◌, ◌++◌, append-nil, length, map, get_or, set, take, arith, get_or-set_other, get_or-set_same, inl, inr, ◌⊎◌}
+use Rattle.std.proofs.Common.{◌≡◌, ◌≢◌, refl, sym, ap, ◌∙◌, subst, ℕ, ◌<◌, ◌≤◌, Bool, true, false, cond, ◌==◌, List, [], ◌∷◌, ◌++◌, append-nil, length, map, get_or, set, take, arith, get_or-set_other, get_or-set_same, inl, inr, ◌⊎◌, All, zero, suc}
 use Rattle.std.proofs.lemmas.Bool.Decides.{eqb_tells}
 use Rattle.std.proofs.lemmas.List.{get_or-map, length-map, map-set, take_all}
+use Rattle.std.proofs.lemmas.List.Elements.{All-head, All-tail}
 use Rattle.std.specs.Global.{Vec}
 use Rattle.std.proofs.lemmas.List.FromFn.{fill_by_all}
 use Rattle.po_merge.specs.Groups.{by_number, with_number}
@@ -21,6 +22,12 @@ module _ {X : Type 0} where
 -- the things are grouped by their numbers
 abbrev pub AreGrouped : (X : Type 0) → List (List X) → List ℕ → List X → Type 0
 AreGrouped X groups numbers xs = (n : ℕ) → get_or groups n [] ≡ with_number n numbers xs
+
+-- where each group is empty, no thing is grouped
+pub none_grouped : {X : Type 0} (gs : List (Vec X)) → All (λ g. g.items ≡ []) gs → AreGrouped X (map (λ g. g.items) gs) [] []
+none_grouped [] empty n = refl
+none_grouped (g ∷ gs) empty zero = All-head (λ v. v.items ≡ []) g gs empty
+none_grouped (g ∷ gs) empty (suc n) = none_grouped gs (All-tail (λ v. v.items ≡ []) g gs empty) n
 
 grouped_more : (X : Type 0) (gs : List (List X)) (ns : List ℕ) (xs : List X) (m : ℕ) (x : X) → length ns ≡ length xs → m < length gs → AreGrouped X gs ns xs
     → AreGrouped X (set gs m (get_or gs m [] ++ x ∷ [])) (ns ++ m ∷ []) (xs ++ x ∷ [])

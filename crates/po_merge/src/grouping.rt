@@ -1,8 +1,6 @@
 //! The entries of all inputs, grouped by context and msgid.
 
-ghost use Rattle.std.specs.Prelude.{◌≡◌, ◌≤◌, ◌+◌, ◌++◌, [], ℕ, All, IfOk, IsUtf8, List, OnOk, get_or, length, map, max};
-ghost use Rattle.po_messages.specs.FirstOnes.{first_ones, group_numbers};
-ghost use Rattle.po_messages.specs.Message.{Message, same_message};
+ghost use Rattle.std.specs.Prelude.{◌≡◌, ◌<◌, ◌++◌, All, IfOk, IsUtf8, OnOk, length, map};
 ghost use Rattle.po_messages.specs.MessageView.{messages_of_keys};
 ghost use Rattle.po_entry.specs.Bytes.{Lacks};
 ghost use Rattle.po_merge.specs.Grouping.{IsDefinition, group_entries, named_messages};
@@ -13,7 +11,6 @@ ghost use Rattle.po_merge.specs.InputsView.{inputs_view, named_entries};
 use crate::definition::NamedEntry;
 use crate::input::Named;
 use po_entry::Entry;
-use po_messages::laws::messages_are_numbered_in_order;
 use po_messages::{MessageKey, message_key};
 use std::alloc::{AllocError, Global};
 
@@ -60,42 +57,24 @@ fn keys_of<'a>(alloc: Global, entries: &[NamedEntry<'a>]) -> Result<Vec<MessageK
     Ok(keys)
 }
 
-/// Room for a group of this number, which is begun where it is the next one.
-fn make_room<T: Copy>(
-    alloc: Global,
-    groups: &mut Vec<Vec<T>>,
-    number: usize,
-) -> Result<(), AllocError>
-    requires { number ≤ length groups.old.items }
-    ensures same { OnOk result ((n : ℕ) → get_or (map (λ group. group.items) groups.new.items) n []
-        ≡ get_or (map (λ group. group.items) groups.old.items) n []) }
-    ensures long { OnOk result (length groups.new.items ≡ max (length groups.old.items) (number + 1)) }
-{
-    if number == groups.len() {
-        groups.push(Vec::with_capacity(alloc, 1)?)?;
-    }
-    Ok(())
-}
-
-/// What belongs to each message, by the numbers of the messages, from 0 on. Refused only where an
-/// allocation failed.
+/// What belongs to each message, by the numbers of the messages, which are below a count. Refused only
+/// where an allocation failed.
 pub fn groups_of<T: Copy>(
     alloc: Global,
     things: &[T],
     numbers: &[usize],
+    count: usize,
 ) -> Result<Vec<Vec<T>>, AllocError>
-    requires { (messages : List Message) × (numbers.now ≡ group_numbers same_message messages)
-        × (length messages ≡ length things.now) }
-    ensures { IfOk result (λ all. (messages : List Message) → numbers.now ≡ group_numbers same_message messages
-        → map (λ group. group.items) all.items
-        ≡ by_number (length (first_ones same_message messages)) numbers.now things.now) }
+    requires lengths { length numbers.now ≡ length things.now }
+    requires below { All (λ number. number < count) numbers.now }
+    ensures { IfOk result (λ all. map (λ group. group.items) all.items ≡ by_number count numbers.now things.now) }
 {
-    messages_are_numbered_in_order();
-    let mut groups = Vec::new(alloc);
+    let mut groups = Vec::with_capacity(alloc, count)?;
+    for _number in 0..count {
+        groups.push(Vec::with_capacity(alloc, 1)?)?;
+    }
     for (index, thing) in things.iter().enumerate() {
-        let number = numbers[index];
-        make_room(alloc, &mut groups, number)?;
-        groups[number].push(*thing)?;
+        groups[numbers[index]].push(*thing)?;
     }
     Ok(groups)
 }
@@ -111,6 +90,6 @@ pub(crate) fn grouped<'a>(
 {
     let entries = all_entries(alloc, inputs)?;
     let keys = keys_of(alloc, &entries)?;
-    let numbers = po_messages::grouped(alloc, &keys)?;
-    groups_of(alloc, &entries, &numbers)
+    let (numbers, count) = po_messages::grouped(alloc, &keys)?;
+    groups_of(alloc, &entries, &numbers, count)
 }

@@ -18,7 +18,6 @@ use Rattle.po_messages.specs.Repeats.{IsFirstRepeat}
 use Rattle.po_messages.specs.declared.duplicate.JoinError.{JoinError}
 use Rattle.po_messages.specs.declared.joining.InputEntry.{InputEntry as BorrowedEntry}
 use Rattle.po_messages.specs.declared.message_index.MessageKey.{MessageKey}
-use Rattle.po_messages.proofs.RepeatLemmas.{IsNext}
 use Rattle.po_messages.proofs.NumberLemmas.{all_numbered, are_numbered, message_repeats, messages_differ}
 
 pub live_of_entries : (xs : List InputEntry) → filter is_live (entries_of xs) ≡ entries_of (live_entries xs)
@@ -57,25 +56,6 @@ module _ (entries : List BorrowedEntry) (i : ℕ) (x : BorrowedEntry) (inside : 
         flat_of : (es : List BorrowedEntry) → entry_messages (entries_of (input_entries es)) ≡ map (λ e. entry_message e.entry.now) es
         flat_of [] = refl
         flat_of (e ∷ es) = ap (λ l. entry_message e.entry.now ∷ l) (flat_of es)
-
-  abbrev list : List InputEntry
-  list = input_entries entries
-
-  long : i < length list
-  long = omega (arith, inside, length-map entries input_entry)
-
-  at : get_or list i (input_entry x) ≡ input_entry x
-  at = get_or-map input_entry entries i x (input_entry x) inside ∙ sym (ap input_entry here)
-
-  pub next : IsNext list i (input_entry x)
-  next = record {
-    inside = long;
-    one = take_more list i (input_entry x) long ∙ ap (λ y. take i list ++ y ∷ []) at;
-    rest = drop-cons list i (input_entry x) long ∙ (rw add-one (ap (λ y. y ∷ drop (suc i) list) at));
-  }
-
-  pub number_here : (numbers : List ℕ) (d : ℕ) → numbers ≡ map (number list) list → get_or numbers i d ≡ number list (input_entry x)
-  number_here numbers d are = ap (λ l. get_or l i d) are ∙ get_or-map (number list) list i (input_entry x) d long ∙ ap (number list) at
 
 pub entries_of_input : (input : ℕ) (xs : List TextEntry) → entries_of (map (in_input input) xs) ≡ xs
 entries_of_input input [] = refl

@@ -7,7 +7,7 @@ use Rattle.std.specs.Cmp.{IsEquivalence}
 use Rattle.std.proofs.lemmas.List.Folds.{list_any-append, position_or_len_push}
 use Rattle.std.proofs.lemmas.List.{map-append, length-map, get_or_at, get_or-map, take-append-drop}
 use Rattle.std.proofs.lemmas.List.Sums.{fold_push, passes_at_first}
-use Rattle.std.proofs.lemmas.List.Elements.{All-nil, All-cons, All-head, All-tail}
+use Rattle.std.proofs.lemmas.List.Elements.{All-nil, All-cons, All-head, All-map, All-tail}
 use Rattle.std.proofs.Math.Bool.{or-false, or-true, or_assoc}
 use Rattle.po_messages.specs.FirstOnes.{with_new, first_ones, group_numbers}
 
@@ -89,6 +89,12 @@ module _ {X : Type 0} (alike : X → X → Bool) (laws : IsEquivalence alike) wh
   -- each element is like a first one
   pub all_are_found : (xs : List X) → All (λ y. list_any (alike y) (first_ones alike xs) ≡ true) xs
   all_are_found xs = all_found xs xs (all_from [] xs)
+
+  -- so each number is below their count
+  pub numbers_below : (xs : List X) → All (λ n. n < length (first_ones alike xs)) (group_numbers alike xs)
+  numbers_below xs =
+      let firsts = first_ones alike xs in
+      All-map (λ n. n < length firsts) (λ x. position_or_len (alike x) firsts) xs (λ k d below. found_within (alike (get_or xs k d)) firsts (all_are_found xs k d below))
 
   -- the numbers, with one more element
   pub numbers_push : (xs : List X) (x : X) → group_numbers alike (xs ++ x ∷ []) ≡ group_numbers alike xs ++ position_or_len (alike x) (first_ones alike xs) ∷ []

@@ -1,12 +1,12 @@
--- The indexes that are kept of numbers, and the first number that stands twice.
-use Rattle.std.proofs.Common.{◌≡◌, ◌≢◌, ◌⊎◌, inl, inr, sym, ap, ◌∙◌, subst, ℕ, ◌+◌, ◌<◌, Bool, true, false, cond, filter, List, [], ◌∷◌, ◌++◌, Option, Some, None, length, length-append, length-take, get_or, get_or-take, take, drop, arith, append_assoc, append-nil, All, AllPairs}
-use Rattle.std.proofs.Math.ListN.{get_or-append}
-use Rattle.std.proofs.Math.Seq.{get_or-append_seam}
-use Rattle.std.proofs.lemmas.Bool.{cases_eq, ne_eqb}
-use Rattle.std.proofs.lemmas.List.{take-append-drop}
-use Rattle.std.proofs.lemmas.List.Elements.{All-nil, All-push, filter-append}
-use Rattle.std.proofs.lemmas.List.Quantifiers.{all_pairs_push}
-use Rattle.po_messages.specs.Repeats.{IsFirstRepeat, IsUnseen, index_seen}
+-- The first of things that has the number of an earlier one.
+use Rattle.std.proofs.Common.{◌≡◌, ◌≢◌, inl, inr, sym, ap, ap₂, ◌∙◌, subst, ℕ, ◌+◌, ◌<◌, ◌≤◌, Bool, false, true, cond, filter, List, [], ◌∷◌, ◌++◌, Option, Some, None, length, length-take, get_or, get_or-take, suc, take, drop, arith, AllPairs, map}
+use Rattle.std.proofs.Math.Seq.{drop-cons}
+use borrow.Author.Count.{below_more}
+use Rattle.std.proofs.lemmas.Bool.{cases_eq, false≢true, ne_eqb}
+use Rattle.std.proofs.lemmas.List.{get_or-map, take-append-drop, take_all}
+use Rattle.std.proofs.lemmas.List.Elements.{filter-append, filter_passes}
+use Rattle.std.proofs.lemmas.List.Kept.{AllPairs-filter}
+use Rattle.po_messages.specs.Repeats.{DifferUpTo, IsFirstRepeat, IsUnseen, RepeatsAt, index_seen}
 use Rattle.po_messages.specs.declared.repeats.Seen.{Seen}
 
 -- no index was kept in an empty table
@@ -14,127 +14,92 @@ pub none_kept : (seen : List Seen) → seen ≡ [] → (round : ℕ) → 0 < rou
 none_kept seen empty round after number =
     ap (λ l. index_seen round l number) empty ∙ ap (λ b. cond b (Some 0) None) (ne_eqb 0 round (λ same. omega (arith, same, after)))
 
--- one more index
-pub within_more : (old new : ℕ → Option ℕ) (n i : ℕ) → ((q k : ℕ) → old q ≡ Some k → k < i) → new n ≡ Some i → ((q : ℕ) → q ≢ n → new q ≡ old q) → (q k : ℕ) → new q ≡ Some k → k < i + 1
-within_more old new n i within kept others q k is = elim (cases_eq q n) [
-  | inl same ↦
-      let both : Some i ≡ Some k = sym kept ∙ sym (ap new same) ∙ is in
-      let at : i ≡ k = cc in
-      omega (arith, at)
-  | inr other ↦ omega (arith, within q k (sym (others q other) ∙ is))
-]
+-- an element that passes a test, among those that do
+passing_at : {X : Type 0} (p : X → Bool) (xs : List X) (i : ℕ) (d : X) → i < length xs → p (get_or xs i d) ≡ true → filter p xs ≡ filter p (take i xs) ++ get_or xs i d ∷ filter p (drop (suc i) xs)
+passing_at p xs i d inside passes =
+    let after = filter p (drop (suc i) xs) in
+    ap (filter p) (sym (take-append-drop i xs) ∙ ap (λ l. take i xs ++ l) (drop-cons xs i d inside)) ∙ filter-append p (take i xs) (get_or xs i d ∷ drop (suc i) xs)
+    ∙ ap (λ (b : Bool). filter p (take i xs) ++ cond b (get_or xs i d ∷ after) after) passes
 
--- the element at an index, with the list around it
-pub record IsNext {X : Type 0} (xs : List X) (i : ℕ) (x : X) : Type 0 where
-  pub inside : i < length xs
-  pub one : take (i + 1) xs ≡ take i xs ++ x ∷ []
-  pub rest : drop i xs ≡ x ∷ drop (i + 1) xs
+-- things that stand for elements, of which those that pass a test are live
+module _ {X T : Type 0} (number_of : X → ℕ) (p : X → Bool) (live : T → Bool) (xs : List X) (things : List T) (numbers : List ℕ) (numbers_are : numbers ≡ map number_of xs)
+    (lives : (i : ℕ) (d : T) (e : X) → i < length xs → live (get_or things i d) ≡ p (get_or xs i e)) (none : T) where
+  numbered : (i : ℕ) (d : X) → i < length xs → get_or numbers i 0 ≡ number_of (get_or xs i d)
+  numbered i d inside = ap (λ l. get_or l i 0) numbers_are ∙ get_or-map number_of xs i d 0 inside
 
-module _ {X : Type 0} (number_of : X → ℕ) (p : X → Bool) where
-  -- the element of a number among those that pass, at its index
-  pub record IsFound (done : List X) (number index : ℕ) : Type 0 where
-    pub first : X
-    pub before : List X
-    pub between : List X
-    pub inside : index < length done
-    pub here : (d : X) → get_or done index d ≡ first
-    pub split : filter p done ≡ before ++ first ∷ between
-    pub number_is : number_of first ≡ number
+  differ_of : (n : ℕ) → n ≤ length xs → DifferUpTo live numbers things n → AllPairs (λ a b. number_of a ≢ number_of b) (filter p (take n xs))
+  differ_of n most differ i j d below inside = AllPairs-filter (λ a b. p a ≡ true → p b ≡ true → number_of a ≢ number_of b) p (take n xs)
+      (λ i j d below inside first later same.
+      let within : j < n = omega (arith, inside, length-take n xs) in
+      let at : (k : ℕ) → k < n → get_or (take n xs) k d ≡ get_or xs k d = λ k less. get_or-take n xs k d less in
+      let here : (k : ℕ) → k < n → p (get_or (take n xs) k d) ≡ true → live (get_or things k none) ≡ true = λ k less passes. lives k none d (omega (arith, less, most)) ∙ ap p (sym (at k less)) ∙ passes in
+      let number : (k : ℕ) → k < n → get_or numbers k 0 ≡ number_of (get_or (take n xs) k d) = λ k less. numbered k d (omega (arith, less, most)) ∙ ap number_of (sym (at k less)) in
+      differ i j none below within (here i (omega (arith, below, within)) first) (here j within later) (number i (omega (arith, below, within)) ∙ same ∙ sym (number j within)))
+      i j d below inside (filter_passes p (take n xs) i d (omega (arith, below, inside))) (filter_passes p (take n xs) j d inside)
 
-  -- the indexes are those of the elements so far that pass, no two of which have one number
-  pub record IsSeen (at : ℕ → Option ℕ) (done : List X) : Type 0 where
-    pub found : (number index : ℕ) → at number ≡ Some index → IsFound done number index
-    pub absent : (number : ℕ) → at number ≡ None → All (λ x. number_of x ≢ number) (filter p done)
-    pub differ : AllPairs (λ a b. number_of a ≢ number_of b) (filter p done)
+  pub all_differ : (n : ℕ) → n ≡ length xs → DifferUpTo live numbers things n → AllPairs (λ a b. number_of a ≢ number_of b) (filter p xs)
+  all_differ n whole differ = subst (λ l. AllPairs (λ a b. number_of a ≢ number_of b) (filter p l)) (take_all n xs (omega (arith, whole))) (differ_of n (omega (arith, whole)) differ)
 
-  pub seen_none : (at : ℕ → Option ℕ) → ((number : ℕ) → at number ≡ None) → IsSeen at []
+  pub repeat_of : (i j : ℕ) (a b : X) → j < length xs → a ≡ get_or xs i a → b ≡ get_or xs j b → RepeatsAt live numbers things i j → IsFirstRepeat (λ x y. number_of x ≡ number_of y) (filter p xs) a b
+  repeat_of i j a b inside at_a at_b found =
+      let below = found.earlier in
+      let within : i < length xs = omega (arith, below, inside) in
+      let at : get_or (take j xs) i a ≡ a = get_or-take j xs i a below ∙ sym at_a in
+      let first : p (get_or (take j xs) i a) ≡ true = ap p (get_or-take j xs i a below) ∙ sym (lives i none a within) ∙ found.first_live none in
+      let later : p (get_or xs j b) ≡ true = sym (lives j none b inside) ∙ found.later_live none in
+      let front = passing_at p (take j xs) i a (omega (arith, below, inside, length-take j xs)) first ∙ ap (λ x. filter p (take i (take j xs)) ++ x ∷ filter p (drop (suc i) (take j xs))) at in
+      let after = filter p (drop (suc j) xs) in
+      record {
+        before = filter p (take i (take j xs));
+        between = filter p (drop (suc i) (take j xs));
+        after = after;
+        order = passing_at p xs j b inside later ∙ ap₂ (λ l x. l ++ x ∷ after) front (sym at_b);
+        same = ap number_of at_a ∙ sym (numbered i a within) ∙ found.same ∙ numbered j b inside ∙ sym (ap number_of at_b);
+        differ = subst (AllPairs (λ x y. number_of x ≢ number_of y)) front (differ_of j (omega (arith, inside)) found.differ);
+      }
+
+-- the live things so far are seen by their numbers, each with its index
+pub record AreSeen {T : Type 0} (live : T → Bool) (numbers : List ℕ) (things : List T) (at : ℕ → Option ℕ) (n : ℕ) : Type 0 where
+  pub kept : (number index : ℕ) → at number ≡ Some index → (index < n) × (get_or numbers index 0 ≡ number) × ((d : T) → live (get_or things index d) ≡ true)
+  pub met : (index : ℕ) → index < n → (d : T) → live (get_or things index d) ≡ true → at (get_or numbers index 0) ≢ None
+  pub differ : DifferUpTo live numbers things n
+
+module _ {T : Type 0} (live : T → Bool) (numbers : List ℕ) (things : List T) where
+  pub seen_none : (at : ℕ → Option ℕ) → ((number : ℕ) → at number ≡ None) → AreSeen live numbers things at 0
   seen_none at none = record {
-    found = λ number index is. absurd (let no = none number in cc (is, no));
-    absent = λ number is. All-nil (λ x. number_of x ≢ number);
-    differ = λ i j d below inside. absurd (omega (arith, inside));
+    kept = λ number index is. absurd (let no = none number in cc (is, no));
+    met = λ index below. absurd (omega (arith, below));
+    differ = λ i j d first below. absurd (omega (arith, below));
   }
 
-  module _ (xs : List X) (i : ℕ) (x : X) (next : IsNext xs i x) where
-    abbrev done : List X
-    done = take i xs
-
-    long : length done ≡ i
-    long = omega (arith, length-take i xs, next.inside)
-
-    filtered : (b : Bool) → p x ≡ b → filter p (done ++ x ∷ []) ≡ filter p done ++ cond b (x ∷ []) []
-    filtered b is = filter-append p done (x ∷ []) ∙ ap (λ (c : Bool). filter p done ++ cond c (x ∷ []) []) is
-
-    found_on : (number index : ℕ) (more : List X) → filter p (done ++ x ∷ []) ≡ filter p done ++ more → IsFound done number index → IsFound (done ++ x ∷ []) number index
-    found_on number index more is f = record {
-      first = f.first;
-      before = f.before;
-      between = f.between ++ more;
-      inside = omega (arith, f.inside, length-append done (x ∷ []));
-      here = λ d. get_or-append done (x ∷ []) d index f.inside ∙ f.here d;
-      split = is ∙ ap (λ l. l ++ more) f.split ∙ append_assoc f.before (f.first ∷ f.between) more;
-      number_is = f.number_is;
+  module _ (i : ℕ) where
+    pub seen_skipped : (at : ℕ → Option ℕ) → AreSeen live numbers things at i → ((d : T) → live (get_or things i d) ≡ false) → AreSeen live numbers things at (i + 1)
+    seen_skipped at seen dead = record {
+      kept = λ number index is. let old = seen.kept number index is in (omega (arith, old.0), old.1, old.2);
+      met = below_more (λ k. (d : T) → live (get_or things k d) ≡ true → at (get_or numbers k 0) ≢ None) i seen.met (λ d is. absurd (false≢true (sym (dead d) ∙ is)));
+      differ = λ a b d first below. below_more (λ k. (a : ℕ) → a < k → live (get_or things a d) ≡ true → live (get_or things k d) ≡ true → get_or numbers a 0 ≢ get_or numbers k 0) i
+          (λ k less a before. seen.differ a k d before less) (λ a before one is. absurd (false≢true (sym (dead d) ∙ is))) b below a first;
     }
 
-    -- one that doesn't pass
-    pub seen_skipped : (at : ℕ → Option ℕ) → IsSeen at done → p x ≡ false → IsSeen at (take (i + 1) xs)
-    seen_skipped at seen fails =
-        let same = filtered false fails in
-        let none = sym (same ∙ append-nil (filter p done)) in
-        subst (IsSeen at) (sym next.one) (record {
-          found = λ number index is. found_on number index [] same (seen.found number index is);
-          absent = λ number is. subst (All (λ y. number_of y ≢ number)) none (seen.absent number is);
-          differ = subst (AllPairs (λ a b. number_of a ≢ number_of b)) none seen.differ;
-        })
+    module _ (alive : (d : T) → live (get_or things i d) ≡ true) (old : ℕ → Option ℕ) (seen : AreSeen live numbers things old i) where
+      pub seen_more : (new : ℕ → Option ℕ) → old (get_or numbers i 0) ≡ None → new (get_or numbers i 0) ≡ Some i → ((q : ℕ) → q ≢ get_or numbers i 0 → new q ≡ old q) → AreSeen live numbers things new (i + 1)
+      seen_more new none kept others = record {
+        kept = λ q k is. elim (cases_eq q n) [
+          | inl same ↦ let both : Some i ≡ Some k = sym kept ∙ ap new (sym same) ∙ is in let at : i ≡ k = cc in (omega (arith, at), ap (λ m. get_or numbers m 0) (sym at) ∙ sym same, λ d. ap (λ m. live (get_or things m d)) (sym at) ∙ alive d)
+          | inr other ↦ let before = seen.kept q k (sym (others q other) ∙ is) in (omega (arith, before.0), before.1, before.2)
+        ];
+        met = below_more (λ k. (d : T) → live (get_or things k d) ≡ true → new (get_or numbers k 0) ≢ None) i
+            (λ k less d is gone. elim (cases_eq (get_or numbers k 0) n) [
+              | inl same ↦ (let at = ap new same ∙ kept in cc (at, gone))
+              | inr other ↦ seen.met k less d is (sym (others (get_or numbers k 0) other) ∙ gone)
+            ])
+            (λ d is gone. cc (kept, gone));
+        differ = λ a b d first below. below_more (λ k. (a : ℕ) → a < k → live (get_or things a d) ≡ true → live (get_or things k d) ≡ true → get_or numbers a 0 ≢ get_or numbers k 0) i
+            (λ k less a before. seen.differ a k d before less) (λ a before one is same. seen.met a before d one (ap old same ∙ none)) b below a first;
+      } where
+        n : ℕ
+        n = get_or numbers i 0
 
-    -- one that passes
-    module _ (n : ℕ) (number_is : number_of x ≡ n) (passes : p x ≡ true) where
-      -- whose number none before it has
-      module _ (old new : ℕ → Option ℕ) (seen : IsSeen old done) (none : old n ≡ None) (kept : new n ≡ Some i) (others : (q : ℕ) → q ≢ n → new q ≡ old q) where
-        found_more : (q index : ℕ) → new q ≡ Some index → (q ≡ n) ⊎ (q ≡ n → ⊥) → IsFound (done ++ x ∷ []) q index
-        found_more q index is (inl same) =
-            let both : Some i ≡ Some index = sym kept ∙ sym (ap new same) ∙ is in
-            let at : i ≡ index = cc in
-            let end : length done ≡ index = long ∙ at in
-            record {
-              first = x;
-              before = filter p done;
-              between = [];
-              inside = omega (arith, end, length-append done (x ∷ []));
-              here = λ d. ap (λ m. get_or (done ++ x ∷ []) m d) (sym end) ∙ get_or-append_seam done x [] d;
-              split = filtered true passes;
-              number_is = number_is ∙ sym same;
-            }
-        found_more q index is (inr other) = found_on q index (x ∷ []) (filtered true passes) (seen.found q index (sym (others q other) ∙ is))
-
-        absent_more : (q : ℕ) → new q ≡ None → (q ≡ n) ⊎ (q ≡ n → ⊥) → All (λ y. number_of y ≢ q) (filter p done ++ x ∷ [])
-        absent_more q is (inl same) = absurd (let both : Some i ≡ None = sym kept ∙ sym (ap new same) ∙ is in cc)
-        absent_more q is (inr other) = All-push (λ y. number_of y ≢ q) (filter p done) x (seen.absent q (sym (others q other) ∙ is)) (λ same. other (sym same ∙ number_is))
-
-        pub seen_more : IsSeen new (take (i + 1) xs)
-        seen_more = subst (IsSeen new) (sym next.one) (record {
-          found = λ q index is. found_more q index is (cases_eq q n);
-          absent = λ q is. subst (All (λ y. number_of y ≢ q)) (sym (filtered true passes)) (absent_more q is (cases_eq q n));
-          differ =
-              subst (AllPairs (λ a b. number_of a ≢ number_of b)) (sym (filtered true passes))
-              (all_pairs_push (λ a b. number_of a ≢ number_of b) (filter p done) x seen.differ (subst (λ m. All (λ y. number_of y ≢ m) (filter p done)) (sym number_is) (seen.absent n none)));
-        })
-
-      -- whose number one before it has
-      pub seen_repeats : (at : ℕ → Option ℕ) (index : ℕ) (f : IsFound done n index) → IsSeen at done → IsFirstRepeat (λ a b. number_of a ≡ number_of b) (filter p xs) f.first x
-      seen_repeats at index f seen =
-          let after = drop (i + 1) xs in
-          let whole : xs ≡ done ++ x ∷ after = sym (take-append-drop i xs) ∙ ap (λ l. done ++ l) next.rest in
-          record {
-            before = f.before;
-            between = f.between;
-            after = filter p after;
-            order =
-                ap (filter p) whole ∙ filter-append p done (x ∷ after) ∙ ap (λ (c : Bool). filter p done ++ cond c (x ∷ filter p after) (filter p after)) passes
-                ∙ ap (λ l. l ++ x ∷ filter p after) f.split;
-            same = f.number_is ∙ sym number_is;
-            differ = subst (AllPairs (λ a b. number_of a ≢ number_of b)) f.split seen.differ;
-          }
-
-      -- which stands at its index
-      pub found_at : (index : ℕ) (f : IsFound done n index) (d : X) → get_or xs index d ≡ f.first
-      found_at index f d = sym (get_or-take i xs index d (omega (arith, f.inside, long))) ∙ f.here d
+      pub seen_repeats : (first : ℕ) → old (get_or numbers i 0) ≡ Some first → i < length things → RepeatsAt live numbers things first i
+      seen_repeats first is inside =
+          let at = seen.kept (get_or numbers i 0) first is in record { earlier = at.0; within = inside; first_live = at.2; later_live = alive; same = at.1; differ = seen.differ }

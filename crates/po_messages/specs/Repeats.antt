@@ -1,5 +1,5 @@
 -- What stands twice in a list, and what a table keeps of numbers.
-use Rattle.std.specs.Prelude.{◌≡◌, ◌==◌, ℕ, List, ◌∷◌, ◌++◌, AllPairs, Option, None, Some, get_or, if◌then◌else◌}
+use Rattle.std.specs.Prelude.{◌≡◌, ◌≢◌, ◌<◌, ◌==◌, ℕ, Bool, true, List, ◌∷◌, ◌++◌, AllPairs, Option, None, Some, get_or, length, if◌then◌else◌}
 use Rattle.po_messages.specs.declared.repeats.Seen.{Seen}
 
 -- `later` is the earliest element that is like one before it, and `first` is that one: no two of those
@@ -22,3 +22,18 @@ index_seen round seen number = index_of_round round (get_or seen number (record 
 -- no index was kept in this round
 abbrev pub IsUnseen : ℕ → List Seen → Type 0
 IsUnseen round seen = (number : ℕ) → index_seen round seen number ≡ None
+
+-- of the first ones of things with these numbers, no two live ones have one number
+abbrev pub DifferUpTo : {X : Type 0} → (X → Bool) → List ℕ → List X → ℕ → Type 0
+DifferUpTo {X = X} live numbers things n =
+    (i j : ℕ) (d : X) → i < j → j < n → live (get_or things i d) ≡ true → live (get_or things j d) ≡ true
+    → get_or numbers i 0 ≢ get_or numbers j 0
+
+-- the earliest live one that has the number of an earlier live one, and that one
+pub record RepeatsAt {X : Type 0} (live : X → Bool) (numbers : List ℕ) (things : List X) (first later : ℕ) : Type 0 where
+  pub earlier : first < later
+  pub within : later < length things
+  pub first_live : (d : X) → live (get_or things first d) ≡ true
+  pub later_live : (d : X) → live (get_or things later d) ≡ true
+  pub same : get_or numbers first 0 ≡ get_or numbers later 0
+  pub differ : DifferUpTo live numbers things later

@@ -11,7 +11,7 @@ ghost use Rattle.po_entry.specs.Validity.{out_of_memory};
 use crate::joining::{InputEntry, add_entries, is_live, joined};
 use crate::message_index::{MessageKey, grouped, message_key};
 use crate::places::duplicate_at;
-use crate::repeats::keep_index;
+use crate::repeats::{Placed, first_repeat};
 use po_entry::Catalogue;
 use po_syntax::PoError;
 use std::alloc::{AllocError, AllocFailed, Global};
@@ -87,17 +87,22 @@ fn first_duplicate(alloc: Global, entries: &[InputEntry<'_>]) -> Result<(), Join
         (IsDuplicateFault (input_entries entries.now)) }
 {
     let keys = keys_of(alloc, entries)?;
-    let numbers = grouped(alloc, &keys)?;
+    let (numbers, _) = grouped(alloc, &keys)?;
     let mut seen = Vec::new(alloc);
-    for (i, later) in entries.iter().enumerate() {
-        if !is_live(later.entry) {
-            continue;
-        }
-        if let Some(first) = keep_index(&mut seen, 1, numbers[i], i)? {
-            return Err(duplicate(&entries[first], later));
-        }
+    match first_repeat(&mut seen, 1, &numbers, entries)? {
+        Some((first, later)) => Err(duplicate(&entries[first], &entries[later])),
+        None => Ok(()),
     }
-    Ok(())
+}
+
+impl Placed for InputEntry<'_> {
+    ghost use Rattle.po_messages.specs.Joined.{is_live};
+
+    ghost live = { λ e. is_live e.entry.now };
+
+    fn is_live(&self) -> bool {
+        is_live(self.entry)
+    }
 }
 
 /// The keys of the entries' messages.

@@ -5,7 +5,7 @@ ghost use Rattle.std.specs.Prelude.{◌≡◌, ◌++◌, ◌∷◌, ℕ, [], IfO
 ghost use Rattle.std.specs.Option.{option_copied};
 ghost use Rattle.po_entry.specs.TextEntry.{TextEntry};
 ghost use Rattle.po_messages.specs.Keys.{HoldKeys, key_bytes, key_lengths};
-ghost use Rattle.po_messages.specs.FirstOnes.{group_numbers};
+ghost use Rattle.po_messages.specs.FirstOnes.{first_ones, group_numbers};
 ghost use Rattle.po_messages.specs.Message.{entry_message, same_message};
 ghost use Rattle.po_messages.specs.MessageView.{message_of_key, messages_of_keys};
 
@@ -39,48 +39,31 @@ pub fn split_at_most<T>(items: &[T], len: usize) -> (&[T], &[T])
     items.split_at(len.min(items.len()))
 }
 
-/// Cuts off a context of this length, where there is one.
-fn split_context(bytes: &[u8], len: Option<usize>) -> (Option<&[u8]>, &[u8])
-    ensures { (context : Option (List ℕ)) (rest : List ℕ) → bytes.now ≡ unwrap_or context [] ++ rest
-        → len ≡ option_map length context → (option_copied result.0 ≡ context) × (result.1.now ≡ rest) }
-{
-    match len {
-        Some(len) => {
-            let (context, rest) = split_at_most(bytes, len);
-            (Some(context), rest)
-        }
-        None => (None, bytes),
-    }
-}
-
 /// The first message, whose lengths these are, and the bytes after it.
 fn split_key<'b>(bytes: &'b [u8], lengths: &KeySpans) -> (MessageKey<'b>, &'b [u8])
     ensures { (entry : TextEntry) (rest : List ℕ) → bytes.now ≡ key_bytes entry ++ rest
         → lengths.now ≡ key_lengths entry → (message_of_key result.0 ≡ entry_message entry) × (result.1.now ≡ rest) }
 {
-    let (context, after) = split_context(bytes, lengths.context);
+    let Some(len) = lengths.context else {
+        let (id, rest) = split_at_most(bytes, lengths.id);
+        return (MessageKey { context: None, id }, rest);
+    };
+    let (context, after) = split_at_most(bytes, len);
     let (id, rest) = split_at_most(after, lengths.id);
+    let context = Some(context);
     (MessageKey { context, id }, rest)
 }
 
-/// The length of a text that may be absent.
-fn optional_len(text: Option<&[u8]>) -> Option<usize>
-    ensures { result ≡ option_map length (option_copied text.entry) }
+/// Appends a text that may be absent. Returns its length, where there is one.
+fn append_optional(bytes: &mut Vec<u8>, text: Option<&[u8]>) -> Result<Option<usize>, AllocError>
+    ensures appended { OnOk result (bytes.new.items ≡ bytes.old.items ++ unwrap_or (option_copied text.entry) []) }
+    ensures len { IfOk result (λ len. len ≡ option_map length (option_copied text.entry)) }
 {
-    match text {
-        Some(text) => Some(text.len()),
-        None => None,
-    }
-}
-
-/// Appends a text that may be absent.
-fn append_optional(bytes: &mut Vec<u8>, text: Option<&[u8]>) -> Result<(), AllocError>
-    ensures { OnOk result (bytes.new.items ≡ bytes.old.items ++ unwrap_or (option_copied text.entry) []) }
-{
-    match text {
-        Some(text) => bytes.extend_from_slice(text),
-        None => Ok(()),
-    }
+    let Some(text) = text else {
+        return Ok(None);
+    };
+    bytes.extend_from_slice(text)?;
+    Ok(Some(text.len()))
 }
 
 impl KeyBuffer {
@@ -99,19 +82,19 @@ impl KeyBuffer {
         ensures { OnOk result ((before : List TextEntry) → HoldKeys before self.old
             → HoldKeys (before ++ entry.now ∷ []) self.new) }
     {
-        append_optional(&mut self.bytes, entry.context())?;
+        let context = append_optional(&mut self.bytes, entry.context())?;
         self.bytes.extend_from_slice(entry.id())?;
-        self.lengths.push(KeySpans {
-            context: optional_len(entry.context()),
-            id: entry.id().len(),
-        })?;
-        Ok(())
+        let id = entry.id().len();
+        Ok(self.lengths.push(KeySpans { context, id })?)
     }
 
-    /// The messages, in their order.
-    fn list(&self, alloc: Global) -> Result<Vec<MessageKey<'_>>, AllocError>
-        ensures { IfOk result (λ keys. (entries : List TextEntry) → HoldKeys entries self.now
-            → messages_of_keys keys.items ≡ map entry_message entries) }
+    /// For each message its number among them, in the order in which they first appear, and how many
+    /// of them differ.
+    pub fn numbers(&self, alloc: Global) -> Result<(Vec<usize>, usize), AllocError>
+        ensures numbers { IfOk result (λ r. (entries : List TextEntry) → HoldKeys entries self.now
+            → r.0.items ≡ group_numbers same_message (map entry_message entries)) }
+        ensures count { IfOk result (λ r. (entries : List TextEntry) → HoldKeys entries self.now
+            → r.1 ≡ length (first_ones same_message (map entry_message entries))) }
     {
         let mut keys = Vec::with_capacity(alloc, self.lengths.len())?;
         let mut rest = self.bytes.as_slice();
@@ -120,15 +103,6 @@ impl KeyBuffer {
             keys.push(key)?;
             rest = after;
         }
-        Ok(keys)
-    }
-
-    /// For each message its number among them, in the order in which they first appear.
-    pub fn numbers(&self, alloc: Global) -> Result<Vec<usize>, AllocError>
-        ensures { IfOk result (λ numbers. (entries : List TextEntry) → HoldKeys entries self.now
-            → numbers.items ≡ group_numbers same_message (map entry_message entries)) }
-    {
-        let keys = self.list(alloc)?;
         grouped(alloc, &keys)
     }
 }

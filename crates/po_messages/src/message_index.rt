@@ -1,7 +1,7 @@
 //! An index of entries by context and msgid.
 
-ghost use Rattle.std.specs.Prelude.{◌≡◌, [], IfOk};
-ghost use Rattle.po_messages.specs.FirstOnes.{group_numbers};
+ghost use Rattle.std.specs.Prelude.{◌≡◌, IfOk, length};
+ghost use Rattle.po_messages.specs.FirstOnes.{first_ones, group_numbers};
 ghost use Rattle.po_messages.specs.Message.{entry_message, same_message};
 ghost use Rattle.po_messages.specs.MessageView.{message_of_key, messages_of_keys};
 
@@ -74,26 +74,17 @@ fn hasher_of(keys: &[MessageKey<'_>]) -> Seeded {
     Seeded { start }
 }
 
-/// An empty index with room for as many messages as there are keys.
-fn empty_index<'a>(
-    alloc: Global,
-    keys: &[MessageKey<'a>],
-) -> Result<IndexSet<MessageKey<'a>, Seeded>, AllocError>
-    ensures { IfOk result (λ index. index.keys ≡ []) }
+/// For each key the number of its message, and how many messages there are. They are numbered from 0,
+/// in the order in which they first appear. Refused only where an allocation failed.
+pub fn grouped(alloc: Global, keys: &[MessageKey<'_>]) -> Result<(Vec<usize>, usize), AllocError>
+    ensures numbers { IfOk result (λ r. r.0.items ≡ group_numbers same_message (messages_of_keys keys.now)) }
+    ensures count { IfOk result (λ r. r.1 ≡ length (first_ones same_message (messages_of_keys keys.now))) }
 {
-    IndexSet::with_capacity_and_hasher(alloc, keys.len(), hasher_of(keys))
-}
-
-/// For each key the number of its message. The messages are numbered from 0, in the order in which
-/// they first appear. Refused only where an allocation failed.
-pub fn grouped(alloc: Global, keys: &[MessageKey<'_>]) -> Result<Vec<usize>, AllocError>
-    ensures { IfOk result (λ numbers. numbers.items ≡ group_numbers same_message (messages_of_keys keys.now)) }
-{
-    let mut index = empty_index(alloc, keys)?;
+    let mut index = IndexSet::with_capacity_and_hasher(alloc, keys.len(), hasher_of(keys))?;
     let mut numbers = Vec::with_capacity(alloc, keys.len())?;
     for key in keys {
         let (number, _) = index.insert_full(*key)?;
         numbers.push(number)?;
     }
-    Ok(numbers)
+    Ok((numbers, index.len()))
 }

@@ -7,7 +7,7 @@ ghost use Rattle.po_messages.specs.Repeats.{IsUnseen};
 ghost use Rattle.po_syntax.specs.declared.fault.PoFault.{PoFault};
 ghost use Rattle.po_messages.specs.Places.{AreNumbered, RepeatsOnLines, are_placed};
 
-use crate::repeats::{Seen, keep_index};
+use crate::repeats::{Placed, Seen, first_repeat};
 use po_syntax::{PoError, PoFault};
 use std::alloc::AllocError;
 
@@ -18,6 +18,14 @@ pub struct EntryPlace {
     pub line: u32,
     /// Whether it is live, where duplicates are looked for.
     pub is_live: bool,
+}
+
+impl Placed for EntryPlace {
+    ghost live = { λ place. place.is_live };
+
+    fn is_live(&self) -> bool {
+        self.is_live
+    }
 }
 
 /// Of the entries of these numbers and places, the earliest live one that repeats an earlier live
@@ -37,16 +45,10 @@ pub fn repeated_lines(
     ensures later { OnOk result ((later : ℕ) → round < later → IsUnseen later seen.old.items
         → IsUnseen later seen.new.items) }
 {
-    for i in 0..numbers.len() {
-        let place = places[i];
-        if !place.is_live {
-            continue;
-        }
-        if let Some(first) = keep_index(seen, round, numbers[i], i)? {
-            return Ok(Some((places[first].line, place.line)));
-        }
+    match first_repeat(seen, round, numbers, places)? {
+        Some((first, later)) => Ok(Some((places[first].line, places[later].line))),
+        None => Ok(None),
     }
-    Ok(None)
 }
 
 /// The fault of a message that stands on this line and, again, on a later one.

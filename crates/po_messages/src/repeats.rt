@@ -1,7 +1,7 @@
 //! Numbers that stand twice in a list.
 
-ghost use Rattle.std.specs.Prelude.{◌≡◌, ◌≢◌, ◌<◌, ℕ, IfOk, OnOk, Some};
-ghost use Rattle.po_messages.specs.Repeats.{IsUnseen, index_seen};
+ghost use Rattle.std.specs.Prelude.{◌≡◌, ◌≢◌, ◌<◌, ℕ, Bool, IfOk, MatchOption, OnOk, Some, length};
+ghost use Rattle.po_messages.specs.Repeats.{DifferUpTo, IsUnseen, RepeatsAt, index_seen};
 
 use std::alloc::AllocError;
 use std::mem::replace;
@@ -16,8 +16,17 @@ pub struct Seen {
     pub index: usize,
 }
 
+/// What is looked at, or left out, where numbers are looked for that stand twice.
+pub(crate) trait Placed {
+    ghost live: { Self → Bool };
+
+    /// Whether it is looked at.
+    fn is_live(&self) -> bool
+        ensures { result ≡ live self.now };
+}
+
 /// Keeps the index of a number in this round. Returns the index that was kept before in it.
-pub(crate) fn keep_index(
+fn keep_index(
     seen: &mut Vec<Seen>,
     round: usize,
     number: usize,
@@ -36,4 +45,31 @@ pub(crate) fn keep_index(
     }
     let before = replace(&mut seen[number], Seen { round, index });
     Ok((before.round == round).then_some(before.index))
+}
+
+/// Of things with these numbers, the earliest live one that has the number of an earlier live one:
+/// the indexes of both. The table has none of this round, and is left so for later ones.
+pub(crate) fn first_repeat<T: Placed>(
+    seen: &mut Vec<Seen>,
+    round: usize,
+    numbers: &[usize],
+    things: &[T],
+) -> Result<Option<(usize, usize)>, AllocError>
+    requires lengths { length numbers.now ≡ length things.now }
+    requires round { 0 < round }
+    requires unseen { IsUnseen round seen.old.items }
+    ensures found { IfOk result (λ found. MatchOption found (DifferUpTo T.live numbers.now things.now (length things.now))
+        (λ at. RepeatsAt T.live numbers.now things.now at.0 at.1)) }
+    ensures later { OnOk result ((later : ℕ) → round < later → IsUnseen later seen.old.items
+        → IsUnseen later seen.new.items) }
+{
+    for (later, thing) in things.iter().enumerate() {
+        if !thing.is_live() {
+            continue;
+        }
+        if let Some(first) = keep_index(seen, round, numbers[later], later)? {
+            return Ok(Some((first, later)));
+        }
+    }
+    Ok(None)
 }

@@ -1,12 +1,14 @@
 -- Inputs that are read piece by piece. Internal to this crate.
-use Rattle.std.specs.Prelude.{◌≡◌, ℕ, All, List, [], ◌∷◌, ◌++◌, MatchOption, map}
+use Rattle.std.specs.Prelude.{◌≡◌, ℕ, All, List, [], ◌∷◌, ◌++◌, MatchOption, length, map}
 use Rattle.std.specs.List.{AllZip}
 use Rattle.po_entry.specs.ReadsText.{ReadsText}
 use Rattle.po_entry.specs.TextEntry.{TextEntry}
 use Rattle.po_entry.specs.Faults.{IsReadFault}
 use Rattle.po_messages.specs.Duplicate.{HasNoDuplicate}
+use Rattle.po_messages.specs.FirstOnes.{first_ones}
 use Rattle.po_messages.specs.Joined.{is_live}
-use Rattle.po_merge.specs.Grouping.{message_numbers}
+use Rattle.po_messages.specs.Message.{same_message}
+use Rattle.po_merge.specs.Grouping.{message_numbers, named_messages}
 use Rattle.po_merge.specs.Inputs.{Named, NamedEntry, all_entries, named}
 use Rattle.msgcat.specs.Internal.Entries.{AreRows, HoldEntries}
 use Rattle.po_messages.specs.Places.{Repeats, are_placed}
@@ -62,7 +64,8 @@ pub record IsFirstRepeating (inputs : List Named) (fault : FileFault) : Type 0 w
   pub name : fault.name.now ≡ input.name
   pub repeats : Repeats input.entries fault.error
 
--- these are the entries that are kept, each with the number of its message
+-- these are the entries that are kept, each with the number of its message, and how many messages they have
 pub record HoldInputs (entries : List NamedEntry) (kept : NumberedEntries) : Type 0 where
   pub rows : AreRows kept.text.items entries kept.rows.items
   pub numbers : kept.numbers.items ≡ message_numbers entries
+  pub count : kept.count ≡ length (first_ones same_message (named_messages entries))

@@ -13,7 +13,7 @@ returns-then-first-later c =
     let numbers = c.deref-first-items.result.now in
     let alike = c.one_number_is_one_message.ensures in
     let in_order = c.messages_are_numbered_in_order.ensures in
-    let are = c.deref-first-items.ensures.value ∙ c.in_ok-numbers.ensures ∙ ap (group_numbers same_message) (ap messages_of_keys c.deref.ensures.value ∙ c.in_ok-keys.ensures) in
+    let are = c.deref-first-items.ensures.value ∙ c.in_ok-numbers.ensures.numbers ∙ ap (group_numbers same_message) (ap messages_of_keys c.deref.ensures.value ∙ c.in_ok-keys.ensures) in
     repeat_found alike in_order keys numbers are c.loop-later.later (omega (arith, c.loop-later-test.true, numbers_long alike in_order keys numbers are)) c.if-first-later.true c.loop-later.invariant
 
 pub loop-later-preserved : goal.loop-later-preserved
@@ -22,7 +22,7 @@ loop-later-preserved c =
     let numbers = c.deref-first-items.result.now in
     let alike = c.one_number_is_one_message.ensures in
     let in_order = c.messages_are_numbered_in_order.ensures in
-    let are = c.deref-first-items.ensures.value ∙ c.in_ok-numbers.ensures ∙ ap (group_numbers same_message) (ap messages_of_keys c.deref.ensures.value ∙ c.in_ok-keys.ensures) in
+    let are = c.deref-first-items.ensures.value ∙ c.in_ok-numbers.ensures.numbers ∙ ap (group_numbers same_message) (ap messages_of_keys c.deref.ensures.value ∙ c.in_ok-keys.ensures) in
     own_more alike in_order keys numbers are c.loop-later.later (omega (arith, c.loop-later-test.true, numbers_long alike in_order keys numbers are)) c.if-first-later.false c.loop-later.invariant
 
 pub returns : goal.returns
@@ -31,7 +31,7 @@ returns c =
     let numbers = c.deref-first-items.result.now in
     let alike = c.one_number_is_one_message.ensures in
     let in_order = c.messages_are_numbered_in_order.ensures in
-    let are = c.deref-first-items.ensures.value ∙ c.in_ok-numbers.ensures ∙ ap (group_numbers same_message) (ap messages_of_keys c.deref.ensures.value ∙ c.in_ok-keys.ensures) in
+    let are = c.deref-first-items.ensures.value ∙ c.in_ok-numbers.ensures.numbers ∙ ap (group_numbers same_message) (ap messages_of_keys c.deref.ensures.value ∙ c.in_ok-keys.ensures) in
     let many = numbers_long alike in_order keys numbers are in
     let later = c.loop-later.later in
     subst AllApart (take_all later keys (omega (arith, many, c.loop-later-test.false))) (own_apart alike in_order keys numbers are later (omega (arith, many, c.loop-later.auto.later-end)) c.loop-later.invariant)

@@ -1,76 +1,57 @@
-use Rattle.std.proofs.Common.{◌∙◌, ◌<◌, ◌≡◌, ◌≢◌, AllPairs, ap, arith, inr, length, subst, sym}
-use Rattle.std.proofs.lemmas.List.{get_or-map, length-map, take_all}
-use Rattle.po_messages.specs.Duplicate.{IsFirstDuplicate, live_entries}
+use Rattle.std.proofs.Common.{◌∙◌, ◌≡◌, ◌<◌, ℕ, [], Bool, List, None, ap, arith, get_or, inr, length, subst, sym}
+use Rattle.std.specs.Prelude.{MatchOption}
+use Rattle.std.proofs.lemmas.List.{get_or-map, length-map}
+use Rattle.po_entry.specs.TextEntry.{plain_entry}
 use Rattle.po_messages.specs.FirstOnes.{group_numbers}
-use Rattle.po_messages.specs.Joined.{is_live}
+use Rattle.po_messages.specs.Joined.{InputEntry, is_live}
 use Rattle.po_messages.specs.JoinedView.{input_entries, input_entry}
 use Rattle.po_messages.specs.Message.{same_message}
 use Rattle.po_messages.specs.MessageView.{messages_of_keys}
-use Rattle.po_messages.specs.Repeats.{index_seen}
-use Rattle.po_messages.proofs.DuplicateLemmas.{duplicate_found, live_differ, next, number, number_here, numbers_of}
-use Rattle.po_messages.proofs.RepeatLemmas.{found_at, none_kept, seen_more, seen_none, seen_repeats, seen_skipped, within_more}
+use Rattle.po_messages.specs.Repeats.{DifferUpTo, RepeatsAt}
+use Rattle.po_messages.specs.declared.joining.InputEntry.{InputEntry as BorrowedEntry}
+use Rattle.po_messages.proofs.DuplicateLemmas.{duplicate_found, live_differ, number, numbers_of}
+use Rattle.po_messages.proofs.RepeatLemmas.{all_differ, none_kept, repeat_of}
 use Rattle.po_messages.proofs.duplicate.first_duplicate.Goals as goal
 
-pub loop-i-init : goal.loop-i-init
-loop-i-init c =
-    let none = none_kept c.new-seen.result.items c.new-seen.ensures.items 1 (omega arith) in
-    record { so_far = seen_none (number (input_entries c.args.entries.now)) (λ e. is_live e.entry) (index_seen 1 c.new-seen.result.items) none; within = λ n k is. absurd (let no = none n in cc (is, no)) }
+none : BorrowedEntry
+none = record { input = 0; entry = record { ref_ptr = (0, 0); now = plain_entry None [] None [] } }
 
-pub loop-i-preserved-then-not-is_live : goal.loop-i-preserved-then-not-is_live
-loop-i-preserved-then-not-is_live c =
+abbrev live : BorrowedEntry → Bool
+live e = is_live e.entry.now
+
+lives : (entries : List BorrowedEntry) (i : ℕ) (d : BorrowedEntry) (e : InputEntry) → i < length (input_entries entries) → live (get_or entries i d) ≡ is_live (get_or (input_entries entries) i e).entry
+lives entries i d e inside = ap (λ (x : InputEntry). is_live x.entry) (sym (get_or-map input_entry entries i d e (omega (arith, inside, length-map entries input_entry))))
+
+pub first_repeat-requires : goal.first_repeat-requires
+first_repeat-requires c =
     let xs = input_entries c.args.entries.now in
-    let x = c.index-entries-i.result in
-    let next_is = next c.args.entries.now c.loop-i.i x c.loop-i-test.true c.index-entries-i.is in
-    let h = c.loop-i.invariant in
+    let are = numbers_of xs c.deref-2.result.now (c.deref-2.ensures.value ∙ c.in_ok-numbers.ensures.numbers ∙ ap (group_numbers same_message) (ap messages_of_keys c.deref.ensures.value ∙ c.in_ok-keys.ensures)) in
     record {
-      so_far = seen_skipped (number xs) (λ e. is_live e.entry) xs c.loop-i.i (input_entry x) next_is (index_seen 1 c.loop-i.seen.items) h.so_far (sym c.if-not-is_live.ensures);
-      within = λ n k is. omega (arith, h.within n k is);
+      lengths = ap length are ∙ length-map xs (number xs) ∙ length-map c.args.entries.now input_entry;
+      round = omega arith;
+      unseen = none_kept c.new-seen.result.items c.new-seen.ensures.items 1 (omega arith);
     }
 
 pub returns-in-Some : goal.returns-in-Some
 returns-in-Some c =
     let entries = c.args.entries.now in
     let xs = input_entries entries in
-    let i = c.loop-i.i in
-    let x = c.index-entries-i.result in
-    let first = c.in-Some.first in
-    let next_is = next entries i x c.loop-i-test.true c.index-entries-i.is in
-    let are = numbers_of xs c.in_ok-numbers.numbers.items (c.in_ok-numbers.ensures ∙ ap (group_numbers same_message) (ap messages_of_keys c.deref.ensures.value ∙ c.in_ok-keys.ensures)) in
-    let number_is = sym (c.index.ensures ∙ number_here entries i x c.loop-i-test.true c.index-entries-i.is c.in_ok-numbers.numbers.items _ are) in
-    let kept = sym c.in_ok-first.ensures.before ∙ c.in-Some.is in
-    let f = c.loop-i.invariant.so_far.found c.index.result.now first kept in
-    let live = sym c.if-not-is_live.ensures in
-    let repeat = seen_repeats (number xs) (λ e. is_live e.entry) xs i (input_entry x) next_is c.index.result.now number_is live (index_seen 1 c.loop-i.seen.items) first f c.loop-i.invariant.so_far in
-    let d = c.index-entries-first.result in
-    let less : first < length entries = omega (arith, c.loop-i.invariant.within c.index.result.now first kept, c.loop-i-test.true) in
-    let first_is : f.first ≡ input_entry d =
-    sym (found_at (number xs) (λ e. is_live e.entry) xs i (input_entry x) next_is c.index.result.now number_is live first f (input_entry d)) ∙ get_or-map input_entry entries first d (input_entry d) less
-    ∙ sym (ap input_entry c.index-entries-first.is) in
-    record { exact = inr (input_entry d, input_entry x, subst (λ e. IsFirstDuplicate xs e (input_entry x)) first_is (duplicate_found xs f.first (input_entry x) repeat), c.duplicate.ensures) }
-
-pub loop-i-preserved : goal.loop-i-preserved
-loop-i-preserved c =
-    let entries = c.args.entries.now in
-    let xs = input_entries entries in
-    let i = c.loop-i.i in
-    let x = c.index-entries-i.result in
-    let h = c.loop-i.invariant in
-    let old = index_seen 1 c.loop-i.seen.items in
-    let new = index_seen 1 c.keep_index.new.seen.items in
-    let next_is = next entries i x c.loop-i-test.true c.index-entries-i.is in
-    let are = numbers_of xs c.in_ok-numbers.numbers.items (c.in_ok-numbers.ensures ∙ ap (group_numbers same_message) (ap messages_of_keys c.deref.ensures.value ∙ c.in_ok-keys.ensures)) in
-    let number_is = sym (c.index.ensures ∙ number_here entries i x c.loop-i-test.true c.index-entries-i.is c.in_ok-numbers.numbers.items _ are) in
-    let kept = c.in_ok-first.ensures.kept in
-    let others = c.in_ok-first.ensures.others in
-    record {
-      so_far =
-          seen_more (number xs) (λ e. is_live e.entry) xs i (input_entry x) next_is c.index.result.now number_is (sym c.if-not-is_live.ensures) old new h.so_far
-          (sym c.in_ok-first.ensures.before ∙ c.in_default.is) kept others;
-      within = within_more old new c.index.result.now i h.within kept others;
-    }
+    let numbers = c.deref-2.result.now in
+    let are = numbers_of xs numbers (c.deref-2.ensures.value ∙ c.in_ok-numbers.ensures.numbers ∙ ap (group_numbers same_message) (ap messages_of_keys c.deref.ensures.value ∙ c.in_ok-keys.ensures)) in
+    let found = subst (λ o. MatchOption o (DifferUpTo live numbers entries (length entries)) (λ at. RepeatsAt live numbers entries at.0 at.1)) c.in-Some.is c.in_ok-first.ensures.found in
+    let a = c.index-entries-first.result in
+    let b = c.index-entries-later.result in
+    let inside : c.in-Some.later < length entries = omega (arith, found.within) in
+    let at = λ (i : ℕ) (x : BorrowedEntry) (is : x ≡ get_or entries i x) (below : i < length entries). ap input_entry is ∙ sym (get_or-map input_entry entries i x (input_entry x) below) in
+    let repeat = repeat_of (number xs) (λ e. is_live e.entry) live xs entries numbers are (lives entries) a c.in-Some.first c.in-Some.later (input_entry a) (input_entry b) (omega (arith, inside, length-map entries input_entry))
+    (at c.in-Some.first a c.index-entries-first.is (omega (arith, found.earlier, inside))) (at c.in-Some.later b c.index-entries-later.is inside) found in
+    record { exact = inr (input_entry a, input_entry b, duplicate_found xs (input_entry a) (input_entry b) repeat, c.duplicate.ensures) }
 
 pub returns : goal.returns
 returns c =
-    let xs = input_entries c.args.entries.now in
-    let whole = take_all c.loop-i.i xs (omega (arith, c.loop-i-test.false, length-map c.args.entries.now input_entry)) in
-    record { exact = live_differ xs (subst (λ l. AllPairs (λ a b. number xs a ≢ number xs b) (live_entries l)) whole c.loop-i.invariant.so_far.differ) }
+    let entries = c.args.entries.now in
+    let xs = input_entries entries in
+    let numbers = c.deref-2.result.now in
+    let are = numbers_of xs numbers (c.deref-2.ensures.value ∙ c.in_ok-numbers.ensures.numbers ∙ ap (group_numbers same_message) (ap messages_of_keys c.deref.ensures.value ∙ c.in_ok-keys.ensures)) in
+    let found = subst (λ o. MatchOption o (DifferUpTo live numbers entries (length entries)) (λ at. RepeatsAt live numbers entries at.0 at.1)) c.in-None.is c.in_ok-first.ensures.found in
+    record { exact = live_differ xs (all_differ (number xs) (λ e. is_live e.entry) live xs entries numbers are (lives entries) none (length entries) (sym (length-map entries input_entry)) found) }

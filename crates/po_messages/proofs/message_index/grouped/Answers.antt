@@ -1,13 +1,13 @@
-use Rattle.std.proofs.Common.{◌∙◌, refl, ap}
-use Rattle.std.proofs.lemmas.List.{take_all}
-use Rattle.po_messages.specs.FirstOnes.{group_numbers}
+use Rattle.std.proofs.Common.{◌∙◌, ap, length, refl, sym}
+use Rattle.std.proofs.lemmas.List.{length-map, take_all}
+use Rattle.po_messages.specs.FirstOnes.{first_ones, group_numbers}
 use Rattle.po_messages.specs.Message.{same_message}
-use Rattle.po_messages.specs.MessageView.{messages_of_keys}
+use Rattle.po_messages.specs.MessageView.{message_of_key, messages_of_keys}
 use Rattle.po_messages.proofs.MessageIndex.{firsts_more, numbers_more}
 use Rattle.po_messages.proofs.message_index.grouped.Goals as goal
 
 pub loop-key-init : goal.loop-key-init
-loop-key-init c = record { firsts = ap messages_of_keys c.in_ok-index.ensures; numbers_are = c.in_ok-numbers.ensures.items }
+loop-key-init c = record { firsts = ap messages_of_keys c.in_ok-index.ensures.empty; numbers_are = c.in_ok-numbers.ensures.items }
 
 pub loop-key-preserved : goal.loop-key-preserved
 loop-key-preserved c =
@@ -18,4 +18,9 @@ loop-key-preserved c =
     }
 
 pub returns : goal.returns
-returns c = let past = c.loop-key-test.false in c.loop-key.invariant.numbers_are ∙ ap (λ keys. group_numbers same_message (messages_of_keys keys)) (take_all c.loop-key.key-index c.args.keys.now past)
+returns c =
+    let whole = ap messages_of_keys (take_all c.loop-key.key-index c.args.keys.now c.loop-key-test.false) in
+    record {
+      numbers = c.loop-key.invariant.numbers_are ∙ ap (group_numbers same_message) whole;
+      count = c.len.ensures.len ∙ sym (length-map c.loop-key.index.keys message_of_key) ∙ ap length (c.loop-key.invariant.firsts ∙ ap (first_ones same_message) whole);
+    }

@@ -4,7 +4,7 @@ use Rattle.po_entry.specs.TextEntry.{TextEntry}
 use Rattle.po_messages.specs.Keys.{HoldKeys, key_bytes}
 use Rattle.po_messages.specs.Message.{entry_message}
 use Rattle.po_messages.specs.MessageView.{messages_of_keys}
-use Rattle.po_messages.proofs.keys.KeyBuffer.list.Given as goal
+use Rattle.po_messages.proofs.keys.KeyBuffer.numbers.Given as goal
 
 abbrev pub invariant-loop-lengths : goal.invariant-loop-lengths
 invariant-loop-lengths l =
