@@ -8,7 +8,6 @@ use Rattle.std.proofs.lemmas.List.{map-append}
 use Rattle.std.proofs.lemmas.List.Elements.{All-head, All-nil, All-push, All-tail}
 use Rattle.std.proofs.lemmas.Bool.{cond_both, or_parts, false_from_ne_true, false≢true}
 use Rattle.std.proofs.Math.Bool.{or-false}
-use Rattle.std.proofs.lemmas.List.Sums.{fold_push}
 use Rattle.po_messages.specs.Facts.Mapped.{any_map}
 use Rattle.po_merge.specs.Groups.{with_new, first_ones}
 
@@ -55,12 +54,6 @@ module _ {X : Type 0} (alike : X → X → Bool) (laws : IsEquivalence alike) wh
 
   pub apart_first_ones : (xs : List X) → Apart alike (first_ones alike xs)
   apart_first_ones xs = apart_fold [] xs tt
-
-  pub firsts_same : (xs : List X) (x : X) → list_any (alike x) (first_ones alike xs) ≡ true → first_ones alike (xs ++ x ∷ []) ≡ first_ones alike xs
-  firsts_same xs x h = fold_push (with_new alike) [] xs x ∙ ap (λ (b : Bool). if b then first_ones alike xs else first_ones alike xs ++ x ∷ []) h
-
-  pub firsts_more : (xs : List X) (x : X) → list_any (alike x) (first_ones alike xs) ≡ false → first_ones alike (xs ++ x ∷ []) ≡ first_ones alike xs ++ x ∷ []
-  firsts_more xs x h = fold_push (with_new alike) [] xs x ∙ ap (λ (b : Bool). if b then first_ones alike xs else first_ones alike xs ++ x ∷ []) h
 
 module _ {X Y : Type 0} (f : X → Y) (alike : Y → Y → Bool) where
   firsts_from : (fs xs : List X) → fold (with_new alike) (map f fs) (map f xs) ≡ map f (fold (with_new (λ a b. alike (f a) (f b))) fs xs)

@@ -1,7 +1,6 @@
 pub mod FirstOnes
 pub mod Messages
 pub mod Sets
-pub mod Grouped
 pub mod Numbered
 pub mod Inputs
 pub mod Views

@@ -9,7 +9,7 @@ ghost use Rattle.po_merge.specs.MergedEntry.{first_with};
 ghost use Rattle.po_merge.specs.Internal.FirstParts.{has_part};
 
 use crate::input::MergeOptions;
-use po_entry::{Entry, Previous};
+use po_entry::Entry;
 use po_messages::{has_translation, is_live};
 
 /// An entry of one of several inputs, with that input's name.
@@ -64,40 +64,20 @@ fn is_wanted(options: &MergeOptions, count: usize) -> bool
     (options.more_than as usize) < count && is_below && (!options.unique || count < 2)
 }
 
-/// Whether one of the definitions is a header.
-fn has_header<T: Member>(definitions: &[T]) -> bool
-    ensures { result ≡ list_any T.header definitions.now }
-{
-    definitions.iter().any(|definition| definition.is_header())
-}
-
 /// Whether the message of these definitions is kept.
 fn is_kept<T: Member>(definitions: &[T], options: &MergeOptions) -> bool
     ensures { result ≡ is_kept_by T.header options.now definitions.now }
 {
-    has_header(definitions) || is_wanted(options, definitions.len())
-}
-
-/// Whether one of the members is live.
-fn has_live<T: Member>(group: &[T]) -> bool
-    ensures { result ≡ list_any T.live group.now }
-{
-    group.iter().any(|member| member.is_live())
-}
-
-/// Leaves the live members.
-fn keep_live<T: Member>(group: &mut Vec<T>)
-    ensures { group.new.items ≡ filter T.live group.old.items }
-{
-    group.retain(|member| member.is_live());
+    definitions.iter().any(|definition| definition.is_header())
+        || is_wanted(options, definitions.len())
 }
 
 /// Leaves the definitions of a group's message: its live members, or all where none is live.
 fn keep_definitions<T: Member>(group: &mut Vec<T>)
     ensures { group.new.items ≡ definitions_by T.live group.old.items }
 {
-    if has_live(group) {
-        keep_live(group);
+    if group.iter().any(|member| member.is_live()) {
+        group.retain(|member| member.is_live());
     }
 }
 
@@ -132,16 +112,12 @@ fn has_part(entry: &Entry, part: Part) -> bool
 {
     match part {
         Part::Translation => has_translation(entry),
-        Part::Previous => has_previous(entry.previous()),
+        Part::Previous => {
+            let previous = entry.previous();
+            previous.context.is_some() || previous.id.is_some() || previous.plural.is_some()
+        }
         Part::Plural => entry.plural().is_some(),
     }
-}
-
-/// Whether there is a previous text.
-fn has_previous(previous: &Previous) -> bool
-    ensures { result ≡ (is_some previous.now.context || is_some previous.now.id || is_some previous.now.plural) }
-{
-    previous.context.is_some() || previous.id.is_some() || previous.plural.is_some()
 }
 
 /// The first definition that has the part, or else the first.
@@ -149,10 +125,11 @@ pub(crate) fn first_with<'a>(definitions: &[NamedEntry<'a>], part: Part) -> &'a 
     requires { 0 < length definitions.now }
     ensures { result.now ≡ first_with (has_part part) (named_entries definitions.now) }
 {
-    for definition in definitions {
-        if has_part(definition.entry, part) {
-            return definition.entry;
-        }
+    match definitions
+        .iter()
+        .find(|definition| has_part(definition.entry, part))
+    {
+        Some(definition) => definition.entry,
+        None => definitions[0].entry,
     }
-    definitions[0].entry
 }

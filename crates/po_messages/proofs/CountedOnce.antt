@@ -1,6 +1,6 @@
 -- Each live entry but the header is counted once.
 use Rattle.std.proofs.Common.{◌≡◌, ℕ, ◌+◌, ◌<◌, Bool, true, false, cond, not, ◌&&◌, ◌==◌, List, [], ◌∷◌, refl, ap, ◌∙◌, filter, length, arith, bytes_eq}
-use Rattle.std.proofs.Math.Bool.{and_assoc}
+use Rattle.std.proofs.Math.Bool.{and_assoc, and_comm}
 use Rattle.po_entry.specs.TextEntry.{TextEntry}
 use Rattle.po_entry.specs.Header.{first_form}
 use Rattle.po_messages.specs.Statistics.{has_translation, is_counted, is_fuzzy, is_translated, is_untranslated}
@@ -33,12 +33,6 @@ not_not : (b : Bool) → b ≡ not (not b)
 not_not true = refl
 not_not false = refl
 
-and_swap : (a b : Bool) → (a && b) ≡ (b && a)
-and_swap true true = refl
-and_swap true false = refl
-and_swap false true = refl
-and_swap false false = refl
-
 pub empty_are_untranslated : (entries : List TextEntry) → EmptyAreUntranslated entries
 empty_are_untranslated [] = refl
 empty_are_untranslated (e ∷ entries) =
@@ -50,4 +44,4 @@ flagged_are_fuzzy [] = refl
 flagged_are_fuzzy (e ∷ entries) =
     ap (λ (b : Bool). length (cond b (e ∷ filter is_fuzzy entries) (filter is_fuzzy entries))) (and_assoc (is_counted e) (has_translation e) e.fuzzy)
     ∙ one_kept (is_counted e) (has_translation e && e.fuzzy) (λ x. x.fuzzy && not (has_empty_first_form x)) e (filter is_fuzzy entries) (live_messages entries)
-    (ap (λ (b : Bool). e.fuzzy && not b) (empty_is (first_form e.forms)) ∙ and_swap e.fuzzy (has_translation e)) (flagged_are_fuzzy entries)
+    (ap (λ (b : Bool). e.fuzzy && not b) (empty_is (first_form e.forms)) ∙ and_comm e.fuzzy (has_translation e)) (flagged_are_fuzzy entries)

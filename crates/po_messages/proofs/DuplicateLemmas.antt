@@ -1,23 +1,18 @@
 -- The first duplicate is the first live entry whose number an earlier live one has.
-use Rattle.std.proofs.Common.{◌≡◌, ◌≢◌, ℕ, ◌+◌, ◌<◌, List, [], ◌∷◌, ◌++◌, refl, sym, ap, ap₂, ◌∙◌, subst, length, add-one, take, drop, map, filter, get_or, arith, All, AllPairs, suc, ⊎_elim, Result, Ok, Err, MatchResult, IsOkUnless}
-use Rattle.std.proofs.Math.Seq.{drop-cons}
-use Rattle.std.proofs.lemmas.List.{map-append, length-map, get_or-map, take_more}
+use Rattle.std.proofs.Common.{◌≡◌, ◌≢◌, ℕ, List, [], ◌∷◌, refl, sym, ap, ◌∙◌, subst, map, filter, arith, All, AllPairs, ⊎_elim, Result, Ok, Err, MatchResult, IsOkUnless}
+use Rattle.std.proofs.lemmas.List.{length-map, get_or-map}
 use Rattle.std.proofs.lemmas.List.Elements.{All-filter}
 use Rattle.std.proofs.lemmas.Simd.{map-map}
 use Rattle.po_entry.specs.TextEntry.{TextEntry}
 use Rattle.po_messages.specs.Joined.{InputEntry, is_live, in_input, entries_of}
 use Rattle.po_messages.specs.FirstOnes.{group_numbers}
-use Rattle.po_messages.specs.Message.{Message, entry_message, entry_messages, same_message}
+use Rattle.po_messages.specs.Message.{entry_messages, same_message}
 use Rattle.po_messages.specs.Duplicate.{IsSameMessage, AllDiffer, HasNoDuplicate, live_entries, IsFirstDuplicate, IsDuplicateFault, join_out_of_memory}
 use Rattle.po_messages.specs.Facts.FirstRepeats.{none_repeats, pairs_map, pairs_of_map}
 use Rattle.po_messages.specs.Facts.Mapped.{filter_map}
-use Rattle.po_messages.specs.JoinedView.{input_entry, input_entries}
-use Rattle.po_messages.specs.MessageView.{message_of_key, messages_of_keys}
 use Rattle.po_messages.specs.Places.{IsNumbered, number_in}
 use Rattle.po_messages.specs.Repeats.{IsFirstRepeat}
 use Rattle.po_messages.specs.declared.duplicate.JoinError.{JoinError}
-use Rattle.po_messages.specs.declared.joining.InputEntry.{InputEntry as BorrowedEntry}
-use Rattle.po_messages.specs.declared.message_index.MessageKey.{MessageKey}
 use Rattle.po_messages.proofs.NumberLemmas.{all_numbered, are_numbered, message_repeats, messages_differ}
 
 pub live_of_entries : (xs : List InputEntry) → filter is_live (entries_of xs) ≡ entries_of (live_entries xs)
@@ -43,19 +38,6 @@ duplicate_found xs a b h =
     let Known : InputEntry → Type 0 = λ e. IsNumbered (entries_of xs) e.entry in
     let known : All Known xs = λ k d below. subst (IsNumbered (entries_of xs)) (get_or-map entry xs k d d.entry below) (all_numbered (entries_of xs) k d.entry (omega (arith, below, length-map xs entry))) in
     message_repeats (entries_of xs) entry (live_entries xs) a b (All-filter (λ e. is_live e.entry) Known xs known) h
-
--- one more of the entries
-module _ (entries : List BorrowedEntry) (i : ℕ) (x : BorrowedEntry) (inside : i < length entries) (here : x ≡ get_or entries i x) where
-  pub messages_pushed : (keys new : List MessageKey) (key : MessageKey) → messages_of_keys keys ≡ entry_messages (entries_of (input_entries (take i entries))) → new ≡ keys ++ key ∷ [] → message_of_key key ≡ entry_message x.entry.now
-      → messages_of_keys new ≡ entry_messages (entries_of (input_entries (take (i + 1) entries)))
-  messages_pushed keys new key are pushed is =
-      let f : BorrowedEntry → Message = λ e. entry_message e.entry.now in
-      let flat : (es : List BorrowedEntry) → entry_messages (entries_of (input_entries es)) ≡ map f es = flat_of in
-      ap messages_of_keys pushed ∙ map-append message_of_key keys (key ∷ []) ∙ ap₂ (λ l m. l ++ m ∷ []) (are ∙ flat (take i entries)) is
-      ∙ sym (flat (take (i + 1) entries) ∙ ap (map f) (take_more entries i x inside) ∙ map-append f (take i entries) (get_or entries i x ∷ []) ∙ ap (λ e. map f (take i entries) ++ f e ∷ []) (sym here)) where
-        flat_of : (es : List BorrowedEntry) → entry_messages (entries_of (input_entries es)) ≡ map (λ e. entry_message e.entry.now) es
-        flat_of [] = refl
-        flat_of (e ∷ es) = ap (λ l. entry_message e.entry.now ∷ l) (flat_of es)
 
 pub entries_of_input : (input : ℕ) (xs : List TextEntry) → entries_of (map (in_input input) xs) ≡ xs
 entries_of_input input [] = refl

@@ -1,13 +1,13 @@
 -- The first ones of a list and their numbers, where being alike is an equivalence.
-use Rattle.std.proofs.Common.{◌≡◌, ℕ, ◌+◌, ◌<◌, Bool, true, false, cond, not, ◌||◌, List, [], ◌∷◌, ◌++◌, refl, sym, ap, ap₂, ◌∙◌, subst, length, map, fold, All, take, drop, get_or, suc, append_assoc, append-nil, length-take, arith}
+use Rattle.std.proofs.Common.{◌≡◌, ℕ, ◌+◌, ◌<◌, Bool, true, false, cond, not, ◌||◌, List, [], ◌∷◌, ◌++◌, refl, sym, ap, ap₂, ◌∙◌, length, map, fold, All, take, drop, get_or, suc, append_assoc, append-nil, length-take, arith}
 use Rattle.std.proofs.Math.Seq.{drop-cons}
 use Rattle.std.specs.Prelude.{if◌then◌else◌}
 use Rattle.std.specs.List.{list_any, position_or_len}
 use Rattle.std.specs.Cmp.{IsEquivalence}
-use Rattle.std.proofs.lemmas.List.Folds.{list_any-append, position_or_len_push}
+use Rattle.std.proofs.lemmas.List.Folds.{list_any-append, list_any_at, position_or_len_push}
 use Rattle.std.proofs.lemmas.List.{map-append, length-map, get_or_at, get_or-map, take-append-drop}
 use Rattle.std.proofs.lemmas.List.Sums.{fold_push, passes_at_first}
-use Rattle.std.proofs.lemmas.List.Elements.{All-nil, All-cons, All-head, All-map, All-tail}
+use Rattle.std.proofs.lemmas.List.Elements.{All-head, All-map, All-tail}
 use Rattle.std.proofs.Math.Bool.{or-false, or-true, or_assoc}
 use Rattle.po_messages.specs.FirstOnes.{with_new, first_ones, group_numbers}
 
@@ -52,13 +52,6 @@ module _ {X : Type 0} (alike : X → X → Bool) (laws : IsEquivalence alike) wh
   pub any_first_ones : (e : X) (xs : List X) → list_any (alike e) (first_ones alike xs) ≡ list_any (alike e) xs
   any_first_ones e xs = any_fold e [] xs
 
-  all_from : (before xs : List X) → All (λ y. list_any (alike y) (before ++ xs) ≡ true) xs
-  all_from before [] = All-nil (λ y. list_any (alike y) (before ++ []) ≡ true)
-  all_from before (x ∷ xs) =
-      let here : list_any (alike x) (before ++ x ∷ xs) ≡ true = list_any-append (alike x) before (x ∷ xs) ∙ ap (λ (t : Bool). list_any (alike x) before || (t || list_any (alike x) xs)) (laws.refl x) ∙ or-true (list_any (alike x) before) in
-      All-cons (λ y. list_any (alike y) (before ++ x ∷ xs) ≡ true) x xs here
-      (subst (λ l. All (λ y. list_any (alike y) l ≡ true) xs) (append_assoc before (x ∷ []) xs) (all_from (before ++ x ∷ []) xs))
-
   -- the first ones, with one more element
   pub firsts_push : (xs : List X) (x : X) → first_ones alike (xs ++ x ∷ []) ≡ with_new alike (first_ones alike xs) x
   firsts_push xs x = fold_push (with_new alike) [] xs x
@@ -81,14 +74,9 @@ module _ {X : Type 0} (alike : X → X → Bool) (laws : IsEquivalence alike) wh
     numbers_stay (y ∷ ys) h =
         ap₂ (λ (n : ℕ) (ns : List ℕ). n ∷ ns) (number_stays y (All-head (λ z. list_any (alike z) firsts ≡ true) y ys h)) (numbers_stay ys (All-tail (λ z. list_any (alike z) firsts ≡ true) y ys h))
 
-  all_found : (xs ys : List X) → All (λ y. list_any (alike y) xs ≡ true) ys → All (λ y. list_any (alike y) (first_ones alike xs) ≡ true) ys
-  all_found xs [] h = All-nil (λ y. list_any (alike y) (first_ones alike xs) ≡ true)
-  all_found xs (y ∷ ys) h =
-      All-cons (λ z. list_any (alike z) (first_ones alike xs) ≡ true) y ys (any_first_ones y xs ∙ All-head (λ z. list_any (alike z) xs ≡ true) y ys h) (all_found xs ys (All-tail (λ z. list_any (alike z) xs ≡ true) y ys h))
-
   -- each element is like a first one
   pub all_are_found : (xs : List X) → All (λ y. list_any (alike y) (first_ones alike xs) ≡ true) xs
-  all_are_found xs = all_found xs xs (all_from [] xs)
+  all_are_found xs k d below = any_first_ones (get_or xs k d) xs ∙ list_any_at (alike (get_or xs k d)) xs k d below (laws.refl (get_or xs k d))
 
   -- so each number is below their count
   pub numbers_below : (xs : List X) → All (λ n. n < length (first_ones alike xs)) (group_numbers alike xs)

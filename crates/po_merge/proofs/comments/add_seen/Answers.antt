@@ -1,13 +1,9 @@
-use Rattle.std.proofs.Common.{sym, ap, ◌∙◌, ◌++◌, ◌∷◌, [], append_assoc, append-nil, subst, take}
-use Rattle.std.proofs.lemmas.List.{take_all}
+use Rattle.std.proofs.Common.{sym, ap, ◌∙◌, ◌++◌, ◌∷◌, [], append_assoc, subst, take}
 use Rattle.po_entry.specs.TextEntry.{texts}
 use Rattle.po_entry.specs.Internal.SeenTexts.{HoldsTexts}
 use Rattle.po_entry.proofs.SeenTexts.{one_text_more}
 use Rattle.po_merge.proofs.Steps.{texts_more}
 use Rattle.po_merge.proofs.comments.add_seen.Goals as goal
-
-pub loop-text-init : goal.loop-text-init
-loop-text-init c = λ done h. subst (HoldsTexts c.args.seen.now) (sym (append-nil done)) h
 
 pub loop-text-preserved : goal.loop-text-preserved
 loop-text-preserved c = λ done h.
@@ -17,8 +13,3 @@ loop-text-preserved c = λ done h.
     let more = one_text_more c.loop-text.seen c.insert.new.self c.as_slice.result (done ++ texts (take i others)) (c.loop-text.invariant done h) c.in_ok-insert.ensures.updates.0 in
     subst (HoldsTexts c.insert.new.self)
     (append_assoc done (texts (take i others)) (c.as_slice.result.now ∷ []) ∙ ap (λ l. done ++ l) (ap (λ t. texts (take i others) ++ t ∷ []) c.as_slice.ensures.value ∙ sym (texts_more others i x c.loop-text-test.true c.text-item.is))) more
-
-pub returns : goal.returns
-returns c = λ done h.
-    let past = c.loop-text-test.false in
-    rw take_all at (c.loop-text.invariant done h)

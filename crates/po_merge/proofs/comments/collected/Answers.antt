@@ -1,18 +1,10 @@
-use Rattle.std.proofs.Common.{◌≡◌, sym, ap, ap₂, ◌∙◌, subst}
-use Rattle.std.specs.List.{list_any}
-use Rattle.std.specs.Ordering.{nat_cmp}
-use Rattle.std.specs.Cmp.Lexicographic.{slice_cmp}
-use Rattle.std.specs.Str.{bytes_eq}
-use Rattle.std.specs.BTreeMap.{is_at}
+use Rattle.std.proofs.Common.{◌≡◌, sym, ap₂, ◌∙◌, subst}
 use Rattle.po_entry.specs.TextEntry.{texts}
 use Rattle.po_merge.specs.MergedEntry.{texts_of, with_others}
 use Rattle.po_entry.specs.Internal.SeenTexts.{HoldsTexts}
 use Rattle.po_merge.proofs.Sets.{same_texts_met}
 use Rattle.po_merge.proofs.Steps.{collected_more}
 use Rattle.po_merge.proofs.comments.collected.Goals as goal
-
-pub loop-definition-init : goal.loop-definition-init
-loop-definition-init c = record { are_collected = ap texts c.new-all.ensures.items; met = λ q. ap (list_any (is_at (λ y. slice_cmp nat_cmp q.now y.now))) c.new-seen.ensures.empty ∙ sym (ap (λ items. list_any (bytes_eq q.now) (texts items)) c.new-all.ensures.items) }
 
 pub loop-definition-preserved : goal.loop-definition-preserved
 loop-definition-preserved c =

@@ -1,18 +1,21 @@
-use Rattle.std.proofs.Common.{◌≡◌, ◌∙◌, ap, false, filter, sym, true}
+use Rattle.std.proofs.Common.{◌≡◌, ◌∙◌, ap, false, filter, rules, sym, true}
 use Rattle.std.specs.Prelude.{if◌then◌else◌}
 use Rattle.std.specs.List.{list_any}
+use Rattle.std.proofs.lemmas.Fn.{filter_same}
+use Rattle.std.proofs.lemmas.Iterator.{YieldsList-from_slice}
+use Rattle.std.proofs.lemmas.Iterator.Search.{any_from_yields_List}
 use Rattle.po_merge.proofs.definition.keep_definitions.Goals as goal
 
-pub returns-then-has_live : goal.returns-then-has_live
-returns-then-has_live g c =
+pub returns-then-any : goal.returns-then-any
+returns-then-any g c =
     let live = g.T.Member.live in
     let group = c.args.group.now.items in
-    let some : list_any live group ≡ true = ap (list_any live) (sym c.deref.ensures.value) ∙ sym c.has_live.ensures ∙ c.if-has_live.true in
-    c.keep_live.ensures ∙ sym (ap (λ b. if b then filter live group else group) some)
+    let some : list_any live group ≡ true = sym (any_from_yields_List live _ _ c.any.result c.any.ensures.ran (YieldsList-from_slice group (c.iter.ensures.rest ∙ c.deref.ensures.value)) (λ x b q k. search rules)) ∙ c.if-any.true in
+    filter_same _ _ _ (λ x b f' k. search rules) _ _ c.retain.ensures.filtered ∙ sym (ap (λ b. if b then filter live group else group) some)
 
-pub returns-else-has_live : goal.returns-else-has_live
-returns-else-has_live g c =
+pub returns-else-any : goal.returns-else-any
+returns-else-any g c =
     let live = g.T.Member.live in
     let group = c.args.group.now.items in
-    let none : list_any live group ≡ false = ap (list_any live) (sym c.deref.ensures.value) ∙ sym c.has_live.ensures ∙ c.if-has_live.false in
+    let none : list_any live group ≡ false = sym (any_from_yields_List live _ _ c.any.result c.any.ensures.ran (YieldsList-from_slice group (c.iter.ensures.rest ∙ c.deref.ensures.value)) (λ x b q k. search rules)) ∙ c.if-any.false in
     sym (ap (λ b. if b then filter live group else group) none)

@@ -1,15 +1,11 @@
 use Rattle.std.proofs.Common.{◌++◌, map, take, sym, subst, ap, ◌∙◌}
 use Rattle.std.specs.Prelude.{All}
-use Rattle.std.proofs.lemmas.List.Elements.{All-nil}
 use Rattle.po_entry.specs.Bytes.{Lacks}
 use Rattle.po_merge.specs.Inputs.{all_entries, named}
-use Rattle.po_merge.specs.InputsView.{inputs_view, named_entries}
+use Rattle.po_merge.specs.InputsView.{inputs_view}
 use Rattle.po_merge.specs.Grouping.{IsDefinition}
 use Rattle.po_merge.proofs.Inputs.{entries_more, definitions_more}
 use Rattle.po_merge.proofs.grouping.all_entries.Goals as goal
-
-pub loop-input-init : goal.loop-input-init
-loop-input-init c = record { are = ap named_entries c.new-all.ensures.items; valid = All-nil IsDefinition }
 
 pub loop-input-preserved : goal.loop-input-preserved
 loop-input-preserved c =

@@ -1,4 +1,4 @@
-use Rattle.std.proofs.Common.{◌≡◌, ◌<◌, ◌+◌, ◌++◌, ◌∷◌, [], ap, arith, get_or, length, length-set, length-take, sym, take, ◌∙◌}
+use Rattle.std.proofs.Common.{◌<◌, ◌+◌, ◌++◌, ◌∷◌, [], ap, arith, get_or, length, length-set, length-take, sym, take, ◌∙◌}
 use Rattle.std.proofs.lemmas.List.{take_more}
 use Rattle.po_merge.proofs.Numbered.{all_in, grouped_in, none_grouped}
 use Rattle.po_merge.proofs.grouping.groups_of.Goals as goal

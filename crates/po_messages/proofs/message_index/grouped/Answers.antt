@@ -6,9 +6,6 @@ use Rattle.po_messages.specs.MessageView.{message_of_key, messages_of_keys}
 use Rattle.po_messages.proofs.MessageIndex.{firsts_more, numbers_more}
 use Rattle.po_messages.proofs.message_index.grouped.Goals as goal
 
-pub loop-key-init : goal.loop-key-init
-loop-key-init c = record { firsts = ap messages_of_keys c.in_ok-index.ensures.empty; numbers_are = c.in_ok-numbers.ensures.items }
-
 pub loop-key-preserved : goal.loop-key-preserved
 loop-key-preserved c =
     let h = c.loop-key.invariant in

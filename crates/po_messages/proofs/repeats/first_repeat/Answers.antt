@@ -1,14 +1,8 @@
-use Rattle.std.proofs.Common.{◌∙◌, ap, arith, sym}
+use Rattle.std.proofs.Common.{◌∙◌, ap, sym}
 use Rattle.std.proofs.lemmas.List.{get_or_default}
 use Rattle.po_messages.specs.Repeats.{index_seen}
-use Rattle.po_messages.proofs.RepeatLemmas.{seen_more, seen_none, seen_repeats, seen_skipped}
+use Rattle.po_messages.proofs.RepeatLemmas.{seen_more, seen_repeats, seen_skipped}
 use Rattle.po_messages.proofs.repeats.first_repeat.Goals as goal
-
-pub loop-later-init : goal.loop-later-init
-loop-later-init g c = record {
-  so_far = seen_none g.T.Placed.live c.args.numbers.now c.args.things.now (index_seen c.args.round c.args.seen.now.items) c.requires.unseen;
-  unseen = λ later after unseen. unseen;
-}
 
 pub loop-later-preserved-then-not-is_live : goal.loop-later-preserved-then-not-is_live
 loop-later-preserved-then-not-is_live g c =
@@ -42,6 +36,3 @@ returns-in-Some-clause-found g c =
 
 pub returns-in-Some-clause-later : goal.returns-in-Some-clause-later
 returns-in-Some-clause-later g c = λ later after unseen. c.in_ok-first.ensures.later later after (c.loop-later.invariant.unseen later after unseen)
-
-pub returns-clause-found : goal.returns-clause-found
-returns-clause-found g c = λ i j d first below. c.loop-later.invariant.so_far.differ i j d first (omega (arith, below, c.loop-later-test.false))
