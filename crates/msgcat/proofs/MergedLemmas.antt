@@ -4,7 +4,8 @@ use Rattle.std.specs.Prelude.{All, IsUtf8, if◌then◌else◌}
 use Rattle.std.specs.Global.{Vec}
 use Rattle.std.specs.List.{AllZip, list_any, range_with_len}
 use Rattle.std.proofs.lemmas.List.{map-append, take_more}
-use Rattle.std.proofs.lemmas.List.Elements.{All-cons, All-nil, All-push}
+use Rattle.std.proofs.lemmas.List.Elements.{All-cons, All-head, All-map, All-nil, All-push, All-tail, filter_passes}
+use Rattle.std.proofs.lemmas.Bool.{not-false, not-true}
 use Rattle.po_syntax.specs.declared.fault.PoError.{PoError}
 use Rattle.po_syntax.specs.PoText.{IsSmall}
 use Rattle.po_entry.specs.Bytes.{Lacks}
@@ -24,13 +25,14 @@ use Rattle.po_merge.specs.InputsView.{named_entries, named_entry}
 use Rattle.po_merge.specs.Merged.{IsMergeFault, is_kept, is_kept_by, is_wanted, merged_messages}
 use Rattle.po_merge.specs.MergeLaws.{GroupsByNumber}
 use Rattle.po_merge.specs.MergedEntry.{merged_entry}
+use Rattle.po_merge.proofs.FirstOnes.{none_all, none_pass}
 use Rattle.po_merge.proofs.GroupsMerged.{dropped_one, groups_valid, kept_one}
 use Rattle.po_writer.proofs.Rewritten.{join_same, kept, kept_same}
 use Rattle.po_writer.specs.TextParts.{AreParts, AreSeparated, separated}
 use Rattle.po_writer.specs.WrittenText.{arranged, entry_lines, in_order, written_text}
 use Rattle.po_writer.specs.declared.parts.TextParts.{TextParts}
-use Rattle.msgcat.specs.Internal.Entries.{AreRows, IsRow}
-use Rattle.msgcat.specs.Internal.MergedText.{AreGroups, AreReadBack, AreWritten, IsGroupOf, IsOnly}
+use Rattle.msgcat.specs.Internal.Entries.{AreRows, IsRow, unnamed}
+use Rattle.msgcat.specs.Internal.MergedText.{AreGroups, AreInOrder, AreReadBack, AreWritten, IsGroupOf, IsOnly}
 use Rattle.msgcat.specs.declared.entries.EntryRow.{EntryRow}
 use Rattle.po_messages.specs.Facts.Zips.{zip_all, zip_get, zip_length, zip_more}
 
@@ -82,33 +84,42 @@ pub rows_dropped : (o : MergeOptions) (text : List ℕ) (entries : List NamedEnt
 rows_dropped o text entries group h none =
     dropped_one o (definitions entries) (sym (kept_rows o text (definitions entries) (definitions_by (λ r. r.is_live) group) (definitions_rows text entries group h)) ∙ none)
 
--- an entry's text
-pub arranged_one : (e : TextEntry) → arranged (e ∷ []) ≡ e ∷ []
-arranged_one e = found e.obsolete where
-  found : (b : Bool) → cond (not b) (e ∷ []) [] ++ cond b (e ∷ []) [] ≡ e ∷ []
-  found true = refl
-  found false = refl
-
-pub written_one : (e : TextEntry) → written_text (e ∷ []) ≡ entry_lines e
-written_one e = ap in_order (arranged_one e) ∙ append-nil (entry_lines e)
-
 -- an entry that is read back is that entry, but for its line
 abbrev pub ReadsBack : Type 0
 ReadsBack = (entries read : List TextEntry) → All IsCatalogueEntry entries → IsSmall (written_text entries) → ReadsText (written_text entries) read → map (with_line 0) read ≡ map (with_line 0) (arranged entries)
 
-only_one : (e : TextEntry) (read : List TextEntry) → map (with_line 0) read ≡ with_line 0 e ∷ [] → IsOnly e read
-only_one e [] is = absurd (cc)
-only_one e (x ∷ []) is = record { only = x; entries_are = refl; same = cc }
-only_one e (x ∷ y ∷ read) is = absurd (let long : length (map (with_line 0) (x ∷ y ∷ read)) ≡ 1 = ap length is in omega (arith, long))
+unlined : (entries : List NamedEntry) (read : List TextEntry) → map (with_line 0) (unnamed entries) ≡ map (with_line 0) read → AreReadBack entries read
+unlined [] [] is = tt
+unlined [] (r ∷ read) is = absurd (cc)
+unlined (e ∷ entries) [] is = absurd (cc)
+unlined (e ∷ entries) (r ∷ read) is = (cc, unlined entries read (cc))
 
-pub read_back : ReadsBack → (text : List ℕ) (e : NamedEntry) (own : List ℕ) (read : List TextEntry) → IsDefinition e → HasAdmittedCharset e.entry → own ≡ entry_lines e.entry → ReadsText own read → IsOnly e.entry read
-read_back law text e own read valid charset own_is reads =
-    let again : ReadsText (written_text (e.entry ∷ [])) read = subst (λ l. ReadsText l read) (own_is ∙ sym (written_one e.entry)) reads in
-    let all = All-cons IsCatalogueEntry e.entry [] (record { valid = valid.valid; charset = charset }) (All-nil IsCatalogueEntry) in
-    only_one e.entry read (law (e.entry ∷ []) read all again.spelt.small again ∙ ap (map (with_line 0)) (arranged_one e.entry))
+pub read_back : ReadsBack → (text own : List ℕ) (entries : List NamedEntry) (rows : List EntryRow) (read : List TextEntry) → AreRows text entries rows → AreInOrder entries → own ≡ written_text (unnamed entries) → ReadsText own read → AreReadBack entries read
+read_back law text own entries rows read h order own_is reads =
+    let again = subst (λ l. ReadsText l read) own_is reads in
+    let all = All-map IsCatalogueEntry (λ (e : NamedEntry). e.entry) entries (zip_all (IsRow text) (λ e. IsCatalogueEntry e.entry) (λ e r row. record { valid = row.can.valid.valid; charset = row.can.charset }) entries rows h) in
+    unlined entries read (sym (law (unnamed entries) read all again.spelt.small again ∙ ap (map (with_line 0)) order))
 
-pub separated_one : (e : TextEntry) → separated (e ∷ []) ≡ 10 ∷ entry_lines e
-separated_one e = append-nil (10 ∷ entry_lines e)
+all_pass : {X : Type 0} (p : X → Bool) (xs : List X) → All (λ x. p x ≡ true) xs → filter p xs ≡ xs
+all_pass p [] h = refl
+all_pass p (x ∷ xs) h =
+    ap (λ (b : Bool). cond b (x ∷ filter p xs) (filter p xs)) (All-head (λ y. p y ≡ true) x xs h) ∙ ap (λ l. x ∷ l) (all_pass p xs (All-tail (λ y. p y ≡ true) x xs h))
+
+abbrev live : NamedEntry → Bool
+live e = is_live e.entry
+
+-- what defines a message is all live or all obsolete, so it is written in its order
+pub definitions_in_order : (es : List NamedEntry) → AreInOrder (definitions es)
+definitions_in_order es = found (list_any live es) refl where
+  found : (b : Bool) → list_any live es ≡ b → AreInOrder (if b then filter live es else es)
+  found true some =
+      let xs = unnamed (filter live es) in
+      let all : All (λ x. is_live x ≡ true) xs = All-map (λ x. is_live x ≡ true) (λ (e : NamedEntry). e.entry) (filter live es) (filter_passes live es) in
+      ap₂ (λ (a b : List TextEntry). a ++ b) (all_pass is_live xs all) (none_pass (λ x. x.obsolete) xs (λ k d below. not-true (get_or xs k d).obsolete (all k d below))) ∙ append-nil xs
+  found false none =
+      let xs = unnamed es in
+      let all : All (λ x. is_live x ≡ false) xs = All-map (λ x. is_live x ≡ false) (λ (e : NamedEntry). e.entry) es (none_all live es none) in
+      ap₂ (λ (a b : List TextEntry). a ++ b) (none_pass is_live xs all) (all_pass (λ x. x.obsolete) xs (λ k d below. not-false (get_or xs k d).obsolete (all k d below)))
 
 -- the text of one entry, in two parts
 pub live_text : (e : TextEntry) (own : List ℕ) → is_live e ≡ true → own ≡ separated (e ∷ []) → AreSeparated (e ∷ []) own []

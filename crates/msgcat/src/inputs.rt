@@ -14,11 +14,11 @@ ghost use Rattle.po_merge.specs.Inputs as merge;
 ghost use Rattle.po_reader.specs.Internal.Keeping.{IsTextError};
 ghost use Rattle.msgcat.specs.Internal.Inputs.{AddsEntries, AreReadUpTo, HoldInputs, IsFirstRepeating, IsReadInput};
 ghost use Rattle.msgcat.specs.Msgcat.{AreReadAs, IsFileFault};
-ghost use Rattle.po_messages.specs.Places.{are_placed, place_of};
+ghost use Rattle.po_messages.specs.Places.{are_placed};
 ghost use Rattle.runs.specs.NamedFile.{named_files};
 
 use crate::entries::{Entries, EntryRow};
-use po_entry::{Catalogue, Entry};
+use po_entry::Catalogue;
 use po_messages::{EntryPlace, duplicate_at, is_live, repeated_lines, split_at_most};
 use po_reader::{PIECE, next_catalogue};
 use po_syntax::{Pieces, PoError, PoFault};
@@ -77,16 +77,6 @@ pub(crate) struct NumberedEntries<'a> {
     pub(crate) count: usize,
 }
 
-/// Where an entry stands.
-fn place_of(entry: &Entry) -> EntryPlace
-    ensures { result ≡ place_of is_live entry.now }
-{
-    EntryPlace {
-        line: entry.line(),
-        is_live: is_live(entry),
-    }
-}
-
 /// Adds the entries of a piece of an input of this name.
 fn add_piece<'a>(
     entries: &mut Entries<'a>,
@@ -99,7 +89,10 @@ fn add_piece<'a>(
     ensures places { OnOk result (places.new.items ≡ places.old.items ++ are_placed is_live piece.now) }
 {
     for entry in piece.entries() {
-        places.push(place_of(entry))?;
+        places.push(EntryPlace {
+            line: entry.line(),
+            is_live: is_live(entry),
+        })?;
         entries.add(name, entry)?;
     }
     Ok(())

@@ -13,7 +13,7 @@ ghost use Rattle.po_merge.specs.MergedEntry.{merged_entry};
 ghost use Rattle.po_writer.specs.TextParts.{separated};
 ghost use Rattle.msgcat.specs.Internal.Entries.{AreRows, IsRow};
 ghost use Rattle.msgcat.specs.Internal.Inputs.{HoldInputs};
-ghost use Rattle.msgcat.specs.Internal.MergedText.{AreGroups, AreReadBack, AreWritten, IsOnly, IsTextOfMerged};
+ghost use Rattle.msgcat.specs.Internal.MergedText.{AreGroups, AreInOrder, AreReadBack, AreWritten, IsOnly, IsTextOfMerged};
 
 use crate::entries::{EntryRow, between};
 use crate::inputs::NumberedEntries;
@@ -34,36 +34,35 @@ fn text_of<'t>(text: &'t [u8], row: &EntryRow<'_>) -> &'t [u8]
     between(text, row.start, row.end)
 }
 
-/// An entry that is read again from its text. Refused where that is larger than a text can be, and
-/// where an allocation failed.
-fn read_again(alloc: Global, text: &[u8], row: &EntryRow<'_>) -> Result<Catalogue, AllocError>
-    ensures { IfOk result (λ read. (entry : merge.NamedEntry) → IsRow text.now entry row.now
-        → IsOnly entry.entry read) }
+/// Adds the text of an entry.
+fn push_copy(parts: &mut TextParts, text: &[u8], row: &EntryRow<'_>) -> Result<(), AllocError>
+    ensures { OnOk result ((entry : merge.NamedEntry) (before : List TextEntry) → IsRow text.now entry row.now
+        → AreWritten before parts.old → AreWritten (before ++ entry.entry ∷ []) parts.new) }
 {
-    what_is_written_reads_back();
-    let Some((_, own)) = text_of(text, row).split_first() else {
-        return Err(AllocError);
-    };
-    match read(alloc, own) {
-        Ok(catalogue) => Ok(catalogue),
-        Err(_) => Err(AllocError),
+    let own = text_of(text, row);
+    if row.is_live {
+        parts.add_texts(own, b"")
+    } else {
+        parts.add_texts(b"", own)
     }
 }
 
-/// Entries that are read again from their texts.
-fn read_all_again(
-    alloc: Global,
-    text: &[u8],
-    rows: &[EntryRow<'_>],
-) -> Result<Catalogue, AllocError>
+/// Entries that are read again from their texts, which stand in the order of a written text. Refused
+/// where these are larger than a text can be, and where an allocation failed.
+fn read_again(alloc: Global, text: &[u8], rows: &[EntryRow<'_>]) -> Result<Catalogue, AllocError>
     ensures { IfOk result (λ read. (entries : List merge.NamedEntry) → AreRows text.now entries rows.now
-        → AreReadBack entries read) }
+        → AreInOrder entries → AreReadBack entries read) }
 {
-    let mut all = Catalogue::new(alloc);
+    what_is_written_reads_back();
+    let mut parts = TextParts::with_capacity(alloc, 0)?;
     for row in rows {
-        all.append(read_again(alloc, text, row)?)?;
+        push_copy(&mut parts, text, row)?;
     }
-    Ok(all)
+    let own = parts.join()?;
+    match read(alloc, &own) {
+        Ok(catalogue) => Ok(catalogue),
+        Err(_) => Err(AllocError),
+    }
 }
 
 /// The entries of these rows, as they are read again, with the names of their inputs.
@@ -97,30 +96,19 @@ fn merged_again(
     rows: &[EntryRow<'_>],
 ) -> Result<Catalogue, PoError>
     requires some { 0 < length rows.now }
-    requires rows { (definitions : List merge.NamedEntry) × AreRows text.now definitions rows.now }
+    requires rows { (definitions : List merge.NamedEntry) × AreRows text.now definitions rows.now
+        × AreInOrder definitions }
     ensures merged { IfOk result (λ merged. (definitions : List merge.NamedEntry)
-        → AreRows text.now definitions rows.now → IsOnly (merged_entry options.now definitions) merged) }
+        → AreRows text.now definitions rows.now → AreInOrder definitions
+        → IsOnly (merged_entry options.now definitions) merged) }
     ensures fault { IfErr result (λ error. (definitions : List merge.NamedEntry)
-        → AreRows text.now definitions rows.now
+        → AreRows text.now definitions rows.now → AreInOrder definitions
         → IsMergeFault (merged_entry options.now definitions ∷ []) error) }
 {
     lines_are_not_merged();
-    let entries = read_all_again(alloc, text, rows)?;
+    let entries = read_again(alloc, text, rows)?;
     let definitions = definitions_of(alloc, rows, &entries)?;
     merge_definitions(alloc, options, &definitions)
-}
-
-/// Adds the text of an entry.
-fn push_copy(parts: &mut TextParts, text: &[u8], row: &EntryRow<'_>) -> Result<(), AllocError>
-    ensures { OnOk result ((entry : merge.NamedEntry) (before : List TextEntry) → IsRow text.now entry row.now
-        → AreWritten before parts.old → AreWritten (before ++ entry.entry ∷ []) parts.new) }
-{
-    let own = text_of(text, row);
-    if row.is_live {
-        parts.add_texts(own, b"")
-    } else {
-        parts.add_texts(b"", own)
-    }
 }
 
 /// Adds what the entries of one message are merged to, where the message is kept.

@@ -6,15 +6,19 @@ use Rattle.po_entry.specs.Header.{HasAdmittedCharset}
 use Rattle.po_entry.specs.TextEntry.{TextEntry, SameButLine}
 use Rattle.po_merge.specs.Inputs.{NamedEntry}
 use Rattle.po_writer.specs.TextParts.{AreParts}
-use Rattle.po_writer.specs.WrittenText.{written_text}
+use Rattle.po_writer.specs.WrittenText.{arranged, written_text}
 use Rattle.po_writer.specs.declared.parts.TextParts.{TextParts}
-use Rattle.msgcat.specs.Internal.Entries.{AreRows}
+use Rattle.msgcat.specs.Internal.Entries.{AreRows, unnamed}
 use Rattle.msgcat.specs.declared.entries.EntryRow.{EntryRow}
 
 -- these entries are written, and each can stand in a catalogue
 pub record AreWritten (entries : List TextEntry) (parts : TextParts) : Type 0 where
   pub parts_are : AreParts entries parts
   pub admitted : All HasAdmittedCharset entries
+
+-- the entries stand in the order in which they are written
+abbrev pub AreInOrder : List NamedEntry → Type 0
+AreInOrder entries = arranged (unnamed entries) ≡ unnamed entries
 
 -- the entries, but for their lines
 abbrev pub AreReadBack : List NamedEntry → List TextEntry → Type 0

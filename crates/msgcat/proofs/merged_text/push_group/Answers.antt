@@ -7,7 +7,7 @@ use Rattle.po_merge.specs.Merged.{IsMergeFault}
 use Rattle.po_writer.specs.TextParts.{AreParts}
 use Rattle.msgcat.specs.Internal.Entries.{AreRows}
 use Rattle.msgcat.specs.Internal.MergedText.{AreWritten}
-use Rattle.msgcat.proofs.MergedLemmas.{message_copied, message_merged, one_of, rows_dropped, rows_kept}
+use Rattle.msgcat.proofs.MergedLemmas.{definitions_in_order, message_copied, message_merged, one_of, rows_dropped, rows_kept}
 use Rattle.msgcat.proofs.merged_text.push_group.Goals as goal
 
 pub returns-in_default-clause-pushed : goal.returns-in_default-clause-pushed
@@ -38,19 +38,19 @@ merged_again-requires-clause-rows c =
     let some = c.in-Some.ensures.some in
     let ds = definitions c.requires.rows.0 in
     let held = rows_kept c.args.options.now c.args.text.now c.requires.rows.0 c.args.group.items c.in-Some.rows.items c.requires.rows.1 some.0 some.1 in
-    (ds, subst (AreRows c.args.text.now ds) (sym c.deref.ensures.value) held.0)
+    (ds, subst (AreRows c.args.text.now ds) (sym c.deref.ensures.value) held.0, definitions_in_order c.requires.rows.0)
 
 pub returns-in-Err-clause-fault : goal.returns-in-Err-clause-fault
 returns-in-Err-clause-fault c = λ es h.
     let some = c.in-Some.ensures.some in
     let held = rows_kept c.args.options.now c.args.text.now es c.args.group.items c.in-Some.rows.items h some.0 some.1 in
     let rows = subst (AreRows c.args.text.now (definitions es)) (sym c.deref.ensures.value) held.0 in
-    subst (λ l. IsMergeFault l c.in-Err.error) (sym (kept_one c.args.options.now (definitions es) held.1)) (c.in-Err.ensures.fault (definitions es) rows)
+    subst (λ l. IsMergeFault l c.in-Err.error) (sym (kept_one c.args.options.now (definitions es) held.1)) (c.in-Err.ensures.fault (definitions es) rows (definitions_in_order es))
 
 pub returns-clause-pushed : goal.returns-clause-pushed
 returns-clause-pushed c = λ es before h have.
     let some = c.in-Some.ensures.some in
     let held = rows_kept c.args.options.now c.args.text.now es c.args.group.items c.in-Some.rows.items h some.0 some.1 in
     let rows = subst (AreRows c.args.text.now (definitions es)) (sym c.deref.ensures.value) held.0 in
-    message_merged c.args.options.now (definitions es) before c.in-Ok.merged c.add.new.self held.1 (c.in-Ok.ensures.merged (definitions es) rows) (subst (All IsCatalogueEntry) c.entries.ensures.entries c.entries.ensures.valid)
+    message_merged c.args.options.now (definitions es) before c.in-Ok.merged c.add.new.self held.1 (c.in-Ok.ensures.merged (definitions es) rows (definitions_in_order es)) (subst (All IsCatalogueEntry) c.entries.ensures.entries c.entries.ensures.valid)
     (subst (λ l. AreParts (before ++ l) c.add.new.self) c.entries.ensures.entries (c.in_ok-add.ensures.parts before have.parts_are)) have.admitted
