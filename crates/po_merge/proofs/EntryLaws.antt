@@ -2,10 +2,10 @@
 use Rattle.std.proofs.Common.{◌≡◌, ◌≢◌, ◌⊎◌, inl, inr, ◌↔◌, ℕ, ◌<◌, Bool, true, false, cond, not, ◌&&◌, ◌||◌, nat_lt, List, [], ◌∷◌, ◌++◌, Option, Some, None, refl, sym, ap, ap₂, ◌∙◌, filter, find, fold, length, get_or, slice_get, arith, append_assoc, bytes_eq, subst, is_some, nat_eq, All}
 use Rattle.std.specs.Prelude.{if◌then◌else◌}
 use Rattle.std.specs.List.{list_any, ends_with}
-use Rattle.std.specs.Option.{option_map_or}
+use Rattle.std.specs.Option.{option_map_or, option_or}
 use Rattle.std.proofs.lemmas.Bool.{and_parts, or_parts, eqb-true, eqb-false, lt-ltb, ltb-true, not-false, not-true, cond_both}
 use Rattle.std.proofs.lemmas.List.Elements.{filter_agree, All-weaker}
-use Rattle.std.proofs.lemmas.List.Folds.{list_any-append, list_any_none}
+use Rattle.std.proofs.lemmas.List.Folds.{find-append, list_any-append, list_any_none}
 use Rattle.std.proofs.lemmas.List.Prefix.{end_rest}
 use Rattle.std.proofs.lemmas.List.FromFn.{get_or-map-range_with_len, length-map-range_with_len}
 use Rattle.std.proofs.Math.Bool.{or-false, or_assoc}
@@ -58,9 +58,6 @@ joined_append (t ∷ before) after i =
     let here = option_map_or (marked t.name) (slice_get t.entry.forms i) [] in
     ap (λ (l : List ℕ). here ++ l) (joined_append before after i) ∙ sym (append_assoc here (joined_form before i) (joined_form after i))
 
-marked_is : (name form : List ℕ) → marked name form ≡ input_line name ++ ended form
-marked_is name form = refl
-
 pub forms_are_joined : (o : MergeOptions) (ds : List NamedEntry) → FormsAreJoined o ds
 forms_are_joined o ds before after t i form joined split has inside =
     let all = translations ds in
@@ -69,7 +66,6 @@ forms_are_joined o ds before after t i form joined split has inside =
     ap (λ (l : List (List ℕ)). get_or l i []) forms ∙ get_or-map-range_with_len (joined_form all) 0 (form_count all) i i [] below (omega arith)
     ∙ ap (λ (l : List NamedEntry). joined_form l i) split ∙ joined_append before (t ∷ after) i
     ∙ ap (λ (f : Option (List ℕ)). joined_form before i ++ (option_map_or (marked t.name) f [] ++ joined_form after i)) has
-    ∙ ap (λ (l : List ℕ). joined_form before i ++ (l ++ joined_form after i)) (marked_is t.name form)
     ∙ sym (append_assoc (joined_form before i) (input_line t.name ++ ended form) (joined_form after i))
 
 pub find_none : {X : Type 0} (p : X → Bool) (xs : List X) → list_any p xs ≡ false → find p xs ≡ None
@@ -80,12 +76,9 @@ find_none p (x ∷ xs) none =
 -- what the first definition has that has something
 first_found : (has : TextEntry → Bool) (before : List NamedEntry) (d : NamedEntry) (after : List NamedEntry) → list_any (λ b. has b.entry) before ≡ false → has d.entry ≡ true
     → find (λ x. has x.entry) (before ++ d ∷ after) ≡ Some d
-first_found has [] d after none is = ap (λ (b : Bool). cond b (Some d) (find (λ x. has x.entry) after)) is
-first_found has (b ∷ before) d after none is = found (has b.entry) none (first_found has before d after) where
-  found : (t : Bool) → (t || list_any (λ x. has x.entry) before) ≡ false → (list_any (λ x. has x.entry) before ≡ false → has d.entry ≡ true → find (λ x. has x.entry) (before ++ d ∷ after) ≡ Some d)
-      → cond t (Some b) (find (λ x. has x.entry) (before ++ d ∷ after)) ≡ Some d
-  found true e more = cc
-  found false e more = more e is
+first_found has before d after none is =
+    let p = λ (x : NamedEntry). has x.entry in
+    find-append p before (d ∷ after) ∙ ap₂ (λ (o : Option NamedEntry) (b : Bool). option_or o (cond b (Some d) (find p after))) (find_none p before none) is
 
 pub first_is : (has : TextEntry → Bool) (before : List NamedEntry) (d : NamedEntry) (after : List NamedEntry) → list_any (λ b. has b.entry) before ≡ false → has d.entry ≡ true → first_with has (before ++ d ∷ after) ≡ d.entry
 first_is has before d after none is = ap (λ (r : Option NamedEntry). option_map_or (λ (x : NamedEntry). x.entry) r (first_of (before ++ d ∷ after))) (first_found has before d after none is)
@@ -139,10 +132,6 @@ plural_of_first o before d after none is =
     ap (λ (e : TextEntry). e.plural)
     (first_is has_plural before d after (none_has has_plural (λ b. b.entry.plural ≡ None) (λ b e. rw e refl) before none) (some_plural d.entry.plural is))
 
-or_left : (a b : Bool) → (a || b) ≡ false → a ≡ false
-or_left true b e = cc
-or_left false b e = refl
-
 live_first : (es : List NamedEntry) → list_any (λ e. is_live e.entry) es ≡ true → (first_of (filter (λ e. is_live e.entry) es)).obsolete ≡ false
 live_first [] h = cc
 live_first (e ∷ es) h =
@@ -151,7 +140,7 @@ live_first (e ∷ es) h =
 
 obsolete_first : (es : List NamedEntry) → 0 < length es → list_any (λ e. is_live e.entry) es ≡ false → (first_of es).obsolete ≡ true
 obsolete_first [] some h = absurd (omega (arith, some))
-obsolete_first (e ∷ es) some h = not-false e.entry.obsolete (or_left (is_live e.entry) (list_any (λ x. is_live x.entry) es) h)
+obsolete_first (e ∷ es) some h = not-false e.entry.obsolete (or_parts (is_live e.entry) (list_any (λ x. is_live x.entry) es) h).0
 
 pub obsolete_where_none_is_live : (o : MergeOptions) (group : List NamedEntry) → ObsoleteWhereNoneIsLive o group
 obsolete_where_none_is_live o group some = found (list_any (λ e. is_live e.entry) group) refl where

@@ -24,6 +24,12 @@ pub none_pass : {X : Type 0} (p : X → Bool) (xs : List X) → All (λ x. p x �
 none_pass p [] h = refl
 none_pass p (x ∷ xs) h = ap (λ (b : Bool). cond b (x ∷ filter p xs) (filter p xs)) (All-head (λ y. p y ≡ false) x xs h) ∙ none_pass p xs (All-tail (λ y. p y ≡ false) x xs h)
 
+-- and where each one passes
+pub all_pass : {X : Type 0} (p : X → Bool) (xs : List X) → All (λ x. p x ≡ true) xs → filter p xs ≡ xs
+all_pass p [] h = refl
+all_pass p (x ∷ xs) h =
+    ap (λ (b : Bool). cond b (x ∷ filter p xs) (filter p xs)) (All-head (λ y. p y ≡ true) x xs h) ∙ ap (λ l. x ∷ l) (all_pass p xs (All-tail (λ y. p y ≡ true) x xs h))
+
 -- what holds of each element holds of the first ones
 module _ {X : Type 0} (alike : X → X → Bool) (P : X → Type 0) where
   all_fold : (xs ys : List X) → All P xs → All P ys → All P (fold (with_new alike) xs ys)

@@ -1,11 +1,11 @@
 -- An input in which no message stands twice, alone and together with itself.
-use Rattle.std.proofs.Common.{◌≡◌, ℕ, Bool, true, false, cond, ◌||◌, List, [], ◌∷◌, ◌++◌, refl, sym, ap, ap₂, ◌∙◌, map, filter, fold, get_or, arith, append-nil, append_assoc, zero, suc}
+use Rattle.std.proofs.Common.{◌≡◌, ℕ, Bool, true, false, cond, ◌&&◌, ◌||◌, nat_lt, length, subst, List, [], ◌∷◌, ◌++◌, refl, sym, ap, ap₂, ◌∙◌, map, filter, fold, get_or, arith, append-nil, append_assoc, zero, suc}
 use Rattle.std.specs.Prelude.{All, if◌then◌else◌}
 use Rattle.std.specs.List.{list_any}
 use Rattle.std.proofs.lemmas.List.Folds.{list_any-append, list_any_none}
 use Rattle.std.proofs.lemmas.List.Sums.{fold-append}
 use Rattle.std.proofs.lemmas.List.Elements.{All-nil, All-cons, All-head, All-tail, All-map, All-weaker, filter-append}
-use Rattle.std.proofs.lemmas.Bool.{false_from_ne_true}
+use Rattle.std.proofs.lemmas.Bool.{cond_both, false_from_ne_true, false≢true, lt-ltb}
 use Rattle.std.proofs.Math.Bool.{or-true}
 use Rattle.po_entry.specs.TextEntry.{TextEntry}
 use Rattle.po_entry.specs.Header.{is_header}
@@ -15,12 +15,12 @@ use Rattle.po_merge.specs.declared.input.MergeOptions.{MergeOptions}
 use Rattle.po_merge.specs.Inputs.{Named, NamedEntry, named}
 use Rattle.po_merge.specs.Groups.{with_new, first_ones, same_message, definitions}
 use Rattle.po_merge.specs.MergedEntry.{merged_entry}
-use Rattle.po_merge.specs.Merged.{is_kept, merged_messages}
+use Rattle.po_merge.specs.Merged.{is_kept, is_wanted, merged_messages}
 use Rattle.po_merge.specs.MergeLaws.{keep_all, OneInputStays, WithItself}
-use Rattle.po_merge.proofs.FirstOnes.{Apart, group_of, none_all, none_pass}
+use Rattle.po_merge.proofs.FirstOnes.{Apart, all_pass, group_of, none_all, none_pass}
 use Rattle.po_merge.proofs.Messages.{same_message_laws}
 use Rattle.po_merge.proofs.MessagesOnce.{same_is}
-use Rattle.po_merge.proofs.OneDefinition.{merged_to_it, one_definition}
+use Rattle.po_merge.proofs.OneDefinition.{merged_to_it}
 
 -- lists whose elements differ
 
@@ -86,19 +86,24 @@ all_stay o all n (e ∷ es) h =
     ap (λ (b : Bool). map (merged_entry o) (cond b (ds ∷ rest) rest)) here.kept
     ∙ ap₂ (λ (x : TextEntry) (xs : List TextEntry). x ∷ xs) here.same (all_stay o all n es (All-tail (λ x. Stays o (definitions (group_of same_message all (named n x))) x) e es h))
 
-pub one_live : (d : NamedEntry) → definitions (d ∷ []) ≡ d ∷ []
-one_live d = found (is_live d.entry) where
-  found : (b : Bool) → (if b || false then cond b (d ∷ []) [] else d ∷ []) ≡ d ∷ []
-  found true = refl
-  found false = refl
+abbrev live : NamedEntry → Bool
+live d = is_live d.entry
 
-one_alone : (use_first : Bool) (d : NamedEntry) (group : List NamedEntry) → group ≡ d ∷ [] → Stays (keep_all use_first) (definitions group) d.entry
-one_alone use_first d group e =
-    let one : definitions group ≡ d ∷ [] = ap definitions e ∙ one_live d in
-    record {
-      kept = ap (is_kept (keep_all use_first)) one ∙ or-true (is_header d.entry || false);
-      same = ap (merged_entry (keep_all use_first)) one ∙ one_definition (keep_all use_first) d;
-    }
+-- members of one entry are its definitions
+definitions_same : (e : TextEntry) (ds : List NamedEntry) → All (λ d. d.entry ≡ e) ds → definitions ds ≡ ds
+definitions_same e ds h = cond_both (list_any live ds) (filter live ds) ds (λ l. l ≡ ds) (λ some. all_pass live ds (each (is_live e) refl some)) (λ _. refl) where
+  each : (b : Bool) → is_live e ≡ b → list_any live ds ≡ true → All (λ d. live d ≡ true) ds
+  each true is some = All-weaker (λ d. d.entry ≡ e) (λ d. live d ≡ true) (λ d same. ap is_live same ∙ is) ds h
+  each false is some = absurd (false≢true (sym (list_any_none live ds (All-weaker (λ d. d.entry ≡ e) (λ d. live d ≡ false) (λ d same. ap is_live same ∙ is) ds h)) ∙ some))
+
+-- and are merged to it
+entry_stays : (use_first : Bool) (e : TextEntry) (d : NamedEntry) (ds : List NamedEntry) → All (λ x. x.entry ≡ e) (d ∷ ds) → Stays (keep_all use_first) (definitions (d ∷ ds)) e
+entry_stays use_first e d ds h =
+    let o = keep_all use_first in
+    let same = definitions_same e (d ∷ ds) h in
+    let wanted : is_wanted o (length (d ∷ ds)) ≡ true = ap (λ (b : Bool). b && true && (true || nat_lt (length (d ∷ ds)) 2)) (lt-ltb 0 (length (d ∷ ds)) (omega arith)) in
+    let header = list_any (λ (x : NamedEntry). is_header x.entry) (d ∷ ds) in
+    record { kept = ap (is_kept o) same ∙ ap (λ (b : Bool). header || b) wanted ∙ or-true header; same = ap (merged_entry o) same ∙ merged_to_it e o (d ∷ ds) (omega arith) h }
 
 pub one_input : (use_first : Bool) (input : Named) → OneInputStays use_first input
 one_input use_first input h =
@@ -107,27 +112,13 @@ one_input use_first input h =
     ap (λ (es : List NamedEntry). merged_messages o (map definitions (map (group_of same_message es) (first_ones same_message es)))) (append-nil all)
     ∙ ap (λ (fs : List NamedEntry). merged_messages o (map definitions (map (group_of same_message all) fs)))
     (firsts_of_apart [] all (λ k d below. refl) (apart_named input.name input.entries h))
-    ∙ all_stay o all input.name input.entries (λ k d below. one_alone use_first (named input.name (get_or input.entries k d)) (group_of same_message all (named input.name (get_or input.entries k d))) (alone input.name input.name input.entries h k d below))
+    ∙ all_stay o all input.name input.entries (λ k d below.
+    let e = get_or input.entries k d in
+    let one = named input.name e in
+    let Of : NamedEntry → Type 0 = λ x. x.entry ≡ e in
+    subst (λ g. Stays o (definitions g) e) (sym (alone input.name input.name input.entries h k d below)) (entry_stays use_first e one [] (All-cons Of one [] refl (All-nil Of))))
 
 -- an entry twice
-
-same_twice : (o : MergeOptions) (n m : List ℕ) (e : TextEntry) → merged_entry o (named n e ∷ named m e ∷ []) ≡ e
-same_twice o n m e =
-    let Of : NamedEntry → Type 0 = λ d. d.entry ≡ e in merged_to_it e o (named n e ∷ named m e ∷ []) (omega arith) (All-cons Of (named n e) (named m e ∷ []) refl (All-cons Of (named m e) [] refl (All-nil Of)))
-
-two_live : (n m : List ℕ) (e : TextEntry) → definitions (named n e ∷ named m e ∷ []) ≡ named n e ∷ named m e ∷ []
-two_live n m e = found (is_live e) where
-  found : (b : Bool) → (if b || (b || false) then cond b (named n e ∷ cond b (named m e ∷ []) []) (cond b (named m e ∷ []) []) else named n e ∷ named m e ∷ []) ≡ named n e ∷ named m e ∷ []
-  found true = refl
-  found false = refl
-
-two_alone : (use_first : Bool) (n m : List ℕ) (e : TextEntry) (group : List NamedEntry) → group ≡ named n e ∷ named m e ∷ [] → Stays (keep_all use_first) (definitions group) e
-two_alone use_first n m e group same =
-    let two : definitions group ≡ named n e ∷ named m e ∷ [] = ap definitions same ∙ two_live n m e in
-    record {
-      kept = ap (is_kept (keep_all use_first)) two ∙ or-true (is_header e || (is_header e || false));
-      same = ap (merged_entry (keep_all use_first)) two ∙ same_twice (keep_all use_first) n m e;
-    }
 
 pub twice : (use_first : Bool) (input : Named) (name : List ℕ) → WithItself use_first input name
 twice use_first input name h =
@@ -143,7 +134,13 @@ twice use_first input name h =
     fold-append (with_new same_message) [] ones others ∙ ap (λ (l : List NamedEntry). fold (with_new same_message) l others) (firsts_of_apart [] ones (λ k d below. refl) (apart_named n es h)) ∙ firsts_known ones others known in
     ap (λ (l : List NamedEntry). merged_messages o (map definitions (map (group_of same_message (ones ++ l)) (first_ones same_message (ones ++ l))))) (append-nil others)
     ∙ ap (λ (fs : List NamedEntry). merged_messages o (map definitions (map (group_of same_message all) fs))) firsts
-    ∙ all_stay o all n es (λ k d below. two_alone use_first n name (get_or es k d) (group_of same_message all (named n (get_or es k d))) (filter-append (λ y. same_message y (named n (get_or es k d))) ones others ∙ ap₂ (λ (a b : List NamedEntry). a ++ b) (alone n n es h k d below) (alone n name es h k d below))) where
+    ∙ all_stay o all n es (λ k d below.
+    let e = get_or es k d in
+    let one = named n e in
+    let other = named name e in
+    let Of : NamedEntry → Type 0 = λ x. x.entry ≡ e in
+    let group = filter-append (λ y. same_message y one) ones others ∙ ap₂ (λ (a b : List NamedEntry). a ++ b) (alone n n es h k d below) (alone n name es h k d below) in
+    subst (λ g. Stays o (definitions g) e) (sym group) (entry_stays use_first e one (other ∷ []) (All-cons Of one (other ∷ []) refl (All-cons Of other [] refl (All-nil Of))))) where
       each : (n m : List ℕ) (es : List TextEntry) → All (λ e. list_any (same_message (named m e)) (map (named n) es) ≡ true) es
       each n m [] = All-nil (λ e. list_any (same_message (named m e)) [] ≡ true)
       each n m (x ∷ xs) =

@@ -1,14 +1,14 @@
 -- When translations are joined, and which definition's forms a merged entry has.
-use Rattle.std.proofs.Common.{◌≡◌, ◌≢◌, ◌==◌, ℕ, ◌<◌, ◌≤◌, Bool, true, false, not, ◌&&◌, ◌||◌, nat_lt, max, List, [], ◌∷◌, Option, None, refl, sym, ap, ap₂, ◌∙◌, filter, fold, get_or, length, arith, suc, is_none, ◌⊎◌, inl, inr}
+use Rattle.std.proofs.Common.{◌≡◌, ◌≢◌, ◌==◌, ℕ, ◌<◌, ◌≤◌, Bool, true, false, not, ◌&&◌, ◌||◌, nat_lt, max, List, [], ◌∷◌, Option, None, refl, sym, ap, ap₂, ◌∙◌, filter, fold, get_or, length, arith, is_none, ◌⊎◌, inl, inr}
 use Rattle.std.specs.Prelude.{All, Contains, if◌then◌else◌}
 use Rattle.std.specs.List.{list_any}
 use Rattle.std.specs.Option.{option_map_or}
 use Rattle.std.specs.Cmp.{IsEquivalence, on_equiv}
 use Rattle.std.specs.Cmp.Lexicographic.{lists_equiv, nat_list_eq_equiv}
-use Rattle.std.proofs.lemmas.Bool.{cond_both, and_parts, lt-ltb, ltb-true, ltb-false, ne_eqb, not-true, or_parts, false≢true}
+use Rattle.std.proofs.lemmas.Bool.{and_parts, lt-ltb, ltb-true, ltb-false, ne_eqb, not-true, or_parts, false≢true}
 use Rattle.std.proofs.lemmas.List.Elements.{All-nil, All-cons, All-head, All-tail, All-contains, All-contains_itself, All-filter, All-weaker, filter_passes}
 use Rattle.std.proofs.lemmas.List.Folds.{list_any_none}
-use Rattle.std.proofs.lemmas.Map.Views.{list_any-from_Contains}
+use Rattle.std.proofs.lemmas.Map.Views.{any-filter_same, list_any-from_Contains}
 use Rattle.std.proofs.Math.Bool.{or-false}
 use Rattle.std.proofs.lemmas.List.FromFn.{length-map-range_with_len}
 use Rattle.std.proofs.lemmas.Slice.Eq.{bytes_eq-Decides, slice_eq-Decides}
@@ -68,19 +68,11 @@ each_is ds = all_first_ones same_forms (IsOne ds) (filter has ds) (λ k d below.
   is = has_is (get_or (filter has ds) k d) (filter_passes has ds k d below);
 })
 
-module _ {X : Type 0} (p : X → Bool) where
-  -- an element that passes a test is among those that do
-  passing : (xs : List X) → All (λ y. p y ≡ true → Contains (filter p xs) y) xs
-  passing [] = All-nil (λ y. p y ≡ true → Contains [] y)
-  passing (x ∷ xs) = cond_both (p x) (x ∷ filter p xs) (filter p xs) (λ l. All (λ y. p y ≡ true → Contains l y) (x ∷ xs))
-      (λ e. All-cons (λ y. p y ≡ true → Contains (x ∷ filter p xs) y) x xs (λ _. (0, omega arith, refl))
-      (All-weaker (λ y. p y ≡ true → Contains (filter p xs) y) (λ y. p y ≡ true → Contains (x ∷ filter p xs) y) (λ y c h. let found = c h in let l = found.1 in (suc found.0, omega (arith, l), found.2)) xs (passing xs)))
-      (λ e. All-cons (λ y. p y ≡ true → Contains (filter p xs) y) x xs (λ h. absurd (false≢true (sym e ∙ h))) (passing xs))
-
 any_of : (ds : List NamedEntry) (d : NamedEntry) → Contains ds d → IsTranslated d → list_any (same_forms d) (translations ds) ≡ true
 any_of ds d h is =
-    let among = All-contains (λ y. has y ≡ true → Contains (filter has ds) y) ds d (passing has ds) h (is_has d is) in
-    any_first_ones same_forms forms_laws d (filter has ds) ∙ list_any-from_Contains forms_laws d (filter has ds) among
+    any_first_ones same_forms forms_laws d (filter has ds)
+    ∙ any-filter_same (same_forms d) has true (λ k same. ap (λ forms. not (length (first_form forms) == 0)) (sym ((forms_decide d k).0 same)) ∙ is_has d is) ds
+    ∙ list_any-from_Contains forms_laws d ds h
 
 two_differ : (ds ts : List NamedEntry) → 1 < length ts → All (IsOne ds) ts → Apart same_forms ts → TranslationsDiffer ds
 two_differ ds [] more all apart = absurd (omega (arith, more))
