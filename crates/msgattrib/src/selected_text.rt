@@ -2,7 +2,7 @@
 //! and written, and the piece is dropped before the next one is read. What is kept of each entry is
 //! its message and where it stands.
 
-ghost use Rattle.std.specs.Prelude.{◌≡◌, ◌⊎◌, ◌++◌, ◌∷◌, [], IfErr, IfOk, List, MatchResult, OnOk};
+ghost use Rattle.std.specs.Prelude.{◌≡◌, ◌⊎◌, ◌++◌, IfErr, IfOk, List, MatchResult, OnOk};
 ghost use Rattle.po_entry.specs.TextEntry.{TextEntry};
 ghost use Rattle.po_reader.specs.Internal.Keeping.{IsTextError};
 ghost use Rattle.po_select.specs.declared.selection.Selection.{Selection};
@@ -43,31 +43,22 @@ fn stays_live(selection: &Selection, entry: &Entry) -> bool
 }
 
 impl Rows {
-    /// Adds an entry.
-    fn add(&mut self, entry: &Entry, selection: &Selection) -> Result<(), AllocError>
-        ensures { OnOk result ((before : List TextEntry) → HoldRows selection.now before self.old
-            → HoldRows selection.now (before ++ entry.now ∷ []) self.new) }
-    {
-        let line = entry.line();
-        self.keys.add(entry)?;
-        self.read.push(EntryPlace {
-            line,
-            is_live: is_live(entry),
-        })?;
-        self.kept.push(EntryPlace {
-            line,
-            is_live: stays_live(selection, entry),
-        })?;
-        Ok(())
-    }
-
     /// Adds entries.
     fn add_all(&mut self, entries: &[Entry], selection: &Selection) -> Result<(), AllocError>
         ensures { OnOk result ((before : List TextEntry) → HoldRows selection.now before self.old
             → HoldRows selection.now (before ++ entries.now) self.new) }
     {
         for entry in entries {
-            self.add(entry, selection)?;
+            let line = entry.line();
+            self.keys.add(entry)?;
+            self.read.push(EntryPlace {
+                line,
+                is_live: is_live(entry),
+            })?;
+            self.kept.push(EntryPlace {
+                line,
+                is_live: stays_live(selection, entry),
+            })?;
         }
         Ok(())
     }
