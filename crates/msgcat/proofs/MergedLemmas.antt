@@ -4,7 +4,7 @@ use Rattle.std.specs.Prelude.{All, IsUtf8, if◌then◌else◌}
 use Rattle.std.specs.Global.{Vec}
 use Rattle.std.specs.List.{AllZip, list_any, range_with_len}
 use Rattle.std.proofs.lemmas.List.{map-append, take_more}
-use Rattle.std.proofs.lemmas.List.Elements.{All-cons, All-head, All-map, All-nil, All-push, All-tail, filter_passes}
+use Rattle.std.proofs.lemmas.List.Elements.{All-cons, All-map, All-nil, All-push, filter_passes}
 use Rattle.std.proofs.lemmas.Bool.{not-false, not-true}
 use Rattle.po_syntax.specs.declared.fault.PoError.{PoError}
 use Rattle.po_syntax.specs.PoText.{IsSmall}
@@ -25,11 +25,11 @@ use Rattle.po_merge.specs.InputsView.{named_entries, named_entry}
 use Rattle.po_merge.specs.Merged.{IsMergeFault, is_kept, is_kept_by, is_wanted, merged_messages}
 use Rattle.po_merge.specs.MergeLaws.{GroupsByNumber}
 use Rattle.po_merge.specs.MergedEntry.{merged_entry}
-use Rattle.po_merge.proofs.FirstOnes.{none_all, none_pass}
+use Rattle.po_merge.proofs.FirstOnes.{all_pass, none_all, none_pass}
 use Rattle.po_merge.proofs.GroupsMerged.{dropped_one, groups_valid, kept_one}
 use Rattle.po_writer.proofs.Rewritten.{join_same, kept, kept_same}
 use Rattle.po_writer.specs.TextParts.{AreParts, AreSeparated, separated}
-use Rattle.po_writer.specs.WrittenText.{arranged, entry_lines, in_order, written_text}
+use Rattle.po_writer.specs.WrittenText.{arranged, in_order, written_text}
 use Rattle.po_writer.specs.declared.parts.TextParts.{TextParts}
 use Rattle.msgcat.specs.Internal.Entries.{AreRows, IsRow, unnamed}
 use Rattle.msgcat.specs.Internal.MergedText.{AreGroups, AreInOrder, AreReadBack, AreWritten, IsGroupOf, IsOnly}
@@ -99,11 +99,6 @@ read_back law text own entries rows read h order own_is reads =
     let again = subst (λ l. ReadsText l read) own_is reads in
     let all = All-map IsCatalogueEntry (λ (e : NamedEntry). e.entry) entries (zip_all (IsRow text) (λ e. IsCatalogueEntry e.entry) (λ e r row. record { valid = row.can.valid.valid; charset = row.can.charset }) entries rows h) in
     unlined entries read (sym (law (unnamed entries) read all again.spelt.small again ∙ ap (map (with_line 0)) order))
-
-all_pass : {X : Type 0} (p : X → Bool) (xs : List X) → All (λ x. p x ≡ true) xs → filter p xs ≡ xs
-all_pass p [] h = refl
-all_pass p (x ∷ xs) h =
-    ap (λ (b : Bool). cond b (x ∷ filter p xs) (filter p xs)) (All-head (λ y. p y ≡ true) x xs h) ∙ ap (λ l. x ∷ l) (all_pass p xs (All-tail (λ y. p y ≡ true) x xs h))
 
 abbrev live : NamedEntry → Bool
 live e = is_live e.entry

@@ -1,4 +1,4 @@
-use Rattle.std.proofs.Common.{◌≡◌, ◌<◌, ◌≤◌, ◌∙◌, [], None, arith, get_or, length, subst, sym, take}
+use Rattle.std.proofs.Common.{◌<◌, ◌≤◌, ◌∙◌, [], None, arith, get_or, length, subst, sym, take}
 use Rattle.std.proofs.lemmas.List.{map_more, take_all}
 use Rattle.std.proofs.lemmas.List.Elements.{All-nil}
 use Rattle.po_entry.specs.Header.{HasAdmittedCharset}
