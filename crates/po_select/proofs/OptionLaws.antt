@@ -1,8 +1,9 @@
 -- What each option keeps, removes and changes.
 use Rattle.std.proofs.Common.{◌≡◌, ◌≢◌, ◌⊎◌, ℕ, Bool, true, false, not, ◌&&◌, ◌||◌, ◌==◌, List, [], ◌∷◌, All, map, length, refl, sym, ap, ◌∙◌, inl, inr, arith, if◌then◌else◌}
+use Rattle.std.proofs.Math.Bool.{and-false, and-true}
 use Rattle.std.proofs.lemmas.Bool.{and_parts, false≢true, ne_eqb, not-false, not-true, or_parts}
 use Rattle.std.proofs.lemmas.List.{length-map}
-use Rattle.std.proofs.lemmas.List.Elements.{All-nil, All-cons, All-weaker, filter_passes}
+use Rattle.std.proofs.lemmas.List.Elements.{All-map, All-weaker, filter_passes}
 use Rattle.po_entry.specs.TextEntry.{TextEntry}
 use Rattle.po_entry.specs.Header.{is_header, first_form}
 use Rattle.po_messages.specs.Joined.{is_live_header}
@@ -95,35 +96,23 @@ only_unwanted s e h = elim (one_fails _ (if_given s.only_obsolete (not (not e.ob
 pub sets_fuzzy : (s : Selection) (e : TextEntry) → SetsFuzzy s e
 sets_fuzzy s e on = ap (λ (b : Bool). b || (e.fuzzy && not s.clear_fuzzy)) on
 
-and_false : (a : Bool) → (a && false) ≡ false
-and_false true = refl
-and_false false = refl
-
-and_true : (a : Bool) → (a && true) ≡ a
-and_true true = refl
-and_true false = refl
-
 pub clears_fuzzy : (s : Selection) (e : TextEntry) → ClearsFuzzy s e
-clears_fuzzy s e off on = rw (off, on) (and_false e.fuzzy)
+clears_fuzzy s e off on = rw (off, on) (and-false e.fuzzy)
 
 pub sets_obsolete : (s : Selection) (e : TextEntry) → SetsObsolete s e
 sets_obsolete s e on other = rw (on, other) refl
 
 pub clears_obsolete : (s : Selection) (e : TextEntry) → ClearsObsolete s e
-clears_obsolete s e off on = rw (off, on) (and_false e.obsolete)
+clears_obsolete s e off on = rw (off, on) (and-false e.obsolete)
 
 pub clears_previous : (s : Selection) (e : TextEntry) → ClearsPrevious s e
 clears_previous s e on = rw on refl
-
-all_empty : (forms : List (List ℕ)) → All (λ (form : List ℕ). form ≡ []) (map (λ _. []) forms)
-all_empty [] = All-nil (λ (form : List ℕ). form ≡ [])
-all_empty (form ∷ forms) = All-cons (λ (f : List ℕ). f ≡ []) [] (map (λ _. []) forms) refl (all_empty forms)
 
 is_emptied_where : (empty fuzzy after header : Bool) → empty ≡ true → fuzzy ≡ true → after ≡ false → header ≡ false → (empty && fuzzy && not after && not header) ≡ true
 is_emptied_where empty fuzzy after header a b c d = rw (a, b, c, d) refl
 
 emptied_forms : (forms : List (List ℕ)) (b : Bool) → b ≡ true → All (λ (form : List ℕ). form ≡ []) (if b then map (λ _. []) forms else forms) × (length (if b then map (λ _. []) forms else forms) ≡ length forms)
-emptied_forms forms true h = (all_empty forms, length-map forms (λ _. []))
+emptied_forms forms true h = (All-map (λ (form : List ℕ). form ≡ []) (λ _. []) forms (λ k d below. refl), length-map forms (λ _. []))
 emptied_forms forms false h = cc
 
 pub empties : (s : Selection) (e : TextEntry) → Empties s e
@@ -131,8 +120,8 @@ empties s e on fuzzy cleared header = emptied_forms e.forms _ (is_emptied_where 
 
 pub marks_stay : (s : Selection) (e : TextEntry) → MarksStay s e
 marks_stay s e = record {
-  fuzzy = λ set clear. rw (set, clear) (and_true e.fuzzy);
-  obsolete = λ set clear. rw (set, clear) (and_true e.obsolete);
+  fuzzy = λ set clear. rw (set, clear) (and-true e.fuzzy);
+  obsolete = λ set clear. rw (set, clear) (and-true e.obsolete);
   previous = λ clear. rw clear refl;
 }
 

@@ -1,8 +1,9 @@
 -- What is selected: all where nothing is given, the same again by conditions alone, entries that
 -- can stand in a catalogue, and a live header always.
-use Rattle.std.proofs.Common.{◌≡◌, Bool, true, false, not, ◌&&◌, ◌||◌, List, [], ◌∷◌, map, filter, refl, if◌then◌else◌}
+use Rattle.std.proofs.Common.{◌≡◌, Bool, true, false, not, ◌&&◌, List, [], ◌∷◌, map, filter, refl, if◌then◌else◌}
 use Rattle.std.specs.Prelude.{All}
-use Rattle.std.proofs.lemmas.List.Elements.{All-head, All-tail, All-nil, All-cons, All-filter, filter_passes}
+use Rattle.std.proofs.Math.Bool.{and-false, and-true, or-true}
+use Rattle.std.proofs.lemmas.List.Elements.{All-head, All-tail, All-filter, All-map, All-weaker, filter_passes}
 use Rattle.po_entry.specs.TextEntry.{TextEntry, no_previous}
 use Rattle.po_entry.specs.Header.{is_header}
 use Rattle.po_entry.specs.Validity.{IsEntry, IsCatalogueEntry}
@@ -10,18 +11,6 @@ use Rattle.po_entry.proofs.Changes.{IsEntry-emptied, IsEntry-without_previous}
 use Rattle.po_messages.specs.Joined.{is_live_header}
 use Rattle.po_select.specs.declared.selection.Selection.{Selection}
 use Rattle.po_select.specs.Selected.{ChangesNothing, changed, every_entry, fuzzy_after, is_emptied, is_kept, obsolete_after, selected}
-
-and-true : (b : Bool) → (b && true) ≡ b
-and-true true = refl
-and-true false = refl
-
-and-false : (b : Bool) → (b && false) ≡ false
-and-false true = refl
-and-false false = refl
-
-or-true : (b : Bool) → (b || true) ≡ true
-or-true true = refl
-or-true false = refl
 
 -- a flag that isn't taken away empties nothing
 not_emptied : (empty fuzzy header : Bool) → (empty && fuzzy && not (fuzzy && true) && header) ≡ false
@@ -90,14 +79,10 @@ changed_can_stand s e h =
       charset = λ header. rw (header_kept (s.empty && e.fuzzy && not (fuzzy_after s e)) (is_header e) header) (h.charset header);
     }
 
-all_can_stand : (s : Selection) (entries : List TextEntry) → All IsCatalogueEntry entries → All IsCatalogueEntry (map (changed s) entries)
-all_can_stand s [] h = All-nil IsCatalogueEntry
-all_can_stand s (e ∷ entries) h =
-    All-cons IsCatalogueEntry (changed s e) (map (changed s) entries) (changed_can_stand s e (All-head IsCatalogueEntry e entries h))
-    (all_can_stand s entries (All-tail IsCatalogueEntry e entries h))
-
 pub selected_can_stand : (s : Selection) (entries : List TextEntry) → All IsCatalogueEntry entries → All IsCatalogueEntry (selected s entries)
-selected_can_stand s entries h = all_can_stand s (filter (is_kept s) entries) (All-filter (is_kept s) IsCatalogueEntry entries h)
+selected_can_stand s entries h =
+    let kept = filter (is_kept s) entries in
+    All-map IsCatalogueEntry (changed s) kept (All-weaker IsCatalogueEntry (λ e. IsCatalogueEntry (changed s e)) (changed_can_stand s) kept (All-filter (is_kept s) IsCatalogueEntry entries h))
 
 header_of_live : (header obsolete : Bool) → (header && not obsolete) ≡ true → header ≡ true
 header_of_live true obsolete live = refl
