@@ -1,8 +1,9 @@
 -- What is merged of each message of valid inputs.
-use Rattle.std.proofs.Common.{ℕ, Bool, List, [], ◌∷◌, refl, sym, subst, map, filter, arith, suc}
+use Rattle.std.proofs.Common.{ℕ, Bool, List, [], ◌∷◌, sym, subst, map, filter, arith, get_or}
 use Rattle.std.specs.Prelude.{All, Contains, if◌then◌else◌}
-use Rattle.std.proofs.lemmas.List.Elements.{All-nil, All-cons, All-head, All-tail, All-append, All-filter, All-map, All-weaker}
-use Rattle.po_entry.specs.Validity.{IsEntry, IsCatalogueEntry}
+use Rattle.std.proofs.lemmas.List.{get_or-map, length-map}
+use Rattle.std.proofs.lemmas.List.Elements.{All-nil, All-head, All-tail, All-append, All-filter, All-map, All-weaker}
+use Rattle.po_entry.specs.Validity.{IsEntry}
 use Rattle.po_messages.specs.Statistics.{has_translation}
 use Rattle.po_merge.specs.declared.input.MergeOptions.{MergeOptions}
 use Rattle.po_merge.specs.Inputs.{Named, NamedEntry, named, all_entries}
@@ -11,6 +12,7 @@ use Rattle.po_merge.specs.Grouping.{IsDefinition, IsGroup}
 use Rattle.po_merge.specs.MergedEntry.{merged_entry, joined_forms, translations, first_translated}
 use Rattle.po_merge.specs.Merged.{is_kept, messages}
 use Rattle.po_merge.specs.MergeLaws.{IsInput, OneDefinitionStays, MergedAreEntries, MergedCanStand, FormsAreOfOne}
+use Rattle.po_merge.proofs.Inputs.{definitions_more}
 use Rattle.po_merge.proofs.Valid.{merged_is_entry, first_with_keeps}
 use Rattle.po_merge.proofs.GroupsMerged.{definitions_valid, groups_valid}
 use Rattle.po_merge.proofs.OneDefinition.{one_definition}
@@ -20,7 +22,7 @@ inputs_valid [] h = All-nil IsDefinition
 inputs_valid (input ∷ inputs) h =
     let here = All-head IsInput input inputs h in
     All-append IsDefinition (map (named input.name) input.entries) (all_entries inputs)
-    (All-map IsDefinition (named input.name) input.entries (All-weaker IsCatalogueEntry (λ e. IsDefinition (named input.name e)) (λ e v. record { valid = v.valid; utf8 = here.name.utf8; no_nul = here.name.no_nul }) input.entries here.entries))
+    (definitions_more [] input.name input.entries (All-nil IsDefinition) here.name.utf8 here.name.no_nul here.entries)
     (inputs_valid inputs (All-tail IsInput input inputs h))
 
 pub merged_entries : (o : MergeOptions) (inputs : List Named) → MergedAreEntries o inputs
@@ -39,10 +41,6 @@ one_stays o definition = one_definition o definition
 pub forms_of_one : (o : MergeOptions) (ds : List NamedEntry) → FormsAreOfOne o ds
 forms_of_one o ds some apart =
     let forms_of : NamedEntry → List (List ℕ) = λ d. d.entry.forms in
-    let among : All (λ d. Contains (map forms_of ds) d.entry.forms) ds = each ds in
+    let among : All (λ d. Contains (map forms_of ds) d.entry.forms) ds = λ k d below. (k, omega (arith, below, length-map ds forms_of), get_or-map forms_of ds k d (forms_of (get_or ds k d)) below) in
     subst (λ (b : Bool). Contains (map forms_of ds) (if b then joined_forms (translations ds) else (first_translated ds).forms)) (sym apart)
-    (first_with_keeps (λ e. Contains (map forms_of ds) e.forms) has_translation ds some among) where
-      each : (xs : List NamedEntry) → All (λ d. Contains (map (λ (x : NamedEntry). x.entry.forms) xs) d.entry.forms) xs
-      each [] = All-nil (λ d. Contains [] d.entry.forms)
-      each (x ∷ xs) = All-cons (λ d. Contains (map (λ (y : NamedEntry). y.entry.forms) (x ∷ xs)) d.entry.forms) x xs (0, omega arith, refl)
-          (All-weaker (λ d. Contains (map (λ (y : NamedEntry). y.entry.forms) xs) d.entry.forms) (λ d. Contains (map (λ (y : NamedEntry). y.entry.forms) (x ∷ xs)) d.entry.forms) (λ d c. let l = c.1 in (suc c.0, omega (arith, l), c.2)) xs (each xs))
+    (first_with_keeps (λ e. Contains (map forms_of ds) e.forms) has_translation ds some among)

@@ -1,5 +1,5 @@
 -- A message with one definition is merged to that entry.
-use Rattle.std.proofs.Common.{◌≡◌, ℕ, ◌<◌, Bool, false, not, ◌||◌, List, [], ◌∷◌, ◌++◌, append-nil, fold, refl, sym, ap, ap₂, ◌∙◌, filter, get_or, length, arith}
+use Rattle.std.proofs.Common.{◌≡◌, ℕ, ◌<◌, Bool, false, not, ◌||◌, List, [], ◌∷◌, ◌++◌, append-nil, fold, refl, sym, ap, ap₂, ◌∙◌, get_or, length, arith}
 use Rattle.std.specs.Prelude.{All, Contains, bytes_eq, if◌then◌else◌}
 use Rattle.std.specs.List.{list_any}
 use Rattle.std.proofs.lemmas.Bool.{cond_both, false_from_ne_true}
@@ -15,17 +15,13 @@ use Rattle.po_merge.specs.declared.input.MergeOptions.{MergeOptions}
 use Rattle.po_merge.specs.Inputs.{NamedEntry}
 use Rattle.po_merge.specs.InputsView.{named_entry, named_entries}
 use Rattle.po_merge.specs.MergedEntry.{first_of, first_with, has_previous, has_plural, first_translated, texts_of, with_others, collected, comment_of, translations, is_joined, joined_forms, merged_entry}
-use Rattle.po_merge.proofs.FirstOnes.{none_pass}
+use Rattle.po_merge.proofs.FirstOnes.{all_pass, none_pass}
 use Rattle.po_merge.proofs.TranslationLaws.{joined_where_they_differ}
 use Rattle.po_merge.proofs.Valid.{first_keeps, first_with_keeps}
 
 -- definitions of one entry
 abbrev AreOf : TextEntry → List NamedEntry → Type 0
 AreOf e ds = All (λ d. d.entry ≡ e) ds
-
-pub all_kept : (ts : List (List ℕ)) → filter (λ t. not (list_any (bytes_eq t) [])) ts ≡ ts
-all_kept [] = refl
-all_kept (t ∷ ts) = ap (λ (l : List (List ℕ)). t ∷ l) (all_kept ts)
 
 nothing_new : (ts : List (List ℕ)) → with_others ts ts ≡ ts
 nothing_new ts =
@@ -43,7 +39,7 @@ module _ (e : TextEntry) where
   collected_once : (kind : CommentKind) (ds : List NamedEntry) → 0 < length ds → AreOf e ds → collected (texts_of kind) ds ≡ texts_of kind e
   collected_once kind [] some h = absurd (omega (arith, some))
   collected_once kind (d ∷ ds) some h =
-      ap (λ l. fold (λ l y. with_others l (texts_of kind y.entry)) l ds) (all_kept (texts_of kind d.entry) ∙ ap (texts_of kind) (All-head (λ x. x.entry ≡ e) d ds h))
+      ap (λ l. fold (λ l y. with_others l (texts_of kind y.entry)) l ds) (all_pass (λ t. not (list_any (bytes_eq t) [])) (texts_of kind d.entry) (λ k x below. refl) ∙ ap (texts_of kind) (All-head (λ x. x.entry ≡ e) d ds h))
       ∙ none_collected kind ds (All-tail (λ x. x.entry ≡ e) d ds h)
 
   module _ (o : MergeOptions) (ds : List NamedEntry) (some : 0 < length ds) (h : AreOf e ds) where
