@@ -8,6 +8,7 @@ use Rattle.po_syntax.specs.declared.fault.PoFault.TheVariants.{OutOfMemory as No
 use Rattle.po_entry.specs.ReadsText.{ReadsText}
 use Rattle.po_entry.specs.TextEntry.{TextEntry}
 use Rattle.po_messages.specs.Joined.{joined_entries}
+use Rattle.po_messages.specs.Statistics.{stats_of}
 use Rattle.po_messages.specs.declared.duplicate.JoinError.{JoinError}
 use Rattle.po_compile.specs.Accepted.{AreRead, IsCompileFault}
 use Rattle.po_compile.specs.Collected.{LiveMessage, live_messages}
@@ -58,12 +59,12 @@ run-unfit inputs o catalogues compiled fault r read is_compiled found =
 
 -- the run of inputs that are compiled
 pub run-done : {E : Type 0} (inputs : List NamedFile) (o : MsgfmtOptions) (catalogues : List (List TextEntry)) (compiled : Compiled) (r : Result Run E)
-    → AreRead (input_texts inputs) catalogues → IsCompilation (compile_options o) (joined_entries catalogues) compiled
+    → AreRead (input_texts inputs) catalogues → IsCompilation (compile_options o) (joined_entries catalogues) compiled → compiled.stats ≡ stats_of (joined_entries catalogues)
     → (o.profile_check ≡ true → AreChecked o.use_fuzzy catalogues None)
     → IfOk r (λ run. run_view run ≡ compiled_run o compiled) → IfOk r (λ run. IsMsgfmtRun inputs o (run_view run))
-run-done inputs o catalogues compiled r read is_compiled checked =
+run-done inputs o catalogues compiled r read is_compiled stats checked =
     IfOk-weaker r (λ run. run_view run ≡ compiled_run o compiled) (λ run. IsMsgfmtRun inputs o (run_view run))
-    (λ run reported. inr (inr (record { catalogues = catalogues; read = read; compiled = compiled; is_compiled = is_compiled; checked = checked; run_is = reported })))
+    (λ run reported. inr (inr (record { catalogues = catalogues; read = read; compiled = compiled; is_compiled = is_compiled; stats = stats; checked = checked; run_is = reported })))
 
 -- where no check is asked for, a run of status 0 is that of inputs that are compiled
 pub taken : (inputs : List NamedFile) (o unchecked : MsgfmtOptions) (run : RunView) → unchecked.profile_check ≡ false → compile_options unchecked ≡ compile_options o

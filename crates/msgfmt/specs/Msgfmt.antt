@@ -6,7 +6,7 @@ use Rattle.po_syntax.specs.declared.fault.PoFault.{PoFault}
 use Rattle.po_syntax.specs.declared.fault.PoFault.TheVariants.{Duplicate, OutOfMemory as NoMemory}
 use Rattle.po_entry.specs.TextEntry.{TextEntry}
 use Rattle.po_messages.specs.Joined.{joined, joined_entries}
-use Rattle.po_messages.specs.Statistics.{stats_line}
+use Rattle.po_messages.specs.Statistics.{stats_line, stats_of}
 use Rattle.po_messages.specs.declared.duplicate.JoinError.{JoinError}
 use Rattle.po_compile.specs.Accepted.{AreCompiled, AreRead, IsCompileFault}
 use Rattle.po_compile.specs.CompiledInputs.{compiled_inputs}
@@ -124,6 +124,7 @@ pub record IsDone (inputs : List NamedFile) (o : MsgfmtOptions) (run : RunView) 
   pub read : AreRead (input_texts inputs) catalogues
   pub compiled : Compiled
   pub is_compiled : IsCompilation (compile_options o) (joined_entries catalogues) compiled
+  pub stats : compiled.stats ≡ stats_of (joined_entries catalogues)
   pub checked : o.profile_check ≡ true → AreChecked o.use_fuzzy catalogues None
   pub run_is : run ≡ compiled_run o compiled
 

@@ -1,6 +1,6 @@
 -- The messages of entries mean these entries: the one message under a key is found in whatever order the
 -- messages stand, and is taken apart again.
-use Rattle.std.proofs.Common.{◌≡◌, ◌≢◌, ℕ, ◌<◌, suc, Bool, true, false, cond, List, [], ◌∷◌, Option, None, Some, refl, sym, ap, ap₂, ◌∙◌, inl, inr, length, get_or, arith, All, Contains, find, IsPermutation, ◌==◌, ◌++◌, subst, IfSome, option_to_list, slice_get, append-nil}
+use Rattle.std.proofs.Common.{◌≡◌, ◌≢◌, ℕ, ◌<◌, suc, Bool, true, false, cond, List, [], ◌∷◌, Option, None, Some, refl, sym, ap, ap₂, ◌∙◌, inl, inr, length, get_or, arith, All, Contains, find, map, IsPermutation, ◌==◌, ◌++◌, subst, IfSome, option_to_list, slice_get, append-nil}
 use Rattle.std.specs.Str.{bytes_eq}
 use Rattle.std.proofs.lemmas.Bool.{cases_lt, and_parts, not-true, or_parts, false_from_ne_true}
 use Rattle.std.proofs.lemmas.List.{get_or_default, length-map}
@@ -26,7 +26,7 @@ use Rattle.po_entry.specs.Header.{first_form}
 use Rattle.po_entry.specs.Validity.{IsEntry}
 use Rattle.po_messages.specs.Duplicate.{is_of_message}
 use Rattle.po_syntax.specs.ItemContents.{IsText}
-use Rattle.po_compile.specs.CompiledMessages.{original_of, translation_of, message_of, messages_of_entries, AreMessagesOf, plural_part}
+use Rattle.po_compile.specs.CompiledMessages.{original_of, translation_of, message_of, AreMessagesOf, plural_part}
 use Rattle.po_compile.specs.Meaning.{header_of}
 use Rattle.po_compile.specs.Headline.{MessagesMeanEntries}
 use Rattle.po_compile.proofs.TextLemmas.{key_of-plural_part, query_key_lacks, query_key_is_one, slice_split-join}
@@ -184,7 +184,7 @@ find_agree p q (entry ∷ entries) same =
     ap₂ (λ b r. cond b (Some entry) r) (All-head (λ e. p e ≡ q e) entry entries same) (find_agree p q entries (All-tail (λ e. p e ≡ q e) entry entries same))
 
 find_messages : (context : Option (List ℕ)) (id : List ℕ) → can_be_key context id ≡ true → (entries : List TextEntry) → All LacksSeparators entries
-    → find (has_key (query_key context id)) (messages_of_entries entries) ≡ option_map message_of (find (is_of_message context id) entries)
+    → find (has_key (query_key context id)) (map message_of entries) ≡ option_map message_of (find (is_of_message context id) entries)
 find_messages context id can_be entries all =
     let test : TextEntry → Bool = λ e. has_key (query_key context id) (message_of e) in
     find_map (has_key (query_key context id)) message_of entries
@@ -196,7 +196,7 @@ translation_of_definition : (entries : List TextEntry) (messages : List Message)
     → translation_under (query_key context id) messages ≡ option_map translation_of (find (is_of_message context id) entries)
 translation_of_definition entries messages all are context id can_be =
     ap (option_map (λ (m : Message). m.translation))
-    (find_permuted (query_key context id) (messages_of_entries entries) messages are.all are.rising ∙ find_messages context id can_be entries all)
+    (find_permuted (query_key context id) (map message_of entries) messages are.all are.rising ∙ find_messages context id can_be entries all)
     ∙ once_more (find (is_of_message context id) entries)
   where
     once_more : (e : Option TextEntry) → option_map (λ (m : Message). m.translation) (option_map message_of e) ≡ option_map translation_of e
@@ -263,12 +263,12 @@ pub messages_differ : MessagesDiffer
 messages_differ entries messages valid are =
     let all : All LacksSeparators entries = All-weaker IsEntry LacksSeparators entry_lacks_separators entries valid in
     let key : Message → List ℕ = λ m. key_of m.original in
-    let ks = keys (messages_of_entries entries) in
-    let distinct = apart_permuted (keys messages) ks (IsPermutation-sym ks (keys messages) (IsPermutation-map key (messages_of_entries entries) messages are.all)) (rising_apart (keys messages) are.rising) in
+    let ks = keys (map message_of entries) in
+    let distinct = apart_permuted (keys messages) ks (IsPermutation-sym ks (keys messages) (IsPermutation-map key (map message_of entries) messages are.all)) (rising_apart (keys messages) are.rising) in
     λ i j d below inside same.
-    let long = length-map (messages_of_entries entries) key in
+    let long = length-map (map message_of entries) key in
     let long' = length-map entries message_of in
-    let at : (k : ℕ) → get_or ks k (key (message_of d)) ≡ key_of (original_of (get_or entries k d)) = λ k. get_or-map key (messages_of_entries entries) k (message_of d) ∙ ap key (get_or-map message_of entries k d) in
+    let at : (k : ℕ) → get_or ks k (key (message_of d)) ≡ key_of (original_of (get_or entries k d)) = λ k. get_or-map key (map message_of entries) k (message_of d) ∙ ap key (get_or-map message_of entries k d) in
     let first = key_of-original (get_or entries i d) (all i d (omega arith)) in
     let later = key_of-original (get_or entries j d) (all j d inside) in
     distinct i j (key (message_of d)) below (omega (arith, long, long'))

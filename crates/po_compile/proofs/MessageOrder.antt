@@ -1,6 +1,6 @@
 -- The list of the messages of entries in rising order: there is one where no two entries are of one
 -- message, and it is the only one.
-use Rattle.std.proofs.Common.{◌≢◌, ℕ, Bool, ◌&&◌, ◌||◌, not, ◌≤◌, length-append, List, [], ◌∷◌, ◌++◌, sym, ◌∙◌, subst, length, filter, arith, All, ◌≡◌, ◌⊎◌, zero, suc, refl, ap, AllPairs, Contains, ⊎_elim, inl, inr, get_or, IsPermutation}
+use Rattle.std.proofs.Common.{◌≢◌, ℕ, Bool, ◌&&◌, ◌||◌, not, ◌≤◌, length-append, List, [], ◌∷◌, ◌++◌, sym, ◌∙◌, subst, length, map, filter, arith, All, ◌≡◌, ◌⊎◌, zero, suc, refl, ap, AllPairs, Contains, ⊎_elim, inl, inr, get_or, IsPermutation}
 use Rattle.std.proofs.lemmas.List.{length-map}
 use Rattle.std.proofs.lemmas.List.Elements.{All-weaker, All-filter, All-nil, All-cons, All-head, All-tail, All-map}
 use Rattle.std.proofs.lemmas.List.Kept.{AllPairs-filter, AllPairs-cons}
@@ -15,7 +15,7 @@ use Rattle.po_messages.specs.Statistics.{has_translation}
 use Rattle.po_messages.specs.Joined.{is_live}
 use Rattle.po_messages.specs.Duplicate.{IsSameMessage, AllDiffer, HasNoDuplicate}
 use Rattle.po_compile.specs.CompiledList.{is_compiled, compiled_list}
-use Rattle.po_compile.specs.CompiledMessages.{original_of, messages_of_entries, message_of, AreMessagesOf}
+use Rattle.po_compile.specs.CompiledMessages.{original_of, message_of, AreMessagesOf}
 use Rattle.po_messages.specs.Facts.Mapped.{filter_twice}
 use Rattle.po_compile.proofs.TextLemmas.{query_key_is_one}
 use Rattle.po_compile.proofs.MeaningLemmas.{LacksSeparators, key_of-original}
@@ -105,7 +105,7 @@ same_list (x ∷ xs) (y ∷ ys) rx ry f g =
 pub messages_are_one : MessagesAreOne
 messages_are_one entries xs ys are are' =
     let key : Message → List ℕ = λ m. key_of m.original in
-    let over = IsPermutation-trans xs (messages_of_entries entries) ys (IsPermutation-sym (messages_of_entries entries) xs are.all) are'.all in
+    let over = IsPermutation-trans xs (map message_of entries) ys (IsPermutation-sym (map message_of entries) xs are.all) are'.all in
     same_list xs ys (below_from_rising key xs are.rising) (below_from_rising key ys are'.rising) (λ m. Contains-permutation xs ys m over) (λ m. Contains-permutation ys xs m (IsPermutation-sym xs ys over))
 
 -- each message is below those after it
@@ -139,17 +139,17 @@ insert_rising m (n ∷ ns) apart rises =
     let Apart : Message → Type 0 = λ x. key_of m.original ≢ key_of x.original in
     insert_by_order m n ns (All-head Apart n ns apart) rises (insert_rising m ns (All-tail Apart n ns apart) rises.1) (key_cmp (key_of m.original) (key_of n.original)) refl
 
-messages_rise : (entries : List TextEntry) → All LacksSeparators entries → AllDiffer entries → (messages : List Message) × IsPermutation (messages_of_entries entries) messages × Rises messages
+messages_rise : (entries : List TextEntry) → All LacksSeparators entries → AllDiffer entries → (messages : List Message) × IsPermutation (map message_of entries) messages × Rises messages
 messages_rise [] clean differ = ([], IsPermutation-refl [], tt)
 messages_rise (entry ∷ entries) clean differ =
     let later = messages_rise entries (All-tail LacksSeparators entry entries clean) (λ i j d below inside. differ (suc i) (suc j) d (omega arith) (omega arith)) in
     let Apart : Message → Type 0 = λ m. key_of (original_of entry) ≢ key_of m.original in
     let others : All (λ e. Apart (message_of e)) entries =
     λ k d inside. keys_differ entry (get_or entries k d) (All-head LacksSeparators entry entries clean) (clean (suc k) d (omega arith)) (differ zero (suc k) d (omega arith) (omega arith)) in
-    let apart = All-permutation Apart (messages_of_entries entries) later.0 later.1 (All-map Apart message_of entries others) in
+    let apart = All-permutation Apart (map message_of entries) later.0 later.1 (All-map Apart message_of entries others) in
     let all = insert_rising (message_of entry) later.0 apart later.2 in (
       all.0,
-      IsPermutation-trans (messages_of_entries (entry ∷ entries)) (message_of entry ∷ later.0) all.0 (IsPermutation-cons (message_of entry) (messages_of_entries entries) later.0 later.1) all.1,
+      IsPermutation-trans (map message_of (entry ∷ entries)) (message_of entry ∷ later.0) all.0 (IsPermutation-cons (message_of entry) (map message_of entries) later.0 later.1) all.1,
       all.2,
     )
 

@@ -15,7 +15,7 @@ use Rattle.po_messages.specs.Statistics.{stats_of, is_translated, is_fuzzy, is_u
 use Rattle.po_compile.specs.Collected.{HoldCatalogues, LiveMessage, live_message, live_messages}
 use Rattle.po_compile.specs.CompiledInputs.{compiled_inputs, compiled_message}
 use Rattle.po_compile.specs.CompiledList.{is_compiled, compiled_list}
-use Rattle.po_compile.specs.CompiledMessages.{AreMessagesOf, message_of, messages_of_entries}
+use Rattle.po_compile.specs.CompiledMessages.{AreMessagesOf, message_of}
 use Rattle.po_compile.specs.Internal.Rows.{AreSortedRows, InputMessage, all_messages, compiled_of, counts_of, input_message, row_view, view_of_message}
 use Rattle.po_compile.specs.declared.row.Row.{Row}
 use Rattle.po_messages.specs.Facts.Mapped.{filter_map}
@@ -48,7 +48,7 @@ module _ (use_fuzzy : Bool) where
       ap (λ ms. map view_of_message (filter (λ (m : InputMessage). m.message.status.compiled) ms)) (all_are use_fuzzy catalogues) ∙ ap (map view_of_message) (kept_entries (joined catalogues))
       ∙ map-map view_of_message (input_message use_fuzzy) (compiled_inputs use_fuzzy (joined catalogues))
 
-  compiled_are : (entries : List InputEntry) → compiled_of (map (input_message use_fuzzy) (live_entries entries)) ≡ messages_of_entries (compiled_list use_fuzzy (entries_of entries))
+  compiled_are : (entries : List InputEntry) → compiled_of (map (input_message use_fuzzy) (live_entries entries)) ≡ map message_of (compiled_list use_fuzzy (entries_of entries))
   compiled_are entries =
       let message : InputMessage → Message = λ m. m.message.message in
       let entry : InputEntry → TextEntry = λ e. e.entry in

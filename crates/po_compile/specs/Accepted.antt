@@ -1,9 +1,7 @@
 -- Which texts are accepted, and which fault is reported of those that aren't (manual, "The Format
 -- of PO Files" and "Invoking the msgfmt Program").
-use Rattle.std.specs.Prelude.{◌≡◌, ◌⊎◌, ◌^◌, ◌<◌, ℕ, List, ◌∷◌, ◌++◌, length}
+use Rattle.std.specs.Prelude.{◌≡◌, ◌⊎◌, ℕ, List, ◌∷◌, ◌++◌, length}
 use Rattle.std.specs.List.{AllZip}
-use Rattle.mo_file.specs.Message.{Message}
-use Rattle.mo_file.specs.Layout.{layout}
 use Rattle.po_syntax.specs.declared.fault.PoError.{PoError}
 use Rattle.po_syntax.specs.declared.fault.PoFault.{PoFault}
 use Rattle.po_syntax.specs.declared.fault.PoFault.TheVariants.{OutOfMemory}
@@ -11,10 +9,9 @@ use Rattle.po_entry.specs.TextEntry.{TextEntry}
 use Rattle.po_messages.specs.Joined.{InputEntry, joined, joined_entries}
 use Rattle.po_messages.specs.Duplicate.{HasNoDuplicate, IsFirstDuplicate, duplicate_fault, join_out_of_memory}
 use Rattle.po_messages.specs.DistinctText.{IsTextFault, ReadsDistinct}
+use Rattle.po_messages.specs.Statistics.{stats_of}
 use Rattle.po_messages.specs.declared.duplicate.JoinError.{JoinError}
-use Rattle.po_compile.specs.CompiledList.{compiled_list}
-use Rattle.po_compile.specs.CompiledMessages.{AreMessagesOf}
-use Rattle.po_compile.specs.Compiling.{IsCompilation, HasLargeLayout, layout_fault}
+use Rattle.po_compile.specs.Compiling.{IsCompilation, HasLargeLayout, HasSmallLayout, layout_fault}
 use Rattle.po_compile.specs.declared.options.Options.{Options}
 use Rattle.po_compile.specs.declared.options.Compiled.{Compiled}
 
@@ -23,12 +20,6 @@ use Rattle.po_compile.specs.declared.options.Compiled.{Compiled}
 pub record AreRead (texts : List (List ℕ)) (catalogues : List (List TextEntry)) : Type 0 where
   pub each : AllZip ReadsDistinct texts catalogues
   pub distinct : HasNoDuplicate (joined_entries catalogues)
-
--- the layout of the compiled entries' messages has fewer than 2^32 bytes
-pub record HasSmallLayout (options : Options) (entries : List TextEntry) : Type 0 where
-  pub messages : List Message
-  pub are_messages : AreMessagesOf (compiled_list options.use_fuzzy entries) messages
-  pub small : length (layout options.order messages) < 2 ^ 32
 
 -- Under these options (byte order, and whether fuzzy entries are compiled) the texts, which read as
 -- these catalogues, are accepted. Texts from which no entry is compiled are too.
@@ -41,6 +32,12 @@ pub record AreCompiled (options : Options) (texts : List (List ℕ)) (compiled :
   pub catalogues : List (List TextEntry)
   pub read : AreRead texts catalogues
   pub is_compiled : IsCompilation options (joined_entries catalogues) compiled
+
+-- with the file go the statistics of all entries of the joined list of these texts, compiled or not
+pub record HasStatistics (texts : List (List ℕ)) (compiled : Compiled) : Type 0 where
+  pub catalogues : List (List TextEntry)
+  pub read : AreRead texts catalogues
+  pub stats : compiled.stats ≡ stats_of (joined_entries catalogues)
 
 -- the input of a fault: out of memory is of no input
 abbrev pub fault_input : ℕ → PoFault → ℕ

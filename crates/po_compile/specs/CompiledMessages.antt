@@ -22,12 +22,8 @@ translation_of entry = join_with_byte 0 entry.forms
 abbrev pub message_of : TextEntry → Message
 message_of entry = record { original = original_of entry; translation = translation_of entry }
 
--- the entries' messages, in the order of the entries
-abbrev pub messages_of_entries : List TextEntry → List Message
-messages_of_entries entries = map message_of entries
-
 -- the messages of the entries, each once, in the rising order of their keys; there is no such list
 -- where two entries have one key
 pub record AreMessagesOf (entries : List TextEntry) (messages : List Message) : Type 0 where
-  pub all : IsPermutation (messages_of_entries entries) messages
+  pub all : IsPermutation (map message_of entries) messages
   pub rising : AreRising (keys messages)

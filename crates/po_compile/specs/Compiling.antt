@@ -10,7 +10,6 @@ use Rattle.mo_file.specs.declared.building.BuildError.TheVariants.{OutOfMemory a
 use Rattle.po_entry.specs.TextEntry.{TextEntry}
 use Rattle.po_syntax.specs.declared.fault.PoFault.TheVariants.{TooLarge}
 use Rattle.po_messages.specs.Duplicate.{join_out_of_memory}
-use Rattle.po_messages.specs.Statistics.{stats_of}
 use Rattle.po_messages.specs.declared.duplicate.JoinError.{JoinError}
 use Rattle.po_compile.specs.CompiledList.{compiled_list}
 use Rattle.po_compile.specs.CompiledMessages.{AreMessagesOf}
@@ -18,19 +17,20 @@ use Rattle.po_compile.specs.Meaning.{MeansEntries}
 use Rattle.po_compile.specs.declared.options.Options.{Options}
 use Rattle.po_compile.specs.declared.options.Compiled.{Compiled}
 
--- The file is the layout of the compiled entries' messages. It is valid, holds these messages, and
--- answers each query as the entries do. With it go their number (`n`) and the statistics of all
--- entries, compiled or not.
-pub record IsCompilation (options : Options) (entries : List TextEntry) (compiled : Compiled) : Type 0 where
+-- the layout of the compiled entries' messages has fewer than 2^32 bytes
+pub record HasSmallLayout (options : Options) (entries : List TextEntry) : Type 0 where
   pub messages : List Message
   pub are_messages : AreMessagesOf (compiled_list options.use_fuzzy entries) messages
-  pub bytes : compiled.bytes.items ≡ layout options.order messages
   pub small : length (layout options.order messages) < 2 ^ 32
-  pub valid : IsMoFile options.order compiled.bytes.items messages
-  pub means : MeansEntries (compiled_list options.use_fuzzy entries) messages
-  pub count : compiled.n ≡ length (compiled_list options.use_fuzzy entries)
-  pub file_count : compiled.n ≡ length messages
-  pub stats : compiled.stats ≡ stats_of entries
+
+-- The file is the layout of the compiled entries' messages. It is valid, holds these messages, and
+-- answers each query as the entries do. With it goes their number (`n`).
+pub record IsCompilation (options : Options) (entries : List TextEntry) (compiled : Compiled) : Type 0 where
+  pub laid_out : HasSmallLayout options entries
+  pub bytes : compiled.bytes.items ≡ layout options.order laid_out.messages
+  pub valid : IsMoFile options.order compiled.bytes.items laid_out.messages
+  pub means : MeansEntries (compiled_list options.use_fuzzy entries) laid_out.messages
+  pub count : compiled.n ≡ length laid_out.messages
 
 -- the layout of the compiled entries' messages has 2^32 bytes or more
 pub record HasLargeLayout (options : Options) (entries : List TextEntry) : Type 0 where

@@ -20,18 +20,15 @@ definition entries context id = if can_be_key context id then find (is_of_messag
 abbrev pub header_of : List TextEntry → List ℕ
 header_of entries = option_map_or (λ header. first_form header.forms) (definition entries None []) []
 
--- the rule is that of the entries' header, the default rule where they have none
-abbrev pub IsRuleOfEntries : List TextEntry → RuleView → Type 0
-IsRuleOfEntries entries rule = IsRuleOf expression_limit (header_of entries) rule
-
 -- what the entries answer to a query under their rule
 abbrev pub meant : List TextEntry → RuleView → Query → AnswerView
 meant entries rule query =
     answer (option_map (λ entry. entry.forms) (definition entries query.context query.id)) rule query
 
 -- The answers of a file's messages are those of the entries: the rule of the file is that of the
--- entries, and under any one rule, and so that one, every query is answered alike.
+-- entries' header, the default rule where they have none, and under any one rule, and so that one,
+-- every query is answered alike.
 pub record MeansEntries (entries : List TextEntry) (messages : List Message) : Type 0 where
-  pub rule : (rule : RuleView) → IsCatalogView messages rule → IsRuleOfEntries entries rule
+  pub rule : (rule : RuleView) → IsCatalogView messages rule → IsRuleOf expression_limit (header_of entries) rule
   pub answers : (rule : RuleView) (query : Query)
       → answered (record { messages = messages; rule = rule }) query ≡ meant entries rule query

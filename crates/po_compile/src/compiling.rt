@@ -1,9 +1,10 @@
 //! The MO file of PO texts.
 
-ghost use Rattle.std.specs.Prelude.{◌≢◌, ◌<◌, ◌^◌, ℕ, [], ◌∷◌, List, length, IfOk, IfErr, MatchResult};
+ghost use Rattle.std.specs.Prelude.{◌≡◌, ◌≢◌, ◌<◌, ◌^◌, ℕ, [], ◌∷◌, List, length, IfOk, IfErr, MatchResult};
 ghost use Rattle.po_entry.specs.TextEntry.{slice_texts};
 ghost use Rattle.po_messages.specs.Joined.{joined_entries};
-ghost use Rattle.po_compile.specs.Accepted.{AreCompiled, AreRead, IsCompileFault, fault_of_only_input};
+ghost use Rattle.po_messages.specs.Statistics.{stats_of};
+ghost use Rattle.po_compile.specs.Accepted.{AreCompiled, AreRead, HasStatistics, IsCompileFault, fault_of_only_input};
 ghost use Rattle.po_compile.specs.CompiledInputs.{AreCollected};
 ghost use Rattle.po_compile.specs.Compiling.{IsCompilation, IsReportedFault};
 
@@ -26,8 +27,9 @@ use std::alloc::Global;
 /// than 4,294,967,295 bytes. `OutOfMemory`, at line 0 of input 0, may come in place of any result.
 pub fn compile_all(alloc: Global, texts: &[&[u8]], options: Options) -> Result<Compiled, JoinError>
     requires { length texts.now < 2 ^ 32 }
-    ensures { MatchResult result (AreCompiled options (slice_texts texts.now))
+    ensures exact { MatchResult result (AreCompiled options (slice_texts texts.now))
         (IsCompileFault options (slice_texts texts.now)) }
+    ensures statistics { IfOk result (HasStatistics (slice_texts texts.now)) }
 {
     match collect_all(alloc, texts, options.use_fuzzy) {
         Ok(inputs) => compile_collected(alloc, &inputs, options),
@@ -39,8 +41,9 @@ pub fn compile_all(alloc: Global, texts: &[&[u8]], options: Options) -> Result<C
 /// the fault of `read`, then of `duplicates`; then with `TooLarge`, at line 0, where the file would
 /// have more than 4,294,967,295 bytes. `OutOfMemory`, at line 0, may come in place of any result.
 pub fn compile(alloc: Global, text: &[u8], options: Options) -> Result<Compiled, PoError>
-    ensures { MatchResult result (AreCompiled options (text.now ∷ []))
+    ensures exact { MatchResult result (AreCompiled options (text.now ∷ []))
         (λ e. IsCompileFault options (text.now ∷ []) (fault_of_only_input e)) }
+    ensures statistics { IfOk result (HasStatistics (text.now ∷ [])) }
 {
     no_first_duplicate_where_none();
     match compile_all(alloc, &[text], options) {
@@ -60,6 +63,8 @@ pub fn compile_collected(
     requires read { (texts : List (List ℕ)) × AreCollected options.use_fuzzy texts inputs.now }
     ensures found { IfOk result (λ compiled. (texts : List (List ℕ)) (of : AreCollected options.use_fuzzy texts inputs.now)
         → AreRead texts of.catalogues × IsCompilation options (joined_entries of.catalogues) compiled) }
+    ensures statistics { IfOk result (λ compiled. (texts : List (List ℕ)) (of : AreCollected options.use_fuzzy texts inputs.now)
+        → compiled.stats ≡ stats_of (joined_entries of.catalogues)) }
     ensures fault { IfErr result (λ e. (texts : List (List ℕ)) → AreCollected options.use_fuzzy texts inputs.now
         → IsCompileFault options texts e) }
 {

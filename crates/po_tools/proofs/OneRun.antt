@@ -1,5 +1,5 @@
 -- A tool has one run of its inputs.
-use Rattle.std.proofs.Common.{◌≡◌, ℕ, List, [], ◌∷◌, ◌++◌, Option, None, Some, MatchOption, codes, find, refl, sym, ap, subst, ◌∙◌, inl, inr}
+use Rattle.std.proofs.Common.{◌≡◌, ℕ, List, [], ◌∷◌, ◌++◌, Option, None, Some, MatchOption, codes, find, length, refl, sym, ap, subst, ◌∙◌, inl, inr}
 use Rattle.mo_file.specs.Laws.{OneMessageList, NoFaultOfMoFile, OneFirstFault}
 use Rattle.mo_file.specs.Message.{Message}
 use Rattle.mo_file.specs.Layout.{layout}
@@ -9,6 +9,7 @@ use Rattle.mo_lookup.specs.CatalogView.{IsCatalogView, CatalogView, header_text}
 use Rattle.po_entry.specs.TextEntry.{TextEntry}
 use Rattle.po_entry.specs.Header.{first_form}
 use Rattle.po_messages.specs.Joined.{InputEntry, joined, joined_entries}
+use Rattle.po_messages.specs.Statistics.{stats_of}
 use Rattle.po_messages.specs.declared.duplicate.JoinError.{JoinError}
 use Rattle.po_compile.specs.Accepted.{AreAccepted, AreRead}
 use Rattle.po_compile.specs.CompiledList.{compiled_list}
@@ -89,12 +90,11 @@ check_once one_rule entries fault other (Some header) is also =
 
 -- entries are compiled to one file, with one number of messages and one statistics
 same_compiled : MessagesAreOne → (o : MsgfmtOptions) (entries : List TextEntry) (a b : Compiled) → IsCompilation (compile_options o) entries a → IsCompilation (compile_options o) entries b
-    → compiled_run o a ≡ compiled_run o b
-same_compiled one_list o entries a b is also =
-    let messages : is.messages ≡ also.messages = one_list (compiled_list o.use_fuzzy entries) is.messages also.messages is.are_messages also.are_messages in
+    → a.stats ≡ b.stats → compiled_run o a ≡ compiled_run o b
+same_compiled one_list o entries a b is also stats =
+    let messages : is.laid_out.messages ≡ also.laid_out.messages = one_list (compiled_list o.use_fuzzy entries) is.laid_out.messages also.laid_out.messages is.laid_out.are_messages also.laid_out.are_messages in
     let bytes : a.bytes.items ≡ b.bytes.items = is.bytes ∙ ap (λ (list : List Message). layout o.order list) messages ∙ sym also.bytes in
-    let number : a.n ≡ b.n = is.count ∙ sym also.count in
-    let stats : a.stats ≡ b.stats = is.stats ∙ sym also.stats in
+    let number : a.n ≡ b.n = is.count ∙ ap length messages ∙ sym also.count in
     rw (bytes, number, stats) refl
 
 module _ (one_list : MessagesAreOne) (one_reading : CataloguesAreOne) (no_fault : NoFaultWhereAccepted) (one_fault : OneCompileFault) (one_rule : OneRule) where
@@ -103,7 +103,7 @@ module _ (one_list : MessagesAreOne) (one_reading : CataloguesAreOne) (no_fault 
       → AreRead (input_texts inputs) catalogues → IsCompilation (compile_options o) (joined_entries catalogues) compiled → ⊥
   refused_only inputs o run catalogues compiled reported read is =
       let accepted : AreAccepted (compile_options o) (input_texts inputs) catalogues =
-      record { read = read; layout = record { messages = is.messages; are_messages = is.are_messages; small = is.small } } in
+      record { read = read; layout = is.laid_out } in
       let memory = no_fault (compile_options o) (input_texts inputs) catalogues reported.error accepted reported.fault in
       reported.not_memory (ap (λ (e : JoinError). e.error.kind) memory)
 
@@ -137,4 +137,5 @@ module _ (one_list : MessagesAreOne) (one_reading : CataloguesAreOne) (no_fault 
   msgfmt_once inputs o run other (inr (inr is)) (inr (inr also)) =
       let catalogues : also.catalogues ≡ is.catalogues = one_reading (input_texts inputs) also.catalogues is.catalogues also.read is.read in
       let again = subst (λ (list : List (List TextEntry)). IsCompilation (compile_options o) (joined_entries list) also.compiled) catalogues also.is_compiled in
-      is.run_is ∙ same_compiled one_list o (joined_entries is.catalogues) is.compiled also.compiled is.is_compiled again ∙ sym also.run_is
+      is.run_is ∙ same_compiled one_list o (joined_entries is.catalogues) is.compiled also.compiled is.is_compiled again
+      (is.stats ∙ sym (ap (λ (list : List (List TextEntry)). stats_of (joined_entries list)) catalogues) ∙ sym also.stats) ∙ sym also.run_is

@@ -22,11 +22,11 @@ use Rattle.po_syntax.specs.ItemContents.{IsComment, IsText}
 use Rattle.po_writer.specs.WrittenText.{arranged, written_text}
 use Rattle.po_messages.specs.Duplicate.{AllDiffer, HasNoDuplicate}
 use Rattle.po_messages.specs.Joined.{is_live, joined_entries}
-use Rattle.po_messages.specs.Statistics.{has_translation, stats_of}
+use Rattle.po_messages.specs.Statistics.{has_translation}
 use Rattle.po_messages.specs.DistinctText.{ReadsDistinct}
 use Rattle.po_compile.specs.CompiledList.{compiled_list, is_compiled}
-use Rattle.po_compile.specs.CompiledMessages.{AreMessagesOf, message_of, messages_of_entries, original_of, translation_of}
-use Rattle.po_compile.specs.Compiling.{IsCompilation}
+use Rattle.po_compile.specs.CompiledMessages.{AreMessagesOf, message_of, original_of, translation_of}
+use Rattle.po_compile.specs.Compiling.{HasSmallLayout, IsCompilation}
 use Rattle.po_compile.specs.Accepted.{AreAccepted}
 use Rattle.po_compile.specs.Headline.{LookUpMeansEntries, MessagesAreOne}
 use Rattle.po_compile.specs.MessageLaws.{HasParts, JoinedEntriesCanStand, MessagesDiffer, MessagesHaveParts, OneTextIsRead}
@@ -132,7 +132,7 @@ all_returned parts use_fuzzy entries messages valid are =
     λ i d inside. let e = get_or list i d in
     let wanted = right (is_live e) (has_translation e && (use_fuzzy || not e.fuzzy || is_header e)) (passes i d inside) in
     returned parts e (can_stand i d inside) (left (has_translation e) (use_fuzzy || not e.fuzzy || is_header e) wanted) in
-    All-permutation IsReturned (messages_of_entries list) messages are.all (All-map IsReturned message_of list each)
+    All-permutation IsReturned (map message_of list) messages are.all (All-map IsReturned message_of list each)
 
 -- a test that each entry passes omits none
 kept : (test : TextEntry → Bool) (entries : List TextEntry) → All (λ e. test e ≡ true) entries → filter test entries ≡ entries
@@ -159,7 +159,7 @@ module _ (messages : List Message) (all : All IsReturned messages) where
   can_stand : All IsCatalogueEntry entries
   can_stand = All-map IsCatalogueEntry entry_of_message messages (All-weaker IsReturned (λ m. IsCatalogueEntry (entry_of_message m)) (λ m r. r.valid) messages all)
 
-  again : messages_of_entries entries ≡ messages
+  again : map message_of entries ≡ messages
   again =
       map-map message_of entry_of_message messages
       ∙ map_fixed (λ m. message_of (entry_of_message m)) messages (All-weaker IsReturned (λ m. message_of (entry_of_message m) ≡ m) (λ m r. r.again) messages all)
@@ -171,7 +171,7 @@ module _ (messages : List Message) (all : All IsReturned messages) where
       (λ m r. ap (λ t. t && (use_fuzzy || true || is_header (entry_of_message m))) r.translated ∙ always use_fuzzy (is_header (entry_of_message m))) messages all)
 
   module _ (read : List TextEntry) (lines : map (with_line 0) read ≡ map (with_line 0) entries) where
-    read_messages : messages_of_entries read ≡ messages
+    read_messages : map message_of read ≡ messages
     read_messages = sym (map-map message_of (with_line 0) read) ∙ ap (map message_of) lines ∙ map-map message_of (with_line 0) entries ∙ again
 
     all_compiled : (use_fuzzy : Bool) → compiled_list use_fuzzy read ≡ read
@@ -183,7 +183,7 @@ module _ (messages : List Message) (all : All IsReturned messages) where
 
     are_messages : (entries' : List TextEntry) → AreMessagesOf entries' messages → AreMessagesOf read messages
     are_messages entries' are =
-        record { all = subst (λ ms. IsPermutation (messages_of_entries read) ms) read_messages (IsPermutation-refl (messages_of_entries read)); rising = are.rising }
+        record { all = subst (λ ms. IsPermutation (map message_of read) ms) read_messages (IsPermutation-refl (map message_of read)); rising = are.rising }
 
     distinct : MessagesDiffer → (entries' : List TextEntry) → AreMessagesOf entries' messages → All IsCatalogueEntry read → HasNoDuplicate read
     distinct differ entries' are valid =
@@ -211,64 +211,58 @@ one_catalogue one text read (c ∷ d ∷ catalogues) reads each = absurd each.1
 
 module _ (parts : MessagesHaveParts) (differ : MessagesDiffer) (joined_stand : JoinedEntriesCanStand) (one_text : OneTextIsRead) (one_list : MessagesAreOne) (means : LookUpMeansEntries)
     (one_reading : OneReading) (stand : EntriesCanStand) (reads : WrittenTextReads) (stay : LiveEntriesStay) where
-  module _ (options : Options) (list : List TextEntry) (compiled' : Compiled) (is : IsCompilation options list compiled') (all : All IsReturned is.messages) where
+  module _ (options : Options) (list : List TextEntry) (compiled' : Compiled) (is : IsCompilation options list compiled') (all : All IsReturned is.laid_out.messages) where
     abbrev text : List ℕ
-    text = written_text (unformatted is.messages)
+    text = written_text (unformatted is.laid_out.messages)
 
     compiles : IsSmall text → (use_fuzzy : Bool) → CompilesTo (record { use_fuzzy = use_fuzzy; order = options.order }) text compiled'.bytes.items
     compiles small use_fuzzy =
-        let messages = is.messages in
+        let messages = is.laid_out.messages in
         let entries = unformatted messages in
         let list' = compiled_list options.use_fuzzy list in
         let found = reads entries (can_stand messages all) small in
         let read = found.0 in
         let live = All-map (λ e. e.obsolete ≡ false) entry_of_message messages (λ i d inside. refl) in
         let lines : map (with_line 0) read ≡ map (with_line 0) entries = found.2 ∙ ap (map (with_line 0)) (stay entries live) in
-        let are = are_messages messages all read lines list' is.are_messages in
-        let none = distinct messages all read lines differ list' is.are_messages (stand text read found.1) in
+        let are = are_messages messages all read lines list' is.laid_out.are_messages in
+        let none = distinct messages all read lines differ list' is.laid_out.are_messages (stand text read found.1) in
         let alone = one_text text read (record { reads = found.1; distinct = none }) in
         let same_list : compiled_list use_fuzzy (joined_entries (read ∷ [])) ≡ read = ap (compiled_list use_fuzzy) alone.1 ∙ all_compiled messages all read lines use_fuzzy in
         let back : Options = record { use_fuzzy = use_fuzzy; order = options.order } in
         let of_list = subst (λ l. AreMessagesOf l messages) (sym same_list) are in
-        let accepted : AreAccepted back (text ∷ []) (read ∷ []) =
-        record { read = alone.0; layout = record { messages = messages; are_messages = of_list; small = is.small } } in
-        let count : compiled'.n ≡ length (compiled_list use_fuzzy (joined_entries (read ∷ []))) =
-        is.file_count ∙ ap length (sym (read_messages messages all read lines)) ∙ length-map read message_of ∙ ap length (sym same_list) in
+        let laid_out : HasSmallLayout back (joined_entries (read ∷ [])) = record { messages = messages; are_messages = of_list; small = is.laid_out.small } in
+        let accepted : AreAccepted back (text ∷ []) (read ∷ []) = record { read = alone.0; layout = laid_out } in
         record {
           catalogues = read ∷ [];
           accepted = accepted;
           messages = messages;
           are_messages = of_list;
           layout_is = sym is.bytes;
-          compiled = record { bytes = compiled'.bytes; n = compiled'.n; stats = stats_of (joined_entries (read ∷ [])) };
+          compiled = record { bytes = compiled'.bytes; n = compiled'.n; stats = compiled'.stats };
           is_compiled = record {
             catalogues = read ∷ [];
             read = alone.0;
             is_compiled = record {
-              messages = messages;
-              are_messages = of_list;
+              laid_out = laid_out;
               bytes = is.bytes;
-              small = is.small;
               valid = is.valid;
               means = (means back (text ∷ []) (read ∷ []) messages accepted of_list).1;
-              count = count;
-              file_count = is.file_count;
-              stats = refl;
+              count = is.count;
             };
           };
           same_bytes = λ other compiled.
               let only = one_catalogue one_reading text read compiled.catalogues found.1 compiled.read.each in
               let list_is : compiled_list use_fuzzy (joined_entries compiled.catalogues) ≡ read = ap (λ cs. compiled_list use_fuzzy (joined_entries cs)) only ∙ same_list in
-              let theirs = subst (λ l. AreMessagesOf l compiled.is_compiled.messages) list_is compiled.is_compiled.are_messages in
-              let same = one_list read compiled.is_compiled.messages messages theirs are in
+              let theirs = subst (λ l. AreMessagesOf l compiled.is_compiled.laid_out.messages) list_is compiled.is_compiled.laid_out.are_messages in
+              let same = one_list read compiled.is_compiled.laid_out.messages messages theirs are in
               compiled.is_compiled.bytes ∙ ap (layout options.order) same ∙ sym is.bytes;
         }
 
   pub unformat_then_compile : UnformatThenCompile
   unformat_then_compile options texts compiled' is =
       let list = joined_entries is.catalogues in
-      let messages = is.is_compiled.messages in
-      let all = all_returned parts options.use_fuzzy list messages (joined_stand texts is.catalogues is.read) is.is_compiled.are_messages in (
+      let messages = is.is_compiled.laid_out.messages in
+      let all = all_returned parts options.use_fuzzy list messages (joined_stand texts is.catalogues is.read) is.is_compiled.laid_out.are_messages in (
         written_text (unformatted messages),
         record { order = options.order; messages = messages; valid = is.is_compiled.valid; holds = record { valid = can_stand messages all; written = refl } },
         compiles options list compiled' is.is_compiled all,

@@ -17,7 +17,7 @@ returns-in-Ok-checked c =
     let inputs = named_files c.args.inputs.now in
     let of = c.requires.read in
     let compiled = c.in-Ok.ensures.found (input_texts inputs) of in
-    run-done inputs c.args.options.now of.catalogues c.in-Ok.compiled c.compiled_run.result compiled.0 compiled.1
+    run-done inputs c.args.options.now of.catalogues c.in-Ok.compiled c.compiled_run.result compiled.0 compiled.1 (c.in-Ok.ensures.statistics (input_texts inputs) of)
     (λ asked. c.in-Ok-checked.ensures.fit asked c.args.options.now.use_fuzzy of.catalogues of.held) c.compiled_run.ensures
 
 pub returns-in-Err-checked : goal.returns-in-Err-checked

@@ -8,7 +8,7 @@ use Rattle.mo_file.specs.MoFile.{IsMoFile}
 use Rattle.mo_file.specs.Pairs.{borrowed_message, messages_of_borrowed}
 use Rattle.po_messages.specs.Joined.{joined_entries}
 use Rattle.po_compile.specs.CompiledList.{compiled_list}
-use Rattle.po_compile.specs.CompiledMessages.{message_of, messages_of_entries}
+use Rattle.po_compile.specs.CompiledMessages.{message_of}
 use Rattle.po_compile.specs.Internal.Rows.{counts_of}
 use Rattle.po_compile.proofs.InputLemmas.{build_refused, inputs_refused, pairs_are, sorted_read}
 use Rattle.po_compile.proofs.JoinedRows.{joined_valid}
@@ -39,17 +39,18 @@ returns-in-Ok-clause-found c = λ texts of.
     let fits = subst (λ ms. length (layout order ms) < 2 ^ 32) pairs c.in-Ok.ensures.fits in (
       sorted_read use_fuzzy texts inputs rows of c.in_ok-rows.ensures.each sorted,
       record {
-        messages = messages;
-        are_messages = are;
+        laid_out = record { messages = messages; are_messages = are; small = fits };
         bytes = bytes;
-        small = fits;
         valid = subst (λ b. IsMoFile order b messages) (sym bytes) (c.layout_is_mo_file.ensures order messages are.rising fits);
         means = c.messages_mean_entries.ensures list messages (compiled_valid use_fuzzy entries (joined_valid of.catalogues of.held.valid)) are;
-        count = omega (arith, c.len-count.ensures, c.in_ok-pairs.pairs.ok.0, length-map c.in_ok-pairs.pairs.items borrowed_message, length_permutation (messages_of_entries list) messages are.all, length-map list message_of);
-        file_count = omega (arith, c.len-count.ensures, c.in_ok-pairs.pairs.ok.0, length-map c.in_ok-pairs.pairs.items borrowed_message);
-        stats = c.statistics_of.ensures ∙ ap counts_of c.deref-in-Ok.ensures.value ∙ counts_mean use_fuzzy of.catalogues inputs rows of.held sorted;
+        count = omega (arith, c.len-count.ensures, c.in_ok-pairs.pairs.ok.0, length-map c.in_ok-pairs.pairs.items borrowed_message);
       },
     )
+
+pub returns-in-Ok-clause-statistics : goal.returns-in-Ok-clause-statistics
+returns-in-Ok-clause-statistics c = λ texts of.
+    c.statistics_of.ensures ∙ ap counts_of c.deref-in-Ok.ensures.value
+    ∙ counts_mean c.args.options.use_fuzzy of.catalogues c.args.inputs.now c.in_ok-rows.rows.items of.held c.in_ok-rows.ensures.rows
 
 pub build_sorted-requires : goal.build_sorted-requires
 build_sorted-requires c =
