@@ -1,15 +1,21 @@
 -- The first fault that the check of a profile finds is the first that there is.
-use Rattle.std.proofs.Common.{◌≡◌, ◌≢◌, ◌⊎◌, inl, inr, ◌∙◌, refl, sym, ap, subst, ℕ, zero, suc, ◌+◌, ◌-◌, ◌<◌, ◌≤◌, Bool, true, false, not, ◌&&◌, ◌==◌, if◌then◌else◌, nat_lt, List, [], ◌∷◌, ◌++◌, length, length-append, find, All, Option, Some, None, arith}
+use Rattle.std.proofs.Common.{◌≡◌, ◌≢◌, ◌⊎◌, inl, inr, ◌∙◌, refl, sym, ap, subst, ℕ, suc, ◌+◌, ◌-◌, ◌<◌, Bool, true, false, not, ◌&&◌, ◌||◌, ◌==◌, if◌then◌else◌, nat_lt, List, [], ◌∷◌, ◌++◌, length, length-append, length-take, get_or, get_or-take, take, drop, append-nil, find, All, Option, Some, None, arith}
 use Rattle.std.specs.Prelude.{◌↔◌}
+use Rattle.std.specs.Bool.{Decides}
 use Rattle.std.specs.List.{range_with_len, slice_get}
 use Rattle.std.specs.Option.{is_some, option_or, option_to_list, option_map_or}
-use Rattle.std.proofs.lemmas.Bool.{cases_Bool, and_parts, and_from, both_ways, cond-true, cond-false, eqb-true, eqb-false, ne_eqb, ltb-true, ltb-false, le-ltb, false_from_ne_true, not-true, false≢true}
+use Rattle.std.proofs.Math.ListN.{get_or-append}
+use Rattle.std.proofs.Math.Seq.{get_or-append_seam}
+use Rattle.std.proofs.lemmas.Bool.{eqb-true, ltb-false, le-ltb, false_from_ne_true, false≢true}
+use Rattle.std.proofs.lemmas.Bool.Decides.{Decides-and, Decides-or, Decides-not, Decides-eqb}
 use Rattle.std.proofs.lemmas.List.Elements.{All-nil, All-cons, All-head, All-tail}
 use Rattle.std.proofs.lemmas.List.Folds.{Any-from_list_any, list_any-from_Any}
+use Rattle.std.proofs.lemmas.List.FromFn.{get_or-range_with_len, length-range_with_len}
 use Rattle.std.proofs.lemmas.Option.{none-some}
 use Rattle.po_syntax.specs.Facts.Runs.{from_end}
 use Rattle.po_entry.specs.TextEntry.{TextEntry}
 use Rattle.po_messages.specs.Joined.{InputEntry}
+use Rattle.po_compile.proofs.InputLemmas.{split_at}
 use Rattle.plural_rule.specs.Expression.{value}
 use Rattle.plural_rule.specs.PluralRule.{RuleView}
 use Rattle.plural_rule.specs.declared.rule.Source.{Source}
@@ -18,8 +24,25 @@ use Rattle.msgfmt.specs.declared.profile.End.{End}
 use Rattle.msgfmt.specs.declared.profile.End.TheVariants.{Beginning, Ending}
 use Rattle.msgfmt.specs.declared.profile.CheckFault.{CheckFault}
 use Rattle.msgfmt.specs.declared.profile.CheckFault.TheVariants.{NoRule, FormCount, LeadingNewline, TrailingNewline, Undefined, IndexOutside}
-use Rattle.msgfmt.specs.Profile.{Reported, first_some, is_plural, is_header_entry, rule_fault, end_byte, has_newline, differ, differs_from_msgid, entry_fault, value_fault, count_fault, counts_below, first_fault}
-use Rattle.msgfmt.specs.ProfileFaults.{HasNewline, Differ, DiffersAt, HasOtherCount, EntryFault, count, leading, trailing, HasProfileFault, HasNoFault, CountFault, undefined, outside, HasNoCountFault, HasPlural, IsFirst, NeedsNoOtherRule, FirstFault, no_rule, in_entry, at_count}
+use Rattle.msgfmt.specs.Profile.{Reported, first_some, is_plural, is_header_entry, rule_fault, has_newline, differ, differs_from_msgid, entry_fault, value_fault, count_fault, counts_below, first_fault}
+use Rattle.msgfmt.specs.ProfileFaults.{HasNewline, Differ, DiffersAt, HasOtherCount, EntryFault, count, leading, trailing, HasProfileFault, CountFault, undefined, outside, HasPlural, IsFirst, NeedsNoOtherRule, FirstFault, no_rule, in_entry, at_count}
+
+-- what a test decides, and the choice by it
+
+module _ {P : Type 0} where
+  fails : (test : Bool) → Decides test P → (P → ⊥) → test ≡ false
+  fails test decides none = false_from_ne_true test (λ passes. none (decides.0 passes))
+
+  if_some : {X : Type 0} (test : Bool) → Decides test P → (s t : Option X) (x : X) → (if test then s else t) ≡ Some x → (P × (s ≡ Some x)) ⊎ ((P → ⊥) × (t ≡ Some x))
+  if_some true decides s t x is = inl (decides.0 refl, is)
+  if_some false decides s t x is = inr (λ p. false≢true (decides.1 p), is)
+
+some_same : {X : Type 0} (x y : X) → Some x ≡ Some y → x ≡ y
+some_same x y e = cc
+
+some_decides : {X : Type 0} (o : Option X) → Decides (is_some o) (o ≢ None)
+some_decides None = (λ e. absurd (false≢true e), λ h. absurd (h refl))
+some_decides (Some x) = (λ e none. cc, λ h. refl)
 
 -- newlines at the ends of texts
 
@@ -27,13 +50,10 @@ last_byte : (prefix : List ℕ) (b : ℕ) → slice_get (prefix ++ b ∷ []) (le
 last_byte [] b = refl
 last_byte (x ∷ prefix) b = last_byte prefix b
 
-ending_byte : (prefix : List ℕ) (b : ℕ) → end_byte Ending (prefix ++ b ∷ []) ≡ Some b
-ending_byte prefix b =
-    let location : length (prefix ++ b ∷ []) - 1 ≡ length prefix = omega (arith, length-append prefix (b ∷ [])) in
-    ap (slice_get (prefix ++ b ∷ [])) location ∙ last_byte prefix b
-
 ending_newline : (prefix : List ℕ) (b : ℕ) → has_newline Ending (prefix ++ b ∷ []) ≡ (b == 10)
-ending_newline prefix b = ap (λ o. option_map_or (λ c. c == 10) o false) (ending_byte prefix b)
+ending_newline prefix b =
+    let location : length (prefix ++ b ∷ []) - 1 ≡ length prefix = omega (arith, length-append prefix (b ∷ [])) in
+    ap (λ o. option_map_or (λ c. c == 10) o false) (ap (slice_get (prefix ++ b ∷ [])) location ∙ last_byte prefix b)
 
 newline_says : (end : End) (text : List ℕ) → has_newline end text ≡ true → HasNewline end text
 newline_says Beginning [] e = absurd (false≢true e)
@@ -46,273 +66,174 @@ newline_passes : (end : End) (text : List ℕ) → HasNewline end text → has_n
 newline_passes Beginning text h = ap (has_newline Beginning) h.1
 newline_passes Ending text h = ap (has_newline Ending) h.1 ∙ ending_newline h.0 10
 
-no_newline : (end : End) (text : List ℕ) → has_newline end text ≡ false → HasNewline end text → ⊥
-no_newline end text e h = both_ways (has_newline end text) e (newline_passes end text h)
+differ_is : (a b : Bool) → differ a b ≡ ((a && not b) || (not a && b))
+differ_is true true = refl
+differ_is true false = refl
+differ_is false b = refl
 
-fails_newline : (end : End) (text : List ℕ) → (HasNewline end text → ⊥) → has_newline end text ≡ false
-fails_newline end text h = false_from_ne_true (has_newline end text) (λ e. h (newline_says end text e))
+differ_decides : (end : End) (a b : List ℕ) → Decides (differ (has_newline end a) (has_newline end b)) (Differ end a b)
+differ_decides end a b =
+    let x = has_newline end a in
+    let y = has_newline end b in
+    let first : Decides x (HasNewline end a) = (newline_says end a, newline_passes end a) in
+    let second : Decides y (HasNewline end b) = (newline_says end b, newline_passes end b) in
+    subst (λ t. Decides t (Differ end a b)) (sym (differ_is x y))
+    (Decides-or (x && not y) (not x && y) (Decides-and x (not y) first (Decides-not y second)) (Decides-and (not x) y (Decides-not x first) second))
 
-differ_says : (end : End) (a b : List ℕ) → differ (has_newline end a) (has_newline end b) ≡ true → Differ end a b
-differ_says end a b e =
-    elim (cases_Bool (has_newline end a)) [
-      | inl has ↦ inl (newline_says end a has, no_newline end b (not-true (has_newline end b) (rw has at e)))
-      | inr none ↦ inr (no_newline end a none, newline_says end b (rw none at e))
-    ]
-
-differ_passes : (end : End) (a b : List ℕ) → Differ end a b → differ (has_newline end a) (has_newline end b) ≡ true
-differ_passes end a b (inl h) = rw (newline_passes end a h.0, fails_newline end b h.1) refl
-differ_passes end a b (inr h) = rw (fails_newline end a h.0, newline_passes end b h.1) refl
-
-differs_says : (end : End) (entry : TextEntry) → differs_from_msgid end entry ≡ true → DiffersAt end entry
-differs_says end entry e =
+differs_decides : (end : End) (entry : TextEntry) → Decides (differs_from_msgid end entry) (DiffersAt end entry)
+differs_decides end entry =
     let texts = option_to_list entry.plural ++ entry.forms in
-    let any = Any-from_list_any (λ text. differ (has_newline end entry.id) (has_newline end text)) texts e in
-    (any.1, (any.0, any.2, any.3), differ_says end entry.id any.1 any.4)
-
-differs_passes : (end : End) (entry : TextEntry) → DiffersAt end entry → differs_from_msgid end entry ≡ true
-differs_passes end entry h =
-    let texts = option_to_list entry.plural ++ entry.forms in
-    list_any-from_Any (λ text. differ (has_newline end entry.id) (has_newline end text)) texts (h.1.0, h.0, h.1.1, h.1.2, differ_passes end entry.id h.0 h.2)
+    let test : List ℕ → Bool = λ text. differ (has_newline end entry.id) (has_newline end text) in (
+      λ e. let any = Any-from_list_any test texts e in (any.1, (any.0, any.2, any.3), (differ_decides end entry.id any.1).0 any.4),
+      λ h. list_any-from_Any test texts (h.1.0, h.0, h.1.1, h.1.2, (differ_decides end entry.id h.0).1 h.2),
+    )
 
 -- entries
-
-some_given : {X : Type 0} (o : Option X) → is_some o ≡ true → o ≢ None
-some_given None e none = false≢true e
-some_given (Some x) e none = cc
-
-given_some : {X : Type 0} (o : Option X) → o ≢ None → is_some o ≡ true
-given_some None h = absurd (h refl)
-given_some (Some x) h = refl
 
 abbrev other_count : ℕ → InputEntry → Bool
 other_count nplurals e = is_plural e && not (length e.entry.forms == nplurals)
 
-count_says : (nplurals : ℕ) (e : InputEntry) → other_count nplurals e ≡ true → HasOtherCount nplurals e.entry
-count_says nplurals e h =
-    let p = and_parts (is_plural e) (not (length e.entry.forms == nplurals)) h in
-    (some_given e.entry.plural p.0, eqb-false (length e.entry.forms) nplurals (not-true (length e.entry.forms == nplurals) p.1))
+count_decides : (nplurals : ℕ) (e : InputEntry) → Decides (other_count nplurals e) (HasOtherCount nplurals e.entry)
+count_decides nplurals e =
+    Decides-and (is_plural e) (not (length e.entry.forms == nplurals)) (some_decides e.entry.plural)
+    (Decides-not (length e.entry.forms == nplurals) (Decides-eqb (length e.entry.forms) nplurals))
 
-count_passes : (nplurals : ℕ) (e : InputEntry) → HasOtherCount nplurals e.entry → other_count nplurals e ≡ true
-count_passes nplurals e h = and_from _ _ (given_some e.entry.plural h.0) (ap not (ne_eqb (length e.entry.forms) nplurals h.1))
-
-if_some : {X : Type 0} (x : X) (test : Bool) (s t : Option X) → (if test then s else t) ≡ Some x → ((test ≡ true) × (s ≡ Some x)) ⊎ ((test ≡ false) × (t ≡ Some x))
-if_some x true s t e = inl (refl, e)
-if_some x false s t e = inr (refl, e)
-
-some_same : {X : Type 0} (x y : X) → Some x ≡ Some y → x ≡ y
-some_same x y e = cc
-
-fault_of : (nplurals : ℕ) (e : InputEntry) (reported : Reported) (fault : CheckFault) → is_header_entry e ≡ false → Some (e.input, fault) ≡ Some reported → EntryFault nplurals e.entry fault → HasProfileFault nplurals e reported
+fault_of : (nplurals : ℕ) (e : InputEntry) (reported : Reported) (fault : CheckFault) → (is_header_entry e ≡ true → ⊥) → Some (e.input, fault) ≡ Some reported → EntryFault nplurals e.entry fault → HasProfileFault nplurals e reported
 fault_of nplurals e reported fault other is h =
-    subst (HasProfileFault nplurals e) (some_same (e.input, fault) reported is) (record { no_header = other; fault = h; input = refl })
+    subst (HasProfileFault nplurals e) (some_same (e.input, fault) reported is) (record { no_header = false_from_ne_true (is_header_entry e) other; fault = h; input = refl })
 
 entry_says : (nplurals : ℕ) (e : InputEntry) (reported : Reported) → entry_fault nplurals e ≡ Some reported → HasProfileFault nplurals e reported
 entry_says nplurals e reported is =
     let line = e.entry.line in
-    elim (if_some reported (is_header_entry e) _ _ is) [
+    elim (if_some (is_header_entry e) (λ t. t, λ t. t) None _ reported is) [
       | inl header ↦ absurd (none-some reported header.1)
-      | inr other ↦ elim (if_some reported (other_count nplurals e) _ _ other.1) [
-        | inl h ↦ fault_of nplurals e reported (FormCount line) other.0 h.1 (count (count_says nplurals e h.0))
-        | inr right ↦ let has_count = λ (h : HasOtherCount nplurals e.entry). both_ways (other_count nplurals e) right.0 (count_passes nplurals e h) in
-            elim (if_some reported (differs_from_msgid Beginning e.entry) _ _ right.1) [
-              | inl h ↦ fault_of nplurals e reported (LeadingNewline line) other.0 h.1 (leading has_count (differs_says Beginning e.entry h.0))
-              | inr same ↦ elim (if_some reported (differs_from_msgid Ending e.entry) _ _ same.1) [
-                | inl h ↦ fault_of nplurals e reported (TrailingNewline line) other.0 h.1
-                    (trailing has_count (λ d. both_ways (differs_from_msgid Beginning e.entry) same.0 (differs_passes Beginning e.entry d)) (differs_says Ending e.entry h.0))
-                | inr none ↦ absurd (none-some reported none.1)
-              ]
-            ]
+      | inr other ↦ elim (if_some (other_count nplurals e) (count_decides nplurals e) (Some (e.input, FormCount line)) _ reported other.1) [
+        | inl h ↦ fault_of nplurals e reported (FormCount line) other.0 h.1 (count h.0)
+        | inr right ↦ elim (if_some (differs_from_msgid Beginning e.entry) (differs_decides Beginning e.entry) (Some (e.input, LeadingNewline line)) _ reported right.1) [
+          | inl h ↦ fault_of nplurals e reported (LeadingNewline line) other.0 h.1 (leading right.0 h.0)
+          | inr same ↦ elim (if_some (differs_from_msgid Ending e.entry) (differs_decides Ending e.entry) (Some (e.input, TrailingNewline line)) None reported same.1) [
+            | inl h ↦ fault_of nplurals e reported (TrailingNewline line) other.0 h.1 (trailing right.0 same.0 h.0)
+            | inr none ↦ absurd (none-some reported none.1)
+          ]
+        ]
       ]
     ]
 
-no_other_count : (nplurals : ℕ) (e : InputEntry) → (HasOtherCount nplurals e.entry → ⊥) → other_count nplurals e ≡ false
-no_other_count nplurals e h = false_from_ne_true (other_count nplurals e) (λ t. h (count_says nplurals e t))
-
-no_difference : (end : End) (entry : TextEntry) → (DiffersAt end entry → ⊥) → differs_from_msgid end entry ≡ false
-no_difference end entry h = false_from_ne_true (differs_from_msgid end entry) (λ t. h (differs_says end entry t))
-
 fault_given : (nplurals : ℕ) (e : InputEntry) {fault : CheckFault} → is_header_entry e ≡ false → EntryFault nplurals e.entry fault → entry_fault nplurals e ≡ Some (e.input, fault)
-fault_given nplurals e other (count h) = rw (other, count_passes nplurals e h) refl
-fault_given nplurals e other (leading right h) = rw (other, no_other_count nplurals e right, differs_passes Beginning e.entry h) refl
-fault_given nplurals e other (trailing right same h) = rw (other, no_other_count nplurals e right, no_difference Beginning e.entry same, differs_passes Ending e.entry h) refl
+fault_given nplurals e other (count h) = rw (other, (count_decides nplurals e).1 h) refl
+fault_given nplurals e other (leading right h) =
+    rw (other, fails (other_count nplurals e) (count_decides nplurals e) right, (differs_decides Beginning e.entry).1 h) refl
+fault_given nplurals e other (trailing right same h) =
+    rw (other, fails (other_count nplurals e) (count_decides nplurals e) right, fails (differs_from_msgid Beginning e.entry) (differs_decides Beginning e.entry) same, (differs_decides Ending e.entry).1 h) refl
 
-entry_passes : (nplurals : ℕ) (e : InputEntry) (reported : Reported) → HasProfileFault nplurals e reported → entry_fault nplurals e ≡ Some reported
-entry_passes nplurals e reported h = fault_given nplurals e h.no_header h.fault ∙ ap (λ i. Some (i, reported.1)) (sym h.input)
-
-no_fault : (nplurals : ℕ) (e : InputEntry) → entry_fault nplurals e ≡ None → HasNoFault nplurals e
-no_fault nplurals e none reported h = none-some reported (sym none ∙ entry_passes nplurals e reported h)
-
-none_found : (nplurals : ℕ) (e : InputEntry) → HasNoFault nplurals e → entry_fault nplurals e ≡ None
-none_found nplurals e h = at (entry_fault nplurals e) refl where
-  at : (o : Option Reported) → entry_fault nplurals e ≡ o → entry_fault nplurals e ≡ None
-  at None is = is
-  at (Some reported) is = absurd (h reported (entry_says nplurals e reported is))
+entry_exact : (nplurals : ℕ) (e : InputEntry) (reported : Reported) → (entry_fault nplurals e ≡ Some reported) ↔ HasProfileFault nplurals e reported
+entry_exact nplurals e reported =
+    (entry_says nplurals e reported, λ h. fault_given nplurals e h.no_header h.fault ∙ ap (λ i. Some (i, reported.1)) (sym h.input))
 
 -- counts
 
-value_says : (rule : RuleView) (n : ℕ) (reported : Reported) (o : Option ℕ) → value rule.tree n ≡ o → value_fault rule.nplurals n o ≡ Some reported → (reported.0 ≡ 0) × CountFault rule n reported.1
-value_says rule n reported None is e = let same = some_same (0, Undefined n) reported e in (sym (ap (λ (t : Reported). t.0) same), subst (λ (t : Reported). CountFault rule n t.1) same (undefined is))
+abbrev CountReported : RuleView → ℕ → Reported → Type 0
+CountReported rule n reported = (reported.0 ≡ 0) × CountFault rule n reported.1
+
+value_says : (rule : RuleView) (n : ℕ) (reported : Reported) (o : Option ℕ) → value rule.tree n ≡ o → value_fault rule.nplurals n o ≡ Some reported → CountReported rule n reported
+value_says rule n reported None is e = subst (CountReported rule n) (some_same (0, Undefined n) reported e) (refl, undefined is)
 value_says rule n reported (Some index) is e =
-    elim (if_some reported (nat_lt index rule.nplurals) None (Some (0, IndexOutside n)) e) [
+    let less = nat_lt index rule.nplurals in
+    elim (if_some less (λ t. t, λ t. t) None (Some (0, IndexOutside n)) reported e) [
       | inl h ↦ absurd (none-some reported h.1)
-      | inr h ↦ let same = some_same (0, IndexOutside n) reported h.1 in
-          (sym (ap (λ (t : Reported). t.0) same), subst (λ (t : Reported). CountFault rule n t.1) same (outside is (ltb-false index rule.nplurals h.0)))
+      | inr h ↦ subst (CountReported rule n) (some_same (0, IndexOutside n) reported h.1) (refl, outside is (ltb-false index rule.nplurals (false_from_ne_true less h.0)))
     ]
 
 count_at : {rule : RuleView} {n : ℕ} {fault : CheckFault} → CountFault rule n fault → count_fault rule n ≡ Some (0, fault)
 count_at {rule} {n} (undefined is) = ap (value_fault rule.nplurals n) is
-count_at {rule} {n} (outside {index = index} is past) = ap (value_fault rule.nplurals n) is ∙ cond-false (nat_lt index rule.nplurals) None (Some (0, IndexOutside n)) (le-ltb index rule.nplurals past)
+count_at {rule} {n} (outside {index = index} is past) = ap (value_fault rule.nplurals n) is ∙ (rw (le-ltb index rule.nplurals past) refl)
 
-no_count : (rule : RuleView) (n : ℕ) → count_fault rule n ≡ None → HasNoCountFault rule n
-no_count rule n none fault h = none-some (0, fault) (sym none ∙ count_at h)
-
-none_counted : (rule : RuleView) (n : ℕ) → HasNoCountFault rule n → count_fault rule n ≡ None
-none_counted rule n h = at (count_fault rule n) refl where
-  at : (o : Option Reported) → count_fault rule n ≡ o → count_fault rule n ≡ None
-  at None is = is
-  at (Some reported) is = absurd (h reported.1 (value_says rule n reported (value rule.tree n) refl is).1)
-
-record IsLeast (f : ℕ → Option Reported) (from end : ℕ) (reported : Reported) : Type 0 where
-  least : ℕ
-  from_on : from ≤ least
-  below : least < end
-  given : f least ≡ Some reported
-  none_before : (n : ℕ) → from ≤ n → n < least → f n ≡ None
-
-past_of : (from k : ℕ) → from ≤ k → (from ≡ k → ⊥) → from < k
-past_of from k l apart =
-    elim (cases_Bool (nat_lt from k)) [
-      | inl less ↦ ltb-true from k less
-      | inr not_less ↦ let t = ltb-false from k not_less in absurd (apart (omega (arith, l, t)))
-    ]
-
-later_none : (f : ℕ → Option Reported) (from least n : ℕ) → f from ≡ None → ((k : ℕ) → from + 1 ≤ k → k < least → f k ≡ None) → from ≤ n → n < least → f n ≡ None
-later_none f from least n here later on under =
-    elim (cases_Bool (from == n)) [
-      | inl same ↦ ap f (sym (eqb-true from n same)) ∙ here
-      | inr other ↦ let past = past_of from n on (eqb-false from n other) in later n (omega (arith, past)) under
-    ]
-
-least_later : (f : ℕ → Option Reported) (from more : ℕ) (reported : Reported) → f from ≡ None → IsLeast f (from + 1) (from + 1 + more) reported → IsLeast f from (from + suc more) reported
-least_later f from more reported none h =
-    let on = h.from_on in
-    let under = h.below in record {
-      least = h.least;
-      from_on = omega (arith, on);
-      below = omega (arith, under);
-      given = h.given;
-      none_before = λ n low high. later_none f from h.least n none h.none_before low high;
-    }
-
-range_at : (f : ℕ → Option Reported) (from more : ℕ) (reported : Reported) → (first_some f (range_with_len (from + 1) more) ≡ Some reported → IsLeast f (from + 1) (from + 1 + more) reported)
-    → (o : Option Reported) → f from ≡ o → option_or o (first_some f (range_with_len (from + 1) more)) ≡ Some reported → IsLeast f from (from + suc more) reported
-range_at f from more reported later None none e = least_later f from more reported none (later e)
-range_at f from more reported later (Some one) some same = record { least = from; from_on = omega arith; below = omega arith; given = some ∙ same; none_before = λ n on under. absurd (omega (arith, on, under)) }
-
-range_says : (f : ℕ → Option Reported) (from more : ℕ) (reported : Reported) → first_some f (range_with_len from more) ≡ Some reported → IsLeast f from (from + more) reported
-range_says f from zero reported e = absurd (none-some reported e)
-range_says f from (suc more) reported e = range_at f from more reported (λ later. range_says f (from + 1) more reported later) (f from) refl e
-
-range_gives : (f : ℕ → Option Reported) (from more least : ℕ) (reported : Reported) → from ≤ least → least < from + more → f least ≡ Some reported → ((n : ℕ) → from ≤ n → n < least → f n ≡ None) → first_some f (range_with_len from more) ≡ Some reported
-range_gives f from zero least reported on below given none = absurd (omega (arith, on, below))
-range_gives f from (suc more) least reported on below given none =
-    elim (cases_Bool (from == least)) [
-      | inl same ↦ ap (λ o. option_or o (first_some f (range_with_len (from + 1) more))) (ap f (eqb-true from least same) ∙ given)
-      | inr other ↦ let past = past_of from least on (eqb-false from least other) in
-          ap (λ o. option_or o (first_some f (range_with_len (from + 1) more))) (none from (omega arith) past)
-          ∙ range_gives f (from + 1) more least reported (omega (arith, past)) (omega (arith, below)) given (λ n more_than under. none n (omega (arith, more_than)) under)
-    ]
-
-counts_say : (f : ℕ → Option Reported) (end : ℕ) (reported : Reported) → first_some f (counts_below end) ≡ Some reported → IsLeast f 0 end reported
-unfolding counts_below
-counts_say f end reported is = let whole : 0 + end ≡ end = omega arith in subst (λ n. IsLeast f 0 n reported) whole (range_says f 0 end reported is)
-
-counts_give : (f : ℕ → Option Reported) (end least : ℕ) (reported : Reported) → least < end → f least ≡ Some reported → ((n : ℕ) → n < least → f n ≡ None) → first_some f (counts_below end) ≡ Some reported
-unfolding counts_below
-counts_give f end least reported below given none = range_gives f 0 end least reported (omega arith) (omega (arith, below)) given (λ n on under. none n under)
+count_exact : (rule : RuleView) (n : ℕ) (reported : Reported) → (count_fault rule n ≡ Some reported) ↔ CountReported rule n reported
+count_exact rule n reported = (value_says rule n reported (value rule.tree n) refl, λ h. count_at h.1 ∙ ap (λ i. Some (i, reported.1)) (sym h.0))
 
 -- what is first in a list
 
-record IsGiven (f : InputEntry → Option Reported) (entries : List InputEntry) (reported : Reported) : Type 0 where
-  before : List InputEntry
-  e : InputEntry
-  after : List InputEntry
-  whole : entries ≡ before ++ e ∷ after
-  given : f e ≡ Some reported
-  none_before : All (λ o. f o ≡ None) before
+first_by : {X : Type 0} (P Q : X → Type 0) (xs : List X) (x : X) → (P x → Q x) → ((o : X) → Q o → P o) → IsFirst P xs x → IsFirst Q xs x
+first_by P Q xs x to from h = record {
+  before = h.before;
+  after = h.after;
+  whole = h.whole;
+  holds = to h.holds;
+  none_before = λ k d inside q. h.none_before k d inside (from (get_or h.before k d) q);
+}
 
-list_at : (f : InputEntry → Option Reported) (x : InputEntry) (entries : List InputEntry) (reported : Reported) → (first_some f entries ≡ Some reported → IsGiven f entries reported) → (o : Option Reported) → f x ≡ o → option_or o (first_some f entries) ≡ Some reported
-    → IsGiven f (x ∷ entries) reported
-list_at f x entries reported later None none e =
-    let h = later e in
-    record { before = x ∷ h.before; e = h.e; after = h.after; whole = ap (λ l. x ∷ l) h.whole; given = h.given; none_before = All-cons (λ o. f o ≡ None) x h.before none h.none_before }
-list_at f x entries reported later (Some one) some same = record { before = []; e = x; after = entries; whole = refl; given = some ∙ same; none_before = All-nil (λ o. f o ≡ None) }
+module _ {X Y : Type 0} (f : X → Option Y) (P : X → Y → Type 0) (exact : (x : X) (y : Y) → (f x ≡ Some y) ↔ P x y) where
+  abbrev Has : X → Type 0
+  Has x = (y : Y) × P x y
 
-list_says : (f : InputEntry → Option Reported) (entries : List InputEntry) (reported : Reported) → first_some f entries ≡ Some reported → IsGiven f entries reported
-list_says f [] reported e = absurd (none-some reported e)
-list_says f (x ∷ entries) reported e = list_at f x entries reported (λ later. list_says f entries reported later) (f x) refl e
+  given_at : (x : X) (xs : List X) (y : Y) → (first_some f xs ≡ Some y → (e : X) × IsFirst Has xs e × P e y) → (o : Option Y) → f x ≡ o → option_or o (first_some f xs) ≡ Some y → (e : X) × IsFirst Has (x ∷ xs) e × P e y
+  given_at x xs y later None none is =
+      let h = later is in
+      let other = λ (p : Has x). none-some p.0 (sym none ∙ (exact x p.0).1 p.1) in
+      (h.0, record { before = x ∷ h.1.before; after = h.1.after; whole = ap (λ l. x ∷ l) h.1.whole; holds = h.1.holds; none_before = All-cons (λ o. Has o → ⊥) x h.1.before other h.1.none_before }, h.2)
+  given_at x xs y later (Some one) some is =
+      (x, record { before = []; after = xs; whole = refl; holds = (one, (exact x one).0 some); none_before = All-nil (λ o. Has o → ⊥) }, (exact x y).0 (some ∙ is))
 
-list_gives : (f : InputEntry → Option Reported) (before : List InputEntry) (e : InputEntry) (after : List InputEntry) (reported : Reported) → f e ≡ Some reported → All (λ o. f o ≡ None) before → first_some f (before ++ e ∷ after) ≡ Some reported
-list_gives f [] e after reported given none = ap (λ o. option_or o (first_some f after)) given
-list_gives f (x ∷ before) e after reported given none =
-    ap (λ o. option_or o (first_some f (before ++ e ∷ after))) (All-head (λ o. f o ≡ None) x before none) ∙ list_gives f before e after reported given (All-tail (λ o. f o ≡ None) x before none)
+  first_says : (xs : List X) (y : Y) → first_some f xs ≡ Some y → (e : X) × IsFirst Has xs e × P e y
+  first_says [] y is = absurd (none-some y is)
+  first_says (x ∷ xs) y is = given_at x xs y (λ later. first_says xs y later) (f x) refl is
 
-none_at : (f : InputEntry → Option Reported) (x : InputEntry) (entries : List InputEntry) → (first_some f entries ≡ None → All (λ o. f o ≡ None) entries) → (o : Option Reported) → f x ≡ o → option_or o (first_some f entries) ≡ None → All (λ o. f o ≡ None) (x ∷ entries)
-none_at f x entries later None none e = All-cons (λ o. f o ≡ None) x entries none (later e)
-none_at f x entries later (Some one) some same = absurd (none-some one (sym same))
+  none_here : (x : X) → (Has x → ⊥) → (o : Option Y) → f x ≡ o → f x ≡ None
+  none_here x none None is = is
+  none_here x none (Some y) is = absurd (none (y, (exact x y).0 is))
 
-list_none : (f : InputEntry → Option Reported) (entries : List InputEntry) → first_some f entries ≡ None → All (λ o. f o ≡ None) entries
-list_none f [] e = All-nil (λ o. f o ≡ None)
-list_none f (x ∷ entries) e = none_at f x entries (λ later. list_none f entries later) (f x) refl e
+  past_none : (before rest : List X) → All (λ o. Has o → ⊥) before → first_some f (before ++ rest) ≡ first_some f rest
+  past_none [] rest none = refl
+  past_none (x ∷ before) rest none =
+      ap (λ o. option_or o (first_some f (before ++ rest))) (none_here x (All-head (λ o. Has o → ⊥) x before none) (f x) refl) ∙ past_none before rest (All-tail (λ o. Has o → ⊥) x before none)
 
-none_list : (f : InputEntry → Option Reported) (entries : List InputEntry) → All (λ o. f o ≡ None) entries → first_some f entries ≡ None
-none_list f [] h = refl
-none_list f (x ∷ entries) h = ap (λ o. option_or o (first_some f entries)) (All-head (λ o. f o ≡ None) x entries h) ∙ none_list f entries (All-tail (λ o. f o ≡ None) x entries h)
+  first_gives : (xs : List X) (x : X) (y : Y) → IsFirst Has xs x → P x y → first_some f xs ≡ Some y
+  first_gives xs x y h p =
+      ap (first_some f) h.whole ∙ past_none h.before (x ∷ h.after) h.none_before ∙ ap (λ o. option_or o (first_some f h.after)) ((exact x y).1 p)
+
+  none_at : (x : X) (xs : List X) → (first_some f xs ≡ None → All (λ o. Has o → ⊥) xs) → (o : Option Y) → f x ≡ o → option_or o (first_some f xs) ≡ None → All (λ o. Has o → ⊥) (x ∷ xs)
+  none_at x xs later None none is = All-cons (λ o. Has o → ⊥) x xs (λ p. none-some p.0 (sym none ∙ (exact x p.0).1 p.1)) (later is)
+  none_at x xs later (Some one) some is = absurd (none-some one (sym is))
+
+  none_says : (xs : List X) → first_some f xs ≡ None → All (λ o. Has o → ⊥) xs
+  none_says [] is = All-nil (λ o. Has o → ⊥)
+  none_says (x ∷ xs) is = none_at x xs (λ later. none_says xs later) (f x) refl is
 
 -- the first entry with a plural
 
-no_plural : (e : InputEntry) → is_plural e ≡ false → HasPlural e → ⊥
-no_plural e fails h = both_ways (is_plural e) fails (given_some e.entry.plural h)
+find_first : {X : Type 0} (p : X → Bool) (xs : List X) → find p xs ≡ first_some (λ x. if p x then Some x else None) xs
+find_first p [] = refl
+find_first p (x ∷ xs) = at (p x) (find_first p xs) where
+  at : (b : Bool) → find p xs ≡ first_some (λ o. if p o then Some o else None) xs
+      → (if b then Some x else find p xs) ≡ option_or (if b then Some x else None) (first_some (λ o. if p o then Some o else None) xs)
+  at true more = refl
+  at false more = more
 
-plural_later : (x e : InputEntry) (entries : List InputEntry) → is_plural x ≡ false → IsFirst HasPlural entries e → IsFirst HasPlural (x ∷ entries) e
-plural_later x e entries fails h = record {
-  before = x ∷ h.before;
-  after = h.after;
-  whole = ap (λ l. x ∷ l) h.whole;
-  holds = h.holds;
-  none_before = All-cons (λ o. HasPlural o → ⊥) x h.before (no_plural x fails) h.none_before;
-}
+abbrev chosen : InputEntry → Option InputEntry
+chosen e = if is_plural e then Some e else None
+
+abbrev IsChosen : InputEntry → InputEntry → Type 0
+IsChosen e x = HasPlural e × (e ≡ x)
+
+plural_exact : (e x : InputEntry) → (chosen e ≡ Some x) ↔ IsChosen e x
+plural_exact e x = (
+  λ is. elim (if_some (is_plural e) (some_decides e.entry.plural) (Some e) None x is) [ inl h ↦ (h.0, some_same e x h.1) | inr h ↦ absurd (none-some x h.1) ],
+  λ h. (rw ((some_decides e.entry.plural).1 h.0) (ap Some h.1)),
+)
 
 plural_says : (entries : List InputEntry) (e : InputEntry) → find is_plural entries ≡ Some e → IsFirst HasPlural entries e
-plural_says [] e is = absurd (none-some e is)
-plural_says (x ∷ entries) e is =
-    elim (if_some e (is_plural x) (Some x) (find is_plural entries) is) [
-      | inl h ↦ subst (IsFirst HasPlural (x ∷ entries)) (some_same x e h.1) (record { before = []; after = entries; whole = refl; holds = some_given x.entry.plural h.0; none_before = All-nil (λ o. HasPlural o → ⊥) })
-      | inr h ↦ plural_later x e entries h.0 (plural_says entries e h.1)
-    ]
-
-none_plural : (entries : List InputEntry) → find is_plural entries ≡ None → All (λ e. HasPlural e → ⊥) entries
-none_plural [] is = All-nil (λ e. HasPlural e → ⊥)
-none_plural (x ∷ entries) is =
-    elim (cases_Bool (is_plural x)) [
-      | inl t ↦ absurd (none-some x (sym is ∙ cond-true (is_plural x) (Some x) (find is_plural entries) t))
-      | inr f ↦ All-cons (λ e. HasPlural e → ⊥) x entries (no_plural x f) (none_plural entries (sym (cond-false (is_plural x) (Some x) (find is_plural entries) f) ∙ is))
-    ]
-
-plural_found : (before : List InputEntry) (e : InputEntry) (after : List InputEntry) → HasPlural e → All (λ o. HasPlural o → ⊥) before → find is_plural (before ++ e ∷ after) ≡ Some e
-plural_found [] e after holds none = cond-true (is_plural e) (Some e) (find is_plural after) (given_some e.entry.plural holds)
-plural_found (x ∷ before) e after holds none =
-    let fails = false_from_ne_true (is_plural x) (λ t. All-head (λ o. HasPlural o → ⊥) x before none (some_given x.entry.plural t)) in
-    cond-false (is_plural x) (Some x) (find is_plural (before ++ e ∷ after)) fails ∙ plural_found before e after holds (All-tail (λ o. HasPlural o → ⊥) x before none)
+plural_says entries e is =
+    let h = first_says chosen IsChosen plural_exact entries e (sym (find_first is_plural entries) ∙ is) in
+    first_by (λ o. (x : InputEntry) × IsChosen o x) HasPlural entries e (λ some. some.1.0) (λ o some. (o, (some, refl))) (subst (IsFirst (λ o. (x : InputEntry) × IsChosen o x) entries) h.2.1 h.1)
 
 first_plural : (entries : List InputEntry) (e : InputEntry) → IsFirst HasPlural entries e → find is_plural entries ≡ Some e
-first_plural entries e h = ap (find is_plural) h.whole ∙ plural_found h.before e h.after h.holds h.none_before
+first_plural entries e h =
+    find_first is_plural entries
+    ∙ first_gives chosen IsChosen plural_exact entries e e (first_by HasPlural (λ o. (x : InputEntry) × IsChosen o x) entries e (λ some. (e, (some, refl))) (λ o some. some.1.0) h) (h.holds, refl)
 
-plural_none : (entries : List InputEntry) → All (λ e. HasPlural e → ⊥) entries → find is_plural entries ≡ None
-plural_none [] h = refl
-plural_none (x ∷ entries) h =
-    let fails = false_from_ne_true (is_plural x) (λ t. All-head (λ o. HasPlural o → ⊥) x entries h (some_given x.entry.plural t)) in
-    cond-false (is_plural x) (Some x) (find is_plural entries) fails ∙ plural_none entries (All-tail (λ o. HasPlural o → ⊥) x entries h)
+none_plural : (entries : List InputEntry) → find is_plural entries ≡ None → All (λ e. HasPlural e → ⊥) entries
+none_plural entries is k d inside some =
+    none_says chosen IsChosen plural_exact entries (sym (find_first is_plural entries) ∙ is) k d inside (get_or entries k d, (some, refl))
 
 -- the parts in their order
 
@@ -325,30 +246,47 @@ at_counts rule plural = if is_some plural then first_some (count_fault rule) (co
 abbrev in_order : List InputEntry → RuleView → Source → Option InputEntry → Option Reported
 in_order entries rule source plural = option_or (rule_fault source plural) (option_or (in_entries entries rule) (at_counts rule plural))
 
-entry_first : (entries : List InputEntry) (rule : RuleView) (reported : Reported) → NeedsNoOtherRule entries rule → in_entries entries rule ≡ Some reported → FirstFault entries rule reported
-entry_first entries rule reported needs is =
-    let h = list_says (entry_fault rule.nplurals) entries reported is in
-    let fault = entry_says rule.nplurals h.e reported h.given in
-    in_entry needs (record {
-      before = h.before;
-      after = h.after;
-      whole = h.whole;
-      holds = (reported, fault);
-      none_before = λ k d below some. no_fault rule.nplurals _ (h.none_before k d below) some.0 some.1;
-    }) fault
+number_at : (n d : ℕ) → n < 1001 → get_or (range_with_len 0 1001) n d ≡ n
+number_at n d under = let none : 0 + n ≡ n = omega arith in get_or-range_with_len 0 1001 n d under ∙ none
 
 count_first : (entries : List InputEntry) (rule : RuleView) (e : InputEntry) (reported : Reported) → IsFirst HasPlural entries e → rule.source ≡ Header → in_entries entries rule ≡ None → first_some (count_fault rule) (counts_below 1001) ≡ Some reported → FirstFault entries rule reported
+unfolding counts_below
 count_first entries rule e reported plural source none is =
-    let h = counts_say (count_fault rule) 1001 reported is in
-    let here = value_says rule h.least reported (value rule.tree h.least) refl h.given in
-    let below = h.below in
-    let whole : reported ≡ (0, reported.1) = ap (λ n. (n, reported.1)) here.0 in
-    subst (FirstFault entries rule) (sym whole) (at_count h.least plural source (λ k d under. no_fault rule.nplurals _ (list_none (entry_fault rule.nplurals) entries none k d under)) (omega (arith, below))
-    (λ n under. no_count rule n (h.none_before n (omega arith) under)) here.1)
+    let counts = range_with_len 0 1001 in
+    let h = first_says (count_fault rule) (CountReported rule) (count_exact rule) counts reported is in
+    let before = h.1.before in
+    let long = length-append before (h.0 ∷ h.1.after) in
+    let within : length before < 1001 = omega (arith, long, ap length h.1.whole, length-range_with_len 0 1001) in
+    let least : h.0 ≡ length before =
+    sym (get_or-append_seam before h.0 h.1.after 0) ∙ ap (λ l. get_or l (length before) 0) (sym h.1.whole) ∙ number_at (length before) 0 within in
+    let earlier : (n : ℕ) → n < h.0 → get_or before n 0 ≡ n = λ n under.
+    sym (get_or-append before (h.0 ∷ h.1.after) 0 n (omega (arith, under, least))) ∙ ap (λ l. get_or l n 0) (sym h.1.whole) ∙ number_at n 0 (omega (arith, under, least, within)) in
+    let whole : reported ≡ (0, reported.1) = ap (λ n. (n, reported.1)) h.2.0 in
+    let fine = none_says (entry_fault rule.nplurals) (HasProfileFault rule.nplurals) (entry_exact rule.nplurals) entries none in
+    subst (FirstFault entries rule) (sym whole) (at_count h.0 plural source (λ k d inside other has. fine k d inside (other, has)) (omega (arith, least, within))
+    (λ n under fault has. h.1.none_before n 0 (omega (arith, under, least)) ((0, fault), (refl, subst (λ m. CountFault rule m fault) (sym (earlier n under)) has))) h.2.1)
+
+counts_give : (rule : RuleView) (least : ℕ) (fault : CheckFault) → least < 1001 → ((n : ℕ) → n < least → (other : CheckFault) → CountFault rule n other → ⊥) → CountFault rule least fault
+    → first_some (count_fault rule) (counts_below 1001) ≡ Some (0, fault)
+unfolding counts_below
+counts_give rule least fault below none wrong =
+    let counts = range_with_len 0 1001 in
+    let inside : least < length counts = omega (arith, below, length-range_with_len 0 1001) in
+    first_gives (count_fault rule) (CountReported rule) (count_exact rule) counts least (0, fault) (record {
+      before = take least counts;
+      after = drop (suc least) counts;
+      whole = split_at counts least 0 inside ∙ ap (λ n. take least counts ++ n ∷ drop (suc least) counts) (number_at least 0 below);
+      holds = ((0, fault), (refl, wrong));
+      none_before = λ k d short has.
+          let under : k < least = omega (arith, short, length-take least counts) in
+          let is : get_or (take least counts) k d ≡ k = get_or-take least counts k d under ∙ number_at k d (omega (arith, under, below)) in
+          none k under has.0.1 (subst (λ m. CountFault rule m has.0.1) is has.1.1);
+    }) (refl, wrong)
 
 after_rule : (entries : List InputEntry) (rule : RuleView) (reported : Reported) (plural : Option InputEntry) → NeedsNoOtherRule entries rule → ((e : InputEntry) → plural ≡ Some e → IsFirst HasPlural entries e × (rule.source ≡ Header)) → (o : Option Reported) → in_entries entries rule ≡ o
     → option_or o (at_counts rule plural) ≡ Some reported → FirstFault entries rule reported
-after_rule entries rule reported plural needs first (Some one) is e = entry_first entries rule reported needs (is ∙ e)
+after_rule entries rule reported plural needs first (Some one) is e =
+    let h = first_says (entry_fault rule.nplurals) (HasProfileFault rule.nplurals) (entry_exact rule.nplurals) entries reported (is ∙ e) in in_entry needs h.1 h.2
 after_rule entries rule reported None needs first None is e = absurd (none-some reported e)
 after_rule entries rule reported (Some x) needs first None is e = let p = first x refl in count_first entries rule x reported p.0 p.1 is e
 
@@ -357,31 +295,29 @@ order_says entries rule reported source None s p e = after_rule entries rule rep
 order_says entries rule reported Header (Some x) s p e = after_rule entries rule reported (Some x) (inl s) (λ y same. (subst (IsFirst HasPlural entries) (some_same x y same) (plural_says entries x p), s)) (in_entries entries rule) refl e
 order_says entries rule reported (Default reason) (Some x) s p e = subst (FirstFault entries rule) (some_same (x.input, NoRule x.entry.line reason) reported e) (no_rule (plural_says entries x p) s)
 
-found_says : (entries : List InputEntry) (rule : RuleView) (reported : Reported) → first_fault entries rule ≡ Some reported → FirstFault entries rule reported
-found_says entries rule reported e = order_says entries rule reported rule.source (find is_plural entries) refl refl e
-
 readable : (plural : Option InputEntry) → rule_fault Header plural ≡ None
 readable None = refl
 readable (Some e) = refl
 
-no_rule_needed : (entries : List InputEntry) (rule : RuleView) → NeedsNoOtherRule entries rule → rule_fault rule.source (find is_plural entries) ≡ None
-no_rule_needed entries rule (inl source) = ap (λ s. rule_fault s (find is_plural entries)) source ∙ readable (find is_plural entries)
-no_rule_needed entries rule (inr none) = ap (rule_fault rule.source) (plural_none entries none)
+no_rule_needed : (entries : List InputEntry) (rule : RuleView) → NeedsNoOtherRule entries rule → (plural : Option InputEntry) → find is_plural entries ≡ plural → rule_fault rule.source plural ≡ None
+no_rule_needed entries rule (inl source) plural is = ap (λ s. rule_fault s plural) source ∙ readable plural
+no_rule_needed entries rule (inr none) None is = refl
+no_rule_needed entries rule (inr none) (Some e) is =
+    let h = plural_says entries e is in
+    absurd (none (length h.before) e (omega (arith, ap length h.whole, length-append h.before (e ∷ h.after))) (subst HasPlural (sym (ap (λ l. get_or l (length h.before) e) h.whole ∙ get_or-append_seam h.before e h.after e)) h.holds))
 
 found_passes : {entries : List InputEntry} {rule : RuleView} {reported : Reported} → FirstFault entries rule reported → first_fault entries rule ≡ Some reported
 found_passes {entries} {rule} (no_rule {e = e} {reason = reason} plural source) =
     ap (λ s. in_order entries rule s (find is_plural entries)) source ∙ ap (in_order entries rule (Default reason)) (first_plural entries e plural)
 found_passes {entries} {rule} (in_entry {e = e} {reported = reported} needs first fault) =
-    let given : in_entries entries rule ≡ Some reported =
-    ap (first_some (entry_fault rule.nplurals)) first.whole
-    ∙ list_gives (entry_fault rule.nplurals) first.before e first.after reported (entry_passes rule.nplurals e reported fault) (λ k d below. none_found rule.nplurals _ (λ other h. first.none_before k d below (other, h))) in
-    ap (λ o. option_or o (option_or (in_entries entries rule) (at_counts rule (find is_plural entries)))) (no_rule_needed entries rule needs)
-    ∙ ap (λ o. option_or o (at_counts rule (find is_plural entries))) given
+    ap (λ o. option_or o (option_or (in_entries entries rule) (at_counts rule (find is_plural entries)))) (no_rule_needed entries rule needs (find is_plural entries) refl)
+    ∙ ap (λ o. option_or o (at_counts rule (find is_plural entries))) (first_gives (entry_fault rule.nplurals) (HasProfileFault rule.nplurals) (entry_exact rule.nplurals) entries e reported first fault)
 found_passes {entries} {rule} (at_count {e = e} {fault = fault} least plural source fine most none wrong) =
-    let nothing = none_list (entry_fault rule.nplurals) entries (λ k d below. none_found rule.nplurals _ (fine k d below)) in
-    ap (λ o. option_or o (option_or (in_entries entries rule) (at_counts rule (find is_plural entries)))) (no_rule_needed entries rule (inl source))
+    let nothing = ap (first_some (entry_fault rule.nplurals)) (sym (append-nil entries))
+    ∙ past_none (entry_fault rule.nplurals) (HasProfileFault rule.nplurals) (entry_exact rule.nplurals) entries [] (λ k d inside has. fine k d inside has.0 has.1) in
+    ap (λ o. option_or o (option_or (in_entries entries rule) (at_counts rule (find is_plural entries)))) (no_rule_needed entries rule (inl source) (find is_plural entries) refl)
     ∙ ap (λ o. option_or o (at_counts rule (find is_plural entries))) nothing
-    ∙ ap (at_counts rule) (first_plural entries e plural) ∙ counts_give (count_fault rule) 1001 least (0, fault) (omega (arith, most)) (count_at wrong) (λ n under. none_counted rule n (none n under))
+    ∙ ap (at_counts rule) (first_plural entries e plural) ∙ counts_give rule least fault (omega (arith, most)) none wrong
 
 pub first_found : (entries : List InputEntry) (rule : RuleView) (reported : Reported) → (first_fault entries rule ≡ Some reported) ↔ FirstFault entries rule reported
-first_found entries rule reported = (λ e. found_says entries rule reported e, λ h. found_passes h)
+first_found entries rule reported = (order_says entries rule reported rule.source (find is_plural entries) refl refl, λ h. found_passes h)

@@ -62,12 +62,12 @@ HasNoCountFault rule n = (fault : CheckFault) → CountFault rule n fault → �
 abbrev pub HasPlural : InputEntry → Type 0
 HasPlural e = e.entry.plural ≢ None
 
--- the first entry of which this holds
-pub record IsFirst (P : InputEntry → Type 0) (entries : List InputEntry) (e : InputEntry) : Type 0 where
-  pub before : List InputEntry
-  pub after : List InputEntry
-  pub whole : entries ≡ before ++ e ∷ after
-  pub holds : P e
+-- the first of a list of which this holds
+pub record IsFirst {X : Type 0} (P : X → Type 0) (list : List X) (x : X) : Type 0 where
+  pub before : List X
+  pub after : List X
+  pub whole : list ≡ before ++ x ∷ after
+  pub holds : P x
   pub none_before : All (λ o. P o → ⊥) before
 
 -- the header has a readable rule, or no entry has a plural

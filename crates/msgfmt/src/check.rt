@@ -1,5 +1,5 @@
 //! The check of `--profile-check`, of the messages that inputs or catalogues are compiled to.
-ghost use Rattle.std.specs.Prelude.{◌≡◌, ◌⊎◌, ◌^◌, ◌<◌, true, None, Some, length, MatchResult, IfOk, IfErr, OnOk};
+ghost use Rattle.std.specs.Prelude.{◌≡◌, ◌⊎◌, ◌^◌, ◌<◌, true, None, Some, length, MatchResult, IfErr, OnOk};
 ghost use Rattle.po_compile.specs.OfInputs.{OfAllInputs};
 ghost use Rattle.msgfmt.specs.Msgfmt as Spec;
 
@@ -8,17 +8,7 @@ use crate::profile::{CheckFault, check_messages};
 use po_compile::{Collected, collect_catalogues, compiled_messages};
 use po_entry::Catalogue;
 use po_unformat::laws::texts_come_back;
-use std::alloc::{AllocError, Global};
-
-/// The check's first fault, or none.
-fn first_fault(alloc: Global, inputs: &[Collected]) -> Result<Option<(u32, CheckFault)>, AllocError>
-    requires { length inputs.now < 2 ^ 32 }
-    ensures { IfOk result (λ fault. OfAllInputs inputs.now (λ use_fuzzy catalogues. Spec.AreChecked use_fuzzy catalogues fault)) }
-{
-    texts_come_back();
-    let messages = compiled_messages(alloc, inputs)?;
-    Ok(check_messages(&messages))
-}
+use std::alloc::Global;
 
 /// Checks the messages that inputs are compiled to, as `profile_check` does.
 fn check_inputs(alloc: Global, inputs: &[Collected]) -> Result<(), (u32, CheckFault)>
@@ -27,10 +17,13 @@ fn check_inputs(alloc: Global, inputs: &[Collected]) -> Result<(), (u32, CheckFa
     ensures unfit { IfErr result (λ reported. (reported ≡ (0, CheckFault.OutOfMemory))
         ⊎ OfAllInputs inputs.now (λ use_fuzzy catalogues. Spec.AreChecked use_fuzzy catalogues (Some reported))) }
 {
-    match first_fault(alloc, inputs) {
-        Ok(None) => Ok(()),
-        Ok(Some(reported)) => Err(reported),
-        Err(_) => Err((0, CheckFault::OutOfMemory)),
+    texts_come_back();
+    let Ok(messages) = compiled_messages(alloc, inputs) else {
+        return Err((0, CheckFault::OutOfMemory));
+    };
+    match check_messages(&messages) {
+        None => Ok(()),
+        Some(reported) => Err(reported),
     }
 }
 

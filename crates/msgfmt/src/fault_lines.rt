@@ -39,16 +39,6 @@ fn push_duplicate(out: &mut Vec<u8>, file: &str, line: u32) -> Result<(), AllocE
     Ok(())
 }
 
-/// Appends what is wrong, where a duplicate is of a message of another file.
-fn push_across_text(out: &mut Vec<u8>, file: &str, fault: PoFault) -> Result<(), AllocError>
-    ensures { OnOk result (out.new.items ≡ out.old.items ++ Spec.across_text file.now fault) }
-{
-    match fault {
-        PoFault::Duplicate(line) => push_duplicate(out, file, line),
-        fault => push_po_text(out, fault),
-    }
-}
-
 /// Appends why the inputs aren't compiled.
 fn push_join_text(
     out: &mut Vec<u8>,
@@ -57,11 +47,11 @@ fn push_join_text(
 ) -> Result<(), AllocError>
     ensures { OnOk result (out.new.items ≡ out.old.items ++ Spec.join_text (named_files inputs.now) error) }
 {
-    if error.first_input == error.input {
-        push_po_text(out, error.error.kind)
-    } else {
-        let file = input_name(inputs, error.first_input);
-        push_across_text(out, file, error.error.kind)
+    match error.error.kind {
+        PoFault::Duplicate(line) if error.first_input != error.input => {
+            push_duplicate(out, input_name(inputs, error.first_input), line)
+        }
+        fault => push_po_text(out, fault),
     }
 }
 
