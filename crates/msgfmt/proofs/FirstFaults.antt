@@ -15,7 +15,7 @@ use Rattle.std.proofs.lemmas.Option.{none-some}
 use Rattle.po_syntax.specs.Facts.Runs.{from_end}
 use Rattle.po_entry.specs.TextEntry.{TextEntry}
 use Rattle.po_messages.specs.Joined.{InputEntry}
-use Rattle.po_compile.proofs.InputLemmas.{split_at}
+use Rattle.po_compile.proofs.Filters.{split_at}
 use Rattle.plural_rule.specs.Expression.{value}
 use Rattle.plural_rule.specs.PluralRule.{RuleView}
 use Rattle.plural_rule.specs.declared.rule.Source.{Source}

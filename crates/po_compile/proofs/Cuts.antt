@@ -1,7 +1,7 @@
 -- What is collected of live entries, cut into messages.
 use Rattle.std.proofs.Common.{◌≡◌, refl, sym, ap, ap₂, ◌∙◌, subst, ℕ, suc, ◌+◌, ◌<◌, ◌≤◌, ◌==◌, Bool, true, false, ◌||◌, cond, List, [], ◌∷◌, ◌++◌, append_assoc, append-nil, length, length-append, length-take, length-drop, filter, get_or, take, drop, map, arith}
 use Rattle.std.specs.List.{list_any}
-use Rattle.std.proofs.Math.Seq.{take-append_seam}
+use Rattle.std.proofs.Math.Seq.{drop-append_seam, drop-length, take-append_seam}
 use Rattle.std.proofs.lemmas.List.{take-append-le, drop-append-le, map-append, take_all}
 use Rattle.std.proofs.lemmas.List.Elements.{filter_more, filter-append}
 use Rattle.mo_file.specs.Key.{query_key}
@@ -15,10 +15,6 @@ use Rattle.po_compile.specs.declared.collecting.Lengths.{Lengths}
 use Rattle.std.proofs.lemmas.Simd.{map-map}
 use Rattle.po_reader.specs.KeptComments.{without_comments}
 use Rattle.po_messages.specs.Facts.Mapped.{filter_map}
-
-drop_seam : (xs ys : List ℕ) → drop (length xs) (xs ++ ys) ≡ ys
-drop_seam [] ys = refl
-drop_seam (x ∷ xs) ys = drop_seam xs ys
 
 -- these lengths and bytes are those of the messages
 pub record IsCut (lengths : List Lengths) (bytes : List ℕ) (messages : List LiveMessage) : Type 0 where
@@ -35,7 +31,7 @@ module _ (use_fuzzy : Bool) (entry : TextEntry) where
       let key = query_key entry.context entry.id in
       let original = original_of entry in
       let translation = translation_of entry in
-      let after : drop (length original) (original ++ translation) ≡ translation = drop_seam original translation in
+      let after : drop (length original) (original ++ translation) ≡ translation = drop-append_seam original translation in
       let first : take (length original) (original ++ translation) ≡ original = take-append_seam original translation in
       let whole : take (length translation) translation ≡ translation = take_all (length translation) translation (omega arith) in
       let second = ap (take (length translation)) after ∙ whole in
@@ -44,7 +40,7 @@ module _ (use_fuzzy : Bool) (entry : TextEntry) where
         fit = (
           omega (arith, length-append key (plural_part entry.plural)),
           omega (arith, length-append original translation),
-          ap (drop (length translation)) after ∙ ap (drop (length translation)) (sym (append-nil translation)) ∙ drop_seam translation [],
+          ap (drop (length translation)) after ∙ drop-length translation,
         );
         cut_is = cc (first, its_key);
       }

@@ -1,5 +1,7 @@
 -- Filters, one after another, of lists that are mapped, and of lists that are permuted.
-use Rattle.std.proofs.Common.{◌≡◌, refl, sym, ap, ◌∙◌, Bool, true, false, ◌&&◌, cond, List, [], ◌∷◌, filter, subst, ℕ, zero, suc, ◌<◌, ◌++◌, append_assoc, length, get_or, set, arith, IsPermutation}
+use Rattle.std.proofs.Common.{◌≡◌, refl, sym, ap, ◌∙◌, Bool, true, false, ◌&&◌, cond, List, [], ◌∷◌, filter, subst, ℕ, zero, suc, ◌<◌, ◌++◌, append_assoc, length, get_or, set, take, drop, arith, IsPermutation}
+use Rattle.std.proofs.Math.Seq.{drop-cons}
+use Rattle.std.proofs.lemmas.List.{take-append-drop}
 use Rattle.std.proofs.lemmas.List.Elements.{filter_agree}
 use Rattle.po_messages.specs.Facts.Mapped.{filter_twice}
 use Rattle.std.specs.List.{swap}
@@ -9,6 +11,14 @@ use Rattle.std.proofs.lemmas.List.Sorted.{IsPermutation-refl, IsPermutation-tran
 within : (a b : Bool) → (a ≡ false → b ≡ false) → a && b ≡ b
 within true b only = refl
 within false b only = sym (only refl)
+
+-- a list around one of its elements
+pub split_at : {X : Type 0} (xs : List X) (i : ℕ) (d : X) → i < length xs → xs ≡ take i xs ++ get_or xs i d ∷ drop (suc i) xs
+split_at xs i d inside = sym (take-append-drop i xs) ∙ ap (λ l. take i xs ++ l) (drop-cons xs i d inside)
+
+pub first_of : {X : Type 0} (xs : List X) → 0 < length xs → X
+first_of [] some = absurd (omega arith)
+first_of (x ∷ xs) some = x
 
 module _ {X : Type 0} where
   -- what passes the second test passes the first
@@ -59,14 +69,10 @@ module _ {X : Type 0} (p : X → Bool) where
   swapped (x ∷ xs) (suc i) (suc j) d inside within =
       rw (filter_cons x xs, filter_cons x (set (set xs i (get_or xs j d)) j (get_or xs i d))) (IsPermutation-append_right (passed x) _ _ (swapped xs i j d (omega arith) (omega arith)))
 
-  first_of : (xs : List X) (i : ℕ) → i < length xs → X
-  first_of [] i inside = absurd (omega arith)
-  first_of (x ∷ xs) i inside = x
-
   pub IsPermutation-filter : (xs ys : List X) → IsPermutation xs ys → IsPermutation (filter p xs) (filter p ys)
   IsPermutation-filter xs ys permuted =
       IsPermutation-keeps xs (λ l. IsPermutation (filter p xs) (filter p l)) (IsPermutation-refl (filter p xs))
       (λ l i j inside within so_far.
-      let d = first_of l i inside in
+      let d = first_of l (omega (arith, inside)) in
       let moved : IsPermutation (filter p l) (filter p (swap l i j)) = subst (λ (m : List X). IsPermutation (filter p l) (filter p m)) (swap_is l i j d inside within) (swapped l i j d inside within) in
       IsPermutation-trans _ _ _ so_far moved) ys permuted

@@ -1,27 +1,31 @@
 -- The inputs that are collected, and why they are refused: the repeats of messages that are collected are
 -- the duplicates of the texts.
-use Rattle.std.proofs.Common.{◌≡◌, ◌⊎◌, sym, ap, ap₂, ◌∙◌, subst, inl, inr, ℕ, ◌<◌, zero, suc, Bool, List, [], ◌∷◌, ◌++◌, append_assoc, append-nil, length, length-take, get_or, get_or-take, take, drop, map, arith, All, AllPairs, ◌≢◌, refl, length-append}
+use Rattle.std.proofs.Common.{◌≡◌, ◌⊎◌, sym, ap, ap₂, ◌∙◌, subst, inl, inr, ℕ, ◌<◌, zero, suc, Bool, List, [], ◌∷◌, ◌++◌, append_assoc, append-nil, length, length-take, get_or, take, drop, map, arith, All, ◌≢◌, refl, length-append}
 use Rattle.std.specs.List.{AllZip}
-use Rattle.std.proofs.Math.ListN.{get_or-map as map_at}
-use Rattle.std.proofs.Math.Seq.{drop-cons}
-use Rattle.std.proofs.lemmas.List.{get_or-map, length-map, take-append-drop, take-map, map-append}
+use Rattle.std.proofs.lemmas.Bool.{cases_Bool}
+use Rattle.std.proofs.lemmas.Bool.Decides.{not_from_Decides}
+use Rattle.std.proofs.lemmas.Slice.Eq.{bytes_eq-Decides}
+use Rattle.std.specs.Str.{bytes_eq}
+use Rattle.mo_file.specs.Key.{query_key}
+use Rattle.std.proofs.lemmas.List.{get_or-map, length-map, take-map, map-append}
 use Rattle.std.proofs.lemmas.List.Elements.{All-filter, All-push}
-use Rattle.std.proofs.lemmas.Simd.{map-map}
 use Rattle.po_entry.specs.ReadsText.{ReadsText}
 use Rattle.po_entry.specs.TextEntry.{TextEntry}
 use Rattle.po_entry.specs.Validity.{IsCatalogueEntry, out_of_memory}
 use Rattle.po_messages.specs.Duplicate.{IsSameMessage, IsFirstDuplicate, duplicate_fault, join_out_of_memory, live_entries}
-use Rattle.po_messages.specs.Facts.FirstRepeats.{pairs_of_map}
+use Rattle.po_messages.specs.Facts.FirstRepeats.{all_of_both, none_or_first_repeat, none_repeats, one_repeat, pairs_map, repeat_by, repeat_map}
+use Rattle.po_messages.specs.Repeats.{IsFirstRepeat}
 use Rattle.po_messages.specs.Facts.Zips.{zip_get, zip_length, zip_more}
 use Rattle.po_messages.specs.Joined.{InputEntry, entries_of, in_input, is_live, joined, joined_entries}
 use Rattle.po_messages.specs.declared.duplicate.JoinError.{JoinError}
 use Rattle.po_messages.proofs.DuplicateLemmas.{entries_of_input}
 use Rattle.po_compile.specs.Accepted.{IsFaultOfInput, IsReadingFault, fault_input, AreRead, IsCompileFault, fault_of_only_input}
 use Rattle.po_compile.specs.Collected.{HoldCatalogues, LiveMessage, live_messages}
-use Rattle.po_compile.specs.Internal.Repeats.{EachApart, IsFirstRepeat, IsRepeat, IsRepeatFault, IsRepeatInInput, repeat_fault}
+use Rattle.po_compile.specs.Internal.Repeats.{EachApart, HaveOneKey, IsRepeat, IsRepeatFault, IsRepeatInInput, repeat_fault}
 use Rattle.po_compile.specs.Internal.Rows.{AllApart, InputMessage, all_messages, in_input_message, input_keys, input_message, AreSortedRows, compiled_of, row_view}
+use Rattle.po_compile.proofs.Filters.{split_at}
 use Rattle.po_compile.proofs.JoinedRows.{all_are, joined_valid, live_of, of_input}
-use Rattle.po_compile.proofs.KeysApart.{entries_differ, first_of, joined_distinct, key_of_entry, read_distinct, rising_apart, sorted_keys}
+use Rattle.po_compile.proofs.KeysApart.{joined_distinct, read_distinct, rising_apart, sorted_keys}
 use Rattle.po_compile.proofs.MeaningLemmas.{entry_lacks_separators}
 use Rattle.po_compile.proofs.SortedRows.{at_entry, are_messages}
 use Rattle.po_compile.proofs.TextLemmas.{query_key_is_one}
@@ -45,10 +49,6 @@ use Rattle.po_compile.specs.declared.row.Row.{Row}
 use Rattle.po_compile.proofs.FaultLemmas.{NoFirstDuplicate}
 use Rattle.po_compile.proofs.ReadingLemmas.{EntriesCanStand, distinct_of_one}
 
--- a list around one of its elements
-pub split_at : {X : Type 0} (xs : List X) (i : ℕ) (d : X) → i < length xs → xs ≡ take i xs ++ get_or xs i d ∷ drop (suc i) xs
-split_at xs i d inside = sym (take-append-drop i xs) ∙ ap (λ l. take i xs ++ l) (drop-cons xs i d inside)
-
 zip_take : {X Y : Type 0} (R : X → Y → Type 0) (n : ℕ) (xs : List X) (ys : List Y) → AllZip R xs ys → AllZip R (take n xs) (take n ys)
 zip_take R zero [] [] h = tt
 zip_take R (suc n) [] [] h = tt
@@ -57,41 +57,41 @@ zip_take R n (x ∷ xs) [] h = absurd h
 zip_take R zero (x ∷ xs) (y ∷ ys) h = tt
 zip_take R (suc n) (x ∷ xs) (y ∷ ys) h = (h.0, zip_take R n xs ys h.1)
 
+-- the first repeat in a list of what a function makes of elements is made of theirs
+repeat_of_map : {X Y : Type 0} (Alike : Y → Y → Type 0) → ((a b : Y) → Alike a b ⊎ (Alike a b → ⊥)) → ((x y z : Y) → Alike x z → Alike y z → Alike x y) → (f : X → Y) (xs : List X) (a b : Y) → IsFirstRepeat Alike (map f xs) a b
+    → (x y : X) × IsFirstRepeat (λ v w. Alike (f v) (f w)) xs x y × (f x ≡ a) × (f y ≡ b)
+repeat_of_map Alike decide alike f xs a b h = elim (none_or_first_repeat (λ v w. Alike (f v) (f w)) (λ v w. decide (f v) (f w)) xs) [
+  | inl differ ↦ absurd (none_repeats Alike (map f xs) a b (pairs_map (λ v w. ¬ Alike v w) f xs differ) h)
+  | inr found ↦
+      let same = one_repeat Alike alike (map f xs) (f found.0) (f found.1) a b (repeat_map Alike f xs found.0 found.1 found.2) h in
+      (found.0, found.1, found.2, same.0, same.1)
+]
+
+one_key : (a b : InputMessage) → HaveOneKey a b ⊎ (HaveOneKey a b → ⊥)
+one_key a b =
+    let test = bytes_eq a.message.key b.message.key in
+    let decides = bytes_eq-Decides a.message.key b.message.key in
+    elim (cases_Bool test) [ inl same ↦ inl (decides.0 same) | inr other ↦ inr (not_from_Decides test decides other) ]
+
 module _ (use_fuzzy : Bool) where
   -- the first repeat of the live entries' messages is their first duplicate
   repeat_is : (entries : List InputEntry) (error : JoinError) → All IsCatalogueEntry (entries_of entries) → IsRepeat (map (input_message use_fuzzy) (live_entries entries)) error
       → (first later : InputEntry) × IsFirstDuplicate entries first later × (error ≡ duplicate_fault first later)
   repeat_is entries error valid r =
       let live = live_entries entries in
-      let entry : InputEntry → TextEntry = λ e. e.entry in
-      let key : InputEntry → List ℕ = λ e. key_of_entry e.entry in
-      let keys : input_keys (map (input_message use_fuzzy) live) ≡ map key live = map-map (λ (m : InputMessage). m.message.key) (input_message use_fuzzy) live in
-      let repeat = subst (λ ks. IsFirstRepeat ks r.first r.later) keys r.repeat in
-      let inside : r.later < length live = omega (arith, repeat.within, length-map live key) in
-      let earlier : r.first < length live = omega (arith, inside, repeat.earlier) in
-      let d = first_of live (omega (arith, inside)) in
-      let prefix = take r.later live in
-      let first = get_or live r.first d in
-      let later = get_or live r.later d in
-      let first_is : get_or prefix r.first d ≡ first = get_or-take r.later live r.first d repeat.earlier in
-      let split : prefix ≡ take r.first prefix ++ first ∷ drop (suc r.first) prefix =
-      split_at prefix r.first d (omega (arith, repeat.earlier, inside, length-take r.later live)) ∙ ap (λ e. take r.first prefix ++ e ∷ drop (suc r.first) prefix) first_is in
+      let message : InputEntry → InputMessage = input_message use_fuzzy in
+      let Alike : InputEntry → InputEntry → Type 0 = λ a b. HaveOneKey (message a) (message b) in
+      let found = repeat_of_map HaveOneKey one_key (λ x y z a b. a ∙ sym b) message live r.0 r.1 r.2 in
       let live_valid : All IsCatalogueEntry (entries_of live) = subst (All IsCatalogueEntry) (live_of entries) (All-filter is_live IsCatalogueEntry (entries_of entries) valid) in
-      let one = entry_lacks_separators first.entry (at_entry IsCatalogueEntry live r.first d earlier live_valid).valid in
-      let other = entry_lacks_separators later.entry (at_entry IsCatalogueEntry live r.later d inside live_valid).valid in
-      let same : key_of_entry first.entry ≡ key_of_entry later.entry = sym (get_or-map key live r.first d [] earlier) ∙ repeat.same ∙ get_or-map key live r.later d [] inside in
-      let apart : AllApart (map key_of_entry (entries_of prefix)) = subst AllApart (take-map key r.later live ∙ sym (map-map key_of_entry entry prefix)) repeat.apart in (
-        first,
-        later,
-        record {
-          before = take r.first prefix;
-          between = drop (suc r.first) prefix;
-          after = drop (suc r.later) live;
-          order = split_at live r.later d inside ∙ ap (λ es. es ++ later ∷ drop (suc r.later) live) split;
-          same = query_key_is_one first.entry.context later.entry.context first.entry.id later.entry.id one.context_eot other.context_eot one.id_eot other.id_eot same;
-          differ = subst (λ (es : List InputEntry). AllPairs (λ a b. ¬ IsSameMessage a.entry b.entry) es) split (pairs_of_map (λ a b. ¬ IsSameMessage a b) entry prefix (entries_differ (entries_of prefix) apart));
-        },
-        r.error_is (input_message use_fuzzy d) ∙ ap₂ repeat_fault (map_at (input_message use_fuzzy) live r.first d) (map_at (input_message use_fuzzy) live r.later d),
+      let both = all_of_both Alike (λ e. IsCatalogueEntry e.entry) live found.0 found.1 (λ k d inside. at_entry IsCatalogueEntry live k d inside live_valid) found.2 in
+      let one = entry_lacks_separators found.0.entry both.0.valid in
+      let other = entry_lacks_separators found.1.entry both.1.valid in (
+        found.0,
+        found.1,
+        repeat_by Alike (λ a b. IsSameMessage a.entry b.entry) live found.0 found.1
+            (query_key_is_one found.0.entry.context found.1.entry.context found.0.entry.id found.1.entry.id one.context_eot other.context_eot one.id_eot other.id_eot)
+            (λ a b same. ap₂ query_key same.0 same.1) found.2,
+        r.3 ∙ ap₂ repeat_fault (sym found.3) (sym found.4),
       )
 
   module _ (texts more : List (List ℕ)) (catalogues : List (List TextEntry)) (inputs : List (List LiveMessage)) (read : AllZip ReadsText texts catalogues) (held : HoldCatalogues use_fuzzy catalogues inputs) (error : JoinError) where

@@ -29,7 +29,7 @@ use Rattle.po_messages.specs.Joined.{InputEntry, entries_of, is_live, joined, jo
 use Rattle.po_compile.specs.Collected.{LiveMessage, live_message, live_messages}
 use Rattle.po_compile.specs.Internal.Repeats.{EachApart}
 use Rattle.po_compile.specs.declared.row.Row.{Row}
-use Rattle.po_compile.proofs.Filters.{filter_all}
+use Rattle.po_compile.proofs.Filters.{filter_all, first_of}
 use Rattle.po_compile.proofs.JoinedRows.{all_are, live_of}
 
 -- keys that rise are different
@@ -42,10 +42,6 @@ not_above : (o : Ordering) → is_lt (ordering_reverse o) ≡ false → o ≢ Eq
 not_above Less h other = refl
 not_above Equal h other = absurd (other refl)
 not_above Greater h other = cc
-
-pub first_of : {X : Type 0} (xs : List X) → 0 < length xs → X
-first_of [] some = absurd (omega arith)
-first_of (x ∷ xs) some = x
 
 module _ {X : Type 0} (key : X → List ℕ) where
   -- the key of the first is below that of the second

@@ -1,10 +1,13 @@
 -- The messages of entries mean these entries: the one message under a key is found in whatever order the
 -- messages stand, and is taken apart again.
-use Rattle.std.proofs.Common.{◌≡◌, ◌≢◌, ℕ, ◌<◌, suc, Bool, true, false, cond, List, [], ◌∷◌, Option, None, Some, refl, sym, ap, ap₂, ◌∙◌, inl, inr, length, get_or, arith, All, Contains, find, map, IsPermutation, ◌==◌, ◌++◌, subst, IfSome, option_to_list, slice_get, append-nil}
+use Rattle.std.proofs.Common.{◌≡◌, ◌≢◌, ◌⊎◌, ℕ, ◌<◌, ◌≤◌, Bool, true, false, cond, List, [], ◌∷◌, Option, None, Some, refl, sym, ap, ap₂, ◌∙◌, inl, inr, length, get_or, arith, All, Contains, find, map, IsPermutation, ◌==◌, ◌++◌, subst, IfSome, option_to_list, slice_get, append-nil}
 use Rattle.std.specs.Str.{bytes_eq}
 use Rattle.std.proofs.lemmas.Bool.{cases_lt, and_parts, not-true, or_parts, false_from_ne_true}
 use Rattle.std.proofs.lemmas.List.{get_or_default, length-map}
 use Rattle.std.proofs.lemmas.List.Elements.{All-cons, All-nil, All-contains, All-head, All-tail, All-weaker}
+use Rattle.std.proofs.lemmas.List.Folds.{find_at}
+use Rattle.std.proofs.lemmas.List.Sums.{fails_before_first, passes_at_first}
+use Rattle.std.proofs.lemmas.Option.{get_or_from_slice_get, none-some, slice_get-get_or, slice_get_within}
 use Rattle.std.proofs.lemmas.List.Sorted.{All-permutation, Contains-permutation, IsPermutation-map, IsPermutation-sym}
 use Rattle.std.proofs.lemmas.Slice.Eq.{bytes_eq-Decides}
 use Rattle.mo_file.specs.Message.{Message}
@@ -12,7 +15,7 @@ use Rattle.mo_file.specs.Key.{AreRising, key_cmp, key_of, keys, query_key, is_nu
 use Rattle.mo_lookup.proofs.RisingLemmas.{less_is_other}
 use Rattle.po_compile.proofs.KeysApart.{below_from_rising, apart_permuted, rising_apart}
 use Rattle.std.specs.Bool.{Decides, one_answer}
-use Rattle.std.specs.List.{list_any, join_with_byte, slice_split}
+use Rattle.std.specs.List.{list_any, join_with_byte, position_or_len, slice_split}
 use Rattle.std.specs.Option.{option_map, option_map_or, option_eq, unwrap_or}
 use Rattle.std.proofs.lemmas.Bool.Decides.{Decides-eqb, Decides-and, Decides-like}
 use Rattle.mo_lookup.specs.Answer.{form_at, answer}
@@ -40,24 +43,19 @@ pub record IsFound {X : Type 0} (test : X → Bool) (xs : List X) (x : X) : Type
   pub among : Contains xs x
   pub passes : test x ≡ true
 
-found_step : {X : Type 0} (test : X → Bool) (x y : X) (xs : List X) (b : Bool) → test x ≡ b → cond b (Some x) (find test xs) ≡ Some y
-    → (find test xs ≡ Some y → IsFound test xs y) → IsFound test (x ∷ xs) y
-found_step test x y xs true e h later = let same : x ≡ y = cc in record { among = (0, omega arith, same); passes = ap test (sym same) ∙ e }
-found_step test x y xs false e h later =
-    let rest = later h in record { among = (suc rest.among.0, omega (arith, rest.among.1), rest.among.2); passes = rest.passes }
-
 pub find_found : {X : Type 0} (test : X → Bool) (xs : List X) (x : X) → find test xs ≡ Some x → IsFound test xs x
-find_found test [] x e = cc
-find_found test (y ∷ xs) x e = found_step test y x xs (test y) refl e (find_found test xs x)
-
-missed_step : {X : Type 0} (test : X → Bool) (x : X) (xs : List X) (b : Bool) → test x ≡ b → cond b (Some x) (find test xs) ≡ None
-    → (find test xs ≡ None → All (λ y. test y ≡ false) xs) → All (λ y. test y ≡ false) (x ∷ xs)
-missed_step test x xs true e h later = cc
-missed_step test x xs false e h later = All-cons (λ y. test y ≡ false) x xs e (later h)
+find_found test xs x e =
+    let place = position_or_len test xs in
+    let at = sym (find_at test xs) ∙ e in
+    let inside = slice_get_within xs place x at in
+    let is = get_or_from_slice_get xs place x x at in
+    record { among = (place, inside, is); passes = sym (ap test is) ∙ passes_at_first test xs x inside }
 
 pub find_missed : {X : Type 0} (test : X → Bool) (xs : List X) → find test xs ≡ None → All (λ y. test y ≡ false) xs
-find_missed test [] e = All-nil (λ y. test y ≡ false)
-find_missed test (x ∷ xs) e = missed_step test x xs (test x) refl e (find_missed test xs)
+find_missed test xs e k d inside = fails_before_first test xs k d (missed (cases_lt k (position_or_len test xs))) where
+  missed : (k < position_or_len test xs) ⊎ (position_or_len test xs ≤ k) → k < position_or_len test xs
+  missed (inl before) = before
+  missed (inr past) = absurd (none-some (get_or xs (position_or_len test xs) d) (sym e ∙ find_at test xs ∙ slice_get-get_or xs (position_or_len test xs) d (omega (arith, past, inside))))
 
 -- messages with rising keys that have one key are one
 pub one_message : (messages : List Message) → AreRising (keys messages) → (m n : Message) → Contains messages m → Contains messages n

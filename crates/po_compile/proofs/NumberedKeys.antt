@@ -1,15 +1,17 @@
 -- The first key that stands twice, by the numbers of keys.
-use Rattle.std.proofs.Common.{◌≡◌, ◌↔◌, inl, inr, refl, sym, ap, ◌∙◌, subst, ℕ, ◌+◌, ◌<◌, ◌≤◌, suc, Bool, true, false, cond, not, List, [], ◌∷◌, ◌++◌, length, length-append, length-take, filter, get_or, get_or-take, take, map, fold, arith, append-nil}
+use Rattle.std.proofs.Common.{◌≡◌, ◌↔◌, inl, inr, refl, sym, ap, ap₂, ◌∙◌, ◌≢◌, AllPairs, drop, subst, ℕ, ◌+◌, ◌<◌, ◌≤◌, suc, Bool, true, false, cond, not, List, [], ◌∷◌, ◌++◌, length, length-append, length-take, filter, get_or, get_or-take, take, map, fold, arith, append-nil}
 use Rattle.std.specs.List.{list_any, position_or_len}
-use Rattle.std.proofs.lemmas.List.{get_or_default, get_or-map, length-map}
+use Rattle.std.proofs.lemmas.List.{get_or_default, get_or-map, length-map, take-map}
 use Rattle.std.proofs.lemmas.Bool.{cases_lt}
 use Rattle.std.proofs.lemmas.Simd.{map-map}
 use Rattle.po_messages.specs.FirstOnes.{first_ones, group_numbers, with_new}
 use Rattle.po_messages.specs.Message.{Message, same_message}
 use Rattle.po_compile.specs.Collected.{LiveMessage}
-use Rattle.po_compile.specs.Internal.Repeats.{IsFirstRepeat, key_message}
+use Rattle.po_compile.specs.Internal.Repeats.{HaveOneKey, key_message}
+use Rattle.po_messages.specs.Repeats.{IsFirstRepeat}
+use Rattle.po_messages.specs.Facts.FirstRepeats.{pairs_of_map}
 use Rattle.po_compile.specs.Internal.Rows.{AllApart, InputMessage, all_messages, in_input_message, input_keys, is_joined, message_keys}
-use Rattle.po_compile.proofs.Filters.{filter_all}
+use Rattle.po_compile.proofs.Filters.{filter_all, split_at}
 
 abbrev pub OneNumber : Type 0
 OneNumber = (messages : List Message) (i j : ℕ) (d : Message) → i < length messages → j < length messages
@@ -33,7 +35,10 @@ firsts_within alike firsts (x ∷ xs) = let more = firsts_within alike (with_new
   one true = omega arith
   one false = omega (arith, length-append firsts (x ∷ []))
 
-module _ (alike : OneNumber) (in_order : NumberedInOrder) (keys : List (List ℕ)) (numbers : List ℕ) (are : numbers ≡ group_numbers same_message (map key_message keys)) where
+module _ (alike : OneNumber) (in_order : NumberedInOrder) (messages : List InputMessage) (numbers : List ℕ) (are : numbers ≡ group_numbers same_message (map key_message (input_keys messages))) where
+  abbrev keys : List (List ℕ)
+  keys = input_keys messages
+
   message_at : (i : ℕ) → i < length keys → get_or (map key_message keys) i (key_message []) ≡ key_message (get_or keys i [])
   message_at i inside = get_or-map key_message keys i [] (key_message []) inside
 
@@ -77,13 +82,24 @@ module _ (alike : OneNumber) (in_order : NumberedInOrder) (keys : List (List ℕ
         | inr past ↦ let here : i ≡ n = omega (arith, past, before) in ap (λ k. get_or numbers k 0) here ∙ (let most = number_within n inside in let same : get_or numbers n 0 ≡ n = omega (arith, least, most) in same) ∙ sym here
       ]
 
-  pub repeat_found : (n : ℕ) → n < length keys → get_or numbers n 0 < n → AreOwn n → IsFirstRepeat keys (get_or numbers n 0) n
-  repeat_found n inside below own = record {
-    earlier = below;
-    within = inside;
-    same = (same_numbers (get_or numbers n 0) n (omega (arith, below, inside)) inside).0 (own (get_or numbers n 0) below);
-    apart = own_apart n (omega (arith, inside)) own;
-  }
+  pub repeat_found : (n : ℕ) → n < length keys → get_or numbers n 0 < n → AreOwn n → (first later : InputMessage) → first ≡ get_or messages (get_or numbers n 0) first → later ≡ get_or messages n later
+      → IsFirstRepeat HaveOneKey messages first later
+  repeat_found n inside below own first later first_is later_is =
+      let k = get_or numbers n 0 in
+      let key : InputMessage → List ℕ = λ m. m.message.key in
+      let prefix = take n messages in
+      let within : n < length messages = omega (arith, inside, length-map messages key) in
+      let split : prefix ≡ take k prefix ++ first ∷ drop (suc k) prefix =
+      split_at prefix k first (omega (arith, below, within, length-take n messages)) ∙ ap (λ m. take k prefix ++ m ∷ drop (suc k) prefix) (get_or-take n messages k first below ∙ sym first_is) in
+      let same = (same_numbers k n (omega (arith, below, inside)) inside).0 (own k below) in
+      record {
+        before = take k prefix;
+        between = drop (suc k) prefix;
+        after = drop (suc n) messages;
+        order = split_at messages n later within ∙ ap₂ (λ ms m. ms ++ m ∷ drop (suc n) messages) split (sym later_is);
+        same = ap key first_is ∙ sym (get_or-map key messages k first [] (omega (arith, below, within))) ∙ same ∙ get_or-map key messages n later [] within ∙ ap key (sym later_is);
+        differ = subst (AllPairs (λ a b. ¬ HaveOneKey a b)) split (pairs_of_map (λ a b. a ≢ b) key prefix (subst AllApart (take-map key n messages) (own_apart n (omega (arith, inside)) own)));
+      }
 
 -- one input alone
 pub only_messages : (messages : List LiveMessage) → all_messages (messages ∷ []) ≡ map (in_input_message 0) messages

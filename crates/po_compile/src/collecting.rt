@@ -6,7 +6,6 @@ ghost use Rattle.mo_file.specs.Key.{query_key};
 ghost use Rattle.po_entry.specs.ReadsText.{ReadsText};
 ghost use Rattle.po_entry.specs.TextEntry.{TextEntry, texts};
 ghost use Rattle.po_reader.specs.Internal.Keeping.{IsTextError};
-ghost use Rattle.po_compile.specs.CompiledList.{is_compiled};
 ghost use Rattle.po_compile.specs.CompiledMessages.{plural_part, translation_of};
 ghost use Rattle.po_compile.specs.Collected.{live_messages, status_of};
 ghost use Rattle.po_compile.specs.Internal.Cutting.{message_bytes, lengths_of};
@@ -68,16 +67,6 @@ impl Model for Collected {
 }
 
 impl Collected {
-    /// No messages.
-    pub(crate) fn new(alloc: Global) -> Collected
-        ensures { result ≡ [] }
-    {
-        Collected {
-            bytes: Vec::new(alloc),
-            lengths: Vec::new(alloc),
-        }
-    }
-
     /// Whether one of the entries is a header.
     pub(crate) fn has_header(&self) -> bool
         ensures { result ≡ list_any has_no_key self.now }
@@ -173,28 +162,22 @@ fn add_message(bytes: &mut Vec<u8>, entry: &Entry, use_fuzzy: bool) -> Result<Le
     })
 }
 
-/// Whether an entry is compiled, and what the statistics count it as.
+/// Whether an entry is compiled, and what the statistics count it as. It is compiled where it is live
+/// and translated, and not fuzzy, unless fuzzy entries are compiled too. A header's flag `fuzzy` is
+/// ignored.
 fn status_of(entry: &Entry, use_fuzzy: bool) -> Status
     ensures { result ≡ status_of use_fuzzy entry.now }
 {
     let is_counted = !entry.obsolete() && !entry.is_header();
     let has_translation = has_translation(entry);
     Status {
-        compiled: is_compiled(entry, use_fuzzy),
+        compiled: !entry.obsolete()
+            && has_translation
+            && (use_fuzzy || !entry.fuzzy() || entry.is_header()),
         translated: is_counted && has_translation && !entry.fuzzy(),
         fuzzy: is_counted && has_translation && entry.fuzzy(),
         untranslated: is_counted && !has_translation,
     }
-}
-
-/// Whether an entry of a joined list is compiled: it is live and translated, and not fuzzy, unless
-/// fuzzy entries are compiled too. A header's flag `fuzzy` is ignored.
-fn is_compiled(entry: &Entry, use_fuzzy: bool) -> bool
-    ensures { result ≡ is_compiled use_fuzzy entry.now }
-{
-    !entry.obsolete()
-        && has_translation(entry)
-        && (use_fuzzy || !entry.fuzzy() || entry.is_header())
 }
 
 /// Adds the live ones of further entries.

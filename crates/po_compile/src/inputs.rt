@@ -49,7 +49,11 @@ pub fn collect_catalogues(
 {
     let mut inputs = Vec::with_capacity(alloc, catalogues.len())?;
     for catalogue in catalogues {
-        inputs.push(with_entries(Collected::new(alloc), catalogue.entries(), use_fuzzy)?)?;
+        let none = Collected {
+            bytes: Vec::new(alloc),
+            lengths: Vec::new(alloc),
+        };
+        inputs.push(with_entries(none, catalogue.entries(), use_fuzzy)?)?;
     }
     Ok(inputs)
 }

@@ -4,7 +4,7 @@ ghost use Rattle.std.specs.Prelude.{◌≡◌, ◌⊎◌, ◌<◌, ◌^◌, IfEr
 ghost use Rattle.po_messages.specs.Duplicate.{join_out_of_memory};
 ghost use Rattle.po_messages.specs.MessageView.{messages_of_keys};
 ghost use Rattle.po_compile.specs.Accepted.{fault_of_input};
-ghost use Rattle.po_compile.specs.Internal.Repeats.{EachApart, IsFirstRepeat, IsRepeat, IsRepeatInInput, key_message, repeat_fault};
+ghost use Rattle.po_compile.specs.Internal.Repeats.{EachApart, IsRepeat, IsRepeatInInput, key_message, repeat_fault};
 ghost use Rattle.po_compile.specs.Internal.Rows.{AllApart, all_messages, input_keys, row_view};
 
 use crate::collecting::Collected;
@@ -30,11 +30,11 @@ fn keys_of<'b>(alloc: Global, rows: &[Row<'b>]) -> Result<Vec<MessageKey<'b>>, A
     Ok(keys)
 }
 
-/// The first row that has the key of an earlier one: the indexes of both. Keys are numbered in the
-/// order in which they first appear, so it is the first whose number isn't its index.
-fn first_repeat(alloc: Global, rows: &[Row<'_>]) -> Result<Option<(usize, usize)>, AllocError>
+/// The fault of the first row that has the key of an earlier one. Keys are numbered in the order in
+/// which they first appear, so it is the first whose number isn't its index.
+fn first_repeat(alloc: Global, rows: &[Row<'_>]) -> Result<Option<JoinError>, AllocError>
     ensures { IfOk result (λ found. MatchOption found (AllApart (input_keys (map row_view rows.now)))
-        (λ at. IsFirstRepeat (input_keys (map row_view rows.now)) at.0 at.1)) }
+        (IsRepeat (map row_view rows.now))) }
 {
     messages_are_numbered_in_order();
     one_number_is_one_message();
@@ -42,7 +42,7 @@ fn first_repeat(alloc: Global, rows: &[Row<'_>]) -> Result<Option<(usize, usize)
     let (numbers, _) = grouped(alloc, &keys)?;
     for (later, first) in numbers.iter().enumerate() {
         if *first < later {
-            return Ok(Some((*first, later)));
+            return Ok(Some(row_fault(&rows[*first], &rows[later])));
         }
     }
     Ok(None)
@@ -71,7 +71,7 @@ pub(crate) fn check_joined(alloc: Global, inputs: &[Collected]) -> Result<(), Jo
 {
     let rows = joined_rows(alloc, inputs)?;
     match first_repeat(alloc, &rows)? {
-        Some((first, later)) => Err(row_fault(&rows[first], &rows[later])),
+        Some(error) => Err(error),
         None => Ok(()),
     }
 }

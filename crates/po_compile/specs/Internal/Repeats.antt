@@ -2,23 +2,21 @@
 use Rattle.std.specs.Prelude.{◌≡◌, ◌⊎◌, ◌<◌, ℕ, List, [], All, map, length, take, get_or, None}
 use Rattle.po_messages.specs.Duplicate.{join_out_of_memory}
 use Rattle.po_messages.specs.Message.{Message}
+use Rattle.po_messages.specs.Repeats.{IsFirstRepeat}
 use Rattle.po_messages.specs.declared.duplicate.JoinError.{JoinError}
 use Rattle.po_syntax.specs.declared.fault.PoFault.TheVariants.{Duplicate}
 use Rattle.po_compile.specs.Accepted.{fault_of_input}
 use Rattle.po_compile.specs.Collected.{LiveMessage}
-use Rattle.po_compile.specs.Internal.Rows.{AllApart, InputMessage, all_messages, in_input_message, input_keys}
+use Rattle.po_compile.specs.Internal.Rows.{AllApart, InputMessage, all_messages, in_input_message}
 use Rattle.po_compile.specs.Internal.Rows.{message_keys}
 
 -- a key as that of a message without a context
 abbrev pub key_message : List ℕ → Message
 key_message key = record { context = None; id = key }
 
--- the key at `later` is the earliest that stands before it too, at `first`
-pub record IsFirstRepeat (keys : List (List ℕ)) (first later : ℕ) : Type 0 where
-  pub earlier : first < later
-  pub within : later < length keys
-  pub same : get_or keys first [] ≡ get_or keys later []
-  pub apart : AllApart (take later keys)
+-- two messages have one key
+abbrev pub HaveOneKey : InputMessage → InputMessage → Type 0
+HaveOneKey a b = a.message.key ≡ b.message.key
 
 -- what is reported of a message that repeats an earlier one
 abbrev pub repeat_fault : InputMessage → InputMessage → JoinError
@@ -31,11 +29,9 @@ repeat_fault first later =
     }
 
 -- the error is that of the first message that repeats an earlier one
-pub record IsRepeat (messages : List InputMessage) (error : JoinError) : Type 0 where
-  pub first : ℕ
-  pub later : ℕ
-  pub repeat : IsFirstRepeat (input_keys messages) first later
-  pub error_is : (d : InputMessage) → error ≡ repeat_fault (get_or messages first d) (get_or messages later d)
+abbrev pub IsRepeat : List InputMessage → JoinError → Type 0
+IsRepeat messages error =
+    (first later : InputMessage) × IsFirstRepeat HaveOneKey messages first later × (error ≡ repeat_fault first later)
 
 -- no message repeats another of its input
 abbrev pub EachApart : List (List LiveMessage) → Type 0

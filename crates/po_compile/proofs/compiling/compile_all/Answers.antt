@@ -1,6 +1,7 @@
-use Rattle.std.proofs.Common.{ap, sym, subst, ℕ, List, length, arith, Result, Ok, Err, IfOk, IfErr, MatchResult}
+use Rattle.std.proofs.Common.{ap, sym, subst, ℕ, List, length, arith}
 use Rattle.std.specs.Borrow.{Bor}
 use Rattle.std.proofs.lemmas.List.{length-map}
+use Rattle.std.proofs.lemmas.Result.{MatchResult-from_both}
 use Rattle.po_entry.specs.TextEntry.{slice_texts}
 use Rattle.po_reader.proofs.Results.{ok_both, ok_step, err_step}
 use Rattle.po_compile.specs.Accepted.{AreCompiled, IsCompileFault}
@@ -19,16 +20,12 @@ compile_collected-requires-clause-read c =
     let texts = slice_texts c.args.texts.now in
     (texts, subst (AreCollected c.args.options.use_fuzzy texts) (sym c.deref.ensures.value) c.in-Ok.ensures.found)
 
-both : {T E : Type 0} (P : T → Type 0) (Q : E → Type 0) (r : Result T E) → IfOk r P → IfErr r Q → MatchResult r P Q
-both P Q (Ok x) p q = p
-both P Q (Err e) p q = q
-
 pub returns-in-Ok-clause-exact : goal.returns-in-Ok-clause-exact
 returns-in-Ok-clause-exact c =
     let texts = slice_texts c.args.texts.now in
     let options = c.args.options in
     let of = subst (AreCollected options.use_fuzzy texts) (sym c.deref.ensures.value) c.in-Ok.ensures.found in
-    both (AreCompiled options texts) (IsCompileFault options texts) c.compile_collected.result
+    MatchResult-from_both c.compile_collected.result (AreCompiled options texts) (IsCompileFault options texts)
     (ok_step c.compile_collected.result (λ compiled found. let h = found texts of in record { catalogues = of.catalogues; read = h.0; is_compiled = h.1 }) c.compile_collected.ensures.found)
     (err_step c.compile_collected.result (λ error fault. fault texts of) c.compile_collected.ensures.fault)
 

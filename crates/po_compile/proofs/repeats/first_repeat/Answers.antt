@@ -1,4 +1,5 @@
-use Rattle.std.proofs.Common.{ap, subst, ◌∙◌, arith, map}
+use Rattle.std.proofs.Common.{ap, sym, subst, ◌∙◌, arith, map}
+use Rattle.std.proofs.Math.ListN.{get_or-map}
 use Rattle.std.proofs.lemmas.List.{take_all}
 use Rattle.po_messages.specs.FirstOnes.{group_numbers}
 use Rattle.po_messages.specs.Message.{same_message}
@@ -9,29 +10,36 @@ use Rattle.po_compile.proofs.repeats.first_repeat.Goals as goal
 
 pub returns-then-first-later : goal.returns-then-first-later
 returns-then-first-later c =
-    let keys = input_keys (map row_view c.args.rows.now) in
+    let messages = map row_view c.args.rows.now in
     let numbers = c.deref-first-items.result.now in
     let alike = c.one_number_is_one_message.ensures in
     let in_order = c.messages_are_numbered_in_order.ensures in
     let are = c.deref-first-items.ensures.value ∙ c.in_ok-numbers.ensures.numbers ∙ ap (group_numbers same_message) (ap messages_of_keys c.deref.ensures.value ∙ c.in_ok-keys.ensures) in
-    repeat_found alike in_order keys numbers are c.loop-later.later (omega (arith, c.loop-later-test.true, numbers_long alike in_order keys numbers are)) c.if-first-later.true c.loop-later.invariant
+    let first = c.index-rows-first.result in
+    let later = c.index-rows-later.result in (
+      row_view first,
+      row_view later,
+      repeat_found alike in_order messages numbers are c.loop-later.later (omega (arith, c.loop-later-test.true, numbers_long alike in_order messages numbers are)) c.if-first-later.true c.loop-later.invariant
+          (row_view first) (row_view later) (ap row_view c.index-rows-first.is ∙ sym (get_or-map row_view c.args.rows.now _ first)) (ap row_view c.index-rows-later.is ∙ sym (get_or-map row_view c.args.rows.now _ later)),
+      c.row_fault.ensures,
+    )
 
 pub loop-later-preserved : goal.loop-later-preserved
 loop-later-preserved c =
-    let keys = input_keys (map row_view c.args.rows.now) in
+    let messages = map row_view c.args.rows.now in
     let numbers = c.deref-first-items.result.now in
     let alike = c.one_number_is_one_message.ensures in
     let in_order = c.messages_are_numbered_in_order.ensures in
     let are = c.deref-first-items.ensures.value ∙ c.in_ok-numbers.ensures.numbers ∙ ap (group_numbers same_message) (ap messages_of_keys c.deref.ensures.value ∙ c.in_ok-keys.ensures) in
-    own_more alike in_order keys numbers are c.loop-later.later (omega (arith, c.loop-later-test.true, numbers_long alike in_order keys numbers are)) c.if-first-later.false c.loop-later.invariant
+    own_more alike in_order messages numbers are c.loop-later.later (omega (arith, c.loop-later-test.true, numbers_long alike in_order messages numbers are)) c.if-first-later.false c.loop-later.invariant
 
 pub returns : goal.returns
 returns c =
-    let keys = input_keys (map row_view c.args.rows.now) in
+    let messages = map row_view c.args.rows.now in
     let numbers = c.deref-first-items.result.now in
     let alike = c.one_number_is_one_message.ensures in
     let in_order = c.messages_are_numbered_in_order.ensures in
     let are = c.deref-first-items.ensures.value ∙ c.in_ok-numbers.ensures.numbers ∙ ap (group_numbers same_message) (ap messages_of_keys c.deref.ensures.value ∙ c.in_ok-keys.ensures) in
-    let many = numbers_long alike in_order keys numbers are in
+    let many = numbers_long alike in_order messages numbers are in
     let later = c.loop-later.later in
-    subst AllApart (take_all later keys (omega (arith, many, c.loop-later-test.false))) (own_apart alike in_order keys numbers are later (omega (arith, many, c.loop-later.auto.later-end)) c.loop-later.invariant)
+    subst AllApart (take_all later (input_keys messages) (omega (arith, many, c.loop-later-test.false))) (own_apart alike in_order messages numbers are later (omega (arith, many, c.loop-later.auto.later-end)) c.loop-later.invariant)
