@@ -5,13 +5,11 @@ use Rattle.std.specs.Borrow.{Bor}
 use Rattle.std.proofs.Math.Seq.{take-append_seam}
 use Rattle.std.proofs.lemmas.Bool.{false_from_ne_true}
 use Rattle.std.proofs.lemmas.Bool.Decides.{Decides-eqb}
-use Rattle.std.proofs.lemmas.List.{drop_at, drop_more, map_push, get_or-take, get_or_append_left, get_or_at, length-take-le, take-append-drop, take_all}
-use Rattle.std.proofs.lemmas.List.Elements.{All-from_get_or, All-weaker}
+use Rattle.std.proofs.lemmas.List.{drop_at, map_push, get_or_append_left, get_or_at, take_all}
+use Rattle.std.proofs.lemmas.List.Elements.{All-weaker}
 use Rattle.std.proofs.lemmas.List.Folds.{list_any_at, list_any_none}
 use Rattle.std.proofs.lemmas.List.Splits.{slice_split_none, slice_split_at}
 use Rattle.std.proofs.lemmas.List.Sums.{position_or_len_is}
-use Rattle.memchr.specs.Find.{NoneBefore, Nowhere, Passes, is_byte}
-use Rattle.mo_file.specs.Key.{key_of}
 use Rattle.mo_lookup.specs.CatalogView.{forms}
 use Rattle.po_entry.specs.Bytes.{Lacks}
 use Rattle.po_entry.specs.TextEntry.{slice_texts}
@@ -67,21 +65,6 @@ module _ (byte : ℕ) where
     pub split_none : slice_split is text ≡ text ∷ []
     split_none = slice_split_none is text (no_such text lacks)
 
-  -- the first such byte, as it is searched for
-  module _ (text : List ℕ) where
-    pub cut_at : (n : ℕ) → NoneBefore (Passes (is_byte byte) text) 0 (length text) n → Passes (is_byte byte) text n
-        → (text ≡ take n text ++ byte ∷ drop (n + 1) text) × Lacks byte (take n text)
-    cut_at n none here = (
-      sym (take-append-drop n text) ∙ ap (λ l. take n text ++ l) (drop_more text n 0 none.high ∙ ap (λ b. b ∷ drop (n + 1) text) ((Decides-eqb (get_or text n 0) byte).0 here)),
-      All-from_get_or (λ b. b ≢ byte) (take n text) 0 (λ i below same.
-          let long = length-take-le n text (omega (arith, none.high)) in
-          let lt : i < n = omega (arith, below, long) in
-          none.before i (omega arith) lt ((Decides-eqb (get_or text i 0) byte).1 (sym (get_or-take n text i 0 lt) ∙ same))),
-    )
-
-    pub lacks_all : Nowhere (Passes (is_byte byte) text) 0 (length text) → Lacks byte text
-    lacks_all none = All-from_get_or (λ b. b ≢ byte) text 0 (λ i below same. none i (omega arith) below ((Decides-eqb (get_or text i 0) byte).1 same))
-
 module _ (context id : List ℕ) (lacks : Lacks 4 context) where
   pub context_cut : context_of (context ++ 4 ∷ id) ≡ Some context
   context_cut =
@@ -105,30 +88,18 @@ first_of [] piece e = cc
 first_of (p ∷ pieces) piece e = ap (λ l. slice_get l 0) e
 
 module _ (key rest : List ℕ) (lacks : Lacks 0 key) where
-  pub key_cut : key_of (key ++ 0 ∷ rest) ≡ key
-  key_cut = before_is 0 key rest lacks
-
-  pub forms_cut : forms (key ++ 0 ∷ rest) ≡ key ∷ forms rest
-  forms_cut = split_cut 0 key rest lacks
-
   pub plural_cut : (plural : List ℕ) → take 1 (forms rest) ≡ plural ∷ [] → plural_of (key ++ 0 ∷ rest) ≡ Some plural
-  plural_cut plural first = ap (λ l. slice_get l 1) forms_cut ∙ first_of (forms rest) plural first
+  plural_cut plural first = ap (λ l. slice_get l 1) (split_cut 0 key rest lacks) ∙ first_of (forms rest) plural first
 
   pub first_cut : take 1 (forms (key ++ 0 ∷ rest)) ≡ key ∷ []
-  first_cut = ap (take 1) forms_cut
+  first_cut = ap (take 1) (split_cut 0 key rest lacks)
 
 module _ (text : List ℕ) (lacks : Lacks 0 text) where
-  pub key_all : key_of text ≡ text
-  key_all = before_all 0 text lacks
-
-  pub forms_one : forms text ≡ text ∷ []
-  forms_one = split_none 0 text lacks
-
   pub plural_none : plural_of text ≡ None
-  plural_none = ap (λ l. slice_get l 1) forms_one
+  plural_none = ap (λ l. slice_get l 1) (split_none 0 text lacks)
 
   pub first_all : take 1 (forms text) ≡ text ∷ []
-  first_all = ap (take 1) forms_one
+  first_all = ap (take 1) (split_none 0 text lacks)
 
 module _ (done : List (Bor (List ℕ))) (piece : Bor (List ℕ)) (all : List (List ℕ)) where
   pushed : slice_texts (done ++ piece ∷ []) ≡ slice_texts done ++ piece.now ∷ []
@@ -139,11 +110,11 @@ module _ (done : List (Bor (List ℕ))) (piece : Bor (List ℕ)) (all : List (Li
       → slice_texts (done ++ piece ∷ []) ++ forms next ≡ all
   more_pieces rest next is lacks so_far =
       ap (λ l. l ++ forms next) pushed ∙ append_assoc (slice_texts done) (piece.now ∷ []) (forms next)
-      ∙ ap (λ l. slice_texts done ++ l) (sym (ap forms is ∙ forms_cut piece.now next lacks)) ∙ so_far
+      ∙ ap (λ l. slice_texts done ++ l) (sym (ap forms is ∙ split_cut 0 piece.now next lacks)) ∙ so_far
 
   -- the rest is the last piece
   pub last_piece : Lacks 0 piece.now → slice_texts done ++ forms piece.now ≡ all → slice_texts (done ++ piece ∷ []) ≡ all
-  last_piece lacks so_far = pushed ∙ ap (λ l. slice_texts done ++ l) (sym (forms_one piece.now lacks)) ∙ so_far
+  last_piece lacks so_far = pushed ∙ ap (λ l. slice_texts done ++ l) (sym (split_none 0 piece.now lacks)) ∙ so_far
 
 -- what is before the first NUL of a translation, and what is after it
 abbrev IsCut : List ℕ → Option (Bor (List ℕ) × Bor (List ℕ)) → Type 0
@@ -151,8 +122,8 @@ IsCut text result = MatchOption result (Lacks 0 text) (λ parts. (text ≡ parts
 
 pub form_split : (text : List ℕ) (result : Option (Bor (List ℕ) × Bor (List ℕ))) → IsCut text result
     → MatchOption result (forms text ≡ text ∷ []) (λ parts. forms text ≡ parts.0.now ∷ forms parts.1.now)
-form_split text None lacks = forms_one text lacks
-form_split text (Some parts) is = ap forms is.0 ∙ forms_cut parts.0.now parts.1.now is.1
+form_split text None lacks = split_none 0 text lacks
+form_split text (Some parts) is = ap forms is.0 ∙ split_cut 0 parts.0.now parts.1.now is.1
 
 pub rest_shorter : (text : List ℕ) (result : Option (Bor (List ℕ) × Bor (List ℕ))) → IsCut text result → IfSome result (λ parts. length parts.1.now < length text)
 rest_shorter text None lacks = tt

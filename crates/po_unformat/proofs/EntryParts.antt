@@ -10,7 +10,7 @@ use Rattle.mo_lookup.specs.CatalogView.{forms}
 use Rattle.po_entry.specs.Bytes.{Lacks}
 use Rattle.po_unformat.specs.MessageParts.{ContainsMsgid, msgid_alone, after_context, IsAfterPart, at_end, at_nul, ContainsKey, key_alone, before_plural, ContainsForms, first_part, each_part, IsEntryOf}
 use Rattle.po_unformat.specs.Unformatted.{context_of, id_of, plural_of, taken_forms, unformatted}
-use Rattle.po_unformat.proofs.CutLemmas.{context_cut, context_none, id_all, id_cut, first_all, first_cut, key_all, key_cut, plural_cut, plural_none}
+use Rattle.po_unformat.proofs.CutLemmas.{before_all, before_is, context_cut, context_none, id_all, id_cut, first_all, first_cut, plural_cut, plural_none}
 
 -- a text has a first such byte, or none
 data Cut (byte : ℕ) : List ℕ → Type 0 where
@@ -64,10 +64,10 @@ first_part_of text (at before after lacks) = record {
 
 -- the key of an original, and the plural
 key_is : (original : List ℕ) → Cut 0 original → ContainsKey original (key_of original) (plural_of original)
-key_is original (nowhere lacks) = rw (key_all original lacks, plural_none original lacks) (key_alone lacks)
+key_is original (nowhere lacks) = rw (before_all 0 original lacks, plural_none original lacks) (key_alone lacks)
 key_is original (at before after lacks) =
     let first = first_part_of after (cut 0 after) in
-    rw (key_cut before after lacks, plural_cut before after lacks first.part first.taken)
+    rw (before_is 0 before after lacks, plural_cut before after lacks first.part first.taken)
     (subst (λ (t : List ℕ). ContainsKey (before ++ 0 ∷ t) before (Some first.part)) (sym first.is) (before_plural first.after lacks first.lacks first.ends))
 
 -- a text has a first part, and no part contains a NUL

@@ -1,17 +1,17 @@
 -- The entries of messages, one after another, and what is wrong with one.
-use Rattle.std.proofs.Common.{◌≡◌, ◌⊎◌, ℕ, ◌+◌, ◌<◌, Bool, true, false, List, [], ◌∷◌, ◌++◌, ◌&&◌, ◌↔◌, zero, suc, Some, refl, sym, ap, ◌∙◌, subst, length, get_or, take, slice_get, arith, All, inl, inr}
+use Rattle.std.proofs.Common.{◌≡◌, ◌⊎◌, ℕ, ◌+◌, ◌<◌, Bool, true, false, List, [], ◌∷◌, ◌++◌, ◌&&◌, ◌↔◌, zero, suc, Option, None, Some, IfSome, refl, sym, ap, ◌∙◌, subst, length, get_or, take, slice_get, arith, All, inl, inr}
 use Rattle.std.proofs.lemmas.List.{length-map, take_more, take_all}
-use Rattle.std.proofs.lemmas.List.Elements.{All-more, All-map, All-take, All-weaker}
+use Rattle.std.proofs.lemmas.List.Elements.{All-nil, All-more, All-map, All-take, All-weaker}
 use Rattle.std.proofs.lemmas.Option.{get_or_from_slice_get, slice_get_within}
 use Rattle.std.specs.Prelude.{IsUtf8}
 use Rattle.mo_file.specs.Message.{Message, originals, translations}
 use Rattle.po_syntax.specs.declared.fault.PoFault.{PoFault}
 use Rattle.po_syntax.specs.declared.fault.PoFault.TheVariants.{OutOfMemory as NoMemory}
-use Rattle.po_entry.specs.TextEntry.{TextEntry, quoted_texts}
+use Rattle.po_entry.specs.TextEntry.{TextEntry, plain_entry, quoted_texts}
 use Rattle.po_entry.specs.Bytes.{Lacks}
 use Rattle.po_entry.specs.Header.{HasAdmittedCharset}
-use Rattle.po_entry.specs.Validity.{HasTexts, IsCatalogueEntry, IsEntry, EntryTextFault}
-use Rattle.po_syntax.specs.ItemContents.{IsText}
+use Rattle.po_entry.specs.Validity.{HasTexts, IsCatalogueEntry, IsEntry, IsFlag, IsReference, IsTranslatorComment, EntryTextFault}
+use Rattle.po_syntax.specs.ItemContents.{IsComment, IsText}
 use Rattle.po_entry.specs.Validity.EntryTextFault.{not_utf8, forbidden}
 use Rattle.po_unformat.specs.declared.fault.UnformatError.{UnformatError}
 use Rattle.po_unformat.specs.declared.fault.UnformatError.TheVariants.{Mo, NotUtf8, ForbiddenByte, ForeignCharset, OutOfMemory}
@@ -29,6 +29,22 @@ texts_of entry valid = record {
     context = valid.context;
     id = valid.id;
   };
+}
+
+-- an entry without comments is one where its texts can stand in it
+pub plain_valid : (context : Option (List ℕ)) (id : List ℕ) (plural : Option (List ℕ)) (forms : List (List ℕ)) → All IsText (quoted_texts (plain_entry context id plural forms))
+    → IfSome context (Lacks 4) → Lacks 4 id → 0 < length forms → (plural ≡ None → length forms ≡ 1) → IsEntry (plain_entry context id plural forms)
+plain_valid context id plural forms texts no_eot also some one = record {
+  quoted_texts = texts;
+  comments = All-nil IsTranslatorComment;
+  extracted = All-nil IsComment;
+  references = All-nil IsReference;
+  flags = All-nil IsFlag;
+  distinct_flags = tt;
+  context = no_eot;
+  id = also;
+  some_form = some;
+  one_form = one;
 }
 
 by_fault : (entry : TextEntry) (i : ℕ) (fault : PoFault) → EntryTextFault entry fault → RefusesEntry entry i (error_at i fault)

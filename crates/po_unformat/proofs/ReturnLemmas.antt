@@ -1,9 +1,10 @@
 -- A compiled file comes back from its PO text.
-use Rattle.std.proofs.Common.{◌≡◌, ℕ, Bool, true, false, ◌&&◌, ◌||◌, not, cond, List, [], ◌∷◌, ◌++◌, Option, None, Some, refl, sym, ap, ◌∙◌, subst, length, get_or, map, filter, arith, All, IfSome, IsPermutation, option_to_list}
+use Rattle.std.proofs.Common.{◌≡◌, append_assoc, ℕ, Bool, true, false, ◌&&◌, ◌||◌, not, cond, List, [], ◌∷◌, ◌++◌, Option, None, Some, refl, sym, ap, ◌∙◌, subst, length, get_or, map, filter, arith, All, IfSome, IsPermutation, option_to_list}
 use Rattle.std.specs.List.{AllZip}
 use Rattle.std.proofs.Math.ListN.{get_or-map}
+use Rattle.std.proofs.lemmas.Bool.{and_parts}
 use Rattle.std.proofs.lemmas.List.{length-map, take_all}
-use Rattle.std.proofs.lemmas.List.Elements.{All-append, All-filter, All-head, All-map, All-nil, All-tail, All-weaker, filter_passes}
+use Rattle.std.proofs.lemmas.List.Elements.{All-filter, All-head, All-map, All-tail, All-weaker, filter_passes}
 use Rattle.std.proofs.lemmas.List.Folds.{map_fixed}
 use Rattle.std.proofs.lemmas.List.Sorted.{All-permutation, IsPermutation-refl}
 use Rattle.std.proofs.lemmas.Simd.{map-map}
@@ -12,13 +13,13 @@ use Rattle.mo_file.specs.Layout.{layout}
 use Rattle.mo_file.specs.Message.{Message}
 use Rattle.mo_lookup.specs.CatalogView.{forms}
 use Rattle.po_syntax.specs.PoText.{IsSmall}
-use Rattle.po_entry.specs.TextEntry.{TextEntry, previous_texts, with_line, plain_entry as bare_entry}
+use Rattle.po_entry.specs.TextEntry.{TextEntry, previous_texts, quoted_texts, with_line, plain_entry as bare_entry}
 use Rattle.po_entry.specs.Bytes.{Lacks}
-use Rattle.po_entry.specs.Facts.AllAppend.{All-left, All-right}
+use Rattle.po_entry.specs.Facts.AllAppend.{All-right}
 use Rattle.po_entry.specs.Header.{is_header}
 use Rattle.po_entry.specs.ReadsText.{ReadsText}
-use Rattle.po_entry.specs.Validity.{IsCatalogueEntry, IsEntry, IsFlag, IsReference, IsTranslatorComment}
-use Rattle.po_syntax.specs.ItemContents.{IsComment, IsText}
+use Rattle.po_entry.specs.Validity.{IsCatalogueEntry, IsEntry}
+use Rattle.po_syntax.specs.ItemContents.{IsText}
 use Rattle.po_writer.specs.WrittenText.{arranged, written_text}
 use Rattle.po_messages.specs.Duplicate.{AllDiffer, HasNoDuplicate}
 use Rattle.po_messages.specs.Joined.{is_live, joined_entries}
@@ -35,6 +36,7 @@ use Rattle.po_compile.specs.declared.options.Options.{Options}
 use Rattle.po_unformat.specs.MessageParts.{TextsComeBack}
 use Rattle.po_unformat.specs.RoundTrip.{CompilesTo, UnformatThenCompile}
 use Rattle.po_unformat.specs.Unformatted.{context_of, entry_of_message, id_of, plural_of, taken_forms, unformatted}
+use Rattle.po_unformat.proofs.MessageLemmas.{plain_valid}
 use Rattle.po_unformat.proofs.CutLemmas.{context_cut, context_none, id_all, id_cut}
 
 -- the texts of an entry alone
@@ -79,26 +81,9 @@ bare_valid : (entry : TextEntry) → IsEntry entry → IsEntry (bare entry)
 bare_valid entry valid =
     let previous = previous_texts entry.previous in
     let context = option_to_list entry.context in
-    let plural = option_to_list entry.plural in
-    let id : List (List ℕ) = entry.id ∷ [] in
-    let to_plural = All-left IsText (((previous ++ context) ++ id) ++ plural) entry.forms valid.quoted_texts in
-    let to_id = All-left IsText ((previous ++ context) ++ id) plural to_plural in
-    let to_context = All-left IsText (previous ++ context) id to_id in
-    let contexts = All-right IsText previous context to_context in
-    let ids = All-append IsText context id contexts (All-right IsText (previous ++ context) id to_id) in
-    let plurals = All-append IsText (context ++ id) plural ids (All-right IsText ((previous ++ context) ++ id) plural to_plural) in
-    record {
-      quoted_texts = All-append IsText ((context ++ id) ++ plural) entry.forms plurals (All-right IsText (((previous ++ context) ++ id) ++ plural) entry.forms valid.quoted_texts);
-      comments = All-nil IsTranslatorComment;
-      extracted = All-nil IsComment;
-      references = All-nil IsReference;
-      flags = All-nil IsFlag;
-      distinct_flags = tt;
-      context = valid.context;
-      id = valid.id;
-      some_form = valid.some_form;
-      one_form = valid.one_form;
-    }
+    let own = ((context ++ (entry.id ∷ [])) ++ option_to_list entry.plural) ++ entry.forms in
+    let split : quoted_texts entry ≡ previous ++ own = simp append_assoc in
+    plain_valid entry.context entry.id entry.plural entry.forms (All-right IsText previous own (subst (All IsText) split valid.quoted_texts)) valid.context valid.id valid.some_form valid.one_form
 
 -- the entry of a message can stand in a catalogue, is translated, and has this message
 record IsAgain (entry : TextEntry) (m : Message) : Type 0 where
@@ -114,14 +99,6 @@ returned parts entry can_stand translated =
     subst (λ e. IsAgain e (message_of entry)) (sym (entry_back entry can_stand.valid (parts entry can_stand.valid)))
     (record { valid = record { valid = bare_valid entry can_stand.valid; charset = can_stand.charset }; translated = translated; again = refl })
 
-right : (a b : Bool) → (a && b) ≡ true → b ≡ true
-right true b h = h
-right false b h = cc
-
-left : (a b : Bool) → (a && b) ≡ true → a ≡ true
-left true b h = refl
-left false b h = cc
-
 all_returned : MessagesHaveParts → (use_fuzzy : Bool) (entries : List TextEntry) (messages : List Message) → All IsCatalogueEntry entries
     → AreMessagesOf (compiled_list use_fuzzy entries) messages → All IsReturned messages
 all_returned parts use_fuzzy entries messages valid are =
@@ -130,8 +107,8 @@ all_returned parts use_fuzzy entries messages valid are =
     let passes = filter_passes (is_compiled use_fuzzy) entries in
     let each : All (λ e. IsReturned (message_of e)) list =
     λ i d inside. let e = get_or list i d in
-    let wanted = right (is_live e) (has_translation e && (use_fuzzy || not e.fuzzy || is_header e)) (passes i d inside) in
-    returned parts e (can_stand i d inside) (left (has_translation e) (use_fuzzy || not e.fuzzy || is_header e) wanted) in
+    let wanted = and_parts (is_live e) (has_translation e && (use_fuzzy || not e.fuzzy || is_header e)) (passes i d inside) in
+    returned parts e (can_stand i d inside) (and_parts (has_translation e) (use_fuzzy || not e.fuzzy || is_header e) wanted.1).0 in
     All-permutation IsReturned (map message_of list) messages are.all (All-map IsReturned message_of list each)
 
 -- a test that each entry passes omits none

@@ -2,27 +2,27 @@
 use Rattle.std.proofs.Common.{◌≡◌, ◌≢◌, ◌⊎◌, ℕ, ◌<◌, suc, List, [], ◌∷◌, Option, None, Some, refl, length, take, slice_get, arith, All, inl, inr}
 use Rattle.std.proofs.lemmas.List.Elements.{All-cons, All-head, All-nil, All-tail}
 use Rattle.std.proofs.lemmas.List.Splits.{length-slice_split}
-use Rattle.mo_file.specs.Key.{is_nul}
+use Rattle.mo_file.specs.Key.{is_nul, key_of}
 use Rattle.mo_file.specs.declared.byte_order.Order.{Order}
 use Rattle.mo_file.specs.MoFile.{IsMoFile}
 use Rattle.mo_file.specs.Laws.{MoFileOrFault}
 use Rattle.mo_file.specs.Message.{Message}
 use Rattle.mo_lookup.specs.CatalogView.{forms}
 use Rattle.po_syntax.specs.declared.fault.PoFault.{PoFault}
-use Rattle.po_entry.specs.TextEntry.{TextEntry}
+use Rattle.po_entry.specs.TextEntry.{TextEntry, quoted_texts}
 use Rattle.po_entry.specs.Header.{HasAdmittedCharset}
-use Rattle.po_entry.specs.Validity.{HasTexts, IsEntry, IsFlag, IsReference, IsTranslatorComment, EntryTextFault}
-use Rattle.po_syntax.specs.ItemContents.{IsComment}
+use Rattle.po_entry.specs.Validity.{HasTexts, IsEntry, EntryTextFault}
+use Rattle.po_syntax.specs.ItemContents.{IsText}
 use Rattle.po_entry.specs.Validity.EntryTextFault.{not_utf8, forbidden}
 use Rattle.po_writer.specs.WrittenText.{written_text}
 use Rattle.po_unformat.specs.declared.fault.UnformatError.{UnformatError}
 use Rattle.po_unformat.specs.declared.fault.UnformatError.TheVariants.{Mo, NotUtf8, ForbiddenByte, ForeignCharset, OutOfMemory}
 use Rattle.po_unformat.specs.RoundTrip.{TextOrFault}
 use Rattle.po_unformat.specs.Internal.Refused.{RefusesMessages}
-use Rattle.po_unformat.specs.Unformatted.{entry_of_message, plural_of, taken_forms, unformatted}
+use Rattle.po_unformat.specs.Unformatted.{context_of, entry_of_message, id_of, plural_of, taken_forms, unformatted}
 use Rattle.po_unformat.specs.UnformattedText.{AreWrittenAs, IsUnformatFault}
 use Rattle.po_entry.proofs.Settled.{all_settled, texts_or_fault, charset_settled}
-use Rattle.po_unformat.proofs.MessageLemmas.{catalogue_entries}
+use Rattle.po_unformat.proofs.MessageLemmas.{catalogue_entries, plain_valid}
 
 -- the first entry with a fault in its texts
 record FirstFault (entries : List TextEntry) : Type 0 where
@@ -67,18 +67,8 @@ some_taken (Some plural) (piece ∷ pieces) some = (omega arith, λ e. cc)
 message_entry : (m : Message) → HasTexts (entry_of_message m) → IsEntry (entry_of_message m)
 message_entry m texts =
     let taken = some_taken (plural_of m.original) (forms m.translation) (omega (arith, length-slice_split is_nul m.translation)) in
-    record {
-      quoted_texts = λ i d inside. record { utf8 = texts.utf8 i d inside; no_nul = texts.clean.no_nul i d inside };
-      comments = All-nil IsTranslatorComment;
-      extracted = All-nil IsComment;
-      references = All-nil IsReference;
-      flags = All-nil IsFlag;
-      distinct_flags = tt;
-      context = texts.clean.context;
-      id = texts.clean.id;
-      some_form = taken.0;
-      one_form = taken.1;
-    }
+    let each : All IsText (quoted_texts (entry_of_message m)) = λ i d inside. record { utf8 = texts.utf8 i d inside; no_nul = texts.clean.no_nul i d inside } in
+    plain_valid (context_of (key_of m.original)) (id_of (key_of m.original)) (plural_of m.original) (taken_forms (plural_of m.original) (forms m.translation)) each texts.clean.context texts.clean.id taken.0 taken.1
 
 message_entries : (messages : List Message) → All HasTexts (unformatted messages) → All IsEntry (unformatted messages)
 message_entries [] all = All-nil IsEntry
