@@ -50,54 +50,55 @@ same_catalogues one (t ∷ ts) (c ∷ cs) (d ∷ ds) a b =
     let head : c ≡ d = one t c d a.0.reads b.0.reads in
     let tail = same_catalogues one ts cs ds a.1 b.1 in cc
 
--- a text that reads, without a duplicate, has no fault
-pub text_faultless : OneReading → NoReadFault → NoFirstDuplicate → (text : List ℕ) (entries : List TextEntry) (error : PoError) → ReadsDistinct text entries → IsTextFault text error → ⊥
-text_faultless one no_fault no_first text entries error read (inl fault) = no_fault text entries error.kind error.line read.reads fault
-text_faultless one no_fault no_first text entries error read (inr found) =
-    let same : entries ≡ found.entries = one text entries found.entries read.reads found.reads in
-    let list : found.entries ≡ entries_of (map (in_input 0) found.entries) = sym (entries_of_input 0 found.entries) in
-    no_first (map (in_input 0) found.entries) found.first found.later (subst HasNoDuplicate (same ∙ list) read.distinct) found.duplicate
+module _ (one : OneReading) (no_fault : NoReadFault) (no_first : NoFirstDuplicate) where
+  -- a text that reads, without a duplicate, has no fault
+  pub text_faultless : (text : List ℕ) (entries : List TextEntry) (error : PoError) → ReadsDistinct text entries → IsTextFault text error → ⊥
+  text_faultless text entries error read (inl fault) = no_fault text entries error.kind error.line read.reads fault
+  text_faultless text entries error read (inr found) =
+      let same : entries ≡ found.entries = one text entries found.entries read.reads found.reads in
+      let list : found.entries ≡ entries_of (map (in_input 0) found.entries) = sym (entries_of_input 0 found.entries) in
+      no_first (map (in_input 0) found.entries) found.first found.later (subst HasNoDuplicate (same ∙ list) read.distinct) found.duplicate
 
--- the text with a fault is none of those that read before it
-fault_after : OneReading → NoReadFault → NoFirstDuplicate → (texts before : List (List ℕ)) (catalogues : List (List TextEntry)) (after : List (List ℕ)) (error : JoinError) → texts ≡ before ++ after → AllZip ReadsDistinct before catalogues
-    → (fault : IsFaultOfInput texts error) → length before ≤ length fault.before
-fault_after one no_fault no_first texts before catalogues after error order each fault = elim (cases_lt (length fault.before) (length before)) [
-  | inl inside ↦
-      let i = length fault.before in
-      let here : get_or before i [] ≡ fault.text =
-      sym (get_or_append_left before after [] i inside) ∙ ap (λ ts. get_or ts i []) (sym order ∙ fault.order) ∙ get_or-append_seam fault.before fault.text fault.after [] in
-      let reads = zip_get ReadsDistinct before catalogues i [] [] each (omega (arith, inside, zip_length ReadsDistinct before catalogues each)) in
-      absurd (text_faultless one no_fault no_first fault.text (get_or catalogues i []) error.error (subst (λ t. ReadsDistinct t (get_or catalogues i [])) here reads) fault.fault)
-  | inr past ↦ past
-]
+  -- the text with a fault is none of those that read before it
+  fault_after : (texts before : List (List ℕ)) (catalogues : List (List TextEntry)) (after : List (List ℕ)) (error : JoinError) → texts ≡ before ++ after → AllZip ReadsDistinct before catalogues
+      → (fault : IsFaultOfInput texts error) → length before ≤ length fault.before
+  fault_after texts before catalogues after error order each fault = elim (cases_lt (length fault.before) (length before)) [
+    | inl inside ↦
+        let i = length fault.before in
+        let here : get_or before i [] ≡ fault.text =
+        sym (get_or_append_left before after [] i inside) ∙ ap (λ ts. get_or ts i []) (sym order ∙ fault.order) ∙ get_or-append_seam fault.before fault.text fault.after [] in
+        let reads = zip_get ReadsDistinct before catalogues i [] [] each (omega (arith, inside, zip_length ReadsDistinct before catalogues each)) in
+        absurd (text_faultless fault.text (get_or catalogues i []) error.error (subst (λ t. ReadsDistinct t (get_or catalogues i [])) here reads) fault.fault)
+    | inr past ↦ past
+  ]
 
-pub input_faultless : OneReading → NoReadFault → NoFirstDuplicate → (texts : List (List ℕ)) (catalogues : List (List TextEntry)) (error : JoinError) → AllZip ReadsDistinct texts catalogues → IsFaultOfInput texts error → ⊥
-input_faultless one no_fault no_first texts catalogues error each fault =
-    omega (arith, fault_after one no_fault no_first texts texts catalogues [] error (sym (append-nil texts)) each fault, ap length fault.order, length-append fault.before (fault.text ∷ fault.after))
+  pub input_faultless : (texts : List (List ℕ)) (catalogues : List (List TextEntry)) (error : JoinError) → AllZip ReadsDistinct texts catalogues → IsFaultOfInput texts error → ⊥
+  input_faultless texts catalogues error each fault =
+      omega (arith, fault_after texts texts catalogues [] error (sym (append-nil texts)) each fault, ap length fault.order, length-append fault.before (fault.text ∷ fault.after))
 
-pub joined_faultless : OneReading → NoFirstDuplicate → (texts : List (List ℕ)) (catalogues : List (List TextEntry)) (error : JoinError) → AreRead texts catalogues → HasJoinedDuplicate texts error → ⊥
-joined_faultless one no_first texts catalogues error read found =
-    let same : catalogues ≡ found.catalogues = same_catalogues one texts catalogues found.catalogues read.each found.each in
-    no_first (joined found.catalogues) found.first found.later (subst (λ list. HasNoDuplicate (joined_entries list)) same read.distinct) found.duplicate
+  pub joined_faultless : (texts : List (List ℕ)) (catalogues : List (List TextEntry)) (error : JoinError) → AreRead texts catalogues → HasJoinedDuplicate texts error → ⊥
+  joined_faultless texts catalogues error read found =
+      let same : catalogues ≡ found.catalogues = same_catalogues one texts catalogues found.catalogues read.each found.each in
+      no_first (joined found.catalogues) found.first found.later (subst (λ list. HasNoDuplicate (joined_entries list)) same read.distinct) found.duplicate
 
-layout_faultless : OneReading → MessagesAreOne → (options : Options) (texts : List (List ℕ)) (catalogues : List (List TextEntry)) (error : JoinError) → AreAccepted options texts catalogues → IsTooLarge options texts error → ⊥
-layout_faultless one one_list options texts catalogues error accepted fault =
-    let same : fault.catalogues ≡ catalogues = same_catalogues one texts fault.catalogues catalogues fault.read.each accepted.read.each in
-    let entries = compiled_list options.use_fuzzy (joined_entries catalogues) in
-    let are = subst (λ list. AreMessagesOf (compiled_list options.use_fuzzy (joined_entries list)) fault.large.messages) same fault.large.are_messages in
-    let messages : fault.large.messages ≡ accepted.layout.messages = one_list entries fault.large.messages accepted.layout.messages are accepted.layout.are_messages in
-    let large = subst (λ list. 2 ^ 32 ≤ length (layout options.order list)) messages fault.large.large in
-    let small = accepted.layout.small in omega arith
+  layout_faultless : MessagesAreOne → (options : Options) (texts : List (List ℕ)) (catalogues : List (List TextEntry)) (error : JoinError) → AreAccepted options texts catalogues → IsTooLarge options texts error → ⊥
+  layout_faultless one_list options texts catalogues error accepted fault =
+      let same : fault.catalogues ≡ catalogues = same_catalogues one texts fault.catalogues catalogues fault.read.each accepted.read.each in
+      let entries = compiled_list options.use_fuzzy (joined_entries catalogues) in
+      let are = subst (λ list. AreMessagesOf (compiled_list options.use_fuzzy (joined_entries list)) fault.large.messages) same fault.large.are_messages in
+      let messages : fault.large.messages ≡ accepted.layout.messages = one_list entries fault.large.messages accepted.layout.messages are accepted.layout.are_messages in
+      let large = subst (λ list. 2 ^ 32 ≤ length (layout options.order list)) messages fault.large.large in
+      let small = accepted.layout.small in omega arith
 
-pub accepted_faultless : OneReading → NoReadFault → NoFirstDuplicate → MessagesAreOne → (options : Options) (texts : List (List ℕ)) (catalogues : List (List TextEntry)) (error : JoinError)
-    → AreAccepted options texts catalogues → IsCompileFault options texts error → error ≡ join_out_of_memory
-accepted_faultless one no_fault no_first one_list options texts catalogues error accepted (inl (inl memory)) = memory
-accepted_faultless one no_fault no_first one_list options texts catalogues error accepted (inl (inr (inl fault))) =
-    absurd (input_faultless one no_fault no_first texts catalogues error accepted.read.each fault)
-accepted_faultless one no_fault no_first one_list options texts catalogues error accepted (inl (inr (inr found))) =
-    absurd (joined_faultless one no_first texts catalogues error accepted.read found)
-accepted_faultless one no_fault no_first one_list options texts catalogues error accepted (inr fault) =
-    absurd (layout_faultless one one_list options texts catalogues error accepted fault)
+  pub accepted_faultless : MessagesAreOne → (options : Options) (texts : List (List ℕ)) (catalogues : List (List TextEntry)) (error : JoinError)
+      → AreAccepted options texts catalogues → IsCompileFault options texts error → error ≡ join_out_of_memory
+  accepted_faultless one_list options texts catalogues error accepted (inl (inl memory)) = memory
+  accepted_faultless one_list options texts catalogues error accepted (inl (inr (inl fault))) =
+      absurd (input_faultless texts catalogues error accepted.read.each fault)
+  accepted_faultless one_list options texts catalogues error accepted (inl (inr (inr found))) =
+      absurd (joined_faultless texts catalogues error accepted.read found)
+  accepted_faultless one_list options texts catalogues error accepted (inr fault) =
+      absurd (layout_faultless one_list options texts catalogues error accepted fault)
 
 abbrev pub OneReadFault : Type 0
 OneReadFault = (text : List ℕ) (fault other : PoFault) (line place : ℕ) → IsReadFault text fault line → IsReadFault text other place → (fault ≡ other) × (line ≡ place)
@@ -143,9 +144,9 @@ module _ (one : OneReading) (no_fault : NoReadFault) (no_first : NoFirstDuplicat
   compile_fault_once options texts a b (inl (inr (inl f))) (inr g) other also = absurd (input_faultless one no_fault no_first texts g.catalogues a g.read.each f)
   compile_fault_once options texts a b (inl (inr (inr f))) (inl (inr (inl g))) other also = absurd (input_faultless one no_fault no_first texts f.catalogues b f.each g)
   compile_fault_once options texts a b (inl (inr (inr f))) (inl (inr (inr g))) other also = joined_duplicate_once texts a b f g
-  compile_fault_once options texts a b (inl (inr (inr f))) (inr g) other also = absurd (joined_faultless one no_first texts g.catalogues a g.read f)
+  compile_fault_once options texts a b (inl (inr (inr f))) (inr g) other also = absurd (joined_faultless one no_fault no_first texts g.catalogues a g.read f)
   compile_fault_once options texts a b (inr f) (inl (inr (inl g))) other also = absurd (input_faultless one no_fault no_first texts f.catalogues b f.read.each g)
-  compile_fault_once options texts a b (inr f) (inl (inr (inr g))) other also = absurd (joined_faultless one no_first texts f.catalogues b f.read g)
+  compile_fault_once options texts a b (inr f) (inl (inr (inr g))) other also = absurd (joined_faultless one no_fault no_first texts f.catalogues b f.read g)
   compile_fault_once options texts a b (inr f) (inr g) other also = f.error_is ∙ sym g.error_is
 
 abbrev pub EntriesOrFault : Type 0

@@ -1,6 +1,6 @@
 -- The messages of entries mean these entries: the one message under a key is found in whatever order the
 -- messages stand, and is taken apart again.
-use Rattle.std.proofs.Common.{◌≡◌, ◌≢◌, ◌⊎◌, ℕ, ◌<◌, ◌≤◌, Bool, true, false, cond, List, [], ◌∷◌, Option, None, Some, refl, sym, ap, ap₂, ◌∙◌, inl, inr, length, get_or, arith, All, Contains, find, map, IsPermutation, ◌==◌, ◌++◌, subst, IfSome, option_to_list, slice_get, append-nil}
+use Rattle.std.proofs.Common.{◌≡◌, ◌≢◌, ◌⊎◌, ℕ, ◌<◌, ◌≤◌, Bool, true, false, cond, List, [], ◌∷◌, Option, None, Some, refl, sym, ap, ap₂, ◌∙◌, inl, inr, length, get_or, arith, All, Contains, find, map, IsPermutation, ◌==◌, ◌++◌, subst, IfSome, append_assoc, option_to_list, slice_get, append-nil}
 use Rattle.std.specs.Str.{bytes_eq}
 use Rattle.std.proofs.lemmas.Bool.{cases_lt, and_parts, not-true, or_parts, false_from_ne_true}
 use Rattle.std.proofs.lemmas.List.{get_or_default, length-map}
@@ -114,20 +114,23 @@ pub record LacksSeparators (entry : TextEntry) : Type 0 where
 pub entry_lacks_separators : (entry : TextEntry) → IsEntry entry → LacksSeparators entry
 entry_lacks_separators entry valid =
     let NoNul : List ℕ → Type 0 = Lacks 0 in
-    let all : All NoNul (quoted_texts entry) = All-weaker IsText NoNul (λ text t. t.no_nul) (quoted_texts entry) valid.quoted_texts in
-    let before_context = previous_texts entry.previous in
+    let previous = previous_texts entry.previous in
     let context = option_to_list entry.context in
     let plural = option_to_list entry.plural in
-    let id : List (List ℕ) = entry.id ∷ [] in
-    let to_plural = All-left NoNul (((before_context ++ context) ++ id) ++ plural) entry.forms all in
-    let to_id = All-left NoNul ((before_context ++ context) ++ id) plural to_plural in
+    let after_id = plural ++ entry.forms in
+    let own = context ++ (entry.id ∷ after_id) in
+    let split : quoted_texts entry ≡ previous ++ own = simp append_assoc in
+    let all : All NoNul (previous ++ own) = All-weaker IsText NoNul (λ text t. t.no_nul) (previous ++ own) (subst (All IsText) split valid.quoted_texts) in
+    let texts = All-right NoNul previous own all in
+    let with_id = All-right NoNul context (entry.id ∷ after_id) texts in
+    let others = All-tail NoNul entry.id after_id with_id in
     record {
-      context_nul = optional NoNul entry.context (All-right NoNul before_context context (All-left NoNul (before_context ++ context) id to_id));
+      context_nul = optional NoNul entry.context (All-left NoNul context (entry.id ∷ after_id) texts);
       context_eot = valid.context;
-      id_nul = All-head NoNul entry.id [] (All-right NoNul (before_context ++ context) id to_id);
+      id_nul = All-head NoNul entry.id after_id with_id;
       id_eot = valid.id;
-      plural_nul = optional NoNul entry.plural (All-right NoNul ((before_context ++ context) ++ id) plural to_plural);
-      forms_nul = All-right NoNul (((before_context ++ context) ++ id) ++ plural) entry.forms all;
+      plural_nul = optional NoNul entry.plural (All-left NoNul plural entry.forms others);
+      forms_nul = All-right NoNul plural entry.forms others;
       some_form = valid.some_form;
     }
 
