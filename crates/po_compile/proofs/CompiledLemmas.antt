@@ -1,17 +1,21 @@
 -- The test of an entry says whether it is to be compiled.
 use Rattle.std.proofs.Common.{◌≡◌, ◌∙◌, refl, ap, ℕ, ◌==◌, ◌&&◌, ◌||◌, Bool, true, false, not, List, [], ◌∷◌, length, Option, None, Some, inl, inr, arith}
 use Rattle.std.specs.Prelude.{is_none}
-use Rattle.std.proofs.lemmas.Bool.{and_parts, and_from, or_cases, or_left, or_right, both_ways, cond_both, eqb-true, false≢true, ne_eqb, not-true, not_from_false}
+use Rattle.std.specs.Bool.{Decides}
+use Rattle.std.proofs.lemmas.Bool.Decides.{Decides-and, Decides-like, not_from_Decides}
+use Rattle.std.proofs.lemmas.Bool.{and_parts, or_cases, or_left, or_right, cond_both, eqb-true, false≢true, ne_eqb, not-true, not_from_false}
 use Rattle.po_entry.specs.TextEntry.{TextEntry}
 use Rattle.po_entry.specs.Header.{first_form, is_header}
 use Rattle.po_messages.specs.Statistics.{has_translation}
 use Rattle.po_compile.specs.CompiledEntries.{IsTranslated, MayBeUsed, not_fuzzy, asked_for, header, IsToBeCompiled, KeepsCompiled, none, compiled, omitted}
 use Rattle.po_compile.specs.CompiledList.{compiled_list, is_compiled}
 
-translated_says : (forms : List (List ℕ)) → not (length (first_form forms) == 0) ≡ true → (byte : ℕ) × (form : List ℕ) × (others : List (List ℕ)) × (forms ≡ (byte ∷ form) ∷ others)
-translated_says [] e = absurd (cc)
-translated_says ([] ∷ forms) e = absurd (cc)
-translated_says ((byte ∷ form) ∷ forms) e = (byte, form, forms, refl)
+translated_says : (entry : TextEntry) → has_translation entry ≡ true → IsTranslated entry
+translated_says entry e = by_forms entry.forms refl e where
+  by_forms : (forms : List (List ℕ)) → entry.forms ≡ forms → not (length (first_form forms) == 0) ≡ true → IsTranslated entry
+  by_forms [] is e = absurd (cc)
+  by_forms ([] ∷ forms) is e = absurd (cc)
+  by_forms ((byte ∷ form) ∷ forms) is e = record { byte = byte; form = form; forms = forms; forms_are = is }
 
 translated_passes : (entry : TextEntry) → IsTranslated entry → has_translation entry ≡ true
 translated_passes entry h =
@@ -35,24 +39,18 @@ used_passes use_fuzzy entry (not_fuzzy is) = or_left (use_fuzzy || not entry.fuz
 used_passes use_fuzzy entry (asked_for is) = or_left (use_fuzzy || not entry.fuzzy) (is_header entry) (or_left use_fuzzy (not entry.fuzzy) is)
 used_passes use_fuzzy entry (header context id) = or_right (use_fuzzy || not entry.fuzzy) (is_header entry) (rw (context, id) refl)
 
-says : (use_fuzzy : Bool) (entry : TextEntry) → is_compiled use_fuzzy entry ≡ true → IsToBeCompiled use_fuzzy entry
-says use_fuzzy entry e =
-    let first = and_parts (not entry.obsolete) (has_translation entry && (use_fuzzy || not entry.fuzzy || is_header entry)) e in
-    let second = and_parts (has_translation entry) (use_fuzzy || not entry.fuzzy || is_header entry) first.1 in
-    let form = translated_says entry.forms second.0 in record {
-      live = not-true entry.obsolete first.0;
-      translated = record { byte = form.0; form = form.1; forms = form.2; forms_are = form.3 };
-      used = used_says use_fuzzy entry second.1;
-    }
-
-passes : (use_fuzzy : Bool) (entry : TextEntry) → IsToBeCompiled use_fuzzy entry → is_compiled use_fuzzy entry ≡ true
-passes use_fuzzy entry h =
-    and_from (not entry.obsolete) (has_translation entry && (use_fuzzy || not entry.fuzzy || is_header entry)) (not_from_false entry.obsolete h.live)
-    (and_from (has_translation entry) (use_fuzzy || not entry.fuzzy || is_header entry) (translated_passes entry h.translated) (used_passes use_fuzzy entry h.used))
+decided : (use_fuzzy : Bool) (entry : TextEntry) → Decides (is_compiled use_fuzzy entry) (IsToBeCompiled use_fuzzy entry)
+decided use_fuzzy entry =
+    let used = use_fuzzy || not entry.fuzzy || is_header entry in
+    let translated : Decides (has_translation entry) (IsTranslated entry) = (translated_says entry, translated_passes entry) in
+    let may : Decides used (MayBeUsed use_fuzzy entry) = (used_says use_fuzzy entry, used_passes use_fuzzy entry) in
+    let live : Decides (not entry.obsolete) (entry.obsolete ≡ false) = (not-true entry.obsolete, not_from_false entry.obsolete) in
+    Decides-like (is_compiled use_fuzzy entry) (λ h. record { live = h.0; translated = h.1.0; used = h.1.1 }) (λ h. (h.live, (h.translated, h.used)))
+    (Decides-and (not entry.obsolete) (has_translation entry && used) live (Decides-and (has_translation entry) used translated may))
 
 pub compiled_list_is_kept : (use_fuzzy : Bool) (entries : List TextEntry) → KeepsCompiled use_fuzzy entries (compiled_list use_fuzzy entries)
 compiled_list_is_kept use_fuzzy [] = none
 compiled_list_is_kept use_fuzzy (entry ∷ entries) =
     let others = compiled_list_is_kept use_fuzzy entries in
     cond_both (is_compiled use_fuzzy entry) (entry ∷ compiled_list use_fuzzy entries) (compiled_list use_fuzzy entries) (KeepsCompiled use_fuzzy (entry ∷ entries))
-    (λ is. compiled (says use_fuzzy entry is) others) (λ other. omitted (λ h. both_ways (is_compiled use_fuzzy entry) other (passes use_fuzzy entry h)) others)
+    (λ is. compiled ((decided use_fuzzy entry).0 is) others) (λ other. omitted (not_from_Decides (is_compiled use_fuzzy entry) (decided use_fuzzy entry) other) others)

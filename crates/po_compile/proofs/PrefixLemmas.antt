@@ -6,6 +6,7 @@ use Rattle.std.proofs.Math.Seq.{drop-nil}
 use Rattle.std.specs.Ordering.{nat_cmp, ordering_then, ordering_reverse, MatchOrdering}
 use Rattle.std.specs.declared.cmp.Ordering.{Ordering}
 use Rattle.std.specs.declared.cmp.Ordering.TheVariants.{Less, Equal, Greater}
+use Rattle.std.specs.Cmp.{nat_cmp_is}
 use Rattle.std.proofs.lemmas.Cmp.{ranked, nat_list_cmp_total}
 use Rattle.std.proofs.lemmas.List.Elements.{All-head, All-tail}
 use Rattle.mo_file.specs.Key.{key_cmp}
@@ -138,21 +139,13 @@ prefix_decides m n a b first second in_a in_b order is other =
     let by_prefix : order ≡ nat_cmp (prefix_of a) (prefix_of b) = is ∙ ap₂ nat_cmp first second in
     then_decided order (key_cmp a b) other (ap (λ o. ordering_then o (key_cmp a b)) by_prefix ∙ digits_first 16 a b in_a in_b)
 
-order_is : (m n : ℕ) (o : Ordering) → MatchOrdering o (m < n) (m ≡ n) (n < m) → nat_cmp m n ≡ o
-order_is m n o is = by_both (nat_cmp m n) o (ranked m n (nat_cmp m n) refl) is where
-  by_both : (p o : Ordering) → MatchOrdering p (m < n) (m ≡ n) (n < m) → MatchOrdering o (m < n) (m ≡ n) (n < m) → p ≡ o
-  by_both Less Less h k = refl
-  by_both Equal Equal h k = refl
-  by_both Greater Greater h k = refl
-  by_both p o h k = absurd (omega (arith, h, k))
-
 -- numbers with the same first part stand as their second parts do
 same_prefix : (f m n : ℕ) → nat_cmp (f + m) (f + n) ≡ nat_cmp m n
 same_prefix f m n = by_parts (nat_cmp m n) (ranked m n (nat_cmp m n) refl) where
   by_parts : (o : Ordering) → MatchOrdering o (m < n) (m ≡ n) (n < m) → nat_cmp (f + m) (f + n) ≡ o
-  by_parts Less h = order_is (f + m) (f + n) Less (omega (arith, h))
-  by_parts Equal h = order_is (f + m) (f + n) Equal (omega (arith, h))
-  by_parts Greater h = order_is (f + m) (f + n) Greater (omega (arith, h))
+  by_parts Less h = sym (nat_cmp_is (f + m) (f + n) Less (omega (arith, h)))
+  by_parts Equal h = sym (nat_cmp_is (f + m) (f + n) Equal (omega (arith, h)))
+  by_parts Greater h = sym (nat_cmp_is (f + m) (f + n) Greater (omega (arith, h)))
 
 pub second_decides : (m n : ℕ) (a b : List ℕ) → m ≡ second_prefix_of a → n ≡ second_prefix_of b → prefix_of a ≡ prefix_of b → Bytes a → Bytes b → (order : Ordering) → order ≡ nat_cmp m n → order ≢ Equal → order ≡ key_cmp a b
 second_decides m n a b first second same in_a in_b order is other =
