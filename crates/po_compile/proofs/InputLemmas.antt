@@ -18,13 +18,13 @@ use Rattle.po_messages.specs.Repeats.{IsFirstRepeat}
 use Rattle.po_messages.specs.Facts.Zips.{zip_get, zip_length, zip_more}
 use Rattle.po_messages.specs.Joined.{InputEntry, entries_of, in_input, is_live, joined, joined_entries}
 use Rattle.po_messages.specs.declared.duplicate.JoinError.{JoinError}
-use Rattle.po_messages.proofs.DuplicateLemmas.{entries_of_input}
+use Rattle.po_messages.proofs.DuplicateLemmas.{entries_of_input, live_of_entries}
 use Rattle.po_compile.specs.Accepted.{IsFaultOfInput, IsReadingFault, fault_input, AreRead, IsCompileFault, fault_of_only_input}
 use Rattle.po_compile.specs.Collected.{HoldCatalogues, LiveMessage, live_messages}
 use Rattle.po_compile.specs.Internal.Repeats.{EachApart, HaveOneKey, IsRepeat, IsRepeatFault, IsRepeatInInput, repeat_fault}
 use Rattle.po_compile.specs.Internal.Rows.{AllApart, InputMessage, all_messages, in_input_message, input_keys, input_message, AreSortedRows, compiled_of, row_view}
 use Rattle.po_compile.proofs.Filters.{split_at}
-use Rattle.po_compile.proofs.JoinedRows.{all_are, joined_valid, live_of, of_input}
+use Rattle.po_compile.proofs.JoinedRows.{all_are, joined_valid, of_input}
 use Rattle.po_compile.proofs.KeysApart.{joined_distinct, read_distinct, rising_apart, sorted_keys}
 use Rattle.po_compile.proofs.MeaningLemmas.{entry_lacks_separators}
 use Rattle.po_compile.proofs.SortedRows.{at_entry, are_messages}
@@ -82,7 +82,7 @@ module _ (use_fuzzy : Bool) where
       let message : InputEntry → InputMessage = input_message use_fuzzy in
       let Alike : InputEntry → InputEntry → Type 0 = λ a b. HaveOneKey (message a) (message b) in
       let found = repeat_of_map HaveOneKey one_key (λ x y z a b. a ∙ sym b) message live r.0 r.1 r.2 in
-      let live_valid : All IsCatalogueEntry (entries_of live) = subst (All IsCatalogueEntry) (live_of entries) (All-filter is_live IsCatalogueEntry (entries_of entries) valid) in
+      let live_valid : All IsCatalogueEntry (entries_of live) = subst (All IsCatalogueEntry) (live_of_entries entries) (All-filter is_live IsCatalogueEntry (entries_of entries) valid) in
       let both = all_of_both Alike (λ e. IsCatalogueEntry e.entry) live found.0 found.1 (λ k d inside. at_entry IsCatalogueEntry live k d inside live_valid) found.2 in
       let one = entry_lacks_separators found.0.entry both.0.valid in
       let other = entry_lacks_separators found.1.entry both.1.valid in (

@@ -96,9 +96,6 @@ module _ (use_fuzzy : Bool) where
   pub all_are : (catalogues : List (List TextEntry)) → all_messages (map (live_messages use_fuzzy) catalogues) ≡ map (input_message use_fuzzy) (live_entries (joined catalogues))
   all_are catalogues = joined_are 0 false catalogues
 
-pub live_of : (entries : List InputEntry) → filter is_live (entries_of entries) ≡ entries_of (live_entries entries)
-live_of entries = filter_map is_live (λ e. e.entry) entries
-
 valid_from : (input : ℕ) (headed : Bool) (catalogues : List (List TextEntry)) → All (All IsCatalogueEntry) catalogues → All IsCatalogueEntry (entries_of (joined_from input headed catalogues))
 valid_from input headed [] valid = All-nil IsCatalogueEntry
 valid_from input headed (entries ∷ catalogues) valid =

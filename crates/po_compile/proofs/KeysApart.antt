@@ -30,7 +30,8 @@ use Rattle.po_compile.specs.Collected.{LiveMessage, live_message, live_messages}
 use Rattle.po_compile.specs.Internal.Repeats.{EachApart}
 use Rattle.po_compile.specs.declared.row.Row.{Row}
 use Rattle.po_compile.proofs.Filters.{filter_all, first_of}
-use Rattle.po_compile.proofs.JoinedRows.{all_are, live_of}
+use Rattle.po_compile.proofs.JoinedRows.{all_are}
+use Rattle.po_messages.proofs.DuplicateLemmas.{live_of_entries}
 
 -- keys that rise are different
 pub rising_apart : (ks : List (List ℕ)) → AreRising ks → AllApart ks
@@ -121,7 +122,7 @@ module _ (use_fuzzy : Bool) where
       let entry : InputEntry → TextEntry = λ e. e.entry in
       let keys : input_keys (all_messages (map (live_messages use_fuzzy) catalogues)) ≡ map key_of_entry (entries_of live) =
       ap input_keys (all_are use_fuzzy catalogues) ∙ map-map key (input_message use_fuzzy) live ∙ sym (map-map key_of_entry entry live) in
-      subst AllDiffer (sym (live_of (joined catalogues))) (entries_differ (entries_of live) (subst AllApart keys apart))
+      subst AllDiffer (sym (live_of_entries (joined catalogues))) (entries_differ (entries_of live) (subst AllApart keys apart))
 
   -- texts that read as catalogues in each of which the keys differ
   pub read_distinct : (texts : List (List ℕ)) (catalogues : List (List TextEntry)) → AllZip ReadsText texts catalogues → EachApart (map (live_messages use_fuzzy) catalogues) → AllZip ReadsDistinct texts catalogues

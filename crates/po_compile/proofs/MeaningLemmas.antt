@@ -2,7 +2,7 @@
 -- messages stand, and is taken apart again.
 use Rattle.std.proofs.Common.{◌≡◌, ◌≢◌, ◌⊎◌, ℕ, ◌<◌, ◌≤◌, Bool, true, false, cond, List, [], ◌∷◌, Option, None, Some, refl, sym, ap, ap₂, ◌∙◌, inl, inr, length, get_or, arith, All, Contains, find, map, IsPermutation, ◌==◌, ◌++◌, subst, IfSome, append_assoc, option_to_list, slice_get, append-nil}
 use Rattle.std.specs.Str.{bytes_eq}
-use Rattle.std.proofs.lemmas.Bool.{cases_lt, and_parts, not-true, or_parts, false_from_ne_true}
+use Rattle.std.proofs.lemmas.Bool.{cases_lt, and_parts, not-true, or_parts}
 use Rattle.std.proofs.lemmas.List.{get_or_default, length-map}
 use Rattle.std.proofs.lemmas.List.Elements.{All-cons, All-nil, All-contains, All-head, All-tail, All-weaker}
 use Rattle.std.proofs.lemmas.List.Folds.{find_at}
@@ -32,7 +32,7 @@ use Rattle.po_syntax.specs.ItemContents.{IsText}
 use Rattle.po_compile.specs.CompiledMessages.{original_of, translation_of, message_of, AreMessagesOf, plural_part}
 use Rattle.po_compile.specs.Meaning.{header_of}
 use Rattle.po_compile.specs.Headline.{MessagesMeanEntries}
-use Rattle.po_compile.proofs.TextLemmas.{key_of-plural_part, query_key_lacks, query_key_is_one, slice_split-join}
+use Rattle.po_compile.proofs.TextLemmas.{key_of-plural_part, lacks_nul, query_key_lacks, query_key_is_one, slice_split-join}
 use Rattle.std.proofs.Math.ListN.{get_or-map}
 use Rattle.std.proofs.lemmas.List.Splits.{slice_split_none, slice_split_at}
 use Rattle.po_compile.specs.MessageLaws.{MessagesHaveParts, MessagesDiffer}
@@ -242,9 +242,6 @@ mean_entries entries messages valid are =
       rule = λ rule view. subst (λ text. IsRuleOf expression_limit text rule) (header_text_is entries messages all are) view.rule_of_header;
       answers = λ rule query. ap (λ found. answer found rule query) (found_if_key entries messages all are query (can_be_key query.context query.id) refl);
     }
-
-lacks_nul : (text : List ℕ) → Lacks 0 text → All (λ b. is_nul b ≡ false) text
-lacks_nul text lacks = All-weaker (λ b. b ≢ 0) (λ b. is_nul b ≡ false) (λ b h. false_from_ne_true (is_nul b) (λ e. h ((Decides-eqb b 0).0 e))) text lacks
 
 second_piece : (key : List ℕ) (plural : Option (List ℕ)) → Lacks 0 key → IfSome plural (Lacks 0) → slice_get (slice_split is_nul (key ++ plural_part plural)) 1 ≡ plural
 second_piece key None lacks none = rw (append-nil key, slice_split_none is_nul key (lacks_nul key lacks)) refl

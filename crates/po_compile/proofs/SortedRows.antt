@@ -20,7 +20,8 @@ use Rattle.po_compile.specs.Internal.Rows.{AreSortedRows, InputMessage, all_mess
 use Rattle.po_compile.specs.declared.row.Row.{Row}
 use Rattle.po_messages.specs.Facts.Mapped.{filter_map}
 use Rattle.po_compile.proofs.Filters.{IsPermutation-filter, filter_within}
-use Rattle.po_compile.proofs.JoinedRows.{all_are, joined_valid, live_of}
+use Rattle.po_compile.proofs.JoinedRows.{all_are, joined_valid}
+use Rattle.po_messages.proofs.DuplicateLemmas.{live_of_entries}
 use Rattle.po_compile.proofs.MeaningLemmas.{entry_lacks_separators, key_of-original}
 use Rattle.po_compile.proofs.KeysApart.{rising_filter}
 
@@ -71,7 +72,7 @@ module _ (use_fuzzy : Bool) where
 
     keyed : All IsKeyed (map row_view rows)
     keyed =
-        let valid : All IsCatalogueEntry (entries_of live) = subst (All IsCatalogueEntry) (live_of (joined catalogues)) (All-filter is_live IsCatalogueEntry (joined_entries catalogues) (joined_valid catalogues held.valid)) in
+        let valid : All IsCatalogueEntry (entries_of live) = subst (All IsCatalogueEntry) (live_of_entries (joined catalogues)) (All-filter is_live IsCatalogueEntry (joined_entries catalogues) (joined_valid catalogues held.valid)) in
         All-permutation IsKeyed given (map row_view rows) moved
         (All-map IsKeyed (input_message use_fuzzy) live (λ k d inside.
         let v = at_entry IsCatalogueEntry live k d inside valid in key_of-original (get_or live k d).entry (entry_lacks_separators (get_or live k d).entry v.valid)))

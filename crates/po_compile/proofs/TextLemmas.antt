@@ -17,6 +17,9 @@ use Rattle.po_compile.specs.CompiledMessages.{plural_part}
 no_nul : (b : ℕ) → b ≢ 0 → is_nul b ≡ false
 no_nul b h = false_from_ne_true (is_nul b) (λ e. h ((Decides-eqb b 0).0 e))
 
+pub lacks_nul : (text : List ℕ) → Lacks 0 text → All (λ b. is_nul b ≡ false) text
+lacks_nul text lacks = All-weaker (λ b. b ≢ 0) (λ b. is_nul b ≡ false) no_nul text lacks
+
 -- a key without a NUL, and nothing or a NUL and more after it
 prefix_of_key : (key rest : List ℕ) → Lacks 0 key → ((length key < length (key ++ rest)) → is_nul (get_or (key ++ rest) (length key) 0) ≡ true) → key_of (key ++ rest) ≡ key
 prefix_of_key key rest lacks ends =
@@ -61,9 +64,9 @@ query_key_is_one (Some c) (Some d) i j lc ld li lj e = let s = split_at_eot c d 
 -- the pieces between the NULs of a translation are the forms
 pub slice_split-join : (form : List ℕ) (forms : List (List ℕ)) → All (Lacks 0) (form ∷ forms) → slice_split is_nul (join_with_byte 0 (form ∷ forms)) ≡ form ∷ forms
 slice_split-join form [] lacks =
-    slice_split_none is_nul form (All-weaker (λ b. b ≢ 0) (λ b. is_nul b ≡ false) no_nul form (All-head (Lacks 0) form [] lacks))
+    slice_split_none is_nul form (lacks_nul form (All-head (Lacks 0) form [] lacks))
 slice_split-join form (next ∷ forms) lacks =
-    slice_split_at is_nul form 0 (join_with_byte 0 (next ∷ forms)) (All-weaker (λ b. b ≢ 0) (λ b. is_nul b ≡ false) no_nul form (All-head (Lacks 0) form (next ∷ forms) lacks)) refl
+    slice_split_at is_nul form 0 (join_with_byte 0 (next ∷ forms)) (lacks_nul form (All-head (Lacks 0) form (next ∷ forms) lacks)) refl
     ∙ ap (λ l. form ∷ l) (slice_split-join next forms (All-tail (Lacks 0) form (next ∷ forms) lacks))
 
 -- one more form
