@@ -1,19 +1,9 @@
 //! The first bytes of a key as a number, by which most rows are compared.
 
-ghost use Rattle.std.specs.Prelude.{◌≡◌, slice_index_or};
+ghost use Rattle.std.specs.Prelude.{◌≡◌};
 ghost use Rattle.po_compile.specs.Internal.Prefix.{prefix_of, second_prefix_of};
 
 const PREFIX_LEN: usize = 16;
-
-/// The byte at an index, and 0 after the last.
-fn byte_at(text: &[u8], index: usize) -> u8
-    ensures { result ≡ slice_index_or text.now index 0 }
-{
-    match text.get(index) {
-        Some(byte) => *byte,
-        None => 0,
-    }
-}
 
 /// The first sixteen bytes of a key as a big-endian number, with zeros after a shorter key.
 pub(crate) fn prefix_of(key: &[u8]) -> u128
@@ -21,7 +11,8 @@ pub(crate) fn prefix_of(key: &[u8]) -> u128
 {
     let mut prefix = 0;
     for index in 0..PREFIX_LEN {
-        prefix = prefix * 256 + byte_at(key, index) as u128;
+        let byte = key.get(index).copied().unwrap_or(0);
+        prefix = prefix * 256 + byte as u128;
     }
     prefix
 }
