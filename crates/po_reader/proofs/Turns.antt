@@ -4,7 +4,7 @@ use Rattle.std.specs.Bool.{beq}
 use Rattle.std.specs.Cmp.{bool_eq_equiv, booleans_Decides}
 use Rattle.std.proofs.lemmas.Bool.{and_parts, not-true, false≢true, eqb-true, eq-eqb}
 use Rattle.po_syntax.specs.declared.item.Marks.{Marks}
-use Rattle.po_reader.specs.Internal.Turn.{same_marks, closed, turn, comes_to, outcome, begins_string, begins_form, begins_word, begins_own, begins_body, EndsHead, opened, is_wanted, stray_string}
+use Rattle.po_reader.specs.Internal.Turn.{same_marks, closed, turn, comes_to, outcome, begins_string, begins_form, begins_word, begins_own, begins_body, EndsHead, opened, is_wanted}
 use Rattle.std.proofs.lemmas.List.Folds.{fold_stays}
 use Rattle.po_syntax.specs.declared.fault.PoFault.{PoFault}
 use Rattle.po_syntax.specs.declared.item.Keyword.{Keyword}
@@ -64,10 +64,6 @@ no_string end [] none read keyword marks false text begins = refl
 no_string end (Comment kind bytes line ∷ items) none read keyword marks false text begins = stopped end BadOrder line items
 no_string end (Word other found line ∷ items) none read keyword marks false text begins = stopped end BadOrder line items
 no_string end (Str bytes found line ∷ items) none read keyword marks false text begins = cc
-
--- a string under other marks
-pub other_string : (read : SoFar) (keyword : Keyword) (marks found : Marks) (some : Bool) (text bytes : List ℕ) (line : ℕ) → same_marks marks found ≡ false → turn (In read keyword marks some text) (Str bytes found line) ≡ Stop (stray_string marks found) line
-other_string read keyword marks found some text bytes line other = rw other refl
 
 -- a keyword of own lines is wanted, and no keyword stands first
 pub no_keyword : (end : ℕ) (items : List TextItem) → begins_word items ≡ false → (read : SoFar) (wanted : Wanted) → comes_to end (Between (Before read wanted)) items ≡ Fault BadOrder (first_line end items)

@@ -1,7 +1,7 @@
-use Rattle.std.proofs.Common.{◌∙◌, sym, ap}
+use Rattle.std.proofs.Common.{◌∙◌, sym, ap, refl}
 use Rattle.po_reader.specs.Internal.Stage.{Fault, In}
 use Rattle.po_reader.specs.Internal.Reads.{line_at}
-use Rattle.po_reader.proofs.Turns.{no_string, first_refused, other_string}
+use Rattle.po_reader.proofs.Turns.{no_string, first_refused}
 use Rattle.po_reader.proofs.strings.take_string.Goals as goal
 
 pub returns-in_default-clause-fault : goal.returns-in_default-clause-fault
@@ -9,4 +9,4 @@ returns-in_default-clause-fault c = λ read keyword some text begins. no_string 
 
 pub returns-then-not-same_marks-clause-fault : goal.returns-then-not-same_marks-clause-fault
 returns-then-not-same_marks-clause-fault c = λ read keyword some text begins.
-    first_refused _ _ _ _ _ c.in-Some.ensures.1 (In read keyword c.args.marks some text) (other_string read keyword c.args.marks _ some text _ _ (sym c.same_marks.ensures ∙ c.if-not-same_marks.true)) ∙ ap (λ fault. Fault fault (line_at c.args.rest.now)) (sym c.stray_string.ensures.fault)
+    first_refused _ _ _ _ _ c.in-Some.ensures.1 (In read keyword c.args.marks some text) (rw (sym c.same_marks.ensures ∙ c.if-not-same_marks.true) refl) ∙ ap (λ fault. Fault fault (line_at c.args.rest.now)) (sym c.stray_string.ensures.fault)
