@@ -7,14 +7,6 @@ use mo_file::MoError;
 use po_syntax::PoFault;
 use std::alloc::AllocError;
 
-/// Appends an unsigned number in decimal digits.
-fn push_number(out: &mut Vec<u8>, number: u64) -> Result<(), AllocError>
-    ensures { OnOk result (out.new.items ≡ out.old.items ++ decimal number) }
-{
-    let mut digits = Buffer::new();
-    out.extend_from_slice(digits.format(number).as_bytes())
-}
-
 /// Appends a text with a number in it.
 pub fn push_numbered(
     out: &mut Vec<u8>,
@@ -24,8 +16,9 @@ pub fn push_numbered(
 ) -> Result<(), AllocError>
     ensures { OnOk result (out.new.items ≡ out.old.items ++ (before.now ++ decimal number ++ after.now)) }
 {
+    let mut digits = Buffer::new();
     out.extend_from_slice(before.as_bytes())?;
-    push_number(out, number)?;
+    out.extend_from_slice(digits.format(number).as_bytes())?;
     out.extend_from_slice(after.as_bytes())
 }
 

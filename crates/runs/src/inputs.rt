@@ -1,5 +1,5 @@
 //! The inputs of a tool, read in the order of the command line.
-ghost use Rattle.std.specs.Prelude.{◌≡◌, ◌≢◌, ◌⊎◌, ◌^◌, ◌+◌, ◌<◌, ◌≤◌, ◌∷◌, [], take, Err, IfErr, IfSome, IsErrOf, IsOk, OnErr, OnOk, map, option_map, false, true, None, Some, MatchOption, MatchResult, IfOk};
+ghost use Rattle.std.specs.Prelude.{◌≡◌, ◌≢◌, ◌↔◌, ◌⊎◌, ◌^◌, ◌+◌, ◌<◌, ◌≤◌, ◌∷◌, [], take, Err, IfErr, IfSome, IsErrOf, IsOk, OnErr, OnOk, map, option_map, false, true, None, Some, MatchResult, IfOk};
 ghost use Rattle.std.specs.Io.KnownBytes.{Consumes};
 ghost use Rattle.runs.specs.Inputs.{AreInputs, Asks, AsksFirst, IsInputFault, ReadsAs, asked_arguments, asked_by, asked_for, gives, refuses, named_inputs, input_fault_text};
 ghost use Rattle.runs.specs.NamedFile.{named_files};
@@ -150,10 +150,7 @@ pub fn read_one<'a, S: InputSource>(
 {
     match read_argument(alloc, source, argument, is_standard(argument), false) {
         Ok(bytes) => Ok(bytes),
-        Err(why) => match fault_of(shown_name(argument), why) {
-            Some(fault) => Err(fault),
-            None => Err(ProgramFault::OutOfMemory),
-        },
+        Err(why) => Err(fault_of(shown_name(argument), why)),
     }
 }
 
@@ -225,20 +222,23 @@ fn ended<'a>(
         × (why ≢ InputFault.OutOfMemory) × (inputs.fault ≢ Some ProgramFault.OutOfMemory)) }
     ensures memory { OnErr result (why ≡ InputFault.OutOfMemory) }
 {
-    let fault = Some(fault_of(shown_name(argument), why).ok_or(AllocError)?);
-    Ok(Inputs { texts, fault })
+    match why {
+        InputFault::OutOfMemory => Err(AllocError),
+        _ => Ok(Inputs {
+            texts,
+            fault: Some(fault_of(shown_name(argument), why)),
+        }),
+    }
 }
 
-/// The fault of an input that can't be read; none for a failed allocation, which is no fault of the
-/// input.
-fn fault_of(name: &str, why: InputFault) -> Option<ProgramFault<'_>>
-    ensures { MatchOption result (why ≡ InputFault.OutOfMemory)
-        (λ fault. (why ≢ InputFault.OutOfMemory) × (fault ≢ ProgramFault.OutOfMemory)
-        × (program_text fault ≡ input_fault_text name.now why)) }
+/// The fault of an input that isn't read.
+fn fault_of(name: &str, why: InputFault) -> ProgramFault<'_>
+    ensures text { program_text result ≡ input_fault_text name.now why }
+    ensures memory { (result ≡ ProgramFault.OutOfMemory) ↔ (why ≡ InputFault.OutOfMemory) }
 {
     match why {
-        InputFault::CannotOpen => Some(ProgramFault::CannotOpen(name)),
-        InputFault::ReadFault => Some(ProgramFault::ReadFault(name)),
-        InputFault::OutOfMemory => None,
+        InputFault::CannotOpen => ProgramFault::CannotOpen(name),
+        InputFault::ReadFault => ProgramFault::ReadFault(name),
+        InputFault::OutOfMemory => ProgramFault::OutOfMemory,
     }
 }

@@ -1,7 +1,7 @@
 //! Where a run is written: to its output file, or to standard output, and then to standard error.
 ghost use Rattle.std.specs.Prelude.{◌≡◌, ◌^◌, ◌<◌, None, IfErr, IfOk};
 ghost use Rattle.runs.specs.FileCalls.{fault_in};
-ghost use Rattle.runs.specs.Outputs.{IsOutputFault, MakesFile, WriterView, WritesRun, system, writer};
+ghost use Rattle.runs.specs.Outputs.{IsOutputFault, WritesRun, system, writer};
 ghost use Rattle.runs.specs.ProgramFaults.{program_text};
 ghost use Rattle.runs.specs.Run.{run_view, output_file};
 
@@ -70,34 +70,9 @@ fn write_output<T: OutputFiles, O: ByteOut, E: ByteOut>(
         (writer (E.contents err.new) (E.failures err.new)))
         (output_file (run_view run.now) argument.now) (fault_in result) }
 {
-    match run.output_file(argument) {
-        Some(name) => make_file(alloc, files, err, run, name),
-        None => match deliver(run, out, err) {
-            Ok(()) => Ok(()),
-            Err(_) => Err(OutputFault::WriteFault),
-        },
-    }
-}
-
-/// Writes a run to the file of this name, and then its messages to standard error.
-fn make_file<T: OutputFiles, E: ByteOut>(
-    alloc: Global,
-    files: &mut T,
-    err: &mut E,
-    run: &Run,
-    name: &str,
-) -> Result<(), OutputFault>
-    requires { E.failures err.old < 2 ^ 63 }
-    ensures { (out : WriterView) → MakesFile (run_view run.now) name.now
-        (system (T.log files.old) out (writer (E.contents err.old) (E.failures err.old)))
-        (system (T.log files.new) out (writer (E.contents err.new) (E.failures err.new)))
-        (fault_in result) }
-{
-    match write_file(alloc, files, name, &run.output, LINK_LIMIT) {
-        Ok(()) => match put_all(err, &run.messages) {
-            Ok(()) => Ok(()),
-            Err(_) => Err(OutputFault::WriteFault),
-        },
-        Err(why) => Err(why),
-    }
+    let Some(name) = run.output_file(argument) else {
+        return deliver(run, out, err).or(Err(OutputFault::WriteFault));
+    };
+    write_file(alloc, files, name, &run.output, LINK_LIMIT)?;
+    put_all(err, &run.messages).or(Err(OutputFault::WriteFault))
 }

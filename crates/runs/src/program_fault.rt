@@ -1,8 +1,9 @@
 //! Faults of the program itself, and the lines that report them.
-ghost use Rattle.std.specs.Prelude.{◌≡◌, ◌+◌, ◌^◌, ◌<◌, ◌≤◌, ◌++◌, length, IfOk, OnOk, OnErr, Err};
+ghost use Rattle.std.specs.Prelude.{◌≡◌, ◌+◌, ◌^◌, ◌<◌, ◌≤◌, ◌++◌, codes, length, IfOk, OnOk, OnErr, Err};
 ghost use Rattle.std.specs.Io.KnownBytes.{Appends};
 ghost use Rattle.std.specs.Option.{option_copied};
 ghost use Rattle.runs.specs.Device.{GivesFirst};
+ghost use Rattle.runs.specs.Internal.Parts.{joined};
 ghost use Rattle.runs.specs.ProgramFaults.{input_fault, program_line, program_text, stdin_text, tool_prefix};
 ghost use Rattle.runs.specs.declared.program_fault.ProgramFault.TheVariants.{OutOfMemory};
 
@@ -101,58 +102,60 @@ pub fn report_fault<E: ByteOut>(
     ensures at_once { length (program_line (option_copied tool.entry) fault.entry) ≤ 4096
         → GivesFirst (E.given err.old) (E.given err.new) (program_line (option_copied tool.entry) fault.entry) }
 {
-    match line_of(tool, fault) {
+    let parts = parts_of(tool, fault);
+    match line_of(&parts) {
         Ok(line) => put_all(err, &line),
-        Err(_) => put_parts(err, tool, fault),
+        Err(_) => put_parts(err, &parts),
     }
 }
 
-/// The line of a fault, where it isn't longer than a `Line`.
-fn line_of(tool: Option<&str>, fault: ProgramFault<'_>) -> Result<Line, CapacityError>
-    ensures line { IfOk result (λ line. line.items ≡ program_line (option_copied tool.entry) fault.entry) }
-    ensures long { OnErr result (4096 < length (program_line (option_copied tool.entry) fault.entry)) }
+/// The line of these parts, where it isn't longer than a `Line`.
+fn line_of(parts: &[&str]) -> Result<Line, CapacityError>
+    ensures line { IfOk result (λ line. line.items ≡ joined parts.now) }
+    ensures long { OnErr result (4096 < length (joined parts.now)) }
 {
-    let (file, text) = parts_of(fault);
     let mut line = Line::new();
-    push_tool(&mut line, tool)?;
-    push_both(&mut line, file, text)?;
-    push(&mut line, "\n")?;
+    for part in parts {
+        line.try_extend_from_slice(part.as_bytes())?;
+    }
     Ok(line)
 }
 
-/// Appends which tool reports a fault.
-fn push_tool(line: &mut Line, tool: Option<&str>) -> Result<(), CapacityError>
-    ensures ok { OnOk result (line.new.items ≡ line.old.items ++ tool_prefix (option_copied tool.entry)) }
-    ensures long { OnErr result (4096 < length (line.old.items ++ tool_prefix (option_copied tool.entry))) }
+/// Writes a line part by part.
+fn put_parts<E: ByteOut>(err: &mut E, parts: &[&str]) -> Result<(), ToolFault>
+    requires { E.failures err.old < 2 ^ 63 }
+    ensures line { OnOk result (Appends (E.contents err.old) (E.contents err.new) (joined parts.now)) }
+    ensures fault { OnErr result (result ≡ Err ToolFault.WriteFault) }
+    ensures no_failure { OnOk result (E.failures err.new ≡ E.failures err.old) }
+    ensures cause { OnErr result (E.failures err.new ≡ E.failures err.old + 1) }
+{
+    for part in parts {
+        put_all(err, part.as_bytes())?;
+    }
+    Ok(())
+}
+
+/// The parts of the line of a fault.
+fn parts_of<'a>(tool: Option<&'a str>, fault: ProgramFault<'a>) -> [&'a str; 6]
+    ensures { joined result ≡ program_line (option_copied tool.entry) fault.entry }
+{
+    let (program, tool) = tool_of(tool);
+    let (file, text) = text_of(fault);
+    [program, tool, ": ", file, text, "\n"]
+}
+
+/// The program, and the tool that reports a fault.
+fn tool_of(tool: Option<&str>) -> (&str, &str)
+    ensures { result.0.now ++ result.1.now ++ codes ": " ≡ tool_prefix (option_copied tool.entry) }
 {
     match tool {
-        None => push(line, "pokit: "),
-        Some(tool) => {
-            push(line, "pokit ")?;
-            push_both(line, tool, ": ")
-        }
+        None => ("pokit", ""),
+        Some(tool) => ("pokit ", tool),
     }
 }
 
-/// Appends one text and then another.
-fn push_both(line: &mut Line, first: &str, second: &str) -> Result<(), CapacityError>
-    ensures ok { OnOk result (line.new.items ≡ line.old.items ++ (first.now ++ second.now)) }
-    ensures long { OnErr result (4096 < length (line.old.items ++ (first.now ++ second.now))) }
-{
-    push(line, first)?;
-    push(line, second)
-}
-
-/// Appends a text.
-fn push(line: &mut Line, text: &str) -> Result<(), CapacityError>
-    ensures ok { OnOk result (line.new.items ≡ line.old.items ++ text.now) }
-    ensures long { OnErr result (4096 < length (line.old.items ++ text.now)) }
-{
-    line.try_extend_from_slice(text.as_bytes())
-}
-
 /// The name of a file, where a fault has one, and what is wrong.
-fn parts_of<'a>(fault: ProgramFault<'a>) -> (&'a str, &'a str)
+fn text_of<'a>(fault: ProgramFault<'a>) -> (&'a str, &'a str)
     ensures { result.0.now ++ result.1.now ≡ program_text fault.entry }
 {
     match fault {
@@ -164,53 +167,4 @@ fn parts_of<'a>(fault: ProgramFault<'a>) -> (&'a str, &'a str)
         ProgramFault::WriteFault => ("", "write fault"),
         ProgramFault::OutOfMemory => ("", "out of memory"),
     }
-}
-
-/// Writes the line of a fault part by part.
-fn put_parts<E: ByteOut>(
-    err: &mut E,
-    tool: Option<&str>,
-    fault: ProgramFault<'_>,
-) -> Result<(), ToolFault>
-    requires { E.failures err.old < 2 ^ 63 }
-    ensures line { OnOk result (Appends (E.contents err.old) (E.contents err.new)
-        (program_line (option_copied tool.entry) fault.entry)) }
-    ensures fault { OnErr result (result ≡ Err ToolFault.WriteFault) }
-    ensures no_failure { OnOk result (E.failures err.new ≡ E.failures err.old) }
-    ensures cause { OnErr result (E.failures err.new ≡ E.failures err.old + 1) }
-{
-    let (file, text) = parts_of(fault);
-    put_tool(err, tool)?;
-    put_both(err, file, text)?;
-    put_all(err, b"\n")
-}
-
-/// Writes which tool reports a fault.
-fn put_tool<E: ByteOut>(err: &mut E, tool: Option<&str>) -> Result<(), ToolFault>
-    requires { E.failures err.old < 2 ^ 63 }
-    ensures mark { OnOk result (Appends (E.contents err.old) (E.contents err.new)
-        (tool_prefix (option_copied tool.entry))) }
-    ensures fault { OnErr result (result ≡ Err ToolFault.WriteFault) }
-    ensures no_failure { OnOk result (E.failures err.new ≡ E.failures err.old) }
-    ensures cause { OnErr result (E.failures err.new ≡ E.failures err.old + 1) }
-{
-    match tool {
-        None => put_all(err, b"pokit: "),
-        Some(tool) => {
-            put_all(err, b"pokit ")?;
-            put_both(err, tool, ": ")
-        }
-    }
-}
-
-/// Writes one text and then another.
-fn put_both<E: ByteOut>(err: &mut E, first: &str, second: &str) -> Result<(), ToolFault>
-    requires { E.failures err.old < 2 ^ 63 }
-    ensures texts { OnOk result (Appends (E.contents err.old) (E.contents err.new) (first.now ++ second.now)) }
-    ensures fault { OnErr result (result ≡ Err ToolFault.WriteFault) }
-    ensures no_failure { OnOk result (E.failures err.new ≡ E.failures err.old) }
-    ensures cause { OnErr result (E.failures err.new ≡ E.failures err.old + 1) }
-{
-    put_all(err, first.as_bytes())?;
-    put_all(err, second.as_bytes())
 }

@@ -46,11 +46,7 @@ impl Run {
     pub fn output_file<'a>(&self, argument: &'a str) -> Option<&'a str>
         ensures { option_copied result ≡ output_file (run_view self.now) argument.now }
     {
-        if self.create && argument != STANDARD {
-            Some(argument)
-        } else {
-            None
-        }
+        (self.create && argument != STANDARD).then_some(argument)
     }
 }
 

@@ -119,21 +119,5 @@ fn pull_after<R: ByteIn>(reader: &mut R, input: &mut Vec<u8>, filled: usize) -> 
     ensures counts { R.calls reader.new ≡ R.calls reader.old + 1 }
     ensures fails { R.failures reader.new ≡ R.failures reader.old + failure_of_read result }
 {
-    pull_into(reader, input.as_mut_slice(), filled)
-}
-
-/// One call of the reader, for what comes after the first `filled` bytes of `room`.
-fn pull_into<R: ByteIn>(reader: &mut R, room: &mut [u8], filled: usize) -> io::Result<usize>
-    requires calls { R.calls reader.old < 2 ^ 64 - 1 }
-    requires failures { R.failures reader.old < 2 ^ 64 - 1 }
-    requires room { filled < length room.old }
-    ensures front { take filled room.new ≡ take filled room.old }
-    ensures fits { IfOk result (λ n. filled + n ≤ length room.new) }
-    ensures bytes { IfOk result (λ n. Consumes (R.remaining reader.old) (R.remaining reader.new)
-        (take n (drop filled room.new))) }
-    ensures end { IfOk result (λ n. n ≡ 0 → IsAtEnd (R.remaining reader.new)) }
-    ensures counts { R.calls reader.new ≡ R.calls reader.old + 1 }
-    ensures fails { R.failures reader.new ≡ R.failures reader.old + failure_of_read result }
-{
-    reader.pull(&mut room[filled..])
+    reader.pull(&mut input.as_mut_slice()[filled..])
 }

@@ -1,0 +1,14 @@
+use Rattle.std.proofs.Common.{ap, ◌∙◌, inl, inr}
+use Rattle.runs.specs.Inputs.{input_fault_text}
+use Rattle.runs.proofs.inputs.read_one.Goals as goal
+
+pub returns-in-Err-clause-fault : goal.returns-in-Err-clause-fault
+returns-in-Err-clause-fault g c =
+    elim c.in-Err.ensures.reading [
+      | inl memory ↦ inl (c.fault_of.ensures.memory.1 memory)
+      | inr reads ↦ inr (record {
+        why = c.in-Err.why;
+        reads = rw c.is_standard.ensures at reads;
+        text_is = c.fault_of.ensures.text ∙ ap (λ name. input_fault_text name c.in-Err.why) c.shown_name.ensures;
+      })
+    ]
