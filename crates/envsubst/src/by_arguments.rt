@@ -57,10 +57,7 @@ fn write_names<W: ByteOut>(alloc: Global, writer: &mut W, format: &str) -> Resul
     ensures output { WritesNames format.now (W.contents writer.old) (W.contents writer.new) result }
     ensures failures { W.failures writer.new ≡ W.failures writer.old + write_failures result }
 {
-    match name_lines(alloc, format.as_bytes()) {
-        Ok(lines) => put_all(writer, &lines),
-        Err(_) => Err(ToolFault::OutOfMemory),
-    }
+    put_all(writer, &name_lines(alloc, format.as_bytes())?)
 }
 
 /// Writes the input with its references to variables replaced.
@@ -81,25 +78,12 @@ fn substitute<S: EntrySource, R: ByteIn, W: ByteOut>(
     ensures write_failures { W.failures writer.new ≡ W.failures writer.old + write_failures result }
     ensures calls { R.calls reader.new ≤ R.calls reader.old + 2 ^ 32 }
 {
-    let Ok(entries) = source.read_entries(alloc) else {
-        return Err(ToolFault::OutOfMemory);
+    let entries = source.read_entries(alloc)?;
+    let variables = variables_in(alloc, entries.as_slice())?;
+    let Some(format) = format else {
+        return run_envsubst_in_blocks(alloc, reader, writer, variables.as_slice(), None);
     };
-    let Ok(variables) = variables_in(alloc, entries.as_slice()) else {
-        return Err(ToolFault::OutOfMemory);
-    };
-    match format {
-        None => run_envsubst_in_blocks(alloc, reader, writer, variables.as_slice(), None),
-        Some(format) => {
-            let Ok(only) = names(alloc, format.as_bytes()) else {
-                return Err(ToolFault::OutOfMemory);
-            };
-            run_envsubst_in_blocks(
-                alloc,
-                reader,
-                writer,
-                variables.as_slice(),
-                Some(only.as_slice()),
-            )
-        }
-    }
+    let only = names(alloc, format.as_bytes())?;
+    let only = Some(only.as_slice());
+    run_envsubst_in_blocks(alloc, reader, writer, variables.as_slice(), only)
 }

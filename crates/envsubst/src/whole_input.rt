@@ -1,7 +1,7 @@
 //! Substitution of a whole input ("Invoking the envsubst program" of the GNU gettext manual).
-ghost use Rattle.std.specs.Prelude.{◌≡◌, ◌+◌, ◌^◌, ◌<◌, ◌≤◌, ◌⊎◌, ◌≢◌, ◌++◌, [], Some, length, false, IfOk, OnOk, OnErr, IsErrOf, Err};
+ghost use Rattle.std.specs.Prelude.{◌≡◌, ◌+◌, ◌^◌, ◌<◌, ◌≤◌, ◌≢◌, ◌++◌, [], None, Some, length, false, IfOk, IfSome, OnOk, OnErr, Err};
 ghost use Rattle.envsubst.specs.Failures.{ReadsFail, write_failures};
-ghost use Rattle.envsubst.specs.Envsubst.{EndsAs, HasGoneOut, Substitutes, StopsAtEnd, StopsWithin};
+ghost use Rattle.envsubst.specs.Envsubst.{EndsAs};
 ghost use Rattle.envsubst.specs.Stream.{Advances, Stops};
 ghost use Rattle.envsubst.specs.SubstituterView.{values_of_substituter};
 ghost use Rattle.envsubst.specs.Substitution.{values_of_slices};
@@ -36,37 +36,18 @@ pub fn run_envsubst<R: ByteIn, W: ByteOut>(
     requires calls { R.calls reader.old < 2 ^ 63 }
     requires read_failures { R.failures reader.old < 2 ^ 63 }
     requires write_failures { W.failures writer.old < 2 ^ 63 }
-    ensures ok { OnOk result (Substitutes (values_of_slices vars.now only.entry)
-        (R.remaining reader.old) (W.contents writer.old) (W.contents writer.new)) }
 
-    // All of what the bytes that were read become went out, but for a reference that may go on.
-    ensures read_fault { IsErrOf result ToolFault.ReadFault
-        → HasGoneOut (values_of_slices vars.now only.entry)
-        (R.remaining reader.old) (R.remaining reader.new) (W.contents writer.old) (W.contents writer.new) }
-
-    // What went out is a prefix of what these bytes become, or at the end of the input one of what
-    // all of it becomes.
-    ensures write_fault { IsErrOf result ToolFault.WriteFault
-        → StopsWithin (values_of_slices vars.now only.entry)
-        (R.remaining reader.old) (R.remaining reader.new) (W.contents writer.old) (W.contents writer.new)
-        ⊎ StopsAtEnd (values_of_slices vars.now only.entry)
-        (R.remaining reader.old) (W.contents writer.old) (W.contents writer.new) }
+    // All of it; after a fault of the reader all of what was read, but for a reference that may go
+    // on; or after another fault a prefix.
+    ensures output { EndsAs (values_of_slices vars.now only.entry) (R.remaining reader.old) (R.remaining reader.new)
+        (W.contents writer.old) (W.contents writer.new) result }
     ensures read_failures { ReadsFail result (R.calls reader.old) (R.calls reader.new)
         (R.failures reader.old) (R.failures reader.new) }
     ensures write_failures { W.failures writer.new ≡ W.failures writer.old + write_failures result }
     ensures no_memory { result ≢ Err ToolFault.OutOfMemory }
     ensures calls { R.calls reader.new ≤ R.calls reader.old + 2 ^ 32 }
 {
-    let mut substituter = Substituter::new(vars, only);
-    let mut piece = [0; BUFFER_LEN];
-    for _ in 0..MOST_READS {
-        match reader.pull(&mut piece) {
-            Ok(0) => return substituter.finish(writer),
-            Ok(count) => substituter.feed(&piece[..count], writer)?,
-            Err(_) => return Err(ToolFault::ReadFault),
-        }
-    }
-    Err(ToolFault::ReadFault)
+    substitute_all(reader, writer, vars, only, None)
 }
 
 /// Writes the input with its references replaced, as `run_envsubst` does, and gathers the output in
@@ -82,9 +63,6 @@ pub fn run_envsubst_in_blocks<R: ByteIn, W: ByteOut>(
     requires calls { R.calls reader.old < 2 ^ 63 }
     requires read_failures { R.failures reader.old < 2 ^ 63 }
     requires write_failures { W.failures writer.old < 2 ^ 63 }
-
-    // All of it; after a fault of the reader all of what was read, but for a reference that may go
-    // on; or after another fault a prefix.
     ensures output { EndsAs (values_of_slices vars.now only.entry) (R.remaining reader.old) (R.remaining reader.new)
         (W.contents writer.old) (W.contents writer.new) result }
     ensures read_failures { ReadsFail result (R.calls reader.old) (R.calls reader.new)
@@ -92,48 +70,40 @@ pub fn run_envsubst_in_blocks<R: ByteIn, W: ByteOut>(
     ensures write_failures { W.failures writer.new ≡ W.failures writer.old + write_failures result }
     ensures calls { R.calls reader.new ≤ R.calls reader.old + 2 ^ 32 }
 {
-    let Ok(vars) = sorted_variables(alloc, vars) else {
-        return Err(ToolFault::OutOfMemory);
+    let block = Some(Vec::new(alloc));
+    let vars = sorted_variables(alloc, vars)?;
+    let Some(names) = only else {
+        return substitute_all(reader, writer, vars.as_slice(), None, block);
     };
-    match only {
-        Some(names) => {
-            let Ok(names) = sorted_names(alloc, names) else {
-                return Err(ToolFault::OutOfMemory);
-            };
-            substitute_in_blocks(
-                alloc,
-                reader,
-                writer,
-                vars.as_slice(),
-                Some(names.as_slice()),
-            )
-        }
-        None => substitute_in_blocks(alloc, reader, writer, vars.as_slice(), None),
-    }
+    let names = sorted_names(alloc, names)?;
+    let only = Some(names.as_slice());
+    substitute_all(reader, writer, vars.as_slice(), only, block)
 }
 
-/// Writes the input with its references replaced, in blocks, by variables and names that are sorted.
+/// Writes the input with its references replaced, and gathers the output in a block where one is given.
 #[inline(never)]
-fn substitute_in_blocks<R: ByteIn, W: ByteOut>(
-    alloc: Global,
+fn substitute_all<R: ByteIn, W: ByteOut>(
     reader: &mut R,
     writer: &mut W,
     vars: &[(&[u8], &[u8])],
     only: Option<&[&[u8]]>,
+    block: Option<Vec<u8>>,
 ) -> Result<(), ToolFault>
     requires calls { R.calls reader.old < 2 ^ 63 }
     requires read_failures { R.failures reader.old < 2 ^ 63 }
     requires write_failures { W.failures writer.old < 2 ^ 63 }
+    requires empty { IfSome block (λ b. b.items ≡ []) }
     ensures output { EndsAs (values_of_slices vars.now only.entry) (R.remaining reader.old) (R.remaining reader.new)
         (W.contents writer.old) (W.contents writer.new) result }
     ensures read_failures { ReadsFail result (R.calls reader.old) (R.calls reader.new)
         (R.failures reader.old) (R.failures reader.new) }
     ensures write_failures { W.failures writer.new ≡ W.failures writer.old + write_failures result }
     ensures calls { R.calls reader.new ≤ R.calls reader.old + 2 ^ 32 }
+    ensures no_memory { block ≡ None → result ≢ Err ToolFault.OutOfMemory }
 {
     let part_len = part_len(vars);
     let mut substituter = Substituter::new(vars, only);
-    let mut block = Vec::new(alloc);
+    let mut block = block;
     let mut piece = [0; BUFFER_LEN];
     for _ in 0..MOST_READS {
         match reader.pull(&mut piece) {
@@ -158,25 +128,27 @@ fn part_len(vars: &[(&[u8], &[u8])]) -> usize
     (GATHERED_LEN / longest).max(1)
 }
 
-/// Takes one more piece, in parts of so many bytes. What they become is gathered in `block`, and
-/// all of it is written before the block is returned.
+/// Takes one more piece, with a block in parts of so many bytes. What they become is gathered in it,
+/// and all of it is written before it is returned.
 fn feed_in_blocks<W: ByteOut>(
     substituter: &mut Substituter<'_>,
-    block: Vec<u8>,
+    block: Option<Vec<u8>>,
     piece: &[u8],
     part_len: usize,
     writer: &mut W,
-) -> Result<Vec<u8>, ToolFault>
+) -> Result<Option<Vec<u8>>, ToolFault>
     requires failures { W.failures writer.old < 2 ^ 63 }
     requires sound { substituter.old.has_failed ≡ false }
-    requires empty { block.items ≡ [] }
+    requires empty { IfSome block (λ b. b.items ≡ []) }
     requires some { 0 < part_len }
     requires few { length substituter.old.held ≤ 257 }
     ensures ok { OnOk result (Advances (values_of_substituter substituter.old) (substituter.old.held ++ piece.now)
         substituter.new.held (W.contents writer.old) (W.contents writer.new)) }
     ensures stops { OnErr result (Stops (values_of_substituter substituter.old) (substituter.old.held ++ piece.now)
         (W.contents writer.old) (W.contents writer.new)) }
-    ensures empty { IfOk result (λ block. block.items ≡ []) }
+    ensures empty { IfOk result (λ block. IfSome block (λ b. b.items ≡ [])) }
+    ensures plain { block ≡ None → IfOk result (λ block. block ≡ None) }
+    ensures memory { block ≡ None → OnErr result (result ≡ Err ToolFault.WriteFault) }
     ensures sound { OnOk result (substituter.new.has_failed ≡ false) }
     ensures vars { substituter.new.vars ≡ substituter.old.vars }
     ensures only { substituter.new.only ≡ substituter.old.only }
@@ -184,7 +156,10 @@ fn feed_in_blocks<W: ByteOut>(
     ensures no_read_fault { result ≢ Err ToolFault.ReadFault }
     ensures few { length substituter.new.held ≤ 257 }
 {
-    let mut block = block;
+    let Some(mut block) = block else {
+        substituter.feed(piece, writer)?;
+        return Ok(None);
+    };
     let mut at = 0;
     while at < piece.len() {
         let end = at + part_len.min(piece.len() - at);
@@ -197,7 +172,7 @@ fn feed_in_blocks<W: ByteOut>(
     }
     put_all(writer, &block)?;
     block.clear();
-    Ok(block)
+    Ok(Some(block))
 }
 
 /// Takes one more part, and appends to `block` what is written of it.

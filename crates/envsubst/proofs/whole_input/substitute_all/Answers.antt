@@ -2,7 +2,7 @@ use Rattle.std.proofs.Common.{◌<◌, length, lit≤, Err, ap, refl, sym, ◌�
 use Rattle.std.proofs.KnownBytes.{Keeps-refl}
 use Rattle.std.proofs.lemmas.Result.{err_from_is_err_and}
 use Rattle.envsubst.proofs.EnvsubstLemmas.{ends-within, fed-finish, fed-more, fed-none, fed-read_fault, fed-write_fault, same-values}
-use Rattle.envsubst.proofs.whole_input.substitute_in_blocks.Goals as goal
+use Rattle.envsubst.proofs.whole_input.substitute_all.Goals as goal
 
 pub loop-init : goal.loop-init
 loop-init g c = record {
@@ -11,7 +11,8 @@ loop-init g c = record {
   only = c.new-substituter.ensures.only;
   sound = c.new-substituter.ensures.has_failed;
   few = rw c.new-substituter.ensures.held (lit≤ tt);
-  empty = c.new-block.ensures.items;
+  empty = c.requires.empty;
+  plain = λ is. is;
   calls = omega arith;
   no_read_failure = refl;
   no_write_failure = refl;
@@ -39,6 +40,7 @@ loop-preserved g c = record {
   only = c.in_ok-block-in-Ok.ensures.only ∙ c.loop.invariant.only;
   sound = c.in_ok-block-in-Ok.ensures.sound;
   empty = c.in_ok-block-in-Ok.ensures.empty;
+  plain = λ is. c.in_ok-block-in-Ok.ensures.plain (c.loop.invariant.plain is);
   few = c.in_ok-block-in-Ok.ensures.few;
   calls = omega (arith, c.in-Ok.ensures.counts);
   no_read_failure = omega (arith, c.in-Ok.ensures.fails);

@@ -1,7 +1,7 @@
-use Rattle.std.proofs.Common.{◌≡◌, ◌≤◌, ◌+◌, length, [], false}
+use Rattle.std.proofs.Common.{◌≡◌, ◌≤◌, ◌+◌, length, [], false, None, IfSome}
 use Rattle.envsubst.specs.Substitution.{values_of, pairs_in, names_given}
 use Rattle.envsubst.proofs.EnvsubstLemmas.{HasFed}
-use Rattle.envsubst.proofs.whole_input.substitute_in_blocks.Given as goal
+use Rattle.envsubst.proofs.whole_input.substitute_all.Given as goal
 
 abbrev pub invariant-loop : goal.invariant-loop
 invariant-loop g l = record {
@@ -10,7 +10,8 @@ invariant-loop g l = record {
   only : l.substituter.only ≡ names_given l.fn.only;
   sound : l.substituter.has_failed ≡ false;
   few : length l.substituter.held ≤ 257;
-  empty : l.block.items ≡ [];
+  empty : IfSome l.block (λ b. b.items ≡ []);
+  plain : l.fn.block ≡ None → l.block ≡ None;
   calls : g.R.ByteIn.calls l.reader ≡ g.R.ByteIn.calls l.fn.reader + l.counter;
   no_read_failure : g.R.ByteIn.failures l.reader ≡ g.R.ByteIn.failures l.fn.reader;
   no_write_failure : g.W.ByteOut.failures l.writer ≡ g.W.ByteOut.failures l.fn.writer;
