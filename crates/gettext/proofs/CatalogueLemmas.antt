@@ -1,5 +1,6 @@
 -- The catalogues of some paths, and those of the paths after them.
-use Rattle.std.proofs.Common.{◌≡◌, ◌+◌, ◌<◌, ◌≤◌, ℕ, List, [], ◌∷◌, ◌++◌, Option, None, Some, map, drop, get_or, length, drop-cons, drop_of_length-le, add-one, append-nil, append_assoc, refl, take, zero, suc, ap, subst}
+use Rattle.std.proofs.Common.{◌≡◌, ◌+◌, ◌<◌, ◌≤◌, ℕ, List, [], ◌∷◌, ◌++◌, Option, None, Some, map, drop, get_or, length, drop_of_length-le, append-nil, append_assoc, ap, subst}
+use Rattle.std.proofs.lemmas.List.{drop_more}
 use Rattle.std.specs.Global.{Vec}
 use Rattle.gettext.specs.Catalogues.{AreCatalogues, AsksAt, AsksPaths, IsCatalogueAt, done, found, none, next, skipped}
 use Rattle.runs.specs.Inputs.{Asked, Reading}
@@ -8,14 +9,9 @@ use Rattle.runs.specs.NamedFile.{NamedFile}
 abbrev pub path_texts : List (Vec ℕ) → List (List ℕ)
 path_texts paths = map (λ path. path.items) paths
 
-pub map-take : {X Y : Type 0} (f : X → Y) (n : ℕ) (xs : List X) → map f (take n xs) ≡ take n (map f xs)
-map-take f zero xs = refl
-map-take f (suc n) [] = refl
-map-take f (suc n) (x ∷ xs) = ap (λ l. f x ∷ l) (map-take f n xs)
-
 next-path : (paths : List (Vec ℕ)) (i : ℕ) (d : Vec ℕ) → i < length paths
     → path_texts (drop i paths) ≡ (get_or paths i d).items ∷ path_texts (drop (i + 1) paths)
-next-path paths i d below = let next : drop i paths ≡ get_or paths i d ∷ drop (i + 1) paths = rw add-one (drop-cons paths i d below) in ap path_texts next
+next-path paths i d below = ap path_texts (drop_more paths i d below)
 
 -- whatever is asked for at the paths from i on completes what was asked for at the paths before
 pub record AskedPaths (paths : List (Vec ℕ)) (i : ℕ) (before now : Option (List Asked)) : Type 0 where

@@ -1,6 +1,7 @@
 -- The files that are left to open, how many catalogues a chain has, and the answers to the arguments.
-use Rattle.std.proofs.Common.{◌≡◌, ◌≤◌, ◌<◌, ◌+◌, ◌||◌, ℕ, Bool, true, false, List, [], ◌∷◌, ◌++◌, drop, get_or, map, length, flat_map, refl, sym, ap, ◌∙◌, append_assoc, append-nil, drop-cons, drop_of_length-le, add-one, arith}
-use Rattle.std.proofs.lemmas.List.{length-map}
+use Rattle.std.proofs.Common.{◌≡◌, ◌≤◌, ◌<◌, ◌+◌, ◌||◌, ℕ, Bool, false, List, [], ◌∷◌, ◌++◌, drop, get_or, map, length, flat_map, sym, ap, ◌∙◌, append_assoc, append-nil, drop_of_length-le, arith}
+use Rattle.std.proofs.Math.Bool.{or-false}
+use Rattle.std.proofs.lemmas.List.{drop_more, length-map}
 use Rattle.std.specs.Borrow.{Bor}
 use Rattle.std.specs.List.{join_with_byte, list_any}
 use Rattle.mo_lookup.specs.CatalogView.{CatalogView}
@@ -18,7 +19,7 @@ Completes tool files i done =
 -- the next file stands before those that are left
 next-file : (files : List (Bor (List ℕ) × Bor (List ℕ))) (i : ℕ) (d : Bor (List ℕ) × Bor (List ℕ)) → i < length files
     → named_files (drop i files) ≡ named_file (get_or files i d) ∷ named_files (drop (i + 1) files)
-next-file files i d below = let next : drop i files ≡ get_or files i d ∷ drop (i + 1) files = rw add-one (drop-cons files i d below) in ap named_files next
+next-file files i d below = ap named_files (drop_more files i d below)
 
 -- one more file is opened
 pub Completes-next : (tool : List ℕ) (files : List (Bor (List ℕ) × Bor (List ℕ))) (i : ℕ) (d : Bor (List ℕ) × Bor (List ℕ)) (old new : Opened) → i < length files
@@ -66,10 +67,6 @@ answers-reported answer arguments others first old begun out i are past begins l
     sym (append-nil out) ∙ all ∙ ap (λ l. l ++ further answer others) begins ∙ append_assoc old (answer first.now) (further answer others)
     ∙ ap (λ l. old ++ l) (sym (join-first 32 (answer first.now) (map answer (map (λ argument. argument.now) others))))
     ∙ ap (λ ws. old ++ join_with_byte 32 (map answer (map (λ argument. argument.now) ws))) (sym are)
-
-or-false : (b : Bool) → (b || false) ≡ b
-or-false true = refl
-or-false false = refl
 
 -- an argument acts as `-n` where the first or one of the others does
 pub omitted-reported : (p : List ℕ → Bool) (arguments others : List (Bor (List ℕ))) (first : Bor (List ℕ)) (begun omitted : Bool) (i : ℕ)

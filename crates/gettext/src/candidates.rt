@@ -88,13 +88,10 @@ pub(crate) fn non_empty(variable: Option<&[u8]>) -> Option<&[u8]>
 fn locale_of<'a>(environment: &Environment<'a>) -> &'a [u8]
     ensures { result.now ≡ spec.locale_of environment.now }
 {
-    if let Some(locale) = non_empty(environment.lc_all) {
-        return locale;
-    }
-    if let Some(locale) = non_empty(environment.lc_messages) {
-        return locale;
-    }
-    non_empty(environment.lang).unwrap_or(b"")
+    non_empty(environment.lc_all)
+        .or(non_empty(environment.lc_messages))
+        .or(non_empty(environment.lang))
+        .unwrap_or(b"")
 }
 
 /// Adds the name of a candidate.

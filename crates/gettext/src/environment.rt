@@ -1,7 +1,6 @@
 //! The environment variables that choose a catalogue ("Locale Environment Variables" and "Locating
 //! Message Catalog Files" of the GNU gettext manual).
 ghost use Rattle.std.specs.Prelude.{◌≡◌, ℕ, List, Option, option_map, IfOk};
-ghost use Rattle.std.specs.Option.{option_copied};
 ghost use Rattle.gettext.specs.Environments.{IsEnvironment, environment_view, owned_environment_view};
 
 use crate::candidates::Environment;
@@ -57,22 +56,12 @@ impl OwnedEnvironment {
         ensures { environment_view result ≡ owned_environment_view self.now }
     {
         Environment {
-            lc_all: borrowed_value(&self.lc_all),
-            lc_messages: borrowed_value(&self.lc_messages),
-            lang: borrowed_value(&self.lang),
-            language: borrowed_value(&self.language),
-            textdomain: borrowed_value(&self.textdomain),
-            textdomaindir: borrowed_value(&self.textdomaindir),
+            lc_all: self.lc_all.as_deref(),
+            lc_messages: self.lc_messages.as_deref(),
+            lang: self.lang.as_deref(),
+            language: self.language.as_deref(),
+            textdomain: self.textdomain.as_deref(),
+            textdomaindir: self.textdomaindir.as_deref(),
         }
-    }
-}
-
-/// The value of a variable, borrowed, where it is set.
-fn borrowed_value(value: &Option<Vec<u8>>) -> Option<&[u8]>
-    ensures { option_copied result ≡ option_map (λ v. v.items) value.now }
-{
-    match value {
-        Some(value) => Some(value.as_slice()),
-        None => None,
     }
 }

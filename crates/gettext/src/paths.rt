@@ -88,8 +88,5 @@ fn domain_paths(
 fn folder_of<'a>(environment: &Environment<'a>) -> &'a [u8]
     ensures { result.now ≡ folder_of environment.now }
 {
-    match non_empty(environment.textdomaindir) {
-        Some(folder) => folder,
-        None => DEFAULT_FOLDER,
-    }
+    non_empty(environment.textdomaindir).unwrap_or(DEFAULT_FOLDER)
 }

@@ -4,9 +4,7 @@ ghost use Rattle.std.specs.List.{list_any};
 ghost use Rattle.std.specs.Option.{option_copied};
 ghost use Rattle.mo_lookup.specs.Chain.{chain_answered};
 ghost use Rattle.mo_lookup.specs.Query.{given};
-ghost use Rattle.gettext.specs.CountArgument.{count_in};
 ghost use Rattle.gettext.specs.Escapes.{expansion, has_no_newline};
-ghost use Rattle.runs.specs.FaultText.{fault_line, mo_text};
 ghost use Rattle.runs.specs.Run.{run_view};
 ghost use Rattle.gettext.specs.Gettext as Spec;
 ghost use Rattle.gettext.specs.GettextView.{gettext_view, ngettext_view};
@@ -16,7 +14,7 @@ ghost use Rattle.gettext.specs.Internal.OpensFile.{OpensFile};
 use crate::catalogues::bytes_of;
 use crate::count::count_of;
 use crate::escape::{Expanded, expand};
-use mo_file::{Meter, MoError};
+use mo_file::Meter;
 use mo_lookup::{Catalog, Chain};
 use runs::{Run, ToolFault, push_location, push_mo_text};
 use std::alloc::{AllocError, Global};
@@ -60,20 +58,6 @@ struct Opened<'a> {
     messages: Vec<u8>,
 }
 
-/// Appends the line of a catalogue that was refused.
-fn push_refusal(
-    messages: &mut Vec<u8>,
-    tool: &str,
-    name: &str,
-    fault: MoError,
-) -> Result<(), AllocError>
-    ensures { OnOk result (messages.new.items ≡ messages.old.items ++ fault_line tool.now name.now 0 (mo_text fault)) }
-{
-    push_location(messages, tool, name, 0)?;
-    push_mo_text(messages, fault)?;
-    messages.extend_from_slice(b"\n")
-}
-
 /// Opens one more file: a catalogue joins the chain, and any other file is reported by a line. A
 /// catalogue is large: only the stack frame of this function has one.
 #[inline(never)]
@@ -91,7 +75,9 @@ fn open_file<'a>(
             Ok(())
         }
         Err(fault) => {
-            push_refusal(&mut opened.messages, tool, name, fault)?;
+            push_location(&mut opened.messages, tool, name, 0)?;
+            push_mo_text(&mut opened.messages, fault)?;
+            opened.messages.extend_from_slice(b"\n")?;
             Ok(())
         }
     }
@@ -149,27 +135,6 @@ fn expanded(alloc: Global, argument: &str) -> Result<Expanded, AllocError>
     Ok(expanded)
 }
 
-/// Appends the answer to a MSGID with its escapes expanded, and says whether a `\c` is among them.
-fn push_expanded(
-    alloc: Global,
-    output: &mut Vec<u8>,
-    chain: &Chain<'_, '_>,
-    context: Option<&str>,
-    argument: &str,
-) -> Result<bool, AllocError>
-    ensures answer { OnOk result (output.new.items ≡ output.old.items
-        ++ (chain_answered chain.now (record {
-          context = option_copied context.entry;
-          id = expansion argument.now;
-          plural = None;
-        })).text) }
-    ensures no_newline { IfOk result (λ omitted. omitted ≡ has_no_newline argument.now) }
-{
-    let expanded = expanded(alloc, argument)?;
-    push_text(output, chain, context, &expanded.bytes, None)?;
-    Ok(expanded.no_newline)
-}
-
 /// Appends the answer to a MSGID, and says whether a `\c` is expanded in it.
 fn push_answer(
     alloc: Global,
@@ -182,11 +147,13 @@ fn push_answer(
         ++ Spec.argument_answer chain.now (gettext_view options.now) argument.now) }
     ensures no_newline { IfOk result (λ omitted. omitted ≡ Spec.omits_newline (gettext_view options.now) argument.now) }
 {
-    if options.expand {
-        return push_expanded(alloc, output, chain, options.context, argument);
+    if !options.expand {
+        push_text(output, chain, options.context, argument.as_bytes(), None)?;
+        return Ok(false);
     }
-    push_text(output, chain, options.context, argument.as_bytes(), None)?;
-    Ok(false)
+    let expanded = expanded(alloc, argument)?;
+    push_text(output, chain, options.context, &expanded.bytes, None)?;
+    Ok(expanded.no_newline)
 }
 
 /// Appends the answers to the MSGIDs, with a space between two, and says whether a `\c` is expanded in one.
@@ -242,27 +209,6 @@ pub fn plan_gettext(
     })
 }
 
-/// Appends the answer to MSGID and MSGID-PLURAL, with their escapes expanded, and COUNT.
-fn push_expanded_plural(
-    alloc: Global,
-    output: &mut Vec<u8>,
-    chain: &Chain<'_, '_>,
-    options: &NgettextOptions<'_>,
-) -> Result<(), AllocError>
-    ensures { OnOk result (let o = ngettext_view options.now in output.new.items ≡ output.old.items
-        ++ (chain_answered chain.now (record {
-          context = o.context;
-          id = expansion o.id;
-          plural = Some (expansion o.plural, count_in o.count);
-        })).text) }
-{
-    let count = count_of(options.count.as_bytes());
-    let id = expanded(alloc, options.id)?.bytes;
-    let plural = expanded(alloc, options.plural)?.bytes;
-    push_text(output, chain, options.context, &id, Some((&plural, count)))?;
-    Ok(())
-}
-
 /// Appends the answer to MSGID, MSGID-PLURAL and COUNT.
 fn push_plural_answer(
     alloc: Global,
@@ -273,18 +219,15 @@ fn push_plural_answer(
     ensures { OnOk result (output.new.items ≡ output.old.items
         ++ Spec.ngettext_output chain.now (ngettext_view options.now)) }
 {
-    if options.expand {
-        return push_expanded_plural(alloc, output, chain, options);
-    }
     let count = count_of(options.count.as_bytes());
-    let plural = Some((options.plural.as_bytes(), count));
-    push_text(
-        output,
-        chain,
-        options.context,
-        options.id.as_bytes(),
-        plural,
-    )
+    if !options.expand {
+        let plural = Some((options.plural.as_bytes(), count));
+        let id = options.id.as_bytes();
+        return push_text(output, chain, options.context, id, plural);
+    }
+    let id = expanded(alloc, options.id)?.bytes;
+    let plural = expanded(alloc, options.plural)?.bytes;
+    push_text(output, chain, options.context, &id, Some((&plural, count)))
 }
 
 /// What `ngettext` writes over the catalogues that could be read, in the order in which they are asked: the form

@@ -1,11 +1,10 @@
-use Rattle.std.proofs.Common.{◌∙◌, ap, take}
-use Rattle.std.proofs.lemmas.List.{take_all}
+use Rattle.std.proofs.Common.{◌∙◌, ap, sym, take}
+use Rattle.std.proofs.lemmas.List.{take-map, take_all}
 use Rattle.gettext.specs.Catalogues.{catalogue_files}
 use Rattle.runs.specs.NamedFile.{named_file, named_files}
-use Rattle.gettext.proofs.CatalogueLemmas.{map-take}
 use Rattle.gettext.proofs.catalogues.borrowed_catalogues.Goals as goal
 
 pub returns-clause-borrowed : goal.returns-clause-borrowed
 returns-clause-borrowed c =
-    ap named_files c.truncate.ensures.items ∙ map-take named_file 4294967295 c.loop-catalogue.borrowed.items
+    ap named_files c.truncate.ensures.items ∙ sym (take-map named_file 4294967295 c.loop-catalogue.borrowed.items)
     ∙ ap (take 4294967295) (c.loop-catalogue.invariant ∙ ap catalogue_files (take_all c.loop-catalogue.catalogue-index c.args.catalogues.now c.loop-catalogue-test.false))
