@@ -6,13 +6,12 @@ ghost use Rattle.clap.specs.Simple.{app_of, new_app};
 ghost use Rattle.clap.specs.Walk.{rule_of, texts};
 ghost use Rattle.clap.specs.declared.builder.command.Command.TheViews.{out-Command};
 ghost use Rattle.clap.specs.declared.builder.value_parser.ValueParser.TheVariants.{Names};
-ghost use Rattle.command_line.specs.Arguments.{IsRuleOf};
+ghost use Rattle.command_line.specs.Arguments.{IsRuleOf, arguments_of};
 ghost use Rattle.command_line.specs.Internal.Kind.{argument_of};
 ghost use Rattle.command_line.specs.Offering.{AddsArguments, IsToolCommand, OffersTools, offered, offered_tools};
 ghost use Rattle.runs.specs.Tools.{every_tool};
-ghost use Rattle.runs.specs.declared.tool.Tool.TheVariants as tool;
 
-use crate::help;
+use crate::help::{self, Help};
 use Kind::{ByteOrder, File, Files, Flag, Forms, Letter, Number, Output, ShortFlag, Text};
 use clap::{Arg, ArgAction, Command, value_parser};
 use runs::Tool;
@@ -228,102 +227,48 @@ fn with_every_tool<'a>(alloc: Global) -> Result<Command<'a>, AllocError>
 fn without_tools<'a>(alloc: Global) -> Command<'a>
     ensures { OffersTools [] result }
 {
-    described(alloc, "pokit", help::ABOUT, help::PROGRAM)
+    described(alloc, "pokit", help::PROGRAM)
         .disable_version_flag(true)
         .disable_help_subcommand(true)
         .subcommand_required(true)
 }
 
-/// The command of a tool.
+/// The command of a tool, with its options and arguments.
 fn command_of<'a>(alloc: Global, tool: Tool) -> Result<Command<'a>, AllocError>
     ensures { IfOk result (IsToolCommand tool) }
 {
+    let (help, arguments) = parts_of(tool);
+    let name: &'a str = tool.name();
+    with_arguments(alloc, described(alloc, name, help), arguments)
+}
+
+/// What the help of a tool says, and its arguments and options.
+fn parts_of(tool: Tool) -> (Help, &'static [Argument])
+    ensures { map (λ a. argument_of a.0.now a.1) result.1.now ≡ arguments_of tool }
+{
     match tool {
-        Tool::Msgfmt => msgfmt(alloc),
-        Tool::Msgunfmt => msgunfmt(alloc),
-        Tool::Msgattrib => msgattrib(alloc),
-        Tool::Msgcat => msgcat(alloc),
-        Tool::Gettext => gettext(alloc),
-        Tool::Ngettext => ngettext(alloc),
-        Tool::Envsubst => envsubst(alloc),
+        Tool::Msgfmt => (help::MSGFMT, MSGFMT.as_slice()),
+        Tool::Msgunfmt => (help::MSGUNFMT, MSGUNFMT.as_slice()),
+        Tool::Msgattrib => (help::MSGATTRIB, MSGATTRIB.as_slice()),
+        Tool::Msgcat => (help::MSGCAT, MSGCAT.as_slice()),
+        Tool::Gettext => (help::GETTEXT, GETTEXT.as_slice()),
+        Tool::Ngettext => (help::NGETTEXT, NGETTEXT.as_slice()),
+        Tool::Envsubst => (help::ENVSUBST, ENVSUBST.as_slice()),
     }
 }
 
-/// The command `msgfmt` with its options and arguments.
-fn msgfmt<'a>(alloc: Global) -> Result<Command<'a>, AllocError>
-    ensures { IfOk result (IsToolCommand tool.Msgfmt) }
-{
-    let about = "Compiles PO texts to one MO file";
-    let command = described(alloc, "msgfmt", about, help::MSGFMT);
-    with_arguments(alloc, command, &MSGFMT)
-}
-
-/// The command `msgunfmt` with its options and arguments.
-fn msgunfmt<'a>(alloc: Global) -> Result<Command<'a>, AllocError>
-    ensures { IfOk result (IsToolCommand tool.Msgunfmt) }
-{
-    let about = "Writes the PO text of an MO file";
-    let command = described(alloc, "msgunfmt", about, help::MSGUNFMT);
-    with_arguments(alloc, command, &MSGUNFMT)
-}
-
-/// The command `msgattrib` with its options and arguments.
-fn msgattrib<'a>(alloc: Global) -> Result<Command<'a>, AllocError>
-    ensures { IfOk result (IsToolCommand tool.Msgattrib) }
-{
-    let about = "Selects entries of a PO text and changes them";
-    let command = described(alloc, "msgattrib", about, help::MSGATTRIB);
-    with_arguments(alloc, command, &MSGATTRIB)
-}
-
-/// The command `msgcat` with its options and arguments.
-fn msgcat<'a>(alloc: Global) -> Result<Command<'a>, AllocError>
-    ensures { IfOk result (IsToolCommand tool.Msgcat) }
-{
-    let about = "Merges PO texts, message by message";
-    let command = described(alloc, "msgcat", about, help::MSGCAT);
-    with_arguments(alloc, command, &MSGCAT)
-}
-
-/// The command `gettext` with its options and arguments.
-fn gettext<'a>(alloc: Global) -> Result<Command<'a>, AllocError>
-    ensures { IfOk result (IsToolCommand tool.Gettext) }
-{
-    let about = "Prints the translation of a message";
-    let command = described(alloc, "gettext", about, help::GETTEXT).override_usage(
-        "pokit gettext [OPTIONS] [TEXTDOMAIN] MSGID\n       pokit gettext [OPTIONS] -s [MSGID]...",
-    );
-    with_arguments(alloc, command, &GETTEXT)
-}
-
-/// The command `ngettext` with its options and arguments.
-fn ngettext<'a>(alloc: Global) -> Result<Command<'a>, AllocError>
-    ensures { IfOk result (IsToolCommand tool.Ngettext) }
-{
-    let about = "Prints the translation of a message with a count";
-    let command = described(alloc, "ngettext", about, help::NGETTEXT).override_usage(
-        "pokit ngettext [OPTIONS] [TEXTDOMAIN] MSGID MSGID-PLURAL COUNT",
-    );
-    with_arguments(alloc, command, &NGETTEXT)
-}
-
-/// The command `envsubst` with its options and arguments.
-fn envsubst<'a>(alloc: Global) -> Result<Command<'a>, AllocError>
-    ensures { IfOk result (IsToolCommand tool.Envsubst) }
-{
-    let about = "Puts the values of variables into standard input";
-    let command = described(alloc, "envsubst", about, help::ENVSUBST).override_usage(
-        "pokit envsubst [OPTIONS] [SHELL-FORMAT]",
-    );
-    with_arguments(alloc, command, &ENVSUBST)
-}
-
-/// A command with what its help says before and after its arguments.
-fn described<'a>(alloc: Global, name: &'a str, about: &'a str, after: &'a str) -> Command<'a>
+/// A command with what its help says besides its arguments.
+fn described<'a>(alloc: Global, name: &'a str, help: Help) -> Command<'a>
     ensures app { app_of result ≡ new_app name.entry.now }
     ensures local { (out-Command result).has_globals ≡ false }
 {
-    Command::new(alloc, name).about(about).after_help(after)
+    let command = Command::new(alloc, name)
+        .about(help.about)
+        .after_help(help.after);
+    match help.usage {
+        Some(usage) => command.override_usage(usage),
+        None => command,
+    }
 }
 
 /// A command with these arguments and options.
