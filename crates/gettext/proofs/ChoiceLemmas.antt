@@ -1,6 +1,6 @@
 -- Which variable or argument gives the locale, the folder and the text domain.
-use Rattle.std.proofs.Common.{◌≡◌, ◌⊎◌, ◌∙◌, refl, sym, ap, subst, inl, inr, ℕ, eqb, List, [], length, Option, Some, None, unwrap_or}
-use Rattle.std.specs.Prelude.{◌↔◌, codes}
+use Rattle.std.proofs.Common.{◌≡◌, ◌⊎◌, ◌∙◌, refl, sym, ap, subst, inl, inr, ℕ, eqb, List, [], length, Option, Some, None}
+use Rattle.std.specs.Prelude.{◌↔◌}
 use Rattle.std.specs.Borrow.{Bor}
 use Rattle.std.specs.Option.{option_copied, option_or}
 use Rattle.std.proofs.lemmas.Bool.{cases_Bool, cond-true, cond-false}
@@ -47,34 +47,23 @@ says (Some b) = elim (cases_Bool (eqb (length b.now) 0)) [
   | inr e ↦ inr (b.now, record { is = refl; some = some-from_length b.now e }, cond-false (eqb (length b.now) 0) None (Some b.now) e)
 ]
 
--- the first of three that is there
-abbrev first_of : Option (List ℕ) → Option (List ℕ) → Option (List ℕ) → List ℕ
-first_of a b c = unwrap_or (option_or a (option_or b c)) []
-
-same_first : (a b c x y z : Option (List ℕ)) → a ≡ x → b ≡ y → c ≡ z → first_of a b c ≡ first_of x y z
-same_first a b c x y z p q r = ap (λ o. first_of o b c) p ∙ ap (λ o. first_of x o c) q ∙ ap (λ o. first_of x y o) r
-
 chosen : (env : Environment) → IsLocale (environment_view env) (locale_of env)
 chosen env = elim (says env.lc_all) [
-  | inr a ↦ subst (IsLocale (environment_view env)) (sym (same_first (non_empty env.lc_all) (non_empty env.lc_messages) (non_empty env.lang) (Some a.0) (non_empty env.lc_messages) (non_empty env.lang) a.2 refl refl)) (by_lc_all a.1)
+  | inr a ↦ rw a.2 (by_lc_all a.1)
   | inl a ↦ elim (says env.lc_messages) [
-    | inr b ↦ subst (IsLocale (environment_view env)) (sym (same_first (non_empty env.lc_all) (non_empty env.lc_messages) (non_empty env.lang) None (Some b.0) (non_empty env.lang) a.1 b.2 refl)) (by_lc_messages a.0 b.1)
+    | inr b ↦ rw (a.1, b.2) (by_lc_messages a.0 b.1)
     | inl b ↦ elim (says env.lang) [
-      | inr c ↦ subst (IsLocale (environment_view env)) (sym (same_first (non_empty env.lc_all) (non_empty env.lc_messages) (non_empty env.lang) None None (Some c.0) a.1 b.1 c.2)) (by_lang a.0 b.0 c.1)
-      | inl c ↦ subst (IsLocale (environment_view env)) (sym (same_first (non_empty env.lc_all) (non_empty env.lc_messages) (non_empty env.lang) None None None a.1 b.1 c.1)) (no_locale a.0 b.0 c.0)
+      | inr c ↦ rw (a.1, b.1, c.2) (by_lang a.0 b.0 c.1)
+      | inl c ↦ rw (a.1, b.1, c.1) (no_locale a.0 b.0 c.0)
     ]
   ]
 ]
 
 is_locale : (env : Environment) (locale : List ℕ) → IsLocale (environment_view env) locale → locale ≡ locale_of env
-is_locale env locale (by_lc_all a) =
-    sym (same_first (non_empty env.lc_all) (non_empty env.lc_messages) (non_empty env.lang) (Some locale) (non_empty env.lc_messages) (non_empty env.lang) (from_text env.lc_all locale a) refl refl)
-is_locale env locale (by_lc_messages a b) =
-    sym (same_first (non_empty env.lc_all) (non_empty env.lc_messages) (non_empty env.lang) None (Some locale) (non_empty env.lang) (from_no_text env.lc_all a) (from_text env.lc_messages locale b) refl)
-is_locale env locale (by_lang a b c) =
-    sym (same_first (non_empty env.lc_all) (non_empty env.lc_messages) (non_empty env.lang) None None (Some locale) (from_no_text env.lc_all a) (from_no_text env.lc_messages b) (from_text env.lang locale c))
-is_locale env locale (no_locale a b c) =
-    sym (same_first (non_empty env.lc_all) (non_empty env.lc_messages) (non_empty env.lang) None None None (from_no_text env.lc_all a) (from_no_text env.lc_messages b) (from_no_text env.lang c))
+is_locale env locale (by_lc_all a) = rw (from_text env.lc_all locale a)
+is_locale env locale (by_lc_messages a b) = rw (from_no_text env.lc_all a, from_text env.lc_messages locale b)
+is_locale env locale (by_lang a b c) = rw (from_no_text env.lc_all a, from_no_text env.lc_messages b, from_text env.lang locale c)
+is_locale env locale (no_locale a b c) = rw (from_no_text env.lc_all a, from_no_text env.lc_messages b, from_no_text env.lang c)
 
 pub locale_chosen : (env : Environment) (locale : List ℕ) → (locale ≡ locale_of env) ↔ IsLocale (environment_view env) locale
 locale_chosen env locale = (λ is. subst (IsLocale (environment_view env)) (sym is) (chosen env), λ h. is_locale env locale h)
@@ -82,13 +71,13 @@ locale_chosen env locale = (λ is. subst (IsLocale (environment_view env)) (sym 
 -- the folder
 below : (env : Environment) → IsFolder (environment_view env) (folder_of env)
 below env = elim (says env.textdomaindir) [
-  | inr a ↦ subst (IsFolder (environment_view env)) (sym (ap (λ o. unwrap_or o (codes "/usr/share/locale")) a.2)) (by_textdomaindir a.1)
-  | inl a ↦ subst (IsFolder (environment_view env)) (sym (ap (λ o. unwrap_or o (codes "/usr/share/locale")) a.1)) (of_system a.0)
+  | inr a ↦ rw a.2 (by_textdomaindir a.1)
+  | inl a ↦ rw a.1 (of_system a.0)
 ]
 
 is_folder : (env : Environment) (folder : List ℕ) → IsFolder (environment_view env) folder → folder ≡ folder_of env
-is_folder env folder (by_textdomaindir a) = sym (ap (λ o. unwrap_or o (codes "/usr/share/locale")) (from_text env.textdomaindir folder a))
-is_folder env folder (of_system a) = sym (ap (λ o. unwrap_or o (codes "/usr/share/locale")) (from_no_text env.textdomaindir a))
+is_folder env folder (by_textdomaindir a) = rw (from_text env.textdomaindir folder a)
+is_folder env folder (of_system a) = rw (from_no_text env.textdomaindir a)
 
 pub folder_chosen : (env : Environment) (folder : List ℕ) → (folder ≡ folder_of env) ↔ IsFolder (environment_view env) folder
 folder_chosen env folder = (λ is. subst (IsFolder (environment_view env)) (sym is) (below env), λ h. is_folder env folder h)
@@ -102,14 +91,12 @@ domain_by None None env = last env.textdomain refl where
   last (Some domain) e = by_textdomain refl refl e
   last None e = no_domain refl refl e
 
-same_domain : (a b c x y z : Option (List ℕ)) → a ≡ x → b ≡ y → c ≡ z → option_or a (option_or b c) ≡ option_or x (option_or y z)
-same_domain a b c x y z p q r = ap (λ o. option_or o (option_or b c)) p ∙ ap (λ o. option_or x (option_or o c)) q ∙ ap (λ o. option_or x (option_or y o)) r
-
-is_domain : {argument option domain : Option (List ℕ)} {env : EnvironmentView} → IsDomain argument option env domain → domain ≡ option_or argument (option_or option env.textdomain)
-is_domain {argument = argument} {option = option} {env = env} (by_argument {domain = domain} a) = sym (same_domain argument option env.textdomain (Some domain) option env.textdomain a refl refl)
-is_domain {argument = argument} {option = option} {env = env} (by_option {domain = domain} a b) = sym (same_domain argument option env.textdomain None (Some domain) env.textdomain a b refl)
-is_domain {argument = argument} {option = option} {env = env} (by_textdomain {domain = domain} a b c) = sym (same_domain argument option env.textdomain None None (Some domain) a b c)
-is_domain {argument = argument} {option = option} {env = env} (no_domain a b c) = sym (same_domain argument option env.textdomain None None None a b c)
+is_domain : {argument option domain : Option (List ℕ)} {env : EnvironmentView} → IsDomain argument option env domain
+    → domain ≡ option_or argument (option_or option env.textdomain)
+is_domain (by_argument a) = rw a
+is_domain (by_option a b) = rw (a, b)
+is_domain (by_textdomain a b c) = rw (a, b, c)
+is_domain (no_domain a b c) = rw (a, b, c)
 
 pub domain_chosen : (argument option : Option (List ℕ)) (env : Environment) (domain : Option (List ℕ)) → (domain ≡ domain_of argument option env) ↔ IsDomain argument option (environment_view env) domain
 domain_chosen argument option env domain =

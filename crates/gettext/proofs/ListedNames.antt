@@ -3,73 +3,42 @@ use Rattle.std.proofs.Common.{◌≡◌, ◌∙◌, refl, sym, ap, subst, inl, i
 use Rattle.std.specs.Prelude.{◌↔◌, codes, take_while}
 use Rattle.std.specs.List.{list_any, flat_map, slice_split, onto_first, join_with_byte}
 use Rattle.std.specs.Str.{bytes_eq}
-use Rattle.std.proofs.lemmas.Bool.{cases_Bool, cond-true, cond-false, both_ways, false_from_ne_true, and_parts, and_from, or_cases, or_left, or_right, or_from, ne_eqb, eqb-false, eq-eqb, not-true}
+use Rattle.std.specs.Bool.{Decides}
+use Rattle.std.proofs.lemmas.Bool.{cases_Bool, cond-false, false_from_ne_true, ne_eqb, eqb-false}
+use Rattle.std.proofs.lemmas.Bool.Decides.{Decides-and, Decides-by_and, Decides-eqb, Decides-not, Decides-or, not_from_Decides}
 use Rattle.std.proofs.lemmas.List.Elements.{All-nil, All-cons, All-head, All-tail, All-weaker}
 use Rattle.std.proofs.lemmas.List.Splits.{join_with_byte-slice_split, slice_split_none, slice_split_at, slice_split-cons_yes, slice_split-cons_no}
 use Rattle.std.proofs.lemmas.List.Sums.{take_while-cons}
 use Rattle.std.proofs.lemmas.Slice.Eq.{bytes_eq-Decides}
 use Rattle.memchr.specs.Find.{is_byte}
 use Rattle.locale_names.specs.Names.{candidates, candidates_of_name, is_path_part, is_untranslated, language_parts, languages}
-use Rattle.locale_names.proofs.SearchLemmas.{nil-from_length, some-from_length}
+use Rattle.locale_names.proofs.SearchLemmas.{nil-from_length}
 use Rattle.gettext.specs.declared.candidates.Environment.{Environment}
 use Rattle.gettext.specs.Environments.{environment_view}
 use Rattle.gettext.specs.Locales.{non_empty, locale_of, candidates_of, distinct}
 use Rattle.gettext.specs.Candidates.{Lacks, IsUntranslated, CanStandInPath, Count, no_part, ends, omitted, counts, Lists, AreLanguages, untranslated, no_path, the_locale, of_language, FirstPlaces, AreCandidates}
 use Rattle.gettext.proofs.ChoiceLemmas.{says, from_text, from_no_text, locale_chosen}
 use Rattle.gettext.proofs.NameParts.{have_five, are_five}
-use Rattle.gettext.proofs.NamesOnce.{places_of, are_places}
+use Rattle.gettext.proofs.NamesOnce.{places_of, are_places, neither}
 
 -- the tests of a name
-untranslated_says : (name : List ℕ) → is_untranslated name ≡ true → IsUntranslated name
+untranslated_decides : (name : List ℕ) → Decides (is_untranslated name) (IsUntranslated name)
 unfolding is_untranslated
-untranslated_says name e = elim (or_cases (bytes_eq name (codes "C")) (bytes_eq name (codes "POSIX")) e) [
-  | inl c ↦ inl ((bytes_eq-Decides name (codes "C")).0 c)
-  | inr p ↦ inr ((bytes_eq-Decides name (codes "POSIX")).0 p)
-]
+untranslated_decides name =
+    Decides-or (bytes_eq name (codes "C")) (bytes_eq name (codes "POSIX")) (bytes_eq-Decides name (codes "C")) (bytes_eq-Decides name (codes "POSIX"))
 
-untranslated_passes : (name : List ℕ) → IsUntranslated name → is_untranslated name ≡ true
-unfolding is_untranslated
-untranslated_passes name h = elim h [
-  | inl c ↦ or_left (bytes_eq name (codes "C")) (bytes_eq name (codes "POSIX")) ((bytes_eq-Decides name (codes "C")).1 c)
-  | inr p ↦ or_right (bytes_eq name (codes "C")) (bytes_eq name (codes "POSIX")) ((bytes_eq-Decides name (codes "POSIX")).1 p)
-]
+lacks_decides : (a : ℕ) (text : List ℕ) → Decides (not (list_any (is_byte a) text)) (Lacks a text)
+lacks_decides a text =
+    Decides-by_and (λ b. not (eqb b a)) (λ b. b ≡ a → ⊥) (λ t. not (list_any (is_byte a) t)) (λ b. Decides-not (eqb b a) (Decides-eqb b a)) refl
+    (λ b t. neither (eqb b a) (list_any (is_byte a) t)) text
 
-translated : (name : List ℕ) → is_untranslated name ≡ false → IsUntranslated name → ⊥
-translated name e h = both_ways (is_untranslated name) e (untranslated_passes name h)
+path_decides : (name : List ℕ) → Decides (is_path_part name) (CanStandInPath name)
+path_decides name =
+    Decides-and (not (eqb (length name) 0)) (not (list_any (is_byte 47) name))
+    (Decides-not (eqb (length name) 0) (nil-from_length name, λ none. ap (λ l. eqb (length l) 0) none)) (lacks_decides 47 name)
 
-translated_fails : (name : List ℕ) → (IsUntranslated name → ⊥) → is_untranslated name ≡ false
-translated_fails name h = false_from_ne_true (is_untranslated name) (λ e. h (untranslated_says name e))
-
-lacks_says : (a : ℕ) (text : List ℕ) → list_any (is_byte a) text ≡ false → Lacks a text
-lacks_says a [] e = All-nil (λ b. b ≡ a → ⊥)
-lacks_says a (b ∷ text) e =
-    All-cons (λ b. b ≡ a → ⊥) b text (λ is. both_ways (list_any (is_byte a) (b ∷ text)) e (or_left (eqb b a) (list_any (is_byte a) text) (eq-eqb b a is)))
-    (lacks_says a text (false_from_ne_true (list_any (is_byte a) text) (λ t. both_ways (list_any (is_byte a) (b ∷ text)) e (or_right (eqb b a) (list_any (is_byte a) text) t))))
-
-lacks_passes : (a : ℕ) (text : List ℕ) → Lacks a text → list_any (is_byte a) text ≡ false
-lacks_passes a [] h = refl
-lacks_passes a (b ∷ text) h =
-    or_from (eqb b a) (list_any (is_byte a) text) (ne_eqb b a (All-head (λ b. b ≡ a → ⊥) b text h)) (lacks_passes a text (All-tail (λ b. b ≡ a → ⊥) b text h))
-
-not_from : (b : Bool) → b ≡ false → not b ≡ true
-not_from b e = ap not e
-
-path_says : (name : List ℕ) → is_path_part name ≡ true → CanStandInPath name
-path_says name e =
-    let p = and_parts (not (eqb (length name) 0)) (not (list_any (is_byte 47) name)) e in
-    (some-from_length name (not-true (eqb (length name) 0) p.0), lacks_says 47 name (not-true (list_any (is_byte 47) name) p.1))
-
-path_passes : (name : List ℕ) → CanStandInPath name → is_path_part name ≡ true
-path_passes name h =
-    and_from (not (eqb (length name) 0)) (not (list_any (is_byte 47) name))
-    (not_from (eqb (length name) 0) (false_from_ne_true (eqb (length name) 0) (λ e. h.0 (nil-from_length name e))))
-    (not_from (list_any (is_byte 47) name) (lacks_passes 47 name h.1))
-
-no_path_says : (name : List ℕ) → is_path_part name ≡ false → CanStandInPath name → ⊥
-no_path_says name e h = both_ways (is_path_part name) e (path_passes name h)
-
-no_path_fails : (name : List ℕ) → (CanStandInPath name → ⊥) → is_path_part name ≡ false
-no_path_fails name h = false_from_ne_true (is_path_part name) (λ e. h (path_says name e))
+fails : {P : Type 0} (test : Bool) → Decides test P → (P → ⊥) → test ≡ false
+fails test decides never = false_from_ne_true test (λ e. never (decides.0 e))
 
 -- the parts that count
 abbrev may_count : List ℕ → Bool
@@ -89,20 +58,20 @@ counting-next part parts false f e p =
 count_of : (parts : List (List ℕ)) → Count parts (counting parts)
 count_of [] = no_part
 count_of (part ∷ parts) = elim (cases_Bool (is_untranslated part)) [
-  | inl u ↦ subst (Count (part ∷ parts)) (sym (counting-next part parts true (is_path_part part) u refl)) (ends (untranslated_says part u))
+  | inl u ↦ rw (counting-next part parts true (is_path_part part) u refl) (ends ((untranslated_decides part).0 u))
   | inr u ↦ elim (cases_Bool (is_path_part part)) [
-    | inl f ↦ subst (Count (part ∷ parts)) (sym (counting-next part parts false true u f)) (counts (translated part u) (path_says part f) (count_of parts))
-    | inr f ↦ subst (Count (part ∷ parts)) (sym (counting-next part parts false false u f)) (omitted (translated part u) (no_path_says part f) (count_of parts))
+    | inl f ↦ rw (counting-next part parts false true u f) (counts (not_from_Decides (is_untranslated part) (untranslated_decides part) u) ((path_decides part).0 f) (count_of parts))
+    | inr f ↦ rw (counting-next part parts false false u f) (omitted (not_from_Decides (is_untranslated part) (untranslated_decides part) u) (not_from_Decides (is_path_part part) (path_decides part) f) (count_of parts))
   ]
 ]
 
 is_count_of : {parts names : List (List ℕ)} → Count parts names → counting parts ≡ names
 is_count_of no_part = refl
-is_count_of (ends {part = part} {parts = parts} u) = counting-next part parts true (is_path_part part) (untranslated_passes part u) refl
+is_count_of (ends {part = part} {parts = parts} u) = counting-next part parts true (is_path_part part) ((untranslated_decides part).1 u) refl
 is_count_of (omitted {part = part} {parts = parts} u f rest) =
-    counting-next part parts false false (translated_fails part u) (no_path_fails part f) ∙ is_count_of rest
+    counting-next part parts false false (fails (is_untranslated part) (untranslated_decides part) u) (fails (is_path_part part) (path_decides part) f) ∙ is_count_of rest
 is_count_of (counts {part = part} {parts = parts} u f rest) =
-    counting-next part parts false true (translated_fails part u) (path_passes part f) ∙ ap (λ l. part ∷ l) (is_count_of rest)
+    counting-next part parts false true (fails (is_untranslated part) (untranslated_decides part) u) ((path_decides part).1 f) ∙ ap (λ l. part ∷ l) (is_count_of rest)
 
 -- the parts of a text
 abbrev colon : ℕ → Bool
@@ -164,12 +133,11 @@ abbrev asked_for : List ℕ → List ℕ → List (List ℕ)
 asked_for locale language = cond (is_untranslated locale || not (is_path_part locale)) [] (languages locale language)
 
 flat : (locale language : List ℕ) → candidates locale language ≡ flat_map candidates_of_name (asked_for locale language)
-flat locale language = elim (cases_Bool (is_untranslated locale || not (is_path_part locale))) [
-  | inl e ↦ cond-true (is_untranslated locale || not (is_path_part locale)) [] (flat_map candidates_of_name (languages locale language)) e
-      ∙ sym (ap (flat_map candidates_of_name) (cond-true (is_untranslated locale || not (is_path_part locale)) [] (languages locale language) e))
-  | inr e ↦ cond-false (is_untranslated locale || not (is_path_part locale)) [] (flat_map candidates_of_name (languages locale language)) e
-      ∙ sym (ap (flat_map candidates_of_name) (cond-false (is_untranslated locale || not (is_path_part locale)) [] (languages locale language) e))
-]
+flat locale language = of_either (is_untranslated locale || not (is_path_part locale)) where
+  of_either : (none : Bool) → cond none [] (flat_map candidates_of_name (languages locale language))
+      ≡ flat_map candidates_of_name (cond none [] (languages locale language))
+  of_either true = refl
+  of_either false = refl
 
 none_asked : (locale language : List ℕ) (u f : Bool) → is_untranslated locale ≡ u → is_path_part locale ≡ f
     → asked_for locale language ≡ cond (u || not f) [] (languages locale language)
@@ -200,39 +168,39 @@ translated_asked env u f =
     let asked : languages_of env ≡ languages (locale_of env) (language_of env) = none_asked (locale_of env) (language_of env) false true u f in
     elim (says env.language) [
       | inl a ↦ subst (AreLanguages (environment_view env)) (sym (asked ∙ no_language (locale_of env) (language_of env) (ap (λ o. unwrap_or o []) a.1)))
-          (the_locale locale (translated (locale_of env) u) (path_says (locale_of env) f) a.0)
+          (the_locale locale (not_from_Decides (is_untranslated (locale_of env)) (untranslated_decides (locale_of env)) u) ((path_decides (locale_of env)).0 f) a.0)
       | inr a ↦ let is : language_of env ≡ a.0 = ap (λ o. unwrap_or o []) a.2 in
           subst (AreLanguages (environment_view env)) (sym (asked ∙ ap (languages (locale_of env)) is ∙ some_language (locale_of env) a.0 a.1.some))
-          (of_language locale (translated (locale_of env) u) (path_says (locale_of env) f) a.1 (lists a.0))
+          (of_language locale (not_from_Decides (is_untranslated (locale_of env)) (untranslated_decides (locale_of env)) u) ((path_decides (locale_of env)).0 f) a.1 (lists a.0))
     ]
 
 are_asked : (env : Environment) → AreLanguages (environment_view env) (languages_of env)
 are_asked env = elim (cases_Bool (is_untranslated (locale_of env))) [
   | inl u ↦ subst (AreLanguages (environment_view env)) (sym (none_asked (locale_of env) (language_of env) true (is_path_part (locale_of env)) u refl))
-      (untranslated ((locale_chosen env (locale_of env)).0 refl) (untranslated_says (locale_of env) u))
+      (untranslated ((locale_chosen env (locale_of env)).0 refl) ((untranslated_decides (locale_of env)).0 u))
   | inr u ↦ elim (cases_Bool (is_path_part (locale_of env))) [
     | inl f ↦ translated_asked env u f
     | inr f ↦ subst (AreLanguages (environment_view env)) (sym (none_asked (locale_of env) (language_of env) false false u f))
-        (no_path ((locale_chosen env (locale_of env)).0 refl) (no_path_says (locale_of env) f))
+        (no_path ((locale_chosen env (locale_of env)).0 refl) (not_from_Decides (is_path_part (locale_of env)) (path_decides (locale_of env)) f))
   ]
 ]
 
 is_asked : (env : Environment) (names : List (List ℕ)) → AreLanguages (environment_view env) names → languages_of env ≡ names
 is_asked env names (untranslated {locale = locale} is u) =
     let same = (locale_chosen env locale).1 is in
-    none_asked (locale_of env) (language_of env) true (is_path_part (locale_of env)) (untranslated_passes (locale_of env) (subst IsUntranslated same u)) refl
+    none_asked (locale_of env) (language_of env) true (is_path_part (locale_of env)) ((untranslated_decides (locale_of env)).1 (subst IsUntranslated same u)) refl
 is_asked env names (no_path {locale = locale} is f) =
     let same = (locale_chosen env locale).1 is in
-    none_asked (locale_of env) (language_of env) (is_untranslated (locale_of env)) false refl (no_path_fails (locale_of env) (subst (λ l. CanStandInPath l → ⊥) same f))
+    none_asked (locale_of env) (language_of env) (is_untranslated (locale_of env)) false refl (fails (is_path_part (locale_of env)) (path_decides (locale_of env)) (subst (λ l. CanStandInPath l → ⊥) same f))
     ∙ ap (λ t. cond t [] (languages (locale_of env) (language_of env))) (or_not (is_untranslated (locale_of env)))
 is_asked env names (the_locale {locale = locale} is u f none) =
     let same = (locale_chosen env locale).1 is in
-    none_asked (locale_of env) (language_of env) false true (translated_fails (locale_of env) (subst (λ l. IsUntranslated l → ⊥) same u)) (path_passes (locale_of env) (subst CanStandInPath same f))
+    none_asked (locale_of env) (language_of env) false true (fails (is_untranslated (locale_of env)) (untranslated_decides (locale_of env)) (subst (λ l. IsUntranslated l → ⊥) same u)) ((path_decides (locale_of env)).1 (subst CanStandInPath same f))
     ∙ no_language (locale_of env) (language_of env) (ap (λ o. unwrap_or o []) (from_no_text env.language none)) ∙ ap (λ l. l ∷ []) (sym same)
 is_asked env names (of_language {locale = locale} {text = text} is u f has listed) =
     let same = (locale_chosen env locale).1 is in
     let language_is : language_of env ≡ text = ap (λ o. unwrap_or o []) (from_text env.language text has) in
-    none_asked (locale_of env) (language_of env) false true (translated_fails (locale_of env) (subst (λ l. IsUntranslated l → ⊥) same u)) (path_passes (locale_of env) (subst CanStandInPath same f))
+    none_asked (locale_of env) (language_of env) false true (fails (is_untranslated (locale_of env)) (untranslated_decides (locale_of env)) (subst (λ l. IsUntranslated l → ⊥) same u)) ((path_decides (locale_of env)).1 (subst CanStandInPath same f))
     ∙ ap (languages (locale_of env)) language_is ∙ some_language (locale_of env) text has.some ∙ are_listed text names listed
 
 -- the candidates of an environment
