@@ -1,2 +1,3 @@
 pub mod RunLaws
+pub mod RunsOver
 pub mod ToolRun

@@ -1,10 +1,11 @@
 //! msgfmt, msgunfmt and msgattrib over a reader, of their only input, and two writers.
-ghost use Rattle.std.specs.Prelude.{◌≡◌, ◌≢◌, ◌⊎◌, ◌+◌, ◌^◌, ◌<◌, ◌≤◌, IfOk, IsErrOf, Err};
-ghost use Rattle.std.specs.Io.KnownBytes.{Keeps};
+ghost use Rattle.std.specs.Prelude.{◌^◌, ◌<◌};
 ghost use Rattle.msgfmt.specs.Msgfmt.{IsMsgfmtRunOf};
 ghost use Rattle.msgunfmt.specs.Msgunfmt.{IsMsgunfmtRunOf};
 ghost use Rattle.msgattrib.specs.Msgattrib.{IsMsgattribRun};
-ghost use Rattle.runs.specs.Delivered.{IsCut, IsDelivered};
+ghost use Rattle.po_tools.specs.RunsOver.{RunsOver};
+ghost use Rattle.po_tools.specs.ToolRun.{reader_of};
+ghost use Rattle.runs.specs.Outputs.{writer};
 
 use msgattrib::plan_msgattrib;
 use msgfmt::{MsgfmtOptions, plan_msgfmt};
@@ -28,23 +29,11 @@ pub fn run_msgfmt<R: ByteIn, O: ByteOut, E: ByteOut>(
     requires read_failures { R.failures reader.old < 2 ^ 63 }
     requires out_failures { O.failures out.old < 2 ^ 63 }
     requires err_failures { E.failures err.old < 2 ^ 63 }
-    ensures calls { R.calls reader.new ≤ R.calls reader.old + 4294967296 }
-    ensures delivered { IfOk result
-        (λ status. IsDelivered (IsMsgfmtRunOf name.now options.now) (R.remaining reader.old)
-        (O.contents out.old) (O.contents out.new) (E.contents err.old) (E.contents err.new) status) }
-    ensures prefix { IsErrOf result ToolFault.WriteFault
-        → IsCut (IsMsgfmtRunOf name.now options.now) (R.remaining reader.old)
-        (O.contents out.old) (O.contents out.new) (E.contents err.old) (E.contents err.new) }
-    ensures no_output { (result ≡ Err ToolFault.ReadFault) ⊎ (result ≡ Err ToolFault.OutOfMemory)
-        → Keeps (O.contents out.old) (O.contents out.new) }
-    ensures no_messages { (result ≡ Err ToolFault.ReadFault) ⊎ (result ≡ Err ToolFault.OutOfMemory)
-        → Keeps (E.contents err.old) (E.contents err.new) }
-    ensures read_fault { IsErrOf result ToolFault.ReadFault → R.failures reader.new ≡ R.failures reader.old + 1 }
-    ensures write_fault { IsErrOf result ToolFault.WriteFault
-        → O.failures out.new + E.failures err.new ≡ O.failures out.old + E.failures err.old + 1 }
-    ensures read_failures { (result ≢ Err ToolFault.ReadFault) → R.failures reader.new ≡ R.failures reader.old }
-    ensures out_failures { (result ≢ Err ToolFault.WriteFault) → O.failures out.new ≡ O.failures out.old }
-    ensures err_failures { (result ≢ Err ToolFault.WriteFault) → E.failures err.new ≡ E.failures err.old }
+    ensures { RunsOver (IsMsgfmtRunOf name.now options.now)
+        (reader_of (R.remaining reader.old) (R.calls reader.old) (R.failures reader.old))
+        (reader_of (R.remaining reader.new) (R.calls reader.new) (R.failures reader.new))
+        (writer (O.contents out.old) (O.failures out.old)) (writer (O.contents out.new) (O.failures out.new))
+        (writer (E.contents err.old) (E.failures err.old)) (writer (E.contents err.new) (E.failures err.new)) result }
 {
     let text = read_input(alloc, reader)?;
     let run = plan_msgfmt(alloc, &[(name, &text)], options)?;
@@ -52,9 +41,7 @@ pub fn run_msgfmt<R: ByteIn, O: ByteOut, E: ByteOut>(
     Ok(run.status)
 }
 
-/// Reads a file, plans as `plan_msgunfmt` does with this name, and writes the run: its output and
-/// then its messages. Returns the run's status. After a `ReadFault`, or out of memory, nothing is
-/// written; after a `WriteFault` a prefix is, as `deliver` says.
+/// Reads a file, and plans and writes as `run_msgfmt` does, by `plan_msgunfmt`.
 pub fn run_msgunfmt<R: ByteIn, O: ByteOut, E: ByteOut>(
     alloc: Global,
     reader: &mut R,
@@ -66,23 +53,11 @@ pub fn run_msgunfmt<R: ByteIn, O: ByteOut, E: ByteOut>(
     requires read_failures { R.failures reader.old < 2 ^ 63 }
     requires out_failures { O.failures out.old < 2 ^ 63 }
     requires err_failures { E.failures err.old < 2 ^ 63 }
-    ensures calls { R.calls reader.new ≤ R.calls reader.old + 4294967296 }
-    ensures delivered { IfOk result
-        (λ status. IsDelivered (IsMsgunfmtRunOf name.now) (R.remaining reader.old)
-        (O.contents out.old) (O.contents out.new) (E.contents err.old) (E.contents err.new) status) }
-    ensures prefix { IsErrOf result ToolFault.WriteFault
-        → IsCut (IsMsgunfmtRunOf name.now) (R.remaining reader.old)
-        (O.contents out.old) (O.contents out.new) (E.contents err.old) (E.contents err.new) }
-    ensures no_output { (result ≡ Err ToolFault.ReadFault) ⊎ (result ≡ Err ToolFault.OutOfMemory)
-        → Keeps (O.contents out.old) (O.contents out.new) }
-    ensures no_messages { (result ≡ Err ToolFault.ReadFault) ⊎ (result ≡ Err ToolFault.OutOfMemory)
-        → Keeps (E.contents err.old) (E.contents err.new) }
-    ensures read_fault { IsErrOf result ToolFault.ReadFault → R.failures reader.new ≡ R.failures reader.old + 1 }
-    ensures write_fault { IsErrOf result ToolFault.WriteFault
-        → O.failures out.new + E.failures err.new ≡ O.failures out.old + E.failures err.old + 1 }
-    ensures read_failures { (result ≢ Err ToolFault.ReadFault) → R.failures reader.new ≡ R.failures reader.old }
-    ensures out_failures { (result ≢ Err ToolFault.WriteFault) → O.failures out.new ≡ O.failures out.old }
-    ensures err_failures { (result ≢ Err ToolFault.WriteFault) → E.failures err.new ≡ E.failures err.old }
+    ensures { RunsOver (IsMsgunfmtRunOf name.now)
+        (reader_of (R.remaining reader.old) (R.calls reader.old) (R.failures reader.old))
+        (reader_of (R.remaining reader.new) (R.calls reader.new) (R.failures reader.new))
+        (writer (O.contents out.old) (O.failures out.old)) (writer (O.contents out.new) (O.failures out.new))
+        (writer (E.contents err.old) (E.failures err.old)) (writer (E.contents err.new) (E.failures err.new)) result }
 {
     let bytes = read_input(alloc, reader)?;
     let run = plan_msgunfmt(alloc, &bytes, name)?;
@@ -90,9 +65,7 @@ pub fn run_msgunfmt<R: ByteIn, O: ByteOut, E: ByteOut>(
     Ok(run.status)
 }
 
-/// Reads one input, plans as `plan_msgattrib` does with this name, and writes the run: its output
-/// and then its messages. Returns the run's status. After a `ReadFault` or `OutOfMemory` nothing is
-/// written; after a `WriteFault` a prefix is, as `deliver` says.
+/// Reads one input, and plans and writes as `run_msgfmt` does, by `plan_msgattrib`.
 pub fn run_msgattrib<R: ByteIn, O: ByteOut, E: ByteOut>(
     alloc: Global,
     reader: &mut R,
@@ -105,23 +78,11 @@ pub fn run_msgattrib<R: ByteIn, O: ByteOut, E: ByteOut>(
     requires read_failures { R.failures reader.old < 2 ^ 63 }
     requires out_failures { O.failures out.old < 2 ^ 63 }
     requires err_failures { E.failures err.old < 2 ^ 63 }
-    ensures calls { R.calls reader.new ≤ R.calls reader.old + 4294967296 }
-    ensures delivered { IfOk result
-        (λ status. IsDelivered (IsMsgattribRun name.now selection.now) (R.remaining reader.old)
-        (O.contents out.old) (O.contents out.new) (E.contents err.old) (E.contents err.new) status) }
-    ensures prefix { IsErrOf result ToolFault.WriteFault
-        → IsCut (IsMsgattribRun name.now selection.now) (R.remaining reader.old)
-        (O.contents out.old) (O.contents out.new) (E.contents err.old) (E.contents err.new) }
-    ensures no_output { (result ≡ Err ToolFault.ReadFault) ⊎ (result ≡ Err ToolFault.OutOfMemory)
-        → Keeps (O.contents out.old) (O.contents out.new) }
-    ensures no_messages { (result ≡ Err ToolFault.ReadFault) ⊎ (result ≡ Err ToolFault.OutOfMemory)
-        → Keeps (E.contents err.old) (E.contents err.new) }
-    ensures read_fault { IsErrOf result ToolFault.ReadFault → R.failures reader.new ≡ R.failures reader.old + 1 }
-    ensures write_fault { IsErrOf result ToolFault.WriteFault
-        → O.failures out.new + E.failures err.new ≡ O.failures out.old + E.failures err.old + 1 }
-    ensures read_failures { (result ≢ Err ToolFault.ReadFault) → R.failures reader.new ≡ R.failures reader.old }
-    ensures out_failures { (result ≢ Err ToolFault.WriteFault) → O.failures out.new ≡ O.failures out.old }
-    ensures err_failures { (result ≢ Err ToolFault.WriteFault) → E.failures err.new ≡ E.failures err.old }
+    ensures { RunsOver (IsMsgattribRun name.now selection.now)
+        (reader_of (R.remaining reader.old) (R.calls reader.old) (R.failures reader.old))
+        (reader_of (R.remaining reader.new) (R.calls reader.new) (R.failures reader.new))
+        (writer (O.contents out.old) (O.failures out.old)) (writer (O.contents out.new) (O.failures out.new))
+        (writer (E.contents err.old) (E.failures err.old)) (writer (E.contents err.new) (E.failures err.new)) result }
 {
     let text = read_input(alloc, reader)?;
     let run = plan_msgattrib(alloc, &text, name, selection)?;
