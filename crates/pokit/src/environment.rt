@@ -39,25 +39,24 @@ impl<'r, R: Env> VariableSource for System<'r, R> {
 impl<'r, R: Env + Files> EntrySource for System<'r, R> {
     ghost entries = { λ _ _. Unit {0} };
 
+    // Where there are many, they are read from the file that has them all, since the system walks to
+    // each entry from the first.
     fn read_entries(&self, alloc: Global) -> Result<Vec<Vec<u8>>, AllocError> {
-        entries(alloc, self.0)
-    }
-}
-
-/// All entries of the environment in order, each `NAME=value`. Where there are many, they are read
-/// from the file that has them all, since the system walks to each entry from the first.
-fn entries<R: Env + Files>(alloc: Global, rt: &R) -> Result<Vec<Vec<u8>>, AllocError> {
-    let mut entries = Vec::new(alloc);
-    for index in 0..FEW_ENTRIES {
-        match ask(alloc, rt, Query::Entry(index))? {
-            Some(entry) => entries.push(entry)?,
-            None => return Ok(entries),
+        let mut entries = Vec::new(alloc);
+        for index in 0..usize::MAX {
+            if index == FEW_ENTRIES {
+                match read_named(alloc, self.0, ENTRIES_FILE) {
+                    Ok(bytes) => return entries_in(alloc, &bytes),
+                    Err(InputFault::OutOfMemory) => return Err(AllocError),
+                    Err(InputFault::CannotOpen | InputFault::ReadFault) => {}
+                }
+            }
+            match ask(alloc, self.0, Query::Entry(index))? {
+                Some(entry) => entries.push(entry)?,
+                None => break,
+            }
         }
-    }
-    match read_named(alloc, rt, ENTRIES_FILE) {
-        Ok(bytes) => entries_in(alloc, &bytes),
-        Err(InputFault::OutOfMemory) => Err(AllocError),
-        Err(InputFault::CannotOpen | InputFault::ReadFault) => entries_from(alloc, rt, entries),
+        Ok(entries)
     }
 }
 
@@ -66,22 +65,6 @@ fn entries_in(alloc: Global, bytes: &[u8]) -> Result<Vec<Vec<u8>>, AllocError> {
     let mut entries = Vec::new(alloc);
     for entry in bytes.split(|byte| *byte == 0) {
         entries.push(Vec::from_slice(alloc, entry)?)?;
-    }
-    Ok(entries)
-}
-
-/// The first entries, and all after them.
-fn entries_from(
-    alloc: Global,
-    env: &impl Env,
-    first: Vec<Vec<u8>>,
-) -> Result<Vec<Vec<u8>>, AllocError> {
-    let mut entries = first;
-    for index in FEW_ENTRIES..usize::MAX {
-        match ask(alloc, env, Query::Entry(index))? {
-            Some(entry) => entries.push(entry)?,
-            None => break,
-        }
     }
     Ok(entries)
 }

@@ -50,15 +50,13 @@ pub(crate) fn read_named(
     rt: &impl Files,
     name: &str,
 ) -> Result<Vec<u8>, InputFault> {
-    match fs::open(rt, name) {
-        Ok(file) => {
-            let expected_len = file
-                .metadata()
-                .map_or(UNKNOWN_LEN, |metadata| metadata.len());
-            read_whole(alloc, &mut Counted::new(file), expected_len)
-        }
-        Err(_) => Err(InputFault::CannotOpen),
-    }
+    let Ok(file) = fs::open(rt, name) else {
+        return Err(InputFault::CannotOpen);
+    };
+    let expected_len = file
+        .metadata()
+        .map_or(UNKNOWN_LEN, |metadata| metadata.len());
+    read_whole(alloc, &mut Counted::new(file), expected_len)
 }
 
 /// A file that is open to be written, or a standard stream.
@@ -171,10 +169,7 @@ impl<'r> OutputFiles for SystemFiles<'r> {
     fn open(&mut self, path: &str) -> Option<Opened> {
         let mut options = OpenOptions::new();
         options.write(true).truncate(true);
-        match options.open(self.rt, path) {
-            Ok(file) => Some(Opened::File(file)),
-            Err(_) => None,
-        }
+        Some(Opened::File(options.open(self.rt, path).ok()?))
     }
 
     fn stream(&mut self, number: u32) -> Option<Opened> {
@@ -182,10 +177,7 @@ impl<'r> OutputFiles for SystemFiles<'r> {
             0 => None,
             1 => Some(Opened::Output(self.rt.stdout())),
             2 => Some(Opened::Errors(self.rt.stderr())),
-            _ => match append_to(self.alloc, self.rt, number) {
-                Some(file) => Some(Opened::File(file)),
-                None => None,
-            },
+            _ => Some(Opened::File(append_to(self.alloc, self.rt, number)?)),
         }
     }
 
@@ -218,10 +210,7 @@ fn rights_of(found: &Metadata) -> Rights {
 
 /// Whose an open file is, where the system says so.
 fn owner_of(file: &File) -> Option<Owner> {
-    match file.metadata() {
-        Ok(found) => Some(rights_of(&found).owner),
-        Err(_) => None,
-    }
+    Some(rights_of(&file.metadata().ok()?).owner)
 }
 
 /// The open stream of a number above those of the standard streams, opened anew to be written at its end,

@@ -17,64 +17,50 @@ use command_line::Tool;
 use files::{System, outputs};
 use options::Options;
 use runs::{Counted, Ending, ProgramFault};
-use std::alloc::{AllocError, Global};
 use std::process::ExitCode;
 
 fn main(rt: HostRuntime) -> ExitCode {
-    if started(&rt).exit_status() == 0 {
-        ExitCode::SUCCESS
-    } else {
-        ExitCode::FAILURE
-    }
+    let ending = match started(&rt) {
+        Ok(ending) => ending,
+        Err(fault) => report_fault(&rt, None, fault),
+    };
+    ExitCode::from(ending.exit_status())
 }
 
 /// Takes the arguments.
-fn started(rt: &HostRuntime) -> Ending {
+fn started(rt: &HostRuntime) -> Result<Ending, ProgramFault<'static>> {
     if streams::replace_closed(rt).is_err() {
-        return report_fault(rt, None, ProgramFault::CannotOpen(streams::PLACEHOLDER));
+        return Err(ProgramFault::CannotOpen(streams::PLACEHOLDER));
     }
-    match environment::arguments(rt.alloc(), rt) {
-        Ok(arguments) => match command_line::spelled_out(rt.alloc(), arguments.as_slice()) {
-            Ok(arguments) => run(rt, arguments.as_slice()),
-            Err(_) => report_fault(rt, None, ProgramFault::OutOfMemory),
-        },
-        Err(fault) => report_fault(rt, None, fault),
+    let arguments = environment::arguments(rt.alloc(), rt)?;
+    let arguments = command_line::spelled_out(rt.alloc(), arguments.as_slice())?;
+    let first = arguments
+        .get(1)
+        .and_then(|argument| Tool::of_name(*argument));
+    match run(rt, first, arguments.as_slice()) {
+        Ok(ending) => Ok(ending),
+        Err(fault) => Ok(report_fault(rt, first, fault)),
     }
 }
 
 /// Parses the arguments and runs the tool. Help and usage faults are written here.
-fn run(rt: &HostRuntime, arguments: &[&str]) -> Ending {
-    let first = arguments
-        .get(1)
-        .and_then(|argument| Tool::of_name(*argument));
-    let parsed = match command_line::program(rt.alloc(), first) {
-        Ok(command) => command.try_get_matches_from(arguments),
-        Err(_) => return report_fault(rt, first, ProgramFault::OutOfMemory),
-    };
-    match parsed {
-        Ok(matches) => run_tool(rt, &matches),
-        Err(error) if error.kind() == ErrorKind::OutOfMemory => {
-            report_fault(rt, first, ProgramFault::OutOfMemory)
-        }
+fn run(
+    rt: &HostRuntime,
+    first: Option<Tool>,
+    arguments: &[&str],
+) -> Result<Ending, ProgramFault<'static>> {
+    let command = command_line::program(rt.alloc(), first)?;
+    match command.try_get_matches_from(arguments) {
+        Ok(matches) => Ok(run_tool(rt, &matches)),
+        Err(error) if error.kind() == ErrorKind::OutOfMemory => Err(ProgramFault::OutOfMemory),
         Err(error) if error.use_stderr() => {
-            let Ok(text) = usage_text(rt.alloc(), first, &error) else {
-                return report_fault(rt, first, ProgramFault::OutOfMemory);
-            };
+            let text = format!(in rt.alloc(); "{error}")?;
+            let text = command_line::reworded(rt.alloc(), first, text.as_str())?;
             let _ = rt.eprint(&text);
-            Ending::Refused
+            Ok(Ending::Refused)
         }
-        Err(error) => Ending::Helped(error.print(rt).is_ok()),
+        Err(error) => Ok(Ending::Helped(error.print(rt).is_ok())),
     }
-}
-
-/// The text of a usage fault.
-fn usage_text(
-    alloc: Global,
-    tool: Option<Tool>,
-    error: &clap::Error,
-) -> Result<String, AllocError> {
-    let text = format!(in alloc; "{error}")?;
-    command_line::reworded(alloc, tool, text.as_str())
 }
 
 /// Runs the tool that the first argument names.
