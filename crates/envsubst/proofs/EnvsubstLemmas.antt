@@ -1,6 +1,6 @@
 -- Lemmas on a whole run of envsubst.
 use Rattle.std.proofs.Common.{◌≡◌, ℕ, ◌+◌, ◌<◌, List, [], ◌++◌, length, take, Option, Some, None, refl, sym, ap, subst, ◌∙◌, append-nil, append_assoc, drop, take-append-drop, ◌≤◌, ◌-◌, arith, inl, inr, Result, Ok, Err, OnOk, OnErr}
-use Rattle.std.proofs.KnownBytes.{Appends-nil, Appends-trans, Consumes-nil, Consumes-trans, Consumes-kept}
+use Rattle.std.proofs.KnownBytes.{Appends-trans, Consumes-nil, Consumes-trans, Consumes-kept}
 use Rattle.std.proofs.Math.Seq.{take-add, take-append-add}
 use Rattle.std.proofs.lemmas.List.{take_all}
 use Rattle.std.specs.Io.KnownBytes.{Appends, Consumes, Keeps, IsAtEnd}
@@ -98,12 +98,7 @@ Gathers-more values used text held part after old new block more same p q = reco
   appends = p.appends;
   passes = λ rest.
       let next : substitution values ((held ++ part) ++ rest) ≡ q.written ++ substitution values (after ++ rest) = subst (λ v. substitution v ((held ++ part) ++ rest) ≡ q.written ++ substitution v (after ++ rest)) same (q.passes rest) in
-      ap (substitution values) (append_assoc text part rest)
-      ∙ p.passes (part ++ rest)
-      ∙ ap (λ t. (p.out ++ block) ++ substitution values t) (sym (append_assoc held part rest))
-      ∙ ap (λ t. (p.out ++ block) ++ t) next
-      ∙ sym (append_assoc (p.out ++ block) q.written _)
-      ∙ ap (λ t. t ++ substitution values (after ++ rest)) (append_assoc p.out block q.written ∙ ap (λ t. p.out ++ t) (sym q.appends));
+      rw (append_assoc text part rest, p.passes (part ++ rest), ← append_assoc held part rest, next, q.appends) (simp append_assoc);
 }
 
 -- the block goes out
@@ -114,14 +109,6 @@ Gathers-out values text held first second third block none p q empty = record {
   passes = λ rest. p.passes rest ∙ ap (λ t. t ++ substitution values (held ++ rest)) (sym (append-nil (p.out ++ block)) ∙ ap (λ t. (p.out ++ block) ++ t) (sym empty));
 }
 
--- all of it has gone out
-pub Gathers-all : (values : Values) (text held : List ℕ) (first second third : Option (List ℕ)) (block : List ℕ) → Gathers values text held first second block → Appends second third block → Advances values text held first third
-Gathers-all values text held first second third block p q = record {
-  written = p.out ++ block;
-  appends = Appends-trans first second third p.out block p.appends q;
-  passes = p.passes;
-}
-
 -- a prefix of the block goes out
 pub Gathers-stops : (values : Values) (text held piece : List ℕ) (first second third : Option (List ℕ)) (block : List ℕ) → Gathers values text held first second block → AppendsPrefix second third block → Stops values (text ++ piece) first third
 Gathers-stops values text held piece first second third block p q = record {
@@ -129,12 +116,8 @@ Gathers-stops values text held piece first second third block p q = record {
   appends = Appends-trans first second third p.out (take q.0 block) p.appends q.1;
   prefix = λ rest. (
     drop q.0 block ++ substitution values (held ++ (piece ++ rest)),
-    ap (substitution values) (append_assoc text piece rest)
-        ∙ p.passes (piece ++ rest)
-        ∙ append_assoc p.out block _
-        ∙ ap (λ t. p.out ++ (t ++ substitution values (held ++ (piece ++ rest)))) (sym (take-append-drop q.0 block))
-        ∙ ap (λ t. p.out ++ t) (append_assoc (take q.0 block) (drop q.0 block) _)
-        ∙ sym (append_assoc p.out (take q.0 block) _),
+    ap (substitution values) (append_assoc text piece rest) ∙ p.passes (piece ++ rest)
+        ∙ ap (λ b. (p.out ++ b) ++ substitution values (held ++ (piece ++ rest))) (sym (take-append-drop q.0 block)) ∙ simp append_assoc,
   );
 }
 
@@ -144,10 +127,6 @@ pub Gathers-stopped : (values : Values) (before held piece : List ℕ) (at : ℕ
 Gathers-stopped values before held piece at first second third block p q =
     subst (λ t. Stops values t first third) (append_assoc before (take at piece) (drop at piece) ∙ ap (λ l. before ++ l) (take-append-drop at piece))
     (Gathers-stops values (before ++ take at piece) held (drop at piece) first second third block p q)
-
--- no byte of the block goes out
-pub none-out : (old : Option (List ℕ)) (block : List ℕ) → AppendsPrefix old old block
-none-out old block = (0, Appends-nil old)
 
 pub Gathers-part : (values used : Values) (before held piece : List ℕ) (at len : ℕ) (after : List ℕ) (old new : Option (List ℕ)) (block more : List ℕ) → used ≡ values → Gathers values (before ++ take at piece) held old new block
     → Advances used (held ++ take (at + len - at) (drop at piece)) after (Some block) (Some more) → Gathers values (before ++ take (at + len) piece) after old new more
@@ -160,7 +139,8 @@ Gathers-part values used before held piece at len after old new block more same 
 pub Gathers-piece : (values : Values) (before held piece : List ℕ) (at : ℕ) (first second third : Option (List ℕ)) (block : List ℕ) → length piece ≤ at → Gathers values (before ++ take at piece) held first second block → Appends second third block
     → Advances values (before ++ piece) held first third
 Gathers-piece values before held piece at first second third block past p q =
-    subst (λ t. Advances values (before ++ t) held first third) (take_all at piece past) (Gathers-all values (before ++ take at piece) held first second third block p q)
+    subst (λ t. Advances values (before ++ t) held first third) (take_all at piece past)
+    (record { written = p.out ++ block; appends = Appends-trans first second third p.out block p.appends q; passes = p.passes })
 
 -- what the writer took where a fault is reported before the end of the input
 pub ends-within : (values : Values) (input left old new : Option (List ℕ)) (fault : ToolFault) → (fault ≡ ReadFault → ⊥) → StopsWithin values input left old new → EndsAs values input left old new (Err fault)

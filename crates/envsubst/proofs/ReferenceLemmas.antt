@@ -108,17 +108,25 @@ too-long name b bs all passes long =
     let run = name_prefix-append name (b ∷ bs) all ∙ ap (λ l. name ++ l) (take_while-cons is_name_byte b bs ∙ cond-true (is_name_byte b) _ _ passes) in
     ap is_name run ∙ long-no_name (name ++ b ∷ name_prefix bs) (omega (arith, length-append name (b ∷ name_prefix bs)))
 
--- the byte after a name that ends there
-pub ends : (name : List ℕ) (b : ℕ) (bs : List ℕ) → is_begun_name name ≡ true → (name ≡ [] → ⊥) → is_name_byte b ≡ false → reference_after (name ++ b ∷ bs) ≡ Some (record { name = name; size = length name })
+-- a name that is the whole run
+named : (name xs : List ℕ) → is_begun_name name ≡ true → (name ≡ [] → ⊥) → name_prefix (name ++ xs) ≡ name
+    → reference_after (name ++ xs) ≡ Some (record { name = name; size = length name })
 unfolding reference_after bare_reference
-ends [] b bs h some stop = absurd (some refl)
-ends (c ∷ cs) b bs h some stop =
+named [] xs h some run = absurd (some refl)
+named (c ∷ cs) xs h some run =
     let p = begun-name c cs h in
     let q = and_parts (is_name_byte c) (list_all is_name_byte cs) p.1 in
-    let run = name_prefix-ends (c ∷ cs) b bs p.1 stop in
     cond-false (eqb c 123) _ _ (name_byte-not 123 c open-no_name q.0)
-    ∙ cond-true (is_name (name_prefix ((c ∷ cs) ++ b ∷ bs))) _ _ (ap is_name run ∙ p.0)
+    ∙ cond-true (is_name (name_prefix ((c ∷ cs) ++ xs))) _ _ (ap is_name run ∙ p.0)
     ∙ ap (λ l. Some (record { name = l; size = length l })) run
+
+-- the byte after a name that ends there
+pub ends : (name : List ℕ) (b : ℕ) (bs : List ℕ) → is_begun_name name ≡ true → (name ≡ [] → ⊥) → is_name_byte b ≡ false → reference_after (name ++ b ∷ bs) ≡ Some (record { name = name; size = length name })
+ends name b bs h some stop = named name (b ∷ bs) h some (name_prefix-ends name b bs (begun-bytes name h) stop)
+
+-- what stands after a name that is the whole run
+closed-by : (name xs : List ℕ) → name_prefix (name ++ xs) ≡ name → begins_with 125 (drop (length (name_prefix (name ++ xs))) (name ++ xs)) ≡ begins_with 125 xs
+closed-by name xs run = ap (λ l. begins_with 125 (drop (length l) (name ++ xs))) run ∙ ap (begins_with 125) (drop_at name xs (length name) refl)
 
 -- the brace after a name, or another byte
 pub closes : (name : List ℕ) (bs : List ℕ) → is_begun_name name ≡ true → (name ≡ [] → ⊥) → reference_after (123 ∷ (name ++ 125 ∷ bs)) ≡ Some (record { name = name; size = length name + 2 })
@@ -128,18 +136,14 @@ closes (c ∷ cs) bs h some =
     let p = begun-name c cs h in
     let name = c ∷ cs in
     let run = name_prefix-ends name 125 bs p.1 close-no_name in
-    let closed : begins_with 125 (drop (length (name_prefix (name ++ 125 ∷ bs))) (name ++ 125 ∷ bs)) ≡ true =
-    ap (λ l. begins_with 125 (drop (length l) (name ++ 125 ∷ bs))) run ∙ ap (begins_with 125) (drop_at name (125 ∷ bs) (length name) refl) in
-    cond-true (is_name (name_prefix (name ++ 125 ∷ bs)) && begins_with 125 (drop (length (name_prefix (name ++ 125 ∷ bs))) (name ++ 125 ∷ bs))) _ _ (and_from _ _ (ap is_name run ∙ p.0) closed)
+    cond-true (is_name (name_prefix (name ++ 125 ∷ bs)) && begins_with 125 (drop (length (name_prefix (name ++ 125 ∷ bs))) (name ++ 125 ∷ bs))) _ _ (and_from _ _ (ap is_name run ∙ p.0) (closed-by name (125 ∷ bs) run))
     ∙ ap (λ l. Some (record { name = l; size = length l + 2 })) run
 
 pub not-closed : (name : List ℕ) (b : ℕ) (bs : List ℕ) → is_begun_name name ≡ true → is_name_byte b ≡ false → eqb b 125 ≡ false → reference_after (123 ∷ (name ++ b ∷ bs)) ≡ None
 unfolding reference_after braced_reference
 not-closed name b bs h stop other =
     let run = name_prefix-ends name b bs (begun-bytes name h) stop in
-    let opened : begins_with 125 (drop (length (name_prefix (name ++ b ∷ bs))) (name ++ b ∷ bs)) ≡ false =
-    ap (λ l. begins_with 125 (drop (length l) (name ++ b ∷ bs))) run ∙ ap (begins_with 125) (drop_at name (b ∷ bs) (length name) refl) ∙ other in
-    cond-false (is_name (name_prefix (name ++ b ∷ bs)) && begins_with 125 (drop (length (name_prefix (name ++ b ∷ bs))) (name ++ b ∷ bs))) _ _ (and_right _ _ opened)
+    cond-false (is_name (name_prefix (name ++ b ∷ bs)) && begins_with 125 (drop (length (name_prefix (name ++ b ∷ bs))) (name ++ b ∷ bs))) _ _ (and_right _ _ (closed-by name (b ∷ bs) run ∙ other))
 
 -- a byte that begins neither a name nor a brace
 pub not-begun : (is_braced : Bool) (name : List ℕ) (b : ℕ) (bs : List ℕ) → name ≡ [] → is_letter b ≡ false → ((b ≡ 123) × (is_braced ≡ true)) ⊎ (b ≡ 123 → ⊥) → reference_after (after_dollar is_braced (name ++ b ∷ bs)) ≡ None
@@ -187,21 +191,11 @@ nothing-after = refl
 pub ending-none : (is_braced : Bool) (name : List ℕ) → is_begun_name name ≡ true → (is_braced ≡ true) ⊎ (name ≡ []) → reference_after (after_dollar is_braced (name ++ [])) ≡ None
 unfolding reference_after braced_reference bare_reference
 ending-none true name h which =
-    let opened : begins_with 125 (drop (length (name_prefix (name ++ []))) (name ++ [])) ≡ false =
-    ap (λ l. begins_with 125 (drop (length l) (name ++ []))) (run-whole name h) ∙ ap (begins_with 125) (drop_at name [] (length name) refl) in
-    cond-false (is_name (name_prefix (name ++ [])) && begins_with 125 (drop (length (name_prefix (name ++ []))) (name ++ []))) _ _ (and_right _ _ opened)
+    cond-false (is_name (name_prefix (name ++ [])) && begins_with 125 (drop (length (name_prefix (name ++ []))) (name ++ []))) _ _ (and_right _ _ (closed-by name [] (run-whole name h)))
 ending-none false name h which = elim which [ inl e ↦ absurd (false≢true e) | inr none ↦ ap (λ l. reference_after (l ++ [])) none ∙ nothing-after ]
 
 pub ending-some : (name : List ℕ) → is_begun_name name ≡ true → (name ≡ [] → ⊥) → reference_after (name ++ []) ≡ Some (record { name = name; size = length name })
-unfolding reference_after bare_reference
-ending-some [] h some = absurd (some refl)
-ending-some (c ∷ cs) h some =
-    let p = begun-name c cs h in
-    let q = and_parts (is_name_byte c) (list_all is_name_byte cs) p.1 in
-    let run = run-whole (c ∷ cs) h in
-    cond-false (eqb c 123) _ _ (name_byte-not 123 c open-no_name q.0)
-    ∙ cond-true (is_name (name_prefix ((c ∷ cs) ++ []))) _ _ (ap is_name run ∙ p.0)
-    ∙ ap (λ l. Some (record { name = l; size = length l })) run
+ending-some name h some = named name [] h some (run-whole name h)
 
 -- held bytes are at most 257: `${` and the longest name
 begun-length : (name : List ℕ) → is_begun_name name ≡ true → length name ≤ 255
@@ -234,18 +228,15 @@ dollar-undecided = refl
 -- the run at the beginning of a text, where it is a name
 run-taken : (bs : List ℕ) → take (length (name_prefix bs)) bs ≡ name_prefix bs
 run-taken [] = refl
-run-taken (b ∷ bs) = elim (cases_Bool (is_name_byte b)) [
-  | inl e ↦ let run = take_while-cons is_name_byte b bs ∙ cond-true (is_name_byte b) _ _ e in
-      ap (λ l. take (length l) (b ∷ bs)) run ∙ ap (λ l. b ∷ l) (run-taken bs) ∙ sym run
-  | inr e ↦ let run = name_prefix-stop b bs e in ap (λ l. take (length l) (b ∷ bs)) run ∙ sym run
-]
+run-taken (b ∷ bs) =
+    rw (take_while-cons is_name_byte b bs)
+    (cond_both (is_name_byte b) (b ∷ name_prefix bs) [] (λ run. take (length run) (b ∷ bs) ≡ run) (λ _. ap (λ l. b ∷ l) (run-taken bs)) (λ _. refl))
 
 run-bytes : (bs : List ℕ) → list_all is_name_byte (name_prefix bs) ≡ true
 run-bytes [] = refl
-run-bytes (b ∷ bs) = elim (cases_Bool (is_name_byte b)) [
-  | inl e ↦ ap (list_all is_name_byte) (take_while-cons is_name_byte b bs ∙ cond-true (is_name_byte b) _ _ e) ∙ and_from _ _ e (run-bytes bs)
-  | inr e ↦ ap (list_all is_name_byte) (name_prefix-stop b bs e)
-]
+run-bytes (b ∷ bs) =
+    rw (take_while-cons is_name_byte b bs)
+    (cond_both (is_name_byte b) (b ∷ name_prefix bs) [] (λ run. list_all is_name_byte run ≡ true) (λ e. and_from _ _ e (run-bytes bs)) (λ _. refl))
 
 begun-from : (run : List ℕ) → is_name run ≡ true → list_all is_name_byte run ≡ true → is_begun_name run ≡ true
 begun-from [] named all = refl

@@ -3,7 +3,7 @@ use Rattle.std.proofs.Common.{◌≡◌, inl, inr, refl, sym, ap, ◌∙◌, sub
 use Rattle.std.specs.Prelude.{◌↔◌}
 use Rattle.std.specs.List.{cons_option}
 use Rattle.std.specs.Option.{option_map}
-use Rattle.std.proofs.lemmas.Bool.{cases_Bool, cond-true, cond-false, eqb-true, eqb-false}
+use Rattle.std.proofs.lemmas.Bool.{cases_Bool, cond_both, cond-false, eqb-true, eqb-false}
 use Rattle.envsubst.specs.References.{Reference, reference_after, names_in}
 use Rattle.envsubst.specs.Substitution.{Values, Replacement, replacement_of, substituted, substitution_after, substitution}
 use Rattle.envsubst.specs.Replacing.{SpellsReference, BeginsNoReplaced, Replaces, nothing, copied, replaced, HoldsNames, no_text, no_reference, reference}
@@ -66,13 +66,10 @@ after values [] zero = nothing
 after values [] (suc skip) = nothing
 after values (b ∷ text) (suc skip) = after values text skip
 after values (b ∷ text) zero =
-    let later = after values text in
-    elim (cases_Bool (eqb b 36)) [
-      | inl e ↦ subst (λ o. Replaces values (b ∷ text) (substituted b o (λ skip. substitution_after values skip text))) (sym (cond-true (eqb b 36) (replacement_of values (reference_after text)) None e))
-          (dollar_place values b text (eqb-true b 36 e) later (replacement_of values (reference_after text)) refl)
-      | inr e ↦ subst (λ o. Replaces values (b ∷ text) (substituted b o (λ skip. substitution_after values skip text))) (sym (cond-false (eqb b 36) (replacement_of values (reference_after text)) None e))
-          (copied (λ name value rest h is. not_dollar b text name rest e h) (later 0))
-    ]
+    cond_both (eqb b 36) (replacement_of values (reference_after text)) None
+    (λ o. Replaces values (b ∷ text) (substituted b o (λ skip. substitution_after values skip text)))
+    (λ e. dollar_place values b text (eqb-true b 36 e) (after values text) (replacement_of values (reference_after text)) refl)
+    (λ e. copied (λ name value rest h is. not_dollar b text name rest e h) (after values text 0))
 
 none_replaced : (values : Values) (text : List ℕ) (o : Option Replacement) → replacement_of values (reference_after text) ≡ o → BeginsNoReplaced values (36 ∷ text) → replacement_of values (reference_after text) ≡ None
 none_replaced values text None e none = e
@@ -114,12 +111,9 @@ names_held : (text : List ℕ) → HoldsNames text (names_in text)
 unfolding names_in
 names_held [] = no_text
 names_held (b ∷ text) =
-    let names = names_in text in
-    let here = option_map (λ r. r.name) (reference_after text) in
-    elim (cases_Bool (eqb b 36)) [
-      | inl e ↦ subst (λ o. HoldsNames (b ∷ text) (cons_option o names)) (sym (cond-true (eqb b 36) here None e)) (dollar_names b text names (eqb-true b 36 e) (reference_after text) refl (names_held text))
-      | inr e ↦ subst (λ o. HoldsNames (b ∷ text) (cons_option o names)) (sym (cond-false (eqb b 36) here None e)) (no_reference (λ name rest h. not_dollar b text name rest e h) (names_held text))
-    ]
+    cond_both (eqb b 36) (option_map (λ r. r.name) (reference_after text)) None (λ o. HoldsNames (b ∷ text) (cons_option o (names_in text)))
+    (λ e. dollar_names b text (names_in text) (eqb-true b 36 e) (reference_after text) refl (names_held text))
+    (λ e. no_reference (λ name rest h. not_dollar b text name rest e h) (names_held text))
 
 names_read : (b : ℕ) (text name rest : List ℕ) → SpellsReference (b ∷ text) name rest → (size : ℕ) × (b ≡ 36) × (reference_after text ≡ Some (record { name = name; size = size }))
 names_read b text name rest h =

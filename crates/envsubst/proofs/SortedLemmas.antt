@@ -11,7 +11,7 @@ use Rattle.std.specs.declared.result.Result.TheVariants.{Ok, Err}
 use Rattle.std.specs.Str.{bytes_eq}
 use Rattle.std.specs.declared.cmp.Ordering.{Ordering}
 use Rattle.std.specs.declared.cmp.Ordering.TheVariants.{Less, Equal, Greater}
-use Rattle.std.proofs.lemmas.Bool.{cases_Bool, cases_lt, cond-true, cond-false}
+use Rattle.std.proofs.lemmas.Bool.{cases_lt, cond_both, cond-true, cond-false}
 use Rattle.std.proofs.lemmas.Cmp.{nat_list_cmp_total}
 use Rattle.std.proofs.lemmas.List.{drop_all}
 use Rattle.std.proofs.lemmas.List.Elements.{All-from_get_or}
@@ -48,13 +48,11 @@ after-not_eq Greater Equal le e f = absurd (omega arith)
 after-not_eq Greater Greater le e f = refl
 
 before-lt : (a b : Ordering) → ordering_index a ≤ ordering_index b → is_lt b ≡ true → is_lt a ≡ true
-before-lt Less b le e = refl
+before-lt Less Less le e = refl
 before-lt Equal Less le e = absurd (omega arith)
-before-lt Equal Equal le e = cc
-before-lt Equal Greater le e = absurd (cc)
 before-lt Greater Less le e = absurd (omega arith)
-before-lt Greater Equal le e = absurd (cc)
-before-lt Greater Greater le e = cc
+before-lt a Equal le e = absurd cc
+before-lt a Greater le e = absurd cc
 
 -- names that stand below another differ from it
 below-differs : (known name : List ℕ) → is_lt (name_cmp known name) ≡ true → bytes_eq known name ≡ false
@@ -153,14 +151,10 @@ among-ties : (vars : List Variable) (name : List ℕ) → value_of (pairs_in var
 unfolding value_of
 among-ties [] name = refl
 among-ties (v ∷ vars) name =
-    let rest = filter (ties stands_below (named name)) vars in
-    elim (cases_Bool (bytes_eq v.0.now name)) [
-      | inl e ↦ cond-true (bytes_eq v.0.now name) v.1.now (value_of (pairs_in vars) name) e
-          ∙ sym (cond-true (bytes_eq v.0.now name) v.1.now (value_of (pairs_in rest) name) e)
-          ∙ sym (ap (λ vs. value_of (pairs_in vs) name) (cond-true (ties stands_below (named name) v) (v ∷ rest) rest (tied-name name v ∙ e)))
-      | inr e ↦ cond-false (bytes_eq v.0.now name) v.1.now (value_of (pairs_in vars) name) e ∙ among-ties vars name
-          ∙ sym (ap (λ vs. value_of (pairs_in vs) name) (cond-false (ties stands_below (named name) v) (v ∷ rest) rest (tied-name name v ∙ e)))
-    ]
+    rw (tied-name name v)
+    (cond_both (bytes_eq v.0.now name) (v ∷ filter (ties stands_below (named name)) vars) (filter (ties stands_below (named name)) vars)
+    (λ list. value_of (pairs_in (v ∷ vars)) name ≡ value_of (pairs_in list) name)
+    (λ e. rw e) (λ e. rw e (among-ties vars name)))
 
 -- so a stable sort keeps all values
 pub stable-values : (vars sorted : List Variable) → IsStableBy stands_below vars sorted → (name : List ℕ) → value_of (pairs_in sorted) name ≡ value_of (pairs_in vars) name

@@ -1,22 +1,18 @@
 -- Each reference is read where it is spelt, and what is read as one is spelt.
 use Rattle.std.proofs.Common.{◌≡◌, refl, sym, ap, ◌∙◌, subst, ℕ, suc, ◌+◌, true, ◌&&◌, List, [], ◌∷◌, ◌++◌, length, drop, All, Option, Some, None, arith}
+use Rattle.std.specs.Bool.{Decides}
 use Rattle.std.specs.List.{list_all}
+use Rattle.std.proofs.lemmas.Bool.Decides.{Decides-by_and}
 use Rattle.std.proofs.lemmas.Bool.{and_parts, and_from, cond_both, eqb-true, ltb-true, lt-ltb, both_ways, false_from_ne_true, false≢true}
 use Rattle.std.proofs.lemmas.List.{drop_at, drop-drop}
-use Rattle.std.proofs.lemmas.List.Elements.{All-nil, All-cons, All-head, All-tail}
 use Rattle.std.proofs.lemmas.List.Sums.{take_while-cons}
 use Rattle.envsubst.specs.References.{Reference, is_letter, is_name_byte, is_name, name_prefix, begins_with, bare_reference, braced_reference, reference_after}
 use Rattle.envsubst.specs.PendingReference.{is_begun_name}
 use Rattle.envsubst.specs.Replacing.{IsInName, IsName, NoNameGoesOn, SpellsReference, bare, braced}
 use Rattle.envsubst.proofs.ReferenceLemmas.{ends, closes, ending-some, after-closed, letter-name_byte}
 
-all_say : (bytes : List ℕ) → list_all is_name_byte bytes ≡ true → All IsInName bytes
-all_say [] h = All-nil IsInName
-all_say (b ∷ bytes) h = let p = and_parts (is_name_byte b) (list_all is_name_byte bytes) h in All-cons IsInName b bytes p.0 (all_say bytes p.1)
-
-all_pass : (bytes : List ℕ) → All IsInName bytes → list_all is_name_byte bytes ≡ true
-all_pass [] h = refl
-all_pass (b ∷ bytes) h = and_from _ _ (All-head IsInName b bytes h) (all_pass bytes (All-tail IsInName b bytes h))
+all_decides : (bytes : List ℕ) → Decides (list_all is_name_byte bytes) (All IsInName bytes)
+all_decides bytes = Decides-by_and is_name_byte IsInName (λ text. list_all is_name_byte text) (λ b. (λ e. e, λ h. h)) refl (λ _ _. refl) bytes
 
 name_says : (name : List ℕ) → is_name name ≡ true → list_all is_name_byte name ≡ true → IsName name
 unfolding is_name
@@ -24,13 +20,13 @@ name_says [] h all = absurd (false≢true h)
 name_says (b ∷ bytes) h all =
     let p = and_parts (is_letter b) _ h in
     let q = and_parts (is_name_byte b) (list_all is_name_byte bytes) all in
-    (p.0, all_say bytes q.1, ltb-true (length bytes) 255 p.1)
+    (p.0, (all_decides bytes).0 q.1, ltb-true (length bytes) 255 p.1)
 
 name_begun : (name : List ℕ) → IsName name → is_begun_name name ≡ true
 unfolding is_name
 name_begun [] h = absurd h
 name_begun (b ∷ bytes) h =
-    and_from _ _ (and_from _ _ h.0 (lt-ltb (length bytes) 255 (h.2))) (and_from _ _ (letter-name_byte b h.0) (all_pass bytes h.1))
+    and_from _ _ (and_from _ _ h.0 (lt-ltb (length bytes) 255 (h.2))) (and_from _ _ (letter-name_byte b h.0) ((all_decides bytes).1 h.1))
 
 name_some : (name : List ℕ) → IsName name → name ≡ [] → ⊥
 name_some [] h none = h

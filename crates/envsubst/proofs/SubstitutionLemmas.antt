@@ -1,5 +1,5 @@
 -- Lemmas on texts with their references replaced.
-use Rattle.std.proofs.Common.{◌≡◌, ℕ, zero, suc, ◌+◌, Bool, true, false, eqb, ◌⊎◌, inl, inr, List, [], ◌∷◌, ◌++◌, length, drop, take, Option, Some, None, refl, sym, ap, subst, ◌∙◌, append-nil, arith}
+use Rattle.std.proofs.Common.{◌≡◌, ℕ, zero, suc, ◌+◌, Bool, true, false, eqb, ◌⊎◌, inl, inr, List, [], ◌∷◌, ◌++◌, length, drop, take, Option, Some, None, refl, sym, ap, ◌∙◌, append-nil, arith}
 use Rattle.std.specs.List.{list_all, position_or_len}
 use Rattle.std.specs.Option.{option_map}
 use Rattle.std.proofs.lemmas.Bool.{and_parts, cond-false, cases_Bool, true≢false, false≢true}
@@ -47,8 +47,8 @@ CopiesPrefix values n bs rest = substitution values (bs ++ rest) ≡ take n bs +
 pub plain-prefix : (values : Values) (bs rest : List ℕ) → CopiesPrefix values (position_or_len (is_byte 36) bs) bs rest
 plain-prefix values [] rest = refl
 plain-prefix values (b ∷ bs) rest = elim (cases_Bool (eqb b 36)) [
-  | inl e ↦ subst (λ n. CopiesPrefix values n (b ∷ bs) rest) (sym (byte-here 36 b bs e)) refl
-  | inr e ↦ subst (λ n. CopiesPrefix values n (b ∷ bs) rest) (sym (byte-later 36 b bs e)) (plain values b (bs ++ rest) e ∙ ap (λ l. b ∷ l) (plain-prefix values bs rest))
+  | inl e ↦ rw (byte-here 36 b bs e)
+  | inr e ↦ rw (byte-later 36 b bs e) (plain values b (bs ++ rest) e ∙ ap (λ l. b ∷ l) (plain-prefix values bs rest))
 ]
 
 -- bytes without a `$` are copied

@@ -1,9 +1,10 @@
 -- What references to a name become is the value that the variables give it, if the name is
 -- replaced.
-use Rattle.std.proofs.Common.{◌≡◌, ◌≢◌, ◌∙◌, refl, sym, ap, subst, inl, inr, ℕ, true, List, [], ◌∷◌, ◌++◌, All, Option, Some, None}
+use Rattle.std.proofs.Common.{◌≡◌, ◌≢◌, ◌∙◌, refl, ap, subst, ℕ, true, List, [], ◌∷◌, ◌++◌, All, Option, Some, None}
 use Rattle.std.specs.Prelude.{◌↔◌, Contains}
 use Rattle.std.specs.Str.{bytes_eq}
-use Rattle.std.proofs.lemmas.Bool.{cases_Bool, cond-true, cond-false, both_ways, false_from_ne_true}
+use Rattle.std.proofs.lemmas.Bool.{cond_both, cond-true, cond-false, false_from_ne_true}
+use Rattle.std.proofs.lemmas.Bool.Decides.{not_from_Decides}
 use Rattle.std.proofs.lemmas.List.Elements.{All-nil, All-cons, All-head, All-tail}
 use Rattle.std.proofs.lemmas.List.Folds.{Any-from_list_any, list_any-from_Any}
 use Rattle.std.proofs.lemmas.Slice.Eq.{bytes_eq-Decides}
@@ -23,12 +24,9 @@ has_value : (name : List ℕ) (vars : List Variable) → HasValue name vars (val
 unfolding value_of
 has_value name [] = unset (All-nil (λ (w : Variable). w.0 ≢ name))
 has_value name (v ∷ vars) =
-    elim (cases_Bool (bytes_eq v.0 name)) [
-      | inl e ↦ let same = (bytes_eq-Decides v.0 name).0 e in
-          subst (HasValue name (v ∷ vars)) (sym (cond-true (bytes_eq v.0 name) v.1 (value_of vars name) e)) (set [] vars (ap (λ n. (n, v.1) ∷ vars) same) (All-nil (λ (w : Variable). w.0 ≢ name)))
-      | inr e ↦ subst (HasValue name (v ∷ vars)) (sym (cond-false (bytes_eq v.0 name) v.1 (value_of vars name) e))
-          (later name v vars (value_of vars name) (λ same. both_ways (bytes_eq v.0 name) e ((bytes_eq-Decides v.0 name).1 same)) (has_value name vars))
-    ]
+    cond_both (bytes_eq v.0 name) v.1 (value_of vars name) (HasValue name (v ∷ vars))
+    (λ e. set [] vars (ap (λ n. (n, v.1) ∷ vars) ((bytes_eq-Decides v.0 name).0 e)) (All-nil (λ (w : Variable). w.0 ≢ name)))
+    (λ e. later name v vars (value_of vars name) (not_from_Decides (bytes_eq v.0 name) (bytes_eq-Decides v.0 name) e) (has_value name vars))
 
 passed : (name : List ℕ) (v : Variable) (vars : List Variable) → v.0 ≢ name → value_of (v ∷ vars) name ≡ value_of vars name
 unfolding value_of
@@ -62,22 +60,16 @@ unfolding is_replaced
 replaced_passes None name h = refl
 replaced_passes (Some names) name h = list_any-from_Any (λ n. bytes_eq n name) names (h.0, name, h.1, h.2, (bytes_eq-Decides name name).1 refl)
 
-some_same : {X : Type 0} (x y : X) → Some x ≡ Some y → x ≡ y
-some_same x y e = cc
-
 value_says : (vars : List Variable) (only : Option (List (List ℕ))) (name value : List ℕ) → values_of vars only name ≡ Some value → IsReplaced only name × HasValue name vars value
 unfolding values_of
-value_says vars only name value e =
-    elim (cases_Bool (is_replaced only name)) [
-      | inl t ↦ let same = some_same (value_of vars name) value (sym (cond-true (is_replaced only name) (Some (value_of vars name)) None t) ∙ e) in
-          (replaced_says only name t, subst (HasValue name vars) same (has_value name vars))
-      | inr f ↦ absurd (none-some value (sym (cond-false (is_replaced only name) (Some (value_of vars name)) None f) ∙ e))
-    ]
+value_says vars only name value =
+    cond_both (is_replaced only name) (Some (value_of vars name)) None (λ v. v ≡ Some value → IsReplaced only name × HasValue name vars value)
+    (λ t e. let same : value_of vars name ≡ value = cc in (replaced_says only name t, subst (HasValue name vars) same (has_value name vars)))
+    (λ f e. absurd (none-some value e))
 
 value_is : (vars : List Variable) (only : Option (List (List ℕ))) (name value : List ℕ) → IsReplaced only name → HasValue name vars value → values_of vars only name ≡ Some value
 unfolding values_of
-value_is vars only name value replaced has =
-    cond-true (is_replaced only name) (Some (value_of vars name)) None (replaced_passes only name replaced) ∙ ap Some (is_value has)
+value_is vars only name value replaced has = rw (replaced_passes only name replaced, is_value has)
 
 pub values_are : (vars : List Variable) (only : Option (List (List ℕ))) (name value : List ℕ) → (values_of vars only name ≡ Some value) ↔ (IsReplaced only name × HasValue name vars value)
 values_are vars only name value = (λ e. value_says vars only name value e, λ h. value_is vars only name value h.0 h.1)

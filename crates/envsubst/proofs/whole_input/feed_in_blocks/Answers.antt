@@ -1,11 +1,12 @@
 use Rattle.std.proofs.Common.{◌+◌, arith, ◌∙◌}
+use Rattle.std.proofs.KnownBytes.{Appends-nil}
 use Rattle.runs.proofs.DeviceLemmas.{on-err}
-use Rattle.envsubst.proofs.EnvsubstLemmas.{Gathers-out, Gathers-part, Gathers-piece, Gathers-stopped, none-out, same-values}
+use Rattle.envsubst.proofs.EnvsubstLemmas.{Gathers-out, Gathers-part, Gathers-piece, Gathers-stopped, same-values}
 use Rattle.envsubst.proofs.whole_input.feed_in_blocks.Goals as goal
 
 pub returns-in_err-block-clause-stops : goal.returns-in_err-block-clause-stops
 returns-in_err-block-clause-stops g c =
-    on-err _ _ (Gathers-stopped _ _ _ c.args.piece.now c.loop-at.at _ _ _ _ c.loop-at.invariant.gathers (none-out _ _))
+    on-err _ _ (Gathers-stopped _ _ _ c.args.piece.now c.loop-at.at _ _ _ _ c.loop-at.invariant.gathers (0, Appends-nil _))
 
 pub returns-in_err-put_all-clause-stops : goal.returns-in_err-put_all-clause-stops
 returns-in_err-put_all-clause-stops g c =
