@@ -1,6 +1,7 @@
 -- Lemmas on texts with their escapes expanded.
 use Rattle.std.proofs.Common.{◌≡◌, ℕ, zero, suc, ◌+◌, ◌<◌, Bool, true, false, ◌||◌, cond, eqb, min, inl, inr, List, [], ◌∷◌, ◌++◌, append_assoc, append-nil, length, get_or, drop, take, Option, Some, None, is_none, refl, sym, ap, subst, ◌∙◌, arith}
 use Rattle.std.specs.List.{position_or_len, prefix_len, filter_map, list_any}
+use Rattle.std.proofs.Math.Bool.{or-false, or-true}
 use Rattle.std.proofs.lemmas.Bool.{cond-false, cases_Bool}
 use Rattle.std.proofs.lemmas.List.{drop_all, take_min}
 use Rattle.memchr.specs.Find.{is_byte}
@@ -35,16 +36,15 @@ given_bytes-escape bs e some = ap (λ o. given_bytes 92 o (λ skip. given_bytes_
 prefix-bytes : (bs : List ℕ) → expansion bs ≡ take (position_or_len (is_byte 92) bs) bs ++ expansion (drop (position_or_len (is_byte 92) bs) bs)
 prefix-bytes [] = refl
 prefix-bytes (b ∷ bs) = elim (cases_Bool (eqb b 92)) [
-  | inl e ↦ subst (λ n. expansion (b ∷ bs) ≡ take n (b ∷ bs) ++ expansion (drop n (b ∷ bs))) (sym (byte-here 92 b bs e)) refl
-  | inr e ↦ subst (λ n. expansion (b ∷ bs) ≡ take n (b ∷ bs) ++ expansion (drop n (b ∷ bs))) (sym (byte-later 92 b bs e))
-      (ap (filter_map (λ u. u)) (given_bytes-plain b bs e) ∙ ap (λ l. b ∷ l) (prefix-bytes bs))
+  | inl e ↦ rw (byte-here 92 b bs e)
+  | inr e ↦ rw (byte-later 92 b bs e) (ap (filter_map (λ u. u)) (given_bytes-plain b bs e) ∙ ap (λ l. b ∷ l) (prefix-bytes bs))
 ]
 
 prefix-newline : (bs : List ℕ) → has_no_newline bs ≡ has_no_newline (drop (position_or_len (is_byte 92) bs) bs)
 prefix-newline [] = refl
 prefix-newline (b ∷ bs) = elim (cases_Bool (eqb b 92)) [
-  | inl e ↦ sym (ap (λ n. has_no_newline (drop n (b ∷ bs))) (byte-here 92 b bs e))
-  | inr e ↦ ap (list_any (λ u. is_none u)) (given_bytes-plain b bs e) ∙ prefix-newline bs ∙ sym (ap (λ n. has_no_newline (drop n (b ∷ bs))) (byte-later 92 b bs e))
+  | inl e ↦ rw (byte-here 92 b bs e)
+  | inr e ↦ rw (byte-later 92 b bs e) (ap (list_any (λ u. is_none u)) (given_bytes-plain b bs e) ∙ prefix-newline bs)
 ]
 
 prefix-at : (bs : List ℕ) (n : ℕ) → n ≡ position_or_len (is_byte 92) bs → expansion bs ≡ take n bs ++ expansion (drop n bs)
@@ -52,14 +52,6 @@ prefix-at bs n index = subst (λ m. expansion bs ≡ take m bs ++ expansion (dro
 
 newline-at : (bs : List ℕ) (n : ℕ) → n ≡ position_or_len (is_byte 92) bs → has_no_newline bs ≡ has_no_newline (drop n bs)
 newline-at bs n index = prefix-newline bs ∙ ap (λ m. has_no_newline (drop m bs)) (sym index)
-
-or-none : (b : Bool) → (b || false) ≡ b
-or-none true = refl
-or-none false = refl
-
-or-found : (b : Bool) → (b || true) ≡ true
-or-found true = refl
-or-found false = refl
 
 -- where no backslash is left
 pub end-bytes : (bytes bs all : List ℕ) (n : ℕ) → bytes ++ expansion bs ≡ all → n ≡ position_or_len (is_byte 92) bs → n ≡ length bs → bytes ++ take n bs ≡ all
@@ -72,7 +64,7 @@ pub end-newline : (found all : Bool) (bs : List ℕ) (n : ℕ) → (found || has
 unfolding given_bytes_after
 end-newline found all bs n inv index end =
     let nothing : drop n bs ≡ [] = drop_all n bs (omega arith) in
-    sym (or-none found) ∙ ap (λ b. found || b) (sym (newline-at bs n index ∙ ap has_no_newline nothing)) ∙ inv
+    sym (or-false found) ∙ ap (λ b. found || b) (sym (newline-at bs n index ∙ ap has_no_newline nothing)) ∙ inv
 
 -- a backslash that stays, after plain bytes
 pub stays-bytes : (bytes bs all : List ℕ) (n : ℕ) → bytes ++ expansion bs ≡ all → n ≡ position_or_len (is_byte 92) bs → n < length bs → escape_after (drop (n + 1) bs) ≡ None
@@ -119,7 +111,7 @@ none-bytes bytes bs all n e inv index short some is =
 pub none-newline : (found all : Bool) (bs : List ℕ) (n : ℕ) (e : Escape) → (found || has_no_newline bs) ≡ all → n ≡ position_or_len (is_byte 92) bs → n < length bs → escape_after (drop (n + 1) bs) ≡ Some e → e.byte ≡ None → true ≡ all
 none-newline found all bs n e inv index short some is =
     let given = given_bytes-escape (drop (n + 1) bs) e some ∙ ap (λ b. b ∷ given_bytes_after 0 (drop e.size (drop (n + 1) bs))) is in
-    sym (or-found found)
+    sym (or-true found)
     ∙ ap (λ b. found || b) (sym (newline-at bs n index ∙ ap has_no_newline (byte-at 92 bs n index short) ∙ ap (list_any (λ u. is_none u)) given)) ∙ inv
 
 -- an escape by its first byte
@@ -142,4 +134,4 @@ abbrev octal-of : ℕ → ℕ → Option Escape
 octal-of value size = Some (record { byte = Some value; size = size })
 
 pub octal-escape : (digits run : List ℕ) (value : ℕ) → value ≡ octal_value digits → digits ≡ run → octal-of value (length digits) ≡ octal-of (octal_value run) (length run)
-octal-escape digits run value v r = ap (λ x. octal-of x (length digits)) v ∙ ap (λ l. octal-of (octal_value l) (length l)) r
+octal-escape digits run value v r = rw (v, r)

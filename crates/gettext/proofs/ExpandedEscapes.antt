@@ -1,8 +1,8 @@
 -- The expansion of a text is the text with its escapes expanded.
-use Rattle.std.proofs.Common.{◌≡◌, refl, sym, ap, ◌∙◌, subst, inl, inr, ℕ, zero, suc, Bool, eqb, List, [], ◌∷◌, drop, Option, Some, None, is_none}
+use Rattle.std.proofs.Common.{◌≡◌, refl, sym, ap, ◌∙◌, subst, ℕ, zero, suc, Bool, eqb, List, [], ◌∷◌, drop, Option, Some, None, is_none}
 use Rattle.std.specs.Prelude.{◌↔◌}
 use Rattle.std.specs.List.{filter_map, list_any}
-use Rattle.std.proofs.lemmas.Bool.{cases_Bool, cond-true, cond-false, eqb-true, eqb-false, ne_eqb}
+use Rattle.std.proofs.lemmas.Bool.{cond_both, eqb-true, eqb-false, ne_eqb}
 use Rattle.gettext.specs.declared.escape.Escape.{Escape}
 use Rattle.gettext.specs.Escapes.{escape_after, given_bytes, given_bytes_after, expansion, has_no_newline}
 use Rattle.gettext.specs.Expanding.{SpellsByte, IsNoEscape, Expands, nothing, plain, escape, no_newline, stays}
@@ -43,13 +43,10 @@ after [] zero = nothing
 after [] (suc skip) = nothing
 after (b ∷ text) (suc skip) = after text skip
 after (b ∷ text) zero =
-    let later = after text in
-    elim (cases_Bool (eqb b 92)) [
-      | inl e ↦ let is = eqb-true b 92 e in
-          subst (λ o. Makes (b ∷ text) (given_bytes b o (λ skip. given_bytes_after skip text))) (sym (cond-true (eqb b 92) (escape_after text) None e))
-          (subst (λ a. Makes (a ∷ text) (given_bytes a (escape_after text) (λ skip. given_bytes_after skip text))) (sym is) (backslash_makes text (escape_after text) refl later))
-      | inr e ↦ subst (λ o. Makes (b ∷ text) (given_bytes b o (λ skip. given_bytes_after skip text))) (sym (cond-false (eqb b 92) (escape_after text) None e)) (plain (eqb-false b 92 e) (later 0))
-    ]
+    cond_both (eqb b 92) (escape_after text) None (λ o. Makes (b ∷ text) (given_bytes b o (λ skip. given_bytes_after skip text)))
+    (λ e. subst (λ a. Makes (a ∷ text) (given_bytes a (escape_after text) (λ skip. given_bytes_after skip text))) (sym (eqb-true b 92 e))
+    (backslash_makes text (escape_after text) refl (after text)))
+    (λ e. plain (eqb-false b 92 e) (after text 0))
 
 -- the expansion of a text, and whether it holds `\c`, are these
 abbrev Are : List ℕ → List ℕ → Bool → Type 0

@@ -88,8 +88,8 @@ onto b (part ∷ parts) h all =
 parts_lack : (text : List ℕ) → All (Lacks 58) (slice_split colon text)
 parts_lack [] = All-cons (Lacks 58) [] [] (All-nil (λ b. b ≡ 58 → ⊥)) (All-nil (Lacks 58))
 parts_lack (b ∷ text) = elim (cases_Bool (colon b)) [
-  | inl e ↦ subst (All (Lacks 58)) (sym (slice_split-cons_yes colon b text e)) (All-cons (Lacks 58) [] (slice_split colon text) (All-nil (λ b. b ≡ 58 → ⊥)) (parts_lack text))
-  | inr e ↦ subst (All (Lacks 58)) (sym (slice_split-cons_no colon b text e)) (onto b (slice_split colon text) (eqb-false b 58 e) (parts_lack text))
+  | inl e ↦ rw (slice_split-cons_yes colon b text e) (All-cons (Lacks 58) [] (slice_split colon text) (All-nil (λ b. b ≡ 58 → ⊥)) (parts_lack text))
+  | inr e ↦ rw (slice_split-cons_no colon b text e) (onto b (slice_split colon text) (eqb-false b 58 e) (parts_lack text))
 ]
 
 onto_some : (b : ℕ) (parts : List (List ℕ)) → onto_first b parts ≡ [] → ⊥

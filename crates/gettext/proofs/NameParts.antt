@@ -15,16 +15,16 @@ lacks : (a : ℕ) (text : List ℕ) → Lacks a (before a text)
 unfolding before
 lacks a [] = All-nil (λ b. b ≡ a → ⊥)
 lacks a (b ∷ text) = elim (cases_Bool (eqb b a)) [
-  | inl e ↦ subst (λ n. Lacks a (take n (b ∷ text))) (sym (byte-here a b text e)) (All-nil (λ b. b ≡ a → ⊥))
-  | inr e ↦ subst (λ n. Lacks a (take n (b ∷ text))) (sym (byte-later a b text e)) (All-cons (λ b. b ≡ a → ⊥) b (before a text) (eqb-false b a e) (lacks a text))
+  | inl e ↦ rw (byte-here a b text e) (All-nil (λ b. b ≡ a → ⊥))
+  | inr e ↦ rw (byte-later a b text e) (All-cons (λ b. b ≡ a → ⊥) b (before a text) (eqb-false b a e) (lacks a text))
 ]
 
 begins : (a : ℕ) (text : List ℕ) → IsEmptyOrBegins a (from_first a text)
 unfolding from_first
 begins a [] = tt
 begins a (b ∷ text) = elim (cases_Bool (eqb b a)) [
-  | inl e ↦ subst (λ n. IsEmptyOrBegins a (drop n (b ∷ text))) (sym (byte-here a b text e)) (eqb-true b a e)
-  | inr e ↦ subst (λ n. IsEmptyOrBegins a (drop n (b ∷ text))) (sym (byte-later a b text e)) (begins a text)
+  | inl e ↦ rw (byte-here a b text e) (eqb-true b a e)
+  | inr e ↦ rw (byte-later a b text e) (begins a text)
 ]
 
 whole : (a : ℕ) (text : List ℕ) → before a text ++ from_first a text ≡ text

@@ -1,9 +1,9 @@
 -- The count that a text gives is that of its digits.
-use Rattle.std.proofs.Common.{◌≡◌, ◌∙◌, refl, sym, ap, subst, inl, inr, ℕ, ◌+◌, ◌*◌, ◌<◌, ◌≤◌, ◌^◌, Bool, true, false, ◌&&◌, not, eqb, ltb, List, [], ◌∷◌, length, arith}
+use Rattle.std.proofs.Common.{◌≡◌, ◌∙◌, refl, sym, ap, subst, inl, inr, ℕ, ◌+◌, ◌*◌, ◌<◌, ◌≤◌, ◌^◌, true, false, ◌&&◌, not, eqb, ltb, List, [], ◌∷◌, length, arith}
 use Rattle.std.specs.Prelude.{◌↔◌}
 use Rattle.std.specs.Char.{digit_value, is_digit}
 use Rattle.std.specs.Str.Parse.{digits_value, digits_value_after}
-use Rattle.std.proofs.lemmas.Bool.{cases_Bool, cond-true, cond-false, and_parts, and_from, both_ways, false_from_ne_true, lt-ltb, ltb-true, ltb-false}
+use Rattle.std.proofs.lemmas.Bool.{cases_Bool, cond_both, cond-true, cond-false, not-true, and_parts, and_from, both_ways, false_from_ne_true, lt-ltb, ltb-true, ltb-false}
 use Rattle.std.proofs.lemmas.Str.{digit_value_digit}
 use Rattle.std.proofs.lemmas.Str.Parse.{digit_from_value}
 use Rattle.locale_names.proofs.SearchLemmas.{nil-from_length, some-from_length}
@@ -50,19 +50,12 @@ spells : (text : List ℕ) → is_count text ≡ true → SpellsNumber text (dig
 spells text e =
     let p = and_parts (not (eqb (length text) 0) && are_digits text) (ltb (digits_value 10 text) 18446744073709551616) e in
     let q = and_parts (not (eqb (length text) 0)) (are_digits text) p.0 in
-    (record { some = some-from_length text (not_empty (eqb (length text) 0) q.0); digits = spelt 0 text q.1 }, ltb-true (digits_value 10 text) 18446744073709551616 p.1)
-  where
-    not_empty : (b : Bool) → not b ≡ true → b ≡ false
-    not_empty true e = sym e
-    not_empty false e = refl
+    (record { some = some-from_length text (not-true (eqb (length text) 0) q.0); digits = spelt 0 text q.1 }, ltb-true (digits_value 10 text) 18446744073709551616 p.1)
 
 count_given : (text : List ℕ) → GivesCount text (count_in text)
 unfolding count_in
-count_given text = elim (cases_Bool (is_count text)) [
-  | inl e ↦ let s = spells text e in
-      subst (GivesCount text) (sym (cond-true (is_count text) (digits_value 10 text) 99 e)) (number s.0 s.1)
-  | inr e ↦ subst (GivesCount text) (sym (cond-false (is_count text) (digits_value 10 text) 99 e)) (other (λ n h. large n h e))
-] where
+count_given text =
+    cond_both (is_count text) (digits_value 10 text) 99 (GivesCount text) (λ e. let s = spells text e in number s.0 s.1) (λ e. other (λ n h. large n h e)) where
   large : (n : ℕ) → SpellsNumber text n → is_count text ≡ false → 2 ^ 64 ≤ n
   large n h e = elim (cases_Bool (ltb n 18446744073709551616)) [
     | inl l ↦ absurd (both_ways (is_count text) e (counts text n h (ltb-true n 18446744073709551616 l)))

@@ -1,7 +1,7 @@
 -- Each escape is read where it is spelt, and what is read as one is spelt.
-use Rattle.std.proofs.Common.{◌≡◌, refl, sym, ap, ◌∙◌, subst, inl, inr, ℕ, zero, suc, ◌+◌, ◌-◌, ◌*◌, ◌%◌, ◌<◌, ◌≤◌, ◌==◌, Bool, true, false, if◌then◌else◌, List, [], ◌∷◌, length, take, drop, Option, Some, None, arith}
+use Rattle.std.proofs.Common.{◌≡◌, refl, sym, ap, ◌∙◌, subst, inl, inr, ℕ, zero, suc, ◌+◌, ◌-◌, ◌*◌, ◌%◌, ◌<◌, ◌≤◌, ◌==◌, true, false, List, [], ◌∷◌, length, take, drop, Option, Some, None, arith}
 use Rattle.std.specs.List.{take_while}
-use Rattle.std.proofs.lemmas.Bool.{and_parts, and_from, cases_Bool, cond-true, cond-false, eqb-true, leb-true, le-leb, false_from_ne_true, false≢true}
+use Rattle.std.proofs.lemmas.Bool.{and_parts, and_from, cases_Bool, cond_both, cond-true, cond-false, eqb-true, leb-true, le-leb, false_from_ne_true, false≢true}
 use Rattle.std.proofs.lemmas.List.Sums.{take_while-cons}
 use Rattle.gettext.specs.declared.escape.Escape.{Escape}
 use Rattle.gettext.specs.Escapes.{is_octal, octal_prefix, octal_value, letter, letter_escape, escape_after}
@@ -42,15 +42,6 @@ three_run : (a b c : ℕ) (rest : List ℕ) → a < 8 → b < 8 → c < 8 → oc
 three_run a b c rest l m k =
     run_on a ((48 + b) ∷ (48 + c) ∷ []) l ∙ ap (λ r. (48 + a) ∷ r) (run_on b ((48 + c) ∷ []) m ∙ ap (λ r. (48 + b) ∷ r) (run_on c [] k))
 
-one_value : (a : ℕ) → a < 8 → octal_value ((48 + a) ∷ []) ≡ a
-one_value a l = omega (arith, l)
-
-two_value : (a b : ℕ) → a < 8 → b < 8 → octal_value ((48 + a) ∷ (48 + b) ∷ []) ≡ 8 * a + b
-two_value a b l m = omega (arith, l, m)
-
-three_value : (a b c : ℕ) → a < 8 → b < 8 → c < 8 → octal_value ((48 + a) ∷ (48 + b) ∷ (48 + c) ∷ []) ≡ (64 * a + 8 * b + c) % 256
-three_value a b c l m k = omega (arith, l, m, k)
-
 abbrev gives : ℕ → ℕ → Option Escape
 gives b size = Some (record { byte = Some b; size = size })
 
@@ -61,14 +52,14 @@ run_read a b size text run l is value long =
     ∙ ap (λ (r : List ℕ). gives (octal_value r) (length r)) is ∙ ap (λ (n : ℕ). gives n (length run)) value ∙ ap (λ (n : ℕ). gives b n) long
 
 one_read : (a : ℕ) (rest : List ℕ) → a < 8 → NoOctalFirst rest → escape_after ((48 + a) ∷ rest) ≡ gives a 1
-one_read a rest l none = run_read a a 1 rest ((48 + a) ∷ []) l (one_run a rest l none) (one_value a l) refl
+one_read a rest l none = run_read a a 1 rest ((48 + a) ∷ []) l (one_run a rest l none) (omega (arith, l)) refl
 
 two_read : (a b : ℕ) (rest : List ℕ) → a < 8 → b < 8 → NoOctalFirst rest → escape_after ((48 + a) ∷ (48 + b) ∷ rest) ≡ gives (8 * a + b) 2
-two_read a b rest l m none = run_read a (8 * a + b) 2 ((48 + b) ∷ rest) ((48 + a) ∷ (48 + b) ∷ []) l (two_run a b rest l m none) (two_value a b l m) refl
+two_read a b rest l m none = run_read a (8 * a + b) 2 ((48 + b) ∷ rest) ((48 + a) ∷ (48 + b) ∷ []) l (two_run a b rest l m none) (omega (arith, l, m)) refl
 
 three_read : (a b c : ℕ) (rest : List ℕ) → a < 8 → b < 8 → c < 8 → escape_after ((48 + a) ∷ (48 + b) ∷ (48 + c) ∷ rest) ≡ gives ((64 * a + 8 * b + c) % 256) 3
 three_read a b c rest l m k =
-    run_read a ((64 * a + 8 * b + c) % 256) 3 ((48 + b) ∷ (48 + c) ∷ rest) ((48 + a) ∷ (48 + b) ∷ (48 + c) ∷ []) l (three_run a b c rest l m k) (three_value a b c l m k) refl
+    run_read a ((64 * a + 8 * b + c) % 256) 3 ((48 + b) ∷ (48 + c) ∷ rest) ((48 + a) ∷ (48 + b) ∷ (48 + c) ∷ []) l (three_run a b c rest l m k) (omega (arith, l, m, k)) refl
 
 -- what is read of a spelt escape
 pub record IsRead (text : List ℕ) (byte : Option ℕ) (rest : List ℕ) : Type 0 where
@@ -110,13 +101,13 @@ Says text (Some e) = ByteSays text e.byte e.size
 octal_says : (a : ℕ) (text : List ℕ) → a < 8 → Says ((48 + a) ∷ text) (escape_after ((48 + a) ∷ text))
 octal_says a text l = more text where
   one : (rest : List ℕ) → NoOctalFirst rest → Says ((48 + a) ∷ rest) (escape_after ((48 + a) ∷ rest))
-  one rest none = subst (Says ((48 + a) ∷ rest)) (sym (one_read a rest l none)) (one_digit a l none)
+  one rest none = rw (one_read a rest l none) (one_digit a l none)
 
   two : (b : ℕ) (rest : List ℕ) → b < 8 → NoOctalFirst rest → Says ((48 + a) ∷ (48 + b) ∷ rest) (escape_after ((48 + a) ∷ (48 + b) ∷ rest))
-  two b rest m none = subst (Says ((48 + a) ∷ (48 + b) ∷ rest)) (sym (two_read a b rest l m none)) (two_digits a b l m none)
+  two b rest m none = rw (two_read a b rest l m none) (two_digits a b l m none)
 
   three : (b c : ℕ) (rest : List ℕ) → b < 8 → c < 8 → Says ((48 + a) ∷ (48 + b) ∷ (48 + c) ∷ rest) (escape_after ((48 + a) ∷ (48 + b) ∷ (48 + c) ∷ rest))
-  three b c rest m k = subst (Says ((48 + a) ∷ (48 + b) ∷ (48 + c) ∷ rest)) (sym (three_read a b c rest l m k)) (three_digits a b c l m k)
+  three b c rest m k = rw (three_read a b c rest l m k) (three_digits a b c l m k)
 
   third : (b : ℕ) → b < 8 → (rest : List ℕ) → Says ((48 + a) ∷ (48 + b) ∷ rest) (escape_after ((48 + a) ∷ (48 + b) ∷ rest))
   third b m [] = two b [] m tt
@@ -134,31 +125,26 @@ octal_says a text l = more text where
         | inr e ↦ one (b ∷ rest) (no_octal b e)
       ]
 
-if_says : (text : List ℕ) (test : Bool) (s t : Option Escape) → (test ≡ true → Says text s) → (test ≡ false → Says text t) → Says text (if test then s else t)
-if_says text true s t p q = p refl
-if_says text false s t p q = q refl
-
 letter_says : (b : ℕ) (text : List ℕ) → Says (b ∷ text) (letter_escape b)
 unfolding letter_escape
 letter_says b text =
-    if_says (b ∷ text) (b == 97) _ _ (λ e. rw (eqb-true b 97 e) alert) (λ _.
-    if_says (b ∷ text) (b == 98) _ _ (λ e. rw (eqb-true b 98 e) backspace) (λ _.
-    if_says (b ∷ text) (b == 102) _ _ (λ e. rw (eqb-true b 102 e) form_feed) (λ _.
-    if_says (b ∷ text) (b == 110) _ _ (λ e. rw (eqb-true b 110 e) line_feed) (λ _.
-    if_says (b ∷ text) (b == 114) _ _ (λ e. rw (eqb-true b 114 e) carriage_return) (λ _.
-    if_says (b ∷ text) (b == 116) _ _ (λ e. rw (eqb-true b 116 e) tab) (λ _.
-    if_says (b ∷ text) (b == 118) _ _ (λ e. rw (eqb-true b 118 e) vertical_tab) (λ _.
-    if_says (b ∷ text) (b == 92) _ _ (λ e. rw (eqb-true b 92 e) backslash) (λ _.
-    if_says (b ∷ text) (b == 99) (letter None) None (λ e. ap (λ a. a ∷ text) (eqb-true b 99 e)) (λ _. tt)))))))))
+    cond_both (b == 97) _ _ (Says (b ∷ text)) (λ e. rw (eqb-true b 97 e) alert) (λ _.
+    cond_both (b == 98) _ _ (Says (b ∷ text)) (λ e. rw (eqb-true b 98 e) backspace) (λ _.
+    cond_both (b == 102) _ _ (Says (b ∷ text)) (λ e. rw (eqb-true b 102 e) form_feed) (λ _.
+    cond_both (b == 110) _ _ (Says (b ∷ text)) (λ e. rw (eqb-true b 110 e) line_feed) (λ _.
+    cond_both (b == 114) _ _ (Says (b ∷ text)) (λ e. rw (eqb-true b 114 e) carriage_return) (λ _.
+    cond_both (b == 116) _ _ (Says (b ∷ text)) (λ e. rw (eqb-true b 116 e) tab) (λ _.
+    cond_both (b == 118) _ _ (Says (b ∷ text)) (λ e. rw (eqb-true b 118 e) vertical_tab) (λ _.
+    cond_both (b == 92) _ _ (Says (b ∷ text)) (λ e. rw (eqb-true b 92 e) backslash) (λ _.
+    cond_both (b == 99) (letter None) None (Says (b ∷ text)) (λ e. ap (λ a. a ∷ text) (eqb-true b 99 e)) (λ _. tt)))))))))
 
 says : (text : List ℕ) → Says text (escape_after text)
 unfolding escape_after
 says [] = tt
-says (b ∷ text) =
-    elim (cases_Bool (is_octal b)) [
-      | inl e ↦ let d = digit_of b e in subst (λ x. Says (x ∷ text) (escape_after (x ∷ text))) (sym d.1) (octal_says d.0 text d.2)
-      | inr e ↦ subst (Says (b ∷ text)) (sym (cond-false (is_octal b) _ (letter_escape b) e)) (letter_says b text)
-    ]
+says (b ∷ text) = elim (cases_Bool (is_octal b)) [
+  | inl e ↦ let d = digit_of b e in rw d.1 (octal_says d.0 text d.2)
+  | inr e ↦ rw e (letter_says b text)
+]
 
 pub escape_spelt : (text : List ℕ) (e : Escape) → escape_after text ≡ Some e → ByteSays text e.byte e.size
 escape_spelt text e is = subst (Says text) is (says text)
