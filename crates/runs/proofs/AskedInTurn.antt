@@ -1,22 +1,20 @@
 -- What arguments ask for, by the cases of a relation.
-use Rattle.std.proofs.Common.{◌≡◌, ◌≢◌, ◌↔◌, ◌||◌, inl, inr, ℕ, Bool, true, false, List, [], ◌∷◌, ◌++◌, map, refl, sym, ap, ◌∙◌, subst, codes, arith}
-use Rattle.std.proofs.lemmas.Bool.{cases_Bool}
+use Rattle.std.proofs.Common.{◌≡◌, ◌≢◌, ◌↔◌, inl, inr, ℕ, true, false, List, [], ◌∷◌, map, refl, sym, ap, subst, codes}
+use Rattle.std.proofs.lemmas.Bool.{cases_Bool, false_from_ne_true}
+use Rattle.std.proofs.lemmas.Bool.Decides.{not_from_Decides}
 use Rattle.std.proofs.lemmas.Slice.Eq.{bytes_eq-Decides}
 use Rattle.runs.specs.AskedLaw.{HaveFiles, no_argument, another_file, standard_again, AsksInTurn, nothing, file, standard}
-use Rattle.runs.specs.Inputs.{Asked, standard_input, file_of, asked_by, asked_for}
+use Rattle.runs.specs.Inputs.{Asked, standard_input, file_of, asked_by}
 use Rattle.runs.specs.Run.{is_standard}
 
 pub is_dash : (argument : List ℕ) → is_standard argument ≡ true → argument ≡ codes "-"
 is_dash argument is = (bytes_eq-Decides argument (codes "-")).0 is
 
 pub no_dash : (argument : List ℕ) → is_standard argument ≡ false → argument ≢ codes "-"
-no_dash argument is same = absurd (grind (arith, sym is ∙ (bytes_eq-Decides argument (codes "-")).1 same))
+no_dash argument is = not_from_Decides (is_standard argument) (bytes_eq-Decides argument (codes "-")) is
 
 pub other : (argument : List ℕ) → argument ≢ codes "-" → is_standard argument ≡ false
-other argument is = elim (cases_Bool (is_standard argument)) [
-  | inl e ↦ absurd (is (is_dash argument e))
-  | inr e ↦ e
-]
+other argument is = false_from_ne_true (is_standard argument) (λ e. is (is_dash argument e))
 
 -- what the arguments after the first `-` ask for
 record AsksFiles (arguments : List (List ℕ)) : Type 0 where
@@ -31,39 +29,31 @@ asks_files (argument ∷ arguments) =
     elim (cases_Bool (is_standard argument)) [
       | inl e ↦ record {
         files = rest.files;
-        have = subst (λ a. HaveFiles (a ∷ arguments) rest.files) (sym (is_dash argument e)) (standard_again rest.have);
-        asked = ap (λ b. asked_for argument b true ++ asked_by true arguments) e ∙ rest.asked;
+        have = rw (is_dash argument e) (standard_again rest.have);
+        asked = rw e rest.asked;
       }
       | inr e ↦ record {
         files = argument ∷ rest.files;
         have = another_file (no_dash argument e) rest.have;
-        asked = ap (λ b. asked_for argument b true ++ asked_by true arguments) e ∙ ap (λ l. file_of argument ∷ l) rest.asked;
+        asked = rw e (ap (λ l. file_of argument ∷ l) rest.asked);
       }
     ]
 
 in_turn : (arguments : List (List ℕ)) → AsksInTurn arguments (asked_by false arguments)
 in_turn [] = nothing
-in_turn (argument ∷ arguments) =
-    let Goes : Bool → Type 0 = λ b. AsksInTurn (argument ∷ arguments) (asked_for argument b false ++ asked_by (false || b) arguments) in
-    elim (cases_Bool (is_standard argument)) [
-      | inl e ↦
-          let rest = asks_files arguments in
-          subst Goes (sym e)
-          (subst (λ a. AsksInTurn (a ∷ arguments) (standard_input ∷ asked_by true arguments)) (sym (is_dash argument e))
-          (subst (λ l. AsksInTurn (codes "-" ∷ arguments) (standard_input ∷ l)) (sym rest.asked) (standard rest.have)))
-      | inr e ↦ subst Goes (sym e) (file (no_dash argument e) (in_turn arguments))
-    ]
+in_turn (argument ∷ arguments) = elim (cases_Bool (is_standard argument)) [
+  | inl e ↦ let rest = asks_files arguments in rw (is_dash argument e, rest.asked) (standard rest.have)
+  | inr e ↦ rw e (file (no_dash argument e) (in_turn arguments))
+]
 
 files_asked : {arguments files : List (List ℕ)} → HaveFiles arguments files → asked_by true arguments ≡ map file_of files
 files_asked no_argument = refl
-files_asked (another_file {argument} {arguments} is rest) =
-    ap (λ b. asked_for argument b true ++ asked_by true arguments) (other argument is) ∙ ap (λ l. file_of argument ∷ l) (files_asked rest)
+files_asked (another_file {argument} is rest) = rw (other argument is) (ap (λ l. file_of argument ∷ l) (files_asked rest))
 files_asked (standard_again rest) = files_asked rest
 
 turn_is : {arguments : List (List ℕ)} {asked : List Asked} → AsksInTurn arguments asked → asked ≡ asked_by false arguments
 turn_is nothing = refl
-turn_is (file {argument} {arguments} is rest) =
-    ap (λ l. file_of argument ∷ l) (turn_is rest) ∙ ap (λ b. asked_for argument b false ++ asked_by (false || b) arguments) (sym (other argument is))
+turn_is (file {argument} is rest) = rw (other argument is) (ap (λ l. file_of argument ∷ l) (turn_is rest))
 turn_is (standard rest) = ap (λ l. standard_input ∷ l) (sym (files_asked rest))
 
 pub asked_in_turn : (arguments : List (List ℕ)) (asked : List Asked) → (asked ≡ asked_by false arguments) ↔ AsksInTurn arguments asked

@@ -13,6 +13,15 @@ use Rattle.runs.specs.RightsLaw.{GivesNobodyMore, IsWhose}
 use Rattle.runs.proofs.OutputSteps.{same_or_other, put_there, put_elsewhere, same_path, taken_all, as_it_was, nothing_given, Ends, next, stopped}
 use Rattle.runs.proofs.RightsLemmas.{nobody_gets_more, private_gives_nobody_more}
 
+-- a file has no other rights than its own
+modest_of : (old : PathState) {state : PathState} {bytes : Option (List ℕ)} {mode m : ℕ} {owner o : Option Owner} → HasRights state m o
+    → state ≡ file bytes mode owner → GivesNoMore old mode owner → GivesNoMore old m o
+modest_of old {bytes} {mode} {m} {owner} {o} has there modest =
+    let e : file has.0 m o ≡ file bytes mode owner = sym has.1 ∙ there in
+    let same_mode : m ≡ mode = cc in
+    let same_owner : o ≡ owner = cc in
+    rw (same_mode, same_owner) modest
+
 -- a new file is filled, beside the target
 module _ {new target : List ℕ} (files : Files) (none : files.at new ≡ nothing) (other_name : new ≢ target) where
   -- while it is open only its path has changed
@@ -35,16 +44,7 @@ module _ {new target : List ℕ} (files : Files) (none : files.at new ≡ nothin
     little_given : GivesNothingAway (file_at target) files (filling at)
     unfolding filling
     little_given path m o has = elim (same_or_other path new) [
-      | inl is ↦
-          let e : file has.0 m o ≡ file bytes mode owner = sym has.1 ∙ ap at is ∙ it.there in
-          let same_mode : m ≡ mode = cc in
-          let same_owner : o ≡ owner = cc in
-          inr (
-            target,
-            refl,
-            subst (λ n. GivesNoMore (files.at target) n o) (sym same_mode)
-                (subst (λ n. GivesNoMore (files.at target) mode n) (sym same_owner) it.modest),
-          )
+      | inl is ↦ inr (target, refl, modest_of (files.at target) has (ap at is ∙ it.there) it.modest)
       | inr other ↦ inl (subst (λ s. HasRights s m o) (it.elsewhere path other) has)
     ]
 
@@ -91,16 +91,7 @@ module _ {new target : List ℕ} (files : Files) (none : files.at new ≡ nothin
         | inr other ↦ inl (renamed_elsewhere path other)
       ];
       nothing_given_away = λ path m o has. elim (same_or_other path target) [
-        | inl is ↦
-            let e : file has.0 m o ≡ file (Some output) mode owner = sym has.1 ∙ renamed_there is in
-            let same_mode : m ≡ mode = cc in
-            let same_owner : o ≡ owner = cc in
-            inr (
-              target,
-              refl,
-              subst (λ n. GivesNoMore (files.at target) n o) (sym same_mode)
-                  (subst (λ n. GivesNoMore (files.at target) mode n) (sym same_owner) it.modest),
-            )
+        | inl is ↦ inr (target, refl, modest_of (files.at target) has (renamed_there is) it.modest)
         | inr other ↦ inl (subst (λ s. HasRights s m o) (renamed_elsewhere path other) has)
       ];
       success = λ fine. (mode, owner, renamed_there refl);

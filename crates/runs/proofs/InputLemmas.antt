@@ -1,5 +1,6 @@
 -- The arguments that are left to read, and what they add to the inputs before.
-use Rattle.std.proofs.Common.{◌∙◌, sym, ◌≡◌, ◌≤◌, ◌<◌, ◌+◌, ◌||◌, ℕ, zero, suc, Bool, false, List, [], ◌∷◌, ◌++◌, Option, None, Some, refl, take, drop, take-append-drop, get_or, map, length, ap, subst, append_assoc, append-nil, drop-cons, drop_of_length-le, add-one, arith}
+use Rattle.std.proofs.Common.{◌∙◌, sym, ◌≡◌, ◌≤◌, ◌<◌, ◌+◌, ◌||◌, ℕ, Bool, false, List, [], ◌∷◌, ◌++◌, Option, None, Some, refl, take, drop, take-append-drop, get_or, map, length, ap, subst, append_assoc, append-nil, drop_of_length-le, arith}
+use Rattle.std.proofs.lemmas.List.{drop_more, map-append, take-map, take_more}
 use Rattle.std.specs.Borrow.{Bor}
 use Rattle.runs.specs.declared.inputs.Input.{Input}
 use Rattle.runs.specs.declared.inputs.InputFault.{InputFault}
@@ -19,7 +20,7 @@ named-more (text ∷ texts) input name is = ap (λ list. named_input text ∷ li
 -- the next argument stands before those that are left
 pub next-argument : (arguments : List (Bor (List ℕ))) (i : ℕ) (d : Bor (List ℕ)) → i < length arguments
     → arguments_now (drop i arguments) ≡ (get_or arguments i d).now ∷ arguments_now (drop (i + 1) arguments)
-next-argument arguments i d below = let next : drop i arguments ≡ get_or arguments i d ∷ drop (i + 1) arguments = rw add-one (drop-cons arguments i d below) in ap arguments_now next
+next-argument arguments i d below = ap arguments_now (drop_more arguments i d below)
 
 pub Asks-none : (before : Option (List Asked)) → Asks before before []
 Asks-none None = tt
@@ -32,11 +33,9 @@ Asks-trans (Some xs) (Some ys) None first next p q = absurd q
 Asks-trans (Some xs) (Some ys) (Some zs) first next p q = q ∙ ap (λ l. l ++ next) p ∙ append_assoc xs first next
 
 -- the first i arguments, and the next
-pub take-next : (arguments : List (Bor (List ℕ))) (i : ℕ) (d : Bor (List ℕ)) → i < length arguments
-    → take (suc i) (arguments_now arguments) ≡ take i (arguments_now arguments) ++ (get_or arguments i d).now ∷ []
-take-next [] i d below = absurd (omega (arith, below))
-take-next (argument ∷ arguments) zero d below = refl
-take-next (argument ∷ arguments) (suc i) d below = ap (λ l. argument.now ∷ l) (take-next arguments i d (omega (arith, below)))
+take-next : (arguments : List (Bor (List ℕ))) (i : ℕ) (d : Bor (List ℕ)) → i < length arguments
+    → take (i + 1) (arguments_now arguments) ≡ take i (arguments_now arguments) ++ (get_or arguments i d).now ∷ []
+take-next arguments i d below = rw (take-map (λ argument. argument.now) (i + 1) arguments, take_more arguments i d below, take-map (λ argument. argument.now) i arguments, map-append (λ argument. argument.now) (take i arguments))
 
 -- what the arguments before i ask for was asked for, and those that follow ask for the rest
 pub record AsksBefore (before after : Option (List Asked)) (arguments : List (Bor (List ℕ))) (i : ℕ) (seen : Bool) : Type 0 where
@@ -53,7 +52,7 @@ AsksBefore-more a b c arguments i d seen below p q =
     let argument = (get_or arguments i d).now in
     let asked = asked_for argument (is_standard argument) seen in
     let so_far = take i (arguments_now arguments) in
-    let next : take (i + 1) (arguments_now arguments) ≡ so_far ++ argument ∷ [] = ap (λ n. take n (arguments_now arguments)) (add-one i) ∙ take-next arguments i d below in
+    let next : take (i + 1) (arguments_now arguments) ≡ so_far ++ argument ∷ [] = take-next arguments i d below in
     let more_asked : asked_by false (take (i + 1) (arguments_now arguments)) ≡ asked_by false so_far ++ asked =
     ap (asked_by false) next ∙ p.goes_on (argument ∷ []) ∙ ap (λ l. asked_by false so_far ++ l) (append-nil asked) in
     record {

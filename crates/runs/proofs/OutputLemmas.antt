@@ -1,5 +1,5 @@
 -- How the calls of a function join to those of its caller.
-use Rattle.std.proofs.Common.{◌≡◌, ◌+◌, ◌<◌, ◌^◌, true, false, ℕ, List, [], ◌∷◌, ◌++◌, Option, Some, None, Result, Ok, Err, OnOk, OnErr, is_ok, refl, sym, ap, ◌∙◌, subst, append_assoc, append-nil}
+use Rattle.std.proofs.Common.{◌≡◌, ◌+◌, ◌<◌, ◌^◌, ◌&&◌, true, false, ℕ, Bool, List, [], ◌∷◌, ◌++◌, Option, Some, None, Result, Ok, Err, OnOk, OnErr, is_ok, refl, sym, ap, ◌∙◌, subst, append_assoc, append-nil}
 use Rattle.std.specs.Io.KnownBytes.{Appends}
 use Rattle.runs.specs.Device.{AppendsPrefix}
 use Rattle.runs.specs.declared.tool_fault.ToolFault.{ToolFault}
@@ -43,19 +43,14 @@ pub done-for : {before end : FileLog} {fault : Option OutputFault} {P Q : Course
     → Runs before end fault P → Runs before end fault Q
 done-for for it = record { course = it.course; log = it.log; fault_is = it.fault_is; is = for it.course it.is }
 
--- what was put into a file that is closed with all that was written
-pub put-closed : {T : Type 0} (result : Result T ToolFault) {output : List ℕ} {before after : Option (List ℕ)} {old new : ℕ}
+-- what was put into a file that is closed then, and whether the system took all that was written
+pub put-closed : {T : Type 0} (result : Result T ToolFault) (closed : Bool) {output : List ℕ} {before after : Option (List ℕ)} {old new : ℕ}
     → old ≡ 0 → OnOk result (Appends before after output) → OnErr result (AppendsPrefix before after output)
-    → OnOk result (new ≡ old) → OnErr result (new ≡ old + 1) → Closes output before (closes after new true) (is_ok result)
-put-closed (Ok _) none all part same more = rw (same, none) (whole all)
-put-closed (Err _) none all part same more = rw (more, none) (cut part)
-
--- what was put into a file that the system took in part
-pub put-unclosed : {T : Type 0} (result : Result T ToolFault) {output : List ℕ} {before after : Option (List ℕ)} {old new : ℕ}
-    → old ≡ 0 → OnOk result (Appends before after output) → OnErr result (AppendsPrefix before after output)
-    → OnOk result (new ≡ old) → OnErr result (new ≡ old + 1) → Closes output before (closes after new false) false
-put-unclosed (Ok _) none all part same more = rw (same, none) (late all)
-put-unclosed (Err _) none all part same more = rw (more, none) (cut part)
+    → OnOk result (new ≡ old) → OnErr result (new ≡ old + 1) → Closes output before (closes after new closed) (closed && is_ok result)
+put-closed (Ok _) true none all part same more = rw (same, none) (whole all)
+put-closed (Ok _) false none all part same more = rw (same, none) (late all)
+put-closed (Err _) true none all part same more = rw (more, none) (cut part)
+put-closed (Err _) false none all part same more = rw (more, none) (cut part)
 
 module _ {output path : List ℕ} {old : Option Rights} {tries bits : ℕ} (number : ℕ) {before named tried end : FileLog} {fault : Option OutputFault} where
   -- a new file is filled once it is made

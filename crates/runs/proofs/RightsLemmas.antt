@@ -236,6 +236,12 @@ private_gives_nobody_more old whose = record {
   no_bit false writes = refl
   no_bit false runs = refl
 
+of_either : (mode : ℕ) (class : Class) (deed : Deed) → class ≢ its_owner → bit_at mode (bit_for its_group deed) ≡ 1
+    → bit_at mode (bit_for others deed) ≡ 1 → bit_at mode (bit_for class deed) ≡ 1
+of_either mode its_owner deed other x y = absurd (other refl)
+of_either mode its_group deed other x y = x
+of_either mode others deed other x y = y
+
 keeps : (old : Rights) (owner : Owner) (same_user same_group : Bool)
     → (owner.user ≡ old.owner.user → same_user ≡ true) → (owner.group ≡ old.owner.group → same_group ≡ true)
     → KeepsRights old owner (kept_bits old.mode same_user same_group)
@@ -244,27 +250,17 @@ keeps old owner true true user group = record {
   of_group = λ same deed. masked old.mode 0o777 (bit_for its_group deed) (in_all its_group deed);
   of_others = λ same deed no_write. masked old.mode 0o777 (bit_for others deed) (in_all others deed);
   of_both = λ class deed no_owner no_write in_group in_others.
-      masked old.mode 0o777 (bit_for class deed) (in_all class deed) ∙ of_either class deed no_owner in_group in_others;
+      masked old.mode 0o777 (bit_for class deed) (in_all class deed) ∙ of_either old.mode class deed no_owner in_group in_others;
   of_all = λ same. and_mask old.mode 9;
-} where
-  of_either : (class : Class) (deed : Deed) → class ≢ its_owner → bit_at old.mode (bit_for its_group deed) ≡ 1
-      → bit_at old.mode (bit_for others deed) ≡ 1 → bit_at old.mode (bit_for class deed) ≡ 1
-  of_either its_owner deed other x y = absurd (other refl)
-  of_either its_group deed other x y = x
-  of_either others deed other x y = y
+}
 keeps old owner false true user group = record {
   of_owner = λ deed. masked old.mode 0o775 (bit_for its_owner deed) (in_most its_owner deed (λ (e : its_owner ≡ others). cc));
   of_group = λ same deed. masked old.mode 0o775 (bit_for its_group deed) (in_most its_group deed (λ (e : its_group ≡ others). cc));
   of_others = λ same deed no_write. masked old.mode 0o775 (bit_for others deed) (in_most others deed (λ e. no_write));
   of_both = λ class deed no_owner no_write in_group in_others.
-      masked old.mode 0o775 (bit_for class deed) (in_most class deed (λ e. no_write)) ∙ of_either class deed no_owner in_group in_others;
+      masked old.mode 0o775 (bit_for class deed) (in_most class deed (λ e. no_write)) ∙ of_either old.mode class deed no_owner in_group in_others;
   of_all = λ same. let e : false ≡ true = user (ap (λ (o : Owner). o.user) same) in absurd cc;
-} where
-  of_either : (class : Class) (deed : Deed) → class ≢ its_owner → bit_at old.mode (bit_for its_group deed) ≡ 1
-      → bit_at old.mode (bit_for others deed) ≡ 1 → bit_at old.mode (bit_for class deed) ≡ 1
-  of_either its_owner deed other x y = absurd (other refl)
-  of_either its_group deed other x y = x
-  of_either others deed other x y = y
+}
 keeps old owner same_user false user group = record {
   of_owner = λ deed. ap (bit_at (kept_bits old.mode same_user false)) (high deed)
       ∙ other_high old.mode same_user (bit_for others deed) (low deed) ∙ ap (bit_at old.mode) (sym (high deed));

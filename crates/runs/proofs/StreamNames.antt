@@ -5,12 +5,9 @@ use Rattle.std.specs.Str.Parse.{digits_value}
 use Rattle.std.specs.Str.Pattern.{FindsTextPrefix, StripsPrefix}
 use Rattle.runs.specs.OutputPaths.{NamesStream, standard_output, standard_error, of_device, of_process, NamesNoStream}
 
--- what a text begins with, and what it doesn't
+-- what a text begins with
 begins : (prefix path rest : List ℕ) → StripsPrefix (FindsTextPrefix prefix) path rest → path ≡ prefix ++ rest
 begins prefix path rest (n, found, is, _) = found.1 ∙ ap (λ r. prefix ++ r) (sym is)
-
-lacks : (prefix path : List ℕ) → FindsTextPrefix prefix path None → (rest : List ℕ) → path ≢ prefix ++ rest
-lacks prefix path none rest = none rest
 
 -- two lists that differ at a place
 apart : {X : Type 0} (a b : List ℕ) (k : ℕ) → get_or a k 0 ≢ get_or b k 0 → a ≡ b → X
@@ -26,8 +23,8 @@ pub no_stream : {path : List ℕ} → path ≢ codes "/dev/stdout" → path ≢ 
     → FindsTextPrefix (codes "/proc/self/fd/") path None → NamesNoStream path
 no_stream a b c d number standard_output = a refl
 no_stream a b c d number standard_error = b refl
-no_stream {path} a b c d number (of_device few) = lacks (codes "/dev/fd/") path c (decimal number) refl
-no_stream {path} a b c d number (of_process few) = lacks (codes "/proc/self/fd/") path d (decimal number) refl
+no_stream a b c d number (of_device few) = c (decimal number) refl
+no_stream a b c d number (of_process few) = d (decimal number) refl
 
 not_numbered_device : {path : List ℕ} (digits : List ℕ) → path ≡ codes "/dev/fd/" ++ digits
     → ((n : ℕ) → n < 2 ^ 32 → digits ≢ decimal n) → NamesNoStream path

@@ -1,5 +1,5 @@
 -- An output file is there whole, or as it was, and gives nobody more than before.
-use Rattle.std.proofs.Common.{◌≡◌, ◌≢◌, ◌⊎◌, inl, inr, ℕ, List, Option, Some, None, refl, sym, subst}
+use Rattle.std.proofs.Common.{◌≡◌, ◌≢◌, ◌⊎◌, inl, inr, ℕ, List, Option, Some, None, refl, sym, subst, rules}
 use Rattle.runs.specs.declared.output_files.FileKind.TheVariants.{Regular, Special, Unknown}
 use Rattle.runs.specs.declared.output_files.MakeFault.TheVariants.{Exists, Forbidden, Failed}
 use Rattle.runs.specs.declared.output_files.OutputFault.TheVariants.{CannotCreate, OutOfMemory}
@@ -92,6 +92,13 @@ record Follows (output path : List ℕ) (around course : Course) : Type 0 where
   allowed : Each (IsAllowed to around) course
   ends : (files : Files) → GivesAll course files → Ends output to files course files
 
+-- where the path leads isn't found
+halts : {output path : List ℕ} {around course : Course} → fault_of course ≢ None → ((files : Files) → after course files ≡ files)
+    → Each (IsAllowed (file_at path) around) course → ((files : Files) → Ends output (file_at path) files course files)
+    → Follows output path around course
+halts {path} bad same allowed ends =
+    record { to = file_at path; leads = λ files gives. inr (bad, same files); allowed = allowed; ends = λ files gives. ends files }
+
 follows_links : {output path : List ℕ} {links : ℕ} {around course : Course} → ((call : FileCall) → Among course call → Among around call)
     → WritesFile output links path course → Follows output path around course
 follows_links {around} inside (stream {number} names writes) = record {
@@ -100,30 +107,17 @@ follows_links {around} inside (stream {number} names writes) = record {
   allowed = stream_allowed (stream_of number) around refl writes;
   ends = λ files gives. writes_stream files gives writes;
 }
-follows_links {path} inside (stops none (unknown)) = record {
-  to = file_at path;
-  leads = λ files gives. inr (λ e. no_fault e, refl);
-  allowed = (tt, tt);
-  ends = λ files gives. idle (asks path Unknown) refl (stop CannotCreate);
-}
-follows_links {path} inside (stops none (unread {old} {why})) = record {
-  to = file_at path;
-  leads = λ files gives. inr (λ e. no_fault e, refl);
-  allowed = (tt, (tt, tt));
-  ends = λ files gives. idle (asks path (Regular old)) refl (idle (fails_to_read_link path why) refl (stop why));
-}
-follows_links {path} inside (stops none (no_memory {old} {text})) = record {
-  to = file_at path;
-  leads = λ files gives. inr (λ e. no_fault e, refl);
-  allowed = (tt, (tt, tt));
-  ends = λ files gives. idle (asks path (Regular old)) refl (idle (reads_link path (Some text)) refl (stop OutOfMemory));
-}
-follows_links {path} inside (stops none (too_long {old} {text} last)) = record {
-  to = file_at path;
-  leads = λ files gives. inr (λ e. no_fault e, refl);
-  allowed = (tt, (tt, tt));
-  ends = λ files gives. idle (asks path (Regular old)) refl (idle (reads_link path (Some text)) refl (stop CannotCreate));
-}
+follows_links {path} inside (stops none unknown) =
+    halts (λ e. no_fault e) (λ files. refl) (tt, tt) (λ files. idle (asks path Unknown) refl (stop CannotCreate))
+follows_links {path} inside (stops none (unread {old} {why})) =
+    halts (λ e. no_fault e) (λ files. refl) (tt, (tt, tt))
+    (λ files. idle (asks path (Regular old)) refl (idle (fails_to_read_link path why) refl (stop why)))
+follows_links {path} inside (stops none (no_memory {old} {text})) =
+    halts (λ e. no_fault e) (λ files. refl) (tt, (tt, tt))
+    (λ files. idle (asks path (Regular old)) refl (idle (reads_link path (Some text)) refl (stop OutOfMemory)))
+follows_links {path} inside (stops none (too_long {old} {text} last)) =
+    halts (λ e. no_fault e) (λ files. refl) (tt, (tt, tt))
+    (λ files. idle (asks path (Regular old)) refl (idle (reads_link path (Some text)) refl (stop CannotCreate)))
 follows_links {path} {around} inside (special none writes) = record {
   to = file_at path;
   leads = λ files gives. inl (to_file none (no_link_there gives.0.2));
@@ -164,15 +158,5 @@ whole_outputs output path links course writes =
       to = it.to;
       leads = it.leads;
       allowed = it.allowed;
-      comes = λ files gives.
-          let its = it.ends files gives in
-          record {
-            whole_or_as_it_was = its.whole_or_as_it_was;
-            nothing_given_away = its.nothing_given_away;
-            success = its.success;
-            mode = its.mode;
-            fault = its.fault;
-            other_paths = its.other_paths;
-            other_streams = its.other_streams;
-          };
+      comes = λ files gives. let its = it.ends files gives in search rules;
     }
