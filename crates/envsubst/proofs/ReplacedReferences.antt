@@ -8,33 +8,27 @@ use Rattle.envsubst.specs.References.{Reference, reference_after, names_in}
 use Rattle.envsubst.specs.Substitution.{Values, Replacement, replacement_of, substituted, substitution_after, substitution}
 use Rattle.envsubst.specs.Replacing.{SpellsReference, BeginsNoReplaced, Replaces, nothing, copied, replaced, HoldsNames, no_text, no_reference, reference}
 use Rattle.envsubst.proofs.SpeltReferences.{reference_read, reference_spelt}
-use Rattle.envsubst.proofs.SubstitutionLemmas.{plain, not-replaced, replaced as is-replaced}
+use Rattle.envsubst.proofs.SubstitutionLemmas.{plain, not-replaced, replacement-some, replaced as is-replaced}
+
+-- what is read at the first byte of a spelt reference
+read_at : (b : ℕ) (text name rest : List ℕ) → SpellsReference (b ∷ text) name rest
+    → (size : ℕ) × (b ≡ 36) × (reference_after text ≡ Some (record { name = name; size = size })) × (drop size text ≡ rest)
+read_at b text name rest h =
+    let read = reference_read h in
+    let dollar : b ≡ 36 = cc in
+    let same : text ≡ read.bytes = cc in
+    (read.size, dollar, ap reference_after same ∙ read.read, ap (drop read.size) same ∙ read.after)
 
 -- where a byte is no `$`, it begins no reference
 not_dollar : (b : ℕ) (text name rest : List ℕ) → eqb b 36 ≡ false → SpellsReference (b ∷ text) name rest → ⊥
-not_dollar b text name rest other h = let read = reference_read h in let same : b ≡ 36 = dollar_first read.dollar in eqb-false b 36 other same where
-  dollar_first : {bytes : List ℕ} → b ∷ text ≡ 36 ∷ bytes → b ≡ 36
-  dollar_first e = cc
-
--- what is read after a `$` of a spelt reference
-read_after : (text name rest : List ℕ) → SpellsReference (36 ∷ text) name rest → (size : ℕ) × (reference_after text ≡ Some (record { name = name; size = size })) × (drop size text ≡ rest)
-read_after text name rest h =
-    let read = reference_read h in
-    let same = bytes_same read.dollar in (read.size, ap reference_after same ∙ read.read, ap (drop read.size) same ∙ read.after) where
-      bytes_same : {bytes : List ℕ} → 36 ∷ text ≡ 36 ∷ bytes → text ≡ bytes
-      bytes_same e = cc
-
--- how a spelt reference is replaced
-replacement_some : (values : Values) (text name value : List ℕ) (size : ℕ) → reference_after text ≡ Some (record { name = name; size = size }) → values name ≡ Some value → replacement_of values (reference_after text) ≡ Some (record { value = value; size = size })
-unfolding replacement_of
-replacement_some values text name value size some is = ap (replacement_of values) some ∙ ap (option_map (λ v. record { value = v; size = size })) is
+not_dollar b text name rest other h = eqb-false b 36 other (read_at b text name rest h).1
 
 some_is_none : {X : Type 0} (x : X) → Some x ≡ None → ⊥
 some_is_none x e = cc
 
 begins_none : (values : Values) (text : List ℕ) → replacement_of values (reference_after text) ≡ None → BeginsNoReplaced values (36 ∷ text)
 begins_none values text none name value rest h is =
-    let read = read_after text name rest h in some_is_none _ (sym (replacement_some values text name value read.0 read.1 is) ∙ none)
+    let read = read_at 36 text name rest h in some_is_none _ (sym (replacement-some values name value read.0 text read.2 is) ∙ none)
 
 -- a replacement is that of a spelt reference
 record IsSpelt (values : Values) (text : List ℕ) (r : Replacement) : Type 0 where
@@ -90,7 +84,7 @@ replaced_step : (values : Values) (text name value rest : List ℕ) → SpellsRe
 replaced_step values text name value rest h is =
     let read = reference_read h in
     ap (substitution values) read.dollar
-    ∙ is-replaced values read.bytes (record { value = value; size = read.size }) (replacement_some values read.bytes name value read.size read.read is)
+    ∙ is-replaced values read.bytes (record { value = value; size = read.size }) (replacement-some values name value read.size read.bytes read.read is)
     ∙ ap (λ l. value ++ substitution values l) read.after
 
 is_substitution : {values : Values} {text result : List ℕ} → Replaces values text result → result ≡ substitution values text
@@ -104,7 +98,7 @@ pub references_replaced : (values : Values) (text result : List ℕ) → (result
 references_replaced values text result = (λ e. subst (Replaces values text) (sym e) (after values text 0), λ h. is_substitution h)
 
 dollar_names : (b : ℕ) (text : List ℕ) (names : List (List ℕ)) → b ≡ 36 → (o : Option Reference) → reference_after text ≡ o → HoldsNames text names → HoldsNames (b ∷ text) (cons_option (option_map (λ r. r.name) o) names)
-dollar_names b text names is None e more = no_reference (subst (λ a. (name rest : List ℕ) → SpellsReference (a ∷ text) name rest → ⊥) (sym is) (λ name rest h. some_is_none _ (sym (read_after text name rest h).1 ∙ e))) more
+dollar_names b text names is None e more = no_reference (subst (λ a. (name rest : List ℕ) → SpellsReference (a ∷ text) name rest → ⊥) (sym is) (λ name rest h. some_is_none _ (sym (read_at 36 text name rest h).2 ∙ e))) more
 dollar_names b text names is (Some r) e more = reference (subst (λ a. SpellsReference (a ∷ text) r.name (drop r.size text)) (sym is) (reference_spelt text r e)) more
 
 names_held : (text : List ℕ) → HoldsNames text (names_in text)
@@ -114,15 +108,6 @@ names_held (b ∷ text) =
     cond_both (eqb b 36) (option_map (λ r. r.name) (reference_after text)) None (λ o. HoldsNames (b ∷ text) (cons_option o (names_in text)))
     (λ e. dollar_names b text (names_in text) (eqb-true b 36 e) (reference_after text) refl (names_held text))
     (λ e. no_reference (λ name rest h. not_dollar b text name rest e h) (names_held text))
-
-names_read : (b : ℕ) (text name rest : List ℕ) → SpellsReference (b ∷ text) name rest → (size : ℕ) × (b ≡ 36) × (reference_after text ≡ Some (record { name = name; size = size }))
-names_read b text name rest h =
-    let read = reference_read h in (read.size, first read.dollar, ap reference_after (others read.dollar) ∙ read.read) where
-      first : {bytes : List ℕ} → b ∷ text ≡ 36 ∷ bytes → b ≡ 36
-      first e = cc
-
-      others : {bytes : List ℕ} → b ∷ text ≡ 36 ∷ bytes → text ≡ bytes
-      others e = cc
 
 -- the names of a text with one more byte, by what is read at it
 names_step : (b : ℕ) (text : List ℕ) (o : Option Reference) → reference_after text ≡ o → b ≡ 36 → names_in (b ∷ text) ≡ cons_option (option_map (λ r. r.name) o) (names_in text)
@@ -145,7 +130,7 @@ are_names no_text = refl
 are_names (no_reference {b = b} {text = text} none more) =
     are_names more ∙ sym (elim (cases_Bool (eqb b 36)) [ inl e ↦ none_names b text (eqb-true b 36 e) (reference_after text) refl none | inr e ↦ no_name_step b text e ])
 are_names (reference {b = b} {text = text} {name = name} {rest = rest} spelt more) =
-    let read = names_read b text name rest spelt in
+    let read = read_at b text name rest spelt in
     ap (λ l. name ∷ l) (are_names more) ∙ sym (names_step b text (Some (record { name = name; size = read.0 })) read.2 read.1)
 
 pub names_listed : (text : List ℕ) (names : List (List ℕ)) → (names ≡ names_in text) ↔ HoldsNames text names

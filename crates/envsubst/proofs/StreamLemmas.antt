@@ -1,7 +1,7 @@
 -- Lemmas on substitution piece by piece.
-use Rattle.std.proofs.Common.{◌≡◌, ℕ, zero, suc, ◌+◌, ◌-◌, ◌<◌, ◌≤◌, List, [], ◌∷◌, ◌++◌, length, take, drop, get_or, Option, refl, sym, ap, subst, ◌∙◌, append_assoc, take-append-drop, arith}
+use Rattle.std.proofs.Common.{◌≡◌, ℕ, ◌+◌, ◌-◌, ◌<◌, ◌≤◌, List, [], ◌∷◌, ◌++◌, length, take, drop, get_or, Option, refl, sym, ap, subst, ◌∙◌, append_assoc, take-append-drop, arith}
 use Rattle.std.specs.List.{position_or_len}
-use Rattle.std.proofs.lemmas.List.{drop-append-le, drop-drop, take_rest}
+use Rattle.std.proofs.lemmas.List.{drop-append-le, drop-drop, drop_more, take_rest}
 use Rattle.std.proofs.KnownBytes.{Appends-nil, Appends-trans}
 use Rattle.memchr.specs.Find.{is_byte}
 use Rattle.runs.specs.Device.{AppendsPrefix}
@@ -72,9 +72,7 @@ dollar-first n piece index first some = ap (λ p. take 1 p) (byte-at 36 piece 0 
 
 -- a begun reference of so many bytes, and the byte after it
 begun-split : (piece : List ℕ) (n d : ℕ) → n < length piece → drop n piece ≡ get_or piece n d ∷ drop 1 (drop n piece)
-begun-split [] n d some = absurd (omega arith)
-begun-split (b ∷ bs) zero d some = refl
-begun-split (b ∷ bs) (suc n) d some = begun-split bs n d (omega arith)
+begun-split piece n d some = drop_more piece n d some ∙ ap (λ l. get_or piece n d ∷ l) (sym (drop-drop 1 n piece))
 
 pub begun-out : (values : Values) (piece out : List ℕ) (n taken : ℕ) → n < length piece → taken ≤ 1
     → ((rest : List ℕ) → substitution values (take n piece ++ (get_or piece n 0 ∷ rest)) ≡ out ++ substitution values (drop taken (get_or piece n 0 ∷ rest)))
@@ -86,8 +84,7 @@ begun-out values piece out n taken within fits passes rest =
 
 -- the first byte of a piece, and the others
 piece-split : (piece : List ℕ) (d : ℕ) → 0 < length piece → piece ≡ get_or piece 0 d ∷ drop 1 piece
-piece-split [] d some = absurd (omega arith)
-piece-split (b ∷ bs) d some = refl
+piece-split piece d some = drop_more piece 0 d some
 
 pub first-taken : (piece : List ℕ) (d : ℕ) → 0 < length piece → take 1 piece ≡ get_or piece 0 d ∷ []
 first-taken piece d some = ap (λ p. take 1 p) (piece-split piece d some)

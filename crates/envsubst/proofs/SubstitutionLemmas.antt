@@ -1,5 +1,5 @@
 -- Lemmas on texts with their references replaced.
-use Rattle.std.proofs.Common.{◌≡◌, ℕ, zero, suc, ◌+◌, Bool, true, false, eqb, ◌⊎◌, inl, inr, List, [], ◌∷◌, ◌++◌, length, drop, take, Option, Some, None, refl, sym, ap, ◌∙◌, append-nil, arith}
+use Rattle.std.proofs.Common.{◌≡◌, ℕ, zero, suc, ◌+◌, ◌≤◌, Bool, true, false, eqb, ◌⊎◌, inl, inr, List, [], ◌∷◌, ◌++◌, length, drop, take, Option, Some, None, refl, sym, ap, ◌∙◌, append-nil, arith}
 use Rattle.std.specs.List.{list_all, position_or_len}
 use Rattle.std.specs.Option.{option_map}
 use Rattle.std.proofs.lemmas.Bool.{and_parts, cond-false, cases_Bool, true≢false, false≢true}
@@ -77,7 +77,7 @@ unfolding replacement_of
 replacement-none values name size bs some none = ap (replacement_of values) some ∙ ap (option_map (λ v. record { value = v; size = size })) none
 
 -- a reference to a name that is
-replacement-some : (values : Values) (name value : List ℕ) (size : ℕ) (bs : List ℕ) → reference_after bs ≡ Some (record { name = name; size = size }) → values name ≡ Some value → replacement_of values (reference_after bs) ≡ Some (record { value = value; size = size })
+pub replacement-some : (values : Values) (name value : List ℕ) (size : ℕ) (bs : List ℕ) → reference_after bs ≡ Some (record { name = name; size = size }) → values name ≡ Some value → replacement_of values (reference_after bs) ≡ Some (record { value = value; size = size })
 unfolding replacement_of
 replacement-some values name value size bs some is = ap (replacement_of values) some ∙ ap (option_map (λ v. record { value = v; size = size })) is
 
@@ -104,25 +104,29 @@ held-replaced values is_braced held name xs value size e some is =
 pub out-copied : (values : Values) (is_braced : Bool) (held name : List ℕ) (next : ℕ) → held ≡ 36 ∷ after_dollar is_braced name → is_begun_name name ≡ true → Decides is_braced name next Copies → ComesOut values held next Copied
 out-copied values is_braced held name next e h none = λ rest. held-copied values is_braced held name (next ∷ rest) e h (no-replacement values _ (none rest))
 
+-- held bytes that are a reference with its end
+out-named : (values : Values) (is_braced : Bool) (held name : List ℕ) (next size taken : ℕ) (o : Effect) → held ≡ 36 ∷ after_dollar is_braced name → is_begun_name name ≡ true
+    → ((rest : List ℕ) → reference_after (after_dollar is_braced (name ++ next ∷ rest)) ≡ Some (record { name = name; size = size }))
+    → ((rest : List ℕ) → drop size (after_dollar is_braced (name ++ next ∷ rest)) ≡ drop taken (next ∷ rest)) → taken ≤ 1
+    → ReplacesName values name taken o → ComesOut values held next o
+out-named values is_braced held name next size taken Held e h read after few r = absurd r
+out-named values is_braced held name next size taken Copied e h read after few r = λ rest.
+    held-copied values is_braced held name (next ∷ rest) e h (replacement-none values name size _ (read rest) r)
+out-named values is_braced held name next size taken (Replaced value n) e h read after few r = (
+  omega (arith, r.1, few),
+  λ rest. held-replaced values is_braced held name (next ∷ rest) value.now size e (read rest) r.0
+      ∙ ap (λ l. value.now ++ substitution values l) (after rest ∙ ap (λ m. drop m (next ∷ rest)) (sym r.1)),
+)
+
 pub out-ends : (values : Values) (is_braced : Bool) (held name : List ℕ) (next : ℕ) (o : Effect) → held ≡ 36 ∷ after_dollar is_braced name → is_begun_name name ≡ true → Decides is_braced name next Ends → ReplacesName values name 0 o → ComesOut values held next o
 out-ends values true held name next o e h ends r = absurd (true≢false ends.0)
-out-ends values false held name next Held e h ends r = absurd r
-out-ends values false held name next Copied e h ends r = λ rest. held-copied values false held name (next ∷ rest) e h (replacement-none values name (length name) _ (ends.1 rest) r)
-out-ends values false held name next (Replaced value n) e h ends r = (
-  omega (arith, r.1),
-  λ rest. held-replaced values false held name (next ∷ rest) value.now (length name) e (ends.1 rest) r.0
-      ∙ ap (λ l. value.now ++ substitution values l) (drop_at name (next ∷ rest) (length name) refl ∙ ap (λ m. drop m (next ∷ rest)) (sym r.1)),
-)
+out-ends values false held name next o e h ends r =
+    out-named values false held name next (length name) 0 o e h ends.1 (λ rest. drop_at name (next ∷ rest) (length name) refl) (omega arith) r
 
 pub out-closes : (values : Values) (is_braced : Bool) (held name : List ℕ) (next : ℕ) (o : Effect) → held ≡ 36 ∷ after_dollar is_braced name → is_begun_name name ≡ true → Decides is_braced name next Closes → ReplacesName values name 1 o → ComesOut values held next o
 out-closes values false held name next o e h closes r = absurd (false≢true closes.0)
-out-closes values true held name next Held e h closes r = absurd r
-out-closes values true held name next Copied e h closes r = λ rest. held-copied values true held name (next ∷ rest) e h (replacement-none values name (length name + 2) _ (closes.1 rest) r)
-out-closes values true held name next (Replaced value n) e h closes r = (
-  omega (arith, r.1),
-  λ rest. held-replaced values true held name (next ∷ rest) value.now (length name + 2) e (closes.1 rest) r.0
-      ∙ ap (λ l. value.now ++ substitution values l) (after-closed name next rest ∙ ap (λ m. drop m (next ∷ rest)) (sym r.1)),
-)
+out-closes values true held name next o e h closes r =
+    out-named values true held name next (length name + 2) 1 o e h closes.1 (λ rest. after-closed name next rest) (omega arith) r
 
 -- what becomes of the bytes held where nothing follows
 pub ends-empty : (values : Values) (held : List ℕ) → held ≡ [] → substitution values held ≡ held
