@@ -26,43 +26,41 @@ pub fn push_numbered(
 pub fn push_po_text(out: &mut Vec<u8>, fault: PoFault) -> Result<(), AllocError>
     ensures { OnOk result (out.new.items ≡ out.old.items ++ po_text fault) }
 {
-    let text = match fault {
-        PoFault::NotUtf8 => "not UTF-8",
-        PoFault::BadToken => "unexpected byte or word",
-        PoFault::UnterminatedString => "string not closed",
-        PoFault::BadEscape => "bad escape",
-        PoFault::ForbiddenByte => "forbidden byte",
-        PoFault::BadOrder => "keyword or text out of order",
-        PoFault::BadPluralIndex => "wrong plural index",
-        PoFault::MixedObsolete => "live and obsolete lines mixed",
+    match fault {
+        PoFault::NotUtf8 => out.extend_from_slice(b"not UTF-8"),
+        PoFault::BadToken => out.extend_from_slice(b"unexpected byte or word"),
+        PoFault::UnterminatedString => out.extend_from_slice(b"string not closed"),
+        PoFault::BadEscape => out.extend_from_slice(b"bad escape"),
+        PoFault::ForbiddenByte => out.extend_from_slice(b"forbidden byte"),
+        PoFault::BadOrder => out.extend_from_slice(b"keyword or text out of order"),
+        PoFault::BadPluralIndex => out.extend_from_slice(b"wrong plural index"),
+        PoFault::MixedObsolete => out.extend_from_slice(b"live and obsolete lines mixed"),
         PoFault::Duplicate(line) => {
-            return push_numbered(out, "duplicate of the message at line ", line.into(), "");
+            push_numbered(out, "duplicate of the message at line ", line.into(), "")
         }
-        PoFault::ForeignCharset => "charset is not UTF-8",
-        PoFault::TooLarge => "too large",
-        PoFault::OutOfMemory => "out of memory",
-    };
-    out.extend_from_slice(text.as_bytes())
+        PoFault::ForeignCharset => out.extend_from_slice(b"charset is not UTF-8"),
+        PoFault::TooLarge => out.extend_from_slice(b"too large"),
+        PoFault::OutOfMemory => out.extend_from_slice(b"out of memory"),
+    }
 }
 
 /// Appends what is wrong with an MO file.
 pub fn push_mo_text(out: &mut Vec<u8>, fault: MoError) -> Result<(), AllocError>
     ensures { OnOk result (out.new.items ≡ out.old.items ++ mo_text fault) }
 {
-    let text = match fault {
-        MoError::TooShort => "file too short",
-        MoError::BadMagic => "bad magic number",
-        MoError::BadRevision => "unknown revision",
-        MoError::TableOutside => "table outside the file",
+    match fault {
+        MoError::TooShort => out.extend_from_slice(b"file too short"),
+        MoError::BadMagic => out.extend_from_slice(b"bad magic number"),
+        MoError::BadRevision => out.extend_from_slice(b"unknown revision"),
+        MoError::TableOutside => out.extend_from_slice(b"table outside the file"),
         MoError::StringOutside(i) => {
-            return push_numbered(out, "string ", i.into(), " outside the file");
+            push_numbered(out, "string ", i.into(), " outside the file")
         }
         MoError::NoTerminator(i) => {
-            return push_numbered(out, "string ", i.into(), " without a final NUL");
+            push_numbered(out, "string ", i.into(), " without a final NUL")
         }
-        MoError::NotSorted(i) => return push_numbered(out, "string ", i.into(), " out of order"),
-    };
-    out.extend_from_slice(text.as_bytes())
+        MoError::NotSorted(i) => push_numbered(out, "string ", i.into(), " out of order"),
+    }
 }
 
 /// Appends what a fault line begins with: `pokit TOOL: FILE:LINE: `, without `:LINE` for line 0.
