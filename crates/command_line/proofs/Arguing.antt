@@ -1,12 +1,13 @@
 -- Arguments and tools, as they are added one after another.
-use Rattle.std.proofs.Common.{◌≡◌, ℕ, zero, suc, ◌+◌, ◌<◌, ◌==◌, Bool, true, false, ◌||◌, List, [], ◌∷◌, ◌++◌, length, map, take, get_or, refl}
-use Rattle.std.proofs.Common.{ap, ◌∙◌, sym, arith, append_assoc, Option, None, Some}
+use Rattle.std.proofs.Common.{◌≡◌, ℕ, suc, ◌+◌, ◌<◌, ◌==◌, false, ◌||◌, List, [], ◌∷◌, ◌++◌, length, map, take, get_or, refl}
+use Rattle.std.proofs.Common.{ap, ◌∙◌, sym, arith, append_assoc, append-nil, Option, None, Some}
 use Rattle.std.proofs.lemmas.Bool.Decides.{nat_tests}
-use Rattle.std.proofs.lemmas.List.{take_more}
+use Rattle.std.proofs.Math.Bool.{or-false}
+use Rattle.std.proofs.lemmas.List.{map-append, take_more}
 use Rattle.std.specs.List.{AllZip}
 use Rattle.clap.specs.Built.{AddsArg, AddsSubcommand, subcommand_names}
 use Rattle.clap.specs.Simple.{App, Shape, app_of, new_app, on_top, shape_of, with_rule, with_subcommand}
-use Rattle.clap.specs.Walk.{Rule, is_empty, rule_of}
+use Rattle.clap.specs.Walk.{is_empty, rule_of}
 use Rattle.clap.specs.declared.builder.arg.Arg.{Arg}
 use Rattle.clap.specs.declared.builder.command.Command.{Command}
 use Rattle.clap.specs.declared.builder.command.Command.TheViews.{out-Command}
@@ -26,28 +27,15 @@ zip_more R (z ∷ xs) (w ∷ ys) x y all holds = (all.0, zip_more R xs ys x y al
 -- one item more of a list, as `f` has it
 pub next_mapped : {X Y : Type 0} (f : X → Y) (xs : List X) (i : ℕ) (other : X) → i < length xs
     → map f (take i xs) ++ f (get_or xs i other) ∷ [] ≡ map f (take (i + 1) xs)
-next_mapped f xs i other below = steps f xs i other below ∙ ap (λ n. map f (take n xs)) (add_one i) where
-  add_one : (n : ℕ) → suc n ≡ n + 1
-  add_one n = omega arith
-
-  steps : {X Y : Type 0} (f : X → Y) (xs : List X) (i : ℕ) (other : X) → i < length xs
-      → map f (take i xs) ++ f (get_or xs i other) ∷ [] ≡ map f (take (suc i) xs)
-  steps f [] i other below = absurd (omega (arith, below))
-  steps f (x ∷ xs) zero other below = refl
-  steps f (x ∷ xs) (suc i) other below = ap (λ l. f x ∷ l) (steps f xs i other (omega (arith, below)))
-
-or_none : (b : Bool) → (b || false) ≡ b
-or_none true = refl
-or_none false = refl
+next_mapped f xs i other below = sym (ap (map f) (take_more xs i other below) ∙ map-append f (take i xs) (get_or xs i other ∷ []))
 
 pub no_arguments : (command : Command) → AddsArguments [] command command
-no_arguments command = record { rules = []; are = tt; shape = same (app_of command); global = refl } where
-  append_none : (rules : List Rule) → rules ≡ rules ++ []
-  append_none [] = refl
-  append_none (rule ∷ rules) = ap (λ l. rule ∷ l) (append_none rules)
-
-  same : (app : App) → app ≡ on_top (λ s. record s { rules = s.rules ++ [] }) app
-  same app = ap (λ l. on_top (λ s. record s { rules = l }) app) (append_none app.top.rules)
+no_arguments command = record {
+  rules = [];
+  are = tt;
+  shape = ap (λ l. on_top (λ s. record s { rules = l }) (app_of command)) (sym (append-nil (app_of command).top.rules));
+  global = refl;
+}
 
 pub one_argument_more : (arguments : List Argument) (argument : Argument) (first old new : Command) (arg : Arg)
     → AddsArguments arguments first old → AddsArg old arg new → arg.global ≡ false → IsRuleOf argument (rule_of arg)
@@ -61,7 +49,7 @@ one_argument_more arguments argument first old new arg so_far adds local rule =
       shape =
           adds.shape local ∙ ap (λ app. with_rule app (rule_of arg)) so_far.shape
           ∙ ap (λ l. on_top (λ s. record s { rules = l }) (app_of first)) joined;
-      global = adds.globals ∙ ap (λ b. (out-Command old).has_globals || b) local ∙ or_none _ ∙ so_far.global;
+      global = adds.globals ∙ ap (λ b. (out-Command old).has_globals || b) local ∙ or-false _ ∙ so_far.global;
     }
 
 pub tool_command : (tool : Tool) (command made : Command) → app_of command ≡ new_app (tool_name tool)
@@ -90,16 +78,13 @@ one_tool_more tools tool old sub new so_far command adds = record {
   app =
       adds.shape command.global ∙ ap (λ app. with_subcommand app (shape_of sub)) so_far.app
       ∙ ap (λ b. record { top = record (top_of so_far.shapes) { is_leaf = b }; subs = so_far.shapes ++ shape_of sub ∷ [] }) (more_are_some so_far.shapes (shape_of sub));
-  global = adds.globals ∙ ap (λ b. (out-Command old).has_globals || b) command.global ∙ or_none _ ∙ so_far.global;
+  global = adds.globals ∙ ap (λ b. (out-Command old).has_globals || b) command.global ∙ or-false _ ∙ so_far.global;
 }
-
-take_next : {X : Type 0} (xs : List X) (i : ℕ) (other : X) → i < length xs → take i xs ++ get_or xs i other ∷ [] ≡ take (i + 1) xs
-take_next xs i other below = sym (take_more xs i other below)
 
 pub next_tool : (i : ℕ) (other : Tool) (old sub new : Command) → i < length every_tool → OffersTools (take i every_tool) old
     → IsToolCommand (get_or every_tool i other) sub → AddsSubcommand old sub new → OffersTools (take (i + 1) every_tool) new
 next_tool i other old sub new below so_far command adds =
-    rw (take_next every_tool i other below) at (one_tool_more (take i every_tool) (get_or every_tool i other) old sub new so_far command adds)
+    rw (← take_more every_tool i other below) at (one_tool_more (take i every_tool) (get_or every_tool i other) old sub new so_far command adds)
 
 pub one_tool : (first : Option Tool) (tool : Tool) (old sub new : Command) → first ≡ Some tool → OffersTools [] old
     → IsToolCommand tool sub → AddsSubcommand old sub new → OffersTools (offered_tools first) new
