@@ -4,6 +4,7 @@ use Rattle.std.specs.Prelude.{◌↔◌, codes, take_while}
 use Rattle.std.specs.List.{list_any, flat_map, slice_split, onto_first, join_with_byte}
 use Rattle.std.specs.Str.{bytes_eq}
 use Rattle.std.specs.Bool.{Decides}
+use Rattle.std.proofs.Math.Bool.{or-true}
 use Rattle.std.proofs.lemmas.Bool.{cases_Bool, cond-false, false_from_ne_true, ne_eqb, eqb-false}
 use Rattle.std.proofs.lemmas.Bool.Decides.{Decides-and, Decides-by_and, Decides-eqb, Decides-not, Decides-or, not_from_Decides}
 use Rattle.std.proofs.lemmas.List.Elements.{All-nil, All-cons, All-head, All-tail, All-weaker}
@@ -139,24 +140,12 @@ flat locale language = of_either (is_untranslated locale || not (is_path_part lo
   of_either true = refl
   of_either false = refl
 
-none_asked : (locale language : List ℕ) (u f : Bool) → is_untranslated locale ≡ u → is_path_part locale ≡ f
-    → asked_for locale language ≡ cond (u || not f) [] (languages locale language)
-none_asked locale language u f p q =
-    ap (λ t. cond (t || not (is_path_part locale)) [] (languages locale language)) p ∙ ap (λ t. cond (u || not t) [] (languages locale language)) q
-
-or_not : (u : Bool) → (u || true) ≡ true
-or_not true = refl
-or_not false = refl
-
 -- the languages of an environment
 abbrev language_of : Environment → List ℕ
 language_of env = unwrap_or (non_empty env.language) []
 
 abbrev languages_of : Environment → List (List ℕ)
 languages_of env = asked_for (locale_of env) (language_of env)
-
-no_language : (locale language : List ℕ) → language ≡ [] → languages locale language ≡ locale ∷ []
-no_language locale language e = ap (λ l. languages locale l) e
 
 some_language : (locale language : List ℕ) → (language ≡ [] → ⊥) → languages locale language ≡ language_parts language
 some_language locale language h =
@@ -165,43 +154,30 @@ some_language locale language h =
 translated_asked : (env : Environment) → is_untranslated (locale_of env) ≡ false → is_path_part (locale_of env) ≡ true → AreLanguages (environment_view env) (languages_of env)
 translated_asked env u f =
     let locale = (locale_chosen env (locale_of env)).0 refl in
-    let asked : languages_of env ≡ languages (locale_of env) (language_of env) = none_asked (locale_of env) (language_of env) false true u f in
+    let is_translated = not_from_Decides (is_untranslated (locale_of env)) (untranslated_decides (locale_of env)) u in
     elim (says env.language) [
-      | inl a ↦ subst (AreLanguages (environment_view env)) (sym (asked ∙ no_language (locale_of env) (language_of env) (ap (λ o. unwrap_or o []) a.1)))
-          (the_locale locale (not_from_Decides (is_untranslated (locale_of env)) (untranslated_decides (locale_of env)) u) ((path_decides (locale_of env)).0 f) a.0)
-      | inr a ↦ let is : language_of env ≡ a.0 = ap (λ o. unwrap_or o []) a.2 in
-          subst (AreLanguages (environment_view env)) (sym (asked ∙ ap (languages (locale_of env)) is ∙ some_language (locale_of env) a.0 a.1.some))
-          (of_language locale (not_from_Decides (is_untranslated (locale_of env)) (untranslated_decides (locale_of env)) u) ((path_decides (locale_of env)).0 f) a.1 (lists a.0))
+      | inl a ↦ rw (u, f, a.1) (the_locale locale is_translated ((path_decides (locale_of env)).0 f) a.0)
+      | inr a ↦ rw (u, f, a.2, some_language (locale_of env) a.0 a.1.some) (of_language locale is_translated ((path_decides (locale_of env)).0 f) a.1 (lists a.0))
     ]
 
 are_asked : (env : Environment) → AreLanguages (environment_view env) (languages_of env)
 are_asked env = elim (cases_Bool (is_untranslated (locale_of env))) [
-  | inl u ↦ subst (AreLanguages (environment_view env)) (sym (none_asked (locale_of env) (language_of env) true (is_path_part (locale_of env)) u refl))
-      (untranslated ((locale_chosen env (locale_of env)).0 refl) ((untranslated_decides (locale_of env)).0 u))
+  | inl u ↦ rw u (untranslated ((locale_chosen env (locale_of env)).0 refl) ((untranslated_decides (locale_of env)).0 u))
   | inr u ↦ elim (cases_Bool (is_path_part (locale_of env))) [
     | inl f ↦ translated_asked env u f
-    | inr f ↦ subst (AreLanguages (environment_view env)) (sym (none_asked (locale_of env) (language_of env) false false u f))
-        (no_path ((locale_chosen env (locale_of env)).0 refl) (not_from_Decides (is_path_part (locale_of env)) (path_decides (locale_of env)) f))
+    | inr f ↦ rw (u, f) (no_path ((locale_chosen env (locale_of env)).0 refl) (not_from_Decides (is_path_part (locale_of env)) (path_decides (locale_of env)) f))
   ]
 ]
 
 is_asked : (env : Environment) (names : List (List ℕ)) → AreLanguages (environment_view env) names → languages_of env ≡ names
-is_asked env names (untranslated {locale = locale} is u) =
-    let same = (locale_chosen env locale).1 is in
-    none_asked (locale_of env) (language_of env) true (is_path_part (locale_of env)) ((untranslated_decides (locale_of env)).1 (subst IsUntranslated same u)) refl
+is_asked env names (untranslated {locale = locale} is u) = rw (← (locale_chosen env locale).1 is, (untranslated_decides locale).1 u)
 is_asked env names (no_path {locale = locale} is f) =
-    let same = (locale_chosen env locale).1 is in
-    none_asked (locale_of env) (language_of env) (is_untranslated (locale_of env)) false refl (fails (is_path_part (locale_of env)) (path_decides (locale_of env)) (subst (λ l. CanStandInPath l → ⊥) same f))
-    ∙ ap (λ t. cond t [] (languages (locale_of env) (language_of env))) (or_not (is_untranslated (locale_of env)))
+    rw (← (locale_chosen env locale).1 is, fails (is_path_part locale) (path_decides locale) f, or-true (is_untranslated locale))
 is_asked env names (the_locale {locale = locale} is u f none) =
-    let same = (locale_chosen env locale).1 is in
-    none_asked (locale_of env) (language_of env) false true (fails (is_untranslated (locale_of env)) (untranslated_decides (locale_of env)) (subst (λ l. IsUntranslated l → ⊥) same u)) ((path_decides (locale_of env)).1 (subst CanStandInPath same f))
-    ∙ no_language (locale_of env) (language_of env) (ap (λ o. unwrap_or o []) (from_no_text env.language none)) ∙ ap (λ l. l ∷ []) (sym same)
+    rw (← (locale_chosen env locale).1 is, fails (is_untranslated locale) (untranslated_decides locale) u, (path_decides locale).1 f, from_no_text env.language none)
 is_asked env names (of_language {locale = locale} {text = text} is u f has listed) =
-    let same = (locale_chosen env locale).1 is in
-    let language_is : language_of env ≡ text = ap (λ o. unwrap_or o []) (from_text env.language text has) in
-    none_asked (locale_of env) (language_of env) false true (fails (is_untranslated (locale_of env)) (untranslated_decides (locale_of env)) (subst (λ l. IsUntranslated l → ⊥) same u)) ((path_decides (locale_of env)).1 (subst CanStandInPath same f))
-    ∙ ap (languages (locale_of env)) language_is ∙ some_language (locale_of env) text has.some ∙ are_listed text names listed
+    rw (← (locale_chosen env locale).1 is, fails (is_untranslated locale) (untranslated_decides locale) u, (path_decides locale).1 f, from_text env.language text has)
+    (some_language locale text has.some ∙ are_listed text names listed)
 
 -- the candidates of an environment
 asked_once : (env : Environment) → AreCandidates (environment_view env) (candidates_of env)
