@@ -73,10 +73,7 @@ begun-undecided false (b ∷ bs) h =
 
 pub brace-undecided : (is_braced : Bool) (name : List ℕ) (b : ℕ) → name ≡ [] → b ≡ 123 → is_braced ≡ false → is_undecided (36 ∷ after_dollar is_braced (name ++ b ∷ [])) ≡ true
 unfolding is_undecided
-brace-undecided is_braced name b none brace bare =
-    ap (λ (l : List ℕ). is_undecided (36 ∷ after_dollar is_braced (l ++ b ∷ []))) none
-    ∙ ap (λ (n : ℕ). is_undecided (36 ∷ after_dollar is_braced (n ∷ []))) brace
-    ∙ ap (λ (v : Bool). is_undecided (36 ∷ after_dollar v (123 ∷ []))) bare
+brace-undecided is_braced name b none brace bare = rw (none, brace, bare)
 
 -- where the run isn't a name there is no reference
 pub unnamed : (is_braced : Bool) (xs : List ℕ) → is_name (name_prefix xs) ≡ false → (is_braced ≡ false → begins_with 123 xs ≡ false) → reference_after (after_dollar is_braced xs) ≡ None
@@ -148,9 +145,7 @@ not-closed name b bs h stop other =
 -- a byte that begins neither a name nor a brace
 pub not-begun : (is_braced : Bool) (name : List ℕ) (b : ℕ) (bs : List ℕ) → name ≡ [] → is_letter b ≡ false → ((b ≡ 123) × (is_braced ≡ true)) ⊎ (b ≡ 123 → ⊥) → reference_after (after_dollar is_braced (name ++ b ∷ bs)) ≡ None
 not-begun is_braced name b bs none fails other =
-    ap (λ (l : List ℕ). reference_after (after_dollar is_braced (l ++ b ∷ bs))) none
-    ∙ unnamed is_braced (b ∷ bs) (wrong-first b bs fails)
-    (λ bare. elim other [ inl p ↦ absurd (both_ways is_braced bare p.1) | inr ne ↦ ne_eqb b 123 ne ])
+    rw none (unnamed is_braced (b ∷ bs) (wrong-first b bs fails) (λ bare. elim other [ inl p ↦ absurd (both_ways is_braced bare p.1) | inr ne ↦ ne_eqb b 123 ne ]))
 
 -- a name that is too long
 pub not-short : (is_braced : Bool) (name : List ℕ) (b : ℕ) (bs : List ℕ) → is_begun_name name ≡ true → (name ≡ [] → ⊥) → is_name_byte b ≡ true → 255 ≤ length name → reference_after (after_dollar is_braced (name ++ b ∷ bs)) ≡ None

@@ -67,9 +67,8 @@ after-append false name xs = refl
 pub begun-copied : (values : Values) (is_braced : Bool) (name xs : List ℕ) → is_begun_name name ≡ true → replacement_of values (reference_after (after_dollar is_braced (name ++ xs))) ≡ None
     → substitution values (36 ∷ after_dollar is_braced (name ++ xs)) ≡ (36 ∷ after_dollar is_braced name) ++ substitution values xs
 begun-copied values true name xs h none =
-    not-replaced values (123 ∷ (name ++ xs)) none ∙ ap (λ l. 36 ∷ l) (plain values 123 (name ++ xs) refl ∙ ap (λ l. 123 ∷ l) (plain-run values name xs (begun-bytes name h)))
-begun-copied values false name xs h none =
-    not-replaced values (name ++ xs) none ∙ ap (λ l. 36 ∷ l) (plain-run values name xs (begun-bytes name h))
+    rw (not-replaced values (123 ∷ (name ++ xs)) none, plain values 123 (name ++ xs) refl, plain-run values name xs (begun-bytes name h))
+begun-copied values false name xs h none = rw (not-replaced values (name ++ xs) none, plain-run values name xs (begun-bytes name h))
 
 -- a reference to a name that isn't replaced
 replacement-none : (values : Values) (name : List ℕ) (size : ℕ) (bs : List ℕ) → reference_after bs ≡ Some (record { name = name; size = size }) → values name ≡ None → replacement_of values (reference_after bs) ≡ None
@@ -133,17 +132,16 @@ pub ends-empty : (values : Values) (held : List ℕ) → held ≡ [] → substit
 unfolding substitution_after
 ends-empty values held none = ap (substitution values) none ∙ sym none
 
+alone : (values : Values) (held : List ℕ) → substitution values (held ++ []) ≡ held ++ substitution values [] → substitution values held ≡ held
+alone values held copied = ap (substitution values) (sym (append-nil held)) ∙ copied ∙ ap (λ l. held ++ l) (ends-empty values [] refl) ∙ append-nil held
+
 pub ends-copied : (values : Values) (is_braced : Bool) (held name : List ℕ) → held ≡ 36 ∷ after_dollar is_braced name → is_begun_name name ≡ true → (is_braced ≡ true) ⊎ (name ≡ []) → substitution values held ≡ held
 ends-copied values is_braced held name e h which =
-    let whole = sym (append-nil held) in
-    let copied = held-copied values is_braced held name [] e h (no-replacement values _ (ending-none is_braced name h which)) in
-    ap (substitution values) whole ∙ copied ∙ ap (λ l. held ++ l) (ends-empty values [] refl) ∙ append-nil held
+    alone values held (held-copied values is_braced held name [] e h (no-replacement values _ (ending-none is_braced name h which)))
 
 pub ends-name : (values : Values) (held name : List ℕ) (o : Option (Bor (List ℕ))) → held ≡ 36 ∷ name → is_begun_name name ≡ true → (name ≡ [] → ⊥) → option_map (λ v. v.now) o ≡ values name → Ending values held o
 ends-name values held name None e h some is =
-    let whole = sym (append-nil held) in
-    let copied = held-copied values false held name [] e h (replacement-none values name (length name) _ (ending-some name h some) (sym is)) in
-    ap (substitution values) whole ∙ copied ∙ ap (λ l. held ++ l) (ends-empty values [] refl) ∙ append-nil held
+    alone values held (held-copied values false held name [] e h (replacement-none values name (length name) _ (ending-some name h some) (sym is)))
 ends-name values held name (Some value) e h some is =
     ap (substitution values) (sym (append-nil held))
     ∙ held-replaced values false held name [] value.now (length name) e (ending-some name h some) (sym is)
