@@ -56,11 +56,11 @@ count_given : (text : List ℕ) → GivesCount text (count_in text)
 unfolding count_in
 count_given text =
     cond_both (is_count text) (digits_value 10 text) 99 (GivesCount text) (λ e. let s = spells text e in number s.0 s.1) (λ e. other (λ n h. large n h e)) where
-  large : (n : ℕ) → SpellsNumber text n → is_count text ≡ false → 2 ^ 64 ≤ n
-  large n h e = elim (cases_Bool (ltb n 18446744073709551616)) [
-    | inl l ↦ absurd (both_ways (is_count text) e (counts text n h (ltb-true n 18446744073709551616 l)))
-    | inr l ↦ ltb-false n 18446744073709551616 l
-  ]
+      large : (n : ℕ) → SpellsNumber text n → is_count text ≡ false → 2 ^ 64 ≤ n
+      large n h e = elim (cases_Bool (ltb n 18446744073709551616)) [
+        | inl l ↦ absurd (both_ways (is_count text) e (counts text n h (ltb-true n 18446744073709551616 l)))
+        | inr l ↦ ltb-false n 18446744073709551616 l
+      ]
 
 is_given : (text : List ℕ) (count : ℕ) → GivesCount text count → count ≡ count_in text
 unfolding count_in
