@@ -1,5 +1,6 @@
 -- The parser between two tokens of a text.
-use Rattle.std.proofs.Common.{◌≡◌, ◌≢◌, ℕ, suc, ◌+◌, ◌^◌, ◌<◌, ◌≤◌, Bool, true, false, nat_lt, MatchBool, inl, inr, List, [], ◌∷◌, length, take, drop, Option, Some, None, option_and_then, refl, sym, ap, ◌∙◌, arith, subst, take-append-drop}
+use Rattle.std.proofs.Common.{◌≡◌, ◌≢◌, ℕ, suc, ◌+◌, ◌^◌, ◌<◌, ◌≤◌, Bool, false, nat_lt, inl, inr, List, [], ◌∷◌, length, take, drop, Option, Some, None, option_and_then, refl, sym, ap, ◌∙◌, arith, subst, take-append-drop}
+use Rattle.std.specs.Prelude.{MatchOption, ⊤}
 use Rattle.std.specs.List.{prefix_len}
 use Rattle.std.specs.Str.Parse.{digits_value}
 use Rattle.std.proofs.lemmas.Int.Digits.{digits_value-lt}
@@ -16,8 +17,10 @@ use Rattle.plural_rule.specs.Grammar.{Spelt}
 use Rattle.plural_rule.specs.Header.{without_blanks}
 use Rattle.plural_rule.specs.Internal.Scanner.{IsTokenAt, IsTooLarge, HasNoToken}
 use Rattle.plural_rule.specs.Internal.ShiftReduce.{State, Want, Have, step, finish, outcome_from}
-use Rattle.plural_rule.specs.Internal.ParserState.{Held, Represents, Answers, HoldsTree, HoldsExpression, most_added}
+use Rattle.plural_rule.specs.PluralRule.{expression_limit}
+use Rattle.plural_rule.specs.Internal.ParserState.{Held, held, Represents, Answers, HoldsTree, HoldsExpression, most_added}
 use Rattle.plural_rule.specs.declared.instruction.Instruction.{Instruction}
+use Rattle.plural_rule.specs.declared.parts.Parser.{Parser}
 use Rattle.plural_rule.proofs.Complete.{complete}
 use Rattle.plural_rule.proofs.Sound.{sound}
 use Rattle.plural_rule.proofs.Lexing.{first_byte, Lexes-token, Lexes-blank, Lexes-nothing}
@@ -76,9 +79,9 @@ before-token state rest t n tree at s =
     let lexes = token t (take n rest) at.spelling at.longest ((blanks (drop n rest)).gives s.ts s.lexes) in
     record { ts = t ∷ s.ts; lexes = subst (λ x. Lexes x (t ∷ s.ts)) (take-append-drop n rest) lexes; is = s.is }
 
-pub reached-token : (text rest : List ℕ) (t : Token) (n : ℕ) (before after : Held) (complete complete' : Bool) → (r : Reached text rest before complete) → IsTokenAt rest t n → Answers (step r.state t) (Some complete') after → Reached text (without_blanks (drop n rest)) after complete'
-reached-token text rest t n before after complete complete' r at answers = next (step r.state t) refl answers where
-  next : (o : Option State) → step r.state t ≡ o → Answers o (Some complete') after → Reached text (without_blanks (drop n rest)) after complete'
+pub reached-token : (text rest : List ℕ) (t : Token) (n : ℕ) (before : Held) (complete : Bool) (after : Parser) (room : List Instruction) (codes : List ℕ) → (r : Reached text rest before complete) → IsTokenAt rest t n → Answers (step r.state t) (Some after) room codes → Reached text (without_blanks (drop n rest)) (held room codes after) after.complete
+reached-token text rest t n before complete after room codes r at answers = next (step r.state t) refl answers where
+  next : (o : Option State) → step r.state t ≡ o → Answers o (Some after) room codes → Reached text (without_blanks (drop n rest)) (held room codes after) after.complete
   next None is a = absurd cc
   next (Some state) is a =
       record {
@@ -134,17 +137,17 @@ no-token text rest parser complete r n none tree spelt = let s = r.only tree spe
       let stops = too_large r.state t (none t own after e spelt longest) in
       let wrong : None ≡ Some tree = sym (ap (option_and_then (λ next. outcome_from next later)) stops) ∙ is in cc
 
-pub no-index : (text rest : List ℕ) (t : Token) (n : ℕ) (before after : Held) (complete : Bool) → (r : Reached text rest before complete) → IsTokenAt rest t n → Answers (step r.state t) None after → SpellsNothing text
-no-index text rest t n before after complete r at answers tree spelt =
+pub no-index : (text rest : List ℕ) (t : Token) (n : ℕ) (before : Held) (complete : Bool) (room : List Instruction) (codes : List ℕ) → (r : Reached text rest before complete) → IsTokenAt rest t n → Answers (step r.state t) None room codes → SpellsNothing text
+no-index text rest t n before complete room codes r at answers tree spelt =
     refused (step r.state t) answers (after-token r.state rest t n tree at (r.only tree spelt)) where
-      refused : (o : Option State) → Answers o None after → Completes o (without_blanks (drop n rest)) tree → ⊥
+      refused : (o : Option State) → Answers o None room codes → Completes o (without_blanks (drop n rest)) tree → ⊥
       refused None a s = let wrong : None ≡ Some tree = s.is in cc
       refused (Some state) a s = absurd a
 
 -- at the end of the text
-pub reached-end : (text : List ℕ) (before : Held) (code : List Instruction) (complete whole : Bool) → (r : Reached text [] before complete) → MatchBool whole (HoldsTree (finish r.state) code) (finish r.state ≡ None) → MatchBool whole (HoldsExpression text code) (SpellsNothing text)
-reached-end text before code complete true r h =
-    record { tree = h.tree; spelt = r.gives h.tree (record { ts = []; lexes = end; is = h.read_is }); code_is = h.code_is }
-reached-end text before code complete' false r h = λ tree spelt.
+pub reached-end : (text : List ℕ) (before : Held) (complete : Bool) (room : List Instruction) (whole : Option ℕ) → (r : Reached text [] before complete) → MatchOption whole (finish r.state ≡ None) (λ len. HoldsTree (finish r.state) (take len room)) → MatchOption whole ⊤ (λ len. len ≤ expression_limit) → MatchOption whole (SpellsNothing text) (λ len. (len ≤ expression_limit) × HoldsExpression text (take len room))
+reached-end text before complete' room (Some len) r h fits =
+    (fits, record { tree = h.tree; spelt = r.gives h.tree (record { ts = []; lexes = end; is = h.read_is }); code_is = h.code_is })
+reached-end text before complete' room None r h fits = λ tree spelt.
     let s = r.only tree spelt in
     let wrong : None ≡ Some tree = sym h ∙ ap (outcome_from r.state) (sym (Lexes-nothing [] s.ts refl s.lexes)) ∙ s.is in cc

@@ -5,14 +5,15 @@ use Rattle.std.proofs.lemmas.List.{length-take, length-take-le, get_or-take}
 use Rattle.std.proofs.lemmas.Bool.{cases_Bool}
 use Rattle.std.proofs.lemmas.Bool.Decides.{nat_tests}
 use Rattle.plural_rule.specs.declared.instruction.Instruction.{Instruction}
+use Rattle.plural_rule.specs.declared.parts.Parser.{Parser}
 use Rattle.plural_rule.specs.declared.pending.Pending.{Pending}
-use Rattle.plural_rule.specs.declared.pending.Pending.TheVariants.{Question as QuestionPending, Colon as ColonPending}
+use Rattle.plural_rule.specs.declared.pending.Pending.TheVariants.{Open as OpenPending, Question as QuestionPending, Colon as ColonPending}
 use Rattle.plural_rule.specs.Expression.{Tree, Count, Number, Not, Binary, Conditional}
 use Rattle.plural_rule.specs.Instruction.{count_instruction, number_instruction, wide_instruction, low_instruction, not_instruction, binary_instruction, branch_instruction, choose_instruction, jump_instruction}
 use Rattle.plural_rule.specs.Program.{program, program_then, program-append, branch-append, size, length-program, is_lazy}
-use Rattle.plural_rule.specs.Internal.ShiftReduce.{Waiting, WaitNot, WaitOpen, WaitBinary, WaitQuestion, WaitColon, Operand, completed, reduce, reduce_by, at_colon}
-use Rattle.plural_rule.specs.Internal.ParserState.{waiting_then, start_after, pending, pendings, Held, IsWaiting, IsOperand, Answers, counted, edited, begun, with_skip, skipping, completed_program, first_of}
-use Rattle.plural_rule.specs.Internal.Pending.{binds}
+use Rattle.plural_rule.specs.Internal.ShiftReduce.{Waiting, WaitNot, WaitOpen, WaitBinary, WaitQuestion, WaitColon, Operand, completed, reduce, reduce_by, at_colon, at_close}
+use Rattle.plural_rule.specs.Internal.ParserState.{waiting_then, start_after, pending, pendings, Held, held, IsWaiting, IsOperand, Answers, counted, edited, begun, with_skip, skipping, completed_program, first_of}
+use Rattle.plural_rule.specs.Internal.Pending.{binds, entries_in}
 use Rattle.plural_rule.proofs.Programs.{size-some}
 
 -- an instruction in the middle
@@ -223,8 +224,8 @@ first-operand parser stack t code start h at is =
     }
 
 -- what an operand begins to wait for, with the instructions `after` it
-pub waits : (parser : Held) (stack : List Waiting) (t : Tree) (w : Waiting) (after code : List Instruction) (entry : Pending) (start : ℕ) → IsOperand parser stack t → length parser.code ≤ 4096 → code ≡ begun parser.start parser.code ++ after → waiting_then (w ∷ stack) [] ≡ waiting_then stack (program_then 1 t after) → entry ≡ pending (parser.start % 4096) w → IsWaiting (record { code = code; entries = entry ∷ parser.entries; start = start }) (w ∷ stack)
-waits parser stack t w after code entry start h fits is waiting is' =
+pub waits : (parser : Held) (stack : List Waiting) (t : Tree) (w : Waiting) (after code : List Instruction) (entries : List Pending) (start : ℕ) → IsOperand parser stack t → length parser.code ≤ 4096 → code ≡ begun parser.start parser.code ++ after → waiting_then (w ∷ stack) [] ≡ waiting_then stack (program_then 1 t after) → entries ≡ pending (parser.start % 4096) w ∷ parser.entries → IsWaiting (record { code = code; entries = entries; start = start }) (w ∷ stack)
+waits parser stack t w after code entries start h fits is waiting is' =
     let xs = waiting_then stack [] in
     let inside : start_after stack < 4096 =
     omega (arith, fits, ap length h.code_is, ap length (waiting-append stack [] (program 0 t)), length-append xs (program 0 t), length-program t 0 [], size-some t) in
@@ -232,14 +233,20 @@ waits parser stack t w after code entry start h fits is waiting is' =
     record {
       code_is = is ∙ ap (λ p. p ++ after) (begun-operand stack t parser.code parser.start h.code_is h.start_is fits)
           ∙ waiting-append stack (program 1 t) after ∙ ap (waiting_then stack) (program-append t 1 [] after) ∙ sym waiting;
-      entries_are = ap (λ e. e ∷ parser.entries) (is' ∙ ap (λ i. pending i w) place) ∙ ap (λ es. pending (start_after stack) w ∷ es) h.entries_are;
+      entries_are = is' ∙ ap (λ i. pending i w ∷ parser.entries) place ∙ ap (λ es. pending (start_after stack) w ∷ es) h.entries_are;
     }
 
 -- `:` after an operand, where `?` waits for it
-pub answers-colon : (parser : Held) (first start : ℕ) (rest : List Pending) (stack : List Waiting) (t : Tree) (code : List Instruction) (entries : List Pending) → IsOperand parser stack t → parser.entries ≡ QuestionPending first ∷ rest → code ≡ skipping (parser.start - 1) (length parser.code - parser.start + 1) parser.code ++ jump_instruction 0 ∷ [] → entries ≡ ColonPending first ∷ rest → Answers (at_colon stack t) (Some false) (record { code = code; entries = entries; start = start })
-answers-colon parser first start rest (WaitQuestion a ∷ below) t code entries h e is is' =
+pub answers-colon : (parser : Held) (first : ℕ) (rest : List Pending) (stack : List Waiting) (t : Tree) (after : Parser) (room : List Instruction) (codes : List ℕ) → IsOperand parser stack t → parser.entries ≡ QuestionPending first ∷ rest → take after.len room ≡ skipping (parser.start - 1) (length parser.code - parser.start + 1) parser.code ++ jump_instruction 0 ∷ [] → entries_in codes after.count ≡ ColonPending first ∷ rest → after.complete ≡ false → Answers (at_colon stack t) (Some after) room codes
+answers-colon parser first rest (WaitQuestion a ∷ below) t after room codes h e is is' waits =
     let before = λ (ys : List Instruction). waiting_then below (program_then 1 a ys) in
     let done = skips before (λ ys. sym (simp (waiting-append, program-append))) (choose_instruction 0) t parser.code parser.start 1 h.code_is h.start_is in
     let same = sym e ∙ h.entries_are in
-    (refl, record { code_is = is ∙ ap (λ p. p ++ jump_instruction 0 ∷ []) done ∙ simp (waiting-append, program-append); entries_are = cc })
-answers-colon parser first start rest _ t code entries h e is is' = absurd (let same = sym e ∙ h.entries_are in cc)
+    (waits, record { code_is = is ∙ ap (λ p. p ++ jump_instruction 0 ∷ []) done ∙ simp (waiting-append, program-append); entries_are = cc })
+answers-colon parser first rest _ t after room codes h e is is' waits = absurd (let same = sym e ∙ h.entries_are in cc)
+
+-- `)` after an operand, where `(` waits for it
+pub answers-close : (parser : Held) (rest : List Pending) (stack : List Waiting) (t : Tree) (after : Parser) (room : List Instruction) (codes : List ℕ) → IsOperand parser stack t → parser.entries ≡ OpenPending ∷ rest → held room codes after ≡ record { code = parser.code; entries = rest; start = parser.start } → after.complete ≡ true → Answers (at_close stack t) (Some after) room codes
+answers-close parser rest (WaitOpen ∷ below) t after room codes h e is done =
+    (done, subst (λ p. IsOperand p below t) (sym is) (record { code_is = h.code_is; entries_are = let same = sym e ∙ h.entries_are in cc; start_is = h.start_is }))
+answers-close parser rest _ t after room codes h e is done = absurd (let same = sym e ∙ h.entries_are in cc)

@@ -16,7 +16,7 @@
 //!
 //! The instructions stand in memory of the caller, and what waits for an operand in an array of fixed
 //! size, so the machine's stack doesn't grow with the expression.
-ghost use Rattle.std.specs.Prelude.{◌≡◌, ◌≤◌, List, Some, None, true, length, take, MatchBool, OnSome};
+ghost use Rattle.std.specs.Prelude.{◌≡◌, ◌≤◌, List, None, length, take, MatchOption, ⊤};
 ghost use Rattle.plural_rule.specs.Expression.{Tree};
 ghost use Rattle.plural_rule.specs.Internal.ShiftReduce.{Waiting, State, reduce, want_step, have_step, step, finish};
 ghost use Rattle.plural_rule.specs.Internal.ParserState.{held, IsWaiting, IsOperand, Represents, Answers, HoldsTree, HoldsExpression, HasRoom, Grows, most_added};
@@ -25,9 +25,8 @@ ghost use Rattle.plural_rule.specs.PluralRule.{expression_limit};
 
 use crate::instruction::Instruction;
 use crate::lexer;
-use crate::operator::Operator;
 use crate::parts::{Parser, Room, begin, complete, push, push_branch, push_numeral, skip_operand};
-use crate::pending::{Pending, Stack};
+use crate::pending::{Pending, newest, wait};
 use crate::token::Token;
 
 /// The most bytes of a text that is read with the smaller stack: the larger one takes longer to set up.
@@ -35,175 +34,167 @@ const SHORT: usize = 240;
 
 /// Completes what waits for the last operand and binds at least as tight as `next_level`.
 #[inline(always)]
-fn reduce<const N: usize>(room: &mut Room, parser: &mut Parser<'_, N>, next_level: u8)
-    requires room { HasRoom parser.old 0 0 }
-    ensures reduced { (waiting : List Waiting) (tree : Tree) → IsOperand (held room.old parser.old) waiting tree →
-        IsOperand (held room.new parser.new) (reduce next_level waiting tree).stack (reduce next_level waiting tree).tree }
-    ensures room { Grows parser.old parser.new 0 0 }
+fn reduce(room: &mut Room, codes: &[u16], before: Parser, next_level: u8) -> Parser
+    requires room { HasRoom codes.now before 0 0 }
+    ensures reduced { (waiting : List Waiting) (tree : Tree) → IsOperand (held room.old codes.now before) waiting tree →
+        IsOperand (held room.new codes.now result) (reduce next_level waiting tree).stack (reduce next_level waiting tree).tree }
+    ensures room { Grows codes.now before codes.now result 0 0 }
 {
-    while let Some(top) = parser.waiting.pop() {
+    let mut parser = before;
+    while let Some(top) = newest(codes, parser.count) {
         if !top.binds(next_level) {
-            parser.waiting.push(top);
-            return;
+            return parser;
         }
-        parser.start = complete(room, &mut parser.len, parser.start, top);
+        let (len, start) = complete(room, parser.len, parser.start, top);
+        parser = Parser {
+            len,
+            count: parser.count - 1,
+            start,
+            complete: true,
+        };
     }
+    parser
 }
 
-/// Reads a token where an operand may begin: whether an operand is complete after it, or `None`
-/// where it can't stand here.
-fn take_operand<const N: usize>(
-    room: &mut Room,
-    parser: &mut Parser<'_, N>,
-    token: Token,
-) -> Option<bool>
-    requires room { HasRoom parser.old (most_added token) 1 }
-    ensures step { (waiting : List Waiting) → IsWaiting (held room.old parser.old) waiting →
-        Answers (want_step waiting token) result (held room.new parser.new) }
-    ensures room { OnSome result (Grows parser.old parser.new (most_added token) 1) }
+/// Reads a token where an operand may begin, or `None` where it can't stand here.
+fn take_operand(room: &mut Room, codes: &mut [u16], parser: Parser, token: Token) -> Option<Parser>
+    requires room { HasRoom codes.old parser (most_added token) 1 }
+    ensures step { (waiting : List Waiting) → IsWaiting (held room.old codes.old parser) waiting →
+        Answers (want_step waiting token) result room.new codes.new }
+    ensures room { MatchOption result ⊤ (λ after. Grows codes.old parser codes.new after (most_added token) 1) }
 {
     match token {
         Token::Count => {
-            parser.start = push(room, &mut parser.len, Instruction::COUNT);
-            Some(true)
+            push(room, parser.len, Instruction::COUNT);
+            Some(parser.with_operand(parser.len + 1))
         }
         Token::Number(number) => {
-            parser.start = push_numeral(room, &mut parser.len, number);
-            Some(true)
+            let len = push_numeral(room, parser.len, number);
+            Some(parser.with_operand(len))
         }
         Token::Not => {
-            parser.waiting.push(Pending::Not);
-            Some(false)
+            wait(codes, parser.count, Pending::Not);
+            Some(parser.waits(parser.len))
         }
         Token::Open => {
-            parser.waiting.push(Pending::Open);
-            Some(false)
+            wait(codes, parser.count, Pending::Open);
+            Some(parser.waits(parser.len))
         }
         _ => None,
     }
 }
 
-/// Reads a token after a complete operand: whether one is complete after the token too, or `None`
-/// where it can't stand here.
-fn take_operator<const N: usize>(
-    room: &mut Room,
-    parser: &mut Parser<'_, N>,
-    token: Token,
-) -> Option<bool>
-    requires room { HasRoom parser.old (most_added token) 1 }
-    ensures step { (waiting : List Waiting) (tree : Tree) → IsOperand (held room.old parser.old) waiting tree →
-        Answers (have_step waiting tree token) result (held room.new parser.new) }
-    ensures room { OnSome result (Grows parser.old parser.new (most_added token) 1) }
+/// Reads a token after a complete operand, or `None` where it can't stand here.
+fn take_operator(room: &mut Room, codes: &mut [u16], before: Parser, token: Token) -> Option<Parser>
+    requires room { HasRoom codes.old before (most_added token) 1 }
+    ensures step { (waiting : List Waiting) (tree : Tree) → IsOperand (held room.old codes.old before) waiting tree →
+        Answers (have_step waiting tree token) result room.new codes.new }
+    ensures room { MatchOption result ⊤ (λ after. Grows codes.old before codes.new after (most_added token) 1) }
 {
-    reduce(room, parser, token.closing_level());
+    let parser = reduce(room, codes, before, token.closing_level());
     match token {
         Token::Binary(operator) => {
             begin(room, parser.len, parser.start);
-            push_branch(room, &mut parser.len, operator);
-            parser.waiting.push(Pending::Binary(operator, parser.start));
-            Some(false)
+            let len = push_branch(room, parser.len, operator);
+            wait(codes, parser.count, Pending::Binary(operator, parser.start));
+            Some(parser.waits(len))
         }
         Token::Question => {
             begin(room, parser.len, parser.start);
-            push(room, &mut parser.len, Instruction::CHOOSE);
-            parser.waiting.push(Pending::Question(parser.start));
-            Some(false)
+            push(room, parser.len, Instruction::CHOOSE);
+            wait(codes, parser.count, Pending::Question(parser.start));
+            Some(parser.waits(parser.len + 1))
         }
         Token::Colon => {
-            let Some(Pending::Question(first)) = parser.waiting.pop() else {
+            let Some(Pending::Question(first)) = newest(codes, parser.count) else {
                 return None;
             };
             skip_operand(room, parser.len, parser.start, 1);
-            push(room, &mut parser.len, Instruction::JUMP);
-            parser.waiting.push(Pending::Colon(first));
-            Some(false)
+            push(room, parser.len, Instruction::JUMP);
+            let rest = parser.without_newest();
+            wait(codes, rest.count, Pending::Colon(first));
+            Some(rest.waits(parser.len + 1))
         }
         Token::Close => {
-            let Some(Pending::Open) = parser.waiting.pop() else {
+            let Some(Pending::Open) = newest(codes, parser.count) else {
                 return None;
             };
-            Some(true)
+            Some(parser.without_newest())
         }
         _ => None,
     }
 }
 
-/// Reads a token: whether an operand is complete after it, or `None` where the token can't stand
-/// here.
-fn take<const N: usize>(
-    room: &mut Room,
-    parser: &mut Parser<'_, N>,
-    complete: bool,
-    token: Token,
-) -> Option<bool>
-    requires room { HasRoom parser.old (most_added token) 1 }
-    ensures step { (state : State) → Represents (held room.old parser.old) complete state →
-        Answers (step state token) result (held room.new parser.new) }
-    ensures room { OnSome result (Grows parser.old parser.new (most_added token) 1) }
+/// Reads a token, or `None` where it can't stand here.
+fn take(room: &mut Room, codes: &mut [u16], parser: Parser, token: Token) -> Option<Parser>
+    requires room { HasRoom codes.old parser (most_added token) 1 }
+    ensures step { (state : State) → Represents (held room.old codes.old parser) parser.complete state →
+        Answers (step state token) result room.new codes.new }
+    ensures room { MatchOption result ⊤ (λ after. Grows codes.old parser codes.new after (most_added token) 1) }
 {
-    if complete {
-        take_operator(room, parser, token)
+    if parser.complete {
+        take_operator(room, codes, parser, token)
     } else {
-        take_operand(room, parser, token)
+        take_operand(room, codes, parser, token)
     }
 }
 
-/// Whether the tokens end with a whole expression, whose instructions then are the only ones.
-fn finish<const N: usize>(room: &mut Room, parser: &mut Parser<'_, N>, complete: bool) -> bool
-    requires room { HasRoom parser.old 0 0 }
-    ensures tree { (state : State) → Represents (held room.old parser.old) complete state →
-        MatchBool result (HoldsTree (finish state) (held room.new parser.new).code) (finish state ≡ None) }
-    ensures room { Grows parser.old parser.new 0 0 }
+/// How many instructions the tokens' expression has, where they end with a whole one.
+fn finish(room: &mut Room, codes: &[u16], before: Parser) -> Option<usize>
+    requires room { HasRoom codes.now before 0 0 }
+    ensures tree { (state : State) → Represents (held room.old codes.now before) before.complete state →
+        MatchOption result (finish state ≡ None) (λ len. HoldsTree (finish state) (take len room.new)) }
+    ensures limit { MatchOption result ⊤ (λ len. len ≤ expression_limit) }
 {
-    if !complete {
-        return false;
+    if !before.complete {
+        return None;
     }
-    reduce(room, parser, 0);
-    parser.waiting.pop().is_none()
+    let parser = reduce(room, codes, before, 0);
+    match newest(codes, parser.count) {
+        Some(_) => None,
+        None => Some(parser.len),
+    }
 }
 
-/// Whether a text spells an expression, whose program is then the first `len` instructions of `room`.
-pub(crate) fn parse(text: &[u8], room: &mut Room, len: &mut usize) -> bool
+/// How many instructions the program of the expression that a text spells has, which then are the first
+/// of `room`.
+pub(crate) fn parse(text: &[u8], room: &mut Room) -> Option<usize>
     requires { length text.now ≤ expression_limit }
-    ensures expression { MatchBool result (HoldsExpression text.now (take len.new room.new))
-        ((tree : Tree) → Spelt tree text.now → ⊥) }
-    ensures limit { result ≡ true → len.new ≤ expression_limit }
+    ensures { MatchOption result ((tree : Tree) → Spelt tree text.now → ⊥)
+        (λ len. (len ≤ expression_limit) × HoldsExpression text.now (take len room.new)) }
 {
     if text.len() <= SHORT {
-        parse_within::<240>(text, room, len)
+        parse_within::<240>(text, room)
     } else {
-        parse_within::<4096>(text, room, len)
+        parse_within::<4096>(text, room)
     }
 }
 
 /// The same with room for `N` operators that wait.
 #[inline(never)]
-fn parse_within<const N: usize>(text: &[u8], room: &mut Room, len: &mut usize) -> bool
+fn parse_within<const N: usize>(text: &[u8], room: &mut Room) -> Option<usize>
     requires room { length text.now ≤ N }
     requires limit { N ≤ expression_limit }
-    ensures expression { MatchBool result (HoldsExpression text.now (take len.new room.new))
-        ((tree : Tree) → Spelt tree text.now → ⊥) }
-    ensures limit { result ≡ true → len.new ≤ expression_limit }
+    ensures { MatchOption result ((tree : Tree) → Spelt tree text.now → ⊥)
+        (λ len. (len ≤ expression_limit) × HoldsExpression text.now (take len room.new)) }
 {
     let mut codes = [0; N];
     let mut parser = Parser {
         len: 0,
-        waiting: Stack::new(&mut codes),
+        count: 0,
         start: 0,
+        complete: false,
     };
-    let mut complete = false;
     let mut rest = lexer::without_blanks(text);
     while !rest.is_empty() {
         let Some((token, token_len)) = lexer::token(rest) else {
-            return false;
+            return None;
         };
-        let Some(taken) = take(room, &mut parser, complete, token) else {
-            return false;
+        let Some(after) = take(room, &mut codes, parser, token) else {
+            return None;
         };
-        complete = taken;
+        parser = after;
         rest = lexer::without_blanks(&rest[token_len..]);
     }
-    let whole = finish(room, &mut parser, complete);
-    *len = parser.len;
-    whole
+    finish(room, &codes, parser)
 }

@@ -1,5 +1,5 @@
 //! What the parser holds: the instructions so far, and what waits for an operand.
-ghost use Rattle.std.specs.Prelude.{◌≡◌, ◌+◌, ◌-◌, ◌<◌, ◌≤◌, [], ◌∷◌, ◌++◌, length, take};
+ghost use Rattle.std.specs.Prelude.{◌≡◌, ◌+◌, ◌-◌, ◌<◌, ◌≤◌, true, false, [], ◌∷◌, ◌++◌, length, take};
 ghost use Rattle.plural_rule.specs.Internal.ParserState.{begun, skipping, completed_program, first_of};
 ghost use Rattle.plural_rule.specs.Internal.Pending.{weight_of};
 ghost use Rattle.plural_rule.specs.PluralRule.{expression_limit};
@@ -7,48 +7,90 @@ ghost use Rattle.plural_rule.specs.Program.{numeral_then, branch_then};
 
 use crate::instruction::Instruction;
 use crate::operator::Operator;
-use crate::pending::{Pending, Stack};
+use crate::pending::Pending;
 use crate::rule::EXPRESSION_LIMIT;
 
 /// The memory of the caller, whose first instructions are the program.
 pub(crate) type Room = [Instruction; EXPRESSION_LIMIT];
 
-/// What the parser holds: how many instructions it has written, what waits, and where the last complete operand
-/// begins.
-#[derive(Drop)]
-pub(crate) struct Parser<'s, const N: usize> {
+/// What the parser holds beside the instructions and the codes of what waits: how many there are of each, where the
+/// last complete operand begins, and whether the text ends with it.
+#[derive(Clone, Copy, Drop)]
+pub(crate) struct Parser {
     pub(crate) len: usize,
-    pub(crate) waiting: Stack<'s, N>,
+    pub(crate) count: usize,
     pub(crate) start: u16,
+    pub(crate) complete: bool,
 }
 
-/// Adds an instruction to a program of `len` instructions: its index.
-#[inline(always)]
-pub(crate) fn push(room: &mut Room, len: &mut usize, instruction: Instruction) -> u16
-    requires { len.old < expression_limit }
-    ensures index { result ≡ length (take len.old room.old) }
-    ensures items { take len.new room.new ≡ take len.old room.old ++ instruction ∷ [] }
-    ensures len { len.new ≡ len.old + 1 }
-{
-    let index = *len;
-    room[index] = instruction;
-    *len += 1;
-    index as u16
-}
-
-/// Adds the instruction between the operands of `||` or `&&`.
-pub(crate) fn push_branch(room: &mut Room, len: &mut usize, operator: Operator)
-    requires { len.old + length (branch_then operator 0 []) ≤ expression_limit }
-    ensures items { take len.new room.new ≡ take len.old room.old ++ branch_then operator 0 [] }
-    ensures len { len.new ≡ len.old + length (branch_then operator 0 []) }
-{
-    if operator.is_lazy() {
-        let branch = Instruction {
-            kind: 5,
-            ..Instruction::binary(operator)
-        };
-        push(room, len, branch);
+impl Parser {
+    /// The same with an operand that begins after the last instruction, where there are `len` of these then.
+    #[inline(always)]
+    pub(crate) fn with_operand(self, len: usize) -> Parser
+        requires { self.len ≤ expression_limit }
+        ensures { result ≡ record { len = len; count = self.count; start = self.len; complete = true } }
+    {
+        Parser {
+            len,
+            count: self.count,
+            start: self.len as u16,
+            complete: true,
+        }
     }
+
+    /// The same with one more that waits for an operand.
+    #[inline(always)]
+    pub(crate) fn waits(self, len: usize) -> Parser
+        requires { self.count ≤ expression_limit }
+        ensures { result ≡ record { len = len; count = self.count + 1; start = self.start; complete = false } }
+    {
+        Parser {
+            len,
+            count: self.count + 1,
+            start: self.start,
+            complete: false,
+        }
+    }
+
+    /// The same with a complete operand, without the newest of what waits.
+    #[inline(always)]
+    pub(crate) fn without_newest(self) -> Parser
+        requires { 1 ≤ self.count }
+        ensures { result ≡ record { len = self.len; count = self.count - 1; start = self.start; complete = true } }
+    {
+        Parser {
+            len: self.len,
+            count: self.count - 1,
+            start: self.start,
+            complete: true,
+        }
+    }
+}
+
+/// Adds an instruction to a program of `len` instructions.
+#[inline(always)]
+pub(crate) fn push(room: &mut Room, len: usize, instruction: Instruction)
+    requires { len < expression_limit }
+    ensures { take (len + 1) room.new ≡ take len room.old ++ instruction ∷ [] }
+{
+    room[len] = instruction;
+}
+
+/// Adds the instruction between the operands of `||` or `&&`: how many instructions there are then.
+pub(crate) fn push_branch(room: &mut Room, len: usize, operator: Operator) -> usize
+    requires { len + length (branch_then operator 0 []) ≤ expression_limit }
+    ensures items { take result room.new ≡ take len room.old ++ branch_then operator 0 [] }
+    ensures len { result ≡ len + length (branch_then operator 0 []) }
+{
+    if !operator.is_lazy() {
+        return len;
+    }
+    let branch = Instruction {
+        kind: 5,
+        ..Instruction::binary(operator)
+    };
+    push(room, len, branch);
+    len + 1
 }
 
 /// Counts one more node that begins with the instruction at an index.
@@ -85,12 +127,11 @@ pub(crate) fn skip_operand(room: &mut Room, len: usize, start: u16, more: u16)
     set_skip(room, len, start.saturating_sub(1), skip);
 }
 
-/// Adds a numeral: its index.
-pub(crate) fn push_numeral(room: &mut Room, len: &mut usize, value: u64) -> u16
-    requires { len.old + length (numeral_then 1 value []) ≤ expression_limit }
-    ensures index { result ≡ length (take len.old room.old) }
-    ensures items { take len.new room.new ≡ take len.old room.old ++ numeral_then 1 value [] }
-    ensures len { len.new ≡ len.old + length (numeral_then 1 value []) }
+/// Adds a numeral: how many instructions there are then.
+pub(crate) fn push_numeral(room: &mut Room, len: usize, value: u64) -> usize
+    requires { len + length (numeral_then 1 value []) ≤ expression_limit }
+    ensures items { take result room.new ≡ take len room.old ++ numeral_then 1 value [] }
+    ensures len { result ≡ len + length (numeral_then 1 value []) }
 {
     let number = Instruction {
         kind: 1,
@@ -98,7 +139,8 @@ pub(crate) fn push_numeral(room: &mut Room, len: &mut usize, value: u64) -> u16
         ..Instruction::COUNT
     };
     if value < 4294967296 {
-        return push(room, len, number);
+        push(room, len, number);
+        return len + 1;
     }
     let high = Instruction {
         kind: 2,
@@ -109,37 +151,38 @@ pub(crate) fn push_numeral(room: &mut Room, len: &mut usize, value: u64) -> u16
         number: number.number,
         ..Instruction::JUMP
     };
-    let index = push(room, len, high);
-    push(room, len, low);
-    index
+    push(room, len, high);
+    push(room, len + 1, low);
+    len + 2
 }
 
-/// Completes what waits for the last operand, which begins at `start`: where the new one begins.
+/// Completes what waits for the last operand, which begins at `start`: how many instructions there are
+/// then, and where the new operand begins.
 #[inline(always)]
-pub(crate) fn complete(room: &mut Room, len: &mut usize, start: u16, top: Pending) -> u16
-    requires { len.old + weight_of top ≤ expression_limit }
-    ensures items { take len.new room.new ≡ completed_program top start (take len.old room.old) }
-    ensures start { result ≡ first_of top start }
-    ensures len { len.new ≤ len.old + weight_of top }
+pub(crate) fn complete(room: &mut Room, len: usize, start: u16, top: Pending) -> (usize, u16)
+    requires { len + weight_of top ≤ expression_limit }
+    ensures items { take result.0 room.new ≡ completed_program top start (take len room.old) }
+    ensures start { result.1 ≡ first_of top start }
+    ensures len { result.0 ≤ len + weight_of top }
 {
     match top {
         Pending::Not => {
-            begin(room, *len, start);
+            begin(room, len, start);
             push(room, len, Instruction::NOT);
-            start
+            (len + 1, start)
         }
         Pending::Binary(operator, first) => {
             if operator.is_lazy() {
-                skip_operand(room, *len, start, 1);
+                skip_operand(room, len, start, 1);
             }
             push(room, len, Instruction::binary(operator));
-            first
+            (len + 1, first)
         }
         Pending::Colon(first) => {
-            skip_operand(room, *len, start, 0);
-            first
+            skip_operand(room, len, start, 0);
+            (len, first)
         }
-        Pending::Question(first) => first,
-        Pending::Open => start,
+        Pending::Question(first) => (len, first),
+        Pending::Open => (len, start),
     }
 }

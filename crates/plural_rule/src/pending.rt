@@ -1,10 +1,8 @@
 //! What waits for its last operand while an expression is read.
-ghost use Rattle.std.specs.Prelude.{◌≡◌, ◌<◌, ◌≤◌, [], ◌∷◌, length, MatchOption};
-ghost use Rattle.plural_rule.specs.PluralRule.{expression_limit};
-ghost use Rattle.plural_rule.specs.Internal.Pending.{binds, pending_of, within};
+ghost use Rattle.std.specs.Prelude.{◌≡◌, ◌+◌, ◌-◌, ◌<◌, ◌≤◌, [], ◌∷◌, length, MatchOption};
+ghost use Rattle.plural_rule.specs.Internal.Pending.{binds, pending_of, within, entries_in};
 
 use crate::operator::Operator;
-use std::marker::Model;
 
 /// What waits for its last operand, with the index at which its instructions begin.
 #[derive(Clone, Copy, Drop)]
@@ -66,58 +64,24 @@ impl Pending {
     }
 }
 
-/// What waits, `N` at most and the newest first, in two bytes each.
-///
-/// The array is borrowed, so that the count stays in a register.
-#[derive(Drop)]
-pub(crate) struct Stack<'s, const N: usize> {
-    codes: &'s mut [u16; N],
-    count: usize,
+/// Adds to what waits, the newest of which are the first `count` codes, with an index below 4,096.
+#[inline(always)]
+pub(crate) fn wait(codes: &mut [u16], count: usize, pending: Pending)
+    requires { count < length codes.old }
+    ensures { entries_in codes.new (count + 1) ≡ within pending ∷ entries_in codes.old count }
+{
+    codes[count] = pending.code();
 }
 
-impl<'s, const N: usize> Model for Stack<'s, N> {
-    ghost use Rattle.std.specs.Prelude.{◌≡◌, ◌≤◌, List, length, map, take, reverse};
-    ghost use Rattle.plural_rule.specs.declared.pending.Pending.{Pending as Entry};
-    ghost use Rattle.plural_rule.specs.Internal.Pending.{pending_of};
-    ghost use Rattle.plural_rule.specs.PluralRule.{expression_limit};
-
-    ghost Value = { List Entry };
-
-    ghost view = { λ s. map pending_of (reverse (take s.count s.codes.now)) };
-
-    ghost invariant = { λ s. (s.count ≤ N) × (length s.codes.now ≡ N) × (N ≤ expression_limit) };
-}
-
-impl<'s, const N: usize> Stack<'s, N> {
-    /// Nothing waits.
-    #[inline(always)]
-    pub(crate) fn new(codes: &'s mut [u16; N]) -> Self
-        requires { N ≤ expression_limit }
-        ensures { result ≡ [] }
-    {
-        Stack { codes, count: 0 }
+/// The newest of what waits.
+#[inline(always)]
+pub(crate) fn newest(codes: &[u16], count: usize) -> Option<Pending>
+    requires { count ≤ length codes.now }
+    ensures { MatchOption result (entries_in codes.now count ≡ [])
+        (λ top. (entries_in codes.now count ≡ top ∷ entries_in codes.now (count - 1)) × (within top ≡ top) × (0 < count)) }
+{
+    if count == 0 {
+        return None;
     }
-
-    /// Adds to what waits, with an index below 4,096.
-    #[inline(always)]
-    pub(crate) fn push(&mut self, pending: Pending)
-        requires { length self.old < N }
-        ensures { self.new ≡ within pending ∷ self.old }
-    {
-        self.codes[self.count] = pending.code();
-        self.count += 1;
-    }
-
-    /// Takes the newest of what waits.
-    #[inline(always)]
-    pub(crate) fn pop(&mut self) -> Option<Pending>
-        ensures { MatchOption result ((self.old ≡ []) × (self.new ≡ []))
-            (λ top. (self.old ≡ top ∷ self.new) × (within top ≡ top)) }
-    {
-        if self.count == 0 {
-            return None;
-        }
-        self.count -= 1;
-        Some(Pending::of_code(self.codes[self.count]))
-    }
+    Some(Pending::of_code(codes[count - 1]))
 }

@@ -1,5 +1,5 @@
 //! The rule of a header text.
-ghost use Rattle.std.specs.Prelude.{◌≡◌, ◌≤◌, length, take, OnOk, MatchResult};
+ghost use Rattle.std.specs.Prelude.{◌≡◌, ◌≤◌, length, take, MatchResult};
 ghost use Rattle.plural_rule.specs.Expression.{value, visited, nodes};
 ghost use Rattle.plural_rule.specs.PluralRule.{IsRuleOf, IsReason, default_tree, expression_limit, rule_in, program_in};
 ghost use Rattle.plural_rule.specs.Program.{program as program_of, tree_of};
@@ -105,9 +105,8 @@ impl Rule {
         ensures program { program_in result room.new ≡ program_of 0 (rule_in result room.new).tree }
         ensures limit { result.instruction_count ≤ expression_limit }
     {
-        let mut len = 0;
-        match read(header, room, &mut len) {
-            Ok(nplurals) => ParsedRule {
+        match read(header, room) {
+            Ok((nplurals, len)) => ParsedRule {
                 source: Source::Header,
                 nplurals,
                 instruction_count: len as u32,
@@ -180,12 +179,11 @@ fn node_count(instructions: &[Instruction]) -> u32
 }
 
 /// Reads the number of plural forms of a header, and the program of its expression to the first
-/// `len` instructions of `room`.
-fn read(header: &[u8], room: &mut Room, len: &mut usize) -> Result<u64, Reason>
-    ensures rule { MatchResult result
-        (λ nplurals. HoldsRule expression_limit header.now nplurals (take len.new room.new))
+/// instructions of `room`: how many these are.
+fn read(header: &[u8], room: &mut Room) -> Result<(u64, usize), Reason>
+    ensures { MatchResult result
+        (λ r. (r.1 ≤ expression_limit) × HoldsRule expression_limit header.now r.0 (take r.1 room.new))
         (λ reason. IsReason expression_limit header.now reason) }
-    ensures limit { OnOk result (len.new ≤ expression_limit) }
 {
     let Some(digits) = header::nplurals_digits(header) else {
         return Err(Reason::NoNumber);
@@ -196,19 +194,21 @@ fn read(header: &[u8], room: &mut Room, len: &mut usize) -> Result<u64, Reason>
     if text.len() > EXPRESSION_LIMIT {
         return Err(Reason::TooLong);
     }
-    match lexer::decimal_value(digits) {
-        Some(nplurals) if parser::parse(text, room, len) => Ok(nplurals),
-        _ => Err(Reason::Unreadable),
-    }
+    let Some(nplurals) = lexer::decimal_value(digits) else {
+        return Err(Reason::Unreadable);
+    };
+    let Some(len) = parser::parse(text, room) else {
+        return Err(Reason::Unreadable);
+    };
+    Ok((nplurals, len))
 }
 
 /// Writes the program of `n != 1`.
 fn write_default(room: &mut Room)
     ensures { take 3 room.new ≡ program_of 0 default_tree }
 {
-    let mut len = 0;
-    push(room, &mut len, Instruction::COUNT);
-    push_numeral(room, &mut len, 1);
-    push(room, &mut len, Instruction::binary(Operator::NotEqual));
-    begin(room, len, 0);
+    push(room, 0, Instruction::COUNT);
+    let len = push_numeral(room, 1, 1);
+    push(room, len, Instruction::binary(Operator::NotEqual));
+    begin(room, 3, 0);
 }

@@ -15,7 +15,7 @@ use Rattle.plural_rule.specs.Instruction.{count_instruction, not_instruction, bi
 use Rattle.plural_rule.specs.Instruction.{jump_instruction}
 use Rattle.plural_rule.specs.PluralRule.{IsReadable, expression_limit}
 use Rattle.plural_rule.specs.Program.{program, program_then, size, is_lazy, branch_then}
-use Rattle.plural_rule.specs.Internal.Pending.{weight}
+use Rattle.plural_rule.specs.Internal.Pending.{entries_in, weight}
 use Rattle.plural_rule.specs.Internal.ShiftReduce.{Waiting, WaitNot, WaitOpen, WaitBinary, WaitQuestion, WaitColon, State, Want}
 use Rattle.plural_rule.specs.Internal.ShiftReduce.{Have}
 
@@ -52,8 +52,8 @@ pub record Held : Type 0 where
   pub entries : List Pending
   pub start : ℕ
 
-abbrev pub held : {N : ℕ} → List Instruction → Parser N → Held
-held {N} room parser = record { code = take parser.len room; entries = parser.waiting; start = parser.start }
+abbrev pub held : List Instruction → List ℕ → Parser → Held
+held room codes parser = record { code = take parser.len room; entries = entries_in codes parser.count; start = parser.start }
 
 -- that stands for what waits
 pub record IsWaiting (parser : Held) (stack : List Waiting) : Type 0 where
@@ -72,10 +72,10 @@ Represents parser complete (Want stack) = (complete ≡ false) × IsWaiting pars
 Represents parser complete (Have stack tree) = (complete ≡ true) × IsOperand parser stack tree
 
 -- the answer to a token stands for the state after it
-abbrev pub Answers : Option State → Option Bool → Held → Type 0
-Answers None answer parser = answer ≡ None
-Answers (Some state) None parser = ⊥
-Answers (Some state) (Some complete) parser = Represents parser complete state
+abbrev pub Answers : Option State → Option Parser → List Instruction → List ℕ → Type 0
+Answers None answer room codes = answer ≡ None
+Answers (Some state) None room codes = ⊥
+Answers (Some state) (Some parser) room codes = Represents (held room codes parser) parser.complete state
 
 -- one more node begins with an instruction
 abbrev pub counted : Instruction → Instruction
@@ -117,15 +117,16 @@ most_added (BinaryToken op) = if is_lazy op then 2 else 1
 most_added _ = 1
 
 -- there is room for the instructions to come of what waits and so many more, and for so many more entries
-abbrev pub HasRoom : {N : ℕ} → Parser N → ℕ → ℕ → Type 0
-HasRoom {N} parser added entries =
-    (parser.len + weight parser.waiting + added ≤ expression_limit) × (length parser.waiting + entries ≤ N)
+abbrev pub HasRoom : List ℕ → Parser → ℕ → ℕ → Type 0
+HasRoom codes parser added entries =
+    (parser.len + weight (entries_in codes parser.count) + added ≤ expression_limit)
+    × (parser.count + entries ≤ length codes) × (length codes ≤ expression_limit)
 
 -- what waits and is to come has grown by so many entries and instructions at most
-abbrev pub Grows : {N : ℕ} → Parser N → Parser N → ℕ → ℕ → Type 0
-Grows {N} before after added entries =
-    (after.len + weight after.waiting ≤ before.len + weight before.waiting + added)
-    × (length after.waiting ≤ length before.waiting + entries)
+abbrev pub Grows : List ℕ → Parser → List ℕ → Parser → ℕ → ℕ → Type 0
+Grows codes before codes' after added entries =
+    (after.len + weight (entries_in codes' after.count) ≤ before.len + weight (entries_in codes before.count) + added)
+    × (after.count ≤ before.count + entries)
 
 -- the program is that of the tree that was read
 pub record HoldsTree (read : Option Tree) (code : List Instruction) : Type 0 where

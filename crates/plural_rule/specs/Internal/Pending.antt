@@ -1,11 +1,12 @@
 -- Internal: what waits in the parser's stack for an operand.
-use Rattle.std.specs.Prelude.{ℕ, ◌+◌, ◌-◌, ◌/◌, ◌%◌, nat_le, ◌==◌, Bool, true, false, List, [], ◌∷◌, if◌then◌else◌}
+use Rattle.std.specs.Prelude.{ℕ, ◌+◌, ◌-◌, ◌/◌, ◌%◌, nat_le, ◌==◌, Bool, true, false, List, [], ◌∷◌, map, if◌then◌else◌}
 use Rattle.plural_rule.specs.declared.pending.Pending.{Pending}
 use Rattle.plural_rule.specs.declared.pending.Pending.TheVariants.{Not as NotPending, Open as OpenPending}
 use Rattle.plural_rule.specs.declared.pending.Pending.TheVariants.{Binary as BinaryPending, Question as QuestionPending}
 use Rattle.plural_rule.specs.declared.pending.Pending.TheVariants.{Colon as ColonPending}
 use Rattle.plural_rule.specs.Grammar.{level}
 use Rattle.plural_rule.specs.Instruction.{operator_of}
+use Rattle.plural_rule.specs.Internal.Run.{stored}
 
 -- what a number of 16 bits stands for: 12 bits are the index
 abbrev pub pending_by : ℕ → ℕ → Pending
@@ -17,6 +18,10 @@ pending_by kind first =
 
 abbrev pub pending_of : ℕ → Pending
 pending_of code = pending_by (code / 4096) (code % 4096)
+
+-- what the first `count` codes stand for, last first
+abbrev pub entries_in : List ℕ → ℕ → List Pending
+entries_in codes count = map pending_of (stored codes count)
 
 -- the same with an index below 4,096
 abbrev pub within : Pending → Pending

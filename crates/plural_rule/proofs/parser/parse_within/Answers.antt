@@ -1,7 +1,7 @@
 use Rattle.std.proofs.Common.{◌≡◌, ◌≢◌, ℕ, ◌<◌, ◌≤◌, ◌+◌, ◌-◌, List, [], ◌∷◌, length, take, drop, length-drop, refl, ap, arith, rules}
 use Rattle.std.proofs.lemmas.List.{take_all}
 use Rattle.plural_rule.specs.Internal.ParserState.{held, most_added}
-use Rattle.plural_rule.specs.Internal.Pending.{weight}
+use Rattle.plural_rule.specs.Internal.Pending.{weight, entries_in}
 use Rattle.plural_rule.proofs.ParserRun.{Reached, reached-start, reached-token, reached-end, no-token, no-index, most-added}
 use Rattle.plural_rule.proofs.parser.parse_within.Goals as goal
 
@@ -15,27 +15,26 @@ empty (c ∷ text) h = absurd (omega arith)
 pub loop-rest-init : goal.loop-rest-init
 loop-rest-init g c =
     record {
-      reached = rw (c.without_blanks-rest.ensures.value, c.new.ensures) (reached-start c.args.text.now);
-      weight = rw c.new.ensures (omega (arith, c.without_blanks-rest.ensures.shorter));
-      count = rw c.new.ensures (omega (arith, c.without_blanks-rest.ensures.shorter));
+      reached = rw c.without_blanks-rest.ensures.value (reached-start c.args.text.now);
+      weight = omega (arith, c.without_blanks-rest.ensures.shorter);
+      count = omega (arith, c.without_blanks-rest.ensures.shorter);
     }
 
-pub returns-in_default-clause-expression : goal.returns-in_default-clause-expression
-returns-in_default-clause-expression g c =
-    let r = c.loop-rest.invariant.reached in
+pub returns-in_default : goal.returns-in_default
+returns-in_default g c =
     let some : 0 < length c.loop-rest.rest.now = search rules in
-    no-token c.args.text.now c.loop-rest.rest.now _ _ r (nonempty c.loop-rest.rest.now some) c.in_default.ensures
+    no-token c.args.text.now c.loop-rest.rest.now _ _ c.loop-rest.invariant.reached (nonempty c.loop-rest.rest.now some) c.in_default.ensures
 
 pub take-requires : goal.take-requires
 take-requires g c =
     let at = c.in-Some.ensures in
-    let weight : c.loop-rest.parser.len + weight c.loop-rest.parser.waiting + most_added c.in-Some.token ≤ 4096 = omega (arith, most-added c.loop-rest.rest.now c.in-Some.token c.in-Some.token_len at, at.within, c.loop-rest.invariant.weight, c.requires.room, c.requires.limit) in
-    (search rules, (weight, omega (arith, at.some, at.within, c.loop-rest.invariant.count, c.requires.room)))
+    let weight : c.loop-rest.parser.len + weight (entries_in c.loop-rest.codes c.loop-rest.parser.count) + most_added c.in-Some.token ≤ 4096 = omega (arith, most-added c.loop-rest.rest.now c.in-Some.token c.in-Some.token_len at, at.within, c.loop-rest.invariant.weight, c.requires.room, c.requires.limit) in
+    record { room = (weight, omega (arith, at.some, at.within, c.loop-rest.invariant.count, c.requires.room), omega (arith, c.requires.limit)) }
 
-pub returns-in_default-take-clause-expression : goal.returns-in_default-take-clause-expression
-returns-in_default-take-clause-expression g c =
+pub returns-in_default-take : goal.returns-in_default-take
+returns-in_default-take g c =
     let r = c.loop-rest.invariant.reached in
-    no-index c.args.text.now c.loop-rest.rest.now c.in-Some.token c.in-Some.token_len _ _ _ r c.in-Some.ensures (c.in_default-take.ensures.step r.state r.represents)
+    no-index c.args.text.now c.loop-rest.rest.now c.in-Some.token c.in-Some.token_len _ _ _ _ r c.in-Some.ensures (c.in_default-take.ensures.step r.state r.represents)
 
 pub loop-rest-preserved : goal.loop-rest-preserved
 loop-rest-preserved g c =
@@ -49,13 +48,13 @@ loop-rest-preserved g c =
     record {
       reached =
           rw (after.value, part)
-          (reached-token c.args.text.now c.loop-rest.rest.now c.in-Some.token n _ _ _ _ r at (took.step r.state r.represents));
+          (reached-token c.args.text.now c.loop-rest.rest.now c.in-Some.token n _ _ _ _ _ r at (took.step r.state r.represents));
       weight = omega (arith, took.room.0, c.loop-rest.invariant.weight, most-added c.loop-rest.rest.now c.in-Some.token n at, at.within, after.shorter, ap length part, length-drop n c.loop-rest.rest.now);
       count = omega (arith, took.room.1, c.loop-rest.invariant.count, at.some, at.within, after.shorter, ap length part, length-drop n c.loop-rest.rest.now);
     }
 
-pub returns-clause-expression : goal.returns-clause-expression
-returns-clause-expression g c =
+pub returns : goal.returns
+returns g c =
     let none : c.loop-rest.rest.now ≡ [] = empty c.loop-rest.rest.now (search rules) in
-    let r : Reached c.args.text.now [] (held c.loop-rest.room c.loop-rest.parser) c.loop-rest.complete = rw none at c.loop-rest.invariant.reached in
-    reached-end c.args.text.now _ _ _ c.finish-whole.result r (c.finish-whole.ensures.tree r.state r.represents)
+    let r : Reached c.args.text.now [] (held c.loop-rest.room c.loop-rest.codes c.loop-rest.parser) c.loop-rest.parser.complete = rw none at c.loop-rest.invariant.reached in
+    reached-end c.args.text.now _ _ c.finish.new.room c.finish.result r (c.finish.ensures.tree r.state r.represents) c.finish.ensures.limit

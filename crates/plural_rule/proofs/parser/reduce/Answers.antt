@@ -1,4 +1,4 @@
-use Rattle.std.proofs.Common.{sym, ap, length, ◌∙◌, arith}
+use Rattle.std.proofs.Common.{sym, ap, ◌∙◌, arith}
 use Rattle.plural_rule.specs.Internal.Pending.{weight}
 use Rattle.plural_rule.specs.Internal.ParserState.{held}
 use Rattle.plural_rule.specs.Internal.ShiftReduce.{reduce}
@@ -6,27 +6,24 @@ use Rattle.plural_rule.proofs.ParserSteps.{short, Reduces-more, Reduces-stop, Re
 use Rattle.plural_rule.proofs.parser.reduce.Goals as goal
 
 pub loop-top-preserved : goal.loop-top-preserved
-loop-top-preserved g c =
+loop-top-preserved c =
     let before = c.loop-top.parser in
     let popped = c.in-Some.ensures.0 in
-    let done = c.complete-parser.ensures in
+    let done = c.complete-len.ensures in
     let room = c.loop-top.invariant.room in
     record {
-      room = (omega (arith, ap weight popped, done.len, room.0), omega (arith, ap length popped, room.1));
+      room = (omega (arith, ap weight popped, done.len, room.0), omega (arith, room.1));
       reduces = λ waiting tree h.
           rw (done.items, done.start)
-          (Reduces-more c.args.next_level (held c.loop-top.room before) c.pop.new.self c.in-Some.top (reduce c.args.next_level waiting tree) (c.loop-top.invariant.reduces waiting tree h) popped
+          (Reduces-more c.args.next_level (held c.loop-top.room c.args.codes.now before) _ c.in-Some.top (reduce c.args.next_level waiting tree) (c.loop-top.invariant.reduces waiting tree h) popped
           (short before.len c.loop-top.room (omega (arith, room.0, c.requires.room.0))) (sym c.binds.ensures ∙ c.if-not-binds.false));
     }
 
 pub returns-then-not-binds-clause-reduced : goal.returns-then-not-binds-clause-reduced
-returns-then-not-binds-clause-reduced g c waiting tree h =
-    let popped = c.in-Some.ensures in
-    let stops = Reduces-stop c.args.next_level (held c.loop-top.room c.loop-top.parser) c.pop.new.self c.in-Some.top (reduce c.args.next_level waiting tree)
-    (c.loop-top.invariant.reduces waiting tree h) popped.0 (sym c.binds.ensures ∙ c.if-not-binds.true) in
-    rw (c.push.ensures, popped.1, ← popped.0) stops
+returns-then-not-binds-clause-reduced c waiting tree h =
+    Reduces-stop c.args.next_level (held c.loop-top.room c.args.codes.now c.loop-top.parser) _ c.in-Some.top (reduce c.args.next_level waiting tree)
+    (c.loop-top.invariant.reduces waiting tree h) c.in-Some.ensures.0 (sym c.binds.ensures ∙ c.if-not-binds.true)
 
 pub returns-clause-reduced : goal.returns-clause-reduced
-returns-clause-reduced g c waiting tree h =
-    rw (c.in_default.ensures.1 ∙ sym c.in_default.ensures.0)
-    (Reduces-end c.args.next_level (held c.loop-top.room c.loop-top.parser) (reduce c.args.next_level waiting tree) c.in_default.ensures.0 (c.loop-top.invariant.reduces waiting tree h))
+returns-clause-reduced c waiting tree h =
+    Reduces-end c.args.next_level (held c.loop-top.room c.args.codes.now c.loop-top.parser) (reduce c.args.next_level waiting tree) c.in_default.ensures (c.loop-top.invariant.reduces waiting tree h)

@@ -1,16 +1,22 @@
-use Rattle.std.proofs.Common.{◌≡◌, ◌^◌, true, nat_lt, arith, refl}
+use Rattle.std.proofs.Common.{◌≡◌, ◌≤◌, ◌^◌, true, nat_lt, length, arith, refl, sym}
 use Rattle.std.proofs.lemmas.Bool.Decides.{nat_tests}
+use Rattle.std.proofs.lemmas.List.{length-take-le}
 use Rattle.plural_rule.specs.Internal.ParserState.{held}
 use Rattle.plural_rule.specs.Expression.{Count, Number}
 use Rattle.plural_rule.proofs.ParserSteps.{first-operand}
 use Rattle.plural_rule.proofs.parser.take_operand.Goals as goal
 
 pub returns-in-Count-clause-step : goal.returns-in-Count-clause-step
-returns-in-Count-clause-step g c waiting h =
-    rw c.in-Count.is (refl, first-operand (held c.args.room.now c.args.parser.now) waiting Count _ _ h c.push-parser.ensures.index c.push-parser.ensures.items)
+returns-in-Count-clause-step c waiting h =
+    let before = c.args.parser in
+    let fits : before.len ≤ length c.args.room.now = omega (arith, c.requires.room.0) in
+    rw (c.in-Count.is, c.with_operand.ensures)
+    (refl, first-operand (held c.args.room.now c.args.codes.now before) waiting Count _ before.len h (sym (length-take-le before.len c.args.room.now fits)) c.push.ensures)
 
 pub returns-in-Number-clause-step : goal.returns-in-Number-clause-step
-returns-in-Number-clause-step g c waiting h =
+returns-in-Number-clause-step c waiting h =
+    let before = c.args.parser in
+    let fits : before.len ≤ length c.args.room.now = omega (arith, c.requires.room.0) in
     let small : nat_lt c.in-Number.number (2 ^ 64) ≡ true = grind (arith, nat_tests) in
-    rw c.in-Number.is
-    (rw small (refl, first-operand (held c.args.room.now c.args.parser.now) waiting (Number c.in-Number.number) _ _ h c.push_numeral-parser.ensures.index c.push_numeral-parser.ensures.items))
+    rw (c.in-Number.is, c.with_operand-in-Number.ensures)
+    (rw small (refl, first-operand (held c.args.room.now c.args.codes.now before) waiting (Number c.in-Number.number) _ before.len h (sym (length-take-le before.len c.args.room.now fits)) c.push_numeral-len.ensures.items))
