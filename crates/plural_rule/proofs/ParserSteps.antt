@@ -95,6 +95,10 @@ skips before apart i t code start extra is at =
     ∙ ap (skipping (length xs) (size t + extra)) split ∙ edited-seam (with_skip (size t + extra)) xs i (program 0 t)
     ∙ sym (apart (with_skip (size t + extra) i ∷ program 0 t))
 
+-- what follows the first operand of what waits, apart
+after-first : (below : List Waiting) (a : Tree) (ys : List Instruction) → waiting_then below (program_then 1 a ys) ≡ waiting_then below (program_then 1 a []) ++ ys
+after-first below a ys = sym (waiting-append below (program_then 1 a []) ys ∙ ap (waiting_then below) (program-append a 1 [] ys))
+
 -- the newest of what waits, apart
 pub record Top (stack : List Waiting) (rest : List Pending) (top : Pending) : Type 0 where
   pub newest : Waiting
@@ -131,7 +135,7 @@ completes k (WaitBinary op a) below t parser h fits b =
     elim (cases_Bool (is_lazy op)) [
       | inl lazy ↦
           let before = λ (ys : List Instruction). waiting_then below (program_then 1 a ys) in
-          let done = skips before (λ ys. sym (simp (waiting-append, program-append))) (branch_instruction op 0) t parser.code parser.start 1 (rw lazy at h.code_is) (rw lazy at h.start_is) in
+          let done = skips before (after-first below a) (branch_instruction op 0) t parser.code parser.start 1 (rw lazy at h.code_is) (rw lazy at h.start_is) in
           record {
             tree = Binary op a t;
             is = rw b refl;
@@ -150,7 +154,9 @@ completes k (WaitBinary op a) below t parser h fits b =
     ]
 completes k (WaitColon a c) below t parser h fits b =
     let before = λ (ys : List Instruction). waiting_then below (program_then 1 a (choose_instruction (size c + 1) ∷ program_then 0 c ys)) in
-    let done = skips before (λ ys. sym (simp (waiting-append, program-append))) (jump_instruction 0) t parser.code parser.start 0 h.code_is h.start_is in
+    let apart = λ (ys : List Instruction). waiting-append below _ ys ∙ ap (waiting_then below) (program-append a 1 _ ys
+    ∙ ap (λ p. program_then 1 a (choose_instruction (size c + 1) ∷ p)) (program-append c 0 [] ys)) in
+    let done = skips before (λ ys. sym (apart ys)) (jump_instruction 0) t parser.code parser.start 0 h.code_is h.start_is in
     let none : size t + 0 ≡ size t = omega arith in
     let skip : length parser.code - parser.start ≡ length parser.code - parser.start + 0 = omega arith in
     record {
@@ -240,7 +246,7 @@ waits parser stack t w after code entries start h fits is waiting is' =
 pub answers-colon : (parser : Held) (first : ℕ) (rest : List Pending) (stack : List Waiting) (t : Tree) (after : Parser) (room : List Instruction) (codes : List ℕ) → IsOperand parser stack t → parser.entries ≡ QuestionPending first ∷ rest → take after.len room ≡ skipping (parser.start - 1) (length parser.code - parser.start + 1) parser.code ++ jump_instruction 0 ∷ [] → entries_in codes after.count ≡ ColonPending first ∷ rest → after.complete ≡ false → Answers (at_colon stack t) (Some after) room codes
 answers-colon parser first rest (WaitQuestion a ∷ below) t after room codes h e is is' waits =
     let before = λ (ys : List Instruction). waiting_then below (program_then 1 a ys) in
-    let done = skips before (λ ys. sym (simp (waiting-append, program-append))) (choose_instruction 0) t parser.code parser.start 1 h.code_is h.start_is in
+    let done = skips before (after-first below a) (choose_instruction 0) t parser.code parser.start 1 h.code_is h.start_is in
     let same = sym e ∙ h.entries_are in
     (waits, record { code_is = is ∙ ap (λ p. p ++ jump_instruction 0 ∷ []) done ∙ simp (waiting-append, program-append); entries_are = cc })
 answers-colon parser first rest _ t after room codes h e is is' waits = absurd (let same = sym e ∙ h.entries_are in cc)

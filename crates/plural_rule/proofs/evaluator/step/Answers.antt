@@ -7,6 +7,14 @@ use Rattle.plural_rule.proofs.evaluator.step.Goals as goal
 abbrev none : Instruction
 none = record { kind = 0; operator = 0; count = 0; number = 0 }
 
+pub returns-in_default-clause-next : goal.returns-in_default-clause-next
+returns-in_default-clause-next c room older steps o runs =
+    acts room c.args.count c.args.instructions.now c.args.index c.args.newest c.args.below older steps none _ _ c.requires runs c.action.ensures (c.act.ensures.next older)
+
+pub returns-in-None-clause-next : goal.returns-in-None-clause-next
+returns-in-None-clause-next c room older steps o runs =
+    acts room c.args.count c.args.instructions.now c.args.index c.args.newest c.args.below older steps none _ _ c.requires runs refl (c.in-Some.ensures _ _)
+
 pub returns-in-Some-operator_at-clause-next : goal.returns-in-Some-operator_at-clause-next
 returns-in-Some-operator_at-clause-next c room older steps o runs =
     let code = c.args.instructions.now in

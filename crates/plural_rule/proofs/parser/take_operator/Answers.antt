@@ -1,12 +1,15 @@
-use Rattle.std.proofs.Common.{◌≡◌, ◌%◌, [], ◌∷◌, ◌++◌, arith, refl, ap, ◌∙◌}
+use Rattle.std.proofs.Common.{◌≡◌, ◌+◌, ◌%◌, inl, inr, [], ◌∷◌, ◌++◌, length, arith, refl, ap, ◌∙◌}
+use Rattle.std.proofs.lemmas.Bool.{cases_Bool}
+use Rattle.plural_rule.specs.declared.operator.Operator.{Operator}
+use Rattle.plural_rule.specs.declared.token.Token.TheVariants.{Binary}
 use Rattle.plural_rule.specs.Instruction.{choose_instruction, jump_instruction}
-use Rattle.plural_rule.specs.Program.{branch_then}
+use Rattle.plural_rule.specs.Program.{branch_then, is_lazy}
 use Rattle.plural_rule.specs.Grammar.{level}
 use Rattle.plural_rule.specs.Internal.ShiftReduce.{WaitBinary, WaitQuestion, reduce}
 use Rattle.plural_rule.specs.declared.pending.Pending.TheVariants.{Colon}
 use Rattle.plural_rule.specs.declared.parts.Parser.{Parser}
-use Rattle.plural_rule.specs.Internal.Pending.{entries_in}
-use Rattle.plural_rule.specs.Internal.ParserState.{held}
+use Rattle.plural_rule.specs.Internal.Pending.{entries_in, weight}
+use Rattle.plural_rule.specs.Internal.ParserState.{held, most_added}
 use Rattle.plural_rule.proofs.ParserSteps.{short, waits, answers-colon, answers-close}
 use Rattle.plural_rule.proofs.parser.take_operator.Goals as goal
 
@@ -47,3 +50,17 @@ returns-in-Some-Open-clause-step c waiting tree h =
     let popped = rw c.in-Some-Open.field-0-is at c.in-Some-Open.ensures in
     rw c.in-Close.is
     (answers-close (held c.reduce-parser.new.room c.args.codes.now parser) _ o.stack o.tree _ _ _ (rw (c.closing_level.ensures, c.in-Close.is) at (c.reduce-parser.ensures.reduced waiting tree h)) popped.0 (ap (held c.reduce-parser.new.room c.args.codes.now) c.without_newest.ensures) (ap (λ (p : Parser). p.complete) c.without_newest.ensures))
+
+-- an entry that waits for an operand has one instruction to come
+added : (op : Operator) → length (branch_then op 0 []) + 1 ≡ most_added (Binary op)
+added op = elim (cases_Bool (is_lazy op)) [ inl e ↦ rw e refl | inr e ↦ rw e refl ]
+
+pub returns-in-Binary-clause-room : goal.returns-in-Binary-clause-room
+returns-in-Binary-clause-room c =
+    let room = c.reduce-parser.ensures.room in
+    rw (c.in-Binary.is, c.waits.ensures) (omega (arith, ap weight c.wait.ensures, c.push_branch-len.ensures.len, room.0, added c.in-Binary.operator), omega (arith, room.1))
+
+pub returns-in-Question-clause-room : goal.returns-in-Question-clause-room
+returns-in-Question-clause-room c =
+    let room = c.reduce-parser.ensures.room in
+    rw (c.in-Question.is, c.waits-in-Question.ensures) (omega (arith, ap weight c.wait-in-Question.ensures, room.0), omega (arith, room.1))
