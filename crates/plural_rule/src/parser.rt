@@ -46,12 +46,7 @@ fn reduce(room: &mut Room, codes: &[u16], before: Parser, next_level: u8) -> Par
             return parser;
         }
         let (len, start) = complete(room, parser.len, parser.start, top);
-        parser = Parser {
-            len,
-            count: parser.count - 1,
-            start,
-            complete: true,
-        };
+        parser = Parser::new(len, parser.count - 1, start, true);
     }
     parser
 }
@@ -66,19 +61,19 @@ fn take_operand(room: &mut Room, codes: &mut [u16], parser: Parser, token: Token
     match token {
         Token::Count => {
             push(room, parser.len, Instruction::COUNT);
-            Some(parser.with_operand(parser.len + 1))
+            Some(Parser::new(parser.len + 1, parser.count, parser.len as u16, true))
         }
         Token::Number(number) => {
             let len = push_numeral(room, parser.len, number);
-            Some(parser.with_operand(len))
+            Some(Parser::new(len, parser.count, parser.len as u16, true))
         }
         Token::Not => {
             wait(codes, parser.count, Pending::Not);
-            Some(parser.waits(parser.len))
+            Some(Parser::new(parser.len, parser.count + 1, parser.start, false))
         }
         Token::Open => {
             wait(codes, parser.count, Pending::Open);
-            Some(parser.waits(parser.len))
+            Some(Parser::new(parser.len, parser.count + 1, parser.start, false))
         }
         _ => None,
     }
@@ -97,13 +92,13 @@ fn take_operator(room: &mut Room, codes: &mut [u16], before: Parser, token: Toke
             begin(room, parser.len, parser.start);
             let len = push_branch(room, parser.len, operator);
             wait(codes, parser.count, Pending::Binary(operator, parser.start));
-            Some(parser.waits(len))
+            Some(Parser::new(len, parser.count + 1, parser.start, false))
         }
         Token::Question => {
             begin(room, parser.len, parser.start);
             push(room, parser.len, Instruction::CHOOSE);
             wait(codes, parser.count, Pending::Question(parser.start));
-            Some(parser.waits(parser.len + 1))
+            Some(Parser::new(parser.len + 1, parser.count + 1, parser.start, false))
         }
         Token::Colon => {
             let Some(Pending::Question(first)) = newest(codes, parser.count) else {
@@ -111,15 +106,14 @@ fn take_operator(room: &mut Room, codes: &mut [u16], before: Parser, token: Toke
             };
             skip_operand(room, parser.len, parser.start, 1);
             push(room, parser.len, Instruction::JUMP);
-            let rest = parser.without_newest();
-            wait(codes, rest.count, Pending::Colon(first));
-            Some(rest.waits(parser.len + 1))
+            wait(codes, parser.count - 1, Pending::Colon(first));
+            Some(Parser::new(parser.len + 1, parser.count, parser.start, false))
         }
         Token::Close => {
             let Some(Pending::Open) = newest(codes, parser.count) else {
                 return None;
             };
-            Some(parser.without_newest())
+            Some(Parser::new(parser.len, parser.count - 1, parser.start, true))
         }
         _ => None,
     }
@@ -179,12 +173,7 @@ fn parse_within<const N: usize>(text: &[u8], room: &mut Room) -> Option<usize>
         (λ len. (len ≤ expression_limit) × HoldsExpression text.now (take len room.new)) }
 {
     let mut codes = [0; N];
-    let mut parser = Parser {
-        len: 0,
-        count: 0,
-        start: 0,
-        complete: false,
-    };
+    let mut parser = Parser::new(0, 0, 0, false);
     let mut rest = lexer::without_blanks(text);
     while !rest.is_empty() {
         let Some((token, token_len)) = lexer::token(rest) else {

@@ -1,5 +1,5 @@
 //! What the parser holds: the instructions so far, and what waits for an operand.
-ghost use Rattle.std.specs.Prelude.{◌≡◌, ◌+◌, ◌-◌, ◌<◌, ◌≤◌, true, false, [], ◌∷◌, ◌++◌, length, take};
+ghost use Rattle.std.specs.Prelude.{◌≡◌, ◌+◌, ◌-◌, ◌<◌, ◌≤◌, [], ◌∷◌, ◌++◌, length, take};
 ghost use Rattle.plural_rule.specs.Internal.ParserState.{begun, skipping, completed_program, first_of};
 ghost use Rattle.plural_rule.specs.Internal.Pending.{weight_of};
 ghost use Rattle.plural_rule.specs.PluralRule.{expression_limit};
@@ -24,45 +24,16 @@ pub(crate) struct Parser {
 }
 
 impl Parser {
-    /// The same with an operand that begins after the last instruction, where there are `len` of these then.
+    /// These numbers, in the order of the fields.
     #[inline(always)]
-    pub(crate) fn with_operand(self, len: usize) -> Parser
-        requires { self.len ≤ expression_limit }
-        ensures { result ≡ record { len = len; count = self.count; start = self.len; complete = true } }
+    pub(crate) fn new(len: usize, count: usize, start: u16, complete: bool) -> Parser
+        ensures { result ≡ record { len = len; count = count; start = start; complete = complete } }
     {
         Parser {
             len,
-            count: self.count,
-            start: self.len as u16,
-            complete: true,
-        }
-    }
-
-    /// The same with one more that waits for an operand.
-    #[inline(always)]
-    pub(crate) fn waits(self, len: usize) -> Parser
-        requires { self.count ≤ expression_limit }
-        ensures { result ≡ record { len = len; count = self.count + 1; start = self.start; complete = false } }
-    {
-        Parser {
-            len,
-            count: self.count + 1,
-            start: self.start,
-            complete: false,
-        }
-    }
-
-    /// The same with a complete operand, without the newest of what waits.
-    #[inline(always)]
-    pub(crate) fn without_newest(self) -> Parser
-        requires { 1 ≤ self.count }
-        ensures { result ≡ record { len = self.len; count = self.count - 1; start = self.start; complete = true } }
-    {
-        Parser {
-            len: self.len,
-            count: self.count - 1,
-            start: self.start,
-            complete: true,
+            count,
+            start,
+            complete,
         }
     }
 }

@@ -15,9 +15,9 @@ empty (c ∷ text) h = absurd (omega arith)
 pub loop-rest-init : goal.loop-rest-init
 loop-rest-init g c =
     record {
-      reached = rw c.without_blanks-rest.ensures.value (reached-start c.args.text.now);
-      weight = omega (arith, c.without_blanks-rest.ensures.shorter);
-      count = omega (arith, c.without_blanks-rest.ensures.shorter);
+      reached = rw (c.without_blanks-rest.ensures.value, c.new-parser.ensures) (reached-start c.args.text.now);
+      weight = rw c.new-parser.ensures (omega (arith, c.without_blanks-rest.ensures.shorter));
+      count = rw c.new-parser.ensures (omega (arith, c.without_blanks-rest.ensures.shorter));
     }
 
 pub returns-in_default : goal.returns-in_default
