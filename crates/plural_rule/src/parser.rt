@@ -52,6 +52,7 @@ fn reduce(room: &mut Room, codes: &[u16], before: Parser, next_level: u8) -> Par
 }
 
 /// Reads a token where an operand may begin, or `None` where it can't stand here.
+#[inline(always)]
 fn take_operand(room: &mut Room, codes: &mut [u16], parser: Parser, token: Token) -> Option<Parser>
     requires room { HasRoom codes.old parser (most_added token) 1 }
     ensures step { (waiting : List Waiting) → IsWaiting (held room.old codes.old parser) waiting →
@@ -80,6 +81,7 @@ fn take_operand(room: &mut Room, codes: &mut [u16], parser: Parser, token: Token
 }
 
 /// Reads a token after a complete operand, or `None` where it can't stand here.
+#[inline(always)]
 fn take_operator(room: &mut Room, codes: &mut [u16], before: Parser, token: Token) -> Option<Parser>
     requires room { HasRoom codes.old before (most_added token) 1 }
     ensures step { (waiting : List Waiting) (tree : Tree) → IsOperand (held room.old codes.old before) waiting tree →
@@ -120,6 +122,7 @@ fn take_operator(room: &mut Room, codes: &mut [u16], before: Parser, token: Toke
 }
 
 /// Reads a token, or `None` where it can't stand here.
+#[inline(always)]
 fn take(room: &mut Room, codes: &mut [u16], parser: Parser, token: Token) -> Option<Parser>
     requires room { HasRoom codes.old parser (most_added token) 1 }
     ensures step { (state : State) → Represents (held room.old codes.old parser) parser.complete state →
@@ -134,6 +137,7 @@ fn take(room: &mut Room, codes: &mut [u16], parser: Parser, token: Token) -> Opt
 }
 
 /// How many instructions the tokens' expression has, where they end with a whole one.
+#[inline(always)]
 fn finish(room: &mut Room, codes: &[u16], before: Parser) -> Option<usize>
     requires room { HasRoom codes.now before 0 0 }
     ensures tree { (state : State) → Represents (held room.old codes.now before) before.complete state →
