@@ -4,7 +4,7 @@ use Rattle.std.specs.List.{flat_map, list_any}
 use Rattle.std.proofs.lemmas.List.{append-nil}
 use Rattle.std.proofs.lemmas.List.Elements.{All-cons, All-head, All-weaker}
 use Rattle.std.proofs.lemmas.Bool.{ne_eqb, not-true}
-use Rattle.po_syntax.specs.Facts.Runs.{all_pass}
+use Rattle.std.proofs.lemmas.List.Sums.{AllPass-from_list_all}
 use Rattle.po_syntax.specs.declared.item.CommentKind.{CommentKind}
 use Rattle.po_syntax.specs.declared.item.CommentKind.TheVariants.{Translator, Extracted, Reference, Flags}
 use Rattle.po_syntax.specs.TextItem.{TextItem}
@@ -46,7 +46,7 @@ all_with P true flags h g = All-cons P (codes "fuzzy") flags h g
 all_with P false flags h g = g
 
 fuzzy_element : IsFlagElement (codes "fuzzy")
-fuzzy_element = record { line = plain_line (codes "fuzzy") refl; some = omega arith; no_blank_ends = refl; no_comma = λ k d inside. not-true _ (all_pass (λ b. not (b == 44)) (codes "fuzzy") refl k d inside) }
+fuzzy_element = record { line = plain_line (codes "fuzzy") refl; some = omega arith; no_blank_ends = refl; no_comma = λ k d inside. not-true _ (AllPass-from_list_all (λ b. not (b == 44)) (codes "fuzzy") refl k d inside) }
 
 flag_element : (text : List ℕ) → IsFlag text → IsFlagElement text
 flag_element text h = record { line = record { valid = h.valid; one_line = h.one_line }; some = some_text text h.some_byte; no_blank_ends = h.no_blank_ends; no_comma = λ k d inside. ne_eqb _ 44 (h.no_comma k d inside) }

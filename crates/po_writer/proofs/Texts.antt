@@ -1,10 +1,10 @@
 -- The written text of a list of entries reads as the arranged list, but for the lines.
 use Rattle.std.proofs.Common.{◌≡◌, ◌≢◌, ◌==◌, ◌^◌, not, refl, ap, ℕ, ◌<◌, List, [], ◌∷◌, ◌++◌, length, length-append, map, filter, All, arith}
-use Rattle.std.specs.List.{flat_map, join_by, position_or_len}
+use Rattle.std.specs.List.{flat_map, join_by}
 use Rattle.std.specs.Str.{IsUtf8}
 use Rattle.std.proofs.lemmas.List.{append-nil}
 use Rattle.std.proofs.lemmas.List.Elements.{All-nil, All-cons, All-head, All-tail, All-append, All-weaker, All-filter}
-use Rattle.std.proofs.lemmas.Bool.{ne_eqb, le-ltb}
+use Rattle.std.proofs.lemmas.Bool.{ne_eqb}
 use Rattle.po_syntax.specs.PoText.{IsSmall, SpellsText, without_byte_order_mark}
 use Rattle.po_syntax.specs.TextItem.{TextItem}
 use Rattle.po_syntax.specs.Spelling.{end, live}

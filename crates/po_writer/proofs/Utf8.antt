@@ -8,7 +8,7 @@ use Rattle.std.proofs.lemmas.Str.{IsUtf8-append, IsUtf8-nil, IsUtf8-from_ascii, 
 use Rattle.std.proofs.lemmas.Str.Ascii.{IsAscii-from_all, IsAscii-cons, IsAscii-nil}
 use Rattle.std.proofs.lemmas.List.Elements.{All-nil, All-cons, All-append}
 use Rattle.std.proofs.lemmas.Bool.{cond_both, ltb-true, and_parts}
-use Rattle.po_syntax.specs.Facts.Runs.{all_pass}
+use Rattle.std.proofs.lemmas.List.Sums.{AllPass-from_list_all}
 use Rattle.po_syntax.specs.ItemContents.{IsText}
 use Rattle.po_syntax.specs.QuotedForm.{quoted}
 use Rattle.po_syntax.proofs.QuotedTexts.{quoted_utf8, quoted_shown}
@@ -89,7 +89,7 @@ is_shown_ascii b = nat_lt 31 b && nat_lt b 128
 pub plain_line : (text : List ℕ) → list_all is_shown_ascii text ≡ true → IsLine text
 plain_line text e =
     ascii_line text (λ k d inside.
-    let both = and_parts _ _ (all_pass is_shown_ascii text e k d inside) in
+    let both = and_parts _ _ (AllPass-from_list_all is_shown_ascii text e k d inside) in
     (omega (arith, ltb-true 31 (get_or text k d) both.0), ltb-true (get_or text k d) 128 both.1))
 
 -- the line of a LF, and the text after it
