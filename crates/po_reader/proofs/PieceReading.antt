@@ -1,5 +1,5 @@
 -- A text that is read in pieces: a piece that reads, and the entries or the fault of what is left after it.
-use Rattle.std.proofs.Common.{◌≡◌, refl, sym, ap, ◌∙◌, ℕ, List, [], ◌∷◌, ◌++◌, ◌⊎◌, inl, inr, subst, Bool, append-nil}
+use Rattle.std.proofs.Common.{◌≡◌, refl, sym, ap, ◌∙◌, ℕ, List, [], ◌∷◌, ◌++◌, ◌⊎◌, inl, inr, subst, Bool, append-nil, append_assoc}
 use Rattle.std.specs.Prelude.{All}
 use Rattle.std.proofs.lemmas.List.Elements.{All-nil, All-head, All-tail, All-append}
 use Rattle.po_syntax.specs.declared.fault.PoFault.{PoFault}
@@ -21,7 +21,7 @@ use Rattle.po_reader.proofs.Texts.{read_or_stopped}
 use Rattle.po_syntax.specs.LinesLeft.{LeftStops, LinesLeft, SpellsLeft}
 use Rattle.po_syntax.specs.PoText.{SpellsText, SpellsLines, LinesStop, TextFault}
 use Rattle.po_syntax.specs.declared.item.Keyword.TheVariants.{MsgStrAt}
-use Rattle.po_reader.specs.PieceRead.{ReadsOn, FaultsStay, IsLeftFault}
+use Rattle.po_reader.specs.PieceRead.{ReadsOn, FaultsStay, IsLeftFault, IsReadSoFar}
 use Rattle.po_reader.specs.Internal.Keeping.{SpellsOn, KeepsReading, KeepsItems, StopsStay}
 use Rattle.po_entry.specs.Spelling as spelling
 use Rattle.po_entry.specs.Faults as faults
@@ -75,7 +75,7 @@ pub nothing_stops : {fault : PoFault} {line : ℕ} (rest : List TextItem) → re
 nothing_stops rest none stops = read_or_stopped (sym none) reads_nothing stops
 
 -- where no line is left, nothing reads as no entries
-pub left_over : (left : LinesLeft) → left.lines ≡ [] → ReadsLeft left []
+left_over : (left : LinesLeft) → left.lines ≡ [] → ReadsLeft left []
 left_over left none = record {
   items = [];
   spelt = subst (λ (lines : List (List ℕ)). SpellsLines left.number lines []) (sym none) refl;
@@ -101,7 +101,7 @@ piece_joined old new items entries spelt (inl none) read more left =
     rw (no_more, append-nil) (record { items = items; spelt = subst (SpellsLeft old) all (spelt left.items left.spelt); read = read })
 
 -- what all of the text reads as
-pub whole_left : (text : List ℕ) (left : LinesLeft) → ((items : List TextItem) → SpellsLeft left items → SpellsText text items) → (entries : List TextEntry) → ReadsLeft left entries → ReadsText text entries
+whole_left : (text : List ℕ) (left : LinesLeft) → ((items : List TextItem) → SpellsLeft left items → SpellsText text items) → (entries : List TextEntry) → ReadsLeft left entries → ReadsText text entries
 whole_left text left spelt entries read = record { items = read.items; spelt = spelt read.items read.spelt; read = read.read }
 
 -- lines that begin anew spell items that begin with neither a string nor a plural form
@@ -135,7 +135,22 @@ pub items_kept : (all : Bool) (old new : LinesLeft) (items : List TextItem) (kep
 items_kept all old new items kept spelt ends h = (h.0, h.2, piece_joined old new items h.0 spelt ends h.1)
 
 -- the fault of all of a text is that of the text
-pub fault_of_text : (text : List ℕ) (old : LinesLeft) → ((items : List TextItem) → SpellsLeft old items → SpellsText text items) → ((fault : PoFault) (line : ℕ) → LeftStops old fault line → TextFault text fault line)
+fault_of_text : (text : List ℕ) (old : LinesLeft) → ((items : List TextItem) → SpellsLeft old items → SpellsText text items) → ((fault : PoFault) (line : ℕ) → LeftStops old fault line → TextFault text fault line)
     → (fault : PoFault) (line : ℕ) → IsLeftFault old fault line → IsReadFault text fault line
 fault_of_text text old spelt stops fault line (piece.in_lines stopped) = faults.IsReadFault.in_text (stops fault line stopped)
 fault_of_text text old spelt stops fault line (piece.in_items {items = items} h stopped) = faults.IsReadFault.in_items (spelt items h) stopped
+
+-- nothing was read yet, and then a piece, and then all
+
+pub read_none : (text : List ℕ) (left : LinesLeft) → ((items : List TextItem) → SpellsLeft left items → SpellsText text items) → ((fault : PoFault) (line : ℕ) → LeftStops left fault line → TextFault text fault line)
+    → IsReadSoFar text left []
+read_none text left spelt stops = record { reads = whole_left text left spelt; faults = fault_of_text text left spelt stops }
+
+pub read_more : {text : List ℕ} {old new : LinesLeft} {before : List TextEntry} (piece : List TextEntry) → IsReadSoFar text old before → ReadsOn old new piece → FaultsStay old new → IsReadSoFar text new (before ++ piece)
+read_more piece so_far on stay = record {
+  reads = λ more h. rw append_assoc (so_far.reads (piece ++ more) (on more h));
+  faults = λ fault line h. so_far.faults fault line (stay fault line h);
+}
+
+pub read_all : {text : List ℕ} {left : LinesLeft} {before : List TextEntry} → IsReadSoFar text left before → left.lines ≡ [] → ReadsText text before
+read_all {left = left} so_far over = rw append-nil at (so_far.reads [] (left_over left over))

@@ -4,14 +4,13 @@ use Rattle.std.specs.Prelude.{◌≡◌, ◌≢◌, ◌<◌, ℕ, List, [], ◌+
 use Rattle.po_syntax.specs.declared.fault.PoFault.{PoFault}
 use Rattle.po_syntax.specs.declared.fault.PoError.{PoError}
 use Rattle.po_syntax.specs.declared.fault.PoFault.TheVariants.{OutOfMemory}
-use Rattle.po_entry.specs.Faults.{IsStop}
+use Rattle.po_entry.specs.Faults.{IsReadFault, IsStop, ItemsStop}
 use Rattle.po_syntax.specs.LinesLeft.{LinesLeft, SpellsLeft, LeftStops}
 use Rattle.po_syntax.specs.Piece.{IsPiece}
 use Rattle.po_syntax.specs.TextItem.{TextItem}
 use Rattle.po_entry.specs.TextEntry.{TextEntry}
-use Rattle.po_entry.specs.ReadsText.{ReadsLeft}
+use Rattle.po_entry.specs.ReadsText.{ReadsLeft, ReadsText}
 use Rattle.po_reader.specs.KeptComments.{without_comments}
-use Rattle.po_entry.specs.Faults.{ItemsStop}
 
 -- the error is such a fault, or out of memory, without a line
 pub record IsFaultOf (Has : PoFault → ℕ → Type 0) (error : PoError) : Type 0 where
@@ -53,3 +52,9 @@ pub data ReadsPiece (size : ℕ) (old new : LinesLeft) : Type 0 where
 -- the error is the fault of what is left to be read, or out of memory, without a line
 abbrev pub IsLeftError : LinesLeft → PoError → Type 0
 IsLeftError left error = IsFaultOf (IsLeftFault left) error
+
+-- These entries were read of the text, and these lines are left: what they read as follows the entries, and
+-- their fault is that of the text.
+pub record IsReadSoFar (text : List ℕ) (left : LinesLeft) (before : List TextEntry) : Type 0 where
+  pub reads : (more : List TextEntry) → ReadsLeft left more → ReadsText text (before ++ more)
+  pub faults : (fault : PoFault) (line : ℕ) → IsLeftFault left fault line → IsReadFault text fault line

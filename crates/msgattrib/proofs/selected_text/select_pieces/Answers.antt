@@ -1,7 +1,7 @@
-use Rattle.std.proofs.Common.{[], ◌++◌, append-nil, append_assoc}
+use Rattle.std.proofs.Common.{[], ◌++◌}
 use Rattle.std.proofs.lemmas.Result.{err_from_is_err_and}
 use Rattle.po_entry.specs.Faults.IsReadFault.{in_text}
-use Rattle.po_reader.proofs.PieceReading.{fault_of_text, left_over, whole_left}
+use Rattle.po_reader.proofs.PieceReading.{read_all, read_more, read_none}
 use Rattle.msgattrib.proofs.selected_text.select_pieces.Goals as goal
 
 pub returns-in_err-pieces-clause-fault : goal.returns-in_err-pieces-clause-fault
@@ -12,29 +12,23 @@ returns-in_err-pieces-clause-fault c =
       memory = λ memory. absurd (c.in_err-pieces.ensures.memory memory);
     })
 
+pub loop-pieces-init : goal.loop-pieces-init
+loop-pieces-init c = record {
+  before = [];
+  read = read_none c.args.text.now c.in_ok-pieces.pieces c.in_ok-pieces.ensures.found c.in_ok-pieces.ensures.stops;
+  selected = record { parts = c.in_ok-with_capacity.ensures; rows = record { keys = c.new.ensures; read = c.new-2.ensures.items; kept = c.new-3.ensures.items } };
+}
+
 pub loop-pieces-preserved : goal.loop-pieces-preserved
 loop-pieces-preserved c =
-    let so_far = c.loop-pieces.invariant.reads in
+    let done = c.loop-pieces.invariant in
     record {
-      reads = (
-        so_far.0 ++ c.in_ok-piece.piece,
-        λ more h. rw append_assoc (so_far.1 (c.in_ok-piece.piece ++ more) (c.in_ok-piece.ensures.found more h)),
-        c.in_ok-select_piece.ensures so_far.0 so_far.2,
-      );
-      faults = λ fault line h. c.loop-pieces.invariant.faults fault line (c.in_ok-piece.ensures.faults fault line h);
+      before = done.before ++ c.in_ok-piece.piece;
+      read = read_more c.in_ok-piece.piece done.read c.in_ok-piece.ensures.found c.in_ok-piece.ensures.faults;
+      selected = c.in_ok-select_piece.ensures done.before done.selected;
     }
 
 pub returns-clause-found : goal.returns-clause-found
 returns-clause-found c =
-    let so_far = c.loop-pieces.invariant.reads in
-    record {
-      entries = so_far.0;
-      reads = rw append-nil at (so_far.1 [] (left_over c.loop-pieces.pieces (c.are_over.ensures.over c.loop-pieces-test.false)));
-      have = so_far.2;
-    }
-
-pub loop-pieces-init : goal.loop-pieces-init
-loop-pieces-init c = record {
-  reads = ([], whole_left c.args.text.now c.in_ok-pieces.pieces c.in_ok-pieces.ensures.found, record { parts = c.in_ok-with_capacity.ensures; rows = record { keys = c.new.ensures; read = c.new-2.ensures.items; kept = c.new-3.ensures.items } });
-  faults = fault_of_text c.args.text.now c.in_ok-pieces.pieces c.in_ok-pieces.ensures.found c.in_ok-pieces.ensures.stops;
-}
+    let done = c.loop-pieces.invariant in
+    record { entries = done.before; reads = read_all done.read (c.are_over.ensures.over c.loop-pieces-test.false); have = done.selected }

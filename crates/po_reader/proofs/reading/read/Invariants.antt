@@ -1,16 +1,9 @@
-use Rattle.std.proofs.Common.{ℕ, List, ◌++◌, length}
-use Rattle.po_syntax.specs.declared.fault.PoFault.{PoFault}
-use Rattle.po_entry.specs.TextEntry.{TextEntry}
-use Rattle.po_entry.specs.ReadsText.{ReadsLeft, ReadsText}
-use Rattle.po_entry.specs.Faults.{IsReadFault}
-use Rattle.po_reader.specs.PieceRead.{IsLeftFault}
+use Rattle.std.proofs.Common.{length}
+use Rattle.po_reader.specs.PieceRead.{IsReadSoFar}
 use Rattle.po_reader.proofs.reading.read.Given as goal
 
 abbrev pub invariant-loop-pieces : goal.invariant-loop-pieces
-invariant-loop-pieces l = record {
-  reads : (more : List TextEntry) → ReadsLeft l.pieces more → ReadsText l.text (l.catalogue ++ more);
-  faults : (fault : PoFault) (line : ℕ) → IsLeftFault l.pieces fault line → IsReadFault l.text fault line;
-}
+invariant-loop-pieces l = IsReadSoFar l.text l.pieces l.catalogue
 
 abbrev pub decreases-loop-pieces : goal.decreases-loop-pieces
 decreases-loop-pieces l = length l.pieces.lines
