@@ -1,5 +1,5 @@
 -- The token at the beginning of a text.
-use Rattle.std.proofs.Common.{◌≡◌, ◌≢◌, ℕ, suc, ◌-◌, ◌^◌, ◌<◌, ◌≤◌, true, false, inl, inr, List, [], ◌∷◌, ◌++◌, length, drop, get_or, refl, sym, ap, ◌∙◌, arith, subst, take-append-drop, length-drop, drop-cons}
+use Rattle.std.proofs.Common.{◌≡◌, ◌≢◌, ℕ, suc, ◌-◌, ◌^◌, ◌<◌, ◌≤◌, true, inl, inr, List, [], ◌∷◌, ◌++◌, length, drop, get_or, refl, sym, ap, ◌∙◌, arith, subst, take-append-drop, length-drop, drop-cons}
 use Rattle.std.specs.Prelude.{take_while}
 use Rattle.std.specs.List.{prefix_len}
 use Rattle.std.proofs.lemmas.Bool.{false≢true, cases_Bool, cond-true, cond-false}
@@ -7,14 +7,12 @@ use Rattle.std.proofs.lemmas.List.Sums.{prefix_len_stops, prefix_len-le-length, 
 use Rattle.std.proofs.lemmas.List.Folds.{length-prefix_len}
 use Rattle.plural_rule.specs.declared.token.Token.{Token}
 use Rattle.plural_rule.specs.declared.token.Token.TheVariants.{Number, Binary}
-use Rattle.plural_rule.specs.declared.operator.Operator.{Operator}
-use Rattle.plural_rule.specs.declared.operator.Operator.TheVariants.{Or}
 use Rattle.std.specs.Str.Parse.{AllDigits, digits_value}
 use Rattle.std.specs.Char.{is_ascii_digit}
-use Rattle.plural_rule.specs.Tokens.{operator_bytes, IsSpelling, IsLongest}
-use Rattle.plural_rule.specs.Internal.Scanner.{IsTokenAt, IsTooLarge, HasNoToken, BeginsWithDouble, HasNoDouble}
+use Rattle.plural_rule.specs.Tokens.{IsSpelling, IsLongest}
+use Rattle.plural_rule.specs.Internal.Scanner.{IsTokenAt, IsTooLarge, HasNoToken}
 use Rattle.plural_rule.proofs.Numerals.{digit_below_ten, below_ten_digit}
-use Rattle.plural_rule.proofs.Lexing.{one_prefix, first_byte, operator-facts, spelling-not_blank}
+use Rattle.plural_rule.proofs.Lexing.{one_prefix, first_byte, operator-facts}
 
 -- bytes that spell a token and begin with a digit are digits
 digits-only : (u : Token) (bytes : List ℕ) → is_ascii_digit (first_byte bytes) ≡ true → IsSpelling u bytes → AllDigits 10 bytes
@@ -98,47 +96,3 @@ numeral-none text d large t own rest e spelt longest =
     let same = one_prefix (Number (digits_value 10 (take_while is_ascii_digit text))) t (take_while is_ascii_digit text) (drop k text) own rest
     (n.some, AllDigits-take_while text, refl) n.longest spelt longest (take-append-drop k text ∙ e) in
     subst IsTooLarge same.same_token large
-
--- two bytes and more that spell a token and don't begin with a digit are an operator
-of_several : (u : Token) (a m : ℕ) (more : List ℕ) → is_ascii_digit a ≡ false → IsSpelling u (a ∷ m ∷ more) → (op : Operator) × (operator_bytes op ≡ a ∷ m ∷ more)
-of_several (Number v) a m more d h = absurd (false≢true (sym d ∙ below_ten_digit a h.1.0))
-of_several (Binary op) a m more d h = (op, sym h)
-of_several _ a m more d h = absurd cc
-
-two-bytes : (op : Operator) (a m k : ℕ) (more : List ℕ) → operator_bytes op ≡ a ∷ m ∷ k ∷ more → ⊥
-two-bytes Or a m k more e = cc
-two-bytes _ a m k more e = cc
-
--- the operator of two bytes, and the token of one byte, at the beginning of a text
-pub double-token : (text : List ℕ) (op : Operator) → BeginsWithDouble text op → IsTokenAt text (Binary op) 2
-double-token [] op h = absurd (let two = h.two in omega arith)
-double-token (a ∷ []) op h = absurd (let two = h.two in omega arith)
-double-token (a ∷ b ∷ rest) op h =
-    let d : is_ascii_digit a ≡ false = sym (ap (λ xs. is_ascii_digit (first_byte xs)) h.bytes) ∙ (operator-facts op).1 in
-    record {
-      some = omega arith;
-      within = omega arith;
-      spelling = sym h.bytes;
-      longest = longer d;
-    }
-  where
-    longer : is_ascii_digit a ≡ false → IsLongest (a ∷ b ∷ []) rest
-    longer d u [] after e n s = n refl
-    longer d u (k ∷ more) after e n s = let o = of_several u a b (k ∷ more) d s in two-bytes o.0 a b k more o.1
-
-pub single-token : (text : List ℕ) (t : Token) → 0 < length text → is_ascii_digit (get_or text 0 0) ≡ false → HasNoDouble text → IsSpelling t (get_or text 0 0 ∷ []) → IsTokenAt text t 1
-single-token [] t some d none s = absurd (omega arith)
-single-token (a ∷ rest) t some d none s = record { some = omega arith; within = omega arith; spelling = s; longest = longer rest none } where
-  longer : (rest : List ℕ) → HasNoDouble (a ∷ rest) → IsLongest (a ∷ []) rest
-  longer rest none u [] after e n s = n refl
-  longer (b ∷ rest) none u (m ∷ []) after e n s = let o = of_several u a m [] d s in none o.0 (record { two = omega arith; bytes = o.1 ∙ cc })
-  longer rest none u (m ∷ k ∷ more) after e n s = let o = of_several u a m (k ∷ more) d s in two-bytes o.0 a m k more o.1
-  longer [] none u (m ∷ []) after e n s = absurd cc
-
-pub no-single : (text : List ℕ) → 0 < length text → is_ascii_digit (get_or text 0 0) ≡ false → HasNoDouble text → ((t : Token) → IsSpelling t (get_or text 0 0 ∷ []) → ⊥) → HasNoToken text
-no-single text some d none single t [] rest e s longest = absurd (false≢true (sym (spelling-not_blank t [] s)))
-no-single text some d none single t (a ∷ []) rest e s longest = absurd (single t (rw e s))
-no-single text some d none single t (a ∷ m ∷ []) rest e s longest =
-    let o = of_several t a m [] (rw e at d) s in absurd (none o.0 (rw e (record { two = omega arith; bytes = o.1 })))
-no-single text some d none single t (a ∷ m ∷ k ∷ own) rest e s longest =
-    let o = of_several t a m (k ∷ own) (rw e at d) s in absurd (two-bytes o.0 a m k own o.1)

@@ -12,8 +12,7 @@ ghost use Rattle.plural_rule.specs.Internal.Run.{act, Go, left_by, go_on, run, s
 use crate::instruction::{Action, Instruction};
 use crate::operator::{Operator, truth};
 
-/// The most instructions of a program that runs with the smallest stack: a larger one takes longer
-/// to set up.
+/// The most instructions of a program that runs with the smallest stack: a larger one takes longer to set up.
 const TINY: usize = 16;
 
 /// The same for the next larger one.
@@ -54,19 +53,6 @@ struct Effect {
     skip: u16,
     /// How many nodes begin with it.
     begins: u16,
-}
-
-/// What an instruction does that adds a value.
-#[inline(always)]
-fn adds(value: u64, taken: usize, skip: u16, begins: u16) -> Effect
-    ensures { result ≡ record { value = Some value; taken = taken; skip = skip; begins = begins } }
-{
-    Effect {
-        value: Some(value),
-        taken,
-        skip,
-        begins,
-    }
 }
 
 /// The same with room for `N` values: half of the instructions suffice, since an operator takes two.
@@ -203,34 +189,29 @@ fn act(
         ≡ left_by result (newest ∷ below ∷ older) }
     ensures taken { result.taken ≤ 2 }
 {
-    match action {
-        Action::Count(begins) => adds(count, 0, 0, begins),
-        Action::Number(begins, number) => adds(number as u64, 0, 0, begins),
+    let (value, taken, skip, begins) = match action {
+        Action::Count(begins) => (Some(count), 0, 0, begins),
+        Action::Number(begins, number) => (Some(number as u64), 0, 0, begins),
         Action::Wide(begins, high) => {
             let low = low_at(instructions, next) as u64;
-            adds(high as u64 * 4294967296 + low, 0, 1, begins)
+            (Some(high as u64 * 4294967296 + low), 0, 1, begins)
         }
-        Action::Not => adds(truth(newest == 0), 1, 0, 0),
-        Action::Binary(operator) => Effect {
-            value: operator.combined(below, newest),
-            taken: 2,
-            skip: 0,
-            begins: 0,
-        },
+        Action::Not => (Some(truth(newest == 0)), 1, 0, 0),
+        Action::Binary(operator) => (operator.combined(below, newest), 2, 0, 0),
         Action::Branch(operator, skip) => {
             if operator.needs_right(newest) {
-                adds(newest, 1, 0, 0)
+                (Some(newest), 1, 0, 0)
             } else {
-                adds(operator.short_circuit_value(), 1, skip, 0)
+                (Some(operator.short_circuit_value()), 1, skip, 0)
             }
         }
-        Action::Choose(skip) => {
-            if newest == 0 {
-                adds(below, 2, skip, 0)
-            } else {
-                adds(below, 2, 0, 0)
-            }
-        }
-        Action::Jump(skip) => adds(newest, 1, skip, 0),
+        Action::Choose(skip) => (Some(below), 2, if newest == 0 { skip } else { 0 }, 0),
+        Action::Jump(skip) => (Some(newest), 1, skip, 0),
+    };
+    Effect {
+        value,
+        taken,
+        skip,
+        begins,
     }
 }

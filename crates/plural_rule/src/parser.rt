@@ -1,7 +1,6 @@
 //! Reads an expression by operator precedence.
 //!
-//! The grammar is C's, as the GNU gettext manual has it in "Plural forms", with the loosest
-//! operators first:
+//! The grammar is C's, as the GNU gettext manual has it in "Plural forms", with the loosest operators first:
 //!
 //! ```text
 //! expression     = or | or "?" expression ":" expression
@@ -154,8 +153,7 @@ fn finish(room: &mut Room, codes: &[u16], before: Parser) -> Option<usize>
     }
 }
 
-/// How many instructions the program of the expression that a text spells has, which then are the first
-/// of `room`.
+/// How many instructions the program of the expression that a text spells has, which then are the first of `room`.
 pub(crate) fn parse(text: &[u8], room: &mut Room) -> Option<usize>
     requires { length text.now ≤ expression_limit }
     ensures { MatchOption result ((tree : Tree) → Spelt tree text.now → ⊥)

@@ -76,26 +76,18 @@ pub(crate) fn begin(room: &mut Room, len: usize, index: u16)
     }
 }
 
-/// Sets how many instructions the one at an index skips.
-fn set_skip(room: &mut Room, len: usize, index: u16, skip: u16)
-    requires { len ≤ expression_limit }
-    ensures { take len room.new ≡ skipping index skip (take len room.old) }
-{
-    if (index as usize) < len {
-        let mut instruction = room[index as usize];
-        instruction.count = skip;
-        room[index as usize] = instruction;
-    }
-}
-
 /// Lets the instruction before the last operand, which begins at `start`, skip it and `more` others.
 pub(crate) fn skip_operand(room: &mut Room, len: usize, start: u16, more: u16)
     requires len { len ≤ expression_limit }
     requires more { more ≤ 1 }
     ensures { take len room.new ≡ skipping (start - 1) (length (take len room.old) - start + more) (take len room.old) }
 {
-    let skip = (len as u16).saturating_sub(start) + more;
-    set_skip(room, len, start.saturating_sub(1), skip);
+    let index = start.saturating_sub(1) as usize;
+    if index < len {
+        let mut instruction = room[index];
+        instruction.count = (len as u16).saturating_sub(start) + more;
+        room[index] = instruction;
+    }
 }
 
 /// Adds a numeral: how many instructions there are then.

@@ -1,8 +1,0 @@
-use Rattle.std.proofs.Common.{refl, arith}
-use Rattle.plural_rule.specs.Internal.ParserState.{with_skip}
-use Rattle.plural_rule.proofs.ParserSteps.{edited-within}
-use Rattle.plural_rule.proofs.parts.set_skip.Goals as goal
-
-pub returns-then-index-len : goal.returns-then-index-len
-returns-then-index-len c =
-    edited-within (with_skip c.args.skip) c.args.room.now c.args.len c.args.index _ _ c.if-index-len.true (omega (arith, c.requires, c.told-room)) refl
