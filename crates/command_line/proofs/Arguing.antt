@@ -27,7 +27,8 @@ zip_more R (z ∷ xs) (w ∷ ys) x y all holds = (all.0, zip_more R xs ys x y al
 -- one item more of a list, as `f` has it
 pub next_mapped : {X Y : Type 0} (f : X → Y) (xs : List X) (i : ℕ) (other : X) → i < length xs
     → map f (take i xs) ++ f (get_or xs i other) ∷ [] ≡ map f (take (i + 1) xs)
-next_mapped f xs i other below = sym (ap (map f) (take_more xs i other below) ∙ map-append f (take i xs) (get_or xs i other ∷ []))
+next_mapped f xs i other below =
+    sym (ap (map f) (take_more xs i other below) ∙ map-append f (take i xs) (get_or xs i other ∷ []))
 
 pub no_arguments : (command : Command) → AddsArguments [] command command
 no_arguments command = record {
@@ -42,7 +43,8 @@ pub one_argument_more : (arguments : List Argument) (argument : Argument) (first
     → AddsArguments (arguments ++ argument ∷ []) first new
 one_argument_more arguments argument first old new arg so_far adds local rule =
     let all = (app_of first).top.rules in
-    let joined : (all ++ so_far.rules) ++ rule_of arg ∷ [] ≡ all ++ (so_far.rules ++ rule_of arg ∷ []) = simp append_assoc in
+    let joined : (all ++ so_far.rules) ++ rule_of arg ∷ [] ≡ all ++ (so_far.rules ++ rule_of arg ∷ []) =
+    simp append_assoc in
     record {
       rules = so_far.rules ++ rule_of arg ∷ [];
       are = zip_more IsRuleOf arguments so_far.rules argument (rule_of arg) so_far.are rule;
@@ -53,12 +55,14 @@ one_argument_more arguments argument first old new arg so_far adds local rule =
     }
 
 pub tool_command : (tool : Tool) (command made : Command) → app_of command ≡ new_app (tool_name tool)
-    → (out-Command command).has_globals ≡ false → AddsArguments (arguments_of tool) command made → IsToolCommand tool made
+    → (out-Command command).has_globals ≡ false → AddsArguments (arguments_of tool) command made
+    → IsToolCommand tool made
 tool_command tool command made alone local adds = record {
   shape = record {
     rules = adds.rules;
     are = adds.are;
-    is = ap (λ (app : App). app.top) adds.shape ∙ ap (λ (app : App). record app.top { rules = app.top.rules ++ adds.rules }) alone;
+    is = ap (λ (app : App). app.top) adds.shape
+        ∙ ap (λ (app : App). record app.top { rules = app.top.rules ++ adds.rules }) alone;
   };
   global = adds.global ∙ local;
 }
@@ -70,21 +74,29 @@ more_are_some : (shapes : List Shape) (shape : Shape) → false ≡ is_empty (sh
 more_are_some [] shape = refl
 more_are_some (first ∷ shapes) shape = sym (eqb-suc-zero (length (shapes ++ shape ∷ [])))
 
-pub one_tool_more : (tools : List Tool) (tool : Tool) (old sub new : Command) → OffersTools tools old → IsToolCommand tool sub
+pub one_tool_more : (tools : List Tool) (tool : Tool) (old sub new : Command) → OffersTools tools old
+    → IsToolCommand tool sub
     → AddsSubcommand old sub new → OffersTools (tools ++ tool ∷ []) new
 one_tool_more tools tool old sub new so_far command adds = record {
   shapes = so_far.shapes ++ shape_of sub ∷ [];
   are = zip_more IsToolShape tools so_far.shapes tool (shape_of sub) so_far.are command.shape;
   app =
       adds.shape command.global ∙ ap (λ app. with_subcommand app (shape_of sub)) so_far.app
-      ∙ ap (λ b. record { top = record (top_of so_far.shapes) { is_leaf = b }; subs = so_far.shapes ++ shape_of sub ∷ [] }) (more_are_some so_far.shapes (shape_of sub));
+      ∙ ap (λ b. record {
+        top = record (top_of so_far.shapes) { is_leaf = b };
+        subs =
+            so_far.shapes ++ shape_of sub ∷ [];
+      }) (more_are_some so_far.shapes (shape_of sub));
   global = adds.globals ∙ ap (λ b. (out-Command old).has_globals || b) command.global ∙ or-false _ ∙ so_far.global;
 }
 
-pub next_tool : (i : ℕ) (other : Tool) (old sub new : Command) → i < length every_tool → OffersTools (take i every_tool) old
-    → IsToolCommand (get_or every_tool i other) sub → AddsSubcommand old sub new → OffersTools (take (i + 1) every_tool) new
+pub next_tool : (i : ℕ) (other : Tool) (old sub new : Command) → i < length every_tool
+    → OffersTools (take i every_tool) old
+    → IsToolCommand (get_or every_tool i other) sub → AddsSubcommand old sub new
+    → OffersTools (take (i + 1) every_tool) new
 next_tool i other old sub new below so_far command adds =
-    rw (← take_more every_tool i other below) at (one_tool_more (take i every_tool) (get_or every_tool i other) old sub new so_far command adds)
+    rw (← take_more every_tool i other below) at
+    (one_tool_more (take i every_tool) (get_or every_tool i other) old sub new so_far command adds)
 
 pub one_tool : (first : Option Tool) (tool : Tool) (old sub new : Command) → first ≡ Some tool → OffersTools [] old
     → IsToolCommand tool sub → AddsSubcommand old sub new → OffersTools (offered_tools first) new

@@ -11,7 +11,8 @@ abbrev NoFeed : List ℕ → Type 0
 NoFeed line = (i : ℕ) → i < length line → get_or line i 0 ≢ 10
 
 onto : (b : ℕ) (text : List ℕ) → b ≢ 10 → lines_with_ends (b ∷ text) ≡ onto_first b (lines_with_ends text)
-onto b text other = ap (λ t. cond t ((10 ∷ []) ∷ lines_with_ends text) (onto_first b (lines_with_ends text))) (ne_eqb b 10 other)
+onto b text other = ap (λ t. cond t ((10 ∷ []) ∷ lines_with_ends text) (onto_first b (lines_with_ends text)))
+    (ne_eqb b 10 other)
 
 later : (b : ℕ) (line : List ℕ) → NoFeed (b ∷ line) → NoFeed line
 later b line lacks = λ i below. lacks (suc i) (omega (arith, below))
@@ -21,7 +22,8 @@ last_line b [] lacks = onto b [] (lacks 0 (omega arith))
 last_line b (c ∷ line) lacks =
     onto b (c ∷ line) (lacks 0 (omega arith)) ∙ ap (onto_first b) (last_line c line (later b (c ∷ line) lacks))
 
-first_line : (line rest : List ℕ) → NoFeed line → lines_with_ends (line ++ 10 ∷ rest) ≡ (line ++ 10 ∷ []) ∷ lines_with_ends rest
+first_line : (line rest : List ℕ) → NoFeed line
+    → lines_with_ends (line ++ 10 ∷ rest) ≡ (line ++ 10 ∷ []) ∷ lines_with_ends rest
 first_line [] rest lacks = refl
 first_line (b ∷ line) rest lacks =
     onto b (line ++ 10 ∷ rest) (lacks 0 (omega arith)) ∙ ap (onto_first b) (first_line line rest (later b line lacks))
@@ -47,17 +49,20 @@ takes_first text line rest i j found is front =
     let after = drop j text in
     let cut : text ≡ before ++ 10 ∷ after =
     sym (take-append-drop i text) ∙ ap (λ l. before ++ l) (drop_at_char 10 text i j found.1 (lit< tt)) in
-    let ends : j ≡ length before + 1 = omega (arith, found.1.ends, ap length cut, length-take i text, length-append before (10 ∷ after)) in
+    let ends : j ≡ length before + 1 =
+    omega (arith, found.1.ends, ap length cut, length-take i text, length-append before (10 ∷ after)) in
     let taken : line ≡ before ++ 10 ∷ [] =
     front ∙ ap (λ n. take n text) ends ∙ ap (take (length before + 1)) cut ∙ take-append-add before (10 ∷ after) 1 in
     let left : rest ≡ after =
-    append_cancel_left line rest after (sym is ∙ cut ∙ sym (append_assoc before (10 ∷ []) after) ∙ ap (λ l. l ++ after) (sym taken)) in
+    append_cancel_left line rest after
+    (sym is ∙ cut ∙ sym (append_assoc before (10 ∷ []) after) ∙ ap (λ l. l ++ after) (sym taken)) in
     ap lines_with_ends cut ∙ first_line before after (λ k below. NoCharPasses-char 10 before k found.0 (lit< tt) below)
     ∙ ap (λ l. l ∷ lines_with_ends after) (sym taken) ∙ ap (λ r. line ∷ lines_with_ends r) (sym left)
 
 -- a step of `split_inclusive`, as its clause says it
 pub step : (feed next : ℕ) (text line rest : List ℕ) → feed ≡ 10
-    → (next ≡ feed) × ((text ≡ line ++ rest) × EndsAtFirstMatch (FindsChar feed) text line) → (next ≡ 10) × Takes text line rest
+    → (next ≡ feed) × ((text ≡ line ++ rest) × EndsAtFirstMatch (FindsChar feed) text line)
+    → (next ≡ 10) × Takes text line rest
 step feed next text line rest ten (same, (cut, (None, none, all))) =
     (same ∙ ten, takes_last text line rest (subst (λ b. FindsChar b text None) ten none) cut all.0 all.1)
 step feed next text line rest ten (same, (cut, (Some (i, j), found, front))) =

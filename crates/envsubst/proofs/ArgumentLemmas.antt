@@ -10,9 +10,12 @@ use Rattle.envsubst.specs.ByArguments.{RunsEnvsubst, substituted}
 use Rattle.envsubst.specs.Usage.{replaced}
 
 -- variables are replaced, by the entries of an environment and the names in a SHELL-FORMAT
-pub replaces : (entries : List (List ℕ) → Type 0) (input left old new : Option (List ℕ)) (result : Result (Unit {0}) ToolFault)
-    (environment : List (List ℕ)) (variables : List (Bor (List ℕ) × Bor (List ℕ))) (only : Option (Bor (List (Bor (List ℕ))))) (format : Option (List ℕ))
-    → entries environment → pairs_in variables ≡ variables_of environment → names_given only ≡ option_map names_in format
+pub replaces : (entries : List (List ℕ) → Type 0) (input left old new : Option (List ℕ))
+    (result : Result (Unit {0}) ToolFault)
+    (environment : List (List ℕ)) (variables : List (Bor (List ℕ) × Bor (List ℕ)))
+    (only : Option (Bor (List (Bor (List ℕ))))) (format : Option (List ℕ))
+    → entries environment → pairs_in variables ≡ variables_of environment
+    → names_given only ≡ option_map names_in format
     → EndsAs (values_of_slices variables only) input left old new result
     → RunsEnvsubst entries input left old new (replaced format) result
 replaces entries input left old new result environment variables only format are pairs names ends =

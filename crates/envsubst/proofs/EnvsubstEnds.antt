@@ -19,16 +19,25 @@ took written (Some bytes) None appends before is = absurd appends
 took written (Some bytes) (Some more) appends before is =
     let same : bytes ≡ before = cc in ap Some (appends ∙ ap (λ b. b ++ written) same)
 
-pub took_all : (values : Values) (text : List ℕ) (left old new : Option (List ℕ)) → EndsAs values (Some text) left old new (Ok tt) → TookAll values text old new
+pub took_all : (values : Values) (text : List ℕ) (left old new : Option (List ℕ))
+    → EndsAs values (Some text) left old new (Ok tt) → TookAll values text old new
 took_all values text left old new ends =
     record { result = substitution values text; replaced = replaced values text _ refl; took = took _ old new ends }
 
-stopped : (values : Values) (read other : List ℕ) (old new : Option (List ℕ)) → Stops values read old new → TookBeginning values (read ++ other) old new
+stopped : (values : Values) (read other : List ℕ) (old new : Option (List ℕ)) → Stops values read old new
+    → TookBeginning values (read ++ other) old new
 stopped values read other old new stops =
     let more = stops.prefix other in
-    record { written = stops.written; rest = more.0; replaced = replaced values (read ++ other) _ (sym more.1); took = took _ old new stops.appends }
+    record {
+      written = stops.written;
+      rest = more.0;
+      replaced = replaced values (read ++ other) _ (sym more.1);
+      took =
+          took _ old new stops.appends;
+    }
 
-stopped_within : (values : Values) (text : List ℕ) (left old new : Option (List ℕ)) → StopsWithin values (Some text) left old new → TookBeginningOfRead values text left old new
+stopped_within : (values : Values) (text : List ℕ) (left old new : Option (List ℕ))
+    → StopsWithin values (Some text) left old new → TookBeginningOfRead values text left old new
 stopped_within values text None old new within = absurd within.reads
 stopped_within values text (Some rest) old new within = record {
   read = within.read;
@@ -36,7 +45,8 @@ stopped_within values text (Some rest) old new within = record {
   took = λ other. stopped values within.read other old new within.stops;
 }
 
-within_read : (values : Values) (input left old new : Option (List ℕ)) → HasGoneOut values input left old new → StopsWithin values input left old new
+within_read : (values : Values) (input left old new : Option (List ℕ)) → HasGoneOut values input left old new
+    → StopsWithin values input left old new
 within_read values input left old new out = record {
   read = out.read;
   reads = out.reads;
@@ -47,12 +57,15 @@ within_read values input left old new out = record {
   };
 }
 
-whole : (values : Values) (text : List ℕ) (left old new : Option (List ℕ)) → StopsWithin values (Some text) left old new → TookBeginning values text old new
+whole : (values : Values) (text : List ℕ) (left old new : Option (List ℕ)) → StopsWithin values (Some text) left old new
+    → TookBeginning values text old new
 whole values text None old new within = absurd within.reads
 whole values text (Some rest) old new within =
-    subst (λ t. TookBeginning values t old new) (sym within.reads) (stopped values within.read rest old new within.stops)
+    subst (λ t. TookBeginning values t old new) (sym within.reads)
+    (stopped values within.read rest old new within.stops)
 
-at_end : (values : Values) (text : List ℕ) (old new : Option (List ℕ)) → StopsAtEnd values (Some text) old new → TookBeginning values text old new
+at_end : (values : Values) (text : List ℕ) (old new : Option (List ℕ)) → StopsAtEnd values (Some text) old new
+    → TookBeginning values text old new
 at_end values text old new ends = record {
   written = take ends.0 (substitution values text);
   rest = drop ends.0 (substitution values text);
@@ -62,7 +75,8 @@ at_end values text old new ends = record {
 
 pub took_beginning : (values : Values) (text : List ℕ) (left old new : Option (List ℕ)) (fault : ToolFault)
     → EndsAs values (Some text) left old new (Err fault) → TookBeginning values text old new
-took_beginning values text left old new ReadFault ends = whole values text left old new (within_read values (Some text) left old new ends)
+took_beginning values text left old new ReadFault ends =
+    whole values text left old new (within_read values (Some text) left old new ends)
 took_beginning values text left old new WriteFault ends = elim ends [
   | inl within ↦ whole values text left old new within
   | inr end ↦ at_end values text old new end
@@ -80,13 +94,16 @@ took_all_read values text (Some rest) old new out = record {
   written = out.advances.written;
   took = took _ old new out.advances.appends;
   replaced = λ other result is.
-      let held : result ≡ substitution values (out.held ++ other) = (references_replaced values (out.held ++ other) result).1 is in
-      replaced values (out.read ++ other) _ (ap (λ r. out.advances.written ++ r) held ∙ sym (out.advances.passes other));
+      let held : result ≡ substitution values (out.held ++ other) =
+      (references_replaced values (out.held ++ other) result).1 is in
+      replaced values (out.read ++ other) _
+      (ap (λ r. out.advances.written ++ r) held ∙ sym (out.advances.passes other));
 }
 
 pub took_of_read : (values : Values) (text : List ℕ) (left old new : Option (List ℕ))
     → EndsAs values (Some text) left old new (Err ReadFault) → TookBeginningOfRead values text left old new
-took_of_read values text left old new ends = stopped_within values text left old new (within_read values (Some text) left old new ends)
+took_of_read values text left old new ends =
+    stopped_within values text left old new (within_read values (Some text) left old new ends)
 
 pub took_of_read_memory : (values : Values) (text : List ℕ) (left old new : Option (List ℕ))
     → EndsAs values (Some text) left old new (Err OutOfMemory) → TookBeginningOfRead values text left old new

@@ -13,24 +13,32 @@ use Rattle.envsubst.specs.Substitution.{Values, values_of, substitution}
 use Rattle.envsubst.proofs.StreamLemmas.{Advances-none, Advances-trans, Advances-more, Stops-after}
 
 -- the bytes that were read have come out, but for those that are held
-pub record HasFed (values : Values) (input left : Option (List ℕ)) (held : List ℕ) (old new : Option (List ℕ)) : Type 0 where
+pub record HasFed (values : Values) (input left : Option (List ℕ)) (held : List ℕ)
+    (old new : Option (List ℕ)) : Type 0 where
   pub read : List ℕ
   pub reads : Consumes input left read
   pub advances : Advances values read held old new
 
-pub fed-none : (values : Values) (input : Option (List ℕ)) (held : List ℕ) (old : Option (List ℕ)) → held ≡ [] → HasFed values input input held old old
-fed-none values input held old none = record { read = []; reads = Consumes-nil input; advances = Advances-none values [] held old (sym none) }
+pub fed-none : (values : Values) (input : Option (List ℕ)) (held : List ℕ) (old : Option (List ℕ)) → held ≡ []
+    → HasFed values input input held old old
+fed-none values input held old none =
+    record { read = []; reads = Consumes-nil input; advances = Advances-none values [] held old (sym none) }
 
-pub fed-more : (values used : Values) (a b c : Option (List ℕ)) (held after piece : List ℕ) (first second third : Option (List ℕ)) → used ≡ values → HasFed values a b held first second → Consumes b c piece → Advances used (held ++ piece) after second third
+pub fed-more : (values used : Values) (a b c : Option (List ℕ)) (held after piece : List ℕ)
+    (first second third : Option (List ℕ)) → used ≡ values → HasFed values a b held first second → Consumes b c piece
+    → Advances used (held ++ piece) after second third
     → HasFed values a c after first third
 fed-more values used a b c held after piece first second third same p reads q = record {
   read = p.read ++ piece;
   reads = Consumes-trans a b c p.read piece p.reads reads;
-  advances = Advances-trans values (p.read ++ piece) (held ++ piece) after first second third (Advances-more values p.read held piece first second p.advances) (subst (λ v. Advances v (held ++ piece) after second third) same q);
+  advances = Advances-trans values (p.read ++ piece) (held ++ piece) after first second third
+      (Advances-more values p.read held piece first second p.advances)
+      (subst (λ v. Advances v (held ++ piece) after second third) same q);
 }
 
 -- a fault of the reader, or no end of the input
-pub fed-read_fault : (values : Values) (a b c : Option (List ℕ)) (held : List ℕ) (old new : Option (List ℕ)) → length held ≤ 257 → HasFed values a b held old new → Keeps b c → HasGoneOut values a c old new
+pub fed-read_fault : (values : Values) (a b c : Option (List ℕ)) (held : List ℕ) (old new : Option (List ℕ))
+    → length held ≤ 257 → HasFed values a b held old new → Keeps b c → HasGoneOut values a c old new
 fed-read_fault values a b c held old new few p keeps = record {
   read = p.read;
   held = held;
@@ -40,16 +48,22 @@ fed-read_fault values a b c held old new few p keeps = record {
 }
 
 -- a fault of the writer at a piece
-pub fed-write_fault : (values used : Values) (a b c : Option (List ℕ)) (held piece : List ℕ) (first second third : Option (List ℕ)) → used ≡ values → HasFed values a b held first second → Consumes b c piece → Stops used (held ++ piece) second third
+pub fed-write_fault : (values used : Values) (a b c : Option (List ℕ)) (held piece : List ℕ)
+    (first second third : Option (List ℕ)) → used ≡ values → HasFed values a b held first second → Consumes b c piece
+    → Stops used (held ++ piece) second third
     → StopsWithin values a c first third
 fed-write_fault values used a b c held piece first second third same p reads q = record {
   read = p.read ++ piece;
   reads = Consumes-trans a b c p.read piece p.reads reads;
-  stops = Stops-after values (p.read ++ piece) (held ++ piece) first second third (Advances-more values p.read held piece first second p.advances) (subst (λ v. Stops v (held ++ piece) second third) same q);
+  stops = Stops-after values (p.read ++ piece) (held ++ piece) first second third
+      (Advances-more values p.read held piece first second p.advances)
+      (subst (λ v. Stops v (held ++ piece) second third) same q);
 }
 
 -- at the end of the input all of it was read
-all-read : (xs read : List ℕ) (b c : Option (List ℕ)) (count : ℕ) (room : List ℕ) → Consumes (Some xs) b read → Consumes b c (take count room) × (count ≡ 0 → 0 < length room → IsAtEnd c) → count ≡ 0 → 0 < length room → xs ≡ read
+all-read : (xs read : List ℕ) (b c : Option (List ℕ)) (count : ℕ) (room : List ℕ) → Consumes (Some xs) b read
+    → Consumes b c (take count room) × (count ≡ 0 → 0 < length room → IsAtEnd c) → count ≡ 0 → 0 < length room
+    → xs ≡ read
 all-read xs read None c count room p q none some = absurd p
 all-read xs read (Some ys) None count room p q none some = absurd q.0
 all-read xs read (Some ys) (Some zs) count room p q none some =
@@ -57,23 +71,34 @@ all-read xs read (Some ys) (Some zs) count room p q none some =
     p ∙ ap (λ l. read ++ l) nothing ∙ append-nil read
 
 -- what came out, and what is held at the end
-whole-out : (values : Values) (held : List ℕ) (old new : Option (List ℕ)) (read : List ℕ) → (p : Advances values read held old new) → p.written ++ substitution values held ≡ substitution values read
+whole-out : (values : Values) (held : List ℕ) (old new : Option (List ℕ)) (read : List ℕ)
+    → (p : Advances values read held old new) → p.written ++ substitution values held ≡ substitution values read
 whole-out values held old new read p =
-    ap (λ t. p.written ++ substitution values t) (sym (append-nil held)) ∙ sym (p.passes []) ∙ ap (substitution values) (append-nil read)
+    ap (λ t. p.written ++ substitution values t) (sym (append-nil held)) ∙ sym (p.passes [])
+    ∙ ap (substitution values) (append-nil read)
 
-pub fed-end : (values used : Values) (a b c : Option (List ℕ)) (held : List ℕ) (count : ℕ) (room : List ℕ) (first second third : Option (List ℕ)) → used ≡ values → HasFed values a b held first second
-    → Consumes b c (take count room) × (count ≡ 0 → 0 < length room → IsAtEnd c) → count ≡ 0 → 0 < length room → Appends second third (substitution used held) → Substitutes values a first third
+pub fed-end : (values used : Values) (a b c : Option (List ℕ)) (held : List ℕ) (count : ℕ) (room : List ℕ)
+    (first second third : Option (List ℕ)) → used ≡ values → HasFed values a b held first second
+    → Consumes b c (take count room) × (count ≡ 0 → 0 < length room → IsAtEnd c) → count ≡ 0 → 0 < length room
+    → Appends second third (substitution used held) → Substitutes values a first third
 fed-end values used None b c held count room first second third same p q none some out = tt
 fed-end values used (Some xs) b c held count room first second third same p q none some out =
-    subst (Appends first third) (whole-out values held first second p.read p.advances ∙ ap (substitution values) (sym (all-read xs p.read b c count room p.reads q none some)))
-    (Appends-trans first second third p.advances.written (substitution values held) p.advances.appends (subst (λ v. Appends second third (substitution v held)) same out))
+    subst (Appends first third)
+    (whole-out values held first second p.read p.advances
+    ∙ ap (substitution values) (sym (all-read xs p.read b c count room p.reads q none some)))
+    (Appends-trans first second third p.advances.written (substitution values held) p.advances.appends
+    (subst (λ v. Appends second third (substitution v held)) same out))
 
-pub fed-end_fault : (values used : Values) (a b c : Option (List ℕ)) (held : List ℕ) (count : ℕ) (room : List ℕ) (first second third : Option (List ℕ)) → used ≡ values → HasFed values a b held first second
-    → Consumes b c (take count room) × (count ≡ 0 → 0 < length room → IsAtEnd c) → count ≡ 0 → 0 < length room → AppendsPrefix second third (substitution used held) → StopsAtEnd values a first third
+pub fed-end_fault : (values used : Values) (a b c : Option (List ℕ)) (held : List ℕ) (count : ℕ) (room : List ℕ)
+    (first second third : Option (List ℕ)) → used ≡ values → HasFed values a b held first second
+    → Consumes b c (take count room) × (count ≡ 0 → 0 < length room → IsAtEnd c) → count ≡ 0 → 0 < length room
+    → AppendsPrefix second third (substitution used held) → StopsAtEnd values a first third
 fed-end_fault values used None b c held count room first second third same p q none some out = tt
 fed-end_fault values used (Some xs) b c held count room first second third same p q none some out =
-    let whole = whole-out values held first second p.read p.advances ∙ ap (substitution values) (sym (all-read xs p.read b c count room p.reads q none some)) in
-    let part : AppendsPrefix second third (substitution values held) = subst (λ v. AppendsPrefix second third (substitution v held)) same out in (
+    let whole = whole-out values held first second p.read p.advances
+    ∙ ap (substitution values) (sym (all-read xs p.read b c count room p.reads q none some)) in
+    let part : AppendsPrefix second third (substitution values held) =
+    subst (λ v. AppendsPrefix second third (substitution v held)) same out in (
       length p.advances.written + part.0,
       subst (λ l. Appends first third (take (length p.advances.written + part.0) l)) whole
           (subst (Appends first third) (sym (take-append-add p.advances.written (substitution values held) part.0))
@@ -81,69 +106,100 @@ fed-end_fault values used (Some xs) b c held count room first second third same 
     )
 
 -- the same variables and names replace alike
-pub same-values : (vars vars' : List (List ℕ × List ℕ)) (only only' : Option (List (List ℕ))) → vars ≡ vars' → only ≡ only' → values_of vars only ≡ values_of vars' only'
+pub same-values : (vars vars' : List (List ℕ × List ℕ)) (only only' : Option (List (List ℕ))) → vars ≡ vars'
+    → only ≡ only' → values_of vars only ≡ values_of vars' only'
 same-values vars vars' only only' v o = ap (λ x. values_of x only) v ∙ ap (values_of vars') o
 
 -- what a part of the text becomes has gone out, but for a block that is gathered and for what is held
 pub record Gathers (values : Values) (text held : List ℕ) (old new : Option (List ℕ)) (block : List ℕ) : Type 0 where
   pub out : List ℕ
   pub appends : Appends old new out
-  pub passes : (rest : List ℕ) → substitution values (text ++ rest) ≡ (out ++ block) ++ substitution values (held ++ rest)
+  pub passes : (rest : List ℕ)
+      → substitution values (text ++ rest) ≡ (out ++ block) ++ substitution values (held ++ rest)
 
 -- a further part
-pub Gathers-more : (values used : Values) (text held part after : List ℕ) (old new : Option (List ℕ)) (block more : List ℕ) → used ≡ values → Gathers values text held old new block → Advances used (held ++ part) after (Some block) (Some more)
+pub Gathers-more : (values used : Values) (text held part after : List ℕ) (old new : Option (List ℕ))
+    (block more : List ℕ) → used ≡ values → Gathers values text held old new block
+    → Advances used (held ++ part) after (Some block) (Some more)
     → Gathers values (text ++ part) after old new more
 Gathers-more values used text held part after old new block more same p q = record {
   out = p.out;
   appends = p.appends;
   passes = λ rest.
-      let next : substitution values ((held ++ part) ++ rest) ≡ q.written ++ substitution values (after ++ rest) = subst (λ v. substitution v ((held ++ part) ++ rest) ≡ q.written ++ substitution v (after ++ rest)) same (q.passes rest) in
-      rw (append_assoc text part rest, p.passes (part ++ rest), ← append_assoc held part rest, next, q.appends) (simp append_assoc);
+      let next : substitution values ((held ++ part) ++ rest) ≡ q.written ++ substitution values (after ++ rest) =
+      subst (λ v. substitution v ((held ++ part) ++ rest) ≡ q.written ++ substitution v (after ++ rest)) same
+      (q.passes rest) in
+      rw (append_assoc text part rest, p.passes (part ++ rest), ← append_assoc held part rest, next, q.appends)
+      (simp append_assoc);
 }
 
 -- the block goes out
-pub Gathers-out : (values : Values) (text held : List ℕ) (first second third : Option (List ℕ)) (block none : List ℕ) → Gathers values text held first second block → Appends second third block → none ≡ [] → Gathers values text held first third none
+pub Gathers-out : (values : Values) (text held : List ℕ) (first second third : Option (List ℕ)) (block none : List ℕ)
+    → Gathers values text held first second block → Appends second third block → none ≡ []
+    → Gathers values text held first third none
 Gathers-out values text held first second third block none p q empty = record {
   out = p.out ++ block;
   appends = Appends-trans first second third p.out block p.appends q;
-  passes = λ rest. p.passes rest ∙ ap (λ t. t ++ substitution values (held ++ rest)) (sym (append-nil (p.out ++ block)) ∙ ap (λ t. (p.out ++ block) ++ t) (sym empty));
+  passes = λ rest. p.passes rest
+      ∙ ap (λ t. t ++ substitution values (held ++ rest))
+      (sym (append-nil (p.out ++ block)) ∙ ap (λ t. (p.out ++ block) ++ t) (sym empty));
 }
 
 -- a prefix of the block goes out
-pub Gathers-stops : (values : Values) (text held piece : List ℕ) (first second third : Option (List ℕ)) (block : List ℕ) → Gathers values text held first second block → AppendsPrefix second third block → Stops values (text ++ piece) first third
+pub Gathers-stops : (values : Values) (text held piece : List ℕ) (first second third : Option (List ℕ)) (block : List ℕ)
+    → Gathers values text held first second block → AppendsPrefix second third block
+    → Stops values (text ++ piece) first third
 Gathers-stops values text held piece first second third block p q = record {
   written = p.out ++ take q.0 block;
   appends = Appends-trans first second third p.out (take q.0 block) p.appends q.1;
   prefix = λ rest. (
     drop q.0 block ++ substitution values (held ++ (piece ++ rest)),
     ap (substitution values) (append_assoc text piece rest) ∙ p.passes (piece ++ rest)
-        ∙ ap (λ b. (p.out ++ b) ++ substitution values (held ++ (piece ++ rest))) (sym (take-append-drop q.0 block)) ∙ simp append_assoc,
+        ∙ ap (λ b. (p.out ++ b) ++ substitution values (held ++ (piece ++ rest))) (sym (take-append-drop q.0 block))
+        ∙ simp append_assoc,
   );
 }
 
 -- the same, where the text is what is held and a piece of which so many bytes were taken
-pub Gathers-stopped : (values : Values) (before held piece : List ℕ) (at : ℕ) (first second third : Option (List ℕ)) (block : List ℕ) → Gathers values (before ++ take at piece) held first second block → AppendsPrefix second third block
+pub Gathers-stopped : (values : Values) (before held piece : List ℕ) (at : ℕ) (first second third : Option (List ℕ))
+    (block : List ℕ) → Gathers values (before ++ take at piece) held first second block
+    → AppendsPrefix second third block
     → Stops values (before ++ piece) first third
 Gathers-stopped values before held piece at first second third block p q =
-    subst (λ t. Stops values t first third) (append_assoc before (take at piece) (drop at piece) ∙ ap (λ l. before ++ l) (take-append-drop at piece))
+    subst (λ t. Stops values t first third)
+    (append_assoc before (take at piece) (drop at piece) ∙ ap (λ l. before ++ l) (take-append-drop at piece))
     (Gathers-stops values (before ++ take at piece) held (drop at piece) first second third block p q)
 
-pub Gathers-part : (values used : Values) (before held piece : List ℕ) (at len : ℕ) (after : List ℕ) (old new : Option (List ℕ)) (block more : List ℕ) → used ≡ values → Gathers values (before ++ take at piece) held old new block
-    → Advances used (held ++ take (at + len - at) (drop at piece)) after (Some block) (Some more) → Gathers values (before ++ take (at + len) piece) after old new more
+pub Gathers-part : (values used : Values) (before held piece : List ℕ) (at len : ℕ) (after : List ℕ)
+    (old new : Option (List ℕ)) (block more : List ℕ) → used ≡ values
+    → Gathers values (before ++ take at piece) held old new block
+    → Advances used (held ++ take (at + len - at) (drop at piece)) after (Some block) (Some more)
+    → Gathers values (before ++ take (at + len) piece) after old new more
 Gathers-part values used before held piece at len after old new block more same p q =
     let lens : at + len - at ≡ len = omega arith in
     let part = subst (λ k. Advances used (held ++ take k (drop at piece)) after (Some block) (Some more)) lens q in
-    subst (λ t. Gathers values t after old new more) (append_assoc before (take at piece) (take len (drop at piece)) ∙ ap (λ l. before ++ l) (sym (take-add at len piece)))
-    (Gathers-more values used (before ++ take at piece) held (take len (drop at piece)) after old new block more same p part)
+    subst (λ t. Gathers values t after old new more)
+    (append_assoc before (take at piece) (take len (drop at piece))
+    ∙ ap (λ l. before ++ l) (sym (take-add at len piece)))
+    (Gathers-more values used (before ++ take at piece) held
+    (take len (drop at piece)) after old new block more same p part)
 
-pub Gathers-piece : (values : Values) (before held piece : List ℕ) (at : ℕ) (first second third : Option (List ℕ)) (block : List ℕ) → length piece ≤ at → Gathers values (before ++ take at piece) held first second block → Appends second third block
+pub Gathers-piece : (values : Values) (before held piece : List ℕ) (at : ℕ) (first second third : Option (List ℕ))
+    (block : List ℕ) → length piece ≤ at → Gathers values (before ++ take at piece) held first second block
+    → Appends second third block
     → Advances values (before ++ piece) held first third
 Gathers-piece values before held piece at first second third block past p q =
     subst (λ t. Advances values (before ++ t) held first third) (take_all at piece past)
-    (record { written = p.out ++ block; appends = Appends-trans first second third p.out block p.appends q; passes = p.passes })
+    (record {
+      written = p.out ++ block;
+      appends = Appends-trans first second third p.out block p.appends q;
+      passes =
+          p.passes;
+    })
 
 -- what the writer took where a fault is reported before the end of the input
-pub ends-within : (values : Values) (input left old new : Option (List ℕ)) (fault : ToolFault) → (fault ≡ ReadFault → ⊥) → StopsWithin values input left old new → EndsAs values input left old new (Err fault)
+pub ends-within : (values : Values) (input left old new : Option (List ℕ)) (fault : ToolFault) → (fault ≡ ReadFault → ⊥)
+    → StopsWithin values input left old new → EndsAs values input left old new (Err fault)
 ends-within values input left old new ReadFault other p = absurd (other refl)
 ends-within values input left old new WriteFault other p = inl p
 ends-within values input left old new OutOfMemory other p = p
@@ -152,10 +208,15 @@ abbrev same_result : Result (Unit {0}) ToolFault → Result (Unit {0}) ToolFault
 same_result r s = r ≡ s
 
 -- at the end of the input, what is still held is written
-pub fed-finish : (values used : Values) (a b c : Option (List ℕ)) (held : List ℕ) (count : ℕ) (room : List ℕ) (first second third : Option (List ℕ)) (r : Result (Unit {0}) ToolFault) → used ≡ values → HasFed values a b held first second
-    → Consumes b c (take count room) × (count ≡ 0 → 0 < length room → IsAtEnd c) → count ≡ 0 → 0 < length room → OnOk r (Appends second third (substitution used held)) → OnErr r (AppendsPrefix second third (substitution used held)) → OnErr r (r ≡ Err WriteFault)
+pub fed-finish : (values used : Values) (a b c : Option (List ℕ)) (held : List ℕ) (count : ℕ) (room : List ℕ)
+    (first second third : Option (List ℕ)) (r : Result (Unit {0}) ToolFault) → used ≡ values
+    → HasFed values a b held first second
+    → Consumes b c (take count room) × (count ≡ 0 → 0 < length room → IsAtEnd c) → count ≡ 0 → 0 < length room
+    → OnOk r (Appends second third (substitution used held))
+    → OnErr r (AppendsPrefix second third (substitution used held)) → OnErr r (r ≡ Err WriteFault)
     → EndsAs values a c first third r
-fed-finish values used a b c held count room first second third (Ok u) same p q none some ok prefix fault = fed-end values used a b c held count room first second third same p q none some ok
+fed-finish values used a b c held count room first second third (Ok u) same p q none some ok prefix fault =
+    fed-end values used a b c held count room first second third same p q none some ok
 fed-finish values used a b c held count room first second third (Err ReadFault) same p q none some ok prefix fault =
     let wrong : same_result (Err ReadFault) (Err WriteFault) = fault in cc
 fed-finish values used a b c held count room first second third (Err WriteFault) same p q none some ok prefix fault =

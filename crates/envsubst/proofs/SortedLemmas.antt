@@ -40,7 +40,8 @@ lt-not_eq Equal e = cc
 lt-not_eq Greater e = refl
 
 -- what stands after an ordering that is neither less nor equal
-after-not_eq : (a b : Ordering) → ordering_index a ≤ ordering_index b → is_lt a ≡ false → is_eq a ≡ false → is_eq b ≡ false
+after-not_eq : (a b : Ordering) → ordering_index a ≤ ordering_index b → is_lt a ≡ false → is_eq a ≡ false
+    → is_eq b ≡ false
 after-not_eq Less b le e f = absurd (cc)
 after-not_eq Equal b le e f = absurd (cc)
 after-not_eq Greater Less le e f = refl
@@ -61,40 +62,50 @@ below-differs known name below = sym (is_eq-slice_cmp known name) ∙ lt-not_eq 
 abbrev pub below : List ℕ → Variable → Bool
 below name variable = is_lt (name_cmp variable.0.now name)
 
-rises : (vars : List Variable) (name : List ℕ) → AreVariablesSorted vars → (i j : ℕ) (d : Variable) → i ≤ j → j < length vars
+rises : (vars : List Variable) (name : List ℕ) → AreVariablesSorted vars → (i j : ℕ) (d : Variable) → i ≤ j
+    → j < length vars
     → ordering_index (name_cmp (get_or vars i d).0.now name) ≤ ordering_index (name_cmp (get_or vars j d).0.now name)
-rises vars name sorted i j d le inside = searchable_from_sorted nat_list_cmp_total (λ (v : Variable). v.0.now) vars name sorted i j d le inside
+rises vars name sorted i j d le inside =
+    searchable_from_sorted nat_list_cmp_total (λ (v : Variable). v.0.now) vars name sorted i j d le inside
 
 pub partitioned : (vars : List Variable) (name : List ℕ) → AreVariablesSorted vars → IsPartitionedBy (below name) vars
 partitioned vars name sorted i j d le inside e =
-    before-lt (name_cmp (get_or vars i d).0.now name) (name_cmp (get_or vars j d).0.now name) (rises vars name sorted i j d le inside) e
+    before-lt (name_cmp (get_or vars i d).0.now name) (name_cmp (get_or vars j d).0.now name)
+    (rises vars name sorted i j d le inside) e
 
 -- variables of other names are passed
 passes : (vars : List Variable) (name : List ℕ) (d : Variable) (n : ℕ) → n ≤ length vars
-    → ((k : ℕ) → k < n → bytes_eq (get_or vars k d).0.now name ≡ false) → value_of (pairs_in vars) name ≡ value_of (pairs_in (drop n vars)) name
+    → ((k : ℕ) → k < n → bytes_eq (get_or vars k d).0.now name ≡ false)
+    → value_of (pairs_in vars) name ≡ value_of (pairs_in (drop n vars)) name
 passes vars name d zero le others = refl
 passes vars name d (suc n) le others =
     let so_far = passes vars name d n (omega arith) (λ k lt. others k (omega arith)) in
     let next : n + 1 ≡ suc n = omega arith in
-    so_far ∙ value_of-next vars name n d (omega arith) ∙ cond-false _ _ _ (others n (omega arith)) ∙ ap (λ m. value_of (pairs_in (drop m vars)) name) next
+    so_far ∙ value_of-next vars name n d (omega arith) ∙ cond-false _ _ _ (others n (omega arith))
+    ∙ ap (λ m. value_of (pairs_in (drop m vars)) name) next
 
-none-left : (vars : List Variable) (name : List ℕ) (d : Variable) → ((k : ℕ) → k < length vars → bytes_eq (get_or vars k d).0.now name ≡ false) → value_of (pairs_in vars) name ≡ []
+none-left : (vars : List Variable) (name : List ℕ) (d : Variable)
+    → ((k : ℕ) → k < length vars → bytes_eq (get_or vars k d).0.now name ≡ false) → value_of (pairs_in vars) name ≡ []
 unfolding value_of
 none-left vars name d others =
-    passes vars name d (length vars) (omega arith) others ∙ ap (λ vs. value_of (pairs_in vs) name) (drop_all (length vars) vars (omega arith))
+    passes vars name d (length vars) (omega arith) others
+    ∙ ap (λ vs. value_of (pairs_in vs) name) (drop_all (length vars) vars (omega arith))
 
 abbrev pub IsPoint : List Variable → List ℕ → ℕ → Type 0
 IsPoint vars name index = IsPartitionPoint (λ v. below name v ≡ true) (λ v. below name v ≡ false) vars index
 
 -- the variable at the point where names are no longer below the one, where it has this name
-pub value-found : (vars : List Variable) (name : List ℕ) (index : ℕ) (d : Variable) → IsPoint vars name index → index < length vars
+pub value-found : (vars : List Variable) (name : List ℕ) (index : ℕ) (d : Variable) → IsPoint vars name index
+    → index < length vars
     → bytes_eq (get_or vars index d).0.now name ≡ true → value_of (pairs_in vars) name ≡ (get_or vars index d).1.now
 value-found vars name index d point inside same =
-    passes vars name d index (omega arith) (λ k lt. below-differs (get_or vars k d).0.now name (point.0 k d (omega arith) lt))
+    passes vars name d index (omega arith)
+    (λ k lt. below-differs (get_or vars k d).0.now name (point.0 k d (omega arith) lt))
     ∙ value_of-next vars name index d inside ∙ cond-true _ _ _ same
 
 -- where it has another, no variable has this name
-pub value-other : (vars : List Variable) (name : List ℕ) (index : ℕ) (d : Variable) → AreVariablesSorted vars → IsPoint vars name index → index < length vars
+pub value-other : (vars : List Variable) (name : List ℕ) (index : ℕ) (d : Variable) → AreVariablesSorted vars
+    → IsPoint vars name index → index < length vars
     → bytes_eq (get_or vars index d).0.now name ≡ false → value_of (pairs_in vars) name ≡ []
 value-other vars name index d sorted point inside other =
     let here = name_cmp (get_or vars index d).0.now name in
@@ -108,12 +119,14 @@ value-other vars name index d sorted point inside other =
     ])
 
 -- where all names are below the one, none has it
-pub value-none : (vars : List Variable) (name : List ℕ) (index : ℕ) (d : Variable) → IsPoint vars name index → length vars ≤ index → value_of (pairs_in vars) name ≡ []
+pub value-none : (vars : List Variable) (name : List ℕ) (index : ℕ) (d : Variable) → IsPoint vars name index
+    → length vars ≤ index → value_of (pairs_in vars) name ≡ []
 value-none vars name index d point end =
     none-left vars name d (λ k lt. below-differs (get_or vars k d).0.now name (point.0 k d (omega arith) (omega arith)))
 
 -- a name is among sorted names where the search finds it
-pub searched-name : (names : List Name) (name : List ℕ) (r : Result ℕ ℕ) → AreNamesSorted names → IsSearchInRange r (length names)
+pub searched-name : (names : List Name) (name : List ℕ) (r : Result ℕ ℕ) → AreNamesSorted names
+    → IsSearchInRange r (length names)
     → IsBinarySearchResult (λ y. name_cmp y.now name) names r → is_ok r ≡ list_any (λ n. bytes_eq n.now name) names
 searched-name names name (Ok i) sorted bound found =
     let nothing : Name = record { ref_ptr = (0, 0); now = [] } in
@@ -147,17 +160,20 @@ tied-name name v =
     ∙ tied (name_cmp v.0.now name) ∙ is_eq-slice_cmp v.0.now name
 
 -- the value is that among the variables of this name
-among-ties : (vars : List Variable) (name : List ℕ) → value_of (pairs_in vars) name ≡ value_of (pairs_in (filter (ties stands_below (named name)) vars)) name
+among-ties : (vars : List Variable) (name : List ℕ)
+    → value_of (pairs_in vars) name ≡ value_of (pairs_in (filter (ties stands_below (named name)) vars)) name
 unfolding value_of
 among-ties [] name = refl
 among-ties (v ∷ vars) name =
     rw (tied-name name v)
-    (cond_both (bytes_eq v.0.now name) (v ∷ filter (ties stands_below (named name)) vars) (filter (ties stands_below (named name)) vars)
+    (cond_both (bytes_eq v.0.now name) (v ∷ filter (ties stands_below (named name)) vars)
+    (filter (ties stands_below (named name)) vars)
     (λ list. value_of (pairs_in (v ∷ vars)) name ≡ value_of (pairs_in list) name)
     (λ e. rw e) (λ e. rw e (among-ties vars name)))
 
 -- so a stable sort keeps all values
-pub stable-values : (vars sorted : List Variable) → IsStableBy stands_below vars sorted → (name : List ℕ) → value_of (pairs_in sorted) name ≡ value_of (pairs_in vars) name
+pub stable-values : (vars sorted : List Variable) → IsStableBy stands_below vars sorted → (name : List ℕ)
+    → value_of (pairs_in sorted) name ≡ value_of (pairs_in vars) name
 stable-values vars sorted stable name =
     among-ties sorted name ∙ ap (λ vs. value_of (pairs_in vs) name) (stable (named name)) ∙ sym (among-ties vars name)
 
@@ -172,7 +188,8 @@ same-names names sorted moved name =
 
 -- variables with the same values and names that replace the same make references the same
 pub same-replacements : (vars sorted : List (List ℕ × List ℕ)) (only names : Option (List (List ℕ)))
-    → ((name : List ℕ) → value_of sorted name ≡ value_of vars name) → ((name : List ℕ) → is_replaced names name ≡ is_replaced only name)
+    → ((name : List ℕ) → value_of sorted name ≡ value_of vars name)
+    → ((name : List ℕ) → is_replaced names name ≡ is_replaced only name)
     → values_of sorted names ≡ values_of vars only
 unfolding values_of
 same-replacements vars sorted only names values replaced =

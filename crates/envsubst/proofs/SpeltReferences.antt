@@ -12,7 +12,8 @@ use Rattle.envsubst.specs.Replacing.{IsInName, IsName, NoNameGoesOn, SpellsRefer
 use Rattle.envsubst.proofs.ReferenceLemmas.{ends, closes, ending-some, after-closed, letter-name_byte}
 
 all_decides : (bytes : List ℕ) → Decides (list_all is_name_byte bytes) (All IsInName bytes)
-all_decides bytes = Decides-by_and is_name_byte IsInName (λ text. list_all is_name_byte text) (λ b. (λ e. e, λ h. h)) refl (λ _ _. refl) bytes
+all_decides bytes = Decides-by_and is_name_byte IsInName (λ text. list_all is_name_byte text)
+    (λ b. (λ e. e, λ h. h)) refl (λ _ _. refl) bytes
 
 name_says : (name : List ℕ) → is_name name ≡ true → list_all is_name_byte name ≡ true → IsName name
 unfolding is_name
@@ -26,7 +27,8 @@ name_begun : (name : List ℕ) → IsName name → is_begun_name name ≡ true
 unfolding is_name
 name_begun [] h = absurd h
 name_begun (b ∷ bytes) h =
-    and_from _ _ (and_from _ _ h.0 (lt-ltb (length bytes) 255 (h.2))) (and_from _ _ (letter-name_byte b h.0) ((all_decides bytes).1 h.1))
+    and_from _ _ (and_from _ _ h.0 (lt-ltb (length bytes) 255 (h.2)))
+    (and_from _ _ (letter-name_byte b h.0) ((all_decides bytes).1 h.1))
 
 name_some : (name : List ℕ) → IsName name → name ≡ [] → ⊥
 name_some [] h none = h
@@ -40,9 +42,12 @@ pub record IsRead (text name rest : List ℕ) : Type 0 where
   pub read : reference_after bytes ≡ Some (record { name = name; size = size })
   pub after : drop size bytes ≡ rest
 
-bare_read : (name rest : List ℕ) → IsName name → NoNameGoesOn rest → reference_after (name ++ rest) ≡ Some (record { name = name; size = length name })
+bare_read : (name rest : List ℕ) → IsName name → NoNameGoesOn rest
+    → reference_after (name ++ rest) ≡ Some (record { name = name; size = length name })
 bare_read name [] h ended = ending-some name (name_begun name h) (name_some name h)
-bare_read name (b ∷ rest) h ended = ends name b rest (name_begun name h) (name_some name h) (false_from_ne_true (is_name_byte b) (λ passes. ended passes))
+bare_read name (b ∷ rest) h ended =
+    ends name b rest (name_begun name h) (name_some name h)
+    (false_from_ne_true (is_name_byte b) (λ passes. ended passes))
 
 pub reference_read : {text name rest : List ℕ} → SpellsReference text name rest → IsRead text name rest
 reference_read (bare {name = name} {rest = rest} h ended) = record {
@@ -62,7 +67,8 @@ reference_read (braced {name = name} {rest = rest} h) = record {
 
 -- a text is the longest run of name bytes, and a rest
 abbrev RunAt : List ℕ → List ℕ → Type 0
-RunAt bytes run = (list_all is_name_byte run ≡ true) × NoNameGoesOn (drop (length run) bytes) × (run ++ drop (length run) bytes ≡ bytes)
+RunAt bytes run = (list_all is_name_byte run ≡ true) × NoNameGoesOn (drop (length run) bytes)
+    × (run ++ drop (length run) bytes ≡ bytes)
 
 run_at : (bytes : List ℕ) → RunAt bytes (name_prefix bytes)
 run_at [] = (refl, tt, refl)
@@ -83,7 +89,8 @@ unfolding bare_reference
 bare_says bytes =
     let run = run_at bytes in
     cond_both (is_name (name_prefix bytes)) _ None (Says bytes)
-    (λ named. subst (λ text. SpellsReference (36 ∷ text) (name_prefix bytes) (drop (length (name_prefix bytes)) bytes)) run.2 (bare (name_says (name_prefix bytes) named run.0) run.1))
+    (λ named. subst (λ text. SpellsReference (36 ∷ text) (name_prefix bytes) (drop (length (name_prefix bytes)) bytes))
+    run.2 (bare (name_says (name_prefix bytes) named run.0) run.1))
     (λ _. tt)
 
 closed_by : (rest : List ℕ) → begins_with 125 rest ≡ true → rest ≡ 125 ∷ drop 1 rest
@@ -105,7 +112,8 @@ braced_says bytes =
     let p = and_parts (is_name name) (begins_with 125 rest) both in
     let closed = closed_by rest p.1 in
     subst (λ end. SpellsReference (36 ∷ 123 ∷ bytes) name end) (sym (two_more (length name) 123 bytes))
-    (subst (λ text. SpellsReference (36 ∷ 123 ∷ text) name (drop 1 rest)) (ap (λ l. name ++ l) (sym closed) ∙ run.2) (braced (name_says name p.0 run.0))))
+    (subst (λ text. SpellsReference (36 ∷ 123 ∷ text) name (drop 1 rest)) (ap (λ l. name ++ l) (sym closed) ∙ run.2)
+    (braced (name_says name p.0 run.0))))
     (λ _. tt)
 
 opened_by : (bytes : List ℕ) → begins_with 123 bytes ≡ true → 123 ∷ drop 1 bytes ≡ bytes
@@ -116,8 +124,10 @@ says : (bytes : List ℕ) → Says bytes (reference_after bytes)
 unfolding reference_after
 says bytes =
     cond_both (begins_with 123 bytes) (braced_reference (drop 1 bytes)) (bare_reference bytes) (Says bytes)
-    (λ opened. subst (λ text. Says text (braced_reference (drop 1 bytes))) (opened_by bytes opened) (braced_says (drop 1 bytes)))
+    (λ opened. subst (λ text. Says text (braced_reference (drop 1 bytes))) (opened_by bytes opened)
+    (braced_says (drop 1 bytes)))
     (λ _. bare_says bytes)
 
-pub reference_spelt : (bytes : List ℕ) (r : Reference) → reference_after bytes ≡ Some r → SpellsReference (36 ∷ bytes) r.name (drop r.size bytes)
+pub reference_spelt : (bytes : List ℕ) (r : Reference) → reference_after bytes ≡ Some r
+    → SpellsReference (36 ∷ bytes) r.name (drop r.size bytes)
 reference_spelt bytes r e = subst (Says bytes) e (says bytes)

@@ -24,20 +24,25 @@ skipped values (suc n) [] = refl
 skipped values (suc n) (b ∷ bs) = skipped values n bs
 
 -- a byte that is no `$` is copied
-pub plain : (values : Values) (b : ℕ) (bs : List ℕ) → eqb b 36 ≡ false → substitution values (b ∷ bs) ≡ b ∷ substitution values bs
+pub plain : (values : Values) (b : ℕ) (bs : List ℕ) → eqb b 36 ≡ false
+    → substitution values (b ∷ bs) ≡ b ∷ substitution values bs
 unfolding substitution_after
-plain values b bs other = ap (λ r. substituted b r (λ skip. substitution_after values skip bs)) (cond-false (eqb b 36) _ None other)
+plain values b bs other =
+    ap (λ r. substituted b r (λ skip. substitution_after values skip bs)) (cond-false (eqb b 36) _ None other)
 
 -- a `$` that begins no replaced reference is copied
-pub not-replaced : (values : Values) (bs : List ℕ) → replacement_of values (reference_after bs) ≡ None → substitution values (36 ∷ bs) ≡ 36 ∷ substitution values bs
+pub not-replaced : (values : Values) (bs : List ℕ) → replacement_of values (reference_after bs) ≡ None
+    → substitution values (36 ∷ bs) ≡ 36 ∷ substitution values bs
 unfolding substitution_after
 not-replaced values bs none = ap (λ r. substituted 36 r (λ skip. substitution_after values skip bs)) none
 
 -- a replaced reference gives its value, and the text goes on after it
-pub replaced : (values : Values) (bs : List ℕ) (r : Replacement) → replacement_of values (reference_after bs) ≡ Some r → substitution values (36 ∷ bs) ≡ r.value ++ substitution values (drop r.size bs)
+pub replaced : (values : Values) (bs : List ℕ) (r : Replacement) → replacement_of values (reference_after bs) ≡ Some r
+    → substitution values (36 ∷ bs) ≡ r.value ++ substitution values (drop r.size bs)
 unfolding substitution_after
 replaced values bs r some =
-    ap (λ o. substituted 36 o (λ skip. substitution_after values skip bs)) some ∙ ap (λ l. r.value ++ l) (skipped values r.size bs)
+    ap (λ o. substituted 36 o (λ skip. substitution_after values skip bs)) some
+    ∙ ap (λ l. r.value ++ l) (skipped values r.size bs)
 
 -- the first n bytes are copied
 abbrev CopiesPrefix : Values → ℕ → List ℕ → List ℕ → Type 0
@@ -52,61 +57,91 @@ plain-prefix values (b ∷ bs) rest = elim (cases_Bool (eqb b 36)) [
 ]
 
 -- bytes without a `$` are copied
-pub plain-run : (values : Values) (bs rest : List ℕ) → list_all is_name_byte bs ≡ true → substitution values (bs ++ rest) ≡ bs ++ substitution values rest
+pub plain-run : (values : Values) (bs rest : List ℕ) → list_all is_name_byte bs ≡ true
+    → substitution values (bs ++ rest) ≡ bs ++ substitution values rest
 plain-run values [] rest h = refl
 plain-run values (b ∷ bs) rest h =
     let p = and_parts (is_name_byte b) (list_all is_name_byte bs) h in
     plain values b (bs ++ rest) (name_byte-not 36 b dollar-no_name p.0) ∙ ap (λ l. b ∷ l) (plain-run values bs rest p.1)
 
 -- a begun reference, and what comes after it
-pub after-append : (is_braced : Bool) (name xs : List ℕ) → after_dollar is_braced name ++ xs ≡ after_dollar is_braced (name ++ xs)
+pub after-append : (is_braced : Bool) (name xs : List ℕ)
+    → after_dollar is_braced name ++ xs ≡ after_dollar is_braced (name ++ xs)
 after-append true name xs = refl
 after-append false name xs = refl
 
 -- a begun reference that is none, or isn't replaced, is copied
-pub begun-copied : (values : Values) (is_braced : Bool) (name xs : List ℕ) → is_begun_name name ≡ true → replacement_of values (reference_after (after_dollar is_braced (name ++ xs))) ≡ None
-    → substitution values (36 ∷ after_dollar is_braced (name ++ xs)) ≡ (36 ∷ after_dollar is_braced name) ++ substitution values xs
+pub begun-copied : (values : Values) (is_braced : Bool) (name xs : List ℕ) → is_begun_name name ≡ true
+    → replacement_of values (reference_after (after_dollar is_braced (name ++ xs))) ≡ None
+    → substitution values (36 ∷ after_dollar is_braced (name ++ xs)) ≡ (36 ∷ after_dollar is_braced name)
+    ++ substitution values xs
 begun-copied values true name xs h none =
-    rw (not-replaced values (123 ∷ (name ++ xs)) none, plain values 123 (name ++ xs) refl, plain-run values name xs (begun-bytes name h))
-begun-copied values false name xs h none = rw (not-replaced values (name ++ xs) none, plain-run values name xs (begun-bytes name h))
+    rw (
+      not-replaced values (123 ∷ (name ++ xs)) none,
+      plain values 123 (name ++ xs) refl,
+      plain-run values name xs (begun-bytes name h),
+    )
+begun-copied values false name xs h none =
+    rw (not-replaced values (name ++ xs) none, plain-run values name xs (begun-bytes name h))
 
 -- a reference to a name that isn't replaced
-replacement-none : (values : Values) (name : List ℕ) (size : ℕ) (bs : List ℕ) → reference_after bs ≡ Some (record { name = name; size = size }) → values name ≡ None → replacement_of values (reference_after bs) ≡ None
+replacement-none : (values : Values) (name : List ℕ) (size : ℕ) (bs : List ℕ)
+    → reference_after bs ≡ Some (record { name = name; size = size }) → values name ≡ None
+    → replacement_of values (reference_after bs) ≡ None
 unfolding replacement_of
-replacement-none values name size bs some none = ap (replacement_of values) some ∙ ap (option_map (λ v. record { value = v; size = size })) none
+replacement-none values name size bs some none =
+    ap (replacement_of values) some ∙ ap (option_map (λ v. record { value = v; size = size })) none
 
 -- a reference to a name that is
-pub replacement-some : (values : Values) (name value : List ℕ) (size : ℕ) (bs : List ℕ) → reference_after bs ≡ Some (record { name = name; size = size }) → values name ≡ Some value → replacement_of values (reference_after bs) ≡ Some (record { value = value; size = size })
+pub replacement-some : (values : Values) (name value : List ℕ) (size : ℕ) (bs : List ℕ)
+    → reference_after bs ≡ Some (record { name = name; size = size }) → values name ≡ Some value
+    → replacement_of values (reference_after bs) ≡ Some (record { value = value; size = size })
 unfolding replacement_of
-replacement-some values name value size bs some is = ap (replacement_of values) some ∙ ap (option_map (λ v. record { value = v; size = size })) is
+replacement-some values name value size bs some is =
+    ap (replacement_of values) some ∙ ap (option_map (λ v. record { value = v; size = size })) is
 
-no-replacement : (values : Values) (bs : List ℕ) → reference_after bs ≡ None → replacement_of values (reference_after bs) ≡ None
+no-replacement : (values : Values) (bs : List ℕ) → reference_after bs ≡ None
+    → replacement_of values (reference_after bs) ≡ None
 unfolding replacement_of
 no-replacement values bs none = ap (replacement_of values) none
 
 -- held bytes of a begun reference, and what comes after them
-held-append : (is_braced : Bool) (held name xs : List ℕ) → held ≡ 36 ∷ after_dollar is_braced name → held ++ xs ≡ 36 ∷ after_dollar is_braced (name ++ xs)
+held-append : (is_braced : Bool) (held name xs : List ℕ) → held ≡ 36 ∷ after_dollar is_braced name
+    → held ++ xs ≡ 36 ∷ after_dollar is_braced (name ++ xs)
 held-append is_braced held name xs e = ap (λ l. l ++ xs) e ∙ ap (λ l. 36 ∷ l) (after-append is_braced name xs)
 
 -- held bytes that are copied
-held-copied : (values : Values) (is_braced : Bool) (held name xs : List ℕ) → held ≡ 36 ∷ after_dollar is_braced name → is_begun_name name ≡ true → replacement_of values (reference_after (after_dollar is_braced (name ++ xs))) ≡ None
+held-copied : (values : Values) (is_braced : Bool) (held name xs : List ℕ) → held ≡ 36 ∷ after_dollar is_braced name
+    → is_begun_name name ≡ true → replacement_of values (reference_after (after_dollar is_braced (name ++ xs))) ≡ None
     → substitution values (held ++ xs) ≡ held ++ substitution values xs
 held-copied values is_braced held name xs e h none =
-    ap (substitution values) (held-append is_braced held name xs e) ∙ begun-copied values is_braced name xs h none ∙ ap (λ l. l ++ substitution values xs) (sym e)
+    ap (substitution values) (held-append is_braced held name xs e) ∙ begun-copied values is_braced name xs h none
+    ∙ ap (λ l. l ++ substitution values xs) (sym e)
 
 -- held bytes that are replaced
-held-replaced : (values : Values) (is_braced : Bool) (held name xs value : List ℕ) (size : ℕ) → held ≡ 36 ∷ after_dollar is_braced name → reference_after (after_dollar is_braced (name ++ xs)) ≡ Some (record { name = name; size = size }) → values name ≡ Some value
+held-replaced : (values : Values) (is_braced : Bool) (held name xs value : List ℕ) (size : ℕ)
+    → held ≡ 36 ∷ after_dollar is_braced name
+    → reference_after (after_dollar is_braced (name ++ xs)) ≡ Some (record { name = name; size = size })
+    → values name ≡ Some value
     → substitution values (held ++ xs) ≡ value ++ substitution values (drop size (after_dollar is_braced (name ++ xs)))
 held-replaced values is_braced held name xs value size e some is =
-    ap (substitution values) (held-append is_braced held name xs e) ∙ replaced values (after_dollar is_braced (name ++ xs)) (record { value = value; size = size }) (replacement-some values name value size _ some is)
+    ap (substitution values) (held-append is_braced held name xs e)
+    ∙ replaced values (after_dollar is_braced (name ++ xs)) (record { value = value; size = size })
+    (replacement-some values name value size _ some is)
 
-pub out-copied : (values : Values) (is_braced : Bool) (held name : List ℕ) (next : ℕ) → held ≡ 36 ∷ after_dollar is_braced name → is_begun_name name ≡ true → Decides is_braced name next Copies → ComesOut values held next Copied
-out-copied values is_braced held name next e h none = λ rest. held-copied values is_braced held name (next ∷ rest) e h (no-replacement values _ (none rest))
+pub out-copied : (values : Values) (is_braced : Bool) (held name : List ℕ) (next : ℕ)
+    → held ≡ 36 ∷ after_dollar is_braced name → is_begun_name name ≡ true → Decides is_braced name next Copies
+    → ComesOut values held next Copied
+out-copied values is_braced held name next e h none =
+    λ rest. held-copied values is_braced held name (next ∷ rest) e h (no-replacement values _ (none rest))
 
 -- held bytes that are a reference with its end
-out-named : (values : Values) (is_braced : Bool) (held name : List ℕ) (next size taken : ℕ) (o : Effect) → held ≡ 36 ∷ after_dollar is_braced name → is_begun_name name ≡ true
-    → ((rest : List ℕ) → reference_after (after_dollar is_braced (name ++ next ∷ rest)) ≡ Some (record { name = name; size = size }))
-    → ((rest : List ℕ) → drop size (after_dollar is_braced (name ++ next ∷ rest)) ≡ drop taken (next ∷ rest)) → taken ≤ 1
+out-named : (values : Values) (is_braced : Bool) (held name : List ℕ) (next size taken : ℕ) (o : Effect)
+    → held ≡ 36 ∷ after_dollar is_braced name → is_begun_name name ≡ true
+    → ((rest : List ℕ) → reference_after (after_dollar is_braced (name ++ next ∷ rest))
+    ≡ Some (record { name = name; size = size }))
+    → ((rest : List ℕ) → drop size (after_dollar is_braced (name ++ next ∷ rest)) ≡ drop taken (next ∷ rest))
+    → taken ≤ 1
     → ReplacesName values name taken o → ComesOut values held next o
 out-named values is_braced held name next size taken Held e h read after few r = absurd r
 out-named values is_braced held name next size taken Copied e h read after few r = λ rest.
@@ -117,32 +152,46 @@ out-named values is_braced held name next size taken (Replaced value n) e h read
       ∙ ap (λ l. value.now ++ substitution values l) (after rest ∙ ap (λ m. drop m (next ∷ rest)) (sym r.1)),
 )
 
-pub out-ends : (values : Values) (is_braced : Bool) (held name : List ℕ) (next : ℕ) (o : Effect) → held ≡ 36 ∷ after_dollar is_braced name → is_begun_name name ≡ true → Decides is_braced name next Ends → ReplacesName values name 0 o → ComesOut values held next o
+pub out-ends : (values : Values) (is_braced : Bool) (held name : List ℕ) (next : ℕ) (o : Effect)
+    → held ≡ 36 ∷ after_dollar is_braced name → is_begun_name name ≡ true → Decides is_braced name next Ends
+    → ReplacesName values name 0 o → ComesOut values held next o
 out-ends values true held name next o e h ends r = absurd (true≢false ends.0)
 out-ends values false held name next o e h ends r =
-    out-named values false held name next (length name) 0 o e h ends.1 (λ rest. drop_at name (next ∷ rest) (length name) refl) (omega arith) r
+    out-named values false held name next (length name) 0 o e h ends.1
+    (λ rest. drop_at name (next ∷ rest) (length name) refl) (omega arith) r
 
-pub out-closes : (values : Values) (is_braced : Bool) (held name : List ℕ) (next : ℕ) (o : Effect) → held ≡ 36 ∷ after_dollar is_braced name → is_begun_name name ≡ true → Decides is_braced name next Closes → ReplacesName values name 1 o → ComesOut values held next o
+pub out-closes : (values : Values) (is_braced : Bool) (held name : List ℕ) (next : ℕ) (o : Effect)
+    → held ≡ 36 ∷ after_dollar is_braced name → is_begun_name name ≡ true → Decides is_braced name next Closes
+    → ReplacesName values name 1 o → ComesOut values held next o
 out-closes values false held name next o e h closes r = absurd (false≢true closes.0)
 out-closes values true held name next o e h closes r =
-    out-named values true held name next (length name + 2) 1 o e h closes.1 (λ rest. after-closed name next rest) (omega arith) r
+    out-named values true held name next (length name + 2) 1 o e h closes.1 (λ rest. after-closed name next rest)
+    (omega arith) r
 
 -- what becomes of the bytes held where nothing follows
 pub ends-empty : (values : Values) (held : List ℕ) → held ≡ [] → substitution values held ≡ held
 unfolding substitution_after
 ends-empty values held none = ap (substitution values) none ∙ sym none
 
-alone : (values : Values) (held : List ℕ) → substitution values (held ++ []) ≡ held ++ substitution values [] → substitution values held ≡ held
-alone values held copied = ap (substitution values) (sym (append-nil held)) ∙ copied ∙ ap (λ l. held ++ l) (ends-empty values [] refl) ∙ append-nil held
+alone : (values : Values) (held : List ℕ) → substitution values (held ++ []) ≡ held ++ substitution values []
+    → substitution values held ≡ held
+alone values held copied = ap (substitution values) (sym (append-nil held)) ∙ copied
+    ∙ ap (λ l. held ++ l) (ends-empty values [] refl) ∙ append-nil held
 
-pub ends-copied : (values : Values) (is_braced : Bool) (held name : List ℕ) → held ≡ 36 ∷ after_dollar is_braced name → is_begun_name name ≡ true → (is_braced ≡ true) ⊎ (name ≡ []) → substitution values held ≡ held
+pub ends-copied : (values : Values) (is_braced : Bool) (held name : List ℕ) → held ≡ 36 ∷ after_dollar is_braced name
+    → is_begun_name name ≡ true → (is_braced ≡ true) ⊎ (name ≡ []) → substitution values held ≡ held
 ends-copied values is_braced held name e h which =
-    alone values held (held-copied values is_braced held name [] e h (no-replacement values _ (ending-none is_braced name h which)))
+    alone values held (held-copied values is_braced held name [] e h
+    (no-replacement values _ (ending-none is_braced name h which)))
 
-pub ends-name : (values : Values) (held name : List ℕ) (o : Option (Bor (List ℕ))) → held ≡ 36 ∷ name → is_begun_name name ≡ true → (name ≡ [] → ⊥) → option_map (λ v. v.now) o ≡ values name → Ending values held o
+pub ends-name : (values : Values) (held name : List ℕ) (o : Option (Bor (List ℕ))) → held ≡ 36 ∷ name
+    → is_begun_name name ≡ true → (name ≡ [] → ⊥) → option_map (λ v. v.now) o ≡ values name → Ending values held o
 ends-name values held name None e h some is =
-    alone values held (held-copied values false held name [] e h (replacement-none values name (length name) _ (ending-some name h some) (sym is)))
+    alone values held (held-copied values false held name [] e h
+    (replacement-none values name (length name) _ (ending-some name h some) (sym is)))
 ends-name values held name (Some value) e h some is =
     ap (substitution values) (sym (append-nil held))
     ∙ held-replaced values false held name [] value.now (length name) e (ending-some name h some) (sym is)
-    ∙ ap (λ l. value.now ++ l) (ends-empty values _ (drop_at name [] (length name) refl) ∙ drop_at name [] (length name) refl) ∙ append-nil value.now
+    ∙ ap (λ l. value.now ++ l)
+    (ends-empty values _ (drop_at name [] (length name) refl) ∙ drop_at name [] (length name) refl)
+    ∙ append-nil value.now

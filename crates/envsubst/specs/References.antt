@@ -14,7 +14,8 @@ unfoldable pub is_name_byte : ℕ → Bool
 is_name_byte b = is_ascii_alphanumeric b || b == 95
 
 -- of all bytes, those with which a name begins, and those with which it goes on
-pub letters_are : filter is_letter (range_with_len 0 256) ≡ codes "ABCDEFGHIJKLMNOPQRSTUVWXYZ_abcdefghijklmnopqrstuvwxyz"
+pub letters_are : filter is_letter (range_with_len 0 256)
+    ≡ codes "ABCDEFGHIJKLMNOPQRSTUVWXYZ_abcdefghijklmnopqrstuvwxyz"
 unfolding is_letter
 letters_are = refl
 

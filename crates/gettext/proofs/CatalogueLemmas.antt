@@ -15,29 +15,35 @@ next-path paths i d below = ap path_texts (drop_more paths i d below)
 
 -- whatever is asked for at the paths from i on completes what was asked for at the paths before
 pub record AskedPaths (paths : List (Vec ℕ)) (i : ℕ) (before now : Option (List Asked)) : Type 0 where
-  pub completes : (after : Option (List Asked)) → AsksPaths now (path_texts (drop i paths)) after → AsksPaths before (path_texts paths) after
+  pub completes : (after : Option (List Asked)) → AsksPaths now (path_texts (drop i paths)) after
+      → AsksPaths before (path_texts paths) after
 
 pub asked-none : (paths : List (Vec ℕ)) (before : Option (List Asked)) → AskedPaths paths 0 before before
 asked-none paths before = record { completes = λ after asks. asks }
 
-pub asked-more : (paths : List (Vec ℕ)) (i : ℕ) (d : Vec ℕ) (a b c : Option (List Asked)) → i < length paths → AsksAt b c (get_or paths i d).items → AskedPaths paths i a b → AskedPaths paths (i + 1) a c
+pub asked-more : (paths : List (Vec ℕ)) (i : ℕ) (d : Vec ℕ) (a b c : Option (List Asked)) → i < length paths
+    → AsksAt b c (get_or paths i d).items → AskedPaths paths i a b → AskedPaths paths (i + 1) a c
 asked-more paths i d a b c below at before = record {
   completes = λ after asks. before.completes after (rw (next-path paths i d below) (next at asks));
 }
 
-pub asked-all : (paths : List (Vec ℕ)) (i : ℕ) (a b : Option (List Asked)) → length paths ≤ i → AskedPaths paths i a b → AsksPaths a (path_texts paths) b
+pub asked-all : (paths : List (Vec ℕ)) (i : ℕ) (a b : Option (List Asked)) → length paths ≤ i → AskedPaths paths i a b
+    → AsksPaths a (path_texts paths) b
 asked-all paths i a b past before = before.completes b (rw (drop_of_length-le paths past) none)
 
 module _ (file : List ℕ → Reading → Type 0) where
   -- whatever the paths from i on add completes what the paths before made
   pub record CompletesPaths (paths : List (Vec ℕ)) (i : ℕ) (catalogues : List NamedFile) : Type 0 where
-    pub completes : (more : List NamedFile) → AreCatalogues file (path_texts (drop i paths)) more → AreCatalogues file (path_texts paths) (catalogues ++ more)
+    pub completes : (more : List NamedFile) → AreCatalogues file (path_texts (drop i paths)) more
+        → AreCatalogues file (path_texts paths) (catalogues ++ more)
 
   pub completes-none : (paths : List (Vec ℕ)) → CompletesPaths paths 0 []
   completes-none paths = record { completes = λ more are. are }
 
-  pub completes-found : (paths : List (Vec ℕ)) (i : ℕ) (d : Vec ℕ) (catalogues now : List NamedFile) (catalogue : NamedFile) → i < length paths
-      → IsCatalogueAt file (get_or paths i d).items (Some catalogue) → now ≡ catalogues ++ catalogue ∷ [] → CompletesPaths paths i catalogues
+  pub completes-found : (paths : List (Vec ℕ)) (i : ℕ) (d : Vec ℕ) (catalogues now : List NamedFile)
+      (catalogue : NamedFile) → i < length paths
+      → IsCatalogueAt file (get_or paths i d).items (Some catalogue) → now ≡ catalogues ++ catalogue ∷ []
+      → CompletesPaths paths i catalogues
       → CompletesPaths paths (i + 1) now
   completes-found paths i d catalogues now catalogue below is pushed before = record {
     completes = λ more are.
@@ -45,12 +51,15 @@ module _ (file : List ℕ → Reading → Type 0) where
   }
 
   pub completes-skipped : (paths : List (Vec ℕ)) (i : ℕ) (d : Vec ℕ) (catalogues : List NamedFile) → i < length paths
-      → IsCatalogueAt file (get_or paths i d).items None → CompletesPaths paths i catalogues → CompletesPaths paths (i + 1) catalogues
+      → IsCatalogueAt file (get_or paths i d).items None → CompletesPaths paths i catalogues
+      → CompletesPaths paths (i + 1) catalogues
   completes-skipped paths i d catalogues below is before = record {
     completes = λ more are. before.completes more (rw (next-path paths i d below) (skipped is are));
   }
 
-  pub completes-all : (paths : List (Vec ℕ)) (i : ℕ) (catalogues : List NamedFile) → length paths ≤ i → CompletesPaths paths i catalogues
+  pub completes-all : (paths : List (Vec ℕ)) (i : ℕ) (catalogues : List NamedFile) → length paths ≤ i
+      → CompletesPaths paths i catalogues
       → AreCatalogues file (path_texts paths) catalogues
   completes-all paths i catalogues past before =
-      subst (AreCatalogues file (path_texts paths)) (append-nil catalogues) (before.completes [] (rw (drop_of_length-le paths past) done))
+      subst (AreCatalogues file (path_texts paths)) (append-nil catalogues)
+      (before.completes [] (rw (drop_of_length-le paths past) done))

@@ -18,7 +18,8 @@ some_same : (x y : List ℕ) → Some x ≡ Some y → x ≡ y
 some_same x y e = cc
 
 -- a value that counts, and one that doesn't
-pub from_text : (v : Option (Bor (List ℕ))) (value : List ℕ) → HasText (option_copied v) value → non_empty v ≡ Some value
+pub from_text : (v : Option (Bor (List ℕ))) (value : List ℕ) → HasText (option_copied v) value
+    → non_empty v ≡ Some value
 from_text None value t = absurd (none_some value t.is)
 from_text (Some b) value t = elim (cases_Bool (eqb (length b.now) 0)) [
   | inl e ↦ absurd (t.some (sym (some_same b.now value t.is) ∙ nil-from_length b.now e))
@@ -44,7 +45,11 @@ pub says : (v : Option (Bor (List ℕ))) → Says v
 says None = inl (inl refl, refl)
 says (Some b) = elim (cases_Bool (eqb (length b.now) 0)) [
   | inl e ↦ inl (inr (ap Some (nil-from_length b.now e)), cond-true (eqb (length b.now) 0) None (Some b.now) e)
-  | inr e ↦ inr (b.now, record { is = refl; some = some-from_length b.now e }, cond-false (eqb (length b.now) 0) None (Some b.now) e)
+  | inr e ↦ inr (
+    b.now,
+    record { is = refl; some = some-from_length b.now e },
+    cond-false (eqb (length b.now) 0) None (Some b.now) e,
+  )
 ]
 
 chosen : (env : Environment) → IsLocale (environment_view env) (locale_of env)
@@ -62,11 +67,15 @@ chosen env = elim (says env.lc_all) [
 is_locale : (env : Environment) (locale : List ℕ) → IsLocale (environment_view env) locale → locale ≡ locale_of env
 is_locale env locale (by_lc_all a) = rw (from_text env.lc_all locale a)
 is_locale env locale (by_lc_messages a b) = rw (from_no_text env.lc_all a, from_text env.lc_messages locale b)
-is_locale env locale (by_lang a b c) = rw (from_no_text env.lc_all a, from_no_text env.lc_messages b, from_text env.lang locale c)
-is_locale env locale (no_locale a b c) = rw (from_no_text env.lc_all a, from_no_text env.lc_messages b, from_no_text env.lang c)
+is_locale env locale (by_lang a b c) =
+    rw (from_no_text env.lc_all a, from_no_text env.lc_messages b, from_text env.lang locale c)
+is_locale env locale (no_locale a b c) =
+    rw (from_no_text env.lc_all a, from_no_text env.lc_messages b, from_no_text env.lang c)
 
-pub locale_chosen : (env : Environment) (locale : List ℕ) → (locale ≡ locale_of env) ↔ IsLocale (environment_view env) locale
-locale_chosen env locale = (λ is. subst (IsLocale (environment_view env)) (sym is) (chosen env), λ h. is_locale env locale h)
+pub locale_chosen : (env : Environment) (locale : List ℕ)
+    → (locale ≡ locale_of env) ↔ IsLocale (environment_view env) locale
+locale_chosen env locale =
+    (λ is. subst (IsLocale (environment_view env)) (sym is) (chosen env), λ h. is_locale env locale h)
 
 -- the folder
 below : (env : Environment) → IsFolder (environment_view env) (folder_of env)
@@ -79,11 +88,14 @@ is_folder : (env : Environment) (folder : List ℕ) → IsFolder (environment_vi
 is_folder env folder (by_textdomaindir a) = rw (from_text env.textdomaindir folder a)
 is_folder env folder (of_system a) = rw (from_no_text env.textdomaindir a)
 
-pub folder_chosen : (env : Environment) (folder : List ℕ) → (folder ≡ folder_of env) ↔ IsFolder (environment_view env) folder
-folder_chosen env folder = (λ is. subst (IsFolder (environment_view env)) (sym is) (below env), λ h. is_folder env folder h)
+pub folder_chosen : (env : Environment) (folder : List ℕ)
+    → (folder ≡ folder_of env) ↔ IsFolder (environment_view env) folder
+folder_chosen env folder =
+    (λ is. subst (IsFolder (environment_view env)) (sym is) (below env), λ h. is_folder env folder h)
 
 -- the text domain
-domain_by : (argument option : Option (List ℕ)) (env : EnvironmentView) → IsDomain argument option env (option_or argument (option_or option env.textdomain))
+domain_by : (argument option : Option (List ℕ)) (env : EnvironmentView)
+    → IsDomain argument option env (option_or argument (option_or option env.textdomain))
 domain_by (Some domain) option env = by_argument refl
 domain_by None (Some domain) env = by_option refl refl
 domain_by None None env = last env.textdomain refl where
@@ -98,6 +110,10 @@ is_domain (by_option a b) = rw (a, b)
 is_domain (by_textdomain a b c) = rw (a, b, c)
 is_domain (no_domain a b c) = rw (a, b, c)
 
-pub domain_chosen : (argument option : Option (List ℕ)) (env : Environment) (domain : Option (List ℕ)) → (domain ≡ domain_of argument option env) ↔ IsDomain argument option (environment_view env) domain
-domain_chosen argument option env domain =
-    (λ is. subst (IsDomain argument option (environment_view env)) (sym is) (domain_by argument option (environment_view env)), λ h. is_domain h)
+pub domain_chosen : (argument option : Option (List ℕ)) (env : Environment) (domain : Option (List ℕ))
+    → (domain ≡ domain_of argument option env) ↔ IsDomain argument option (environment_view env) domain
+domain_chosen argument option env domain = (
+  λ is. subst (IsDomain argument option (environment_view env)) (sym is)
+      (domain_by argument option (environment_view env)),
+  λ h. is_domain h,
+)

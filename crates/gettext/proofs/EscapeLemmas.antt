@@ -18,26 +18,33 @@ given_bytes-skipped (suc n) [] = refl
 given_bytes-skipped (suc n) (b ∷ bs) = given_bytes-skipped n bs
 
 -- a byte that is no backslash stands for itself
-pub given_bytes-plain : (b : ℕ) (bs : List ℕ) → eqb b 92 ≡ false → given_bytes_after 0 (b ∷ bs) ≡ Some b ∷ given_bytes_after 0 bs
+pub given_bytes-plain : (b : ℕ) (bs : List ℕ) → eqb b 92 ≡ false
+    → given_bytes_after 0 (b ∷ bs) ≡ Some b ∷ given_bytes_after 0 bs
 unfolding given_bytes_after
-given_bytes-plain b bs other = ap (λ e. given_bytes b e (λ skip. given_bytes_after skip bs)) (cond-false (eqb b 92) (escape_after bs) None other)
+given_bytes-plain b bs other =
+    ap (λ e. given_bytes b e (λ skip. given_bytes_after skip bs)) (cond-false (eqb b 92) (escape_after bs) None other)
 
 -- a backslash that begins no escape stays
-pub given_bytes-stays : (bs : List ℕ) → escape_after bs ≡ None → given_bytes_after 0 (92 ∷ bs) ≡ Some 92 ∷ given_bytes_after 0 bs
+pub given_bytes-stays : (bs : List ℕ) → escape_after bs ≡ None
+    → given_bytes_after 0 (92 ∷ bs) ≡ Some 92 ∷ given_bytes_after 0 bs
 unfolding given_bytes_after
 given_bytes-stays bs none = ap (λ e. given_bytes 92 e (λ skip. given_bytes_after skip bs)) none
 
 -- an escape gives its byte, if it has one
-pub given_bytes-escape : (bs : List ℕ) (e : Escape) → escape_after bs ≡ Some e → given_bytes_after 0 (92 ∷ bs) ≡ e.byte ∷ given_bytes_after 0 (drop e.size bs)
+pub given_bytes-escape : (bs : List ℕ) (e : Escape) → escape_after bs ≡ Some e
+    → given_bytes_after 0 (92 ∷ bs) ≡ e.byte ∷ given_bytes_after 0 (drop e.size bs)
 unfolding given_bytes_after
-given_bytes-escape bs e some = ap (λ o. given_bytes 92 o (λ skip. given_bytes_after skip bs)) some ∙ ap (λ us. e.byte ∷ us) (given_bytes-skipped e.size bs)
+given_bytes-escape bs e some = ap (λ o. given_bytes 92 o (λ skip. given_bytes_after skip bs)) some
+    ∙ ap (λ us. e.byte ∷ us) (given_bytes-skipped e.size bs)
 
 -- the bytes before the first backslash
-prefix-bytes : (bs : List ℕ) → expansion bs ≡ take (position_or_len (is_byte 92) bs) bs ++ expansion (drop (position_or_len (is_byte 92) bs) bs)
+prefix-bytes : (bs : List ℕ)
+    → expansion bs ≡ take (position_or_len (is_byte 92) bs) bs ++ expansion (drop (position_or_len (is_byte 92) bs) bs)
 prefix-bytes [] = refl
 prefix-bytes (b ∷ bs) = elim (cases_Bool (eqb b 92)) [
   | inl e ↦ rw (byte-here 92 b bs e)
-  | inr e ↦ rw (byte-later 92 b bs e) (ap (filter_map (λ u. u)) (given_bytes-plain b bs e) ∙ ap (λ l. b ∷ l) (prefix-bytes bs))
+  | inr e ↦ rw (byte-later 92 b bs e)
+      (ap (filter_map (λ u. u)) (given_bytes-plain b bs e) ∙ ap (λ l. b ∷ l) (prefix-bytes bs))
 ]
 
 prefix-newline : (bs : List ℕ) → has_no_newline bs ≡ has_no_newline (drop (position_or_len (is_byte 92) bs) bs)
@@ -47,75 +54,101 @@ prefix-newline (b ∷ bs) = elim (cases_Bool (eqb b 92)) [
   | inr e ↦ rw (byte-later 92 b bs e) (ap (list_any (λ u. is_none u)) (given_bytes-plain b bs e) ∙ prefix-newline bs)
 ]
 
-prefix-at : (bs : List ℕ) (n : ℕ) → n ≡ position_or_len (is_byte 92) bs → expansion bs ≡ take n bs ++ expansion (drop n bs)
+prefix-at : (bs : List ℕ) (n : ℕ) → n ≡ position_or_len (is_byte 92) bs
+    → expansion bs ≡ take n bs ++ expansion (drop n bs)
 prefix-at bs n index = subst (λ m. expansion bs ≡ take m bs ++ expansion (drop m bs)) (sym index) (prefix-bytes bs)
 
-newline-at : (bs : List ℕ) (n : ℕ) → n ≡ position_or_len (is_byte 92) bs → has_no_newline bs ≡ has_no_newline (drop n bs)
+newline-at : (bs : List ℕ) (n : ℕ) → n ≡ position_or_len (is_byte 92) bs
+    → has_no_newline bs ≡ has_no_newline (drop n bs)
 newline-at bs n index = prefix-newline bs ∙ ap (λ m. has_no_newline (drop m bs)) (sym index)
 
 -- where no backslash is left
-pub end-bytes : (bytes bs all : List ℕ) (n : ℕ) → bytes ++ expansion bs ≡ all → n ≡ position_or_len (is_byte 92) bs → n ≡ length bs → bytes ++ take n bs ≡ all
+pub end-bytes : (bytes bs all : List ℕ) (n : ℕ) → bytes ++ expansion bs ≡ all → n ≡ position_or_len (is_byte 92) bs
+    → n ≡ length bs → bytes ++ take n bs ≡ all
 unfolding given_bytes_after
 end-bytes bytes bs all n inv index end =
     let nothing : drop n bs ≡ [] = drop_all n bs (omega arith) in
-    ap (λ l. bytes ++ l) (sym (prefix-at bs n index ∙ ap (λ l. take n bs ++ expansion l) nothing ∙ append-nil (take n bs))) ∙ inv
+    ap (λ l. bytes ++ l) (sym
+    (prefix-at bs n index ∙ ap (λ l. take n bs ++ expansion l) nothing ∙ append-nil (take n bs))) ∙ inv
 
-pub end-newline : (found all : Bool) (bs : List ℕ) (n : ℕ) → (found || has_no_newline bs) ≡ all → n ≡ position_or_len (is_byte 92) bs → n ≡ length bs → found ≡ all
+pub end-newline : (found all : Bool) (bs : List ℕ) (n : ℕ) → (found || has_no_newline bs) ≡ all
+    → n ≡ position_or_len (is_byte 92) bs → n ≡ length bs → found ≡ all
 unfolding given_bytes_after
 end-newline found all bs n inv index end =
     let nothing : drop n bs ≡ [] = drop_all n bs (omega arith) in
     sym (or-false found) ∙ ap (λ b. found || b) (sym (newline-at bs n index ∙ ap has_no_newline nothing)) ∙ inv
 
 -- a backslash that stays, after plain bytes
-pub stays-bytes : (bytes bs all : List ℕ) (n : ℕ) → bytes ++ expansion bs ≡ all → n ≡ position_or_len (is_byte 92) bs → n < length bs → escape_after (drop (n + 1) bs) ≡ None
+pub stays-bytes : (bytes bs all : List ℕ) (n : ℕ) → bytes ++ expansion bs ≡ all → n ≡ position_or_len (is_byte 92) bs
+    → n < length bs → escape_after (drop (n + 1) bs) ≡ None
     → ((bytes ++ take n bs) ++ 92 ∷ []) ++ expansion (drop (n + 1) bs) ≡ all
 stays-bytes bytes bs all n inv index short none =
     let after = drop (n + 1) bs in
     append_assoc (bytes ++ take n bs) (92 ∷ []) (expansion after)
     ∙ append_assoc bytes (take n bs) (92 ∷ expansion after)
-    ∙ ap (λ l. bytes ++ (take n bs ++ l)) (sym (ap expansion (byte-at 92 bs n index short) ∙ ap (filter_map (λ u. u)) (given_bytes-stays after none)))
+    ∙ ap (λ l. bytes ++ (take n bs ++ l))
+    (sym (ap expansion (byte-at 92 bs n index short) ∙ ap (filter_map (λ u. u)) (given_bytes-stays after none)))
     ∙ ap (λ l. bytes ++ l) (sym (prefix-at bs n index)) ∙ inv
 
-pub stays-newline : (found all : Bool) (bs : List ℕ) (n : ℕ) → (found || has_no_newline bs) ≡ all → n ≡ position_or_len (is_byte 92) bs → n < length bs → escape_after (drop (n + 1) bs) ≡ None
+pub stays-newline : (found all : Bool) (bs : List ℕ) (n : ℕ) → (found || has_no_newline bs) ≡ all
+    → n ≡ position_or_len (is_byte 92) bs → n < length bs → escape_after (drop (n + 1) bs) ≡ None
     → (found || has_no_newline (drop (n + 1) bs)) ≡ all
 stays-newline found all bs n inv index short none =
-    ap (λ b. found || b) (sym (newline-at bs n index ∙ ap has_no_newline (byte-at 92 bs n index short) ∙ ap (list_any (λ u. is_none u)) (given_bytes-stays _ none))) ∙ inv
+    ap (λ b. found || b) (sym
+    (newline-at bs n index ∙ ap has_no_newline (byte-at 92 bs n index short)
+    ∙ ap (list_any (λ u. is_none u)) (given_bytes-stays _ none))) ∙ inv
 
 -- an escape that gives a byte
-pub byte-bytes : (bytes bs all : List ℕ) (n byte : ℕ) (e : Escape) → bytes ++ expansion bs ≡ all → n ≡ position_or_len (is_byte 92) bs → n < length bs → escape_after (drop (n + 1) bs) ≡ Some e → e.byte ≡ Some byte
+pub byte-bytes : (bytes bs all : List ℕ) (n byte : ℕ) (e : Escape) → bytes ++ expansion bs ≡ all
+    → n ≡ position_or_len (is_byte 92) bs → n < length bs → escape_after (drop (n + 1) bs) ≡ Some e → e.byte ≡ Some byte
     → ((bytes ++ take n bs) ++ byte ∷ []) ++ expansion (drop e.size (drop (n + 1) bs)) ≡ all
 byte-bytes bytes bs all n byte e inv index short some is =
     let after = drop (n + 1) bs in
     let given = given_bytes-escape after e some ∙ ap (λ b. b ∷ given_bytes_after 0 (drop e.size after)) is in
     append_assoc (bytes ++ take n bs) (byte ∷ []) (expansion (drop e.size after))
     ∙ append_assoc bytes (take n bs) (byte ∷ expansion (drop e.size after))
-    ∙ ap (λ l. bytes ++ (take n bs ++ l)) (sym (ap expansion (byte-at 92 bs n index short) ∙ ap (filter_map (λ u. u)) given))
+    ∙ ap (λ l. bytes ++ (take n bs ++ l))
+    (sym (ap expansion (byte-at 92 bs n index short) ∙ ap (filter_map (λ u. u)) given))
     ∙ ap (λ l. bytes ++ l) (sym (prefix-at bs n index)) ∙ inv
 
-pub byte-newline : (found all : Bool) (bs : List ℕ) (n byte : ℕ) (e : Escape) → (found || has_no_newline bs) ≡ all → n ≡ position_or_len (is_byte 92) bs → n < length bs → escape_after (drop (n + 1) bs) ≡ Some e → e.byte ≡ Some byte
+pub byte-newline : (found all : Bool) (bs : List ℕ) (n byte : ℕ) (e : Escape) → (found || has_no_newline bs) ≡ all
+    → n ≡ position_or_len (is_byte 92) bs → n < length bs → escape_after (drop (n + 1) bs) ≡ Some e → e.byte ≡ Some byte
     → (found || has_no_newline (drop e.size (drop (n + 1) bs))) ≡ all
 byte-newline found all bs n byte e inv index short some is =
-    let given = given_bytes-escape (drop (n + 1) bs) e some ∙ ap (λ b. b ∷ given_bytes_after 0 (drop e.size (drop (n + 1) bs))) is in
-    ap (λ b. found || b) (sym (newline-at bs n index ∙ ap has_no_newline (byte-at 92 bs n index short) ∙ ap (list_any (λ u. is_none u)) given)) ∙ inv
+    let given = given_bytes-escape (drop (n + 1) bs) e some
+    ∙ ap (λ b. b ∷ given_bytes_after 0 (drop e.size (drop (n + 1) bs))) is in
+    ap (λ b. found || b) (sym
+    (newline-at bs n index ∙ ap has_no_newline (byte-at 92 bs n index short)
+    ∙ ap (list_any (λ u. is_none u)) given)) ∙ inv
 
 -- an escape that gives none
-pub none-bytes : (bytes bs all : List ℕ) (n : ℕ) (e : Escape) → bytes ++ expansion bs ≡ all → n ≡ position_or_len (is_byte 92) bs → n < length bs → escape_after (drop (n + 1) bs) ≡ Some e → e.byte ≡ None
+pub none-bytes : (bytes bs all : List ℕ) (n : ℕ) (e : Escape) → bytes ++ expansion bs ≡ all
+    → n ≡ position_or_len (is_byte 92) bs → n < length bs → escape_after (drop (n + 1) bs) ≡ Some e → e.byte ≡ None
     → (bytes ++ take n bs) ++ expansion (drop e.size (drop (n + 1) bs)) ≡ all
 none-bytes bytes bs all n e inv index short some is =
     let after = drop (n + 1) bs in
     let given = given_bytes-escape after e some ∙ ap (λ b. b ∷ given_bytes_after 0 (drop e.size after)) is in
     append_assoc bytes (take n bs) (expansion (drop e.size after))
-    ∙ ap (λ l. bytes ++ (take n bs ++ l)) (sym (ap expansion (byte-at 92 bs n index short) ∙ ap (filter_map (λ u. u)) given))
+    ∙ ap (λ l. bytes ++ (take n bs ++ l))
+    (sym (ap expansion (byte-at 92 bs n index short) ∙ ap (filter_map (λ u. u)) given))
     ∙ ap (λ l. bytes ++ l) (sym (prefix-at bs n index)) ∙ inv
 
-pub none-newline : (found all : Bool) (bs : List ℕ) (n : ℕ) (e : Escape) → (found || has_no_newline bs) ≡ all → n ≡ position_or_len (is_byte 92) bs → n < length bs → escape_after (drop (n + 1) bs) ≡ Some e → e.byte ≡ None → true ≡ all
+pub none-newline : (found all : Bool) (bs : List ℕ) (n : ℕ) (e : Escape) → (found || has_no_newline bs) ≡ all
+    → n ≡ position_or_len (is_byte 92) bs → n < length bs → escape_after (drop (n + 1) bs) ≡ Some e → e.byte ≡ None
+    → true ≡ all
 none-newline found all bs n e inv index short some is =
-    let given = given_bytes-escape (drop (n + 1) bs) e some ∙ ap (λ b. b ∷ given_bytes_after 0 (drop e.size (drop (n + 1) bs))) is in
+    let given = given_bytes-escape (drop (n + 1) bs) e some
+    ∙ ap (λ b. b ∷ given_bytes_after 0 (drop e.size (drop (n + 1) bs))) is in
     sym (or-true found)
-    ∙ ap (λ b. found || b) (sym (newline-at bs n index ∙ ap has_no_newline (byte-at 92 bs n index short) ∙ ap (list_any (λ u. is_none u)) given)) ∙ inv
+    ∙ ap (λ b. found || b) (sym
+    (newline-at bs n index ∙ ap has_no_newline (byte-at 92 bs n index short)
+    ∙ ap (list_any (λ u. is_none u)) given)) ∙ inv
 
 -- an escape by its first byte
-pub escape-first : (bs : List ℕ) → (bs ≡ [] → ⊥) → escape_after bs ≡ cond (is_octal (get_or bs 0 0)) (Some (record { byte = Some (octal_value (octal_prefix bs)); size = length (octal_prefix bs) })) (letter_escape (get_or bs 0 0))
+pub escape-first : (bs : List ℕ) → (bs ≡ [] → ⊥)
+    → escape_after bs ≡ cond (is_octal (get_or bs 0 0))
+    (Some (record { byte = Some (octal_value (octal_prefix bs)); size = length (octal_prefix bs) }))
+    (letter_escape (get_or bs 0 0))
 unfolding escape_after
 escape-first [] some = absurd (some refl)
 escape-first (b ∷ bs) some = refl
@@ -125,7 +158,8 @@ unfolding escape_after
 escape-none bs none = ap escape_after none
 
 -- the first three bytes, or all of them
-pub octal_prefix-taken : (bs : List ℕ) (n : ℕ) → n ≡ min (length bs) 3 → take (prefix_len is_octal (take n bs)) (take n bs) ≡ octal_prefix bs
+pub octal_prefix-taken : (bs : List ℕ) (n : ℕ) → n ≡ min (length bs) 3
+    → take (prefix_len is_octal (take n bs)) (take n bs) ≡ octal_prefix bs
 octal_prefix-taken bs n e =
     let prefix : take n bs ≡ take 3 bs = ap (λ m. take m bs) (e ∙ grind arith) ∙ take_min 3 bs in
     ap (λ l. take (prefix_len is_octal l) l) prefix
@@ -133,5 +167,6 @@ octal_prefix-taken bs n e =
 abbrev octal-of : ℕ → ℕ → Option Escape
 octal-of value size = Some (record { byte = Some value; size = size })
 
-pub octal-escape : (digits run : List ℕ) (value : ℕ) → value ≡ octal_value digits → digits ≡ run → octal-of value (length digits) ≡ octal-of (octal_value run) (length run)
+pub octal-escape : (digits run : List ℕ) (value : ℕ) → value ≡ octal_value digits → digits ≡ run
+    → octal-of value (length digits) ≡ octal-of (octal_value run) (length run)
 octal-escape digits run value v r = rw (v, r)

@@ -22,21 +22,32 @@ next-file : (files : List (Bor (List ℕ) × Bor (List ℕ))) (i : ℕ) (d : Bor
 next-file files i d below = ap named_files (drop_more files i d below)
 
 -- one more file is opened
-pub Completes-next : (tool : List ℕ) (files : List (Bor (List ℕ) × Bor (List ℕ))) (i : ℕ) (d : Bor (List ℕ) × Bor (List ℕ)) (old new : Opened) → i < length files
-    → OpensFile tool (named_file (get_or files i d)) old new → Completes tool files i old → Completes tool files (i + 1) new
+pub Completes-next : (tool : List ℕ) (files : List (Bor (List ℕ) × Bor (List ℕ))) (i : ℕ)
+    (d : Bor (List ℕ) × Bor (List ℕ)) (old new : Opened) → i < length files
+    → OpensFile tool (named_file (get_or files i d)) old new → Completes tool files i old
+    → Completes tool files (i + 1) new
 Completes-next tool files i d old new below file completes chain reported opens =
-    rw (file.catalogs, file.messages, append_assoc old.catalogs.items file.chain chain, append_assoc old.messages.items file.reported reported)
-    (completes (file.chain ++ chain) (file.reported ++ reported) (rw (next-file files i d below) (file.opens (named_files (drop (i + 1) files)) chain reported opens)))
+    rw (
+      file.catalogs,
+      file.messages,
+      append_assoc old.catalogs.items file.chain chain,
+      append_assoc old.messages.items file.reported reported,
+    )
+    (completes (file.chain ++ chain) (file.reported ++ reported)
+    (rw (next-file files i d below) (file.opens (named_files (drop (i + 1) files)) chain reported opens)))
 
 -- where no file is left, all are opened
-pub Completes-all : (tool : List ℕ) (files : List (Bor (List ℕ) × Bor (List ℕ))) (i : ℕ) (done : Opened) → length files ≤ i
+pub Completes-all : (tool : List ℕ) (files : List (Bor (List ℕ) × Bor (List ℕ))) (i : ℕ) (done : Opened)
+    → length files ≤ i
     → Completes tool files i done → Opens tool (named_files files) done.catalogs.items done.messages.items
 Completes-all tool files i done past completes =
-    let all : Opens tool (named_files files) (done.catalogs.items ++ []) (done.messages.items ++ []) = completes [] [] (rw (drop_of_length-le files past) none) in
+    let all : Opens tool (named_files files) (done.catalogs.items ++ []) (done.messages.items ++ []) =
+    completes [] [] (rw (drop_of_length-le files past) none) in
     rw (append-nil done.catalogs.items, append-nil done.messages.items) at all
 
 -- each catalogue of a chain is a file
-chain-few : {tool : List ℕ} {files : List NamedFile} {chain : List CatalogView} {reported : List ℕ} → Opens tool files chain reported → length chain ≤ length files
+chain-few : {tool : List ℕ} {files : List NamedFile} {chain : List CatalogView} {reported : List ℕ}
+    → Opens tool files chain reported → length chain ≤ length files
 chain-few none = omega arith
 chain-few (opened order is_mo_file is_view others) = let few = chain-few others in omega arith
 chain-few (refused fault others) = let few = chain-few others in omega arith
@@ -49,7 +60,8 @@ catalogs-few tool files done opens =
     rw (length-map files named_file) at few
 
 -- after the first text each one stands after the byte
-join-first : (byte : ℕ) (first : List ℕ) (others : List (List ℕ)) → join_with_byte byte (first ∷ others) ≡ first ++ flat_map (λ text. byte ∷ text) others
+join-first : (byte : ℕ) (first : List ℕ) (others : List (List ℕ))
+    → join_with_byte byte (first ∷ others) ≡ first ++ flat_map (λ text. byte ∷ text) others
 join-first byte first [] = sym (append-nil first)
 join-first byte first (next ∷ others) = ap (λ l. first ++ byte ∷ l) (join-first byte next others)
 
@@ -58,22 +70,27 @@ abbrev pub further : (List ℕ → List ℕ) → List (Bor (List ℕ)) → List 
 further answer arguments = flat_map (λ text. 32 ∷ text) (map answer (map (λ argument. argument.now) arguments))
 
 -- the answers to the first argument and to the others are those to all
-pub answers-reported : (answer : List ℕ → List ℕ) (arguments others : List (Bor (List ℕ))) (first : Bor (List ℕ)) (old begun out : List ℕ) (i : ℕ)
+pub answers-reported : (answer : List ℕ → List ℕ) (arguments others : List (Bor (List ℕ))) (first : Bor (List ℕ))
+    (old begun out : List ℕ) (i : ℕ)
     → arguments ≡ first ∷ others → length others ≤ i → begun ≡ old ++ answer first.now
     → out ++ further answer (drop i others) ≡ begun ++ further answer others
     → out ≡ old ++ join_with_byte 32 (map answer (map (λ argument. argument.now) arguments))
 answers-reported answer arguments others first old begun out i are past begins left =
     let all : out ++ [] ≡ begun ++ further answer others = rw (drop_of_length-le others past) at left in
-    sym (append-nil out) ∙ all ∙ ap (λ l. l ++ further answer others) begins ∙ append_assoc old (answer first.now) (further answer others)
+    sym (append-nil out) ∙ all ∙ ap (λ l. l ++ further answer others) begins
+    ∙ append_assoc old (answer first.now) (further answer others)
     ∙ ap (λ l. old ++ l) (sym (join-first 32 (answer first.now) (map answer (map (λ argument. argument.now) others))))
     ∙ ap (λ ws. old ++ join_with_byte 32 (map answer (map (λ argument. argument.now) ws))) (sym are)
 
 -- an argument acts as `-n` where the first or one of the others does
-pub omitted-reported : (p : List ℕ → Bool) (arguments others : List (Bor (List ℕ))) (first : Bor (List ℕ)) (begun omitted : Bool) (i : ℕ)
+pub omitted-reported : (p : List ℕ → Bool) (arguments others : List (Bor (List ℕ))) (first : Bor (List ℕ))
+    (begun omitted : Bool) (i : ℕ)
     → arguments ≡ first ∷ others → length others ≤ i → begun ≡ p first.now
-    → (omitted || list_any p (map (λ argument. argument.now) (drop i others))) ≡ (begun || list_any p (map (λ argument. argument.now) others))
+    → (omitted || list_any p (map (λ argument. argument.now) (drop i others)))
+    ≡ (begun || list_any p (map (λ argument. argument.now) others))
     → omitted ≡ list_any p (map (λ argument. argument.now) arguments)
 omitted-reported p arguments others first begun omitted i are past begins left =
-    let all : (omitted || false) ≡ (begun || list_any p (map (λ argument. argument.now) others)) = rw (drop_of_length-le others past) at left in
+    let all : (omitted || false) ≡ (begun || list_any p (map (λ argument. argument.now) others)) =
+    rw (drop_of_length-le others past) at left in
     sym (or-false omitted) ∙ all ∙ ap (λ b. b || list_any p (map (λ argument. argument.now) others)) begins
     ∙ ap (λ ws. list_any p (map (λ argument. argument.now) ws)) (sym are)

@@ -26,17 +26,20 @@ use Rattle.gettext.proofs.NamesOnce.{places_of, are_places, neither}
 untranslated_decides : (name : List ℕ) → Decides (is_untranslated name) (IsUntranslated name)
 unfolding is_untranslated
 untranslated_decides name =
-    Decides-or (bytes_eq name (codes "C")) (bytes_eq name (codes "POSIX")) (bytes_eq-Decides name (codes "C")) (bytes_eq-Decides name (codes "POSIX"))
+    Decides-or (bytes_eq name (codes "C")) (bytes_eq name (codes "POSIX")) (bytes_eq-Decides name (codes "C"))
+    (bytes_eq-Decides name (codes "POSIX"))
 
 lacks_decides : (a : ℕ) (text : List ℕ) → Decides (not (list_any (is_byte a) text)) (Lacks a text)
 lacks_decides a text =
-    Decides-by_and (λ b. not (eqb b a)) (λ b. b ≡ a → ⊥) (λ t. not (list_any (is_byte a) t)) (λ b. Decides-not (eqb b a) (Decides-eqb b a)) refl
+    Decides-by_and (λ b. not (eqb b a)) (λ b. b ≡ a → ⊥) (λ t. not (list_any (is_byte a) t))
+    (λ b. Decides-not (eqb b a) (Decides-eqb b a)) refl
     (λ b t. neither (eqb b a) (list_any (is_byte a) t)) text
 
 path_decides : (name : List ℕ) → Decides (is_path_part name) (CanStandInPath name)
 path_decides name =
     Decides-and (not (eqb (length name) 0)) (not (list_any (is_byte 47) name))
-    (Decides-not (eqb (length name) 0) (nil-from_length name, λ none. ap (λ l. eqb (length l) 0) none)) (lacks_decides 47 name)
+    (Decides-not (eqb (length name) 0) (nil-from_length name, λ none. ap (λ l. eqb (length l) 0) none))
+    (lacks_decides 47 name)
 
 fails : {P : Type 0} (test : Bool) → Decides test P → (P → ⊥) → test ≡ false
 fails test decides never = false_from_ne_true test (λ e. never (decides.0 e))
@@ -51,9 +54,11 @@ counting parts = filter is_path_part (take_while may_count parts)
 counting-next : (part : List ℕ) (parts : List (List ℕ)) (u f : Bool) → is_untranslated part ≡ u → is_path_part part ≡ f
     → counting (part ∷ parts) ≡ cond u [] (cond f (part ∷ counting parts) (counting parts))
 counting-next part parts true f e p =
-    ap (filter is_path_part) (take_while-cons may_count part parts ∙ ap (λ t. cond (not t) (part ∷ take_while may_count parts) []) e)
+    ap (filter is_path_part)
+    (take_while-cons may_count part parts ∙ ap (λ t. cond (not t) (part ∷ take_while may_count parts) []) e)
 counting-next part parts false f e p =
-    ap (filter is_path_part) (take_while-cons may_count part parts ∙ ap (λ t. cond (not t) (part ∷ take_while may_count parts) []) e)
+    ap (filter is_path_part)
+    (take_while-cons may_count part parts ∙ ap (λ t. cond (not t) (part ∷ take_while may_count parts) []) e)
     ∙ ap (λ t. cond t (part ∷ counting parts) (counting parts)) p
 
 count_of : (parts : List (List ℕ)) → Count parts (counting parts)
@@ -61,18 +66,25 @@ count_of [] = no_part
 count_of (part ∷ parts) = elim (cases_Bool (is_untranslated part)) [
   | inl u ↦ rw (counting-next part parts true (is_path_part part) u refl) (ends ((untranslated_decides part).0 u))
   | inr u ↦ elim (cases_Bool (is_path_part part)) [
-    | inl f ↦ rw (counting-next part parts false true u f) (counts (not_from_Decides (is_untranslated part) (untranslated_decides part) u) ((path_decides part).0 f) (count_of parts))
-    | inr f ↦ rw (counting-next part parts false false u f) (omitted (not_from_Decides (is_untranslated part) (untranslated_decides part) u) (not_from_Decides (is_path_part part) (path_decides part) f) (count_of parts))
+    | inl f ↦ rw (counting-next part parts false true u f)
+        (counts (not_from_Decides (is_untranslated part) (untranslated_decides part) u) ((path_decides part).0 f)
+        (count_of parts))
+    | inr f ↦ rw (counting-next part parts false false u f)
+        (omitted (not_from_Decides (is_untranslated part) (untranslated_decides part) u)
+        (not_from_Decides (is_path_part part) (path_decides part) f) (count_of parts))
   ]
 ]
 
 is_count_of : {parts names : List (List ℕ)} → Count parts names → counting parts ≡ names
 is_count_of no_part = refl
-is_count_of (ends {part = part} {parts = parts} u) = counting-next part parts true (is_path_part part) ((untranslated_decides part).1 u) refl
+is_count_of (ends {part = part} {parts = parts} u) =
+    counting-next part parts true (is_path_part part) ((untranslated_decides part).1 u) refl
 is_count_of (omitted {part = part} {parts = parts} u f rest) =
-    counting-next part parts false false (fails (is_untranslated part) (untranslated_decides part) u) (fails (is_path_part part) (path_decides part) f) ∙ is_count_of rest
+    counting-next part parts false false (fails (is_untranslated part) (untranslated_decides part) u)
+    (fails (is_path_part part) (path_decides part) f) ∙ is_count_of rest
 is_count_of (counts {part = part} {parts = parts} u f rest) =
-    counting-next part parts false true (fails (is_untranslated part) (untranslated_decides part) u) ((path_decides part).1 f) ∙ ap (λ l. part ∷ l) (is_count_of rest)
+    counting-next part parts false true (fails (is_untranslated part) (untranslated_decides part) u)
+    ((path_decides part).1 f) ∙ ap (λ l. part ∷ l) (is_count_of rest)
 
 -- the parts of a text
 abbrev colon : ℕ → Bool
@@ -82,15 +94,19 @@ other : (text : List ℕ) → Lacks 58 text → All (λ b. colon b ≡ false) te
 other text none = All-weaker (λ b. b ≡ 58 → ⊥) (λ b. colon b ≡ false) (λ b h. ne_eqb b 58 h) text none
 
 onto : (b : ℕ) (parts : List (List ℕ)) → (b ≡ 58 → ⊥) → All (Lacks 58) parts → All (Lacks 58) (onto_first b parts)
-onto b [] h all = All-cons (Lacks 58) (b ∷ []) [] (All-cons (λ b. b ≡ 58 → ⊥) b [] h (All-nil (λ b. b ≡ 58 → ⊥))) (All-nil (Lacks 58))
+onto b [] h all = All-cons (Lacks 58) (b ∷ []) [] (All-cons (λ b. b ≡ 58 → ⊥) b [] h (All-nil (λ b. b ≡ 58 → ⊥)))
+    (All-nil (Lacks 58))
 onto b (part ∷ parts) h all =
-    All-cons (Lacks 58) (b ∷ part) parts (All-cons (λ b. b ≡ 58 → ⊥) b part h (All-head (Lacks 58) part parts all)) (All-tail (Lacks 58) part parts all)
+    All-cons (Lacks 58) (b ∷ part) parts (All-cons (λ b. b ≡ 58 → ⊥) b part h (All-head (Lacks 58) part parts all))
+    (All-tail (Lacks 58) part parts all)
 
 parts_lack : (text : List ℕ) → All (Lacks 58) (slice_split colon text)
 parts_lack [] = All-cons (Lacks 58) [] [] (All-nil (λ b. b ≡ 58 → ⊥)) (All-nil (Lacks 58))
 parts_lack (b ∷ text) = elim (cases_Bool (colon b)) [
-  | inl e ↦ rw (slice_split-cons_yes colon b text e) (All-cons (Lacks 58) [] (slice_split colon text) (All-nil (λ b. b ≡ 58 → ⊥)) (parts_lack text))
-  | inr e ↦ rw (slice_split-cons_no colon b text e) (onto b (slice_split colon text) (eqb-false b 58 e) (parts_lack text))
+  | inl e ↦ rw (slice_split-cons_yes colon b text e)
+      (All-cons (Lacks 58) [] (slice_split colon text) (All-nil (λ b. b ≡ 58 → ⊥)) (parts_lack text))
+  | inr e ↦ rw (slice_split-cons_no colon b text e)
+      (onto b (slice_split colon text) (eqb-false b 58 e) (parts_lack text))
 ]
 
 onto_some : (b : ℕ) (parts : List (List ℕ)) → onto_first b parts ≡ [] → ⊥
@@ -107,11 +123,13 @@ parts_some (b ∷ text) e = elim (cases_Bool (colon b)) [
   | inr t ↦ onto_some b (slice_split colon text) (sym (slice_split-cons_no colon b text t) ∙ e)
 ]
 
-cut : (parts : List (List ℕ)) → (parts ≡ [] → ⊥) → All (Lacks 58) parts → slice_split colon (join_with_byte 58 parts) ≡ parts
+cut : (parts : List (List ℕ)) → (parts ≡ [] → ⊥) → All (Lacks 58) parts
+    → slice_split colon (join_with_byte 58 parts) ≡ parts
 cut [] some all = absurd (some refl)
 cut (part ∷ []) some all = slice_split_none colon part (other part (All-head (Lacks 58) part [] all))
 cut (part ∷ next ∷ parts) some all =
-    slice_split_at colon part 58 (join_with_byte 58 (next ∷ parts)) (other part (All-head (Lacks 58) part (next ∷ parts) all)) refl
+    slice_split_at colon part 58 (join_with_byte 58 (next ∷ parts))
+    (other part (All-head (Lacks 58) part (next ∷ parts) all)) refl
     ∙ ap (λ l. part ∷ l) (cut (next ∷ parts) (cons_some next parts) (All-tail (Lacks 58) part (next ∷ parts) all))
 
 lists : (text : List ℕ) → Lists text (language_parts text)
@@ -127,7 +145,8 @@ lists text = record {
 are_listed : (text : List ℕ) (names : List (List ℕ)) → Lists text names → language_parts text ≡ names
 unfolding language_parts
 are_listed text names h =
-    ap (λ t. counting (slice_split colon t)) h.joined ∙ ap counting (cut h.parts h.some h.no_colon) ∙ is_count_of h.count
+    ap (λ t. counting (slice_split colon t)) h.joined ∙ ap counting (cut h.parts h.some h.no_colon)
+    ∙ is_count_of h.count
 
 -- the languages of a locale and LANGUAGE
 abbrev asked_for : List ℕ → List ℕ → List (List ℕ)
@@ -149,34 +168,55 @@ languages_of env = asked_for (locale_of env) (language_of env)
 
 some_language : (locale language : List ℕ) → (language ≡ [] → ⊥) → languages locale language ≡ language_parts language
 some_language locale language h =
-    cond-false (eqb (length language) 0) (locale ∷ []) (language_parts language) (false_from_ne_true (eqb (length language) 0) (λ e. h (nil-from_length language e)))
+    cond-false (eqb (length language) 0) (locale ∷ []) (language_parts language)
+    (false_from_ne_true (eqb (length language) 0) (λ e. h (nil-from_length language e)))
 
-translated_asked : (env : Environment) → is_untranslated (locale_of env) ≡ false → is_path_part (locale_of env) ≡ true → AreLanguages (environment_view env) (languages_of env)
+translated_asked : (env : Environment) → is_untranslated (locale_of env) ≡ false → is_path_part (locale_of env) ≡ true
+    → AreLanguages (environment_view env) (languages_of env)
 translated_asked env u f =
     let locale = (locale_chosen env (locale_of env)).0 refl in
     let is_translated = not_from_Decides (is_untranslated (locale_of env)) (untranslated_decides (locale_of env)) u in
     elim (says env.language) [
       | inl a ↦ rw (u, f, a.1) (the_locale locale is_translated ((path_decides (locale_of env)).0 f) a.0)
-      | inr a ↦ rw (u, f, a.2, some_language (locale_of env) a.0 a.1.some) (of_language locale is_translated ((path_decides (locale_of env)).0 f) a.1 (lists a.0))
+      | inr a ↦ rw (u, f, a.2, some_language (locale_of env) a.0 a.1.some)
+          (of_language locale is_translated ((path_decides (locale_of env)).0 f) a.1 (lists a.0))
     ]
 
 are_asked : (env : Environment) → AreLanguages (environment_view env) (languages_of env)
 are_asked env = elim (cases_Bool (is_untranslated (locale_of env))) [
-  | inl u ↦ rw u (untranslated ((locale_chosen env (locale_of env)).0 refl) ((untranslated_decides (locale_of env)).0 u))
+  | inl u ↦ rw u (untranslated ((locale_chosen env (locale_of env)).0 refl)
+      ((untranslated_decides (locale_of env)).0 u))
   | inr u ↦ elim (cases_Bool (is_path_part (locale_of env))) [
     | inl f ↦ translated_asked env u f
-    | inr f ↦ rw (u, f) (no_path ((locale_chosen env (locale_of env)).0 refl) (not_from_Decides (is_path_part (locale_of env)) (path_decides (locale_of env)) f))
+    | inr f ↦ rw (u, f) (no_path ((locale_chosen env (locale_of env)).0 refl)
+        (not_from_Decides (is_path_part (locale_of env)) (path_decides (locale_of env)) f))
   ]
 ]
 
-is_asked : (env : Environment) (names : List (List ℕ)) → AreLanguages (environment_view env) names → languages_of env ≡ names
-is_asked env names (untranslated {locale = locale} is u) = rw (← (locale_chosen env locale).1 is, (untranslated_decides locale).1 u)
+is_asked : (env : Environment) (names : List (List ℕ)) → AreLanguages (environment_view env) names
+    → languages_of env ≡ names
+is_asked env names (untranslated {locale = locale} is u) =
+    rw (← (locale_chosen env locale).1 is, (untranslated_decides locale).1 u)
 is_asked env names (no_path {locale = locale} is f) =
-    rw (← (locale_chosen env locale).1 is, fails (is_path_part locale) (path_decides locale) f, or-true (is_untranslated locale))
+    rw (
+      ← (locale_chosen env locale).1 is,
+      fails (is_path_part locale) (path_decides locale) f,
+      or-true (is_untranslated locale),
+    )
 is_asked env names (the_locale {locale = locale} is u f none) =
-    rw (← (locale_chosen env locale).1 is, fails (is_untranslated locale) (untranslated_decides locale) u, (path_decides locale).1 f, from_no_text env.language none)
+    rw (
+      ← (locale_chosen env locale).1 is,
+      fails (is_untranslated locale) (untranslated_decides locale) u,
+      (path_decides locale).1 f,
+      from_no_text env.language none,
+    )
 is_asked env names (of_language {locale = locale} {text = text} is u f has listed) =
-    rw (← (locale_chosen env locale).1 is, fails (is_untranslated locale) (untranslated_decides locale) u, (path_decides locale).1 f, from_text env.language text has)
+    rw (
+      ← (locale_chosen env locale).1 is,
+      fails (is_untranslated locale) (untranslated_decides locale) u,
+      (path_decides locale).1 f,
+      from_text env.language text has,
+    )
     (some_language locale text has.some ∙ are_listed text names listed)
 
 -- the candidates of an environment
@@ -186,12 +226,18 @@ asked_once env = record {
   languages_are = are_asked env;
   all = flat_map candidates_of_name (languages_of env);
   all_are = have_five (languages_of env);
-  once = subst (λ l. FirstPlaces [] (flat_map candidates_of_name (languages_of env)) (distinct l)) (sym (flat (locale_of env) (language_of env))) (places_of (flat_map candidates_of_name (languages_of env)));
+  once = subst (λ l. FirstPlaces [] (flat_map candidates_of_name (languages_of env)) (distinct l))
+      (sym (flat (locale_of env) (language_of env))) (places_of (flat_map candidates_of_name (languages_of env)));
 }
 
-are_candidates : (env : Environment) (names : List (List ℕ)) → AreCandidates (environment_view env) names → names ≡ candidates_of env
+are_candidates : (env : Environment) (names : List (List ℕ)) → AreCandidates (environment_view env) names
+    → names ≡ candidates_of env
 are_candidates env names h =
-    sym (ap distinct (flat (locale_of env) (language_of env) ∙ ap (flat_map candidates_of_name) (is_asked env h.languages h.languages_are) ∙ are_five h.all_are) ∙ are_places h.all names h.once)
+    sym (ap distinct (flat (locale_of env) (language_of env)
+    ∙ ap (flat_map candidates_of_name) (is_asked env h.languages h.languages_are) ∙ are_five h.all_are)
+    ∙ are_places h.all names h.once)
 
-pub candidates_asked : (env : Environment) (names : List (List ℕ)) → (names ≡ candidates_of env) ↔ AreCandidates (environment_view env) names
-candidates_asked env names = (λ is. subst (AreCandidates (environment_view env)) (sym is) (asked_once env), λ h. are_candidates env names h)
+pub candidates_asked : (env : Environment) (names : List (List ℕ))
+    → (names ≡ candidates_of env) ↔ AreCandidates (environment_view env) names
+candidates_asked env names =
+    (λ is. subst (AreCandidates (environment_view env)) (sym is) (asked_once env), λ h. are_candidates env names h)

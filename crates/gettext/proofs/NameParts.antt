@@ -36,15 +36,18 @@ at_seam : (a : ℕ) (p q : List ℕ) → Lacks a p → IsEmptyOrBegins a q → p
 at_seam a [] [] none begins = refl
 at_seam a [] (b ∷ q) none begins = byte-here a b q (eq-eqb b a begins)
 at_seam a (b ∷ p) q none begins =
-    byte-later a b (p ++ q) (ne_eqb b a (All-head (λ b. b ≡ a → ⊥) b p none)) ∙ ap suc (at_seam a p q (All-tail (λ b. b ≡ a → ⊥) b p none) begins)
+    byte-later a b (p ++ q) (ne_eqb b a (All-head (λ b. b ≡ a → ⊥) b p none))
+    ∙ ap suc (at_seam a p q (All-tail (λ b. b ≡ a → ⊥) b p none) begins)
 
 before_is : (a : ℕ) (text p q : List ℕ) → text ≡ p ++ q → Lacks a p → IsEmptyOrBegins a q → before a text ≡ p
 unfolding before
-before_is a text p q is none begins = ap (before a) is ∙ ap (λ n. take n (p ++ q)) (at_seam a p q none begins) ∙ take-append_seam p q
+before_is a text p q is none begins =
+    ap (before a) is ∙ ap (λ n. take n (p ++ q)) (at_seam a p q none begins) ∙ take-append_seam p q
 
 from_is : (a : ℕ) (text p q : List ℕ) → text ≡ p ++ q → Lacks a p → IsEmptyOrBegins a q → from_first a text ≡ q
 unfolding from_first
-from_is a text p q is none begins = ap (from_first a) is ∙ ap (λ n. drop n (p ++ q)) (at_seam a p q none begins) ∙ drop-append_seam p q
+from_is a text p q is none begins =
+    ap (from_first a) is ∙ ap (λ n. drop n (p ++ q)) (at_seam a p q none begins) ∙ drop-append_seam p q
 
 -- the five names of these parts
 abbrev names_of : List ℕ → List ℕ → List ℕ → List ℕ → List (List ℕ)
@@ -57,7 +60,8 @@ has_five name =
     let base = before 46 uncut in
     let language = before 95 base in
     let joined : language ++ from_first 95 base ≡ base = whole 95 base in
-    let with_codeset : (language ++ from_first 95 base) ++ from_first 46 uncut ≡ uncut = ap (λ t. t ++ from_first 46 uncut) joined ∙ whole 46 uncut in
+    let with_codeset : (language ++ from_first 95 base) ++ from_first 46 uncut ≡ uncut =
+    ap (λ t. t ++ from_first 46 uncut) joined ∙ whole 46 uncut in
     subst (λ b. HasFive name (names_of name b language (from_first 64 name))) joined
     (five (record {
       name_is = sym (ap (λ t. t ++ from_first 64 name) with_codeset ∙ whole 64 name);
@@ -73,12 +77,17 @@ pub is_five : (name : List ℕ) (names : List (List ℕ)) → HasFive name names
 unfolding candidates_of_name
 is_five name names (five {language = language} {country = country} {codeset = codeset} {variant = variant} p) =
     let base = language ++ country in
-    let uncut : before 64 name ≡ base ++ codeset = before_is 64 name (base ++ codeset) variant p.name_is p.in_codeset p.variant_first in
-    let cut : from_first 64 name ≡ variant = from_is 64 name (base ++ codeset) variant p.name_is p.in_codeset p.variant_first in
-    let base_is : before 46 (before 64 name) ≡ base = before_is 46 (before 64 name) base codeset uncut p.in_country p.codeset_first in
-    let language_is : before 95 (before 46 (before 64 name)) ≡ language = before_is 95 (before 46 (before 64 name)) language country base_is p.in_language p.country_first in
+    let uncut : before 64 name ≡ base ++ codeset =
+    before_is 64 name (base ++ codeset) variant p.name_is p.in_codeset p.variant_first in
+    let cut : from_first 64 name ≡ variant =
+    from_is 64 name (base ++ codeset) variant p.name_is p.in_codeset p.variant_first in
+    let base_is : before 46 (before 64 name) ≡ base =
+    before_is 46 (before 64 name) base codeset uncut p.in_country p.codeset_first in
+    let language_is : before 95 (before 46 (before 64 name)) ≡ language =
+    before_is 95 (before 46 (before 64 name)) language country base_is p.in_language p.country_first in
     ap (λ v. names_of name (before 46 (before 64 name)) (before 95 (before 46 (before 64 name))) v) cut
-    ∙ ap (λ l. names_of name (before 46 (before 64 name)) l variant) language_is ∙ ap (λ b. names_of name b language variant) base_is
+    ∙ ap (λ l. names_of name (before 46 (before 64 name)) l variant) language_is
+    ∙ ap (λ b. names_of name b language variant) base_is
 
 -- the names of several
 pub have_five : (names : List (List ℕ)) → HaveFive names (flat_map candidates_of_name names)

@@ -23,10 +23,12 @@ pub neither : (x y : Bool) → not (x || y) ≡ (not x && not y)
 neither true y = refl
 neither false y = refl
 
-new_decides : (seen : List (List ℕ)) (name : List ℕ) → Decides (not (is_in seen name)) (All (λ known. known ≡ name → ⊥) seen)
+new_decides : (seen : List (List ℕ)) (name : List ℕ)
+    → Decides (not (is_in seen name)) (All (λ known. known ≡ name → ⊥) seen)
 new_decides seen name =
     Decides-by_and (λ known. not (bytes_eq known name)) (λ known. known ≡ name → ⊥) (λ s. not (is_in s name))
-    (λ known. Decides-not (bytes_eq known name) (bytes_eq-Decides known name)) refl (λ known s. neither (bytes_eq known name) (is_in s name)) seen
+    (λ known. Decides-not (bytes_eq known name) (bytes_eq-Decides known name)) refl
+    (λ known s. neither (bytes_eq known name) (is_in s name)) seen
 
 -- a name that was seen, and a new one
 same : (seen : List (List ℕ)) (name : List ℕ) → is_in seen name ≡ true → with_name seen name ≡ seen
@@ -38,7 +40,8 @@ unfolding with_name
 more seen name e = cond-false (is_in seen name) seen (seen ++ name ∷ []) e
 
 in_seen : (seen : List (List ℕ)) (name : List ℕ) → Contains seen name → is_in seen name ≡ true
-in_seen seen name h = list_any-from_Any (λ known. bytes_eq known name) seen (h.0, name, h.1, h.2, (bytes_eq-Decides name name).1 refl)
+in_seen seen name h = list_any-from_Any (λ known. bytes_eq known name) seen
+    (h.0, name, h.1, h.2, (bytes_eq-Decides name name).1 refl)
 
 -- after the names seen these are kept
 record Kept (seen names : List (List ℕ)) : Type 0 where
@@ -68,7 +71,8 @@ is_kept (no_more {seen = seen}) = sym (append-nil seen)
 is_kept (repeated {seen = seen} {names = names} {name = name} h places) =
     ap (λ s. fold with_name s names) (same seen name (in_seen seen name h)) ∙ is_kept places
 is_kept (first {seen = seen} {names = names} {kept = kept} {name = name} none places) =
-    ap (λ s. fold with_name s names) (more seen name (not-true (is_in seen name) ((new_decides seen name).1 none))) ∙ is_kept places ∙ append_assoc seen (name ∷ []) kept
+    ap (λ s. fold with_name s names) (more seen name (not-true (is_in seen name) ((new_decides seen name).1 none)))
+    ∙ is_kept places ∙ append_assoc seen (name ∷ []) kept
 
 pub places_of : (names : List (List ℕ)) → FirstPlaces [] names (distinct names)
 places_of names = let kept = kept_of [] names in subst (FirstPlaces [] names) (sym kept.is) kept.places

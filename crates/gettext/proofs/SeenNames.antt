@@ -29,17 +29,25 @@ cond_or false false c e = sym (or-false c)
 
 -- a name more
 pub one_name_more : (old new : BTreeSet (Bor (List ℕ))) (k : Bor (List ℕ)) (names : List (List ℕ)) → HasNames old names
-    → ((q : Bor (List ℕ)) → contains (λ x y. slice_cmp nat_cmp x.now y.now) new q ≡ cond (is_at (λ y. slice_cmp nat_cmp k.now y.now) q) true (contains (λ x y. slice_cmp nat_cmp x.now y.now) old q))
+    → ((q : Bor (List ℕ)) → contains (λ x y. slice_cmp nat_cmp x.now y.now) new q
+    ≡ cond (is_at (λ y. slice_cmp nat_cmp k.now y.now) q) true
+    (contains (λ x y. slice_cmp nat_cmp x.now y.now) old q))
     → HasNames new (names ++ k.now ∷ [])
 one_name_more old new k names h updated q =
-    updated q ∙ cond_or (is_at (λ y. slice_cmp nat_cmp k.now y.now) q) (bytes_eq k.now q.now) (contains (λ x y. slice_cmp nat_cmp x.now y.now) old q) (sym (texts_ties k.now q.now))
-    ∙ ap₂ (λ (s t : Bool). s || t) (h q) (sym (or-false (bytes_eq k.now q.now))) ∙ sym (list_any-append (λ known. bytes_eq known q.now) names (k.now ∷ []))
+    updated q ∙ cond_or (is_at (λ y. slice_cmp nat_cmp k.now y.now) q) (bytes_eq k.now q.now)
+    (contains (λ x y. slice_cmp nat_cmp x.now y.now) old q) (sym (texts_ties k.now q.now))
+    ∙ ap₂ (λ (s t : Bool). s || t) (h q) (sym (or-false (bytes_eq k.now q.now)))
+    ∙ sym (list_any-append (λ known. bytes_eq known q.now) names (k.now ∷ []))
 
 -- the names up to the next one, each kept once
-pub distinct_more : (names : List (Vec ℕ)) (i : ℕ) (x : Vec ℕ) (kept : List (List ℕ)) (b : Bool) → i < length names → x ≡ get_or names i x
+pub distinct_more : (names : List (Vec ℕ)) (i : ℕ) (x : Vec ℕ) (kept : List (List ℕ)) (b : Bool) → i < length names
+    → x ≡ get_or names i x
     → kept ≡ distinct (map (λ v. v.items) (take i names)) → list_any (λ known. bytes_eq known x.items) kept ≡ b
     → cond b kept (kept ++ x.items ∷ []) ≡ distinct (map (λ v. v.items) (take (i + 1) names))
 unfolding with_name
 distinct_more names i x kept b below at is known =
-    sym (ap distinct (ap (map (λ v. v.items)) (take_more names i x below ∙ ap (λ (v : Vec ℕ). take i names ++ v ∷ []) (sym at)) ∙ map-append (λ (v : Vec ℕ). v.items) (take i names) (x ∷ []))
-    ∙ fold-append with_name [] (map (λ v. v.items) (take i names)) (x.items ∷ []) ∙ ap (λ l. with_name l x.items) (sym is) ∙ ap (λ t. cond t kept (kept ++ x.items ∷ [])) known)
+    sym (ap distinct (ap (map (λ v. v.items))
+    (take_more names i x below ∙ ap (λ (v : Vec ℕ). take i names ++ v ∷ []) (sym at))
+    ∙ map-append (λ (v : Vec ℕ). v.items) (take i names) (x ∷ []))
+    ∙ fold-append with_name [] (map (λ v. v.items) (take i names)) (x.items ∷ [])
+    ∙ ap (λ l. with_name l x.items) (sym is) ∙ ap (λ t. cond t kept (kept ++ x.items ∷ [])) known)

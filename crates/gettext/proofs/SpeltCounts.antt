@@ -22,7 +22,8 @@ spelt first [] e = no_digit
 spelt first (c ∷ text) e =
     let p = and_parts (is_digit c 10) (are_digits text) e in
     let small = ltb-true (digit_value c) 10 p.0 in
-    subst (λ b. SpellsAfter first (b ∷ text) (digits_value_after 10 (first * 10 + digit_value c) text)) (sym (digit_byte c small))
+    subst (λ b. SpellsAfter first (b ∷ text) (digits_value_after 10 (first * 10 + digit_value c) text))
+    (sym (digit_byte c small))
     (digit (digit_value c) small (spelt (first * 10 + digit_value c) text p.1))
 
 -- what is spelt is digits alone, of this value
@@ -34,7 +35,8 @@ digits no_digit = (refl, refl)
 digits (digit {first = first} {number = n} {text = text} a small more) =
     let is = value_of_digit a small in
     let rest = digits more in (
-      and_from (is_digit (48 + a) 10) (are_digits text) (lt-ltb (digit_value (48 + a)) 10 (omega (arith, is, small))) rest.0,
+      and_from (is_digit (48 + a) 10) (are_digits text)
+          (lt-ltb (digit_value (48 + a)) 10 (omega (arith, is, small))) rest.0,
       ap (λ d. digits_value_after 10 (first * 10 + d) text) is ∙ rest.1,
     )
 
@@ -43,19 +45,25 @@ counts : (text : List ℕ) (n : ℕ) → SpellsNumber text n → n < 2 ^ 64 → 
 counts text n h small =
     let d = digits h.digits in
     and_from (not (eqb (length text) 0) && are_digits text) (ltb (digits_value 10 text) 18446744073709551616)
-    (and_from (not (eqb (length text) 0)) (are_digits text) (ap not (false_from_ne_true (eqb (length text) 0) (λ e. h.some (nil-from_length text e)))) d.0)
+    (and_from (not (eqb (length text) 0)) (are_digits text)
+    (ap not (false_from_ne_true (eqb (length text) 0) (λ e. h.some (nil-from_length text e)))) d.0)
     (lt-ltb (digits_value 10 text) 18446744073709551616 (omega (arith, d.1, small)))
 
-spells : (text : List ℕ) → is_count text ≡ true → SpellsNumber text (digits_value 10 text) × (digits_value 10 text < 2 ^ 64)
+spells : (text : List ℕ) → is_count text ≡ true
+    → SpellsNumber text (digits_value 10 text) × (digits_value 10 text < 2 ^ 64)
 spells text e =
-    let p = and_parts (not (eqb (length text) 0) && are_digits text) (ltb (digits_value 10 text) 18446744073709551616) e in
-    let q = and_parts (not (eqb (length text) 0)) (are_digits text) p.0 in
-    (record { some = some-from_length text (not-true (eqb (length text) 0) q.0); digits = spelt 0 text q.1 }, ltb-true (digits_value 10 text) 18446744073709551616 p.1)
+    let p = and_parts (not (eqb (length text) 0) && are_digits text)
+    (ltb (digits_value 10 text) 18446744073709551616) e in
+    let q = and_parts (not (eqb (length text) 0)) (are_digits text) p.0 in (
+      record { some = some-from_length text (not-true (eqb (length text) 0) q.0); digits = spelt 0 text q.1 },
+      ltb-true (digits_value 10 text) 18446744073709551616 p.1,
+    )
 
 count_given : (text : List ℕ) → GivesCount text (count_in text)
 unfolding count_in
 count_given text =
-    cond_both (is_count text) (digits_value 10 text) 99 (GivesCount text) (λ e. let s = spells text e in number s.0 s.1) (λ e. other (λ n h. large n h e)) where
+    cond_both (is_count text) (digits_value 10 text) 99 (GivesCount text) (λ e. let s = spells text e in number s.0 s.1)
+    (λ e. other (λ n h. large n h e)) where
       large : (n : ℕ) → SpellsNumber text n → is_count text ≡ false → 2 ^ 64 ≤ n
       large n h e = elim (cases_Bool (ltb n 18446744073709551616)) [
         | inl l ↦ absurd (both_ways (is_count text) e (counts text n h (ltb-true n 18446744073709551616 l)))
@@ -67,7 +75,9 @@ unfolding count_in
 is_given text count (number h small) =
     sym (cond-true (is_count text) (digits_value 10 text) 99 (counts text count h small) ∙ (digits h.digits).1)
 is_given text count (other large) =
-    sym (cond-false (is_count text) (digits_value 10 text) 99 (false_from_ne_true (is_count text) (λ e. let s = spells text e in omega (arith, s.1, large (digits_value 10 text) s.0))))
+    sym (cond-false (is_count text) (digits_value 10 text) 99
+    (false_from_ne_true (is_count text)
+    (λ e. let s = spells text e in omega (arith, s.1, large (digits_value 10 text) s.0))))
 
 pub counts_given : (text : List ℕ) (count : ℕ) → (count ≡ count_in text) ↔ GivesCount text count
 counts_given text count = (λ is. subst (GivesCount text) (sym is) (count_given text), λ h. is_given text count h)

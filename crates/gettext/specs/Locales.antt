@@ -15,7 +15,8 @@ non_empty (Some value) = if length value.now == 0 then None else Some value.now
 
 -- the locale: the first of LC_ALL, LC_MESSAGES and LANG that counts, or nothing
 abbrev pub locale_of : Environment → List ℕ
-locale_of env = unwrap_or (option_or (non_empty env.lc_all) (option_or (non_empty env.lc_messages) (non_empty env.lang))) []
+locale_of env = unwrap_or
+    (option_or (non_empty env.lc_all) (option_or (non_empty env.lc_messages) (non_empty env.lang))) []
 
 -- one more name, if it isn't among those before
 unfoldable pub with_name : List (List ℕ) → List ℕ → List (List ℕ)

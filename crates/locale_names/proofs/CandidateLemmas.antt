@@ -16,11 +16,14 @@ unfolding candidates_of_name
 all-given name later = refl
 
 -- of a name of which none is given all five are left
-pub none-given : (name : List ℕ) → drop 0 (candidates_of_name name) ++ flat_map candidates_of_name (language_parts []) ≡ flat_map candidates_of_name (name ∷ [])
+pub none-given : (name : List ℕ)
+    → drop 0 (candidates_of_name name) ++ flat_map candidates_of_name (language_parts [])
+    ≡ flat_map candidates_of_name (name ∷ [])
 unfolding candidates_of_name
 none-given name = ap (λ parts. candidates_of_name name ++ flat_map candidates_of_name parts) parts-none
 
-next-of : (names : List (List ℕ)) (n : ℕ) (text : List ℕ) → slice_get names n ≡ Some text → drop n names ≡ text ∷ drop (n + 1) names
+next-of : (names : List (List ℕ)) (n : ℕ) (text : List ℕ) → slice_get names n ≡ Some text
+    → drop n names ≡ text ∷ drop (n + 1) names
 next-of names n text is =
     let after : suc n ≡ n + 1 = omega arith in
     drop-cons names n [] (slice_get_within names n text is)
@@ -28,19 +31,22 @@ next-of names n text is =
     ∙ ap (λ (k : ℕ). text ∷ drop k names) after
 
 -- the next name, and those after it
-pub one-given : (name : List ℕ) (n : ℕ) (text : List ℕ) (later : List (List ℕ)) → slice_get (candidates_of_name name) n ≡ Some text
+pub one-given : (name : List ℕ) (n : ℕ) (text : List ℕ) (later : List (List ℕ))
+    → slice_get (candidates_of_name name) n ≡ Some text
     → drop n (candidates_of_name name) ++ later ≡ text ∷ (drop (n + 1) (candidates_of_name name) ++ later)
 one-given name n text later is = ap (λ names. names ++ later) (next-of (candidates_of_name name) n text is)
 
 -- the second and the third candidate of a name
-pub second-name : (name modifier unmodified base : List ℕ) (n : ℕ) → modifier ≡ from_first 64 name → unmodified ≡ before 64 name → base ≡ before 46 unmodified → n ≡ 1
+pub second-name : (name modifier unmodified base : List ℕ) (n : ℕ) → modifier ≡ from_first 64 name
+    → unmodified ≡ before 64 name → base ≡ before 46 unmodified → n ≡ 1
     → slice_get (candidates_of_name name) n ≡ Some (base ++ modifier)
 unfolding candidates_of_name
 second-name name modifier unmodified base n m u b i =
     let joined : before 46 (before 64 name) ++ from_first 64 name ≡ base ++ modifier = cc in
     ap (slice_get (candidates_of_name name)) i ∙ ap Some joined
 
-pub third-name : (name modifier unmodified base language : List ℕ) (n : ℕ) → modifier ≡ from_first 64 name → unmodified ≡ before 64 name → base ≡ before 46 unmodified → language ≡ before 95 base → n ≡ 2
+pub third-name : (name modifier unmodified base language : List ℕ) (n : ℕ) → modifier ≡ from_first 64 name
+    → unmodified ≡ before 64 name → base ≡ before 46 unmodified → language ≡ before 95 base → n ≡ 2
     → slice_get (candidates_of_name name) n ≡ Some (language ++ modifier)
 unfolding candidates_of_name
 third-name name modifier unmodified base language n m u b l i =
@@ -48,38 +54,48 @@ third-name name modifier unmodified base language n m u b l i =
     ap (slice_get (candidates_of_name name)) i ∙ ap Some joined
 
 -- a locale that has no candidates
-pub barred : (locale language : List ℕ) → (is_untranslated locale ≡ true) ⊎ (is_path_part locale ≡ false) → flat_map candidates_of_name (language_parts []) ≡ candidates locale language
+pub barred : (locale language : List ℕ) → (is_untranslated locale ≡ true) ⊎ (is_path_part locale ≡ false)
+    → flat_map candidates_of_name (language_parts []) ≡ candidates locale language
 barred locale language is =
     ap (flat_map candidates_of_name) parts-none
-    ∙ sym (cond-true (is_untranslated locale || not (is_path_part locale)) [] (flat_map candidates_of_name (languages locale language))
+    ∙ sym (cond-true (is_untranslated locale || not (is_path_part locale)) []
+    (flat_map candidates_of_name (languages locale language))
     (elim is [ inl e ↦ or_left _ _ e | inr e ↦ or_right _ _ (ap not e) ]))
 
 -- a locale that has, and LANGUAGE
-pub not-barred : (locale language : List ℕ) → is_untranslated locale ≡ false → is_path_part locale ≡ true → flat_map candidates_of_name (languages locale language) ≡ candidates locale language
+pub not-barred : (locale language : List ℕ) → is_untranslated locale ≡ false → is_path_part locale ≡ true
+    → flat_map candidates_of_name (languages locale language) ≡ candidates locale language
 not-barred locale language fine plain =
-    sym (cond-false (is_untranslated locale || not (is_path_part locale)) [] (flat_map candidates_of_name (languages locale language)) (or_from _ _ fine (ap not plain)))
+    sym (cond-false (is_untranslated locale || not (is_path_part locale)) []
+    (flat_map candidates_of_name (languages locale language)) (or_from _ _ fine (ap not plain)))
 
-pub of-locale : (locale language : List ℕ) → is_untranslated locale ≡ false → is_path_part locale ≡ true → (length language == 0) ≡ true
+pub of-locale : (locale language : List ℕ) → is_untranslated locale ≡ false → is_path_part locale ≡ true
+    → (length language == 0) ≡ true
     → drop 0 (candidates_of_name locale) ++ flat_map candidates_of_name (language_parts []) ≡ candidates locale language
 of-locale locale language fine plain unset =
     none-given locale
-    ∙ ap (flat_map candidates_of_name) (sym (cond-true (length language == 0) (locale ∷ []) (language_parts language) unset))
+    ∙ ap (flat_map candidates_of_name)
+    (sym (cond-true (length language == 0) (locale ∷ []) (language_parts language) unset))
     ∙ not-barred locale language fine plain
 
 -- the names left where a name's five are given, and the next language is taken
-pub next-taken : (old languages name after : List ℕ) (n : ℕ) → n ≡ 5 → language_parts languages ≡ name ∷ language_parts after
-    → drop n (candidates_of_name old) ++ flat_map candidates_of_name (language_parts languages) ≡ drop 0 (candidates_of_name name) ++ flat_map candidates_of_name (language_parts after)
+pub next-taken : (old languages name after : List ℕ) (n : ℕ) → n ≡ 5
+    → language_parts languages ≡ name ∷ language_parts after
+    → drop n (candidates_of_name old) ++ flat_map candidates_of_name (language_parts languages)
+    ≡ drop 0 (candidates_of_name name) ++ flat_map candidates_of_name (language_parts after)
 next-taken old languages name after n five parts =
     ap (λ (k : ℕ). drop k (candidates_of_name old) ++ flat_map candidates_of_name (language_parts languages)) five
     ∙ all-given old (flat_map candidates_of_name (language_parts languages)) ∙ ap (flat_map candidates_of_name) parts
 
-pub none-left : (old languages : List ℕ) (n : ℕ) → n ≡ 5 → language_parts languages ≡ [] → drop n (candidates_of_name old) ++ flat_map candidates_of_name (language_parts languages) ≡ []
+pub none-left : (old languages : List ℕ) (n : ℕ) → n ≡ 5 → language_parts languages ≡ []
+    → drop n (candidates_of_name old) ++ flat_map candidates_of_name (language_parts languages) ≡ []
 none-left old languages n five parts =
     ap (λ (k : ℕ). drop k (candidates_of_name old) ++ flat_map candidates_of_name (language_parts languages)) five
     ∙ all-given old (flat_map candidates_of_name (language_parts languages)) ∙ ap (flat_map candidates_of_name) parts
 
 -- the names left of languages
-pub past-five : (name : List ℕ) (n : ℕ) (later : List (List ℕ)) → 5 ≤ n → drop n (candidates_of_name name) ++ later ≡ later
+pub past-five : (name : List ℕ) (n : ℕ) (later : List (List ℕ)) → 5 ≤ n
+    → drop n (candidates_of_name name) ++ later ≡ later
 unfolding candidates_of_name
 past-five name n later l = ap (λ names. names ++ later) (drop_all n (candidates_of_name name) l)
 
@@ -87,56 +103,77 @@ pub no-language-left : (names : List (List ℕ)) (n : ℕ) → names ≡ [] → 
 unfolding names_left
 no-language-left names n none = ap (names_left n) none
 
-pub next-given : (names : List (List ℕ)) (n : ℕ) (name text : List ℕ) (later : List (List ℕ)) → names ≡ name ∷ later → slice_get (candidates_of_name name) n ≡ Some text
+pub next-given : (names : List (List ℕ)) (n : ℕ) (name text : List ℕ) (later : List (List ℕ)) → names ≡ name ∷ later
+    → slice_get (candidates_of_name name) n ≡ Some text
     → names_left n names ≡ text ∷ names_left (n + 1) names
 unfolding names_left
 next-given names n name text later is at =
-    ap (names_left n) is ∙ one-given name n text (flat_map candidates_of_name later) at ∙ ap (λ names. text ∷ names_left (n + 1) names) (sym is)
+    ap (names_left n) is ∙ one-given name n text (flat_map candidates_of_name later) at
+    ∙ ap (λ names. text ∷ names_left (n + 1) names) (sym is)
 
-pub first-given : (names : List (List ℕ)) (name text : List ℕ) (later : List (List ℕ)) → names ≡ name ∷ later → slice_get (candidates_of_name name) 0 ≡ Some text
+pub first-given : (names : List (List ℕ)) (name text : List ℕ) (later : List (List ℕ)) → names ≡ name ∷ later
+    → slice_get (candidates_of_name name) 0 ≡ Some text
     → flat_map candidates_of_name names ≡ text ∷ names_left 1 names
 unfolding names_left
 first-given names name text later is at =
-    ap (flat_map candidates_of_name) is ∙ one-given name 0 text (flat_map candidates_of_name later) at ∙ ap (λ names. text ∷ names_left 1 names) (sym is)
+    ap (flat_map candidates_of_name) is ∙ one-given name 0 text (flat_map candidates_of_name later) at
+    ∙ ap (λ names. text ∷ names_left 1 names) (sym is)
 
-pub language-passed : (language name : List ℕ) (offset len n : ℕ) → language_parts (drop offset language) ≡ name ∷ language_parts (drop len (drop offset language)) → 5 ≤ n
-    → names_left n (language_parts (drop offset language)) ≡ flat_map candidates_of_name (language_parts (drop (offset + len) language))
+pub language-passed : (language name : List ℕ) (offset len n : ℕ)
+    → language_parts (drop offset language) ≡ name ∷ language_parts (drop len (drop offset language)) → 5 ≤ n
+    → names_left n (language_parts (drop offset language))
+    ≡ flat_map candidates_of_name (language_parts (drop (offset + len) language))
 unfolding names_left
 language-passed language name offset len n is five =
-    ap (names_left n) is ∙ past-five name n _ five ∙ ap (λ rest. flat_map candidates_of_name (language_parts rest)) (drop-drop len offset language)
+    ap (names_left n) is ∙ past-five name n _ five
+    ∙ ap (λ rest. flat_map candidates_of_name (language_parts rest)) (drop-drop len offset language)
 
 -- what is said of the names left of one list holds of one that is the same at each position
-pub matched-left : (names left : Position → List (List ℕ)) → ((p : Position) → names p ≡ left p) → (at : Position) (next : Option (Candidate × Position))
-    → MatchOption next (left at ≡ []) (λ n. left at ≡ text_of n.0 ∷ left n.1) → MatchOption next (names at ≡ []) (λ n. names at ≡ text_of n.0 ∷ names n.1)
+pub matched-left : (names left : Position → List (List ℕ)) → ((p : Position) → names p ≡ left p)
+    → (at : Position) (next : Option (Candidate × Position))
+    → MatchOption next (left at ≡ []) (λ n. left at ≡ text_of n.0 ∷ left n.1)
+    → MatchOption next (names at ≡ []) (λ n. names at ≡ text_of n.0 ∷ names n.1)
 matched-left names left same at None none = same at ∙ none
 matched-left names left same at (Some n) is = same at ∙ is ∙ ap (λ later. text_of n.0 ∷ later) (sym (same n.1))
 
-pub matched-first : (now first : List (List ℕ)) (after : Candidate × Position → List (List ℕ)) → now ≡ first → (next : Option (Candidate × Position))
-    → MatchOption next (first ≡ []) (λ n. first ≡ text_of n.0 ∷ after n) → MatchOption next (now ≡ []) (λ n. now ≡ text_of n.0 ∷ after n)
+pub matched-first : (now first : List (List ℕ)) (after : Candidate × Position → List (List ℕ)) → now ≡ first
+    → (next : Option (Candidate × Position))
+    → MatchOption next (first ≡ []) (λ n. first ≡ text_of n.0 ∷ after n)
+    → MatchOption next (now ≡ []) (λ n. now ≡ text_of n.0 ∷ after n)
 matched-first now first after same None none = same ∙ none
 matched-first now first after same (Some n) is = same ∙ is
 
 -- the names from a position on
-pub barred-from : (locale language : List ℕ) (at : Position) → (is_untranslated locale ≡ true) ⊎ (is_path_part locale ≡ false) → names_from locale language at ≡ []
+pub barred-from : (locale language : List ℕ) (at : Position)
+    → (is_untranslated locale ≡ true) ⊎ (is_path_part locale ≡ false) → names_from locale language at ≡ []
 unfolding names_from
 barred-from locale language at is =
-    cond-true (is_untranslated locale || not (is_path_part locale)) [] _ (elim is [ inl e ↦ or_left _ _ e | inr e ↦ or_right _ _ (ap not e) ])
+    cond-true (is_untranslated locale || not (is_path_part locale)) [] _
+    (elim is [ inl e ↦ or_left _ _ e | inr e ↦ or_right _ _ (ap not e) ])
 
-not-barred-from : (locale language : List ℕ) (at : Position) → is_untranslated locale ≡ false → is_path_part locale ≡ true
-    → names_from locale language at ≡ names_left at.given (cond (length language == 0) (locale ∷ []) (language_parts (drop at.offset language)))
+not-barred-from : (locale language : List ℕ) (at : Position) → is_untranslated locale ≡ false
+    → is_path_part locale ≡ true
+    → names_from locale language at
+    ≡ names_left at.given (cond (length language == 0) (locale ∷ []) (language_parts (drop at.offset language)))
 unfolding names_from
 not-barred-from locale language at fine plain =
     cond-false (is_untranslated locale || not (is_path_part locale)) [] _ (or_from _ _ fine (ap not plain))
 
-pub from-locale : (locale language : List ℕ) → is_untranslated locale ≡ false → is_path_part locale ≡ true → (length language == 0) ≡ true → (at : Position)
+pub from-locale : (locale language : List ℕ) → is_untranslated locale ≡ false → is_path_part locale ≡ true
+    → (length language == 0) ≡ true → (at : Position)
     → names_from locale language at ≡ names_left at.given (locale ∷ [])
 from-locale locale language fine plain unset at =
-    not-barred-from locale language at fine plain ∙ ap (names_left at.given) (cond-true (length language == 0) (locale ∷ []) (language_parts (drop at.offset language)) unset)
+    not-barred-from locale language at fine plain
+    ∙ ap (names_left at.given)
+    (cond-true (length language == 0) (locale ∷ []) (language_parts (drop at.offset language)) unset)
 
-pub from-language : (locale language : List ℕ) → is_untranslated locale ≡ false → is_path_part locale ≡ true → (length language == 0) ≡ false → (at : Position)
+pub from-language : (locale language : List ℕ) → is_untranslated locale ≡ false → is_path_part locale ≡ true
+    → (length language == 0) ≡ false → (at : Position)
     → names_from locale language at ≡ names_left at.given (language_parts (drop at.offset language))
 from-language locale language fine plain set at =
-    not-barred-from locale language at fine plain ∙ ap (names_left at.given) (cond-false (length language == 0) (locale ∷ []) (language_parts (drop at.offset language)) set)
+    not-barred-from locale language at fine plain
+    ∙ ap (names_left at.given)
+    (cond-false (length language == 0) (locale ∷ []) (language_parts (drop at.offset language)) set)
 
 all-left : (names : List (List ℕ)) → names_left 0 names ≡ flat_map candidates_of_name names
 unfolding names_left
@@ -144,10 +181,12 @@ all-left [] = refl
 all-left (name ∷ names) = refl
 
 -- at the beginning all are left
-pub from-start : (locale language : List ℕ) (at : Position) → at.offset ≡ 0 → at.given ≡ 0 → names_from locale language at ≡ candidates locale language
+pub from-start : (locale language : List ℕ) (at : Position) → at.offset ≡ 0 → at.given ≡ 0
+    → names_from locale language at ≡ candidates locale language
 unfolding names_from
 from-start locale language at offset given =
     let bar = is_untranslated locale || not (is_path_part locale) in
-    ap (λ (o : ℕ). cond bar [] (names_left at.given (cond (length language == 0) (locale ∷ []) (language_parts (drop o language))))) offset
+    ap (λ (o : ℕ). cond bar []
+    (names_left at.given (cond (length language == 0) (locale ∷ []) (language_parts (drop o language))))) offset
     ∙ ap (λ (g : ℕ). cond bar [] (names_left g (languages locale language))) given
     ∙ ap (λ names. cond bar [] names) (all-left (languages locale language))

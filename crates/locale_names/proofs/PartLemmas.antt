@@ -11,7 +11,8 @@ use Rattle.locale_names.specs.Names.{is_untranslated, is_path_part, language_par
 use Rattle.locale_names.proofs.SearchLemmas.{byte-here, byte-later}
 
 -- the parts of a text, up to the first separator and after it
-split-next : (bs : List ℕ) (n : ℕ) → n ≡ position_or_len (is_byte 58) bs → n < length bs → slice_split (is_byte 58) bs ≡ take n bs ∷ slice_split (is_byte 58) (drop (n + 1) bs)
+split-next : (bs : List ℕ) (n : ℕ) → n ≡ position_or_len (is_byte 58) bs → n < length bs
+    → slice_split (is_byte 58) bs ≡ take n bs ∷ slice_split (is_byte 58) (drop (n + 1) bs)
 split-next bs n index l =
     slice_split_first (is_byte 58) bs 0 (omega (arith, index))
     ∙ ap (λ m. take m bs ∷ slice_split (is_byte 58) (drop (m + 1) bs)) (sym index)
@@ -20,24 +21,33 @@ split-last : (bs : List ℕ) → position_or_len (is_byte 58) bs ≡ length bs �
 split-last [] e = refl
 split-last (b ∷ bs) e = elim (cases_Bool (eqb b 58)) [
   | inl here ↦ absurd (omega (arith, e, byte-here 58 b bs here))
-  | inr later ↦ slice_split-cons_no (is_byte 58) b bs later ∙ ap (onto_first b) (split-last bs (omega (arith, e, byte-later 58 b bs later)))
+  | inr later ↦ slice_split-cons_no (is_byte 58) b bs later
+      ∙ ap (onto_first b) (split-last bs (omega (arith, e, byte-later 58 b bs later)))
 ]
 
 abbrev counts : List ℕ → Bool
 counts part = not (is_untranslated part)
 
 -- the parts that count of a part and those after it
-kept : (untranslated fits : Bool) (part : List ℕ) (parts : List (List ℕ)) → untranslated ≡ is_untranslated part → fits ≡ is_path_part part
-    → filter is_path_part (take_while counts (part ∷ parts)) ≡ cond untranslated [] (cond fits (part ∷ filter is_path_part (take_while counts parts)) (filter is_path_part (take_while counts parts)))
+kept : (untranslated fits : Bool) (part : List ℕ) (parts : List (List ℕ)) → untranslated ≡ is_untranslated part
+    → fits ≡ is_path_part part
+    → filter is_path_part (take_while counts (part ∷ parts))
+    ≡ cond untranslated [] (cond fits (part ∷ filter is_path_part (take_while counts parts))
+    (filter is_path_part (take_while counts parts)))
 kept true fits part parts u f =
-    ap (filter is_path_part) (take_while-cons counts part parts ∙ ap (λ t. cond (not t) (part ∷ take_while counts parts) []) (sym u))
+    ap (filter is_path_part)
+    (take_while-cons counts part parts ∙ ap (λ t. cond (not t) (part ∷ take_while counts parts) []) (sym u))
 kept false fits part parts u f =
-    ap (filter is_path_part) (take_while-cons counts part parts ∙ ap (λ t. cond (not t) (part ∷ take_while counts parts) []) (sym u))
-    ∙ ap (λ t. cond t (part ∷ filter is_path_part (take_while counts parts)) (filter is_path_part (take_while counts parts))) (sym f)
+    ap (filter is_path_part)
+    (take_while-cons counts part parts ∙ ap (λ t. cond (not t) (part ∷ take_while counts parts) []) (sym u))
+    ∙ ap (λ t. cond t (part ∷ filter is_path_part (take_while counts parts))
+    (filter is_path_part (take_while counts parts))) (sym f)
 
 -- a part that ends at a separator, and those after it
 pub parts-next : (bs : List ℕ) (n : ℕ) → n ≡ position_or_len (is_byte 58) bs → n < length bs
-    → language_parts bs ≡ cond (is_untranslated (take n bs)) [] (cond (is_path_part (take n bs)) (take n bs ∷ language_parts (drop (n + 1) bs)) (language_parts (drop (n + 1) bs)))
+    → language_parts bs ≡ cond (is_untranslated (take n bs)) []
+    (cond (is_path_part (take n bs)) (take n bs ∷ language_parts (drop (n + 1) bs))
+    (language_parts (drop (n + 1) bs)))
 unfolding language_parts is_untranslated
 parts-next bs n index l =
     ap (λ parts. filter is_path_part (take_while counts parts)) (split-next bs n index l)
@@ -45,12 +55,15 @@ parts-next bs n index l =
 
 -- the last part
 pub parts-last : (bs : List ℕ) (n : ℕ) → n ≡ position_or_len (is_byte 58) bs → n ≡ length bs
-    → language_parts bs ≡ cond (is_untranslated bs) [] (cond (is_path_part bs) (bs ∷ language_parts (drop n bs)) (language_parts (drop n bs)))
+    → language_parts bs ≡ cond (is_untranslated bs) []
+    (cond (is_path_part bs) (bs ∷ language_parts (drop n bs)) (language_parts (drop n bs)))
 unfolding language_parts is_untranslated
 parts-last bs n index end =
     ap (λ parts. filter is_path_part (take_while counts parts)) (split-last bs (sym index ∙ end))
     ∙ kept _ _ bs [] refl refl
-    ∙ ap (λ later. cond (is_untranslated bs) [] (cond (is_path_part bs) (bs ∷ language_parts later) (language_parts later))) (sym (drop_all n bs (omega (arith, end))))
+    ∙ ap (λ later. cond (is_untranslated bs) []
+    (cond (is_path_part bs) (bs ∷ language_parts later) (language_parts later)))
+    (sym (drop_all n bs (omega (arith, end))))
 
 -- without a text there is no part
 pub parts-none : language_parts [] ≡ []

@@ -18,4 +18,5 @@ names_left given (name ∷ names) = drop given (candidates_of_name name) ++ flat
 unfoldable pub names_from : List ℕ → List ℕ → Position → List (List ℕ)
 names_from locale language position =
     if is_untranslated locale || not (is_path_part locale) then []
-    else names_left position.given (if length language == 0 then locale ∷ [] else language_parts (drop position.offset language))
+    else names_left position.given
+    (if length language == 0 then locale ∷ [] else language_parts (drop position.offset language))

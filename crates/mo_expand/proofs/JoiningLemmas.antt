@@ -13,26 +13,32 @@ use Rattle.mo_expand.specs.declared.platform_text.PlatformText.{PlatformText}
 use Rattle.mo_expand.specs.Segments.{joined, from_segment, join}
 use Rattle.mo_expand.specs.Internal.Joining.{HasText, IsJoining, IsPut, IsWritten, with_rest}
 
-pub joined-none : (order : Order) (bytes : List ℕ) (texts : List PlatformText) (at start : ℕ) → joined order bytes texts 0 at start ≡ None
+pub joined-none : (order : Order) (bytes : List ℕ) (texts : List PlatformText) (at start : ℕ)
+    → joined order bytes texts 0 at start ≡ None
 unfolding joined
 joined-none order bytes texts at start = refl
 
-pub joined-step : (order : Order) (bytes : List ℕ) (texts : List PlatformText) (left next at start : ℕ) → left ≡ suc next → joined order bytes texts left at start ≡ from_segment order bytes texts at start (joined order bytes texts next (at + 8) (start + word_at order bytes at))
+pub joined-step : (order : Order) (bytes : List ℕ) (texts : List PlatformText) (left next at start : ℕ)
+    → left ≡ suc next → joined order bytes texts left at start ≡ from_segment order bytes texts at start
+    (joined order bytes texts next (at + 8) (start + word_at order bytes at))
 unfolding joined
 joined-step order bytes texts left next at start e = ap (λ n. joined order bytes texts n at start) e
 
 -- a part that begins before what is written goes on with it
-pub slice_range-more : (xs : List ℕ) (a b c : ℕ) → a ≤ b → b ≤ c → slice_range xs a c ≡ slice_range xs a b ++ slice_range xs b c
+pub slice_range-more : (xs : List ℕ) (a b c : ℕ) → a ≤ b → b ≤ c
+    → slice_range xs a c ≡ slice_range xs a b ++ slice_range xs b c
 slice_range-more xs a b c low high =
     let sum : c - a ≡ (b - a) + (c - b) = omega arith in
     let there : a + (b - a) ≡ b = omega arith in
     ap (λ n. take n (drop a xs)) sum ∙ take-add (b - a) (c - b) (drop a xs)
     ∙ ap (λ l. take (b - a) (drop a xs) ++ take (c - b) l) (drop-drop (b - a) a xs ∙ ap (λ n. drop n xs) there)
 
-pub slice_range-before : (xs ys : List ℕ) (a b : ℕ) → a ≤ b → take b xs ≡ take b ys → slice_range xs a b ≡ slice_range ys a b
+pub slice_range-before : (xs ys : List ℕ) (a b : ℕ) → a ≤ b → take b xs ≡ take b ys
+    → slice_range xs a b ≡ slice_range ys a b
 slice_range-before xs ys a b low same =
     let there : a + (b - a) ≡ b = omega arith in
-    sym (drop-take a (b - a) xs) ∙ ap (λ n. drop a (take n xs)) there ∙ ap (drop a) same ∙ sym (ap (λ n. drop a (take n ys)) there) ∙ drop-take a (b - a) ys
+    sym (drop-take a (b - a) xs) ∙ ap (λ n. drop a (take n xs)) there ∙ ap (drop a) same
+    ∙ sym (ap (λ n. drop a (take n ys)) there) ∙ drop-take a (b - a) ys
 
 pub length-slice_range : (xs : List ℕ) (a b : ℕ) → a ≤ b → b ≤ length xs → length (slice_range xs a b) ≡ b - a
 length-slice_range xs a b low inside = omega (arith, length-take (b - a) (drop a xs), length-drop a xs)
@@ -40,14 +46,16 @@ length-slice_range xs a b low inside = omega (arith, length-take (b - a) (drop a
 pub take-before : (xs ys : List ℕ) (a b : ℕ) → a ≤ b → take b xs ≡ take b ys → take a xs ≡ take a ys
 take-before xs ys a b low same = sym (take-take a b xs low) ∙ ap (take a) same ∙ take-take a b ys low
 
-pub put-extends : (old new : List ℕ) (start at end : ℕ) (text : List ℕ) → start ≤ at → HasText old new at end text → slice_range new start end ≡ slice_range old start at ++ text
+pub put-extends : (old new : List ℕ) (start at end : ℕ) (text : List ℕ) → start ≤ at → HasText old new at end text
+    → slice_range new start end ≡ slice_range old start at ++ text
 put-extends old new start at end text low h =
     slice_range-more new start at end low h.order
     ∙ ap (λ l. l ++ slice_range new at end) (slice_range-before new old start at low h.before)
     ∙ ap (λ l. slice_range old start at ++ l) h.is
 
 -- two texts, one after the other
-pub put_twice : (old middle new : List ℕ) (start at end : ℕ) (first second : List ℕ) → HasText old middle start at first → HasText middle new at end second → HasText old new start end (first ++ second)
+pub put_twice : (old middle new : List ℕ) (start at end : ℕ) (first second : List ℕ) → HasText old middle start at first
+    → HasText middle new at end second → HasText old new start end (first ++ second)
 put_twice old middle new start at end first second h k =
     let low = h.order in
     let more = k.order in
@@ -58,14 +66,19 @@ put_twice old middle new start at end first second h k =
       is = put-extends middle new start at end second low k ∙ ap (λ l. l ++ second) h.is;
     }
 
-pub put_both : (old middle new : List ℕ) (start at : ℕ) (first second : List ℕ) (end : Option ℕ) → HasText old middle start at first → length middle ≡ length old → IsPut middle new at second end → IsPut old new start (first ++ second) end
+pub put_both : (old middle new : List ℕ) (start at : ℕ) (first second : List ℕ) (end : Option ℕ)
+    → HasText old middle start at first → length middle ≡ length old → IsPut middle new at second end
+    → IsPut old new start (first ++ second) end
 put_both old middle new start at first second None h len put =
-    let slice : length first ≡ at - start = ap length (sym h.is) ∙ length-slice_range middle start at h.order h.inside in
+    let slice : length first ≡ at - start =
+    ap length (sym h.is) ∙ length-slice_range middle start at h.order h.inside in
     let low = h.order in
     omega (arith, put, len, slice, length-append first second)
-put_both old middle new start at first second (Some end) h len put = put_twice old middle new start at end first second h put
+put_both old middle new start at first second (Some end) h len put =
+    put_twice old middle new start at end first second h put
 
-pub joining-starts : (room : List ℕ) (start : ℕ) (whole : Option (List ℕ)) → start ≤ length room → IsJoining room room start start whole whole
+pub joining-starts : (room : List ℕ) (start : ℕ) (whole : Option (List ℕ)) → start ≤ length room
+    → IsJoining room room start start whole whole
 joining-starts room start None h = record { order = omega arith; inside = h; len = refl; before = refl; is = refl }
 joining-starts room start (Some text) h = record {
   order = omega arith;
@@ -75,7 +88,9 @@ joining-starts room start (Some text) h = record {
   is = let none : start - start ≡ 0 = omega arith in sym (ap (λ n. Some (take n (drop start room) ++ text)) none);
 }
 
-pub joining-ends : (old room new : List ℕ) (start at end : ℕ) (whole : Option (List ℕ)) (text : List ℕ) → IsJoining old room start at whole (Some text) → HasText room new at end text → length new ≡ length room → IsWritten old new start whole (Ends end)
+pub joining-ends : (old room new : List ℕ) (start at end : ℕ) (whole : Option (List ℕ)) (text : List ℕ)
+    → IsJoining old room start at whole (Some text) → HasText room new at end text → length new ≡ length room
+    → IsWritten old new start whole (Ends end)
 joining-ends old room new start at end whole text j h len =
     let order = j.order in
     let more = h.order in (
@@ -88,12 +103,17 @@ joining-ends old room new start at end whole text j h len =
       },
     )
 
-joined-more : (room new : List ℕ) (start at end : ℕ) (literal text : List ℕ) (rest : Option (List ℕ)) → slice_range new start end ≡ slice_range room start at ++ (literal ++ text) → option_map (λ r. slice_range room start at ++ r) (join (Some literal) (Some text) rest) ≡ option_map (λ r. slice_range new start end ++ r) rest
+joined-more : (room new : List ℕ) (start at end : ℕ) (literal text : List ℕ) (rest : Option (List ℕ))
+    → slice_range new start end ≡ slice_range room start at ++ (literal ++ text)
+    → option_map (λ r. slice_range room start at ++ r) (join (Some literal) (Some text) rest)
+    ≡ option_map (λ r. slice_range new start end ++ r) rest
 joined-more room new start at end literal text None e = refl
 joined-more room new start at end literal text (Some r) e =
     ap Some (sym (ap (λ l. l ++ r) e ∙ simp append_assoc))
 
-pub joining-goes_on : (old room new : List ℕ) (start at end : ℕ) (whole : Option (List ℕ)) (literal text : List ℕ) (rest : Option (List ℕ)) → IsJoining old room start at whole (join (Some literal) (Some text) rest) → HasText room new at end (literal ++ text) → length new ≡ length room → IsJoining old new start end whole rest
+pub joining-goes_on : (old room new : List ℕ) (start at end : ℕ) (whole : Option (List ℕ)) (literal text : List ℕ)
+    (rest : Option (List ℕ)) → IsJoining old room start at whole (join (Some literal) (Some text) rest)
+    → HasText room new at end (literal ++ text) → length new ≡ length room → IsJoining old new start end whole rest
 joining-goes_on old room new start at end whole literal text rest j h len =
     let order = j.order in
     let more = h.order in
@@ -105,28 +125,45 @@ joining-goes_on old room new start at end whole literal text rest j h len =
       is = j.is ∙ joined-more room new start at end literal text rest (put-extends room new start at end _ order h);
     }
 
-pub joining-step : (old room : List ℕ) (start at : ℕ) (whole : Option (List ℕ)) (order : Order) (bytes : List ℕ) (texts : List PlatformText) (left next described source : ℕ) (segment : Option Segment) → left ≡ suc next → ((rest : Option (List ℕ)) → from_segment order bytes texts described source rest ≡ with_rest segment rest) → IsJoining old room start at whole (joined order bytes texts left described source) → IsJoining old room start at whole (with_rest segment (joined order bytes texts next (described + 8) (source + word_at order bytes described)))
+pub joining-step : (old room : List ℕ) (start at : ℕ) (whole : Option (List ℕ)) (order : Order) (bytes : List ℕ)
+    (texts : List PlatformText) (left next described source : ℕ) (segment : Option Segment) → left ≡ suc next
+    → ((rest : Option (List ℕ)) → from_segment order bytes texts described source rest ≡ with_rest segment rest)
+    → IsJoining old room start at whole (joined order bytes texts left described source)
+    → IsJoining old room start at whole
+    (with_rest segment (joined order bytes texts next (described + 8)
+    (source + word_at order bytes described)))
 joining-step old room start at whole order bytes texts left next described source segment e is j =
     subst (IsJoining old room start at whole) (joined-step order bytes texts left next described source e ∙ is _) j
 
-pub joining-has_ended : (old room : List ℕ) (start at : ℕ) (whole : Option (List ℕ)) (order : Order) (bytes : List ℕ) (texts : List PlatformText) (left described source : ℕ) → left ≡ 0 → IsJoining old room start at whole (joined order bytes texts left described source) → whole ≡ None
+pub joining-has_ended : (old room : List ℕ) (start at : ℕ) (whole : Option (List ℕ)) (order : Order) (bytes : List ℕ)
+    (texts : List PlatformText) (left described source : ℕ) → left ≡ 0
+    → IsJoining old room start at whole (joined order bytes texts left described source) → whole ≡ None
 joining-has_ended old room start at whole order bytes texts left described source e j =
-    let over = subst (IsJoining old room start at whole) (ap (λ n. joined order bytes texts n described source) e ∙ joined-none order bytes texts described source) j in
+    let over = subst (IsJoining old room start at whole)
+    (ap (λ n. joined order bytes texts n described source) e ∙ joined-none order bytes texts described source) j in
     over.is
 
-is_full : (old room : List ℕ) (start at : ℕ) (text t : List ℕ) → start ≤ at → at ≤ length room → length room ≡ length old → length room < at + length text → Some t ≡ Some (slice_range room start at ++ text) → length old < start + length t
+is_full : (old room : List ℕ) (start at : ℕ) (text t : List ℕ) → start ≤ at → at ≤ length room
+    → length room ≡ length old → length room < at + length text → Some t ≡ Some (slice_range room start at ++ text)
+    → length old < start + length t
 is_full old room start at text t low inside len full e =
-    let whole : length t ≡ length (slice_range room start at) + length text = ap length (ap (λ o. unwrap_or o []) e) ∙ length-append _ text in
+    let whole : length t ≡ length (slice_range room start at) + length text =
+    ap length (ap (λ o. unwrap_or o []) e) ∙ length-append _ text in
     omega (arith, whole, full, len, length-take (at - start) (drop start room), length-drop start room)
 
-pub joining-is_full : (old room : List ℕ) (start at : ℕ) (whole : Option (List ℕ)) (text : List ℕ) → IsJoining old room start at whole (Some text) → length room < at + length text → (t : List ℕ) → whole ≡ Some t → length old < start + length t
+pub joining-is_full : (old room : List ℕ) (start at : ℕ) (whole : Option (List ℕ)) (text : List ℕ)
+    → IsJoining old room start at whole (Some text) → length room < at + length text → (t : List ℕ) → whole ≡ Some t
+    → length old < start + length t
 joining-is_full old room start at whole text j full t is =
     is_full old room start at text t j.order j.inside j.len full (sym is ∙ j.is)
 
-longer : (literal text r : List ℕ) (n at : ℕ) → n < at + length (literal ++ text) → n < at + length (literal ++ text ++ r)
+longer : (literal text r : List ℕ) (n at : ℕ) → n < at + length (literal ++ text)
+    → n < at + length (literal ++ text ++ r)
 longer literal text r n at full = omega (arith, full, length-append (literal ++ text) r)
 
-pub joining-is_full_before : (old room : List ℕ) (start at : ℕ) (whole : Option (List ℕ)) (literal text : List ℕ) (rest : Option (List ℕ)) → IsJoining old room start at whole (join (Some literal) (Some text) rest) → length room < at + length (literal ++ text) → (t : List ℕ) → whole ≡ Some t → length old < start + length t
+pub joining-is_full_before : (old room : List ℕ) (start at : ℕ) (whole : Option (List ℕ)) (literal text : List ℕ)
+    (rest : Option (List ℕ)) → IsJoining old room start at whole (join (Some literal) (Some text) rest)
+    → length room < at + length (literal ++ text) → (t : List ℕ) → whole ≡ Some t → length old < start + length t
 joining-is_full_before old room start at whole literal text None j full t is = absurd (none-some t (sym j.is ∙ is))
 joining-is_full_before old room start at whole literal text (Some r) j full t is =
     is_full old room start at (literal ++ text ++ r) t j.order j.inside j.len

@@ -37,7 +37,8 @@ pub length-layout-strings : (order : Order) (listed : List ListedMessage) →
     ≡ 28 + 16 * length listed + length (terminated (strings_of Original listed))
     + length (terminated (strings_of Translation listed))
 length-layout-strings order listed =
-    length-layout order (messages listed) ∙ rw (originals-listed listed, translations-listed listed, length-map listed message) refl
+    length-layout order (messages listed)
+    ∙ rw (originals-listed listed, translations-listed listed, length-map listed message) refl
 
 sum_by-listed : (listed : List ListedMessage) →
     sum_by listed_len listed
@@ -55,27 +56,39 @@ length-layout-listed order listed = omega (arith, length-layout-strings order li
 pub layout-listed : (order : Order) (listed : List ListedMessage) →
     layout order (messages listed)
     ≡ header order (length listed) ++ table order (28 + 16 * length listed) (strings_of Original listed)
-    ++ table order (28 + 16 * length listed + length (terminated (strings_of Original listed))) (strings_of Translation listed)
+    ++ table order (28 + 16 * length listed + length (terminated (strings_of Original listed)))
+    (strings_of Translation listed)
     ++ terminated (strings_of Original listed) ++ terminated (strings_of Translation listed)
 layout-listed order listed = rw (originals-listed listed, translations-listed listed, length-map listed message) refl
 
 -- what was written part by part
-pub laid-out : (order : Order) (listed : List ListedMessage) (one two three four five : List ℕ) (tables second middle end : ℕ) → tables ≡ 28 → take tables one ≡ header order (length listed) →
-    take (tables + 8 * length listed) two ≡ take tables one ++ table order (28 + 16 * length listed) (strings_of Original listed) →
+pub laid-out : (order : Order) (listed : List ListedMessage) (one two three four five : List ℕ)
+    (tables second middle end : ℕ) → tables ≡ 28 → take tables one ≡ header order (length listed) →
+    take (tables + 8 * length listed) two ≡ take tables one ++ table order (28 + 16 * length listed)
+    (strings_of Original listed) →
     second ≡ 28 + 16 * length listed + length (terminated (strings_of Original listed)) →
-    take (tables + 8 * length listed + 8 * length listed) three ≡ take (tables + 8 * length listed) two ++ table order second (strings_of Translation listed) →
+    take (tables + 8 * length listed + 8 * length listed) three ≡ take (tables + 8 * length listed) two
+    ++ table order second (strings_of Translation listed) →
     take middle four ≡ take (28 + 16 * length listed) three ++ terminated (strings_of Original listed) →
     middle ≡ 28 + 16 * length listed + length (terminated (strings_of Original listed)) →
     take end five ≡ take middle four ++ terminated (strings_of Translation listed) →
     end ≡ middle + length (terminated (strings_of Translation listed)) →
     take (length (layout order (messages listed))) five ≡ layout order (messages listed)
 laid-out order listed one two three four five tables second middle end t e1 e2 s e3 e4 m e5 d =
-    let whole : length (layout order (messages listed)) ≡ end = omega (arith, length-layout-strings order listed, m, d) in
+    let whole : length (layout order (messages listed)) ≡ end =
+    omega (arith, length-layout-strings order listed, m, d) in
     let at : 28 + 16 * length listed ≡ tables + 8 * length listed + 8 * length listed = omega (arith, t) in
-    let second_table : take (28 + 16 * length listed) three ≡ header order (length listed) ++ table order (28 + 16 * length listed) (strings_of Original listed) ++ table order second (strings_of Translation listed) =
-    ap (λ n. take n three) at ∙ e3 ∙ ap (λ l. l ++ table order second (strings_of Translation listed)) (e2 ∙ ap (λ l. l ++ table order (28 + 16 * length listed) (strings_of Original listed)) e1) in
+    let second_table : take (28 + 16 * length listed) three ≡ header order (length listed)
+    ++ table order (28 + 16 * length listed) (strings_of Original listed)
+    ++ table order second (strings_of Translation listed) =
+    ap (λ n. take n three) at ∙ e3
+    ∙ ap (λ l. l ++ table order second (strings_of Translation listed))
+    (e2 ∙ ap (λ l. l ++ table order (28 + 16 * length listed) (strings_of Original listed)) e1) in
     ap (λ n. take n five) whole
     ∙ e5
-    ∙ ap (λ l. l ++ terminated (strings_of Translation listed)) (e4 ∙ ap (λ l. l ++ terminated (strings_of Original listed)) second_table)
-    ∙ ap (λ n. header order (length listed) ++ table order (28 + 16 * length listed) (strings_of Original listed) ++ table order n (strings_of Translation listed) ++ terminated (strings_of Original listed) ++ terminated (strings_of Translation listed)) s
+    ∙ ap (λ l. l ++ terminated (strings_of Translation listed))
+    (e4 ∙ ap (λ l. l ++ terminated (strings_of Original listed)) second_table)
+    ∙ ap (λ n. header order (length listed) ++ table order (28 + 16 * length listed) (strings_of Original listed)
+    ++ table order n (strings_of Translation listed) ++ terminated (strings_of Original listed)
+    ++ terminated (strings_of Translation listed)) s
     ∙ sym (layout-listed order listed)

@@ -11,7 +11,9 @@ use Rattle.mo_expand.specs.declared.listing.ListedMessage.{ListedMessage}
 use Rattle.mo_expand.specs.Internal.Listing.{message, messages, IsPlace}
 use Rattle.mo_expand.specs.Merging.{beside, with_message}
 
-pub with_message-cons : (m other : Message) (others : List Message) (o : Ordering) → key_cmp (key_of other.original) (key_of m.original) ≡ o → with_message m (other ∷ others) ≡ beside o m other others (with_message m others)
+pub with_message-cons : (m other : Message) (others : List Message) (o : Ordering)
+    → key_cmp (key_of other.original) (key_of m.original) ≡ o
+    → with_message m (other ∷ others) ≡ beside o m other others (with_message m others)
 unfolding with_message
 with_message-cons m other others o e = ap (λ p. beside p m other others (with_message m others)) e
 
@@ -20,24 +22,35 @@ unfolding with_message
 with_message-none m = refl
 
 -- a list of the messages of a file, one message longer
-pub next-message : (ms : List Message) (i : ℕ) (o t : List ℕ) → slice_get (originals ms) i ≡ Some o → slice_get (translations ms) i ≡ Some t → take (i + 1) ms ≡ take i ms ++ record { original = o; translation = t } ∷ []
+pub next-message : (ms : List Message) (i : ℕ) (o t : List ℕ) → slice_get (originals ms) i ≡ Some o
+    → slice_get (translations ms) i ≡ Some t
+    → take (i + 1) ms ≡ take i ms ++ record { original = o; translation = t } ∷ []
 next-message [] i o t is_o is_t = absurd (none-some o is_o)
 next-message (m ∷ ms) zero o t is_o is_t = let p = is_o in let q = is_t in grind arith
-next-message (m ∷ ms) (suc i) o t is_o is_t = let e : suc i + 1 ≡ suc (i + 1) = omega arith in rw e (ap (λ l. m ∷ l) (next-message ms i o t is_o is_t))
+next-message (m ∷ ms) (suc i) o t is_o is_t = let e : suc i + 1 ≡ suc (i + 1) =
+    omega arith in rw e (ap (λ l. m ∷ l) (next-message ms i o t is_o is_t))
 
-pub listed-next : (listed : List ListedMessage) (i : ℕ) (ms : List Message) (x : ListedMessage) → i < length listed → messages (take i listed) ≡ take i ms → slice_get (originals ms) i ≡ Some x.original.now → slice_get (translations ms) i ≡ Some x.translation.now → messages (take (i + 1) (slice_set listed i x)) ≡ take (i + 1) ms
+pub listed-next : (listed : List ListedMessage) (i : ℕ) (ms : List Message) (x : ListedMessage) → i < length listed
+    → messages (take i listed) ≡ take i ms → slice_get (originals ms) i ≡ Some x.original.now
+    → slice_get (translations ms) i ≡ Some x.translation.now
+    → messages (take (i + 1) (slice_set listed i x)) ≡ take (i + 1) ms
 listed-next listed i ms x inside is is_o is_t =
     ap messages (take_more_set listed i x inside)
     ∙ map-append message (take i listed) (x ∷ [])
     ∙ ap (λ l. l ++ message x ∷ []) is
     ∙ sym (next-message ms i x.original.now x.translation.now is_o is_t)
 
-moves : (listed : List ListedMessage) (at count : ℕ) → copy_within listed at count (at + 1) ≡ take (at + 1) listed ++ (take (count - at) (drop at listed) ++ drop (at + 1 + (count - at)) listed)
-moves listed at count = append_assoc (take (at + 1) listed) (take (count - at) (drop at listed)) (drop (at + 1 + (count - at)) listed)
+moves : (listed : List ListedMessage) (at count : ℕ)
+    → copy_within listed at count (at + 1) ≡ take (at + 1) listed
+    ++ (take (count - at) (drop at listed) ++ drop (at + 1 + (count - at)) listed)
+moves listed at count = append_assoc (take (at + 1) listed) (take (count - at) (drop at listed))
+    (drop (at + 1 + (count - at)) listed)
 
 -- a list with a message at its place
-pub inserted : (listed : List ListedMessage) (count at : ℕ) (x : ListedMessage) → at ≤ count → count < length listed → IsPlace (messages (take count listed)) (message x) (Some at) →
-    messages (take (count + 1) (slice_set (copy_within listed at count (at + 1)) at x)) ≡ with_message (message x) (messages (take count listed))
+pub inserted : (listed : List ListedMessage) (count at : ℕ) (x : ListedMessage) → at ≤ count → count < length listed
+    → IsPlace (messages (take count listed)) (message x) (Some at) →
+    messages (take (count + 1) (slice_set (copy_within listed at count (at + 1)) at x))
+    ≡ with_message (message x) (messages (take count listed))
 inserted listed count at x low high place =
     let middle = take (count - at) (drop at listed) in
     let tail = drop (at + 1 + (count - at)) listed in
@@ -45,16 +58,20 @@ inserted listed count at x low high place =
     let before : length (take at listed) ≡ at = omega (arith, length-take at listed, low, high) in
     let split : take (at + 1) listed ≡ take at listed ++ y ∷ [] = take_more listed at x (omega arith) in
     let moved : copy_within listed at count (at + 1) ≡ take at listed ++ y ∷ (middle ++ tail) =
-    moves listed at count ∙ ap (λ l. l ++ (middle ++ tail)) split ∙ append_assoc (take at listed) (y ∷ []) (middle ++ tail) in
+    moves listed at count ∙ ap (λ l. l ++ (middle ++ tail)) split
+    ∙ append_assoc (take at listed) (y ∷ []) (middle ++ tail) in
     let put : slice_set (copy_within listed at count (at + 1)) at x ≡ (take at listed ++ x ∷ middle) ++ tail =
     ap (λ l. slice_set l at x) moved
     ∙ set_at (take at listed) y (middle ++ tail) x at before
     ∙ sym (append_assoc (take at listed) (x ∷ middle) tail) in
-    let moved_len : length middle ≡ count - at = omega (arith, length-take (count - at) (drop at listed), length-drop at listed, low, high) in
-    let len : length (take at listed ++ x ∷ middle) ≡ count + 1 = omega (arith, length-append (take at listed) (x ∷ middle), before, moved_len, low) in
+    let moved_len : length middle ≡ count - at =
+    omega (arith, length-take (count - at) (drop at listed), length-drop at listed, low, high) in
+    let len : length (take at listed ++ x ∷ middle) ≡ count + 1 =
+    omega (arith, length-append (take at listed) (x ∷ middle), before, moved_len, low) in
     let sum : at + (count - at) ≡ count = omega arith in
     let after : drop at (messages (take count listed)) ≡ messages middle =
-    drop-map message at (take count listed) ∙ ap messages (sym (ap (λ n. drop at (take n listed)) sum) ∙ drop-take at (count - at) listed) in
+    drop-map message at (take count listed)
+    ∙ ap messages (sym (ap (λ n. drop at (take n listed)) sum) ∙ drop-take at (count - at) listed) in
     let first : take at (messages (take count listed)) ≡ messages (take at listed) =
     take-map message at (take count listed) ∙ ap messages (take-take at count listed low) in
     ap (λ l. messages (take (count + 1) l)) put

@@ -12,7 +12,8 @@ use Rattle.mo_expand.specs.Merging.{beside, with_message, with_messages}
 abbrev IsBelow : List ℕ → List (List ℕ) → Type 0
 IsBelow key ks = 0 < length ks → key_cmp key (key_at ks 0) ≡ Less
 
-rising-cons-at : (key : List ℕ) (ks : List (List ℕ)) → IsBelow key ks → AreRising ks → (i : ℕ) → i + 1 < length (key ∷ ks) → key_cmp (key_at (key ∷ ks) i) (key_at (key ∷ ks) (i + 1)) ≡ Less
+rising-cons-at : (key : List ℕ) (ks : List (List ℕ)) → IsBelow key ks → AreRising ks → (i : ℕ)
+    → i + 1 < length (key ∷ ks) → key_cmp (key_at (key ∷ ks) i) (key_at (key ∷ ks) (i + 1)) ≡ Less
 rising-cons-at key ks below rising zero inside = below (omega (arith, inside))
 rising-cons-at key ks below rising (suc i) inside =
     let e : suc i + 1 ≡ suc (i + 1) = omega arith in
@@ -36,34 +37,49 @@ greater_is_less : (x y : List ℕ) → key_cmp x y ≡ Greater → key_cmp y x �
 greater_is_less x y greater = nat_list_cmp_total.antisymm y x ∙ ap ordering_reverse greater
 
 -- a key below a message and below the first of others is below the first of both
-below-beside : (key : List ℕ) (m other : Message) (others with_others : List Message) (o : Ordering) → key_cmp key (key_of m.original) ≡ Less → IsBelow key (keys (other ∷ others)) → IsBelow key (keys (beside o m other others with_others))
+below-beside : (key : List ℕ) (m other : Message) (others with_others : List Message) (o : Ordering)
+    → key_cmp key (key_of m.original) ≡ Less → IsBelow key (keys (other ∷ others))
+    → IsBelow key (keys (beside o m other others with_others))
 below-beside key m other others with_others Less less below inside = below (omega arith)
 below-beside key m other others with_others Equal less below inside = below (omega arith)
 below-beside key m other others with_others Greater less below inside = less
 
-below-with : (key : List ℕ) (m : Message) (others : List Message) → key_cmp key (key_of m.original) ≡ Less → IsBelow key (keys others) → IsBelow key (keys (with_message m others))
+below-with : (key : List ℕ) (m : Message) (others : List Message) → key_cmp key (key_of m.original) ≡ Less
+    → IsBelow key (keys others) → IsBelow key (keys (with_message m others))
 unfolding with_message
 below-with key m [] less below inside = less
 below-with key m (other ∷ others) less below inside =
-    below-beside key m other others (with_message m others) (key_cmp (key_of other.original) (key_of m.original)) less below inside
+    below-beside key m other others (with_message m others)
+    (key_cmp (key_of other.original) (key_of m.original)) less below inside
 
-rising-beside : (m other : Message) (others with_others : List Message) (o : Ordering) → key_cmp (key_of other.original) (key_of m.original) ≡ o → AreRising (keys (other ∷ others)) → AreRising (keys with_others) → (key_cmp (key_of other.original) (key_of m.original) ≡ Less → IsBelow (key_of other.original) (keys with_others)) →
+rising-beside : (m other : Message) (others with_others : List Message) (o : Ordering)
+    → key_cmp (key_of other.original) (key_of m.original) ≡ o → AreRising (keys (other ∷ others))
+    → AreRising (keys with_others)
+    → (key_cmp (key_of other.original) (key_of m.original) ≡ Less
+    → IsBelow (key_of other.original) (keys with_others)) →
     AreRising (keys (beside o m other others with_others))
-rising-beside m other others with_others Less e rising with_rising below = rising-cons (key_of other.original) (keys with_others) (below e) with_rising
+rising-beside m other others with_others Less e rising with_rising below =
+    rising-cons (key_of other.original) (keys with_others) (below e) with_rising
 rising-beside m other others with_others Equal e rising with_rising below = rising
 rising-beside m other others with_others Greater e rising with_rising below =
-    rising-cons (key_of m.original) (keys (other ∷ others)) (λ inside. greater_is_less (key_of other.original) (key_of m.original) e) rising
+    rising-cons (key_of m.original) (keys (other ∷ others))
+    (λ inside. greater_is_less (key_of other.original) (key_of m.original) e) rising
 
-pub rising-with_message : (m : Message) (messages : List Message) → AreRising (keys messages) → AreRising (keys (with_message m messages))
+pub rising-with_message : (m : Message) (messages : List Message) → AreRising (keys messages)
+    → AreRising (keys (with_message m messages))
 unfolding with_message
 rising-with_message m [] rising = rising-cons (key_of m.original) [] (λ inside. absurd (omega (arith, inside))) rising
 rising-with_message m (other ∷ others) rising =
-    rising-beside m other others (with_message m others) (key_cmp (key_of other.original) (key_of m.original)) refl rising
+    rising-beside m other others (with_message m others)
+    (key_cmp (key_of other.original) (key_of m.original)) refl rising
     (rising-with_message m others (rising-rest (key_of other.original) (keys others) rising))
-    (λ less. below-with (key_of other.original) m others less (rising-first (key_of other.original) (keys others) rising))
+    (λ less. below-with (key_of other.original) m others less
+    (rising-first (key_of other.original) (keys others) rising))
 
-pub rising-with_messages : (messages : List Message) (added : List (Option Message)) → AreRising (keys messages) → AreRising (keys (with_messages messages added))
+pub rising-with_messages : (messages : List Message) (added : List (Option Message)) → AreRising (keys messages)
+    → AreRising (keys (with_messages messages added))
 unfolding with_messages
 rising-with_messages messages [] rising = rising
 rising-with_messages messages (None ∷ more) rising = rising-with_messages messages more rising
-rising-with_messages messages (Some m ∷ more) rising = rising-with_messages (with_message m messages) more (rising-with_message m messages rising)
+rising-with_messages messages (Some m ∷ more) rising =
+    rising-with_messages (with_message m messages) more (rising-with_message m messages rising)

@@ -21,7 +21,8 @@ IsWrittenIfItFits file old new =
 
 -- A list of so many messages, and room of so many bytes, were there for its messages and their strings. That the room
 -- is too short is said for files that lack no message.
-abbrev pub IsExpandedFile : Order → List ℕ → List PlatformText → List Message → ℕ → ℕ → List ℕ → List ℕ → ExpandedFile → Type 0
+abbrev pub IsExpandedFile : Order → List ℕ → List PlatformText → List Message → ℕ → ℕ → List ℕ → List ℕ → ExpandedFile
+    → Type 0
 IsExpandedFile order bytes texts messages many room old new (Len n) =
     (n ≡ length (expanded_file order bytes texts messages))
     × (n < 2 ^ 32)

@@ -51,7 +51,8 @@ abbrev pub from_segment : Order → List ℕ → List PlatformText → ℕ → �
 from_segment order bytes texts at start rest =
     if nat_le (at + 8) (length bytes) then
     if word_at order bytes (at + 4) == 0xffffffff then terminated_part bytes start (word_at order bytes at)
-    else join (part bytes start (word_at order bytes at)) (inserted order bytes texts (word_at order bytes (at + 4))) rest
+    else join (part bytes start (word_at order bytes at))
+    (inserted order bytes texts (word_at order bytes (at + 4))) rest
     else None
 
 -- the text of the segments from one on, where they are no more than `most`

@@ -33,12 +33,15 @@ length-header order count = simp (length-append, length-magic, length-word_bytes
 pub length-table : (order : Order) (offset : ℕ) (strings : List (List ℕ)) →
     length (table order offset strings) ≡ 8 * length strings
 length-table order offset [] = refl
-length-table order offset (s ∷ ss) = simp (length-append, length-word_bytes, length-table order (offset + length s + 1) ss) (omega arith)
+length-table order offset (s ∷ ss) =
+    simp (length-append, length-word_bytes, length-table order (offset + length s + 1) ss) (omega arith)
 
 -- how long a layout is
 pub length-layout : (order : Order) (messages : List Message) →
-    length (layout order messages) ≡ 28 + 16 * length messages + length (terminated (originals messages)) + length (terminated (translations messages))
-length-layout order messages = simp (length-append, length-magic, length-word_bytes, length-table, length-map) (omega arith)
+    length (layout order messages) ≡ 28 + 16 * length messages + length (terminated (originals messages)) + length
+    (terminated (translations messages))
+length-layout order messages =
+    simp (length-append, length-magic, length-word_bytes, length-table, length-map) (omega arith)
 
 originals-strings : (messages : List Message) → originals messages ≡ strings_of Original messages
 originals-strings [] = refl
@@ -70,11 +73,14 @@ module _ {P : Type 0} (f : P → Message) where
 
   sum_by-pairs : (pairs : List P) → sum_by message_len (map f pairs) ≡ sum_by pair_len pairs
   sum_by-pairs [] = refl
-  sum_by-pairs (p ∷ ps) = sum_by-cons message_len (f p) (map f ps) ∙ ap (λ n. pair_len p + n) (sum_by-pairs ps) ∙ sym (sum_by-cons pair_len p ps)
+  sum_by-pairs (p ∷ ps) = sum_by-cons message_len (f p) (map f ps) ∙ ap (λ n. pair_len p + n) (sum_by-pairs ps)
+      ∙ sym (sum_by-cons pair_len p ps)
 
   -- how long the layout is, pair by pair
-  pub length-layout-pairs : (order : Order) (pairs : List P) → length (layout order (map f pairs)) ≡ 28 + sum_by pair_len pairs
-  length-layout-pairs order pairs = omega (arith, length-layout order (map f pairs), sum_by-message_len (map f pairs), sum_by-pairs pairs)
+  pub length-layout-pairs : (order : Order) (pairs : List P)
+      → length (layout order (map f pairs)) ≡ 28 + sum_by pair_len pairs
+  length-layout-pairs order pairs =
+      omega (arith, length-layout order (map f pairs), sum_by-message_len (map f pairs), sum_by-pairs pairs)
 
   -- and by its parts
   pub length-layout-strings : (order : Order) (pairs : List P) →
@@ -82,14 +88,17 @@ module _ {P : Type 0} (f : P → Message) where
       ≡ 28 + 16 * length pairs + length (terminated (strings_of Original (map f pairs)))
       + length (terminated (strings_of Translation (map f pairs)))
   length-layout-strings order pairs =
-      length-layout order (map f pairs) ∙ rw (originals-strings (map f pairs), translations-strings (map f pairs), length-map pairs f)
+      length-layout order (map f pairs)
+      ∙ rw (originals-strings (map f pairs), translations-strings (map f pairs), length-map pairs f)
 
   pub layout-pairs : (order : Order) (pairs : List P) →
       layout order (map f pairs)
       ≡ header order (length pairs) ++ table order (28 + 16 * length pairs) (strings_of Original (map f pairs))
-      ++ table order (28 + 16 * length pairs + length (terminated (strings_of Original (map f pairs)))) (strings_of Translation (map f pairs))
+      ++ table order (28 + 16 * length pairs + length (terminated (strings_of Original (map f pairs))))
+      (strings_of Translation (map f pairs))
       ++ terminated (strings_of Original (map f pairs)) ++ terminated (strings_of Translation (map f pairs))
-  layout-pairs order pairs = rw (originals-strings (map f pairs), translations-strings (map f pairs), length-map pairs f)
+  layout-pairs order pairs =
+      rw (originals-strings (map f pairs), translations-strings (map f pairs), length-map pairs f)
 
 -- the key of a pair
 pub keys-pair : (pairs : List Pair) (i : ℕ) (pair : Pair) → i < length pairs → pair ≡ get_or pairs i pair →

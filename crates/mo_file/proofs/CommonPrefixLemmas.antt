@@ -8,7 +8,8 @@ use Rattle.std.specs.List.{prefix_len}
 use lib.Lanes.{chunk, zip2, mask_l, top}
 use Rattle.mo_file.specs.Internal.CommonPrefix.{IsCommonPrefixIn, differs_or_stops_at, first_set}
 
-module _ (stop : ℕ) (or ne eq : ℕ → ℕ → ℕ) (tops : (a b : ℕ) → top 7 (or (ne a b) (eq a stop)) ≡ (not (a == b) || a == stop))
+module _ (stop : ℕ) (or ne eq : ℕ → ℕ → ℕ)
+    (tops : (a b : ℕ) → top 7 (or (ne a b) (eq a stop)) ≡ (not (a == b) || a == stop))
     (x y : List ℕ) (i n r : ℕ) (room_x : i + n ≤ length x) (room_y : i + n ≤ length y) (few : n ≤ 64) where
   abbrev lanes : List ℕ
   lanes = zip2 or (zip2 ne (chunk i n x) (chunk i n y)) (zip2 eq (chunk i n x) (replicate n stop))
@@ -34,12 +35,15 @@ module _ (stop : ℕ) (or ne eq : ℕ → ℕ → ℕ) (tops : (a b : ℕ) → t
       let at_x = get_or-chunk i n x k 0 below in
       let at_y = get_or-chunk i n y k 0 below in
       let first : get_or (zip2 ne (chunk i n x) (chunk i n y)) k 0 ≡ ne (get_or x (i + k) 0) (get_or y (i + k) 0) =
-      get_or-zip2 ne (chunk i n x) (chunk i n y) k 0 0 0 (omega (arith, long_x)) (omega (arith, long_y)) ∙ rw (at_x, at_y) refl in
+      get_or-zip2 ne (chunk i n x) (chunk i n y) k 0 0 0 (omega (arith, long_x)) (omega (arith, long_y))
+      ∙ rw (at_x, at_y) refl in
       let second : get_or (zip2 eq (chunk i n x) (replicate n stop)) k 0 ≡ eq (get_or x (i + k) 0) stop =
-      get_or-zip2 eq (chunk i n x) (replicate n stop) k 0 0 0 (omega (arith, long_x)) (omega (arith, length-replicate {A = ℕ} n stop))
+      get_or-zip2 eq (chunk i n x) (replicate n stop) k 0 0 0 (omega (arith, long_x))
+      (omega (arith, length-replicate {A = ℕ} n stop))
       ∙ rw (at_x, get_or-replicate {A = ℕ} n k stop 0 below) refl in
       let both : get_or lanes k 0 ≡ or (ne (get_or x (i + k) 0) (get_or y (i + k) 0)) (eq (get_or x (i + k) 0) stop) =
-      get_or-zip2 or (zip2 ne (chunk i n x) (chunk i n y)) (zip2 eq (chunk i n x) (replicate n stop)) k 0 0 0 (omega (arith, long_ne)) (omega (arith, long_eq)) ∙ rw (first, second) refl in
+      get_or-zip2 or (zip2 ne (chunk i n x) (chunk i n y)) (zip2 eq (chunk i n x) (replicate n stop)) k 0 0 0
+      (omega (arith, long_ne)) (omega (arith, long_eq)) ∙ rw (first, second) refl in
       ap (top 7) both ∙ tops (get_or x (i + k) 0) (get_or y (i + k) 0)
 
   abbrev unset : ℕ → Bool
@@ -60,7 +64,8 @@ module _ (stop : ℕ) (or ne eq : ℕ → ℕ → ℕ) (tops : (a b : ℕ) → t
           let back : i + (k - i) ≡ k = omega arith in
           let inside : k - i < prefix_len unset lanes = omega (arith, counted) in
           let low : k - i < n = omega (arith, counted, long, prefix_len-le-length unset lanes) in
-          sym (lane (k - i) low ∙ ap (differs_or_stops_at stop x y) back) ∙ not-true _ (prefix_len_passes unset lanes (k - i) 0 inside);
+          sym (lane (k - i) low ∙ ap (differs_or_stops_at stop x y) back)
+          ∙ not-true _ (prefix_len_passes unset lanes (k - i) 0 inside);
       ends = λ short.
           let stops = not-false _ (prefix_len_stops unset lanes 0 (omega (arith, counted, long))) in
           sym (lane r short) ∙ ap (λ k. top 7 (get_or lanes k 0)) counted ∙ stops;

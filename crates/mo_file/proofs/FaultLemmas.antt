@@ -31,7 +31,8 @@ HasFaultIn-shown bytes order f shows fault =
     let P : Order → Type 0 = λ o. HasFaultIn o bytes f in
     subst P (HasMagicOf-unique bytes order fault.0 shows fault.1) fault.2
 
-module _ (header : FileHeader) (bytes : List ℕ) (read : IsHeader header bytes) (strings : HasStrings header.order bytes) where
+module _ (header : FileHeader) (bytes : List ℕ) (read : IsHeader header bytes)
+    (strings : HasStrings header.order bytes) where
   shown : (f : MoError) → ((order' : Order) × HasMagicOf order' bytes × HasFaultIn order' bytes f) →
       HasFaultIn header.order bytes f
   shown f fault = HasFaultIn-shown bytes header.order f read.shows fault
@@ -44,9 +45,17 @@ module _ (header : FileHeader) (bytes : List ℕ) (read : IsHeader header bytes)
   only_keys BadRevision has = let fault = shown BadRevision has in absurd (omega (arith, read.known))
   only_keys TableOutside has =
       let fault = shown TableOutside has in
-      absurd (grind (arith, read.count, read.originals, read.translations, read.originals_inside, read.translations_inside))
+      absurd (grind (
+        arith,
+        read.count,
+        read.originals,
+        read.translations,
+        read.originals_inside,
+        read.translations_inside,
+      ))
   only_keys (StringOutside k) has = let fault = shown (StringOutside k) has in absurd (strings.inside k fault.0 fault.1)
-  only_keys (NoTerminator k) has = let fault = shown (NoTerminator k) has in absurd (strings.terminated k fault.0 fault.1)
+  only_keys (NoTerminator k) has = let fault =
+      shown (NoTerminator k) has in absurd (strings.terminated k fault.0 fault.1)
   only_keys (NotSorted k) has =
       let fault = shown (NotSorted k) has in
       let inside : fault.0 + 1 < header.count = omega (arith, fault.1, fault.2, read.count) in
@@ -60,7 +69,8 @@ module _ (header : FileHeader) (bytes : List ℕ) (read : IsHeader header bytes)
     first = λ f before has.
         let fault = only_keys f has in
         let earlier = rw fault.1 at before in
-        sorted fault.0 (elim earlier [ inl other_kind ↦ absurd (omega arith) | inr same_kind ↦ omega (arith, same_kind.1) ]) fault.3;
+        sorted fault.0 (elim earlier
+        [ inl other_kind ↦ absurd (omega arith) | inr same_kind ↦ omega (arith, same_kind.1) ]) fault.3;
   }
 
   -- a file that has been checked has no fault

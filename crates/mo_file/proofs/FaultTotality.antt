@@ -102,7 +102,8 @@ kind_within (NotSorted i) = (omega arith, omega arith)
 record Clear (bytes : List ℕ) (k : ℕ) : Type 0 where
   none : (f : MoError) → kind f < k → ¬ HasFault bytes f
 
-same_kind : (bytes : List ℕ) (f : MoError) (k : ℕ) → kind f ≡ k → HasFault bytes f → HasFault bytes (fault_of k (index f))
+same_kind : (bytes : List ℕ) (f : MoError) (k : ℕ) → kind f ≡ k → HasFault bytes f
+    → HasFault bytes (fault_of k (index f))
 same_kind bytes f k e has =
     let Has : MoError → Type 0 = λ f. HasFault bytes f in
     subst Has (sym (named f) ∙ ap (λ j. fault_of j (index f)) e) has
@@ -110,7 +111,8 @@ same_kind bytes f k e has =
 clear_one : (bytes : List ℕ) → Clear bytes 1
 clear_one bytes = record { none = λ f less has. absurd (omega (arith, (kind_within f).0)) }
 
-clear_more : (bytes : List ℕ) (k : ℕ) → Clear bytes k → ((i : ℕ) → ¬ HasFault bytes (fault_of k i)) → Clear bytes (k + 1)
+clear_more : (bytes : List ℕ) (k : ℕ) → Clear bytes k → ((i : ℕ) → ¬ HasFault bytes (fault_of k i))
+    → Clear bytes (k + 1)
 clear_more bytes k clear none = record {
   none = λ f less has. elim (cases_lt (kind f) k) [
     | inl before ↦ clear.none f before has
@@ -118,7 +120,8 @@ clear_more bytes k clear none = record {
   ];
 }
 
-is_first : (bytes : List ℕ) (e : MoError) → Clear bytes (kind e) → ((i : ℕ) → i < index e → ¬ HasFault bytes (fault_of (kind e) i)) → HasFault bytes e
+is_first : (bytes : List ℕ) (e : MoError) → Clear bytes (kind e)
+    → ((i : ℕ) → i < index e → ¬ HasFault bytes (fault_of (kind e) i)) → HasFault bytes e
     → IsFirstFault bytes e
 is_first bytes e clear least holds = record {
   holds = holds;
@@ -130,10 +133,12 @@ is_first bytes e clear least holds = record {
 
 -- a valid file, or a first fault
 abbrev MoFileOrFaultOf : List ℕ → Type 0
-MoFileOrFaultOf bytes = ((order : Order) × (messages : List Message) × IsMoFile order bytes messages) ⊎ ((fault : MoError) × IsFirstFault bytes fault)
+MoFileOrFaultOf bytes = ((order : Order) × (messages : List Message) × IsMoFile order bytes messages)
+    ⊎ ((fault : MoError) × IsFirstFault bytes fault)
 
 module _ (bytes : List ℕ) (order : Order) (shows : HasMagicOf order bytes) where
-  shown : (f : MoError) → ((order' : Order) × HasMagicOf order' bytes × HasFaultIn order' bytes f) → HasFaultIn order bytes f
+  shown : (f : MoError) → ((order' : Order) × HasMagicOf order' bytes × HasFaultIn order' bytes f)
+      → HasFaultIn order bytes f
   shown f has = HasFaultIn-shown bytes order f shows has
 
   outside_settled : (i : ℕ) → Settled (IsOutside order bytes i)
@@ -147,7 +152,8 @@ module _ (bytes : List ℕ) (order : Order) (shows : HasMagicOf order bytes) whe
       (zero_settled (slice_get bytes (end_at order bytes (translations_table order bytes) i)))
 
   unsorted_settled : (i : ℕ) → Settled (IsNotRising order bytes i)
-  unsorted_settled i = less_settled (key_cmp (key_of (original_at order bytes i)) (key_of (original_at order bytes (i + 1))))
+  unsorted_settled i = less_settled
+      (key_cmp (key_of (original_at order bytes i)) (key_of (original_at order bytes (i + 1))))
 
   valid : Clear bytes 8 → MoFileOrFaultOf bytes
   valid clear = inl (
@@ -159,33 +165,40 @@ module _ (bytes : List ℕ) (order : Order) (shows : HasMagicOf order bytes) whe
   sorted : Clear bytes 7 → MoFileOrFaultOf bytes
   sorted clear = elim (first_below (λ i. IsNotRising order bytes i) unsorted_settled (message_count order bytes - 1)) [
     | inl none ↦
-        valid (clear_more bytes 7 clear (λ i has. let fault = shown (NotSorted i) has in none fault.0 (omega (arith, fault.1, fault.2)) fault.3))
+        valid (clear_more bytes 7 clear
+        (λ i has. let fault = shown (NotSorted i) has in none fault.0 (omega (arith, fault.1, fault.2)) fault.3))
     | inr first ↦
         inr (
           NotSorted (first.0 + 1),
           is_first bytes (NotSorted (first.0 + 1)) clear
-              (λ j less has. let fault = shown (NotSorted j) has in first.3 fault.0 (omega (arith, fault.1, less)) fault.3)
+              (λ j less has. let fault = shown (NotSorted j) has in
+              first.3 fault.0 (omega (arith, fault.1, less)) fault.3)
               (order, shows, (first.0, refl, omega (arith, first.1), first.2)),
         )
   ]
 
   terminated : Clear bytes 6 → MoFileOrFaultOf bytes
-  terminated clear = elim (first_below (λ i. IsUnterminated order bytes i) unterminated_settled (message_count order bytes)) [
-    | inl none ↦ sorted (clear_more bytes 6 clear (λ i has. let fault = shown (NoTerminator i) has in none i fault.0 fault.1))
-    | inr first ↦
-        inr (
-          NoTerminator first.0,
-          is_first bytes (NoTerminator first.0) clear (λ j less has. first.3 j less (shown (NoTerminator j) has).1) (order, shows, (first.1, first.2)),
-        )
-  ]
+  terminated clear = elim (first_below (λ i. IsUnterminated order bytes i) unterminated_settled
+      (message_count order bytes)) [
+        | inl none ↦ sorted (clear_more bytes 6 clear
+            (λ i has. let fault = shown (NoTerminator i) has in none i fault.0 fault.1))
+        | inr first ↦
+            inr (
+              NoTerminator first.0,
+              is_first bytes (NoTerminator first.0) clear (λ j less has. first.3 j less (shown (NoTerminator j) has).1)
+                  (order, shows, (first.1, first.2)),
+            )
+      ]
 
   inside : Clear bytes 5 → MoFileOrFaultOf bytes
   inside clear = elim (first_below (λ i. IsOutside order bytes i) outside_settled (message_count order bytes)) [
-    | inl none ↦ terminated (clear_more bytes 5 clear (λ i has. let fault = shown (StringOutside i) has in none i fault.0 fault.1))
+    | inl none ↦ terminated (clear_more bytes 5 clear
+        (λ i has. let fault = shown (StringOutside i) has in none i fault.0 fault.1))
     | inr first ↦
         inr (
           StringOutside first.0,
-          is_first bytes (StringOutside first.0) clear (λ j less has. first.3 j less (shown (StringOutside j) has).1) (order, shows, (first.1, first.2)),
+          is_first bytes (StringOutside first.0) clear (λ j less has. first.3 j less (shown (StringOutside j) has).1)
+              (order, shows, (first.1, first.2)),
         )
   ]
 
@@ -194,13 +207,19 @@ module _ (bytes : List ℕ) (order : Order) (shows : HasMagicOf order bytes) whe
       either (below_settled (length bytes) (originals_table order bytes + 8 * message_count order bytes))
       (below_settled (length bytes) (translations_table order bytes + 8 * message_count order bytes))
       ) [
-        | inl fault ↦ inr (TableOutside, is_first bytes TableOutside clear (λ j less has. absurd (omega arith)) (order, shows, fault))
+        | inl fault ↦ inr (
+          TableOutside,
+          is_first bytes TableOutside clear (λ j less has. absurd (omega arith)) (order, shows, fault),
+        )
         | inr none ↦ inside (clear_more bytes 4 clear (λ i has. none (shown TableOutside has)))
       ]
 
   known : Clear bytes 3 → MoFileOrFaultOf bytes
   known clear = elim (below_settled 1 (revision order bytes / 65536)) [
-    | inl fault ↦ inr (BadRevision, is_first bytes BadRevision clear (λ j less has. absurd (omega arith)) (order, shows, fault))
+    | inl fault ↦ inr (
+      BadRevision,
+      is_first bytes BadRevision clear (λ j less has. absurd (omega arith)) (order, shows, fault),
+    )
     | inr none ↦ tables (clear_more bytes 3 clear (λ i has. none (shown BadRevision has)))
   ]
 
@@ -214,7 +233,11 @@ magical bytes clear = elim (same_settled (take 4 bytes) (magic Little)) [
   | inr not_little ↦ elim (same_settled (take 4 bytes) (magic Big)) [
     | inl big ↦ known bytes Big big (clear_more bytes 2 clear (λ i has. has Big big))
     | inr not_big ↦
-        inr (BadMagic, is_first bytes BadMagic clear (λ j less has. absurd (omega arith)) (no_magic bytes not_little not_big))
+        inr (
+          BadMagic,
+          is_first bytes BadMagic clear (λ j less has. absurd (omega arith))
+              (no_magic bytes not_little not_big),
+        )
   ]
 ]
 
@@ -224,13 +247,15 @@ mo_file_or_fault bytes = elim (below_settled (length bytes) 28) [
   | inr long ↦ magical bytes (clear_more bytes 1 (clear_one bytes) (λ i has. long has))
 ]
 
-pub one_first_fault : (bytes : List ℕ) (fault fault' : MoError) → IsFirstFault bytes fault → IsFirstFault bytes fault' → fault ≡ fault'
+pub one_first_fault : (bytes : List ℕ) (fault fault' : MoError) → IsFirstFault bytes fault → IsFirstFault bytes fault'
+    → fault ≡ fault'
 one_first_fault bytes f f' is is' = elim (cases_order (kind f) (kind f')) [
   | inr (inl less) ↦ absurd (is'.first f (inl less) is.holds)
   | inr (inr more) ↦ absurd (is.first f' (inl more) is'.holds)
   | inl kinds ↦ elim (cases_order (index f) (index f')) [
     | inr (inl less) ↦ absurd (is'.first f (inr (kinds, less)) is.holds)
     | inr (inr more) ↦ absurd (is.first f' (inr (sym kinds, more)) is'.holds)
-    | inl offsets ↦ sym (named f) ∙ ap (λ k. fault_of k (index f)) kinds ∙ ap (λ i. fault_of (kind f') i) offsets ∙ named f'
+    | inl offsets ↦ sym (named f) ∙ ap (λ k. fault_of k (index f)) kinds ∙ ap (λ i. fault_of (kind f') i) offsets
+        ∙ named f'
   ]
 ]

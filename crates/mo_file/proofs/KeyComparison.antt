@@ -12,7 +12,8 @@ use Rattle.std.proofs.lemmas.List.{append-nil, drop_all, get_or-drop, length-dro
 use Rattle.mo_file.specs.Key.{is_nul, key_of, key_cmp}
 use Rattle.mo_file.specs.Internal.CommonPrefix.{AreEqualBetween, IsCommonPrefix}
 
-key_of-cut : (a : ℕ) (xs : List ℕ) (b : Bool) → (a == 0) ≡ b → key_of (a ∷ xs) ≡ take (cond (not b) (1 + prefix_len (λ x. not (is_nul x)) xs) 0) (a ∷ xs)
+key_of-cut : (a : ℕ) (xs : List ℕ) (b : Bool) → (a == 0) ≡ b
+    → key_of (a ∷ xs) ≡ take (cond (not b) (1 + prefix_len (λ x. not (is_nul x)) xs) 0) (a ∷ xs)
 key_of-cut a xs b is = ap (λ c. take (cond (not c) (1 + prefix_len (λ x. not (is_nul x)) xs) 0) (a ∷ xs)) is
 
 -- a byte that isn't NUL is the first of its key
@@ -79,8 +80,11 @@ then-unequal a b c d other =
 alike : (a b : ℕ) → (not (a == b) || a == 0) ≡ false → (a ≡ b) × (a ≡ 0 → ⊥)
 alike a b none =
     elim (cases_eq a b) [
-      | inl same ↦
-          (same, λ nul. (let ends : (not (a == b) || a == 0) ≡ true = rw (eq-eqb a b same, eq-eqb a 0 nul) refl in absurd (cc)))
+      | inl same ↦ (
+        same,
+        λ nul. (let ends : (not (a == b) || a == 0) ≡ true = rw (eq-eqb a b same, eq-eqb a 0 nul) refl in
+            absurd (cc)),
+      )
       | inr other ↦ let ends : (not (a == b) || a == 0) ≡ true = rw (ne_eqb a b other) refl in absurd (cc)
     ]
 
@@ -122,7 +126,8 @@ least a b nul =
     ]
 
 -- a text against bytes of which the first is b, where they differ or stop at once
-before_byte : (x : List ℕ) (b : ℕ) (more : List ℕ) → (0 < length x → (not (get_or x 0 0 == b) || get_or x 0 0 == 0) ≡ true) →
+before_byte : (x : List ℕ) (b : ℕ) (more : List ℕ)
+    → (0 < length x → (not (get_or x 0 0 == b) || get_or x 0 0 == 0) ≡ true) →
     key_cmp (key_of x) (b ∷ more) ≡ ordering_then (nat_cmp (get_or x 0 0) b) Less
 before_byte [] b more ends = least 0 b refl
 before_byte (a ∷ xs) b more ends =
@@ -171,7 +176,8 @@ reports false true = (λ is. absurd (cc), λ is. absurd (cc))
 reports false false = (λ is. absurd (cc), λ is. absurd (cc))
 
 -- two texts that differ or stop at once
-before_text : (x y : List ℕ) → (0 < length x → 0 < length y → (not (get_or x 0 0 == get_or y 0 0) || get_or x 0 0 == 0) ≡ true) →
+before_text : (x y : List ℕ)
+    → (0 < length x → 0 < length y → (not (get_or x 0 0 == get_or y 0 0) || get_or x 0 0 == 0) ≡ true) →
     key_cmp (key_of x) (key_of y) ≡ nat_cmp (get_or x 0 0) (get_or y 0 0)
 before_text x [] ends = before_end x
 before_text [] (b ∷ ys) ends =
@@ -205,7 +211,8 @@ part_after : (x y : List ℕ) (n : ℕ) → IsCommonPrefix 0 x y n → 0 < lengt
 part_after x y n is some_x some_y =
     rw (at-drop n x, at-drop n y) (is.ends (omega (arith, length-drop n x)) (omega (arith, length-drop n y)))
 
-before_some : (x y more : List ℕ) → 0 < length y → (0 < length x → 0 < length y → (not (get_or x 0 0 == get_or y 0 0) || get_or x 0 0 == 0) ≡ true) →
+before_some : (x y more : List ℕ) → 0 < length y
+    → (0 < length x → 0 < length y → (not (get_or x 0 0 == get_or y 0 0) || get_or x 0 0 == 0) ≡ true) →
     key_cmp (key_of x) (y ++ more) ≡ ordering_then (nat_cmp (get_or x 0 0) (get_or y 0 0)) Less
 before_some x [] more some ends = absurd (omega arith)
 before_some x (b ∷ ys) more some ends = before_byte x b (ys ++ more) (λ some_x. ends some_x (omega arith))
@@ -219,7 +226,8 @@ module _ (x y : List ℕ) (n : ℕ) (is : IsCommonPrefix 0 x y n) where
       ∙ before_some (drop n x) (drop n y) more (omega (arith, length-drop n y)) (part_after x y n is)
       ∙ rw (at-drop n x, at-drop n y) refl
 
-  pub decided_before_end : n < length y → key_cmp (key_of x) y ≡ ordering_then (nat_cmp (get_or x n 0) (get_or y n 0)) Less
+  pub decided_before_end : n < length y
+      → key_cmp (key_of x) y ≡ ordering_then (nat_cmp (get_or x n 0) (get_or y n 0)) Less
   decided_before_end below = ap (key_cmp (key_of x)) (sym (append-nil y)) ∙ decided_within [] below
 
   -- where it ends, the key is it, or longer
@@ -233,7 +241,8 @@ module _ (x y : List ℕ) (n : ℕ) (is : IsCommonPrefix 0 x y n) where
 
   -- and where more follows after an EOT, that decides
   decided_after : (more : List ℕ) → n ≡ length y →
-      key_cmp (key_of x) (y ++ 4 ∷ more) ≡ ordering_then (nat_cmp (get_or x n 0) 4) (key_cmp (key_of (drop (n + 1) x)) more)
+      key_cmp (key_of x) (y ++ 4 ∷ more) ≡ ordering_then (nat_cmp (get_or x n 0) 4)
+      (key_cmp (key_of (drop (n + 1) x)) more)
   decided_after more end =
       skip n x y (4 ∷ more) is.equal is.within_first is.within_second
       ∙ ap (λ l. key_cmp (key_of (drop n x)) (l ++ 4 ∷ more)) (drop_all n y (omega arith))
@@ -245,7 +254,8 @@ module _ (x y : List ℕ) (n : ℕ) (is : IsCommonPrefix 0 x y n) where
   decided_equal more end equal =
       decided_after more end
       ∙ ap (λ o. ordering_then o (key_cmp (key_of (drop (n + 1) x)) more)) (sym equal)
-      ∙ ap (λ l. key_cmp (key_of l) more) (sym (take_all (length x - (n + 1)) (drop (n + 1) x) (omega (arith, length-drop (n + 1) x))))
+      ∙ ap (λ l. key_cmp (key_of l) more)
+      (sym (take_all (length x - (n + 1)) (drop (n + 1) x) (omega (arith, length-drop (n + 1) x))))
 
   pub decided_unequal : (more : List ℕ) (order : Ordering) → n ≡ length y → order ≡ nat_cmp (get_or x n 0) 4 →
       (order ≡ Equal → ⊥) → order ≡ key_cmp (key_of x) (y ++ 4 ∷ more)

@@ -22,7 +22,8 @@ pub record StandsAt (bytes : List ℕ) (offset : ℕ) (part : List ℕ) : Type 0
 
 -- a part of a part stands after what the part begins with
 pub StandsAt-part : {bytes : List ℕ} {offset : ℕ} (prefix part rest : List ℕ) {whole : List ℕ} {there : ℕ} →
-    StandsAt bytes offset whole → whole ≡ prefix ++ (part ++ rest) → offset + length prefix ≡ there → StandsAt bytes there part
+    StandsAt bytes offset whole → whole ≡ prefix ++ (part ++ rest) → offset + length prefix ≡ there
+    → StandsAt bytes there part
 StandsAt-part prefix part rest stands is after = record {
   prefix = stands.prefix ++ prefix;
   rest = rest ++ stands.rest;
@@ -38,8 +39,10 @@ drop-StandsAt {offset = offset} stands = rw stands.is (drop_at stands.prefix _ o
 pub word_at-StandsAt : (order : Order) (bytes : List ℕ) (offset number : ℕ) →
     StandsAt bytes offset (word_bytes order number) → number < 2 ^ 32 → word_at order bytes offset ≡ number
 unfolding word_at word_bytes
-word_at-StandsAt Little bytes offset number stands small = rw (drop-StandsAt stands) (little_number-reads_back 4 number stands.rest small)
-word_at-StandsAt Big bytes offset number stands small = rw (drop-StandsAt stands) (big_number-reads_back 4 number stands.rest small)
+word_at-StandsAt Little bytes offset number stands small =
+    rw (drop-StandsAt stands) (little_number-reads_back 4 number stands.rest small)
+word_at-StandsAt Big bytes offset number stands small =
+    rw (drop-StandsAt stands) (big_number-reads_back 4 number stands.rest small)
 
 slice_range-StandsAt : {bytes : List ℕ} {offset : ℕ} (part : List ℕ) → StandsAt bytes offset part →
     slice_range bytes offset (offset + length part) ≡ part
@@ -86,10 +89,12 @@ module _ (order : Order) (bytes : List ℕ) (at start : ℕ) (xs : List (List �
 
     len_here : word_at order bytes (at + 8 * length xs) ≡ length s
     len_here =
-        let split : table order start (xs ++ s ∷ ys) ≡ table order start xs ++ (word_bytes order (length s) ++ (word_bytes order after ++ later)) =
+        let split : table order start (xs ++ s ∷ ys) ≡ table order start xs
+        ++ (word_bytes order (length s) ++ (word_bytes order after ++ later)) =
         table-append order start after xs (s ∷ ys) refl ∙ simp append_assoc in
         word_at-StandsAt order bytes (at + 8 * length xs) (length s)
-        (StandsAt-part (table order start xs) (word_bytes order (length s)) (word_bytes order after ++ later) in_table split
+        (StandsAt-part (table order start xs) (word_bytes order (length s))
+        (word_bytes order after ++ later) in_table split
         (omega (arith, length-table order start xs)))
         (omega arith)
 
@@ -106,11 +111,13 @@ module _ (order : Order) (bytes : List ℕ) (at start : ℕ) (xs : List (List �
   module _ (in_strings : StandsAt bytes start (terminated (xs ++ s ∷ ys))) where
     string_here : StandsAt bytes after s
     string_here =
-        StandsAt-part (terminated xs) s (0 ∷ terminated ys) in_strings (terminated-append xs (s ∷ ys) ∙ simp append_assoc) refl
+        StandsAt-part (terminated xs) s (0 ∷ terminated ys) in_strings
+        (terminated-append xs (s ∷ ys) ∙ simp append_assoc) refl
 
     nul_here : StandsAt bytes (after + length s) (0 ∷ [])
     nul_here =
-        StandsAt-part (terminated xs ++ s) (0 ∷ []) (terminated ys) in_strings (terminated-append xs (s ∷ ys) ∙ simp append_assoc)
+        StandsAt-part (terminated xs ++ s) (0 ∷ []) (terminated ys) in_strings
+        (terminated-append xs (s ∷ ys) ∙ simp append_assoc)
         (omega (arith, length-append (terminated xs) s))
 
 -- a list around one of its items
@@ -133,7 +140,8 @@ IsString-laid_out order bytes at start ss in_table in_strings small i s here =
     let len : length xs ≡ i = length-take-le i ss (omega (arith, slice_get_within ss i s here)) in
     let entries = rw split at in_table in
     let strings = rw split at in_strings in
-    let lengths : length (terminated (xs ++ s ∷ ys)) ≡ length (terminated xs) + (length s + 1 + length (terminated ys)) =
+    let lengths : length (terminated (xs ++ s ∷ ys))
+    ≡ length (terminated xs) + (length s + 1 + length (terminated ys)) =
     rw (terminated-append xs (s ∷ ys)) (simp length-append) in
     let short : start + length (terminated xs) + length s < 2 ^ 32 = omega (arith, rw split at small) in
     let string_len = rw len at (len_here order bytes at start xs s ys entries short) in

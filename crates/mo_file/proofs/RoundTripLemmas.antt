@@ -69,7 +69,8 @@ module _ (order : Order) (number : ℕ) (messages : List Message) where
   body = original_entries ++ (translation_entries ++ (original_strings ++ translation_strings))
 
   abbrev bytes : List ℕ
-  bytes = magic order ++ (revision_word ++ (count_word ++ (originals_word ++ (translations_word ++ (hash_words ++ body)))))
+  bytes = magic order ++ (revision_word
+      ++ (count_word ++ (originals_word ++ (translations_word ++ (hash_words ++ body)))))
 
   abbrev header_words : List ℕ
   header_words = magic order ++ (revision_word ++ (count_word ++ (originals_word ++ (translations_word ++ hash_words))))
@@ -102,7 +103,8 @@ module _ (order : Order) (number : ℕ) (messages : List Message) where
       let prefix = magic order ++ (revision_word ++ (count_word ++ (originals_word ++ translations_word))) in
       let rest = word_bytes order (28 + 16 * count) ++ body in
       word_at-StandsAt order bytes 20 0
-      (stands prefix (word_bytes order 0) rest 20 (simp append_assoc) (simp (length-append, length-magic, length-word_bytes)))
+      (stands prefix (word_bytes order 0) rest 20 (simp append_assoc)
+      (simp (length-append, length-magic, length-word_bytes)))
       (omega arith)
 
   module _ (fits : length bytes < 2 ^ 32) where
@@ -122,14 +124,16 @@ module _ (order : Order) (number : ℕ) (messages : List Message) where
         let prefix = magic order ++ (revision_word ++ count_word) in
         let rest = translations_word ++ (hash_words ++ body) in
         word_at-StandsAt order bytes 12 28
-        (stands prefix originals_word rest 12 (simp append_assoc) (simp (length-append, length-magic, length-word_bytes)))
+        (stands prefix originals_word rest 12 (simp append_assoc)
+        (simp (length-append, length-magic, length-word_bytes)))
         (omega arith)
 
     translations_table_is : translations_table order bytes ≡ 28 + 8 * count
     translations_table_is =
         let prefix = magic order ++ (revision_word ++ (count_word ++ originals_word)) in
         word_at-StandsAt order bytes 16 (28 + 8 * count)
-        (stands prefix translations_word (hash_words ++ body) 16 (simp append_assoc) (simp (length-append, length-magic, length-word_bytes)))
+        (stands prefix translations_word (hash_words ++ body) 16 (simp append_assoc)
+        (simp (length-append, length-magic, length-word_bytes)))
         (omega (arith, small))
 
     -- where the tables and the strings stand
@@ -137,14 +141,16 @@ module _ (order : Order) (number : ℕ) (messages : List Message) where
     original_entries_stand =
         let prefix = header_words in
         let rest = translation_entries ++ (original_strings ++ translation_strings) in
-        stands prefix original_entries rest (originals_table order bytes) (simp append_assoc) (header_length ∙ sym originals_table_is)
+        stands prefix original_entries rest (originals_table order bytes) (simp append_assoc)
+        (header_length ∙ sym originals_table_is)
 
     translation_entries_stand : StandsAt bytes (translations_table order bytes) translation_entries
     translation_entries_stand =
         let prefix = header_words ++ original_entries in
         let rest = original_strings ++ translation_strings in
         stands prefix translation_entries rest (translations_table order bytes) (simp append_assoc)
-        (simp (length-append, length-magic, length-word_bytes, length-table, length-map) (omega (arith, translations_table_is)))
+        (simp (length-append, length-magic, length-word_bytes, length-table, length-map)
+        (omega (arith, translations_table_is)))
 
     original_strings_stand : StandsAt bytes (originals_offset messages) original_strings
     original_strings_stand =
@@ -163,7 +169,8 @@ module _ (order : Order) (number : ℕ) (messages : List Message) where
         IsString order bytes (originals_table order bytes) i m.original
     original_here i m is =
         let original = λ (x : Message). x.original in
-        IsString-laid_out order bytes (originals_table order bytes) (originals_offset messages) (originals messages) original_entries_stand
+        IsString-laid_out order bytes (originals_table order bytes) (originals_offset messages)
+        (originals messages) original_entries_stand
         original_strings_stand (omega (arith, small)) i m.original
         (slice_get-map original messages i ∙ ap (option_map original) is)
 
@@ -171,7 +178,8 @@ module _ (order : Order) (number : ℕ) (messages : List Message) where
         IsString order bytes (translations_table order bytes) i m.translation
     translation_here i m is =
         let translation = λ (x : Message). x.translation in
-        IsString-laid_out order bytes (translations_table order bytes) (translations_offset messages) (translations messages) translation_entries_stand
+        IsString-laid_out order bytes (translations_table order bytes) (translations_offset messages)
+        (translations messages) translation_entries_stand
         translation_strings_stand (omega (arith, small)) i m.translation
         (slice_get-map translation messages i ∙ ap (option_map translation) is)
 
@@ -183,7 +191,9 @@ module _ (order : Order) (number : ℕ) (messages : List Message) where
         elim (slice_get_cases messages i).1 [
           | inl here ↦ let inside : i < message_count order bytes = omega (arith, count_is, here.1) in
               here.2 ∙ ap Some (sym (message_laid i here.0 here.2)) ∙ sym (messages_of-at order bytes i inside)
-          | inr past ↦ past.1 ∙ sym (slice_get_past (messages_of order bytes) i (omega (arith, length-messages_of order bytes, count_is, past.0)))
+          | inr past ↦ past.1 ∙ sym
+              (slice_get_past (messages_of order bytes) i
+              (omega (arith, length-messages_of order bytes, count_is, past.0)))
         ]
 
     lists : messages ≡ messages_of order bytes
@@ -235,7 +245,8 @@ module _ (order : Order) (number : ℕ) (messages : List Message) where
         let P : List Message → Type 0 = λ ms. AreRising (keys ms) in
         let risen = subst P lists rising in
         let inside : i + 1 < message_count order bytes = omega (arith, count_is) in
-        let listed : i + 1 < length (keys (messages_of order bytes)) = omega (arith, length-keys-messages_of order bytes) in
+        let listed : i + 1 < length (keys (messages_of order bytes)) =
+        omega (arith, length-keys-messages_of order bytes) in
         unsorted (rw (keys-at order bytes i (omega arith), keys-at order bytes (i + 1) inside) at (risen.next i listed))
 
     file : AreRising (keys messages) → number / 65536 ≤ 1 → number < 2 ^ 32 → IsMoFile order bytes messages
@@ -254,7 +265,8 @@ module _ (order : Order) (number : ℕ) (messages : List Message) where
       let first : take 4 (layout order messages) ≡ magic order =
       rw front (take_at (magic order) (word_bytes order 0 ++ rest) 4 (length-magic order)) in
       let last : drop 8 (layout order messages) ≡ rest =
-      rw whole (drop_at (magic order ++ word_bytes order 0) rest 8 (simp (length-append, length-magic, length-word_bytes))) in
+      rw whole (drop_at (magic order ++ word_bytes order 0) rest 8
+      (simp (length-append, length-magic, length-word_bytes))) in
       rw (first, last) (simp append_assoc)
 
 is_laid_out : (order : Order) (messages : List Message) → layout order messages ≡ bytes order 0 messages

@@ -32,7 +32,8 @@ module _ (order : Order) (bytes : List ℕ) where
   unfolding messages_of
   messages_of-at i lt =
       slice_get-get_or (messages_of order bytes) i (message_at order bytes i) (omega (arith, length-messages_of))
-      ∙ ap Some (get_or-map-range_with_len (message_at order bytes) 0 (message_count order bytes) i i (message_at order bytes i) lt (omega arith))
+      ∙ ap Some (get_or-map-range_with_len (message_at order bytes) 0 (message_count order bytes) i i
+      (message_at order bytes i) lt (omega arith))
 
   module _ {A : Type 0} (f : Message → A) where
     -- what is read of each message, at an index
@@ -42,7 +43,8 @@ module _ (order : Order) (bytes : List ℕ) where
 
   pub keys-at : (i : ℕ) → i < message_count order bytes →
       key_at (keys (messages_of order bytes)) i ≡ key_of (original_at order bytes i)
-  keys-at i lt = get_or_from_slice_get (keys (messages_of order bytes)) i _ [] (map-messages_of-at (λ m. key_of m.original) i lt)
+  keys-at i lt = get_or_from_slice_get (keys (messages_of order bytes)) i _ []
+      (map-messages_of-at (λ m. key_of m.original) i lt)
 
   pub length-keys-messages_of : length (keys (messages_of order bytes)) ≡ message_count order bytes
   length-keys-messages_of = length-map (messages_of order bytes) (λ m. key_of m.original) ∙ length-messages_of
@@ -62,4 +64,5 @@ some_zero (Some x) terminated = ap Some (some_nul x terminated)
 -- a string inside the file that a NUL follows
 pub string_at_end : (bytes : List ℕ) (start end : ℕ) → start ≤ end → ¬ (slice_get bytes end ≢ Some 0) →
     IsStringAt bytes start end (slice_range bytes start end)
-string_at_end bytes start end ordered terminated = record { order = ordered; text = refl; terminated = some_zero _ terminated }
+string_at_end bytes start end ordered terminated =
+    record { order = ordered; text = refl; terminated = some_zero _ terminated }

@@ -49,21 +49,24 @@ NoHashTableIsLaidOut =
 -- tables of the originals and of the translations, the originals, the translations.
 abbrev pub two_messages : List Message
 two_messages =
-    record { original = codes "a"; translation = codes "2" } ∷ record { original = codes "b"; translation = codes "1" } ∷ []
+    record { original = codes "a"; translation = codes "2" } ∷ record { original = codes "b"; translation = codes "1" }
+    ∷ []
 
 abbrev pub one_message : List Message
 one_message = record { original = codes "a"; translation = codes "b" } ∷ []
 
 abbrev pub file_of_two : List ℕ
 file_of_two =
-    0xde ∷ 0x12 ∷ 0x04 ∷ 0x95 ∷ 0 ∷ 0 ∷ 0 ∷ 0 ∷ 2 ∷ 0 ∷ 0 ∷ 0 ∷ 28 ∷ 0 ∷ 0 ∷ 0 ∷ 44 ∷ 0 ∷ 0 ∷ 0 ∷ 0 ∷ 0 ∷ 0 ∷ 0 ∷ 60 ∷ 0 ∷ 0 ∷ 0
+    0xde ∷ 0x12 ∷ 0x04 ∷ 0x95 ∷ 0 ∷ 0 ∷ 0 ∷ 0 ∷ 2 ∷ 0 ∷ 0 ∷ 0 ∷ 28 ∷ 0 ∷ 0 ∷ 0 ∷ 44 ∷ 0 ∷ 0 ∷ 0 ∷ 0 ∷ 0 ∷ 0 ∷ 0 ∷ 60 ∷ 0
+    ∷ 0 ∷ 0
     ∷ 1 ∷ 0 ∷ 0 ∷ 0 ∷ 60 ∷ 0 ∷ 0 ∷ 0 ∷ 1 ∷ 0 ∷ 0 ∷ 0 ∷ 62 ∷ 0 ∷ 0 ∷ 0
     ∷ 1 ∷ 0 ∷ 0 ∷ 0 ∷ 64 ∷ 0 ∷ 0 ∷ 0 ∷ 1 ∷ 0 ∷ 0 ∷ 0 ∷ 66 ∷ 0 ∷ 0 ∷ 0
     ∷ codes "a" ++ 0 ∷ codes "b" ++ 0 ∷ codes "2" ++ 0 ∷ codes "1" ++ 0 ∷ []
 
 abbrev pub big_file_of_one : List ℕ
 big_file_of_one =
-    0x95 ∷ 0x04 ∷ 0x12 ∷ 0xde ∷ 0 ∷ 0 ∷ 0 ∷ 0 ∷ 0 ∷ 0 ∷ 0 ∷ 1 ∷ 0 ∷ 0 ∷ 0 ∷ 28 ∷ 0 ∷ 0 ∷ 0 ∷ 36 ∷ 0 ∷ 0 ∷ 0 ∷ 0 ∷ 0 ∷ 0 ∷ 0 ∷ 44
+    0x95 ∷ 0x04 ∷ 0x12 ∷ 0xde ∷ 0 ∷ 0 ∷ 0 ∷ 0 ∷ 0 ∷ 0 ∷ 0 ∷ 1 ∷ 0 ∷ 0 ∷ 0 ∷ 28 ∷ 0 ∷ 0 ∷ 0 ∷ 36 ∷ 0 ∷ 0 ∷ 0 ∷ 0 ∷ 0 ∷ 0
+    ∷ 0 ∷ 44
     ∷ 0 ∷ 0 ∷ 0 ∷ 1 ∷ 0 ∷ 0 ∷ 0 ∷ 44 ∷ 0 ∷ 0 ∷ 0 ∷ 1 ∷ 0 ∷ 0 ∷ 0 ∷ 46 ∷ codes "a" ++ 0 ∷ codes "b" ++ 0 ∷ []
 
 -- a file of any minor revision of major revision 0 or 1 is as valid as what is laid out

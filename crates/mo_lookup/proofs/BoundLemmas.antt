@@ -20,7 +20,8 @@ within_rises (suc most) zero zero _ = omega arith
 within_rises (suc most) zero (suc b) _ = omega arith
 within_rises (suc most) (suc a) zero le = absurd (omega arith)
 within_rises (suc most) (suc a) (suc b) le =
-    let rest : halvings_within most (suc a / 2) ≤ halvings_within most (suc b / 2) = within_rises most (suc a / 2) (suc b / 2) (omega arith) in
+    let rest : halvings_within most (suc a / 2) ≤ halvings_within most (suc b / 2) =
+    within_rises most (suc a / 2) (suc b / 2) (omega arith) in
     omega arith
 
 pub search_bound-zero : search_bound 0 ≡ 0
@@ -44,8 +45,10 @@ pub search_bound-at_most_32 : (n : ℕ) → n < 2 ^ 32 → search_bound n ≤ 32
 unfolding search_bound
 search_bound-at_most_32 n short =
     let largest : halvings_within 4294967295 4294967295 ≡ 32 = refl in
-    let more : halvings_within n n ≡ halvings_within 4294967295 n = within_same n 4294967295 n (omega arith) (omega arith) in
-    let rest : halvings_within 4294967295 n ≤ halvings_within 4294967295 4294967295 = within_rises 4294967295 n 4294967295 (omega arith) in
+    let more : halvings_within n n ≡ halvings_within 4294967295 n =
+    within_same n 4294967295 n (omega arith) (omega arith) in
+    let rest : halvings_within 4294967295 n ≤ halvings_within 4294967295 4294967295 =
+    within_rises 4294967295 n 4294967295 (omega arith) in
     omega arith
 
 -- both halves of the logarithm, without its lower end's division
@@ -63,7 +66,8 @@ within_below : (most n : ℕ) → n ≤ most → 2 ^ halvings_within most n ≤ 
 within_below zero n short = omega arith
 within_below (suc most) zero short = omega arith
 within_below (suc most) (suc n) short =
-    let rest : 2 ^ halvings_within most (suc n / 2) ≤ max 1 (2 * (suc n / 2)) = within_below most (suc n / 2) (omega arith) in
+    let rest : 2 ^ halvings_within most (suc n / 2) ≤ max 1 (2 * (suc n / 2)) =
+    within_below most (suc n / 2) (omega arith) in
     rw (twice (halvings_within most (suc n / 2))) (omega arith)
 
 pub search_bound-above : (n : ℕ) → n < 2 ^ search_bound n

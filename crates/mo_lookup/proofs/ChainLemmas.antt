@@ -32,7 +32,8 @@ first-at test chain index catalog first inside is holds =
     omega arith
 
 -- the catalogue that has the key is the first, and the translation is that which stands there
-pub HaveNot-first : (key : List ℕ) (chain : List CatalogView) (index began counted : ℕ) (catalog : CatalogView) (translation : List ℕ) →
+pub HaveNot-first : (key : List ℕ) (chain : List CatalogView) (index began counted : ℕ) (catalog : CatalogView)
+    (translation : List ℕ) →
     HaveNot key chain index began counted → index < length chain → catalog ≡ get_or chain index catalog →
     Some translation ≡ translation_under key catalog.messages → IsFirstWith key chain index catalog translation
 HaveNot-first key chain index began counted catalog translation none inside is found = record {
@@ -41,7 +42,8 @@ HaveNot-first key chain index began counted catalog translation none inside is f
   under = sym found;
 }
 
-same-position : (p q : CatalogView → Bool) → ((catalog : CatalogView) → p catalog ≡ q catalog) → (chain : List CatalogView) →
+same-position : (p q : CatalogView → Bool) → ((catalog : CatalogView) → p catalog ≡ q catalog)
+    → (chain : List CatalogView) →
     position_or_len p chain ≡ position_or_len q chain
 same-position p q same [] = refl
 same-position p q same (catalog ∷ rest) = rw (same catalog, same-position p q same rest) refl
@@ -53,11 +55,13 @@ is_some-map (Some translation) = refl
 -- a catalogue translates a query that can be a key where it has the key
 translates-can_be_key : (query : Query) → can_be_key query.context query.id ≡ true → (catalog : CatalogView) →
     translates query catalog ≡ has_key (query_key query.context query.id) catalog
-translates-can_be_key query can_be catalog = rw can_be (is_some-map (translation_under (query_key query.context query.id) catalog.messages))
+translates-can_be_key query can_be catalog =
+    rw can_be (is_some-map (translation_under (query_key query.context query.id) catalog.messages))
 
 asked-can_be_key : (chain : List CatalogView) (query : Query) → can_be_key query.context query.id ≡ true →
     asked chain query ≡ min (length chain) (position_or_len (translates query) chain + 1)
-asked-can_be_key chain query can_be = ap (λ b. cond b (min (length chain) (position_or_len (translates query) chain + 1)) 0) can_be
+asked-can_be_key chain query can_be =
+    ap (λ b. cond b (min (length chain) (position_or_len (translates query) chain + 1)) 0) can_be
 
 -- where no catalogue has the key, all are asked
 pub chain-none : (chain : List CatalogView) (query : Query) → can_be_key query.context query.id ≡ true →
@@ -65,24 +69,29 @@ pub chain-none : (chain : List CatalogView) (query : Query) → can_be_key query
     (find (translates query) chain ≡ None) × (asked chain query ≡ length chain)
 chain-none chain query can_be none =
     let first : position_or_len (translates query) chain ≡ length chain =
-    same-position (translates query) (has_key (query_key query.context query.id)) (translates-can_be_key query can_be) chain ∙ none in (
+    same-position (translates query) (has_key (query_key query.context query.id))
+    (translates-can_be_key query can_be) chain ∙ none in (
       find_at (translates query) chain ∙ ap (slice_get chain) first ∙ slice_get_past chain (length chain) (omega arith),
       omega (arith, asked-can_be_key chain query can_be),
     )
 
 -- the catalogue that answers, with the forms of its translation, and how many were asked
-pub record Answers (chain : List CatalogView) (query : Query) (catalog : CatalogView) (translation : List ℕ) (count : ℕ) : Type 0 where
+pub record Answers (chain : List CatalogView) (query : Query) (catalog : CatalogView) (translation : List ℕ)
+    (count : ℕ) : Type 0 where
   pub first : find (translates query) chain ≡ Some catalog
   pub forms_are : forms_found catalog.messages query ≡ Some (forms translation)
   pub count_is : count ≡ asked chain query
 
 -- where a catalogue has the key, it answers, and those up to it are asked
-pub chain-found : (chain : List CatalogView) (query : Query) (index : ℕ) (catalog : CatalogView) (translation : List ℕ) →
-    can_be_key query.context query.id ≡ true → IsFirstWith (query_key query.context query.id) chain index catalog translation →
+pub chain-found : (chain : List CatalogView) (query : Query) (index : ℕ) (catalog : CatalogView) (translation : List ℕ)
+    →
+    can_be_key query.context query.id ≡ true
+    → IsFirstWith (query_key query.context query.id) chain index catalog translation →
     Answers chain query catalog translation (index + 1)
 chain-found chain query index catalog translation can_be is =
     let first : position_or_len (translates query) chain ≡ index =
-    same-position (translates query) (has_key (query_key query.context query.id)) (translates-can_be_key query can_be) chain ∙ sym is.first in
+    same-position (translates query) (has_key (query_key query.context query.id))
+    (translates-can_be_key query can_be) chain ∙ sym is.first in
     let inside : index < length chain = slice_get_within chain index catalog is.there in
     record {
       first = find_at (translates query) chain ∙ ap (slice_get chain) first ∙ is.there;
@@ -97,8 +106,10 @@ same-outcome fs rule None text steps t s = rw (t, s) refl
 same-outcome fs rule (Some plural) text steps t s = rw (t, s) refl
 
 -- its form and its steps are what the chain answers
-pub Answers-answered : (chain : List CatalogView) (query : Query) (catalog : CatalogView) (translation text : List ℕ) (count steps : ℕ) →
-    Answers chain query catalog translation count → text ≡ (translated (forms translation) catalog.rule query.plural).text →
+pub Answers-answered : (chain : List CatalogView) (query : Query) (catalog : CatalogView) (translation text : List ℕ)
+    (count steps : ℕ) →
+    Answers chain query catalog translation count
+    → text ≡ (translated (forms translation) catalog.rule query.plural).text →
     steps ≡ (translated (forms translation) catalog.rule query.plural).steps →
     record { text = text; found = true; steps = steps } ≡ chain_answered chain query
 Answers-answered chain query catalog translation text count steps is t s =
@@ -107,15 +118,19 @@ Answers-answered chain query catalog translation text count steps is t s =
     ∙ sym (ap (λ c. option_map_or (λ catalog. answered catalog query) c (untranslated query)) is.first)
 
 -- its steps are at most the nodes of its rule
-pub Answers-nodes : (chain : List CatalogView) (query : Query) (catalog : CatalogView) (translation : List ℕ) (count steps : ℕ) →
-    Answers chain query catalog translation count → steps ≤ nodes catalog.rule.tree → steps ≤ answering_nodes chain query
+pub Answers-nodes : (chain : List CatalogView) (query : Query) (catalog : CatalogView) (translation : List ℕ)
+    (count steps : ℕ) →
+    Answers chain query catalog translation count → steps ≤ nodes catalog.rule.tree
+    → steps ≤ answering_nodes chain query
 Answers-nodes chain query catalog translation count steps is le =
     let tree : answering_nodes chain query ≡ nodes catalog.rule.tree =
     ap (λ c. option_map_or (λ catalog. nodes catalog.rule.tree) c 0) is.first in
     omega arith
 
 -- what is answered where no catalogue answers
-pub chain_answered-none : (chain : List CatalogView) (query : Query) (text : List ℕ) → find (translates query) chain ≡ None →
-    text ≡ untranslated_text query.id query.plural → record { text = text; found = false; steps = 0 } ≡ chain_answered chain query
+pub chain_answered-none : (chain : List CatalogView) (query : Query) (text : List ℕ)
+    → find (translates query) chain ≡ None →
+    text ≡ untranslated_text query.id query.plural
+    → record { text = text; found = false; steps = 0 } ≡ chain_answered chain query
 chain_answered-none chain query text none t =
     rw t (sym (ap (λ c. option_map_or (λ catalog. answered catalog query) c (untranslated query)) none))

@@ -15,18 +15,22 @@ use Rattle.mo_lookup.specs.Place.{IsFormAt}
 
 -- a translation with a NUL: its first form stands before it, the others are the forms of what
 -- stands after it
-pub forms-first : (text : List ℕ) (end : ℕ) → NoneBefore (Passes (is_byte 0) text) 0 (length text) end → Passes (is_byte 0) text end →
+pub forms-first : (text : List ℕ) (end : ℕ) → NoneBefore (Passes (is_byte 0) text) 0 (length text) end
+    → Passes (is_byte 0) text end →
     forms text ≡ take end text ∷ forms (drop (end + 1) text)
 forms-first text end none here =
     let inside = none.high in
     let index : position_or_len is_nul text ≡ end =
-    position_or_len_is is_nul text end 0 (omega arith) (λ k lt. false_from_ne_true _ (none.before k (omega arith) lt)) (λ _. here) in
+    position_or_len_is is_nul text end 0 (omega arith) (λ k lt. false_from_ne_true _ (none.before k (omega arith) lt))
+    (λ _. here) in
     slice_split_first is_nul text 0 (omega arith) ∙ ap (λ n. take n text ∷ forms (drop (n + 1) text)) index
 
 -- a translation without NUL is its one form
 pub forms-one : (text : List ℕ) → Nowhere (Passes (is_byte 0) text) 0 (length text) → forms text ≡ text ∷ []
 forms-one text none =
-    slice_split_none is_nul text (All-from_get_or (λ byte. is_nul byte ≡ false) text 0 (λ i inside. false_from_ne_true _ (none i (omega arith) inside)))
+    slice_split_none is_nul text
+    (All-from_get_or (λ byte. is_nul byte ≡ false) text 0
+    (λ i inside. false_from_ne_true _ (none i (omega arith) inside)))
 
 -- the byte at a place that passes as NUL
 nul_there : (x : ℕ) → (x == 0) ≡ true → x ≡ 0
@@ -50,7 +54,8 @@ module _ (text : List ℕ) (start : ℕ) (inside : start ≤ length text) where
       record {
         order = omega arith;
         inside = omega arith;
-        text = ap (λ fs. form_at fs 0) (forms-first (drop start text) len none' here') ∙ ap (λ n. take n (drop start text)) same;
+        text = ap (λ fs. form_at fs 0) (forms-first (drop start text) len none' here')
+            ∙ ap (λ n. take n (drop start text)) same;
         ends = inr
             (
             slice_get-get_or text (start + len) 0 (omega arith)
@@ -72,14 +77,16 @@ module _ (text : List ℕ) (start : ℕ) (inside : start ≤ length text) where
 
   -- the second one begins after that NUL
   pub second-at : (len : ℕ) → NoneBefore (Passes (is_byte 0) rest) 0 (length rest) len → Passes (is_byte 0) rest len →
-      (start + len + 1 ≤ length text) × (forms (drop start text) ≡ form_at (forms (drop start text)) 0 ∷ forms (drop (start + len + 1) text))
+      (start + len + 1 ≤ length text)
+      × (forms (drop start text) ≡ form_at (forms (drop start text)) 0 ∷ forms (drop (start + len + 1) text))
   second-at len none here =
       let none' = rw rest_is at none in
       let here' = rw rest_is at here in
       let cut : forms (drop start text) ≡ take len (drop start text) ∷ forms (drop (len + 1) (drop start text)) =
       forms-first (drop start text) len none' here' in
       let there : drop (len + 1) (drop start text) ≡ drop (start + len + 1) text =
-      drop-drop (len + 1) start text ∙ ap (λ n. drop n text) {x = start + (len + 1)} {y = start + len + 1} (omega arith) in (
+      drop-drop (len + 1) start text
+      ∙ ap (λ n. drop n text) {x = start + (len + 1)} {y = start + len + 1} (omega arith) in (
         omega (arith, none'.high, length-drop start text),
         rw there at (cut ∙ ap (λ f. f ∷ forms (drop (len + 1) (drop start text))) (sym (ap (λ fs. form_at fs 0) cut))),
       )

@@ -12,7 +12,8 @@ drop-slice_range xs s e a =
     ap (drop a) (between_is xs s e) ∙ drop-drop a s (take e xs) ∙ sym (between_is xs (s + a) e)
 
 -- a part of a part
-part-of-part : (xs : List ℕ) (s e a b : ℕ) → a ≤ b → s + b ≤ e → slice_range (slice_range xs s e) a b ≡ slice_range xs (s + a) (s + b)
+part-of-part : (xs : List ℕ) (s e a b : ℕ) → a ≤ b → s + b ≤ e
+    → slice_range (slice_range xs s e) a b ≡ slice_range xs (s + a) (s + b)
 part-of-part xs s e a b ordered inside =
     let same : b - a ≡ s + b - (s + a) = omega arith in
     ap (take (b - a)) (drop-slice_range xs s e a)
@@ -20,7 +21,8 @@ part-of-part xs s e a b ordered inside =
     ∙ ap (λ n. take n (drop (s + a) xs)) same
 
 -- what stands in a part
-get-part : (xs : List ℕ) (s e b : ℕ) → s + b < e → e ≤ length xs → slice_get (slice_range xs s e) b ≡ Some 0 → slice_get xs (s + b) ≡ Some 0
+get-part : (xs : List ℕ) (s e b : ℕ) → s + b < e → e ≤ length xs → slice_get (slice_range xs s e) b ≡ Some 0
+    → slice_get xs (s + b) ≡ Some 0
 get-part xs s e b inside within found =
     slice_get-get_or xs (s + b) 0 (omega arith)
     ∙ ap Some

@@ -33,7 +33,8 @@ no_separator_by_eot text None None true true first_nul first_eot is_nul none is_
     list_any_none is_separator text
     (
     All-from_get_or (λ byte. is_separator byte ≡ false) text 0
-    (λ i inside. neither _ _ (false_from_ne_true _ (first_nul i (omega arith) inside)) (false_from_ne_true _ (first_eot i (omega arith) inside)))
+    (λ i inside. neither _ _ (false_from_ne_true _ (first_nul i (omega arith) inside))
+    (false_from_ne_true _ (first_eot i (omega arith) inside)))
     )
     )
     )

@@ -34,21 +34,24 @@ rising_apart ks rising i (suc gap) inside =
     (rising_apart ks rising i gap (omega arith)) (rising.next (i + 1 + gap) (omega arith))
     )
 
-pub rising_between : (ks : List (List ℕ)) → AreRising ks → (i j : ℕ) → i < j → j < length ks → key_cmp (key_at ks i) (key_at ks j) ≡ Less
+pub rising_between : (ks : List (List ℕ)) → AreRising ks → (i j : ℕ) → i < j → j < length ks
+    → key_cmp (key_at ks i) (key_at ks j) ≡ Less
 rising_between ks rising i j before inside =
     let e : i + 1 + (j - (i + 1)) ≡ j = omega arith in
     let P : ℕ → Type 0 = λ k. key_cmp (key_at ks i) (key_at ks k) ≡ Less in
     subst P e (rising_apart ks rising i (j - (i + 1)) (omega arith))
 
 -- where key m is below another key, none up to m is that key
-pub none_up_to : (ks : List (List ℕ)) (key : List ℕ) (m : ℕ) → AreRising ks → m < length ks → key_cmp (key_at ks m) key ≡ Less →
+pub none_up_to : (ks : List (List ℕ)) (key : List ℕ) (m : ℕ) → AreRising ks → m < length ks
+    → key_cmp (key_at ks m) key ≡ Less →
     (i : ℕ) → i < m + 1 → key_at ks i ≢ key
 none_up_to ks key m rising inside less i before =
     elim (cases_lt i m) [
       | inl under ↦
           less_is_other (key_at ks i) key
           (nat_list_cmp_total.trans (key_at ks i) (key_at ks m) key (rising_between ks rising i m under inside) less)
-      | inr at ↦ let same : m ≡ i = omega arith in let P : ℕ → Type 0 = λ k. key_at ks k ≢ key in subst P same (less_is_other (key_at ks m) key less)
+      | inr at ↦ let same : m ≡ i = omega arith in let P : ℕ → Type 0 =
+          λ k. key_at ks k ≢ key in subst P same (less_is_other (key_at ks m) key less)
     ]
 
 -- where key m is above another key, none from m on is that key
@@ -61,6 +64,7 @@ none_from ks key m rising greater i after inside =
       | inl over ↦
           less_is_other key (key_at ks i)
           (nat_list_cmp_total.trans key (key_at ks m) (key_at ks i) less (rising_between ks rising m i over inside))
-      | inr at ↦ let same : m ≡ i = omega arith in let P : ℕ → Type 0 = λ k. key ≢ key_at ks k in subst P same (less_is_other key (key_at ks m) less)
+      | inr at ↦ let same : m ≡ i = omega arith in let P : ℕ → Type 0 =
+          λ k. key ≢ key_at ks k in subst P same (less_is_other key (key_at ks m) less)
     ] in
     λ same. other (sym same)

@@ -12,7 +12,8 @@ use Rattle.mo_lookup.proofs.RisingLemmas.{equal_is_same, none_up_to, none_from}
 
 -- no key outside the range from low to high is the one, and what was counted leaves the comparisons
 -- of the range
-pub record IsSearch (ks : List (List ℕ)) (key : List ℕ) (now : List (List ℕ)) (began counted low high : ℕ) : Type 0 where
+pub record IsSearch (ks : List (List ℕ)) (key : List ℕ) (now : List (List ℕ))
+    (began counted low high : ℕ) : Type 0 where
   pub same : now ≡ ks
   pub rising : AreRising ks
   pub short : length ks < 2 ^ 32
@@ -29,7 +30,8 @@ at-start : (ks now : List (List ℕ)) (key : List ℕ) (middle : ℕ) (order : O
 at-start ks now key middle order same is = rw (← same) (sym is)
 
 -- key `middle` is below the one: the search goes on after it
-pub IsSearch-less : (ks : List (List ℕ)) (key : List ℕ) (now after : List (List ℕ)) (began counted low high middle : ℕ) →
+pub IsSearch-less : (ks : List (List ℕ)) (key : List ℕ) (now after : List (List ℕ)) (began counted low high middle : ℕ)
+    →
     IsSearch ks key now began counted low high → low < high → middle ≡ low + (high - low) / 2 →
     Less ≡ key_cmp (key_at now middle) key → after ≡ now →
     IsSearch ks key after began (counted + 1) (middle + 1) high
@@ -48,7 +50,8 @@ IsSearch-less ks key now after began counted low high middle is some in_middle l
 }
 
 -- key `middle` is above the one: the search goes on before it
-pub IsSearch-greater : (ks : List (List ℕ)) (key : List ℕ) (now after : List (List ℕ)) (began counted low high middle : ℕ) →
+pub IsSearch-greater : (ks : List (List ℕ)) (key : List ℕ) (now after : List (List ℕ))
+    (began counted low high middle : ℕ) →
     IsSearch ks key now began counted low high → low < high → middle ≡ low + (high - low) / 2 →
     Greater ≡ key_cmp (key_at now middle) key → after ≡ now →
     IsSearch ks key after began (counted + 1) low middle
@@ -71,7 +74,8 @@ pub record IsCounted (ks : List (List ℕ)) (began counted : ℕ) : Type 0 where
   pub bound : counted ≤ began + search_bound (length ks)
   pub at_most_32 : counted ≤ began + 32
 
-counted-within : (ks : List (List ℕ)) (key : List ℕ) (began counted : ℕ) → length ks < 2 ^ 32 → counted ≤ began + comparisons ks key →
+counted-within : (ks : List (List ℕ)) (key : List ℕ) (began counted : ℕ) → length ks < 2 ^ 32
+    → counted ≤ began + comparisons ks key →
     IsCounted ks began counted
 counted-within ks key began counted short within =
     let at_most_32 : search_bound (length ks) ≤ 32 = search_bound-at_most_32 (length ks) short in
@@ -91,14 +95,17 @@ IsSearch-none ks key now began counted low high is end = AreCompared-none ks key
 
 -- where key `middle` is the one, the comparison with it is the last of them
 pub IsSearch-last : (ks : List (List ℕ)) (key : List ℕ) (now : List (List ℕ)) (began counted low high middle : ℕ) →
-    IsSearch ks key now began counted low high → low < high → middle ≡ low + (high - low) / 2 → Equal ≡ key_cmp (key_at now middle) key →
+    IsSearch ks key now began counted low high → low < high → middle ≡ low + (high - low) / 2
+    → Equal ≡ key_cmp (key_at now middle) key →
     counted + 1 ≡ began + comparisons ks key
 IsSearch-last ks key now began counted low high middle is some in_middle equal =
-    AreCompared-equal ks key began counted low high middle is.compared some is.inside in_middle (at-start ks now key middle Equal is.same equal)
+    AreCompared-equal ks key began counted low high middle is.compared some is.inside in_middle
+    (at-start ks now key middle Equal is.same equal)
 
 -- and it is within the bound
 pub IsSearch-compared : (ks : List (List ℕ)) (key : List ℕ) (now : List (List ℕ)) (began counted low high middle : ℕ) →
-    IsSearch ks key now began counted low high → low < high → middle ≡ low + (high - low) / 2 → Equal ≡ key_cmp (key_at now middle) key →
+    IsSearch ks key now began counted low high → low < high → middle ≡ low + (high - low) / 2
+    → Equal ≡ key_cmp (key_at now middle) key →
     IsCounted ks began (counted + 1)
 IsSearch-compared ks key now began counted low high middle is some in_middle equal =
     let last = IsSearch-last ks key now began counted low high middle is some in_middle equal in

@@ -40,14 +40,17 @@ tested-same messages key i inside same =
     decides.1 (sym (key_at-original messages i inside) ∙ same)
 
 -- what is found is the message at the index of the first key that is the one
-under-index : (messages : List Message) (key : List ℕ) (index : ℕ) → position_or_len (λ m. bytes_eq (key_of m.original) key) messages ≡ index →
+under-index : (messages : List Message) (key : List ℕ) (index : ℕ)
+    → position_or_len (λ m. bytes_eq (key_of m.original) key) messages ≡ index →
     translation_under key messages ≡ slice_get (translations messages) index
 under-index messages key index first =
-    ap (option_map (λ m. m.translation)) (find_at (λ m. bytes_eq (key_of m.original) key) messages ∙ ap (slice_get messages) first)
+    ap (option_map (λ m. m.translation))
+    (find_at (λ m. bytes_eq (key_of m.original) key) messages ∙ ap (slice_get messages) first)
     ∙ sym (slice_get-map (λ m. m.translation) messages index)
 
 -- where key i is the one, translation i stands under it
-pub under-found : (messages : List Message) (key : List ℕ) (i : ℕ) → AreRising (keys messages) → i < length (keys messages) →
+pub under-found : (messages : List Message) (key : List ℕ) (i : ℕ) → AreRising (keys messages)
+    → i < length (keys messages) →
     key_at (keys messages) i ≡ key → translation_under key messages ≡ slice_get (translations messages) i
 under-found messages key i rising inside same =
     let short : i < length messages = omega (arith, length-map messages (λ m. key_of m.original)) in
@@ -60,7 +63,8 @@ under-found messages key i rising inside same =
     )
 
 -- where no key is the one, no translation stands under it
-pub under-none : (messages : List Message) (key : List ℕ) → ((i : ℕ) → i < length (keys messages) → key_at (keys messages) i ≢ key) →
+pub under-none : (messages : List Message) (key : List ℕ)
+    → ((i : ℕ) → i < length (keys messages) → key_at (keys messages) i ≢ key) →
     translation_under key messages ≡ None
 under-none messages key none =
     let same_length : length (keys messages) ≡ length messages = length-map messages (λ m. key_of m.original) in
@@ -72,19 +76,23 @@ under-none messages key none =
     ∙ slice_get_past (translations messages) (length messages) (omega (arith, length-map messages (λ m. m.translation)))
 
 -- what a search of the keys finds
-pub under-searched : (messages : List Message) (key : List ℕ) (index : Option ℕ) → AreRising (keys messages) → IsIndexOf (keys messages) key index →
+pub under-searched : (messages : List Message) (key : List ℕ) (index : Option ℕ) → AreRising (keys messages)
+    → IsIndexOf (keys messages) key index →
     translation_under key messages ≡ option_and_then (slice_get (translations messages)) index
 under-searched messages key None rising none = under-none messages key none
 under-searched messages key (Some i) rising is = under-found messages key i rising is.0 is.1
 
 -- the same for keys that are known to be those of the messages
-pub under-listed : (listed : List (List ℕ)) (messages : List Message) (key : List ℕ) (index : Option ℕ) → listed ≡ keys messages →
+pub under-listed : (listed : List (List ℕ)) (messages : List Message) (key : List ℕ) (index : Option ℕ)
+    → listed ≡ keys messages →
     AreRising listed → IsIndexOf listed key index →
     translation_under key messages ≡ option_and_then (slice_get (translations messages)) index
-under-listed listed messages key index are rising is = under-searched messages key index (rw are at rising) (rw are at is)
+under-listed listed messages key index are rising is =
+    under-searched messages key index (rw are at rising) (rw are at is)
 
 -- and the index is that of a message
-pub index-listed : (listed : List (List ℕ)) (messages : List Message) (key : List ℕ) (index : Option ℕ) → listed ≡ keys messages →
+pub index-listed : (listed : List (List ℕ)) (messages : List Message) (key : List ℕ) (index : Option ℕ)
+    → listed ≡ keys messages →
     AreRising listed → IsIndexOf listed key index →
     MatchOption index (translation_under key messages ≡ None)
     (λ i. (i < length messages) × (translation_under key messages ≡ slice_get (translations messages) i))
@@ -99,7 +107,8 @@ not_below_empty [] less = (cc)
 not_below_empty (b ∷ bs) less = (cc)
 
 -- where the first key isn't empty, none is
-pub none-empty : (ks : List (List ℕ)) → AreRising ks → key_cmp (key_at ks 0) [] ≢ Equal → (i : ℕ) → i < length ks → key_at ks i ≢ []
+pub none-empty : (ks : List (List ℕ)) → AreRising ks → key_cmp (key_at ks 0) [] ≢ Equal → (i : ℕ) → i < length ks
+    → key_at ks i ≢ []
 none-empty ks rising unequal i inside empty =
     elim (cases_lt 0 i) [
       | inl after ↦
@@ -111,7 +120,8 @@ none-empty ks rising unequal i inside empty =
     ]
 
 -- the header text, where the first key is empty
-pub header-first : (messages : List Message) (translation : List ℕ) → AreRising (keys messages) → 0 < length (keys messages) →
+pub header-first : (messages : List Message) (translation : List ℕ) → AreRising (keys messages)
+    → 0 < length (keys messages) →
     key_cmp (key_at (keys messages) 0) [] ≡ Equal → slice_get (translations messages) 0 ≡ Some translation →
     header_text messages ≡ form_at (forms translation) 0
 header-first messages translation rising some equal first =
@@ -119,17 +129,21 @@ header-first messages translation rising some equal first =
     (under-found messages [] 0 rising some (equal_is_same (key_at (keys messages) 0) [] equal) ∙ first)
 
 -- the header text, where no key is empty
-pub header-none : (messages : List Message) → ((i : ℕ) → i < length (keys messages) → key_at (keys messages) i ≢ []) → header_text messages ≡ []
+pub header-none : (messages : List Message) → ((i : ℕ) → i < length (keys messages) → key_at (keys messages) i ≢ [])
+    → header_text messages ≡ []
 header-none messages none = ap (λ t. option_map_or (λ t. form_at (forms t) 0) t []) (under-none messages [] none)
 
 -- both for keys that are known to be those of the messages
-pub listed-header-first : (listed : List (List ℕ)) (messages : List Message) (translation : List ℕ) → listed ≡ keys messages →
-    AreRising listed → 0 < length listed → key_cmp (key_at listed 0) [] ≡ Equal → slice_get (translations messages) 0 ≡ Some translation →
+pub listed-header-first : (listed : List (List ℕ)) (messages : List Message) (translation : List ℕ)
+    → listed ≡ keys messages →
+    AreRising listed → 0 < length listed → key_cmp (key_at listed 0) [] ≡ Equal
+    → slice_get (translations messages) 0 ≡ Some translation →
     header_text messages ≡ form_at (forms translation) 0
 listed-header-first listed messages translation are rising some equal first =
     header-first messages translation (rw are at rising) (rw are at some) (rw are at equal) first
 
-pub listed-header-none : (listed : List (List ℕ)) (messages : List Message) → listed ≡ keys messages → AreRising listed →
+pub listed-header-none : (listed : List (List ℕ)) (messages : List Message) → listed ≡ keys messages → AreRising listed
+    →
     (key_cmp (key_at listed 0) [] ≢ Equal) → header_text messages ≡ []
 listed-header-none listed messages are rising unequal =
     header-none messages (rw are at (none-empty listed rising unequal))

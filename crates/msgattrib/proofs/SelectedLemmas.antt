@@ -20,17 +20,23 @@ use Rattle.runs.specs.Run.{refusal, run_view}
 use Rattle.runs.specs.declared.run.Run.{Run}
 
 -- entries are selected one by one
-pub selected_joined : (s : Selection) (before entries : List TextEntry) → selected s before ++ selected s entries ≡ selected s (before ++ entries)
+pub selected_joined : (s : Selection) (before entries : List TextEntry)
+    → selected s before ++ selected s entries ≡ selected s (before ++ entries)
 selected_joined s before entries =
-    sym (ap (map (changed s)) (filter-append (is_kept s) before entries) ∙ map-append (changed s) (filter (is_kept s) before) (filter (is_kept s) entries))
+    sym (ap (map (changed s)) (filter-append (is_kept s) before entries)
+    ∙ map-append (changed s) (filter (is_kept s) before) (filter (is_kept s) entries))
 
 -- the selected entries that are live
-live_selected : (s : Selection) (entries : List TextEntry) → filter is_live (selected s entries) ≡ map (changed s) (filter (stays_live s) entries)
-live_selected s entries = filter_map is_live (changed s) (filter (is_kept s) entries) ∙ ap (map (changed s)) (filter_twice (is_kept s) (λ e. is_live (changed s e)) entries)
+live_selected : (s : Selection) (entries : List TextEntry)
+    → filter is_live (selected s entries) ≡ map (changed s) (filter (stays_live s) entries)
+live_selected s entries = filter_map is_live (changed s) (filter (is_kept s) entries)
+    ∙ ap (map (changed s)) (filter_twice (is_kept s) (λ e. is_live (changed s e)) entries)
 
 -- one that stands twice among those that are selected
-pub repeats_selected : (s : Selection) (entries : List TextEntry) (lines : ℕ × ℕ) (error : PoError) → HasNoDuplicate entries
-    → RepeatsOnLines (filter (stays_live s) entries) lines → error ≡ record { kind = Duplicate lines.0; line = 0 } → RepeatsSelected s entries error
+pub repeats_selected : (s : Selection) (entries : List TextEntry) (lines : ℕ × ℕ) (error : PoError)
+    → HasNoDuplicate entries
+    → RepeatsOnLines (filter (stays_live s) entries) lines → error ≡ record { kind = Duplicate lines.0; line = 0 }
+    → RepeatsSelected s entries error
 repeats_selected s entries lines error distinct found error_is =
     let first = changed s found.0 in
     let later = changed s found.1 in
@@ -39,19 +45,25 @@ repeats_selected s entries lines error distinct found error_is =
       distinct = distinct;
       first = in_input 0 first;
       later = in_input 0 later;
-      duplicate = duplicate_in 0 (selected s entries) first later (subst (λ l. IsFirstRepeat IsSameMessage l first later) (sym (live_selected s entries)) repeat);
+      duplicate = duplicate_in 0 (selected s entries) first later
+          (subst (λ l. IsFirstRepeat IsSameMessage l first later) (sym (live_selected s entries)) repeat);
       error_is = error_is ∙ ap (λ (l : ℕ × ℕ). record { kind = Duplicate l.0; line = 0 }) found.3;
     }
 
 -- none stands twice among them
-pub selected_differ : (s : Selection) (entries : List TextEntry) → AllDiffer (filter (stays_live s) entries) → HasNoDuplicate (selected s entries)
-selected_differ s entries differ = subst AllDiffer (sym (live_selected s entries)) (pairs_map (λ a b. ¬ IsSameMessage a b) (changed s) (filter (stays_live s) entries) differ)
+pub selected_differ : (s : Selection) (entries : List TextEntry) → AllDiffer (filter (stays_live s) entries)
+    → HasNoDuplicate (selected s entries)
+selected_differ s entries differ =
+    subst AllDiffer (sym (live_selected s entries))
+    (pairs_map (λ a b. ¬ IsSameMessage a b) (changed s) (filter (stays_live s) entries) differ)
 
 -- the run that reports a fault
-pub run_refused : (name text : List ℕ) (s : Selection) (error : PoError) (run : Run) → IsSelectionFault s text error → (error.kind ≢ OutOfMemory) × (run_view run ≡ refusal (error_line name error))
+pub run_refused : (name text : List ℕ) (s : Selection) (error : PoError) (run : Run) → IsSelectionFault s text error
+    → (error.kind ≢ OutOfMemory) × (run_view run ≡ refusal (error_line name error))
     → IsMsgattribRun name s text (run_view run)
 run_refused name text s error run (inl memory) reported = absurd (reported.0 memory)
-run_refused name text s error run (inr (inl fault)) reported = inl (record { error = error; fault = fault; not_memory = reported.0; run_is = reported.1 })
+run_refused name text s error run (inr (inl fault)) reported =
+    inl (record { error = error; fault = fault; not_memory = reported.0; run_is = reported.1 })
 run_refused name text s error run (inr (inr of)) reported =
     inr (inl (record {
       entries = of.entries;

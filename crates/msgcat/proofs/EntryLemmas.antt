@@ -13,7 +13,8 @@ use Rattle.po_messages.specs.Facts.Zips.{zip_more}
 use Rattle.msgcat.specs.Internal.Entries.{AreRows, IsRow, unnamed}
 use Rattle.msgcat.specs.declared.entries.EntryRow.{EntryRow}
 
-row_stays : (text more : List ℕ) (entry : NamedEntry) (row : EntryRow) → IsRow text entry row → IsRow (text ++ more) entry row
+row_stays : (text more : List ℕ) (entry : NamedEntry) (row : EntryRow) → IsRow text entry row
+    → IsRow (text ++ more) entry row
 row_stays text more entry row h = record {
   before = h.before;
   after = h.after ++ more;
@@ -29,18 +30,23 @@ row_stays text more entry row h = record {
 }
 
 -- rows stay those of their entries as the text grows
-pub rows_stay : (text more : List ℕ) (entries : List NamedEntry) (rows : List EntryRow) → AreRows text entries rows → AreRows (text ++ more) entries rows
+pub rows_stay : (text more : List ℕ) (entries : List NamedEntry) (rows : List EntryRow) → AreRows text entries rows
+    → AreRows (text ++ more) entries rows
 rows_stay text more [] [] h = tt
 rows_stay text more [] (r ∷ rows) h = absurd h
 rows_stay text more (e ∷ entries) [] h = absurd h
 rows_stay text more (e ∷ entries) (r ∷ rows) h = (row_stays text more e r h.0, rows_stay text more entries rows h.1)
 
 -- one more entry
-pub row_more : (old new : List ℕ) (before : List NamedEntry) (rows : List EntryRow) (name : List ℕ) (entry : TextEntry) (row : EntryRow) → AreRows old before rows → new ≡ old ++ separated (entry ∷ []) → row.name.now ≡ name
-    → row.start ≡ length old → row.end ≡ length new → row.is_live ≡ is_live entry → row.is_header ≡ is_header entry → IsUtf8 name → Lacks 0 name → IsCatalogueEntry entry
+pub row_more : (old new : List ℕ) (before : List NamedEntry) (rows : List EntryRow) (name : List ℕ) (entry : TextEntry)
+    (row : EntryRow) → AreRows old before rows → new ≡ old ++ separated (entry ∷ []) → row.name.now ≡ name
+    → row.start ≡ length old → row.end ≡ length new → row.is_live ≡ is_live entry → row.is_header ≡ is_header entry
+    → IsUtf8 name → Lacks 0 name → IsCatalogueEntry entry
     → AreRows new (before ++ named name entry ∷ []) (rows ++ row ∷ [])
 row_more old new before rows name entry row have grown name_is start end live header utf8 no_nul valid =
-    zip_more (IsRow new) before rows (named name entry) row (subst (λ l. AreRows l before rows) (sym grown) (rows_stay old (separated (entry ∷ [])) before rows have)) (record {
+    zip_more (IsRow new) before rows (named name entry) row
+    (subst (λ l. AreRows l before rows) (sym grown) (rows_stay old (separated (entry ∷ [])) before rows have))
+    (record {
       before = old;
       after = [];
       text_is = grown ∙ ap (λ l. old ++ l) (sym (append-nil (separated (entry ∷ []))));
@@ -52,5 +58,6 @@ row_more old new before rows name entry row have grown name_is start end live he
       can = record { valid = record { valid = valid.valid; utf8 = utf8; no_nul = no_nul }; charset = valid.charset };
     })
 
-pub unnamed_more : (before : List NamedEntry) (name : List ℕ) (entry : TextEntry) → unnamed before ++ entry ∷ [] ≡ unnamed (before ++ named name entry ∷ [])
+pub unnamed_more : (before : List NamedEntry) (name : List ℕ) (entry : TextEntry)
+    → unnamed before ++ entry ∷ [] ≡ unnamed (before ++ named name entry ∷ [])
 unnamed_more before name entry = sym (map-append (λ (e : NamedEntry). e.entry) before (named name entry ∷ []))

@@ -34,23 +34,29 @@ unnamed_named name [] = refl
 unnamed_named name (e ∷ entries) = ap (λ l. e ∷ l) (unnamed_named name entries)
 
 -- the entries of an input, and those after them
-entries_first : (input : Named) (rest : List Named) (partial : List NamedEntry) → unnamed (all_entries (input ∷ rest) ++ partial) ≡ input.entries ++ unnamed (all_entries rest ++ partial)
+entries_first : (input : Named) (rest : List Named) (partial : List NamedEntry)
+    → unnamed (all_entries (input ∷ rest) ++ partial) ≡ input.entries ++ unnamed (all_entries rest ++ partial)
 entries_first input rest partial =
     let own = map (named input.name) input.entries in
-    ap unnamed (append_assoc own (all_entries rest) partial) ∙ map-append (λ (e : NamedEntry). e.entry) own (all_entries rest ++ partial) ∙ ap (λ l. l ++ unnamed (all_entries rest ++ partial)) (unnamed_named input.name input.entries)
+    ap unnamed (append_assoc own (all_entries rest) partial)
+    ∙ map-append (λ (e : NamedEntry). e.entry) own (all_entries rest ++ partial)
+    ∙ ap (λ l. l ++ unnamed (all_entries rest ++ partial)) (unnamed_named input.name input.entries)
 
 -- what is left of the inputs, the first of which have no duplicate
 pub record AreLeft (read : List Named) (partial : List NamedEntry) (i : ℕ) (rest : List ℕ) : Type 0 where
   pub distinct : All (λ input. HasNoDuplicate input.entries) (take i read)
-  pub numbered : AreNumbered (unnamed (all_entries read ++ partial)) (unnamed (all_entries (drop i read) ++ partial)) rest
+  pub numbered : AreNumbered (unnamed (all_entries read ++ partial))
+      (unnamed (all_entries (drop i read) ++ partial)) rest
 
 pub messages_of : (entries : List NamedEntry) → map entry_message (unnamed entries) ≡ named_messages entries
 messages_of entries = map-map entry_message (λ (e : NamedEntry). e.entry) entries
 
-pub message_numbers_of : (entries : List NamedEntry) (numbers : List ℕ) → numbers ≡ group_numbers same_message (map entry_message (unnamed entries)) → numbers ≡ message_numbers entries
+pub message_numbers_of : (entries : List NamedEntry) (numbers : List ℕ)
+    → numbers ≡ group_numbers same_message (map entry_message (unnamed entries)) → numbers ≡ message_numbers entries
 message_numbers_of entries numbers is = is ∙ ap (group_numbers same_message) (messages_of entries)
 
-pub all_left : (read : List Named) (partial : List NamedEntry) (numbers : List ℕ) → numbers ≡ message_numbers (all_entries read ++ partial) → AreLeft read partial 0 numbers
+pub all_left : (read : List Named) (partial : List NamedEntry) (numbers : List ℕ)
+    → numbers ≡ message_numbers (all_entries read ++ partial) → AreLeft read partial 0 numbers
 all_left read partial numbers is =
     let all = all_entries read ++ partial in
     record {
@@ -63,24 +69,32 @@ module _ (all own others : List TextEntry) (numbers : List ℕ) (are : AreNumber
   numbered_first : AreNumbered all own (take (length own) numbers)
   numbered_first = record {
     among = All-left (IsNumbered all) own others are.among;
-    numbers_are = ap (take (length own)) are.numbers_are ∙ take-map (number_in all) (length own) (own ++ others) ∙ ap (map (number_in all)) (take-append_seam own others);
+    numbers_are = ap (take (length own)) are.numbers_are ∙ take-map (number_in all) (length own) (own ++ others)
+        ∙ ap (map (number_in all)) (take-append_seam own others);
   }
 
   numbered_rest : AreNumbered all others (drop (length own) numbers)
   numbered_rest = record {
     among = All-right (IsNumbered all) own others are.among;
-    numbers_are = ap (drop (length own)) are.numbers_are ∙ drop-map (number_in all) (length own) (own ++ others) ∙ ap (map (number_in all)) (drop-append_seam own others);
+    numbers_are = ap (drop (length own)) are.numbers_are ∙ drop-map (number_in all) (length own) (own ++ others)
+        ∙ ap (map (number_in all)) (drop-append_seam own others);
   }
 
-pub none_left : (read : List Named) (partial : List NamedEntry) (inputs : List ReadInput) (i : ℕ) (rest : List ℕ) → AllZip IsReadInput read inputs → length inputs ≤ i → AreLeft read partial i rest
+pub none_left : (read : List Named) (partial : List NamedEntry) (inputs : List ReadInput) (i : ℕ) (rest : List ℕ)
+    → AllZip IsReadInput read inputs → length inputs ≤ i → AreLeft read partial i rest
     → All (λ input. HasNoDuplicate input.entries) read
-none_left read partial inputs i rest known past left = subst (All (λ input. HasNoDuplicate input.entries)) (take_all i read (omega (arith, past, zip_length IsReadInput read inputs known))) left.distinct
+none_left read partial inputs i rest known past left =
+    subst (All (λ input. HasNoDuplicate input.entries))
+    (take_all i read (omega (arith, past, zip_length IsReadInput read inputs known))) left.distinct
 
-module _ (read : List Named) (partial : List NamedEntry) (inputs : List ReadInput) (i : ℕ) (input : ReadInput) (rest : List ℕ) (known : AllZip IsReadInput read inputs) (inside : i < length inputs) (here : input ≡ get_or inputs i input) (left : AreLeft read partial i rest) where
+module _ (read : List Named) (partial : List NamedEntry) (inputs : List ReadInput) (i : ℕ) (input : ReadInput)
+    (rest : List ℕ) (known : AllZip IsReadInput read inputs) (inside : i < length inputs)
+    (here : input ≡ get_or inputs i input) (left : AreLeft read partial i rest) where
   abbrev all : List TextEntry
   all = unnamed (all_entries read ++ partial)
 
-  abbrev at : (r : Named) × IsReadInput r input × (take (i + 1) read ≡ take i read ++ r ∷ []) × (drop i read ≡ r ∷ drop (i + 1) read)
+  abbrev at : (r : Named) × IsReadInput r input × (take (i + 1) read ≡ take i read ++ r ∷ [])
+      × (drop i read ≡ r ∷ drop (i + 1) read)
   at = zip_at IsReadInput read inputs i input known inside here
 
   abbrev pub own : List TextEntry
@@ -102,7 +116,8 @@ module _ (read : List Named) (partial : List NamedEntry) (inputs : List ReadInpu
   numbered = subst (λ l. AreNumbered all l rest) split left.numbered
 
   pub own_numbered : AreNumbered all own (take (length input.places.items) rest)
-  own_numbered = subst (λ n. AreNumbered all own (take n rest)) (sym count) (numbered_first all own others rest numbered)
+  own_numbered = subst (λ n. AreNumbered all own (take n rest)) (sym count)
+      (numbered_first all own others rest numbered)
 
   pub own_count : length (take (length input.places.items) rest) ≡ length input.places.items
   own_count = ap length own_numbered.numbers_are ∙ length-map own (number_in all) ∙ sym count
@@ -110,12 +125,16 @@ module _ (read : List Named) (partial : List NamedEntry) (inputs : List ReadInpu
   -- an input without a duplicate
   pub left_after : AllDiffer (filter is_live own) → AreLeft read partial (i + 1) (drop (length input.places.items) rest)
   left_after differ = record {
-    distinct = subst (All (λ input. HasNoDuplicate input.entries)) (sym at.2) (All-push (λ input. HasNoDuplicate input.entries) (take i read) at.0 left.distinct differ);
-    numbered = subst (λ n. AreNumbered all others (drop n rest)) (sym count) (numbered_rest all own others rest numbered);
+    distinct = subst (All (λ input. HasNoDuplicate input.entries)) (sym at.2)
+        (All-push (λ input. HasNoDuplicate input.entries) (take i read) at.0 left.distinct differ);
+    numbered = subst (λ n. AreNumbered all others (drop n rest)) (sym count)
+        (numbered_rest all own others rest numbered);
   }
 
   -- one with a duplicate
-  pub repeating : (lines : ℕ × ℕ) (fault : FileFault) → RepeatsOnLines (filter is_live own) lines → fault.name.now ≡ input.name.now → fault.error ≡ record { kind = Duplicate lines.0; line = lines.1 } → IsFirstRepeating read fault
+  pub repeating : (lines : ℕ × ℕ) (fault : FileFault) → RepeatsOnLines (filter is_live own) lines
+      → fault.name.now ≡ input.name.now → fault.error ≡ record { kind = Duplicate lines.0; line = lines.1 }
+      → IsFirstRepeating read fault
   repeating lines fault found name_is error_is = record {
     before = take i read;
     input = at.0;
@@ -127,17 +146,23 @@ module _ (read : List Named) (partial : List NamedEntry) (inputs : List ReadInpu
   }
 
 -- files whose texts have no duplicate
-read_as : (files : List NamedFile) (inputs : List Named) → AllZip IsTextOf files inputs → All (λ input. HasNoDuplicate input.entries) inputs → AreReadAs files inputs
+read_as : (files : List NamedFile) (inputs : List Named) → AllZip IsTextOf files inputs
+    → All (λ input. HasNoDuplicate input.entries) inputs → AreReadAs files inputs
 read_as [] [] h distinct = tt
 read_as [] (i ∷ inputs) h distinct = absurd h
 read_as (f ∷ files) [] h distinct = absurd h
 read_as (f ∷ files) (i ∷ inputs) h distinct = (
-  record { name = h.0.name; reads = record { reads = h.0.reads; distinct = All-head (λ input. HasNoDuplicate input.entries) i inputs distinct } },
+  record {
+    name = h.0.name;
+    reads =
+        record { reads = h.0.reads; distinct = All-head (λ input. HasNoDuplicate input.entries) i inputs distinct };
+  },
   read_as files inputs h.1 (All-tail (λ input. HasNoDuplicate input.entries) i inputs distinct),
 )
 
 -- the fault of a duplicate
-pub repeating_fault : (files : List NamedFile) (read : ReadInputs) (up_to : AreReadUpTo files read) (fault : FileFault) → IsFirstRepeating up_to.inputs fault → IsFileFault files fault.name.now fault.error
+pub repeating_fault : (files : List NamedFile) (read : ReadInputs) (up_to : AreReadUpTo files read) (fault : FileFault)
+    → IsFirstRepeating up_to.inputs fault → IsFileFault files fault.name.now fault.error
 repeating_fault files read up_to fault found =
     let texts = subst (AllZip IsTextOf up_to.before) found.order up_to.texts in
     let at = zip_split IsTextOf up_to.before found.before found.input found.after texts in
@@ -149,11 +174,20 @@ repeating_fault files read up_to fault found =
       inputs = found.before;
       read = read_as at.0 found.before at.4 found.distinct;
       name_is = found.name ∙ at.5.name;
-      fault = inr (record { entries = found.input.entries; reads = at.5.reads; first = found.repeats.0; later = found.repeats.1; duplicate = found.repeats.2; error_is = found.repeats.3 });
+      fault = inr (record {
+        entries = found.input.entries;
+        reads = at.5.reads;
+        first = found.repeats.0;
+        later =
+            found.repeats.1;
+        duplicate = found.repeats.2;
+        error_is = found.repeats.3;
+      });
     }
 
 -- the fault of a text
-pub text_fault : (files : List NamedFile) (read : ReadInputs) (up_to : AreReadUpTo files read) (fault : FileFault) → All (λ input. HasNoDuplicate input.entries) up_to.inputs → IsFaultOfFirst up_to.rest fault
+pub text_fault : (files : List NamedFile) (read : ReadInputs) (up_to : AreReadUpTo files read) (fault : FileFault)
+    → All (λ input. HasNoDuplicate input.entries) up_to.inputs → IsFaultOfFirst up_to.rest fault
     → IsFileFault files fault.name.now fault.error
 text_fault files read up_to fault distinct first = record {
   before = up_to.before;
@@ -167,34 +201,52 @@ text_fault files read up_to fault distinct first = record {
 }
 
 -- all are read
-pub all_read : (files : List NamedFile) (read : ReadInputs) (up_to : AreReadUpTo files read) → All (λ input. HasNoDuplicate input.entries) up_to.inputs → up_to.rest ≡ [] → AreReadAs files up_to.inputs
+pub all_read : (files : List NamedFile) (read : ReadInputs) (up_to : AreReadUpTo files read)
+    → All (λ input. HasNoDuplicate input.entries) up_to.inputs → up_to.rest ≡ [] → AreReadAs files up_to.inputs
 all_read files read up_to distinct none =
-    subst (λ l. AreReadAs l up_to.inputs) (sym (up_to.order ∙ ap (λ l. up_to.before ++ l) none ∙ append-nil up_to.before)) (read_as up_to.before up_to.inputs up_to.texts distinct)
+    subst (λ l. AreReadAs l up_to.inputs)
+    (sym (up_to.order ∙ ap (λ l. up_to.before ++ l) none ∙ append-nil up_to.before))
+    (read_as up_to.before up_to.inputs up_to.texts distinct)
 
-pub no_partial : (inputs : List Named) (partial : List NamedEntry) → partial ≡ [] → all_entries inputs ++ partial ≡ all_entries inputs
+pub no_partial : (inputs : List Named) (partial : List NamedEntry) → partial ≡ []
+    → all_entries inputs ++ partial ≡ all_entries inputs
 no_partial inputs partial none = ap (λ l. all_entries inputs ++ l) none ∙ append-nil (all_entries inputs)
 
 -- further entries of an input
-pub adds_more : (name : List ℕ) (read more : List TextEntry) (old mid new : Entries) → AddsEntries name read old mid → AddsEntries name more mid new → AddsEntries name (read ++ more) old new
+pub adds_more : (name : List ℕ) (read more : List TextEntry) (old mid new : Entries) → AddsEntries name read old mid
+    → AddsEntries name more mid new → AddsEntries name (read ++ more) old new
 adds_more name read more old mid new first later before have =
-    subst (λ l. HoldEntries l new) (append_assoc before (map (named name) read) (map (named name) more) ∙ ap (λ l. before ++ l) (sym (map-append (named name) read more)))
+    subst (λ l. HoldEntries l new)
+    (append_assoc before (map (named name) read) (map (named name) more)
+    ∙ ap (λ l. before ++ l) (sym (map-append (named name) read more)))
     (later (before ++ map (named name) read) (first before have))
 
 pub adds_none : (name : List ℕ) (entries : Entries) → AddsEntries name [] entries entries
 adds_none name entries before have = subst (λ l. HoldEntries l entries) (sym (append-nil before)) have
 
 -- one more input
-pub text_more : (files : List NamedFile) (i : ℕ) (d : NamedFile) (inputs : List Named) (name : List ℕ) (entries : List TextEntry) → i < length files → AllZip IsTextOf (take i files) inputs → (get_or files i d).name ≡ name → ReadsText (get_or files i d).bytes entries
+pub text_more : (files : List NamedFile) (i : ℕ) (d : NamedFile) (inputs : List Named) (name : List ℕ)
+    (entries : List TextEntry) → i < length files → AllZip IsTextOf (take i files) inputs
+    → (get_or files i d).name ≡ name → ReadsText (get_or files i d).bytes entries
     → AllZip IsTextOf (take (i + 1) files) (inputs ++ record { name = name; entries = entries } ∷ [])
 text_more files i d inputs name entries inside texts name_is reads =
-    subst (λ l. AllZip IsTextOf l (inputs ++ record { name = name; entries = entries } ∷ [])) (sym (take_more files i d inside))
-    (zip_more IsTextOf (take i files) inputs (get_or files i d) (record { name = name; entries = entries }) texts (record { name = sym name_is; reads = reads }))
+    subst (λ l. AllZip IsTextOf l (inputs ++ record { name = name; entries = entries } ∷ []))
+    (sym (take_more files i d inside))
+    (zip_more IsTextOf (take i files) inputs (get_or files i d) (record { name = name; entries = entries }) texts
+    (record { name = sym name_is; reads = reads }))
 
-pub entries_more : (inputs : List Named) (name : List ℕ) (entries : List TextEntry) → all_entries inputs ++ map (named name) entries ≡ all_entries (inputs ++ record { name = name; entries = entries } ∷ [])
+pub entries_more : (inputs : List Named) (name : List ℕ) (entries : List TextEntry)
+    → all_entries inputs ++ map (named name) entries
+    ≡ all_entries (inputs ++ record { name = name; entries = entries } ∷ [])
 entries_more inputs name entries =
     let one : Named = record { name = name; entries = entries } in
-    sym (flat_map-append (λ (n : Named). map (named n.name) n.entries) inputs (one ∷ []) ∙ ap (λ l. all_entries inputs ++ l) (append-nil (map (named name) entries)))
+    sym (flat_map-append (λ (n : Named). map (named n.name) n.entries) inputs (one ∷ [])
+    ∙ ap (λ l. all_entries inputs ++ l) (append-nil (map (named name) entries)))
 
-pub known_more : (inputs : List Named) (read : List ReadInput) (name : List ℕ) (entries : List TextEntry) (input : ReadInput) → AllZip IsReadInput inputs read → input.name.now ≡ name → input.places.items ≡ are_placed is_live entries
+pub known_more : (inputs : List Named) (read : List ReadInput) (name : List ℕ) (entries : List TextEntry)
+    (input : ReadInput) → AllZip IsReadInput inputs read → input.name.now ≡ name
+    → input.places.items ≡ are_placed is_live entries
     → AllZip IsReadInput (inputs ++ record { name = name; entries = entries } ∷ []) (read ++ input ∷ [])
-known_more inputs read name entries input known name_is places = zip_more IsReadInput inputs read (record { name = name; entries = entries }) input known (record { name = name_is; places = places })
+known_more inputs read name entries input known name_is places =
+    zip_more IsReadInput inputs read (record { name = name; entries = entries }) input known
+    (record { name = name_is; places = places })

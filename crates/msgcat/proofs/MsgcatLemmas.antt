@@ -10,10 +10,13 @@ use Rattle.runs.specs.NamedFile.{NamedFile, named_file, named_files}
 abbrev Files : Type 0
 Files = List (Bor (List ℕ) × Bor (List ℕ))
 
-pub file_at : (files : Files) (i : ℕ) (e : Bor (List ℕ) × Bor (List ℕ)) → i < length files → named_file (get_or files i e) ≡ get_or (named_files files) i (named_file (get_or files i e))
-file_at files i e l = ap named_file (get_or_default files i e (get_or files i e) l) ∙ sym (get_or-map named_file files i (get_or files i e))
+pub file_at : (files : Files) (i : ℕ) (e : Bor (List ℕ) × Bor (List ℕ)) → i < length files
+    → named_file (get_or files i e) ≡ get_or (named_files files) i (named_file (get_or files i e))
+file_at files i e l = ap named_file (get_or_default files i e (get_or files i e) l)
+    ∙ sym (get_or-map named_file files i (get_or files i e))
 
-pub name_lacks : (files : Files) (i : ℕ) (e : Bor (List ℕ) × Bor (List ℕ)) → i < length files → All (λ file. Lacks 0 file.name) (named_files files) → Lacks 0 (get_or files i e).0.now
+pub name_lacks : (files : Files) (i : ℕ) (e : Bor (List ℕ) × Bor (List ℕ)) → i < length files
+    → All (λ file. Lacks 0 file.name) (named_files files) → Lacks 0 (get_or files i e).0.now
 name_lacks files i e l h =
     let inside : i < length (named_files files) = omega (arith, l, length-map files named_file) in
     subst (λ (f : NamedFile). Lacks 0 f.name) (sym (file_at files i e l)) (h i (named_file (get_or files i e)) inside)

@@ -15,21 +15,29 @@ use Rattle.runs.specs.Inputs.{named_input, named_inputs}
 
 pub lacks : (name : List ℕ) → list_any (λ b. b == 0) name ≡ false → Lacks 0 name
 lacks [] h = All-nil (λ b. b ≡ 0 → ⊥)
-lacks (b ∷ name) h = let both = or_parts (b == 0) (list_any (λ c. c == 0) name) h in All-cons (λ c. c ≡ 0 → ⊥) b name (eqb-false b 0 both.0) (lacks name both.1)
+lacks (b ∷ name) h = let both = or_parts (b == 0) (list_any (λ c. c == 0) name) h in
+    All-cons (λ c. c ≡ 0 → ⊥) b name (eqb-false b 0 both.0) (lacks name both.1)
 
 pub holds : (name : List ℕ) → list_any (λ b. b == 0) name ≡ true → Lacks 0 name → ⊥
 holds [] h lacks = cc
 holds (b ∷ name) h lacks = elim (cases_Bool (eqb b 0)) [
   | inl here ↦ All-head (λ c. c ≡ 0 → ⊥) b name lacks (eqb-true b 0 here)
-  | inr later ↦ holds name (sym (ap (λ t. t || list_any (λ c. c == 0) name) later) ∙ h) (All-tail (λ c. c ≡ 0 → ⊥) b name lacks)
+  | inr later ↦ holds name (sym (ap (λ t. t || list_any (λ c. c == 0) name) later) ∙ h)
+      (All-tail (λ c. c ≡ 0 → ⊥) b name lacks)
 ]
 
-pub among : (inputs : List Input) (i : ℕ) (input : Input) → i < length inputs → input ≡ get_or inputs i input → Contains (named_inputs inputs) (named_input input)
-among inputs i input below at =
-    (i, omega (arith, below, length-map inputs named_input), get_or-map named_input inputs i input ∙ ap named_input (sym at))
+pub among : (inputs : List Input) (i : ℕ) (input : Input) → i < length inputs → input ≡ get_or inputs i input
+    → Contains (named_inputs inputs) (named_input input)
+among inputs i input below at = (
+  i,
+  omega (arith, below, length-map inputs named_input),
+  get_or-map named_input inputs i input
+      ∙ ap named_input (sym at),
+)
 
 -- a NUL is found in a name exactly if it holds one
-pub nul_is_found : (name : List ℕ) (nul : Option ℕ) → IsFirstByte (is_byte 0) name nul → is_some nul ≡ list_any (λ b. b == 0) name
+pub nul_is_found : (name : List ℕ) (nul : Option ℕ) → IsFirstByte (is_byte 0) name nul
+    → is_some nul ≡ list_any (λ b. b == 0) name
 nul_is_found name (Some index) first = sym (list_any_at (λ b. b == 0) name index 0 first.0.high first.1)
 nul_is_found name None nowhere =
     sym

@@ -26,12 +26,14 @@ Fits-later j k (WaitNot ∷ stack) h f = omega arith
 Fits-later j k (WaitBinary op a ∷ stack) h f = omega arith
 Fits-later j k _ h f = tt
 
-pub reduce-binary : (k : ℕ) (op : Operator) (a : Tree) (stack : List Waiting) (t : Tree) → k ≤ level op → reduce k (WaitBinary op a ∷ stack) t ≡ reduce k stack (Binary op a t)
+pub reduce-binary : (k : ℕ) (op : Operator) (a : Tree) (stack : List Waiting) (t : Tree) → k ≤ level op
+    → reduce k (WaitBinary op a ∷ stack) t ≡ reduce k stack (Binary op a t)
 reduce-binary k op a stack t h =
     let e : nat_le k (level op) ≡ true = grind (arith, nat_tests) in rw e
 
 -- nothing that waits binds as tight as an operand that fits, from level 1 on
-pub reduce-fits : (k : ℕ) (stack : List Waiting) (t : Tree) → 1 ≤ k → k ≤ 6 → Fits k stack → reduce k stack t ≡ record { stack = stack; tree = t }
+pub reduce-fits : (k : ℕ) (stack : List Waiting) (t : Tree) → 1 ≤ k → k ≤ 6 → Fits k stack
+    → reduce k stack t ≡ record { stack = stack; tree = t }
 reduce-fits k (WaitNot ∷ stack) t low high f = absurd (omega arith)
 reduce-fits k (WaitBinary op a ∷ stack) t low high f =
     let e : nat_le k (level op) ≡ false = grind (arith, nat_tests) in rw e
@@ -41,12 +43,15 @@ reduce-fits k _ t low high f = refl
 
 -- what follows an operand of level k reduces it at most to this level, so operands that reduce alike have one outcome
 abbrev pub Ends : ℕ → List Token → Type 0
-Ends k rest = (xs ys : List Waiting) (t u : Tree) → ((j : ℕ) → j ≤ k → reduce j xs t ≡ reduce j ys u) → outcome_from (Have xs t) rest ≡ outcome_from (Have ys u) rest
+Ends k rest = (xs ys : List Waiting) (t u : Tree) → ((j : ℕ) → j ≤ k → reduce j xs t ≡ reduce j ys u)
+    → outcome_from (Have xs t) rest ≡ outcome_from (Have ys u) rest
 
 -- after the tokens of an operand it is complete
-pub reads : {k : ℕ} {ts : List Token} {t : Tree} → Spells k ts t → (st : List Waiting) → Fits k st → (rest : List Token) → Ends k rest → outcome_from (Want st) (ts ++ rest) ≡ outcome_from (Have st t) rest
+pub reads : {k : ℕ} {ts : List Token} {t : Tree} → Spells k ts t → (st : List Waiting) → Fits k st → (rest : List Token)
+    → Ends k rest → outcome_from (Want st) (ts ++ rest) ≡ outcome_from (Have st t) rest
 reads {k} (tighter d) st f rest ends =
-    reads d st (Fits-later k (suc k) st (omega arith) f) rest (λ xs ys t u same. ends xs ys t u (λ j h. same j (omega arith)))
+    reads d st (Fits-later k (suc k) st (omega arith) f) rest
+    (λ xs ys t u same. ends xs ys t u (λ j h. same j (omega arith)))
 reads (conditional {xs} {ys} {zs} {a} {b} {c} da db dc) st f rest ends =
     let fits = Fits-later 0 1 st (omega arith) f in
     let question = λ (o : Operand). outcome_from (Want (WaitQuestion o.tree ∷ o.stack)) ((ys ++ Colon ∷ zs) ++ rest) in
@@ -57,14 +62,17 @@ reads (conditional {xs} {ys} {zs} {a} {b} {c} da db dc) st f rest ends =
     ∙ ap (outcome_from (Want (WaitQuestion a ∷ st))) (append_assoc ys (Colon ∷ zs) rest)
     ∙ reads db (WaitQuestion a ∷ st) tt (Colon ∷ (zs ++ rest)) (λ _ _ _ _ same. ap colon (same 0 (omega arith)))
     ∙ reads dc (WaitColon a b ∷ st) tt rest ends
-    ∙ ends (WaitColon a b ∷ st) st c (Conditional a b c) (λ j h. let none : 0 ≡ j = omega arith in subst (λ i. reduce i (WaitColon a b ∷ st) c ≡ reduce i st (Conditional a b c)) none refl)
+    ∙ ends (WaitColon a b ∷ st) st c (Conditional a b c)
+    (λ j h. let none : 0 ≡ j = omega arith in
+    subst (λ i. reduce i (WaitColon a b ∷ st) c ≡ reduce i st (Conditional a b c)) none refl)
 reads (binary {xs} {ys} {a} {b} op da db) st f rest ends =
     let range = level-range op in
     let operator = λ (o : Operand). outcome_from (Want (WaitBinary op o.tree ∷ o.stack)) (ys ++ rest) in
     ap (outcome_from (Want st)) (append_assoc xs (BinaryToken op ∷ ys) rest)
     ∙ reads da st f (BinaryToken op ∷ (ys ++ rest)) (λ _ _ _ _ same. ap operator (same (level op) (omega arith)))
     ∙ ap operator (reduce-fits (level op) st a range.0 range.1 f)
-    ∙ reads db (WaitBinary op a ∷ st) (omega arith) rest (λ xs ys t u same. ends xs ys t u (λ j h. same j (omega arith)))
+    ∙ reads db (WaitBinary op a ∷ st) (omega arith) rest
+    (λ xs ys t u same. ends xs ys t u (λ j h. same j (omega arith)))
     ∙ ends (WaitBinary op a ∷ st) st b (Binary op a b) (λ j h. reduce-binary j op a st b h)
 reads (negation {xs} {a} d) st f rest ends =
     reads d (WaitNot ∷ st) (omega arith) rest ends ∙ ends (WaitNot ∷ st) st a (Not a) (λ j h. refl)
@@ -77,4 +85,5 @@ reads (numeral v small) st f rest ends = let fits : nat_lt v (2 ^ 64) ≡ true =
 
 pub complete : (ts : List Token) (t : Tree) → Spells 0 ts t → outcome ts ≡ Some t
 complete ts t d =
-    ap outcome (sym (append-nil ts)) ∙ reads d [] tt [] (λ _ _ _ _ same. ap (λ o. alone o.stack o.tree) (same 0 (omega arith)))
+    ap outcome (sym (append-nil ts))
+    ∙ reads d [] tt [] (λ _ _ _ _ same. ap (λ o. alone o.stack o.tree) (same 0 (omega arith)))

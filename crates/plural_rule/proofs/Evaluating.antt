@@ -13,7 +13,8 @@ record Has (n : ℕ) (t : Tree) (v : ℕ) : Type 0 where
   is : value t n ≡ Some v
 
 -- an operator whose second operand is needed
-needed : {n : ℕ} {a b : Tree} {x y v : ℕ} (op : Operator) → needs_right op x ≡ true → combined op x y ≡ Some v → Has n a x → Has n b y → Has n (Binary op a b) v
+needed : {n : ℕ} {a b : Tree} {x y v : ℕ} (op : Operator) → needs_right op x ≡ true → combined op x y ≡ Some v
+    → Has n a x → Has n b y → Has n (Binary op a b) v
 needed op need is h k = record { is = rw (h.is, k.is) (rw need is) }
 
 has : {n : ℕ} {t : Tree} {v : ℕ} → Evaluates n t v → Has n t v
@@ -60,12 +61,18 @@ module _ (n : ℕ) (a b : Tree) (x : ℕ) (h : Evaluates n a x) where
   both And y need k =
       let o = eqb-false x 0 (not-true _ need) in
       elim (eqb_tells y 0) [ inl (e, z) ↦ rw e (and_second x y o z h k) | inr (e, z) ↦ rw e (and_both x y o z h k) ]
-  both Equal y _ k = elim (eqb_tells x y) [ inl (e, z) ↦ rw e (equal x y z h k) | inr (e, z) ↦ rw e (equal_not x y z h k) ]
-  both NotEqual y _ k = elim (eqb_tells x y) [ inl (e, z) ↦ rw e (unequal_not x y z h k) | inr (e, z) ↦ rw e (unequal x y z h k) ]
-  both Less y _ k = elim (leb_tells (suc x) y) [ inl (e, z) ↦ rw e (less x y z h k) | inr (e, z) ↦ rw e (less_not x y (omega arith) h k) ]
-  both Greater y _ k = elim (leb_tells (suc y) x) [ inl (e, z) ↦ rw e (greater x y z h k) | inr (e, z) ↦ rw e (greater_not x y (omega arith) h k) ]
-  both AtMost y _ k = elim (leb_tells x y) [ inl (e, z) ↦ rw e (at_most x y z h k) | inr (e, z) ↦ rw e (at_most_not x y z h k) ]
-  both AtLeast y _ k = elim (leb_tells y x) [ inl (e, z) ↦ rw e (at_least x y z h k) | inr (e, z) ↦ rw e (at_least_not x y z h k) ]
+  both Equal y _ k = elim (eqb_tells x y)
+      [ inl (e, z) ↦ rw e (equal x y z h k) | inr (e, z) ↦ rw e (equal_not x y z h k) ]
+  both NotEqual y _ k = elim (eqb_tells x y)
+      [ inl (e, z) ↦ rw e (unequal_not x y z h k) | inr (e, z) ↦ rw e (unequal x y z h k) ]
+  both Less y _ k = elim (leb_tells (suc x) y)
+      [ inl (e, z) ↦ rw e (less x y z h k) | inr (e, z) ↦ rw e (less_not x y (omega arith) h k) ]
+  both Greater y _ k = elim (leb_tells (suc y) x)
+      [ inl (e, z) ↦ rw e (greater x y z h k) | inr (e, z) ↦ rw e (greater_not x y (omega arith) h k) ]
+  both AtMost y _ k = elim (leb_tells x y)
+      [ inl (e, z) ↦ rw e (at_most x y z h k) | inr (e, z) ↦ rw e (at_most_not x y z h k) ]
+  both AtLeast y _ k = elim (leb_tells y x)
+      [ inl (e, z) ↦ rw e (at_least x y z h k) | inr (e, z) ↦ rw e (at_least_not x y z h k) ]
   both Add y _ k = sum x y h k
   both Subtract y _ k = difference x y h k
   both Multiply y _ k = product x y h k
@@ -77,23 +84,28 @@ module _ (n : ℕ) (a b : Tree) (x : ℕ) (h : Evaluates n a x) where
   first And e = and_first x (eqb-true x 0 (not-false _ e)) h
   first _ e = absurd cc
 
-known-binary : (n : ℕ) (op : Operator) (a b : Tree) (v w : Option ℕ) → Known n a v → Known n b w → Known n (Binary op a b) (binary_value op v w)
+known-binary : (n : ℕ) (op : Operator) (a b : Tree) (v w : Option ℕ) → Known n a v → Known n b w
+    → Known n (Binary op a b) (binary_value op v w)
 known-binary n op a b None w h k = tt
 known-binary n op a b (Some x) w h k =
     elim (cases_Bool (needs_right op x)) [ inl e ↦ rw e (second w k e) | inr e ↦ rw e (first n a b x h op e) ] where
-      second : (w : Option ℕ) → Known n b w → needs_right op x ≡ true → Known n (Binary op a b) (option_and_then (combined op x) w)
+      second : (w : Option ℕ) → Known n b w → needs_right op x ≡ true
+          → Known n (Binary op a b) (option_and_then (combined op x) w)
       second None k e = tt
       second (Some y) k e = both n a b x h op y e k
 
 known-not : (n : ℕ) (a : Tree) (v : Option ℕ) → Known n a v → Known n (Not a) (negated v)
 known-not n a None h = tt
-known-not n a (Some x) h = elim (eqb_tells x 0) [ inl (e, z) ↦ rw e (not_zero x z h) | inr (e, z) ↦ rw e (not_other x z h) ]
+known-not n a (Some x) h =
+    elim (eqb_tells x 0) [ inl (e, z) ↦ rw e (not_zero x z h) | inr (e, z) ↦ rw e (not_other x z h) ]
 
-known-case : (n : ℕ) (t b : Tree) (w : Option ℕ) → ((v : ℕ) → Evaluates n b v → Evaluates n t v) → Known n b w → Known n t w
+known-case : (n : ℕ) (t b : Tree) (w : Option ℕ) → ((v : ℕ) → Evaluates n b v → Evaluates n t v) → Known n b w
+    → Known n t w
 known-case n t b None go h = tt
 known-case n t b (Some v) go h = go v h
 
-known-chosen : (n : ℕ) (a b c : Tree) (v second third : Option ℕ) → Known n a v → Known n b second → Known n c third → Known n (Conditional a b c) (chosen v second third None)
+known-chosen : (n : ℕ) (a b c : Tree) (v second third : Option ℕ) → Known n a v → Known n b second → Known n c third
+    → Known n (Conditional a b c) (chosen v second third None)
 known-chosen n a b c None second third h k l = tt
 known-chosen n a b c (Some x) second third h k l =
     elim (eqb_tells x 0) [
@@ -106,7 +118,8 @@ known n Count = count
 known n (Number v) = numeral v
 known n (Not a) = known-not n a (value a n) (known n a)
 known n (Binary op a b) = known-binary n op a b (value a n) (value b n) (known n a) (known n b)
-known n (Conditional a b c) = known-chosen n a b c (value a n) (value b n) (value c n) (known n a) (known n b) (known n c)
+known n (Conditional a b c) =
+    known-chosen n a b c (value a n) (value b n) (value c n) (known n a) (known n b) (known n c)
 
 pub value_evaluates : (n : ℕ) (t : Tree) (v : ℕ) → value t n ≡ Some v ↔ Evaluates n t v
 value_evaluates n t v = (λ e. rw e at (known n t), λ h. (has h).is)

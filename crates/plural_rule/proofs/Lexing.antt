@@ -23,7 +23,8 @@ digit-not_blank c h = grind (arith, nat_tests)
 abbrev of_one : ℕ → Token
 of_one c =
     if c == 110 then Count else if c == 33 then Not else if c == 63 then Question else if c == 58 then Colon
-    else if c == 40 then Open else if c == 41 then Close else if c == 60 then Binary Less else if c == 62 then Binary Greater
+    else if c == 40 then Open else if c == 41 then Close else if c == 60 then Binary Less else if c == 62
+    then Binary Greater
     else if c == 43 then Binary Add else if c == 45 then Binary Subtract else if c == 42 then Binary Multiply
     else if c == 47 then Binary Divide else Binary Remainder
 
@@ -38,7 +39,9 @@ token_of (c ∷ []) = if is_ascii_digit c then Number (digits_value 10 (c ∷ []
 token_of (c ∷ d ∷ rest) = if is_ascii_digit c then Number (digits_value 10 (c ∷ d ∷ rest)) else Binary (of_two c)
 
 -- what the bytes of an operator are no spelling of, and what they are read as
-pub operator-facts : (op : Operator) → (is_blank (first_byte (operator_bytes op)) ≡ false) × (is_ascii_digit (first_byte (operator_bytes op)) ≡ false) × (token_of (operator_bytes op) ≡ Binary op)
+pub operator-facts : (op : Operator)
+    → (is_blank (first_byte (operator_bytes op)) ≡ false) × (is_ascii_digit (first_byte (operator_bytes op)) ≡ false)
+    × (token_of (operator_bytes op) ≡ Binary op)
 operator-facts Or = (refl, refl, refl)
 operator-facts _ = (refl, refl, refl)
 
@@ -80,7 +83,8 @@ prefixes (x ∷ xs) us (y ∷ ys) vs h =
     ]
 
 -- a longest spelling isn't a shorter prefix of another spelling
-longest-ends : (u : Token) (own rest other after more : List ℕ) → IsLongest own rest → IsSpelling u other → other ≡ own ++ more → rest ≡ more ++ after → more ≡ []
+longest-ends : (u : Token) (own rest other after more : List ℕ) → IsLongest own rest → IsSpelling u other
+    → other ≡ own ++ more → rest ≡ more ++ after → more ≡ []
 longest-ends u own rest other after [] longest spelt e f = refl
 longest-ends u own rest other after (m ∷ more) longest spelt e f =
     absurd (longest u (m ∷ more) after f (λ h. cc) (subst (IsSpelling u) e spelt))
@@ -90,7 +94,8 @@ pub record SamePrefix (t u : Token) (rest after : List ℕ) : Type 0 where
   pub same_token : t ≡ u
   pub same_rest : rest ≡ after
 
-one-longer : (t u : Token) (own rest other after : List ℕ) → IsSpelling t own → IsLongest own rest → IsSpelling u other → GoesOn own rest other after → SamePrefix t u rest after
+one-longer : (t u : Token) (own rest other after : List ℕ) → IsSpelling t own → IsLongest own rest → IsSpelling u other
+    → GoesOn own rest other after → SamePrefix t u rest after
 one-longer t u own rest other after spelt longest spelt' g =
     let none : g.more ≡ [] = longest-ends u own rest other after g.more longest spelt' g.longer g.rest in
     let bytes : other ≡ own = g.longer ∙ ap (λ m. own ++ m) none ∙ append-nil own in
@@ -99,7 +104,8 @@ one-longer t u own rest other after spelt longest spelt' g =
       same_rest = g.rest ∙ ap (λ m. m ++ after) none;
     }
 
-pub one_prefix : (t u : Token) (own rest other after : List ℕ) → IsSpelling t own → IsLongest own rest → IsSpelling u other → IsLongest other after → own ++ rest ≡ other ++ after → SamePrefix t u rest after
+pub one_prefix : (t u : Token) (own rest other after : List ℕ) → IsSpelling t own → IsLongest own rest
+    → IsSpelling u other → IsLongest other after → own ++ rest ≡ other ++ after → SamePrefix t u rest after
 one_prefix t u own rest other after spelt longest spelt' longest' h =
     elim (prefixes own rest other after h) [
       | inl g ↦ one-longer t u own rest other after spelt longest spelt' g
@@ -114,7 +120,8 @@ pub record Split (t : Token) (rest : List ℕ) (ts : List Token) : Type 0 where
   pub is : ts ≡ t ∷ later
   pub lexes : Lexes rest later
 
-blank-first : (t : Token) (own rest text : List ℕ) (c : ℕ) → IsSpelling t own → own ++ rest ≡ c ∷ text → is_blank c ≡ true → ⊥
+blank-first : (t : Token) (own rest text : List ℕ) (c : ℕ) → IsSpelling t own → own ++ rest ≡ c ∷ text
+    → is_blank c ≡ true → ⊥
 blank-first t [] rest text c spelt e b = false≢true (sym (spelling-not_blank t [] spelt))
 blank-first t (x ∷ own) rest text c spelt e b =
     let same : x ≡ c = cc in false≢true (sym (spelling-not_blank t (x ∷ own) spelt) ∙ ap is_blank same ∙ b)
@@ -124,7 +131,8 @@ no-spelling_of-nothing t [] rest spelt e = false≢true (sym (spelling-not_blank
 no-spelling_of-nothing t (x ∷ own) rest spelt e = cc
 
 -- a text that begins with a longest token spells it first
-pub Lexes-token : (t : Token) (own rest text : List ℕ) (ts : List Token) → IsSpelling t own → IsLongest own rest → text ≡ own ++ rest → Lexes text ts → Split t rest ts
+pub Lexes-token : (t : Token) (own rest text : List ℕ) (ts : List Token) → IsSpelling t own → IsLongest own rest
+    → text ≡ own ++ rest → Lexes text ts → Split t rest ts
 Lexes-token t own rest text ts spelt longest e end = absurd (no-spelling_of-nothing t own rest spelt (sym e))
 Lexes-token t own rest text ts spelt longest e (blank {c} {text = text'} b d) =
     absurd (blank-first t own rest text' c spelt (sym e) b)
@@ -136,7 +144,8 @@ Lexes-token t own rest text ts spelt longest e (token {rest = rest'} {ts = ts'} 
       lexes = subst (λ r. Lexes r ts') (sym same.same_rest) d;
     }
 
-pub Lexes-blank : (c : ℕ) (text whole : List ℕ) (ts : List Token) → is_blank c ≡ true → whole ≡ c ∷ text → Lexes whole ts → Lexes text ts
+pub Lexes-blank : (c : ℕ) (text whole : List ℕ) (ts : List Token) → is_blank c ≡ true → whole ≡ c ∷ text
+    → Lexes whole ts → Lexes text ts
 Lexes-blank c text whole ts b e end = absurd cc
 Lexes-blank c text whole ts b e (blank {text = text'} {ts = ts'} b' d) =
     let same : text' ≡ text = cc in subst (λ r. Lexes r ts') same d

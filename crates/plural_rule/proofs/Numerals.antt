@@ -9,8 +9,10 @@ use Rattle.std.proofs.lemmas.Bool.Decides.{nat_tests}
 use Rattle.plural_rule.specs.Header.{digits_number}
 
 -- the value of all digits is at least that of the first
-pub digits_value-grows : (digits : List ℕ) (i : ℕ) → i < length digits → digits_value 10 (take i digits) * 10 + digit_value (get_or digits i 0) ≤ digits_value 10 digits
-digits_value-grows digits i h = rw (sym (digits_value_more 10 digits i h)) (digits_value-take-le 10 digits (i + 1) (omega arith))
+pub digits_value-grows : (digits : List ℕ) (i : ℕ) → i < length digits
+    → digits_value 10 (take i digits) * 10 + digit_value (get_or digits i 0) ≤ digits_value 10 digits
+digits_value-grows digits i h =
+    rw (sym (digits_value_more 10 digits i h)) (digits_value-take-le 10 digits (i + 1) (omega arith))
 
 -- a decimal digit is worth less than ten, and what is worth less than ten is one
 pub digit_below_ten : (c : ℕ) → is_ascii_digit c ≡ true → digit_value c < 10
@@ -24,7 +26,8 @@ below_ten_digit c h =
     grind (arith, nat_tests, range.0, range.1)
 
 -- each of some decimal digits is worth less than ten
-pub digit-value : (digits : List ℕ) (i : ℕ) → AllDigits 10 digits → i < length digits → digit_value (get_or digits i 0) < 10
+pub digit-value : (digits : List ℕ) (i : ℕ) → AllDigits 10 digits → i < length digits
+    → digit_value (get_or digits i 0) < 10
 digit-value [] i h l = absurd (omega arith)
 digit-value (c ∷ digits) zero h l = h.0
 digit-value (c ∷ digits) (suc i) h l = digit-value digits i h.1 (omega arith)

@@ -17,18 +17,24 @@ use Rattle.plural_rule.specs.Internal.Pending.{binds, entries_in}
 use Rattle.plural_rule.proofs.Programs.{size-some}
 
 -- an instruction in the middle
-edited-seam : (edit : Instruction → Instruction) (xs : List Instruction) (i : Instruction) (ys : List Instruction) → edited edit (length xs) (xs ++ i ∷ ys) ≡ xs ++ edit i ∷ ys
+edited-seam : (edit : Instruction → Instruction) (xs : List Instruction) (i : Instruction) (ys : List Instruction)
+    → edited edit (length xs) (xs ++ i ∷ ys) ≡ xs ++ edit i ∷ ys
 edited-seam edit xs i ys =
-    let inside : nat_lt (length xs) (length (xs ++ i ∷ ys)) ≡ true = grind (arith, nat_tests, length-append xs (i ∷ ys)) in
-    rw inside (ap (λ j. slice_set (xs ++ i ∷ ys) (length xs) (edit j)) (get_or-append_seam xs i ys (count_instruction 1)) ∙ set-append_seam xs i ys (edit i))
+    let inside : nat_lt (length xs) (length (xs ++ i ∷ ys)) ≡ true =
+    grind (arith, nat_tests, length-append xs (i ∷ ys)) in
+    rw inside (ap (λ j. slice_set (xs ++ i ∷ ys) (length xs) (edit j))
+    (get_or-append_seam xs i ys (count_instruction 1)) ∙ set-append_seam xs i ys (edit i))
 
 -- an instruction of the first `len` of an array, which has more
-read-within : (room : List Instruction) (i : ℕ) (d e : Instruction) → i < length room → slice_index_or room i d ≡ slice_index_or room i e
+read-within : (room : List Instruction) (i : ℕ) (d e : Instruction) → i < length room
+    → slice_index_or room i d ≡ slice_index_or room i e
 read-within [] i d e h = absurd (omega (arith, h))
 read-within (x ∷ room) zero d e h = refl
 read-within (x ∷ room) (suc i) d e h = read-within room i d e (omega (arith, h))
 
-pub edited-within : (edit : Instruction → Instruction) (room : List Instruction) (len i : ℕ) (d y : Instruction) → i < len → len ≤ length room → y ≡ edit (slice_index_or room i d) → take len (slice_set room i y) ≡ edited edit i (take len room)
+pub edited-within : (edit : Instruction → Instruction) (room : List Instruction) (len i : ℕ) (d y : Instruction)
+    → i < len → len ≤ length room → y ≡ edit (slice_index_or room i d)
+    → take len (slice_set room i y) ≡ edited edit i (take len room)
 edited-within edit room len i d y h fits is =
     let inside : nat_lt i (length (take len room)) ≡ true = grind (arith, nat_tests, length-take-le len room fits) in
     let read : slice_index_or room i d ≡ slice_index_or (take len room) i (count_instruction 1) =
@@ -38,11 +44,14 @@ edited-within edit room len i d y h fits is =
 pub short : (len : ℕ) (room : List Instruction) → len ≤ 4096 → length (take len room) ≤ 4096
 short len room h = omega (arith, length-take len room)
 
-waiting-append : (stack : List Waiting) (xs ys : List Instruction) → waiting_then stack xs ++ ys ≡ waiting_then stack (xs ++ ys)
+waiting-append : (stack : List Waiting) (xs ys : List Instruction)
+    → waiting_then stack xs ++ ys ≡ waiting_then stack (xs ++ ys)
 waiting-append [] xs ys = refl
 waiting-append (WaitBinary op a ∷ stack) xs ys =
-    waiting-append stack _ ys ∙ ap (waiting_then stack) (program-append a 1 _ ys ∙ ap (program_then 1 a) (branch-append op 0 xs ys))
-waiting-append (WaitQuestion a ∷ stack) xs ys = waiting-append stack _ ys ∙ ap (waiting_then stack) (program-append a 1 _ ys)
+    waiting-append stack _ ys
+    ∙ ap (waiting_then stack) (program-append a 1 _ ys ∙ ap (program_then 1 a) (branch-append op 0 xs ys))
+waiting-append (WaitQuestion a ∷ stack) xs ys =
+    waiting-append stack _ ys ∙ ap (waiting_then stack) (program-append a 1 _ ys)
 waiting-append (WaitColon a b ∷ stack) xs ys =
     waiting-append stack _ ys ∙ ap (waiting_then stack) (program-append a 1 _ ys
     ∙ ap (λ p. program_then 1 a (choose_instruction (size b + 1) ∷ p)) (program-append b 0 _ ys))
@@ -59,31 +68,63 @@ record First (p q : List Instruction) (most : ℕ) : Type 0 where
   next : q ≡ more first ∷ rest
   small : first.count ≤ most
 
-first-of : (k : ℕ) (t : Tree) (rest : List Instruction) (most : ℕ) → k + size t ≤ most → First (program_then k t rest) (program_then (1 + k) t rest) most
+first-of : (k : ℕ) (t : Tree) (rest : List Instruction) (most : ℕ) → k + size t ≤ most
+    → First (program_then k t rest) (program_then (1 + k) t rest) most
 first-of k Count rest most h =
-    record { first = count_instruction (1 + k); rest = rest; is = refl; next = ap (λ n. count_instruction n ∷ rest) (omega arith); small = omega arith }
+    record {
+      first = count_instruction (1 + k);
+      rest = rest;
+      is = refl;
+      next =
+          ap (λ n. count_instruction n ∷ rest) (omega arith);
+      small = omega arith;
+    }
 first-of k (Number v) rest most h =
     elim (cases_Bool (nat_lt v (2 ^ 32))) [
-      | inl e ↦ record { first = number_instruction (1 + k) v; rest = rest; is = rw e refl; next = rw e (ap (λ n. number_instruction n v ∷ rest) (omega arith)); small = omega (arith, rw e at h) }
-      | inr e ↦ record { first = wide_instruction (1 + k) (v / 2 ^ 32); rest = low_instruction (v % 2 ^ 32) ∷ rest; is = rw e refl; next = rw e (ap (λ n. wide_instruction n (v / 2 ^ 32) ∷ low_instruction (v % 2 ^ 32) ∷ rest) (omega arith)); small = omega (arith, rw e at h) }
+      | inl e ↦ record {
+        first = number_instruction (1 + k) v;
+        rest = rest;
+        is = rw e refl;
+        next =
+            rw e (ap (λ n. number_instruction n v ∷ rest) (omega arith));
+        small = omega (arith, rw e at h);
+      }
+      | inr e ↦ record {
+        first = wide_instruction (1 + k) (v / 2 ^ 32);
+        rest = low_instruction (v % 2 ^ 32) ∷ rest;
+        is =
+            rw e refl;
+        next = rw e (ap (λ n. wide_instruction n (v / 2 ^ 32) ∷ low_instruction (v % 2 ^ 32) ∷ rest)
+            (omega arith));
+        small = omega (arith, rw e at h);
+      }
     ]
 first-of k (Not a) rest most h = first-of (1 + k) a _ most (omega arith)
 first-of k (Binary op a b) rest most h = first-of (1 + k) a _ most (omega arith)
 first-of k (Conditional a b c) rest most h = first-of (1 + k) a _ most (omega arith)
 
 -- one more node begins with the last operand
-begun-operand : (stack : List Waiting) (t : Tree) (code : List Instruction) (start : ℕ) → code ≡ waiting_then stack (program 0 t) → start ≡ start_after stack → length code ≤ 4096 → begun start code ≡ waiting_then stack (program 1 t)
+begun-operand : (stack : List Waiting) (t : Tree) (code : List Instruction) (start : ℕ)
+    → code ≡ waiting_then stack (program 0 t) → start ≡ start_after stack → length code ≤ 4096
+    → begun start code ≡ waiting_then stack (program 1 t)
 begun-operand stack t code start is at fits =
     let xs = waiting_then stack [] in
     let split : code ≡ xs ++ program 0 t = is ∙ sym (waiting-append stack [] (program 0 t)) in
-    let f = first-of 0 t [] 4096 (omega (arith, ap length split, length-append xs (program 0 t), length-program t 0 [])) in
+    let f = first-of 0 t [] 4096
+    (omega (arith, ap length split, length-append xs (program 0 t), length-program t 0 [])) in
     let next : counted f.first ≡ more f.first =
-    ap (λ n. record { kind = f.first.kind; operator = f.first.operator; count = n; number = f.first.number }) (grind (arith, f.small)) in
-    ap (λ i. begun i code) at ∙ ap (begun (length xs)) (split ∙ ap (λ p. xs ++ p) f.is) ∙ edited-seam counted xs f.first f.rest
+    ap (λ n. record { kind = f.first.kind; operator = f.first.operator; count = n; number = f.first.number })
+    (grind (arith, f.small)) in
+    ap (λ i. begun i code) at ∙ ap (begun (length xs)) (split ∙ ap (λ p. xs ++ p) f.is)
+    ∙ edited-seam counted xs f.first f.rest
     ∙ ap (λ i. xs ++ i ∷ f.rest) next ∙ ap (λ p. xs ++ p) (sym f.next) ∙ waiting-append stack [] (program 1 t)
 
 -- the instruction before the last operand skips that and more
-skips : (before : List Instruction → List Instruction) → ((ys : List Instruction) → before ys ≡ before [] ++ ys) → (i : Instruction) (t : Tree) (code : List Instruction) (start extra : ℕ) → code ≡ before (i ∷ program 0 t) → start ≡ length (before (i ∷ [])) → skipping (start - 1) (length code - start + extra) code ≡ before (with_skip (size t + extra) i ∷ program 0 t)
+skips : (before : List Instruction → List Instruction) → ((ys : List Instruction) → before ys ≡ before [] ++ ys)
+    → (i : Instruction) (t : Tree) (code : List Instruction) (start extra : ℕ) → code ≡ before (i ∷ program 0 t)
+    → start ≡ length (before (i ∷ []))
+    → skipping (start - 1) (length code - start + extra) code
+    ≡ before (with_skip (size t + extra) i ∷ program 0 t)
 skips before apart i t code start extra is at =
     let xs = before [] in
     let split : code ≡ xs ++ i ∷ program 0 t = is ∙ apart (i ∷ program 0 t) in
@@ -96,8 +137,10 @@ skips before apart i t code start extra is at =
     ∙ sym (apart (with_skip (size t + extra) i ∷ program 0 t))
 
 -- what follows the first operand of what waits, apart
-after-first : (below : List Waiting) (a : Tree) (ys : List Instruction) → waiting_then below (program_then 1 a ys) ≡ waiting_then below (program_then 1 a []) ++ ys
-after-first below a ys = sym (waiting-append below (program_then 1 a []) ys ∙ ap (waiting_then below) (program-append a 1 [] ys))
+after-first : (below : List Waiting) (a : Tree) (ys : List Instruction)
+    → waiting_then below (program_then 1 a ys) ≡ waiting_then below (program_then 1 a []) ++ ys
+after-first below a ys =
+    sym (waiting-append below (program_then 1 a []) ys ∙ ap (waiting_then below) (program-append a 1 [] ys))
 
 -- the newest of what waits, apart
 pub record Top (stack : List Waiting) (rest : List Pending) (top : Pending) : Type 0 where
@@ -107,7 +150,8 @@ pub record Top (stack : List Waiting) (rest : List Pending) (top : Pending) : Ty
   pub rest_is : rest ≡ pendings below
   pub top_is : top ≡ pending (start_after below) newest
 
-pub top_of : (stack : List Waiting) (rest : List Pending) (top : Pending) → top ∷ rest ≡ pendings stack → Top stack rest top
+pub top_of : (stack : List Waiting) (rest : List Pending) (top : Pending) → top ∷ rest ≡ pendings stack
+    → Top stack rest top
 top_of [] rest top e = absurd cc
 top_of (w ∷ below) rest top e = record { newest = w; below = below; is = refl; rest_is = cc; top_is = cc }
 
@@ -119,15 +163,19 @@ completed_by top rest h =
 record Completes (k : ℕ) (w : Waiting) (below : List Waiting) (t : Tree) (parser : Held) : Type 0 where
   tree : Tree
   is : completed k w t ≡ Some tree
-  code_is : completed_program (pending (start_after below) w) parser.start parser.code ≡ waiting_then below (program 0 tree)
+  code_is : completed_program (pending (start_after below) w) parser.start parser.code
+      ≡ waiting_then below (program 0 tree)
   start_is : first_of (pending (start_after below) w) parser.start ≡ start_after below
 
-completes : (k : ℕ) (w : Waiting) (below : List Waiting) (t : Tree) (parser : Held) → IsOperand parser (w ∷ below) t → length parser.code ≤ 4096 → binds k (pending (start_after below) w) ≡ true → Completes k w below t parser
+completes : (k : ℕ) (w : Waiting) (below : List Waiting) (t : Tree) (parser : Held) → IsOperand parser (w ∷ below) t
+    → length parser.code ≤ 4096 → binds k (pending (start_after below) w) ≡ true → Completes k w below t parser
 completes k WaitNot below t parser h fits b =
     record {
       tree = Not t;
       is = refl;
-      code_is = ap (λ p. p ++ not_instruction ∷ []) (begun-operand below t parser.code parser.start h.code_is h.start_is fits) ∙ simp (waiting-append, program-append);
+      code_is = ap (λ p. p ++ not_instruction ∷ [])
+          (begun-operand below t parser.code parser.start h.code_is h.start_is fits)
+          ∙ simp (waiting-append, program-append);
       start_is = h.start_is;
     }
 completes k (WaitBinary op a) below t parser h fits b =
@@ -135,7 +183,8 @@ completes k (WaitBinary op a) below t parser h fits b =
     elim (cases_Bool (is_lazy op)) [
       | inl lazy ↦
           let before = λ (ys : List Instruction). waiting_then below (program_then 1 a ys) in
-          let done = skips before (after-first below a) (branch_instruction op 0) t parser.code parser.start 1 (rw lazy at h.code_is) (rw lazy at h.start_is) in
+          let done = skips before (after-first below a) (branch_instruction op 0) t parser.code parser.start 1
+          (rw lazy at h.code_is) (rw lazy at h.start_is) in
           record {
             tree = Binary op a t;
             is = rw b refl;
@@ -147,22 +196,27 @@ completes k (WaitBinary op a) below t parser h fits b =
             tree = Binary op a t;
             is = rw b refl;
             code_is =
-                rw strict (ap (λ p. p ++ last) (rw strict at h.code_is) ∙ waiting-append below (program_then 1 a (program 0 t)) last
-                ∙ ap (waiting_then below) (program-append a 1 (program 0 t) last ∙ ap (program_then 1 a) (program-append t 0 [] last)));
+                rw strict (ap (λ p. p ++ last) (rw strict at h.code_is)
+                ∙ waiting-append below (program_then 1 a (program 0 t)) last
+                ∙ ap (waiting_then below)
+                (program-append a 1 (program 0 t) last ∙ ap (program_then 1 a) (program-append t 0 [] last)));
             start_is = refl;
           }
     ]
 completes k (WaitColon a c) below t parser h fits b =
-    let before = λ (ys : List Instruction). waiting_then below (program_then 1 a (choose_instruction (size c + 1) ∷ program_then 0 c ys)) in
+    let before = λ (ys : List Instruction).
+    waiting_then below (program_then 1 a (choose_instruction (size c + 1) ∷ program_then 0 c ys)) in
     let apart = λ (ys : List Instruction). waiting-append below _ ys ∙ ap (waiting_then below) (program-append a 1 _ ys
     ∙ ap (λ p. program_then 1 a (choose_instruction (size c + 1) ∷ p)) (program-append c 0 [] ys)) in
-    let done = skips before (λ ys. sym (apart ys)) (jump_instruction 0) t parser.code parser.start 0 h.code_is h.start_is in
+    let done = skips before (λ ys. sym (apart ys))
+    (jump_instruction 0) t parser.code parser.start 0 h.code_is h.start_is in
     let none : size t + 0 ≡ size t = omega arith in
     let skip : length parser.code - parser.start ≡ length parser.code - parser.start + 0 = omega arith in
     record {
       tree = Conditional a c t;
       is = rw b refl;
-      code_is = ap (λ n. skipping (parser.start - 1) n parser.code) skip ∙ done ∙ ap (λ n. before (jump_instruction n ∷ program 0 t)) none;
+      code_is = ap (λ n. skipping (parser.start - 1) n parser.code) skip ∙ done
+          ∙ ap (λ n. before (jump_instruction n ∷ program 0 t)) none;
       start_is = refl;
     }
 completes k WaitOpen below t parser h fits b = absurd cc
@@ -183,10 +237,13 @@ pub record Reduces (k : ℕ) (parser : Held) (goal : Operand) : Type 0 where
   pub same : reduce k stack tree ≡ goal
 
 -- one more is complete
-pub Reduces-more : (k : ℕ) (parser : Held) (rest : List Pending) (top : Pending) (goal : Operand) → Reduces k parser goal → parser.entries ≡ top ∷ rest → length parser.code ≤ 4096 → binds k top ≡ true → Reduces k (completed_by top rest parser) goal
+pub Reduces-more : (k : ℕ) (parser : Held) (rest : List Pending) (top : Pending) (goal : Operand)
+    → Reduces k parser goal → parser.entries ≡ top ∷ rest → length parser.code ≤ 4096 → binds k top ≡ true
+    → Reduces k (completed_by top rest parser) goal
 Reduces-more k parser rest top goal r e fits b =
     let t = top_of r.stack rest top (sym e ∙ r.represents.entries_are) in
-    let done = completes k t.newest t.below r.tree parser (subst (λ s. IsOperand parser s r.tree) t.is r.represents) fits (ap (binds k) (sym t.top_is) ∙ b) in
+    let done = completes k t.newest t.below r.tree parser
+    (subst (λ s. IsOperand parser s r.tree) t.is r.represents) fits (ap (binds k) (sym t.top_is) ∙ b) in
     record {
       stack = t.below;
       tree = done.tree;
@@ -195,21 +252,25 @@ Reduces-more k parser rest top goal r e fits b =
         entries_are = t.rest_is;
         start_is = ap (λ p. first_of p parser.start) t.top_is ∙ done.start_is;
       };
-      same = sym (ap (reduce_by (reduce k t.below) t.newest t.below r.tree) done.is) ∙ ap (λ s. reduce k s r.tree) (sym t.is) ∙ r.same;
+      same = sym (ap (reduce_by (reduce k t.below) t.newest t.below r.tree) done.is)
+          ∙ ap (λ s. reduce k s r.tree) (sym t.is) ∙ r.same;
     }
 
 -- the newest of what waits isn't completed
-pub Reduces-stop : (k : ℕ) (parser : Held) (rest : List Pending) (top : Pending) (goal : Operand) → Reduces k parser goal → parser.entries ≡ top ∷ rest → binds k top ≡ false → IsOperand parser goal.stack goal.tree
+pub Reduces-stop : (k : ℕ) (parser : Held) (rest : List Pending) (top : Pending) (goal : Operand)
+    → Reduces k parser goal → parser.entries ≡ top ∷ rest → binds k top ≡ false → IsOperand parser goal.stack goal.tree
 Reduces-stop k parser rest top goal r e b =
     let t = top_of r.stack rest top (sym e ∙ r.represents.entries_are) in
     let stays = refuses k (start_after t.below) t.newest r.tree (ap (binds k) (sym t.top_is) ∙ b) in
     let same : record { stack = r.stack; tree = r.tree } ≡ goal =
     ap (λ s. record { stack = s; tree = r.tree }) t.is
-    ∙ sym (ap (reduce_by (reduce k t.below) t.newest t.below r.tree) stays) ∙ ap (λ s. reduce k s r.tree) (sym t.is) ∙ r.same in
+    ∙ sym (ap (reduce_by (reduce k t.below) t.newest t.below r.tree) stays) ∙ ap (λ s. reduce k s r.tree) (sym t.is)
+    ∙ r.same in
     subst (λ (o : Operand). IsOperand parser o.stack o.tree) same r.represents
 
 -- nothing waits
-pub Reduces-end : (k : ℕ) (parser : Held) (goal : Operand) → parser.entries ≡ [] → Reduces k parser goal → IsOperand parser goal.stack goal.tree
+pub Reduces-end : (k : ℕ) (parser : Held) (goal : Operand) → parser.entries ≡ [] → Reduces k parser goal
+    → IsOperand parser goal.stack goal.tree
 Reduces-end k parser goal none r =
     let empty : r.stack ≡ [] = none-waits r.stack (sym r.represents.entries_are ∙ none) in
     let same : record { stack = r.stack; tree = r.tree } ≡ goal =
@@ -221,7 +282,9 @@ Reduces-end k parser goal none r =
     none-waits (w ∷ below) e = absurd cc
 
 -- an operand without operands of its own
-pub first-operand : (parser : Held) (stack : List Waiting) (t : Tree) (code : List Instruction) (start : ℕ) → IsWaiting parser stack → start ≡ length parser.code → code ≡ parser.code ++ program 0 t → IsOperand (record { code = code; entries = parser.entries; start = start }) stack t
+pub first-operand : (parser : Held) (stack : List Waiting) (t : Tree) (code : List Instruction) (start : ℕ)
+    → IsWaiting parser stack → start ≡ length parser.code → code ≡ parser.code ++ program 0 t
+    → IsOperand (record { code = code; entries = parser.entries; start = start }) stack t
 first-operand parser stack t code start h at is =
     record {
       code_is = is ∙ ap (λ p. p ++ program 0 t) h.code_is ∙ waiting-append stack [] (program 0 t);
@@ -230,29 +293,61 @@ first-operand parser stack t code start h at is =
     }
 
 -- what an operand begins to wait for, with the instructions `after` it
-pub waits : (parser : Held) (stack : List Waiting) (t : Tree) (w : Waiting) (after code : List Instruction) (entries : List Pending) (start : ℕ) → IsOperand parser stack t → length parser.code ≤ 4096 → code ≡ begun parser.start parser.code ++ after → waiting_then (w ∷ stack) [] ≡ waiting_then stack (program_then 1 t after) → entries ≡ pending (parser.start % 4096) w ∷ parser.entries → IsWaiting (record { code = code; entries = entries; start = start }) (w ∷ stack)
+pub waits : (parser : Held) (stack : List Waiting) (t : Tree) (w : Waiting) (after code : List Instruction)
+    (entries : List Pending) (start : ℕ) → IsOperand parser stack t → length parser.code ≤ 4096
+    → code ≡ begun parser.start parser.code ++ after
+    → waiting_then (w ∷ stack) [] ≡ waiting_then stack (program_then 1 t after)
+    → entries ≡ pending (parser.start % 4096) w ∷ parser.entries
+    → IsWaiting (record { code = code; entries = entries; start = start }) (w ∷ stack)
 waits parser stack t w after code entries start h fits is waiting is' =
     let xs = waiting_then stack [] in
     let inside : start_after stack < 4096 =
-    omega (arith, fits, ap length h.code_is, ap length (waiting-append stack [] (program 0 t)), length-append xs (program 0 t), length-program t 0 [], size-some t) in
+    omega (
+      arith,
+      fits,
+      ap length h.code_is,
+      ap length (waiting-append stack [] (program 0 t)),
+      length-append xs (program 0 t),
+      length-program t 0 [],
+      size-some t,
+    ) in
     let place : parser.start % 4096 ≡ start_after stack = grind (arith, inside, h.start_is) in
     record {
       code_is = is ∙ ap (λ p. p ++ after) (begun-operand stack t parser.code parser.start h.code_is h.start_is fits)
-          ∙ waiting-append stack (program 1 t) after ∙ ap (waiting_then stack) (program-append t 1 [] after) ∙ sym waiting;
-      entries_are = is' ∙ ap (λ i. pending i w ∷ parser.entries) place ∙ ap (λ es. pending (start_after stack) w ∷ es) h.entries_are;
+          ∙ waiting-append stack (program 1 t) after ∙ ap (waiting_then stack) (program-append t 1 [] after)
+          ∙ sym waiting;
+      entries_are = is' ∙ ap (λ i. pending i w ∷ parser.entries) place
+          ∙ ap (λ es. pending (start_after stack) w ∷ es) h.entries_are;
     }
 
 -- `:` after an operand, where `?` waits for it
-pub answers-colon : (parser : Held) (first : ℕ) (rest : List Pending) (stack : List Waiting) (t : Tree) (after : Parser) (room : List Instruction) (codes : List ℕ) → IsOperand parser stack t → parser.entries ≡ QuestionPending first ∷ rest → take after.len room ≡ skipping (parser.start - 1) (length parser.code - parser.start + 1) parser.code ++ jump_instruction 0 ∷ [] → entries_in codes after.count ≡ ColonPending first ∷ rest → after.complete ≡ false → Answers (at_colon stack t) (Some after) room codes
+pub answers-colon : (parser : Held) (first : ℕ) (rest : List Pending) (stack : List Waiting) (t : Tree) (after : Parser)
+    (room : List Instruction) (codes : List ℕ) → IsOperand parser stack t
+    → parser.entries ≡ QuestionPending first ∷ rest
+    → take after.len room ≡ skipping (parser.start - 1) (length parser.code - parser.start + 1) parser.code
+    ++ jump_instruction 0 ∷ [] → entries_in codes after.count ≡ ColonPending first ∷ rest
+    → after.complete ≡ false → Answers (at_colon stack t) (Some after) room codes
 answers-colon parser first rest (WaitQuestion a ∷ below) t after room codes h e is is' waits =
     let before = λ (ys : List Instruction). waiting_then below (program_then 1 a ys) in
-    let done = skips before (after-first below a) (choose_instruction 0) t parser.code parser.start 1 h.code_is h.start_is in
-    let same = sym e ∙ h.entries_are in
-    (waits, record { code_is = is ∙ ap (λ p. p ++ jump_instruction 0 ∷ []) done ∙ simp (waiting-append, program-append); entries_are = cc })
+    let done = skips before (after-first below a)
+    (choose_instruction 0) t parser.code parser.start 1 h.code_is h.start_is in
+    let same = sym e ∙ h.entries_are in (
+      waits,
+      record {
+        code_is = is ∙ ap (λ p. p ++ jump_instruction 0 ∷ []) done ∙ simp (waiting-append, program-append);
+        entries_are = cc;
+      },
+    )
 answers-colon parser first rest _ t after room codes h e is is' waits = absurd (let same = sym e ∙ h.entries_are in cc)
 
 -- `)` after an operand, where `(` waits for it
-pub answers-close : (parser : Held) (rest : List Pending) (stack : List Waiting) (t : Tree) (after : Parser) (room : List Instruction) (codes : List ℕ) → IsOperand parser stack t → parser.entries ≡ OpenPending ∷ rest → held room codes after ≡ record { code = parser.code; entries = rest; start = parser.start } → after.complete ≡ true → Answers (at_close stack t) (Some after) room codes
-answers-close parser rest (WaitOpen ∷ below) t after room codes h e is done =
-    (done, subst (λ p. IsOperand p below t) (sym is) (record { code_is = h.code_is; entries_are = let same = sym e ∙ h.entries_are in cc; start_is = h.start_is }))
+pub answers-close : (parser : Held) (rest : List Pending) (stack : List Waiting) (t : Tree) (after : Parser)
+    (room : List Instruction) (codes : List ℕ) → IsOperand parser stack t → parser.entries ≡ OpenPending ∷ rest
+    → held room codes after ≡ record { code = parser.code; entries = rest; start = parser.start }
+    → after.complete ≡ true → Answers (at_close stack t) (Some after) room codes
+answers-close parser rest (WaitOpen ∷ below) t after room codes h e is done = (
+  done,
+  subst (λ p. IsOperand p below t) (sym is)
+      (record { code_is = h.code_is; entries_are = let same = sym e ∙ h.entries_are in cc; start_is = h.start_is }),
+)
 answers-close parser rest _ t after room codes h e is done = absurd (let same = sym e ∙ h.entries_are in cc)

@@ -38,23 +38,29 @@ always-needed _ x e = refl
 
 module _ (room n : ℕ) where
   -- one instruction
-  step : (i : Instruction) (rest : List Instruction) (y x : ℕ) (older : List ℕ) (s : ℕ) → length older + 1 < room → run room n (i ∷ rest) 0 (y ∷ x ∷ older) s ≡ go_on (run room n rest) s (act n (action_of i) (low_of rest) (y ∷ x ∷ older))
+  step : (i : Instruction) (rest : List Instruction) (y x : ℕ) (older : List ℕ) (s : ℕ) → length older + 1 < room
+      → run room n (i ∷ rest) 0 (y ∷ x ∷ older) s
+      ≡ go_on (run room n rest) s (act n (action_of i) (low_of rest) (y ∷ x ∷ older))
   step i rest y x older s inside =
       let e : nat_lt (1 + length older) room ≡ true = grind (arith, nat_tests) in rw e refl
 
   -- where no node begins
-  none-begins : (rest : List Instruction) (skip : ℕ) (values : List ℕ) (s : ℕ) → run room n rest skip values (s + 0) ≡ run room n rest skip values s
+  none-begins : (rest : List Instruction) (skip : ℕ) (values : List ℕ) (s : ℕ)
+      → run room n rest skip values (s + 0) ≡ run room n rest skip values s
   none-begins rest skip values s = ap (run room n rest skip values) (omega arith)
 
   -- instructions that are skipped
-  run-drop : (p : List Instruction) (skip : ℕ) (values : List ℕ) (s : ℕ) → run room n p skip values s ≡ run room n (drop skip p) 0 values s
+  run-drop : (p : List Instruction) (skip : ℕ) (values : List ℕ) (s : ℕ)
+      → run room n p skip values s ≡ run room n (drop skip p) 0 values s
   run-drop [] skip values s = ap (λ p. run room n p 0 values s) (sym (drop-nil skip))
   run-drop (i ∷ p) zero values s = refl
   run-drop (i ∷ p) (suc skip) values s = run-drop p skip values s
 
-  over : (b : Tree) (rest : List Instruction) (k : ℕ) (values : List ℕ) (s : ℕ) → run room n (program_then 0 b rest) (size b + k) values s ≡ run room n rest k values s
+  over : (b : Tree) (rest : List Instruction) (k : ℕ) (values : List ℕ) (s : ℕ)
+      → run room n (program_then 0 b rest) (size b + k) values s ≡ run room n rest k values s
   over b rest k values s =
-      run-drop (program_then 0 b rest) (size b + k) values s ∙ ap (λ p. run room n p 0 values s) (drop-program b rest k) ∙ sym (run-drop rest k values s)
+      run-drop (program_then 0 b rest) (size b + k) values s ∙ ap (λ p. run room n p 0 values s) (drop-program b rest k)
+      ∙ sym (run-drop rest k values s)
 
   -- what comes after a value
   abbrev resumed : List Instruction → List ℕ → Option ℕ → ℕ → Option Outcome
@@ -63,30 +69,46 @@ module _ (room n : ℕ) where
 
   -- the program of an operand, which others follow
   abbrev Runs : ℕ → Tree → List Instruction → Type 0
-  Runs k t rest = (y x : ℕ) (older : List ℕ) (s later : ℕ) → later ≡ s + k + visited t n → 2 * length older + size t + 5 ≤ 2 * room → run room n (program_then k t rest) 0 (y ∷ x ∷ older) s ≡ resumed rest (y ∷ x ∷ older) (value t n) later
+  Runs k t rest = (y x : ℕ) (older : List ℕ) (s later : ℕ) → later ≡ s + k + visited t n
+      → 2 * length older + size t + 5 ≤ 2 * room
+      → run room n (program_then k t rest) 0 (y ∷ x ∷ older) s ≡ resumed rest (y ∷ x ∷ older) (value t n) later
 
-  after-not : (rest : List Instruction) (y : ℕ) (older : List ℕ) (v : Option ℕ) (s : ℕ) → length older + 1 < room → resumed (not_instruction ∷ rest) (y ∷ older) v s ≡ resumed rest (y ∷ older) (negated v) s
+  after-not : (rest : List Instruction) (y : ℕ) (older : List ℕ) (v : Option ℕ) (s : ℕ) → length older + 1 < room
+      → resumed (not_instruction ∷ rest) (y ∷ older) v s ≡ resumed rest (y ∷ older) (negated v) s
   after-not rest y older None s inside = refl
   after-not rest y older (Some x) s inside =
       step not_instruction rest x y older s inside ∙ none-begins rest 0 (truth (is_zero x) ∷ y ∷ older) s
 
-  after-binary : (op : Operator) (rest : List Instruction) (values : List ℕ) (x : ℕ) (v : Option ℕ) (s : ℕ) → length values + 1 < room → resumed (binary_instruction op ∷ rest) (x ∷ values) v s ≡ resumed rest values (option_and_then (combined op x) v) s
+  after-binary : (op : Operator) (rest : List Instruction) (values : List ℕ) (x : ℕ) (v : Option ℕ) (s : ℕ)
+      → length values + 1 < room
+      → resumed (binary_instruction op ∷ rest) (x ∷ values) v s
+      ≡ resumed rest values (option_and_then (combined op x) v) s
   after-binary op rest values x None s inside = refl
   after-binary op rest values x (Some y) s inside =
       step (binary_instruction op) rest y x values s inside
-      ∙ ap (λ o. go_on (run room n rest) s (act n (BinaryAction o) (low_of rest) (y ∷ x ∷ values))) (operator_of-code op)
+      ∙ ap (λ o. go_on (run room n rest) s (act n (BinaryAction o) (low_of rest) (y ∷ x ∷ values)))
+      (operator_of-code op)
       ∙ ended (combined op x y)
     where
       ended : (v : Option ℕ) → go_on (run room n rest) s (with_value v values) ≡ resumed rest values v s
       ended None = ap (λ k. Some (record { value = None; steps = k })) (omega arith)
       ended (Some v) = none-begins rest 0 (v ∷ values) s
 
-  needed : (op : Operator) (b : Tree) (rest : List Instruction) (y : ℕ) (older : List ℕ) (x s later : ℕ) → Runs 0 b (binary_instruction op ∷ rest) → needs_right op x ≡ true → later ≡ s + visited_right op (Some x) (visited b n) → 2 * length older + size b + 5 ≤ 2 * room → run room n (program_then 0 b (binary_instruction op ∷ rest)) 0 (x ∷ y ∷ older) s ≡ resumed rest (y ∷ older) (binary_value op (Some x) (value b n)) later
+  needed : (op : Operator) (b : Tree) (rest : List Instruction) (y : ℕ) (older : List ℕ) (x s later : ℕ)
+      → Runs 0 b (binary_instruction op ∷ rest) → needs_right op x ≡ true
+      → later ≡ s + visited_right op (Some x) (visited b n) → 2 * length older + size b + 5 ≤ 2 * room
+      → run room n (program_then 0 b (binary_instruction op ∷ rest)) 0 (x ∷ y ∷ older) s
+      ≡ resumed rest (y ∷ older) (binary_value op (Some x) (value b n)) later
   needed op b rest y older x s later runs e at inside =
       let all : later ≡ s + 0 + visited b n = omega (arith, rw e at at) in
-      rw e (runs x y older s later all (omega (arith, inside)) ∙ after-binary op rest (y ∷ older) x (value b n) later (omega (arith, inside, size-some b)))
+      rw e (runs x y older s later all (omega (arith, inside))
+      ∙ after-binary op rest (y ∷ older) x (value b n) later (omega (arith, inside, size-some b)))
 
-  after-first : (op : Operator) (b : Tree) (rest : List Instruction) (y : ℕ) (older : List ℕ) (v : Option ℕ) (s later : ℕ) → Runs 0 b (binary_instruction op ∷ rest) → later ≡ s + visited_right op v (visited b n) → 2 * length older + size b + 5 ≤ 2 * room → resumed (branch_then op (size b + 1) (program_then 0 b (binary_instruction op ∷ rest))) (y ∷ older) v s ≡ resumed rest (y ∷ older) (binary_value op v (value b n)) later
+  after-first : (op : Operator) (b : Tree) (rest : List Instruction) (y : ℕ) (older : List ℕ) (v : Option ℕ)
+      (s later : ℕ) → Runs 0 b (binary_instruction op ∷ rest) → later ≡ s + visited_right op v (visited b n)
+      → 2 * length older + size b + 5 ≤ 2 * room
+      → resumed (branch_then op (size b + 1) (program_then 0 b (binary_instruction op ∷ rest))) (y ∷ older) v s
+      ≡ resumed rest (y ∷ older) (binary_value op v (value b n)) later
   after-first op b rest y older None s later runs at inside = ap (λ k. resumed rest (y ∷ older) None k) (omega arith)
   after-first op b rest y older (Some x) s later runs at inside =
       let code = program_then 0 b (binary_instruction op ∷ rest) in
@@ -94,20 +116,29 @@ module _ (room n : ℕ) where
       elim (cases_Bool (is_lazy op)) [
         | inl lazy ↦
             rw lazy (step branch code x y older s (omega (arith, inside))
-            ∙ ap (λ o. go_on (run room n code) s (act n (BranchAction o (size b + 1)) (low_of code) (x ∷ y ∷ older))) (operator_of-code op)
+            ∙ ap (λ o. go_on (run room n code) s (act n (BranchAction o (size b + 1)) (low_of code) (x ∷ y ∷ older)))
+            (operator_of-code op)
             ∙ elim (cases_Bool (needs_right op x)) [
               | inl e ↦
-                  rw (← needed op b rest y older x s later runs e at inside) (rw e (none-begins code 0 (x ∷ y ∷ older) s))
+                  rw (← needed op b rest y older x s later runs e at inside)
+                  (rw e (none-begins code 0 (x ∷ y ∷ older) s))
               | inr e ↦
                   let none : s ≡ later = omega (arith, rw e at at) in
                   rw e (none-begins code (size b + 1) (short_circuit_value op ∷ y ∷ older) s
-                  ∙ over b (binary_instruction op ∷ rest) 1 (short_circuit_value op ∷ y ∷ older) s ∙ ap (run room n rest 0 (short_circuit_value op ∷ y ∷ older)) none)
+                  ∙ over b (binary_instruction op ∷ rest) 1 (short_circuit_value op ∷ y ∷ older) s
+                  ∙ ap (run room n rest 0 (short_circuit_value op ∷ y ∷ older)) none)
             ])
         | inr strict ↦ rw strict (needed op b rest y older x s later runs (always-needed op x strict) at inside)
       ]
 
-  after-condition : (b c : Tree) (rest : List Instruction) (y x : ℕ) (older : List ℕ) (v : Option ℕ) (s later : ℕ) → Runs 0 b (jump_instruction (size c) ∷ program_then 0 c rest) → Runs 0 c rest → later ≡ s + chosen v (visited b n) (visited c n) 0 → 2 * length older + size b + size c + 6 ≤ 2 * room → resumed (choose_instruction (size b + 1) ∷ program_then 0 b (jump_instruction (size c) ∷ program_then 0 c rest)) (y ∷ x ∷ older) v s ≡ resumed rest (y ∷ x ∷ older) (chosen v (value b n) (value c n) None) later
-  after-condition b c rest y x older None s later runs runs' at inside = ap (λ k. resumed rest (y ∷ x ∷ older) None k) (omega arith)
+  after-condition : (b c : Tree) (rest : List Instruction) (y x : ℕ) (older : List ℕ) (v : Option ℕ) (s later : ℕ)
+      → Runs 0 b (jump_instruction (size c) ∷ program_then 0 c rest) → Runs 0 c rest
+      → later ≡ s + chosen v (visited b n) (visited c n) 0 → 2 * length older + size b + size c + 6 ≤ 2 * room
+      → resumed (choose_instruction (size b + 1)
+      ∷ program_then 0 b (jump_instruction (size c) ∷ program_then 0 c rest)) (y ∷ x ∷ older) v s
+      ≡ resumed rest (y ∷ x ∷ older) (chosen v (value b n) (value c n) None) later
+  after-condition b c rest y x older None s later runs runs' at inside =
+      ap (λ k. resumed rest (y ∷ x ∷ older) None k) (omega arith)
   after-condition b c rest y x older (Some v) s later runs runs' at inside =
       let values = y ∷ x ∷ older in
       let third = program_then 0 c rest in
@@ -116,35 +147,44 @@ module _ (room n : ℕ) where
       ∙ elim (cases_Bool (is_zero v)) [
         | inl e ↦
             let all : later ≡ s + 0 + visited c n = omega (arith, rw e at at) in
-            rw e (none-begins second (size b + 1) values s ∙ over b (jump_instruction (size c) ∷ third) 1 values s ∙ runs' y x older s later all (omega (arith, inside)))
+            rw e (none-begins second (size b + 1) values s ∙ over b (jump_instruction (size c) ∷ third) 1 values s
+            ∙ runs' y x older s later all (omega (arith, inside)))
         | inr e ↦
             let all : later ≡ s + 0 + visited b n = omega (arith, rw e at at) in
-            rw e (none-begins second 0 values s ∙ runs y x older s later all (omega (arith, inside)) ∙ jumped (value b n))
+            rw e (none-begins second 0 values s ∙ runs y x older s later all (omega (arith, inside))
+            ∙ jumped (value b n))
       ]
     where
-      jumped : (w : Option ℕ) → resumed (jump_instruction (size c) ∷ program_then 0 c rest) (y ∷ x ∷ older) w later ≡ resumed rest (y ∷ x ∷ older) w later
+      jumped : (w : Option ℕ) → resumed (jump_instruction (size c) ∷ program_then 0 c rest) (y ∷ x ∷ older) w later
+          ≡ resumed rest (y ∷ x ∷ older) w later
       jumped None = refl
       jumped (Some w) =
           let all : size c ≡ size c + 0 = omega arith in
-          step (jump_instruction (size c)) (program_then 0 c rest) w y (x ∷ older) later (omega (arith, inside, size-some b))
+          step (jump_instruction (size c)) (program_then 0 c rest) w y (x ∷ older) later
+          (omega (arith, inside, size-some b))
           ∙ none-begins (program_then 0 c rest) (size c) (w ∷ y ∷ x ∷ older) later
-          ∙ ap (λ k. run room n (program_then 0 c rest) k (w ∷ y ∷ x ∷ older) later) all ∙ over c rest 0 (w ∷ y ∷ x ∷ older) later
+          ∙ ap (λ k. run room n (program_then 0 c rest) k (w ∷ y ∷ x ∷ older) later) all
+          ∙ over c rest 0 (w ∷ y ∷ x ∷ older) later
 
   -- the program of a tree runs to the tree's value, and begins as many nodes as the tree's evaluation visits, where
   -- there is room for half as many values as instructions
   run-program : (t : Tree) (k : ℕ) (rest : List Instruction) → Runs k t rest
   run-program Count k rest y x older s later at inside =
       let begun : s + (1 + k) ≡ later = omega arith in
-      step (count_instruction (1 + k)) rest y x older s (omega (arith, inside)) ∙ ap (run room n rest 0 (n ∷ y ∷ x ∷ older)) begun
+      step (count_instruction (1 + k)) rest y x older s (omega (arith, inside))
+      ∙ ap (run room n rest 0 (n ∷ y ∷ x ∷ older)) begun
   run-program (Number v) k rest y x older s later at inside =
       let begun : s + (1 + k) ≡ later = omega arith in
       let values = y ∷ x ∷ older in
       elim (cases_Bool (nat_lt v (2 ^ 32))) [
         | inl small ↦
-            rw small (step (number_instruction (1 + k) v) rest y x older s (omega (arith, rw small at inside)) ∙ ap (run room n rest 0 (v ∷ values)) begun)
+            rw small (step (number_instruction (1 + k) v) rest y x older s (omega (arith, rw small at inside))
+            ∙ ap (run room n rest 0 (v ∷ values)) begun)
         | inr large ↦
-            rw large (step (wide_instruction (1 + k) (v / 2 ^ 32)) (low_instruction (v % 2 ^ 32) ∷ rest) y x older s (omega (arith, rw large at inside))
-            ∙ ap (λ x. run room n rest 0 (x ∷ values) (s + (1 + k))) (div-add-mod' v (2 ^ 32)) ∙ ap (run room n rest 0 (v ∷ values)) begun)
+            rw large (step (wide_instruction (1 + k) (v / 2 ^ 32)) (low_instruction (v % 2 ^ 32) ∷ rest) y x older s
+            (omega (arith, rw large at inside))
+            ∙ ap (λ x. run room n rest 0 (x ∷ values) (s + (1 + k))) (div-add-mod' v (2 ^ 32))
+            ∙ ap (run room n rest 0 (v ∷ values)) begun)
       ]
   run-program (Not a) k rest y x older s later at inside =
       run-program a (1 + k) (not_instruction ∷ rest) y x older s later (omega arith) (omega (arith, inside))
@@ -152,70 +192,92 @@ module _ (room n : ℕ) where
   run-program (Binary op a b) k rest y x older s later at inside =
       let first = s + (1 + k) + visited a n in
       run-program a (1 + k) _ y x older s first refl (omega (arith, inside))
-      ∙ after-first op b rest y (x ∷ older) (value a n) first later (run-program b 0 (binary_instruction op ∷ rest)) (omega arith) (omega (arith, inside, size-some a))
+      ∙ after-first op b rest y (x ∷ older) (value a n) first later (run-program b 0 (binary_instruction op ∷ rest))
+      (omega arith) (omega (arith, inside, size-some a))
   run-program (Conditional a b c) k rest y x older s later at inside =
       let first = s + (1 + k) + visited a n in
       run-program a (1 + k) _ y x older s first refl (omega (arith, inside))
-      ∙ after-condition b c rest y x older (value a n) first later (run-program b 0 _) (run-program c 0 rest) (omega arith) (omega (arith, inside, size-some a))
+      ∙ after-condition b c rest y x older (value a n) first later (run-program b 0 _) (run-program c 0 rest)
+      (omega arith) (omega (arith, inside, size-some a))
 
-pub starts : (room n y x : ℕ) (p : List Instruction) (t : Tree) → p ≡ program 0 t → length p + 5 ≤ 2 * room → run room n p 0 (y ∷ x ∷ []) 0 ≡ Some (outcome t n)
+pub starts : (room n y x : ℕ) (p : List Instruction) (t : Tree) → p ≡ program 0 t → length p + 5 ≤ 2 * room
+    → run room n p 0 (y ∷ x ∷ []) 0 ≡ Some (outcome t n)
 starts room n y x p t is inside =
     ap (λ q. run room n q 0 (y ∷ x ∷ []) 0) is
-    ∙ run-program room n t 0 [] y x [] 0 (visited t n) (omega arith) (omega (arith, inside, ap length is, length-program t 0 [])) ∙ alone (value t n)
+    ∙ run-program room n t 0 [] y x [] 0 (visited t n) (omega arith)
+    (omega (arith, inside, ap length is, length-program t 0 [])) ∙ alone (value t n)
   where
-    alone : (v : Option ℕ) → resumed room n [] (y ∷ x ∷ []) v (visited t n) ≡ Some (record { value = v; steps = visited t n })
+    alone : (v : Option ℕ) → resumed room n [] (y ∷ x ∷ []) v (visited t n)
+        ≡ Some (record { value = v; steps = visited t n })
     alone None = refl
     alone (Some v) = refl
 
-room-left : (room n : ℕ) (i : Instruction) (p : List Instruction) (y x : ℕ) (older : List ℕ) (s : ℕ) {o : Outcome} → run room n (i ∷ p) 0 (y ∷ x ∷ older) s ≡ Some o → length older + 1 < room
+room-left : (room n : ℕ) (i : Instruction) (p : List Instruction) (y x : ℕ) (older : List ℕ) (s : ℕ) {o : Outcome}
+    → run room n (i ∷ p) 0 (y ∷ x ∷ older) s ≡ Some o → length older + 1 < room
 room-left room n i p y x older s runs =
-    elim (cases_Bool (nat_lt (1 + length older) room)) [ inl e ↦ grind (arith, nat_tests) | inr e ↦ absurd (let none = rw e at runs in cc) ]
+    elim (cases_Bool (nat_lt (1 + length older) room))
+    [ inl e ↦ grind (arith, nat_tests) | inr e ↦ absurd (let none = rw e at runs in cc) ]
 
 -- an instruction inside of a program
-pub acts : (room n : ℕ) (p : List Instruction) (i y x : ℕ) (older : List ℕ) (s : ℕ) {o : Outcome} (d : Instruction) (action : Action) (next : Next) → i < length p → run room n (drop i p) 0 (y ∷ x ∷ older) s ≡ Some o → action ≡ action_of (get_or p i d) → act n action (low_of (drop (i + 1) p)) (y ∷ x ∷ older) ≡ next → go_on (run room n (drop (i + 1) p)) s next ≡ Some o
+pub acts : (room n : ℕ) (p : List Instruction) (i y x : ℕ) (older : List ℕ) (s : ℕ) {o : Outcome} (d : Instruction)
+    (action : Action) (next : Next) → i < length p → run room n (drop i p) 0 (y ∷ x ∷ older) s ≡ Some o
+    → action ≡ action_of (get_or p i d) → act n action (low_of (drop (i + 1) p)) (y ∷ x ∷ older) ≡ next
+    → go_on (run room n (drop (i + 1) p)) s next ≡ Some o
 acts room n p i y x older s d action next inside runs is leads =
     let whole = ap (λ q. run room n q 0 (y ∷ x ∷ older) s) (sym (drop-cons p i d inside)) ∙ runs in
     ap (go_on (run room n (drop (i + 1) p)) s) (sym leads)
     ∙ ap (λ a. go_on (run room n (drop (i + 1) p)) s (act n a (low_of (drop (i + 1) p)) (y ∷ x ∷ older))) is
-    ∙ ap (λ k. go_on (run room n (drop k p)) s (act n (action_of (get_or p i d)) (low_of (drop k p)) (y ∷ x ∷ older))) (add-one i)
-    ∙ sym (step room n (get_or p i d) (drop (suc i) p) y x older s (room-left room n (get_or p i d) (drop (suc i) p) y x older s whole)) ∙ whole
+    ∙ ap (λ k. go_on (run room n (drop k p)) s (act n (action_of (get_or p i d)) (low_of (drop k p)) (y ∷ x ∷ older)))
+    (add-one i)
+    ∙ sym (step room n (get_or p i d) (drop (suc i) p) y x older s
+    (room-left room n (get_or p i d) (drop (suc i) p) y x older s whole)) ∙ whole
 
-pub skips : (room n : ℕ) (p : List Instruction) (i skip : ℕ) (values : List ℕ) (s : ℕ) {o : Outcome} → run room n (drop i p) skip values s ≡ Some o → run room n (drop (i + skip) p) 0 values s ≡ Some o
+pub skips : (room n : ℕ) (p : List Instruction) (i skip : ℕ) (values : List ℕ) (s : ℕ) {o : Outcome}
+    → run room n (drop i p) skip values s ≡ Some o → run room n (drop (i + skip) p) 0 values s ≡ Some o
 skips room n p i skip values s runs =
     ap (λ q. run room n q 0 values s) (sym (drop-drop skip i p)) ∙ sym (run-drop room n (drop i p) skip values s) ∙ runs
 
 -- an operator right after an operand
-pub fused : (room n : ℕ) (p : List Instruction) (i x s : ℕ) (values : List ℕ) (e : Effect) {o : Outcome} → e.skip ≡ 1 → e.taken ≡ 1 → go_on (run room n (drop (i + 1) p)) (s + e.begins) (with_value e.value values) ≡ Some o → go_on (run room n (drop i p)) s (left_by e (x ∷ values)) ≡ Some o
+pub fused : (room n : ℕ) (p : List Instruction) (i x s : ℕ) (values : List ℕ) (e : Effect) {o : Outcome} → e.skip ≡ 1
+    → e.taken ≡ 1 → go_on (run room n (drop (i + 1) p)) (s + e.begins) (with_value e.value values) ≡ Some o
+    → go_on (run room n (drop i p)) s (left_by e (x ∷ values)) ≡ Some o
 fused room n p i x s values e {o} skip taken runs = by e.value runs where
-  by : (v : Option ℕ) → go_on (run room n (drop (i + 1) p)) (s + e.begins) (with_value v values) ≡ Some o → go_on (run room n (drop i p)) s (left_with v e (x ∷ values)) ≡ Some o
+  by : (v : Option ℕ) → go_on (run room n (drop (i + 1) p)) (s + e.begins) (with_value v values) ≡ Some o
+      → go_on (run room n (drop i p)) s (left_with v e (x ∷ values)) ≡ Some o
   by None runs = ap (λ k. Some (record { value = None; steps = k })) (omega arith) ∙ runs
   by (Some v) runs =
-      rw (skip, taken) (run-drop room n (drop i p) 1 (v ∷ values) (s + e.begins) ∙ ap (λ q. run room n q 0 (v ∷ values) (s + e.begins)) (drop-drop 1 i p)
+      rw (skip, taken) (run-drop room n (drop i p) 1 (v ∷ values) (s + e.begins)
+      ∙ ap (λ q. run room n q 0 (v ∷ values) (s + e.begins)) (drop-drop 1 i p)
       ∙ sym (none-begins room n (drop (i + 1) p) 0 (v ∷ values) (s + e.begins)) ∙ runs)
 
 length-stored : (stack : List ℕ) (k : ℕ) → length (stored stack k) ≡ k
 length-stored stack zero = refl
 length-stored stack (suc k) = omega (arith, length-stored stack k)
 
-pub stored-cons : (stack : List ℕ) (len : ℕ) → 1 ≤ len → stored stack len ≡ get_or stack (len - 1) 0 ∷ stored stack (len - 1)
+pub stored-cons : (stack : List ℕ) (len : ℕ) → 1 ≤ len
+    → stored stack len ≡ get_or stack (len - 1) 0 ∷ stored stack (len - 1)
 stored-cons stack zero some = absurd (omega arith)
-stored-cons stack (suc k) some = let same : k ≡ suc k - 1 = omega arith in ap (λ j. get_or stack j 0 ∷ stored stack j) same
+stored-cons stack (suc k) some = let same : k ≡ suc k - 1 =
+    omega arith in ap (λ j. get_or stack j 0 ∷ stored stack j) same
 
 stored-set : (stack : List ℕ) (k i y : ℕ) → k ≤ i → stored (set stack i y) k ≡ stored stack k
 stored-set stack zero i y h = refl
 stored-set stack (suc k) i y h =
     rw (get_or-set_other stack i k y 0 (λ e. omega arith), stored-set stack k i y (omega arith)) refl
 
-pub stored-more : (stack : List ℕ) (len y : ℕ) → len < length stack → stored (set stack len y) (len + 1) ≡ y ∷ stored stack len
+pub stored-more : (stack : List ℕ) (len y : ℕ) → len < length stack
+    → stored (set stack len y) (len + 1) ≡ y ∷ stored stack len
 stored-more stack len y inside =
-    ap (stored (set stack len y)) (add-one len) ∙ rw (get_or-set_same stack len y 0 inside, stored-set stack len len y (omega arith)) refl
+    ap (stored (set stack len y)) (add-one len)
+    ∙ rw (get_or-set_same stack len y 0 inside, stored-set stack len len y (omega arith)) refl
 
 -- before an instruction there are two values, and there is room for another one
 pub record Ready (room len : ℕ) : Type 0 where
   pub some : 1 ≤ len
   pub inside : len < room
 
-pub ready : (room n : ℕ) (p : List Instruction) (stack : List ℕ) (len newest s : ℕ) {o : Outcome} → 0 < length p → run room n p 0 (newest ∷ stored stack len) s ≡ Some o → Ready room len
+pub ready : (room n : ℕ) (p : List Instruction) (stack : List ℕ) (len newest s : ℕ) {o : Outcome} → 0 < length p
+    → run room n p 0 (newest ∷ stored stack len) s ≡ Some o → Ready room len
 ready room n [] stack len newest s some runs = absurd (omega arith)
 ready room n (i ∷ p) stack zero newest s some runs = absurd cc
 ready room n (i ∷ p) stack (suc k) newest s some runs =
@@ -228,7 +290,8 @@ all_begin [] = 0
 all_begin (i ∷ rest) = begins i + all_begin rest
 
 -- each node begins once
-pub all_begin-program : (t : Tree) (k : ℕ) (rest : List Instruction) → all_begin (program_then k t rest) ≡ k + nodes t + all_begin rest
+pub all_begin-program : (t : Tree) (k : ℕ) (rest : List Instruction)
+    → all_begin (program_then k t rest) ≡ k + nodes t + all_begin rest
 all_begin-program Count k rest = omega arith
 all_begin-program (Number v) k rest =
     elim (cases_Bool (nat_lt v (2 ^ 32))) [ inl e ↦ rw e (omega arith) | inr e ↦ rw e (omega arith) ]
@@ -240,4 +303,9 @@ all_begin-program (Binary op a b) k rest =
       | inr e ↦ rw e (all_begin-program a (1 + k) _ ∙ omega (arith, last))
     ]
 all_begin-program (Conditional a b c) k rest =
-    all_begin-program a (1 + k) _ ∙ omega (arith, all_begin-program b 0 (jump_instruction (size c) ∷ program_then 0 c rest), all_begin-program c 0 rest)
+    all_begin-program a (1 + k) _
+    ∙ omega (
+      arith,
+      all_begin-program b 0 (jump_instruction (size c) ∷ program_then 0 c rest),
+      all_begin-program c 0 rest,
+    )

@@ -14,10 +14,14 @@ tree_of_code code t e = ap tree_of e ∙ tree_of-program t
 pub program_of_code : (code : List Instruction) (t : Tree) → code ≡ program 0 t → code ≡ program 0 (tree_of code)
 program_of_code code t e = e ∙ ap (program 0) (sym (tree_of_code code t e))
 
-pub from-header : (limit : ℕ) (header : List ℕ) (nplurals : ℕ) (code : List Instruction) → HoldsRule limit header nplurals code → IsRuleOf limit header (record { source = Header; nplurals = nplurals; tree = tree_of code })
+pub from-header : (limit : ℕ) (header : List ℕ) (nplurals : ℕ) (code : List Instruction)
+    → HoldsRule limit header nplurals code
+    → IsRuleOf limit header (record { source = Header; nplurals = nplurals; tree = tree_of code })
 from-header limit header nplurals code h =
     subst (λ t. IsReadable limit header nplurals t) (sym (tree_of_code code h.tree h.code_is)) h.readable
 
-pub from-default : (limit : ℕ) (header : List ℕ) (reason : Reason) (code : List Instruction) → IsReason limit header reason → code ≡ program 0 default_tree → IsRuleOf limit header (record { source = Default reason; nplurals = 2; tree = tree_of code })
+pub from-default : (limit : ℕ) (header : List ℕ) (reason : Reason) (code : List Instruction)
+    → IsReason limit header reason → code ≡ program 0 default_tree
+    → IsRuleOf limit header (record { source = Default reason; nplurals = 2; tree = tree_of code })
 from-default limit header reason code h e =
     (h, ap (λ t. record { source = Default reason; nplurals = 2; tree = t }) (tree_of_code code default_tree e))

@@ -15,9 +15,11 @@ use Rattle.plural_rule.proofs.Numerals.{digit_below_ten, below_ten_digit}
 use Rattle.plural_rule.proofs.Lexing.{one_prefix, first_byte, operator-facts}
 
 -- bytes that spell a token and begin with a digit are digits
-digits-only : (u : Token) (bytes : List ℕ) → is_ascii_digit (first_byte bytes) ≡ true → IsSpelling u bytes → AllDigits 10 bytes
+digits-only : (u : Token) (bytes : List ℕ) → is_ascii_digit (first_byte bytes) ≡ true → IsSpelling u bytes
+    → AllDigits 10 bytes
 digits-only (Number v) bytes d h = h.1
-digits-only (Binary op) bytes d h = absurd (false≢true (sym (ap (λ xs. is_ascii_digit (first_byte xs)) h ∙ (operator-facts op).1) ∙ d))
+digits-only (Binary op) bytes d h =
+    absurd (false≢true (sym (ap (λ xs. is_ascii_digit (first_byte xs)) h ∙ (operator-facts op).1) ∙ d))
 digits-only _ bytes d h = absurd (false≢true (sym (ap (λ xs. is_ascii_digit (first_byte xs)) h) ∙ d))
 
 -- the digits at the beginning of a text
@@ -26,10 +28,12 @@ AllDigits-take_while [] = tt
 AllDigits-take_while (c ∷ text) =
     elim (cases_Bool (is_ascii_digit c)) [
       | inl e ↦
-          let cons : take_while is_ascii_digit (c ∷ text) ≡ c ∷ take_while is_ascii_digit text = take_while-cons is_ascii_digit c text ∙ cond-true (is_ascii_digit c) _ _ e in
+          let cons : take_while is_ascii_digit (c ∷ text) ≡ c ∷ take_while is_ascii_digit text =
+          take_while-cons is_ascii_digit c text ∙ cond-true (is_ascii_digit c) _ _ e in
           subst (AllDigits 10) (sym cons) (digit_below_ten c e, AllDigits-take_while text)
       | inr e ↦
-          let none : take_while is_ascii_digit (c ∷ text) ≡ [] = take_while-cons is_ascii_digit c text ∙ cond-false (is_ascii_digit c) _ _ e in
+          let none : take_while is_ascii_digit (c ∷ text) ≡ [] =
+          take_while-cons is_ascii_digit c text ∙ cond-false (is_ascii_digit c) _ _ e in
           subst (AllDigits 10) (sym none) tt
     ]
 
@@ -38,7 +42,8 @@ AllDigits-append [] ys h = h
 AllDigits-append (x ∷ xs) ys h = AllDigits-append xs ys h.1
 
 -- no digit follows them
-stops : (text more after : List ℕ) → drop (prefix_len is_ascii_digit text) text ≡ more ++ after → AllDigits 10 more → more ≡ []
+stops : (text more after : List ℕ) → drop (prefix_len is_ascii_digit text) text ≡ more ++ after → AllDigits 10 more
+    → more ≡ []
 stops text [] after e a = refl
 stops text (m ∷ more) after e a =
     let k = prefix_len is_ascii_digit text in
@@ -46,17 +51,20 @@ stops text (m ∷ more) after e a =
     let within : k < length text = omega arith in
     let prefix : drop k text ≡ get_or text k 0 ∷ drop (suc k) text = drop-cons text k 0 within in
     let same : get_or text k 0 ≡ m = cc in
-    absurd (false≢true (sym (prefix_len_stops is_ascii_digit text 0 within) ∙ ap is_ascii_digit same ∙ below_ten_digit m a.0))
+    absurd (false≢true (sym (prefix_len_stops is_ascii_digit text 0 within) ∙ ap is_ascii_digit same
+    ∙ below_ten_digit m a.0))
 
 -- the digits at the beginning of a text, where there are some, are the longest that spell a token
 pub record Numeral (text : List ℕ) : Type 0 where
   pub some : take_while is_ascii_digit text ≢ []
   pub longest : IsLongest (take_while is_ascii_digit text) (drop (prefix_len is_ascii_digit text) text)
 
-first-digit : (text : List ℕ) (more : List ℕ) → is_ascii_digit (first_byte text) ≡ true → is_ascii_digit (first_byte (take_while is_ascii_digit text ++ more)) ≡ true
+first-digit : (text : List ℕ) (more : List ℕ) → is_ascii_digit (first_byte text) ≡ true
+    → is_ascii_digit (first_byte (take_while is_ascii_digit text ++ more)) ≡ true
 first-digit [] more d = absurd (false≢true d)
 first-digit (c ∷ text) more d =
-    let cons : take_while is_ascii_digit (c ∷ text) ≡ c ∷ take_while is_ascii_digit text = take_while-cons is_ascii_digit c text ∙ cond-true (is_ascii_digit c) _ _ d in
+    let cons : take_while is_ascii_digit (c ∷ text) ≡ c ∷ take_while is_ascii_digit text =
+    take_while-cons is_ascii_digit c text ∙ cond-true (is_ascii_digit c) _ _ d in
     rw cons d
 
 pub first_byte-get : (text : List ℕ) → 0 < length text → first_byte text ≡ get_or text 0 0
@@ -68,14 +76,19 @@ numeral text d =
     record {
       some = λ e. false≢true (ap (λ xs. is_ascii_digit (first_byte (xs ++ []))) (sym e) ∙ first-digit text [] d);
       longest = λ u more after e n h.
-          n (stops text more after e (AllDigits-append (take_while is_ascii_digit text) more (digits-only u (take_while is_ascii_digit text ++ more) (first-digit text more d) h)));
+          n (stops text more after e
+          (AllDigits-append (take_while is_ascii_digit text) more
+          (digits-only u (take_while is_ascii_digit text ++ more) (first-digit text more d) h)));
     }
 
 -- the numeral at the beginning of a text
-pub numeral-token : (text : List ℕ) (v : ℕ) → is_ascii_digit (first_byte text) ≡ true → v ≡ digits_value 10 (take_while is_ascii_digit text) → IsTokenAt text (Number v) (length (take_while is_ascii_digit text))
+pub numeral-token : (text : List ℕ) (v : ℕ) → is_ascii_digit (first_byte text) ≡ true
+    → v ≡ digits_value 10 (take_while is_ascii_digit text)
+    → IsTokenAt text (Number v) (length (take_while is_ascii_digit text))
 numeral-token text v d e =
     let n = numeral text d in
-    let k : length (take_while is_ascii_digit text) ≡ prefix_len is_ascii_digit text = length-prefix_len is_ascii_digit text in
+    let k : length (take_while is_ascii_digit text) ≡ prefix_len is_ascii_digit text =
+    length-prefix_len is_ascii_digit text in
     let some : 0 < length (take_while is_ascii_digit text) = nonempty (take_while is_ascii_digit text) n.some in
     record {
       some = some;
@@ -89,10 +102,12 @@ numeral-token text v d e =
     nonempty (x ∷ xs) h = omega arith
 
 -- a numeral at the beginning that doesn't fit 64 bits
-pub numeral-none : (text : List ℕ) → is_ascii_digit (first_byte text) ≡ true → 2 ^ 64 ≤ digits_value 10 (take_while is_ascii_digit text) → HasNoToken text
+pub numeral-none : (text : List ℕ) → is_ascii_digit (first_byte text) ≡ true
+    → 2 ^ 64 ≤ digits_value 10 (take_while is_ascii_digit text) → HasNoToken text
 numeral-none text d large t own rest e spelt longest =
     let n = numeral text d in
     let k = prefix_len is_ascii_digit text in
-    let same = one_prefix (Number (digits_value 10 (take_while is_ascii_digit text))) t (take_while is_ascii_digit text) (drop k text) own rest
+    let same = one_prefix (Number (digits_value 10 (take_while is_ascii_digit text))) t (take_while is_ascii_digit text)
+    (drop k text) own rest
     (n.some, AllDigits-take_while text, refl) n.longest spelt longest (take-append-drop k text ∙ e) in
     subst IsTooLarge same.same_token large

@@ -13,15 +13,23 @@ use Rattle.plural_rule.proofs.Complete.{Fits, level-range}
 -- the tokens that a stack stands for
 pub data Waits : List Waiting → List Token → Type 0 where
   nothing : Waits [] []
-  bang : {stack : List Waiting} (before : List Token) → Waits stack before → Waits (WaitNot ∷ stack) (before ++ NotToken ∷ [])
-  parenthesis : {stack : List Waiting} (before : List Token) → Waits stack before → Waits (WaitOpen ∷ stack) (before ++ Open ∷ [])
-  operator : {stack : List Waiting} {op : Operator} {a : Tree} (before left : List Token) → Waits stack before → Spells (level op) left a → Fits (level op) stack → Waits (WaitBinary op a ∷ stack) ((before ++ left) ++ BinaryToken op ∷ [])
-  question : {stack : List Waiting} {a : Tree} (before left : List Token) → Waits stack before → Spells 1 left a → Fits 1 stack → Waits (WaitQuestion a ∷ stack) ((before ++ left) ++ Question ∷ [])
-  colon : {stack : List Waiting} {a b : Tree} (before left middle : List Token) → Waits stack before → Spells 1 left a → Fits 1 stack → Spells 0 middle b → Waits (WaitColon a b ∷ stack) ((((before ++ left) ++ Question ∷ []) ++ middle) ++ Colon ∷ [])
+  bang : {stack : List Waiting} (before : List Token) → Waits stack before
+      → Waits (WaitNot ∷ stack) (before ++ NotToken ∷ [])
+  parenthesis : {stack : List Waiting} (before : List Token) → Waits stack before
+      → Waits (WaitOpen ∷ stack) (before ++ Open ∷ [])
+  operator : {stack : List Waiting} {op : Operator} {a : Tree} (before left : List Token) → Waits stack before
+      → Spells (level op) left a → Fits (level op) stack
+      → Waits (WaitBinary op a ∷ stack) ((before ++ left) ++ BinaryToken op ∷ [])
+  question : {stack : List Waiting} {a : Tree} (before left : List Token) → Waits stack before → Spells 1 left a
+      → Fits 1 stack → Waits (WaitQuestion a ∷ stack) ((before ++ left) ++ Question ∷ [])
+  colon : {stack : List Waiting} {a b : Tree} (before left middle : List Token) → Waits stack before → Spells 1 left a
+      → Fits 1 stack → Spells 0 middle b
+      → Waits (WaitColon a b ∷ stack) ((((before ++ left) ++ Question ∷ []) ++ middle) ++ Colon ∷ [])
 
 -- what was read: what waits, and an operand of level m after it
 pub data Holds (m : ℕ) (stack : List Waiting) (tree : Tree) : List Token → Type 0 where
-  holds : (before own : List Token) → Waits stack before → Spells m own tree → Fits m stack → Holds m stack tree (before ++ own)
+  holds : (before own : List Token) → Waits stack before → Spells m own tree → Fits m stack
+      → Holds m stack tree (before ++ own)
 
 loosen-by : (j d : ℕ) (ts : List Token) (t : Tree) → Spells (d + j) ts t → Spells j ts t
 loosen-by j zero ts t s = let e : zero + j ≡ j = omega arith in subst (λ (k : ℕ). Spells k ts t) e s
@@ -44,25 +52,36 @@ Fits-zero (WaitBinary op a ∷ stack) f = absurd (omega (arith, (level-range op)
 Fits-zero _ f = tt
 
 -- an operator's entry and its second operand spell its tree, and the like
-holds-not : {m : ℕ} {stack : List Waiting} {t : Tree} {read : List Token} → Holds m (WaitNot ∷ stack) t read → Holds 7 stack (Not t) read
+holds-not : {m : ℕ} {stack : List Waiting} {t : Tree} {read : List Token} → Holds m (WaitNot ∷ stack) t read
+    → Holds 7 stack (Not t) read
 holds-not {m} {stack} {t} (holds _ own (bang before w) s f) =
-    subst (Holds 7 stack (Not t)) (sym (append_assoc before (NotToken ∷ []) own)) (holds before (NotToken ∷ own) w (negation (loosen 7 m f s)) (Fits-seven stack))
+    subst (Holds 7 stack (Not t)) (sym (append_assoc before (NotToken ∷ []) own))
+    (holds before (NotToken ∷ own) w (negation (loosen 7 m f s)) (Fits-seven stack))
 
-holds-binary : {m : ℕ} {op : Operator} {a : Tree} {stack : List Waiting} {t : Tree} {read : List Token} → Holds m (WaitBinary op a ∷ stack) t read → Holds (level op) stack (Binary op a t) read
+holds-binary : {m : ℕ} {op : Operator} {a : Tree} {stack : List Waiting} {t : Tree} {read : List Token}
+    → Holds m (WaitBinary op a ∷ stack) t read → Holds (level op) stack (Binary op a t) read
 holds-binary {m} {op} {a} {stack} {t} (holds _ own (operator before left w d g) s f) =
-    let is : before ++ (left ++ BinaryToken op ∷ own) ≡ ((before ++ left) ++ BinaryToken op ∷ []) ++ own = simp append_assoc in
-    subst (Holds (level op) stack (Binary op a t)) is (holds before (left ++ BinaryToken op ∷ own) w (binary op d (loosen (suc (level op)) m (omega arith) s)) g)
+    let is : before ++ (left ++ BinaryToken op ∷ own) ≡ ((before ++ left) ++ BinaryToken op ∷ []) ++ own =
+    simp append_assoc in
+    subst (Holds (level op) stack (Binary op a t)) is
+    (holds before (left ++ BinaryToken op ∷ own) w (binary op d (loosen (suc (level op)) m (omega arith) s)) g)
 
-holds-colon : {m : ℕ} {a b : Tree} {stack : List Waiting} {t : Tree} {read : List Token} → Holds m (WaitColon a b ∷ stack) t read → Holds 0 stack (Conditional a b t) read
+holds-colon : {m : ℕ} {a b : Tree} {stack : List Waiting} {t : Tree} {read : List Token}
+    → Holds m (WaitColon a b ∷ stack) t read → Holds 0 stack (Conditional a b t) read
 holds-colon {m} {a} {b} {stack} {t} (holds _ own (colon before left middle w d g e) s f) =
-    let is : before ++ (left ++ Question ∷ (middle ++ Colon ∷ own)) ≡ ((((before ++ left) ++ Question ∷ []) ++ middle) ++ Colon ∷ []) ++ own = simp append_assoc in
-    subst (Holds 0 stack (Conditional a b t)) is (holds before (left ++ Question ∷ (middle ++ Colon ∷ own)) w (conditional d e (loosen 0 m (omega arith) s)) (Fits-zero stack g))
+    let is : before ++ (left ++ Question ∷ (middle ++ Colon ∷ own))
+    ≡ ((((before ++ left) ++ Question ∷ []) ++ middle) ++ Colon ∷ []) ++ own = simp append_assoc in
+    subst (Holds 0 stack (Conditional a b t)) is
+    (holds before (left ++ Question ∷ (middle ++ Colon ∷ own)) w (conditional d e (loosen 0 m (omega arith) s))
+    (Fits-zero stack g))
 
-stays : (k m : ℕ) {stack : List Waiting} {t : Tree} {read : List Token} → k ≤ m → Fits k stack → Holds m stack t read → Holds k stack t read
+stays : (k m : ℕ) {stack : List Waiting} {t : Tree} {read : List Token} → k ≤ m → Fits k stack → Holds m stack t read
+    → Holds k stack t read
 stays k m low fits (holds before own w s f) = holds before own w (loosen k m low s) fits
 
 -- after a reduction to level k there is an operand of that level
-pub reduces : (k : ℕ) (stack : List Waiting) (m : ℕ) (t : Tree) (read : List Token) → k ≤ m → k ≤ 7 → Holds m stack t read → Holds k (reduce k stack t).stack (reduce k stack t).tree read
+pub reduces : (k : ℕ) (stack : List Waiting) (m : ℕ) (t : Tree) (read : List Token) → k ≤ m → k ≤ 7
+    → Holds m stack t read → Holds k (reduce k stack t).stack (reduce k stack t).tree read
 reduces k (WaitNot ∷ stack) m t read low high h = reduces k stack 7 (Not t) read high high (holds-not h)
 reduces k (WaitBinary op a ∷ stack) m t read low high h =
     elim (cases_Bool (nat_le k (level op))) [
@@ -89,23 +108,28 @@ abbrev ReadSome : Option State → List Token → Type 0
 ReadSome None read = Unit {0}
 ReadSome (Some state) read = Read state read
 
-operator-reads : (op : Operator) {stack : List Waiting} {t : Tree} {read : List Token} → Holds (level op) stack t read → Waits (WaitBinary op t ∷ stack) (read ++ BinaryToken op ∷ [])
+operator-reads : (op : Operator) {stack : List Waiting} {t : Tree} {read : List Token} → Holds (level op) stack t read
+    → Waits (WaitBinary op t ∷ stack) (read ++ BinaryToken op ∷ [])
 operator-reads op (holds before own w s f) = operator before own w s f
 
-question-reads : {stack : List Waiting} {t : Tree} {read : List Token} → Holds 1 stack t read → Waits (WaitQuestion t ∷ stack) (read ++ Question ∷ [])
+question-reads : {stack : List Waiting} {t : Tree} {read : List Token} → Holds 1 stack t read
+    → Waits (WaitQuestion t ∷ stack) (read ++ Question ∷ [])
 question-reads (holds before own w s f) = question before own w s f
 
-at_colon-reads : (stack : List Waiting) (t : Tree) {read : List Token} → Holds 0 stack t read → ReadSome (at_colon stack t) (read ++ Colon ∷ [])
+at_colon-reads : (stack : List Waiting) (t : Tree) {read : List Token} → Holds 0 stack t read
+    → ReadSome (at_colon stack t) (read ++ Colon ∷ [])
 at_colon-reads (WaitQuestion a ∷ stack) t (holds _ own (question before left w d g) s f) = colon before left own w d g s
 at_colon-reads _ t h = tt
 
-at_close-reads : (stack : List Waiting) (t : Tree) {read : List Token} → Holds 0 stack t read → ReadSome (at_close stack t) (read ++ Close ∷ [])
+at_close-reads : (stack : List Waiting) (t : Tree) {read : List Token} → Holds 0 stack t read
+    → ReadSome (at_close stack t) (read ++ Close ∷ [])
 at_close-reads (WaitOpen ∷ stack) t (holds _ own (parenthesis before w) s f) =
     let is : before ++ Open ∷ (own ++ Close ∷ []) ≡ ((before ++ Open ∷ []) ++ own) ++ Close ∷ [] = simp append_assoc in
     subst (Holds 7 stack t) is (holds before (Open ∷ (own ++ Close ∷ [])) w (parentheses s) (Fits-seven stack))
 at_close-reads _ t h = tt
 
-step-reads : (state : State) (token : Token) (read : List Token) → Read state read → ReadSome (step state token) (read ++ token ∷ [])
+step-reads : (state : State) (token : Token) (read : List Token) → Read state read
+    → ReadSome (step state token) (read ++ token ∷ [])
 step-reads (Want stack) CountToken read w = holds read (CountToken ∷ []) w count (Fits-seven stack)
 step-reads (Want stack) (NumberToken v) read w =
     elim (cases_Bool (nat_lt v (2 ^ 64))) [
@@ -123,22 +147,30 @@ step-reads (Have stack t) Close read h = at_close-reads _ _ (reduces 0 stack 7 t
 step-reads (Have stack t) _ read h = tt
 
 -- the tree that an operand alone stands for
-alone-reads : (stack : List Waiting) (u t : Tree) {read : List Token} → Holds 0 stack u read → alone stack u ≡ Some t → Spells 0 read t
+alone-reads : (stack : List Waiting) (u t : Tree) {read : List Token} → Holds 0 stack u read → alone stack u ≡ Some t
+    → Spells 0 read t
 alone-reads [] u t (holds _ own nothing s f) e = let same : u ≡ t = cc in subst (Spells 0 own) same s
 alone-reads (w ∷ stack) u t h e = absurd cc
 
-finish-reads : (state : State) (t : Tree) (read : List Token) → Read state read → finish state ≡ Some t → Spells 0 read t
+finish-reads : (state : State) (t : Tree) (read : List Token) → Read state read → finish state ≡ Some t
+    → Spells 0 read t
 finish-reads (Want stack) t read h e = absurd cc
 finish-reads (Have stack u) t read h e = alone-reads _ _ t (reduces 0 stack 7 u read (omega arith) (omega arith) h) e
 
-run-some : (token : Token) (ts : List Token) (next : Option State) (read : List Token) (t : Tree) → ((state : State) → Read state (read ++ token ∷ []) → outcome_from state ts ≡ Some t → Spells 0 ((read ++ token ∷ []) ++ ts) t) → ReadSome next (read ++ token ∷ []) → option_and_then (λ s. outcome_from s ts) next ≡ Some t → Spells 0 (read ++ token ∷ ts) t
+run-some : (token : Token) (ts : List Token) (next : Option State) (read : List Token) (t : Tree)
+    → ((state : State) → Read state (read ++ token ∷ []) → outcome_from state ts ≡ Some t
+    → Spells 0 ((read ++ token ∷ []) ++ ts) t) → ReadSome next (read ++ token ∷ [])
+    → option_and_then (λ s. outcome_from s ts) next ≡ Some t → Spells 0 (read ++ token ∷ ts) t
 run-some token ts None read t go h e = absurd cc
-run-some token ts (Some state) read t go h e = subst (λ r. Spells 0 r t) (append_assoc read (token ∷ []) ts) (go state h e)
+run-some token ts (Some state) read t go h e =
+    subst (λ r. Spells 0 r t) (append_assoc read (token ∷ []) ts) (go state h e)
 
-run-reads : (ts : List Token) (state : State) (read : List Token) (t : Tree) → Read state read → outcome_from state ts ≡ Some t → Spells 0 (read ++ ts) t
+run-reads : (ts : List Token) (state : State) (read : List Token) (t : Tree) → Read state read
+    → outcome_from state ts ≡ Some t → Spells 0 (read ++ ts) t
 run-reads [] state read t h e = subst (λ r. Spells 0 r t) (sym (append-nil read)) (finish-reads state t read h e)
 run-reads (token ∷ ts) state read t h e =
-    run-some token ts (step state token) read t (λ s h e. run-reads ts s (read ++ token ∷ []) t h e) (step-reads state token read h) e
+    run-some token ts (step state token) read t (λ s h e. run-reads ts s (read ++ token ∷ []) t h e)
+    (step-reads state token read h) e
 
 pub sound : (ts : List Token) (t : Tree) → outcome ts ≡ Some t → Spells 0 ts t
 sound ts t e = run-reads ts (Want []) [] t nothing e

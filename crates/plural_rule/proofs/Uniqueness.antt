@@ -38,7 +38,13 @@ visited_le_nodes (Not a) n = omega (arith, visited_le_nodes a n)
 visited_le_nodes (Binary op a b) n =
     omega (arith, visited_le_nodes a n, visited_le_nodes b n, visited_right-le op (value a n) (visited b n))
 visited_le_nodes (Conditional a b c) n =
-    omega (arith, visited_le_nodes a n, visited_le_nodes b n, visited_le_nodes c n, chosen-le (value a n) (visited b n) (visited c n))
+    omega (
+      arith,
+      visited_le_nodes a n,
+      visited_le_nodes b n,
+      visited_le_nodes c n,
+      chosen-le (value a n) (visited b n) (visited c n),
+    )
 
 -- what a header names is one
 same : {A : Type 0} (o : Option A) (x y : A) → o ≡ Some x → o ≡ Some y → x ≡ y
@@ -47,11 +53,13 @@ same o x y e e' = cc
 named : {A : Type 0} (o : Option A) (x : A) → o ≡ Some x → o ≡ None → ⊥
 named o x e e' = cc
 
-not-too_long : (limit : ℕ) (header text : List ℕ) → expression_of header ≡ Some text → length text ≤ limit → IsReason limit header TooLong → ⊥
+not-too_long : (limit : ℕ) (header text : List ℕ) → expression_of header ≡ Some text → length text ≤ limit
+    → IsReason limit header TooLong → ⊥
 not-too_long limit header text e fits h = let past = h.3 in omega (arith, ap length (same _ text h.1 e h.2))
 
 -- a rule that can be read has no reason for the default
-readable-no_reason : (limit : ℕ) (header : List ℕ) (nplurals : ℕ) (tree : Tree) (reason : Reason) → IsReadable limit header nplurals tree → IsReason limit header reason → ⊥
+readable-no_reason : (limit : ℕ) (header : List ℕ) (nplurals : ℕ) (tree : Tree) (reason : Reason)
+    → IsReadable limit header nplurals tree → IsReason limit header reason → ⊥
 readable-no_reason limit header nplurals tree NoNumber r h = named _ _ r.nplurals_is h
 readable-no_reason limit header nplurals tree NoExpression r h = named _ _ r.text_is h.1
 readable-no_reason limit header nplurals tree Unreadable r h =
@@ -79,10 +87,12 @@ one_reason limit header Unreadable NoExpression h k = absurd (named _ _ h.3 k.1)
 one_reason limit header Unreadable TooLong h k = absurd (not-too_long limit header h.1 h.3 h.4 k)
 one_reason limit header Unreadable Unreadable h k = refl
 
-same-rule : (rule other : RuleView) → rule.source ≡ other.source → rule.nplurals ≡ other.nplurals → rule.tree ≡ other.tree → rule ≡ other
+same-rule : (rule other : RuleView) → rule.source ≡ other.source → rule.nplurals ≡ other.nplurals
+    → rule.tree ≡ other.tree → rule ≡ other
 same-rule rule other source nplurals tree = rw (source, nplurals, tree) refl
 
-one_rule-by : (limit : ℕ) (header : List ℕ) (rule other : RuleView) (a b : Source) → rule.source ≡ a → other.source ≡ b → Gives limit header rule a → Gives limit header other b → rule ≡ other
+one_rule-by : (limit : ℕ) (header : List ℕ) (rule other : RuleView) (a b : Source) → rule.source ≡ a → other.source ≡ b
+    → Gives limit header rule a → Gives limit header other b → rule ≡ other
 one_rule-by limit header rule other Header Header e e' h k =
     let text = same _ h.text k.text h.text_is k.text_is in
     same-rule rule other (e ∙ sym e') (same _ rule.nplurals other.nplurals h.nplurals_is k.nplurals_is)
@@ -94,26 +104,41 @@ one_rule-by limit header rule other (Default reason) Header e e' h k =
 one_rule-by limit header rule other (Default reason) (Default reason') e e' h k =
     h.1 ∙ ap default_rule (one_reason limit header reason reason' h.0 k.0) ∙ sym k.1
 
-pub one_rule : (limit : ℕ) (header : List ℕ) (rule other : RuleView) → IsRuleOf limit header rule → IsRuleOf limit header other → rule ≡ other
+pub one_rule : (limit : ℕ) (header : List ℕ) (rule other : RuleView) → IsRuleOf limit header rule
+    → IsRuleOf limit header other → rule ≡ other
 one_rule limit header rule other h k = one_rule-by limit header rule other rule.source other.source refl refl h k
 
 -- within a limit: the text that the header names fits it
-within : (limit : ℕ) (header text : List ℕ) → IsWithin limit header → nplurals_of header ≢ None → expression_of header ≡ Some text → length text ≤ limit
+within : (limit : ℕ) (header text : List ℕ) → IsWithin limit header → nplurals_of header ≢ None
+    → expression_of header ≡ Some text → length text ≤ limit
 within limit header text (inl none) some e = absurd (some none)
 within limit header text (inr short) some e = short text e
 
 -- under another limit, where the text that the header names fits that if it fits the first
-other-limit : (limit other : ℕ) (header : List ℕ) (rule : RuleView) (source : Source) → ((text : List ℕ) → nplurals_of header ≢ None → expression_of header ≡ Some text → (length text ≤ limit → length text ≤ other) × (limit < length text → other < length text)) → Gives limit header rule source → Gives other header rule source
+other-limit : (limit other : ℕ) (header : List ℕ) (rule : RuleView) (source : Source)
+    → ((text : List ℕ) → nplurals_of header ≢ None → expression_of header ≡ Some text
+    → (length text ≤ limit → length text ≤ other) × (limit < length text → other < length text))
+    → Gives limit header rule source → Gives other header rule source
 other-limit limit other header rule Header within h =
     let fits = (within h.text (λ none. named _ _ h.nplurals_is none) h.text_is).0 h.text_fits in
-    record { text = h.text; nplurals_is = h.nplurals_is; nplurals_fits = h.nplurals_fits; text_is = h.text_is; text_fits = fits; spelt = h.spelt }
+    record {
+      text = h.text;
+      nplurals_is = h.nplurals_is;
+      nplurals_fits = h.nplurals_fits;
+      text_is = h.text_is;
+      text_fits = fits;
+      spelt = h.spelt;
+    }
 other-limit limit other header rule (Default Unreadable) within (h, is) =
     ((h.0, h.1, h.2, h.3, (within h.1 (λ none. named _ _ h.2 none) h.3).0 h.4, h.5), is)
 other-limit limit other header rule (Default TooLong) within (h, is) = ((h.0, h.1, h.2, (within h.1 h.0 h.2).1 h.3), is)
 other-limit limit other header rule (Default reason) within h = h
 
-pub longer_limit : (limit longer : ℕ) (header : List ℕ) (rule : RuleView) → limit ≤ longer → IsWithin limit header → IsRuleOf limit header rule ↔ IsRuleOf longer header rule
+pub longer_limit : (limit longer : ℕ) (header : List ℕ) (rule : RuleView) → limit ≤ longer → IsWithin limit header
+    → IsRuleOf limit header rule ↔ IsRuleOf longer header rule
 longer_limit limit longer header rule le w = (
-  other-limit limit longer header rule rule.source (λ text n e. let fits = within limit header text w n e in (λ _. omega arith, λ long. absurd (omega arith))),
-  other-limit longer limit header rule rule.source (λ text n e. let fits = within limit header text w n e in (λ _. fits, λ long. absurd (omega arith))),
+  other-limit limit longer header rule rule.source
+      (λ text n e. let fits = within limit header text w n e in (λ _. omega arith, λ long. absurd (omega arith))),
+  other-limit longer limit header rule rule.source
+      (λ text n e. let fits = within limit header text w n e in (λ _. fits, λ long. absurd (omega arith))),
 )

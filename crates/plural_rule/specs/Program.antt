@@ -96,10 +96,12 @@ newest (t ∷ trees) = t
 unfoldable pub tree_of : List Instruction → Tree
 tree_of instructions = newest (read instructions 0 (length instructions) [])
 
-pub branch-append : (op : Operator) (skip : ℕ) (xs ys : List Instruction) → branch_then op skip xs ++ ys ≡ branch_then op skip (xs ++ ys)
+pub branch-append : (op : Operator) (skip : ℕ) (xs ys : List Instruction)
+    → branch_then op skip xs ++ ys ≡ branch_then op skip (xs ++ ys)
 branch-append op skip xs ys = elim (cases_Bool (is_lazy op)) [ inl e ↦ rw e refl | inr e ↦ rw e refl ]
 
-pub program-append : (t : Tree) (k : ℕ) (xs ys : List Instruction) → program_then k t xs ++ ys ≡ program_then k t (xs ++ ys)
+pub program-append : (t : Tree) (k : ℕ) (xs ys : List Instruction)
+    → program_then k t xs ++ ys ≡ program_then k t (xs ++ ys)
 program-append Count k xs ys = refl
 program-append (Number v) k xs ys =
     elim (cases_Bool (nat_lt v (2 ^ 32))) [ inl e ↦ rw e refl | inr e ↦ rw e refl ]
@@ -112,7 +114,8 @@ program-append (Conditional a b c) k xs ys =
     ∙ ap (λ p. program_then (1 + k) a (choose_instruction (size b + 1) ∷ p)) (program-append b 0 _ ys
     ∙ ap (λ p. program_then 0 b (jump_instruction (size c) ∷ p)) (program-append c 0 xs ys))
 
-pub length-program : (t : Tree) (k : ℕ) (rest : List Instruction) → length (program_then k t rest) ≡ size t + length rest
+pub length-program : (t : Tree) (k : ℕ) (rest : List Instruction)
+    → length (program_then k t rest) ≡ size t + length rest
 length-program Count k rest = omega arith
 length-program (Number v) k rest =
     elim (cases_Bool (nat_lt v (2 ^ 32))) [ inl e ↦ rw e (omega arith) | inr e ↦ rw e (omega arith) ]
@@ -124,16 +127,20 @@ length-program (Binary op a b) k rest =
       | inr e ↦ rw e (length-program a (1 + k) _ ∙ omega (arith, last))
     ]
 length-program (Conditional a b c) k rest =
-    length-program a (1 + k) _ ∙ omega (arith, length-program b 0 (jump_instruction (size c) ∷ program_then 0 c rest), length-program c 0 rest)
+    length-program a (1 + k) _
+    ∙ omega (arith, length-program b 0 (jump_instruction (size c) ∷ program_then 0 c rest), length-program c 0 rest)
 
 -- what follows a program, and then some instructions
-pub drop-program : (t : Tree) (rest : List Instruction) (n : ℕ) → drop (size t + n) (program_then 0 t rest) ≡ drop n rest
+pub drop-program : (t : Tree) (rest : List Instruction) (n : ℕ)
+    → drop (size t + n) (program_then 0 t rest) ≡ drop n rest
 drop-program t rest n =
     let long : size t ≡ length (program 0 t) = omega (arith, length-program t 0 []) in
-    ap (λ m. drop (m + n) (program_then 0 t rest)) long ∙ ap (drop (length (program 0 t) + n)) (sym (program-append t 0 [] rest))
+    ap (λ m. drop (m + n) (program_then 0 t rest)) long
+    ∙ ap (drop (length (program 0 t) + n)) (sym (program-append t 0 [] rest))
     ∙ drop-append-add (program 0 t) rest n
 
-read-drop : (p : List Instruction) (skip more : ℕ) (trees : List Tree) → read p skip more trees ≡ read (drop skip p) 0 more trees
+read-drop : (p : List Instruction) (skip more : ℕ) (trees : List Tree)
+    → read p skip more trees ≡ read (drop skip p) 0 more trees
 read-drop [] skip more trees = ap (λ p. read p 0 more trees) (sym (drop-nil skip))
 read-drop (i ∷ p) zero more trees = refl
 read-drop (i ∷ p) (suc skip) more trees = read-drop p skip more trees
@@ -142,7 +149,8 @@ read-none : (rest : List Instruction) (trees : List Tree) → read rest 0 0 tree
 read-none [] trees = refl
 read-none (i ∷ rest) trees = refl
 
-read-branch : (op : Operator) (skip : ℕ) (rest : List Instruction) (m n : ℕ) (trees : List Tree) → m ≡ (if is_lazy op then 1 else 0) + n → read (branch_then op skip rest) 0 m trees ≡ read rest 0 n trees
+read-branch : (op : Operator) (skip : ℕ) (rest : List Instruction) (m n : ℕ) (trees : List Tree)
+    → m ≡ (if is_lazy op then 1 else 0) + n → read (branch_then op skip rest) 0 m trees ≡ read rest 0 n trees
 read-branch op skip rest m n trees e =
     elim (cases_Bool (is_lazy op)) [
       | inl lazy ↦
@@ -153,7 +161,8 @@ read-branch op skip rest m n trees e =
           rw strict (ap (λ m. read rest 0 m trees) same)
     ]
 
-read-program : (t : Tree) (k : ℕ) (rest : List Instruction) (m n : ℕ) (trees : List Tree) → m ≡ size t + n → read (program_then k t rest) 0 m trees ≡ read rest 0 n (t ∷ trees)
+read-program : (t : Tree) (k : ℕ) (rest : List Instruction) (m n : ℕ) (trees : List Tree) → m ≡ size t + n
+    → read (program_then k t rest) 0 m trees ≡ read rest 0 n (t ∷ trees)
 read-program Count k rest m n trees e =
     let one : m ≡ suc n = omega arith in
     ap (λ m. read (program_then k Count rest) 0 m trees) one
@@ -182,9 +191,11 @@ read-program (Conditional a b c) k rest m n trees e =
     let left : size c + n - size c ≡ n = omega arith in
     let none : size c ≡ size c + 0 = omega arith in
     read-program a (1 + k) _ m (suc (size b + suc (size c + n))) trees (omega arith)
-    ∙ read-program b 0 (jump_instruction (size c) ∷ third) (size b + suc (size c + n)) (suc (size c + n)) (a ∷ trees) refl
+    ∙ read-program b 0 (jump_instruction (size c) ∷ third) (size b + suc (size c + n)) (suc (size c + n))
+    (a ∷ trees) refl
     ∙ ap (λ m. read third (size c) m (with_third (read third 0 (size c) []) (b ∷ a ∷ trees))) left
-    ∙ ap (λ ts. read third (size c) n (with_third ts (b ∷ a ∷ trees))) (read-program c 0 rest (size c) 0 [] none ∙ read-none rest (c ∷ []))
+    ∙ ap (λ ts. read third (size c) n (with_third ts (b ∷ a ∷ trees)))
+    (read-program c 0 rest (size c) 0 [] none ∙ read-none rest (c ∷ []))
     ∙ read-drop third (size c) n (Conditional a b c ∷ trees)
     ∙ ap (λ p. read p 0 n (Conditional a b c ∷ trees)) (ap (λ j. drop j third) none ∙ drop-program c rest 0)
 

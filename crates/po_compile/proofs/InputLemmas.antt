@@ -49,7 +49,8 @@ use Rattle.po_compile.specs.declared.row.Row.{Row}
 use Rattle.po_compile.proofs.FaultLemmas.{NoFirstDuplicate}
 use Rattle.po_compile.proofs.ReadingLemmas.{EntriesCanStand, distinct_of_one}
 
-zip_take : {X Y : Type 0} (R : X → Y → Type 0) (n : ℕ) (xs : List X) (ys : List Y) → AllZip R xs ys → AllZip R (take n xs) (take n ys)
+zip_take : {X Y : Type 0} (R : X → Y → Type 0) (n : ℕ) (xs : List X) (ys : List Y) → AllZip R xs ys
+    → AllZip R (take n xs) (take n ys)
 zip_take R zero [] [] h = tt
 zip_take R (suc n) [] [] h = tt
 zip_take R n [] (y ∷ ys) h = absurd h
@@ -58,14 +59,18 @@ zip_take R zero (x ∷ xs) (y ∷ ys) h = tt
 zip_take R (suc n) (x ∷ xs) (y ∷ ys) h = (h.0, zip_take R n xs ys h.1)
 
 -- the first repeat in a list of what a function makes of elements is made of theirs
-repeat_of_map : {X Y : Type 0} (Alike : Y → Y → Type 0) → ((a b : Y) → Alike a b ⊎ (Alike a b → ⊥)) → ((x y z : Y) → Alike x z → Alike y z → Alike x y) → (f : X → Y) (xs : List X) (a b : Y) → IsFirstRepeat Alike (map f xs) a b
+repeat_of_map : {X Y : Type 0} (Alike : Y → Y → Type 0) → ((a b : Y) → Alike a b ⊎ (Alike a b → ⊥))
+    → ((x y z : Y) → Alike x z → Alike y z → Alike x y) → (f : X → Y) (xs : List X) (a b : Y)
+    → IsFirstRepeat Alike (map f xs) a b
     → (x y : X) × IsFirstRepeat (λ v w. Alike (f v) (f w)) xs x y × (f x ≡ a) × (f y ≡ b)
-repeat_of_map Alike decide alike f xs a b h = elim (none_or_first_repeat (λ v w. Alike (f v) (f w)) (λ v w. decide (f v) (f w)) xs) [
-  | inl differ ↦ absurd (none_repeats Alike (map f xs) a b (pairs_map (λ v w. ¬ Alike v w) f xs differ) h)
-  | inr found ↦
-      let same = one_repeat Alike alike (map f xs) (f found.0) (f found.1) a b (repeat_map Alike f xs found.0 found.1 found.2) h in
-      (found.0, found.1, found.2, same.0, same.1)
-]
+repeat_of_map Alike decide alike f xs a b h =
+    elim (none_or_first_repeat (λ v w. Alike (f v) (f w)) (λ v w. decide (f v) (f w)) xs) [
+      | inl differ ↦ absurd (none_repeats Alike (map f xs) a b (pairs_map (λ v w. ¬ Alike v w) f xs differ) h)
+      | inr found ↦
+          let same = one_repeat Alike alike (map f xs) (f found.0) (f found.1) a b
+          (repeat_map Alike f xs found.0 found.1 found.2) h in
+          (found.0, found.1, found.2, same.0, same.1)
+    ]
 
 one_key : (a b : InputMessage) → HaveOneKey a b ⊎ (HaveOneKey a b → ⊥)
 one_key a b =
@@ -75,40 +80,52 @@ one_key a b =
 
 module _ (use_fuzzy : Bool) where
   -- the first repeat of the live entries' messages is their first duplicate
-  repeat_is : (entries : List InputEntry) (error : JoinError) → All IsCatalogueEntry (entries_of entries) → IsRepeat (map (input_message use_fuzzy) (live_entries entries)) error
+  repeat_is : (entries : List InputEntry) (error : JoinError) → All IsCatalogueEntry (entries_of entries)
+      → IsRepeat (map (input_message use_fuzzy) (live_entries entries)) error
       → (first later : InputEntry) × IsFirstDuplicate entries first later × (error ≡ duplicate_fault first later)
   repeat_is entries error valid r =
       let live = live_entries entries in
       let message : InputEntry → InputMessage = input_message use_fuzzy in
       let Alike : InputEntry → InputEntry → Type 0 = λ a b. HaveOneKey (message a) (message b) in
       let found = repeat_of_map HaveOneKey one_key (λ x y z a b. a ∙ sym b) message live r.0 r.1 r.2 in
-      let live_valid : All IsCatalogueEntry (entries_of live) = subst (All IsCatalogueEntry) (live_of_entries entries) (All-filter is_live IsCatalogueEntry (entries_of entries) valid) in
-      let both = all_of_both Alike (λ e. IsCatalogueEntry e.entry) live found.0 found.1 (λ k d inside. at_entry IsCatalogueEntry live k d inside live_valid) found.2 in
+      let live_valid : All IsCatalogueEntry (entries_of live) =
+      subst (All IsCatalogueEntry) (live_of_entries entries)
+      (All-filter is_live IsCatalogueEntry (entries_of entries) valid) in
+      let both = all_of_both Alike (λ e. IsCatalogueEntry e.entry) live found.0 found.1
+      (λ k d inside. at_entry IsCatalogueEntry live k d inside live_valid) found.2 in
       let one = entry_lacks_separators found.0.entry both.0.valid in
       let other = entry_lacks_separators found.1.entry both.1.valid in (
         found.0,
         found.1,
         repeat_by Alike (λ a b. IsSameMessage a.entry b.entry) live found.0 found.1
-            (query_key_is_one found.0.entry.context found.1.entry.context found.0.entry.id found.1.entry.id one.context_eot other.context_eot one.id_eot other.id_eot)
+            (query_key_is_one found.0.entry.context found.1.entry.context found.0.entry.id found.1.entry.id
+            one.context_eot other.context_eot one.id_eot other.id_eot)
             (λ a b same. ap₂ query_key same.0 same.1) found.2,
         r.3 ∙ ap₂ repeat_fault (sym found.3) (sym found.4),
       )
 
-  module _ (texts more : List (List ℕ)) (catalogues : List (List TextEntry)) (inputs : List (List LiveMessage)) (read : AllZip ReadsText texts catalogues) (held : HoldCatalogues use_fuzzy catalogues inputs) (error : JoinError) where
+  module _ (texts more : List (List ℕ)) (catalogues : List (List TextEntry)) (inputs : List (List LiveMessage))
+      (read : AllZip ReadsText texts catalogues) (held : HoldCatalogues use_fuzzy catalogues inputs)
+      (error : JoinError) where
     -- the first input with a duplicate, whatever inputs are after these
     pub input_refused : IsRepeatInInput inputs error → IsFaultOfInput (texts ++ more) error
     input_refused r =
         let i = r.index in
-        let many : length inputs ≡ length catalogues = ap length held.messages ∙ length-map catalogues (live_messages use_fuzzy) in
+        let many : length inputs ≡ length catalogues =
+        ap length held.messages ∙ length-map catalogues (live_messages use_fuzzy) in
         let inside : i < length catalogues = omega (arith, r.inside, many) in
         let long : length texts ≡ length catalogues = zip_length ReadsText texts catalogues read in
         let within : i < length texts = omega (arith, inside, long) in
         let entries = get_or catalogues i [] in
-        let here : get_or inputs i [] ≡ live_messages use_fuzzy entries = ap (λ ms. get_or ms i []) held.messages ∙ get_or-map (live_messages use_fuzzy) catalogues i [] [] inside in
+        let here : get_or inputs i [] ≡ live_messages use_fuzzy entries =
+        ap (λ ms. get_or ms i []) held.messages ∙ get_or-map (live_messages use_fuzzy) catalogues i [] [] inside in
         let messages = ap (map (in_input_message 0)) here ∙ of_input use_fuzzy 0 entries in
         let valid : All IsCatalogueEntry entries = held.valid i [] inside in
-        let found = repeat_is (map (in_input 0) entries) r.alone (subst (All IsCatalogueEntry) (sym (entries_of_input 0 entries)) valid) (subst (λ ms. IsRepeat ms r.alone) messages r.repeat) in
-        let before : EachApart (map (live_messages use_fuzzy) (take i catalogues)) = subst EachApart (ap (take i) held.messages ∙ take-map (live_messages use_fuzzy) i catalogues) r.before in
+        let found = repeat_is (map (in_input 0) entries) r.alone
+        (subst (All IsCatalogueEntry) (sym (entries_of_input 0 entries)) valid)
+        (subst (λ ms. IsRepeat ms r.alone) messages r.repeat) in
+        let before : EachApart (map (live_messages use_fuzzy) (take i catalogues)) =
+        subst EachApart (ap (take i) held.messages ∙ take-map (live_messages use_fuzzy) i catalogues) r.before in
         let alone : r.alone.error ≡ (duplicate_fault found.0 found.1).error = ap (λ (e : JoinError). e.error) found.3 in
         let index : fault_input i r.alone.error.kind ≡ i = ap (λ (e : JoinError). fault_input i e.error.kind) found.3 in
         let count : length (take i texts) ≡ i = omega (arith, within, length-take i texts) in
@@ -116,9 +133,11 @@ module _ (use_fuzzy : Bool) where
           before = take i texts;
           text = get_or texts i [];
           after = drop (suc i) texts ++ more;
-          order = ap (λ ts. ts ++ more) (split_at texts i [] within) ∙ append_assoc (take i texts) (get_or texts i [] ∷ drop (suc i) texts) more;
+          order = ap (λ ts. ts ++ more) (split_at texts i [] within)
+              ∙ append_assoc (take i texts) (get_or texts i [] ∷ drop (suc i) texts) more;
           catalogues = take i catalogues;
-          faultless = read_distinct use_fuzzy (take i texts) (take i catalogues) (zip_take ReadsText i texts catalogues read) before;
+          faultless = read_distinct use_fuzzy (take i texts) (take i catalogues)
+              (zip_take ReadsText i texts catalogues read) before;
           input = ap (λ (e : JoinError). e.input) r.error_is ∙ index ∙ sym count;
           first_input = ap (λ (e : JoinError). e.first_input) r.error_is ∙ index ∙ sym count;
           fault = inr (record {
@@ -131,18 +150,23 @@ module _ (use_fuzzy : Bool) where
           });
         }
 
-    pub each_refused : (error ≡ join_out_of_memory) ⊎ IsRepeatInInput inputs error → IsReadingFault (texts ++ more) error
+    pub each_refused : (error ≡ join_out_of_memory) ⊎ IsRepeatInInput inputs error
+        → IsReadingFault (texts ++ more) error
     each_refused (inl memory) = inl memory
     each_refused (inr repeat) = inr (inl (input_refused repeat))
 
 -- what is refused of all inputs
-pub inputs_refused : (use_fuzzy : Bool) (texts : List (List ℕ)) (catalogues : List (List TextEntry)) (inputs : List (List LiveMessage)) (error : JoinError) → AllZip ReadsText texts catalogues → HoldCatalogues use_fuzzy catalogues inputs
+pub inputs_refused : (use_fuzzy : Bool) (texts : List (List ℕ)) (catalogues : List (List TextEntry))
+    (inputs : List (List LiveMessage)) (error : JoinError) → AllZip ReadsText texts catalogues
+    → HoldCatalogues use_fuzzy catalogues inputs
     → IsRepeatFault inputs error → IsReadingFault texts error
 inputs_refused use_fuzzy texts catalogues inputs error read held (inl memory) = inl memory
 inputs_refused use_fuzzy texts catalogues inputs error read held (inr (inl repeat)) =
-    inr (inl (subst (λ ts. IsFaultOfInput ts error) (append-nil texts) (input_refused use_fuzzy texts [] catalogues inputs read held error repeat)))
+    inr (inl (subst (λ ts. IsFaultOfInput ts error) (append-nil texts)
+    (input_refused use_fuzzy texts [] catalogues inputs read held error repeat)))
 inputs_refused use_fuzzy texts catalogues inputs error read held (inr (inr across)) =
-    let found = repeat_is use_fuzzy (joined catalogues) error (joined_valid catalogues held.valid) (subst (λ ms. IsRepeat ms error) (ap all_messages held.messages ∙ all_are use_fuzzy catalogues) across.1) in
+    let found = repeat_is use_fuzzy (joined catalogues) error (joined_valid catalogues held.valid)
+    (subst (λ ms. IsRepeat ms error) (ap all_messages held.messages ∙ all_are use_fuzzy catalogues) across.1) in
     inr (inr (record {
       catalogues = catalogues;
       each = read_distinct use_fuzzy texts catalogues read (subst EachApart held.messages across.0);
@@ -154,16 +178,22 @@ inputs_refused use_fuzzy texts catalogues inputs error read held (inr (inr acros
 
 module _ (use_fuzzy : Bool) where
   -- one more catalogue
-  pub held_more : (catalogues : List (List TextEntry)) (inputs : List (List LiveMessage)) (entries : List TextEntry) (messages : List LiveMessage) → HoldCatalogues use_fuzzy catalogues inputs → All IsCatalogueEntry entries → messages ≡ live_messages use_fuzzy entries
+  pub held_more : (catalogues : List (List TextEntry)) (inputs : List (List LiveMessage)) (entries : List TextEntry)
+      (messages : List LiveMessage) → HoldCatalogues use_fuzzy catalogues inputs → All IsCatalogueEntry entries
+      → messages ≡ live_messages use_fuzzy entries
       → HoldCatalogues use_fuzzy (catalogues ++ entries ∷ []) (inputs ++ messages ∷ [])
   held_more catalogues inputs entries messages held valid is = record {
     valid = All-push (All IsCatalogueEntry) catalogues entries held.valid valid;
-    messages = ap₂ (λ l m. l ++ m ∷ []) held.messages is ∙ sym (map-append (live_messages use_fuzzy) catalogues (entries ∷ []));
+    messages = ap₂ (λ l m. l ++ m ∷ []) held.messages is
+        ∙ sym (map-append (live_messages use_fuzzy) catalogues (entries ∷ []));
   }
 
   -- one more text
-  pub collected_more : EntriesCanStand → (texts : List (List ℕ)) (inputs : List (List LiveMessage)) (text : List ℕ) (messages : List LiveMessage) → AreCollected use_fuzzy texts inputs
-      → (entries : List TextEntry) × ReadsText text entries × (messages ≡ live_messages use_fuzzy entries) → AreCollected use_fuzzy (texts ++ text ∷ []) (inputs ++ messages ∷ [])
+  pub collected_more : EntriesCanStand
+      → (texts : List (List ℕ)) (inputs : List (List LiveMessage)) (text : List ℕ) (messages : List LiveMessage)
+      → AreCollected use_fuzzy texts inputs
+      → (entries : List TextEntry) × ReadsText text entries × (messages ≡ live_messages use_fuzzy entries)
+      → AreCollected use_fuzzy (texts ++ text ∷ []) (inputs ++ messages ∷ [])
   collected_more stand texts inputs text messages of found = record {
     catalogues = of.catalogues ++ found.0 ∷ [];
     read = zip_more ReadsText texts of.catalogues text found.0 of.read found.1;
@@ -171,24 +201,35 @@ module _ (use_fuzzy : Bool) where
   }
 
   -- as many are collected as there are texts
-  pub collected_count : (texts : List (List ℕ)) (inputs : List (List LiveMessage)) → AreCollected use_fuzzy texts inputs → length inputs ≡ length texts
+  pub collected_count : (texts : List (List ℕ)) (inputs : List (List LiveMessage)) → AreCollected use_fuzzy texts inputs
+      → length inputs ≡ length texts
   collected_count texts inputs of =
-      ap length of.held.messages ∙ length-map of.catalogues (live_messages use_fuzzy) ∙ AllZip-long ReadsText texts of.catalogues of.read
+      ap length of.held.messages ∙ length-map of.catalogues (live_messages use_fuzzy)
+      ∙ AllZip-long ReadsText texts of.catalogues of.read
 
   -- texts whose rows are sorted, where no message repeats another
-  pub sorted_read : (texts : List (List ℕ)) (inputs : List (List LiveMessage)) (rows : List Row) (of : AreCollected use_fuzzy texts inputs) → EachApart inputs → AreSortedRows inputs rows → AreRead texts of.catalogues
+  pub sorted_read : (texts : List (List ℕ)) (inputs : List (List LiveMessage)) (rows : List Row)
+      (of : AreCollected use_fuzzy texts inputs) → EachApart inputs → AreSortedRows inputs rows
+      → AreRead texts of.catalogues
   sorted_read texts inputs rows of each are = record {
     each = read_distinct use_fuzzy texts of.catalogues of.read (subst EachApart of.held.messages each);
-    distinct = joined_distinct use_fuzzy of.catalogues (subst (λ ins. AllApart (input_keys (all_messages ins))) of.held.messages (sorted_keys inputs rows are.all (rising_apart (map (λ (r : Row). r.key.now) rows) are.rising)));
+    distinct = joined_distinct use_fuzzy of.catalogues
+        (subst (λ ins. AllApart (input_keys (all_messages ins))) of.held.messages
+        (sorted_keys inputs rows are.all (rising_apart (map (λ (r : Row). r.key.now) rows) are.rising)));
   }
 
 -- the pairs of sorted rows are the messages of the texts' entries
-pub pairs_are : (use_fuzzy : Bool) (texts : List (List ℕ)) (inputs : List (List LiveMessage)) (rows : List Row) (of : AreCollected use_fuzzy texts inputs) → AreSortedRows inputs rows → (pairs given : List Message) → pairs ≡ compiled_of (map row_view rows) → given ≡ pairs
+pub pairs_are : (use_fuzzy : Bool) (texts : List (List ℕ)) (inputs : List (List LiveMessage)) (rows : List Row)
+    (of : AreCollected use_fuzzy texts inputs) → AreSortedRows inputs rows → (pairs given : List Message)
+    → pairs ≡ compiled_of (map row_view rows) → given ≡ pairs
     → AreMessagesOf (compiled_list use_fuzzy (joined_entries of.catalogues)) given
-pairs_are use_fuzzy texts inputs rows of sorted pairs given made is = rw (is, made) (are_messages use_fuzzy of.catalogues inputs rows of.held sorted)
+pairs_are use_fuzzy texts inputs rows of sorted pairs given made is =
+    rw (is, made) (are_messages use_fuzzy of.catalogues inputs rows of.held sorted)
 
 -- a fault that is reported is out of memory, or one of the text
-fault_of_kind : (text : List ℕ) (error : PoError) (kind : PoFault) → error.kind ≡ kind → IsFaultOf (IsReadFault text) error → (error ≡ out_of_memory) ⊎ ((error.kind ≢ OutOfMemory) × IsTextFault text error)
+fault_of_kind : (text : List ℕ) (error : PoError) (kind : PoFault) → error.kind ≡ kind
+    → IsFaultOf (IsReadFault text) error
+    → (error ≡ out_of_memory) ⊎ ((error.kind ≢ OutOfMemory) × IsTextFault text error)
 fault_of_kind text error OutOfMemory is h =
     let with : PoFault → ℕ → PoError = λ k l. record { kind = k; line = l } in
     inl (ap₂ with is (h.memory is))
@@ -196,22 +237,35 @@ fault_of_kind text error kind is h =
     let other : error.kind ≢ OutOfMemory = λ memory. absurd (cc (is, memory)) in
     inr (other, inl (h.fault other))
 
-pub text_fault : (text : List ℕ) (error : PoError) → IsFaultOf (IsReadFault text) error → (error ≡ out_of_memory) ⊎ ((error.kind ≢ OutOfMemory) × IsTextFault text error)
+pub text_fault : (text : List ℕ) (error : PoError) → IsFaultOf (IsReadFault text) error
+    → (error ≡ out_of_memory) ⊎ ((error.kind ≢ OutOfMemory) × IsTextFault text error)
 text_fault text error h = fault_of_kind text error error.kind refl h
 
 -- why no file is built of sorted messages
-pub build_refused : (options : Options) (texts : List (List ℕ)) (catalogues : List (List TextEntry)) (messages : List Message) (error : BuildError) (reported : JoinError) → AreRead texts catalogues
-    → AreMessagesOf (compiled_list options.use_fuzzy (joined_entries catalogues)) messages → IsBuildFault options.order messages error → IsReportedFault error reported → IsCompileFault options texts reported
+pub build_refused : (options : Options) (texts : List (List ℕ)) (catalogues : List (List TextEntry))
+    (messages : List Message) (error : BuildError) (reported : JoinError) → AreRead texts catalogues
+    → AreMessagesOf (compiled_list options.use_fuzzy (joined_entries catalogues)) messages
+    → IsBuildFault options.order messages error → IsReportedFault error reported
+    → IsCompileFault options texts reported
 build_refused options texts catalogues messages TooLarge reported read are large is =
-    inr (record { catalogues = catalogues; read = read; large = record { messages = messages; are_messages = are; large = large }; error_is = is })
+    inr (record {
+      catalogues = catalogues;
+      read = read;
+      large =
+          record { messages = messages; are_messages = are; large = large };
+      error_is = is;
+    })
 build_refused options texts catalogues messages NotSorted reported read are fault is = absurd is
 build_refused options texts catalogues messages NoMemory reported read are fault is = inl (inl is)
 
 -- the fault of a text that is the only one is of no other input
-pub alone_refused : NoFirstDuplicate → (options : Options) (text : List ℕ) (error : JoinError) → IsCompileFault options (text ∷ []) error → IsCompileFault options (text ∷ []) (fault_of_only_input error.error)
-alone_refused no_first options text error (inl (inl memory)) = inl (inl (ap (λ (e : JoinError). fault_of_only_input e.error) memory))
+pub alone_refused : NoFirstDuplicate → (options : Options) (text : List ℕ) (error : JoinError)
+    → IsCompileFault options (text ∷ []) error → IsCompileFault options (text ∷ []) (fault_of_only_input error.error)
+alone_refused no_first options text error (inl (inl memory)) =
+    inl (inl (ap (λ (e : JoinError). fault_of_only_input e.error) memory))
 alone_refused no_first options text error (inl (inr (inl fault))) =
-    let first : 0 ≡ length fault.before = omega (arith, ap length fault.order, length-append fault.before (fault.text ∷ fault.after)) in
+    let first : 0 ≡ length fault.before =
+    omega (arith, ap length fault.order, length-append fault.before (fault.text ∷ fault.after)) in
     inl (inr (inl (record {
       before = fault.before;
       text = fault.text;
@@ -225,6 +279,13 @@ alone_refused no_first options text error (inl (inr (inl fault))) =
     })))
 alone_refused no_first options text error (inl (inr (inr found))) =
     let one = AllZip-long ReadsDistinct (text ∷ []) found.catalogues found.each in
-    absurd (no_first (joined found.catalogues) found.first found.later (distinct_of_one (text ∷ []) found.catalogues (omega (arith, one)) found.each) found.duplicate)
+    absurd (no_first (joined found.catalogues) found.first found.later
+    (distinct_of_one (text ∷ []) found.catalogues (omega (arith, one)) found.each) found.duplicate)
 alone_refused no_first options text error (inr large) =
-    inr (record { catalogues = large.catalogues; read = large.read; large = large.large; error_is = ap (λ (e : JoinError). fault_of_only_input e.error) large.error_is })
+    inr (record {
+      catalogues = large.catalogues;
+      read = large.read;
+      large = large.large;
+      error_is =
+          ap (λ (e : JoinError). fault_of_only_input e.error) large.error_is;
+    })

@@ -20,13 +20,20 @@ use Rattle.po_messages.specs.Facts.Mapped.{filter_map, filter_twice}
 use Rattle.po_compile.proofs.Filters.{filter_all}
 
 -- one more row, or none, before those that are left
-pub rows_more : (input : ℕ) (headed : Bool) (old new : List InputMessage) (row : InputMessage) (m : LiveMessage) (rest : List LiveMessage) → row ≡ in_input_message input m
-    → new ≡ old ++ filter (λ m. is_joined headed m.message) (row ∷ []) → new ++ map (in_input_message input) (filter (is_joined headed) rest) ≡ old ++ map (in_input_message input) (filter (is_joined headed) (m ∷ rest))
+pub rows_more : (input : ℕ) (headed : Bool) (old new : List InputMessage) (row : InputMessage) (m : LiveMessage)
+    (rest : List LiveMessage) → row ≡ in_input_message input m
+    → new ≡ old ++ filter (λ m. is_joined headed m.message) (row ∷ [])
+    → new ++ map (in_input_message input) (filter (is_joined headed) rest) ≡ old
+    ++ map (in_input_message input) (filter (is_joined headed) (m ∷ rest))
 rows_more input headed old new row m rest is made =
     let later = map (in_input_message input) (filter (is_joined headed) rest) in
     ap (λ l. l ++ later) (made ∙ ap (λ (r : InputMessage). old ++ filter (λ m. is_joined headed m.message) (r ∷ [])) is)
-    ∙ append_assoc old (filter (λ m. is_joined headed m.message) (in_input_message input m ∷ [])) later ∙ ap (λ l. old ++ l) (one (is_joined headed m)) where
-      one : (t : Bool) → cond t (in_input_message input m ∷ []) [] ++ map (in_input_message input) (filter (is_joined headed) rest) ≡ map (in_input_message input) (cond t (m ∷ filter (is_joined headed) rest) (filter (is_joined headed) rest))
+    ∙ append_assoc old (filter (λ m. is_joined headed m.message) (in_input_message input m ∷ [])) later
+    ∙ ap (λ l. old ++ l) (one (is_joined headed m)) where
+      one : (t : Bool) → cond t (in_input_message input m ∷ []) []
+          ++ map (in_input_message input) (filter (is_joined headed) rest)
+          ≡ map (in_input_message input)
+          (cond t (m ∷ filter (is_joined headed) rest) (filter (is_joined headed) rest))
       one true = refl
       one false = refl
 
@@ -37,7 +44,8 @@ no_key context id = ne_eqb (length (context ++ 4 ∷ id)) 0 (λ e. none context 
   none [] e = omega (arith, e)
   none (b ∷ c) e = omega (arith, e)
 
-header_key : (context : Option (List ℕ)) (id : List ℕ) → (length (query_key context id) == 0) ≡ (is_none context && length id == 0)
+header_key : (context : Option (List ℕ)) (id : List ℕ)
+    → (length (query_key context id) == 0) ≡ (is_none context && length id == 0)
 header_key None id = refl
 header_key (Some context) id = no_key context id
 
@@ -52,60 +60,88 @@ exchanged false false = refl
 
 module _ (use_fuzzy : Bool) where
   -- whether an input has a live header
-  any_header : (entries : List TextEntry) → list_any has_no_key (live_messages use_fuzzy entries) ≡ list_any is_live_header entries
+  any_header : (entries : List TextEntry)
+      → list_any has_no_key (live_messages use_fuzzy entries) ≡ list_any is_live_header entries
   any_header [] = refl
-  any_header (entry ∷ entries) = one (is_live entry) (is_header entry) (header_seen use_fuzzy entry) (any_header entries) where
-    one : (live header : Bool) → has_no_key (live_message use_fuzzy entry) ≡ header → list_any has_no_key (live_messages use_fuzzy entries) ≡ list_any is_live_header entries
-        → list_any has_no_key (map (live_message use_fuzzy) (cond live (entry ∷ filter is_live entries) (filter is_live entries))) ≡ ((header && live) || list_any is_live_header entries)
-    one true true is more = ap₂ (λ a b. a || b) is more
-    one true false is more = ap₂ (λ a b. a || b) is more
-    one false true is more = more
-    one false false is more = more
+  any_header (entry ∷ entries) =
+      one (is_live entry) (is_header entry) (header_seen use_fuzzy entry) (any_header entries) where
+        one : (live header : Bool) → has_no_key (live_message use_fuzzy entry) ≡ header
+            → list_any has_no_key (live_messages use_fuzzy entries) ≡ list_any is_live_header entries
+            → list_any has_no_key (map (live_message use_fuzzy)
+            (cond live (entry ∷ filter is_live entries) (filter is_live entries)))
+            ≡ ((header && live) || list_any is_live_header entries)
+        one true true is more = ap₂ (λ a b. a || b) is more
+        one true false is more = ap₂ (λ a b. a || b) is more
+        one false true is more = more
+        one false false is more = more
 
   -- the live entries of an input that the joined list has
-  kept_live : (headed : Bool) (entries : List TextEntry) → filter (λ e. is_joined headed (live_message use_fuzzy e)) (filter is_live entries) ≡ filter is_live (kept_entries headed entries)
-  kept_live false entries = filter_all (λ e. is_joined false (live_message use_fuzzy e)) (λ e. refl) (filter is_live entries)
+  kept_live : (headed : Bool) (entries : List TextEntry)
+      → filter (λ e. is_joined headed (live_message use_fuzzy e)) (filter is_live entries)
+      ≡ filter is_live (kept_entries headed entries)
+  kept_live false entries =
+      filter_all (λ e. is_joined false (live_message use_fuzzy e)) (λ e. refl) (filter is_live entries)
   kept_live true entries =
       let joins : TextEntry → Bool = λ e. is_joined true (live_message use_fuzzy e) in
       let stays : TextEntry → Bool = λ e. not (is_live_header e) in
       filter_twice is_live joins entries
-      ∙ filter_agree (λ e. is_live e && joins e) (λ e. stays e && is_live e) (λ e. ap (λ h. is_live e && not h) (header_seen use_fuzzy e) ∙ exchanged (is_live e) (is_header e)) entries
+      ∙ filter_agree (λ e. is_live e && joins e) (λ e. stays e && is_live e)
+      (λ e. ap (λ h. is_live e && not h) (header_seen use_fuzzy e) ∙ exchanged (is_live e) (is_header e)) entries
       ∙ sym (filter_twice stays is_live entries)
 
   -- the live entries of one input
-  pub of_input : (input : ℕ) (entries : List TextEntry) → map (in_input_message input) (live_messages use_fuzzy entries) ≡ map (input_message use_fuzzy) (live_entries (map (in_input input) entries))
+  pub of_input : (input : ℕ) (entries : List TextEntry)
+      → map (in_input_message input) (live_messages use_fuzzy entries)
+      ≡ map (input_message use_fuzzy) (live_entries (map (in_input input) entries))
   of_input input entries =
-      map-map (in_input_message input) (live_message use_fuzzy) (filter is_live entries) ∙ sym (map-map (input_message use_fuzzy) (in_input input) (filter is_live entries))
+      map-map (in_input_message input) (live_message use_fuzzy) (filter is_live entries)
+      ∙ sym (map-map (input_message use_fuzzy) (in_input input) (filter is_live entries))
       ∙ sym (ap (map (input_message use_fuzzy)) (filter_map (λ e. is_live e.entry) (in_input input) entries))
 
   kept_of_input : (input : ℕ) (headed : Bool) (entries : List TextEntry)
-      → map (in_input_message input) (filter (is_joined headed) (live_messages use_fuzzy entries)) ≡ map (input_message use_fuzzy) (live_entries (map (in_input input) (kept_entries headed entries)))
+      → map (in_input_message input) (filter (is_joined headed) (live_messages use_fuzzy entries))
+      ≡ map (input_message use_fuzzy) (live_entries (map (in_input input) (kept_entries headed entries)))
   kept_of_input input headed entries =
-      ap (map (in_input_message input)) (filter_map (is_joined headed) (live_message use_fuzzy) (filter is_live entries) ∙ ap (map (live_message use_fuzzy)) (kept_live headed entries)) ∙ of_input input (kept_entries headed entries)
+      ap (map (in_input_message input))
+      (filter_map (is_joined headed) (live_message use_fuzzy) (filter is_live entries)
+      ∙ ap (map (live_message use_fuzzy)) (kept_live headed entries))
+      ∙ of_input input (kept_entries headed entries)
 
-  joined_are : (input : ℕ) (headed : Bool) (catalogues : List (List TextEntry)) → joined_messages input headed (map (live_messages use_fuzzy) catalogues) ≡ map (input_message use_fuzzy) (live_entries (joined_from input headed catalogues))
+  joined_are : (input : ℕ) (headed : Bool) (catalogues : List (List TextEntry))
+      → joined_messages input headed (map (live_messages use_fuzzy) catalogues)
+      ≡ map (input_message use_fuzzy) (live_entries (joined_from input headed catalogues))
   joined_are input headed [] = refl
   joined_are input headed (entries ∷ catalogues) =
       let kept = map (in_input input) (kept_entries headed entries) in
       let rest = joined_from (input + 1) (headed || list_any is_live_header entries) catalogues in
       ap₂ (λ a b. a ++ b) (kept_of_input input headed entries)
-      (ap (λ h. joined_messages (input + 1) (headed || h) (map (live_messages use_fuzzy) catalogues)) (any_header entries) ∙ joined_are (input + 1) (headed || list_any is_live_header entries) catalogues)
-      ∙ sym (ap (map (input_message use_fuzzy)) (filter-append (λ e. is_live e.entry) kept rest) ∙ map-append (input_message use_fuzzy) (live_entries kept) (live_entries rest))
+      (ap (λ h. joined_messages (input + 1) (headed || h) (map (live_messages use_fuzzy) catalogues))
+      (any_header entries) ∙ joined_are (input + 1) (headed || list_any is_live_header entries) catalogues)
+      ∙ sym (ap (map (input_message use_fuzzy)) (filter-append (λ e. is_live e.entry) kept rest)
+      ∙ map-append (input_message use_fuzzy) (live_entries kept) (live_entries rest))
 
   -- the messages of the joined list are those of its live entries
-  pub all_are : (catalogues : List (List TextEntry)) → all_messages (map (live_messages use_fuzzy) catalogues) ≡ map (input_message use_fuzzy) (live_entries (joined catalogues))
+  pub all_are : (catalogues : List (List TextEntry))
+      → all_messages (map (live_messages use_fuzzy) catalogues)
+      ≡ map (input_message use_fuzzy) (live_entries (joined catalogues))
   all_are catalogues = joined_are 0 false catalogues
 
-valid_from : (input : ℕ) (headed : Bool) (catalogues : List (List TextEntry)) → All (All IsCatalogueEntry) catalogues → All IsCatalogueEntry (entries_of (joined_from input headed catalogues))
+valid_from : (input : ℕ) (headed : Bool) (catalogues : List (List TextEntry)) → All (All IsCatalogueEntry) catalogues
+    → All IsCatalogueEntry (entries_of (joined_from input headed catalogues))
 valid_from input headed [] valid = All-nil IsCatalogueEntry
 valid_from input headed (entries ∷ catalogues) valid =
     let kept = kept_entries headed entries in
     let then = headed || list_any is_live_header entries in
     let rest = joined_from (input + 1) then catalogues in
-    let split : entries_of (map (in_input input) kept ++ rest) ≡ kept ++ entries_of rest = map-append (λ (e : InputEntry). e.entry) (map (in_input input) kept) rest ∙ ap (λ l. l ++ entries_of rest) (entries_of_input input kept) in
+    let split : entries_of (map (in_input input) kept ++ rest) ≡ kept ++ entries_of rest =
+    map-append (λ (e : InputEntry). e.entry) (map (in_input input) kept) rest
+    ∙ ap (λ l. l ++ entries_of rest) (entries_of_input input kept) in
     subst (All IsCatalogueEntry) (sym split)
-    (All-append IsCatalogueEntry kept (entries_of rest) (kept_valid headed entries (All-head (All IsCatalogueEntry) entries catalogues valid)) (valid_from (input + 1) then catalogues (All-tail (All IsCatalogueEntry) entries catalogues valid)))
+    (All-append IsCatalogueEntry kept (entries_of rest)
+    (kept_valid headed entries (All-head (All IsCatalogueEntry) entries catalogues valid))
+    (valid_from (input + 1) then catalogues (All-tail (All IsCatalogueEntry) entries catalogues valid)))
 
 -- the joined list of entries that can stand in a catalogue
-pub joined_valid : (catalogues : List (List TextEntry)) → All (All IsCatalogueEntry) catalogues → All IsCatalogueEntry (joined_entries catalogues)
+pub joined_valid : (catalogues : List (List TextEntry)) → All (All IsCatalogueEntry) catalogues
+    → All IsCatalogueEntry (joined_entries catalogues)
 joined_valid catalogues valid = valid_from 0 false catalogues valid

@@ -37,7 +37,8 @@ use Rattle.po_messages.proofs.DuplicateLemmas.{live_of_entries}
 pub rising_apart : (ks : List (List ℕ)) → AreRising ks → AllApart ks
 rising_apart ks rising i j d below inside =
     less_is_other (get_or ks i d) (get_or ks j d)
-    (ap₂ key_cmp (get_or_default ks i d [] (omega (arith, below, inside))) (get_or_default ks j d [] inside) ∙ rising_between ks rising i j below inside)
+    (ap₂ key_cmp (get_or_default ks i d [] (omega (arith, below, inside))) (get_or_default ks j d [] inside)
+    ∙ rising_between ks rising i j below inside)
 
 not_above : (o : Ordering) → is_lt (ordering_reverse o) ≡ false → o ≢ Equal → o ≡ Less
 not_above Less h other = refl
@@ -51,7 +52,8 @@ module _ {X : Type 0} (key : X → List ℕ) where
 
   pub below_from_rising : (xs : List X) → AreRising (map key xs) → AllPairs Below xs
   below_from_rising xs rising i j d below inside =
-      ap₂ key_cmp (sym (get_or-map key xs i d [] (omega (arith, below, inside)))) (sym (get_or-map key xs j d [] inside))
+      ap₂ key_cmp (sym (get_or-map key xs i d [] (omega (arith, below, inside))))
+      (sym (get_or-map key xs j d [] inside))
       ∙ rising_between (map key xs) rising i j below (omega (arith, inside, length-map xs key))
 
   pub rising_from_below : (xs : List X) → AllPairs Below xs → AreRising (map key xs)
@@ -59,14 +61,17 @@ module _ {X : Type 0} (key : X → List ℕ) where
     next = λ i inside.
         let long = length-map xs key in
         let d = first_of xs (omega (arith, inside, long)) in
-        ap₂ key_cmp (get_or-map key xs i d [] (omega (arith, inside, long))) (get_or-map key xs (i + 1) d [] (omega (arith, inside, long))) ∙ below i (i + 1) d (omega arith) (omega (arith, inside, long));
+        ap₂ key_cmp (get_or-map key xs i d [] (omega (arith, inside, long)))
+        (get_or-map key xs (i + 1) d [] (omega (arith, inside, long)))
+        ∙ below i (i + 1) d (omega arith) (omega (arith, inside, long));
   }
 
   pub rising_filter : (p : X → Bool) (xs : List X) → AreRising (map key xs) → AreRising (map key (filter p xs))
   rising_filter p xs rising = rising_from_below (filter p xs) (AllPairs-filter Below p xs (below_from_rising xs rising))
 
   -- sorted keys rise where they are different
-  pub rising_from_sorted : (xs : List X) → IsSortedBy (λ a b. is_lt (key_cmp (key a) (key b))) xs → AllApart (map key xs) → AreRising (map key xs)
+  pub rising_from_sorted : (xs : List X) → IsSortedBy (λ a b. is_lt (key_cmp (key a) (key b))) xs
+      → AllApart (map key xs) → AreRising (map key xs)
   rising_from_sorted xs sorted apart = record {
     next = λ i inside.
         let long = length-map xs key in
@@ -77,7 +82,8 @@ module _ {X : Type 0} (key : X → List ℕ) where
         let a = key (get_or xs i d) in
         let b = key (get_or xs (i + 1) d) in
         ap₂ key_cmp here next
-        ∙ not_above (key_cmp a b) (subst (λ o. is_lt o ≡ false) (nat_list_cmp_total.antisymm b a) (sorted i d (omega arith) within))
+        ∙ not_above (key_cmp a b)
+        (subst (λ o. is_lt o ≡ false) (nat_list_cmp_total.antisymm b a) (sorted i d (omega arith) within))
         (λ equal. apart i (i + 1) [] (omega arith) (omega (arith, inside)) (here ∙ exact_bytes a b equal ∙ sym next));
   }
 
@@ -86,19 +92,24 @@ module _ {X : Type 0} (key : X → List ℕ) where
   RiseUpTo xs n = (k : ℕ) → k + 1 < n → key_cmp (key_at (map key xs) k) (key_at (map key xs) (k + 1)) ≡ Less
 
   -- one more key, above the last
-  pub rise_more : (xs : List X) (i : ℕ) (a b : X) → 0 < i → i < length xs → a ≡ get_or xs (i - 1) a → b ≡ get_or xs i b → Below a b → RiseUpTo xs i → RiseUpTo xs (i + 1)
+  pub rise_more : (xs : List X) (i : ℕ) (a b : X) → 0 < i → i < length xs → a ≡ get_or xs (i - 1) a → b ≡ get_or xs i b
+      → Below a b → RiseUpTo xs i → RiseUpTo xs (i + 1)
   rise_more xs i a b some inside first second below so_far k within =
       elim (cases_lt (k + 1) i) [
         | inl before ↦ so_far k before
         | inr past ↦
             let last : k ≡ i - 1 = omega (arith, within, past, some) in
             let next : k + 1 ≡ i = omega (arith, within, past) in
-            ap₂ key_cmp (ap (key_at (map key xs)) last ∙ get_or-map key xs (i - 1) a [] (omega (arith, inside)) ∙ ap key (sym first)) (ap (key_at (map key xs)) next ∙ get_or-map key xs i b [] inside ∙ ap key (sym second)) ∙ below
+            ap₂ key_cmp (ap (key_at (map key xs)) last ∙ get_or-map key xs (i - 1) a [] (omega (arith, inside))
+            ∙ ap key (sym first)) (ap (key_at (map key xs)) next ∙ get_or-map key xs i b [] inside
+            ∙ ap key (sym second)) ∙ below
       ]
 
 pub apart_permuted : (ks ls : List (List ℕ)) → IsPermutation ks ls → AllApart ks → AllApart ls
 apart_permuted ks ls permuted apart =
-    AllPairs-from_IsDistinct bytes_eq-Decides ls (IsDistinct-IsPermutation bytes_eq nat_list_eq_equiv.symm ks ls permuted (IsDistinct-from_AllPairs bytes_eq-Decides ks apart))
+    AllPairs-from_IsDistinct bytes_eq-Decides ls
+    (IsDistinct-IsPermutation bytes_eq nat_list_eq_equiv.symm ks ls permuted
+    (IsDistinct-from_AllPairs bytes_eq-Decides ks apart))
 
 abbrev pub key_of_entry : TextEntry → List ℕ
 key_of_entry entry = query_key entry.context entry.id
@@ -110,22 +121,30 @@ entries_differ entries apart i j d below inside same =
     (map_at key_of_entry entries i d ∙ ap₂ query_key same.0 same.1 ∙ sym (map_at key_of_entry entries j d))
 
 module _ (use_fuzzy : Bool) where
-  live_distinct : (entries : List TextEntry) → AllApart (message_keys (live_messages use_fuzzy entries)) → HasNoDuplicate entries
+  live_distinct : (entries : List TextEntry) → AllApart (message_keys (live_messages use_fuzzy entries))
+      → HasNoDuplicate entries
   live_distinct entries apart =
       let key : LiveMessage → List ℕ = λ m. m.key in
-      entries_differ (filter is_live entries) (subst AllApart (map-map key (live_message use_fuzzy) (filter is_live entries)) apart)
+      entries_differ (filter is_live entries)
+      (subst AllApart (map-map key (live_message use_fuzzy) (filter is_live entries)) apart)
 
-  pub joined_distinct : (catalogues : List (List TextEntry)) → AllApart (input_keys (all_messages (map (live_messages use_fuzzy) catalogues))) → HasNoDuplicate (joined_entries catalogues)
+  pub joined_distinct : (catalogues : List (List TextEntry))
+      → AllApart (input_keys (all_messages (map (live_messages use_fuzzy) catalogues)))
+      → HasNoDuplicate (joined_entries catalogues)
   joined_distinct catalogues apart =
       let live = live_entries (joined catalogues) in
       let key : InputMessage → List ℕ = λ m. m.message.key in
       let entry : InputEntry → TextEntry = λ e. e.entry in
-      let keys : input_keys (all_messages (map (live_messages use_fuzzy) catalogues)) ≡ map key_of_entry (entries_of live) =
-      ap input_keys (all_are use_fuzzy catalogues) ∙ map-map key (input_message use_fuzzy) live ∙ sym (map-map key_of_entry entry live) in
-      subst AllDiffer (sym (live_of_entries (joined catalogues))) (entries_differ (entries_of live) (subst AllApart keys apart))
+      let keys : input_keys (all_messages (map (live_messages use_fuzzy) catalogues))
+      ≡ map key_of_entry (entries_of live) =
+      ap input_keys (all_are use_fuzzy catalogues) ∙ map-map key (input_message use_fuzzy) live
+      ∙ sym (map-map key_of_entry entry live) in
+      subst AllDiffer (sym (live_of_entries (joined catalogues)))
+      (entries_differ (entries_of live) (subst AllApart keys apart))
 
   -- texts that read as catalogues in each of which the keys differ
-  pub read_distinct : (texts : List (List ℕ)) (catalogues : List (List TextEntry)) → AllZip ReadsText texts catalogues → EachApart (map (live_messages use_fuzzy) catalogues) → AllZip ReadsDistinct texts catalogues
+  pub read_distinct : (texts : List (List ℕ)) (catalogues : List (List TextEntry)) → AllZip ReadsText texts catalogues
+      → EachApart (map (live_messages use_fuzzy) catalogues) → AllZip ReadsDistinct texts catalogues
   read_distinct [] [] read apart = tt
   read_distinct [] (c ∷ cs) read apart = absurd read
   read_distinct (t ∷ ts) [] read apart = absurd read
@@ -141,23 +160,31 @@ module _ {X : Type 0} (R : X → X → Type 0) where
   pairs_left : (xs ys : List X) → AllPairs R (xs ++ ys) → AllPairs R xs
   pairs_left xs ys all i j d below inside =
       subst (λ x. R x (get_or xs j d)) (get_or_append_left xs ys d i (omega (arith, below, inside)))
-      (subst (R (get_or (xs ++ ys) i d)) (get_or_append_left xs ys d j inside) (all i j d below (omega (arith, inside, length-append xs ys))))
+      (subst (R (get_or (xs ++ ys) i d)) (get_or_append_left xs ys d j inside)
+      (all i j d below (omega (arith, inside, length-append xs ys))))
 
   pairs_right : (xs ys : List X) → AllPairs R (xs ++ ys) → AllPairs R ys
   pairs_right [] ys all = all
-  pairs_right (x ∷ xs) ys all = pairs_right xs ys (λ i j d below inside. all (suc i) (suc j) d (omega (arith, below)) (omega (arith, inside)))
+  pairs_right (x ∷ xs) ys all =
+      pairs_right xs ys (λ i j d below inside. all (suc i) (suc j) d (omega (arith, below)) (omega (arith, inside)))
 
 -- the messages of rows whose keys differ
-pub sorted_keys : (inputs : List (List LiveMessage)) (rows : List Row) → IsPermutation (all_messages inputs) (map row_view rows) → AllApart (map (λ (r : Row). r.key.now) rows) → AllApart (input_keys (all_messages inputs))
+pub sorted_keys : (inputs : List (List LiveMessage)) (rows : List Row)
+    → IsPermutation (all_messages inputs) (map row_view rows) → AllApart (map (λ (r : Row). r.key.now) rows)
+    → AllApart (input_keys (all_messages inputs))
 sorted_keys inputs rows all apart =
     let key : InputMessage → List ℕ = λ m. m.message.key in
-    apart_permuted (input_keys (map row_view rows)) (input_keys (all_messages inputs)) (IsPermutation-map key (map row_view rows) (all_messages inputs) (IsPermutation-sym (all_messages inputs) (map row_view rows) all))
+    apart_permuted (input_keys (map row_view rows)) (input_keys (all_messages inputs))
+    (IsPermutation-map key (map row_view rows) (all_messages inputs)
+    (IsPermutation-sym (all_messages inputs) (map row_view rows) all))
     (subst AllApart (sym (map-map key row_view rows)) apart)
 
 -- rows that are sorted
-module _ (inputs : List (List LiveMessage)) (rows sorted : List Row) (made : map row_view rows ≡ all_messages inputs) (permuted : IsPermutation rows sorted) where
+module _ (inputs : List (List LiveMessage)) (rows sorted : List Row) (made : map row_view rows ≡ all_messages inputs)
+    (permuted : IsPermutation rows sorted) where
   pub sorted_all : IsPermutation (all_messages inputs) (map row_view sorted)
-  sorted_all = subst (λ ms. IsPermutation ms (map row_view sorted)) made (IsPermutation-map row_view rows sorted permuted)
+  sorted_all = subst (λ ms. IsPermutation ms (map row_view sorted)) made
+      (IsPermutation-map row_view rows sorted permuted)
 
   pub all_apart : AllApart (map (λ (r : Row). r.key.now) sorted) → AllApart (input_keys (all_messages inputs))
   all_apart apart = sorted_keys inputs sorted sorted_all apart
@@ -165,42 +192,56 @@ module _ (inputs : List (List LiveMessage)) (rows sorted : List Row) (made : map
   pub sorted_apart : AllApart (input_keys (all_messages inputs)) → AllApart (map (λ (r : Row). r.key.now) sorted)
   sorted_apart apart =
       subst AllApart (map-map (λ (m : InputMessage). m.message.key) row_view sorted)
-      (apart_permuted (input_keys (all_messages inputs)) (input_keys (map row_view sorted)) (IsPermutation-map (λ (m : InputMessage). m.message.key) (all_messages inputs) (map row_view sorted) sorted_all) apart)
+      (apart_permuted (input_keys (all_messages inputs)) (input_keys (map row_view sorted))
+      (IsPermutation-map (λ (m : InputMessage). m.message.key) (all_messages inputs)
+      (map row_view sorted) sorted_all) apart)
 
 -- one header among messages that differ and are no headers
-with_header : (headers others : List LiveMessage) → length headers ≤ 1 → All (λ m. has_no_key m ≡ true) headers → All (λ m. is_joined true m ≡ true) others → AllApart (message_keys others) → AllApart (message_keys (headers ++ others))
+with_header : (headers others : List LiveMessage) → length headers ≤ 1 → All (λ m. has_no_key m ≡ true) headers
+    → All (λ m. is_joined true m ≡ true) others → AllApart (message_keys others)
+    → AllApart (message_keys (headers ++ others))
 with_header [] others few none some apart = apart
 with_header (h ∷ []) others few none some apart =
     let key : LiveMessage → List ℕ = λ m. m.key in
     AllPairs-cons (λ k l. k ≢ l) h.key (message_keys others)
     (All-map (λ k. h.key ≢ k) key others (All-weaker (λ m. is_joined true m ≡ true) (λ m. h.key ≢ m.key)
-    (λ m is same. absurd (let empty = ap (λ k. length k == 0) (sym same) ∙ All-head (λ m. has_no_key m ≡ true) h [] none in let other = not-true (has_no_key m) is in cc (empty, other))) others some)) apart
+    (λ m is same. absurd (let empty = ap (λ k. length k == 0) (sym same)
+    ∙ All-head (λ m. has_no_key m ≡ true) h [] none in let other =
+    not-true (has_no_key m) is in cc (empty, other))) others some)) apart
 with_header (h ∷ g ∷ headers) others few none some apart = absurd (omega (arith, few))
 
-input_apart : (headed : Bool) (messages : List LiveMessage) → HasOneHeader messages → AllApart (message_keys (filter (is_joined headed) messages)) → AllApart (message_keys messages)
-input_apart false messages one apart = subst (λ ms. AllApart (message_keys ms)) (filter_all (is_joined false) (λ m. refl) messages) apart
+input_apart : (headed : Bool) (messages : List LiveMessage) → HasOneHeader messages
+    → AllApart (message_keys (filter (is_joined headed) messages)) → AllApart (message_keys messages)
+input_apart false messages one apart =
+    subst (λ ms. AllApart (message_keys ms)) (filter_all (is_joined false) (λ m. refl) messages) apart
 input_apart true messages one apart =
     let key : LiveMessage → List ℕ = λ m. m.key in
     let headers = filter has_no_key messages in
     let others = filter (is_joined true) messages in
     let parts = IsPermutation-filter_both has_no_key (is_joined true) (λ m. refl) messages in
-    apart_permuted (message_keys (headers ++ others)) (message_keys messages) (IsPermutation-map key (headers ++ others) messages (IsPermutation-sym messages (headers ++ others) parts))
+    apart_permuted (message_keys (headers ++ others)) (message_keys messages)
+    (IsPermutation-map key (headers ++ others) messages (IsPermutation-sym messages (headers ++ others) parts))
     (with_header headers others one (filter_passes has_no_key messages) (filter_passes (is_joined true) messages) apart)
 
-each_apart : (input : ℕ) (headed : Bool) (inputs : List (List LiveMessage)) → All HasOneHeader inputs → AllApart (input_keys (joined_messages input headed inputs)) → EachApart inputs
+each_apart : (input : ℕ) (headed : Bool) (inputs : List (List LiveMessage)) → All HasOneHeader inputs
+    → AllApart (input_keys (joined_messages input headed inputs)) → EachApart inputs
 each_apart input headed [] one apart = All-nil (λ messages. AllApart (message_keys messages))
 each_apart input headed (messages ∷ inputs) one apart =
     let key : InputMessage → List ℕ = λ m. m.message.key in
     let kept = filter (is_joined headed) messages in
     let then = headed || list_any has_no_key messages in
     let rest = joined_messages (input + 1) then inputs in
-    let split = map-append key (map (in_input_message input) kept) rest ∙ ap (λ ks. ks ++ input_keys rest) (map-map key (in_input_message input) kept) in
+    let split = map-append key (map (in_input_message input) kept) rest
+    ∙ ap (λ ks. ks ++ input_keys rest) (map-map key (in_input_message input) kept) in
     let parts = subst AllApart split apart in
     All-cons (λ ms. AllApart (message_keys ms)) messages inputs
-    (input_apart headed messages (All-head HasOneHeader messages inputs one) (pairs_left (λ k l. k ≢ l) (message_keys kept) (input_keys rest) parts))
-    (each_apart (input + 1) then inputs (All-tail HasOneHeader messages inputs one) (pairs_right (λ k l. k ≢ l) (message_keys kept) (input_keys rest) parts))
+    (input_apart headed messages (All-head HasOneHeader messages inputs one)
+    (pairs_left (λ k l. k ≢ l) (message_keys kept) (input_keys rest) parts))
+    (each_apart (input + 1) then inputs (All-tail HasOneHeader messages inputs one)
+    (pairs_right (λ k l. k ≢ l) (message_keys kept) (input_keys rest) parts))
 
 -- where no message repeats another of the joined list, and no input has two headers, none repeats
 -- another of its input
-pub inputs_apart : (inputs : List (List LiveMessage)) → All HasOneHeader inputs → AllApart (input_keys (all_messages inputs)) → EachApart inputs
+pub inputs_apart : (inputs : List (List LiveMessage)) → All HasOneHeader inputs
+    → AllApart (input_keys (all_messages inputs)) → EachApart inputs
 inputs_apart inputs one apart = each_apart 0 false inputs one apart

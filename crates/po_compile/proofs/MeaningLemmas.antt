@@ -55,21 +55,30 @@ pub find_missed : {X : Type 0} (test : X → Bool) (xs : List X) → find test x
 find_missed test xs e k d inside = fails_before_first test xs k d (missed (cases_lt k (position_or_len test xs))) where
   missed : (k < position_or_len test xs) ⊎ (position_or_len test xs ≤ k) → k < position_or_len test xs
   missed (inl before) = before
-  missed (inr past) = absurd (none-some (get_or xs (position_or_len test xs) d) (sym e ∙ find_at test xs ∙ slice_get-get_or xs (position_or_len test xs) d (omega (arith, past, inside))))
+  missed (inr past) = absurd
+      (none-some (get_or xs (position_or_len test xs) d)
+      (sym e ∙ find_at test xs ∙ slice_get-get_or xs (position_or_len test xs) d (omega (arith, past, inside))))
 
 -- messages with rising keys that have one key are one
-pub one_message : (messages : List Message) → AreRising (keys messages) → (m n : Message) → Contains messages m → Contains messages n
+pub one_message : (messages : List Message) → AreRising (keys messages) → (m n : Message) → Contains messages m
+    → Contains messages n
     → key_of m.original ≡ key_of n.original → m ≡ n
 one_message messages rising m n (i, in_i, at_i) (j, in_j, at_j) same =
     let key : Message → List ℕ = λ x. key_of x.original in
-    let at : (k : ℕ) (x : Message) → k < length messages → get_or messages k x ≡ x → get_or messages k m ≡ x = λ k x inside is. get_or_default messages k m x inside ∙ is in
-    let apart : (k l : ℕ) (x y : Message) → k < l → l < length messages → get_or messages k m ≡ x → get_or messages l m ≡ y → key x ≢ key y = λ k l x y below inside is_x is_y.
-    less_is_other (key x) (key y) (ap₂ (λ a b. key_cmp (key a) (key b)) (sym is_x) (sym is_y) ∙ below_from_rising key messages rising k l m below inside) in
+    let at : (k : ℕ) (x : Message) → k < length messages → get_or messages k x ≡ x → get_or messages k m ≡ x =
+    λ k x inside is. get_or_default messages k m x inside ∙ is in
+    let apart : (k l : ℕ) (x y : Message) → k < l → l < length messages → get_or messages k m ≡ x
+    → get_or messages l m ≡ y → key x ≢ key y = λ k l x y below inside is_x is_y.
+    less_is_other (key x) (key y)
+    (ap₂ (λ a b. key_cmp (key a) (key b)) (sym is_x) (sym is_y)
+    ∙ below_from_rising key messages rising k l m below inside) in
     elim (cases_lt i j) [
       | inl below ↦ absurd (apart i j m n below in_j (at i m in_i at_i) (at j n in_j at_j) same)
       | inr past ↦ elim (cases_lt j i) [
         | inl above ↦ absurd (apart j i n m above in_i (at j n in_j at_j) (at i m in_i at_i) (sym same))
-        | inr others ↦ let equal : i ≡ j = omega (arith, past, others) in sym (at i m in_i at_i) ∙ ap (λ k. get_or messages k m) equal ∙ at j n in_j at_j
+        | inr others ↦ let equal : i ≡ j =
+            omega (arith, past, others) in sym (at i m in_i at_i) ∙ ap (λ k. get_or messages k m) equal
+            ∙ at j n in_j at_j
       ]
     ]
 
@@ -77,18 +86,23 @@ abbrev pub has_key : List ℕ → Message → Bool
 has_key key m = bytes_eq (key_of m.original) key
 
 -- a message is found under its key in every order
-pub find_permuted : (key : List ℕ) (xs ys : List Message) → IsPermutation xs ys → AreRising (keys ys) → find (has_key key) ys ≡ find (has_key key) xs
+pub find_permuted : (key : List ℕ) (xs ys : List Message) → IsPermutation xs ys → AreRising (keys ys)
+    → find (has_key key) ys ≡ find (has_key key) xs
 find_permuted key xs ys permuted rising = by_case (find (has_key key) xs) refl (find (has_key key) ys) refl
   where
-    by_case : (a : Option Message) → find (has_key key) xs ≡ a → (b : Option Message) → find (has_key key) ys ≡ b → b ≡ a
+    by_case : (a : Option Message) → find (has_key key) xs ≡ a → (b : Option Message) → find (has_key key) ys ≡ b
+        → b ≡ a
     by_case None ea None eb = refl
     by_case None ea (Some y) eb =
         let found = find_found (has_key key) ys y eb in
-        let fails = All-contains (λ m. has_key key m ≡ false) ys y (All-permutation (λ m. has_key key m ≡ false) xs ys permuted (find_missed (has_key key) xs ea)) found.among in
+        let fails = All-contains (λ m. has_key key m ≡ false) ys y
+        (All-permutation (λ m. has_key key m ≡ false) xs ys permuted (find_missed (has_key key) xs ea))
+        found.among in
         cc (fails, found.passes)
     by_case (Some x) ea None eb =
         let found = find_found (has_key key) xs x ea in
-        let fails = All-contains (λ m. has_key key m ≡ false) ys x (find_missed (has_key key) ys eb) (Contains-permutation xs ys x permuted found.among) in
+        let fails = All-contains (λ m. has_key key m ≡ false) ys x (find_missed (has_key key) ys eb)
+        (Contains-permutation xs ys x permuted found.among) in
         cc (fails, found.passes)
     by_case (Some x) ea (Some y) eb =
         let fx = find_found (has_key key) xs x ea in
@@ -120,7 +134,8 @@ entry_lacks_separators entry valid =
     let after_id = plural ++ entry.forms in
     let own = context ++ (entry.id ∷ after_id) in
     let split : quoted_texts entry ≡ previous ++ own = simp append_assoc in
-    let all : All NoNul (previous ++ own) = All-weaker IsText NoNul (λ text t. t.no_nul) (previous ++ own) (subst (All IsText) split valid.quoted_texts) in
+    let all : All NoNul (previous ++ own) =
+    All-weaker IsText NoNul (λ text t. t.no_nul) (previous ++ own) (subst (All IsText) split valid.quoted_texts) in
     let texts = All-right NoNul previous own all in
     let with_id = All-right NoNul context (entry.id ∷ after_id) texts in
     let others = All-tail NoNul entry.id after_id with_id in
@@ -134,9 +149,11 @@ entry_lacks_separators entry valid =
       some_form = valid.some_form;
     }
 
-pub key_of-original : (entry : TextEntry) → LacksSeparators entry → key_of (original_of entry) ≡ query_key entry.context entry.id
+pub key_of-original : (entry : TextEntry) → LacksSeparators entry
+    → key_of (original_of entry) ≡ query_key entry.context entry.id
 key_of-original entry lacks =
-    key_of-plural_part (query_key entry.context entry.id) entry.plural (query_key_lacks entry.context entry.id lacks.context_nul lacks.id_nul)
+    key_of-plural_part (query_key entry.context entry.id) entry.plural
+    (query_key_lacks entry.context entry.id lacks.context_nul lacks.id_nul)
 
 some_forms : (all : List (List ℕ)) → 0 < length all → All (Lacks 0) all → forms (join_with_byte 0 all) ≡ all
 some_forms [] some lacks = absurd (omega arith)
@@ -151,12 +168,14 @@ separators [] h = All-nil (λ b. b ≢ 4)
 separators (b ∷ text) h =
     let here = or_parts (is_separator b) (list_any is_separator text) h in
     let not_eot = or_parts (b == 0) (b == 4) here.0 in
-    All-cons (λ b. b ≢ 4) b text (λ e. let same : (b == 4) ≡ true = (Decides-eqb b 4).1 e in cc (same, not_eot.1)) (separators text here.1)
+    All-cons (λ b. b ≢ 4) b text (λ e. let same : (b == 4) ≡ true = (Decides-eqb b 4).1 e in cc (same, not_eot.1))
+    (separators text here.1)
 
 text_lacks_eot : (text : List ℕ) → has_no_separator text ≡ true → Lacks 4 text
 text_lacks_eot text h = separators text (not-true (list_any is_separator text) h)
 
-context_lacks_eot : (context : Option (List ℕ)) → has_no_separator (unwrap_or context []) ≡ true → IfSome context (Lacks 4)
+context_lacks_eot : (context : Option (List ℕ)) → has_no_separator (unwrap_or context []) ≡ true
+    → IfSome context (Lacks 4)
 context_lacks_eot None h = tt
 context_lacks_eot (Some context) h = text_lacks_eot context h
 
@@ -167,7 +186,8 @@ option_decides (Some x) None = (λ h. cc, λ h. cc)
 option_decides (Some x) (Some y) = Decides-like (bytes_eq x y) (λ e. ap Some e) (λ e. cc) (bytes_eq-Decides x y)
 
 -- the message of an entry stands under a key exactly where the entry has its context and msgid
-same_test : (context : Option (List ℕ)) (id : List ℕ) → can_be_key context id ≡ true → (entry : TextEntry) → LacksSeparators entry
+same_test : (context : Option (List ℕ)) (id : List ℕ) → can_be_key context id ≡ true → (entry : TextEntry)
+    → LacksSeparators entry
     → has_key (query_key context id) (message_of entry) ≡ is_of_message context id entry
 same_test context id can_be entry c =
     let parts = and_parts (has_no_separator (unwrap_or context [])) (has_no_separator id) can_be in
@@ -176,36 +196,50 @@ same_test context id can_be entry c =
     (bytes_eq-Decides (key_of (original_of entry)) (query_key context id))
     (Decides-like (is_of_message context id entry)
     (λ e. key ∙ ap (λ c. query_key c entry.id) e.0 ∙ ap (query_key context) e.1)
-    (λ e. query_key_is_one entry.context context entry.id id c.context_eot (context_lacks_eot context parts.0) c.id_eot (text_lacks_eot id parts.1) (sym key ∙ e))
-    (Decides-and (option_eq bytes_eq entry.context context) (bytes_eq entry.id id) (option_decides entry.context context) (bytes_eq-Decides entry.id id)))
+    (λ e. query_key_is_one entry.context context entry.id id c.context_eot (context_lacks_eot context parts.0) c.id_eot
+    (text_lacks_eot id parts.1) (sym key ∙ e))
+    (Decides-and (option_eq bytes_eq entry.context context) (bytes_eq entry.id id)
+    (option_decides entry.context context) (bytes_eq-Decides entry.id id)))
 
-find_agree : (p q : TextEntry → Bool) (entries : List TextEntry) → All (λ e. p e ≡ q e) entries → find p entries ≡ find q entries
+find_agree : (p q : TextEntry → Bool) (entries : List TextEntry) → All (λ e. p e ≡ q e) entries
+    → find p entries ≡ find q entries
 find_agree p q [] same = refl
 find_agree p q (entry ∷ entries) same =
-    ap₂ (λ b r. cond b (Some entry) r) (All-head (λ e. p e ≡ q e) entry entries same) (find_agree p q entries (All-tail (λ e. p e ≡ q e) entry entries same))
+    ap₂ (λ b r. cond b (Some entry) r) (All-head (λ e. p e ≡ q e) entry entries same)
+    (find_agree p q entries (All-tail (λ e. p e ≡ q e) entry entries same))
 
-find_messages : (context : Option (List ℕ)) (id : List ℕ) → can_be_key context id ≡ true → (entries : List TextEntry) → All LacksSeparators entries
-    → find (has_key (query_key context id)) (map message_of entries) ≡ option_map message_of (find (is_of_message context id) entries)
+find_messages : (context : Option (List ℕ)) (id : List ℕ) → can_be_key context id ≡ true → (entries : List TextEntry)
+    → All LacksSeparators entries
+    → find (has_key (query_key context id)) (map message_of entries)
+    ≡ option_map message_of (find (is_of_message context id) entries)
 find_messages context id can_be entries all =
     let test : TextEntry → Bool = λ e. has_key (query_key context id) (message_of e) in
     find_map (has_key (query_key context id)) message_of entries
-    ∙ ap (option_map message_of) (find_agree test (is_of_message context id) entries (All-weaker LacksSeparators (λ e. test e ≡ is_of_message context id e) (same_test context id can_be) entries all))
+    ∙ ap (option_map message_of)
+    (find_agree test (is_of_message context id) entries
+    (All-weaker LacksSeparators (λ e. test e ≡ is_of_message context id e)
+    (same_test context id can_be) entries all))
 
 -- the translation under a key is that of the entry that the key defines
-translation_of_definition : (entries : List TextEntry) (messages : List Message) → All LacksSeparators entries → AreMessagesOf entries messages
+translation_of_definition : (entries : List TextEntry) (messages : List Message) → All LacksSeparators entries
+    → AreMessagesOf entries messages
     → (context : Option (List ℕ)) (id : List ℕ) → can_be_key context id ≡ true
-    → translation_under (query_key context id) messages ≡ option_map translation_of (find (is_of_message context id) entries)
+    → translation_under (query_key context id) messages
+    ≡ option_map translation_of (find (is_of_message context id) entries)
 translation_of_definition entries messages all are context id can_be =
     ap (option_map (λ (m : Message). m.translation))
-    (find_permuted (query_key context id) (map message_of entries) messages are.all are.rising ∙ find_messages context id can_be entries all)
+    (find_permuted (query_key context id) (map message_of entries) messages are.all are.rising
+    ∙ find_messages context id can_be entries all)
     ∙ once_more (find (is_of_message context id) entries)
   where
-    once_more : (e : Option TextEntry) → option_map (λ (m : Message). m.translation) (option_map message_of e) ≡ option_map translation_of e
+    once_more : (e : Option TextEntry)
+        → option_map (λ (m : Message). m.translation) (option_map message_of e) ≡ option_map translation_of e
     once_more None = refl
     once_more (Some e) = refl
 
 -- what holds of each entry holds of the one that is found
-forms_of_found : (entries : List TextEntry) (test : TextEntry → Bool) → All LacksSeparators entries → (found : Option TextEntry) → find test entries ≡ found
+forms_of_found : (entries : List TextEntry) (test : TextEntry → Bool) → All LacksSeparators entries
+    → (found : Option TextEntry) → find test entries ≡ found
     → option_map forms (option_map translation_of found) ≡ option_map (λ (e : TextEntry). e.forms) found
 forms_of_found entries test all None is = refl
 forms_of_found entries test all (Some e) is =
@@ -215,45 +249,60 @@ form_at_first : (all : List (List ℕ)) → form_at all 0 ≡ first_form all
 form_at_first [] = refl
 form_at_first (form ∷ others) = refl
 
-header_of_found : (entries : List TextEntry) (test : TextEntry → Bool) → All LacksSeparators entries → (found : Option TextEntry) → find test entries ≡ found
-    → option_map_or (λ t. form_at (forms t) 0) (option_map translation_of found) [] ≡ option_map_or (λ (e : TextEntry). first_form e.forms) found []
+header_of_found : (entries : List TextEntry) (test : TextEntry → Bool) → All LacksSeparators entries
+    → (found : Option TextEntry) → find test entries ≡ found
+    → option_map_or (λ t. form_at (forms t) 0) (option_map translation_of found) []
+    ≡ option_map_or (λ (e : TextEntry). first_form e.forms) found []
 header_of_found entries test all None is = refl
 header_of_found entries test all (Some e) is =
-    ap (λ all. form_at all 0) (forms-translation e (All-contains LacksSeparators entries e all (find_found test entries e is).among)) ∙ form_at_first e.forms
+    ap (λ all. form_at all 0)
+    (forms-translation e (All-contains LacksSeparators entries e all (find_found test entries e is).among))
+    ∙ form_at_first e.forms
 
-found_if_key : (entries : List TextEntry) (messages : List Message) → All LacksSeparators entries → AreMessagesOf entries messages
+found_if_key : (entries : List TextEntry) (messages : List Message) → All LacksSeparators entries
+    → AreMessagesOf entries messages
     → (query : Query) (b : Bool) → can_be_key query.context query.id ≡ b
     → cond b (option_map forms (translation_under (query_key query.context query.id) messages)) None
     ≡ option_map (λ (e : TextEntry). e.forms) (cond b (find (is_of_message query.context query.id) entries) None)
 found_if_key entries messages all are query true can_be =
     ap (option_map forms) (translation_of_definition entries messages all are query.context query.id can_be)
-    ∙ forms_of_found entries (is_of_message query.context query.id) all (find (is_of_message query.context query.id) entries) refl
+    ∙ forms_of_found entries (is_of_message query.context query.id) all
+    (find (is_of_message query.context query.id) entries) refl
 found_if_key entries messages all are query false can_be = refl
 
-header_text_is : (entries : List TextEntry) (messages : List Message) → All LacksSeparators entries → AreMessagesOf entries messages → header_text messages ≡ header_of entries
+header_text_is : (entries : List TextEntry) (messages : List Message) → All LacksSeparators entries
+    → AreMessagesOf entries messages → header_text messages ≡ header_of entries
 header_text_is entries messages all are =
-    ap (λ t. option_map_or (λ t. form_at (forms t) 0) t []) (translation_of_definition entries messages all are None [] refl)
+    ap (λ t. option_map_or (λ t. form_at (forms t) 0) t [])
+    (translation_of_definition entries messages all are None [] refl)
     ∙ header_of_found entries (is_of_message None []) all (find (is_of_message None []) entries) refl
 
 pub mean_entries : MessagesMeanEntries
 mean_entries entries messages valid are =
     let all : All LacksSeparators entries = All-weaker IsEntry LacksSeparators entry_lacks_separators entries valid in
     record {
-      rule = λ rule view. subst (λ text. IsRuleOf expression_limit text rule) (header_text_is entries messages all are) view.rule_of_header;
-      answers = λ rule query. ap (λ found. answer found rule query) (found_if_key entries messages all are query (can_be_key query.context query.id) refl);
+      rule = λ rule view. subst (λ text. IsRuleOf expression_limit text rule)
+          (header_text_is entries messages all are) view.rule_of_header;
+      answers = λ rule query. ap (λ found. answer found rule query)
+          (found_if_key entries messages all are query (can_be_key query.context query.id) refl);
     }
 
-second_piece : (key : List ℕ) (plural : Option (List ℕ)) → Lacks 0 key → IfSome plural (Lacks 0) → slice_get (slice_split is_nul (key ++ plural_part plural)) 1 ≡ plural
+second_piece : (key : List ℕ) (plural : Option (List ℕ)) → Lacks 0 key → IfSome plural (Lacks 0)
+    → slice_get (slice_split is_nul (key ++ plural_part plural)) 1 ≡ plural
 second_piece key None lacks none = rw (append-nil key, slice_split_none is_nul key (lacks_nul key lacks)) refl
 second_piece key (Some plural) lacks some =
-    rw (slice_split_at is_nul key 0 plural (lacks_nul key lacks) refl, slice_split_none is_nul plural (lacks_nul plural some)) refl
+    rw (
+      slice_split_at is_nul key 0 plural (lacks_nul key lacks) refl,
+      slice_split_none is_nul plural (lacks_nul plural some),
+    ) refl
 
 pub messages_have_parts : MessagesHaveParts
 messages_have_parts entry valid =
     let clean = entry_lacks_separators entry valid in
     record {
       key = key_of-original entry clean;
-      plural = second_piece (query_key entry.context entry.id) entry.plural (query_key_lacks entry.context entry.id clean.context_nul clean.id_nul) clean.plural_nul;
+      plural = second_piece (query_key entry.context entry.id) entry.plural
+          (query_key_lacks entry.context entry.id clean.context_nul clean.id_nul) clean.plural_nul;
       forms_are = forms-translation entry clean;
     }
 
@@ -262,12 +311,16 @@ messages_differ entries messages valid are =
     let all : All LacksSeparators entries = All-weaker IsEntry LacksSeparators entry_lacks_separators entries valid in
     let key : Message → List ℕ = λ m. key_of m.original in
     let ks = keys (map message_of entries) in
-    let distinct = apart_permuted (keys messages) ks (IsPermutation-sym ks (keys messages) (IsPermutation-map key (map message_of entries) messages are.all)) (rising_apart (keys messages) are.rising) in
+    let distinct = apart_permuted (keys messages) ks
+    (IsPermutation-sym ks (keys messages) (IsPermutation-map key (map message_of entries) messages are.all))
+    (rising_apart (keys messages) are.rising) in
     λ i j d below inside same.
     let long = length-map (map message_of entries) key in
     let long' = length-map entries message_of in
-    let at : (k : ℕ) → get_or ks k (key (message_of d)) ≡ key_of (original_of (get_or entries k d)) = λ k. get_or-map key (map message_of entries) k (message_of d) ∙ ap key (get_or-map message_of entries k d) in
+    let at : (k : ℕ) → get_or ks k (key (message_of d)) ≡ key_of (original_of (get_or entries k d)) =
+    λ k. get_or-map key (map message_of entries) k (message_of d) ∙ ap key (get_or-map message_of entries k d) in
     let first = key_of-original (get_or entries i d) (all i d (omega arith)) in
     let later = key_of-original (get_or entries j d) (all j d inside) in
     distinct i j (key (message_of d)) below (omega (arith, long, long'))
-    (at i ∙ first ∙ ap (λ c. query_key c (get_or entries i d).id) same.0 ∙ ap (query_key (get_or entries j d).context) same.1 ∙ sym later ∙ sym (at j))
+    (at i ∙ first ∙ ap (λ c. query_key c (get_or entries i d).id) same.0
+    ∙ ap (query_key (get_or entries j d).context) same.1 ∙ sym later ∙ sym (at j))

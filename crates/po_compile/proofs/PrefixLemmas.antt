@@ -31,7 +31,8 @@ rising_heads n x y d e less below =
     let product : suc x * 256 ^ n ≤ y * 256 ^ n = mul-le-mul_right (256 ^ n) less in
     omega (arith, product, below)
 
-by_heads : (n x y : ℕ) (a b : List ℕ) (o : Ordering) → MatchOrdering o (x < y) (x ≡ y) (y < x) → ordering_then o (key_cmp a b) ≡ Less → digits n a < 256 ^ n → (key_cmp a b ≡ Less → digits n a ≤ digits n b)
+by_heads : (n x y : ℕ) (a b : List ℕ) (o : Ordering) → MatchOrdering o (x < y) (x ≡ y) (y < x)
+    → ordering_then o (key_cmp a b) ≡ Less → digits n a < 256 ^ n → (key_cmp a b ≡ Less → digits n a ≤ digits n b)
     → x * 256 ^ n + digits n a ≤ y * 256 ^ n + digits n b
 by_heads n x y a b Less below h small rest = rising_heads n x y (digits n a) (digits n b) below small
 by_heads n x y a b Equal same h small rest =
@@ -47,11 +48,14 @@ digits_rise (suc n) (x ∷ a) [] in_a in_b less = absurd (cc)
 digits_rise (suc n) (x ∷ a) (y ∷ b) in_a in_b less =
     let rest_a = All-tail (λ byte. byte < 256) x a in_a in
     let rest_b = All-tail (λ byte. byte < 256) y b in_b in
-    by_heads n x y a b (nat_cmp x y) (ranked x y (nat_cmp x y) refl) less (digits_below n a rest_a) (λ h. digits_rise n a b rest_a rest_b h)
+    by_heads n x y a b (nat_cmp x y) (ranked x y (nat_cmp x y) refl) less (digits_below n a rest_a)
+    (λ h. digits_rise n a b rest_a rest_b h)
 
-by_order : (m n : ℕ) (o : Ordering) → (o ≡ Less → m ≤ n) → (o ≡ Equal → m ≡ n) → (o ≡ Greater → n ≤ m) → ordering_then (nat_cmp m n) o ≡ o
+by_order : (m n : ℕ) (o : Ordering) → (o ≡ Less → m ≤ n) → (o ≡ Equal → m ≡ n) → (o ≡ Greater → n ≤ m)
+    → ordering_then (nat_cmp m n) o ≡ o
 by_order m n o less equal greater = by_prefix (nat_cmp m n) o (ranked m n (nat_cmp m n) refl) less equal greater where
-  by_prefix : (p o : Ordering) → MatchOrdering p (m < n) (m ≡ n) (n < m) → (o ≡ Less → m ≤ n) → (o ≡ Equal → m ≡ n) → (o ≡ Greater → n ≤ m) → ordering_then p o ≡ o
+  by_prefix : (p o : Ordering) → MatchOrdering p (m < n) (m ≡ n) (n < m) → (o ≡ Less → m ≤ n) → (o ≡ Equal → m ≡ n)
+      → (o ≡ Greater → n ≤ m) → ordering_then p o ≡ o
   by_prefix Less Less h less equal greater = refl
   by_prefix Less Equal h less equal greater = absurd (omega (arith, h, equal refl))
   by_prefix Less Greater h less equal greater = absurd (omega (arith, h, greater refl))
@@ -68,7 +72,8 @@ share : (b x y d e : ℕ) → b * (x * y) + (d * y + e) ≡ (b * x + d) * y + e
 share b x y d e = omega arith
 
 -- the first digits and those that follow
-digits_split : (m k n : ℕ) (text : List ℕ) → k ≡ m + n → digits k text ≡ digits m text * 256 ^ n + digits n (drop m text)
+digits_split : (m k n : ℕ) (text : List ℕ) → k ≡ m + n
+    → digits k text ≡ digits m text * 256 ^ n + digits n (drop m text)
 digits_split zero k n text is =
     let same : k ≡ n = omega (arith, is) in
     ap (λ j. digits j text) same ∙ omega arith
@@ -81,7 +86,8 @@ digits_split (suc m) (suc k) n (byte ∷ text) is =
     ap₂ (λ x d. byte * x + d) power rest ∙ share byte (256 ^ m) (256 ^ n) (digits m text) (digits n (drop m text))
 
 -- first digits that differ decide as the keys do
-digits_first : (n : ℕ) (a b : List ℕ) → Bytes a → Bytes b → ordering_then (nat_cmp (digits n a) (digits n b)) (key_cmp a b) ≡ key_cmp a b
+digits_first : (n : ℕ) (a b : List ℕ) → Bytes a → Bytes b
+    → ordering_then (nat_cmp (digits n a) (digits n b)) (key_cmp a b) ≡ key_cmp a b
 digits_first n a b in_a in_b =
     by_order (digits n a) (digits n b) (key_cmp a b)
     (λ h. digits_rise n a b in_a in_b h)
@@ -92,7 +98,8 @@ below_next : (n p byte : ℕ) → p < 256 ^ n → byte < 256 → p * 256 + byte 
 below_next n p byte below small = omega (arith, below, small)
 
 -- the next digit
-next_digit : (k place : ℕ) (text : List ℕ) → digits (suc k) (drop place text) ≡ get_or text place 0 * 256 ^ k + digits k (drop (suc place) text)
+next_digit : (k place : ℕ) (text : List ℕ)
+    → digits (suc k) (drop place text) ≡ get_or text place 0 * 256 ^ k + digits k (drop (suc place) text)
 next_digit zero place [] = rw (drop-nil place) refl
 next_digit (suc k) place [] = rw (drop-nil place) (omega arith)
 next_digit k zero (byte ∷ text) = refl
@@ -103,30 +110,36 @@ spread p b x d = omega arith
 
 -- so many digits are read, and those that are left
 abbrev pub IsRead : ℕ → ℕ → List ℕ → ℕ → Type 0
-IsRead n place text prefix = (prefix < 256 ^ place) × (prefix * 256 ^ (n - place) + digits (n - place) (drop place text) ≡ digits n text)
+IsRead n place text prefix =
+    (prefix < 256 ^ place) × (prefix * 256 ^ (n - place) + digits (n - place) (drop place text) ≡ digits n text)
 
-digit_more : (k n place : ℕ) (text : List ℕ) (prefix byte : ℕ) → byte ≡ get_or text place 0 → prefix * 256 ^ suc k + digits (suc k) (drop place text) ≡ digits n text
+digit_more : (k n place : ℕ) (text : List ℕ) (prefix byte : ℕ) → byte ≡ get_or text place 0
+    → prefix * 256 ^ suc k + digits (suc k) (drop place text) ≡ digits n text
     → (prefix * 256 + byte) * 256 ^ k + digits k (drop (suc place) text) ≡ digits n text
 digit_more k n place text prefix byte is spelt =
     let left = digits k (drop (suc place) text) in
-    let digit : digits (suc k) (drop place text) ≡ byte * 256 ^ k + left = next_digit k place text ∙ ap (λ b. b * 256 ^ k + left) (sym is) in
+    let digit : digits (suc k) (drop place text) ≡ byte * 256 ^ k + left =
+    next_digit k place text ∙ ap (λ b. b * 256 ^ k + left) (sym is) in
     let power : 256 ^ suc k ≡ 256 ^ k * 256 = pow-suc 256 k in
     spread prefix byte (256 ^ k) left ∙ ap₂ (λ x d. prefix * x + d) (sym power) (sym digit) ∙ spelt
 
-read_next : (k n place : ℕ) (text : List ℕ) (prefix byte : ℕ) → n - place ≡ suc k → n - (place + 1) ≡ k → byte ≡ get_or text place 0 → byte < 256 → IsRead n place text prefix
+read_next : (k n place : ℕ) (text : List ℕ) (prefix byte : ℕ) → n - place ≡ suc k → n - (place + 1) ≡ k
+    → byte ≡ get_or text place 0 → byte < 256 → IsRead n place text prefix
     → IsRead n (place + 1) text (prefix * 256 + byte)
 read_next k n place text prefix byte here next is small so_far = (
   rw add-one (below_next place prefix byte so_far.0 small),
   rw next (rw add-one (digit_more k n place text prefix byte is (rw here at so_far.1))),
 )
 
-pub digit_read : (n place : ℕ) (text : List ℕ) (prefix byte : ℕ) → place < n → byte ≡ get_or text place 0 → byte < 256 → IsRead n place text prefix → IsRead n (place + 1) text (prefix * 256 + byte)
+pub digit_read : (n place : ℕ) (text : List ℕ) (prefix byte : ℕ) → place < n → byte ≡ get_or text place 0 → byte < 256
+    → IsRead n place text prefix → IsRead n (place + 1) text (prefix * 256 + byte)
 digit_read n place text prefix byte inside is small so_far =
     read_next (n - (place + 1)) n place text prefix byte (omega (arith, inside)) refl is small so_far
 
 pub fits : (place prefix : ℕ) → place < 16 → prefix < 256 ^ place → prefix * 256 + 255 < 2 ^ 128
 fits place prefix inside below =
-    let most : 256 ^ suc place ≤ 256 ^ 16 = pow-le-pow_right {n = 256} (omega arith) {i = suc place} {j = 16} (omega (arith, inside)) in
+    let most : 256 ^ suc place ≤ 256 ^ 16 =
+    pow-le-pow_right {n = 256} (omega arith) {i = suc place} {j = 16} (omega (arith, inside)) in
     omega (arith, below, most)
 
 then_decided : (p o : Ordering) → p ≢ Equal → ordering_then p o ≡ o → p ≡ o
@@ -134,10 +147,12 @@ then_decided Less o other is = is
 then_decided Equal o other is = absurd (other refl)
 then_decided Greater o other is = is
 
-pub prefix_decides : (m n : ℕ) (a b : List ℕ) → m ≡ prefix_of a → n ≡ prefix_of b → Bytes a → Bytes b → (order : Ordering) → order ≡ nat_cmp m n → order ≢ Equal → order ≡ key_cmp a b
+pub prefix_decides : (m n : ℕ) (a b : List ℕ) → m ≡ prefix_of a → n ≡ prefix_of b → Bytes a → Bytes b
+    → (order : Ordering) → order ≡ nat_cmp m n → order ≢ Equal → order ≡ key_cmp a b
 prefix_decides m n a b first second in_a in_b order is other =
     let by_prefix : order ≡ nat_cmp (prefix_of a) (prefix_of b) = is ∙ ap₂ nat_cmp first second in
-    then_decided order (key_cmp a b) other (ap (λ o. ordering_then o (key_cmp a b)) by_prefix ∙ digits_first 16 a b in_a in_b)
+    then_decided order (key_cmp a b) other
+    (ap (λ o. ordering_then o (key_cmp a b)) by_prefix ∙ digits_first 16 a b in_a in_b)
 
 -- numbers with the same first part stand as their second parts do
 same_prefix : (f m n : ℕ) → nat_cmp (f + m) (f + n) ≡ nat_cmp m n
@@ -147,10 +162,15 @@ same_prefix f m n = by_parts (nat_cmp m n) (ranked m n (nat_cmp m n) refl) where
   by_parts Equal h = sym (nat_cmp_is (f + m) (f + n) Equal (omega (arith, h)))
   by_parts Greater h = sym (nat_cmp_is (f + m) (f + n) Greater (omega (arith, h)))
 
-pub second_decides : (m n : ℕ) (a b : List ℕ) → m ≡ second_prefix_of a → n ≡ second_prefix_of b → prefix_of a ≡ prefix_of b → Bytes a → Bytes b → (order : Ordering) → order ≡ nat_cmp m n → order ≢ Equal → order ≡ key_cmp a b
+pub second_decides : (m n : ℕ) (a b : List ℕ) → m ≡ second_prefix_of a → n ≡ second_prefix_of b
+    → prefix_of a ≡ prefix_of b → Bytes a → Bytes b → (order : Ordering) → order ≡ nat_cmp m n → order ≢ Equal
+    → order ≡ key_cmp a b
 second_decides m n a b first second same in_a in_b order is other =
     let whole_a : digits 32 a ≡ prefix_of a * 256 ^ 16 + second_prefix_of a = digits_split 16 32 16 a refl in
-    let whole_b : digits 32 b ≡ prefix_of a * 256 ^ 16 + second_prefix_of b = digits_split 16 32 16 b refl ∙ ap (λ p. p * 256 ^ 16 + second_prefix_of b) (sym same) in
+    let whole_b : digits 32 b ≡ prefix_of a * 256 ^ 16 + second_prefix_of b =
+    digits_split 16 32 16 b refl ∙ ap (λ p. p * 256 ^ 16 + second_prefix_of b) (sym same) in
     let by_digits : order ≡ nat_cmp (digits 32 a) (digits 32 b) =
-    is ∙ ap₂ nat_cmp first second ∙ sym (same_prefix (prefix_of a * 256 ^ 16) (second_prefix_of a) (second_prefix_of b)) ∙ sym (ap₂ nat_cmp whole_a whole_b) in
-    then_decided order (key_cmp a b) other (ap (λ o. ordering_then o (key_cmp a b)) by_digits ∙ digits_first 32 a b in_a in_b)
+    is ∙ ap₂ nat_cmp first second ∙ sym (same_prefix (prefix_of a * 256 ^ 16) (second_prefix_of a) (second_prefix_of b))
+    ∙ sym (ap₂ nat_cmp whole_a whole_b) in
+    then_decided order (key_cmp a b) other
+    (ap (λ o. ordering_then o (key_cmp a b)) by_digits ∙ digits_first 32 a b in_a in_b)

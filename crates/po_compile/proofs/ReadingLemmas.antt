@@ -46,13 +46,16 @@ module _ (texts : List (Bor (List ℕ))) (i : ℕ) (inside : i < length texts) w
       ap slice_texts (sym (take-append-drop i texts)) ∙ map-append now (take i texts) (drop i texts)
       ∙ ap (λ ts. slice_texts (take i texts) ++ slice_texts ts) (drop-cons texts i no_text inside)
 
-  pub refused_input : (catalogues : List (List TextEntry)) (error : PoError) → AllZip ReadsDistinct (slice_texts (take i texts)) catalogues
-      → (error ≡ out_of_memory) ⊎ ((error.kind ≢ OutOfMemory) × IsTextFault its_text.now error) → IsReadingFault (slice_texts texts) (fault_of_input i error)
+  pub refused_input : (catalogues : List (List TextEntry)) (error : PoError)
+      → AllZip ReadsDistinct (slice_texts (take i texts)) catalogues
+      → (error ≡ out_of_memory) ⊎ ((error.kind ≢ OutOfMemory) × IsTextFault its_text.now error)
+      → IsReadingFault (slice_texts texts) (fault_of_input i error)
   refused_input catalogues error each why =
       ⊎_elim (λ memory. inl (ap (fault_of_input i) memory))
       (λ fault.
       let input = input_of_fault i error.kind fault.0 in
-      let long : i ≡ length (slice_texts (take i texts)) = omega (arith, length-take i texts, length-map (take i texts) (λ (s : Bor (List ℕ)). s.now)) in
+      let long : i ≡ length (slice_texts (take i texts)) =
+      omega (arith, length-take i texts, length-map (take i texts) (λ (s : Bor (List ℕ)). s.now)) in
       inr (inl (record {
         before = slice_texts (take i texts);
         text = its_text.now;
@@ -70,7 +73,8 @@ pub joined_one : (entries : List TextEntry) → joined_entries (entries ∷ []) 
 joined_one entries = ap entries_of (append-nil (map (in_input 0) entries)) ∙ entries_of_input 0 entries
 
 -- one catalogue at most has no duplicate across inputs
-pub distinct_of_one : (texts : List (List ℕ)) (catalogues : List (List TextEntry)) → length catalogues ≤ 1 → AllZip ReadsDistinct texts catalogues → HasNoDuplicate (joined_entries catalogues)
+pub distinct_of_one : (texts : List (List ℕ)) (catalogues : List (List TextEntry)) → length catalogues ≤ 1
+    → AllZip ReadsDistinct texts catalogues → HasNoDuplicate (joined_entries catalogues)
 distinct_of_one texts [] few each = λ i j d before inside. absurd (omega (arith, inside))
 distinct_of_one [] (c ∷ []) few each = absurd each
 distinct_of_one (t ∷ ts) (c ∷ []) few each = subst HasNoDuplicate (sym (joined_one c)) each.0.distinct
@@ -86,21 +90,26 @@ module _ (text : List ℕ) where
 abbrev pub EntriesCanStand : Type 0
 EntriesCanStand = (text : List ℕ) (entries : List TextEntry) → ReadsText text entries → All IsCatalogueEntry entries
 
-each_valid : EntriesCanStand → (texts : List (List ℕ)) (catalogues : List (List TextEntry)) → AllZip ReadsDistinct texts catalogues → All (All IsCatalogueEntry) catalogues
+each_valid : EntriesCanStand → (texts : List (List ℕ)) (catalogues : List (List TextEntry))
+    → AllZip ReadsDistinct texts catalogues → All (All IsCatalogueEntry) catalogues
 each_valid stand [] [] each = All-nil (All IsCatalogueEntry)
 each_valid stand [] (entries ∷ catalogues) each = absurd each
 each_valid stand (text ∷ texts) [] each = absurd each
 each_valid stand (text ∷ texts) (entries ∷ catalogues) each =
-    All-cons (All IsCatalogueEntry) entries catalogues (stand text entries each.0.reads) (each_valid stand texts catalogues each.1)
+    All-cons (All IsCatalogueEntry) entries catalogues (stand text entries each.0.reads)
+    (each_valid stand texts catalogues each.1)
 
 -- so does the joined list of texts that are read
-pub read_valid : EntriesCanStand → (texts : List (List ℕ)) (catalogues : List (List TextEntry)) → AllZip ReadsDistinct texts catalogues → All IsCatalogueEntry (joined_entries catalogues)
+pub read_valid : EntriesCanStand → (texts : List (List ℕ)) (catalogues : List (List TextEntry))
+    → AllZip ReadsDistinct texts catalogues → All IsCatalogueEntry (joined_entries catalogues)
 read_valid stand texts catalogues each = joined_valid catalogues (each_valid stand texts catalogues each)
 
 pub look_up_means : EntriesCanStand → LayoutIsMoFile → MessagesMeanEntries → MessagesAreOne → LookUpMeansEntries
 look_up_means stand valid_layout mean one options texts catalogues messages accepted are =
     let entries = compiled_list options.use_fuzzy (joined_entries catalogues) in
     let same = one entries accepted.layout.messages messages accepted.layout.are_messages are in (
-      valid_layout options.order messages are.rising (subst (λ ms. length (layout options.order ms) < 2 ^ 32) same accepted.layout.small),
-      mean entries messages (compiled_valid options.use_fuzzy (joined_entries catalogues) (read_valid stand texts catalogues accepted.read.each)) are,
+      valid_layout options.order messages are.rising
+          (subst (λ ms. length (layout options.order ms) < 2 ^ 32) same accepted.layout.small),
+      mean entries messages (compiled_valid options.use_fuzzy (joined_entries catalogues)
+          (read_valid stand texts catalogues accepted.read.each)) are,
     )

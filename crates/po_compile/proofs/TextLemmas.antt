@@ -21,22 +21,31 @@ pub lacks_nul : (text : List ℕ) → Lacks 0 text → All (λ b. is_nul b ≡ f
 lacks_nul text lacks = All-weaker (λ b. b ≢ 0) (λ b. is_nul b ≡ false) no_nul text lacks
 
 -- a key without a NUL, and nothing or a NUL and more after it
-prefix_of_key : (key rest : List ℕ) → Lacks 0 key → ((length key < length (key ++ rest)) → is_nul (get_or (key ++ rest) (length key) 0) ≡ true) → key_of (key ++ rest) ≡ key
+prefix_of_key : (key rest : List ℕ) → Lacks 0 key
+    → ((length key < length (key ++ rest)) → is_nul (get_or (key ++ rest) (length key) 0) ≡ true)
+    → key_of (key ++ rest) ≡ key
 prefix_of_key key rest lacks ends =
     let at : position_or_len is_nul (key ++ rest) ≡ length key =
     position_or_len_is is_nul (key ++ rest) (length key) 0 (omega (arith, length-append key rest))
-    (λ k inside. ap is_nul (get_or_append_left key rest 0 k inside) ∙ no_nul (get_or key k 0) (lacks k 0 inside)) ends in
+    (λ k inside. ap is_nul (get_or_append_left key rest 0 k inside) ∙ no_nul (get_or key k 0) (lacks k 0 inside))
+    ends in
     ap (λ n. take n (key ++ rest)) at ∙ take-append_seam key rest
 
-pub key_of-plural_part : (key : List ℕ) (plural : Option (List ℕ)) → Lacks 0 key → key_of (key ++ plural_part plural) ≡ key
-key_of-plural_part key None lacks = let nil : List ℕ = [] in prefix_of_key key [] lacks (λ inside. absurd (omega (arith, length-append key nil)))
+pub key_of-plural_part : (key : List ℕ) (plural : Option (List ℕ)) → Lacks 0 key
+    → key_of (key ++ plural_part plural) ≡ key
+key_of-plural_part key None lacks = let nil : List ℕ =
+    [] in prefix_of_key key [] lacks (λ inside. absurd (omega (arith, length-append key nil)))
 key_of-plural_part key (Some plural) lacks =
-    prefix_of_key key (0 ∷ plural) lacks (λ inside. ap is_nul (let e : length key ≡ length key + 0 = omega arith in ap (λ n. get_or (key ++ 0 ∷ plural) n 0) e ∙ get_or-append-add key (0 ∷ plural) 0 0))
+    prefix_of_key key (0 ∷ plural) lacks
+    (λ inside. ap is_nul (let e : length key ≡ length key + 0 = omega arith in
+    ap (λ n. get_or (key ++ 0 ∷ plural) n 0) e ∙ get_or-append-add key (0 ∷ plural) 0 0))
 
 -- a key holds no NUL where its context and msgid hold none
-pub query_key_lacks : (context : Option (List ℕ)) (id : List ℕ) → IfSome context (Lacks 0) → Lacks 0 id → Lacks 0 (query_key context id)
+pub query_key_lacks : (context : Option (List ℕ)) (id : List ℕ) → IfSome context (Lacks 0) → Lacks 0 id
+    → Lacks 0 (query_key context id)
 query_key_lacks None id c i = i
-query_key_lacks (Some context) id c i = All-append (λ b. b ≢ 0) context (4 ∷ id) c (All-cons (λ b. b ≢ 0) 4 id (λ e. cc) i)
+query_key_lacks (Some context) id c i =
+    All-append (λ b. b ≢ 0) context (4 ∷ id) c (All-cons (λ b. b ≢ 0) 4 id (λ e. cc) i)
 
 split_at_eot : (a b : List ℕ) (x y : List ℕ) → Lacks 4 a → Lacks 4 b → a ++ 4 ∷ x ≡ b ++ 4 ∷ y → (a ≡ b) × (x ≡ y)
 split_at_eot [] [] x y la lb e = (refl, cc)
@@ -50,11 +59,14 @@ split_at_eot (a ∷ as') (b ∷ bs) x y la lb e =
 
 no_eot_within : (a x y : List ℕ) → Lacks 4 a → a ≡ x ++ 4 ∷ y → ⊥
 no_eot_within a x y lacks e =
-    let here : get_or a (length x) 0 ≡ 4 = ap (λ l. get_or l (length x) 0) e ∙ (let z : length x ≡ length x + 0 = omega arith in ap (λ n. get_or (x ++ 4 ∷ y) n 0) z ∙ get_or-append-add x (4 ∷ y) 0 0) in
+    let here : get_or a (length x) 0 ≡ 4 = ap (λ l. get_or l (length x) 0) e
+    ∙ (let z : length x ≡ length x + 0 = omega arith in ap (λ n. get_or (x ++ 4 ∷ y) n 0) z
+    ∙ get_or-append-add x (4 ∷ y) 0 0) in
     lacks (length x) 0 (omega (arith, ap length e, length-append x (4 ∷ y))) here
 
 -- a key without separators is that of one context and one msgid
-pub query_key_is_one : (c d : Option (List ℕ)) (i j : List ℕ) → IfSome c (Lacks 4) → IfSome d (Lacks 4) → Lacks 4 i → Lacks 4 j
+pub query_key_is_one : (c d : Option (List ℕ)) (i j : List ℕ) → IfSome c (Lacks 4) → IfSome d (Lacks 4) → Lacks 4 i
+    → Lacks 4 j
     → query_key c i ≡ query_key d j → (c ≡ d) × (i ≡ j)
 query_key_is_one None None i j lc ld li lj e = (refl, e)
 query_key_is_one None (Some d) i j lc ld li lj e = absurd (no_eot_within i d j li e)
@@ -62,24 +74,31 @@ query_key_is_one (Some c) None i j lc ld li lj e = absurd (no_eot_within j c i l
 query_key_is_one (Some c) (Some d) i j lc ld li lj e = let s = split_at_eot c d i j lc ld e in (ap Some s.0, s.1)
 
 -- the pieces between the NULs of a translation are the forms
-pub slice_split-join : (form : List ℕ) (forms : List (List ℕ)) → All (Lacks 0) (form ∷ forms) → slice_split is_nul (join_with_byte 0 (form ∷ forms)) ≡ form ∷ forms
+pub slice_split-join : (form : List ℕ) (forms : List (List ℕ)) → All (Lacks 0) (form ∷ forms)
+    → slice_split is_nul (join_with_byte 0 (form ∷ forms)) ≡ form ∷ forms
 slice_split-join form [] lacks =
     slice_split_none is_nul form (lacks_nul form (All-head (Lacks 0) form [] lacks))
 slice_split-join form (next ∷ forms) lacks =
-    slice_split_at is_nul form 0 (join_with_byte 0 (next ∷ forms)) (lacks_nul form (All-head (Lacks 0) form (next ∷ forms) lacks)) refl
+    slice_split_at is_nul form 0 (join_with_byte 0 (next ∷ forms))
+    (lacks_nul form (All-head (Lacks 0) form (next ∷ forms) lacks)) refl
     ∙ ap (λ l. form ∷ l) (slice_split-join next forms (All-tail (Lacks 0) form (next ∷ forms) lacks))
 
 -- one more form
-pub join-push : (form : List ℕ) (forms : List (List ℕ)) (next : List ℕ) → join_with_byte 0 (form ∷ (forms ++ next ∷ [])) ≡ join_with_byte 0 (form ∷ forms) ++ 0 ∷ next
+pub join-push : (form : List ℕ) (forms : List (List ℕ)) (next : List ℕ)
+    → join_with_byte 0 (form ∷ (forms ++ next ∷ [])) ≡ join_with_byte 0 (form ∷ forms) ++ 0 ∷ next
 join-push form [] next = refl
 join-push form (second ∷ forms) next =
-    ap (λ l. form ++ (0 ∷ l)) (join-push second forms next) ∙ sym (append_assoc form (0 ∷ join_with_byte 0 (second ∷ forms)) (0 ∷ next))
+    ap (λ l. form ++ (0 ∷ l)) (join-push second forms next)
+    ∙ sym (append_assoc form (0 ∷ join_with_byte 0 (second ∷ forms)) (0 ∷ next))
 
 -- the same of forms that vectors hold
-pub join_more : (form : List ℕ) (forms : List (Vec ℕ)) (i : ℕ) (next : Vec ℕ) → i < length forms → next ≡ get_or forms i next
-    → join_with_byte 0 (form ∷ texts (take (i + 1) forms)) ≡ join_with_byte 0 (form ∷ texts (take i forms)) ++ 0 ∷ next.items
+pub join_more : (form : List ℕ) (forms : List (Vec ℕ)) (i : ℕ) (next : Vec ℕ) → i < length forms
+    → next ≡ get_or forms i next
+    → join_with_byte 0 (form ∷ texts (take (i + 1) forms)) ≡ join_with_byte 0 (form ∷ texts (take i forms)) ++ 0
+    ∷ next.items
 join_more form forms i next inside is =
     let items : Vec ℕ → List ℕ = λ v. v.items in
     let more : texts (take (i + 1) forms) ≡ texts (take i forms) ++ next.items ∷ [] =
-    ap texts (take_more forms i next inside) ∙ map-append items (take i forms) (get_or forms i next ∷ []) ∙ ap (λ (v : Vec ℕ). texts (take i forms) ++ v.items ∷ []) (sym is) in
+    ap texts (take_more forms i next inside) ∙ map-append items (take i forms) (get_or forms i next ∷ [])
+    ∙ ap (λ (v : Vec ℕ). texts (take i forms) ++ v.items ∷ []) (sym is) in
     ap (λ l. join_with_byte 0 (form ∷ l)) more ∙ join-push form (texts (take i forms)) next.items

@@ -23,7 +23,8 @@ emptied_texts (form ∷ forms) = All-cons IsText [] (map (λ _. []) forms) IsTex
 
 pub IsEntry-emptied : (entry : TextEntry) → IsEntry entry → IsEntry (record entry { forms = map (λ _. []) entry.forms })
 IsEntry-emptied entry h = record {
-  quoted_texts = All-append IsText (unformed_texts entry) (map (λ _. []) entry.forms) (All-left IsText (unformed_texts entry) entry.forms h.quoted_texts) (emptied_texts entry.forms);
+  quoted_texts = All-append IsText (unformed_texts entry) (map (λ _. []) entry.forms)
+      (All-left IsText (unformed_texts entry) entry.forms h.quoted_texts) (emptied_texts entry.forms);
   comments = h.comments;
   extracted = h.extracted;
   references = h.references;
@@ -37,7 +38,8 @@ IsEntry-emptied entry h = record {
 
 pub IsEntry-without_previous : (entry : TextEntry) → IsEntry entry → IsEntry (record entry { previous = no_previous })
 IsEntry-without_previous entry h = record {
-  quoted_texts = All-right IsText (previous_texts entry.previous) (option_to_list entry.context ++ (entry.id ∷ []) ++ option_to_list entry.plural ++ entry.forms)
+  quoted_texts = All-right IsText (previous_texts entry.previous)
+      (option_to_list entry.context ++ (entry.id ∷ []) ++ option_to_list entry.plural ++ entry.forms)
       (rw joined h.quoted_texts);
   comments = h.comments;
   extracted = h.extracted;
@@ -49,5 +51,7 @@ IsEntry-without_previous entry h = record {
   some_form = h.some_form;
   one_form = h.one_form;
 } where
-  joined : previous_texts entry.previous ++ (option_to_list entry.context ++ (entry.id ∷ []) ++ option_to_list entry.plural ++ entry.forms) ≡ quoted_texts entry
+  joined : previous_texts entry.previous
+      ++ (option_to_list entry.context ++ (entry.id ∷ []) ++ option_to_list entry.plural ++ entry.forms)
+      ≡ quoted_texts entry
   joined = simp append_assoc

@@ -9,12 +9,14 @@ use Rattle.po_entry.specs.TextEntry.{texts}
 use Rattle.po_entry.specs.Facts.AllAppend.{All-left, All-right}
 
 -- two lists pass where both do
-pub both : {X : Type 0} (P : X → Type 0) (xs ys : List X) (a b : Bool) → (IsTrue a ↔ All P xs) → (IsTrue b ↔ All P ys) → (IsTrue (a && b) ↔ All P (xs ++ ys))
+pub both : {X : Type 0} (P : X → Type 0) (xs ys : List X) (a b : Bool) → (IsTrue a ↔ All P xs) → (IsTrue b ↔ All P ys)
+    → (IsTrue (a && b) ↔ All P (xs ++ ys))
 both P xs ys true b p q = (λ t. All-append P xs ys (p.0 refl) (q.0 t), λ all. q.1 (All-right P xs ys all))
 both P xs ys false b p q = (λ t. absurd (false≢true t), λ all. absurd (false≢true (p.1 (All-left P xs ys all))))
 
 -- a text that there may be is the one that was tested
-pub of_option : {X : Type 0} (P : X → Type 0) (x y : Option X) (a : Bool) → x ≡ y → (IsTrue a ↔ All P (option_to_list x)) → (IsTrue a ↔ All P (option_to_list y))
+pub of_option : {X : Type 0} (P : X → Type 0) (x y : Option X) (a : Bool) → x ≡ y
+    → (IsTrue a ↔ All P (option_to_list x)) → (IsTrue a ↔ All P (option_to_list y))
 of_option P x y a e h = rw (← e) h
 
 -- one text
@@ -26,20 +28,25 @@ on_option P None = (λ _. tt, λ _. All-nil P)
 on_option P (Some x) = (λ all. All-head P x [] all, λ h. All-cons P x [] h (All-nil P))
 
 -- every test of three passes exactly where all do
-pub three : {P Q R : Type 0} (a b c : Bool) → (IsTrue a ↔ P) → (IsTrue b ↔ Q) → (IsTrue c ↔ R) → (IsTrue (a && b && c) ↔ (P × Q × R))
+pub three : {P Q R : Type 0} (a b c : Bool) → (IsTrue a ↔ P) → (IsTrue b ↔ Q) → (IsTrue c ↔ R)
+    → (IsTrue (a && b && c) ↔ (P × Q × R))
 three true true true p q r = (λ t. (p.0 t, q.0 t, r.0 t), λ all. refl)
 three true true false p q r = (λ t. absurd (false≢true t), λ all. r.1 all.2)
 three true false c p q r = (λ t. absurd (false≢true t), λ all. absurd (false≢true (q.1 all.1)))
 three false b c p q r = (λ t. absurd (false≢true t), λ all. absurd (false≢true (p.1 all.0)))
 
 -- a loop over vectors that tests each text: a step, the end, and an early answer
-pub tested_more : (P : List ℕ → Type 0) (xs : List (Vec ℕ)) (i : ℕ) (x : Vec ℕ) → i < length xs → x ≡ get_or xs i x → All (λ v. P v.items) (take i xs) → P x.items → All (λ v. P v.items) (take (i + 1) xs)
-tested_more P xs i x below is so_far here = All-more (λ v. P v.items) xs i x below so_far (subst (λ v. P v.items) is here)
+pub tested_more : (P : List ℕ → Type 0) (xs : List (Vec ℕ)) (i : ℕ) (x : Vec ℕ) → i < length xs → x ≡ get_or xs i x
+    → All (λ v. P v.items) (take i xs) → P x.items → All (λ v. P v.items) (take (i + 1) xs)
+tested_more P xs i x below is so_far here =
+    All-more (λ v. P v.items) xs i x below so_far (subst (λ v. P v.items) is here)
 
-pub tested_all : (P : List ℕ → Type 0) (xs : List (Vec ℕ)) (i : ℕ) → length xs ≤ i → All (λ v. P v.items) (take i xs) → All P (texts xs)
+pub tested_all : (P : List ℕ → Type 0) (xs : List (Vec ℕ)) (i : ℕ) → length xs ≤ i → All (λ v. P v.items) (take i xs)
+    → All P (texts xs)
 tested_all P xs i past so_far = All-map P (λ v. v.items) xs (rw take_all at so_far)
 
-pub tested_one : (P : List ℕ → Type 0) (xs : List (Vec ℕ)) (i : ℕ) (x : Vec ℕ) → i < length xs → x ≡ get_or xs i x → All P (texts xs) → P x.items
+pub tested_one : (P : List ℕ → Type 0) (xs : List (Vec ℕ)) (i : ℕ) (x : Vec ℕ) → i < length xs → x ≡ get_or xs i x
+    → All P (texts xs) → P x.items
 tested_one P xs i x below is all =
     let inside : i < length (texts xs) = rw length-map below in
     let here = rw (get_or-map (λ v. v.items) xs i x x.items) at (All-get_or P (texts xs) i x.items inside all) in

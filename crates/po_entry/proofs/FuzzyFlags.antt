@@ -21,45 +21,57 @@ module _ {X : Type 0} (p : X → Bool) where
   -- where an element passes a test, some element does
   pub any_passing : (xs : List X) → All (λ y. p y ≡ true → list_any p xs ≡ true) xs
   any_passing [] = All-nil (λ y. p y ≡ true → false ≡ true)
-  any_passing (x ∷ xs) = All-cons (λ y. p y ≡ true → (p x || list_any p xs) ≡ true) x xs (λ h. or_left (p x) (list_any p xs) h)
-      (All-weaker (λ y. p y ≡ true → list_any p xs ≡ true) (λ y. p y ≡ true → (p x || list_any p xs) ≡ true) (λ y c h. or_right (p x) (list_any p xs) (c h)) xs (any_passing xs))
+  any_passing (x ∷ xs) = All-cons (λ y. p y ≡ true → (p x || list_any p xs) ≡ true) x xs
+      (λ h. or_left (p x) (list_any p xs) h)
+      (All-weaker (λ y. p y ≡ true → list_any p xs ≡ true) (λ y. p y ≡ true → (p x || list_any p xs) ≡ true)
+      (λ y c h. or_right (p x) (list_any p xs) (c h)) xs (any_passing xs))
 
 fuzzy_among : (flags : List (List ℕ)) → list_any is_fuzzy_flag flags ≡ true → Contains flags (codes "fuzzy")
-fuzzy_among flags h = Contains-from_any {eq = λ x y. bytes_eq y x} (λ x y same. sym ((bytes_eq-Decides y x).0 same)) (codes "fuzzy") flags h
+fuzzy_among flags h = Contains-from_any {eq = λ x y. bytes_eq y x} (λ x y same. sym ((bytes_eq-Decides y x).0 same))
+    (codes "fuzzy") flags h
 
 among_fuzzy : (flags : List (List ℕ)) → Contains flags (codes "fuzzy") → list_any is_fuzzy_flag flags ≡ true
-among_fuzzy flags h = list_any_at is_fuzzy_flag flags h.0 (codes "fuzzy") h.1 ((bytes_eq-Decides _ (codes "fuzzy")).1 h.2)
+among_fuzzy flags h = list_any_at is_fuzzy_flag flags h.0 (codes "fuzzy") h.1
+    ((bytes_eq-Decides _ (codes "fuzzy")).1 h.2)
 
 lists : (text : List ℕ) → ListsFlags text (listed_flags text)
 lists text = (flags_listed text (listed_flags text)).0 refl
 
-flags_first : (text : List ℕ) (after : List CommentText) → fuzzy_of (record { kind = Flags; text = text } ∷ after) ≡ (list_any is_fuzzy_flag (listed_flags text) || fuzzy_of after)
+flags_first : (text : List ℕ) (after : List CommentText)
+    → fuzzy_of (record { kind = Flags; text = text } ∷ after)
+    ≡ (list_any is_fuzzy_flag (listed_flags text) || fuzzy_of after)
 flags_first text after = list_any-append is_fuzzy_flag (listed_flags text) (all_listed_flags after)
 
 fuzzy_flagged : (comment_texts : List CommentText) → fuzzy_of comment_texts ≡ true → HaveFuzzyFlag comment_texts
 fuzzy_flagged [] h = absurd (false≢true h)
 fuzzy_flagged (first ∷ after) h = by first.kind first.text h (fuzzy_flagged after) where
-  by : (kind : CommentKind) (text : List ℕ) → fuzzy_of (record { kind = kind; text = text } ∷ after) ≡ true → (fuzzy_of after ≡ true → HaveFuzzyFlag after)
+  by : (kind : CommentKind) (text : List ℕ) → fuzzy_of (record { kind = kind; text = text } ∷ after) ≡ true
+      → (fuzzy_of after ≡ true → HaveFuzzyFlag after)
       → HaveFuzzyFlag (record { kind = kind; text = text } ∷ after)
   by Translator text g more = later (more g)
   by Extracted text g more = later (more g)
   by Reference text g more = later (more g)
-  by Flags text g more = found (list_any is_fuzzy_flag (listed_flags text)) refl (sym (flags_first text after) ∙ g) where
-    found : (b : Bool) → list_any is_fuzzy_flag (listed_flags text) ≡ b → (b || fuzzy_of after) ≡ true → HaveFuzzyFlag (record { kind = Flags; text = text } ∷ after)
-    found true e there = here (lists text) (fuzzy_among (listed_flags text) e)
-    found false e there = later (more there)
+  by Flags text g more = found (list_any is_fuzzy_flag (listed_flags text)) refl
+      (sym (flags_first text after) ∙ g) where
+        found : (b : Bool) → list_any is_fuzzy_flag (listed_flags text) ≡ b → (b || fuzzy_of after) ≡ true
+            → HaveFuzzyFlag (record { kind = Flags; text = text } ∷ after)
+        found true e there = here (lists text) (fuzzy_among (listed_flags text) e)
+        found false e there = later (more there)
 
 flagged_fuzzy : {comment_texts : List CommentText} → HaveFuzzyFlag comment_texts → fuzzy_of comment_texts ≡ true
 flagged_fuzzy (here {text = text} {flags = flags} {after = after} listed among) =
-    flags_first text after ∙ ap (λ (b : Bool). b || fuzzy_of after) (subst (λ l. list_any is_fuzzy_flag l ≡ true) ((flags_listed text flags).1 listed) (among_fuzzy flags among))
+    flags_first text after ∙ ap (λ (b : Bool). b || fuzzy_of after)
+    (subst (λ l. list_any is_fuzzy_flag l ≡ true) ((flags_listed text flags).1 listed) (among_fuzzy flags among))
 flagged_fuzzy (later {first = first} {after = after} h) = by first.kind first.text (flagged_fuzzy h) where
-  by : (kind : CommentKind) (text : List ℕ) → fuzzy_of after ≡ true → fuzzy_of (record { kind = kind; text = text } ∷ after) ≡ true
+  by : (kind : CommentKind) (text : List ℕ) → fuzzy_of after ≡ true
+      → fuzzy_of (record { kind = kind; text = text } ∷ after) ≡ true
   by Translator text g = g
   by Extracted text g = g
   by Reference text g = g
   by Flags text g = flags_first text after ∙ or_right (list_any is_fuzzy_flag (listed_flags text)) (fuzzy_of after) g
 
-pub fuzzy_where_flagged : (comment_texts : List CommentText) → Decides (fuzzy_of comment_texts) (HaveFuzzyFlag comment_texts)
+pub fuzzy_where_flagged : (comment_texts : List CommentText)
+    → Decides (fuzzy_of comment_texts) (HaveFuzzyFlag comment_texts)
 fuzzy_where_flagged comment_texts = (fuzzy_flagged comment_texts, flagged_fuzzy)
 
 abbrev admitted_names : List (List ℕ)

@@ -10,10 +10,12 @@ use Rattle.po_entry.specs.TextEntry.{texts}
 use Rattle.po_entry.specs.Header.{first_form}
 
 -- one more name that may be meant
-pub one_more_name : (names : List (List ℕ)) (name x : List ℕ) (a b : Bool) → (IsTrue a ↔ Contains names x) → (IsTrue b ↔ (x ≡ name)) → (IsTrue (a || b) ↔ Contains (names ++ name ∷ []) x)
+pub one_more_name : (names : List (List ℕ)) (name x : List ℕ) (a b : Bool) → (IsTrue a ↔ Contains names x)
+    → (IsTrue b ↔ (x ≡ name)) → (IsTrue (a || b) ↔ Contains (names ++ name ∷ []) x)
 one_more_name names name x true b p q = (λ t. Contains-append_left names (name ∷ []) x (p.0 refl), λ h. refl)
 one_more_name names name x false true p q =
-    let P : List ℕ → Type 0 = λ y. Contains (names ++ name ∷ []) y in (λ t. rw (q.0 refl) (Contains-push names name), λ h. refl)
+    let P : List ℕ → Type 0 =
+    λ y. Contains (names ++ name ∷ []) y in (λ t. rw (q.0 refl) (Contains-push names name), λ h. refl)
 one_more_name names name x false false p q = (
   λ t. absurd (false≢true t),
   λ h. elim (Contains-push_cases names name x h) [ inl before ↦ p.1 before | inr here ↦ q.1 (sym here) ],
@@ -27,11 +29,13 @@ nonempty : (b : ℕ) (name : List ℕ) → (length (b ∷ name) == 0) ≡ true �
 nonempty b name t = let h : length (b ∷ name) ≡ 0 = eqb-true _ _ t in omega (arith, h)
 
 -- the empty word, in lowercase
-pub no_name : (f : ℕ → ℕ) (name : List ℕ) (a : Bool) → a ≡ (length name == 0) → (IsTrue a ↔ Contains ([] ∷ []) (map f name))
+pub no_name : (f : ℕ → ℕ) (name : List ℕ) (a : Bool) → a ≡ (length name == 0)
+    → (IsTrue a ↔ Contains ([] ∷ []) (map f name))
 no_name f [] a e = (λ t. Contains-push [] [], λ h. e)
 no_name f (b ∷ name) a e = (
   λ t. absurd (nonempty b name (sym e ∙ t)),
-  λ h. elim (Contains-push_cases [] [] (map f (b ∷ name)) h) [ inl (k, below, is) ↦ absurd (omega (arith, below)) | inr here ↦ cc ],
+  λ h. elim (Contains-push_cases [] [] (map f (b ∷ name)) h)
+      [ inl (k, below, is) ↦ absurd (omega (arith, below)) | inr here ↦ cc ],
 )
 
 -- what stands before the first place where a test passes
@@ -43,6 +47,8 @@ before_found p xs i e = found (nat_lt (position_or_len p xs) (length xs)) e wher
 
 pub before_none : (p : ℕ → Bool) (xs : List ℕ) → None ≡ position p xs → xs ≡ before_first p xs
 before_none p xs e = found (nat_lt (position_or_len p xs) (length xs)) refl e where
-  found : (b : Bool) → nat_lt (position_or_len p xs) (length xs) ≡ b → None ≡ cond b (Some (position_or_len p xs)) None → xs ≡ before_first p xs
+  found : (b : Bool) → nat_lt (position_or_len p xs) (length xs) ≡ b → None ≡ cond b (Some (position_or_len p xs)) None
+      → xs ≡ before_first p xs
   found true t q = cc
-  found false t q = let past : length xs ≤ position_or_len p xs = ltb-false _ _ t in sym (take_all (position_or_len p xs) xs past)
+  found false t q = let past : length xs ≤ position_or_len p xs =
+      ltb-false _ _ t in sym (take_all (position_or_len p xs) xs past)

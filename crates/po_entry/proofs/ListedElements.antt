@@ -27,8 +27,11 @@ blank_fails b h = false_from_ne_true (is_blank b) h
 abbrev kept : List ℕ → List (List ℕ) → List (List ℕ)
 kept element elements = cond (is_not_empty element) (element ∷ elements) elements
 
-some_kept : (b : ℕ) (element : List ℕ) (elements : List (List ℕ)) → kept (b ∷ element) elements ≡ (b ∷ element) ∷ elements
-some_kept b element elements = cond-true (is_not_empty (b ∷ element)) ((b ∷ element) ∷ elements) elements (ap not (ne_eqb (length (b ∷ element)) 0 (λ e. omega (arith, e))))
+some_kept : (b : ℕ) (element : List ℕ) (elements : List (List ℕ))
+    → kept (b ∷ element) elements ≡ (b ∷ element) ∷ elements
+some_kept b element elements =
+    cond-true (is_not_empty (b ∷ element)) ((b ∷ element) ∷ elements) elements
+    (ap not (ne_eqb (length (b ∷ element)) 0 (λ e. omega (arith, e))))
 
 -- references
 
@@ -38,46 +41,68 @@ some_element b element e = cc
 before_end : (prefix : List ℕ) → All (λ b. is_blank b ≡ false) prefix → ListsReferences prefix (kept prefix [])
 before_end [] all = no_text
 before_end (b ∷ prefix) all =
-    subst (ListsReferences (b ∷ prefix)) (sym (some_kept b prefix [])) (subst (λ t. ListsReferences t ((b ∷ prefix) ∷ [])) (append-nil (b ∷ prefix)) (reference (some_element b prefix) (λ k d below. no_blank (get_or (b ∷ prefix) k d) (all k d below)) tt no_text))
+    subst (ListsReferences (b ∷ prefix)) (sym (some_kept b prefix []))
+    (subst (λ t. ListsReferences t ((b ∷ prefix) ∷ [])) (append-nil (b ∷ prefix))
+    (reference (some_element b prefix)
+    (λ k d below. no_blank (get_or (b ∷ prefix) k d) (all k d below)) tt no_text))
 
-before_blank : (prefix : List ℕ) (b : ℕ) (text : List ℕ) (elements : List (List ℕ)) → All (λ b. is_blank b ≡ false) prefix → is_blank b ≡ true → ListsReferences text elements → ListsReferences (prefix ++ b ∷ text) (kept prefix elements)
+before_blank : (prefix : List ℕ) (b : ℕ) (text : List ℕ) (elements : List (List ℕ))
+    → All (λ b. is_blank b ≡ false) prefix → is_blank b ≡ true → ListsReferences text elements
+    → ListsReferences (prefix ++ b ∷ text) (kept prefix elements)
 before_blank [] b text elements all e later = blank e later
 before_blank (a ∷ prefix) b text elements all e later =
-    subst (ListsReferences ((a ∷ prefix) ++ b ∷ text)) (sym (some_kept a prefix elements)) (reference (some_element a prefix) (λ k d below. no_blank (get_or (a ∷ prefix) k d) (all k d below)) e (blank e later))
+    subst (ListsReferences ((a ∷ prefix) ++ b ∷ text)) (sym (some_kept a prefix elements))
+    (reference (some_element a prefix) (λ k d below. no_blank (get_or (a ∷ prefix) k d) (all k d below)) e
+    (blank e later))
 
-lists : (text prefix : List ℕ) → All (λ b. is_blank b ≡ false) prefix → ListsReferences (prefix ++ text) (listed_references (prefix ++ text))
+lists : (text prefix : List ℕ) → All (λ b. is_blank b ≡ false) prefix
+    → ListsReferences (prefix ++ text) (listed_references (prefix ++ text))
 lists [] prefix all =
     let text : prefix ++ [] ≡ prefix = append-nil prefix in
     let cut = slice_split_none is_blank prefix all in
-    subst (λ t. ListsReferences t (listed_references t)) (sym text) (subst (λ l. ListsReferences prefix (filter is_not_empty l)) (sym cut) (before_end prefix all))
+    subst (λ t. ListsReferences t (listed_references t)) (sym text)
+    (subst (λ l. ListsReferences prefix (filter is_not_empty l)) (sym cut) (before_end prefix all))
 lists (b ∷ text) prefix all =
     elim (cases_Bool (is_blank b)) [
-      | inl e ↦ subst (λ l. ListsReferences (prefix ++ b ∷ text) (filter is_not_empty l)) (sym (slice_split_at is_blank prefix b text all e))
-          (before_blank prefix b text (listed_references text) all e (lists text [] (All-nil (λ c. is_blank c ≡ false))))
-      | inr e ↦ let longer = All-append (λ c. is_blank c ≡ false) prefix (b ∷ []) all (All-cons (λ c. is_blank c ≡ false) b [] e (All-nil (λ c. is_blank c ≡ false))) in
-          subst (λ t. ListsReferences t (listed_references t)) (append_assoc prefix (b ∷ []) text) (lists text (prefix ++ b ∷ []) longer)
+      | inl e ↦ subst (λ l. ListsReferences (prefix ++ b ∷ text) (filter is_not_empty l))
+          (sym (slice_split_at is_blank prefix b text all e))
+          (before_blank prefix b text (listed_references text) all e
+          (lists text [] (All-nil (λ c. is_blank c ≡ false))))
+      | inr e ↦ let longer = All-append (λ c. is_blank c ≡ false) prefix (b ∷ []) all
+          (All-cons (λ c. is_blank c ≡ false) b [] e (All-nil (λ c. is_blank c ≡ false))) in
+          subst (λ t. ListsReferences t (listed_references t)) (append_assoc prefix (b ∷ []) text)
+          (lists text (prefix ++ b ∷ []) longer)
     ]
 
-elements_prefix : (element : List ℕ) → element ≢ [] → (elements : List (List ℕ)) → kept element elements ≡ element ∷ elements
+elements_prefix : (element : List ℕ) → element ≢ [] → (elements : List (List ℕ))
+    → kept element elements ≡ element ∷ elements
 elements_prefix [] some elements = absurd (some refl)
 elements_prefix (b ∷ element) some elements = some_kept b element elements
 
-element_then : (element rest : List ℕ) → element ≢ [] → All (λ b. IsBlank b → ⊥) element → EndsReference rest → listed_references (element ++ rest) ≡ element ∷ listed_references rest
+element_then : (element rest : List ℕ) → element ≢ [] → All (λ b. IsBlank b → ⊥) element → EndsReference rest
+    → listed_references (element ++ rest) ≡ element ∷ listed_references rest
 element_then element [] some all ends =
     let fails : All (λ b. is_blank b ≡ false) element = λ k d below. blank_fails (get_or element k d) (all k d below) in
-    ap listed_references (append-nil element) ∙ ap (filter is_not_empty) (slice_split_none is_blank element fails) ∙ elements_prefix element some []
+    ap listed_references (append-nil element) ∙ ap (filter is_not_empty) (slice_split_none is_blank element fails)
+    ∙ elements_prefix element some []
 element_then element (b ∷ rest) some all ends =
     let fails : All (λ b. is_blank b ≡ false) element = λ k d below. blank_fails (get_or element k d) (all k d below) in
-    ap (filter is_not_empty) (slice_split_at is_blank element b rest fails ends) ∙ elements_prefix element some (listed_references rest)
+    ap (filter is_not_empty) (slice_split_at is_blank element b rest fails ends)
+    ∙ elements_prefix element some (listed_references rest)
     ∙ ap (λ l. element ∷ l) (sym (ap (filter is_not_empty) (slice_split-cons_yes is_blank b rest ends)))
 
-are_elements : {text : List ℕ} {elements : List (List ℕ)} → ListsReferences text elements → elements ≡ listed_references text
+are_elements : {text : List ℕ} {elements : List (List ℕ)} → ListsReferences text elements
+    → elements ≡ listed_references text
 are_elements no_text = refl
-are_elements (blank {b = b} {text = text} is later) = are_elements later ∙ sym (ap (filter is_not_empty) (slice_split-cons_yes is_blank b text is))
-are_elements (reference {element = element} {rest = rest} some all ends later) = ap (λ l. element ∷ l) (are_elements later) ∙ sym (element_then element rest some all ends)
+are_elements (blank {b = b} {text = text} is later) =
+    are_elements later ∙ sym (ap (filter is_not_empty) (slice_split-cons_yes is_blank b text is))
+are_elements (reference {element = element} {rest = rest} some all ends later) =
+    ap (λ l. element ∷ l) (are_elements later) ∙ sym (element_then element rest some all ends)
 
-pub references_listed : (text : List ℕ) (references : List (List ℕ)) → (references ≡ listed_references text) ↔ ListsReferences text references
-references_listed text references = (λ e. subst (ListsReferences text) (sym e) (lists text [] (All-nil (λ c. is_blank c ≡ false))), λ h. are_elements h)
+pub references_listed : (text : List ℕ) (references : List (List ℕ))
+    → (references ≡ listed_references text) ↔ ListsReferences text references
+references_listed text references =
+    (λ e. subst (ListsReferences text) (sym e) (lists text [] (All-nil (λ c. is_blank c ≡ false))), λ h. are_elements h)
 
 -- texts without the blanks at their ends
 
@@ -98,7 +123,8 @@ trimmed_is text =
       whole = sym start.whole ∙ ap (λ l. take (prefix_len is_blank text) text ++ l) end.whole;
       before_blank = start.passes;
       after_blank = end.passes;
-      no_first = no_first_blank (trimmed text) (first_kept (trimmed text) end.end (subst (FailsFirst is_blank) end.whole start.ends));
+      no_first = no_first_blank (trimmed text)
+          (first_kept (trimmed text) end.end (subst (FailsFirst is_blank) end.whole start.ends));
       no_last = λ prefix b e is. no_blank b (end.fails prefix b e) is;
     }
 
@@ -109,10 +135,12 @@ all_blank text all =
     ap (without_end is_blank) nothing
 
 is_trimmed : (text kept : List ℕ) → IsWithoutBlanks text kept → trimmed text ≡ kept
-is_trimmed text [] h = ap trimmed h.whole ∙ all_blank (h.before ++ h.after) (All-append IsBlank h.before h.after h.before_blank h.after_blank)
+is_trimmed text [] h = ap trimmed h.whole
+    ∙ all_blank (h.before ++ h.after) (All-append IsBlank h.before h.after h.before_blank h.after_blank)
 is_trimmed text (b ∷ kept) h =
     let start = skip_prefix h.before ((b ∷ kept) ++ h.after) h.before_blank (blank_fails b (h.no_first b kept refl)) in
-    ap trimmed h.whole ∙ ap (without_end is_blank) start ∙ kept_is is_blank (b ∷ kept) (λ prefix c e. blank_fails c (h.no_last prefix c e)) h.after h.after_blank
+    ap trimmed h.whole ∙ ap (without_end is_blank) start
+    ∙ kept_is is_blank (b ∷ kept) (λ prefix c e. blank_fails c (h.no_last prefix c e)) h.after h.after_blank
 
 -- flags
 
@@ -124,7 +152,8 @@ names text = at (trimmed text) (trimmed_is text) where
 
 kept_append : (element : List ℕ) (elements : List (List ℕ)) → kept element [] ++ elements ≡ kept element elements
 kept_append [] elements = refl
-kept_append (b ∷ element) elements = ap (λ l. l ++ elements) (some_kept b element []) ∙ sym (some_kept b element elements)
+kept_append (b ∷ element) elements =
+    ap (λ l. l ++ elements) (some_kept b element []) ∙ sym (some_kept b element elements)
 
 comma_says : (b : ℕ) → (b == 44) ≡ true → b ≡ 44
 comma_says b e = eqb-true b 44 e
@@ -138,45 +167,62 @@ no_comma text lacks = λ k d below. ne_eqb _ 44 (lacks k d below)
 abbrev flags_in : List (List ℕ) → List (List ℕ)
 flags_in texts = filter is_not_empty (map trimmed texts)
 
-list_flags : (text prefix : List ℕ) → All (λ b. (b == 44) ≡ false) prefix → ListsFlags (prefix ++ text) (listed_flags (prefix ++ text))
+list_flags : (text prefix : List ℕ) → All (λ b. (b == 44) ≡ false) prefix
+    → ListsFlags (prefix ++ text) (listed_flags (prefix ++ text))
 list_flags [] prefix all =
     let text : prefix ++ [] ≡ prefix = append-nil prefix in
     let cut = slice_split_none (λ b. b == 44) prefix all in
-    subst (λ t. ListsFlags t (listed_flags t)) (sym text) (subst (λ l. ListsFlags prefix (flags_in l)) (sym cut) (last (lacks_comma prefix all) (names prefix)))
+    subst (λ t. ListsFlags t (listed_flags t)) (sym text)
+    (subst (λ l. ListsFlags prefix (flags_in l)) (sym cut) (last (lacks_comma prefix all) (names prefix)))
 list_flags (b ∷ text) prefix all =
     elim (cases_Bool ((b == 44))) [
       | inl e ↦ let later = list_flags text [] (All-nil (λ c. (c == 44) ≡ false)) in
           let here = more (lacks_comma prefix all) (names prefix) later in
-          subst (λ l. ListsFlags (prefix ++ b ∷ text) (flags_in l)) (sym (slice_split_at (λ b. b == 44) prefix b text all e))
-          (subst (λ a. ListsFlags (prefix ++ a ∷ text) (kept (trimmed prefix) (listed_flags text))) (sym (comma_says b e)) (subst (ListsFlags (prefix ++ 44 ∷ text)) (kept_append (trimmed prefix) (listed_flags text)) here))
-      | inr e ↦ let longer = All-append (λ c. (c == 44) ≡ false) prefix (b ∷ []) all (All-cons (λ c. (c == 44) ≡ false) b [] e (All-nil (λ c. (c == 44) ≡ false))) in
-          subst (λ t. ListsFlags t (listed_flags t)) (append_assoc prefix (b ∷ []) text) (list_flags text (prefix ++ b ∷ []) longer)
+          subst (λ l. ListsFlags (prefix ++ b ∷ text) (flags_in l))
+          (sym (slice_split_at (λ b. b == 44) prefix b text all e))
+          (subst (λ a. ListsFlags (prefix ++ a ∷ text) (kept (trimmed prefix) (listed_flags text)))
+          (sym (comma_says b e)) (subst (ListsFlags (prefix ++ 44 ∷ text))
+          (kept_append (trimmed prefix) (listed_flags text)) here))
+      | inr e ↦ let longer = All-append (λ c. (c == 44) ≡ false) prefix (b ∷ []) all
+          (All-cons (λ c. (c == 44) ≡ false) b [] e (All-nil (λ c. (c == 44) ≡ false))) in
+          subst (λ t. ListsFlags t (listed_flags t)) (append_assoc prefix (b ∷ []) text)
+          (list_flags text (prefix ++ b ∷ []) longer)
     ]
 
 named_is : {text : List ℕ} {here : List (List ℕ)} → NamesFlag text here → here ≡ kept (trimmed text) []
 named_is (no_flag {text = text} h) = ap (λ w. kept w []) (sym (is_trimmed text [] h))
-named_is (flag {text = text} {kept = element} some h) = sym (elements_prefix element some []) ∙ ap (λ w. kept w []) (sym (is_trimmed text element h))
+named_is (flag {text = text} {kept = element} some h) =
+    sym (elements_prefix element some []) ∙ ap (λ w. kept w []) (sym (is_trimmed text element h))
 
 are_flags : {text : List ℕ} {flags : List (List ℕ)} → ListsFlags text flags → flags ≡ listed_flags text
-are_flags (last {text = text} lacks here) = named_is here ∙ sym (ap flags_in (slice_split_none (λ b. b == 44) text (no_comma text lacks)))
+are_flags (last {text = text} lacks here) =
+    named_is here ∙ sym (ap flags_in (slice_split_none (λ b. b == 44) text (no_comma text lacks)))
 are_flags (more {text = text} {rest = rest} {here = here} {later = later} lacks named others) =
-    ap (λ l. l ++ later) (named_is named) ∙ kept_append (trimmed text) later ∙ ap (kept (trimmed text)) (are_flags others)
+    ap (λ l. l ++ later) (named_is named) ∙ kept_append (trimmed text) later
+    ∙ ap (kept (trimmed text)) (are_flags others)
     ∙ sym (ap flags_in (slice_split_at (λ b. b == 44) text 44 rest (no_comma text lacks) refl))
 
 pub flags_listed : (text : List ℕ) (flags : List (List ℕ)) → (flags ≡ listed_flags text) ↔ ListsFlags text flags
-flags_listed text flags = (λ e. subst (ListsFlags text) (sym e) (list_flags text [] (All-nil (λ c. (c == 44) ≡ false))), λ h. are_flags h)
+flags_listed text flags =
+    (λ e. subst (ListsFlags text) (sym e) (list_flags text [] (All-nil (λ c. (c == 44) ≡ false))), λ h. are_flags h)
 
 -- the flags that are kept
 
-pub among_says : (flags : List (List ℕ)) (element : List ℕ) → list_any (bytes_eq element) flags ≡ true → Contains flags element
-among_says flags element e = Contains-from_any {eq = bytes_eq} (λ x y same. (bytes_eq-Decides x y).0 same) element flags e
+pub among_says : (flags : List (List ℕ)) (element : List ℕ) → list_any (bytes_eq element) flags ≡ true
+    → Contains flags element
+among_says flags element e =
+    Contains-from_any {eq = bytes_eq} (λ x y same. (bytes_eq-Decides x y).0 same) element flags e
 
-pub among_passes : (flags : List (List ℕ)) (element : List ℕ) → Contains flags element → list_any (bytes_eq element) flags ≡ true
-among_passes flags element h = list_any_at (bytes_eq element) flags h.0 element h.1 ((bytes_eq-Decides element _).1 (sym h.2))
+pub among_passes : (flags : List (List ℕ)) (element : List ℕ) → Contains flags element
+    → list_any (bytes_eq element) flags ≡ true
+among_passes flags element h =
+    list_any_at (bytes_eq element) flags h.0 element h.1 ((bytes_eq-Decides element _).1 (sym h.2))
 
 -- a flag is kept exactly where it is named and isn't `fuzzy`
 abbrev AreNamed : List (List ℕ) → List (List ℕ) → Type 0
-AreNamed named flags = (element : List ℕ) → (Contains flags element → Contains named element) × (Contains named element → element ≢ codes "fuzzy" → Contains flags element)
+AreNamed named flags = (element : List ℕ)
+    → (Contains flags element → Contains named element)
+    × (Contains named element → element ≢ codes "fuzzy" → Contains flags element)
 
 nothing_contained : (element : List ℕ) → Contains {X = List ℕ} [] element → ⊥
 nothing_contained element h = let below = h.1 in omega (arith, below)
@@ -211,40 +257,63 @@ are_named (repeated {named = named} {kept = flags} {flag = new} before there) = 
 abbrev keep : List (List ℕ) → List (List ℕ)
 keep named = fold with_flag [] named
 
-one_more : (named flags : List (List ℕ)) (element : List ℕ) → KeepsFlags named flags → KeepsFlags (named ++ element ∷ []) (with_flag flags element)
+one_more : (named flags : List (List ℕ)) (element : List ℕ) → KeepsFlags named flags
+    → KeepsFlags (named ++ element ∷ []) (with_flag flags element)
 one_more named flags element before =
     elim (cases_Bool (is_fuzzy_flag element)) [
       | inl e ↦ let is = (bytes_eq-Decides element (codes "fuzzy")).0 e in
-          subst (KeepsFlags (named ++ element ∷ [])) (sym (cond-true (is_fuzzy_flag element || list_any (bytes_eq element) flags) flags (flags ++ element ∷ []) (or_left _ _ e)))
+          subst (KeepsFlags (named ++ element ∷ []))
+          (sym (cond-true (is_fuzzy_flag element || list_any (bytes_eq element) flags) flags (flags ++ element ∷ [])
+          (or_left _ _ e)))
           (subst (λ w. KeepsFlags (named ++ w ∷ []) flags) (sym is) (fuzzy before))
       | inr other ↦ elim (cases_Bool (list_any (bytes_eq element) flags)) [
-        | inl e ↦ subst (KeepsFlags (named ++ element ∷ [])) (sym (cond-true (is_fuzzy_flag element || list_any (bytes_eq element) flags) flags (flags ++ element ∷ []) (or_right _ _ e)))
+        | inl e ↦ subst (KeepsFlags (named ++ element ∷ []))
+            (sym (cond-true (is_fuzzy_flag element || list_any (bytes_eq element) flags) flags (flags ++ element ∷ [])
+            (or_right _ _ e)))
             (repeated before ((are_named before element).0 (among_says flags element e)))
-        | inr absent ↦ let not_fuzzy : element ≢ codes "fuzzy" = λ is. both_ways (is_fuzzy_flag element) other ((bytes_eq-Decides element (codes "fuzzy")).1 is) in
-            subst (KeepsFlags (named ++ element ∷ [])) (sym (cond-false (is_fuzzy_flag element || list_any (bytes_eq element) flags) flags (flags ++ element ∷ []) (or_from _ _ other absent)))
-            (first before not_fuzzy (λ there. both_ways (list_any (bytes_eq element) flags) absent (among_passes flags element ((are_named before element).1 there not_fuzzy))))
+        | inr absent ↦ let not_fuzzy : element ≢ codes "fuzzy" =
+            λ is. both_ways (is_fuzzy_flag element) other ((bytes_eq-Decides element (codes "fuzzy")).1 is) in
+            subst (KeepsFlags (named ++ element ∷ []))
+            (sym (cond-false (is_fuzzy_flag element || list_any (bytes_eq element) flags) flags
+            (flags ++ element ∷ []) (or_from _ _ other absent)))
+            (first before not_fuzzy (λ there. both_ways (list_any (bytes_eq element) flags) absent
+            (among_passes flags element ((are_named before element).1 there not_fuzzy))))
       ]
     ]
 
 keeps : (named : List (List ℕ)) → KeepsFlags named (keep named)
 keeps =
     from_end (λ named. KeepsFlags named (keep named)) none
-    (λ named element before. subst (KeepsFlags (named ++ element ∷ [])) (sym (fold_push with_flag [] named element)) (one_more named (keep named) element before))
+    (λ named element before. subst (KeepsFlags (named ++ element ∷ [])) (sym (fold_push with_flag [] named element))
+    (one_more named (keep named) element before))
 
 kept_once : {named flags : List (List ℕ)} → KeepsFlags named flags → flags ≡ keep named
 kept_once none = refl
 kept_once (first {named = named} {kept = flags} {flag = element} before other absent) =
-    let fails = or_from (is_fuzzy_flag element) (list_any (bytes_eq element) flags) (false_from_ne_true _ (λ e. other ((bytes_eq-Decides element (codes "fuzzy")).0 e)))
+    let fails = or_from (is_fuzzy_flag element) (list_any (bytes_eq element) flags)
+    (false_from_ne_true _ (λ e. other ((bytes_eq-Decides element (codes "fuzzy")).0 e)))
     (false_from_ne_true _ (λ e. absent ((are_named before element).0 (among_says flags element e)))) in
-    sym (cond-false (is_fuzzy_flag element || list_any (bytes_eq element) flags) flags (flags ++ element ∷ []) fails) ∙ ap (λ l. with_flag l element) (kept_once before) ∙ sym (fold_push with_flag [] named element)
+    sym (cond-false (is_fuzzy_flag element || list_any (bytes_eq element) flags) flags (flags ++ element ∷ []) fails)
+    ∙ ap (λ l. with_flag l element) (kept_once before) ∙ sym (fold_push with_flag [] named element)
 kept_once (fuzzy {named = named} {kept = flags} before) =
-    sym (cond-true (is_fuzzy_flag (codes "fuzzy") || list_any (bytes_eq (codes "fuzzy")) flags) flags (flags ++ codes "fuzzy" ∷ []) refl) ∙ ap (λ l. with_flag l (codes "fuzzy")) (kept_once before) ∙ sym (fold_push with_flag [] named (codes "fuzzy"))
+    sym (cond-true (is_fuzzy_flag (codes "fuzzy") || list_any (bytes_eq (codes "fuzzy")) flags) flags
+    (flags ++ codes "fuzzy" ∷ []) refl) ∙ ap (λ l. with_flag l (codes "fuzzy")) (kept_once before)
+    ∙ sym (fold_push with_flag [] named (codes "fuzzy"))
 kept_once (repeated {named = named} {kept = flags} {flag = element} before there) =
-    let passes : (is_fuzzy_flag element || list_any (bytes_eq element) flags) ≡ true = elim (cases_Bool (is_fuzzy_flag element)) [
+    let passes : (is_fuzzy_flag element || list_any (bytes_eq element) flags) ≡ true =
+    elim (cases_Bool (is_fuzzy_flag element)) [
       | inl e ↦ or_left _ _ e
-      | inr other ↦ or_right _ _ (among_passes flags element ((are_named before element).1 there (λ is. both_ways (is_fuzzy_flag element) other ((bytes_eq-Decides element (codes "fuzzy")).1 is))))
+      | inr other ↦ or_right _ _
+          (among_passes flags element
+          ((are_named before element).1 there
+          (λ is. both_ways (is_fuzzy_flag element) other ((bytes_eq-Decides element (codes "fuzzy")).1 is))))
     ] in
-    sym (cond-true (is_fuzzy_flag element || list_any (bytes_eq element) flags) flags (flags ++ element ∷ []) passes) ∙ ap (λ l. with_flag l element) (kept_once before) ∙ sym (fold_push with_flag [] named element)
+    sym (cond-true (is_fuzzy_flag element || list_any (bytes_eq element) flags) flags (flags ++ element ∷ []) passes)
+    ∙ ap (λ l. with_flag l element) (kept_once before) ∙ sym (fold_push with_flag [] named element)
 
-pub flags_kept : (comment_texts : List CommentText) (flags : List (List ℕ)) → (flags ≡ flags_of comment_texts) ↔ KeepsFlags (all_listed_flags comment_texts) flags
-flags_kept comment_texts flags = (λ e. subst (KeepsFlags (all_listed_flags comment_texts)) (sym e) (keeps (all_listed_flags comment_texts)), λ h. kept_once h)
+pub flags_kept : (comment_texts : List CommentText) (flags : List (List ℕ))
+    → (flags ≡ flags_of comment_texts) ↔ KeepsFlags (all_listed_flags comment_texts) flags
+flags_kept comment_texts flags = (
+  λ e. subst (KeepsFlags (all_listed_flags comment_texts)) (sym e) (keeps (all_listed_flags comment_texts)),
+  λ h. kept_once h,
+)

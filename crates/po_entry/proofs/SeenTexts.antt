@@ -16,9 +16,15 @@ cond_or true false c e = cc
 cond_or false true c e = cc
 cond_or false false c e = sym (or-false c)
 
-pub one_text_more : (old new : BTreeSet (Bor (List ℕ))) (k : Bor (List ℕ)) (texts : List (List ℕ)) → HoldsTexts old texts
-    → ((q : Bor (List ℕ)) → contains (λ x y. slice_cmp nat_cmp x.now y.now) new q ≡ cond (is_at (λ y. slice_cmp nat_cmp k.now y.now) q) true (contains (λ x y. slice_cmp nat_cmp x.now y.now) old q))
+pub one_text_more : (old new : BTreeSet (Bor (List ℕ))) (k : Bor (List ℕ)) (texts : List (List ℕ))
+    → HoldsTexts old texts
+    → ((q : Bor (List ℕ)) → contains (λ x y. slice_cmp nat_cmp x.now y.now) new q
+    ≡ cond (is_at (λ y. slice_cmp nat_cmp k.now y.now) q) true
+    (contains (λ x y. slice_cmp nat_cmp x.now y.now) old q))
     → HoldsTexts new (texts ++ k.now ∷ [])
 one_text_more old new k texts h updated q =
-    updated q ∙ cond_or (is_at (λ y. slice_cmp nat_cmp k.now y.now) q) (bytes_eq q.now k.now) (contains (λ x y. slice_cmp nat_cmp x.now y.now) old q) (sym (texts_ties k.now q.now) ∙ nat_list_eq_equiv.symm k.now q.now)
-    ∙ ap₂ (λ (s t : Bool). s || t) (h q) (sym (or-false (bytes_eq q.now k.now))) ∙ sym (list_any-append (bytes_eq q.now) texts (k.now ∷ []))
+    updated q ∙ cond_or (is_at (λ y. slice_cmp nat_cmp k.now y.now) q) (bytes_eq q.now k.now)
+    (contains (λ x y. slice_cmp nat_cmp x.now y.now) old q)
+    (sym (texts_ties k.now q.now) ∙ nat_list_eq_equiv.symm k.now q.now)
+    ∙ ap₂ (λ (s t : Bool). s || t) (h q) (sym (or-false (bytes_eq q.now k.now)))
+    ∙ sym (list_any-append (bytes_eq q.now) texts (k.now ∷ []))

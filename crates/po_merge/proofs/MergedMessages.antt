@@ -28,12 +28,17 @@ inputs_valid (input ∷ inputs) h =
 pub merged_entries : (o : MergeOptions) (inputs : List Named) → MergedAreEntries o inputs
 merged_entries o inputs h =
     let all = groups_valid (all_entries inputs) (inputs_valid inputs h) in
-    let valid : All IsGroup (messages inputs) = All-map IsGroup definitions (groups (all_entries inputs)) (All-weaker IsGroup (λ g. IsGroup (definitions g)) definitions_valid (groups (all_entries inputs)) all) in
+    let valid : All IsGroup (messages inputs) =
+    All-map IsGroup definitions (groups (all_entries inputs))
+    (All-weaker IsGroup (λ g. IsGroup (definitions g)) definitions_valid (groups (all_entries inputs)) all) in
     let kept = filter (is_kept o) (messages inputs) in
-    All-map IsEntry (merged_entry o) kept (All-weaker IsGroup (λ ds. IsEntry (merged_entry o ds)) (λ ds g. merged_is_entry o ds g.some g.valid) kept (All-filter (is_kept o) IsGroup (messages inputs) valid))
+    All-map IsEntry (merged_entry o) kept
+    (All-weaker IsGroup (λ ds. IsEntry (merged_entry o ds)) (λ ds g. merged_is_entry o ds g.some g.valid) kept
+    (All-filter (is_kept o) IsGroup (messages inputs) valid))
 
 pub merged_can_stand : (o : MergeOptions) (inputs : List Named) → MergedCanStand o inputs
-merged_can_stand o inputs h charsets = λ k d below. record { valid = merged_entries o inputs h k d below; charset = charsets k d below }
+merged_can_stand o inputs h charsets =
+    λ k d below. record { valid = merged_entries o inputs h k d below; charset = charsets k d below }
 
 pub one_stays : (o : MergeOptions) (definition : NamedEntry) → OneDefinitionStays o definition
 one_stays o definition = one_definition o definition
@@ -41,6 +46,12 @@ one_stays o definition = one_definition o definition
 pub forms_of_one : (o : MergeOptions) (ds : List NamedEntry) → FormsAreOfOne o ds
 forms_of_one o ds some apart =
     let forms_of : NamedEntry → List (List ℕ) = λ d. d.entry.forms in
-    let among : All (λ d. Contains (map forms_of ds) d.entry.forms) ds = λ k d below. (k, omega (arith, below, length-map ds forms_of), get_or-map forms_of ds k d (forms_of (get_or ds k d)) below) in
-    subst (λ (b : Bool). Contains (map forms_of ds) (if b then joined_forms (translations ds) else (first_translated ds).forms)) (sym apart)
+    let among : All (λ d. Contains (map forms_of ds) d.entry.forms) ds =
+    λ k d below. (
+      k,
+      omega (arith, below, length-map ds forms_of),
+      get_or-map forms_of ds k d (forms_of (get_or ds k d)) below,
+    ) in
+    subst (λ (b : Bool). Contains (map forms_of ds)
+    (if b then joined_forms (translations ds) else (first_translated ds).forms)) (sym apart)
     (first_with_keeps (λ e. Contains (map forms_of ds) e.forms) has_translation ds some among)

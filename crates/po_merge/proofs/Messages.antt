@@ -5,4 +5,5 @@ use Rattle.po_merge.specs.Inputs.{NamedEntry}
 use Rattle.po_merge.specs.Groups.{same_message}
 
 pub same_message_laws : IsEquivalence same_message
-same_message_laws = and_equiv (on_equiv (λ (e : NamedEntry). e.entry.context) (options_equiv nat_list_eq_equiv)) (on_equiv (λ (e : NamedEntry). e.entry.id) nat_list_eq_equiv)
+same_message_laws = and_equiv (on_equiv (λ (e : NamedEntry). e.entry.context) (options_equiv nat_list_eq_equiv))
+    (on_equiv (λ (e : NamedEntry). e.entry.id) nat_list_eq_equiv)

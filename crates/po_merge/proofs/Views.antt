@@ -7,5 +7,6 @@ use Rattle.po_merge.specs.declared.definition.NamedEntry.{NamedEntry as Borrowed
 use Rattle.po_merge.specs.Inputs.{NamedEntry}
 use Rattle.po_merge.specs.InputsView.{named_entry, named_entries}
 
-pub any_named : (p : TextEntry → Bool) (ds : List BorrowedEntry) → list_any (λ d. p d.entry.now) ds ≡ list_any (λ d. p d.entry) (named_entries ds)
+pub any_named : (p : TextEntry → Bool) (ds : List BorrowedEntry)
+    → list_any (λ d. p d.entry.now) ds ≡ list_any (λ d. p d.entry) (named_entries ds)
 any_named p ds = sym (any_map (λ (d : NamedEntry). p d.entry) named_entry ds)

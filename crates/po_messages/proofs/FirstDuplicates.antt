@@ -31,12 +31,16 @@ message_is a b = elim (optional_is a.context b.context) [
 abbrev Alike : InputEntry → InputEntry → Type 0
 Alike a b = IsSameMessage a.entry b.entry
 
-pub none_or_first : (entries : List InputEntry) → HasNoDuplicate (entries_of entries) ⊎ ((first later : InputEntry) × IsFirstDuplicate entries first later)
+pub none_or_first : (entries : List InputEntry)
+    → HasNoDuplicate (entries_of entries) ⊎ ((first later : InputEntry) × IsFirstDuplicate entries first later)
 none_or_first entries = elim (none_or_first_repeat Alike (λ a b. message_is a.entry b.entry) (live_entries entries)) [
-  | inl differ ↦ inl (subst AllDiffer (sym (live_of_entries entries)) (pairs_map (λ a b. ¬ IsSameMessage a b) (λ (e : InputEntry). e.entry) (live_entries entries) differ))
+  | inl differ ↦ inl (subst AllDiffer (sym (live_of_entries entries))
+      (pairs_map (λ a b. ¬ IsSameMessage a b) (λ (e : InputEntry). e.entry) (live_entries entries) differ))
   | inr found ↦ inr found
 ]
 
-pub first_once : (entries : List InputEntry) (first later other last : InputEntry) → IsFirstDuplicate entries first later → IsFirstDuplicate entries other last
+pub first_once : (entries : List InputEntry) (first later other last : InputEntry)
+    → IsFirstDuplicate entries first later → IsFirstDuplicate entries other last
     → (first ≡ other) × (later ≡ last)
-first_once entries = one_repeat Alike (λ a b c first later. (first.0 ∙ sym later.0, first.1 ∙ sym later.1)) (live_entries entries)
+first_once entries = one_repeat Alike (λ a b c first later. (first.0 ∙ sym later.0, first.1 ∙ sym later.1))
+    (live_entries entries)

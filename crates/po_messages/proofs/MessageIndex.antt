@@ -21,9 +21,11 @@ abbrev pub same_key : MessageKey → MessageKey → Bool
 same_key a b = option_eq (λ x y. bytes_eq x.now y.now) a.context b.context && bytes_eq a.id.now b.id.now
 
 pub same_message_laws : IsEquivalence same_message
-same_message_laws = and_equiv (on_equiv (λ (m : Message). m.context) (options_equiv nat_list_eq_equiv)) (on_equiv (λ (m : Message). m.id) nat_list_eq_equiv)
+same_message_laws = and_equiv (on_equiv (λ (m : Message). m.context) (options_equiv nat_list_eq_equiv))
+    (on_equiv (λ (m : Message). m.id) nat_list_eq_equiv)
 
-same_contexts : (a b : Option (Bor (List ℕ))) → option_eq bytes_eq (option_copied a) (option_copied b) ≡ option_eq (λ x y. bytes_eq x.now y.now) a b
+same_contexts : (a b : Option (Bor (List ℕ)))
+    → option_eq bytes_eq (option_copied a) (option_copied b) ≡ option_eq (λ x y. bytes_eq x.now y.now) a b
 same_contexts None None = refl
 same_contexts None (Some y) = refl
 same_contexts (Some x) None = refl
@@ -33,40 +35,62 @@ same_contexts (Some x) (Some y) = refl
 pub keys_tie : (a b : MessageKey) → same_message (message_of_key a) (message_of_key b) ≡ same_key a b
 keys_tie a b = ap (λ (t : Bool). t && bytes_eq a.id.now b.id.now) (same_contexts a.context b.context)
 
-pub any_key : (key : MessageKey) (keys : List MessageKey) → list_any (same_message (message_of_key key)) (messages_of_keys keys) ≡ list_any (same_key key) keys
+pub any_key : (key : MessageKey) (keys : List MessageKey)
+    → list_any (same_message (message_of_key key)) (messages_of_keys keys) ≡ list_any (same_key key) keys
 any_key key [] = refl
 any_key key (k ∷ keys) = rw (keys_tie key k, any_key key keys) refl
 
-pub place_of_key : (key : MessageKey) (keys : List MessageKey) → position_or_len (same_message (message_of_key key)) (messages_of_keys keys) ≡ position_or_len (same_key key) keys
+pub place_of_key : (key : MessageKey) (keys : List MessageKey)
+    → position_or_len (same_message (message_of_key key)) (messages_of_keys keys) ≡ position_or_len (same_key key) keys
 place_of_key key [] = refl
-place_of_key key (k ∷ keys) = ap₂ (λ (b : Bool) (n : ℕ). cond (not b) (1 + n) 0) (keys_tie key k) (place_of_key key keys)
+place_of_key key (k ∷ keys) =
+    ap₂ (λ (b : Bool) (n : ℕ). cond (not b) (1 + n) 0) (keys_tie key k) (place_of_key key keys)
 
-inserted : (key : MessageKey) (keys : List MessageKey) → messages_of_keys (insert_key same_key keys key) ≡ with_new same_message (messages_of_keys keys) (message_of_key key)
+inserted : (key : MessageKey) (keys : List MessageKey)
+    → messages_of_keys (insert_key same_key keys key) ≡ with_new same_message (messages_of_keys keys)
+    (message_of_key key)
 inserted key keys = by (list_any (same_key key) keys) refl where
-  by : (b : Bool) → list_any (same_key key) keys ≡ b → messages_of_keys (cond b keys (keys ++ key ∷ [])) ≡ cond (list_any (same_message (message_of_key key)) (messages_of_keys keys)) (messages_of_keys keys) (messages_of_keys keys ++ message_of_key key ∷ [])
+  by : (b : Bool) → list_any (same_key key) keys ≡ b
+      → messages_of_keys (cond b keys (keys ++ key ∷ []))
+      ≡ cond (list_any (same_message (message_of_key key)) (messages_of_keys keys)) (messages_of_keys keys)
+      (messages_of_keys keys ++ message_of_key key ∷ [])
   by true e = rw (any_key key keys, e) refl
-  by false e = map-append message_of_key keys (key ∷ []) ∙ sym (ap (λ (t : Bool). cond t (messages_of_keys keys) (messages_of_keys keys ++ message_of_key key ∷ [])) (any_key key keys ∙ e))
+  by false e = map-append message_of_key keys (key ∷ [])
+      ∙ sym (ap (λ (t : Bool). cond t (messages_of_keys keys) (messages_of_keys keys ++ message_of_key key ∷ []))
+      (any_key key keys ∙ e))
 
 -- the index and the numbers of these keys
 pub record AreNumbered (keys index : List MessageKey) (numbers : List ℕ) : Type 0 where
   pub firsts : messages_of_keys index ≡ first_ones same_message (messages_of_keys keys)
   pub numbers_are : numbers ≡ group_numbers same_message (messages_of_keys keys)
 
-pub messages_more : (keys : List MessageKey) (i : ℕ) (key d : MessageKey) → i < length keys → key ≡ get_or keys i d → messages_of_keys (take (i + 1) keys) ≡ messages_of_keys (take i keys) ++ message_of_key key ∷ []
-messages_more keys i key d inside here = ap messages_of_keys (take_more keys i d inside) ∙ map-append message_of_key (take i keys) (get_or keys i d ∷ []) ∙ ap (λ (k : MessageKey). messages_of_keys (take i keys) ++ message_of_key k ∷ []) (sym here)
+pub messages_more : (keys : List MessageKey) (i : ℕ) (key d : MessageKey) → i < length keys → key ≡ get_or keys i d
+    → messages_of_keys (take (i + 1) keys) ≡ messages_of_keys (take i keys) ++ message_of_key key ∷ []
+messages_more keys i key d inside here = ap messages_of_keys (take_more keys i d inside)
+    ∙ map-append message_of_key (take i keys) (get_or keys i d ∷ [])
+    ∙ ap (λ (k : MessageKey). messages_of_keys (take i keys) ++ message_of_key k ∷ []) (sym here)
 
-module _ (keys index new : List MessageKey) (i : ℕ) (key d : MessageKey) (inside : i < length keys) (here : key ≡ get_or keys i d) (so_far : messages_of_keys index ≡ first_ones same_message (messages_of_keys (take i keys)))
+module _ (keys index new : List MessageKey) (i : ℕ) (key d : MessageKey) (inside : i < length keys)
+    (here : key ≡ get_or keys i d)
+    (so_far : messages_of_keys index ≡ first_ones same_message (messages_of_keys (take i keys)))
     (is_new : new ≡ insert_key same_key index key) where
   pub firsts_more : messages_of_keys new ≡ first_ones same_message (messages_of_keys (take (i + 1) keys))
   firsts_more =
-      ap messages_of_keys is_new ∙ inserted key index ∙ ap (λ (l : List Message). with_new same_message l (message_of_key key)) so_far
-      ∙ sym (ap (first_ones same_message) (messages_more keys i key d inside here) ∙ firsts_push same_message same_message_laws (messages_of_keys (take i keys)) (message_of_key key))
+      ap messages_of_keys is_new ∙ inserted key index
+      ∙ ap (λ (l : List Message). with_new same_message l (message_of_key key)) so_far
+      ∙ sym (ap (first_ones same_message) (messages_more keys i key d inside here)
+      ∙ firsts_push same_message same_message_laws (messages_of_keys (take i keys)) (message_of_key key))
 
-  pub numbers_more : (numbers : List ℕ) (number : ℕ) → numbers ≡ group_numbers same_message (messages_of_keys (take i keys)) → number ≡ position_or_len (same_key key) index
+  pub numbers_more : (numbers : List ℕ) (number : ℕ)
+      → numbers ≡ group_numbers same_message (messages_of_keys (take i keys))
+      → number ≡ position_or_len (same_key key) index
       → numbers ++ number ∷ [] ≡ group_numbers same_message (messages_of_keys (take (i + 1) keys))
   numbers_more numbers number are is =
-      ap₂ (λ (ns : List ℕ) (n : ℕ). ns ++ n ∷ []) are (is ∙ sym (place_of_key key index) ∙ ap (λ (l : List Message). position_or_len (same_message (message_of_key key)) l) so_far)
-      ∙ sym (ap (group_numbers same_message) (messages_more keys i key d inside here) ∙ numbers_push same_message same_message_laws (messages_of_keys (take i keys)) (message_of_key key))
+      ap₂ (λ (ns : List ℕ) (n : ℕ). ns ++ n ∷ []) are
+      (is ∙ sym (place_of_key key index)
+      ∙ ap (λ (l : List Message). position_or_len (same_message (message_of_key key)) l) so_far)
+      ∙ sym (ap (group_numbers same_message) (messages_more keys i key d inside here)
+      ∙ numbers_push same_message same_message_laws (messages_of_keys (take i keys)) (message_of_key key))
 
 pub contexts_are : (a b : Option (List ℕ)) → option_eq bytes_eq a b ≡ true → a ≡ b
 contexts_are None None h = refl
@@ -86,7 +110,8 @@ messages_are a b h =
 
 -- messages have one number exactly where they are the same
 pub numbers_tell : (ms : List Message) (i j : ℕ) (d : Message) → i < length ms → j < length ms
-    → (get_or (group_numbers same_message ms) i 0 ≡ get_or (group_numbers same_message ms) j 0) ↔ (get_or ms i d ≡ get_or ms j d)
+    → (get_or (group_numbers same_message ms) i 0 ≡ get_or (group_numbers same_message ms) j 0)
+    ↔ (get_or ms i d ≡ get_or ms j d)
 numbers_tell ms i j d a b = (
   λ same. messages_are (get_or ms i d) (get_or ms j d) (one_number same_message same_message_laws ms i j d a b same),
   λ same.

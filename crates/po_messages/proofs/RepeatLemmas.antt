@@ -12,55 +12,75 @@ use Rattle.po_messages.specs.declared.repeats.Seen.{Seen}
 -- no index was kept in an empty table
 pub none_kept : (seen : List Seen) → seen ≡ [] → (round : ℕ) → 0 < round → IsUnseen round seen
 none_kept seen empty round after number =
-    ap (λ l. index_seen round l number) empty ∙ ap (λ b. cond b (Some 0) None) (ne_eqb 0 round (λ same. omega (arith, same, after)))
+    ap (λ l. index_seen round l number) empty
+    ∙ ap (λ b. cond b (Some 0) None) (ne_eqb 0 round (λ same. omega (arith, same, after)))
 
 -- an element that passes a test, among those that do
-passing_at : {X : Type 0} (p : X → Bool) (xs : List X) (i : ℕ) (d : X) → i < length xs → p (get_or xs i d) ≡ true → filter p xs ≡ filter p (take i xs) ++ get_or xs i d ∷ filter p (drop (suc i) xs)
+passing_at : {X : Type 0} (p : X → Bool) (xs : List X) (i : ℕ) (d : X) → i < length xs → p (get_or xs i d) ≡ true
+    → filter p xs ≡ filter p (take i xs) ++ get_or xs i d ∷ filter p (drop (suc i) xs)
 passing_at p xs i d inside passes =
     let after = filter p (drop (suc i) xs) in
-    ap (filter p) (sym (take-append-drop i xs) ∙ ap (λ l. take i xs ++ l) (drop-cons xs i d inside)) ∙ filter-append p (take i xs) (get_or xs i d ∷ drop (suc i) xs)
+    ap (filter p) (sym (take-append-drop i xs) ∙ ap (λ l. take i xs ++ l) (drop-cons xs i d inside))
+    ∙ filter-append p (take i xs) (get_or xs i d ∷ drop (suc i) xs)
     ∙ ap (λ (b : Bool). filter p (take i xs) ++ cond b (get_or xs i d ∷ after) after) passes
 
 -- things that stand for elements, of which those that pass a test are live
-module _ {X T : Type 0} (number_of : X → ℕ) (p : X → Bool) (live : T → Bool) (xs : List X) (things : List T) (numbers : List ℕ) (numbers_are : numbers ≡ map number_of xs)
+module _ {X T : Type 0} (number_of : X → ℕ) (p : X → Bool) (live : T → Bool) (xs : List X) (things : List T)
+    (numbers : List ℕ) (numbers_are : numbers ≡ map number_of xs)
     (lives : (i : ℕ) (d : T) (e : X) → i < length xs → live (get_or things i d) ≡ p (get_or xs i e)) (none : T) where
   numbered : (i : ℕ) (d : X) → i < length xs → get_or numbers i 0 ≡ number_of (get_or xs i d)
   numbered i d inside = ap (λ l. get_or l i 0) numbers_are ∙ get_or-map number_of xs i d 0 inside
 
-  differ_of : (n : ℕ) → n ≤ length xs → DifferUpTo live numbers things n → AllPairs (λ a b. number_of a ≢ number_of b) (filter p (take n xs))
-  differ_of n most differ i j d below inside = AllPairs-filter (λ a b. p a ≡ true → p b ≡ true → number_of a ≢ number_of b) p (take n xs)
+  differ_of : (n : ℕ) → n ≤ length xs → DifferUpTo live numbers things n
+      → AllPairs (λ a b. number_of a ≢ number_of b) (filter p (take n xs))
+  differ_of n most differ i j d below inside =
+      AllPairs-filter (λ a b. p a ≡ true → p b ≡ true → number_of a ≢ number_of b) p (take n xs)
       (λ i j d below inside first later same.
       let within : j < n = omega (arith, inside, length-take n xs) in
       let at : (k : ℕ) → k < n → get_or (take n xs) k d ≡ get_or xs k d = λ k less. get_or-take n xs k d less in
-      let here : (k : ℕ) → k < n → p (get_or (take n xs) k d) ≡ true → live (get_or things k none) ≡ true = λ k less passes. lives k none d (omega (arith, less, most)) ∙ ap p (sym (at k less)) ∙ passes in
-      let number : (k : ℕ) → k < n → get_or numbers k 0 ≡ number_of (get_or (take n xs) k d) = λ k less. numbered k d (omega (arith, less, most)) ∙ ap number_of (sym (at k less)) in
-      differ i j none below within (here i (omega (arith, below, within)) first) (here j within later) (number i (omega (arith, below, within)) ∙ same ∙ sym (number j within)))
-      i j d below inside (filter_passes p (take n xs) i d (omega (arith, below, inside))) (filter_passes p (take n xs) j d inside)
+      let here : (k : ℕ) → k < n → p (get_or (take n xs) k d) ≡ true → live (get_or things k none) ≡ true =
+      λ k less passes. lives k none d (omega (arith, less, most)) ∙ ap p (sym (at k less)) ∙ passes in
+      let number : (k : ℕ) → k < n → get_or numbers k 0 ≡ number_of (get_or (take n xs) k d) =
+      λ k less. numbered k d (omega (arith, less, most)) ∙ ap number_of (sym (at k less)) in
+      differ i j none below within (here i (omega (arith, below, within)) first) (here j within later)
+      (number i (omega (arith, below, within)) ∙ same ∙ sym (number j within)))
+      i j d below inside (filter_passes p (take n xs) i d (omega (arith, below, inside)))
+      (filter_passes p (take n xs) j d inside)
 
-  pub all_differ : (n : ℕ) → n ≡ length xs → DifferUpTo live numbers things n → AllPairs (λ a b. number_of a ≢ number_of b) (filter p xs)
-  all_differ n whole differ = subst (λ l. AllPairs (λ a b. number_of a ≢ number_of b) (filter p l)) (take_all n xs (omega (arith, whole))) (differ_of n (omega (arith, whole)) differ)
+  pub all_differ : (n : ℕ) → n ≡ length xs → DifferUpTo live numbers things n
+      → AllPairs (λ a b. number_of a ≢ number_of b) (filter p xs)
+  all_differ n whole differ =
+      subst (λ l. AllPairs (λ a b. number_of a ≢ number_of b) (filter p l)) (take_all n xs (omega (arith, whole)))
+      (differ_of n (omega (arith, whole)) differ)
 
-  pub repeat_of : (i j : ℕ) (a b : X) → j < length xs → a ≡ get_or xs i a → b ≡ get_or xs j b → RepeatsAt live numbers things i j → IsFirstRepeat (λ x y. number_of x ≡ number_of y) (filter p xs) a b
+  pub repeat_of : (i j : ℕ) (a b : X) → j < length xs → a ≡ get_or xs i a → b ≡ get_or xs j b
+      → RepeatsAt live numbers things i j → IsFirstRepeat (λ x y. number_of x ≡ number_of y) (filter p xs) a b
   repeat_of i j a b inside at_a at_b found =
       let below = found.earlier in
       let within : i < length xs = omega (arith, below, inside) in
       let at : get_or (take j xs) i a ≡ a = get_or-take j xs i a below ∙ sym at_a in
-      let first : p (get_or (take j xs) i a) ≡ true = ap p (get_or-take j xs i a below) ∙ sym (lives i none a within) ∙ found.first_live none in
+      let first : p (get_or (take j xs) i a) ≡ true =
+      ap p (get_or-take j xs i a below) ∙ sym (lives i none a within) ∙ found.first_live none in
       let later : p (get_or xs j b) ≡ true = sym (lives j none b inside) ∙ found.later_live none in
-      let front = passing_at p (take j xs) i a (omega (arith, below, inside, length-take j xs)) first ∙ ap (λ x. filter p (take i (take j xs)) ++ x ∷ filter p (drop (suc i) (take j xs))) at in
+      let front = passing_at p (take j xs) i a (omega (arith, below, inside, length-take j xs)) first
+      ∙ ap (λ x. filter p (take i (take j xs)) ++ x ∷ filter p (drop (suc i) (take j xs))) at in
       let after = filter p (drop (suc j) xs) in
       record {
         before = filter p (take i (take j xs));
         between = filter p (drop (suc i) (take j xs));
         after = after;
         order = passing_at p xs j b inside later ∙ ap₂ (λ l x. l ++ x ∷ after) front (sym at_b);
-        same = ap number_of at_a ∙ sym (numbered i a within) ∙ found.same ∙ numbered j b inside ∙ sym (ap number_of at_b);
-        differ = subst (AllPairs (λ x y. number_of x ≢ number_of y)) front (differ_of j (omega (arith, inside)) found.differ);
+        same = ap number_of at_a ∙ sym (numbered i a within) ∙ found.same ∙ numbered j b inside
+            ∙ sym (ap number_of at_b);
+        differ = subst (AllPairs (λ x y. number_of x ≢ number_of y)) front
+            (differ_of j (omega (arith, inside)) found.differ);
       }
 
 -- the live things so far are seen by their numbers, each with its index
-pub record AreSeen {T : Type 0} (live : T → Bool) (numbers : List ℕ) (things : List T) (at : ℕ → Option ℕ) (n : ℕ) : Type 0 where
-  pub kept : (number index : ℕ) → at number ≡ Some index → (index < n) × (get_or numbers index 0 ≡ number) × ((d : T) → live (get_or things index d) ≡ true)
+pub record AreSeen {T : Type 0} (live : T → Bool) (numbers : List ℕ) (things : List T) (at : ℕ → Option ℕ)
+    (n : ℕ) : Type 0 where
+  pub kept : (number index : ℕ) → at number ≡ Some index
+      → (index < n) × (get_or numbers index 0 ≡ number) × ((d : T) → live (get_or things index d) ≡ true)
   pub met : (index : ℕ) → index < n → (d : T) → live (get_or things index d) ≡ true → at (get_or numbers index 0) ≢ None
   pub differ : DifferUpTo live numbers things n
 
@@ -73,20 +93,33 @@ module _ {T : Type 0} (live : T → Bool) (numbers : List ℕ) (things : List T)
   }
 
   module _ (i : ℕ) where
-    pub seen_skipped : (at : ℕ → Option ℕ) → AreSeen live numbers things at i → ((d : T) → live (get_or things i d) ≡ false) → AreSeen live numbers things at (i + 1)
+    pub seen_skipped : (at : ℕ → Option ℕ) → AreSeen live numbers things at i
+        → ((d : T) → live (get_or things i d) ≡ false) → AreSeen live numbers things at (i + 1)
     seen_skipped at seen dead = record {
       kept = λ number index is. let old = seen.kept number index is in (omega (arith, old.0), old.1, old.2);
-      met = below_more (λ k. (d : T) → live (get_or things k d) ≡ true → at (get_or numbers k 0) ≢ None) i seen.met (λ d is. absurd (false≢true (sym (dead d) ∙ is)));
-      differ = λ a b d first below. below_more (λ k. (a : ℕ) → a < k → live (get_or things a d) ≡ true → live (get_or things k d) ≡ true → get_or numbers a 0 ≢ get_or numbers k 0) i
-          (λ k less a before. seen.differ a k d before less) (λ a before one is. absurd (false≢true (sym (dead d) ∙ is))) b below a first;
+      met = below_more (λ k. (d : T) → live (get_or things k d) ≡ true → at (get_or numbers k 0) ≢ None) i seen.met
+          (λ d is. absurd (false≢true (sym (dead d) ∙ is)));
+      differ = λ a b d first below.
+          below_more (λ k. (a : ℕ) → a < k → live (get_or things a d) ≡ true → live (get_or things k d) ≡ true
+          → get_or numbers a 0 ≢ get_or numbers k 0) i
+          (λ k less a before. seen.differ a k d before less)
+          (λ a before one is. absurd (false≢true (sym (dead d) ∙ is))) b below a first;
     }
 
-    module _ (alive : (d : T) → live (get_or things i d) ≡ true) (old : ℕ → Option ℕ) (seen : AreSeen live numbers things old i) where
-      pub seen_more : (new : ℕ → Option ℕ) → old (get_or numbers i 0) ≡ None → new (get_or numbers i 0) ≡ Some i → ((q : ℕ) → q ≢ get_or numbers i 0 → new q ≡ old q) → AreSeen live numbers things new (i + 1)
+    module _ (alive : (d : T) → live (get_or things i d) ≡ true) (old : ℕ → Option ℕ)
+        (seen : AreSeen live numbers things old i) where
+      pub seen_more : (new : ℕ → Option ℕ) → old (get_or numbers i 0) ≡ None → new (get_or numbers i 0) ≡ Some i
+          → ((q : ℕ) → q ≢ get_or numbers i 0 → new q ≡ old q) → AreSeen live numbers things new (i + 1)
       seen_more new none kept others = record {
         kept = λ q k is. elim (cases_eq q n) [
-          | inl same ↦ let both : Some i ≡ Some k = sym kept ∙ ap new (sym same) ∙ is in let at : i ≡ k = cc in (omega (arith, at), ap (λ m. get_or numbers m 0) (sym at) ∙ sym same, λ d. ap (λ m. live (get_or things m d)) (sym at) ∙ alive d)
-          | inr other ↦ let before = seen.kept q k (sym (others q other) ∙ is) in (omega (arith, before.0), before.1, before.2)
+          | inl same ↦ let both : Some i ≡ Some k = sym kept ∙ ap new (sym same) ∙ is in let at : i ≡ k = cc in (
+            omega (arith, at),
+            ap (λ m. get_or numbers m 0) (sym at)
+                ∙ sym same,
+            λ d. ap (λ m. live (get_or things m d)) (sym at) ∙ alive d,
+          )
+          | inr other ↦ let before =
+              seen.kept q k (sym (others q other) ∙ is) in (omega (arith, before.0), before.1, before.2)
         ];
         met = below_more (λ k. (d : T) → live (get_or things k d) ≡ true → new (get_or numbers k 0) ≢ None) i
             (λ k less d is gone. elim (cases_eq (get_or numbers k 0) n) [
@@ -94,12 +127,25 @@ module _ {T : Type 0} (live : T → Bool) (numbers : List ℕ) (things : List T)
               | inr other ↦ seen.met k less d is (sym (others (get_or numbers k 0) other) ∙ gone)
             ])
             (λ d is gone. cc (kept, gone));
-        differ = λ a b d first below. below_more (λ k. (a : ℕ) → a < k → live (get_or things a d) ≡ true → live (get_or things k d) ≡ true → get_or numbers a 0 ≢ get_or numbers k 0) i
-            (λ k less a before. seen.differ a k d before less) (λ a before one is same. seen.met a before d one (ap old same ∙ none)) b below a first;
+        differ = λ a b d first below.
+            below_more (λ k. (a : ℕ) → a < k → live (get_or things a d) ≡ true → live (get_or things k d) ≡ true
+            → get_or numbers a 0 ≢ get_or numbers k 0) i
+            (λ k less a before. seen.differ a k d before less)
+            (λ a before one is same. seen.met a before d one (ap old same ∙ none)) b below a first;
       } where
         n : ℕ
         n = get_or numbers i 0
 
-      pub seen_repeats : (first : ℕ) → old (get_or numbers i 0) ≡ Some first → i < length things → RepeatsAt live numbers things first i
+      pub seen_repeats : (first : ℕ) → old (get_or numbers i 0) ≡ Some first → i < length things
+          → RepeatsAt live numbers things first i
       seen_repeats first is inside =
-          let at = seen.kept (get_or numbers i 0) first is in record { earlier = at.0; within = inside; first_live = at.2; later_live = alive; same = at.1; differ = seen.differ }
+          let at = seen.kept (get_or numbers i 0) first is in
+          record {
+            earlier = at.0;
+            within = inside;
+            first_live = at.2;
+            later_live = alive;
+            same = at.1;
+            differ =
+                seen.differ;
+          }

@@ -14,7 +14,8 @@ pub record AreAtMost (stats : Stats) (count : ℕ) : Type 0 where
   pub fuzzy : stats.fuzzy ≤ count
   pub untranslated : stats.untranslated ≤ count
 
-stats_are_at_most : (stats : Stats) (entries : List TextEntry) (count : ℕ) → stats ≡ stats_of entries → length entries ≤ count → AreAtMost stats count
+stats_are_at_most : (stats : Stats) (entries : List TextEntry) (count : ℕ) → stats ≡ stats_of entries
+    → length entries ≤ count → AreAtMost stats count
 stats_are_at_most stats entries count e short = record {
   translated = omega (arith, ap (λ s. s.translated) e, filtered_is_short is_translated entries);
   fuzzy = omega (arith, ap (λ s. s.fuzzy) e, filtered_is_short is_fuzzy entries);
@@ -22,5 +23,6 @@ stats_are_at_most stats entries count e short = record {
 }
 
 -- the counts of the first entries of a list
-pub counts_of_first : (stats : Stats) (entries : List TextEntry) (i : ℕ) → stats ≡ stats_of (take i entries) → AreAtMost stats i
+pub counts_of_first : (stats : Stats) (entries : List TextEntry) (i : ℕ) → stats ≡ stats_of (take i entries)
+    → AreAtMost stats i
 counts_of_first stats entries i e = stats_are_at_most stats (take i entries) i e (omega (arith, length-take i entries))

@@ -9,13 +9,18 @@ use Rattle.po_messages.specs.declared.stats.Stats.{Stats}
 
 count_written : (count : ℕ) (noun : List ℕ) → WritesCount count noun (counted count (32 ∷ noun))
 count_written count noun = by (count == 1) refl where
-  by : (b : Bool) → (count == 1) ≡ b → WritesCount count noun (decimal count ++ (32 ∷ noun) ++ (if b then [] else codes "s"))
-  by true e = subst (λ n. WritesCount n noun (decimal n ++ (32 ∷ noun) ++ [])) (sym (eqb-true count 1 e)) (subst (WritesCount 1 noun) (sym (ap (λ l. l ++ 32 ∷ noun ++ []) (decimal_digit 1 (omega arith)) ∙ append-nil (codes "1" ++ 32 ∷ noun))) one)
+  by : (b : Bool) → (count == 1) ≡ b
+      → WritesCount count noun (decimal count ++ (32 ∷ noun) ++ (if b then [] else codes "s"))
+  by true e = subst (λ n. WritesCount n noun (decimal n ++ (32 ∷ noun) ++ [])) (sym (eqb-true count 1 e))
+      (subst (WritesCount 1 noun)
+      (sym (ap (λ l. l ++ 32 ∷ noun ++ []) (decimal_digit 1 (omega arith)) ∙ append-nil (codes "1" ++ 32 ∷ noun)))
+      one)
   by false e = other (eqb-false count 1 e)
 
 further_written : (count : ℕ) (noun : List ℕ) → WritesFurther count noun (further count (32 ∷ noun))
 further_written count noun = by (count == 0) refl where
-  by : (b : Bool) → (count == 0) ≡ b → WritesFurther count noun (if b then [] else codes ", " ++ counted count (32 ∷ noun))
+  by : (b : Bool) → (count == 0) ≡ b
+      → WritesFurther count noun (if b then [] else codes ", " ++ counted count (32 ∷ noun))
   by true e = subst (λ n. WritesFurther n noun []) (sym (eqb-true count 0 e)) omitted
   by false e = written (eqb-false count 0 e) (count_written count noun)
 

@@ -24,4 +24,5 @@ is_omitted entries e = is_live_header e.entry && has_header_before entries e.inp
 
 -- The joined list is all entries but those that are live headers where an earlier input has one.
 abbrev pub OmitsLaterHeaders : List (List TextEntry) → Type 0
-OmitsLaterHeaders inputs = joined inputs ≡ filter (λ e. not (is_omitted (entries_of_inputs inputs) e)) (entries_of_inputs inputs)
+OmitsLaterHeaders inputs =
+    joined inputs ≡ filter (λ e. not (is_omitted (entries_of_inputs inputs) e)) (entries_of_inputs inputs)

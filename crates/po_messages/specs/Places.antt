@@ -12,7 +12,8 @@ use Rattle.po_messages.specs.declared.places.EntryPlace.{EntryPlace}
 
 -- the number of an entry's message among those of a list of entries
 abbrev pub number_in : List TextEntry → TextEntry → ℕ
-number_in all entry = position_or_len (same_message (entry_message entry)) (first_ones same_message (entry_messages all))
+number_in all entry = position_or_len (same_message (entry_message entry))
+    (first_ones same_message (entry_messages all))
 
 -- the entry's message is one of theirs
 abbrev pub IsNumbered : List TextEntry → TextEntry → Type 0

@@ -30,7 +30,8 @@ DifferUpTo {X = X} live numbers things n =
     → get_or numbers i 0 ≢ get_or numbers j 0
 
 -- the earliest live one that has the number of an earlier live one, and that one
-pub record RepeatsAt {X : Type 0} (live : X → Bool) (numbers : List ℕ) (things : List X) (first later : ℕ) : Type 0 where
+pub record RepeatsAt {X : Type 0} (live : X → Bool) (numbers : List ℕ) (things : List X)
+    (first later : ℕ) : Type 0 where
   pub earlier : first < later
   pub within : later < length things
   pub first_live : (d : X) → live (get_or things first d) ≡ true

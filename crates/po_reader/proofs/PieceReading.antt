@@ -28,35 +28,45 @@ use Rattle.po_entry.specs.Faults as faults
 use Rattle.po_reader.specs.PieceRead as piece
 
 -- the last line of items is that of those after others
-last_after : (front : List TextItem) (item : TextItem) (rest : List TextItem) → last_line (front ++ item ∷ rest) ≡ last_line (item ∷ rest)
+last_after : (front : List TextItem) (item : TextItem) (rest : List TextItem)
+    → last_line (front ++ item ∷ rest) ≡ last_line (item ∷ rest)
 last_after [] item rest = refl
 last_after (first ∷ []) item rest = refl
 last_after (first ∷ second ∷ front) item rest = last_after (second ∷ front) item rest
 
-fault_after : (front rest : List TextItem) {entries : List TextEntry} {line : ℕ} {fault : PoFault} → SpellsEntries front entries → EndsInString front → IsApart rest → ItemsFault rest fault line → ItemsFault (front ++ rest) fault line
+fault_after : (front rest : List TextItem) {entries : List TextEntry} {line : ℕ} {fault : PoFault}
+    → SpellsEntries front entries → EndsInString front → IsApart rest → ItemsFault rest fault line
+    → ItemsFault (front ++ rest) fault line
 fault_after front [] read ends apart wrong = absurd (fault_unread wrong (spelling.comments spelling.nothing))
 fault_after front (item ∷ rest) {entries} {line} {fault} read ends apart wrong =
     items_fault [] (front ++ item ∷ rest) fault line
-    (ap (λ end. comes_to end (start []) (front ++ item ∷ rest)) (last_after front item rest) ∙ spelt_go_on read (last_line (item ∷ rest)) [] (item ∷ rest) ends apart
+    (ap (λ end. comes_to end (start []) (front ++ item ∷ rest)) (last_after front item rest)
+    ∙ spelt_go_on read (last_line (item ∷ rest)) [] (item ∷ rest) ends apart
     ∙ fault_comes entries wrong)
 
-entries_stop_after : {P : TextEntry → Type 0} {F : TextEntry → PoFault → Type 0} (entries : List TextEntry) {others : List TextEntry} {fault : PoFault} {line : ℕ} → All P entries → faults.EntriesStop P F others fault line → faults.EntriesStop P F (entries ++ others) fault line
+entries_stop_after : {P : TextEntry → Type 0} {F : TextEntry → PoFault → Type 0} (entries : List TextEntry)
+    {others : List TextEntry} {fault : PoFault} {line : ℕ} → All P entries → faults.EntriesStop P F others fault line
+    → faults.EntriesStop P F (entries ++ others) fault line
 entries_stop_after [] h stops = stops
 entries_stop_after {P} (first ∷ entries) h stops =
-    faults.EntriesStop.later (All-head P first entries h) (entries_stop_after entries (All-tail P first entries h) stops)
+    faults.EntriesStop.later (All-head P first entries h)
+    (entries_stop_after entries (All-tail P first entries h) stops)
 
 -- the fault of items that begin anew is that of them after items that read
-pub items_stop_after : (front rest : List TextItem) (entries : List TextEntry) {fault : PoFault} {line : ℕ} → ReadsItems front entries → EndsInString front → IsApart rest → ItemsStop rest fault line
+pub items_stop_after : (front rest : List TextItem) (entries : List TextEntry) {fault : PoFault} {line : ℕ}
+    → ReadsItems front entries → EndsInString front → IsApart rest → ItemsStop rest fault line
     → ItemsStop (front ++ rest) fault line
 items_stop_after front rest entries read ends apart (ItemsStop.in_items stops) =
     ItemsStop.in_items (fault_after front rest read.reads ends apart stops)
 items_stop_after front rest entries read ends apart (ItemsStop.in_texts reads stops) =
     ItemsStop.in_texts (entries_joined read.reads ends reads) (entries_stop_after entries read.texts stops)
 items_stop_after front rest entries read ends apart (ItemsStop.in_charset {entries = others} reads texts stops) =
-    ItemsStop.in_charset (entries_joined read.reads ends reads) (All-append HasTexts entries others read.texts texts) (entries_stop_after entries read.charsets stops)
+    ItemsStop.in_charset (entries_joined read.reads ends reads) (All-append HasTexts entries others read.texts texts)
+    (entries_stop_after entries read.charsets stops)
 
 -- what stands after items that end in a string reads with them
-pub reads_joined : {front rest : List TextItem} {entries others : List TextEntry} → ReadsItems front entries → EndsInString front → ReadsItems rest others → ReadsItems (front ++ rest) (entries ++ others)
+pub reads_joined : {front rest : List TextItem} {entries others : List TextEntry} → ReadsItems front entries
+    → EndsInString front → ReadsItems rest others → ReadsItems (front ++ rest) (entries ++ others)
 reads_joined {entries = entries} {others = others} read ends more = record {
   reads = entries_joined read.reads ends more.reads;
   texts = All-append HasTexts entries others read.texts more.texts;
@@ -65,9 +75,15 @@ reads_joined {entries = entries} {others = others} read ends more = record {
 
 -- no items read as no entries
 pub reads_nothing : ReadsItems [] []
-reads_nothing = record { reads = spelling.comments spelling.nothing; texts = All-nil HasTexts; charsets = All-nil HasAdmittedCharset }
+reads_nothing = record {
+  reads = spelling.comments spelling.nothing;
+  texts = All-nil HasTexts;
+  charsets =
+      All-nil HasAdmittedCharset;
+}
 
-pub no_entries : {rest : List TextItem} {entries : List TextEntry} → SpellsEntries rest entries → rest ≡ [] → entries ≡ []
+pub no_entries : {rest : List TextItem} {entries : List TextEntry} → SpellsEntries rest entries → rest ≡ []
+    → entries ≡ []
 no_entries read none = spelt_once none read (spelling.comments spelling.nothing)
 
 -- no items have no fault
@@ -87,7 +103,8 @@ nothing_left : (left : LinesLeft) (items : List TextItem) → left.lines ≡ [] 
 nothing_left left items none h = subst (λ (lines : List (List ℕ)). SpellsLines left.number lines items) none h
 
 -- a piece that reads, and what is left after it, read together
-pub piece_joined : (old new : LinesLeft) (items : List TextItem) (entries : List TextEntry) → SpellsOn old new items → (new.lines ≡ []) ⊎ EndsInString items → ReadsItems items entries
+pub piece_joined : (old new : LinesLeft) (items : List TextItem) (entries : List TextEntry) → SpellsOn old new items
+    → (new.lines ≡ []) ⊎ EndsInString items → ReadsItems items entries
     → ReadsOn old new entries
 piece_joined old new items entries spelt (inr ends) read more left = record {
   items = items ++ left.items;
@@ -98,11 +115,15 @@ piece_joined old new items entries spelt (inl none) read more left =
     let nothing : left.items ≡ [] = nothing_left new left.items none left.spelt in
     let no_more : more ≡ [] = no_entries left.read.reads nothing in
     let all : items ++ left.items ≡ items = rw nothing (append-nil items) in
-    rw (no_more, append-nil) (record { items = items; spelt = subst (SpellsLeft old) all (spelt left.items left.spelt); read = read })
+    rw (no_more, append-nil)
+    (record { items = items; spelt = subst (SpellsLeft old) all (spelt left.items left.spelt); read = read })
 
 -- what all of the text reads as
-whole_left : (text : List ℕ) (left : LinesLeft) → ((items : List TextItem) → SpellsLeft left items → SpellsText text items) → (entries : List TextEntry) → ReadsLeft left entries → ReadsText text entries
-whole_left text left spelt entries read = record { items = read.items; spelt = spelt read.items read.spelt; read = read.read }
+whole_left : (text : List ℕ) (left : LinesLeft)
+    → ((items : List TextItem) → SpellsLeft left items → SpellsText text items) → (entries : List TextEntry)
+    → ReadsLeft left entries → ReadsText text entries
+whole_left text left spelt entries read =
+    record { items = read.items; spelt = spelt read.items read.spelt; read = read.read }
 
 -- lines that begin anew spell items that begin with neither a string nor a plural form
 apart : (left : LinesLeft) (items : List TextItem) → LeftAnew left → SpellsLeft left items → IsApart items
@@ -114,43 +135,60 @@ apart left (item ∷ items) anew h = first item (anew item items h) where
   first item new = (refl, refl)
 
 -- the faults of what is left after a piece that reads
-pub piece_faults : (old new : LinesLeft) (items : List TextItem) (entries : List TextEntry) → SpellsOn old new items → StopsStay old new → (new.lines ≡ []) ⊎ EndsInString items → LeftAnew new → ReadsItems items entries
+pub piece_faults : (old new : LinesLeft) (items : List TextItem) (entries : List TextEntry) → SpellsOn old new items
+    → StopsStay old new → (new.lines ≡ []) ⊎ EndsInString items → LeftAnew new → ReadsItems items entries
     → FaultsStay old new
-piece_faults old new items entries spelt stops ends anew read fault line (piece.in_lines stopped) = piece.in_lines (stops fault line stopped)
-piece_faults old new items entries spelt stops (inr ends) anew read fault line (piece.in_items {items = rest} more stopped) =
+piece_faults old new items entries spelt stops ends anew read fault line (piece.in_lines stopped) =
+    piece.in_lines (stops fault line stopped)
+piece_faults old new items entries spelt stops (inr ends) anew read fault line
+    (piece.in_items {items = rest} more stopped) =
     piece.in_items (spelt rest more) (items_stop_after items rest entries read ends (apart new rest anew more) stopped)
-piece_faults old new items entries spelt stops (inl none) anew read fault line (piece.in_items {items = rest} more stopped) =
+piece_faults old new items entries spelt stops (inl none) anew read fault line
+    (piece.in_items {items = rest} more stopped) =
     absurd (nothing_stops rest (nothing_left new rest none more) stopped)
 
 no_line_stops : (new : LinesLeft) (fault : PoFault) (line : ℕ) → new.lines ≡ [] → LeftStops new fault line → ⊥
-no_line_stops new fault line none stopped = subst (λ (lines : List (List ℕ)). LinesStop new.number lines fault line) none stopped
+no_line_stops new fault line none stopped =
+    subst (λ (lines : List (List ℕ)). LinesStop new.number lines fault line) none stopped
 
 -- nothing is wrong where no line is left
 pub faults_over : (old new : LinesLeft) → new.lines ≡ [] → FaultsStay old new
 faults_over old new none fault line (piece.in_lines stopped) = absurd (no_line_stops new fault line none stopped)
-faults_over old new none fault line (piece.in_items {items = rest} more stopped) = absurd (nothing_stops rest (nothing_left new rest none more) stopped)
+faults_over old new none fault line (piece.in_items {items = rest} more stopped) =
+    absurd (nothing_stops rest (nothing_left new rest none more) stopped)
 
 -- where the items of what is left are kept, what is left is
-pub items_kept : (all : Bool) (old new : LinesLeft) (items : List TextItem) (kept : List TextEntry) → SpellsOn old new items → (new.lines ≡ []) ⊎ EndsInString items → KeepsItems all items kept → KeepsReading all old new kept
+pub items_kept : (all : Bool) (old new : LinesLeft) (items : List TextItem) (kept : List TextEntry)
+    → SpellsOn old new items → (new.lines ≡ []) ⊎ EndsInString items → KeepsItems all items kept
+    → KeepsReading all old new kept
 items_kept all old new items kept spelt ends h = (h.0, h.2, piece_joined old new items h.0 spelt ends h.1)
 
 -- the fault of all of a text is that of the text
-fault_of_text : (text : List ℕ) (old : LinesLeft) → ((items : List TextItem) → SpellsLeft old items → SpellsText text items) → ((fault : PoFault) (line : ℕ) → LeftStops old fault line → TextFault text fault line)
+fault_of_text : (text : List ℕ) (old : LinesLeft)
+    → ((items : List TextItem) → SpellsLeft old items → SpellsText text items)
+    → ((fault : PoFault) (line : ℕ) → LeftStops old fault line → TextFault text fault line)
     → (fault : PoFault) (line : ℕ) → IsLeftFault old fault line → IsReadFault text fault line
-fault_of_text text old spelt stops fault line (piece.in_lines stopped) = faults.IsReadFault.in_text (stops fault line stopped)
-fault_of_text text old spelt stops fault line (piece.in_items {items = items} h stopped) = faults.IsReadFault.in_items (spelt items h) stopped
+fault_of_text text old spelt stops fault line (piece.in_lines stopped) =
+    faults.IsReadFault.in_text (stops fault line stopped)
+fault_of_text text old spelt stops fault line (piece.in_items {items = items} h stopped) =
+    faults.IsReadFault.in_items (spelt items h) stopped
 
 -- nothing was read yet, and then a piece, and then all
 
-pub read_none : (text : List ℕ) (left : LinesLeft) → ((items : List TextItem) → SpellsLeft left items → SpellsText text items) → ((fault : PoFault) (line : ℕ) → LeftStops left fault line → TextFault text fault line)
+pub read_none : (text : List ℕ) (left : LinesLeft)
+    → ((items : List TextItem) → SpellsLeft left items → SpellsText text items)
+    → ((fault : PoFault) (line : ℕ) → LeftStops left fault line → TextFault text fault line)
     → IsReadSoFar text left []
-read_none text left spelt stops = record { reads = whole_left text left spelt; faults = fault_of_text text left spelt stops }
+read_none text left spelt stops =
+    record { reads = whole_left text left spelt; faults = fault_of_text text left spelt stops }
 
-pub read_more : {text : List ℕ} {old new : LinesLeft} {before : List TextEntry} (piece : List TextEntry) → IsReadSoFar text old before → ReadsOn old new piece → FaultsStay old new → IsReadSoFar text new (before ++ piece)
+pub read_more : {text : List ℕ} {old new : LinesLeft} {before : List TextEntry} (piece : List TextEntry)
+    → IsReadSoFar text old before → ReadsOn old new piece → FaultsStay old new → IsReadSoFar text new (before ++ piece)
 read_more piece so_far on stay = record {
   reads = λ more h. rw append_assoc (so_far.reads (piece ++ more) (on more h));
   faults = λ fault line h. so_far.faults fault line (stay fault line h);
 }
 
-pub read_all : {text : List ℕ} {left : LinesLeft} {before : List TextEntry} → IsReadSoFar text left before → left.lines ≡ [] → ReadsText text before
+pub read_all : {text : List ℕ} {left : LinesLeft} {before : List TextEntry} → IsReadSoFar text left before
+    → left.lines ≡ [] → ReadsText text before
 read_all {left = left} so_far over = rw append-nil at (so_far.reads [] (left_over left over))

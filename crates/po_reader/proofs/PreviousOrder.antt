@@ -20,7 +20,8 @@ rise_lower low above (keyword ∷ some) lt h = (omega (arith, lt, h.0), h.1)
 some_rise : {some all : List Keyword} → AreSome some all → (above : ℕ) → Rise above all → Rise above some
 some_rise none above h = tt
 some_rise (with {keyword = keyword} s) above h = (h.0, some_rise s (rank keyword) h.1)
-some_rise (without {keyword = keyword} {some = some} s) above h = rise_lower above (rank keyword) some h.0 (some_rise s (rank keyword) h.1)
+some_rise (without {keyword = keyword} {some = some} s) above h =
+    rise_lower above (rank keyword) some h.0 (some_rise s (rank keyword) h.1)
 
 pub order_rises : (previous : List PreviousText) → AreInOrder previous → Rise 0 (keywords previous)
 order_rises previous h = some_rise h 0 (omega arith, (omega arith, (omega arith, tt)))

@@ -23,14 +23,20 @@ use Rattle.po_entry.specs.Spelling as spell
 use Rattle.po_entry.specs.Validity as validity
 use Rattle.po_entry.specs.Faults as faults
 
-pub head_sound : {own : List TextItem} {comment_texts : List CommentText} {previous : List PreviousText} → spell.SpellsHead own comment_texts previous → All HoldsText own → All SoundCommentText comment_texts
+pub head_sound : {own : List TextItem} {comment_texts : List CommentText} {previous : List PreviousText}
+    → spell.SpellsHead own comment_texts previous → All HoldsText own → All SoundCommentText comment_texts
 head_sound spell.nothing h = All-nil SoundCommentText
-head_sound (spell.head_comment {kind = kind} {text = text} {line = line} {items = items} {comment_texts = comment_texts} more) h =
-    All-cons SoundCommentText (record { kind = kind; text = text }) comment_texts (All-head HoldsText (Comment kind text line) items h) (head_sound more (All-tail HoldsText (Comment kind text line) items h))
-head_sound (spell.previous_text {own = own} {items = items} w more) h = head_sound more (All-right HoldsText own items h)
+head_sound (spell.head_comment {kind = kind} {text = text} {line = line} {items = items}
+    {comment_texts = comment_texts} more) h =
+    All-cons SoundCommentText (record { kind = kind; text = text }) comment_texts
+    (All-head HoldsText (Comment kind text line) items h)
+    (head_sound more (All-tail HoldsText (Comment kind text line) items h))
+head_sound (spell.previous_text {own = own} {items = items} w more) h =
+    head_sound more (All-right HoldsText own items h)
 
 -- some form, and one alone where there is no plural
-translation_sound : {obsolete : Bool} {items : List TextItem} {plural : Option (List ℕ)} {forms : List (List ℕ)} → spell.SpellsTranslation obsolete items plural forms → (0 < length forms) × (plural ≡ None → length forms ≡ 1)
+translation_sound : {obsolete : Bool} {items : List TextItem} {plural : Option (List ℕ)} {forms : List (List ℕ)}
+    → spell.SpellsTranslation obsolete items plural forms → (0 < length forms) × (plural ≡ None → length forms ≡ 1)
 translation_sound (spell.single w) = (omega arith, λ none. refl)
 translation_sound (spell.plural w f) = (omega arith, λ none. absurd cc)
 
@@ -44,16 +50,24 @@ pub record SoundEntry (spelt : TextEntry) : Type 0 where
   pub some_form : 0 < length spelt.forms
   pub one_form : spelt.plural ≡ None → length spelt.forms ≡ 1
 
-entry_sound : (comment_texts : List CommentText) (previous : List PreviousText) {items : List TextItem} (own : TextEntry) → All SoundCommentText comment_texts → spell.SpellsBody items own → SoundEntry (with_head comment_texts previous own)
+entry_sound : (comment_texts : List CommentText) (previous : List PreviousText) {items : List TextItem}
+    (own : TextEntry) → All SoundCommentText comment_texts → spell.SpellsBody items own
+    → SoundEntry (with_head comment_texts previous own)
 entry_sound comment_texts previous own n (spell.own_lines c w t) =
-    let translator : All (IsCommentOf Translator) (texts_of Translator comment_texts) = kind_sound Translator comment_texts n in
-    let extracted : All (IsCommentOf Extracted) (texts_of Extracted comment_texts) = kind_sound Extracted comment_texts n in
-    let references : All IsReference (references_of comment_texts) = references_sound (texts_of Reference comment_texts) (kind_sound Reference comment_texts n) in
-    let elements : All SoundFlagElement (all_listed_flags comment_texts) = all_flag_elements_sound (texts_of Flags comment_texts) (kind_sound Flags comment_texts n) in
-    let flags : SoundFlags (flags_of comment_texts) = flags_sound (all_listed_flags comment_texts) [] (record { all = All-nil IsFlag; distinct = tt }) elements in
+    let translator : All (IsCommentOf Translator) (texts_of Translator comment_texts) =
+    kind_sound Translator comment_texts n in
+    let extracted : All (IsCommentOf Extracted) (texts_of Extracted comment_texts) =
+    kind_sound Extracted comment_texts n in
+    let references : All IsReference (references_of comment_texts) =
+    references_sound (texts_of Reference comment_texts) (kind_sound Reference comment_texts n) in
+    let elements : All SoundFlagElement (all_listed_flags comment_texts) =
+    all_flag_elements_sound (texts_of Flags comment_texts) (kind_sound Flags comment_texts n) in
+    let flags : SoundFlags (flags_of comment_texts) =
+    flags_sound (all_listed_flags comment_texts) [] (record { all = All-nil IsFlag; distinct = tt }) elements in
     record {
       comments = translator;
-      extracted = All-weaker (IsCommentOf Extracted) IsComment (λ text h. h.comment) (texts_of Extracted comment_texts) extracted;
+      extracted = All-weaker (IsCommentOf Extracted) IsComment (λ text h. h.comment)
+          (texts_of Extracted comment_texts) extracted;
       references = references;
       flags = flags.all;
       distinct_flags = flags.distinct;
@@ -62,11 +76,15 @@ entry_sound comment_texts previous own n (spell.own_lines c w t) =
     }
 
 -- every entry that sound items spell
-pub entries_sound : {items : List TextItem} {entries : List TextEntry} → SpellsEntries items entries → All HoldsText items → All SoundEntry entries
+pub entries_sound : {items : List TextItem} {entries : List TextEntry} → SpellsEntries items entries
+    → All HoldsText items → All SoundEntry entries
 entries_sound (spell.comments only) h = All-nil SoundEntry
-entries_sound (spell.entries {items = rest} {others = others} (spell.entry {head = head} {own = own} {comment_texts = comment_texts} {previous = previous} {body = body} above order lines) more) h =
+entries_sound (spell.entries {items = rest} {others = others}
+    (spell.entry {head = head} {own = own} {comment_texts = comment_texts} {previous = previous}
+    {body = body} above order lines) more) h =
     let first = All-left HoldsText head own (All-left HoldsText (head ++ own) rest h) in
-    All-cons SoundEntry (with_head comment_texts previous body) others (entry_sound comment_texts previous body (head_sound above first) lines)
+    All-cons SoundEntry (with_head comment_texts previous body) others
+    (entry_sound comment_texts previous body (head_sound above first) lines)
     (entries_sound more (All-right HoldsText (head ++ own) rest h))
 
 -- with texts that it can have, it is an entry
@@ -85,8 +103,10 @@ entry_valid spelt h t = record {
 }
 
 -- the entries of drafts whose texts were checked
-pub drafts_valid : (made : List Fields) → All SoundEntry (map entry_view made) → All (λ draft. HasTexts (entry_view draft)) made → All (λ draft. IsEntry (entry_view draft)) made
-drafts_valid made h t = λ k d inside. entry_valid (entry_view (get_or made k d)) (all_unmapped SoundEntry entry_view made h k d inside) (t k d inside)
+pub drafts_valid : (made : List Fields) → All SoundEntry (map entry_view made)
+    → All (λ draft. HasTexts (entry_view draft)) made → All (λ draft. IsEntry (entry_view draft)) made
+drafts_valid made h t = λ k d inside. entry_valid (entry_view (get_or made k d))
+    (all_unmapped SoundEntry entry_view made h k d inside) (t k d inside)
 
 sound_one : (all : Bool) (entry : TextEntry) → SoundEntry entry → SoundEntry (kept_entry all entry)
 sound_one true entry h = h
@@ -100,30 +120,41 @@ sound_one false entry h = record {
   one_form = h.one_form;
 }
 
-pub kept_sound : (all : Bool) (entries : List TextEntry) → All SoundEntry entries → All SoundEntry (map (kept_entry all) entries)
-kept_sound all entries h = All-map SoundEntry (kept_entry all) entries (λ k d inside. sound_one all (get_or entries k d) (h k d inside))
+pub kept_sound : (all : Bool) (entries : List TextEntry) → All SoundEntry entries
+    → All SoundEntry (map (kept_entry all) entries)
+kept_sound all entries h =
+    All-map SoundEntry (kept_entry all) entries (λ k d inside. sound_one all (get_or entries k d) (h k d inside))
 
 pub texts_one : (all : Bool) (entry : TextEntry) → HasTexts (kept_entry all entry) → HasTexts entry
 texts_one true entry h = h
-texts_one false entry h = record { utf8 = h.utf8; clean = record { no_nul = h.clean.no_nul; context = h.clean.context; id = h.clean.id } }
+texts_one false entry h =
+    record { utf8 = h.utf8; clean = record { no_nul = h.clean.no_nul; context = h.clean.context; id = h.clean.id } }
 
-pub kept_texts : (all : Bool) (entries : List TextEntry) → All HasTexts (map (kept_entry all) entries) → All HasTexts entries
-kept_texts all entries h = λ k d inside. texts_one all (get_or entries k d) (all_unmapped HasTexts (kept_entry all) entries h k d inside)
+pub kept_texts : (all : Bool) (entries : List TextEntry) → All HasTexts (map (kept_entry all) entries)
+    → All HasTexts entries
+kept_texts all entries h =
+    λ k d inside. texts_one all (get_or entries k d) (all_unmapped HasTexts (kept_entry all) entries h k d inside)
 
-pub admitted_one : (all : Bool) (entry : TextEntry) → HasAdmittedCharset (kept_entry all entry) → HasAdmittedCharset entry
+pub admitted_one : (all : Bool) (entry : TextEntry) → HasAdmittedCharset (kept_entry all entry)
+    → HasAdmittedCharset entry
 admitted_one true entry h = h
 admitted_one false entry h = h
 
-pub kept_admitted : (all : Bool) (entries : List TextEntry) → All HasAdmittedCharset (map (kept_entry all) entries) → All HasAdmittedCharset entries
-kept_admitted all entries h = λ k d inside. admitted_one all (get_or entries k d) (all_unmapped HasAdmittedCharset (kept_entry all) entries h k d inside)
+pub kept_admitted : (all : Bool) (entries : List TextEntry) → All HasAdmittedCharset (map (kept_entry all) entries)
+    → All HasAdmittedCharset entries
+kept_admitted all entries h =
+    λ k d inside. admitted_one all (get_or entries k d)
+    (all_unmapped HasAdmittedCharset (kept_entry all) entries h k d inside)
 
-pub whole_fault : (all : Bool) (entry : TextEntry) (kind : PoFault) → EntryTextFault (kept_entry all entry) kind → EntryTextFault entry kind
+pub whole_fault : (all : Bool) (entry : TextEntry) (kind : PoFault) → EntryTextFault (kept_entry all entry) kind
+    → EntryTextFault entry kind
 whole_fault true entry kind fails = fails
 whole_fault false entry kind (validity.not_utf8 some) = validity.not_utf8 some
 whole_fault false entry kind (validity.forbidden utf8 some) =
     validity.forbidden utf8 (λ clean. some (record { no_nul = clean.no_nul; context = clean.context; id = clean.id }))
 
-pub whole_foreign : (all : Bool) (entry : TextEntry) (kind : PoFault) → faults.IsForeign (kept_entry all entry) kind → faults.IsForeign entry kind
+pub whole_foreign : (all : Bool) (entry : TextEntry) (kind : PoFault) → faults.IsForeign (kept_entry all entry) kind
+    → faults.IsForeign entry kind
 whole_foreign true entry kind fails = fails
 whole_foreign false entry kind (faults.foreign refused) = faults.foreign refused
 
@@ -132,8 +163,13 @@ kept_line true entry = refl
 kept_line false entry = refl
 
 -- the first entry that fails, of those that are kept, is the first of all
-pub kept_stop : {P : TextEntry → Type 0} {F : TextEntry → PoFault → Type 0} (all : Bool) → ((entry : TextEntry) → P (kept_entry all entry) → P entry) → ((entry : TextEntry) (kind : PoFault) → F (kept_entry all entry) kind → F entry kind)
-    → (entries : List TextEntry) {kind : PoFault} {line : ℕ} → faults.EntriesStop P F (map (kept_entry all) entries) kind line → faults.EntriesStop P F entries kind line
+pub kept_stop : {P : TextEntry → Type 0} {F : TextEntry → PoFault → Type 0} (all : Bool)
+    → ((entry : TextEntry) → P (kept_entry all entry) → P entry)
+    → ((entry : TextEntry) (kind : PoFault) → F (kept_entry all entry) kind → F entry kind)
+    → (entries : List TextEntry) {kind : PoFault} {line : ℕ}
+    → faults.EntriesStop P F (map (kept_entry all) entries) kind line → faults.EntriesStop P F entries kind line
 kept_stop all passes fails [] stops = elim stops [ ]
-kept_stop all passes fails (entry ∷ entries) {kind} (faults.EntriesStop.here f e) = faults.EntriesStop.here (fails entry kind f) (e ∙ kept_line all entry)
-kept_stop all passes fails (entry ∷ entries) (faults.EntriesStop.later r s) = faults.EntriesStop.later (passes entry r) (kept_stop all passes fails entries s)
+kept_stop all passes fails (entry ∷ entries) {kind} (faults.EntriesStop.here f e) =
+    faults.EntriesStop.here (fails entry kind f) (e ∙ kept_line all entry)
+kept_stop all passes fails (entry ∷ entries) (faults.EntriesStop.later r s) =
+    faults.EntriesStop.later (passes entry r) (kept_stop all passes fails entries s)

@@ -13,7 +13,8 @@ cut_none p xs e =
     let past : length xs ≤ position_or_len p xs = grind (arith, common_steps) in
     slice_split_none p xs (λ k d inside. not-true _ (prefix_len_passes (λ x. not (p x)) xs k d (omega arith)))
 
-pub cut_found : (p : ℕ → Bool) (xs : List ℕ) (i : ℕ) → position p xs ≡ Some i → slice_split p xs ≡ take i xs ∷ slice_split p (drop 1 (drop i xs))
+pub cut_found : (p : ℕ → Bool) (xs : List ℕ) (i : ℕ) → position p xs ≡ Some i
+    → slice_split p xs ≡ take i xs ∷ slice_split p (drop 1 (drop i xs))
 cut_found p xs i e =
     let same : i ≡ position_or_len p xs = grind (arith, common_steps) in
     let inside : position_or_len p xs < length xs = omega (arith, (position-Some p xs i 0 e).0) in

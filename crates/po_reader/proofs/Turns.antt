@@ -27,7 +27,9 @@ same_marks-refl marks = rw (bool_eq_equiv.refl marks.obsolete, bool_eq_equiv.ref
 pub same_marks_true : (a b : Marks) → same_marks a b ≡ true → a ≡ b
 same_marks_true a b e =
     let both = and_parts (beq a.obsolete b.obsolete) (beq a.previous b.previous) e in
-    let same : marked a.obsolete a.previous ≡ marked b.obsolete b.previous = ap₂ marked ((booleans_Decides a.obsolete b.obsolete).0 both.0) ((booleans_Decides a.previous b.previous).0 both.1) in
+    let same : marked a.obsolete a.previous ≡ marked b.obsolete b.previous =
+    ap₂ marked ((booleans_Decides a.obsolete b.obsolete).0 both.0)
+    ((booleans_Decides a.previous b.previous).0 both.1) in
     same
 
 -- no item was refused
@@ -36,14 +38,17 @@ goes_on (Stop fault line) = false
 goes_on stage = true
 
 -- after a refused item nothing is read
-pub stopped : (end : ℕ) (fault : PoFault) (line : ℕ) (items : List TextItem) → comes_to end (Stop fault line) items ≡ Fault fault line
+pub stopped : (end : ℕ) (fault : PoFault) (line : ℕ) (items : List TextItem)
+    → comes_to end (Stop fault line) items ≡ Fault fault line
 stopped end fault line items = ap (outcome end) (fold_stays turn (Stop fault line) (λ item. refl) items)
 
-pub never : (end : ℕ) (fault : PoFault) (line : ℕ) (items : List TextItem) (entries : List TextEntry) → comes_to end (Stop fault line) items ≡ Entries entries → ⊥
+pub never : (end : ℕ) (fault : PoFault) (line : ℕ) (items : List TextItem) (entries : List TextEntry)
+    → comes_to end (Stop fault line) items ≡ Entries entries → ⊥
 never end fault line items entries e = let fails = stopped end fault line items in cc
 
 -- a text ends where no string stands
-pub text_ends : (end : ℕ) (read : SoFar) (keyword : Keyword) (marks : Marks) (text : List ℕ) (rest : List TextItem) → begins_string rest ≡ false
+pub text_ends : (end : ℕ) (read : SoFar) (keyword : Keyword) (marks : Marks) (text : List ℕ) (rest : List TextItem)
+    → begins_string rest ≡ false
     → comes_to end (In read keyword marks true text) rest ≡ comes_to end (Between (closed read keyword marks text)) rest
 text_ends end read keyword marks text [] e = refl
 text_ends end read keyword marks text (Comment kind bytes line ∷ rest) e = refl
@@ -57,30 +62,41 @@ forms_end end read index [] e = refl
 forms_end end read index (item ∷ rest) e = rw e refl
 
 -- a string is wanted, and something else stands first
-pub no_string : (end : ℕ) (items : List TextItem) → begins_string items ≡ false → (read : SoFar) (keyword : Keyword) (marks : Marks) (some : Bool) (text : List ℕ) → (some ≡ true → begins_string items ≡ true)
+pub no_string : (end : ℕ) (items : List TextItem) → begins_string items ≡ false
+    → (read : SoFar) (keyword : Keyword) (marks : Marks) (some : Bool) (text : List ℕ)
+    → (some ≡ true → begins_string items ≡ true)
     → comes_to end (In read keyword marks some text) items ≡ Fault BadOrder (first_line end items)
 no_string end items none read keyword marks true text begins = absurd (false≢true (sym none ∙ begins refl))
 no_string end [] none read keyword marks false text begins = refl
-no_string end (Comment kind bytes line ∷ items) none read keyword marks false text begins = stopped end BadOrder line items
-no_string end (Word other found line ∷ items) none read keyword marks false text begins = stopped end BadOrder line items
+no_string end (Comment kind bytes line ∷ items) none read keyword marks false text begins =
+    stopped end BadOrder line items
+no_string end (Word other found line ∷ items) none read keyword marks false text begins =
+    stopped end BadOrder line items
 no_string end (Str bytes found line ∷ items) none read keyword marks false text begins = cc
 
 -- a keyword of own lines is wanted, and no keyword stands first
-pub no_keyword : (end : ℕ) (items : List TextItem) → begins_word items ≡ false → (read : SoFar) (wanted : Wanted) → comes_to end (Between (Before read wanted)) items ≡ Fault BadOrder (first_line end items)
+pub no_keyword : (end : ℕ) (items : List TextItem) → begins_word items ≡ false → (read : SoFar) (wanted : Wanted)
+    → comes_to end (Between (Before read wanted)) items ≡ Fault BadOrder (first_line end items)
 no_keyword end [] none read wanted = refl
 no_keyword end (Comment kind bytes line ∷ items) none read wanted = stopped end BadOrder line items
 no_keyword end (Str bytes found line ∷ items) none read wanted = stopped end BadOrder line items
 no_keyword end (Word other found line ∷ items) none read wanted = cc
 
 -- an item that is refused stands first
-pub first_refused : (end : ℕ) (items rest : List TextItem) (item : TextItem) (fault : PoFault) → items ≡ item ∷ rest → (stage : Stage) → turn stage item ≡ Stop fault (line_of item) → comes_to end stage items ≡ Fault fault (first_line end items)
-first_refused end items rest item fault is stage e = rw is (ap (λ next. comes_to end next rest) e ∙ stopped end fault (line_of item) rest)
+pub first_refused : (end : ℕ) (items rest : List TextItem) (item : TextItem) (fault : PoFault) → items ≡ item ∷ rest
+    → (stage : Stage) → turn stage item ≡ Stop fault (line_of item)
+    → comes_to end stage items ≡ Fault fault (first_line end items)
+first_refused end items rest item fault is stage e =
+    rw is (ap (λ next. comes_to end next rest) e ∙ stopped end fault (line_of item) rest)
 
 -- what a later place comes to an earlier one does
-pub fails_from : {earlier later : Outcome} {error : PoError} → earlier ≡ later → IsFaultOf (λ fault line. later ≡ Fault fault line) error → IsFaultOf (λ fault line. earlier ≡ Fault fault line) error
+pub fails_from : {earlier later : Outcome} {error : PoError} → earlier ≡ later
+    → IsFaultOf (λ fault line. later ≡ Fault fault line) error
+    → IsFaultOf (λ fault line. earlier ≡ Fault fault line) error
 fails_from same fails = record { fault = λ other. same ∙ fails.fault other; memory = fails.memory }
 
-pub form_follows : (end : ℕ) (read : SoFar) (index : ℕ) (rest : List TextItem) → begins_form rest ≡ true → comes_to end (Between (AfterForm read index)) rest ≡ comes_to end (Between (Before read (Form index))) rest
+pub form_follows : (end : ℕ) (read : SoFar) (index : ℕ) (rest : List TextItem) → begins_form rest ≡ true
+    → comes_to end (Between (AfterForm read index)) rest ≡ comes_to end (Between (Before read (Form index))) rest
 form_follows end read index [] e = cc
 form_follows end read index (item ∷ rest) e = rw e refl
 
@@ -89,7 +105,8 @@ pub form_wanted : (index : ℕ) (keyword : Keyword) → is_wanted (Form index) k
 form_wanted index (MsgStrAt found) e = ap (λ i. MsgStrAt i) (eqb-true found index e)
 form_wanted index keyword e = cc
 
-pub single_wanted : (keyword : Keyword) → is_wanted Translation keyword ≡ true → (keyword ≡ MsgIdPlural → ⊥) → keyword ≡ MsgStr
+pub single_wanted : (keyword : Keyword) → is_wanted Translation keyword ≡ true → (keyword ≡ MsgIdPlural → ⊥)
+    → keyword ≡ MsgStr
 single_wanted MsgStr e other = refl
 single_wanted MsgIdPlural e other = absurd (other refl)
 single_wanted keyword e other = cc
@@ -99,17 +116,23 @@ id_wanted MsgId e = refl
 id_wanted keyword e = cc
 
 -- own lines begin with a context, or with a msgid
-pub context_begins : (end : ℕ) (items rest : List TextItem) (marks : Marks) (line : ℕ) → items ≡ Word MsgCtxt marks line ∷ rest → begins_own items ≡ true → (read : SoFar) (above : ℕ)
-    → comes_to end (Between (InHead read above)) items ≡ comes_to end (opened read (no_lines marks.obsolete) MsgCtxt line) rest
-context_begins end items rest marks line is begins read above = let own : marks.previous ≡ false = not-true _ (and_parts _ _ (rw is at begins)).0 in rw (is, own) refl
+pub context_begins : (end : ℕ) (items rest : List TextItem) (marks : Marks) (line : ℕ)
+    → items ≡ Word MsgCtxt marks line ∷ rest → begins_own items ≡ true → (read : SoFar) (above : ℕ)
+    → comes_to end (Between (InHead read above)) items
+    ≡ comes_to end (opened read (no_lines marks.obsolete) MsgCtxt line) rest
+context_begins end items rest marks line is begins read above = let own : marks.previous ≡ false =
+    not-true _ (and_parts _ _ (rw is at begins)).0 in rw (is, own) refl
 
 own_id : (keyword : Keyword) → (keyword ≡ MsgCtxt → ⊥) → begins_body keyword ≡ true → keyword ≡ MsgId
 own_id MsgId other e = refl
 own_id MsgCtxt other e = absurd (other refl)
 own_id keyword other e = cc
 
-pub id_begins : (end : ℕ) (items rest : List TextItem) (keyword : Keyword) (marks : Marks) (line : ℕ) → items ≡ Word keyword marks line ∷ rest → (keyword ≡ MsgCtxt → ⊥) → begins_own items ≡ true → (read : SoFar) (above : ℕ)
-    → comes_to end (Between (InHead read above)) items ≡ comes_to end (Between (Before (with_own read (no_lines marks.obsolete)) Id)) items
+pub id_begins : (end : ℕ) (items rest : List TextItem) (keyword : Keyword) (marks : Marks) (line : ℕ)
+    → items ≡ Word keyword marks line ∷ rest → (keyword ≡ MsgCtxt → ⊥) → begins_own items ≡ true
+    → (read : SoFar) (above : ℕ)
+    → comes_to end (Between (InHead read above)) items
+    ≡ comes_to end (Between (Before (with_own read (no_lines marks.obsolete)) Id)) items
 id_begins end items rest keyword marks line is other begins read above =
     let both = and_parts _ _ (rw is at begins) in
     let own : marks.previous ≡ false = not-true _ both.0 in
@@ -117,11 +140,13 @@ id_begins end items rest keyword marks line is other begins read above =
 
 -- a previous text ends in its head
 pub previous_closed : (read : SoFar) (keyword : Keyword) (marks : Marks) (text : List ℕ) → marks.previous ≡ true
-    → closed read keyword marks text ≡ InHead (with_previous_text read (record { keyword = keyword; text = text })) (rank keyword)
+    → closed read keyword marks text ≡ InHead (with_previous_text read (record { keyword = keyword; text = text }))
+    (rank keyword)
 previous_closed read keyword marks text e = rw e refl
 
 -- a head that ends at the end of the items is followed by nothing
-pub head_over : (end above : ℕ) (items : List TextItem) (read : SoFar) → items ≡ [] → EndsHead above items → comes_to end (Between (InHead read above)) items ≡ Entries read.entries
+pub head_over : (end above : ℕ) (items : List TextItem) (read : SoFar) → items ≡ [] → EndsHead above items
+    → comes_to end (Between (InHead read above)) items ≡ Entries read.entries
 head_over end above [] read none ends = rw (eq-eqb above 0 ends) refl
 head_over end above (item ∷ items) read none ends = cc
 

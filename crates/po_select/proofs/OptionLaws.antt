@@ -46,52 +46,79 @@ met s e h =
     let b = and_parts _ (if_given s.no_obsolete (not e.obsolete)) a.0 in
     let c = and_parts _ (if_given s.only_fuzzy e.fuzzy) b.0 in
     let d = and_parts _ (if_given s.no_fuzzy (not e.fuzzy)) c.0 in
-    let f = and_parts (if_given s.translated (has_translation e)) (if_given s.untranslated (not (has_translation e))) d.0 in
-    record { translated = f.0; untranslated = f.1; no_fuzzy = d.1; only_fuzzy = c.1; no_obsolete = b.1; only_obsolete = a.1 }
+    let f = and_parts (if_given s.translated (has_translation e))
+    (if_given s.untranslated (not (has_translation e))) d.0 in
+    record {
+      translated = f.0;
+      untranslated = f.1;
+      no_fuzzy = d.1;
+      only_fuzzy = c.1;
+      no_obsolete = b.1;
+      only_obsolete =
+          a.1;
+    }
 
 -- what holds of each entry that meets the conditions
-all_met : (s : Selection) (P : TextEntry → Type 0) → ((e : TextEntry) → IsMet s e → P e) → (entries : List TextEntry) → AllButHeader P (kept s entries)
+all_met : (s : Selection) (P : TextEntry → Type 0) → ((e : TextEntry) → IsMet s e → P e) → (entries : List TextEntry)
+    → AllButHeader P (kept s entries)
 all_met s P h entries =
     All-weaker (λ e. is_kept s e ≡ true) (λ e. is_live_header e ≡ false → P e)
-    (λ e is_kept other. h e (met s e (sym (ap (λ (b : Bool). b || meets s e) other) ∙ is_kept))) (kept s entries) (filter_passes (is_kept s) entries)
+    (λ e is_kept other. h e (met s e (sym (ap (λ (b : Bool). b || meets s e) other) ∙ is_kept))) (kept s entries)
+    (filter_passes (is_kept s) entries)
 
 pub keeps_translated : (s : Selection) (entries : List TextEntry) → KeepsTranslated s entries
-keeps_translated s entries on = all_met s (λ e. first_form e.forms ≢ []) (λ e m. has_some (first_form e.forms) (given s.translated (has_translation e) m.translated on)) entries
+keeps_translated s entries on =
+    all_met s (λ e. first_form e.forms ≢ [])
+    (λ e m. has_some (first_form e.forms) (given s.translated (has_translation e) m.translated on)) entries
 
 pub keeps_untranslated : (s : Selection) (entries : List TextEntry) → KeepsUntranslated s entries
-keeps_untranslated s entries on = all_met s (λ e. first_form e.forms ≡ []) (λ e m. has_none (first_form e.forms) (not-true (has_translation e) (given s.untranslated (not (has_translation e)) m.untranslated on))) entries
+keeps_untranslated s entries on =
+    all_met s (λ e. first_form e.forms ≡ [])
+    (λ e m. has_none (first_form e.forms)
+    (not-true (has_translation e) (given s.untranslated (not (has_translation e)) m.untranslated on))) entries
 
 pub removes_fuzzy : (s : Selection) (entries : List TextEntry) → RemovesFuzzy s entries
-removes_fuzzy s entries on = all_met s (λ e. e.fuzzy ≡ false) (λ e m. not-true e.fuzzy (given s.no_fuzzy (not e.fuzzy) m.no_fuzzy on)) entries
+removes_fuzzy s entries on =
+    all_met s (λ e. e.fuzzy ≡ false) (λ e m. not-true e.fuzzy (given s.no_fuzzy (not e.fuzzy) m.no_fuzzy on)) entries
 
 pub keeps_fuzzy : (s : Selection) (entries : List TextEntry) → KeepsFuzzy s entries
 keeps_fuzzy s entries on = all_met s (λ e. e.fuzzy ≡ true) (λ e m. given s.only_fuzzy e.fuzzy m.only_fuzzy on) entries
 
 pub removes_obsolete : (s : Selection) (entries : List TextEntry) → RemovesObsolete s entries
-removes_obsolete s entries on = all_met s (λ e. e.obsolete ≡ false) (λ e m. not-true e.obsolete (given s.no_obsolete (not e.obsolete) m.no_obsolete on)) entries
+removes_obsolete s entries on =
+    all_met s (λ e. e.obsolete ≡ false)
+    (λ e m. not-true e.obsolete (given s.no_obsolete (not e.obsolete) m.no_obsolete on)) entries
 
 pub keeps_obsolete : (s : Selection) (entries : List TextEntry) → KeepsObsolete s entries
 keeps_obsolete s entries on =
-    all_met s (λ e. e.obsolete ≡ true) (λ e m. not-false e.obsolete (not-true (not e.obsolete) (given s.only_obsolete (not (not e.obsolete)) m.only_obsolete on))) entries
+    all_met s (λ e. e.obsolete ≡ true)
+    (λ e m. not-false e.obsolete
+    (not-true (not e.obsolete) (given s.only_obsolete (not (not e.obsolete)) m.only_obsolete on))) entries
 
 -- an entry that isn't kept fails a condition
 pub only_unwanted : (s : Selection) (e : TextEntry) → is_kept s e ≡ false → IsUnwanted s e
-only_unwanted s e h = elim (one_fails _ (if_given s.only_obsolete (not (not e.obsolete))) (or_parts (is_live_header e) (meets s e) h).1) [
-  | inr f ↦ let n = not_given s.only_obsolete (not (not e.obsolete)) f in inr (inr (inr (inr (inr (n.0, not-true e.obsolete (not-false (not e.obsolete) n.1))))))
-  | inl a ↦ elim (one_fails _ (if_given s.no_obsolete (not e.obsolete)) a) [
-    | inr f ↦ let n = not_given s.no_obsolete (not e.obsolete) f in inr (inr (inr (inr (inl (n.0, not-false e.obsolete n.1)))))
-    | inl b ↦ elim (one_fails _ (if_given s.only_fuzzy e.fuzzy) b) [
-      | inr f ↦ let n = not_given s.only_fuzzy e.fuzzy f in inr (inr (inr (inl n)))
-      | inl c ↦ elim (one_fails _ (if_given s.no_fuzzy (not e.fuzzy)) c) [
-        | inr f ↦ let n = not_given s.no_fuzzy (not e.fuzzy) f in inr (inr (inl (n.0, not-false e.fuzzy n.1)))
-        | inl d ↦ elim (one_fails (if_given s.translated (has_translation e)) (if_given s.untranslated (not (has_translation e))) d) [
-          | inr f ↦ let n = not_given s.untranslated (not (has_translation e)) f in inr (inl (n.0, has_some (first_form e.forms) (not-false (has_translation e) n.1)))
-          | inl f ↦ let n = not_given s.translated (has_translation e) f in inl (n.0, has_none (first_form e.forms) n.1)
+only_unwanted s e h = elim
+    (one_fails _ (if_given s.only_obsolete (not (not e.obsolete))) (or_parts (is_live_header e) (meets s e) h).1) [
+      | inr f ↦ let n = not_given s.only_obsolete (not (not e.obsolete)) f in
+          inr (inr (inr (inr (inr (n.0, not-true e.obsolete (not-false (not e.obsolete) n.1))))))
+      | inl a ↦ elim (one_fails _ (if_given s.no_obsolete (not e.obsolete)) a) [
+        | inr f ↦ let n = not_given s.no_obsolete (not e.obsolete) f in
+            inr (inr (inr (inr (inl (n.0, not-false e.obsolete n.1)))))
+        | inl b ↦ elim (one_fails _ (if_given s.only_fuzzy e.fuzzy) b) [
+          | inr f ↦ let n = not_given s.only_fuzzy e.fuzzy f in inr (inr (inr (inl n)))
+          | inl c ↦ elim (one_fails _ (if_given s.no_fuzzy (not e.fuzzy)) c) [
+            | inr f ↦ let n = not_given s.no_fuzzy (not e.fuzzy) f in inr (inr (inl (n.0, not-false e.fuzzy n.1)))
+            | inl d ↦ elim (one_fails (if_given s.translated (has_translation e))
+                (if_given s.untranslated (not (has_translation e))) d) [
+                  | inr f ↦ let n = not_given s.untranslated (not (has_translation e)) f in
+                      inr (inl (n.0, has_some (first_form e.forms) (not-false (has_translation e) n.1)))
+                  | inl f ↦ let n = not_given s.translated (has_translation e) f in
+                      inl (n.0, has_none (first_form e.forms) n.1)
+                ]
+          ]
         ]
       ]
     ]
-  ]
-]
 
 pub sets_fuzzy : (s : Selection) (e : TextEntry) → SetsFuzzy s e
 sets_fuzzy s e on = ap (λ (b : Bool). b || (e.fuzzy && not s.clear_fuzzy)) on
@@ -108,15 +135,20 @@ clears_obsolete s e off on = rw (off, on) (and-false e.obsolete)
 pub clears_previous : (s : Selection) (e : TextEntry) → ClearsPrevious s e
 clears_previous s e on = rw on refl
 
-is_emptied_where : (empty fuzzy after header : Bool) → empty ≡ true → fuzzy ≡ true → after ≡ false → header ≡ false → (empty && fuzzy && not after && not header) ≡ true
+is_emptied_where : (empty fuzzy after header : Bool) → empty ≡ true → fuzzy ≡ true → after ≡ false → header ≡ false
+    → (empty && fuzzy && not after && not header) ≡ true
 is_emptied_where empty fuzzy after header a b c d = rw (a, b, c, d) refl
 
-emptied_forms : (forms : List (List ℕ)) (b : Bool) → b ≡ true → All (λ (form : List ℕ). form ≡ []) (if b then map (λ _. []) forms else forms) × (length (if b then map (λ _. []) forms else forms) ≡ length forms)
-emptied_forms forms true h = (All-map (λ (form : List ℕ). form ≡ []) (λ _. []) forms (λ k d below. refl), length-map forms (λ _. []))
+emptied_forms : (forms : List (List ℕ)) (b : Bool) → b ≡ true
+    → All (λ (form : List ℕ). form ≡ []) (if b then map (λ _. []) forms else forms)
+    × (length (if b then map (λ _. []) forms else forms) ≡ length forms)
+emptied_forms forms true h =
+    (All-map (λ (form : List ℕ). form ≡ []) (λ _. []) forms (λ k d below. refl), length-map forms (λ _. []))
 emptied_forms forms false h = cc
 
 pub empties : (s : Selection) (e : TextEntry) → Empties s e
-empties s e on fuzzy cleared header = emptied_forms e.forms _ (is_emptied_where s.empty e.fuzzy (fuzzy_after s e) (is_header e) on fuzzy cleared header)
+empties s e on fuzzy cleared header =
+    emptied_forms e.forms _ (is_emptied_where s.empty e.fuzzy (fuzzy_after s e) (is_header e) on fuzzy cleared header)
 
 pub marks_stay : (s : Selection) (e : TextEntry) → MarksStay s e
 marks_stay s e = record {
@@ -126,9 +158,19 @@ marks_stay s e = record {
 }
 
 pub rest_stays : (s : Selection) (e : TextEntry) → RestStays s e
-rest_stays s e = record { comments = refl; extracted = refl; references = refl; flags = refl; context = refl; id = refl; plural = refl; line = refl }
+rest_stays s e = record {
+  comments = refl;
+  extracted = refl;
+  references = refl;
+  flags = refl;
+  context = refl;
+  id = refl;
+  plural = refl;
+  line = refl;
+}
 
-not_emptied : (empty fuzzy after header : Bool) → (empty ≡ false) ⊎ (fuzzy ≡ false) ⊎ (after ≡ true) → (empty && fuzzy && not after && not header) ≡ false
+not_emptied : (empty fuzzy after header : Bool) → (empty ≡ false) ⊎ (fuzzy ≡ false) ⊎ (after ≡ true)
+    → (empty && fuzzy && not after && not header) ≡ false
 not_emptied false fuzzy after header h = refl
 not_emptied true false after header h = refl
 not_emptied true true true header h = refl
@@ -137,4 +179,5 @@ not_emptied true true false header (inr (inl h)) = cc
 not_emptied true true false header (inr (inr h)) = cc
 
 pub forms_stay : (s : Selection) (e : TextEntry) → FormsStay s e
-forms_stay s e h = ap (λ (b : Bool). if b then map (λ _. []) e.forms else e.forms) (not_emptied s.empty e.fuzzy (fuzzy_after s e) (is_header e) h)
+forms_stay s e h = ap (λ (b : Bool). if b then map (λ _. []) e.forms else e.forms)
+    (not_emptied s.empty e.fuzzy (fuzzy_after s e) (is_header e) h)

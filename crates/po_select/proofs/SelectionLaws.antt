@@ -20,7 +20,16 @@ not_emptied false fuzzy header = refl
 
 unchanged : (s : Selection) (e : TextEntry) → ChangesNothing s → changed s e ≡ e
 unchanged s e h =
-    rw (h.set_fuzzy, h.clear_fuzzy, h.set_obsolete, h.clear_obsolete, h.clear_previous, not_emptied s.empty e.fuzzy (not (is_header e)), and-true e.fuzzy, and-true e.obsolete)
+    rw (
+      h.set_fuzzy,
+      h.clear_fuzzy,
+      h.set_obsolete,
+      h.clear_obsolete,
+      h.clear_previous,
+      not_emptied s.empty e.fuzzy (not (is_header e)),
+      and-true e.fuzzy,
+      and-true e.obsolete,
+    )
     refl
 
 all_unchanged : (s : Selection) (entries : List TextEntry) → ChangesNothing s → map (changed s) entries ≡ entries
@@ -31,21 +40,34 @@ all_kept : (entries : List TextEntry) → filter (is_kept every_entry) entries �
 all_kept [] = refl
 all_kept (e ∷ entries) = rw (or-true (is_live_header e), all_kept entries) refl
 
-passing_kept : (p : TextEntry → Bool) (entries : List TextEntry) → All (λ e. p e ≡ true) entries → filter p entries ≡ entries
+passing_kept : (p : TextEntry → Bool) (entries : List TextEntry) → All (λ e. p e ≡ true) entries
+    → filter p entries ≡ entries
 passing_kept p [] h = refl
-passing_kept p (e ∷ entries) h = rw (All-head (λ e. p e ≡ true) e entries h, passing_kept p entries (All-tail (λ e. p e ≡ true) e entries h)) refl
+passing_kept p (e ∷ entries) h =
+    rw (All-head (λ e. p e ≡ true) e entries h, passing_kept p entries (All-tail (λ e. p e ≡ true) e entries h)) refl
 
 pub nothing_given : (entries : List TextEntry) → selected every_entry entries ≡ entries
 nothing_given entries =
-    let none : ChangesNothing every_entry = record { set_fuzzy = refl; clear_fuzzy = refl; set_obsolete = refl; clear_obsolete = refl; clear_previous = refl } in
+    let none : ChangesNothing every_entry =
+    record {
+      set_fuzzy = refl;
+      clear_fuzzy = refl;
+      set_obsolete = refl;
+      clear_obsolete = refl;
+      clear_previous =
+          refl;
+    } in
     rw (all_kept entries) (all_unchanged every_entry entries none)
 
-pub selected_once : (s : Selection) (entries : List TextEntry) → ChangesNothing s → selected s (selected s entries) ≡ selected s entries
+pub selected_once : (s : Selection) (entries : List TextEntry) → ChangesNothing s
+    → selected s (selected s entries) ≡ selected s entries
 selected_once s entries h =
     rw (all_unchanged s (filter (is_kept s) entries) h)
-    (rw (passing_kept (is_kept s) (filter (is_kept s) entries) (filter_passes (is_kept s) entries)) (all_unchanged s (filter (is_kept s) entries) h))
+    (rw (passing_kept (is_kept s) (filter (is_kept s) entries) (filter_passes (is_kept s) entries))
+    (all_unchanged s (filter (is_kept s) entries) h))
 
-IsEntry-marked : (e : TextEntry) (fuzzy obsolete : Bool) → IsEntry e → IsEntry (record e { fuzzy = fuzzy; obsolete = obsolete })
+IsEntry-marked : (e : TextEntry) (fuzzy obsolete : Bool) → IsEntry e
+    → IsEntry (record e { fuzzy = fuzzy; obsolete = obsolete })
 IsEntry-marked e fuzzy obsolete h = record {
   quoted_texts = h.quoted_texts;
   comments = h.comments;
@@ -59,11 +81,13 @@ IsEntry-marked e fuzzy obsolete h = record {
   one_form = h.one_form;
 }
 
-IsEntry-emptied_if : (e : TextEntry) (b : Bool) → IsEntry e → IsEntry (record e { forms = if b then map (λ _. []) e.forms else e.forms })
+IsEntry-emptied_if : (e : TextEntry) (b : Bool) → IsEntry e
+    → IsEntry (record e { forms = if b then map (λ _. []) e.forms else e.forms })
 IsEntry-emptied_if e true h = IsEntry-emptied e h
 IsEntry-emptied_if e false h = h
 
-IsEntry-cleared_if : (e : TextEntry) (b : Bool) → IsEntry e → IsEntry (record e { previous = if b then no_previous else e.previous })
+IsEntry-cleared_if : (e : TextEntry) (b : Bool) → IsEntry e
+    → IsEntry (record e { previous = if b then no_previous else e.previous })
 IsEntry-cleared_if e true h = IsEntry-without_previous e h
 IsEntry-cleared_if e false h = h
 
@@ -75,14 +99,19 @@ changed_can_stand s e h =
     let emptied : TextEntry = record e { forms = if is_emptied s e then map (λ _. []) e.forms else e.forms } in
     let cleared : TextEntry = record emptied { previous = if s.clear_previous then no_previous else e.previous } in
     record {
-      valid = IsEntry-marked cleared (fuzzy_after s e) (obsolete_after s e) (IsEntry-cleared_if emptied s.clear_previous (IsEntry-emptied_if e (is_emptied s e) h.valid));
-      charset = λ header. rw (header_kept (s.empty && e.fuzzy && not (fuzzy_after s e)) (is_header e) header) (h.charset header);
+      valid = IsEntry-marked cleared (fuzzy_after s e) (obsolete_after s e)
+          (IsEntry-cleared_if emptied s.clear_previous (IsEntry-emptied_if e (is_emptied s e) h.valid));
+      charset = λ header. rw (header_kept (s.empty && e.fuzzy && not (fuzzy_after s e)) (is_header e) header)
+          (h.charset header);
     }
 
-pub selected_can_stand : (s : Selection) (entries : List TextEntry) → All IsCatalogueEntry entries → All IsCatalogueEntry (selected s entries)
+pub selected_can_stand : (s : Selection) (entries : List TextEntry) → All IsCatalogueEntry entries
+    → All IsCatalogueEntry (selected s entries)
 selected_can_stand s entries h =
     let kept = filter (is_kept s) entries in
-    All-map IsCatalogueEntry (changed s) kept (All-weaker IsCatalogueEntry (λ e. IsCatalogueEntry (changed s e)) (changed_can_stand s) kept (All-filter (is_kept s) IsCatalogueEntry entries h))
+    All-map IsCatalogueEntry (changed s) kept
+    (All-weaker IsCatalogueEntry (λ e. IsCatalogueEntry (changed s e)) (changed_can_stand s) kept
+    (All-filter (is_kept s) IsCatalogueEntry entries h))
 
 header_of_live : (header obsolete : Bool) → (header && not obsolete) ≡ true → header ≡ true
 header_of_live true obsolete live = refl
@@ -104,4 +133,5 @@ live_header_live s e live = live_after (is_header e) e.obsolete s.set_obsolete s
 
 pub live_header_forms : (s : Selection) (e : TextEntry) → is_live_header e ≡ true → (changed s e).forms ≡ e.forms
 live_header_forms s e live =
-    rw (header_kept (s.empty && e.fuzzy && not (fuzzy_after s e)) (is_header e) (header_of_live (is_header e) e.obsolete live)) refl
+    rw (header_kept (s.empty && e.fuzzy && not (fuzzy_after s e)) (is_header e)
+    (header_of_live (is_header e) e.obsolete live)) refl

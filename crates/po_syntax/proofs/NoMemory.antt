@@ -47,7 +47,8 @@ line_reported (fault.obsolete blanks all b n h) = tokens_reported h
 line_reported (fault.obsolete_previous h) = tokens_reported h
 line_reported _ = λ e. cc
 
-lines_reported : (number : ℕ) (lines : List (List ℕ)) (kind : PoFault) (at : ℕ) → LinesStop number lines kind at → IsReported kind
+lines_reported : (number : ℕ) (lines : List (List ℕ)) (kind : PoFault) (at : ℕ) → LinesStop number lines kind at
+    → IsReported kind
 lines_reported number [] kind at s = absurd s
 lines_reported number (line ∷ lines) kind at (inl first) = line_reported first.0
 lines_reported number (line ∷ lines) kind at (inr after) = lines_reported (number + 1) lines kind at after.2

@@ -25,7 +25,8 @@ pub data Reads {O : Type 0} (Is : List ℕ → O → Type 0) (text : List ℕ) :
       → ((outcome : O) → Is text outcome → (before : O) × Is next before × (outcome ≡ make before))
       → Reads Is text
 
-once_below : {O : Type 0} (Is : List ℕ → O → Type 0) → ((text : List ℕ) → Reads Is text) → (n : ℕ) (text : List ℕ) → length text < n → Once (Is text)
+once_below : {O : Type 0} (Is : List ℕ → O → Type 0) → ((text : List ℕ) → Reads Is text) → (n : ℕ) (text : List ℕ)
+    → length text < n → Once (Is text)
 once_below Is reads zero text h = absurd (omega arith)
 once_below {O} Is reads (suc n) text h = by (reads text) (once_below Is reads n) where
   by : Reads Is text → ((next : List ℕ) → length next < n → Once (Is next)) → Once (Is text)
@@ -37,7 +38,8 @@ once_below {O} Is reads (suc n) text h = by (reads text) (once_below Is reads n)
         only = λ other is. let before = comes other is in before.2 ∙ ap make (once.only before.0 before.1);
       }
 
-pub reads_once : {O : Type 0} (Is : List ℕ → O → Type 0) → ((text : List ℕ) → Reads Is text) → (text : List ℕ) → Once (Is text)
+pub reads_once : {O : Type 0} (Is : List ℕ → O → Type 0) → ((text : List ℕ) → Reads Is text) → (text : List ℕ)
+    → Once (Is text)
 reads_once Is reads text = once_below Is reads (length text + 1) text (omega arith)
 
 -- the bytes of a string and the text after it, or the fault of the text
@@ -68,7 +70,8 @@ fault_follows : {text : List ℕ} {fault : PoFault} → StringFault text fault �
 unfolding step_at
 fault_follows not_closed = refl
 fault_follows (in_escape h) = rw (escape_stops h) refl
-fault_follows (after_plain {b = b} {fault = fault} inside raw more) = rw (ne_eqb b 34 inside, ne_eqb b 92 raw) (Err fault, more, refl)
+fault_follows (after_plain {b = b} {fault = fault} inside raw more) =
+    rw (ne_eqb b 34 inside, ne_eqb b 92 raw) (Err fault, more, refl)
 fault_follows (after_escape {fault = fault} spelt more) = rw (escape_read spelt) (Err fault, more, refl)
 
 follows : (text : List ℕ) (reading : Reading) → StringIs text reading → Follows (step_at text) reading
@@ -78,10 +81,12 @@ follows text (Err fault) h = fault_follows h
 -- what a step says of the text
 abbrev Says : List ℕ → Step → Type 0
 Says text (End rest) = SpellsString text [] rest
-Says text (Byte b next) = (length next < length text) × ((more : Reading) → StringIs next more → StringIs text (with_byte b more))
+Says text (Byte b next) =
+    (length next < length text) × ((more : Reading) → StringIs next more → StringIs text (with_byte b more))
 Says text (Stop fault) = StringFault text fault
 
-after_plain_byte : (b : ℕ) (text : List ℕ) → (b == 34) ≡ false → (b == 92) ≡ false → (more : Reading) → StringIs text more → StringIs (b ∷ text) (with_byte b more)
+after_plain_byte : (b : ℕ) (text : List ℕ) → (b == 34) ≡ false → (b == 92) ≡ false → (more : Reading)
+    → StringIs text more → StringIs (b ∷ text) (with_byte b more)
 after_plain_byte b text inside raw (Ok read) h = plain (eqb-false b 34 inside) (eqb-false b 92 raw) h
 after_plain_byte b text inside raw (Err fault) h = after_plain (eqb-false b 34 inside) (eqb-false b 92 raw) h
 
@@ -98,11 +103,13 @@ unfolding step_at
 says [] = not_closed
 says (b ∷ text) =
     let P = λ (a : ℕ) (step : Step). Says (a ∷ text) step in
-    by_byte P b 34 closed (λ inside. by_byte P b 92 (after_backslash text (escape_at text) (escape_says text)) (λ raw. (omega arith, after_plain_byte b text inside raw)))
+    by_byte P b 34 closed (λ inside. by_byte P b 92 (after_backslash text (escape_at text) (escape_says text))
+    (λ raw. (omega arith, after_plain_byte b text inside raw)))
 
 string_reads : (text : List ℕ) → Reads StringIs text
 string_reads text = by (step_at text) (says text) (follows text) where
-  by : (step : Step) → Says text step → ((reading : Reading) → StringIs text reading → Follows step reading) → Reads StringIs text
+  by : (step : Step) → Says text step → ((reading : Reading) → StringIs text reading → Follows step reading)
+      → Reads StringIs text
   by (End rest) said only = ends (record { outcome = Ok ([], rest); holds = said; only = only })
   by (Byte b next) said only = goes_on (with_byte b) next said.0 said.1 only
   by (Stop fault) said only = ends (record { outcome = Err fault; holds = said; only = only })

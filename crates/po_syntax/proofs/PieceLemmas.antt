@@ -27,50 +27,64 @@ some_left None e = absurd (cc)
 some_left (Some rest) e = lines_some rest.now
 
 -- the first line, and those after it
-pub lines_begin : (text line : List ℕ) (rest : Option (Bor (List ℕ))) → MatchOption rest (lines_of text ≡ line ∷ []) (λ r. lines_of text ≡ line ∷ lines_of r.now) → lines_of text ≡ line ∷ lines_of_rest rest
+pub lines_begin : (text line : List ℕ) (rest : Option (Bor (List ℕ)))
+    → MatchOption rest (lines_of text ≡ line ∷ []) (λ r. lines_of text ≡ line ∷ lines_of r.now)
+    → lines_of text ≡ line ∷ lines_of_rest rest
 lines_begin text line None h = h
 lines_begin text line (Some rest) h = h
 
 -- items that are cut off again
-pub cut_at : (before after : List Item) (here : List TextItem) (own : ℕ) → own ≡ length before → views after ≡ views before ++ here
+pub cut_at : (before after : List Item) (here : List TextItem) (own : ℕ) → own ≡ length before
+    → views after ≡ views before ++ here
     → (take own (views after) ≡ views before) × (drop own (views after) ≡ here)
 cut_at before after here own own_is is =
     let long : own ≡ length (views before) = own_is ∙ sym (length-map before view) in
     rw (is, long) (take-append_seam (views before) here, drop-append_seam (views before) here)
 
 -- what is read at an index is the first of the items from it on
-pub first_at : (items : List Item) (n : ℕ) (item : Item) → n < length items → item ≡ get_or items n item → drop n (views items) ≡ view item ∷ drop (suc n) (views items)
+pub first_at : (items : List Item) (n : ℕ) (item : Item) → n < length items → item ≡ get_or items n item
+    → drop n (views items) ≡ view item ∷ drop (suc n) (views items)
 first_at [] n item h is = absurd (omega arith)
 first_at (x ∷ items) zero item h is = ap (λ i. view i ∷ views items) (sym is)
 first_at (x ∷ items) (suc n) item h is = first_at items n item (omega arith) is
 
 -- a string more before strings
-pub strings_more : (items : List Item) (n m : ℕ) (item : Item) → m ≡ n + 1 → n < length items → item ≡ get_or items n item → IsString (view item) → All IsString (drop m (views items)) → All IsString (drop n (views items))
+pub strings_more : (items : List Item) (n m : ℕ) (item : Item) → m ≡ n + 1 → n < length items
+    → item ≡ get_or items n item → IsString (view item) → All IsString (drop m (views items))
+    → All IsString (drop n (views items))
 strings_more items n m item e h is string more =
     let next : m ≡ suc n = omega arith in
-    rw (first_at items n item h is) (All-cons IsString (view item) (drop (suc n) (views items)) string (subst (λ k. All IsString (drop k (views items))) next more))
+    rw (first_at items n item h is)
+    (All-cons IsString (view item) (drop (suc n) (views items)) string
+    (subst (λ k. All IsString (drop k (views items))) next more))
 
 no_string_word : (item : TextItem) → IsTranslationWord item → IsString item → ⊥
 no_string_word (Comment kind text line) word string = string
 no_string_word (Word keyword marks line) word string = string
 no_string_word (Str bytes marks line) word string = word
 
-drop_rest : {X : Type 0} (n : ℕ) (xs : List X) (first : X) (others : List X) → drop n xs ≡ first ∷ others → drop (suc n) xs ≡ others
-drop_rest n xs first others e = let next : suc n ≡ n + 1 = omega arith in rw next (sym (drop-drop 1 n xs) ∙ ap (drop 1) e)
+drop_rest : {X : Type 0} (n : ℕ) (xs : List X) (first : X) (others : List X) → drop n xs ≡ first ∷ others
+    → drop (suc n) xs ≡ others
+drop_rest n xs first others e = let next : suc n ≡ n + 1 =
+    omega arith in rw next (sym (drop-drop 1 n xs) ∙ ap (drop 1) e)
 
-some_line : {X : Type 0} (n : ℕ) (xs : List X) (first : X) (others : List X) → drop n xs ≡ first ∷ others → suc n ≤ length xs
+some_line : {X : Type 0} (n : ℕ) (xs : List X) (first : X) (others : List X) → drop n xs ≡ first ∷ others
+    → suc n ≤ length xs
 some_line n xs first others e = omega (arith, length-drop n xs, ap length e)
 
 -- behind where strings alone stand, a string stands
-string_at : (m n : ℕ) (items : List TextItem) (first : TextItem) (others : List TextItem) → All IsString (drop m items) → m ≤ n → drop n items ≡ first ∷ others → IsString first
+string_at : (m n : ℕ) (items : List TextItem) (first : TextItem) (others : List TextItem) → All IsString (drop m items)
+    → m ≤ n → drop n items ≡ first ∷ others → IsString first
 string_at m n items first others strings le e =
     let sum : m + (n - m) ≡ n = omega arith in
-    let here : drop (n - m) (drop m items) ≡ first ∷ others = drop-drop (n - m) m items ∙ ap (λ (k : ℕ). drop k items) sum ∙ e in
+    let here : drop (n - m) (drop m items) ≡ first ∷ others =
+    drop-drop (n - m) m items ∙ ap (λ (k : ℕ). drop k items) sum ∙ e in
     All-head IsString first others (subst (All IsString) here (All-drop IsString (n - m) (drop m items) strings))
 
 -- the item before this place is no string
 abbrev pub IsLastOther : List TextItem → ℕ → Type 0
-IsLastOther items count = (at : ℕ) (item : TextItem) (strings : List TextItem) → at + 1 ≡ count → drop at items ≡ item ∷ strings → IsString item → ⊥
+IsLastOther items count = (at : ℕ) (item : TextItem) (strings : List TextItem) → at + 1 ≡ count
+    → drop at items ≡ item ∷ strings → IsString item → ⊥
 
 -- the translation with which items end begins before its strings
 pub translation_at : (items : List TextItem) (count before : ℕ) → count ≤ length items → All IsString (drop count items)
@@ -86,32 +100,45 @@ translation_at items count before within strings last is = found (drop before it
               | inr le ↦ omega arith
               | inl later ↦
                   let first = drop-cons items (count - 1) word (omega arith) in
-                  let all : All IsString (drop (suc before) items) = subst (All IsString) (sym (drop_rest before items word others e)) is.2 in
-                  absurd (last (count - 1) _ _ (omega arith) first (string_at (suc before) (count - 1) items _ _ all (omega arith) first))
+                  let all : All IsString (drop (suc before) items) =
+                  subst (All IsString) (sym (drop_rest before items word others e)) is.2 in
+                  absurd (last (count - 1) _ _ (omega arith) first
+                  (string_at (suc before) (count - 1) items _ _ all (omega arith) first))
             ]
       ]
 
 -- items end a translation exactly where the item before their last strings is its keyword
-pub ends_at : (items : List Item) (count : ℕ) (item : Item) → 0 < count → count < length items → All IsString (drop count (views items)) → IsLastOther (views items) count → item ≡ get_or items (count - 1) item
+pub ends_at : (items : List Item) (count : ℕ) (item : Item) → 0 < count → count < length items
+    → All IsString (drop count (views items)) → IsLastOther (views items) count → item ≡ get_or items (count - 1) item
     → IsTranslationWord (view item) ↔ EndsTranslation (views items)
 ends_at items count item some within strings last is =
     let all = views items in
     let long = length-map items view in
     let next : suc (count - 1) ≡ count = omega arith in
-    let here : drop (count - 1) all ≡ view item ∷ drop count all = subst (λ k. drop (count - 1) all ≡ view item ∷ drop k all) next (first_at items (count - 1) item (omega arith) is) in (
-      λ word. (count - 1, subst IsTranslation (sym here) (word, λ none. omega (arith, ap length none, length-drop count all), strings)),
+    let here : drop (count - 1) all ≡ view item ∷ drop count all =
+    subst (λ k. drop (count - 1) all ≡ view item ∷ drop k all) next
+    (first_at items (count - 1) item (omega arith) is) in (
+      λ word. (
+        count - 1,
+        subst IsTranslation (sym here)
+            (word, λ none. omega (arith, ap length none, length-drop count all), strings),
+      ),
       λ ends.
-          let at : ends.0 ≡ count - 1 = let e = translation_at all count ends.0 (omega arith) strings last ends.1 in omega arith in
-          let found : IsTranslation (view item ∷ drop count all) = subst IsTranslation (ap (λ n. drop n all) at ∙ here) ends.1 in
+          let at : ends.0 ≡ count - 1 = let e =
+          translation_at all count ends.0 (omega arith) strings last ends.1 in omega arith in
+          let found : IsTranslation (view item ∷ drop count all) =
+          subst IsTranslation (ap (λ n. drop n all) at ∙ here) ends.1 in
           found.0,
     )
 
 -- items that are strings alone, or end in no string, end no translation
-pub ends_nowhere : (items : List TextItem) (count : ℕ) → count ≤ length items → All IsString (drop count items) → IsLastOther items count → (count ≡ 0) ⊎ (length items ≤ count) → EndsTranslation items → ⊥
+pub ends_nowhere : (items : List TextItem) (count : ℕ) → count ≤ length items → All IsString (drop count items)
+    → IsLastOther items count → (count ≡ 0) ⊎ (length items ≤ count) → EndsTranslation items → ⊥
 ends_nowhere items count within strings last (inl none) ends =
     let at = translation_at items count ends.0 within strings last ends.1 in omega arith
 ends_nowhere items count within strings last (inr all) ends =
-    let at = translation_at items count ends.0 within strings last ends.1 in found (drop ends.0 items) refl ends.1 at where
+    let at = translation_at items count ends.0 within strings last ends.1 in
+    found (drop ends.0 items) refl ends.1 at where
       found : (behind : List TextItem) → drop ends.0 items ≡ behind → IsTranslation behind → ends.0 + 1 ≡ count → ⊥
       found [] e is at = is
       found (word ∷ others) e is at =
@@ -119,7 +146,9 @@ ends_nowhere items count within strings last (inr all) ends =
           is.1 (sym (drop_rest ends.0 items word others e) ∙ drop_all (suc ends.0) items (omega arith))
 
 -- what lines spell after which others are left, and what those spell
-joined_after : (count number : ℕ) (lines : List (List ℕ)) (items more : List TextItem) → SpellsLines number (take count lines) items → SpellsLines (number + count) (drop count lines) more → SpellsLines number lines (items ++ more)
+joined_after : (count number : ℕ) (lines : List (List ℕ)) (items more : List TextItem)
+    → SpellsLines number (take count lines) items → SpellsLines (number + count) (drop count lines) more
+    → SpellsLines number lines (items ++ more)
 joined_after zero number lines items more h g =
     let same : number + 0 ≡ number = omega arith in
     rw h (subst (λ (n : ℕ). SpellsLines n lines more) same g)
@@ -129,37 +158,60 @@ joined_after (suc count) number (line ∷ lines) items more h g =
       h.0,
       h.1 ++ more,
       h.2,
-      joined_after count (number + 1) lines h.1 more h.3 (subst (λ (n : ℕ). SpellsLines n (drop count lines) more) sum g),
+      joined_after count (number + 1) lines h.1 more h.3
+          (subst (λ (n : ℕ). SpellsLines n (drop count lines) more) sum g),
       ap (λ (x : List TextItem). x ++ more) h.4 ∙ append_assoc h.0 h.1 more,
     )
 
 -- the fault of lines that are left after others that have none
-stops_after : (count number : ℕ) (lines : List (List ℕ)) (items : List TextItem) (fault : PoFault) (line : ℕ) → SpellsLines number (take count lines) items → LinesStop (number + count) (drop count lines) fault line → LinesStop number lines fault line
+stops_after : (count number : ℕ) (lines : List (List ℕ)) (items : List TextItem) (fault : PoFault) (line : ℕ)
+    → SpellsLines number (take count lines) items → LinesStop (number + count) (drop count lines) fault line
+    → LinesStop number lines fault line
 stops_after zero number lines items fault line h g =
     let same : number + 0 ≡ number = omega arith in subst (λ (n : ℕ). LinesStop n lines fault line) same g
 stops_after (suc count) number [] items fault line h g = g
 stops_after (suc count) number (first ∷ lines) items fault line h g =
     let sum : number + suc count ≡ (number + 1) + count = omega arith in
-    inr (h.0, h.2, stops_after count (number + 1) lines h.1 fault line h.3 (subst (λ (n : ℕ). LinesStop n (drop count lines) fault line) sum g))
+    inr (
+      h.0,
+      h.2,
+      stops_after count (number + 1) lines h.1 fault line h.3
+          (subst (λ (n : ℕ). LinesStop n (drop count lines) fault line) sum g),
+    )
 
 -- one line more: what stands before it, and it alone
-last_line : (count : ℕ) (lines : List (List ℕ)) (line : List ℕ) (others : List (List ℕ)) → drop count lines ≡ line ∷ others
+last_line : (count : ℕ) (lines : List (List ℕ)) (line : List ℕ) (others : List (List ℕ))
+    → drop count lines ≡ line ∷ others
     → (take count (take (suc count) lines) ≡ take count lines) × (drop count (take (suc count) lines) ≡ line ∷ [])
 last_line count lines line others e =
-    let next : suc count ≡ count + 1 = omega arith in
-    (take-take count (suc count) lines (omega arith), ap (λ k. drop count (take k lines)) next ∙ drop-take count 1 lines ∙ ap (take 1) e)
+    let next : suc count ≡ count + 1 = omega arith in (
+      take-take count (suc count) lines (omega arith),
+      ap (λ k. drop count (take k lines)) next ∙ drop-take count 1 lines
+          ∙ ap (take 1) e,
+    )
 
-spelt_more : (count number : ℕ) (lines : List (List ℕ)) (line : List ℕ) (others : List (List ℕ)) (items here : List TextItem) → SpellsLines number (take count lines) items → drop count lines ≡ line ∷ others → HoldsItems (number + count) line here
+spelt_more : (count number : ℕ) (lines : List (List ℕ)) (line : List ℕ) (others : List (List ℕ))
+    (items here : List TextItem) → SpellsLines number (take count lines) items → drop count lines ≡ line ∷ others
+    → HoldsItems (number + count) line here
     → SpellsLines number (take (suc count) lines) (items ++ here)
 spelt_more count number lines line others items here h e s =
     let parts = last_line count lines line others e in
-    joined_after count number (take (suc count) lines) items here (subst (λ l. SpellsLines number l items) (sym parts.0) h)
+    joined_after count number (take (suc count) lines) items here
+    (subst (λ l. SpellsLines number l items) (sym parts.0) h)
     (subst (λ l. SpellsLines (number + count) l here) (sym parts.1) (here, [], s, refl, sym (append-nil here)))
 
-len_more : (count : ℕ) (lines : List (List ℕ)) (line : List ℕ) (others : List (List ℕ)) → drop count lines ≡ line ∷ others → lines_len (take (suc count) lines) ≡ lines_len (take count lines) + (length line + 1)
+len_more : (count : ℕ) (lines : List (List ℕ)) (line : List ℕ) (others : List (List ℕ))
+    → drop count lines ≡ line ∷ others
+    → lines_len (take (suc count) lines) ≡ lines_len (take count lines) + (length line + 1)
 len_more count lines line others e =
     let parts = last_line count lines line others e in
-    omega (arith, sum_by-take-drop (λ (l : List ℕ). length l + 1) (take (suc count) lines) count, ap lines_len parts.0, ap lines_len parts.1, sum_by-cons (λ (l : List ℕ). length l + 1) line [])
+    omega (
+      arith,
+      sum_by-take-drop (λ (l : List ℕ). length l + 1) (take (suc count) lines) count,
+      ap lines_len parts.0,
+      ap lines_len parts.1,
+      sum_by-cons (λ (l : List ℕ). length l + 1) line [],
+    )
 
 -- so many bytes are read so far
 pub record ReadSoFar (size : ℕ) (old now : LinesLeft) (items : List TextItem) (len : ℕ) : Type 0 where
@@ -168,31 +220,48 @@ pub record ReadSoFar (size : ℕ) (old now : LinesLeft) (items : List TextItem) 
 
 pub none_read : (size : ℕ) (old : LinesLeft) → ReadSoFar size old old [] 0
 none_read size old = record {
-  read = record { count = 0; within = omega arith; rest = let same : old.number + 0 ≡ old.number = omega arith in rw same refl; spelt = refl; fewest = λ fewer less. absurd (omega (arith, less)) };
+  read = record {
+    count = 0;
+    within = omega arith;
+    rest = let same : old.number + 0 ≡ old.number = omega arith in
+        rw same refl;
+    spelt = refl;
+    fewest = λ fewer less. absurd (omega (arith, less));
+  };
   len_is = refl;
 }
 
-next_line : {size : ℕ} {old now : LinesLeft} {items : List TextItem} (read : HasRead size old now items) {lines : List (List ℕ)} → now.lines ≡ lines → drop read.count old.lines ≡ lines
+next_line : {size : ℕ} {old now : LinesLeft} {items : List TextItem} (read : HasRead size old now items)
+    {lines : List (List ℕ)} → now.lines ≡ lines → drop read.count old.lines ≡ lines
 next_line read e = sym (ap (λ (left : LinesLeft). left.lines) read.rest) ∙ e
 
-here_spelt : {size : ℕ} {old now : LinesLeft} {items here : List TextItem} {line : List ℕ} (read : HasRead size old now items) → HoldsItems now.number line here → HoldsItems (old.number + read.count) line here
-here_spelt {here = here} {line = line} read spelt = subst (λ (left : LinesLeft). HoldsItems left.number line here) read.rest spelt
+here_spelt : {size : ℕ} {old now : LinesLeft} {items here : List TextItem} {line : List ℕ}
+    (read : HasRead size old now items) → HoldsItems now.number line here
+    → HoldsItems (old.number + read.count) line here
+here_spelt {here = here} {line = line} read spelt =
+    subst (λ (left : LinesLeft). HoldsItems left.number line here) read.rest spelt
 
 -- a piece can end before a line only where its items and those before them say so
-no_end : {size len : ℕ} {old now : LinesLeft} {items here : List TextItem} {line : List ℕ} {others : List (List ℕ)} (so_far : ReadSoFar size old now items len)
-    → now.lines ≡ line ∷ others → HoldsItems now.number line here → (size ≤ len → EndsTranslation items → BeginsAnew here → ⊥) → CanEnd size old so_far.read.count → ⊥
+no_end : {size len : ℕ} {old now : LinesLeft} {items here : List TextItem} {line : List ℕ} {others : List (List ℕ)}
+    (so_far : ReadSoFar size old now items len)
+    → now.lines ≡ line ∷ others → HoldsItems now.number line here
+    → (size ≤ len → EndsTranslation items → BeginsAnew here → ⊥) → CanEnd size old so_far.read.count → ⊥
 no_end {size} {old = old} so_far e spelt none can =
     let read = so_far.read in
     let items = lines_once old.number (take read.count old.lines) can.spelt read.spelt in
     let anew = subst (LineBeginsAnew (old.number + read.count)) (next_line read e) can.anew in
     let same = line_once anew.1 (here_spelt read spelt) in
-    none (subst (λ (l : ℕ). size ≤ l) (sym so_far.len_is) can.large) (subst EndsTranslation items can.ends) (subst BeginsAnew same anew.2)
+    none (subst (λ (l : ℕ). size ≤ l) (sym so_far.len_is) can.large) (subst EndsTranslation items can.ends)
+    (subst BeginsAnew same anew.2)
 
 -- a line more is read
-pub read_on : {size len : ℕ} {old now : LinesLeft} {items here : List TextItem} {line : List ℕ} {others : List (List ℕ)} → ReadSoFar size old now items len
-    → now.lines ≡ line ∷ others → HoldsItems now.number line here → (size ≤ len → EndsTranslation items → BeginsAnew here → ⊥)
+pub read_on : {size len : ℕ} {old now : LinesLeft} {items here : List TextItem} {line : List ℕ} {others : List (List ℕ)}
+    → ReadSoFar size old now items len
+    → now.lines ≡ line ∷ others → HoldsItems now.number line here
+    → (size ≤ len → EndsTranslation items → BeginsAnew here → ⊥)
     → ReadSoFar size old (record { number = now.number + 1; lines = others }) (items ++ here) (len + (length line + 1))
-read_on {size} {old = old} {now = now} {items = items} {here = here} {line = line} {others = others} so_far e spelt none =
+read_on {size} {old = old} {now = now} {items = items} {here = here} {line = line}
+    {others = others} so_far e spelt none =
     let read = so_far.read in
     let next = next_line read e in
     let number : now.number ≡ old.number + read.count = ap (λ (left : LinesLeft). left.number) read.rest in
@@ -202,53 +271,76 @@ read_on {size} {old = old} {now = now} {items = items} {here = here} {line = lin
         count = suc read.count;
         within = some_line read.count old.lines line others next;
         rest = rw (counted, ← drop_rest read.count old.lines line others next) refl;
-        spelt = spelt_more read.count old.number old.lines line others items here read.spelt next (here_spelt read spelt);
+        spelt = spelt_more read.count old.number old.lines line others items here read.spelt next
+            (here_spelt read spelt);
         fewest = λ fewer less can.
             elim (cases_lt fewer read.count) [
               | inl before ↦ read.fewest fewer before can
-              | inr last ↦ let same : fewer ≡ read.count = omega arith in no_end so_far e spelt none (subst (CanEnd size old) same can)
+              | inr last ↦ let same : fewer ≡ read.count =
+                  omega arith in no_end so_far e spelt none (subst (CanEnd size old) same can)
             ];
       };
       len_is = omega (arith, len_more read.count old.lines line others next, so_far.len_is);
     }
 
 -- a piece ends before a line that begins anew
-pub ended_before : {size len : ℕ} {old now : LinesLeft} {items here : List TextItem} {line : List ℕ} {others : List (List ℕ)} → ReadSoFar size old now items len
-    → now.lines ≡ line ∷ others → HoldsItems now.number line here → size ≤ len → EndsTranslation items → BeginsAnew here → IsPiece size old now items
-ended_before {size} {old = old} {items = items} {here = here} so_far e spelt large ends anew = let read = so_far.read in record {
-  read = read;
-  ends = inr (record {
-    large = subst (λ (l : ℕ). size ≤ l) so_far.len_is large;
-    items = items;
-    spelt = read.spelt;
-    ends = ends;
-    anew = subst (LineBeginsAnew (old.number + read.count)) (sym (next_line read e)) (here, here_spelt read spelt, anew);
-  });
-}
+pub ended_before : {size len : ℕ} {old now : LinesLeft} {items here : List TextItem} {line : List ℕ}
+    {others : List (List ℕ)} → ReadSoFar size old now items len
+    → now.lines ≡ line ∷ others → HoldsItems now.number line here → size ≤ len → EndsTranslation items → BeginsAnew here
+    → IsPiece size old now items
+ended_before {size} {old = old} {items = items} {here = here} so_far e spelt large ends anew = let read =
+    so_far.read in record {
+      read = read;
+      ends = inr (record {
+        large = subst (λ (l : ℕ). size ≤ l) so_far.len_is large;
+        items = items;
+        spelt = read.spelt;
+        ends = ends;
+        anew = subst (LineBeginsAnew (old.number + read.count)) (sym (next_line read e))
+            (here, here_spelt read spelt, anew);
+      });
+    }
 
 -- the fault of the line that is read next
-pub line_stops : {size : ℕ} {old now : LinesLeft} {items : List TextItem} {line : List ℕ} {others : List (List ℕ)} {fault : PoFault} → HasRead size old now items → now.lines ≡ line ∷ others → LineFault line fault → LeftStops old fault now.number
+pub line_stops : {size : ℕ} {old now : LinesLeft} {items : List TextItem} {line : List ℕ} {others : List (List ℕ)}
+    {fault : PoFault} → HasRead size old now items → now.lines ≡ line ∷ others → LineFault line fault
+    → LeftStops old fault now.number
 line_stops {old = old} {now = now} {items = items} {fault = fault} read e stops =
     let number : now.number ≡ old.number + read.count = ap (λ (left : LinesLeft). left.number) read.rest in
-    stops_after read.count old.number old.lines items fault now.number read.spelt (subst (λ (lines : List (List ℕ)). LinesStop (old.number + read.count) lines fault now.number) (sym (next_line read e)) (inl (stops, number)))
+    stops_after read.count old.number old.lines items fault now.number read.spelt
+    (subst (λ (lines : List (List ℕ)). LinesStop (old.number + read.count) lines fault now.number)
+    (sym (next_line read e)) (inl (stops, number)))
 
 -- what is left of lines of a text
-pub of_text_after : (count : ℕ) (left : LinesLeft) → AreOfText left → count ≤ length left.lines → AreOfText (left_after left count)
+pub of_text_after : (count : ℕ) (left : LinesLeft) → AreOfText left → count ≤ length left.lines
+    → AreOfText (left_after left count)
 of_text_after count left h within = record {
   clean = All-drop IsCleanLine count left.lines h.clean;
-  small = omega (arith, h.small, count_le count left.lines within, sum_by-take-drop (λ (l : List ℕ). length l + 1) left.lines count);
+  small = omega (
+    arith,
+    h.small,
+    count_le count left.lines within,
+    sum_by-take-drop (λ (l : List ℕ). length l + 1) left.lines count,
+  );
 } where
   count_le : (count : ℕ) (lines : List (List ℕ)) → count ≤ length lines → count ≤ lines_len (take count lines)
   count_le zero lines h = omega arith
   count_le (suc count) [] h = absurd (omega arith)
-  count_le (suc count) (line ∷ lines) h = omega (arith, count_le count lines (omega arith), sum_by-cons (λ (l : List ℕ). length l + 1) line (take count lines))
+  count_le (suc count) (line ∷ lines) h =
+      omega (
+        arith,
+        count_le count lines (omega arith),
+        sum_by-cons (λ (l : List ℕ). length l + 1) line (take count lines),
+      )
 
 -- what is left of a text that is read
-pub read_of_text : {size : ℕ} {old now : LinesLeft} {items : List TextItem} → HasRead size old now items → AreOfText old → AreOfText now
+pub read_of_text : {size : ℕ} {old now : LinesLeft} {items : List TextItem} → HasRead size old now items → AreOfText old
+    → AreOfText now
 read_of_text {old = old} read h = subst AreOfText (sym read.rest) (of_text_after read.count old h read.within)
 
 -- a piece above 2 ^ 31 bytes is all that is left
-pub piece_whole : {size : ℕ} {old new : LinesLeft} {items : List TextItem} → IsPiece size old new items → AreOfText old → 2 ^ 31 < size → new.lines ≡ []
+pub piece_whole : {size : ℕ} {old new : LinesLeft} {items : List TextItem} → IsPiece size old new items → AreOfText old
+    → 2 ^ 31 < size → new.lines ≡ []
 piece_whole {size} {old} {new} piece h large = ended piece.ends where
   some_next : (number : ℕ) (lines : List (List ℕ)) → LineBeginsAnew number lines → 0 < lines_len lines
   some_next number [] anew = absurd anew
@@ -258,45 +350,67 @@ piece_whole {size} {old} {new} piece h large = ended piece.ends where
   ended (inl over) = over
   ended (inr can) =
       let next = some_next (old.number + piece.read.count) (drop piece.read.count old.lines) can.anew in
-      absurd (omega (arith, can.large, h.small, next, sum_by-take-drop (λ (l : List ℕ). length l + 1) old.lines piece.read.count))
+      absurd (omega (
+        arith,
+        can.large,
+        h.small,
+        next,
+        sum_by-take-drop (λ (l : List ℕ). length l + 1) old.lines piece.read.count,
+      ))
 
-pub piece_hold : {size : ℕ} {old new : LinesLeft} {items : List TextItem} → IsPiece size old new items → AreOfText old → All HoldsText items
-piece_hold {size} {old} {new} {items} piece h = lines_texts old.number (take piece.read.count old.lines) items piece.read.spelt (All-take IsCleanLine piece.read.count old.lines h.clean)
+pub piece_hold : {size : ℕ} {old new : LinesLeft} {items : List TextItem} → IsPiece size old new items → AreOfText old
+    → All HoldsText items
+piece_hold {size} {old} {new} {items} piece h =
+    lines_texts old.number (take piece.read.count old.lines) items piece.read.spelt
+    (All-take IsCleanLine piece.read.count old.lines h.clean)
 
-pub piece_few : {size : ℕ} {old new : LinesLeft} {items : List TextItem} → IsPiece size old new items → AreOfText old → length items ≤ 2 ^ 31
-piece_few {size} {old} {new} {items} piece h = few (take piece.read.count old.lines) piece.read.spelt (sum_by-take-le (λ (l : List ℕ). length l + 1) old.lines piece.read.count) where
-  few : (lines : List (List ℕ)) → SpellsLines old.number lines items → lines_len lines ≤ lines_len old.lines → length items ≤ 2 ^ 31
-  few [] spelt le = omega (arith, ap length spelt)
-  few (line ∷ lines) spelt le = omega (arith, lines-few old.number (line ∷ lines) items spelt, h.small)
+pub piece_few : {size : ℕ} {old new : LinesLeft} {items : List TextItem} → IsPiece size old new items → AreOfText old
+    → length items ≤ 2 ^ 31
+piece_few {size} {old} {new} {items} piece h =
+    few (take piece.read.count old.lines) piece.read.spelt
+    (sum_by-take-le (λ (l : List ℕ). length l + 1) old.lines piece.read.count) where
+      few : (lines : List (List ℕ)) → SpellsLines old.number lines items → lines_len lines ≤ lines_len old.lines
+          → length items ≤ 2 ^ 31
+      few [] spelt le = omega (arith, ap length spelt)
+      few (line ∷ lines) spelt le = omega (arith, lines-few old.number (line ∷ lines) items spelt, h.small)
 
 -- what is left after a piece, in what was left before
-pub piece_spelt : (size : ℕ) (old new : LinesLeft) (items more : List TextItem) → IsPiece size old new items → SpellsLeft new more → SpellsLeft old (items ++ more)
+pub piece_spelt : (size : ℕ) (old new : LinesLeft) (items more : List TextItem) → IsPiece size old new items
+    → SpellsLeft new more → SpellsLeft old (items ++ more)
 piece_spelt size old new items more piece h =
-    joined_after piece.read.count old.number old.lines items more piece.read.spelt (subst (λ (left : LinesLeft). SpellsLeft left more) piece.read.rest h)
+    joined_after piece.read.count old.number old.lines items more piece.read.spelt
+    (subst (λ (left : LinesLeft). SpellsLeft left more) piece.read.rest h)
 
 -- where no line is left after a piece, what was left before spells its items
-pub piece_all : (size : ℕ) (old new : LinesLeft) (items : List TextItem) → IsPiece size old new items → new.lines ≡ [] → SpellsLeft old items
+pub piece_all : (size : ℕ) (old new : LinesLeft) (items : List TextItem) → IsPiece size old new items → new.lines ≡ []
+    → SpellsLeft old items
 piece_all size old new items piece over =
-    let nothing : SpellsLeft new [] = subst (λ (lines : List (List ℕ)). SpellsLines new.number lines []) (sym over) refl in
+    let nothing : SpellsLeft new [] =
+    subst (λ (lines : List (List ℕ)). SpellsLines new.number lines []) (sym over) refl in
     rw append-nil at (piece_spelt size old new items [] piece nothing)
 
-pub piece_stops : (size : ℕ) (old new : LinesLeft) (items : List TextItem) (fault : PoFault) (line : ℕ) → IsPiece size old new items → LeftStops new fault line → LeftStops old fault line
+pub piece_stops : (size : ℕ) (old new : LinesLeft) (items : List TextItem) (fault : PoFault) (line : ℕ)
+    → IsPiece size old new items → LeftStops new fault line → LeftStops old fault line
 piece_stops size old new items fault line piece h =
-    stops_after piece.read.count old.number old.lines items fault line piece.read.spelt (subst (λ (left : LinesLeft). LeftStops left fault line) piece.read.rest h)
+    stops_after piece.read.count old.number old.lines items fault line piece.read.spelt
+    (subst (λ (left : LinesLeft). LeftStops left fault line) piece.read.rest h)
 
 -- items that end a translation end in a string
 ends_in_string : (before : ℕ) (items : List TextItem) → IsTranslation (drop before items) → EndsInString items
 ends_in_string zero [] is = tt
 ends_in_string zero (word ∷ strings) is = after word strings is.1 is.2 where
-  after : (item : TextItem) (strings : List TextItem) → strings ≢ [] → All IsString strings → EndsInString (item ∷ strings)
+  after : (item : TextItem) (strings : List TextItem) → strings ≢ [] → All IsString strings
+      → EndsInString (item ∷ strings)
   after item [] some all = absurd (some refl)
   after item (string ∷ []) some all = All-head IsString string [] all
-  after item (string ∷ next ∷ strings) some all = after string (next ∷ strings) (λ e. absurd (cc)) (All-tail IsString string (next ∷ strings) all)
+  after item (string ∷ next ∷ strings) some all =
+      after string (next ∷ strings) (λ e. absurd (cc)) (All-tail IsString string (next ∷ strings) all)
 ends_in_string (suc before) [] is = tt
 ends_in_string (suc before) (item ∷ []) is = absurd (subst IsTranslation (drop_all before [] (omega arith)) is)
 ends_in_string (suc before) (item ∷ next ∷ items) is = ends_in_string before (next ∷ items) is
 
-pub piece_ends : (size : ℕ) (old new : LinesLeft) (items : List TextItem) → IsPiece size old new items → (new.lines ≡ []) ⊎ EndsInString items
+pub piece_ends : (size : ℕ) (old new : LinesLeft) (items : List TextItem) → IsPiece size old new items
+    → (new.lines ≡ []) ⊎ EndsInString items
 piece_ends size old new items piece = ended piece.ends where
   ended : (new.lines ≡ []) ⊎ CanEnd size old piece.read.count → (new.lines ≡ []) ⊎ EndsInString items
   ended (inl over) = inl over
@@ -305,7 +419,8 @@ piece_ends size old new items piece = ended piece.ends where
       inr (subst EndsInString same (ends_in_string can.ends.0 can.items can.ends.1))
 
 -- where the items of a line begin anew, so does whatever the lines from it on spell
-line_anew : (number : ℕ) (lines : List (List ℕ)) (item : TextItem) (items : List TextItem) → LineBeginsAnew number lines → SpellsLines number lines (item ∷ items) → IsNew item
+line_anew : (number : ℕ) (lines : List (List ℕ)) (item : TextItem) (items : List TextItem) → LineBeginsAnew number lines
+    → SpellsLines number lines (item ∷ items) → IsNew item
 line_anew number [] item items anew h = absurd anew
 line_anew number (line ∷ lines) item items anew h = first anew.0 anew.2 (line_once anew.1 h.2) where
   first : (here : List TextItem) → BeginsAnew here → here ≡ h.0 → IsNew item
@@ -317,17 +432,29 @@ line_anew number (line ∷ lines) item items anew h = first anew.0 anew.2 (line_
 pub piece_anew : (size : ℕ) (old new : LinesLeft) (items : List TextItem) → IsPiece size old new items → LeftAnew new
 piece_anew size old new items piece item more h = ended piece.ends where
   ended : (new.lines ≡ []) ⊎ CanEnd size old piece.read.count → IsNew item
-  ended (inl over) = let none : item ∷ more ≡ [] = subst (λ (lines : List (List ℕ)). SpellsLines new.number lines (item ∷ more)) over h in absurd (cc)
-  ended (inr can) = line_anew (old.number + piece.read.count) (drop piece.read.count old.lines) item more can.anew (subst (λ (left : LinesLeft). SpellsLeft left (item ∷ more)) piece.read.rest h)
+  ended (inl over) = let none : item ∷ more ≡ [] =
+      subst (λ (lines : List (List ℕ)). SpellsLines new.number lines (item ∷ more)) over h in absurd (cc)
+  ended (inr can) = line_anew (old.number + piece.read.count) (drop piece.read.count old.lines) item more can.anew
+      (subst (λ (left : LinesLeft). SpellsLeft left (item ∷ more)) piece.read.rest h)
 
-pub piece_shorter : (size : ℕ) (old new : LinesLeft) (items : List TextItem) → IsPiece size old new items → old.lines ≢ [] → length new.lines < length old.lines
+pub piece_shorter : (size : ℕ) (old new : LinesLeft) (items : List TextItem) → IsPiece size old new items
+    → old.lines ≢ [] → length new.lines < length old.lines
 piece_shorter size old new items piece some = ended piece.ends where
-  counted : (count : ℕ) (others : List TextItem) → SpellsLines old.number (take count old.lines) others → EndsTranslation others → 0 < count
-  counted zero others spelt ends = absurd (subst IsTranslation (drop_all ends.0 [] (omega arith)) (subst (λ (x : List TextItem). IsTranslation (drop ends.0 x)) spelt ends.1))
+  counted : (count : ℕ) (others : List TextItem) → SpellsLines old.number (take count old.lines) others
+      → EndsTranslation others → 0 < count
+  counted zero others spelt ends =
+      absurd (subst IsTranslation (drop_all ends.0 [] (omega arith))
+      (subst (λ (x : List TextItem). IsTranslation (drop ends.0 x)) spelt ends.1))
   counted (suc count) others spelt ends = omega arith
 
   ended : (new.lines ≡ []) ⊎ CanEnd size old piece.read.count → length new.lines < length old.lines
   ended (inl over) = rw over (some_length old.lines some)
   ended (inr can) =
       let length_is = ap (λ (left : LinesLeft). length left.lines) piece.read.rest in
-      omega (arith, length_is, length-drop piece.read.count old.lines, counted piece.read.count can.items can.spelt can.ends, some_length old.lines some)
+      omega (
+        arith,
+        length_is,
+        length-drop piece.read.count old.lines,
+        counted piece.read.count can.items can.spelt can.ends,
+        some_length old.lines some,
+      )

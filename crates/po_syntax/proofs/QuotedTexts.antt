@@ -25,24 +25,32 @@ one_shown : (most b : ℕ) → Shown most b → All (Shown most) (b ∷ [])
 one_shown most b shown = All-cons (Shown most) b [] shown (none_shown most)
 
 -- a backslash and three digits
-escape_shown : (most : ℕ) → 128 ≤ most → (x y z : ℕ) → 32 ≤ x → x < 128 → 32 ≤ y → y < 128 → 32 ≤ z → z < 128 → All (Shown most) (92 ∷ x ∷ y ∷ z ∷ [])
+escape_shown : (most : ℕ) → 128 ≤ most → (x y z : ℕ) → 32 ≤ x → x < 128 → 32 ≤ y → y < 128 → 32 ≤ z → z < 128
+    → All (Shown most) (92 ∷ x ∷ y ∷ z ∷ [])
 escape_shown most bound x y z a b c d e f =
-    All-cons (Shown most) 92 (x ∷ y ∷ z ∷ []) (omega arith, omega arith) (All-cons (Shown most) x (y ∷ z ∷ []) (a, omega arith) (All-cons (Shown most) y (z ∷ []) (c, omega arith) (one_shown most z (e, omega arith))))
+    All-cons (Shown most) 92 (x ∷ y ∷ z ∷ []) (omega arith, omega arith)
+    (All-cons (Shown most) x (y ∷ z ∷ []) (a, omega arith)
+    (All-cons (Shown most) y (z ∷ []) (c, omega arith) (one_shown most z (e, omega arith))))
 
 -- what is written for a byte, or an ASCII byte
 written_shown : (most : ℕ) → 128 ≤ most → {b : ℕ} {text : List ℕ} → b < most → WritesByte b text → All (Shown most) text
 written_shown most bound {b} less (letter {letter = l} e) =
     let range = of_each_byte (λ _ key. (32 ≤ key) × (key < 128)) b l (search (rules, arith)) e in
     All-cons (Shown most) 92 (l ∷ []) (omega arith, omega arith) (one_shown most l (range.0, omega arith))
-written_shown most bound less delete = escape_shown most bound 49 55 55 (omega arith) (omega arith) (omega arith) (omega arith) (omega arith) (omega arith)
-written_shown most bound {b} less (control low none) = escape_shown most bound 48 (48 + b / 8) (48 + b % 8) (omega arith) (omega arith) (omega arith) (omega arith) (omega arith) (omega arith)
+written_shown most bound less delete =
+    escape_shown most bound 49 55 55 (omega arith) (omega arith) (omega arith) (omega arith) (omega arith) (omega arith)
+written_shown most bound {b} less (control low none) =
+    escape_shown most bound 48 (48 + b / 8) (48 + b % 8) (omega arith) (omega arith) (omega arith) (omega arith)
+    (omega arith) (omega arith)
 written_shown most bound {b} less (plain high none no_delete) = one_shown most b (high, less)
 
 -- bytes that are no control bytes
 bytes_shown : (bytes : List ℕ) → All (λ b. b < 256) bytes → All (Shown 256) (written_bytes bytes)
 bytes_shown [] h = none_shown 256
 bytes_shown (b ∷ bytes) h =
-    All-append (Shown 256) (written_byte b) (written_bytes bytes) (written_shown 256 (omega arith) (All-head (λ c. c < 256) b bytes h) (byte_written b)) (bytes_shown bytes (All-tail (λ c. c < 256) b bytes h))
+    All-append (Shown 256) (written_byte b) (written_bytes bytes)
+    (written_shown 256 (omega arith) (All-head (λ c. c < 256) b bytes h) (byte_written b))
+    (bytes_shown bytes (All-tail (λ c. c < 256) b bytes h))
 
 ascii_from_shown : (bytes : List ℕ) → All (Shown 128) bytes → IsAscii bytes
 ascii_from_shown [] h = λ k. omega arith
@@ -51,20 +59,31 @@ ascii_from_shown (b ∷ bytes) h =
 
 raw_high : (b : ℕ) → 128 ≤ b → is_raw b ≡ true
 raw_high b h =
-    rw (le-ltb b 32 (omega arith), ne_eqb b 127 (λ same. omega arith), ne_eqb b 34 (λ same. omega arith), ne_eqb b 92 (λ same. omega arith))
+    rw (
+      le-ltb b 32 (omega arith),
+      ne_eqb b 127 (λ same. omega arith),
+      ne_eqb b 34 (λ same. omega arith),
+      ne_eqb b 92 (λ same. omega arith),
+    )
 
 -- a byte of a character above ASCII
 high_byte : (c k : ℕ) → 128 ≤ c → k < length (encode c) → 128 ≤ get_or (encode c) k 0
 high_byte c k high inside =
-    elim (cases_lt (get_or (encode c) k 0) 128) [ inl low ↦ absurd (omega (arith, inside_one c [] (encode c) k (sym (append-nil (encode c))) inside low)) | inr above ↦ above ]
+    elim (cases_lt (get_or (encode c) k 0) 128) [
+      | inl low ↦ absurd (omega (arith, inside_one c [] (encode c) k (sym (append-nil (encode c))) inside low))
+      | inr
+          above ↦ above
+    ]
 
 -- what is written for a character
 char_written : (c : ℕ) → scalar c ≡ true → IsUtf8 (written_bytes (encode c))
 char_written c is =
     elim (cases_lt c 128) [
-      | inl low ↦ rw (encode_ascii c low, append-nil) (IsUtf8-from_ascii _ (ascii_from_shown _ (written_shown 128 (omega arith) low (byte_written c))))
+      | inl low ↦ rw (encode_ascii c low, append-nil)
+          (IsUtf8-from_ascii _ (ascii_from_shown _ (written_shown 128 (omega arith) low (byte_written c))))
       | inr high ↦
-          let run = written_run (length (encode c)) (encode c) (λ k inside. raw_high _ (high_byte c k high inside)) (omega arith) in
+          let run = written_run (length (encode c)) (encode c) (λ k inside. raw_high _ (high_byte c k high inside))
+          (omega arith) in
           let same = rw (take_all (length (encode c)) (encode c) (omega arith)) at run in
           rw same (c ∷ [], (rw is refl, append-nil (encode c)))
     ]
@@ -73,15 +92,18 @@ chars_written : (cs : List ℕ) → scalars cs ≡ true → IsUtf8 (written_byte
 chars_written [] h = IsUtf8-nil
 chars_written (c ∷ cs) h =
     let parts = and_parts (scalar c) (scalars cs) h in
-    rw (flat_map-append written_byte (encode c) (encodes cs)) (IsUtf8-append _ _ (char_written c parts.0) (chars_written cs parts.1))
+    rw (flat_map-append written_byte (encode c) (encodes cs))
+    (IsUtf8-append _ _ (char_written c parts.0) (chars_written cs parts.1))
 
 quote_utf8 : IsUtf8 (34 ∷ [])
 quote_utf8 = IsUtf8-from_ascii (34 ∷ []) (IsAscii-cons 34 [] (omega arith) (λ k. omega arith))
 
 pub quoted_utf8 : (bytes : List ℕ) → IsUtf8 bytes → IsUtf8 (quoted bytes)
 quoted_utf8 bytes h =
-    let written : IsUtf8 (written_bytes bytes) = subst (λ text. IsUtf8 (written_bytes text)) h.1.1 (chars_written h.0 h.1.0) in
-    IsUtf8-append (34 ∷ []) (written_bytes bytes ++ 34 ∷ []) quote_utf8 (IsUtf8-append (written_bytes bytes) (34 ∷ []) written quote_utf8)
+    let written : IsUtf8 (written_bytes bytes) =
+    subst (λ text. IsUtf8 (written_bytes text)) h.1.1 (chars_written h.0 h.1.0) in
+    IsUtf8-append (34 ∷ []) (written_bytes bytes ++ 34 ∷ []) quote_utf8
+    (IsUtf8-append (written_bytes bytes) (34 ∷ []) written quote_utf8)
 
 pub quoted_shown : (bytes : List ℕ) → All (λ b. b < 256) bytes → All (λ b. 32 ≤ b) (quoted bytes)
 quoted_shown bytes h =

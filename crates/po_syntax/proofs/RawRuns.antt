@@ -14,7 +14,18 @@ written_raw b raw =
     let low = or_parts (nat_lt b 32) (b == 127) control.0 in
     let above : 32 ≤ b = ltb-false b 32 low.0 in
     let differs : (k : ℕ) → k < 32 → (b == k) ≡ false = λ k less. ne_eqb b k (λ same. omega arith) in
-    rw (differs 7 (omega arith), differs 8 (omega arith), differs 9 (omega arith), differs 10 (omega arith), differs 11 (omega arith), differs 12 (omega arith), differs 13 (omega arith), control.1, escaped.1, control.0)
+    rw (
+      differs 7 (omega arith),
+      differs 8 (omega arith),
+      differs 9 (omega arith),
+      differs 10 (omega arith),
+      differs 11 (omega arith),
+      differs 12 (omega arith),
+      differs 13 (omega arith),
+      control.1,
+      escaped.1,
+      control.0,
+    )
 
 -- none of the first n bytes of the text needs an escape
 abbrev pub AreRaw : ℕ → List ℕ → Type 0
@@ -26,12 +37,15 @@ written_run (suc n) [] raw within = absurd (omega arith)
 written_run (suc n) (b ∷ text) raw within =
     rw (written_raw b (raw 0 (omega arith)), written_run n text (λ k less. raw (suc k) (omega arith)) (omega arith))
 
-pub written_prefix : (text : List ℕ) → written_bytes (take (prefix_len is_raw text) text) ≡ take (prefix_len is_raw text) text
+pub written_prefix : (text : List ℕ)
+    → written_bytes (take (prefix_len is_raw text) text) ≡ take (prefix_len is_raw text) text
 written_prefix text =
-    written_run (prefix_len is_raw text) text (λ k less. prefix_len_passes is_raw text k 0 less) (prefix_len-le-length is_raw text)
+    written_run (prefix_len is_raw text) text (λ k less. prefix_len_passes is_raw text k 0 less)
+    (prefix_len-le-length is_raw text)
 
 -- bytes that are all written as they are, and further ones
-pub raw_append : (xs ys : List ℕ) → prefix_len is_raw xs ≡ length xs → prefix_len is_raw (xs ++ ys) ≡ length xs + prefix_len is_raw ys
+pub raw_append : (xs ys : List ℕ) → prefix_len is_raw xs ≡ length xs
+    → prefix_len is_raw (xs ++ ys) ≡ length xs + prefix_len is_raw ys
 raw_append [] ys h = omega arith
 raw_append (x ∷ xs) ys h = found (is_raw x) h (raw_append xs ys) where
   found : (b : Bool) → cond b (1 + prefix_len is_raw xs) 0 ≡ suc (length xs)
@@ -43,7 +57,9 @@ raw_append (x ∷ xs) ys h = found (is_raw x) h (raw_append xs ys) where
   found false e more = absurd (omega (arith, e))
 
 -- one byte more of them
-pub raw_more : (xs : List ℕ) (i d : ℕ) → i < length xs → prefix_len is_raw (take i xs) ≡ length (take i xs) → is_raw (get_or xs i d) ≡ true → prefix_len is_raw (take (i + 1) xs) ≡ length (take (i + 1) xs)
+pub raw_more : (xs : List ℕ) (i d : ℕ) → i < length xs → prefix_len is_raw (take i xs) ≡ length (take i xs)
+    → is_raw (get_or xs i d) ≡ true → prefix_len is_raw (take (i + 1) xs) ≡ length (take (i + 1) xs)
 raw_more xs i d below h raw =
     subst (λ (l : List ℕ). prefix_len is_raw l ≡ length l) (sym (take_more xs i d below))
-    (raw_append (take i xs) (get_or xs i d ∷ []) h ∙ ap (λ (b : Bool). length (take i xs) + cond b 1 0) raw ∙ sym (length_push (take i xs) (get_or xs i d)))
+    (raw_append (take i xs) (get_or xs i d ∷ []) h ∙ ap (λ (b : Bool). length (take i xs) + cond b 1 0) raw
+    ∙ sym (length_push (take i xs) (get_or xs i d)))

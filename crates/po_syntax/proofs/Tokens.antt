@@ -20,7 +20,8 @@ keyword_rest (form before inside digits after p q numeral fits r) =
     (codes "msgstr" ++ (before ++ 91 ∷ (inside ++ (digits ++ (after ++ 93 ∷ [])))), simp append_assoc, omega arith)
 
 pub rest_shorter : {text rest : List ℕ} {word : Keyword} → SpellsKeyword text word rest → length rest < length text
-rest_shorter {rest = rest} spelt = let own = keyword_rest spelt in omega (arith, ap length own.1, length-append own.0 rest)
+rest_shorter {rest = rest} spelt = let own =
+    keyword_rest spelt in omega (arith, ap length own.1, length-append own.0 rest)
 
 says : (text : List ℕ) {token : Token} → token_at text ≡ token → TokenSays (skip_blanks text) token
 says text e = subst (TokenSays (skip_blanks text)) e (first_says (skip_blanks text))
@@ -28,8 +29,10 @@ says text e = subst (TokenSays (skip_blanks text)) e (first_says (skip_blanks te
 skipped-le : (text : List ℕ) → length (skip_blanks text) ≤ length text
 skipped-le text = omega (arith, length-drop (prefix_len is_blank text) text)
 
-pub keyword-shorter : (text : List ℕ) {keyword : Keyword} {rest : List ℕ} → token_at text ≡ KeywordToken keyword rest → length rest < length text
+pub keyword-shorter : (text : List ℕ) {keyword : Keyword} {rest : List ℕ} → token_at text ≡ KeywordToken keyword rest
+    → length rest < length text
 keyword-shorter text e = omega (arith, skipped-le text, rest_shorter (says text e))
 
-pub quote-shorter : (text : List ℕ) {inside : List ℕ} → token_at text ≡ OpeningQuote inside → length inside < length text
+pub quote-shorter : (text : List ℕ) {inside : List ℕ} → token_at text ≡ OpeningQuote inside
+    → length inside < length text
 quote-shorter text e = omega (arith, skipped-le text, ap length (says text e))

@@ -28,7 +28,8 @@ control_writes b none is = by (nat_lt b 32) refl is where
 pub byte_written : (b : ℕ) → WritesByte b (written_byte b)
 unfolding written_byte
 byte_written b = by (escape_letter b) refl where
-  by : (found : Option ℕ) → escape_letter b ≡ found → WritesByte b (option_map_or (λ l. 92 ∷ l ∷ []) found (if is_control b then octal_escape b else b ∷ []))
+  by : (found : Option ℕ) → escape_letter b ≡ found
+      → WritesByte b (option_map_or (λ l. 92 ∷ l ∷ []) found (if is_control b then octal_escape b else b ∷ []))
   by (Some l) e = letter e
   by None e =
       cond_both (is_control b) (octal_escape b) (b ∷ []) (WritesByte b) (control_writes b e) (λ no_control.
@@ -37,7 +38,9 @@ byte_written b = by (escape_letter b) refl where
 
 string_written : (bytes : List ℕ) → WritesString bytes (written_bytes bytes ++ 34 ∷ [])
 string_written [] = closing_quote
-string_written (b ∷ bytes) = subst (WritesString (b ∷ bytes)) (sym (append_assoc (written_byte b) (written_bytes bytes) (34 ∷ []))) (byte (byte_written b) (string_written bytes))
+string_written (b ∷ bytes) =
+    subst (WritesString (b ∷ bytes)) (sym (append_assoc (written_byte b) (written_bytes bytes) (34 ∷ [])))
+    (byte (byte_written b) (string_written bytes))
 
 pub quoted_written : (bytes : List ℕ) → WritesQuoted bytes (quoted bytes)
 quoted_written bytes = (written_bytes bytes ++ 34 ∷ [], refl, string_written bytes)
@@ -51,7 +54,12 @@ byte_at_most (plain low none no_delete) = lit≤ tt
 bytes_at_most : (bytes : List ℕ) → length (written_bytes bytes) ≤ 4 * length bytes
 bytes_at_most [] = lit≤ tt
 bytes_at_most (b ∷ bytes) =
-    omega (arith, byte_at_most (byte_written b), bytes_at_most bytes, length-append (written_byte b) (written_bytes bytes))
+    omega (
+      arith,
+      byte_at_most (byte_written b),
+      bytes_at_most bytes,
+      length-append (written_byte b) (written_bytes bytes),
+    )
 
 pub quoted_at_most : (bytes : List ℕ) → length (quoted bytes) ≤ 4 * length bytes + 2
 quoted_at_most bytes = omega (arith, bytes_at_most bytes, length-append (written_bytes bytes) (34 ∷ []))

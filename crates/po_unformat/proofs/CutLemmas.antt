@@ -21,7 +21,8 @@ module _ (byte : ℕ) where
 
   no_such : (text : List ℕ) → Lacks byte text → All (λ b. is b ≡ false) text
   no_such text lacks =
-      All-weaker (λ b. b ≢ byte) (λ b. is b ≡ false) (λ b other. false_from_ne_true (is b) (λ e. other ((Decides-eqb b byte).0 e))) text lacks
+      All-weaker (λ b. b ≢ byte) (λ b. is b ≡ false)
+      (λ b other. false_from_ne_true (is b) (λ e. other ((Decides-eqb b byte).0 e))) text lacks
 
   module _ (before after : List ℕ) (lacks : Lacks byte before) where
     abbrev whole : List ℕ
@@ -36,7 +37,8 @@ module _ (byte : ℕ) where
     place : position_or_len is whole ≡ length before
     place =
         position_or_len_is is whole (length before) 0 (omega (arith, inside))
-        (λ k below. ap is (get_or_append_left before (byte ∷ after) 0 k below) ∙ no_such before lacks k 0 below) (λ _. at_place)
+        (λ k below. ap is (get_or_append_left before (byte ∷ after) 0 k below) ∙ no_such before lacks k 0 below)
+        (λ _. at_place)
 
     pub before_is : before_first is whole ≡ before
     before_is = ap (λ n. take n whole) place ∙ take-append_seam before (byte ∷ after)
@@ -56,7 +58,8 @@ module _ (byte : ℕ) where
   module _ (text : List ℕ) (lacks : Lacks byte text) where
     pub before_all : before_first is text ≡ text
     before_all =
-        ap (λ n. take n text) (position_or_len_is is text (length text) 0 (omega arith) (λ k below. no_such text lacks k 0 below) (λ past. absurd (omega (arith, past))))
+        ap (λ n. take n text) (position_or_len_is is text (length text) 0 (omega arith)
+        (λ k below. no_such text lacks k 0 below) (λ past. absurd (omega (arith, past))))
         ∙ take_all (length text) text (omega arith)
 
     pub none_such : list_any is text ≡ false
@@ -69,7 +72,8 @@ module _ (context id : List ℕ) (lacks : Lacks 4 context) where
   pub context_cut : context_of (context ++ 4 ∷ id) ≡ Some context
   context_cut =
       let key = context ++ 4 ∷ id in
-      ap (λ t. cond t (Some (before_first is_eot key)) None) (some_such 4 context id lacks) ∙ ap Some (before_is 4 context id lacks)
+      ap (λ t. cond t (Some (before_first is_eot key)) None) (some_such 4 context id lacks)
+      ∙ ap Some (before_is 4 context id lacks)
 
   pub id_cut : id_of (context ++ 4 ∷ id) ≡ id
   id_cut =
@@ -106,25 +110,29 @@ module _ (done : List (Bor (List ℕ))) (piece : Bor (List ℕ)) (all : List (Li
   pushed = map_push (λ (s : Bor (List ℕ)). s.now) done piece
 
   -- a piece that is taken from the rest
-  pub more_pieces : (rest next : List ℕ) → rest ≡ piece.now ++ 0 ∷ next → Lacks 0 piece.now → slice_texts done ++ forms rest ≡ all
+  pub more_pieces : (rest next : List ℕ) → rest ≡ piece.now ++ 0 ∷ next → Lacks 0 piece.now
+      → slice_texts done ++ forms rest ≡ all
       → slice_texts (done ++ piece ∷ []) ++ forms next ≡ all
   more_pieces rest next is lacks so_far =
       ap (λ l. l ++ forms next) pushed ∙ append_assoc (slice_texts done) (piece.now ∷ []) (forms next)
       ∙ ap (λ l. slice_texts done ++ l) (sym (ap forms is ∙ split_cut 0 piece.now next lacks)) ∙ so_far
 
   -- the rest is the last piece
-  pub last_piece : Lacks 0 piece.now → slice_texts done ++ forms piece.now ≡ all → slice_texts (done ++ piece ∷ []) ≡ all
+  pub last_piece : Lacks 0 piece.now → slice_texts done ++ forms piece.now ≡ all
+      → slice_texts (done ++ piece ∷ []) ≡ all
   last_piece lacks so_far = pushed ∙ ap (λ l. slice_texts done ++ l) (sym (split_none 0 piece.now lacks)) ∙ so_far
 
 -- what is before the first NUL of a translation, and what is after it
 abbrev IsCut : List ℕ → Option (Bor (List ℕ) × Bor (List ℕ)) → Type 0
-IsCut text result = MatchOption result (Lacks 0 text) (λ parts. (text ≡ parts.0.now ++ 0 ∷ parts.1.now) × Lacks 0 parts.0.now)
+IsCut text result = MatchOption result (Lacks 0 text)
+    (λ parts. (text ≡ parts.0.now ++ 0 ∷ parts.1.now) × Lacks 0 parts.0.now)
 
 pub form_split : (text : List ℕ) (result : Option (Bor (List ℕ) × Bor (List ℕ))) → IsCut text result
     → MatchOption result (forms text ≡ text ∷ []) (λ parts. forms text ≡ parts.0.now ∷ forms parts.1.now)
 form_split text None lacks = split_none 0 text lacks
 form_split text (Some parts) is = ap forms is.0 ∙ split_cut 0 parts.0.now parts.1.now is.1
 
-pub rest_shorter : (text : List ℕ) (result : Option (Bor (List ℕ) × Bor (List ℕ))) → IsCut text result → IfSome result (λ parts. length parts.1.now < length text)
+pub rest_shorter : (text : List ℕ) (result : Option (Bor (List ℕ) × Bor (List ℕ))) → IsCut text result
+    → IfSome result (λ parts. length parts.1.now < length text)
 rest_shorter text None lacks = tt
 rest_shorter text (Some parts) is = omega (arith, ap length is.0, length-append parts.0.now (0 ∷ parts.1.now))

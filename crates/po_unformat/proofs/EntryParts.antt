@@ -26,14 +26,17 @@ cut byte [] = nowhere (All-nil (λ c. c ≢ byte))
 cut byte (b ∷ text) =
     let P : Bool → Type 0 = λ t. (b == byte) ≡ t → Cut byte (b ∷ text) in
     (elim (b == byte) as P [
-      | true ↦ λ same. subst (λ (x : ℕ). Cut byte (x ∷ text)) (sym ((Decides-eqb b byte).0 same)) (at [] text (All-nil (λ c. c ≢ byte)))
-      | false ↦ λ differ. cut_more byte b (λ e. let same : (b == byte) ≡ true = (Decides-eqb b byte).1 e in cc) (cut byte text)
+      | true ↦ λ same. subst (λ (x : ℕ). Cut byte (x ∷ text)) (sym ((Decides-eqb b byte).0 same))
+          (at [] text (All-nil (λ c. c ≢ byte)))
+      | false ↦ λ differ. cut_more byte b (λ e. let same : (b == byte) ≡ true = (Decides-eqb b byte).1 e in cc)
+          (cut byte text)
     ]) refl
 
 -- the msgid of a key
 msgid_of : (key : List ℕ) → Cut 4 key → ContainsMsgid key (context_of key) (id_of key)
 msgid_of key (nowhere lacks) = rw (context_none key lacks, id_all key lacks) (msgid_alone lacks)
-msgid_of key (at before after lacks) = rw (context_cut before after lacks, id_cut before after lacks) (after_context lacks)
+msgid_of key (at before after lacks) =
+    rw (context_cut before after lacks, id_cut before after lacks) (after_context lacks)
 
 -- the first part of a text, and what is after it
 record FirstPart (text : List ℕ) : Type 0 where
@@ -68,7 +71,8 @@ key_is original (nowhere lacks) = rw (before_all 0 original lacks, plural_none o
 key_is original (at before after lacks) =
     let first = first_part_of after (cut 0 after) in
     rw (before_is 0 before after lacks, plural_cut before after lacks first.part first.taken)
-    (subst (λ (t : List ℕ). ContainsKey (before ++ 0 ∷ t) before (Some first.part)) (sym first.is) (before_plural first.after lacks first.lacks first.ends))
+    (subst (λ (t : List ℕ). ContainsKey (before ++ 0 ∷ t) before (Some first.part)) (sym first.is)
+    (before_plural first.after lacks first.lacks first.ends))
 
 -- a text has a first part, and no part contains a NUL
 record Parts (text : List ℕ) : Type 0 where
@@ -86,26 +90,38 @@ parts_of (b ∷ text) =
     let inner = parts_of text in
     let P : Bool → Type 0 = λ t. is_nul b ≡ t → Parts (b ∷ text) in
     (elim (is_nul b) as P [
-      | true ↦ λ nul. record { first = []; others = inner.first ∷ inner.others; are = slice_split-cons_yes is_nul b text nul ∙ ap (λ l. [] ∷ l) inner.are; lack = All-cons (Lacks 0) [] (inner.first ∷ inner.others) empty inner.lack }
+      | true ↦ λ nul. record {
+        first = [];
+        others = inner.first ∷ inner.others;
+        are =
+            slice_split-cons_yes is_nul b text nul ∙ ap (λ l. [] ∷ l) inner.are;
+        lack =
+            All-cons (Lacks 0) [] (inner.first ∷ inner.others) empty inner.lack;
+      }
       | false ↦ λ other. record {
         first = b ∷ inner.first;
         others = inner.others;
         are = slice_split-cons_no is_nul b text other ∙ ap (onto_first b) inner.are;
         lack =
             let differs : b ≢ 0 = λ e. let same : is_nul b ≡ true = (Decides-eqb b 0).1 e in cc in
-            All-cons (Lacks 0) (b ∷ inner.first) inner.others (All-cons (λ c. c ≢ 0) b inner.first differs (All-head (Lacks 0) inner.first inner.others inner.lack))
+            All-cons (Lacks 0) (b ∷ inner.first) inner.others
+            (All-cons (λ c. c ≢ 0) b inner.first differs (All-head (Lacks 0) inner.first inner.others inner.lack))
             (All-tail (Lacks 0) inner.first inner.others inner.lack);
       }
     ]) refl
 
-forms_are : (plural : Option (List ℕ)) (translation : List ℕ) → ContainsForms translation plural (taken_forms plural (forms translation))
+forms_are : (plural : Option (List ℕ)) (translation : List ℕ)
+    → ContainsForms translation plural (taken_forms plural (forms translation))
 forms_are None translation =
     let first = first_part_of translation (cut 0 translation) in
-    rw first.taken (subst (λ (t : List ℕ). ContainsForms t None (first.part ∷ [])) (sym first.is) (first_part first.after first.lacks first.ends))
+    rw first.taken (subst (λ (t : List ℕ). ContainsForms t None (first.part ∷ [])) (sym first.is)
+    (first_part first.after first.lacks first.ends))
 forms_are (Some plural) translation =
     let parts = parts_of translation in
-    let whole : join_with_byte 0 (parts.first ∷ parts.others) ≡ translation = ap (join_with_byte 0) (sym parts.are) ∙ join_with_byte-slice_split 0 translation in
-    rw parts.are (subst (λ (t : List ℕ). ContainsForms t (Some plural) (parts.first ∷ parts.others)) whole (each_part parts.lack))
+    let whole : join_with_byte 0 (parts.first ∷ parts.others) ≡ translation =
+    ap (join_with_byte 0) (sym parts.are) ∙ join_with_byte-slice_split 0 translation in
+    rw parts.are (subst (λ (t : List ℕ). ContainsForms t (Some plural) (parts.first ∷ parts.others)) whole
+    (each_part parts.lack))
 
 pub entries_are : (messages : List Message) → AllZip IsEntryOf messages (unformatted messages)
 entries_are [] = tt

@@ -17,15 +17,18 @@ use Rattle.po_unformat.specs.UnformattedText.{HasFirstEntryTextFault, HasForeign
 use Rattle.po_unformat.proofs.FaultLemmas.{moved}
 
 -- a message before the first one with such a fault has none
-not_before : (messages : List Message) (i j : ℕ) (a b : PoFault) → HasFirstEntryTextFault i a messages → HasFirstEntryTextFault j b messages → i < j → ⊥
+not_before : (messages : List Message) (i j : ℕ) (a b : PoFault) → HasFirstEntryTextFault i a messages
+    → HasFirstEntryTextFault j b messages → i < j → ⊥
 not_before messages i j a b f g below =
     let entries = unformatted messages in
     let within : i < length entries = slice_get_within entries i f.entry f.is_entry in
     let inside : i < length (take j entries) = omega (arith, within, below, length-take j entries) in
-    let here : get_or (take j entries) i f.entry ≡ f.entry = get_or-take j entries i f.entry below ∙ get_or_from_slice_get entries i f.entry f.entry f.is_entry in
+    let here : get_or (take j entries) i f.entry ≡ f.entry =
+    get_or-take j entries i f.entry below ∙ get_or_from_slice_get entries i f.entry f.entry f.is_entry in
     no_texts_fault (subst HasTexts here (g.before i f.entry inside)) f.fault
 
-same_place : (messages : List Message) (i j : ℕ) (a b : PoFault) → HasFirstEntryTextFault i a messages → HasFirstEntryTextFault j b messages → i ≡ j
+same_place : (messages : List Message) (i j : ℕ) (a b : PoFault) → HasFirstEntryTextFault i a messages
+    → HasFirstEntryTextFault j b messages → i ≡ j
 same_place messages i j a b f g = elim (cases_lt i j) [
   | inl below ↦ absurd (not_before messages i j a b f g below)
   | inr past ↦ elim (cases_lt j i) [
@@ -34,30 +37,40 @@ same_place messages i j a b f g = elim (cases_lt i j) [
   ]
 ]
 
-same_kind : (messages : List Message) (i : ℕ) (a b : PoFault) → HasFirstEntryTextFault i a messages → HasFirstEntryTextFault i b messages → a ≡ b
+same_kind : (messages : List Message) (i : ℕ) (a b : PoFault) → HasFirstEntryTextFault i a messages
+    → HasFirstEntryTextFault i b messages → a ≡ b
 same_kind messages i a b f g =
     let entry : g.entry ≡ f.entry = let same : Some g.entry ≡ Some f.entry = sym g.is_entry ∙ f.is_entry in cc in
     one_texts_fault f.fault (subst (λ e. EntryTextFault e b) entry g.fault)
 
-same_fault : (messages : List Message) (i j : ℕ) (a b : PoFault) → HasFirstEntryTextFault i a messages → HasFirstEntryTextFault j b messages → (i ≡ j) × (a ≡ b)
+same_fault : (messages : List Message) (i j : ℕ) (a b : PoFault) → HasFirstEntryTextFault i a messages
+    → HasFirstEntryTextFault j b messages → (i ≡ j) × (a ≡ b)
 same_fault messages i j a b f g =
     let place = same_place messages i j a b f g in
     (place, same_kind messages i a b f (subst (λ k. HasFirstEntryTextFault k b messages) (sym place) g))
 
-no_foreign : (messages : List Message) (i : ℕ) (a : PoFault) → HasForeignCharset messages → HasFirstEntryTextFault i a messages → ⊥
+no_foreign : (messages : List Message) (i : ℕ) (a : PoFault) → HasForeignCharset messages
+    → HasFirstEntryTextFault i a messages → ⊥
 no_foreign messages i a foreign f =
     let entries = unformatted messages in
     let here = get_or_from_slice_get entries i f.entry f.entry f.is_entry in
-    no_texts_fault (subst HasTexts here (foreign.texts i f.entry (slice_get_within entries i f.entry f.is_entry))) f.fault
+    no_texts_fault (subst HasTexts here (foreign.texts i f.entry (slice_get_within entries i f.entry f.is_entry)))
+    f.fault
 
 module _ (unique : OneMessageList) (one : OneFirstFault) where
-  both : (bytes : List ℕ) (i j : ℕ) (a b : PoFault) → IsFileOf bytes (HasFirstEntryTextFault i a) → IsFileOf bytes (HasFirstEntryTextFault j b) → (i ≡ j) × (a ≡ b)
-  both bytes i j a b f g = same_fault f.messages i j a b f.holds (moved unique bytes (HasFirstEntryTextFault i a) (HasFirstEntryTextFault j b) f g)
+  both : (bytes : List ℕ) (i j : ℕ) (a b : PoFault) → IsFileOf bytes (HasFirstEntryTextFault i a)
+      → IsFileOf bytes (HasFirstEntryTextFault j b) → (i ≡ j) × (a ≡ b)
+  both bytes i j a b f g =
+      same_fault f.messages i j a b f.holds
+      (moved unique bytes (HasFirstEntryTextFault i a) (HasFirstEntryTextFault j b) f g)
 
-  apart : (bytes : List ℕ) (i : ℕ) (a : PoFault) → IsFileOf bytes HasForeignCharset → IsFileOf bytes (HasFirstEntryTextFault i a) → ⊥
-  apart bytes i a f g = no_foreign f.messages i a f.holds (moved unique bytes HasForeignCharset (HasFirstEntryTextFault i a) f g)
+  apart : (bytes : List ℕ) (i : ℕ) (a : PoFault) → IsFileOf bytes HasForeignCharset
+      → IsFileOf bytes (HasFirstEntryTextFault i a) → ⊥
+  apart bytes i a f g = no_foreign f.messages i a f.holds
+      (moved unique bytes HasForeignCharset (HasFirstEntryTextFault i a) f g)
 
-  valid : (bytes : List ℕ) (P : List Message → Type 0) (fault : MoError) → IsUnformatFault bytes (Mo fault) → IsFileOf bytes P → ⊥
+  valid : (bytes : List ℕ) (P : List Message → Type 0) (fault : MoError) → IsUnformatFault bytes (Mo fault)
+      → IsFileOf bytes P → ⊥
   valid bytes P fault f file = file.valid.faultless fault f.holds
 
   pub fault_once : OneUnformatFault
@@ -67,11 +80,14 @@ module _ (unique : OneMessageList) (one : OneFirstFault) where
   fault_once bytes (Mo a) ForeignCharset f g x y = absurd (valid bytes HasForeignCharset a f g)
   fault_once bytes (NotUtf8 i) (Mo b) f g x y = absurd (valid bytes (HasFirstEntryTextFault i BadText) b g f)
   fault_once bytes (NotUtf8 i) (NotUtf8 j) f g x y = ap (λ (k : ℕ). NotUtf8 k) (both bytes i j BadText BadText f g).0
-  fault_once bytes (NotUtf8 i) (ForbiddenByte j) f g x y = let same : BadText ≡ BadByte = (both bytes i j BadText BadByte f g).1 in cc
+  fault_once bytes (NotUtf8 i) (ForbiddenByte j) f g x y = let same : BadText ≡ BadByte =
+      (both bytes i j BadText BadByte f g).1 in cc
   fault_once bytes (NotUtf8 i) ForeignCharset f g x y = absurd (apart bytes i BadText g f)
   fault_once bytes (ForbiddenByte i) (Mo b) f g x y = absurd (valid bytes (HasFirstEntryTextFault i BadByte) b g f)
-  fault_once bytes (ForbiddenByte i) (NotUtf8 j) f g x y = let same : BadByte ≡ BadText = (both bytes i j BadByte BadText f g).1 in cc
-  fault_once bytes (ForbiddenByte i) (ForbiddenByte j) f g x y = ap (λ (k : ℕ). ForbiddenByte k) (both bytes i j BadByte BadByte f g).0
+  fault_once bytes (ForbiddenByte i) (NotUtf8 j) f g x y = let same : BadByte ≡ BadText =
+      (both bytes i j BadByte BadText f g).1 in cc
+  fault_once bytes (ForbiddenByte i) (ForbiddenByte j) f g x y =
+      ap (λ (k : ℕ). ForbiddenByte k) (both bytes i j BadByte BadByte f g).0
   fault_once bytes (ForbiddenByte i) ForeignCharset f g x y = absurd (apart bytes i BadByte g f)
   fault_once bytes ForeignCharset (Mo b) f g x y = absurd (valid bytes HasForeignCharset b g f)
   fault_once bytes ForeignCharset (NotUtf8 j) f g x y = absurd (apart bytes j BadText f g)

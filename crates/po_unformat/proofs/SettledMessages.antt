@@ -47,18 +47,22 @@ first_fault (entry ∷ entries) = elim (texts_or_fault entry) [
       before = All-cons HasTexts entry (take found.i entries) here found.before;
     })
   ]
-  | inr fault ↦ inr (record { i = 0; kind = fault.0; entry = entry; is_entry = refl; fault = fault.1; before = All-nil HasTexts })
+  | inr fault ↦ inr (record
+      { i = 0; kind = fault.0; entry = entry; is_entry = refl; fault = fault.1; before = All-nil HasTexts })
 ]
 
 -- it refuses the messages
-refused : (messages : List Message) (i : ℕ) (entry : TextEntry) (kind : PoFault) → slice_get (unformatted messages) i ≡ Some entry → All HasTexts (take i (unformatted messages)) → EntryTextFault entry kind
+refused : (messages : List Message) (i : ℕ) (entry : TextEntry) (kind : PoFault)
+    → slice_get (unformatted messages) i ≡ Some entry → All HasTexts (take i (unformatted messages))
+    → EntryTextFault entry kind
     → (error : UnformatError) × RefusesMessages messages error × (error ≢ OutOfMemory)
 refused messages i entry _ is before (not_utf8 fault) =
     (NotUtf8 i, record { entry = entry; is_entry = is; fault = not_utf8 fault; before = before }, λ e. cc)
 refused messages i entry _ is before (forbidden utf8 fault) =
     (ForbiddenByte i, record { entry = entry; is_entry = is; fault = forbidden utf8 fault; before = before }, λ e. cc)
 
-some_taken : (plural : Option (List ℕ)) (pieces : List (List ℕ)) → 0 < length pieces → (0 < length (taken_forms plural pieces)) × (plural ≡ None → length (taken_forms plural pieces) ≡ 1)
+some_taken : (plural : Option (List ℕ)) (pieces : List (List ℕ)) → 0 < length pieces
+    → (0 < length (taken_forms plural pieces)) × (plural ≡ None → length (taken_forms plural pieces) ≡ 1)
 some_taken plural [] some = absurd (omega arith)
 some_taken None (piece ∷ pieces) some = (omega arith, λ e. refl)
 some_taken (Some plural) (piece ∷ pieces) some = (omega arith, λ e. cc)
@@ -66,31 +70,49 @@ some_taken (Some plural) (piece ∷ pieces) some = (omega arith, λ e. cc)
 -- the entry of a message is one where its texts can stand in it
 message_entry : (m : Message) → HasTexts (entry_of_message m) → IsEntry (entry_of_message m)
 message_entry m texts =
-    let taken = some_taken (plural_of m.original) (forms m.translation) (omega (arith, length-slice_split is_nul m.translation)) in
-    let each : All IsText (quoted_texts (entry_of_message m)) = λ i d inside. record { utf8 = texts.utf8 i d inside; no_nul = texts.clean.no_nul i d inside } in
-    plain_valid (context_of (key_of m.original)) (id_of (key_of m.original)) (plural_of m.original) (taken_forms (plural_of m.original) (forms m.translation)) each texts.clean.context texts.clean.id taken.0 taken.1
+    let taken = some_taken (plural_of m.original) (forms m.translation)
+    (omega (arith, length-slice_split is_nul m.translation)) in
+    let each : All IsText (quoted_texts (entry_of_message m)) =
+    λ i d inside. record { utf8 = texts.utf8 i d inside; no_nul = texts.clean.no_nul i d inside } in
+    plain_valid (context_of (key_of m.original)) (id_of (key_of m.original)) (plural_of m.original)
+    (taken_forms (plural_of m.original) (forms m.translation)) each texts.clean.context texts.clean.id taken.0
+    taken.1
 
 message_entries : (messages : List Message) → All HasTexts (unformatted messages) → All IsEntry (unformatted messages)
 message_entries [] all = All-nil IsEntry
 message_entries (m ∷ messages) all =
-    All-cons IsEntry (entry_of_message m) (unformatted messages) (message_entry m (All-head HasTexts (entry_of_message m) (unformatted messages) all))
+    All-cons IsEntry (entry_of_message m) (unformatted messages)
+    (message_entry m (All-head HasTexts (entry_of_message m) (unformatted messages) all))
     (message_entries messages (All-tail HasTexts (entry_of_message m) (unformatted messages) all))
 
 -- messages are written or refused
-settled_messages : (messages : List Message) → ((text : List ℕ) × AreWrittenAs text messages) ⊎ ((error : UnformatError) × RefusesMessages messages error × (error ≢ OutOfMemory))
+settled_messages : (messages : List Message)
+    → ((text : List ℕ) × AreWrittenAs text messages)
+    ⊎ ((error : UnformatError) × RefusesMessages messages error × (error ≢ OutOfMemory))
 settled_messages messages = elim (first_fault (unformatted messages)) [
   | inl all ↦ elim (all_settled HasAdmittedCharset charset_settled (unformatted messages)) [
-    | inl admitted ↦ inl (written_text (unformatted messages), record { valid = catalogue_entries (unformatted messages) (message_entries messages all) admitted; written = refl })
+    | inl admitted ↦ inl (
+      written_text (unformatted messages),
+      record {
+        valid = catalogue_entries (unformatted messages) (message_entries messages all) admitted;
+        written =
+            refl;
+      },
+    )
     | inr foreign ↦ inr (ForeignCharset, record { texts = all; foreign = foreign }, λ e. cc)
   ]
   | inr found ↦ inr (refused messages found.i found.entry found.kind found.is_entry found.before found.fault)
 ]
 
-in_file : (bytes : List ℕ) (error : UnformatError) (order : Order) (messages : List Message) → IsMoFile order bytes messages → RefusesMessages messages error → IsUnformatFault bytes error
+in_file : (bytes : List ℕ) (error : UnformatError) (order : Order) (messages : List Message)
+    → IsMoFile order bytes messages → RefusesMessages messages error → IsUnformatFault bytes error
 in_file bytes (Mo fault) order messages valid why = absurd why
-in_file bytes (NotUtf8 i) order messages valid why = record { order = order; messages = messages; valid = valid; holds = why }
-in_file bytes (ForbiddenByte i) order messages valid why = record { order = order; messages = messages; valid = valid; holds = why }
-in_file bytes ForeignCharset order messages valid why = record { order = order; messages = messages; valid = valid; holds = why }
+in_file bytes (NotUtf8 i) order messages valid why =
+    record { order = order; messages = messages; valid = valid; holds = why }
+in_file bytes (ForbiddenByte i) order messages valid why =
+    record { order = order; messages = messages; valid = valid; holds = why }
+in_file bytes ForeignCharset order messages valid why =
+    record { order = order; messages = messages; valid = valid; holds = why }
 in_file bytes OutOfMemory order messages valid why = tt
 
 pub text_or_fault : MoFileOrFault → TextOrFault

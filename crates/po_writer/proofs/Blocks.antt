@@ -18,7 +18,8 @@ pub record Spelling (P : List TextItem → Type 0) (text : List ℕ) (number : �
   pub items : List TextItem
   pub holds : P items
   pub next : ℕ
-  pub before : (rest : List ℕ) (later : List TextItem) → Spells next rest later → Spells number (text ++ rest) (items ++ later)
+  pub before : (rest : List ℕ) (later : List TextItem) → Spells next rest later
+      → Spells number (text ++ rest) (items ++ later)
 
 -- the text begins with an ASCII byte, if with any
 abbrev pub BeginsLow : List ℕ → Type 0
@@ -35,16 +36,25 @@ low-append [] ys h g = g
 low-append (b ∷ xs) ys h g = h
 
 pub empty_block : {P : List TextItem → Type 0} → P [] → Block P []
-empty_block h = record { valid = text-empty; low = tt; spelling = λ number. record { items = []; holds = h; next = number; before = λ rest later g. g } }
+empty_block h = record {
+  valid = text-empty;
+  low = tt;
+  spelling =
+      λ number. record { items = []; holds = h; next = number; before = λ rest later g. g };
+}
 
-pub weaker_block : {P Q : List TextItem → Type 0} {text : List ℕ} → Block P text → ((items : List TextItem) → P items → Q items) → Block Q text
+pub weaker_block : {P Q : List TextItem → Type 0} {text : List ℕ} → Block P text
+    → ((items : List TextItem) → P items → Q items) → Block Q text
 weaker_block block more = record {
   valid = block.valid;
   low = block.low;
-  spelling = λ number. let s = block.spelling number in record { items = s.items; holds = more s.items s.holds; next = s.next; before = s.before };
+  spelling = λ number. let s =
+      block.spelling number in
+      record { items = s.items; holds = more s.items s.holds; next = s.next; before = s.before };
 }
 
-pub two_blocks : {P Q R : List TextItem → Type 0} {xs ys : List ℕ} → Block P xs → Block Q ys → ((here later : List TextItem) → P here → Q later → R (here ++ later)) → Block R (xs ++ ys)
+pub two_blocks : {P Q R : List TextItem → Type 0} {xs ys : List ℕ} → Block P xs → Block Q ys
+    → ((here later : List TextItem) → P here → Q later → R (here ++ later)) → Block R (xs ++ ys)
 two_blocks {xs = xs} {ys = ys} first second join = record {
   valid = text-append xs ys first.valid second.valid;
   low = low-append xs ys first.low second.low;
@@ -55,7 +65,8 @@ two_blocks {xs = xs} {ys = ys} first second join = record {
         items = s.items ++ t.items;
         holds = join s.items t.items s.holds t.holds;
         next = t.next;
-        before = λ rest later g. rw (append_assoc xs ys rest, append_assoc s.items t.items later) (s.before (ys ++ rest) (t.items ++ later) (t.before rest later g));
+        before = λ rest later g. rw (append_assoc xs ys rest, append_assoc s.items t.items later)
+            (s.before (ys ++ rest) (t.items ++ later) (t.before rest later g));
       };
 }
 
@@ -63,7 +74,8 @@ two_blocks {xs = xs} {ys = ys} first second join = record {
 abbrev pub LineItems : (List TextItem → Type 0) → List ℕ → Type 0
 LineItems P line = (number : ℕ) → (here : List TextItem) × P here × HoldsItems number line here
 
-pub line_block : {P : List TextItem → Type 0} (line : List ℕ) → IsLine line → BeginsLow line → LineItems P line → Block P (line ++ 10 ∷ [])
+pub line_block : {P : List TextItem → Type 0} (line : List ℕ) → IsLine line → BeginsLow line → LineItems P line
+    → Block P (line ++ 10 ∷ [])
 line_block line clean low spells = record {
   valid = text-append line (10 ∷ []) clean.valid text-feed;
   low = low-append line (10 ∷ []) low (omega arith);
@@ -74,6 +86,11 @@ line_block line clean low spells = record {
         holds = h.1;
         next = number + 1;
         before = λ rest later g.
-            rw (append_assoc line (10 ∷ []) rest, slice_split_at (λ b. b == 10) line 10 rest (All-weaker (λ b. b ≢ 10) (λ b. (b == 10) ≡ false) (λ b h. ne_eqb b 10 h) line clean.one_line) refl) (h.0, later, h.2, g, refl);
+            rw (
+              append_assoc line (10 ∷ []) rest,
+              slice_split_at (λ b. b == 10) line 10 rest
+                  (All-weaker (λ b. b ≢ 10) (λ b. (b == 10) ≡ false) (λ b h. ne_eqb b 10 h) line clean.one_line) refl,
+            )
+            (h.0, later, h.2, g, refl);
       };
 }

@@ -14,7 +14,8 @@ empty = All-nil (λ b. b ≢ 10)
 more : (b : ℕ) (line : List ℕ) → b ≢ 10 → Lacks 10 line → Lacks 10 (b ∷ line)
 more b line other lacks = All-cons (λ c. c ≢ 10) b line other lacks
 
-onto : (b : ℕ) {text : List ℕ} {lines : List (List ℕ)} → b ≢ 10 → ContainsLines text lines → ContainsLines (b ∷ text) (onto_first b lines)
+onto : (b : ℕ) {text : List ℕ} {lines : List (List ℕ)} → b ≢ 10 → ContainsLines text lines
+    → ContainsLines (b ∷ text) (onto_first b lines)
 onto b other none = last (more b [] other empty)
 onto b other (last {b = c} {line = line} lacks) = last (more b (c ∷ line) other lacks)
 onto b other (ended line lacks lines) = ended (b ∷ line) (more b line other lacks) lines
@@ -23,29 +24,40 @@ pub lines_are : (text : List ℕ) → ContainsLines text (lines_with_ends text)
 lines_are [] = none
 lines_are (b ∷ text) =
     let others = lines_are text in
-    cond_both (b == 10) ((10 ∷ []) ∷ lines_with_ends text) (onto_first b (lines_with_ends text)) (ContainsLines (b ∷ text))
-    (λ is. subst (λ x. ContainsLines (x ∷ text) ((10 ∷ []) ∷ lines_with_ends text)) (sym (eqb-true b 10 is)) (ended [] empty others)) (λ other. onto b (eqb-false b 10 other) others)
+    cond_both (b == 10) ((10 ∷ []) ∷ lines_with_ends text) (onto_first b (lines_with_ends text))
+    (ContainsLines (b ∷ text))
+    (λ is. subst (λ x. ContainsLines (x ∷ text) ((10 ∷ []) ∷ lines_with_ends text)) (sym (eqb-true b 10 is))
+    (ended [] empty others)) (λ other. onto b (eqb-false b 10 other) others)
 
 -- what is written of a text with these lines
 abbrev written : List ℕ → List ℕ → List (List ℕ) → List ℕ
 written prefix text lines =
     cond (nat_lt 1 (length lines)) (string_line [] [] ++ flat_map (string_line prefix) lines) (string_line [] text)
 
-several : (prefix text line : List ℕ) (lines : List (List ℕ)) → 0 < length lines → written prefix text (line ∷ lines) ≡ string_line [] [] ++ flat_map (string_line prefix) (line ∷ lines)
+several : (prefix text line : List ℕ) (lines : List (List ℕ)) → 0 < length lines
+    → written prefix text (line ∷ lines) ≡ string_line [] [] ++ flat_map (string_line prefix) (line ∷ lines)
 several prefix text line lines some =
-    cond-true (nat_lt 1 (length (line ∷ lines))) (string_line [] [] ++ flat_map (string_line prefix) (line ∷ lines)) (string_line [] text) (lt-ltb 1 (length (line ∷ lines)) (omega (arith, some)))
+    cond-true (nat_lt 1 (length (line ∷ lines))) (string_line [] [] ++ flat_map (string_line prefix) (line ∷ lines))
+    (string_line [] text) (lt-ltb 1 (length (line ∷ lines)) (omega (arith, some)))
 
-writes : (prefix : List ℕ) {text : List ℕ} {lines : List (List ℕ)} → ContainsLines text lines → WritesText prefix text (written prefix text lines)
+writes : (prefix : List ℕ) {text : List ℕ} {lines : List (List ℕ)} → ContainsLines text lines
+    → WritesText prefix text (written prefix text lines)
 writes prefix none = one_line empty
 writes prefix (last lacks) = one_line lacks
 writes prefix (ended line lacks none) = one_ended_line line lacks
 writes prefix (ended line lacks (last {b = b} {line = rest} others)) =
-    subst (WritesText prefix (line ++ 10 ∷ b ∷ rest)) (sym (several prefix (line ++ 10 ∷ b ∷ rest) (line ++ 10 ∷ []) ((b ∷ rest) ∷ []) (omega arith))) (each_line line b lacks (last others))
+    subst (WritesText prefix (line ++ 10 ∷ b ∷ rest))
+    (sym (several prefix (line ++ 10 ∷ b ∷ rest) (line ++ 10 ∷ []) ((b ∷ rest) ∷ []) (omega arith)))
+    (each_line line b lacks (last others))
 writes prefix (ended line lacks (ended [] {text = rest} {lines = lines} other others)) =
-    subst (WritesText prefix (line ++ 10 ∷ 10 ∷ rest)) (sym (several prefix (line ++ 10 ∷ 10 ∷ rest) (line ++ 10 ∷ []) ((10 ∷ []) ∷ lines) (omega arith))) (each_line line 10 lacks (ended [] other others))
+    subst (WritesText prefix (line ++ 10 ∷ 10 ∷ rest))
+    (sym (several prefix (line ++ 10 ∷ 10 ∷ rest) (line ++ 10 ∷ []) ((10 ∷ []) ∷ lines) (omega arith)))
+    (each_line line 10 lacks (ended [] other others))
 writes prefix (ended line lacks (ended (b ∷ next) {text = rest} {lines = lines} other others)) =
     let text = (b ∷ next) ++ 10 ∷ rest in
-    subst (WritesText prefix (line ++ 10 ∷ text)) (sym (several prefix (line ++ 10 ∷ text) (line ++ 10 ∷ []) (((b ∷ next) ++ 10 ∷ []) ∷ lines) (omega arith))) (each_line line b lacks (ended (b ∷ next) other others))
+    subst (WritesText prefix (line ++ 10 ∷ text))
+    (sym (several prefix (line ++ 10 ∷ text) (line ++ 10 ∷ []) (((b ∷ next) ++ 10 ∷ []) ∷ lines) (omega arith)))
+    (each_line line b lacks (ended (b ∷ next) other others))
 
 pub texts_are_written : (prefix text : List ℕ) → WritesText prefix text (text_lines prefix text)
 texts_are_written prefix text = writes prefix (lines_are text)

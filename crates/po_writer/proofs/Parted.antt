@@ -14,28 +14,40 @@ use Rattle.po_writer.proofs.Separated.{further, joined, marked, not_marked, some
 -- further entries after those of a part
 grown : (before entries : List TextEntry) → fold with_entry (in_order before) entries ≡ in_order (before ++ entries)
 grown before entries =
-    ap (λ text. fold with_entry text entries) (sym (joined before)) ∙ sym (fold-append with_entry [] before entries) ∙ joined (before ++ entries)
+    ap (λ text. fold with_entry text entries) (sym (joined before)) ∙ sym (fold-append with_entry [] before entries)
+    ∙ joined (before ++ entries)
 
 pub live_grown : (before entries : List TextEntry)
-    → fold with_entry (in_order (filter (λ e. not e.obsolete) before)) (entries_marked false entries) ≡ in_order (filter (λ e. not e.obsolete) (before ++ entries))
+    → fold with_entry (in_order (filter (λ e. not e.obsolete) before)) (entries_marked false entries)
+    ≡ in_order (filter (λ e. not e.obsolete) (before ++ entries))
 live_grown before entries =
-    rw (filter_agree _ _ (λ (e : TextEntry). not_marked e.obsolete) entries, filter-append (λ (e : TextEntry). not e.obsolete) before entries)
+    rw (
+      filter_agree _ _ (λ (e : TextEntry). not_marked e.obsolete) entries,
+      filter-append (λ (e : TextEntry). not e.obsolete) before entries,
+    )
     (grown (filter (λ e. not e.obsolete) before) (filter (λ e. not e.obsolete) entries))
 
 pub obsolete_grown : (before entries : List TextEntry)
-    → fold with_entry (in_order (filter (λ e. e.obsolete) before)) (entries_marked true entries) ≡ in_order (filter (λ e. e.obsolete) (before ++ entries))
+    → fold with_entry (in_order (filter (λ e. e.obsolete) before)) (entries_marked true entries)
+    ≡ in_order (filter (λ e. e.obsolete) (before ++ entries))
 obsolete_grown before entries =
-    rw (filter_agree _ _ (λ (e : TextEntry). marked e.obsolete) entries, filter-append (λ (e : TextEntry). e.obsolete) before entries)
+    rw (
+      filter_agree _ _ (λ (e : TextEntry). marked e.obsolete) entries,
+      filter-append (λ (e : TextEntry). e.obsolete) before entries,
+    )
     (grown (filter (λ e. e.obsolete) before) (filter (λ e. e.obsolete) entries))
 
-none_after : (prefix after : List TextEntry) → length (in_order after) ≡ 0 → in_order prefix ≡ in_order (prefix ++ after)
+none_after : (prefix after : List TextEntry) → length (in_order after) ≡ 0
+    → in_order prefix ≡ in_order (prefix ++ after)
 none_after prefix [] none = ap in_order (sym (append-nil prefix))
 none_after prefix (entry ∷ entries) none = absurd (omega (arith, none, some_text (entry ∷ entries) (omega arith)))
 
-some_both : (prefix after : List TextEntry) → 0 < length (in_order prefix) → 0 < length (in_order after) → (in_order prefix ++ 10 ∷ []) ++ in_order after ≡ in_order (prefix ++ after)
+some_both : (prefix after : List TextEntry) → 0 < length (in_order prefix) → 0 < length (in_order after)
+    → (in_order prefix ++ 10 ∷ []) ++ in_order after ≡ in_order (prefix ++ after)
 some_both prefix [] some more = absurd (omega (arith, more))
 some_both prefix (entry ∷ entries) some more =
-    append_assoc (in_order prefix) (10 ∷ []) (in_order (entry ∷ entries)) ∙ sym (further (in_order prefix) (entry ∷ entries) some) ∙ grown prefix (entry ∷ entries)
+    append_assoc (in_order prefix) (10 ∷ []) (in_order (entry ∷ entries))
+    ∙ sym (further (in_order prefix) (entry ∷ entries) some) ∙ grown prefix (entry ∷ entries)
 
 abbrev pub live_of : List TextEntry → List TextEntry
 live_of entries = filter (λ e. not e.obsolete) entries
@@ -44,11 +56,18 @@ abbrev pub obsolete_of : List TextEntry → List TextEntry
 obsolete_of entries = filter (λ e. e.obsolete) entries
 
 -- the text is the live part, where the other is empty
-pub live_alone : (parts : TextParts) (entries : List TextEntry) → AreParts entries parts → (vec_len parts.obsolete == 0) ≡ true → parts.live.items ≡ written_text entries
-live_alone parts entries are none = are.live ∙ none_after (live_of entries) (obsolete_of entries) (sym (ap length are.obsolete) ∙ sym parts.obsolete.ok.0 ∙ eqb-true _ _ none)
+pub live_alone : (parts : TextParts) (entries : List TextEntry) → AreParts entries parts
+    → (vec_len parts.obsolete == 0) ≡ true → parts.live.items ≡ written_text entries
+live_alone parts entries are none = are.live
+    ∙ none_after (live_of entries) (obsolete_of entries)
+    (sym (ap length are.obsolete) ∙ sym parts.obsolete.ok.0 ∙ eqb-true _ _ none)
 
 -- an empty line stands between the parts
-pub both_parts : (parts : TextParts) (entries : List TextEntry) → AreParts entries parts → (vec_len parts.live == 0) ≡ false → (vec_len parts.obsolete == 0) ≡ false
+pub both_parts : (parts : TextParts) (entries : List TextEntry) → AreParts entries parts
+    → (vec_len parts.live == 0) ≡ false → (vec_len parts.obsolete == 0) ≡ false
     → (parts.live.items ++ 10 ∷ []) ++ parts.obsolete.items ≡ written_text entries
 both_parts parts entries are some more =
-    rw (are.live, are.obsolete) (some_both (live_of entries) (obsolete_of entries) (omega (arith, eqb-false _ _ some, parts.live.ok.0, ap length are.live)) (omega (arith, eqb-false _ _ more, parts.obsolete.ok.0, ap length are.obsolete)))
+    rw (are.live, are.obsolete)
+    (some_both (live_of entries) (obsolete_of entries)
+    (omega (arith, eqb-false _ _ some, parts.live.ok.0, ap length are.live))
+    (omega (arith, eqb-false _ _ more, parts.obsolete.ok.0, ap length are.obsolete)))

@@ -25,7 +25,8 @@ two a b h g = All-cons IsByte a (b ∷ []) h (All-cons IsByte b [] g (All-nil Is
 three : (a b c : ℕ) → a < 256 → b < 256 → c < 256 → All IsByte (a ∷ b ∷ c ∷ [])
 three a b c h g i = All-cons IsByte a (b ∷ c ∷ []) h (two b c g i)
 
-if_bytes : (test : Bool) (xs ys : List ℕ) → (test ≡ true → All IsByte xs) → (test ≡ false → All IsByte ys) → All IsByte (cond test xs ys)
+if_bytes : (test : Bool) (xs ys : List ℕ) → (test ≡ true → All IsByte xs) → (test ≡ false → All IsByte ys)
+    → All IsByte (cond test xs ys)
 if_bytes test xs ys h g = cond_both test xs ys (All IsByte) h g
 
 encode_bytes : (c : ℕ) → c < 1114112 → All IsByte (encode c)
@@ -34,10 +35,15 @@ encode_bytes c below =
     let last : ℕ = 128 + c % 64 in
     let third : ℕ = 128 + (c / 64) % 64 in
     let second : ℕ = 128 + (c / 4096) % 64 in
-    if_bytes (nat_lt c 128) _ _ (λ e. let less = ltb-true c 128 e in All-cons IsByte c [] (omega arith) (All-nil IsByte)) (λ _.
-    if_bytes (nat_lt c 2048) _ _ (λ e. let less = ltb-true c 2048 e in two (192 + c / 64) last (omega arith) (omega arith)) (λ _.
-    if_bytes (nat_lt c 65536) _ _ (λ e. let less = ltb-true c 65536 e in three (224 + c / 4096) third last (omega arith) (omega arith) (omega arith)) (λ _.
-    All-cons IsByte (240 + c / 262144) (second ∷ third ∷ last ∷ []) (omega arith) (three second third last (omega arith) (omega arith) (omega arith)))))
+    if_bytes (nat_lt c 128) _ _
+    (λ e. let less = ltb-true c 128 e in All-cons IsByte c [] (omega arith) (All-nil IsByte)) (λ _.
+    if_bytes (nat_lt c 2048) _ _
+    (λ e. let less = ltb-true c 2048 e in two (192 + c / 64) last (omega arith) (omega arith)) (λ _.
+    if_bytes (nat_lt c 65536) _ _
+    (λ e. let less = ltb-true c 65536 e in
+    three (224 + c / 4096) third last (omega arith) (omega arith) (omega arith)) (λ _.
+    All-cons IsByte (240 + c / 262144) (second ∷ third ∷ last ∷ []) (omega arith)
+    (three second third last (omega arith) (omega arith) (omega arith)))))
 
 all_bytes : (cs : List ℕ) → all_scalars cs ≡ true → All IsByte (encode_utf8_all cs)
 all_bytes [] h = All-nil IsByte
@@ -56,10 +62,15 @@ pub text-empty : IsText []
 text-empty = record { utf8 = IsUtf8-nil; no_nul = All-nil (λ b. b ≢ 0) }
 
 pub text-feed : IsText (10 ∷ [])
-text-feed = record { utf8 = IsUtf8-from_ascii (10 ∷ []) (IsAscii-cons 10 [] (omega arith) IsAscii-nil); no_nul = All-cons (λ b. b ≢ 0) 10 [] (λ e. cc) (All-nil (λ b. b ≢ 0)) }
+text-feed = record {
+  utf8 = IsUtf8-from_ascii (10 ∷ []) (IsAscii-cons 10 [] (omega arith) IsAscii-nil);
+  no_nul =
+      All-cons (λ b. b ≢ 0) 10 [] (λ e. cc) (All-nil (λ b. b ≢ 0));
+}
 
 pub text-append : (xs ys : List ℕ) → IsText xs → IsText ys → IsText (xs ++ ys)
-text-append xs ys h g = record { utf8 = IsUtf8-append xs ys h.utf8 g.utf8; no_nul = All-append (λ b. b ≢ 0) xs ys h.no_nul g.no_nul }
+text-append xs ys h g = record
+    { utf8 = IsUtf8-append xs ys h.utf8 g.utf8; no_nul = All-append (λ b. b ≢ 0) xs ys h.no_nul g.no_nul }
 
 -- a text that may stand on a line: one without LF
 pub record IsLine (text : List ℕ) : Type 0 where
@@ -67,7 +78,8 @@ pub record IsLine (text : List ℕ) : Type 0 where
   pub one_line : Lacks 10 text
 
 pub line-append : (xs ys : List ℕ) → IsLine xs → IsLine ys → IsLine (xs ++ ys)
-line-append xs ys h g = record { valid = text-append xs ys h.valid g.valid; one_line = All-append (λ b. b ≢ 10) xs ys h.one_line g.one_line }
+line-append xs ys h g = record
+    { valid = text-append xs ys h.valid g.valid; one_line = All-append (λ b. b ≢ 10) xs ys h.one_line g.one_line }
 
 -- bytes from space on are neither NUL nor LF
 shown_line : (text : List ℕ) → IsUtf8 text → All (λ b. 32 ≤ b) text → IsLine text
@@ -80,7 +92,8 @@ pub quoted_line : (text : List ℕ) → IsUtf8 text → IsLine (quoted text)
 quoted_line text utf8 = shown_line (quoted text) (quoted_utf8 text utf8) (quoted_shown text (utf8_bytes text utf8))
 
 pub ascii_line : (text : List ℕ) → All (λ b. (32 ≤ b) × (b < 128)) text → IsLine text
-ascii_line text h = shown_line text (IsUtf8-from_ascii text (IsAscii-from_all text (λ k d inside. (h k d inside).1))) (λ k d inside. (h k d inside).0)
+ascii_line text h = shown_line text (IsUtf8-from_ascii text (IsAscii-from_all text (λ k d inside. (h k d inside).1)))
+    (λ k d inside. (h k d inside).0)
 
 abbrev is_shown_ascii : ℕ → Bool
 is_shown_ascii b = nat_lt 31 b && nat_lt b 128
@@ -101,10 +114,13 @@ feed_parts line text h =
     let low : get_or (line ++ 10 ∷ text) (length line) 0 < 128 = rw get_or-append_seam (omega arith) in
     let after = IsCharBoundary-after_ascii (line ++ 10 ∷ text) (length line) h.utf8 inside low in
     let long : length line + 1 ≡ length ended = omega (arith, length-append line (10 ∷ [])) in
-    let before = rw (long, whole, take-append_seam) at (IsUtf8-take (line ++ 10 ∷ text) (length line + 1) h.utf8 after) in
+    let before = rw (long, whole, take-append_seam) at
+    (IsUtf8-take (line ++ 10 ∷ text) (length line + 1) h.utf8 after) in
     let rest = rw (long, whole, drop-append_seam) at (IsUtf8-drop (line ++ 10 ∷ text) (length line + 1) h.utf8 after) in
-    let no_nul = rw whole at h.no_nul in
-    (record { utf8 = before; no_nul = All-left (λ b. b ≢ 0) ended text no_nul }, record { utf8 = rest; no_nul = All-right (λ b. b ≢ 0) ended text no_nul })
+    let no_nul = rw whole at h.no_nul in (
+      record { utf8 = before; no_nul = All-left (λ b. b ≢ 0) ended text no_nul },
+      record { utf8 = rest; no_nul = All-right (λ b. b ≢ 0) ended text no_nul },
+    )
 
 -- the lines of a text may stand in it
 pub text_lines : {text : List ℕ} {lines : List (List ℕ)} → ContainsLines text lines → IsText text → All IsText lines

@@ -67,7 +67,8 @@ pub data WritesTranslation (prefix : List ℕ) : Option (List ℕ) → List (Lis
   only : {text lines : List ℕ} → WritesKeyword prefix (codes "msgstr") text lines
       → WritesTranslation prefix None (text ∷ []) lines
   with_plural : {text here later : List ℕ} {forms : List (List ℕ)}
-      → WritesKeyword prefix (codes "msgid_plural") text here → WritesForms prefix 0 forms later → WritesTranslation prefix (Some text) forms (here ++ later)
+      → WritesKeyword prefix (codes "msgid_plural") text here → WritesForms prefix 0 forms later
+      → WritesTranslation prefix (Some text) forms (here ++ later)
 
 -- the previous texts of an entry
 pub data WritesPrevious (e : TextEntry) : List ℕ → Type 0 where

@@ -46,15 +46,19 @@ in_turn (argument ∷ arguments) = elim (cases_Bool (is_standard argument)) [
   | inr e ↦ rw e (file (no_dash argument e) (in_turn arguments))
 ]
 
-files_asked : {arguments files : List (List ℕ)} → HaveFiles arguments files → asked_by true arguments ≡ map file_of files
+files_asked : {arguments files : List (List ℕ)} → HaveFiles arguments files
+    → asked_by true arguments ≡ map file_of files
 files_asked no_argument = refl
-files_asked (another_file {argument} is rest) = rw (other argument is) (ap (λ l. file_of argument ∷ l) (files_asked rest))
+files_asked (another_file {argument} is rest) =
+    rw (other argument is) (ap (λ l. file_of argument ∷ l) (files_asked rest))
 files_asked (standard_again rest) = files_asked rest
 
-turn_is : {arguments : List (List ℕ)} {asked : List Asked} → AsksInTurn arguments asked → asked ≡ asked_by false arguments
+turn_is : {arguments : List (List ℕ)} {asked : List Asked} → AsksInTurn arguments asked
+    → asked ≡ asked_by false arguments
 turn_is nothing = refl
 turn_is (file {argument} is rest) = rw (other argument is) (ap (λ l. file_of argument ∷ l) (turn_is rest))
 turn_is (standard rest) = ap (λ l. standard_input ∷ l) (sym (files_asked rest))
 
-pub asked_in_turn : (arguments : List (List ℕ)) (asked : List Asked) → (asked ≡ asked_by false arguments) ↔ AsksInTurn arguments asked
+pub asked_in_turn : (arguments : List (List ℕ)) (asked : List Asked)
+    → (asked ≡ asked_by false arguments) ↔ AsksInTurn arguments asked
 asked_in_turn arguments asked = (λ is. subst (AsksInTurn arguments) (sym is) (in_turn arguments), turn_is)

@@ -11,30 +11,40 @@ pub take-rest : (n k : ℕ) (xs : List ℕ) → take (n + k) xs ≡ take n xs ++
 take-rest n k xs = take-add n k xs ∙ ap (λ l. take n xs ++ take k l) (sym (take_rest xs n))
 
 -- after the first n bytes the writer took the next k
-pub Appends-rest : (a b c : Option (List ℕ)) (n k : ℕ) (xs : List ℕ) → Appends a b (take n xs) → Appends b c (take k (take (length xs - n) (drop n xs))) → Appends a c (take (n + k) xs)
+pub Appends-rest : (a b c : Option (List ℕ)) (n k : ℕ) (xs : List ℕ) → Appends a b (take n xs)
+    → Appends b c (take k (take (length xs - n) (drop n xs))) → Appends a c (take (n + k) xs)
 Appends-rest a b c n k xs first next = subst (Appends a c) (sym (take-rest n k xs)) (Appends-trans a b c _ _ first next)
 
 -- a reader that is asked for n bytes, and gave them, gave the first n
-pub taken-full : (n : ℕ) (a b : Option (List ℕ)) (bs : List ℕ) → Consumes a b bs → length bs ≡ n → IfSome a (λ xs. bs ≡ take n xs)
+pub taken-full : (n : ℕ) (a b : Option (List ℕ)) (bs : List ℕ) → Consumes a b bs → length bs ≡ n
+    → IfSome a (λ xs. bs ≡ take n xs)
 taken-full n None b bs p e = tt
 taken-full n (Some xs) None bs p e = absurd p
 taken-full n (Some xs) (Some ys) bs p e = sym (ap (take n) p ∙ take_at bs ys n e)
 
 -- one that has no more gave all, where that isn't too much
-pub taken-end : (n : ℕ) (a b : Option (List ℕ)) (bs : List ℕ) → Consumes a b bs → IsAtEnd b → length bs ≤ n → IfSome a (λ xs. bs ≡ take n xs)
+pub taken-end : (n : ℕ) (a b : Option (List ℕ)) (bs : List ℕ) → Consumes a b bs → IsAtEnd b → length bs ≤ n
+    → IfSome a (λ xs. bs ≡ take n xs)
 taken-end n None b bs p end l = tt
 taken-end n (Some xs) None bs p end l = absurd p
-taken-end n (Some xs) (Some ys) bs p end l = sym (ap (take n) (p ∙ ap (λ r. bs ++ r) end ∙ append-nil bs) ∙ take_all n bs l)
+taken-end n (Some xs) (Some ys) bs p end l =
+    sym (ap (take n) (p ∙ ap (λ r. bs ++ r) end ∙ append-nil bs) ∙ take_all n bs l)
 
 -- the first n bytes were filled, and then k more
-pub filled-more : (a b c : Option (List ℕ)) (n k : ℕ) (xs ys : List ℕ) → Consumes a b (take n xs) → take n ys ≡ take n xs → Consumes b c (take k (drop n ys)) → Consumes a c (take (n + k) ys)
-filled-more a b c n k xs ys before front next = subst (Consumes a c) (sym (take-add n k ys ∙ ap (λ l. l ++ take k (drop n ys)) front)) (Consumes-trans a b c _ _ before next)
+pub filled-more : (a b c : Option (List ℕ)) (n k : ℕ) (xs ys : List ℕ) → Consumes a b (take n xs)
+    → take n ys ≡ take n xs → Consumes b c (take k (drop n ys)) → Consumes a c (take (n + k) ys)
+filled-more a b c n k xs ys before front next =
+    subst (Consumes a c) (sym (take-add n k ys ∙ ap (λ l. l ++ take k (drop n ys)) front))
+    (Consumes-trans a b c _ _ before next)
 
 -- the first n bytes were filled, and the reader has no more
-pub filled-end : (limit : ℕ) (a b c : Option (List ℕ)) (n k : ℕ) (xs ys : List ℕ) → Consumes a b (take n xs) → take n ys ≡ take n xs → Consumes b c (take k (drop n ys)) → k ≡ 0 → IsAtEnd c → n ≤ length ys → n ≤ limit
+pub filled-end : (limit : ℕ) (a b c : Option (List ℕ)) (n k : ℕ) (xs ys : List ℕ) → Consumes a b (take n xs)
+    → take n ys ≡ take n xs → Consumes b c (take k (drop n ys)) → k ≡ 0 → IsAtEnd c → n ≤ length ys → n ≤ limit
     → IfSome a (λ all. take n ys ≡ take limit all)
 filled-end limit a b c n k xs ys before front next none end fits few =
-    taken-end limit a c (take n ys) (subst (λ m. Consumes a c (take m ys)) (omega (arith, none)) (filled-more a b c n k xs ys before front next)) end (omega (arith, length-take-le n ys fits))
+    taken-end limit a c (take n ys)
+    (subst (λ m. Consumes a c (take m ys)) (omega (arith, none)) (filled-more a b c n k xs ys before front next))
+    end (omega (arith, length-take-le n ys fits))
 
 -- what holds holds after an error
 pub on-err : {T E : Type 0} (r : Result T E) (P : Type 0) → P → OnErr r P
@@ -56,7 +66,8 @@ Gives-one xs (Some ys) (Some zs) piece given whole same is =
     ([], is ∙ ap (λ l. l ++ given ∷ []) before ∙ ap (λ p. xs ++ p ∷ []) whole)
 
 -- the call for what is left of a piece after its first n bytes: the first such call is given the whole piece
-pub Gives-next : (a b c : Option (List (List ℕ))) (n : ℕ) (piece : List ℕ) → (n ≡ 0 → b ≡ a) → (0 < n → GivesFirst a b piece)
+pub Gives-next : (a b c : Option (List (List ℕ))) (n : ℕ) (piece : List ℕ) → (n ≡ 0 → b ≡ a)
+    → (0 < n → GivesFirst a b piece)
     → Gives b c (take (length piece - n) (drop n piece)) → GivesFirst a c piece
 Gives-next None b c n piece untouched first given = tt
 Gives-next (Some xs) b c zero piece untouched first given =

@@ -14,7 +14,8 @@ use Rattle.runs.proofs.OutputSteps.{same_or_other, put_there, put_elsewhere, sam
 use Rattle.runs.proofs.RightsLemmas.{nobody_gets_more, private_gives_nobody_more}
 
 -- a file has no other rights than its own
-modest_of : (old : PathState) {state : PathState} {bytes : Option (List ℕ)} {mode m : ℕ} {owner o : Option Owner} → HasRights state m o
+modest_of : (old : PathState) {state : PathState} {bytes : Option (List ℕ)} {mode m : ℕ} {owner o : Option Owner}
+    → HasRights state m o
     → state ≡ file bytes mode owner → GivesNoMore old mode owner → GivesNoMore old m o
 modest_of old {bytes} {mode} {m} {owner} {o} has there modest =
     let e : file has.0 m o ≡ file bytes mode owner = sym has.1 ∙ there in
@@ -33,7 +34,8 @@ module _ {new target : List ℕ} (files : Files) (none : files.at new ≡ nothin
     there : at new ≡ file bytes mode owner
     modest : GivesNoMore (files.at target) mode owner
 
-  module _ {at : List ℕ → PathState} {bytes : Option (List ℕ)} {mode : ℕ} {owner : Option Owner} (it : IsFilling at bytes mode owner) where
+  module _ {at : List ℕ → PathState} {bytes : Option (List ℕ)} {mode : ℕ} {owner : Option Owner}
+      (it : IsFilling at bytes mode owner) where
     only_new : {output : List ℕ} → IsWholeOrAsItWas output (file_at target) files (filling at)
     unfolding filling
     only_new path = elim (same_or_other path new) [
@@ -65,12 +67,14 @@ module _ {new target : List ℕ} (files : Files) (none : files.at new ≡ nothin
     ]
 
     -- it is removed
-    removed : {output : List ℕ} (why : OutputFault) → Ends output (file_at target) files (removes new ▸ fails why) (filling at)
+    removed : {output : List ℕ} (why : OutputFault)
+        → Ends output (file_at target) files (removes new ▸ fails why) (filling at)
     unfolding filling
     removed why = next (removes new) only_new little_given (stopped why gone (λ number. refl))
 
   -- it gets the path of the target
-  module _ {output : List ℕ} {at : List ℕ → PathState} {mode : ℕ} {owner : Option Owner} (it : IsFilling at (Some output) mode owner)
+  module _ {output : List ℕ} {at : List ℕ → PathState} {mode : ℕ} {owner : Option Owner}
+      (it : IsFilling at (Some output) mode owner)
       (kept : KeepsMode (files.at target) (file (Some output) mode owner)) where
     renamed_at : List ℕ → PathState
     renamed_at = put target (at new) (put new nothing at)
@@ -104,7 +108,8 @@ module _ {new target : List ℕ} (files : Files) (none : files.at new ≡ nothin
     })
 
   -- it gets all of the output, and then the path
-  finishes : {output : List ℕ} {at : List ℕ → PathState} {bytes : Option (List ℕ)} {mode : ℕ} {owner : Option Owner} {before : Option (List ℕ)} {rest : Course}
+  finishes : {output : List ℕ} {at : List ℕ → PathState} {bytes : Option (List ℕ)} {mode : ℕ} {owner : Option Owner}
+      {before : Option (List ℕ)} {rest : Course}
       → IsFilling at bytes mode owner → KeepsMode (files.at target) (file (Some output) mode owner) → before ≡ Some []
       → Finishes output (record { path = new; target = target; made = before }) rest
       → Ends output (file_at target) files rest (filling at)
@@ -117,11 +122,14 @@ module _ {new target : List ℕ} (files : Files) (none : files.at new ≡ nothin
       next (closes its 0 true) (only_new it) (little_given it)
       (next (renames new target false) (only_new full) (little_given full) (removed full CannotCreate))
   finishes it kept empty (unwritten (cut {after = its} {closed} all)) =
-      next (closes its 1 closed) (only_new it) (little_given it) (removed (changed it (with_bytes None) refl it.modest) WriteFault)
+      next (closes its 1 closed) (only_new it) (little_given it)
+      (removed (changed it (with_bytes None) refl it.modest) WriteFault)
   finishes it kept empty (unwritten (late {after = its} all)) =
-      next (closes its 0 false) (only_new it) (little_given it) (removed (changed it (with_bytes None) refl it.modest) WriteFault)
+      next (closes its 0 false) (only_new it) (little_given it)
+      (removed (changed it (with_bytes None) refl it.modest) WriteFault)
 
-  just_made : (mode : ℕ) → GivesNoMore (files.at target) mode None → IsFilling (put new (file None mode None) files.at) None mode None
+  just_made : (mode : ℕ) → GivesNoMore (files.at target) mode None
+      → IsFilling (put new (file None mode None) files.at) None mode None
   just_made mode modest = record {
     elsewhere = λ path other. put_elsewhere new (file None mode None) files.at other;
     there = put_there new (file None mode None) files.at refl;
@@ -133,7 +141,8 @@ abbrev pub IsAsked : Option Rights → PathState → Type 0
 IsAsked None state = state ≡ nothing
 IsAsked (Some old) state = HasRights state old.mode (Some old.owner)
 
-pub is_asked : (old : Option Rights) (state : PathState) → FitsKind (Regular old) state → IsNoLink state → IsAsked old state
+pub is_asked : (old : Option Rights) (state : PathState) → FitsKind (Regular old) state → IsNoLink state
+    → IsAsked old state
 is_asked None nothing fits plain = fits
 is_asked None (link text) fits plain = absurd plain
 is_asked None (file bytes mode owner) fits plain = fits
@@ -143,14 +152,18 @@ is_asked (Some old) (file bytes mode owner) fits plain = fits
 
 -- what new rights are, by what was there
 modest_after : {old : Rights} (mode : ℕ) (owner : Option Owner) {state : PathState} → IsAsked (Some old) state
-    → ((whose : Owner) → IsWhose owner whose → GivesNobodyMore old (record { mode = mode; owner = whose })) → GivesNoMore state mode owner
+    → ((whose : Owner) → IsWhose owner whose → GivesNobodyMore old (record { mode = mode; owner = whose }))
+    → GivesNoMore state mode owner
 modest_after mode owner asked nobody = subst (λ s. GivesNoMore s mode owner) (sym asked.1) nobody
 
-kept_after : {old : Rights} (bytes : Option (List ℕ)) (owner : Option Owner) {state : PathState} → IsAsked (Some old) state
+kept_after : {old : Rights} (bytes : Option (List ℕ)) (owner : Option Owner) {state : PathState}
+    → IsAsked (Some old) state
     → KeepsMode state (file bytes (kept_mode old owner) owner)
-kept_after {old} bytes owner asked = subst (λ s. KeepsMode s (file bytes (kept_mode old owner) owner)) (sym asked.1) refl
+kept_after {old} bytes owner asked =
+    subst (λ s. KeepsMode s (file bytes (kept_mode old owner) owner)) (sym asked.1) refl
 
-pub fills : {output new target : List ℕ} {before : Option (List ℕ)} {old : Option Rights} {rest : Course} (files : Files)
+pub fills : {output new target : List ℕ} {before : Option (List ℕ)} {old : Option Rights} {rest : Course}
+    (files : Files)
     → files.at new ≡ nothing → new ≢ target → IsAsked old (files.at target) → before ≡ Some []
     → Fills output (record { path = new; target = target; made = before }) old rest
     → Ends output (file_at target) files (makes new (first_mode old) before ▸ rest) files
@@ -159,19 +172,26 @@ fills {output} {new} {target} {before} files none other asked empty (replaces_no
     let made : IsFilling files none other (put new (file None 0o666 None) files.at) None 0o666 None =
     just_made files none other 0o666 (subst (λ s. GivesNoMore s 0o666 None) (sym asked) refl) in
     next (makes new 0o666 before) (as_it_was files files (λ path. refl)) (nothing_given files files (λ path. refl))
-    (finishes files none other made (subst (λ s. KeepsMode s (file (Some output) 0o666 None)) (sym asked) refl) empty finishing)
+    (finishes files none other made
+    (subst (λ s. KeepsMode s (file (Some output) 0o666 None)) (sym asked) refl) empty finishing)
 fills {output} {new} {target} {before} files none other asked empty (with_rights {old} {owner} finishing) =
-    let made = just_made files none other 0o600 (modest_after 0o600 None asked (λ whose is. private_gives_nobody_more old whose)) in
-    let owned = changed files none other made (with_owner owner) refl (modest_after 0o600 owner asked (λ whose is. private_gives_nobody_more old whose)) in
-    let kept = changed files none other owned (with_mode (kept_mode old owner)) refl (modest_after (kept_mode old owner) owner asked (nobody_gets_more old owner)) in
+    let made = just_made files none other 0o600
+    (modest_after 0o600 None asked (λ whose is. private_gives_nobody_more old whose)) in
+    let owned = changed files none other made (with_owner owner) refl
+    (modest_after 0o600 owner asked (λ whose is. private_gives_nobody_more old whose)) in
+    let kept = changed files none other owned (with_mode (kept_mode old owner)) refl
+    (modest_after (kept_mode old owner) owner asked (nobody_gets_more old owner)) in
     next (makes new 0o600 before) (as_it_was files files (λ path. refl)) (nothing_given files files (λ path. refl))
     (next (sets_owner old.owner owner) (only_new files none other made) (little_given files none other made)
     (next (sets_mode (kept_mode old owner) true) (only_new files none other owned) (little_given files none other owned)
     (finishes files none other kept (kept_after (Some output) owner asked) empty finishing)))
 fills {new} {target} {before} files none other asked empty (without_rights {old} {owner}) =
-    let made = just_made files none other 0o600 (modest_after 0o600 None asked (λ whose is. private_gives_nobody_more old whose)) in
-    let owned = changed files none other made (with_owner owner) refl (modest_after 0o600 owner asked (λ whose is. private_gives_nobody_more old whose)) in
+    let made = just_made files none other 0o600
+    (modest_after 0o600 None asked (λ whose is. private_gives_nobody_more old whose)) in
+    let owned = changed files none other made (with_owner owner) refl
+    (modest_after 0o600 owner asked (λ whose is. private_gives_nobody_more old whose)) in
     next (makes new 0o600 before) (as_it_was files files (λ path. refl)) (nothing_given files files (λ path. refl))
     (next (sets_owner old.owner owner) (only_new files none other made) (little_given files none other made)
-    (next (sets_mode (kept_mode old owner) false) (only_new files none other owned) (little_given files none other owned)
+    (next (sets_mode (kept_mode old owner) false) (only_new files none other owned)
+    (little_given files none other owned)
     (removed files none other owned CannotCreate)))

@@ -10,7 +10,8 @@ use Rattle.runs.specs.OutputLaw.{PathState, file, file_at, stream_of, Files, put
 use Rattle.runs.proofs.OutputSteps.{same_or_other, put_there, put_elsewhere, no_fault, no_file, taken_all, same_rights, Ends, idle, stop}
 
 -- the target is written in place
-module _ {target : List ℕ} (files : Files) {mode : ℕ} {owner : Option Owner} (has : HasRights (files.at target) mode owner) where
+module _ {target : List ℕ} (files : Files) {mode : ℕ} {owner : Option Owner}
+    (has : HasRights (files.at target) mode owner) where
   opened_at : List ℕ → PathState
   opened_at = put target (with_bytes None (files.at target)) files.at
 
@@ -29,43 +30,52 @@ module _ {target : List ℕ} (files : Files) {mode : ℕ} {owner : Option Owner}
 
   closed_there : (bytes : Option (List ℕ)) → closed_at bytes target ≡ file bytes mode owner
   unfolding closed_at
-  closed_there bytes = put_there target (with_bytes bytes (opened_at target)) opened_at refl ∙ ap (with_bytes bytes) opened_there
+  closed_there bytes = put_there target (with_bytes bytes (opened_at target)) opened_at refl
+      ∙ ap (with_bytes bytes) opened_there
 
-  closed_elsewhere : (bytes : Option (List ℕ)) (path : List ℕ) → file_at target ≢ file_at path → closed_at bytes path ≡ files.at path
+  closed_elsewhere : (bytes : Option (List ℕ)) (path : List ℕ) → file_at target ≢ file_at path
+      → closed_at bytes path ≡ files.at path
   unfolding closed_at opened_at
   closed_elsewhere bytes path other =
       let is : path ≢ target = λ same. other (ap file_at (sym same)) in
-      put_elsewhere target (with_bytes bytes (opened_at target)) opened_at is ∙ put_elsewhere target (with_bytes None (files.at target)) files.at is
+      put_elsewhere target (with_bytes bytes (opened_at target)) opened_at is
+      ∙ put_elsewhere target (with_bytes None (files.at target)) files.at is
 
   rights_stay : (bytes : Option (List ℕ)) (at : List ℕ → PathState)
       → ((p : List ℕ) (m : ℕ) (o : Option Owner) → HasRights (at p) m o → HasRights (files.at p) m o)
-      → (p : List ℕ) (m : ℕ) (o : Option Owner) → HasRights (put target (with_bytes bytes (at target)) at p) m o → HasRights (files.at p) m o
+      → (p : List ℕ) (m : ℕ) (o : Option Owner) → HasRights (put target (with_bytes bytes (at target)) at p) m o
+      → HasRights (files.at p) m o
   rights_stay bytes at stay p m o now = elim (same_or_other p target) [
     | inl is ↦
         let there : HasRights (at target) m o =
-        same_rights bytes (at target) (subst (λ s. HasRights s m o) (put_there target (with_bytes bytes (at target)) at is) now) in
+        same_rights bytes (at target)
+        (subst (λ s. HasRights s m o) (put_there target (with_bytes bytes (at target)) at is) now) in
         stay p m o (subst (λ q. HasRights (at q) m o) (sym is) there)
-    | inr other ↦ stay p m o (subst (λ s. HasRights s m o) (put_elsewhere target (with_bytes bytes (at target)) at other) now)
+    | inr other ↦ stay p m o
+        (subst (λ s. HasRights s m o) (put_elsewhere target (with_bytes bytes (at target)) at other) now)
   ]
 
   opened_rights : (p : List ℕ) (m : ℕ) (o : Option Owner) → HasRights (opened_at p) m o → HasRights (files.at p) m o
   unfolding opened_at
   opened_rights = rights_stay None files.at (λ p m o now. now)
 
-  closed_rights : (bytes : Option (List ℕ)) (p : List ℕ) (m : ℕ) (o : Option Owner) → HasRights (closed_at bytes p) m o → HasRights (files.at p) m o
+  closed_rights : (bytes : Option (List ℕ)) (p : List ℕ) (m : ℕ) (o : Option Owner) → HasRights (closed_at bytes p) m o
+      → HasRights (files.at p) m o
   unfolding closed_at
   closed_rights bytes = rights_stay bytes opened_at opened_rights
 
   -- after that nothing is given away
   given : (bytes : Option (List ℕ)) → GivesNothingAway (file_at target) files files
-      × (GivesNothingAway (file_at target) files opened_state × GivesNothingAway (file_at target) files (closed_state bytes))
+      × (GivesNothingAway (file_at target) files opened_state
+      × GivesNothingAway (file_at target) files (closed_state bytes))
   unfolding opened_state closed_state
   given bytes = (
     λ p m o now. inl now,
     (λ p m o now. inl (opened_rights p m o now), λ p m o now. inl (closed_rights bytes p m o now)),
   )
 
-  put_in_place : {output : List ℕ} {before : Option (List ℕ)} {rest : Course} → Puts output before rest → before ≡ Some []
+  put_in_place : {output : List ℕ} {before : Option (List ℕ)} {rest : Course} → Puts output before rest
+      → before ≡ Some []
       → Ends output (file_at target) files (opens target before ▸ rest) files
   unfolding opened_state closed_state opened_at closed_at
   put_in_place (all_put (whole {after = bytes} all)) empty = record {
@@ -104,16 +114,19 @@ writes_in_place files gives (opened puts) = put_in_place files gives.0.0.2 puts 
 -- an open stream is written
 module _ (files : Files) (number : ℕ) where
   stream_closed : Option (List ℕ) → Files
-  stream_closed bytes = record { at = files.at; streams = put_stream number bytes files.streams; opened = stream_of number }
+  stream_closed bytes = record
+      { at = files.at; streams = put_stream number bytes files.streams; opened = stream_of number }
 
-  other_stream : (bytes : Option (List ℕ)) (n : ℕ) → stream_of number ≢ stream_of n → put_stream number bytes files.streams n ≡ files.streams n
+  other_stream : (bytes : Option (List ℕ)) (n : ℕ) → stream_of number ≢ stream_of n
+      → put_stream number bytes files.streams n ≡ files.streams n
   other_stream bytes n other =
       cond-false (n == number) bytes (files.streams n) (ne_eqb n number (λ same. other (ap stream_of (sym same))))
 
   this_stream : (bytes : Option (List ℕ)) → put_stream number bytes files.streams number ≡ bytes
   this_stream bytes = cond-true (number == number) bytes (files.streams number) (eq-eqb number number refl)
 
-  put_in_stream : {output : List ℕ} {before : Option (List ℕ)} {rest : Course} → Puts output before rest → before ≡ files.streams number
+  put_in_stream : {output : List ℕ} {before : Option (List ℕ)} {rest : Course} → Puts output before rest
+      → before ≡ files.streams number
       → Ends output (stream_of number) files (takes_stream number before ▸ rest) files
   put_in_stream {output} {before} (all_put (whole {after = bytes} all)) was = record {
     whole_or_as_it_was = λ no. (λ path. inl refl, (λ path. inl refl, λ path. inl refl));

@@ -26,7 +26,8 @@ pub Asks-none : (before : Option (List Asked)) → Asks before before []
 Asks-none None = tt
 Asks-none (Some asked) = sym (append-nil asked)
 
-pub Asks-trans : (a b c : Option (List Asked)) (first next : List Asked) → Asks a b first → Asks b c next → Asks a c (first ++ next)
+pub Asks-trans : (a b c : Option (List Asked)) (first next : List Asked) → Asks a b first → Asks b c next
+    → Asks a c (first ++ next)
 Asks-trans None b c first next p q = tt
 Asks-trans (Some xs) None c first next p q = absurd p
 Asks-trans (Some xs) (Some ys) None first next p q = absurd q
@@ -35,19 +36,30 @@ Asks-trans (Some xs) (Some ys) (Some zs) first next p q = q ∙ ap (λ l. l ++ n
 -- the first i arguments, and the next
 take-next : (arguments : List (Bor (List ℕ))) (i : ℕ) (d : Bor (List ℕ)) → i < length arguments
     → take (i + 1) (arguments_now arguments) ≡ take i (arguments_now arguments) ++ (get_or arguments i d).now ∷ []
-take-next arguments i d below = rw (take-map (λ argument. argument.now) (i + 1) arguments, take_more arguments i d below, take-map (λ argument. argument.now) i arguments, map-append (λ argument. argument.now) (take i arguments))
+take-next arguments i d below =
+    rw (
+      take-map (λ argument. argument.now) (i + 1) arguments,
+      take_more arguments i d below,
+      take-map (λ argument. argument.now) i arguments,
+      map-append (λ argument. argument.now) (take i arguments),
+    )
 
 -- what the arguments before i ask for was asked for, and those that follow ask for the rest
-pub record AsksBefore (before after : Option (List Asked)) (arguments : List (Bor (List ℕ))) (i : ℕ) (seen : Bool) : Type 0 where
+pub record AsksBefore (before after : Option (List Asked)) (arguments : List (Bor (List ℕ))) (i : ℕ)
+    (seen : Bool) : Type 0 where
   pub asks : Asks before after (asked_by false (take i (arguments_now arguments)))
   pub goes_on : (more : List (List ℕ))
-      → asked_by false (take i (arguments_now arguments) ++ more) ≡ asked_by false (take i (arguments_now arguments)) ++ asked_by seen more
+      → asked_by false (take i (arguments_now arguments) ++ more) ≡ asked_by false (take i (arguments_now arguments))
+      ++ asked_by seen more
 
-pub AsksBefore-none : (before : Option (List Asked)) (arguments : List (Bor (List ℕ))) → AsksBefore before before arguments 0 false
+pub AsksBefore-none : (before : Option (List Asked)) (arguments : List (Bor (List ℕ)))
+    → AsksBefore before before arguments 0 false
 AsksBefore-none before arguments = record { asks = Asks-none before; goes_on = λ more. refl }
 
-pub AsksBefore-more : (a b c : Option (List Asked)) (arguments : List (Bor (List ℕ))) (i : ℕ) (d : Bor (List ℕ)) (seen : Bool) → i < length arguments → AsksBefore a b arguments i seen
-    → Asks b c (asked_for (get_or arguments i d).now (is_standard (get_or arguments i d).now) seen) → AsksBefore a c arguments (i + 1) (seen || is_standard (get_or arguments i d).now)
+pub AsksBefore-more : (a b c : Option (List Asked)) (arguments : List (Bor (List ℕ))) (i : ℕ) (d : Bor (List ℕ))
+    (seen : Bool) → i < length arguments → AsksBefore a b arguments i seen
+    → Asks b c (asked_for (get_or arguments i d).now (is_standard (get_or arguments i d).now) seen)
+    → AsksBefore a c arguments (i + 1) (seen || is_standard (get_or arguments i d).now)
 AsksBefore-more a b c arguments i d seen below p q =
     let argument = (get_or arguments i d).now in
     let asked = asked_for argument (is_standard argument) seen in
@@ -58,26 +70,34 @@ AsksBefore-more a b c arguments i d seen below p q =
     record {
       asks = subst (Asks a c) (sym more_asked) (Asks-trans a b c _ _ p.asks q);
       goes_on = λ more.
-          ap (λ l. asked_by false (l ++ more)) next ∙ ap (asked_by false) (append_assoc so_far (argument ∷ []) more) ∙ p.goes_on (argument ∷ more)
-          ∙ sym (append_assoc (asked_by false so_far) asked _) ∙ ap (λ l. l ++ asked_by (seen || is_standard argument) more) (sym more_asked);
+          ap (λ l. asked_by false (l ++ more)) next ∙ ap (asked_by false) (append_assoc so_far (argument ∷ []) more)
+          ∙ p.goes_on (argument ∷ more)
+          ∙ sym (append_assoc (asked_by false so_far) asked _)
+          ∙ ap (λ l. l ++ asked_by (seen || is_standard argument) more) (sym more_asked);
     }
 
-pub AsksBefore-first : (a b : Option (List Asked)) (arguments : List (Bor (List ℕ))) (i : ℕ) (seen : Bool) → AsksBefore a b arguments i seen → AsksFirst a b (asked_by false (arguments_now arguments))
+pub AsksBefore-first : (a b : Option (List Asked)) (arguments : List (Bor (List ℕ))) (i : ℕ) (seen : Bool)
+    → AsksBefore a b arguments i seen → AsksFirst a b (asked_by false (arguments_now arguments))
 AsksBefore-first a b arguments i seen p = record {
   asked = asked_by false (take i (arguments_now arguments));
   rest = asked_by seen (drop i (arguments_now arguments));
   asks = p.asks;
-  first = sym (p.goes_on (drop i (arguments_now arguments))) ∙ ap (asked_by false) (take-append-drop i (arguments_now arguments));
+  first = sym (p.goes_on (drop i (arguments_now arguments)))
+      ∙ ap (asked_by false) (take-append-drop i (arguments_now arguments));
 }
 
 -- where as many inputs were read, all before i were
-pub AsksBefore-read : (a b : Option (List Asked)) (arguments : List (Bor (List ℕ))) (i : ℕ) (seen : Bool) (inputs : List NamedFile) (fault : Option (List ℕ)) → fault ≡ None
-    → length inputs ≡ i → AsksBefore a b arguments i seen → Asks a b (asked_by false (asked_arguments (arguments_now arguments) inputs fault))
-AsksBefore-read a b arguments i seen inputs None none count p = subst (λ n. Asks a b (asked_by false (take n (arguments_now arguments)))) (sym count) p.asks
+pub AsksBefore-read : (a b : Option (List Asked)) (arguments : List (Bor (List ℕ))) (i : ℕ) (seen : Bool)
+    (inputs : List NamedFile) (fault : Option (List ℕ)) → fault ≡ None
+    → length inputs ≡ i → AsksBefore a b arguments i seen
+    → Asks a b (asked_by false (asked_arguments (arguments_now arguments) inputs fault))
+AsksBefore-read a b arguments i seen inputs None none count p =
+    subst (λ n. Asks a b (asked_by false (take n (arguments_now arguments)))) (sym count) p.asks
 AsksBefore-read a b arguments i seen inputs (Some fault) none count p = absurd (grind (arith, none))
 
 -- and where the next can't be read, it was asked for too
-pub AsksBefore-unread : (a b : Option (List Asked)) (arguments : List (Bor (List ℕ))) (i : ℕ) (seen : Bool) (inputs : List NamedFile) (fault : Option (List ℕ)) (text : List ℕ)
+pub AsksBefore-unread : (a b : Option (List Asked)) (arguments : List (Bor (List ℕ))) (i : ℕ) (seen : Bool)
+    (inputs : List NamedFile) (fault : Option (List ℕ)) (text : List ℕ)
     → fault ≡ Some text → length inputs ≡ i → AsksBefore a b arguments (i + 1) seen
     → Asks a b (asked_by false (asked_arguments (arguments_now arguments) inputs fault))
 AsksBefore-unread a b arguments i seen inputs None text some count p = absurd (grind (arith, some))
@@ -87,30 +107,42 @@ AsksBefore-unread a b arguments i seen inputs (Some fault) text some count p =
 module _ (file : List ℕ → Reading → Type 0) (standard : Reading → Type 0) where
   -- whatever the arguments from i on add completes what the arguments before made
   pub record Completes (arguments : List (Bor (List ℕ))) (i : ℕ) (seen : Bool) (inputs : List NamedFile) : Type 0 where
-    pub completes : (more : List NamedFile) (fault : Option (List ℕ)) → AreInputs file standard seen (arguments_now (drop i arguments)) more fault
+    pub completes : (more : List NamedFile) (fault : Option (List ℕ))
+        → AreInputs file standard seen (arguments_now (drop i arguments)) more fault
         → AreInputs file standard false (arguments_now arguments) (inputs ++ more) fault
 
   pub Completes-none : (arguments : List (Bor (List ℕ))) → Completes arguments 0 false []
   Completes-none arguments = record { completes = λ more fault are. are }
 
-  pub Completes-read : (arguments : List (Bor (List ℕ))) (i : ℕ) (d : Bor (List ℕ)) (seen : Bool) (inputs : List NamedFile) (bytes : List ℕ) → i < length arguments
-      → ReadsAs file standard (get_or arguments i d).now (is_standard (get_or arguments i d).now) seen (gives bytes) → Completes arguments i seen inputs
-      → Completes arguments (i + 1) (seen || is_standard (get_or arguments i d).now) (inputs ++ record { name = shown_name (get_or arguments i d).now; bytes = bytes } ∷ [])
+  pub Completes-read : (arguments : List (Bor (List ℕ))) (i : ℕ) (d : Bor (List ℕ)) (seen : Bool)
+      (inputs : List NamedFile) (bytes : List ℕ) → i < length arguments
+      → ReadsAs file standard (get_or arguments i d).now (is_standard (get_or arguments i d).now) seen (gives bytes)
+      → Completes arguments i seen inputs
+      → Completes arguments (i + 1) (seen || is_standard (get_or arguments i d).now)
+      (inputs ++ record { name = shown_name (get_or arguments i d).now; bytes = bytes } ∷ [])
   Completes-read arguments i d seen inputs bytes below reads before = record {
     completes = λ more fault are.
-        rw append_assoc (before.completes (record { name = shown_name (get_or arguments i d).now; bytes = bytes } ∷ more) fault
+        rw append_assoc (before.completes
+        (record { name = shown_name (get_or arguments i d).now; bytes = bytes } ∷ more) fault
         (rw (next-argument arguments i d below) (read reads are)));
   }
 
-  pub Completes-unread : (arguments : List (Bor (List ℕ))) (i : ℕ) (d : Bor (List ℕ)) (seen : Bool) (inputs : List NamedFile) (why : InputFault) → i < length arguments
-      → ReadsAs file standard (get_or arguments i d).now (is_standard (get_or arguments i d).now) seen (refuses why) → Completes arguments i seen inputs
-      → AreInputs file standard false (arguments_now arguments) inputs (Some (input_fault_text (shown_name (get_or arguments i d).now) why))
+  pub Completes-unread : (arguments : List (Bor (List ℕ))) (i : ℕ) (d : Bor (List ℕ)) (seen : Bool)
+      (inputs : List NamedFile) (why : InputFault) → i < length arguments
+      → ReadsAs file standard (get_or arguments i d).now (is_standard (get_or arguments i d).now) seen (refuses why)
+      → Completes arguments i seen inputs
+      → AreInputs file standard false (arguments_now arguments) inputs
+      (Some (input_fault_text (shown_name (get_or arguments i d).now) why))
   Completes-unread arguments i d seen inputs why below reads before =
-      let Are : List NamedFile → Type 0 = λ list. AreInputs file standard false (arguments_now arguments) list (Some (input_fault_text (shown_name (get_or arguments i d).now) why)) in
+      let Are : List NamedFile
+      → Type 0 = λ list. AreInputs file standard false (arguments_now arguments) list
+      (Some (input_fault_text (shown_name (get_or arguments i d).now) why)) in
       subst Are (append-nil inputs)
-      (before.completes [] (Some (input_fault_text (shown_name (get_or arguments i d).now) why)) (rw (next-argument arguments i d below) (unread why reads)))
+      (before.completes [] (Some (input_fault_text (shown_name (get_or arguments i d).now) why))
+      (rw (next-argument arguments i d below) (unread why reads)))
 
-  pub Completes-all : (arguments : List (Bor (List ℕ))) (i : ℕ) (seen : Bool) (inputs : List NamedFile) → length arguments ≤ i → Completes arguments i seen inputs
+  pub Completes-all : (arguments : List (Bor (List ℕ))) (i : ℕ) (seen : Bool) (inputs : List NamedFile)
+      → length arguments ≤ i → Completes arguments i seen inputs
       → AreInputs file standard false (arguments_now arguments) inputs None
   Completes-all arguments i seen inputs past before =
       let Are : List NamedFile → Type 0 = λ list. AreInputs file standard false (arguments_now arguments) list None in

@@ -22,7 +22,8 @@ module _ (file : List ℕ → Reading → Type 0) (standard : Reading → Type 0
       → AreInputs file standard true arguments inputs fault → AreInputsAfter file arguments inputs fault
   inputs_after done = no_argument
   inputs_after (read {argument} {bytes} reads rest) = elim (cases_Bool (is_standard argument)) [
-    | inl e ↦ let none : bytes ≡ [] = given_bytes (rw e at reads) in rw (is_dash argument e, none) (empty_text (inputs_after rest))
+    | inl e ↦ let none : bytes ≡ [] =
+        given_bytes (rw e at reads) in rw (is_dash argument e, none) (empty_text (inputs_after rest))
     | inr e ↦ rw e (another_file (no_dash argument e) (rw e at reads) (inputs_after rest))
   ]
   inputs_after (unread {argument} why reads) = elim (cases_Bool (is_standard argument)) [
@@ -47,11 +48,13 @@ module _ (file : List ℕ → Reading → Type 0) (standard : Reading → Type 0
   after_read no_argument = done
   after_read (another_file {argument} {bytes} {arguments} {inputs} {fault} differs reads rest) =
       let e = other argument differs in
-      subst (λ n. AreInputs file standard true (argument ∷ arguments) (named n bytes ∷ inputs) fault) (shown_file argument e)
+      subst (λ n. AreInputs file standard true (argument ∷ arguments) (named n bytes ∷ inputs) fault)
+      (shown_file argument e)
       (read (rw e reads) (after_read rest))
   after_read (unread_file {argument} {arguments} why differs reads) =
       let e = other argument differs in
-      subst (λ n. AreInputs file standard true (argument ∷ arguments) [] (Some (input_fault_text n why))) (shown_file argument e)
+      subst (λ n. AreInputs file standard true (argument ∷ arguments) [] (Some (input_fault_text n why)))
+      (shown_file argument e)
       (unread why (rw e reads))
   after_read (empty_text rest) = read refl (after_read rest)
 
@@ -60,15 +63,19 @@ module _ (file : List ℕ → Reading → Type 0) (standard : Reading → Type 0
   turn_read nothing = done
   turn_read (a_file {argument} {bytes} {arguments} {inputs} {fault} differs reads rest) =
       let e = other argument differs in
-      subst (λ n. AreInputs file standard false (argument ∷ arguments) (named n bytes ∷ inputs) fault) (shown_file argument e)
+      subst (λ n. AreInputs file standard false (argument ∷ arguments) (named n bytes ∷ inputs) fault)
+      (shown_file argument e)
       (read (rw e reads) (rw e (turn_read rest)))
   turn_read (no_file {argument} {arguments} why differs reads) =
       let e = other argument differs in
-      subst (λ n. AreInputs file standard false (argument ∷ arguments) [] (Some (input_fault_text n why))) (shown_file argument e)
+      subst (λ n. AreInputs file standard false (argument ∷ arguments) [] (Some (input_fault_text n why)))
+      (shown_file argument e)
       (unread why (rw e reads))
   turn_read (standard_input reads rest) = read reads (after_read rest)
   turn_read (no_standard_input why reads) = unread why reads
 
-pub inputs_in_turn : (file : List ℕ → Reading → Type 0) (standard : Reading → Type 0) (arguments : List (List ℕ)) (inputs : List NamedFile)
-    (fault : Option (List ℕ)) → AreInputs file standard false arguments inputs fault ↔ AreInputsInTurn file standard arguments inputs fault
+pub inputs_in_turn : (file : List ℕ → Reading → Type 0) (standard : Reading → Type 0) (arguments : List (List ℕ))
+    (inputs : List NamedFile)
+    (fault : Option (List ℕ))
+    → AreInputs file standard false arguments inputs fault ↔ AreInputsInTurn file standard arguments inputs fault
 inputs_in_turn file standard arguments inputs fault = (in_turn file standard refl, turn_read file standard)

@@ -13,7 +13,8 @@ use Rattle.runs.specs.FileRights.{first_mode}
 use Rattle.runs.specs.OutputFiles.{Closes, whole, cut, late, Fills, Replaces, made, taken, WritesFile, follows}
 use Rattle.runs.specs.OutputPaths.{NamesNoStream, link_target, beside}
 
-pub logged-twice : (first rest : List FileCall) (log : FileLog) → logged rest (logged first log) ≡ logged (first ++ rest) log
+pub logged-twice : (first rest : List FileCall) (log : FileLog)
+    → logged rest (logged first log) ≡ logged (first ++ rest) log
 logged-twice first rest None = refl
 logged-twice first rest (Some before) = ap Some (append_assoc before first rest)
 
@@ -39,23 +40,29 @@ after-call {before} call began rest = record {
 }
 
 -- what a callee does is done for its caller
-pub done-for : {before end : FileLog} {fault : Option OutputFault} {P Q : Course → Type 0} → ((course : Course) → P course → Q course)
+pub done-for : {before end : FileLog} {fault : Option OutputFault} {P Q : Course → Type 0}
+    → ((course : Course) → P course → Q course)
     → Runs before end fault P → Runs before end fault Q
 done-for for it = record { course = it.course; log = it.log; fault_is = it.fault_is; is = for it.course it.is }
 
 -- what was put into a file that is closed then, and whether the system took all that was written
-pub put-closed : {T : Type 0} (result : Result T ToolFault) (closed : Bool) {output : List ℕ} {before after : Option (List ℕ)} {old new : ℕ}
+pub put-closed : {T : Type 0} (result : Result T ToolFault) (closed : Bool) {output : List ℕ}
+    {before after : Option (List ℕ)} {old new : ℕ}
     → old ≡ 0 → OnOk result (Appends before after output) → OnErr result (AppendsPrefix before after output)
-    → OnOk result (new ≡ old) → OnErr result (new ≡ old + 1) → Closes output before (closes after new closed) (closed && is_ok result)
+    → OnOk result (new ≡ old) → OnErr result (new ≡ old + 1)
+    → Closes output before (closes after new closed) (closed && is_ok result)
 put-closed (Ok _) true none all part same more = rw (same, none) (whole all)
 put-closed (Ok _) false none all part same more = rw (same, none) (late all)
 put-closed (Err _) true none all part same more = rw (more, none) (cut part)
 put-closed (Err _) false none all part same more = rw (more, none) (cut part)
 
-module _ {output path : List ℕ} {old : Option Rights} {tries bits : ℕ} (number : ℕ) {before named tried end : FileLog} {fault : Option OutputFault} where
+module _ {output path : List ℕ} {old : Option Rights} {tries bits : ℕ} (number : ℕ) {before named tried end : FileLog}
+    {fault : Option OutputFault} where
   -- a new file is filled once it is made
-  pub after-made : {new filled : List ℕ} {its : Option (List ℕ)} → number < 2 ^ 32 → new ≡ beside path number → filled ≡ beside path number
-      → bits ≡ first_mode old → named ≡ logged (numbers number ∷ []) before → tried ≡ logged (makes new bits its ∷ []) named
+  pub after-made : {new filled : List ℕ} {its : Option (List ℕ)} → number < 2 ^ 32 → new ≡ beside path number
+      → filled ≡ beside path number
+      → bits ≡ first_mode old → named ≡ logged (numbers number ∷ []) before
+      → tried ≡ logged (makes new bits its ∷ []) named
       → Runs tried end fault (Fills output (record { path = filled; target = path; made = its }) old)
       → Runs before end fault (Replaces output path old tries)
   after-made {its} few new-is filled-is bits-is first second fills =
@@ -77,14 +84,17 @@ module _ {output path : List ℕ} {old : Option Rights} {tries bits : ℕ} (numb
   -- none can be made
   pub after-unmade : {new : List ℕ} (why : MakeFault) → new ≡ beside path number → bits ≡ first_mode old
       → named ≡ logged (numbers number ∷ []) before → tried ≡ logged (fails_to_make new bits why ∷ []) named
-      → Runs tried end fault (λ rest. Replaces output path old tries (numbers number ▸ fails_to_make (beside path number) (first_mode old) why ▸ rest))
+      → Runs tried end fault (λ rest.
+      Replaces output path old tries
+      (numbers number ▸ fails_to_make (beside path number) (first_mode old) why ▸ rest))
       → Runs before end fault (Replaces output path old tries)
   after-unmade why new-is bits-is first second rest =
       after-call (numbers number) first
       (after-call (fails_to_make (beside path number) (first_mode old) why) (rw (new-is, bits-is) at second) rest)
 
 -- what a link leads to is written next
-pub after-link : (old : Option Rights) {output path text copy target : List ℕ} {links less : ℕ} {before asked read end : FileLog} {fault : Option OutputFault}
+pub after-link : (old : Option Rights) {output path text copy target : List ℕ} {links less : ℕ}
+    {before asked read end : FileLog} {fault : Option OutputFault}
     → NamesNoStream path → less + 1 ≡ links → copy ≡ text → target ≡ link_target path copy
     → asked ≡ logged (asks path (Regular old) ∷ []) before → read ≡ logged (reads_link path (Some text) ∷ []) asked
     → Runs read end fault (WritesFile output less target)
@@ -93,4 +103,6 @@ after-link old {output} {path} {text} {less} {before} {end} {fault} none more co
     subst (λ n. Runs before end fault (WritesFile output n path)) more
     (after-call (asks path (Regular old)) first
     (after-call (reads_link path (Some text)) second
-    (done-for (λ course are. follows none (subst (λ p. WritesFile output less p course) (target-is ∙ ap (link_target path) copy-is) are)) rest)))
+    (done-for (λ course are.
+    follows none (subst (λ p. WritesFile output less p course) (target-is ∙ ap (link_target path) copy-is) are))
+    rest)))

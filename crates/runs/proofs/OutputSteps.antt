@@ -15,10 +15,12 @@ same_or_other p q = elim (cases_Bool (bytes_eq p q)) [
   | inr e ↦ inr (λ same. absurd (grind (arith, sym e ∙ (bytes_eq-Decides p q).1 same)))
 ]
 
-pub put_there : (path : List ℕ) (state : PathState) (at : List ℕ → PathState) {p : List ℕ} → p ≡ path → put path state at p ≡ state
+pub put_there : (path : List ℕ) (state : PathState) (at : List ℕ → PathState) {p : List ℕ} → p ≡ path
+    → put path state at p ≡ state
 put_there path state at {p} is = cond-true (bytes_eq p path) state (at p) ((bytes_eq-Decides p path).1 is)
 
-pub put_elsewhere : (path : List ℕ) (state : PathState) (at : List ℕ → PathState) {p : List ℕ} → p ≢ path → put path state at p ≡ at p
+pub put_elsewhere : (path : List ℕ) (state : PathState) (at : List ℕ → PathState) {p : List ℕ} → p ≢ path
+    → put path state at p ≡ at p
 put_elsewhere path state at {p} other = elim (cases_Bool (bytes_eq p path)) [
   | inl e ↦ absurd (other ((bytes_eq-Decides p path).0 e))
   | inr e ↦ cond-false (bytes_eq p path) state (at p) e
@@ -34,23 +36,27 @@ pub same_path : {p q : List ℕ} → file_at p ≡ file_at q → p ≡ q
 same_path e = cc
 
 -- what an empty file holds that took all of an output
-pub taken_all : {output : List ℕ} {before : Option (List ℕ)} (after : Option (List ℕ)) → Appends before after output → before ≡ Some []
+pub taken_all : {output : List ℕ} {before : Option (List ℕ)} (after : Option (List ℕ)) → Appends before after output
+    → before ≡ Some []
     → after ≡ Some output
 taken_all {output} None all empty = absurd (subst (λ b. Appends b None output) empty all)
 taken_all {output} (Some bytes) all empty = ap Some (subst (λ b. Appends b (Some bytes) output) empty all)
 
 -- other bytes leave a file its rights
-pub same_rights : (bytes : Option (List ℕ)) (state : PathState) {mode : ℕ} {owner : Option Owner} → HasRights (with_bytes bytes state) mode owner
+pub same_rights : (bytes : Option (List ℕ)) (state : PathState) {mode : ℕ} {owner : Option Owner}
+    → HasRights (with_bytes bytes state) mode owner
     → HasRights state mode owner
 same_rights bytes nothing has = let e = has.1 in absurd cc
 same_rights bytes (link text) has = let e = has.1 in absurd cc
 same_rights bytes (file its mode owner) has = let e = has.1 in (its, cc)
 
-pub as_it_was : {output : List ℕ} {to : Destination} (before now : Files) → ((path : List ℕ) → now.at path ≡ before.at path)
+pub as_it_was : {output : List ℕ} {to : Destination} (before now : Files)
+    → ((path : List ℕ) → now.at path ≡ before.at path)
     → IsWholeOrAsItWas output to before now
 as_it_was before now same path = inl (same path)
 
-pub nothing_given : {to : Destination} (before now : Files) → ((path : List ℕ) → now.at path ≡ before.at path) → GivesNothingAway to before now
+pub nothing_given : {to : Destination} (before now : Files) → ((path : List ℕ) → now.at path ≡ before.at path)
+    → GivesNothingAway to before now
 nothing_given before now same path mode owner has = inl (subst (λ s. HasRights s mode owner) (same path) has)
 
 -- what these calls come to from now on, where it was otherwise before
@@ -60,13 +66,15 @@ pub record Ends (output : List ℕ) (to : Destination) (before : Files) (course 
   pub success : fault_of course ≡ None → HasAll output to before (after course now)
   pub mode : (target : List ℕ) → to ≡ file_at target → fault_of course ≡ None → Each IsNotOpening course
       → KeepsMode (before.at target) ((after course now).at target)
-  pub fault : Each IsNotOpening course → fault_of course ≢ None → (path : List ℕ) → (after course now).at path ≡ before.at path
+  pub fault : Each IsNotOpening course → fault_of course ≢ None → (path : List ℕ)
+      → (after course now).at path ≡ before.at path
   pub other_paths : (path : List ℕ) → to ≢ file_at path → (after course now).at path ≡ before.at path
   pub other_streams : (number : ℕ) → to ≢ stream_of number → (after course now).streams number ≡ before.streams number
 
 module _ {output : List ℕ} {to : Destination} {before : Files} where
   -- one call, and then the rest
-  pub next : {rest : Course} (call : FileCall) {now : Files} → IsWholeOrAsItWas output to before now → GivesNothingAway to before now
+  pub next : {rest : Course} (call : FileCall) {now : Files} → IsWholeOrAsItWas output to before now
+      → GivesNothingAway to before now
       → Ends output to before rest (after_call call now) → Ends output to before (call ▸ rest) now
   next call was gave it = record {
     whole_or_as_it_was = λ no. (was, it.whole_or_as_it_was no.1);
@@ -98,5 +106,6 @@ idle {output} {to} {files} {rest} call same it =
     next call (as_it_was files files (λ path. refl)) (nothing_given files files (λ path. refl))
     (subst (Ends output to files rest) (sym same) it)
 
-pub stop : {output : List ℕ} {to : Destination} {files : Files} (why : OutputFault) → Ends output to files (fails why) files
+pub stop : {output : List ℕ} {to : Destination} {files : Files} (why : OutputFault)
+    → Ends output to files (fails why) files
 stop why = stopped why (λ path. refl) (λ number. refl)

@@ -104,7 +104,8 @@ module _ (mode : ℕ) where
         let it : max (max (bit_at mode (6 + i)) 0) 0 ≡ bit_at mode (6 + i) = omega arith in
         let above : bit_at both (6 + i) ≡ 0 = bit_at_above both 3 (6 + i) both_below (omega arith) in
         bit_of (6 + i) (bit_at mode (6 + i)) 0 0
-        (masked mode 0o700 (6 + i) (bit_at_mask_inside 6 9 (6 + i) (omega arith) (omega (arith, low)))) (moved_high i) above ∙ it
+        (masked mode 0o700 (6 + i) (bit_at_mask_inside 6 9 (6 + i) (omega arith) (omega (arith, low))))
+        (moved_high i) above ∙ it
 
     other_below : kept_bits mode same_user false < 2 ^ 9
     other_below =
@@ -112,7 +113,8 @@ module _ (mode : ℕ) where
         let second : both * 2 ^ 3 < 2 ^ 9 = omega (arith, both_below) in
         let third : both < 2 ^ 9 = omega (arith, both_below) in
         subst (λ n. n < 2 ^ 9) (sym is_kept)
-        (or_lt 9 (bit_or (bit_and mode 0o700) (both * 2 ^ 3)) both (or_lt 9 (bit_and mode 0o700) (both * 2 ^ 3) first second) third)
+        (or_lt 9 (bit_or (bit_and mode 0o700) (both * 2 ^ 3)) both
+        (or_lt 9 (bit_and mode 0o700) (both * 2 ^ 3) first second) third)
 
 -- the bits of the classes
 low : (deed : Deed) → bit_for others deed < 3
@@ -162,17 +164,20 @@ plain : (user : User) (owner : Owner) → user.number ≢ owner.user
     → class_of user owner ≡ cond (user.is_in owner.group) its_group others
 plain user owner other = cond-false (user.number == owner.user) its_owner _ (ne_eqb user.number owner.user other)
 
-of_class : (mode : ℕ) (member : Bool) (deed : Deed) → bit_at mode (bit_for its_group deed) ≡ 1 → bit_at mode (bit_for others deed) ≡ 1
+of_class : (mode : ℕ) (member : Bool) (deed : Deed) → bit_at mode (bit_for its_group deed) ≡ 1
+    → bit_at mode (bit_for others deed) ≡ 1
     → bit_at mode (bit_for (cond member its_group others) deed) ≡ 1
 of_class mode true deed x y = x
 of_class mode false deed x y = y
 
 new_both : (mode : ℕ) (same_user member : Bool) (deed : Deed)
     → bit_at (kept_bits mode same_user false) (bit_for (cond member its_group others) deed) ≡ 1
-    → (bit_at mode (bit_for others deed) ≡ 1) × (bit_at mode (3 + bit_for others deed) ≡ 1) × (bit_at 0o5 (bit_for others deed) ≡ 1)
+    → (bit_at mode (bit_for others deed) ≡ 1) × (bit_at mode (3 + bit_for others deed) ≡ 1)
+    × (bit_at 0o5 (bit_for others deed) ≡ 1)
 new_both mode same_user true deed e =
     of_both mode (bit_for others deed)
-    (sym (other_mid mode same_user (bit_for others deed) (low deed)) ∙ ap (bit_at (kept_bits mode same_user false)) (sym (mid deed)) ∙ e)
+    (sym (other_mid mode same_user (bit_for others deed) (low deed))
+    ∙ ap (bit_at (kept_bits mode same_user false)) (sym (mid deed)) ∙ e)
 new_both mode same_user false deed e =
     of_both mode (bit_for others deed) (sym (other_low mode same_user (bit_for others deed) (low deed)) ∙ e)
 
@@ -183,7 +188,8 @@ users_of_group : (old : Rights) (mode : ℕ) (whose : Owner) → whose.group ≡
     → May user (record { mode = mode; owner = whose }) deed → May user old deed
 users_of_group old mode whose same kept user deed not_old not_new may =
     let class : class_of user whose ≡ class_of user old.owner =
-    plain user whose not_new ∙ ap (λ g. cond (user.is_in g) its_group others) same ∙ sym (plain user old.owner not_old) in
+    plain user whose not_new ∙ ap (λ g. cond (user.is_in g) its_group others) same
+    ∙ sym (plain user old.owner not_old) in
     kept (bit_for (class_of user old.owner) deed) (subst (λ k. bit_at mode (bit_for k deed) ≡ 1) class may)
 
 nobody : (old : Rights) (whose : Owner) (same_user same_group : Bool)
@@ -192,7 +198,8 @@ nobody : (old : Rights) (whose : Owner) (same_user same_group : Bool)
 nobody old whose true true user group = record {
   users = users_of_group old (bit_and old.mode 0o777) whose (group refl) (λ i e. (shared old.mode 0o777 i e).0);
   set_ids = omega (arith, and_le_r old.mode 0o777);
-  others = λ other. absurd (other (ap₂ (λ (u g : ℕ). let o : Owner = record { user = u; group = g } in o) (user refl) (group refl)));
+  others = λ other. absurd
+      (other (ap₂ (λ (u g : ℕ). let o : Owner = record { user = u; group = g } in o) (user refl) (group refl)));
 }
 nobody old whose false true user group = record {
   users = users_of_group old (bit_and old.mode 0o775) whose (group refl) (λ i e. (shared old.mode 0o775 i e).0);
@@ -201,7 +208,8 @@ nobody old whose false true user group = record {
 }
 nobody old whose same_user false user group = record {
   users = λ user deed not_old not_new may.
-      let new_class = ap (λ k. bit_at (kept_bits old.mode same_user false) (bit_for k deed)) (sym (plain user whose not_new)) ∙ may in
+      let new_class = ap (λ k. bit_at (kept_bits old.mode same_user false) (bit_for k deed))
+      (sym (plain user whose not_new)) ∙ may in
       let bits = new_both old.mode same_user (user.is_in whose.group) deed new_class in
       subst (λ k. bit_at old.mode (bit_for k deed) ≡ 1) (sym (plain user old.owner not_old))
       (of_class old.mode (user.is_in old.owner.group) deed (ap (bit_at old.mode) (mid deed) ∙ bits.1) bits.0);
@@ -220,10 +228,12 @@ nobody_gets_more old (Some owner) whose is =
     (λ e. ap (λ (o : Owner). o.group) is ∙ eqb-true owner.group old.owner.group e)
 
 -- a file that is its owner's alone
-pub private_gives_nobody_more : (old : Rights) (whose : Owner) → GivesNobodyMore old (record { mode = 0o600; owner = whose })
+pub private_gives_nobody_more : (old : Rights) (whose : Owner)
+    → GivesNobodyMore old (record { mode = 0o600; owner = whose })
 private_gives_nobody_more old whose = record {
   users = λ user deed not_old not_new may.
-      let none = sym (no_bit (user.is_in whose.group) deed) ∙ ap (λ k. bit_at 0o600 (bit_for k deed)) (sym (plain user whose not_new)) ∙ may in
+      let none = sym (no_bit (user.is_in whose.group) deed)
+      ∙ ap (λ k. bit_at 0o600 (bit_for k deed)) (sym (plain user whose not_new)) ∙ may in
       absurd (omega (arith, none));
   set_ids = omega arith;
   others = λ other. refl;
@@ -250,15 +260,19 @@ keeps old owner true true user group = record {
   of_group = λ same deed. masked old.mode 0o777 (bit_for its_group deed) (in_all its_group deed);
   of_others = λ same deed no_write. masked old.mode 0o777 (bit_for others deed) (in_all others deed);
   of_both = λ class deed no_owner no_write in_group in_others.
-      masked old.mode 0o777 (bit_for class deed) (in_all class deed) ∙ of_either old.mode class deed no_owner in_group in_others;
+      masked old.mode 0o777 (bit_for class deed) (in_all class deed)
+      ∙ of_either old.mode class deed no_owner in_group in_others;
   of_all = λ same. and_mask old.mode 9;
 }
 keeps old owner false true user group = record {
-  of_owner = λ deed. masked old.mode 0o775 (bit_for its_owner deed) (in_most its_owner deed (λ (e : its_owner ≡ others). cc));
-  of_group = λ same deed. masked old.mode 0o775 (bit_for its_group deed) (in_most its_group deed (λ (e : its_group ≡ others). cc));
+  of_owner = λ deed. masked old.mode 0o775 (bit_for its_owner deed)
+      (in_most its_owner deed (λ (e : its_owner ≡ others). cc));
+  of_group = λ same deed. masked old.mode 0o775 (bit_for its_group deed)
+      (in_most its_group deed (λ (e : its_group ≡ others). cc));
   of_others = λ same deed no_write. masked old.mode 0o775 (bit_for others deed) (in_most others deed (λ e. no_write));
   of_both = λ class deed no_owner no_write in_group in_others.
-      masked old.mode 0o775 (bit_for class deed) (in_most class deed (λ e. no_write)) ∙ of_either old.mode class deed no_owner in_group in_others;
+      masked old.mode 0o775 (bit_for class deed) (in_most class deed (λ e. no_write))
+      ∙ of_either old.mode class deed no_owner in_group in_others;
   of_all = λ same. let e : false ≡ true = user (ap (λ (o : Owner). o.user) same) in absurd cc;
 }
 keeps old owner same_user false user group = record {
@@ -268,14 +282,16 @@ keeps old owner same_user false user group = record {
   of_others = λ same. let e : false ≡ true = group same in absurd cc;
   of_both = λ class deed no_owner no_write in_group in_others.
       of_new class deed no_owner
-      (in_both old.mode (bit_for others deed) in_others (ap (bit_at old.mode) (sym (mid deed)) ∙ in_group) (in_five deed no_write));
+      (in_both old.mode (bit_for others deed) in_others (ap (bit_at old.mode) (sym (mid deed)) ∙ in_group)
+      (in_five deed no_write));
   of_all = λ same. let e : false ≡ true = group (ap (λ (o : Owner). o.group) same) in absurd cc;
 } where
   of_new : (class : Class) (deed : Deed) → class ≢ its_owner → bit_at (both old.mode) (bit_for others deed) ≡ 1
       → bit_at (kept_bits old.mode same_user false) (bit_for class deed) ≡ 1
   of_new its_owner deed other e = absurd (other refl)
   of_new its_group deed other e =
-      ap (bit_at (kept_bits old.mode same_user false)) (mid deed) ∙ other_mid old.mode same_user (bit_for others deed) (low deed) ∙ e
+      ap (bit_at (kept_bits old.mode same_user false)) (mid deed)
+      ∙ other_mid old.mode same_user (bit_for others deed) (low deed) ∙ e
   of_new others deed other e = other_low old.mode same_user (bit_for others deed) (low deed) ∙ e
 
 pub kept_rights : (old : Rights) (owner : Owner) → KeepsRights old owner (kept_mode old (Some owner))

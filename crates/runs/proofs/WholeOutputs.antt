@@ -25,20 +25,26 @@ replaces_target {target} files asked gives (made {number} few filled) =
     (fills files gives.1.0.0 (beside_is_another number few target) asked gives.1.0.1 filled)
 replaces_target {target} {old} files asked gives (taken {number} rest) =
     idle (numbers number) refl
-    (idle (fails_to_make (beside target number) (first_mode old) Exists) refl (replaces_target files asked gives.1.1 rest))
+    (idle (fails_to_make (beside target number) (first_mode old) Exists) refl
+    (replaces_target files asked gives.1.1 rest))
 replaces_target {target} {old} files asked gives (all_taken {number}) =
-    idle (numbers number) refl (idle (fails_to_make (beside target number) (first_mode old) Exists) refl (stop CannotCreate))
+    idle (numbers number) refl
+    (idle (fails_to_make (beside target number) (first_mode old) Exists) refl (stop CannotCreate))
 replaces_target {target} files asked gives (in_place {old} {number} writes) =
     idle (numbers number) refl
-    (idle (fails_to_make (beside target number) (first_mode (Some old)) Forbidden) refl (writes_in_place files gives.1.1 writes))
+    (idle (fails_to_make (beside target number) (first_mode (Some old)) Forbidden) refl
+    (writes_in_place files gives.1.1 writes))
 replaces_target {target} files asked gives (forbidden {number}) =
-    idle (numbers number) refl (idle (fails_to_make (beside target number) (first_mode None) Forbidden) refl (stop CannotCreate))
+    idle (numbers number) refl
+    (idle (fails_to_make (beside target number) (first_mode None) Forbidden) refl (stop CannotCreate))
 replaces_target {target} {old} files asked gives (failed {number}) =
-    idle (numbers number) refl (idle (fails_to_make (beside target number) (first_mode old) Failed) refl (stop CannotCreate))
+    idle (numbers number) refl
+    (idle (fails_to_make (beside target number) (first_mode old) Failed) refl (stop CannotCreate))
 
 -- what each call may do
 module _ (to : Destination) (around : Course) where
-  puts_allowed : {output : List ℕ} {before : Option (List ℕ)} {rest : Course} → Puts output before rest → Each (IsAllowed to around) rest
+  puts_allowed : {output : List ℕ} {before : Option (List ℕ)} {rest : Course} → Puts output before rest
+      → Each (IsAllowed to around) rest
   puts_allowed (all_put (whole all)) = (tt, tt)
   puts_allowed (unput (cut all)) = (tt, tt)
   puts_allowed (unput (late all)) = (tt, tt)
@@ -48,12 +54,14 @@ module _ (to : Destination) (around : Course) where
   in_place_allowed is may unopened = (tt, tt)
   in_place_allowed is may (opened puts) = ((is, may), puts_allowed puts)
 
-  stream_allowed : {output : List ℕ} {number : ℕ} {rest : Course} → to ≡ stream_of number → WritesStream output number rest
+  stream_allowed : {output : List ℕ} {number : ℕ} {rest : Course} → to ≡ stream_of number
+      → WritesStream output number rest
       → Each (IsAllowed to around) rest
   stream_allowed is lacking = (tt, tt)
   stream_allowed is (stream_taken puts) = (is, puts_allowed puts)
 
-  module _ {output new target : List ℕ} {before : Option (List ℕ)} (is : to ≡ file_at target) (beside_it : IsBeside new target)
+  module _ {output new target : List ℕ} {before : Option (List ℕ)} (is : to ≡ file_at target)
+      (beside_it : IsBeside new target)
       (replaceable : IsReplaceable target around) where
     finish_allowed : {rest : Course} → Finishes output (record { path = new; target = target; made = before }) rest
         → Each (IsAllowed to around) rest
@@ -62,7 +70,8 @@ module _ (to : Destination) (around : Course) where
     finish_allowed (unwritten (cut all)) = (tt, ((target, is, beside_it), tt))
     finish_allowed (unwritten (late all)) = (tt, ((target, is, beside_it), tt))
 
-    fill_allowed : {old : Option Rights} {rest : Course} → Fills output (record { path = new; target = target; made = before }) old rest
+    fill_allowed : {old : Option Rights} {rest : Course}
+        → Fills output (record { path = new; target = target; made = before }) old rest
         → Each (IsAllowed to around) rest
     fill_allowed (replaces_none finishing) = finish_allowed finishing
     fill_allowed (with_rights finishing) = (tt, (tt, finish_allowed finishing))
@@ -88,18 +97,27 @@ no_link_there has = subst IsNoLink (sym has.1) tt
 
 record Follows (output path : List ℕ) (around course : Course) : Type 0 where
   to : Destination
-  leads : (files : Files) → GivesAll course files → Leads files path to ⊎ ((fault_of course ≢ None) × (after course files ≡ files))
+  leads : (files : Files) → GivesAll course files
+      → Leads files path to ⊎ ((fault_of course ≢ None) × (after course files ≡ files))
   allowed : Each (IsAllowed to around) course
   ends : (files : Files) → GivesAll course files → Ends output to files course files
 
 -- where the path leads isn't found
-halts : {output path : List ℕ} {around course : Course} → fault_of course ≢ None → ((files : Files) → after course files ≡ files)
+halts : {output path : List ℕ} {around course : Course} → fault_of course ≢ None
+    → ((files : Files) → after course files ≡ files)
     → Each (IsAllowed (file_at path) around) course → ((files : Files) → Ends output (file_at path) files course files)
     → Follows output path around course
 halts {path} bad same allowed ends =
-    record { to = file_at path; leads = λ files gives. inr (bad, same files); allowed = allowed; ends = λ files gives. ends files }
+    record {
+      to = file_at path;
+      leads = λ files gives. inr (bad, same files);
+      allowed = allowed;
+      ends =
+          λ files gives. ends files;
+    }
 
-follows_links : {output path : List ℕ} {links : ℕ} {around course : Course} → ((call : FileCall) → Among course call → Among around call)
+follows_links : {output path : List ℕ} {links : ℕ} {around course : Course}
+    → ((call : FileCall) → Among course call → Among around call)
     → WritesFile output links path course → Follows output path around course
 follows_links {around} inside (stream {number} names writes) = record {
   to = stream_of number;
@@ -131,7 +149,14 @@ follows_links {path} {around} inside (replaces {old} none rest) =
     record {
       to = file_at path;
       leads = λ files gives. inl (to_file none gives.1.0);
-      allowed = (tt, (tt, replaces_allowed (file_at path) around refl replaceable asked (λ call among. inside call (inr (inr among))) rest));
+      allowed = (
+        tt,
+        (
+          tt,
+          replaces_allowed (file_at path) around refl replaceable asked
+              (λ call among. inside call (inr (inr among))) rest,
+        ),
+      );
       ends = λ files gives.
           idle (asks path (Regular old)) refl
           (idle (reads_link path None) refl

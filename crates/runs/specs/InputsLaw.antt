@@ -11,9 +11,11 @@ named name bytes = record { name = name; bytes = bytes }
 
 -- after standard input was read: inputs in the order of the arguments, up to the first that can't be
 -- read, and what is wrong with that
-pub data AreInputsAfter (file : List ℕ → Reading → Type 0) : List (List ℕ) → List NamedFile → Option (List ℕ) → Type 0 where
+pub data AreInputsAfter (file : List ℕ → Reading → Type 0) : List (List ℕ) → List NamedFile → Option (List ℕ)
+    → Type 0 where
   no_argument : AreInputsAfter file [] [] None
-  another_file : {argument bytes : List ℕ} {arguments : List (List ℕ)} {inputs : List NamedFile} {fault : Option (List ℕ)}
+  another_file : {argument bytes : List ℕ} {arguments : List (List ℕ)} {inputs : List NamedFile}
+      {fault : Option (List ℕ)}
       → argument ≢ codes "-" → file argument (gives bytes) → AreInputsAfter file arguments inputs fault
       → AreInputsAfter file (argument ∷ arguments) (named argument bytes ∷ inputs) fault
   unread_file : {argument : List ℕ} {arguments : List (List ℕ)} (why : InputFault) → argument ≢ codes "-"

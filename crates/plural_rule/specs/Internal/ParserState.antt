@@ -26,7 +26,8 @@ waiting_then [] rest = rest
 waiting_then (WaitBinary op a ∷ stack) rest = waiting_then stack (program_then 1 a (branch_then op 0 rest))
 waiting_then (WaitQuestion a ∷ stack) rest = waiting_then stack (program_then 1 a (choose_instruction 0 ∷ rest))
 waiting_then (WaitColon a b ∷ stack) rest =
-    waiting_then stack (program_then 1 a (choose_instruction (size b + 1) ∷ program_then 0 b (jump_instruction 0 ∷ rest)))
+    waiting_then stack (program_then 1 a
+    (choose_instruction (size b + 1) ∷ program_then 0 b (jump_instruction 0 ∷ rest)))
 waiting_then (w ∷ stack) rest = waiting_then stack rest
 
 -- what waits, as the parser's stack has it, whose instructions begin at an index
@@ -53,7 +54,8 @@ pub record Held : Type 0 where
   pub start : ℕ
 
 abbrev pub held : List Instruction → List ℕ → Parser → Held
-held room codes parser = record { code = take parser.len room; entries = entries_in codes parser.count; start = parser.start }
+held room codes parser =
+    record { code = take parser.len room; entries = entries_in codes parser.count; start = parser.start }
 
 -- that stands for what waits
 pub record IsWaiting (parser : Held) (stack : List Waiting) : Type 0 where

@@ -24,7 +24,8 @@ at_run : {X : Type 0} (test : X → Bool) (xs : List X) → PartsAt test xs (pre
 at_run test [] = (All-nil (λ y. test y ≡ true), tt)
 at_run test (x ∷ xs) =
     cond_both (test x) (1 + prefix_len test xs) 0 (PartsAt test (x ∷ xs))
-    (λ is. let h = at_run test xs in rw (one-add (prefix_len test xs)) (All-cons (λ y. test y ≡ true) x (take (prefix_len test xs) xs) is h.0, h.1))
+    (λ is. let h = at_run test xs in
+    rw (one-add (prefix_len test xs)) (All-cons (λ y. test y ≡ true) x (take (prefix_len test xs) xs) is h.0, h.1))
     (λ fails. (All-nil (λ y. test y ≡ true), fails))
 
 pub parts_of : {X : Type 0} (test : X → Bool) (xs : List X) → Parts test xs

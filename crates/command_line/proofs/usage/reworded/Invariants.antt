@@ -12,6 +12,7 @@ invariant-loop-line l = record {
   feed : split_inclusive_pattern l.line-iterator ≡ 10;
   own : option_map string_bytes l.tip ≡ own_tip l.tool l.text;
   so_far :
-      string_bytes l.answer ++ flat_map (reworded_line l.tool (own_tip l.tool l.text)) (lines_with_ends (split_inclusive_text l.line-iterator))
+      string_bytes l.answer ++ flat_map (reworded_line l.tool (own_tip l.tool l.text))
+      (lines_with_ends (split_inclusive_text l.line-iterator))
       ≡ flat_map (reworded_line l.tool (own_tip l.tool l.text)) (lines_with_ends l.text);
 }

@@ -6,7 +6,8 @@ pub loop-line-preserved : goal.loop-line-preserved
 loop-line-preserved c =
     let turn = step _ _ _ c.in-Some.line.now _ c.loop-line.invariant.feed c.in-Some.ensures.steps in
     let so_far = rw turn.1 at c.loop-line.invariant.so_far in
-    let more = c.in_ok-push_str.ensures.bytes ∙ ap (λ part. string_bytes c.loop-line.answer ++ part) c.spaced_line.ensures in
+    let more = c.in_ok-push_str.ensures.bytes
+    ∙ ap (λ part. string_bytes c.loop-line.answer ++ part) c.spaced_line.ensures in
     record {
       can = tt;
       finite = tt;

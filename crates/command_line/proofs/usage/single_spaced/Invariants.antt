@@ -14,6 +14,7 @@ invariant-loop-line l = record {
   feed : split_inclusive_pattern l.line-iterator ≡ 10;
   so_far :
       string_bytes l.answer
-      ++ flat_map spaced_line (zip (l.before ∷ lines_with_ends (split_inclusive_text l.line-iterator)) (lines_with_ends (split_inclusive_text l.line-iterator)))
+      ++ flat_map spaced_line (zip (l.before ∷ lines_with_ends (split_inclusive_text l.line-iterator))
+      (lines_with_ends (split_inclusive_text l.line-iterator)))
       ≡ single_spaced l.text;
 }

@@ -14,7 +14,8 @@ returns-in_err-entries-clause-output g c =
 
 pub returns-in_err-variables-clause-output : goal.returns-in_err-variables-clause-output
 returns-in_err-variables-clause-output g c =
-    let p = err_from_is_err_and c.from_residual-in_err-variables.result c.from_residual-in_err-variables.ensures.1 in rw (p.1, p.2) (unread refl refl)
+    let p = err_from_is_err_and c.from_residual-in_err-variables.result c.from_residual-in_err-variables.ensures.1 in
+    rw (p.1, p.2) (unread refl refl)
 
 pub returns-in_err-only-clause-output : goal.returns-in_err-only-clause-output
 returns-in_err-only-clause-output g c =
@@ -26,20 +27,24 @@ pub returns-in_default-clause-output : goal.returns-in_default-clause-output
 returns-in_default-clause-output g c =
     let environment = map (λ entry. entry.items) c.in_ok-entries.entries.items in
     let pairs : pairs_in c.as_slice-in_default.result.now ≡ variables_of environment =
-    ap pairs_in c.as_slice-in_default.ensures.value ∙ c.in_ok-variables.ensures ∙ ap (λ entries. variables_of (map (λ entry. entry.items) entries)) c.as_slice.ensures.value in
+    ap pairs_in c.as_slice-in_default.ensures.value ∙ c.in_ok-variables.ensures
+    ∙ ap (λ entries. variables_of (map (λ entry. entry.items) entries)) c.as_slice.ensures.value in
     rw c.in_default.is
     (replaces (g.S.EntrySource.entries c.args.source.now) (g.R.ByteIn.remaining c.args.reader.now)
     (g.R.ByteIn.remaining c.run_envsubst_in_blocks.new.reader) (g.W.ByteOut.contents c.args.writer.now)
     (g.W.ByteOut.contents c.run_envsubst_in_blocks.new.writer) c.run_envsubst_in_blocks.result environment
-    c.as_slice-in_default.result.now None None c.in_ok-entries.ensures pairs refl c.run_envsubst_in_blocks.ensures.output)
+    c.as_slice-in_default.result.now None None c.in_ok-entries.ensures pairs refl
+    c.run_envsubst_in_blocks.ensures.output)
 
 pub returns-clause-output : goal.returns-clause-output
 returns-clause-output g c =
     let environment = map (λ entry. entry.items) c.in_ok-entries.entries.items in
     let pairs : pairs_in c.as_slice-3.result.now ≡ variables_of environment =
-    ap pairs_in c.as_slice-3.ensures.value ∙ c.in_ok-variables.ensures ∙ ap (λ entries. variables_of (map (λ entry. entry.items) entries)) c.as_slice.ensures.value in
+    ap pairs_in c.as_slice-3.ensures.value ∙ c.in_ok-variables.ensures
+    ∙ ap (λ entries. variables_of (map (λ entry. entry.items) entries)) c.as_slice.ensures.value in
     let names : map (λ name. name.now) c.as_slice-2.result.now ≡ names_in c.in-Some.format.now =
-    ap (λ list. map (λ name. name.now) list) c.as_slice-2.ensures.value ∙ c.in_ok-only.ensures.names ∙ ap names_in c.as_bytes.ensures.value in
+    ap (λ list. map (λ name. name.now) list) c.as_slice-2.ensures.value ∙ c.in_ok-only.ensures.names
+    ∙ ap names_in c.as_bytes.ensures.value in
     rw c.in-Some.is
     (replaces (g.S.EntrySource.entries c.args.source.now) (g.R.ByteIn.remaining c.args.reader.now)
     (g.R.ByteIn.remaining c.run_envsubst_in_blocks-2.new.reader) (g.W.ByteOut.contents c.args.writer.now)

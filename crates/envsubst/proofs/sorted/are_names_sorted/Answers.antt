@@ -8,6 +8,7 @@ use Rattle.envsubst.proofs.sorted.are_names_sorted.Goals as goal
 
 pub returns : goal.returns
 returns c = λ is.
-    let cases = c.is_sorted_by.ensures.cases (λ a b. is_ge (name_cmp b.now a.now)) (answers_always _ _ _ (λ f a r g h. search rules)) in
+    let cases = c.is_sorted_by.ensures.cases (λ a b. is_ge (name_cmp b.now a.now))
+    (answers_always _ _ _ (λ f a r g h. search rules)) in
     let all = subst (IsAllAdjacentAnswer (λ x y b. b ≡ is_ge (name_cmp y.now x.now)) c.args.names.now) is cases in
     λ k d low inside. ge-not_lt _ (all k d inside)

@@ -8,7 +8,8 @@ abbrev pub invariant-loop-at : goal.invariant-loop-at
 invariant-loop-at g l = record {
   within : l.at ≤ length l.piece;
   undecided : is_undecided l.held.items ≡ true;
-  advances : Advances (values_of_replacements l.replacements) (l.fn.held.items ++ l.piece) (l.held.items ++ drop l.at l.piece) (g.W.ByteOut.contents l.fn.writer) (g.W.ByteOut.contents l.writer);
+  advances : Advances (values_of_replacements l.replacements) (l.fn.held.items ++ l.piece)
+      (l.held.items ++ drop l.at l.piece) (g.W.ByteOut.contents l.fn.writer) (g.W.ByteOut.contents l.writer);
   no_failure : g.W.ByteOut.failures l.writer ≡ g.W.ByteOut.failures l.fn.writer;
 }
 

@@ -6,7 +6,9 @@ use Rattle.envsubst.proofs.whole_input.feed_in_blocks.Given as goal
 abbrev pub invariant-loop-at : goal.invariant-loop-at
 invariant-loop-at g l = record {
   within : l.at ≤ length l.piece;
-  gathers : Gathers (values_of_substituter l.fn.substituter) (l.fn.substituter.held ++ take l.at l.piece) l.substituter.held (g.W.ByteOut.contents l.fn.writer) (g.W.ByteOut.contents l.writer) l.block.items;
+  gathers : Gathers (values_of_substituter l.fn.substituter)
+      (l.fn.substituter.held ++ take l.at l.piece) l.substituter.held (g.W.ByteOut.contents l.fn.writer)
+      (g.W.ByteOut.contents l.writer) l.block.items;
   vars : l.substituter.vars ≡ l.fn.substituter.vars;
   only : l.substituter.only ≡ l.fn.substituter.only;
   sound : l.substituter.has_failed ≡ false;

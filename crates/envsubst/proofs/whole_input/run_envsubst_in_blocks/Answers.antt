@@ -14,8 +14,10 @@ returns-clause-output g c =
     ap (λ names. is_replaced (Some (map (λ n. n.now) names)) name) c.as_slice-2.ensures.value
     ∙ c.in_ok-names.ensures.replaced name ∙ sym (ap (λ only. is_replaced (names_given only) name) c.in-Some.is)) in
     subst
-    (λ values. EndsAs values (g.R.ByteIn.remaining c.args.reader.now) (g.R.ByteIn.remaining c.substitute_all-2.new.reader)
-    (g.W.ByteOut.contents c.args.writer.now) (g.W.ByteOut.contents c.substitute_all-2.new.writer) c.substitute_all-2.result)
+    (λ values. EndsAs values (g.R.ByteIn.remaining c.args.reader.now)
+    (g.R.ByteIn.remaining c.substitute_all-2.new.reader)
+    (g.W.ByteOut.contents c.args.writer.now)
+    (g.W.ByteOut.contents c.substitute_all-2.new.writer) c.substitute_all-2.result)
     same c.substitute_all-2.ensures.output
 
 pub returns-in_default-clause-output : goal.returns-in_default-clause-output

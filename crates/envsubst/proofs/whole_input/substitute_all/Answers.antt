@@ -21,21 +21,29 @@ loop-init g c = record {
 pub returns-in-Ok-eq0-clause-output : goal.returns-in-Ok-eq0-clause-output
 returns-in-Ok-eq0-clause-output g c =
     let room : 0 < length c.pull.new.buf = grind (arith, c.pull.auto.buf) in
-    fed-finish _ _ _ _ _ _ _ _ _ _ _ c.finish.result (same-values _ _ _ _ c.loop.invariant.vars c.loop.invariant.only) c.loop.invariant.fed c.in-Ok-eq0.ensures.bytes c.in-Ok-eq0.field-0-test room c.finish.ensures.ok c.finish.ensures.prefix c.finish.ensures.fault
+    fed-finish _ _ _ _ _ _ _ _ _ _ _ c.finish.result
+    (same-values _ _ _ _ c.loop.invariant.vars c.loop.invariant.only) c.loop.invariant.fed c.in-Ok-eq0.ensures.bytes
+    c.in-Ok-eq0.field-0-test room c.finish.ensures.ok c.finish.ensures.prefix c.finish.ensures.fault
 
 pub returns-in_err-block-in-Ok-clause-output : goal.returns-in_err-block-in-Ok-clause-output
 returns-in_err-block-in-Ok-clause-output g c =
     let p = err_from_is_err_and c.from_residual.result c.from_residual.ensures.1 in
     rw p.1
-    (ends-within _ _ _ _ _ p.0 (λ is. c.in_err-block-in-Ok.ensures.no_read_fault (ap (λ fault. Err fault) (sym p.2 ∙ is)))
-    (fed-write_fault _ _ _ _ _ _ _ _ _ _ (same-values _ _ _ _ c.loop.invariant.vars c.loop.invariant.only) c.loop.invariant.fed c.in-Ok.ensures.bytes.0 c.in_err-block-in-Ok.ensures.stops))
+    (ends-within _ _ _ _ _ p.0
+    (λ is. c.in_err-block-in-Ok.ensures.no_read_fault (ap (λ fault. Err fault) (sym p.2 ∙ is)))
+    (fed-write_fault _ _ _ _ _ _ _ _ _ _
+    (same-values _ _ _ _ c.loop.invariant.vars c.loop.invariant.only) c.loop.invariant.fed c.in-Ok.ensures.bytes.0
+    c.in_err-block-in-Ok.ensures.stops))
 
 pub returns-in-Err-clause-output : goal.returns-in-Err-clause-output
-returns-in-Err-clause-output g c = fed-read_fault _ _ _ _ _ _ _ c.loop.invariant.few c.loop.invariant.fed c.in-Err.ensures.bytes
+returns-in-Err-clause-output g c =
+    fed-read_fault _ _ _ _ _ _ _ c.loop.invariant.few c.loop.invariant.fed c.in-Err.ensures.bytes
 
 pub loop-preserved : goal.loop-preserved
 loop-preserved g c = record {
-  fed = fed-more _ _ _ _ _ _ _ _ _ _ _ (same-values _ _ _ _ c.loop.invariant.vars c.loop.invariant.only) c.loop.invariant.fed c.in-Ok.ensures.bytes.0 c.in_ok-block-in-Ok.ensures.ok;
+  fed = fed-more _ _ _ _ _ _ _ _ _ _ _
+      (same-values _ _ _ _ c.loop.invariant.vars c.loop.invariant.only) c.loop.invariant.fed c.in-Ok.ensures.bytes.0
+      c.in_ok-block-in-Ok.ensures.ok;
   vars = c.in_ok-block-in-Ok.ensures.vars ∙ c.loop.invariant.vars;
   only = c.in_ok-block-in-Ok.ensures.only ∙ c.loop.invariant.only;
   sound = c.in_ok-block-in-Ok.ensures.sound;

@@ -5,7 +5,9 @@ use Rattle.envsubst.proofs.whole_input.substitute_all.Given as goal
 
 abbrev pub invariant-loop : goal.invariant-loop
 invariant-loop g l = record {
-  fed : HasFed (values_of (pairs_in l.fn.vars) (names_given l.fn.only)) (g.R.ByteIn.remaining l.fn.reader) (g.R.ByteIn.remaining l.reader) l.substituter.held (g.W.ByteOut.contents l.fn.writer) (g.W.ByteOut.contents l.writer);
+  fed : HasFed (values_of (pairs_in l.fn.vars) (names_given l.fn.only)) (g.R.ByteIn.remaining l.fn.reader)
+      (g.R.ByteIn.remaining l.reader) l.substituter.held (g.W.ByteOut.contents l.fn.writer)
+      (g.W.ByteOut.contents l.writer);
   vars : l.substituter.vars ≡ pairs_in l.fn.vars;
   only : l.substituter.only ≡ names_given l.fn.only;
   sound : l.substituter.has_failed ≡ false;

@@ -8,4 +8,5 @@ returns-then-is_empty c = count-none c.args.text.now (nil-from_length c.args.tex
 
 pub returns-else-is_empty : goal.returns-else-is_empty
 returns-else-is_empty c =
-    c.unwrap_or.ensures ∙ count-some c.args.text.now c.decimal.result (some-from_length c.args.text.now (sym c.if-is_empty.ensures)) c.decimal.ensures
+    c.unwrap_or.ensures ∙ count-some c.args.text.now c.decimal.result
+    (some-from_length c.args.text.now (sym c.if-is_empty.ensures)) c.decimal.ensures

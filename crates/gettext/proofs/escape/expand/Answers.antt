@@ -5,11 +5,14 @@ use Rattle.gettext.proofs.escape.expand.Goals as goal
 
 pub returns-then-plain-rest-clause-bytes : goal.returns-then-plain-rest-clause-bytes
 returns-then-plain-rest-clause-bytes c =
-    c.in_ok-extend_from_slice.ensures.items ∙ end-bytes _ c.loop-bytes.rest.now _ c.len_before-plain.result c.loop-bytes.invariant.bytes c.len_before-plain.ensures.index c.if-plain-rest.true
+    c.in_ok-extend_from_slice.ensures.items
+    ∙ end-bytes _ c.loop-bytes.rest.now _ c.len_before-plain.result c.loop-bytes.invariant.bytes
+    c.len_before-plain.ensures.index c.if-plain-rest.true
 
 pub returns-then-plain-rest-clause-no_newline : goal.returns-then-plain-rest-clause-no_newline
 returns-then-plain-rest-clause-no_newline c =
-    end-newline _ _ c.loop-bytes.rest.now c.len_before-plain.result c.loop-bytes.invariant.newline c.len_before-plain.ensures.index c.if-plain-rest.true
+    end-newline _ _ c.loop-bytes.rest.now c.len_before-plain.result c.loop-bytes.invariant.newline
+    c.len_before-plain.ensures.index c.if-plain-rest.true
 
 pub loop-bytes-preserved-in_default : goal.loop-bytes-preserved-in_default
 loop-bytes-preserved-in_default c =
@@ -18,7 +21,8 @@ loop-bytes-preserved-in_default c =
     let index = c.len_before-plain.ensures.index in
     let short : n < length rest = omega (arith, c.len_before-plain.ensures.bound, c.if-plain-rest.false) in
     let none = simp take_rest at (sym c.escape_after.ensures.escape ∙ c.in_default.is) in record {
-      bytes = rw (c.in_ok-push.ensures.items, c.in_ok-extend_from_slice.ensures.items) (simp take_rest (stays-bytes _ rest _ n c.loop-bytes.invariant.bytes index short none));
+      bytes = rw (c.in_ok-push.ensures.items, c.in_ok-extend_from_slice.ensures.items)
+          (simp take_rest (stays-bytes _ rest _ n c.loop-bytes.invariant.bytes index short none));
       newline = simp take_rest (stays-newline _ _ rest n c.loop-bytes.invariant.newline index short none);
     }
 
@@ -29,8 +33,12 @@ loop-bytes-preserved-in-Continue-branch-4 c =
     let index = c.len_before-plain.ensures.index in
     let short : n < length rest = omega (arith, c.len_before-plain.ensures.bound, c.if-plain-rest.false) in
     let some = simp take_rest at (sym c.escape_after.ensures.escape ∙ c.in-Some.is) in record {
-      bytes = rw (c.in_ok-push-in-Some-byte.ensures.items, c.in_ok-extend_from_slice.ensures.items) (simp take_rest (byte-bytes _ rest _ n c.in-Some-byte.byte c.in-Some.escape c.loop-bytes.invariant.bytes index short some c.in-Some-byte.is));
-      newline = simp take_rest (byte-newline _ _ rest n c.in-Some-byte.byte c.in-Some.escape c.loop-bytes.invariant.newline index short some c.in-Some-byte.is);
+      bytes = rw (c.in_ok-push-in-Some-byte.ensures.items, c.in_ok-extend_from_slice.ensures.items)
+          (simp take_rest (byte-bytes _ rest _ n c.in-Some-byte.byte c.in-Some.escape c.loop-bytes.invariant.bytes index
+          short some c.in-Some-byte.is));
+      newline = simp take_rest
+          (byte-newline _ _ rest n c.in-Some-byte.byte c.in-Some.escape c.loop-bytes.invariant.newline index short some
+          c.in-Some-byte.is);
     }
 
 pub loop-bytes-preserved : goal.loop-bytes-preserved
@@ -40,6 +48,8 @@ loop-bytes-preserved c =
     let index = c.len_before-plain.ensures.index in
     let short : n < length rest = omega (arith, c.len_before-plain.ensures.bound, c.if-plain-rest.false) in
     let some = simp take_rest at (sym c.escape_after.ensures.escape ∙ c.in-Some.is) in record {
-      bytes = rw c.in_ok-extend_from_slice.ensures.items (simp take_rest (none-bytes _ rest _ n c.in-Some.escape c.loop-bytes.invariant.bytes index short some c.in-None.is));
+      bytes = rw c.in_ok-extend_from_slice.ensures.items
+          (simp take_rest (none-bytes _ rest _ n c.in-Some.escape c.loop-bytes.invariant.bytes index short some
+          c.in-None.is));
       newline = none-newline _ _ rest n c.in-Some.escape c.loop-bytes.invariant.newline index short some c.in-None.is;
     }

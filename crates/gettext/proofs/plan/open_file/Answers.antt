@@ -18,7 +18,11 @@ returns-in_ok-extend_from_slice-in-Err c = record {
   reported = fault_line c.args.tool.now c.args.name.now 0 (mo_text c.in-Err.fault);
   catalogs = sym (append-nil _);
   messages =
-      rw (c.in_ok-extend_from_slice-in-Err.ensures.items, c.in_ok-push_mo_text-in-Err.ensures, c.in_ok-push_location-in-Err.ensures)
+      rw (
+        c.in_ok-extend_from_slice-in-Err.ensures.items,
+        c.in_ok-push_mo_text-in-Err.ensures,
+        c.in_ok-push_location-in-Err.ensures,
+      )
       (simp append_assoc);
   opens = λ files others rest o. refused c.in-Err.ensures.exact o;
 }

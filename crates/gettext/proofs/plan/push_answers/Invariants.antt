@@ -10,5 +10,7 @@ abbrev pub invariant-loop-argument : goal.invariant-loop-argument
 invariant-loop-argument l =
     (l.output.items ++ further (argument_answer l.chain (gettext_view l.options)) (drop l.argument-index l.others)
     ≡ l.initial.output.items ++ further (argument_answer l.chain (gettext_view l.options)) l.others)
-    × ((l.omitted || list_any (omits_newline (gettext_view l.options)) (map (λ argument. argument.now) (drop l.argument-index l.others)))
-    ≡ (l.initial.omitted || list_any (omits_newline (gettext_view l.options)) (map (λ argument. argument.now) l.others)))
+    × ((l.omitted || list_any (omits_newline (gettext_view l.options))
+    (map (λ argument. argument.now) (drop l.argument-index l.others)))
+    ≡ (l.initial.omitted || list_any (omits_newline (gettext_view l.options))
+    (map (λ argument. argument.now) l.others)))

@@ -5,4 +5,5 @@ use Rattle.locale_names.proofs.PartLemmas.{parts-none}
 use Rattle.locale_names.proofs.language.next_language.Goals as goal
 
 pub returns-clause-parts : goal.returns-clause-parts
-returns-clause-parts c = sym c.loop-at.invariant.1 ∙ ap language_parts (drop_all c.loop-at.at c.args.languages.now (omega arith)) ∙ parts-none
+returns-clause-parts c = sym c.loop-at.invariant.1
+    ∙ ap language_parts (drop_all c.loop-at.at c.args.languages.now (omega arith)) ∙ parts-none

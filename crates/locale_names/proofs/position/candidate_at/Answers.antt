@@ -18,7 +18,8 @@ returns-then-is_empty-clause-start c = from-start c.args.locale.now c.args.langu
 
 pub returns-then-is_empty-clause-next : goal.returns-then-is_empty-clause-next
 returns-then-is_empty-clause-next c =
-    matched-left _ _ (from-locale c.args.locale.now c.args.language.now (sym c.if-is_untranslated.ensures) (sym c.if-not-is_path_part.ensures) (sym c.if-is_empty.ensures))
+    matched-left _ _ (from-locale c.args.locale.now c.args.language.now (sym c.if-is_untranslated.ensures)
+    (sym c.if-not-is_path_part.ensures) (sym c.if-is_empty.ensures))
     c.args.position c.of_locale.result c.of_locale.ensures
 
 pub returns-clause-start : goal.returns-clause-start
@@ -26,5 +27,6 @@ returns-clause-start c = from-start c.args.locale.now c.args.language.now c.args
 
 pub returns-clause-next : goal.returns-clause-next
 returns-clause-next c =
-    matched-left _ _ (from-language c.args.locale.now c.args.language.now (sym c.if-is_untranslated.ensures) (sym c.if-not-is_path_part.ensures) (sym c.if-is_empty.ensures))
+    matched-left _ _ (from-language c.args.locale.now c.args.language.now (sym c.if-is_untranslated.ensures)
+    (sym c.if-not-is_path_part.ensures) (sym c.if-is_empty.ensures))
     c.args.position c.of_language.result c.of_language.ensures

@@ -11,16 +11,20 @@ use Rattle.mo_expand.proofs.completing.add_completed.Goals as goal
 
 pub returns-in-Full-clause-room : goal.returns-in-Full-clause-room
 returns-in-Full-clause-room c none there =
-    room-full _ _ c.loop-index.index _ _ _ (omega (arith, c.loop-index-test.true, c.count_in-index-end.ensures.count)) c.loop-index.invariant.room c.in-Full.ensures.message there
+    room-full _ _ c.loop-index.index _ _ _
+    (omega (arith, c.loop-index-test.true, c.count_in-index-end.ensures.count)) c.loop-index.invariant.room
+    c.in-Full.ensures.message there
 
 pub loop-index-preserved : goal.loop-index-preserved
 loop-index-preserved c =
-    let inside : c.loop-index.index < system_count c.args.order c.args.bytes.now = omega (arith, c.loop-index-test.true, c.count_in-index-end.ensures.count) in
+    let inside : c.loop-index.index < system_count c.args.order c.args.bytes.now =
+    omega (arith, c.loop-index-test.true, c.count_in-index-end.ensures.count) in
     elim c.match-expand_in.branch [
       | in-Ends w ↦
           let low = w.in-Ends.ensures.message.1 in
           let high = w.in-Ends.ensures.message.2 in
-          let len : strings_len (system_message c.args.order c.args.bytes.now c.args.texts.now c.loop-index.index) ≡ w.in-Ends.end =
+          let len : strings_len (system_message c.args.order c.args.bytes.now c.args.texts.now c.loop-index.index)
+          ≡ w.in-Ends.end =
           split-len c.expand_in.new.room _ w.in-Ends.middle w.in-Ends.end low high w.in-Ends.ensures.message.0 in
           rw (w.list-is, w.count-is, w.rest-is)
           (record {
@@ -31,23 +35,27 @@ loop-index-preserved c =
                 (ap (take w.in-Ends.middle) w.split_at_mut-written.ensures.front)
                 (ap (λ l. slice_range l w.in-Ends.middle w.in-Ends.end) w.split_at_mut-written.ensures.front)));
             rising =
-                subst (λ ms. AreRising (keys ms)) (sym w.insert-count.ensures.messages) (rising-with_message _ _ c.loop-index.invariant.rising);
+                subst (λ ms. AreRising (keys ms)) (sym w.insert-count.ensures.messages)
+                (rising-with_message _ _ c.loop-index.invariant.rising);
             many = omega (arith, w.insert-count.ensures.more, c.loop-index.invariant.many);
             room = room-next _ _ c.loop-index.index _ _ _ _ inside c.loop-index.invariant.room
                 (omega (arith, len, w.split_at_mut-written.ensures.back_len, c.expand_in.ensures.len));
           })
       | in-Absent w ↦
-          let len : strings_len (system_message c.args.order c.args.bytes.now c.args.texts.now c.loop-index.index) ≡ 0 = ap strings_len w.in-Absent.ensures.message in
+          let len : strings_len (system_message c.args.order c.args.bytes.now c.args.texts.now c.loop-index.index) ≡ 0 =
+          ap strings_len w.in-Absent.ensures.message in
           rw (w.list-is, w.count-is, w.rest-is)
           (record {
             added = passed _ _ c.loop-index.index _ _ inside c.loop-index.invariant.added w.in-Absent.ensures.message;
             rising = c.loop-index.invariant.rising;
             many = omega (arith, c.loop-index.invariant.many);
-            room = room-next _ _ c.loop-index.index _ _ _ _ inside c.loop-index.invariant.room (omega (arith, len, c.expand_in.ensures.len));
+            room = room-next _ _ c.loop-index.index _ _ _ _ inside c.loop-index.invariant.room
+                (omega (arith, len, c.expand_in.ensures.len));
           })
     ]
 
 pub returns-clause-messages : goal.returns-clause-messages
 returns-clause-messages c =
-    sym (none_left _ _ c.loop-index.index _ (omega (arith, c.loop-index-test.false, c.count_in-index-end.ensures.count)))
+    sym (none_left _ _ c.loop-index.index _
+    (omega (arith, c.loop-index-test.false, c.count_in-index-end.ensures.count)))
     ∙ c.loop-index.invariant.added

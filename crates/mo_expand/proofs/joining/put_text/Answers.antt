@@ -13,34 +13,40 @@ returns-in-None-clause-text c =
 pub returns-in-Some-clause-text : goal.returns-in-Some-clause-text
 returns-in-Some-clause-text c =
     let left : 256 - c.loop-i.i ≡ suc (256 - (c.loop-i.i + 1)) = omega arith in
-    let first = joining-step _ _ _ _ _ _ _ _ _ _ _ _ (Some c.in-Some-Last.field-0) left c.in-Some-Last.ensures.segment c.loop-i.invariant.joining in
+    let first = joining-step _ _ _ _ _ _ _ _ _ _ _ _
+    (Some c.in-Some-Last.field-0) left c.in-Some-Last.ensures.segment c.loop-i.invariant.joining in
     let j = rw c.in-Some-Last.field-0-is at first in
     joining-ends _ _ _ _ _ _ _ _ j c.in-Some.ensures.end c.put.ensures.len
 
 pub returns-in-None-put-clause-text : goal.returns-in-None-put-clause-text
 returns-in-None-put-clause-text c =
     let left : 256 - c.loop-i.i ≡ suc (256 - (c.loop-i.i + 1)) = omega arith in
-    let first = joining-step _ _ _ _ _ _ _ _ _ _ _ _ (Some c.in-Some-Last.field-0) left c.in-Some-Last.ensures.segment c.loop-i.invariant.joining in
+    let first = joining-step _ _ _ _ _ _ _ _ _ _ _ _
+    (Some c.in-Some-Last.field-0) left c.in-Some-Last.ensures.segment c.loop-i.invariant.joining in
     let j = rw c.in-Some-Last.field-0-is at first in
     joining-is_full _ _ _ _ _ _ j c.in-None-put.ensures.end
 
 pub returns-in_default-clause-text : goal.returns-in_default-clause-text
 returns-in_default-clause-text c =
     let left : 256 - c.loop-i.i ≡ suc (256 - (c.loop-i.i + 1)) = omega arith in
-    let first = joining-step _ _ _ _ _ _ _ _ _ _ _ _ (Some c.in-Some-Before.field-0) left c.in-Some-Before.ensures.segment c.loop-i.invariant.joining in
+    let first = joining-step _ _ _ _ _ _ _ _ _ _ _ _
+    (Some c.in-Some-Before.field-0) left c.in-Some-Before.ensures.segment c.loop-i.invariant.joining in
     let j = rw c.in-Some-Before.field-0-is at first in
     joining-is_full_before _ _ _ _ _ c.in-Some-Before.literal.now c.in-Some-Before.text.now _ j c.in_default.ensures.end
 
 pub loop-i-preserved : goal.loop-i-preserved
 loop-i-preserved c =
     let left : 256 - c.loop-i.i ≡ suc (256 - (c.loop-i.i + 1)) = omega arith in
-    let first = joining-step _ _ _ _ _ _ _ _ _ _ _ _ (Some c.in-Some-Before.field-0) left c.in-Some-Before.ensures.segment c.loop-i.invariant.joining in
+    let first = joining-step _ _ _ _ _ _ _ _ _ _ _ _
+    (Some c.in-Some-Before.field-0) left c.in-Some-Before.ensures.segment c.loop-i.invariant.joining in
     let j = rw c.in-Some-Before.field-0-is at first in
-    let next = joining-goes_on _ _ _ _ _ _ _ c.in-Some-Before.literal.now c.in-Some-Before.text.now _ j c.in-Some-put_both.ensures.end c.put_both.ensures.len in
+    let next = joining-goes_on _ _ _ _ _ _ _ c.in-Some-Before.literal.now c.in-Some-Before.text.now _ j
+    c.in-Some-put_both.ensures.end c.put_both.ensures.len in
     record {
       joining = subst (λ n. IsJoining c.args.room.now c.put_both.new.room c.args.start c.in-Some-put_both.end
           (text_at c.args.order c.args.bytes.now c.args.texts.now c.args.described)
-          (joined c.args.order c.args.bytes.now c.args.texts.now (256 - (c.loop-i.i + 1)) (c.loop-i.descriptor + 8) (c.loop-i.source + n))) (sym c.word.ensures) next;
+          (joined c.args.order c.args.bytes.now c.args.texts.now (256 - (c.loop-i.i + 1)) (c.loop-i.descriptor + 8)
+          (c.loop-i.source + n))) (sym c.word.ensures) next;
       described = omega (arith, c.loop-i.invariant.described);
       read = omega (arith, c.loop-i.invariant.read);
     }

@@ -3,48 +3,81 @@ use Rattle.mo_expand.proofs.LayingOutLemmas.{length-layout-strings, laid-out}
 use Rattle.mo_expand.proofs.laying_out.lay_out.Goals as goal
 
 pub overflow_cast-count : goal.overflow_cast-count
-overflow_cast-count c = let len = length-layout-strings c.args.order c.args.list.now in omega (arith, len, c.requires.fits)
+overflow_cast-count c = let len =
+    length-layout-strings c.args.order c.args.list.now in omega (arith, len, c.requires.fits)
 
 pub overflow_mul-originals : goal.overflow_mul-originals
-overflow_mul-originals c = let len = length-layout-strings c.args.order c.args.list.now in omega (arith, len, c.requires.fits)
+overflow_mul-originals c = let len =
+    length-layout-strings c.args.order c.args.list.now in omega (arith, len, c.requires.fits)
 
 pub overflow_add-originals : goal.overflow_add-originals
-overflow_add-originals c = let len = length-layout-strings c.args.order c.args.list.now in omega (arith, len, c.requires.fits)
+overflow_add-originals c = let len =
+    length-layout-strings c.args.order c.args.list.now in omega (arith, len, c.requires.fits)
 
 pub put_header-tables-requires-clause-fits : goal.put_header-tables-requires-clause-fits
-put_header-tables-requires-clause-fits c = let len = length-layout-strings c.args.order c.args.list.now in omega (arith, len, c.requires.fits)
+put_header-tables-requires-clause-fits c = let len =
+    length-layout-strings c.args.order c.args.list.now in omega (arith, len, c.requires.fits)
 
 pub put_header-tables-requires-clause-room : goal.put_header-tables-requires-clause-room
-put_header-tables-requires-clause-room c = let len = length-layout-strings c.args.order c.args.list.now in omega (arith, len, c.requires.room)
+put_header-tables-requires-clause-room c = let len =
+    length-layout-strings c.args.order c.args.list.now in omega (arith, len, c.requires.room)
 
 pub put_table-translations-requires-clause-room : goal.put_table-translations-requires-clause-room
 put_table-translations-requires-clause-room c =
-    let len = length-layout-strings c.args.order c.args.list.now in omega (arith, len, c.requires.room, c.put_header-tables.ensures.end, c.put_header-tables.ensures.len)
+    let len = length-layout-strings c.args.order c.args.list.now in
+    omega (arith, len, c.requires.room, c.put_header-tables.ensures.end, c.put_header-tables.ensures.len)
 
 pub put_table-translations-requires-clause-fits : goal.put_table-translations-requires-clause-fits
-put_table-translations-requires-clause-fits c = let len = length-layout-strings c.args.order c.args.list.now in omega (arith, len, c.requires.fits)
+put_table-translations-requires-clause-fits c = let len =
+    length-layout-strings c.args.order c.args.list.now in omega (arith, len, c.requires.fits)
 
 pub put_table-requires-clause-room : goal.put_table-requires-clause-room
 put_table-requires-clause-room c =
     let len = length-layout-strings c.args.order c.args.list.now in
-    omega (arith, len, c.requires.room, c.put_header-tables.ensures.end, c.put_header-tables.ensures.len, c.put_table-translations.ensures.len)
+    omega (
+      arith,
+      len,
+      c.requires.room,
+      c.put_header-tables.ensures.end,
+      c.put_header-tables.ensures.len,
+      c.put_table-translations.ensures.len,
+    )
 
 pub put_table-requires-clause-fits : goal.put_table-requires-clause-fits
 put_table-requires-clause-fits c =
-    let len = length-layout-strings c.args.order c.args.list.now in omega (arith, len, c.requires.fits, c.put_table-translations.ensures.end)
+    let len = length-layout-strings c.args.order c.args.list.now in
+    omega (arith, len, c.requires.fits, c.put_table-translations.ensures.end)
 
 pub put_strings-middle-requires : goal.put_strings-middle-requires
 put_strings-middle-requires c =
     let len = length-layout-strings c.args.order c.args.list.now in
-    omega (arith, len, c.requires.room, c.put_header-tables.ensures.len, c.put_table-translations.ensures.len, c.put_table.ensures.len)
+    omega (
+      arith,
+      len,
+      c.requires.room,
+      c.put_header-tables.ensures.len,
+      c.put_table-translations.ensures.len,
+      c.put_table.ensures.len,
+    )
 
 pub put_strings-requires : goal.put_strings-requires
 put_strings-requires c =
     let len = length-layout-strings c.args.order c.args.list.now in
-    omega (arith, len, c.requires.room, c.put_header-tables.ensures.len, c.put_table-translations.ensures.len, c.put_table.ensures.len, c.put_strings-middle.ensures.len, c.put_strings-middle.ensures.end)
+    omega (
+      arith,
+      len,
+      c.requires.room,
+      c.put_header-tables.ensures.len,
+      c.put_table-translations.ensures.len,
+      c.put_table.ensures.len,
+      c.put_strings-middle.ensures.len,
+      c.put_strings-middle.ensures.end,
+    )
 
 pub returns-clause-text : goal.returns-clause-text
 returns-clause-text c =
-    laid-out c.args.order c.args.list.now _ _ _ _ _ _ _ _ _ c.put_header-tables.ensures.end c.put_header-tables.ensures.text
+    laid-out c.args.order c.args.list.now _ _ _ _ _ _ _ _ _ c.put_header-tables.ensures.end
+    c.put_header-tables.ensures.text
     c.put_table-translations.ensures.text c.put_table-translations.ensures.end c.put_table.ensures.text
-    c.put_strings-middle.ensures.text c.put_strings-middle.ensures.end c.put_strings.ensures.text c.put_strings.ensures.end
+    c.put_strings-middle.ensures.text c.put_strings-middle.ensures.end c.put_strings.ensures.text
+    c.put_strings.ensures.end

@@ -13,7 +13,8 @@ returns-in-Equal c =
     rw c.in-Some.is
     (
     c.compare_id-in-Equal.ensures
-    ∙ sym (decided_equal _ _ _ at _ (omega (arith, at.within_second, c.if-at-context.false)) (c.in-Equal.ensures ∙ ap (λ b. nat_cmp b 4) c.byte_at-2.ensures))
+    ∙ sym (decided_equal _ _ _ at _ (omega (arith, at.within_second, c.if-at-context.false))
+    (c.in-Equal.ensures ∙ ap (λ b. nat_cmp b 4) c.byte_at-2.ensures))
     )
 
 pub returns-in_default-cmp : goal.returns-in_default-cmp

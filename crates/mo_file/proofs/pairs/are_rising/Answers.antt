@@ -12,8 +12,12 @@ returns-in_default c =
     c.key_of-next.ensures ∙ ap key_of c.deref-in-loop-pair.ensures.value
     ∙ sym (keys-next pairs i c.pair-item.result c.loop-pair-test.true c.pair-item.is) in
     let inside : i + 1 < length (keys (messages_of_pairs pairs)) =
-    omega (arith, length-keys pairs, length-rest pairs) in
-    (λ holds. absurd (cc), λ rising. absurd (c.in_default.not-Less (c.cmp.ensures ∙ rw (c.loop-pair.invariant.current, next) (rising.next i inside))))
+    omega (arith, length-keys pairs, length-rest pairs) in (
+      λ holds. absurd (cc),
+      λ rising.
+          absurd (c.in_default.not-Less
+          (c.cmp.ensures ∙ rw (c.loop-pair.invariant.current, next) (rising.next i inside))),
+    )
 
 pub loop-pair-preserved : goal.loop-pair-preserved
 loop-pair-preserved c =
@@ -23,7 +27,8 @@ loop-pair-preserved c =
     c.key_of-next.ensures ∙ ap key_of c.deref-in-loop-pair.ensures.value
     ∙ sym (keys-next pairs i c.pair-item.result c.loop-pair-test.true c.pair-item.is) in
     record {
-      rising = below_more _ i c.loop-pair.invariant.rising (rw (← c.loop-pair.invariant.current, ← next) (sym c.in-Less.ensures));
+      rising = below_more _ i c.loop-pair.invariant.rising
+          (rw (← c.loop-pair.invariant.current, ← next) (sym c.in-Less.ensures));
       current = next;
     }
 

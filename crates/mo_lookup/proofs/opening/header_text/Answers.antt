@@ -9,7 +9,8 @@ returns-in-Equal-clause-text g c =
     ∙ sym
     (
     listed-header-first _ _ _ c.requires.keys c.len.ensures.rising (omega arith) (sym c.in-Equal.ensures.order)
-    (ap (λ file. slice_get (translations file.messages) 0) (sym c.compare.ensures.same_file) ∙ c.translation-translation.ensures)
+    (ap (λ file. slice_get (translations file.messages) 0) (sym c.compare.ensures.same_file)
+    ∙ c.translation-translation.ensures)
     )
 
 pub returns-in_default-clause-text : goal.returns-in_default-clause-text

@@ -9,7 +9,8 @@ compare-requires-clause-room g c =
     omega (arith, counted.at_most_32)
 
 pub returns-in-Equal-clause-index : goal.returns-in-Equal-clause-index
-returns-in-Equal-clause-index g c = IsSearch-found _ _ _ _ _ _ _ _ c.rising.invariant.2 (omega arith) c.in-Equal.ensures.order
+returns-in-Equal-clause-index g c =
+    IsSearch-found _ _ _ _ _ _ _ _ c.rising.invariant.2 (omega arith) c.in-Equal.ensures.order
 
 pub returns-in-Equal-clause-comparisons : goal.returns-in-Equal-clause-comparisons
 returns-in-Equal-clause-comparisons g c =
@@ -18,12 +19,14 @@ returns-in-Equal-clause-comparisons g c =
 
 pub returns-in-Equal-clause-bound : goal.returns-in-Equal-clause-bound
 returns-in-Equal-clause-bound g c =
-    let counted = IsSearch-compared _ _ _ _ _ _ _ _ c.rising.invariant.2 c.rising-test.true (omega arith) c.in-Equal.ensures.order in
+    let counted = IsSearch-compared _ _ _ _ _ _ _ _ c.rising.invariant.2 c.rising-test.true
+    (omega arith) c.in-Equal.ensures.order in
     rw c.compare.ensures.cost counted.bound
 
 pub returns-in-Equal-clause-at_most_32 : goal.returns-in-Equal-clause-at_most_32
 returns-in-Equal-clause-at_most_32 g c =
-    let counted = IsSearch-compared _ _ _ _ _ _ _ _ c.rising.invariant.2 c.rising-test.true (omega arith) c.in-Equal.ensures.order in
+    let counted = IsSearch-compared _ _ _ _ _ _ _ _ c.rising.invariant.2 c.rising-test.true
+    (omega arith) c.in-Equal.ensures.order in
     rw c.compare.ensures.cost counted.at_most_32
 
 pub rising-preserved : goal.rising-preserved

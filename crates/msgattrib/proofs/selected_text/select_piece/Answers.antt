@@ -10,13 +10,16 @@ use Rattle.msgattrib.proofs.selected_text.select_piece.Goals as goal
 pub returns : goal.returns
 returns c =
     let chosen = c.args.selection.now in
-    let list = subst (λ answer. IfOk answer (λ entries. entries ≡ selected chosen c.args.piece)) c.unwrap-selected.ensures c.select.ensures.list in
+    let list = subst (λ answer. IfOk answer (λ entries. entries ≡ selected chosen c.args.piece))
+    c.unwrap-selected.ensures c.select.ensures.list in
     on_ok_weaker c.add.result
     (λ added before have. record {
       parts =
           subst (λ entries. AreParts entries c.add.new.self)
-          (ap (λ entries. selected chosen before ++ entries) (c.entries-2.ensures.entries ∙ list) ∙ selected_joined chosen before c.args.piece)
+          (ap (λ entries. selected chosen before ++ entries) (c.entries-2.ensures.entries ∙ list)
+          ∙ selected_joined chosen before c.args.piece)
           (added (selected chosen before) have.parts);
-      rows = subst (λ entries. HoldRows chosen (before ++ entries) c.add_all.new.self) c.entries.ensures.entries (c.in_ok-add_all.ensures before have.rows);
+      rows = subst (λ entries. HoldRows chosen (before ++ entries) c.add_all.new.self) c.entries.ensures.entries
+          (c.in_ok-add_all.ensures before have.rows);
     })
     c.add.ensures.parts

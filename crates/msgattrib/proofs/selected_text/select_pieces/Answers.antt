@@ -16,7 +16,11 @@ pub loop-pieces-init : goal.loop-pieces-init
 loop-pieces-init c = record {
   before = [];
   read = read_none c.args.text.now c.in_ok-pieces.pieces c.in_ok-pieces.ensures.found c.in_ok-pieces.ensures.stops;
-  selected = record { parts = c.in_ok-with_capacity.ensures; rows = record { keys = c.new.ensures; read = c.new-2.ensures.items; kept = c.new-3.ensures.items } };
+  selected = record {
+    parts = c.in_ok-with_capacity.ensures;
+    rows =
+        record { keys = c.new.ensures; read = c.new-2.ensures.items; kept = c.new-3.ensures.items };
+  };
 }
 
 pub loop-pieces-preserved : goal.loop-pieces-preserved
@@ -31,4 +35,8 @@ loop-pieces-preserved c =
 pub returns-clause-found : goal.returns-clause-found
 returns-clause-found c =
     let done = c.loop-pieces.invariant in
-    record { entries = done.before; reads = read_all done.read (c.are_over.ensures.over c.loop-pieces-test.false); have = done.selected }
+    record {
+      entries = done.before;
+      reads = read_all done.read (c.are_over.ensures.over c.loop-pieces-test.false);
+      have = done.selected;
+    }

@@ -31,12 +31,15 @@ loop-pieces-preserved c =
     record {
       before = done.before ++ piece;
       read = read_more piece done.read c.in_ok-piece.ensures.found c.in_ok-piece.ensures.faults;
-      adds = adds_more c.args.name.now done.before piece c.args.entries.now c.loop-pieces.entries c.add_piece.new.entries done.adds c.in_ok-add_piece.ensures.entries;
+      adds = adds_more c.args.name.now done.before piece c.args.entries.now c.loop-pieces.entries
+          c.add_piece.new.entries done.adds c.in_ok-add_piece.ensures.entries;
       places =
-          c.in_ok-add_piece.ensures.places ∙ ap (λ l. l ++ are_placed is_live piece) done.places ∙ append_assoc c.args.places.now.items (are_placed is_live done.before) (are_placed is_live piece)
+          c.in_ok-add_piece.ensures.places ∙ ap (λ l. l ++ are_placed is_live piece) done.places
+          ∙ append_assoc c.args.places.now.items (are_placed is_live done.before) (are_placed is_live piece)
           ∙ ap (λ l. c.args.places.now.items ++ l) (sym (map-append (place_of is_live) done.before piece));
     }
 
 pub returns-clause-read : goal.returns-clause-read
 returns-clause-read c =
-    let done = c.loop-pieces.invariant in (done.before, read_all done.read (c.are_over.ensures.over c.loop-pieces-test.false), done.adds, done.places)
+    let done = c.loop-pieces.invariant in
+    (done.before, read_all done.read (c.are_over.ensures.over c.loop-pieces-test.false), done.adds, done.places)

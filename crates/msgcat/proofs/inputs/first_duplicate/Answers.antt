@@ -22,7 +22,9 @@ repeated_lines-requires-clause-lengths c =
     let rest = c.loop-index.rest.now in
     let long = c.len.ensures ∙ input.places.ok.0 in
     let left = c.loop-index.invariant.left c.requires.0 c.requires.1 c.requires.2 c.requires.3 in
-    ap length (c.split_at_most.ensures.first ∙ ap (λ n. take n rest) long) ∙ own_count c.requires.0 c.requires.1 c.args.inputs.now i input rest c.requires.2 c.loop-index-test.true c.index-inputs-index.is left
+    ap length (c.split_at_most.ensures.first ∙ ap (λ n. take n rest) long)
+    ∙ own_count c.requires.0 c.requires.1 c.args.inputs.now i input rest c.requires.2 c.loop-index-test.true
+    c.index-inputs-index.is left
     ∙ sym (ap length c.deref.ensures.value)
 
 pub returns-in-Some : goal.returns-in-Some
@@ -38,14 +40,18 @@ returns-in-Some c = λ read partial known numbers.
     let mine = own read partial inputs i input rest known inside here left in
     let all = unnamed (all_entries read ++ partial) in
     let list = filter is_live mine in
-    let own_are = subst (AreNumbered all mine) (sym (c.split_at_most.ensures.first ∙ ap (λ n. take n rest) long)) (own_numbered read partial inputs i input rest known inside here left) in
+    let own_are = subst (AreNumbered all mine) (sym (c.split_at_most.ensures.first ∙ ap (λ n. take n rest) long))
+    (own_numbered read partial inputs i input rest known inside here left) in
     let places = c.deref.ensures.value ∙ places_are read partial inputs i input rest known inside here left in
-    let found = subst (λ o. MatchOption o (AllDiffer list) (RepeatsOnLines list)) c.in-Some.is (c.in_ok-found.ensures.found all mine is_live own_are places) in
-    repeating read partial inputs i input rest known inside here left (c.in-Some.first, c.in-Some.later) _ found refl c.duplicate_at.ensures
+    let found = subst (λ o. MatchOption o (AllDiffer list) (RepeatsOnLines list)) c.in-Some.is
+    (c.in_ok-found.ensures.found all mine is_live own_are places) in
+    repeating read partial inputs i input rest known inside here left
+    (c.in-Some.first, c.in-Some.later) _ found refl c.duplicate_at.ensures
 
 pub loop-index-preserved : goal.loop-index-preserved
 loop-index-preserved c = record {
-  unseen = λ round after. c.in_ok-found.ensures.later round after (c.loop-index.invariant.unseen round (omega (arith, after)));
+  unseen = λ round after. c.in_ok-found.ensures.later round after
+      (c.loop-index.invariant.unseen round (omega (arith, after)));
   left = λ read partial known numbers.
       let i = c.loop-index.index in
       let inputs = c.args.inputs.now in
@@ -58,12 +64,16 @@ loop-index-preserved c = record {
       let mine = own read partial inputs i input rest known inside here left in
       let all = unnamed (all_entries read ++ partial) in
       let list = filter is_live mine in
-      let own_are = subst (AreNumbered all mine) (sym (c.split_at_most.ensures.first ∙ ap (λ n. take n rest) long)) (own_numbered read partial inputs i input rest known inside here left) in
+      let own_are = subst (AreNumbered all mine) (sym (c.split_at_most.ensures.first ∙ ap (λ n. take n rest) long))
+      (own_numbered read partial inputs i input rest known inside here left) in
       let places = c.deref.ensures.value ∙ places_are read partial inputs i input rest known inside here left in
-      let differ = subst (λ o. MatchOption o (AllDiffer list) (RepeatsOnLines list)) c.in_default.is (c.in_ok-found.ensures.found all mine is_live own_are places) in
-      subst (AreLeft read partial (i + 1)) (sym (c.split_at_most.ensures.rest ∙ ap (λ n. drop n rest) long)) (left_after read partial inputs i input rest known inside here left differ);
+      let differ = subst (λ o. MatchOption o (AllDiffer list) (RepeatsOnLines list)) c.in_default.is
+      (c.in_ok-found.ensures.found all mine is_live own_are places) in
+      subst (AreLeft read partial (i + 1)) (sym (c.split_at_most.ensures.rest ∙ ap (λ n. drop n rest) long))
+      (left_after read partial inputs i input rest known inside here left differ);
 }
 
 pub returns : goal.returns
 returns c = λ read partial known numbers.
-    none_left read partial c.args.inputs.now c.loop-index.index c.loop-index.rest.now known c.loop-index-test.false (c.loop-index.invariant.left read partial known numbers)
+    none_left read partial c.args.inputs.now c.loop-index.index c.loop-index.rest.now known c.loop-index-test.false
+    (c.loop-index.invariant.left read partial known numbers)

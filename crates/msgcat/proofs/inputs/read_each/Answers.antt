@@ -43,7 +43,8 @@ returns-in-Err c =
       end = record {
         file = named_file file;
         after = drop (suc i) (named_files files);
-        first = drop-cons (named_files files) i (named_file file) inside ∙ ap (λ f. f ∷ drop (suc i) (named_files files)) (sym at);
+        first = drop-cons (named_files files) i (named_file file) inside
+            ∙ ap (λ f. f ∷ drop (suc i) (named_files files)) (sym at);
         name = refl;
         fault_is = c.in-Err.ensures.fault.fault other;
       };
@@ -60,9 +61,13 @@ loop-name-preserved c =
     let read = c.in-Ok.ensures.read in
     record {
       inputs = so_far.inputs ++ record { name = file.0.now; entries = read.0 } ∷ [];
-      texts = text_more (named_files files) i (named_file file) so_far.inputs file.0.now read.0 inside so_far.texts (ap (λ (f : NamedFile). f.name) (sym at)) (subst (λ (f : NamedFile). ReadsText f.bytes read.0) at read.1);
-      holds = subst (λ l. HoldEntries l c.add_text.new.entries) (entries_more so_far.inputs file.0.now read.0) (read.2 (all_entries so_far.inputs) so_far.holds);
+      texts = text_more (named_files files) i (named_file file) so_far.inputs file.0.now read.0 inside so_far.texts
+          (ap (λ (f : NamedFile). f.name) (sym at)) (subst (λ (f : NamedFile). ReadsText f.bytes read.0) at read.1);
+      holds = subst (λ l. HoldEntries l c.add_text.new.entries) (entries_more so_far.inputs file.0.now read.0)
+          (read.2 (all_entries so_far.inputs) so_far.holds);
       known =
-          subst (AllZip IsReadInput (so_far.inputs ++ record { name = file.0.now; entries = read.0 } ∷ [])) (sym c.in_ok-push.ensures.items)
-          (known_more so_far.inputs c.loop-name.read.items file.0.now read.0 _ so_far.known refl (read.3 ∙ ap (λ l. l ++ are_placed is_live read.0) c.new-places.ensures.items));
+          subst (AllZip IsReadInput (so_far.inputs ++ record { name = file.0.now; entries = read.0 } ∷ []))
+          (sym c.in_ok-push.ensures.items)
+          (known_more so_far.inputs c.loop-name.read.items file.0.now read.0 _ so_far.known refl
+          (read.3 ∙ ap (λ l. l ++ are_placed is_live read.0) c.new-places.ensures.items));
     }

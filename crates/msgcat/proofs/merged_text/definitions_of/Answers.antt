@@ -16,12 +16,19 @@ none = record { name = record { ref_ptr = (0, 0); now = [] }; start = 0; end = 0
 
 pub loop-index-preserved : goal.loop-index-preserved
 loop-index-preserved c = λ text definitions h back.
-    definition_more text definitions c.args.rows.now c.entries-entries.result.now c.loop-index.index c.index-entries-index.result none c.loop-index.found.items c.push.new.self.items _ c.loop-index-test.true h back c.entries-entries.ensures.valid
+    definition_more text definitions c.args.rows.now c.entries-entries.result.now c.loop-index.index
+    c.index-entries-index.result none c.loop-index.found.items c.push.new.self.items _ c.loop-index-test.true h back
+    c.entries-entries.ensures.valid
     c.index-entries-index.is c.in_ok-push.ensures.items refl refl (c.loop-index.invariant text definitions h back)
 
 pub returns : goal.returns
 returns c = λ text definitions h back.
     let long = zip_length (IsRow text) definitions c.args.rows.now h in
     let past : length definitions ≤ c.loop-index.index = omega (arith, c.loop-index-test.false, long) in
-    let whole = c.loop-index.invariant text definitions h (subst (AllZip (λ (e : NamedEntry) (x : TextEntry). SameButLine e.entry x) definitions) (sym c.entries-entries.ensures.entries) back) in
-    (subst (λ l. AllZip IsSameButLine l (named_entries c.loop-index.found.items)) (take_all c.loop-index.index definitions past) whole.0, whole.1)
+    let whole = c.loop-index.invariant text definitions h
+    (subst (AllZip (λ (e : NamedEntry) (x : TextEntry). SameButLine e.entry x) definitions)
+    (sym c.entries-entries.ensures.entries) back) in (
+      subst (λ l. AllZip IsSameButLine l (named_entries c.loop-index.found.items))
+          (take_all c.loop-index.index definitions past) whole.0,
+      whole.1,
+    )

@@ -12,5 +12,7 @@ use Rattle.msgcat.proofs.merged_text.definitions_of.Given as goal
 -- the definitions so far
 abbrev pub invariant-loop-index : goal.invariant-loop-index
 invariant-loop-index l =
-    (text : List ℕ) (definitions : List NamedEntry) → AreRows text definitions l.rows → AreReadBack definitions l.entries
-    → AllZip IsSameButLine (take l.index definitions) (named_entries l.found.items) × All IsDefinition (named_entries l.found.items)
+    (text : List ℕ) (definitions : List NamedEntry) → AreRows text definitions l.rows
+    → AreReadBack definitions l.entries
+    → AllZip IsSameButLine (take l.index definitions) (named_entries l.found.items)
+    × All IsDefinition (named_entries l.found.items)

@@ -6,4 +6,5 @@ use Rattle.msgcat.proofs.merged_text.merge_groups.Given as goal
 
 -- the groups so far are merged
 abbrev pub invariant-loop-group : goal.invariant-loop-group
-invariant-loop-group l = (all : List (List NamedEntry)) → AreGroups l.text all l.fn.groups.items → AreWritten (of_groups l.options (take (length l.yielded) all)) l.parts
+invariant-loop-group l = (all : List (List NamedEntry)) → AreGroups l.text all l.fn.groups.items
+    → AreWritten (of_groups l.options (take (length l.yielded) all)) l.parts

@@ -20,8 +20,11 @@ groups_of-requires c =
     let numbers = c.deref-2.ensures.value ∙ h.numbers in
     record {
       lengths =
-          ap length numbers ∙ length-map (named_messages es) (λ m. position_or_len (same_message m) (first_ones same_message (named_messages es))) ∙ length-map es (λ (e : NamedEntry). entry_message e.entry)
-          ∙ zip_length (IsRow c.args.inputs.now.text.items) es c.args.inputs.now.rows.items h.rows ∙ sym (ap length c.deref.ensures.value);
+          ap length numbers ∙ length-map (named_messages es)
+          (λ m. position_or_len (same_message m) (first_ones same_message (named_messages es)))
+          ∙ length-map es (λ (e : NamedEntry). entry_message e.entry)
+          ∙ zip_length (IsRow c.args.inputs.now.text.items) es c.args.inputs.now.rows.items h.rows
+          ∙ sym (ap length c.deref.ensures.value);
       below = rw (numbers, h.count) (numbers_below same_message same_message_laws (named_messages es));
     }
 
@@ -30,18 +33,26 @@ merge_groups-requires c =
     let es = c.requires.0 in
     let h = c.requires.1 in (
       groups es,
-      groups_hold c.args.inputs.now.text.items c.deref-3.result.now es c.args.inputs.now.rows.items c.deref.result.now c.in_ok-groups.groups.items c.deref-2.result.now c.args.inputs.now.count h.rows c.deref-3.ensures.value
-          c.deref.ensures.value (c.deref-2.ensures.value ∙ h.numbers) h.count c.in_ok-groups.ensures (c.groups_are_numbered.ensures es),
+      groups_hold c.args.inputs.now.text.items c.deref-3.result.now es c.args.inputs.now.rows.items c.deref.result.now
+          c.in_ok-groups.groups.items c.deref-2.result.now c.args.inputs.now.count h.rows c.deref-3.ensures.value
+          c.deref.ensures.value (c.deref-2.ensures.value ∙ h.numbers) h.count c.in_ok-groups.ensures
+          (c.groups_are_numbered.ensures es),
     )
 
 pub returns-in_ok-join-in-Ok : goal.returns-in_ok-join-in-Ok
 returns-in_ok-join-in-Ok c = λ es h.
-    let are = groups_hold c.args.inputs.now.text.items c.deref-3.result.now es c.args.inputs.now.rows.items c.deref.result.now c.in_ok-groups.groups.items c.deref-2.result.now c.args.inputs.now.count h.rows c.deref-3.ensures.value
-    c.deref.ensures.value (c.deref-2.ensures.value ∙ h.numbers) h.count c.in_ok-groups.ensures (c.groups_are_numbered.ensures es) in
+    let are = groups_hold c.args.inputs.now.text.items c.deref-3.result.now es c.args.inputs.now.rows.items
+    c.deref.result.now c.in_ok-groups.groups.items c.deref-2.result.now c.args.inputs.now.count h.rows
+    c.deref-3.ensures.value
+    c.deref.ensures.value (c.deref-2.ensures.value ∙ h.numbers) h.count c.in_ok-groups.ensures
+    (c.groups_are_numbered.ensures es) in
     let written = c.in-Ok.ensures (groups es) are in
     record { admitted = written.admitted; text_is = c.in_ok-join-in-Ok.ensures.written _ written.parts_are }
 
 pub returns-in-Err : goal.returns-in-Err
 returns-in-Err c = λ es h.
-    c.in-Err.ensures (groups es) (groups_hold c.args.inputs.now.text.items c.deref-3.result.now es c.args.inputs.now.rows.items c.deref.result.now c.in_ok-groups.groups.items c.deref-2.result.now c.args.inputs.now.count h.rows
-    c.deref-3.ensures.value c.deref.ensures.value (c.deref-2.ensures.value ∙ h.numbers) h.count c.in_ok-groups.ensures (c.groups_are_numbered.ensures es))
+    c.in-Err.ensures (groups es)
+    (groups_hold c.args.inputs.now.text.items c.deref-3.result.now es c.args.inputs.now.rows.items
+    c.deref.result.now c.in_ok-groups.groups.items c.deref-2.result.now c.args.inputs.now.count h.rows
+    c.deref-3.ensures.value c.deref.ensures.value (c.deref-2.ensures.value ∙ h.numbers) h.count c.in_ok-groups.ensures
+    (c.groups_are_numbered.ensures es))

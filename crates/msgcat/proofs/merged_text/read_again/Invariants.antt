@@ -6,4 +6,5 @@ use Rattle.msgcat.proofs.merged_text.read_again.Given as goal
 
 -- the texts of the entries so far are copied
 abbrev pub invariant-loop-row : goal.invariant-loop-row
-invariant-loop-row l = (entries : List NamedEntry) → AreRows l.text entries l.rows → AreWritten (unnamed (take l.row-index entries)) l.parts
+invariant-loop-row l = (entries : List NamedEntry) → AreRows l.text entries l.rows
+    → AreWritten (unnamed (take l.row-index entries)) l.parts

@@ -8,4 +8,5 @@ some_file [] some none = cc
 some_file (file ∷ files) some none = cc
 
 pub returns-clause-first : goal.returns-clause-first
-returns-clause-first c = λ none. absurd (some_file c.args.inputs.now (sym c.is_empty.ensures ∙ c.if-is_empty.false) none)
+returns-clause-first c =
+    λ none. absurd (some_file c.args.inputs.now (sym c.is_empty.ensures ∙ c.if-is_empty.false) none)

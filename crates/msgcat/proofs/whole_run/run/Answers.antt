@@ -19,7 +19,8 @@ returns-in_err-run-clause-run g c =
     let next = c.in_ok-inputs.inputs.fault in
     let reported = c.in_err-run.field-0.0 in
     rw (p.1, p.2) (inputs_ended reported (record { are = read.inputs; asks = read.asked_read })
-    (none_unread _ next reported read.fault c.in_err-run.ensures.first) (no_run next reported c.in_err-run.ensures.fault))
+    (none_unread _ next reported read.fault c.in_err-run.ensures.first)
+    (no_run next reported c.in_err-run.ensures.fault))
 
 pub returns-clause-run : goal.returns-clause-run
 returns-clause-run g c =

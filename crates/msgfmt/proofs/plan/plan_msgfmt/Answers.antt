@@ -5,7 +5,12 @@ use Rattle.msgfmt.proofs.plan.plan_msgfmt.Goals as goal
 pub plan_collected-requires-clause-few : goal.plan_collected-requires-clause-few
 plan_collected-requires-clause-few c =
     let of = rw (c.deref.ensures.value, c.in_ok-texts.ensures) at c.in-Ok.ensures.found in
-    omega (arith, c.requires.few, ap length c.deref-in-Ok.ensures.value, collected-count c.args.options.now.use_fuzzy c.args.inputs.now c.in-Ok.collected.items of)
+    omega (
+      arith,
+      c.requires.few,
+      ap length c.deref-in-Ok.ensures.value,
+      collected-count c.args.options.now.use_fuzzy c.args.inputs.now c.in-Ok.collected.items of,
+    )
 
 pub returns-clause-run : goal.returns-clause-run
 returns-clause-run c =

@@ -4,4 +4,5 @@ use Rattle.msgfmt.proofs.profile.first_plural.Given as goal
 
 -- the messages that are left decide
 abbrev pub invariant-loop-message : goal.invariant-loop-message
-invariant-loop-message l = find is_plural (checked_messages (drop l.message-index l.messages)) ≡ find is_plural (checked_messages l.messages)
+invariant-loop-message l =
+    find is_plural (checked_messages (drop l.message-index l.messages)) ≡ find is_plural (checked_messages l.messages)

@@ -19,11 +19,13 @@ returns-in_err-run-clause-run g c =
     let next = c.in_ok-inputs.inputs.fault in
     let reported = c.in_err-run.field-0.0 in
     rw (p.1, p.2) (inputs_ended reported (record { are = read.inputs; asks = read.asked_read })
-    (none_unread _ next reported read.fault c.in_err-run.ensures.first) (no_run c.args.options.now next reported c.in_err-run.ensures.fault))
+    (none_unread _ next reported read.fault c.in_err-run.ensures.first)
+    (no_run c.args.options.now next reported c.in_err-run.ensures.fault))
 
 pub returns-clause-run : goal.returns-clause-run
 returns-clause-run g c =
     let read = c.in_ok-inputs.ensures in
     runs (record { are = read.inputs; asks = read.asked_read })
     (planned (named_inputs c.in_ok-inputs.inputs.texts.items) c.args.options.now (run_view c.in_ok-run.run')
-    c.in_ok-inputs.inputs.fault c.in_ok-run.ensures.whole c.in_ok-run.ensures.refused c.in_ok-run.ensures.right) c.write.ensures
+    c.in_ok-inputs.inputs.fault c.in_ok-run.ensures.whole c.in_ok-run.ensures.refused c.in_ok-run.ensures.right)
+    c.write.ensures

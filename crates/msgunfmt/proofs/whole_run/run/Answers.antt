@@ -7,7 +7,8 @@ use Rattle.msgunfmt.proofs.whole_run.run.Goals as goal
 pub returns-in_err-bytes-clause-run : goal.returns-in_err-bytes-clause-run
 returns-in_err-bytes-clause-run g c =
     let p = err_from_is_err_and c.from_residual.result c.from_residual.ensures.1 in
-    rw (p.1, p.2) (input_ended c.in_err-bytes.field-0.0 c.in_err-bytes.ensures.fault (λ same. c.in_err-bytes.ensures.memory (ap Err same)))
+    rw (p.1, p.2) (input_ended c.in_err-bytes.field-0.0 c.in_err-bytes.ensures.fault
+    (λ same. c.in_err-bytes.ensures.memory (ap Err same)))
 
 pub returns-in_default-clause-run : goal.returns-in_default-clause-run
 returns-in_default-clause-run g c = out_of_memory c.in_ok-bytes.ensures.read refl

@@ -17,7 +17,8 @@ loop-before-preserved c =
             let part = ends-part name text end j reaches (omega (arith, at, after)) h in
             let fits = part.fits in
             absurd (true≢false (sym (c.if-is_suffix.ensures.1 (omega (arith, fits), part))))
-        | inr up ↦ none-before name text c.loop-before.end c.in-Some.before c.requires c.loop-before.invariant.none c.in-Some.ensures.0.before j up h
+        | inr up ↦ none-before name text c.loop-before.end c.in-Some.before c.requires c.loop-before.invariant.none
+            c.in-Some.ensures.0.before j up h
       ];
     }
 
@@ -27,11 +28,13 @@ returns-then-is_suffix c =
     let name = c.args.name.now in
     let end = c.loop-before.end + (c.in-Some.before + 1) in
     let reaches = found-within text c.loop-before.end c.in-Some.before c.in-Some.ensures.0.high in
-    let suffix : (length name ≤ length (take end text)) × OccursAt (take end text) name (length (take end text) - length name) = search rules in
+    let suffix : (length name ≤ length (take end text))
+    × OccursAt (take end text) name (length (take end text) - length name) = search rules in
     let fits = suffix.0 in
     let whole : end - length name + length name ≡ end = omega (arith, fits, length-take end text) in
     after_first-some name text (end - length name) c.requires (ends-text name text end reaches suffix.0 suffix.1)
-    (λ j before h. none-before name text c.loop-before.end c.in-Some.before c.requires c.loop-before.invariant.none c.in-Some.ensures.0.before j (omega (arith, before, fits, whole)) h)
+    (λ j before h. none-before name text c.loop-before.end c.in-Some.before c.requires c.loop-before.invariant.none
+    c.in-Some.ensures.0.before j (omega (arith, before, fits, whole)) h)
     ∙ ap (λ n. Some (drop n text)) whole
     ∙ ap Some (sym (rest_from text end))
 
@@ -41,6 +44,13 @@ returns c =
     let text = c.args.text.now in
     after_first-none c.args.name.now text (λ k h.
     let fits = h.fits in
-    none-before c.args.name.now text c.loop-before.end (length text - c.loop-before.end) c.requires c.loop-before.invariant.none
-    (λ j low high. c.in_default.ensures j low (omega (arith, high, length-take (length text - c.loop-before.end) (drop c.loop-before.end text), length-drop c.loop-before.end text)))
+    none-before c.args.name.now text c.loop-before.end
+    (length text - c.loop-before.end) c.requires c.loop-before.invariant.none
+    (λ j low high. c.in_default.ensures j low
+    (omega (
+      arith,
+      high,
+      length-take (length text - c.loop-before.end) (drop c.loop-before.end text),
+      length-drop c.loop-before.end text,
+    )))
     k (omega (arith, fits, inside)) h)

@@ -12,5 +12,6 @@ returns-else-is_empty c =
     let digits : c.leading_digits-digits.result.now ≡ take_while is_ascii_digit (without_blanks c.in_ok-rest.rest.now) =
     c.leading_digits-digits.ensures ∙ ap (take_while is_ascii_digit) c.without_blanks.ensures.value in (
       rw digits (AllDigits-take_while (without_blanks c.in_ok-rest.rest.now)),
-      ap (option_and_then leading_number) c.in_ok-rest.ensures ∙ ap digits_number (sym digits) ∙ digits_number-some _ some,
+      ap (option_and_then leading_number) c.in_ok-rest.ensures ∙ ap digits_number (sym digits)
+          ∙ digits_number-some _ some,
     )

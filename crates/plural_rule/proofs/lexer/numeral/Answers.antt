@@ -11,7 +11,8 @@ pub returns-in-Some : goal.returns-in-Some
 returns-in-Some c =
     let first = ap is_ascii_digit (first_byte-get c.args.text.now c.requires.some) ∙ c.requires.digit in
     rw c.leading_digits-digits.ensures
-    (numeral-token c.args.text.now c.in-Some.value first (c.in-Some.ensures.1 ∙ ap (digits_value 10) c.leading_digits-digits.ensures))
+    (numeral-token c.args.text.now c.in-Some.value first
+    (c.in-Some.ensures.1 ∙ ap (digits_value 10) c.leading_digits-digits.ensures))
 
 pub returns-in-None : goal.returns-in-None
 returns-in-None c =

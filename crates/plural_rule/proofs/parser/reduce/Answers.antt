@@ -15,15 +15,19 @@ loop-top-preserved c =
       room = rw c.new-parser.ensures (omega (arith, ap weight popped, done.len, room.0), omega (arith, room.1));
       reduces = λ waiting tree h.
           rw (c.new-parser.ensures, done.items, done.start)
-          (Reduces-more c.args.next_level (held c.loop-top.room c.args.codes.now before) _ c.in-Some.top (reduce c.args.next_level waiting tree) (c.loop-top.invariant.reduces waiting tree h) popped
-          (short before.len c.loop-top.room (omega (arith, room.0, c.requires.room.0))) (sym c.binds.ensures ∙ c.if-not-binds.false));
+          (Reduces-more c.args.next_level (held c.loop-top.room c.args.codes.now before) _ c.in-Some.top
+          (reduce c.args.next_level waiting tree) (c.loop-top.invariant.reduces waiting tree h) popped
+          (short before.len c.loop-top.room (omega (arith, room.0, c.requires.room.0)))
+          (sym c.binds.ensures ∙ c.if-not-binds.false));
     }
 
 pub returns-then-not-binds-clause-reduced : goal.returns-then-not-binds-clause-reduced
 returns-then-not-binds-clause-reduced c waiting tree h =
-    Reduces-stop c.args.next_level (held c.loop-top.room c.args.codes.now c.loop-top.parser) _ c.in-Some.top (reduce c.args.next_level waiting tree)
+    Reduces-stop c.args.next_level (held c.loop-top.room c.args.codes.now c.loop-top.parser) _ c.in-Some.top
+    (reduce c.args.next_level waiting tree)
     (c.loop-top.invariant.reduces waiting tree h) c.in-Some.ensures.0 (sym c.binds.ensures ∙ c.if-not-binds.true)
 
 pub returns-clause-reduced : goal.returns-clause-reduced
 returns-clause-reduced c waiting tree h =
-    Reduces-end c.args.next_level (held c.loop-top.room c.args.codes.now c.loop-top.parser) (reduce c.args.next_level waiting tree) c.in_default.ensures (c.loop-top.invariant.reduces waiting tree h)
+    Reduces-end c.args.next_level (held c.loop-top.room c.args.codes.now c.loop-top.parser)
+    (reduce c.args.next_level waiting tree) c.in_default.ensures (c.loop-top.invariant.reduces waiting tree h)

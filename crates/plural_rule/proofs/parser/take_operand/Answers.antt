@@ -10,8 +10,11 @@ pub returns-in-Count-clause-step : goal.returns-in-Count-clause-step
 returns-in-Count-clause-step c waiting h =
     let before = c.args.parser in
     let fits : before.len ≤ length c.args.room.now = omega (arith, c.requires.room.0) in
-    rw (c.in-Count.is, c.new.ensures)
-    (refl, first-operand (held c.args.room.now c.args.codes.now before) waiting Count _ before.len h (sym (length-take-le before.len c.args.room.now fits)) c.push.ensures)
+    rw (c.in-Count.is, c.new.ensures) (
+      refl,
+      first-operand (held c.args.room.now c.args.codes.now before) waiting Count _ before.len h
+          (sym (length-take-le before.len c.args.room.now fits)) c.push.ensures,
+    )
 
 pub returns-in-Number-clause-step : goal.returns-in-Number-clause-step
 returns-in-Number-clause-step c waiting h =
@@ -19,4 +22,9 @@ returns-in-Number-clause-step c waiting h =
     let fits : before.len ≤ length c.args.room.now = omega (arith, c.requires.room.0) in
     let small : nat_lt c.in-Number.number (2 ^ 64) ≡ true = grind (arith, nat_tests) in
     rw (c.in-Number.is, c.new-in-Number.ensures)
-    (rw small (refl, first-operand (held c.args.room.now c.args.codes.now before) waiting (Number c.in-Number.number) _ before.len h (sym (length-take-le before.len c.args.room.now fits)) c.push_numeral-len.ensures.items))
+    (rw small (
+      refl,
+      first-operand (held c.args.room.now c.args.codes.now before) waiting
+          (Number c.in-Number.number) _ before.len h
+          (sym (length-take-le before.len c.args.room.now fits)) c.push_numeral-len.ensures.items,
+    ))

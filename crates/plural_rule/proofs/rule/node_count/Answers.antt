@@ -17,10 +17,21 @@ loop-instruction-preserved c =
     let i = c.loop-instruction.instruction-index in
     let none : Instruction = record { kind = 0; operator = 0; count = 0; number = 0 } in
     record {
-      all = omega (arith, ap all_begin (drop-cons code i none c.loop-instruction-test.true), ap (λ k. all_begin (drop k code)) (add-one i), c.begins.ensures, c.loop-instruction.invariant.all);
+      all = omega (
+        arith,
+        ap all_begin (drop-cons code i none c.loop-instruction-test.true),
+        ap (λ k. all_begin (drop k code)) (add-one i),
+        c.begins.ensures,
+        c.loop-instruction.invariant.all,
+      );
       fits = omega (arith, c.loop-instruction.invariant.fits);
     }
 
 pub returns : goal.returns
 returns c =
-    omega (arith, c.loop-instruction.invariant.all, ap all_begin (drop_all c.loop-instruction.instruction-index c.args.instructions.now c.loop-instruction-test.false))
+    omega (
+      arith,
+      c.loop-instruction.invariant.all,
+      ap all_begin (drop_all c.loop-instruction.instruction-index c.args.instructions.now
+          c.loop-instruction-test.false),
+    )

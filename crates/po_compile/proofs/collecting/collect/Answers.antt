@@ -25,13 +25,17 @@ pub loop-pieces-preserved : goal.loop-pieces-preserved
 loop-pieces-preserved c =
     let done = c.loop-pieces.invariant in
     let piece = c.in_ok-piece.ensures.found in
-    let added = c.in_ok-collected.ensures ∙ ap (λ es. c.loop-pieces.collected ++ live_messages c.args.use_fuzzy es) (c.entries.ensures.entries ∙ piece.1) in
+    let added = c.in_ok-collected.ensures
+    ∙ ap (λ es. c.loop-pieces.collected ++ live_messages c.args.use_fuzzy es)
+    (c.entries.ensures.entries ∙ piece.1) in
     record {
       before = done.before ++ piece.0;
       read = read_more piece.0 done.read piece.2 c.in_ok-piece.ensures.faults;
-      collected = added ∙ ap₂ (λ a b. a ++ b) done.collected (uncommented c.args.use_fuzzy piece.0) ∙ sym (live_append c.args.use_fuzzy done.before piece.0);
+      collected = added ∙ ap₂ (λ a b. a ++ b) done.collected (uncommented c.args.use_fuzzy piece.0)
+          ∙ sym (live_append c.args.use_fuzzy done.before piece.0);
     }
 
 pub returns-clause-found : goal.returns-clause-found
 returns-clause-found c =
-    let done = c.loop-pieces.invariant in (done.before, read_all done.read (c.are_over.ensures.over c.loop-pieces-test.false), done.collected)
+    let done = c.loop-pieces.invariant in
+    (done.before, read_all done.read (c.are_over.ensures.over c.loop-pieces-test.false), done.collected)

@@ -7,7 +7,8 @@ use Rattle.po_compile.proofs.InputLemmas.{held_more}
 use Rattle.po_compile.proofs.inputs.collect_catalogues.Goals as goal
 
 pub loop-catalogue-init : goal.loop-catalogue-init
-loop-catalogue-init c = rw c.in_ok-inputs.ensures.items (record { valid = λ k d inside. absurd (omega (arith, inside)); messages = refl })
+loop-catalogue-init c = rw c.in_ok-inputs.ensures.items
+    (record { valid = λ k d inside. absurd (omega (arith, inside)); messages = refl })
 
 pub loop-catalogue-preserved : goal.loop-catalogue-preserved
 loop-catalogue-preserved c =
@@ -16,7 +17,13 @@ loop-catalogue-preserved c =
     let i = c.loop-catalogue.catalogue-index in
     let catalogue = c.catalogue-item.result in
     let collected = c.in_ok-with_entries.field-0 in
-    let messages = c.in_ok-with_entries.ensures ∙ ap (λ lengths. cut lengths c.new.result.items ++ live_messages use_fuzzy c.entries.result.now) c.new-in-loop-catalogue.ensures.items ∙ ap (live_messages use_fuzzy) c.entries.ensures.entries in
-    let more = held_more use_fuzzy (take i catalogues) c.loop-catalogue.inputs.items catalogue collected c.loop-catalogue.invariant (subst (All IsCatalogueEntry) c.entries.ensures.entries c.entries.ensures.valid) messages in
+    let messages = c.in_ok-with_entries.ensures
+    ∙ ap (λ lengths. cut lengths c.new.result.items ++ live_messages use_fuzzy c.entries.result.now)
+    c.new-in-loop-catalogue.ensures.items ∙ ap (live_messages use_fuzzy) c.entries.ensures.entries in
+    let more = held_more use_fuzzy
+    (take i catalogues) c.loop-catalogue.inputs.items catalogue collected c.loop-catalogue.invariant
+    (subst (All IsCatalogueEntry) c.entries.ensures.entries c.entries.ensures.valid) messages in
     subst (HoldCatalogues use_fuzzy (take (i + 1) catalogues)) (sym c.in_ok-push.ensures.items)
-    (subst (λ cs. HoldCatalogues use_fuzzy cs (c.loop-catalogue.inputs.items ++ collected ∷ [])) (ap (λ e. take i catalogues ++ e ∷ []) c.catalogue-item.is ∙ sym (take_more catalogues i catalogue c.loop-catalogue-test.true)) more)
+    (subst (λ cs. HoldCatalogues use_fuzzy cs (c.loop-catalogue.inputs.items ++ collected ∷ []))
+    (ap (λ e. take i catalogues ++ e ∷ []) c.catalogue-item.is
+    ∙ sym (take_more catalogues i catalogue c.loop-catalogue-test.true)) more)

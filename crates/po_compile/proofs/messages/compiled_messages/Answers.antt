@@ -9,7 +9,11 @@ pub returns-clause-messages : goal.returns-clause-messages
 returns-clause-messages c =
     ok_step c.messages_of.result
     (λ messages made. λ use_fuzzy catalogues held.
-    (rw c.deref.ensures.value at made) ∙ ap (λ ms. map view_of_message (filter (λ (m : InputMessage). m.message.status.compiled) ms)) (c.in_ok-rows.ensures ∙ ap all_messages held.messages) ∙ compiled_views use_fuzzy catalogues) c.messages_of.ensures
+    (rw c.deref.ensures.value at made)
+    ∙ ap (λ ms. map view_of_message (filter (λ (m : InputMessage). m.message.status.compiled) ms))
+    (c.in_ok-rows.ensures ∙ ap all_messages held.messages) ∙ compiled_views use_fuzzy catalogues)
+    c.messages_of.ensures
 
 pub returns-clause-valid : goal.returns-clause-valid
-returns-clause-valid c = ok_always c.messages_of.result (λ _ use_fuzzy catalogues held. joined_valid catalogues held.valid)
+returns-clause-valid c =
+    ok_always c.messages_of.result (λ _ use_fuzzy catalogues held. joined_valid catalogues held.valid)

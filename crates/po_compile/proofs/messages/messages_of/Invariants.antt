@@ -5,4 +5,6 @@ use Rattle.po_compile.proofs.messages.messages_of.Given as goal
 
 abbrev pub invariant-loop-row : goal.invariant-loop-row
 invariant-loop-row l =
-    map compiled_view l.messages.items ≡ map view_of_message (filter (λ (m : InputMessage). m.message.status.compiled) (map row_view (take l.row-index l.rows)))
+    map compiled_view l.messages.items
+    ≡ map view_of_message (filter (λ (m : InputMessage). m.message.status.compiled)
+    (map row_view (take l.row-index l.rows)))

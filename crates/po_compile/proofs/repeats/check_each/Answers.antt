@@ -12,11 +12,13 @@ pub loop-input-preserved : goal.loop-input-preserved
 loop-input-preserved c =
     let messages = c.index-inputs-input.result in
     let apart = subst (λ ms. AllApart (input_keys (all_messages ms))) c.from_ref.ensures.value c.in-Ok.ensures.apart in
-    All-more (λ ms. AllApart (message_keys ms)) c.args.inputs.now c.loop-input.input messages c.loop-input-test.true c.loop-input.invariant
+    All-more (λ ms. AllApart (message_keys ms)) c.args.inputs.now c.loop-input.input messages c.loop-input-test.true
+    c.loop-input.invariant
     (subst (λ ms. AllApart (message_keys ms)) c.index-inputs-input.is (subst AllApart (only_keys messages) apart))
 
 pub returns-clause-apart : goal.returns-clause-apart
-returns-clause-apart c = subst EachApart (take_all c.loop-input.input c.args.inputs.now c.loop-input-test.false) c.loop-input.invariant
+returns-clause-apart c =
+    subst EachApart (take_all c.loop-input.input c.args.inputs.now c.loop-input-test.false) c.loop-input.invariant
 
 pub returns-in-Err-clause-fault : goal.returns-in-Err-clause-fault
 returns-in-Err-clause-fault c =
@@ -31,6 +33,8 @@ returns-in-Err-clause-fault c =
       inside = c.loop-input-test.true;
       before = c.loop-input.invariant;
       alone = error;
-      repeat = subst (λ ms. IsRepeat ms error) (ap all_messages c.from_ref.ensures.value ∙ only_messages messages ∙ ap (map (in_input_message 0)) here) repeat;
+      repeat = subst (λ ms. IsRepeat ms error)
+          (ap all_messages c.from_ref.ensures.value ∙ only_messages messages ∙ ap (map (in_input_message 0)) here)
+          repeat;
       error_is = refl;
     })) c.in-Err.ensures.fault)

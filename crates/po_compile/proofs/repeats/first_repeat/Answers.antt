@@ -14,13 +14,18 @@ returns-then-first-later c =
     let numbers = c.deref-first-items.result.now in
     let alike = c.one_number_is_one_message.ensures in
     let in_order = c.messages_are_numbered_in_order.ensures in
-    let are = c.deref-first-items.ensures.value ∙ c.in_ok-numbers.ensures.numbers ∙ ap (group_numbers same_message) (ap messages_of_keys c.deref.ensures.value ∙ c.in_ok-keys.ensures) in
+    let are = c.deref-first-items.ensures.value ∙ c.in_ok-numbers.ensures.numbers
+    ∙ ap (group_numbers same_message) (ap messages_of_keys c.deref.ensures.value ∙ c.in_ok-keys.ensures) in
     let first = c.index-rows-first.result in
     let later = c.index-rows-later.result in (
       row_view first,
       row_view later,
-      repeat_found alike in_order messages numbers are c.loop-later.later (omega (arith, c.loop-later-test.true, numbers_long alike in_order messages numbers are)) c.if-first-later.true c.loop-later.invariant
-          (row_view first) (row_view later) (ap row_view c.index-rows-first.is ∙ sym (get_or-map row_view c.args.rows.now _ first)) (ap row_view c.index-rows-later.is ∙ sym (get_or-map row_view c.args.rows.now _ later)),
+      repeat_found alike in_order messages numbers are c.loop-later.later
+          (omega (arith, c.loop-later-test.true, numbers_long alike in_order messages numbers are))
+          c.if-first-later.true c.loop-later.invariant
+          (row_view first) (row_view later)
+          (ap row_view c.index-rows-first.is ∙ sym (get_or-map row_view c.args.rows.now _ first))
+          (ap row_view c.index-rows-later.is ∙ sym (get_or-map row_view c.args.rows.now _ later)),
       c.row_fault.ensures,
     )
 
@@ -30,8 +35,11 @@ loop-later-preserved c =
     let numbers = c.deref-first-items.result.now in
     let alike = c.one_number_is_one_message.ensures in
     let in_order = c.messages_are_numbered_in_order.ensures in
-    let are = c.deref-first-items.ensures.value ∙ c.in_ok-numbers.ensures.numbers ∙ ap (group_numbers same_message) (ap messages_of_keys c.deref.ensures.value ∙ c.in_ok-keys.ensures) in
-    own_more alike in_order messages numbers are c.loop-later.later (omega (arith, c.loop-later-test.true, numbers_long alike in_order messages numbers are)) c.if-first-later.false c.loop-later.invariant
+    let are = c.deref-first-items.ensures.value ∙ c.in_ok-numbers.ensures.numbers
+    ∙ ap (group_numbers same_message) (ap messages_of_keys c.deref.ensures.value ∙ c.in_ok-keys.ensures) in
+    own_more alike in_order messages numbers are c.loop-later.later
+    (omega (arith, c.loop-later-test.true, numbers_long alike in_order messages numbers are)) c.if-first-later.false
+    c.loop-later.invariant
 
 pub returns : goal.returns
 returns c =
@@ -39,7 +47,10 @@ returns c =
     let numbers = c.deref-first-items.result.now in
     let alike = c.one_number_is_one_message.ensures in
     let in_order = c.messages_are_numbered_in_order.ensures in
-    let are = c.deref-first-items.ensures.value ∙ c.in_ok-numbers.ensures.numbers ∙ ap (group_numbers same_message) (ap messages_of_keys c.deref.ensures.value ∙ c.in_ok-keys.ensures) in
+    let are = c.deref-first-items.ensures.value ∙ c.in_ok-numbers.ensures.numbers
+    ∙ ap (group_numbers same_message) (ap messages_of_keys c.deref.ensures.value ∙ c.in_ok-keys.ensures) in
     let many = numbers_long alike in_order messages numbers are in
     let later = c.loop-later.later in
-    subst AllApart (take_all later (input_keys messages) (omega (arith, many, c.loop-later-test.false))) (own_apart alike in_order messages numbers are later (omega (arith, many, c.loop-later.auto.later-end)) c.loop-later.invariant)
+    subst AllApart (take_all later (input_keys messages) (omega (arith, many, c.loop-later-test.false)))
+    (own_apart alike in_order messages numbers are later
+    (omega (arith, many, c.loop-later.auto.later-end)) c.loop-later.invariant)

@@ -5,4 +5,5 @@ use Rattle.po_compile.specs.Internal.Rows.{input_keys, row_view}
 use Rattle.po_compile.proofs.repeats.keys_of.Given as goal
 
 abbrev pub invariant-loop-row : goal.invariant-loop-row
-invariant-loop-row l = messages_of_keys l.keys.items ≡ map key_message (input_keys (map row_view (take l.row-index l.rows)))
+invariant-loop-row l = messages_of_keys l.keys.items
+    ≡ map key_message (input_keys (map row_view (take l.row-index l.rows)))

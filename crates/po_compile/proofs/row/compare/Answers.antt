@@ -8,11 +8,14 @@ pub returns-in_default : goal.returns-in_default
 returns-in_default c =
     let a = c.args.a.now in
     let b = c.args.b.now in
-    prefix_decides a.prefix b.prefix a.key.now b.key.now a.first b.first a.bytes b.bytes c.cmp.result c.cmp.ensures c.in_default.not-Equal
+    prefix_decides a.prefix b.prefix a.key.now b.key.now a.first b.first a.bytes b.bytes c.cmp.result c.cmp.ensures
+    c.in_default.not-Equal
 
 pub returns-in_default-cmp : goal.returns-in_default-cmp
 returns-in_default-cmp c =
     let a = c.args.a.now in
     let b = c.args.b.now in
     let tie : a.prefix ≡ b.prefix = ranked a.prefix b.prefix Equal c.in-Equal.ensures in
-    second_decides a.second_prefix b.second_prefix a.key.now b.key.now a.next b.next (sym a.first ∙ tie ∙ b.first) a.bytes b.bytes c.cmp-in-Equal.result c.cmp-in-Equal.ensures c.in_default-cmp.not-Equal
+    second_decides a.second_prefix b.second_prefix a.key.now b.key.now a.next b.next
+    (sym a.first ∙ tie ∙ b.first) a.bytes b.bytes c.cmp-in-Equal.result c.cmp-in-Equal.ensures
+    c.in_default-cmp.not-Equal

@@ -8,14 +8,23 @@ use Rattle.po_compile.proofs.rows.add_rows.Goals as goal
 
 pub loop-lengths-preserved : goal.loop-lengths-preserved
 loop-lengths-preserved c =
-    let none : Lengths = record { key = 0; original = 0; translation = 0; line = 0; status = record { compiled = false; translated = false; fuzzy = false; untranslated = false } } in
+    let none : Lengths = record {
+      key = 0;
+      original = 0;
+      translation = 0;
+      line = 0;
+      status =
+          record { compiled = false; translated = false; fuzzy = false; untranslated = false };
+    } in
     let all = c.deref-lengths-items.result.now in
     let i = c.loop-lengths.lengths-index in
     let rest = c.loop-lengths.rest.now in
     let lengths = get_or all i none in
     let old = map row_view c.loop-lengths.rows.items in
     let new = map row_view c.add_row.new.rows.items in
-    let left : List Lengths → List ℕ → List InputMessage = λ ls bytes. map (in_input_message c.args.input) (filter (is_joined c.args.headed) (cut ls bytes)) in
+    let left : List Lengths → List ℕ → List InputMessage =
+    λ ls bytes. map (in_input_message c.args.input) (filter (is_joined c.args.headed) (cut ls bytes)) in
     ap (λ bytes. new ++ left (drop (i + 1) all) bytes) c.split_row.ensures.rest
-    ∙ rows_more c.args.input c.args.headed old new (row_view c.split_row.result.0) (first_message lengths rest) (cut (drop (i + 1) all) (after_message lengths rest)) c.split_row.ensures.row c.in_ok-add_row.ensures
+    ∙ rows_more c.args.input c.args.headed old new (row_view c.split_row.result.0) (first_message lengths rest)
+    (cut (drop (i + 1) all) (after_message lengths rest)) c.split_row.ensures.row c.in_ok-add_row.ensures
     ∙ sym (at_drop_more (λ ls. old ++ left ls rest) all i none c.loop-lengths-test.true) ∙ c.loop-lengths.invariant

@@ -5,5 +5,7 @@ use Rattle.po_compile.proofs.rows.add_rows.Given as goal
 
 abbrev pub invariant-loop-lengths : goal.invariant-loop-lengths
 invariant-loop-lengths l =
-    map row_view l.rows.items ++ map (in_input_message l.input) (filter (is_joined l.headed) (cut (drop l.lengths-index l.lengths-items) l.rest))
+    map row_view l.rows.items
+    ++ map (in_input_message l.input)
+    (filter (is_joined l.headed) (cut (drop l.lengths-index l.lengths-items) l.rest))
     ≡ map row_view l.fn.rows.items ++ map (in_input_message l.input) (filter (is_joined l.headed) l.collected)

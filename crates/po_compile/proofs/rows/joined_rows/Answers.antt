@@ -22,4 +22,5 @@ loop-input-preserved c =
     ap (λ h. new ++ joined_messages (i + 1) h (drop (i + 1) all)) then ∙ ap (λ l. l ++ rest) c.in_ok-add_rows.ensures
     ∙ append_assoc old (map (in_input_message i) (filter (is_joined headed) messages)) rest
     ∙ ap (λ ms. old ++ joined_messages i headed (ms ∷ drop (i + 1) all)) c.index-inputs-input.is
-    ∙ sym (at_drop_more (λ l. old ++ joined_messages i headed l) all i messages c.loop-input-test.true) ∙ c.loop-input.invariant
+    ∙ sym (at_drop_more (λ l. old ++ joined_messages i headed l) all i messages c.loop-input-test.true)
+    ∙ c.loop-input.invariant

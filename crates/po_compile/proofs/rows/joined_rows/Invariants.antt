@@ -3,4 +3,5 @@ use Rattle.po_compile.specs.Internal.Rows.{all_messages, joined_messages, row_vi
 use Rattle.po_compile.proofs.rows.joined_rows.Given as goal
 
 abbrev pub invariant-loop-input : goal.invariant-loop-input
-invariant-loop-input l = map row_view l.rows.items ++ joined_messages l.input l.headed (drop l.input l.inputs) ≡ all_messages l.inputs
+invariant-loop-input l =
+    map row_view l.rows.items ++ joined_messages l.input l.headed (drop l.input l.inputs) ≡ all_messages l.inputs

@@ -6,8 +6,10 @@ use Rattle.po_compile.proofs.sorting.have_one_header.Goals as goal
 
 pub loop-collected-preserved : goal.loop-collected-preserved
 loop-collected-preserved c =
-    All-more HasOneHeader c.args.inputs.now c.loop-collected.collected-index c.collected-item.result c.loop-collected-test.true c.loop-collected.invariant
+    All-more HasOneHeader c.args.inputs.now c.loop-collected.collected-index c.collected-item.result
+    c.loop-collected-test.true c.loop-collected.invariant
     (subst HasOneHeader c.collected-item.is (omega (arith, c.header_count.ensures, c.if-header_count-gt1.false)))
 
 pub returns : goal.returns
-returns c = λ _. subst (All HasOneHeader) (take_all c.loop-collected.collected-index c.args.inputs.now c.loop-collected-test.false) c.loop-collected.invariant
+returns c = λ _. subst (All HasOneHeader)
+    (take_all c.loop-collected.collected-index c.args.inputs.now c.loop-collected-test.false) c.loop-collected.invariant

@@ -9,4 +9,5 @@ use Rattle.po_compile.proofs.sorting.sort_rows.Goals as goal
 pub returns-clause-sorted : goal.returns-clause-sorted
 returns-clause-sorted c =
     let total = on_total (λ (row : Row). row.key.now) nat_list_cmp_total in
-    c.sort_unstable_by.ensures.sorted (λ a b. is_lt (key_cmp a.key.now b.key.now)) (ranks_by total (λ (row : Row). row)) (answers_always _ _ _ (λ f a r g h. search rules))
+    c.sort_unstable_by.ensures.sorted (λ a b. is_lt (key_cmp a.key.now b.key.now)) (ranks_by total (λ (row : Row). row))
+    (answers_always _ _ _ (λ f a r g h. search rules))

@@ -5,7 +5,8 @@ use Rattle.po_compile.proofs.sorting.sorted_rows.Goals as goal
 
 pub returns-then-have_one_header-clause-rows : goal.returns-then-have_one_header-clause-rows
 returns-then-have_one_header-clause-rows c = record {
-  all = sorted_all c.args.inputs.now c.in_ok-rows.rows.items c.sort_rows.new.rows.items c.in_ok-rows.ensures c.sort_rows.ensures.permutation;
+  all = sorted_all c.args.inputs.now c.in_ok-rows.rows.items c.sort_rows.new.rows.items c.in_ok-rows.ensures
+      c.sort_rows.ensures.permutation;
   rising = rw c.deref.ensures.value at (c.are_rising.ensures c.if-are_rising.true);
 }
 
@@ -14,7 +15,8 @@ returns-then-have_one_header-clause-each c =
     let sorted = c.sort_rows.new.rows.items in
     let rising = rw c.deref.ensures.value at (c.are_rising.ensures c.if-are_rising.true) in
     inputs_apart c.args.inputs.now (c.have_one_header.ensures c.if-have_one_header.true)
-    (all_apart c.args.inputs.now c.in_ok-rows.rows.items sorted c.in_ok-rows.ensures c.sort_rows.ensures.permutation (rising_apart (map (λ (r : Row). r.key.now) sorted) rising))
+    (all_apart c.args.inputs.now c.in_ok-rows.rows.items sorted c.in_ok-rows.ensures c.sort_rows.ensures.permutation
+    (rising_apart (map (λ (r : Row). r.key.now) sorted) rising))
 
 pub returns-clause-rows : goal.returns-clause-rows
 returns-clause-rows c =
@@ -23,5 +25,7 @@ returns-clause-rows c =
     let sorted = c.sort_rows.new.rows.items in
     record {
       all = sorted_all inputs rows sorted c.in_ok-rows.ensures c.sort_rows.ensures.permutation;
-      rising = rising_from_sorted (λ (r : Row). r.key.now) sorted c.sort_rows.ensures.sorted (sorted_apart inputs rows sorted c.in_ok-rows.ensures c.sort_rows.ensures.permutation c.in_ok-check_joined.ensures.apart);
+      rising = rising_from_sorted (λ (r : Row). r.key.now) sorted c.sort_rows.ensures.sorted
+          (sorted_apart inputs rows sorted c.in_ok-rows.ensures c.sort_rows.ensures.permutation
+          c.in_ok-check_joined.ensures.apart);
     }

@@ -15,7 +15,8 @@ returns c =
     (one_more_name names3 (codes "ascii") name _ _
     (one_more_name names2 (codes "us-ascii") name _ _
     (one_more_name names1 (codes "utf8") name _ _
-    (one_more_name names0 (codes "utf-8") name _ _ (no_name to_ascii_lowercase c.args.name.now _ c.is_empty.ensures) c.eq_ignore_ascii_case.ensures.test)
+    (one_more_name names0 (codes "utf-8") name _ _
+    (no_name to_ascii_lowercase c.args.name.now _ c.is_empty.ensures) c.eq_ignore_ascii_case.ensures.test)
     c.eq_ignore_ascii_case-2.ensures.test)
     c.eq_ignore_ascii_case-3.ensures.test)
     c.eq_ignore_ascii_case-4.ensures.test)

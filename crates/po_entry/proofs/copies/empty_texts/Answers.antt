@@ -6,7 +6,8 @@ use Rattle.po_entry.proofs.copies.empty_texts.Goals as goal
 pub loop-text-preserved : goal.loop-text-preserved
 loop-text-preserved c =
     let below : c.loop-text.text-index < length c.loop-text.list = omega (arith, c.loop-text.auto.list) in
-    All-written (λ v. v.items ≡ []) c.loop-text.list c.loop-text.text-index c.clear.new.self below c.loop-text.invariant c.clear.ensures.items
+    All-written (λ v. v.items ≡ []) c.loop-text.list c.loop-text.text-index c.clear.new.self below c.loop-text.invariant
+    c.clear.ensures.items
 
 pub returns : goal.returns
 returns c =

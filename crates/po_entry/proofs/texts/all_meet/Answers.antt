@@ -11,10 +11,12 @@ pub returns-then-not-meets : goal.returns-then-not-meets
 returns-then-not-meets c =
     let exact = rw c.deref.ensures.value at c.meets.ensures in (
       λ t. absurd (false≢true t),
-      λ all. sym c.if-not-meets.true ∙ exact.1 (tested_one (Meets c.args.need) _ _ _ c.loop-text-test.true c.text-item.is all),
+      λ all. sym c.if-not-meets.true
+          ∙ exact.1 (tested_one (Meets c.args.need) _ _ _ c.loop-text-test.true c.text-item.is all),
     )
 
 pub loop-text-preserved : goal.loop-text-preserved
 loop-text-preserved c =
     let exact = rw c.deref.ensures.value at c.meets.ensures in
-    tested_more (Meets c.args.need) _ _ _ c.loop-text-test.true c.text-item.is c.loop-text.invariant (exact.0 c.if-not-meets.false)
+    tested_more (Meets c.args.need) _ _ _ c.loop-text-test.true c.text-item.is c.loop-text.invariant
+    (exact.0 c.if-not-meets.false)

@@ -5,4 +5,5 @@ use Rattle.po_merge.proofs.comments.add_seen.Given as goal
 
 -- the set has the texts so far, with what it had
 abbrev pub invariant-loop-text : goal.invariant-loop-text
-invariant-loop-text l = (done : List (List ℕ)) → HoldsTexts l.initial.seen done → HoldsTexts l.seen (done ++ texts (take l.text-index l.others))
+invariant-loop-text l = (done : List (List ℕ)) → HoldsTexts l.initial.seen done
+    → HoldsTexts l.seen (done ++ texts (take l.text-index l.others))

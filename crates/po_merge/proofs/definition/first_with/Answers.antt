@@ -16,15 +16,20 @@ pub returns-in-Some : goal.returns-in-Some
 returns-in-Some c =
     let ds = c.args.definitions.now in
     let p = has_part c.args.part in
-    let found = find_from_yields_List (λ (d : BorrowedEntry). p d.entry.now) _ _ c.find.result c.find.ensures.ran (YieldsList-from_slice ds c.iter.ensures.rest) (λ x b q k. search rules) in
+    let found = find_from_yields_List (λ (d : BorrowedEntry). p d.entry.now) _ _ c.find.result c.find.ensures.ran
+    (YieldsList-from_slice ds c.iter.ensures.rest) (λ x b q k. search rules) in
     sym (ap (λ (r : Option NamedEntry). option_map_or (λ (d : NamedEntry). d.entry) r (first_of (named_entries ds)))
-    (find_map (λ (d : NamedEntry). p d.entry) named_entry ds ∙ ap (option_map named_entry) (sym found ∙ ap (option_map (λ d. d.now)) c.in-Some.is)))
+    (find_map (λ (d : NamedEntry). p d.entry) named_entry ds
+    ∙ ap (option_map named_entry) (sym found ∙ ap (option_map (λ d. d.now)) c.in-Some.is)))
 
 pub returns-in-None : goal.returns-in-None
 returns-in-None c =
     let ds = c.args.definitions.now in
     let p = has_part c.args.part in
-    let found = find_from_yields_List (λ (d : BorrowedEntry). p d.entry.now) _ _ c.find.result c.find.ensures.ran (YieldsList-from_slice ds c.iter.ensures.rest) (λ x b q k. search rules) in
-    ap (λ d. d.entry.now) (sym c.index-definitions-0.is) ∙ first_is ds c.index-definitions-0.result c.requires c.index-definitions-0.is
+    let found = find_from_yields_List (λ (d : BorrowedEntry). p d.entry.now) _ _ c.find.result c.find.ensures.ran
+    (YieldsList-from_slice ds c.iter.ensures.rest) (λ x b q k. search rules) in
+    ap (λ d. d.entry.now) (sym c.index-definitions-0.is)
+    ∙ first_is ds c.index-definitions-0.result c.requires c.index-definitions-0.is
     ∙ sym (ap (λ (r : Option NamedEntry). option_map_or (λ (d : NamedEntry). d.entry) r (first_of (named_entries ds)))
-    (find_map (λ (d : NamedEntry). p d.entry) named_entry ds ∙ ap (option_map named_entry) (sym found ∙ ap (option_map (λ d. d.now)) c.in-None.is)))
+    (find_map (λ (d : NamedEntry). p d.entry) named_entry ds
+    ∙ ap (option_map named_entry) (sym found ∙ ap (option_map (λ d. d.now)) c.in-None.is)))

@@ -10,12 +10,19 @@ pub returns-then-any : goal.returns-then-any
 returns-then-any g c =
     let live = g.T.Member.live in
     let group = c.args.group.now.items in
-    let some : list_any live group ≡ true = sym (any_from_yields_List live _ _ c.any.result c.any.ensures.ran (YieldsList-from_slice group (c.iter.ensures.rest ∙ c.deref.ensures.value)) (λ x b q k. search rules)) ∙ c.if-any.true in
-    filter_same _ _ _ (λ x b f' k. search rules) _ _ c.retain.ensures.filtered ∙ sym (ap (λ b. if b then filter live group else group) some)
+    let some : list_any live group ≡ true =
+    sym (any_from_yields_List live _ _ c.any.result c.any.ensures.ran
+    (YieldsList-from_slice group (c.iter.ensures.rest ∙ c.deref.ensures.value)) (λ x b q k. search rules))
+    ∙ c.if-any.true in
+    filter_same _ _ _ (λ x b f' k. search rules) _ _ c.retain.ensures.filtered
+    ∙ sym (ap (λ b. if b then filter live group else group) some)
 
 pub returns-else-any : goal.returns-else-any
 returns-else-any g c =
     let live = g.T.Member.live in
     let group = c.args.group.now.items in
-    let none : list_any live group ≡ false = sym (any_from_yields_List live _ _ c.any.result c.any.ensures.ran (YieldsList-from_slice group (c.iter.ensures.rest ∙ c.deref.ensures.value)) (λ x b q k. search rules)) ∙ c.if-any.false in
+    let none : list_any live group ≡ false =
+    sym (any_from_yields_List live _ _ c.any.result c.any.ensures.ran
+    (YieldsList-from_slice group (c.iter.ensures.rest ∙ c.deref.ensures.value)) (λ x b q k. search rules))
+    ∙ c.if-any.false in
     sym (ap (λ b. if b then filter live group else group) none)

@@ -17,20 +17,28 @@ pub groups_of-requires : goal.groups_of-requires
 groups_of-requires c =
     let numbers = c.deref-4.ensures.value ∙ c.in_ok-numbers.ensures.numbers in
     let es = named_entries c.deref-3.result.now in
-    let keys = ap messages_of_keys c.deref-2.ensures.value ∙ c.in_ok-keys.ensures ∙ ap (λ l. named_messages (named_entries l)) (c.deref.ensures.value ∙ sym c.deref-3.ensures.value) in
+    let keys = ap messages_of_keys c.deref-2.ensures.value ∙ c.in_ok-keys.ensures
+    ∙ ap (λ l. named_messages (named_entries l)) (c.deref.ensures.value ∙ sym c.deref-3.ensures.value) in
     record {
-      lengths = ap length (numbers ∙ ap (group_numbers same_message) keys) ∙ length-map (named_messages es) (λ m. position_or_len (same_message m) (first_ones same_message (named_messages es))) ∙ length-map es (λ e. entry_message e.entry) ∙ length-map c.deref-3.result.now named_entry;
-      below = rw (numbers, c.in_ok-numbers.ensures.count) (numbers_below same_message same_message_laws (messages_of_keys c.deref-2.result.now));
+      lengths = ap length (numbers ∙ ap (group_numbers same_message) keys)
+          ∙ length-map (named_messages es)
+          (λ m. position_or_len (same_message m) (first_ones same_message (named_messages es)))
+          ∙ length-map es (λ e. entry_message e.entry) ∙ length-map c.deref-3.result.now named_entry;
+      below = rw (numbers, c.in_ok-numbers.ensures.count)
+          (numbers_below same_message same_message_laws (messages_of_keys c.deref-2.result.now));
     }
 
 pub returns-clause-groups : goal.returns-clause-groups
 returns-clause-groups c =
     let ds = c.deref-3.result.now in
     let keys : messages_of_keys c.deref-2.result.now ≡ named_messages (named_entries ds) =
-    ap messages_of_keys c.deref-2.ensures.value ∙ c.in_ok-keys.ensures ∙ ap (λ l. named_messages (named_entries l)) (c.deref.ensures.value ∙ sym c.deref-3.ensures.value) in
-    let numbers : c.deref-4.result.now ≡ message_numbers (named_entries ds) = c.deref-4.ensures.value ∙ c.in_ok-numbers.ensures.numbers ∙ ap (group_numbers same_message) keys in
+    ap messages_of_keys c.deref-2.ensures.value ∙ c.in_ok-keys.ensures
+    ∙ ap (λ l. named_messages (named_entries l)) (c.deref.ensures.value ∙ sym c.deref-3.ensures.value) in
+    let numbers : c.deref-4.result.now ≡ message_numbers (named_entries ds) =
+    c.deref-4.ensures.value ∙ c.in_ok-numbers.ensures.numbers ∙ ap (group_numbers same_message) keys in
     let count = c.in_ok-numbers.ensures.count ∙ ap (λ l. length (first_ones same_message l)) keys in
     IfOk-weaker c.groups_of.result _ _
     (λ all are.
-    groups_are ds c.deref-4.result.now all.items numbers (are ∙ ap (λ n. by_number n c.deref-4.result.now ds) count) ∙ ap groups (ap named_entries c.deref-3.ensures.value ∙ c.in_ok-entries.ensures.all))
+    groups_are ds c.deref-4.result.now all.items numbers (are ∙ ap (λ n. by_number n c.deref-4.result.now ds) count)
+    ∙ ap groups (ap named_entries c.deref-3.ensures.value ∙ c.in_ok-entries.ensures.all))
     c.groups_of.ensures

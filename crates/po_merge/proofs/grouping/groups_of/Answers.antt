@@ -22,12 +22,15 @@ loop-index-preserved g c =
     record {
       count = length-set gs (get_or ns i 0) c.push-in-loop-index.new.self ∙ so_far.count;
       are =
-          grouped_in g.row.T.Denot gs (take i ns) (take (i + 1) ns) (take i xs) (take (i + 1) xs) (get_or ns i 0) x c.index_mut.result.now c.push-in-loop-index.new.self (take_more ns i 0 counted)
-          (take_more xs i x c.loop-index-test.true ∙ ap (λ y. take i xs ++ y ∷ []) (sym c.index-things-index.is)) (omega (arith, length-take i ns, length-take i xs, c.requires.lengths)) within
+          grouped_in g.row.T.Denot gs (take i ns) (take (i + 1) ns) (take i xs) (take (i + 1) xs)
+          (get_or ns i 0) x c.index_mut.result.now c.push-in-loop-index.new.self (take_more ns i 0 counted)
+          (take_more xs i x c.loop-index-test.true ∙ ap (λ y. take i xs ++ y ∷ []) (sym c.index-things-index.is))
+          (omega (arith, length-take i ns, length-take i xs, c.requires.lengths)) within
           (sym c.index_mut.ensures.value) c.in_ok-push-2.ensures.items so_far.are;
     }
 
 pub returns : goal.returns
 returns g c =
     let past = c.loop-index-test.false in
-    all_in g.row.T.Denot c.loop-index.groups.items c.args.numbers.now c.args.things.now c.loop-index.index c.args.count (omega (arith, past, c.requires.lengths)) past c.loop-index.invariant.count c.loop-index.invariant.are
+    all_in g.row.T.Denot c.loop-index.groups.items c.args.numbers.now c.args.things.now c.loop-index.index c.args.count
+    (omega (arith, past, c.requires.lengths)) past c.loop-index.invariant.count c.loop-index.invariant.are

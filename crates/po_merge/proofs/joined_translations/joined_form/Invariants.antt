@@ -5,4 +5,5 @@ use Rattle.po_merge.proofs.joined_translations.joined_form.Given as goal
 
 -- the forms of the translations so far are joined
 abbrev pub invariant-loop-translation : goal.invariant-loop-translation
-invariant-loop-translation l = l.joined.items ≡ joined_form (named_entries (take l.translation-index l.translations)) l.index
+invariant-loop-translation l =
+    l.joined.items ≡ joined_form (named_entries (take l.translation-index l.translations)) l.index

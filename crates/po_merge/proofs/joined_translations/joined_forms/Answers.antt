@@ -12,8 +12,15 @@ loop-index-preserved c =
     let i = c.loop-index.index in
     let inv = c.loop-index.invariant in
     let all = joined_form (named_entries c.args.translations.items) in
-    let form = c.in_ok-joined_form.ensures ∙ ap (λ ts. joined_form (named_entries ts) i) c.deref-in-loop-index.ensures.value ∙ inv.others i (omega arith) in
+    let form = c.in_ok-joined_form.ensures
+    ∙ ap (λ ts. joined_form (named_entries ts) i) c.deref-in-loop-index.ensures.value
+    ∙ inv.others i (omega arith) in
     record {
-      are_joined = ap texts c.in_ok-push.ensures.items ∙ map-append (λ v. v.items) c.loop-index.forms.items (c.in_ok-joined_form.field-0 ∷ []) ∙ ap₂ (λ (l : List (List ℕ)) (f : List ℕ). l ++ f ∷ []) inv.are_joined form ∙ sym (map-range_with_len_more all 0 i i (omega arith));
-      others = λ j h. ap (λ ts. joined_form ts j) c.in_ok-translations.ensures ∙ with_form_keeps (i + 1) j _ h ∙ ap (λ ts. joined_form (named_entries ts) j) c.deref-in-loop-index-2.ensures.value ∙ inv.others j (omega (arith, h));
+      are_joined = ap texts c.in_ok-push.ensures.items
+          ∙ map-append (λ v. v.items) c.loop-index.forms.items (c.in_ok-joined_form.field-0 ∷ [])
+          ∙ ap₂ (λ (l : List (List ℕ)) (f : List ℕ). l ++ f ∷ []) inv.are_joined form
+          ∙ sym (map-range_with_len_more all 0 i i (omega arith));
+      others = λ j h. ap (λ ts. joined_form ts j) c.in_ok-translations.ensures ∙ with_form_keeps (i + 1) j _ h
+          ∙ ap (λ ts. joined_form (named_entries ts) j) c.deref-in-loop-index-2.ensures.value
+          ∙ inv.others j (omega (arith, h));
     }

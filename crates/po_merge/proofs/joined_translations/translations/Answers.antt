@@ -19,13 +19,18 @@ use Rattle.po_merge.proofs.joined_translations.translations.Goals as goal
 pub loop-definition-init : goal.loop-definition-init
 loop-definition-init c = record {
   are_found = ap named_entries c.new-found.ensures.items;
-  met = λ q. ap (list_any (is_at (λ y. slice_cmp (λ v w. slice_cmp nat_cmp v.items w.items) q.now y.now))) c.new-seen.ensures.empty ∙ sym (ap (λ items. list_any (λ d. texts_eq (texts q.now) d.entry.forms) (named_entries items)) c.new-found.ensures.items);
+  met = λ q. ap (list_any (is_at (λ y. slice_cmp (λ v w. slice_cmp nat_cmp v.items w.items) q.now y.now)))
+      c.new-seen.ensures.empty
+      ∙ sym (ap (λ items. list_any (λ d. texts_eq (texts q.now) d.entry.forms) (named_entries items))
+      c.new-found.ensures.items);
 }
 
 pub loop-definition-preserved-then-not-has_translation : goal.loop-definition-preserved-then-not-has_translation
 loop-definition-preserved-then-not-has_translation c = record {
   are_found = c.loop-definition.invariant.are_found
-      ∙ sym (translations_more c.args.definitions.now c.loop-definition.definition-index c.definition-item.result false _ c.loop-definition-test.true c.definition-item.is (sym c.has_translation.ensures ∙ c.if-not-has_translation.true) refl);
+      ∙ sym (translations_more c.args.definitions.now c.loop-definition.definition-index c.definition-item.result false
+      _ c.loop-definition-test.true c.definition-item.is
+      (sym c.has_translation.ensures ∙ c.if-not-has_translation.true) refl);
   met = c.loop-definition.invariant.met;
 }
 
@@ -34,13 +39,21 @@ loop-definition-preserved-then-not-branch c =
     let d = named_entry c.definition-item.result in
     let inv = c.loop-definition.invariant in
     let T = translations (named_entries (take c.loop-definition.definition-index c.args.definitions.now)) in
-    let known : contains (λ x y. slice_cmp (λ v w. slice_cmp nat_cmp v.items w.items) x.now y.now) c.loop-definition.seen c.forms.result ≡ list_any (same_forms d) T =
-    inv.met c.forms.result ∙ ap₂ (λ (forms : List (List ℕ)) (l : List NamedEntry). list_any (λ e. texts_eq forms e.entry.forms) l) c.forms.ensures inv.are_found in
-    let met : list_any (same_forms d) T ≡ true = sym known ∙ not-false _ (sym c.in_ok-insert.ensures.added ∙ c.if-not-branch.true) in
+    let known : contains (λ x y. slice_cmp (λ v w. slice_cmp nat_cmp v.items w.items) x.now y.now)
+    c.loop-definition.seen c.forms.result ≡ list_any (same_forms d) T =
+    inv.met c.forms.result ∙ ap₂
+    (λ (forms : List (List ℕ)) (l : List NamedEntry). list_any (λ e. texts_eq forms e.entry.forms) l)
+    c.forms.ensures inv.are_found in
+    let met : list_any (same_forms d) T ≡ true =
+    sym known ∙ not-false _ (sym c.in_ok-insert.ensures.added ∙ c.if-not-branch.true) in
     let unchanged = (rw c.if-not-branch.true at c.in_ok-insert.ensures.unchanged) in
     record {
-      are_found = inv.are_found ∙ sym (translations_more c.args.definitions.now c.loop-definition.definition-index c.definition-item.result true true c.loop-definition-test.true c.definition-item.is (sym c.has_translation.ensures ∙ c.if-not-has_translation.false) met);
-      met = λ q. ap (list_any (is_at (λ y. slice_cmp (λ v w. slice_cmp nat_cmp v.items w.items) q.now y.now))) unchanged ∙ inv.met q;
+      are_found = inv.are_found
+          ∙ sym (translations_more c.args.definitions.now c.loop-definition.definition-index c.definition-item.result
+          true true c.loop-definition-test.true c.definition-item.is
+          (sym c.has_translation.ensures ∙ c.if-not-has_translation.false) met);
+      met = λ q. ap (list_any (is_at (λ y. slice_cmp (λ v w. slice_cmp nat_cmp v.items w.items) q.now y.now))) unchanged
+          ∙ inv.met q;
     }
 
 pub loop-definition-preserved : goal.loop-definition-preserved
@@ -48,13 +61,22 @@ loop-definition-preserved c =
     let d = named_entry c.definition-item.result in
     let inv = c.loop-definition.invariant in
     let T = translations (named_entries (take c.loop-definition.definition-index c.args.definitions.now)) in
-    let known : contains (λ x y. slice_cmp (λ v w. slice_cmp nat_cmp v.items w.items) x.now y.now) c.loop-definition.seen c.forms.result ≡ list_any (same_forms d) T =
-    inv.met c.forms.result ∙ ap₂ (λ (forms : List (List ℕ)) (l : List NamedEntry). list_any (λ e. texts_eq forms e.entry.forms) l) c.forms.ensures inv.are_found in
-    let unmet : list_any (same_forms d) T ≡ false = sym known ∙ not-true _ (sym c.in_ok-insert.ensures.added ∙ c.if-not-branch.false) in
-    let pushed = ap named_entries c.in_ok-push.ensures.items ∙ map-append named_entry c.loop-definition.found.items (c.definition-item.result ∷ []) in
+    let known : contains (λ x y. slice_cmp (λ v w. slice_cmp nat_cmp v.items w.items) x.now y.now)
+    c.loop-definition.seen c.forms.result ≡ list_any (same_forms d) T =
+    inv.met c.forms.result ∙ ap₂
+    (λ (forms : List (List ℕ)) (l : List NamedEntry). list_any (λ e. texts_eq forms e.entry.forms) l)
+    c.forms.ensures inv.are_found in
+    let unmet : list_any (same_forms d) T ≡ false =
+    sym known ∙ not-true _ (sym c.in_ok-insert.ensures.added ∙ c.if-not-branch.false) in
+    let pushed = ap named_entries c.in_ok-push.ensures.items
+    ∙ map-append named_entry c.loop-definition.found.items (c.definition-item.result ∷ []) in
     record {
       are_found =
           pushed ∙ ap (λ l. l ++ d ∷ []) inv.are_found
-          ∙ sym (translations_more c.args.definitions.now c.loop-definition.definition-index c.definition-item.result true false c.loop-definition-test.true c.definition-item.is (sym c.has_translation.ensures ∙ c.if-not-has_translation.false) unmet);
-      met = subst (HasForms c.insert.new.self) (sym pushed) (one_definition_more c.loop-definition.seen c.insert.new.self c.forms.result d (named_entries c.loop-definition.found.items) inv.met c.forms.ensures c.in_ok-insert.ensures.updates.0);
+          ∙ sym (translations_more c.args.definitions.now c.loop-definition.definition-index c.definition-item.result
+          true false c.loop-definition-test.true c.definition-item.is
+          (sym c.has_translation.ensures ∙ c.if-not-has_translation.false) unmet);
+      met = subst (HasForms c.insert.new.self) (sym pushed)
+          (one_definition_more c.loop-definition.seen c.insert.new.self c.forms.result d
+          (named_entries c.loop-definition.found.items) inv.met c.forms.ensures c.in_ok-insert.ensures.updates.0);
     }

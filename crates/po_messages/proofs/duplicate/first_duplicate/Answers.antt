@@ -19,13 +19,18 @@ none = record { input = 0; entry = record { ref_ptr = (0, 0); now = plain_entry 
 abbrev live : BorrowedEntry → Bool
 live e = is_live e.entry.now
 
-lives : (entries : List BorrowedEntry) (i : ℕ) (d : BorrowedEntry) (e : InputEntry) → i < length (input_entries entries) → live (get_or entries i d) ≡ is_live (get_or (input_entries entries) i e).entry
-lives entries i d e inside = ap (λ (x : InputEntry). is_live x.entry) (sym (get_or-map input_entry entries i d e (omega (arith, inside, length-map entries input_entry))))
+lives : (entries : List BorrowedEntry) (i : ℕ) (d : BorrowedEntry) (e : InputEntry) → i < length (input_entries entries)
+    → live (get_or entries i d) ≡ is_live (get_or (input_entries entries) i e).entry
+lives entries i d e inside =
+    ap (λ (x : InputEntry). is_live x.entry)
+    (sym (get_or-map input_entry entries i d e (omega (arith, inside, length-map entries input_entry))))
 
 pub first_repeat-requires : goal.first_repeat-requires
 first_repeat-requires c =
     let xs = input_entries c.args.entries.now in
-    let are = numbers_of xs c.deref-2.result.now (c.deref-2.ensures.value ∙ c.in_ok-numbers.ensures.numbers ∙ ap (group_numbers same_message) (ap messages_of_keys c.deref.ensures.value ∙ c.in_ok-keys.ensures)) in
+    let are = numbers_of xs c.deref-2.result.now
+    (c.deref-2.ensures.value ∙ c.in_ok-numbers.ensures.numbers
+    ∙ ap (group_numbers same_message) (ap messages_of_keys c.deref.ensures.value ∙ c.in_ok-keys.ensures)) in
     record {
       lengths = ap length are ∙ length-map xs (number xs) ∙ length-map c.args.entries.now input_entry;
       round = omega arith;
@@ -37,21 +42,43 @@ returns-in-Some c =
     let entries = c.args.entries.now in
     let xs = input_entries entries in
     let numbers = c.deref-2.result.now in
-    let are = numbers_of xs numbers (c.deref-2.ensures.value ∙ c.in_ok-numbers.ensures.numbers ∙ ap (group_numbers same_message) (ap messages_of_keys c.deref.ensures.value ∙ c.in_ok-keys.ensures)) in
-    let found = subst (λ o. MatchOption o (DifferUpTo live numbers entries (length entries)) (λ at. RepeatsAt live numbers entries at.0 at.1)) c.in-Some.is c.in_ok-first.ensures.found in
+    let are = numbers_of xs numbers
+    (c.deref-2.ensures.value ∙ c.in_ok-numbers.ensures.numbers
+    ∙ ap (group_numbers same_message) (ap messages_of_keys c.deref.ensures.value ∙ c.in_ok-keys.ensures)) in
+    let found = subst (λ o. MatchOption o (DifferUpTo live numbers entries (length entries))
+    (λ at. RepeatsAt live numbers entries at.0 at.1)) c.in-Some.is c.in_ok-first.ensures.found in
     let a = c.index-entries-first.result in
     let b = c.index-entries-later.result in
     let inside : c.in-Some.later < length entries = omega (arith, found.within) in
-    let at = λ (i : ℕ) (x : BorrowedEntry) (is : x ≡ get_or entries i x) (below : i < length entries). ap input_entry is ∙ sym (get_or-map input_entry entries i x (input_entry x) below) in
-    let repeat = repeat_of (number xs) (λ e. is_live e.entry) live xs entries numbers are (lives entries) a c.in-Some.first c.in-Some.later (input_entry a) (input_entry b) (omega (arith, inside, length-map entries input_entry))
-    (at c.in-Some.first a c.index-entries-first.is (omega (arith, found.earlier, inside))) (at c.in-Some.later b c.index-entries-later.is inside) found in
-    record { exact = inr (input_entry a, input_entry b, duplicate_found xs (input_entry a) (input_entry b) repeat, c.duplicate.ensures) }
+    let at = λ (i : ℕ) (x : BorrowedEntry) (is : x ≡ get_or entries i x) (below : i < length entries). ap input_entry is
+    ∙ sym (get_or-map input_entry entries i x (input_entry x) below) in
+    let repeat = repeat_of (number xs) (λ e. is_live e.entry) live xs entries numbers are
+    (lives entries) a c.in-Some.first c.in-Some.later (input_entry a) (input_entry b)
+    (omega (arith, inside, length-map entries input_entry))
+    (at c.in-Some.first a c.index-entries-first.is (omega (arith, found.earlier, inside)))
+    (at c.in-Some.later b c.index-entries-later.is inside) found in
+    record {
+      exact = inr (
+        input_entry a,
+        input_entry b,
+        duplicate_found xs (input_entry a) (input_entry b) repeat,
+        c.duplicate.ensures,
+      );
+    }
 
 pub returns : goal.returns
 returns c =
     let entries = c.args.entries.now in
     let xs = input_entries entries in
     let numbers = c.deref-2.result.now in
-    let are = numbers_of xs numbers (c.deref-2.ensures.value ∙ c.in_ok-numbers.ensures.numbers ∙ ap (group_numbers same_message) (ap messages_of_keys c.deref.ensures.value ∙ c.in_ok-keys.ensures)) in
-    let found = subst (λ o. MatchOption o (DifferUpTo live numbers entries (length entries)) (λ at. RepeatsAt live numbers entries at.0 at.1)) c.in-None.is c.in_ok-first.ensures.found in
-    record { exact = live_differ xs (all_differ (number xs) (λ e. is_live e.entry) live xs entries numbers are (lives entries) none (length entries) (sym (length-map entries input_entry)) found) }
+    let are = numbers_of xs numbers
+    (c.deref-2.ensures.value ∙ c.in_ok-numbers.ensures.numbers
+    ∙ ap (group_numbers same_message) (ap messages_of_keys c.deref.ensures.value ∙ c.in_ok-keys.ensures)) in
+    let found = subst (λ o. MatchOption o (DifferUpTo live numbers entries (length entries))
+    (λ at. RepeatsAt live numbers entries at.0 at.1)) c.in-None.is c.in_ok-first.ensures.found in
+    record {
+      exact = live_differ xs
+          (all_differ (number xs) (λ e. is_live e.entry) live xs entries numbers are (lives entries) none
+          (length entries)
+          (sym (length-map entries input_entry)) found);
+    }

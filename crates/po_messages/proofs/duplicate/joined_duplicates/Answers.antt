@@ -8,4 +8,5 @@ use Rattle.po_messages.proofs.duplicate.joined_duplicates.Goals as goal
 pub returns-clause-only : goal.returns-clause-only
 returns-clause-only c =
     let same = ap input_entries c.deref.ensures.value ∙ c.in_ok-entries.ensures.list in
-    λ none. only_memory (input_entries c.deref.result.now) c.first_duplicate.result c.first_duplicate.ensures.exact (subst (λ l. HasNoDuplicate (entries_of l)) (sym same) none)
+    λ none. only_memory (input_entries c.deref.result.now) c.first_duplicate.result c.first_duplicate.ensures.exact
+    (subst (λ l. HasNoDuplicate (entries_of l)) (sym same) none)

@@ -7,4 +7,5 @@ use Rattle.po_messages.proofs.duplicate.keys_of.Given as goal
 
 -- the keys of the entries so far
 abbrev pub invariant-loop-entry : goal.invariant-loop-entry
-invariant-loop-entry l = messages_of_keys l.keys.items ≡ entry_messages (entries_of (input_entries (take l.entry-index l.entries)))
+invariant-loop-entry l =
+    messages_of_keys l.keys.items ≡ entry_messages (entries_of (input_entries (take l.entry-index l.entries)))

@@ -7,6 +7,7 @@ use Rattle.po_messages.proofs.joining.joined.Given as goal
 -- what is there, and what the inputs that are left add, is the whole list
 abbrev pub invariant-loop-input : goal.invariant-loop-input
 invariant-loop-input l = record {
-  whole : input_entries l.joined.items ++ joined_from l.input l.headed (drop l.input l.catalogues) ≡ joined l.catalogues;
+  whole : input_entries l.joined.items ++ joined_from l.input l.headed (drop l.input l.catalogues)
+      ≡ joined l.catalogues;
   valid : All IsCatalogueEntry (entries_of (input_entries l.joined.items));
 }

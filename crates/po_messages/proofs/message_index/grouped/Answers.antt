@@ -10,8 +10,11 @@ pub loop-key-preserved : goal.loop-key-preserved
 loop-key-preserved c =
     let h = c.loop-key.invariant in
     record {
-      firsts = firsts_more c.args.keys.now c.loop-key.index.keys _ c.loop-key.key-index _ _ c.loop-key-test.true refl h.firsts c.in_ok-number.ensures.keys;
-      numbers_are = c.in_ok-push.ensures.items ∙ numbers_more c.args.keys.now c.loop-key.index.keys _ c.loop-key.key-index _ _ c.loop-key-test.true refl h.firsts c.in_ok-number.ensures.keys _ _ h.numbers_are c.in_ok-number.ensures.index;
+      firsts = firsts_more c.args.keys.now c.loop-key.index.keys _ c.loop-key.key-index _ _ c.loop-key-test.true refl
+          h.firsts c.in_ok-number.ensures.keys;
+      numbers_are = c.in_ok-push.ensures.items
+          ∙ numbers_more c.args.keys.now c.loop-key.index.keys _ c.loop-key.key-index _ _ c.loop-key-test.true refl
+          h.firsts c.in_ok-number.ensures.keys _ _ h.numbers_are c.in_ok-number.ensures.index;
     }
 
 pub returns : goal.returns
@@ -19,5 +22,6 @@ returns c =
     let whole = ap messages_of_keys (take_all c.loop-key.key-index c.args.keys.now c.loop-key-test.false) in
     record {
       numbers = c.loop-key.invariant.numbers_are ∙ ap (group_numbers same_message) whole;
-      count = c.len.ensures.len ∙ sym (length-map c.loop-key.index.keys message_of_key) ∙ ap length (c.loop-key.invariant.firsts ∙ ap (first_ones same_message) whole);
+      count = c.len.ensures.len ∙ sym (length-map c.loop-key.index.keys message_of_key)
+          ∙ ap length (c.loop-key.invariant.firsts ∙ ap (first_ones same_message) whole);
     }

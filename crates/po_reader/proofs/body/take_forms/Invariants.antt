@@ -7,7 +7,8 @@ use Rattle.po_reader.proofs.body.take_forms.Given as goal
 abbrev pub invariant-loop-forms : goal.invariant-loop-forms
 invariant-loop-forms l = record {
   reads : (read : SoFar) → read.own.obsolete ≡ l.obsolete
-      → comes (Between (Before (with_forms read []) (Form 0))) l.fn.rest ≡ comes (Between (Before (with_forms read (texts l.forms.items)) (Form l.index))) l.rest;
+      → comes (Between (Before (with_forms read []) (Form 0))) l.fn.rest
+      ≡ comes (Between (Before (with_forms read (texts l.forms.items)) (Form l.index))) l.rest;
   fewer : length l.rest.items + l.index ≤ length l.fn.rest.items;
 }
 

@@ -13,13 +13,19 @@ use Rattle.po_reader.proofs.drafts.drafts_of.Goals as goal
 pub returns-in_err-head-clause-fault : goal.returns-in_err-head-clause-fault
 returns-in_err-head-clause-fault c =
     let reads = c.loop-drafts.invariant.reads in
-    passed_on c.from_residual-in_err-head.result _ c.from_residual-in_err-head.ensures.1 (fails_from reads.1 (c.in_err-head.ensures.fault reads.0))
+    passed_on c.from_residual-in_err-head.result _ c.from_residual-in_err-head.ensures.1
+    (fails_from reads.1 (c.in_err-head.ensures.fault reads.0))
 
 pub returns-then-is_empty-clause-found : goal.returns-then-is_empty-clause-found
 returns-then-is_empty-clause-found c =
     let reads = c.loop-drafts.invariant.reads in
-    let head = c.in_ok-head.ensures.found in
-    (reads.0, reads.1 ∙ head.4 reads.0 ∙ head_over _ head.2 _ (after_head reads.0 head.0 head.1) (rw c.if-is_empty.true at c.is_empty.ensures) head.5, reads.2)
+    let head = c.in_ok-head.ensures.found in (
+      reads.0,
+      reads.1 ∙ head.4 reads.0
+          ∙ head_over _ head.2 _ (after_head reads.0 head.0 head.1)
+          (rw c.if-is_empty.true at c.is_empty.ensures) head.5,
+      reads.2,
+    )
 
 pub take_body-requires-clause-begins : goal.take_body-requires-clause-begins
 take_body-requires-clause-begins c =
@@ -30,20 +36,23 @@ pub returns-in_err-body-clause-fault : goal.returns-in_err-body-clause-fault
 returns-in_err-body-clause-fault c =
     let reads = c.loop-drafts.invariant.reads in
     let head = c.in_ok-head.ensures.found in
-    passed_on c.from_residual-in_err-body.result _ c.from_residual-in_err-body.ensures.1 (fails_from (reads.1 ∙ head.4 reads.0) (c.in_err-body.ensures.fault (after_head reads.0 head.0 head.1) head.2))
+    passed_on c.from_residual-in_err-body.result _ c.from_residual-in_err-body.ensures.1
+    (fails_from (reads.1 ∙ head.4 reads.0) (c.in_err-body.ensures.fault (after_head reads.0 head.0 head.1) head.2))
 
 pub loop-drafts-preserved : goal.loop-drafts-preserved
 loop-drafts-preserved c =
     let reads = c.loop-drafts.invariant.reads in
     let head = c.in_ok-head.ensures.found in
     let body = body_view c.in_ok-body.body in
-    let made = c.in_ok-fields_of.ensures (kept_comments c.args.with_comments head.0) head.1 head.3 ∙ kept_from c.args.with_comments head.0 head.1 body in
+    let made = c.in_ok-fields_of.ensures (kept_comments c.args.with_comments head.0) head.1 head.3
+    ∙ kept_from c.args.with_comments head.0 head.1 body in
     let first : TextEntry = with_head head.0 head.1 body in
     record {
       reads = (
         reads.0 ++ first ∷ [],
         reads.1 ∙ head.4 reads.0 ∙ c.in_ok-body.ensures.found (after_head reads.0 head.0 head.1) head.2,
-        rw (c.in_ok-push.ensures.items, map_push, map_push, made) (ap (λ es. es ++ kept_entry c.args.with_comments first ∷ []) reads.2),
+        rw (c.in_ok-push.ensures.items, map_push, map_push, made)
+            (ap (λ es. es ++ kept_entry c.args.with_comments first ∷ []) reads.2),
       );
       fewer = omega (arith, c.in_ok-head.ensures.fewer, c.in_ok-body.ensures.fewer, c.loop-drafts.invariant.fewer);
     }

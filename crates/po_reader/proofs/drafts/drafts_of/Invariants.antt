@@ -9,7 +9,8 @@ use Rattle.po_reader.proofs.drafts.drafts_of.Given as goal
 
 abbrev pub invariant-loop-drafts : goal.invariant-loop-drafts
 invariant-loop-drafts l = record {
-  reads : (entries : List TextEntry) × (comes_to l.end (start []) (views l.items) ≡ comes (start entries) l.rest) × (map entry_view l.drafts.items ≡ map (kept_entry l.with_comments) entries);
+  reads : (entries : List TextEntry) × (comes_to l.end (start []) (views l.items) ≡ comes (start entries) l.rest)
+      × (map entry_view l.drafts.items ≡ map (kept_entry l.with_comments) entries);
   fewer : length l.rest.items ≤ length l.items;
 }
 

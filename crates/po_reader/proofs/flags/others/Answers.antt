@@ -17,7 +17,8 @@ use Rattle.po_reader.proofs.flags.others.Goals as goal
 pub loop-flag-init : goal.loop-flag-init
 loop-flag-init c = record {
   are_kept = ap texts c.new-kept.ensures.items;
-  seen = λ q. ap (list_any (is_at (λ y. slice_cmp nat_cmp q.now y.now))) c.new-seen.ensures.empty ∙ sym (ap (λ items. list_any (bytes_eq q.now) (texts items)) c.new-kept.ensures.items);
+  seen = λ q. ap (list_any (is_at (λ y. slice_cmp nat_cmp q.now y.now))) c.new-seen.ensures.empty
+      ∙ sym (ap (λ items. list_any (bytes_eq q.now) (texts items)) c.new-kept.ensures.items);
 }
 
 pub loop-flag-preserved : goal.loop-flag-preserved
@@ -32,8 +33,11 @@ loop-flag-preserved c =
     let fresh : (is_fuzzy_flag flag.now || list_any (bytes_eq flag.now) flags) ≡ false = rw (other, unmet) refl in
     let same = c.in_ok-to_vec.ensures.items_if_clones_equal (λ x y e. e) in
     let pushed : texts c.push.new.self.items ≡ flags ++ flag.now ∷ [] =
-    ap texts c.in_ok-push.ensures.items ∙ map-append (λ v. v.items) c.loop-flag.kept.items (c.in_ok-to_vec.field-0 ∷ []) ∙ ap (λ n. flags ++ n ∷ []) same in
+    ap texts c.in_ok-push.ensures.items ∙ map-append (λ v. v.items) c.loop-flag.kept.items (c.in_ok-to_vec.field-0 ∷ [])
+    ∙ ap (λ n. flags ++ n ∷ []) same in
     record {
-      are_kept = pushed ∙ flags_more c.args.elements.now c.loop-flag.flag-index none flags false c.loop-flag-test.true inv.are_kept fresh;
-      seen = subst (HoldsTexts c.insert.new.self) (sym pushed) (one_text_more c.loop-flag.seen c.insert.new.self flag flags inv.seen c.in_ok-insert.ensures.updates.0);
+      are_kept = pushed ∙ flags_more c.args.elements.now c.loop-flag.flag-index none flags false c.loop-flag-test.true
+          inv.are_kept fresh;
+      seen = subst (HoldsTexts c.insert.new.self) (sym pushed)
+          (one_text_more c.loop-flag.seen c.insert.new.self flag flags inv.seen c.in_ok-insert.ensures.updates.0);
     }

@@ -9,8 +9,11 @@ use Rattle.po_reader.proofs.head.take_head.Given as goal
 
 abbrev pub invariant-loop-kind : goal.invariant-loop-kind
 invariant-loop-kind l = record {
-  reads : (comment_texts : List CommentText) × (previous : List PreviousText) × HoldsHead l.head (kept_comments l.with_comments comment_texts) previous
-      × ((entries : List TextEntry) → comes (start entries) l.fn.rest ≡ comes (Between (InHead (after_head entries comment_texts previous) l.above)) l.rest);
+  reads : (comment_texts : List CommentText) × (previous : List PreviousText)
+      × HoldsHead l.head (kept_comments l.with_comments comment_texts) previous
+      × ((entries : List TextEntry)
+      → comes (start entries) l.fn.rest
+      ≡ comes (Between (InHead (after_head entries comment_texts previous) l.above)) l.rest);
   fewer : length l.rest.items ≤ length l.fn.rest.items;
 }
 

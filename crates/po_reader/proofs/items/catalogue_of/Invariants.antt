@@ -10,5 +10,7 @@ abbrev pub invariant-loop-draft : goal.invariant-loop-draft
 invariant-loop-draft l = record {
   built : l.catalogue ≡ map entry_view (take (length l.yielded) l.fn.drafts.items);
   admitted : All (λ draft. HasAdmittedCharset (entry_view draft)) (take (length l.yielded) l.fn.drafts.items);
-  stops : (fault : PoFault) (line : ℕ) → EntriesStop HasAdmittedCharset IsForeign (map entry_view (drop (length l.yielded) l.fn.drafts.items)) fault line → EntriesStop HasAdmittedCharset IsForeign (map entry_view l.fn.drafts.items) fault line;
+  stops : (fault : PoFault) (line : ℕ)
+      → EntriesStop HasAdmittedCharset IsForeign (map entry_view (drop (length l.yielded) l.fn.drafts.items)) fault line
+      → EntriesStop HasAdmittedCharset IsForeign (map entry_view l.fn.drafts.items) fault line;
 }

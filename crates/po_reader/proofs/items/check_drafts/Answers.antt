@@ -7,13 +7,17 @@ use Rattle.po_reader.proofs.items.check_drafts.Goals as goal
 
 pub returns-in-Err-clause-fault : goal.returns-in-Err-clause-fault
 returns-in-Err-clause-fault c =
-    c.loop-draft.invariant.stops _ _ (rw (drop_here _ _ _ c.loop-draft-test.true c.draft-item.is) (here c.in-Err.ensures refl))
+    c.loop-draft.invariant.stops _ _
+    (rw (drop_here _ _ _ c.loop-draft-test.true c.draft-item.is) (here c.in-Err.ensures refl))
 
 pub returns-clause-ok : goal.returns-clause-ok
-returns-clause-ok c = asked_all (λ draft. HasTexts (entry_view draft)) _ _ c.loop-draft-test.false c.loop-draft.invariant.passed
+returns-clause-ok c = asked_all
+    (λ draft. HasTexts (entry_view draft)) _ _ c.loop-draft-test.false c.loop-draft.invariant.passed
 
 pub loop-draft-preserved : goal.loop-draft-preserved
 loop-draft-preserved c = record {
-  passed = asked_more (λ draft. HasTexts (entry_view draft)) _ _ _ c.loop-draft-test.true c.draft-item.is c.loop-draft.invariant.passed c.in_default.ensures;
-  stops = λ fault line h. c.loop-draft.invariant.stops _ _ (rw (drop_here _ _ _ c.loop-draft-test.true c.draft-item.is) (later c.in_default.ensures h));
+  passed = asked_more (λ draft. HasTexts (entry_view draft)) _ _ _ c.loop-draft-test.true c.draft-item.is
+      c.loop-draft.invariant.passed c.in_default.ensures;
+  stops = λ fault line h. c.loop-draft.invariant.stops _ _
+      (rw (drop_here _ _ _ c.loop-draft-test.true c.draft-item.is) (later c.in_default.ensures h));
 }

@@ -17,26 +17,37 @@ use Rattle.po_reader.proofs.items.read_items.Goals as goal
 
 pub returns-in_err-drafts-clause-fault : goal.returns-in_err-drafts-clause-fault
 returns-in_err-drafts-clause-fault c =
-    let stops = rw (c.last_line.ensures, c.deref.ensures.value, c.deref-2.ensures.value) at c.in_err-drafts.ensures.fault in
-    passed_on c.from_residual.result _ c.from_residual.ensures.1 (λ other. in_items (items_fault [] _ _ _ (stops.fault other)))
+    let stops = rw (c.last_line.ensures, c.deref.ensures.value, c.deref-2.ensures.value) at
+    c.in_err-drafts.ensures.fault in
+    passed_on c.from_residual.result _ c.from_residual.ensures.1
+    (λ other. in_items (items_fault [] _ _ _ (stops.fault other)))
 
 pub returns-in_err-drafts-clause-memory : goal.returns-in_err-drafts-clause-memory
-returns-in_err-drafts-clause-memory c = passed_on c.from_residual.result _ c.from_residual.ensures.1 c.in_err-drafts.ensures.fault.memory
+returns-in_err-drafts-clause-memory c =
+    passed_on c.from_residual.result _ c.from_residual.ensures.1 c.in_err-drafts.ensures.fault.memory
 
 pub returns-in_err-check_drafts-clause-fault : goal.returns-in_err-check_drafts-clause-fault
 returns-in_err-check_drafts-clause-fault c =
     let spelt = rw c.deref.ensures.value at c.in_ok-drafts.ensures.found in
     let stops = rw c.deref-3.ensures.value at c.in_err-check_drafts.ensures.fault in
-    let kept = subst (λ (es : List TextEntry). EntriesStop HasTexts EntryTextFault es c.in_err-check_drafts.field-0.0.kind c.in_err-check_drafts.field-0.0.line) spelt.2 stops in
-    passed_on c.from_residual-in_err-check_drafts.result _ c.from_residual-in_err-check_drafts.ensures.1 (λ other. in_texts (whole_spelt _ _ _ spelt.1) (kept_stop c.args.with_comments (texts_one c.args.with_comments) (whole_fault c.args.with_comments) spelt.0 kept))
+    let kept = subst (λ (es : List TextEntry).
+    EntriesStop HasTexts EntryTextFault es c.in_err-check_drafts.field-0.0.kind
+    c.in_err-check_drafts.field-0.0.line) spelt.2 stops in
+    passed_on c.from_residual-in_err-check_drafts.result _ c.from_residual-in_err-check_drafts.ensures.1
+    (λ other. in_texts (whole_spelt _ _ _ spelt.1)
+    (kept_stop c.args.with_comments (texts_one c.args.with_comments)
+    (whole_fault c.args.with_comments) spelt.0 kept))
 
 pub returns-in_err-check_drafts-clause-memory : goal.returns-in_err-check_drafts-clause-memory
-returns-in_err-check_drafts-clause-memory c = passed_on c.from_residual-in_err-check_drafts.result _ c.from_residual-in_err-check_drafts.ensures.1 (λ memory. absurd (texts_reported c.in_err-check_drafts.ensures.fault memory))
+returns-in_err-check_drafts-clause-memory c =
+    passed_on c.from_residual-in_err-check_drafts.result _ c.from_residual-in_err-check_drafts.ensures.1
+    (λ memory. absurd (texts_reported c.in_err-check_drafts.ensures.fault memory))
 
 pub catalogue_of-requires : goal.catalogue_of-requires
 catalogue_of-requires c =
     let spelt = rw c.deref.ensures.value at c.in_ok-drafts.ensures.found in
-    let sound = subst (All SoundEntry) (sym spelt.2) (kept_sound c.args.with_comments spelt.0 (entries_sound (whole_spelt _ _ _ spelt.1) c.requires.hold)) in
+    let sound = subst (All SoundEntry) (sym spelt.2)
+    (kept_sound c.args.with_comments spelt.0 (entries_sound (whole_spelt _ _ _ spelt.1) c.requires.hold)) in
     let asked = rw c.deref-3.ensures.value at c.in_ok-check_drafts.ensures.ok in
     drafts_valid _ sound asked
 
@@ -44,8 +55,11 @@ pub returns-clause-found : goal.returns-clause-found
 returns-clause-found c =
     let spelt = rw c.deref.ensures.value at c.in_ok-drafts.ensures.found in
     let asked = rw c.deref-3.ensures.value at c.in_ok-check_drafts.ensures.ok in
-    let texts = kept_texts c.args.with_comments spelt.0 (subst (All HasTexts) spelt.2 (All-map HasTexts entry_view c.in_ok-drafts.drafts.items asked)) in
-    let admitted = ok_step c.catalogue_of.result (λ _ charsets. kept_admitted c.args.with_comments spelt.0 (subst (All HasAdmittedCharset) spelt.2 charsets)) c.catalogue_of.ensures.charsets in
+    let texts = kept_texts c.args.with_comments spelt.0
+    (subst (All HasTexts) spelt.2 (All-map HasTexts entry_view c.in_ok-drafts.drafts.items asked)) in
+    let admitted = ok_step c.catalogue_of.result
+    (λ _ charsets. kept_admitted c.args.with_comments spelt.0 (subst (All HasAdmittedCharset) spelt.2 charsets))
+    c.catalogue_of.ensures.charsets in
     ok_both c.catalogue_of.result (λ made is charsets. (
       spelt.0,
       record { reads = whole_spelt _ _ _ spelt.1; texts = texts; charsets = charsets },
@@ -56,7 +70,11 @@ pub returns-clause-fault : goal.returns-clause-fault
 returns-clause-fault c =
     let spelt = rw c.deref.ensures.value at c.in_ok-drafts.ensures.found in
     let asked = rw c.deref-3.ensures.value at c.in_ok-check_drafts.ensures.ok in
-    let texts = kept_texts c.args.with_comments spelt.0 (subst (All HasTexts) spelt.2 (All-map HasTexts entry_view c.in_ok-drafts.drafts.items asked)) in
+    let texts = kept_texts c.args.with_comments spelt.0
+    (subst (All HasTexts) spelt.2 (All-map HasTexts entry_view c.in_ok-drafts.drafts.items asked)) in
     err_step c.catalogue_of.result (λ e h other.
-    let stops = kept_stop c.args.with_comments (admitted_one c.args.with_comments) (whole_foreign c.args.with_comments) spelt.0 (subst (λ (es : List TextEntry). EntriesStop HasAdmittedCharset IsForeign es e.kind e.line) spelt.2 (h other)) in
+    let stops = kept_stop c.args.with_comments (admitted_one c.args.with_comments)
+    (whole_foreign c.args.with_comments) spelt.0
+    (subst (λ (es : List TextEntry). EntriesStop HasAdmittedCharset IsForeign es e.kind e.line) spelt.2
+    (h other)) in
     in_charset (whole_spelt _ _ _ spelt.1) texts stops) c.catalogue_of.ensures.fault

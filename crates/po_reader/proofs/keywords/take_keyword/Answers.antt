@@ -8,4 +8,5 @@ returns-in_default-clause-fault c = λ read same. no_keyword _ _ c.in_default.en
 
 pub returns-in-Some-keyword_fault-clause-fault : goal.returns-in-Some-keyword_fault-clause-fault
 returns-in-Some-keyword_fault-clause-fault c = λ read same.
-    first_refused _ _ _ _ _ c.in-Some.ensures (Between (Before read (wanted_view c.args.wanted))) (c.in-Some-keyword_fault.ensures.step read c.in-Some.line same)
+    first_refused _ _ _ _ _ c.in-Some.ensures (Between (Before read (wanted_view c.args.wanted)))
+    (c.in-Some-keyword_fault.ensures.step read c.in-Some.line same)

@@ -5,4 +5,5 @@ use Rattle.po_entry.specs.Viable.{last_line}
 use Rattle.po_reader.proofs.laws.entries_are_spelt.Goals as goal
 
 pub returns : goal.returns
-returns c = λ items entries. (λ h. whole_spelt (last_line items) items entries h, λ h. spelt_runs h (last_line items) [])
+returns c = λ items entries.
+    (λ h. whole_spelt (last_line items) items entries h, λ h. spelt_runs h (last_line items) [])

@@ -6,4 +6,6 @@ use Rattle.po_reader.proofs.piecewise.next_catalogue.Goals as goal
 
 pub returns-clause-found : goal.returns-clause-found
 returns-clause-found c =
-    ok_step c.next_entries.result (λ kept h. subst (ReadsOn c.args.pieces.now c.next_entries.new.pieces) (sym (h.1 ∙ all_kept h.0)) h.2) c.next_entries.ensures.found
+    ok_step c.next_entries.result
+    (λ kept h. subst (ReadsOn c.args.pieces.now c.next_entries.new.pieces) (sym (h.1 ∙ all_kept h.0)) h.2)
+    c.next_entries.ensures.found

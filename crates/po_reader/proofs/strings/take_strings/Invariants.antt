@@ -8,7 +8,9 @@ use Rattle.po_reader.proofs.strings.take_strings.Given as goal
 abbrev pub invariant-loop-bytes : goal.invariant-loop-bytes
 invariant-loop-bytes l = record {
   reads : (some : Bool) × (some ≡ true → begins_string l.rest.items ≡ true)
-      × ((read : SoFar) (keyword : Keyword) → comes (In read keyword l.marks false []) l.fn.rest ≡ comes (In read keyword l.marks some l.text.items) l.rest);
+      × ((read : SoFar) (keyword : Keyword)
+      → comes (In read keyword l.marks false []) l.fn.rest
+      ≡ comes (In read keyword l.marks some l.text.items) l.rest);
   fewer : length l.rest.items ≤ length l.fn.rest.items;
 }
 

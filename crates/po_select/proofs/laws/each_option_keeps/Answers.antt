@@ -2,4 +2,11 @@ use Rattle.po_select.proofs.OptionLaws.{keeps_translated, keeps_untranslated, re
 use Rattle.po_select.proofs.laws.each_option_keeps.Goals as goal
 
 pub returns : goal.returns
-returns c = record { translated = keeps_translated; untranslated = keeps_untranslated; no_fuzzy = removes_fuzzy; only_fuzzy = keeps_fuzzy; no_obsolete = removes_obsolete; only_obsolete = keeps_obsolete }
+returns c = record {
+  translated = keeps_translated;
+  untranslated = keeps_untranslated;
+  no_fuzzy = removes_fuzzy;
+  only_fuzzy = keeps_fuzzy;
+  no_obsolete = removes_obsolete;
+  only_obsolete = keeps_obsolete;
+}

@@ -6,6 +6,7 @@ use Rattle.po_select.proofs.selecting.change_all.Given as goal
 
 abbrev pub invariant-loop-entry : goal.invariant-loop-entry
 invariant-loop-entry l = record {
-  changed : l.entries ≡ map (changed l.selection) (take l.entry-index l.initial.entries) ++ drop l.entry-index l.initial.entries;
+  changed : l.entries ≡ map (changed l.selection) (take l.entry-index l.initial.entries)
+      ++ drop l.entry-index l.initial.entries;
   valid : All IsCatalogueEntry l.entries;
 }

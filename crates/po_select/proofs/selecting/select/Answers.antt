@@ -6,4 +6,5 @@ use Rattle.po_select.proofs.selecting.select.Goals as goal
 pub change_all-requires : goal.change_all-requires
 change_all-requires c =
     rw (c.deref_mut.ensures.value, c.keep_selected.ensures)
-    (All-filter (is_kept c.args.selection.now) IsCatalogueEntry c.into_entries-entries.result.items c.into_entries-entries.ensures.valid)
+    (All-filter (is_kept c.args.selection.now) IsCatalogueEntry c.into_entries-entries.result.items
+    c.into_entries-entries.ensures.valid)

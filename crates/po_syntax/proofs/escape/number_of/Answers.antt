@@ -7,17 +7,21 @@ use Rattle.std.proofs.lemmas.List.{take_all}
 use Rattle.po_syntax.proofs.escape.number_of.Goals as goal
 
 -- one more digit
-step : (base number : ℕ) (digits : List ℕ) (i : ℕ) → i < length digits → number ≡ digits_value base (take i digits) → digits_value base (take (i + 1) digits) ≡ number * base + digit_value (get_or digits i 0)
+step : (base number : ℕ) (digits : List ℕ) (i : ℕ) → i < length digits → number ≡ digits_value base (take i digits)
+    → digits_value base (take (i + 1) digits) ≡ number * base + digit_value (get_or digits i 0)
 step base number digits i h e = rw e (digits_value_more base digits i h)
 
 -- the digits so far write no more than all of them
-within : (base number : ℕ) (digits : List ℕ) (i : ℕ) → 2 ≤ base → i < length digits → number ≡ digits_value base (take i digits) → number * base + digit_value (get_or digits i 0) ≤ digits_value base digits
+within : (base number : ℕ) (digits : List ℕ) (i : ℕ) → 2 ≤ base → i < length digits
+    → number ≡ digits_value base (take i digits)
+    → number * base + digit_value (get_or digits i 0) ≤ digits_value base digits
 within base number digits i b h e =
     rw (sym (step base number digits i h e)) (digits_value-take-le base digits (i + 1) (omega arith))
 
 pub returns-in_err-digit : goal.returns-in_err-digit
 returns-in_err-digit c =
-    rw c.from_residual.ensures (λ _. c.in_err-digit.ensures.value (c.requires.digits c.loop-digit.digit-index 0 c.loop-digit-test.true))
+    rw c.from_residual.ensures
+    (λ _. c.in_err-digit.ensures.value (c.requires.digits c.loop-digit.digit-index 0 c.loop-digit-test.true))
 
 pub returns-in_err-checked_mul : goal.returns-in_err-checked_mul
 returns-in_err-checked_mul c =
@@ -27,14 +31,18 @@ returns-in_err-checked_mul c =
 pub returns-in_err-number : goal.returns-in_err-number
 returns-in_err-number c =
     let most = within _ _ _ _ c.requires.least c.loop-digit-test.true c.loop-digit.invariant.0 in
-    rw c.from_residual-in_err-number.ensures (λ small. c.in_err-number.ensures (omega (arith, c.in_ok-digit.ensures.value, c.in_ok-checked_mul.ensures)))
+    rw c.from_residual-in_err-number.ensures
+    (λ small. c.in_err-number.ensures (omega (arith, c.in_ok-digit.ensures.value, c.in_ok-checked_mul.ensures)))
 
 pub loop-digit-preserved : goal.loop-digit-preserved
 loop-digit-preserved c =
-    let more = step _ _ _ _ c.loop-digit-test.true c.loop-digit.invariant.0 in
-    (omega (arith, more, c.in_ok-digit.ensures.value, c.in_ok-checked_mul.ensures, c.in_ok-number.ensures), omega (arith, c.in_ok-number.ensures))
+    let more = step _ _ _ _ c.loop-digit-test.true c.loop-digit.invariant.0 in (
+      omega (arith, more, c.in_ok-digit.ensures.value, c.in_ok-checked_mul.ensures, c.in_ok-number.ensures),
+      omega (arith, c.in_ok-number.ensures),
+    )
 
 pub returns : goal.returns
 returns c =
-    let all = rw (take_all c.loop-digit.digit-index c.args.digits.now c.loop-digit-test.false) at c.loop-digit.invariant.0 in
+    let all = rw (take_all c.loop-digit.digit-index c.args.digits.now c.loop-digit-test.false) at
+    c.loop-digit.invariant.0 in
     (omega (arith, all), all)

@@ -9,4 +9,5 @@ returns-clause-spelt c = bytes_spell
 
 pub returns-clause-read : goal.returns-clause-read
 unfolding first_token
-returns-clause-read c = λ bytes rest h. ((written_bytes bytes ++ 34 ∷ []) ++ rest, refl, rw append_assoc (bytes_spell bytes rest h))
+returns-clause-read c = λ bytes rest h.
+    ((written_bytes bytes ++ 34 ∷ []) ++ rest, refl, rw append_assoc (bytes_spell bytes rest h))

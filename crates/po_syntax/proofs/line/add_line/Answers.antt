@@ -13,17 +13,22 @@ returns-in-None-clause-fault c = λ _. line_at c.args.line _ (Err _) c.in-None.e
 
 pub returns-in-Some-Tokens-clause-found : goal.returns-in-Some-Tokens-clause-found
 returns-in-Some-Tokens-clause-found c =
-    let shape : shape_of c.args.text.now ≡ Tokens c.in-Some-Tokens.marks c.in-Some-Tokens.rest.now = c.in-Some-Tokens.ensures ∙ ap shape_view c.in-Some-Tokens.field-0-is in
-    on_ok_weaker c.add_tokens.result (λ found. (found.0, line_at c.args.line _ (Ok _) shape found.1, found.2)) c.add_tokens.ensures.found
+    let shape : shape_of c.args.text.now ≡ Tokens c.in-Some-Tokens.marks c.in-Some-Tokens.rest.now =
+    c.in-Some-Tokens.ensures ∙ ap shape_view c.in-Some-Tokens.field-0-is in
+    on_ok_weaker c.add_tokens.result
+    (λ found. (found.0, line_at c.args.line _ (Ok _) shape found.1, found.2)) c.add_tokens.ensures.found
 
 pub returns-in-Some-Tokens-clause-fault : goal.returns-in-Some-Tokens-clause-fault
 returns-in-Some-Tokens-clause-fault c =
-    let shape : shape_of c.args.text.now ≡ Tokens c.in-Some-Tokens.marks c.in-Some-Tokens.rest.now = c.in-Some-Tokens.ensures ∙ ap shape_view c.in-Some-Tokens.field-0-is in
-    IfErr-weaker c.add_tokens.result _ _ (λ e stops reported. line_at c.args.line _ (Err _) shape (stops reported)) c.add_tokens.ensures.fault
+    let shape : shape_of c.args.text.now ≡ Tokens c.in-Some-Tokens.marks c.in-Some-Tokens.rest.now =
+    c.in-Some-Tokens.ensures ∙ ap shape_view c.in-Some-Tokens.field-0-is in
+    IfErr-weaker c.add_tokens.result _ _
+    (λ e stops reported. line_at c.args.line _ (Err _) shape (stops reported)) c.add_tokens.ensures.fault
 
 pub returns-in_ok-push-in-Some-Comment-clause-found : goal.returns-in_ok-push-in-Some-Comment-clause-found
 returns-in_ok-push-in-Some-Comment-clause-found c =
-    let shape : shape_of c.args.text.now ≡ CommentLine c.in-Some-Comment.kind c.in-Some-Comment.rest.now = c.in-Some-Comment.ensures ∙ ap shape_view c.in-Some-Comment.field-0-is in (
+    let shape : shape_of c.args.text.now ≡ CommentLine c.in-Some-Comment.kind c.in-Some-Comment.rest.now =
+    c.in-Some-Comment.ensures ∙ ap shape_view c.in-Some-Comment.field-0-is in (
       Comment c.in-Some-Comment.kind (trim_returns c.in-Some-Comment.rest.now) c.args.line ∷ [],
       line_at c.args.line _ (Ok _) shape refl,
       rw (c.in_ok-push-in-Some-Comment.ensures.items, map_push, c.trim_returns.ensures),

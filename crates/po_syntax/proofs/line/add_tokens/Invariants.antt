@@ -9,7 +9,8 @@ abbrev pub invariant-loop-inside : goal.invariant-loop-inside
 invariant-loop-inside l =
     (spelt : List TextItem)
     × (views l.items.items ≡ views l.initial.items.items ++ spelt)
-    × ((more : List TextItem) → HoldsTokens l.marks l.line l.rest more → HoldsTokens l.marks l.line l.text (spelt ++ more))
+    × ((more : List TextItem) → HoldsTokens l.marks l.line l.rest more
+    → HoldsTokens l.marks l.line l.text (spelt ++ more))
     × ((fault : PoFault) → TokensFault l.rest fault → TokensFault l.text fault)
 
 abbrev pub decreases-loop-inside : goal.decreases-loop-inside

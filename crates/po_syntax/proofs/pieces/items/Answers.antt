@@ -6,7 +6,8 @@ use Rattle.po_syntax.proofs.Lines.{items-few}
 use Rattle.po_syntax.proofs.PieceLemmas.{piece_all}
 use Rattle.po_syntax.proofs.pieces.items.Goals as goal
 
-ok_both : {T E : Type 0} {P Q R : T → Type 0} (r : Result T E) → ((y : T) → P y → Q y → R y) → IfOk r P → IfOk r Q → IfOk r R
+ok_both : {T E : Type 0} {P Q R : T → Type 0} (r : Result T E) → ((y : T) → P y → Q y → R y) → IfOk r P → IfOk r Q
+    → IfOk r R
 ok_both (Ok y) f p q = f y p q
 ok_both (Err e) f p q = tt
 
@@ -24,12 +25,20 @@ returns-in_err-pieces-clause-memory c =
 pub returns-clause-found : goal.returns-clause-found
 returns-clause-found c =
     let over : IfOk c.next.result (λ items. c.next.new.self.lines ≡ []) = c.next.ensures.whole (omega arith) in
-    ok_both c.next.result (λ items piece none. c.in_ok-pieces.ensures.found (views items.items) (piece_all _ _ _ _ piece none)) c.next.ensures.piece over
+    ok_both c.next.result (λ items piece none. c.in_ok-pieces.ensures.found (views items.items)
+    (piece_all _ _ _ _ piece none)) c.next.ensures.piece over
 
 pub returns-clause-fault : goal.returns-clause-fault
 returns-clause-fault c =
-    IfErr-weaker c.next.result _ _ (λ e h other. c.in_ok-pieces.ensures.stops e.kind e.line (h other)) c.next.ensures.fault
+    IfErr-weaker c.next.result _ _
+    (λ e h other. c.in_ok-pieces.ensures.stops e.kind e.line (h other)) c.next.ensures.fault
 
 pub returns-clause-few : goal.returns-clause-few
 returns-clause-few c =
-    IfOk-weaker c.next.result _ _ (λ items h. omega (arith, items.ok.0, length-map items.items view, items-few c.args.text.now (views items.items) h.lines)) (returns-clause-found c)
+    IfOk-weaker c.next.result _ _
+    (λ items h. omega (
+      arith,
+      items.ok.0,
+      length-map items.items view,
+      items-few c.args.text.now (views items.items) h.lines,
+    )) (returns-clause-found c)

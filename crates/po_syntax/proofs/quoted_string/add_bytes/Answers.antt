@@ -7,7 +7,8 @@ use Rattle.po_syntax.proofs.QuotedStrings.{closes, backslash, stops_at_end, esca
 use Rattle.po_syntax.proofs.quoted_string.add_bytes.Goals as goal
 
 pub returns-in_default-clause-fault : goal.returns-in_default-clause-fault
-returns-in_default-clause-fault c = λ _. c.loop-mark.invariant.3 _ (c.split_plain.ensures.stops _ (stops_at_end _ c.in_default.ensures.cases))
+returns-in_default-clause-fault c =
+    λ _. c.loop-mark.invariant.3 _ (c.split_plain.ensures.stops _ (stops_at_end _ c.in_default.ensures.cases))
 
 pub returns-then-mark-eq34-clause-found : goal.returns-then-mark-eq34-clause-found
 returns-then-mark-eq34-clause-found c =
@@ -22,10 +23,14 @@ pub returns-in_err-byte-clause-fault : goal.returns-in_err-byte-clause-fault
 returns-in_err-byte-clause-fault c =
     let p = err_from_is_err_and c.from_residual-in_err-byte.result c.from_residual-in_err-byte.ensures.1 in
     let begins = backslash _ _ _ c.in-Some.ensures.cases.0 c.split_plain.ensures.special c.if-mark-eq34.false in
-    rw (p.1, p.2) (λ _. c.loop-mark.invariant.3 _ (c.split_plain.ensures.stops _ (subst (λ t. StringFault t c.in_err-byte.field-0.0) begins (in_escape (escape_is _ c.in_err-byte.ensures)))))
+    rw (p.1, p.2) (λ _. c.loop-mark.invariant.3 _
+    (c.split_plain.ensures.stops _
+    (subst (λ t. StringFault t c.in_err-byte.field-0.0) begins
+    (in_escape (escape_is _ c.in_err-byte.ensures)))))
 
 pub loop-mark-smaller : goal.loop-mark-smaller
-loop-mark-smaller c = omega (arith, c.split_plain.ensures.parts, c.in-Some.ensures.cases, escape_shorter (escape_is _ c.in_ok-byte.ensures))
+loop-mark-smaller c = omega
+    (arith, c.split_plain.ensures.parts, c.in-Some.ensures.cases, escape_shorter (escape_is _ c.in_ok-byte.ensures))
 
 pub loop-mark-preserved : goal.loop-mark-preserved
 loop-mark-preserved c =
@@ -33,7 +38,14 @@ loop-mark-preserved c =
     let byte = c.in_ok-byte.byte ∷ [] in
     let begins = backslash _ _ _ c.in-Some.ensures.cases.0 c.split_plain.ensures.special c.if-mark-eq34.false in (
       c.loop-mark.invariant.0 ++ (plain ++ byte),
-      rw (c.in_ok-push.ensures.items, c.in_ok-extend_from_slice.ensures.items, c.loop-mark.invariant.1) (simp append_assoc),
-      λ more end h. simp append_assoc (c.loop-mark.invariant.2 _ _ (c.split_plain.ensures.spelt (c.in_ok-byte.byte ∷ more) _ (subst (λ t. SpellsString t (c.in_ok-byte.byte ∷ more) end) begins (escape (escape_is _ c.in_ok-byte.ensures) h)))),
-      λ fault h. c.loop-mark.invariant.3 _ (c.split_plain.ensures.stops _ (subst (λ t. StringFault t fault) begins (after_escape (escape_is _ c.in_ok-byte.ensures) h))),
+      rw (c.in_ok-push.ensures.items, c.in_ok-extend_from_slice.ensures.items, c.loop-mark.invariant.1)
+          (simp append_assoc),
+      λ more end h. simp append_assoc
+          (c.loop-mark.invariant.2 _ _
+          (c.split_plain.ensures.spelt (c.in_ok-byte.byte ∷ more) _
+          (subst (λ t. SpellsString t (c.in_ok-byte.byte ∷ more) end) begins
+          (escape (escape_is _ c.in_ok-byte.ensures) h)))),
+      λ fault h. c.loop-mark.invariant.3 _
+          (c.split_plain.ensures.stops _
+          (subst (λ t. StringFault t fault) begins (after_escape (escape_is _ c.in_ok-byte.ensures) h))),
     )

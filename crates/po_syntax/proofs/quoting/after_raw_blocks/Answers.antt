@@ -11,7 +11,8 @@ loop-block-preserved c =
     let block = c.in-Some.block.now in
     let after = c.in-Some.after.now in
     let cut = c.in-Some.ensures.cases in
-    let whole : c.loop-block.rest.now ≡ block ++ after = sym (take-append-drop 16 c.loop-block.rest.now) ∙ ap₂ (λ (l m : List ℕ). l ++ m) (sym cut.0) (sym cut.1) in
+    let whole : c.loop-block.rest.now ≡ block ++ after =
+    sym (take-append-drop 16 c.loop-block.rest.now) ∙ ap₂ (λ (l m : List ℕ). l ++ m) (sym cut.0) (sym cut.1) in
     let count : prefix_len is_raw c.loop-block.rest.now ≡ length block + prefix_len is_raw after =
     ap (prefix_len is_raw) whole ∙ raw_append block after (c.is_raw_block.ensures c.if-not-is_raw_block.false) in
     record {

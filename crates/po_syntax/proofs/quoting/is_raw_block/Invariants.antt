@@ -4,4 +4,5 @@ use Rattle.po_syntax.specs.QuotedForm.{is_raw}
 use Rattle.po_syntax.proofs.quoting.is_raw_block.Given as goal
 
 abbrev pub invariant-loop-byte : goal.invariant-loop-byte
-invariant-loop-byte l = l.are_raw ≡ true → prefix_len is_raw (take l.byte-index l.block) ≡ length (take l.byte-index l.block)
+invariant-loop-byte l = l.are_raw ≡ true
+    → prefix_len is_raw (take l.byte-index l.block) ≡ length (take l.byte-index l.block)

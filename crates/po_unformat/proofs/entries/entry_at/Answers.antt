@@ -6,13 +6,17 @@ use Rattle.po_unformat.proofs.entries.entry_at.Goals as goal
 
 pub returns-in-Ok-clause-entry : goal.returns-in-Ok-clause-entry
 returns-in-Ok-clause-entry c =
-    entry_of c.args.view.now.messages c.args.i c.original-original.result.now c.translation-translation.result.now c.original-original.ensures.value c.translation-translation.ensures
+    entry_of c.args.view.now.messages c.args.i c.original-original.result.now c.translation-translation.result.now
+    c.original-original.ensures.value c.translation-translation.ensures
     ∙ ap Some (sym c.in-Ok.ensures.entry)
 
 pub returns-in-Err-clause-fault : goal.returns-in-Err-clause-fault
 returns-in-Err-clause-fault c =
-    let entry = entry_of_message (record { original = c.original-original.result.now; translation = c.translation-translation.result.now }) in (
+    let entry = entry_of_message
+    (record { original = c.original-original.result.now; translation = c.translation-translation.result.now }) in (
       entry,
-      entry_of c.args.view.now.messages c.args.i c.original-original.result.now c.translation-translation.result.now c.original-original.ensures.value c.translation-translation.ensures,
-      subst (RefusesEntry entry c.args.i) (sym c.error_at.ensures) (refused_entry entry c.args.i c.in-Err.error.kind c.in-Err.ensures.fault.1),
+      entry_of c.args.view.now.messages c.args.i c.original-original.result.now c.translation-translation.result.now
+          c.original-original.ensures.value c.translation-translation.ensures,
+      subst (RefusesEntry entry c.args.i) (sym c.error_at.ensures)
+          (refused_entry entry c.args.i c.in-Err.error.kind c.in-Err.ensures.fault.1),
     )

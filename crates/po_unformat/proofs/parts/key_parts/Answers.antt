@@ -4,7 +4,8 @@ use Rattle.po_unformat.proofs.CutLemmas.{context_cut, context_none, id_all, id_c
 use Rattle.po_unformat.proofs.parts.key_parts.Goals as goal
 
 pub returns-in-Some-clause-context : goal.returns-in-Some-clause-context
-returns-in-Some-clause-context c = let parts = c.in-Some.ensures in sym (ap context_of parts.0 ∙ context_cut _ _ parts.1)
+returns-in-Some-clause-context c = let parts =
+    c.in-Some.ensures in sym (ap context_of parts.0 ∙ context_cut _ _ parts.1)
 
 pub returns-in-Some-clause-id : goal.returns-in-Some-clause-id
 returns-in-Some-clause-id c = let parts = c.in-Some.ensures in sym (ap id_of parts.0 ∙ id_cut _ _ parts.1)

@@ -23,20 +23,26 @@ loop-i-preserved c =
     let at = c.in_ok-entry.ensures.entry in
     let before = c.loop-i.invariant in
     record {
-      written = c.in-Ok.ensures.appended (take i (unformatted messages)) (live_messages i messages) before.written ∙ ap written_text (sym (one_more messages i entry at));
+      written = c.in-Ok.ensures.appended (take i (unformatted messages)) (live_messages i messages) before.written
+          ∙ ap written_text (sym (one_more messages i entry at));
       valid = all_more messages i entry at IsEntry before.valid c.in_ok-entry.ensures.valid;
-      admitted = admitted_more messages i entry at c.loop-i.is_admitted c.has_admitted_charset-is_admitted.result c.has_admitted_charset-is_admitted.ensures before.admitted;
-      foreign = foreign_more messages i entry at c.loop-i.is_admitted c.has_admitted_charset-is_admitted.result c.has_admitted_charset-is_admitted.ensures before.foreign;
+      admitted = admitted_more messages i entry at c.loop-i.is_admitted c.has_admitted_charset-is_admitted.result
+          c.has_admitted_charset-is_admitted.ensures before.admitted;
+      foreign = foreign_more messages i entry at c.loop-i.is_admitted c.has_admitted_charset-is_admitted.result
+          c.has_admitted_charset-is_admitted.ensures before.foreign;
     }
 
 pub returns-then-is_admitted : goal.returns-then-is_admitted
 returns-then-is_admitted c =
-    let end : c.loop-i.i ≡ length c.args.view.now.messages = omega (arith, c.loop-i.auto, c.loop-i-test.false, c.len-i-end.ensures.count) in
+    let end : c.loop-i.i ≡ length c.args.view.now.messages =
+    omega (arith, c.loop-i.auto, c.loop-i-test.false, c.len-i-end.ensures.count) in
     let done = c.loop-i.invariant in
-    all_written c.args.view.now.messages c.loop-i.i end done.valid c.loop-i.text.items done.written (done.admitted c.if-is_admitted.true)
+    all_written c.args.view.now.messages c.loop-i.i end done.valid c.loop-i.text.items done.written
+    (done.admitted c.if-is_admitted.true)
 
 pub returns-else-is_admitted : goal.returns-else-is_admitted
 returns-else-is_admitted c =
-    let end : c.loop-i.i ≡ length c.args.view.now.messages = omega (arith, c.loop-i.auto, c.loop-i-test.false, c.len-i-end.ensures.count) in
+    let end : c.loop-i.i ≡ length c.args.view.now.messages =
+    omega (arith, c.loop-i.auto, c.loop-i-test.false, c.len-i-end.ensures.count) in
     let done = c.loop-i.invariant in
     some_foreign c.args.view.now.messages c.loop-i.i end done.valid (done.foreign c.if-is_admitted.false)

@@ -5,4 +5,5 @@ use Rattle.po_writer.proofs.entry_lines.push_further.Given as goal
 
 abbrev pub invariant-loop-element : goal.invariant-loop-element
 invariant-loop-element l =
-    l.out.items ++ flat_map (λ element. l.separator ++ element) (texts (drop l.element-index l.elements)) ≡ l.initial.out.items ++ flat_map (λ element. l.separator ++ element) (texts l.elements)
+    l.out.items ++ flat_map (λ element. l.separator ++ element) (texts (drop l.element-index l.elements))
+    ≡ l.initial.out.items ++ flat_map (λ element. l.separator ++ element) (texts l.elements)

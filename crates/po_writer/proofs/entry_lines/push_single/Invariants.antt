@@ -6,4 +6,5 @@ use Rattle.po_writer.proofs.entry_lines.push_single.Given as goal
 
 abbrev pub invariant-loop-form : goal.invariant-loop-form
 invariant-loop-form l =
-    l.out.items ++ flat_map (keyword_lines l.prefix (codes "msgstr")) (texts (drop l.form-index l.forms)) ≡ l.initial.out.items ++ flat_map (keyword_lines l.prefix (codes "msgstr")) (texts l.forms)
+    l.out.items ++ flat_map (keyword_lines l.prefix (codes "msgstr")) (texts (drop l.form-index l.forms))
+    ≡ l.initial.out.items ++ flat_map (keyword_lines l.prefix (codes "msgstr")) (texts l.forms)

@@ -9,13 +9,15 @@ returns-in_default g t c = after-call _ c.number-number.ensures (is-fault unname
 
 pub returns-in-Ok-create_new : goal.returns-in-Ok-create_new
 returns-in-Ok-create_new g t c =
-    after-made c.number-number.result (omega (arith, c.number-number.type_inv)) (c.deref.ensures ∙ c.in-Ok.ensures) (c.deref-in-Ok-create_new.ensures ∙ c.in-Ok.ensures) c.first_mode.ensures
+    after-made c.number-number.result (omega (arith, c.number-number.type_inv)) (c.deref.ensures ∙ c.in-Ok.ensures)
+    (c.deref-in-Ok-create_new.ensures ∙ c.in-Ok.ensures) c.first_mode.ensures
     c.number-number.ensures c.in-Ok-create_new.ensures c.fill.ensures
 
 pub returns-then-tries-eq0 : goal.returns-then-tries-eq0
 returns-then-tries-eq0 g t c =
     rw c.if-tries-eq0.true
-    (after-unmade c.number-number.result Exists (c.deref.ensures ∙ c.in-Ok.ensures) c.first_mode.ensures c.number-number.ensures
+    (after-unmade c.number-number.result Exists
+    (c.deref.ensures ∙ c.in-Ok.ensures) c.first_mode.ensures c.number-number.ensures
     (rw c.in-Err-Exists.field-0-is at c.in-Err-Exists.ensures) (is-fault all_taken))
 
 pub returns-in-Err-Exists : goal.returns-in-Err-Exists
@@ -27,16 +29,20 @@ returns-in-Err-Exists g t c =
 pub returns-in-Some : goal.returns-in-Some
 returns-in-Some g t c =
     rw c.in-Some.is
-    (after-unmade c.number-number.result Forbidden (c.deref.ensures ∙ c.in-Ok.ensures) (rw c.in-Some.is at c.first_mode.ensures) c.number-number.ensures
-    (rw c.in-Err-Forbidden.field-0-is at c.in-Err-Forbidden.ensures) (done-for (λ course writes. in_place writes) c.write_in_place.ensures))
+    (after-unmade c.number-number.result Forbidden (c.deref.ensures ∙ c.in-Ok.ensures)
+    (rw c.in-Some.is at c.first_mode.ensures) c.number-number.ensures
+    (rw c.in-Err-Forbidden.field-0-is at c.in-Err-Forbidden.ensures)
+    (done-for (λ course writes. in_place writes) c.write_in_place.ensures))
 
 pub returns-in-Err-Forbidden : goal.returns-in-Err-Forbidden
 returns-in-Err-Forbidden g t c =
     rw c.in-None.is
-    (after-unmade c.number-number.result Forbidden (c.deref.ensures ∙ c.in-Ok.ensures) (rw c.in-None.is at c.first_mode.ensures) c.number-number.ensures
+    (after-unmade c.number-number.result Forbidden (c.deref.ensures ∙ c.in-Ok.ensures)
+    (rw c.in-None.is at c.first_mode.ensures) c.number-number.ensures
     (rw c.in-Err-Forbidden.field-0-is at c.in-Err-Forbidden.ensures) (is-fault forbidden))
 
 pub returns : goal.returns
 returns g t c =
-    after-unmade c.number-number.result Failed (c.deref.ensures ∙ c.in-Ok.ensures) c.first_mode.ensures c.number-number.ensures
+    after-unmade c.number-number.result Failed
+    (c.deref.ensures ∙ c.in-Ok.ensures) c.first_mode.ensures c.number-number.ensures
     (rw c.in-Err-Failed.field-0-is at c.in-Err-Failed.ensures) (is-fault failed)

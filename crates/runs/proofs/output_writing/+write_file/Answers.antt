@@ -8,7 +8,8 @@ returns-in-Some g t c = done-for (λ course writes. stream c.in-Some.ensures wri
 
 pub returns-in-Special : goal.returns-in-Special
 returns-in-Special g t c =
-    after-call _ c.in-Special.ensures (done-for (λ course writes. special c.in_default.ensures writes) c.write_in_place.ensures)
+    after-call _ c.in-Special.ensures
+    (done-for (λ course writes. special c.in_default.ensures writes) c.write_in_place.ensures)
 
 pub returns-in-Unknown : goal.returns-in-Unknown
 returns-in-Unknown g t c = after-call _ c.in-Unknown.ensures (is-fault (stops c.in_default.ensures unknown))

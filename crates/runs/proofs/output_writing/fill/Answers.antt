@@ -9,10 +9,12 @@ pub returns-then-not-set_mode : goal.returns-then-not-set_mode
 returns-then-not-set_mode g c =
     rw c.in-Some.is
     (after-call _ c.set_owner-owner.ensures
-    (after-call _ (rw c.kept_mode.ensures at c.if-not-set_mode.ensures) (after-call _ c.remove.ensures (is-fault without_rights))))
+    (after-call _ (rw c.kept_mode.ensures at c.if-not-set_mode.ensures)
+    (after-call _ c.remove.ensures (is-fault without_rights))))
 
 pub returns : goal.returns
 returns g c =
     rw c.in-Some.is
     (after-call _ c.set_owner-owner.ensures
-    (after-call _ (rw c.kept_mode.ensures at c.if-not-set_mode.ensures) (done-for (λ course finishing. with_rights finishing) c.finish-2.ensures)))
+    (after-call _ (rw c.kept_mode.ensures at c.if-not-set_mode.ensures)
+    (done-for (λ course finishing. with_rights finishing) c.finish-2.ensures)))

@@ -11,7 +11,8 @@ pub returns-then-not-rename : goal.returns-then-not-rename
 returns-then-not-rename g c =
     let closed = c.if-not-put_and_close.ensures in
     after-call closed.call closed.log
-    (after-call _ c.if-not-rename.ensures (after-call _ c.remove-then-not-rename.ensures (is-fault (unmoved closed.is))))
+    (after-call _ c.if-not-rename.ensures
+    (after-call _ c.remove-then-not-rename.ensures (is-fault (unmoved closed.is))))
 
 pub returns : goal.returns
 returns g c =

@@ -11,12 +11,14 @@ use Rattle.runs.specs.declared.tool_fault.ToolFault.{ToolFault}
 use Rattle.runs.proofs.outputs.write_output.Goals as goal
 
 delivers : {run : RunView} {before after : SystemView} (r : Result (Unit {0}) ToolFault) → after.files ≡ before.files
-    → OnOk r (Appends before.out.bytes after.out.bytes run.output) → OnOk r (Appends before.err.bytes after.err.bytes run.messages)
+    → OnOk r (Appends before.out.bytes after.out.bytes run.output)
+    → OnOk r (Appends before.err.bytes after.err.bytes run.messages)
     → OnErr r (DeliversPrefix before.out.bytes after.out.bytes before.err.bytes after.err.bytes run)
     → OnOk r (after.out.failures ≡ before.out.failures) → OnOk r (after.err.failures ≡ before.err.failures)
     → OnErr r (after.out.failures + after.err.failures ≡ before.out.failures + before.err.failures + 1)
     → WritesRun run before after None (fault_in (result_or r (Err WriteFault)))
-delivers (Ok _) same output messages prefix out err failure = delivered same (record { all = output; no_failure = out }) (record { all = messages; no_failure = err })
+delivers (Ok _) same output messages prefix out err failure =
+    delivered same (record { all = output; no_failure = out }) (record { all = messages; no_failure = err })
 delivers (Err _) same output messages prefix out err failure = cut same (record { prefix = prefix; failure = failure })
 
 pub returns-in_default : goal.returns-in_default
@@ -28,15 +30,20 @@ returns-in_default g c =
 pub returns-in_err-write_file : goal.returns-in_err-write_file
 returns-in_err-write_file g c =
     let p = err_from_is_err_and c.from_residual.result c.from_residual.ensures.1 in
-    rw (← c.output_file.ensures, c.in-Some.is, p.1, p.2) (to_file refl (unmade (rw c.deref.ensures.value at c.in_err-write_file.ensures) refl))
+    rw (← c.output_file.ensures, c.in-Some.is, p.1, p.2)
+    (to_file refl (unmade (rw c.deref.ensures.value at c.in_err-write_file.ensures) refl))
 
 pub returns : goal.returns
 returns g c =
     let file = rw c.deref.ensures.value at c.in_ok-write_file.ensures in
     let put = c.put_all.ensures in
-    rw (← c.output_file.ensures, c.in-Some.is, c.or-2.ensures) (to_file refl (reports c.put_all.result file (rw c.deref-2.ensures.value at put.ok) (rw c.deref-2.ensures.value at put.prefix) put.no_failure put.cause)) where
-      reports : {run : RunView} {name : List ℕ} {before after : SystemView} (r : Result (Unit {0}) ToolFault) → OutputIs run name before after None
-          → OnOk r (Appends before.err.bytes after.err.bytes run.messages) → OnErr r (AppendsPrefix before.err.bytes after.err.bytes run.messages)
+    rw (← c.output_file.ensures, c.in-Some.is, c.or-2.ensures)
+    (to_file refl (reports c.put_all.result file (rw c.deref-2.ensures.value at put.ok)
+    (rw c.deref-2.ensures.value at put.prefix) put.no_failure put.cause)) where
+      reports : {run : RunView} {name : List ℕ} {before after : SystemView} (r : Result (Unit {0}) ToolFault)
+          → OutputIs run name before after None
+          → OnOk r (Appends before.err.bytes after.err.bytes run.messages)
+          → OnErr r (AppendsPrefix before.err.bytes after.err.bytes run.messages)
           → OnOk r (after.err.failures ≡ before.err.failures) → OnErr r (after.err.failures ≡ before.err.failures + 1)
           → MakesFile run name before after (fault_in (result_or r (Err WriteFault)))
       reports (Ok _) file all part same more = made file (record { all = all; no_failure = same })

@@ -6,9 +6,11 @@ use Rattle.runs.specs.Internal.Parts.{joined}
 use Rattle.runs.proofs.DeviceLemmas.{on-err}
 use Rattle.runs.proofs.program_fault.line_of.Goals as goal
 
-within : (parts : List (Bor (List ℕ))) (i : ℕ) (d : Bor (List ℕ)) {line part : List ℕ} → i < length parts → line ≡ joined (take i parts)
+within : (parts : List (Bor (List ℕ))) (i : ℕ) (d : Bor (List ℕ)) {line part : List ℕ} → i < length parts
+    → line ≡ joined (take i parts)
     → part ≡ (get_or parts i d).now → length line + length part ≤ length (joined parts)
-within parts i d inside is at = omega (arith, length-flat_map-take (λ part. part.now) parts i d inside, ap length is, ap length at)
+within parts i d inside is at =
+    omega (arith, length-flat_map-take (λ part. part.now) parts i d inside, ap length is, ap length at)
 
 pub returns-in_err-try_extend_from_slice-clause-long : goal.returns-in_err-try_extend_from_slice-clause-long
 returns-in_err-try_extend_from_slice-clause-long c =

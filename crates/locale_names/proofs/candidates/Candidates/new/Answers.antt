@@ -11,4 +11,5 @@ returns-then-is_untranslated c =
     ])
 
 pub returns : goal.returns
-returns c = of-locale c.args.locale.now c.args.language.now (sym c.if-is_untranslated.ensures) (sym c.if-not-is_path_part.ensures) (sym c.if-not-is_empty.ensures)
+returns c = of-locale c.args.locale.now c.args.language.now (sym c.if-is_untranslated.ensures)
+    (sym c.if-not-is_path_part.ensures) (sym c.if-not-is_empty.ensures)

@@ -16,11 +16,17 @@ of_words-requires-in-Big c = let long = not_below _ _ (c.requires.2.faultless To
 pub returns-in-Little : goal.returns-in-Little
 returns-in-Little c order messages valid =
     let is = c.of_words.ensures in
-    let same = is.order ∙ sym c.in-Little.is ∙ c.of_checked.ensures order valid.shows in
-    (same, checked _ c.args.bytes.now messages (subst (λ o. IsMoFile o c.args.bytes.now messages) (sym same) valid) is.count is.originals is.translations)
+    let same = is.order ∙ sym c.in-Little.is ∙ c.of_checked.ensures order valid.shows in (
+      same,
+      checked _ c.args.bytes.now messages
+          (subst (λ o. IsMoFile o c.args.bytes.now messages) (sym same) valid) is.count is.originals is.translations,
+    )
 
 pub returns-in-Big : goal.returns-in-Big
 returns-in-Big c order messages valid =
     let is = c.of_words-in-Big.ensures in
-    let same = is.order ∙ sym c.in-Big.is ∙ c.of_checked.ensures order valid.shows in
-    (same, checked _ c.args.bytes.now messages (subst (λ o. IsMoFile o c.args.bytes.now messages) (sym same) valid) is.count is.originals is.translations)
+    let same = is.order ∙ sym c.in-Big.is ∙ c.of_checked.ensures order valid.shows in (
+      same,
+      checked _ c.args.bytes.now messages
+          (subst (λ o. IsMoFile o c.args.bytes.now messages) (sym same) valid) is.count is.originals is.translations,
+    )

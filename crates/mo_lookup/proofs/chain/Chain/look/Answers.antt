@@ -9,7 +9,8 @@ returns-clause-answered c =
     let can_be = sym c.can_be_key.ensures ∙ c.if-not-can_be_key.false in
     rw (← c.self.view_is)
     (
-    Answers-answered _ asked _ _ _ _ _ (chain-found _ asked _ _ _ can_be c.in-Some.ensures.found) c.answered_form-steps.ensures.text
+    Answers-answered _ asked _ _ _ _ _
+    (chain-found _ asked _ _ _ can_be c.in-Some.ensures.found) c.answered_form-steps.ensures.text
     c.answered_form-steps.ensures.steps
     )
 
@@ -24,11 +25,13 @@ returns-clause-nodes c =
     let asked = query c.args.context c.args.id.now c.args.plural in
     let can_be = sym c.can_be_key.ensures ∙ c.if-not-can_be_key.false in
     rw (← c.self.view_is)
-    (Answers-nodes _ asked _ _ _ _ (chain-found _ asked _ _ _ can_be c.in-Some.ensures.found) c.answered_form-steps.ensures.nodes)
+    (Answers-nodes _ asked _ _ _ _
+    (chain-found _ asked _ _ _ can_be c.in-Some.ensures.found) c.answered_form-steps.ensures.nodes)
 
 pub returns-in_default-clause-answered : goal.returns-in_default-clause-answered
 returns-in_default-clause-answered c =
     let asked = query c.args.context c.args.id.now c.args.plural in
     let can_be = sym c.can_be_key.ensures ∙ c.if-not-can_be_key.false in
     rw (← c.self.view_is)
-    (chain_answered-none _ asked _ (chain-none _ asked can_be c.in_default.ensures.found).0 c.untranslated_text-in_default.ensures)
+    (chain_answered-none _ asked _
+    (chain-none _ asked can_be c.in_default.ensures.found).0 c.untranslated_text-in_default.ensures)

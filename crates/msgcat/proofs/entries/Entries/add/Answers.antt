@@ -11,9 +11,14 @@ returns c =
     on_ok_weaker c.add.result
     (λ added before no_nul valid have. record {
       rows =
-          subst (λ l. AreRows c.append_separated.new.text.items (before ++ named c.args.name.now c.args.entry.now ∷ []) l) (sym c.in_ok-push.ensures.items)
-          (row_more c.args.self.now.text.items c.append_separated.new.text.items before c.args.self.now.rows.items c.args.name.now c.args.entry.now _ have.rows c.in_ok-append_separated.ensures refl
-          (c.len-start.ensures ∙ c.args.self.now.text.ok.0) (c.len.ensures ∙ c.append_separated.new.text.ok.0) c.is_live.ensures c.is_header.ensures c.utf8.name no_nul valid);
-      keys = subst (λ l. HoldKeys l c.add.new.self) (unnamed_more before c.args.name.now c.args.entry.now) (added (unnamed before) have.keys);
+          subst (λ l. AreRows c.append_separated.new.text.items
+          (before ++ named c.args.name.now c.args.entry.now ∷ []) l) (sym c.in_ok-push.ensures.items)
+          (row_more c.args.self.now.text.items c.append_separated.new.text.items before c.args.self.now.rows.items
+          c.args.name.now c.args.entry.now _ have.rows c.in_ok-append_separated.ensures refl
+          (c.len-start.ensures ∙ c.args.self.now.text.ok.0)
+          (c.len.ensures ∙ c.append_separated.new.text.ok.0) c.is_live.ensures c.is_header.ensures c.utf8.name
+          no_nul valid);
+      keys = subst (λ l. HoldKeys l c.add.new.self) (unnamed_more before c.args.name.now c.args.entry.now)
+          (added (unnamed before) have.keys);
     })
     c.add.ensures

@@ -12,7 +12,8 @@ returns-in-Ok-clause-program c = program_of_code _ c.in-Ok.ensures.1.tree c.in-O
 
 pub returns-in-Err-clause-rule : goal.returns-in-Err-clause-rule
 returns-in-Err-clause-rule c =
-    from-default expression_limit c.args.header.now c.in-Err.reason (take 3 c.write_default.new.room) c.in-Err.ensures c.write_default.ensures
+    from-default expression_limit c.args.header.now c.in-Err.reason
+    (take 3 c.write_default.new.room) c.in-Err.ensures c.write_default.ensures
 
 pub returns-in-Err-clause-program : goal.returns-in-Err-clause-program
 returns-in-Err-clause-program c = program_of_code _ default_tree c.write_default.ensures

@@ -8,4 +8,5 @@ use Rattle.po_compile.proofs.collecting.Collected.has_header.Goals as goal
 pub returns : goal.returns
 returns c =
     c.any_header.ensures ∙ ap (list_any (λ (l : Lengths). l.key == 0)) c.deref.ensures.value
-    ∙ sym (any_shows c.self.inside.lengths.items c.self.inside.bytes.items c.self.invariant) ∙ ap (list_any has_no_key) c.self.view_is
+    ∙ sym (any_shows c.self.inside.lengths.items c.self.inside.bytes.items c.self.invariant)
+    ∙ ap (list_any has_no_key) c.self.view_is

@@ -6,6 +6,8 @@ use Rattle.po_entry.proofs.entry.Entry.empty_forms.Goals as goal
 
 pub invariant_of-self : goal.invariant_of-self
 invariant_of-self c =
-    let written = with_items_is c.self.inside.fields.forms c.empty_texts.new.list (c.empty_texts.auto.list ∙ c.deref_mut.ensures.len) in
-    let forms : texts c.empty_texts.new.list ≡ map (λ _. []) (texts c.self.inside.fields.forms.items) = rw (← c.deref_mut.ensures.value) c.empty_texts.ensures in
+    let written = with_items_is c.self.inside.fields.forms c.empty_texts.new.list
+    (c.empty_texts.auto.list ∙ c.deref_mut.ensures.len) in
+    let forms : texts c.empty_texts.new.list ≡ map (λ _. []) (texts c.self.inside.fields.forms.items) =
+    rw (← c.deref_mut.ensures.value) c.empty_texts.ensures in
     rw (written, forms) (IsEntry-emptied _ c.self.invariant)

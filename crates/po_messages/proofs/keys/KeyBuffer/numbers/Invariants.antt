@@ -9,4 +9,5 @@ use Rattle.po_messages.proofs.keys.KeyBuffer.numbers.Given as goal
 abbrev pub invariant-loop-lengths : goal.invariant-loop-lengths
 invariant-loop-lengths l =
     (entries : List TextEntry) → HoldKeys entries l.self
-    → (messages_of_keys l.keys.items ≡ map entry_message (take l.lengths-index entries)) × (l.rest ≡ flat_map key_bytes (drop l.lengths-index entries))
+    → (messages_of_keys l.keys.items ≡ map entry_message (take l.lengths-index entries))
+    × (l.rest ≡ flat_map key_bytes (drop l.lengths-index entries))

@@ -12,8 +12,10 @@ pub returns-in_err-add_items-clause-fault : goal.returns-in_err-add_items-clause
 returns-in_err-add_items-clause-fault c =
     let p = err_from_is_err_and c.from_residual-in_err-add_items.result c.from_residual-in_err-add_items.ensures.1 in
     let e = c.in_err-add_items.field-0.0 in
-    let lines = ap lines_of_rest c.in-Some.is ∙ lines_begin c.in-Some.text.now c.first_line.result.0.now c.first_line.result.1 c.first_line.ensures.cut in
-    rw (p.1, p.2) (λ other. rw (c.in_err-add_items.ensures.line other) (line_stops c.loop-rest.invariant.read lines (c.in_err-add_items.ensures.fault other)))
+    let lines = ap lines_of_rest c.in-Some.is
+    ∙ lines_begin c.in-Some.text.now c.first_line.result.0.now c.first_line.result.1 c.first_line.ensures.cut in
+    rw (p.1, p.2) (λ other. rw (c.in_err-add_items.ensures.line other)
+    (line_stops c.loop-rest.invariant.read lines (c.in_err-add_items.ensures.fault other)))
 
 pub loop-rest-init : goal.loop-rest-init
 loop-rest-init c =
@@ -27,9 +29,11 @@ overflow_add-line c =
 pub loop-rest-preserved : goal.loop-rest-preserved
 loop-rest-preserved c =
     let found = c.in_ok-add_items.ensures.found in
-    let own : c.len-count.result ≡ length c.loop-rest.items.items = omega (arith, c.len-count.ensures, c.loop-rest.items.ok.0) in
+    let own : c.len-count.result ≡ length c.loop-rest.items.items =
+    omega (arith, c.len-count.ensures, c.loop-rest.items.ok.0) in
     let cut = cut_at c.loop-rest.items.items c.add_items.new.items.items found.0 c.len-count.result own found.2 in
-    let lines = ap lines_of_rest c.in-Some.is ∙ lines_begin c.in-Some.text.now c.first_line.result.0.now c.first_line.result.1 c.first_line.ensures.cut in
+    let lines = ap lines_of_rest c.in-Some.is
+    ∙ lines_begin c.in-Some.text.now c.first_line.result.0.now c.first_line.result.1 c.first_line.ensures.cut in
     rw found.2 (read_on c.loop-rest.invariant lines found.1
     (λ large ends anew. elim c.else-len-size.branch [
       | else-len-size-via-then-len-size+else-ends_entry w ↦
@@ -46,18 +50,22 @@ pub returns-clause-piece : goal.returns-clause-piece
 returns-clause-piece c = elim c.match-rest.branch [
   | in-Some+in_ok-add_items+then-len-size+then-ends_entry w ↦
       let found = w.in_ok-add_items.ensures.found in
-      let own : w.len-count.result ≡ length c.loop-rest.items.items = omega (arith, w.len-count.ensures, c.loop-rest.items.ok.0) in
+      let own : w.len-count.result ≡ length c.loop-rest.items.items =
+      omega (arith, w.len-count.ensures, c.loop-rest.items.ok.0) in
       let cut = cut_at c.loop-rest.items.items w.add_items.new.items.items found.0 w.len-count.result own found.2 in
-      let lines = ap lines_of_rest w.in-Some.is ∙ lines_begin w.in-Some.text.now w.first_line.result.0.now w.first_line.result.1 w.first_line.ensures.cut in
+      let lines = ap lines_of_rest w.in-Some.is
+      ∙ lines_begin w.in-Some.text.now w.first_line.result.0.now w.first_line.result.1 w.first_line.ensures.cut in
       let entry = rw w.deref.ensures.value at (w.ends_entry.ensures.0 w.if-ends_entry.true) in
-      rw (w.items-is, w.truncate.ensures.items, ← take-map view, cut.0) (ended_before c.loop-rest.invariant lines found.1
+      rw (w.items-is, w.truncate.ensures.items, ← take-map view, cut.0)
+      (ended_before c.loop-rest.invariant lines found.1
       w.if-len-size.true (subst EndsTranslation cut.0 entry.0) (subst BeginsAnew cut.1 entry.1))
   | in_default w ↦
       rw w.items-is (record { read = c.loop-rest.invariant.read; ends = inl (ap lines_of_rest w.in_default.is) })
 ]
 
 pub returns-clause-whole : goal.returns-clause-whole
-returns-clause-whole c = λ large. piece_whole (returns-clause-piece c) (subst AreOfText c.self.view_is c.self.invariant) large
+returns-clause-whole c =
+    λ large. piece_whole (returns-clause-piece c) (subst AreOfText c.self.view_is c.self.invariant) large
 
 pub returns-clause-hold : goal.returns-clause-hold
 returns-clause-hold c = piece_hold (returns-clause-piece c) (subst AreOfText c.self.view_is c.self.invariant)
@@ -65,4 +73,9 @@ returns-clause-hold c = piece_hold (returns-clause-piece c) (subst AreOfText c.s
 pub returns-clause-few : goal.returns-clause-few
 returns-clause-few c =
     let items = c.match-rest.items in
-    omega (arith, items.ok.0, length-map items.items view, piece_few (returns-clause-piece c) (subst AreOfText c.self.view_is c.self.invariant))
+    omega (
+      arith,
+      items.ok.0,
+      length-map items.items view,
+      piece_few (returns-clause-piece c) (subst AreOfText c.self.view_is c.self.invariant),
+    )

@@ -5,7 +5,8 @@ use Rattle.po_syntax.proofs.PieceLemmas.{ReadSoFar}
 use Rattle.po_syntax.proofs.pieces.Pieces.next.Given as goal
 
 abbrev pub invariant-loop-rest : goal.invariant-loop-rest
-invariant-loop-rest l = ReadSoFar l.size l.fn.self (record { number = l.line; lines = lines_of_rest l.rest }) (views l.items.items) l.len
+invariant-loop-rest l = ReadSoFar l.size l.fn.self (record { number = l.line; lines = lines_of_rest l.rest })
+    (views l.items.items) l.len
 
 abbrev pub decreases-loop-rest : goal.decreases-loop-rest
 decreases-loop-rest l = length (lines_of_rest l.rest)

@@ -9,7 +9,13 @@ invariant_of-result c =
     let checked = c.in_ok-text.ensures in
     record {
       clean = rw checked.found (clean_lines c.args.text.now checked.utf8 checked.no_nul);
-      small = omega (arith, lines_len-lines_of c.in_ok-text.text.now, ap length checked.found, without_byte_order_mark-le c.args.text.now, checked.small);
+      small = omega (
+        arith,
+        lines_len-lines_of c.in_ok-text.text.now,
+        ap length checked.found,
+        without_byte_order_mark-le c.args.text.now,
+        checked.small,
+      );
     }
 
 pub returns-clause-stops : goal.returns-clause-stops

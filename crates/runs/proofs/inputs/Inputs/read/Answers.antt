@@ -21,7 +21,8 @@ pub returns-clause-asked : goal.returns-clause-asked
 returns-clause-asked g c = AsksBefore-first _ _ _ _ _ c.loop-argument.invariant.asked
 
 pub returns-clause-asked_read : goal.returns-clause-asked_read
-returns-clause-asked_read g c = AsksBefore-read _ _ _ _ _ _ _ refl c.loop-argument.invariant.count c.loop-argument.invariant.asked
+returns-clause-asked_read g c =
+    AsksBefore-read _ _ _ _ _ _ _ refl c.loop-argument.invariant.count c.loop-argument.invariant.asked
 
 pub loop-argument-preserved : goal.loop-argument-preserved
 loop-argument-preserved g c =
@@ -31,19 +32,31 @@ loop-argument-preserved g c =
       | else-is_stdin_read w ↦ rw (w.is_stdin_read-is, w.if-is_stdin_read.false) refl
     ] in
     let seen = sym (next ∙ ap (λ s. c.loop-argument.is_stdin_read || s) c.is_standard-standard.ensures) in
-    let ReaderView : Bool → Type 0 = λ seen. Completes g.S.InputSource.file g.S.InputSource.standard c.args.arguments.now (c.loop-argument.argument-index + 1) seen (named_inputs c.push.new.self.items) in
-    let Done : Bool → List NamedFile → Type 0 = λ seen list. Completes g.S.InputSource.file g.S.InputSource.standard c.args.arguments.now (c.loop-argument.argument-index + 1) seen list in
-    let AskedOnce : Bool → Type 0 = λ seen. AsksBefore (g.S.InputSource.asked c.args.source.now) (g.S.InputSource.asked c.read_argument.new.source) c.args.arguments.now (c.loop-argument.argument-index + 1) seen in
-    let texts = ap named_inputs c.in_ok-push-in-Ok.ensures.items ∙ named-more c.loop-argument.texts.items _ _ c.shown_name.ensures in record {
+    let ReaderView : Bool → Type 0 =
+    λ seen. Completes g.S.InputSource.file g.S.InputSource.standard c.args.arguments.now
+    (c.loop-argument.argument-index + 1) seen (named_inputs c.push.new.self.items) in
+    let Done : Bool → List NamedFile
+    → Type 0 = λ seen list. Completes g.S.InputSource.file g.S.InputSource.standard c.args.arguments.now
+    (c.loop-argument.argument-index + 1) seen list in
+    let AskedOnce : Bool → Type 0 =
+    λ seen. AsksBefore (g.S.InputSource.asked c.args.source.now)
+    (g.S.InputSource.asked c.read_argument.new.source) c.args.arguments.now
+    (c.loop-argument.argument-index + 1) seen in
+    let texts = ap named_inputs c.in_ok-push-in-Ok.ensures.items
+    ∙ named-more c.loop-argument.texts.items _ _ c.shown_name.ensures in record {
       inputs = subst ReaderView seen
           (subst (Done _) (sym texts)
-          (Completes-read _ _ c.args.arguments.now c.loop-argument.argument-index _ c.loop-argument.is_stdin_read (named_inputs c.loop-argument.texts.items) c.in-Ok.bytes.items c.loop-argument-test.true
+          (Completes-read _ _ c.args.arguments.now c.loop-argument.argument-index _ c.loop-argument.is_stdin_read
+          (named_inputs c.loop-argument.texts.items) c.in-Ok.bytes.items c.loop-argument-test.true
           (rw c.is_standard-standard.ensures at c.in-Ok.ensures.reading) c.loop-argument.invariant.inputs));
       asked = subst AskedOnce seen
-          (AsksBefore-more _ _ _ c.args.arguments.now c.loop-argument.argument-index _ c.loop-argument.is_stdin_read c.loop-argument-test.true c.loop-argument.invariant.asked
+          (AsksBefore-more _ _ _ c.args.arguments.now c.loop-argument.argument-index _ c.loop-argument.is_stdin_read
+          c.loop-argument-test.true c.loop-argument.invariant.asked
           (rw c.is_standard-standard.ensures at c.read_argument.ensures.asked));
-      refused = λ seen now. let before = c.in-Ok.ensures.refused now in c.loop-argument.invariant.refused before.1 before.0;
-      count = ap length texts ∙ length-append (named_inputs c.loop-argument.texts.items) _ ∙ ap (λ n. n + 1) c.loop-argument.invariant.count;
+      refused = λ seen now. let before =
+          c.in-Ok.ensures.refused now in c.loop-argument.invariant.refused before.1 before.0;
+      count = ap length texts ∙ length-append (named_inputs c.loop-argument.texts.items) _
+          ∙ ap (λ n. n + 1) c.loop-argument.invariant.count;
     }
 
 pub returns-in-Err-clause-inputs : goal.returns-in-Err-clause-inputs
@@ -51,20 +64,25 @@ returns-in-Err-clause-inputs g c =
     IfOk-weaker c.ended.result _ _
     (λ inputs reported.
     rw (reported.0, reported.1)
-    (Completes-unread _ _ c.args.arguments.now c.loop-argument.argument-index _ c.loop-argument.is_stdin_read (named_inputs c.loop-argument.texts.items) c.in-Err.why c.loop-argument-test.true
-    (⊎_elim (λ memory. absurd (reported.2 memory)) (λ reads. rw c.is_standard-standard.ensures at reads) c.in-Err.ensures.reading) c.loop-argument.invariant.inputs))
+    (Completes-unread _ _ c.args.arguments.now c.loop-argument.argument-index _ c.loop-argument.is_stdin_read
+    (named_inputs c.loop-argument.texts.items) c.in-Err.why c.loop-argument-test.true
+    (⊎_elim (λ memory. absurd (reported.2 memory))
+    (λ reads. rw c.is_standard-standard.ensures at reads) c.in-Err.ensures.reading)
+    c.loop-argument.invariant.inputs))
     c.ended.ensures.inputs
 
 pub returns-in-Err-clause-asked : goal.returns-in-Err-clause-asked
 returns-in-Err-clause-asked g c =
     AsksBefore-first _ _ _ _ _
-    (AsksBefore-more _ _ _ c.args.arguments.now c.loop-argument.argument-index _ c.loop-argument.is_stdin_read c.loop-argument-test.true c.loop-argument.invariant.asked
+    (AsksBefore-more _ _ _ c.args.arguments.now c.loop-argument.argument-index _ c.loop-argument.is_stdin_read
+    c.loop-argument-test.true c.loop-argument.invariant.asked
     (rw c.is_standard-standard.ensures at c.read_argument.ensures.asked))
 
 pub returns-in_err-push-in-Ok-clause-asked : goal.returns-in_err-push-in-Ok-clause-asked
 returns-in_err-push-in-Ok-clause-asked g c =
     AsksBefore-first _ _ _ _ _
-    (AsksBefore-more _ _ _ c.args.arguments.now c.loop-argument.argument-index _ c.loop-argument.is_stdin_read c.loop-argument-test.true c.loop-argument.invariant.asked
+    (AsksBefore-more _ _ _ c.args.arguments.now c.loop-argument.argument-index _ c.loop-argument.is_stdin_read
+    c.loop-argument-test.true c.loop-argument.invariant.asked
     (rw c.is_standard-standard.ensures at c.read_argument.ensures.asked))
 
 pub returns-in-Err-clause-asked_read : goal.returns-in-Err-clause-asked_read
@@ -73,6 +91,7 @@ returns-in-Err-clause-asked_read g c =
     (λ inputs reported.
     AsksBefore-unread _ _ c.args.arguments.now c.loop-argument.argument-index _ _ _ _ reported.1
     (ap (λ texts. length (named_inputs texts)) reported.0 ∙ c.loop-argument.invariant.count)
-    (AsksBefore-more _ _ _ c.args.arguments.now c.loop-argument.argument-index _ c.loop-argument.is_stdin_read c.loop-argument-test.true c.loop-argument.invariant.asked
+    (AsksBefore-more _ _ _ c.args.arguments.now c.loop-argument.argument-index _ c.loop-argument.is_stdin_read
+    c.loop-argument-test.true c.loop-argument.invariant.asked
     (rw c.is_standard-standard.ensures at c.read_argument.ensures.asked)))
     c.ended.ensures.inputs

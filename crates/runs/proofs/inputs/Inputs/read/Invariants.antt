@@ -5,8 +5,10 @@ use Rattle.runs.proofs.inputs.Inputs.read.Given as goal
 
 abbrev pub invariant-loop-argument : goal.invariant-loop-argument
 invariant-loop-argument g l = record {
-  inputs : Completes g.S.InputSource.file g.S.InputSource.standard l.arguments l.argument-index l.is_stdin_read (named_inputs l.texts.items);
-  asked : AsksBefore (g.S.InputSource.asked l.fn.source) (g.S.InputSource.asked l.source) l.arguments l.argument-index l.is_stdin_read;
+  inputs : Completes g.S.InputSource.file g.S.InputSource.standard l.arguments l.argument-index l.is_stdin_read
+      (named_inputs l.texts.items);
+  asked : AsksBefore (g.S.InputSource.asked l.fn.source)
+      (g.S.InputSource.asked l.source) l.arguments l.argument-index l.is_stdin_read;
   refused : l.is_stdin_read ≡ true → g.S.InputSource.refused l.source → ⊥;
   count : length (named_inputs l.texts.items) ≡ l.argument-index;
 }

@@ -20,4 +20,6 @@ overflow_add-i c = let few = c.args.self.now.few in omega (arith, length-letters
 pub returns-clause-order : goal.returns-clause-order
 returns-clause-order c =
     let inside : c.args.i < c.args.self.now.many = omega (arith, length-letters c.args.self.now.many) in
-    rw (key_at-letters c.args.self.now.many c.args.i inside) (c.compare_key.ensures ∙ ap (λ key. key_cmp key (query_key (option_copied c.args.context) c.args.id.now)) (single (98 + 2 * c.args.i) (λ nul. omega arith)))
+    rw (key_at-letters c.args.self.now.many c.args.i inside)
+    (c.compare_key.ensures ∙ ap (λ key. key_cmp key (query_key (option_copied c.args.context) c.args.id.now))
+    (single (98 + 2 * c.args.i) (λ nul. omega arith)))
