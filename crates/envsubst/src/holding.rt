@@ -122,6 +122,7 @@ fn begun_len(piece: &[u8]) -> Option<usize>
 }
 
 /// What becomes of the bytes held back, at the next byte.
+#[inline(always)]
 fn effect_of<'a>(replacements: &Replacements<'a>, held: &[u8], next: u8) -> Effect<'a>
     requires some { 0 < length held.now }
     requires undecided { is_undecided held.now ≡ true }
@@ -147,6 +148,7 @@ fn replace<'a>(replacements: &Replacements<'a>, name: &[u8], taken: usize) -> Ef
 }
 
 /// What is done first with the bytes held back and a piece.
+#[inline(always)]
 pub(crate) fn next_step<'a>(
     replacements: &'a Replacements<'_>,
     held: &'a [u8],
@@ -167,6 +169,7 @@ pub(crate) fn next_step<'a>(
 }
 
 /// What is done first with a piece where nothing is held back.
+#[inline(always)]
 fn first_step<'a>(replacements: &'a Replacements<'_>, piece: &'a [u8]) -> Step<'a>
     requires some { 0 < length piece.now }
     ensures { IsStep (values_of_replacements replacements.now) [] piece.now result }
