@@ -118,7 +118,8 @@ pub record FailsCheck (inputs : List NamedFile) (o : MsgfmtOptions) (run : RunVi
   pub checked : AreChecked o.use_fuzzy catalogues (Some fault)
   pub run_is : run ≡ refusal (check_line inputs fault)
 
--- the inputs are compiled, and where the check is asked for it reports no fault
+-- the inputs are compiled, with the statistics of all entries of their joined list, and where the check
+-- is asked for it reports no fault
 pub record IsDone (inputs : List NamedFile) (o : MsgfmtOptions) (run : RunView) : Type 0 where
   pub catalogues : List (List TextEntry)
   pub read : AreRead (input_texts inputs) catalogues

@@ -23,8 +23,9 @@ pub record HasSmallLayout (options : Options) (entries : List TextEntry) : Type 
   pub are_messages : AreMessagesOf (compiled_list options.use_fuzzy entries) messages
   pub small : length (layout options.order messages) < 2 ^ 32
 
--- The file is the layout of the compiled entries' messages. It is valid, holds these messages, and
--- answers each query as the entries do. With it goes their number (`n`).
+-- The file is the layout of the compiled entries' messages, of fewer than 2^32 bytes. It is valid,
+-- holds these messages, and answers each query as the compiled entries do. With it goes the number of
+-- these messages (`n`).
 pub record IsCompilation (options : Options) (entries : List TextEntry) (compiled : Compiled) : Type 0 where
   pub laid_out : HasSmallLayout options entries
   pub bytes : compiled.bytes.items ≡ layout options.order laid_out.messages

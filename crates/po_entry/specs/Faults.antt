@@ -16,7 +16,7 @@ use Rattle.po_entry.specs.Viable.{ItemsFault}
 abbrev pub IsStop : (PoFault → ℕ → Type 0) → PoError → Type 0
 IsStop Stops error = error.kind ≢ OutOfMemory → Stops error.kind error.line
 
--- the first entry without P fails with this fault, and has this line
+-- an entry fails with this fault, and has this line, and P holds of each entry before it
 pub data EntriesStop (P : TextEntry → Type 0) (Fails : TextEntry → PoFault → Type 0)
     : List TextEntry → PoFault → ℕ → Type 0 where
   here : {entry : TextEntry} {entries : List TextEntry} {fault : PoFault} {line : ℕ} → Fails entry fault
@@ -24,9 +24,9 @@ pub data EntriesStop (P : TextEntry → Type 0) (Fails : TextEntry → PoFault �
   later : {entry : TextEntry} {entries : List TextEntry} {fault : PoFault} {line : ℕ} → P entry
       → EntriesStop P Fails entries fault line → EntriesStop P Fails (entry ∷ entries) fault line
 
--- the entry is a header whose charset is not admitted
-pub data IsForeign (entry : TextEntry) : PoFault → Type 0 where
-  foreign : (HasAdmittedCharset entry → ⊥) → IsForeign entry ForeignCharset
+-- why an entry's charset is a fault: it is a header whose charset is not admitted
+pub data CharsetFault (entry : TextEntry) : PoFault → Type 0 where
+  foreign : (HasAdmittedCharset entry → ⊥) → CharsetFault entry ForeignCharset
 
 -- The first fault of items that don't read, with its line: that of items that spell no entries; the
 -- first entry that can't have its texts; the first header whose charset is not admitted.
@@ -35,7 +35,8 @@ pub data ItemsStop (items : List TextItem) : PoFault → ℕ → Type 0 where
   in_texts : {entries : List TextEntry} {fault : PoFault} {line : ℕ} → SpellsEntries items entries
       → EntriesStop HasTexts EntryTextFault entries fault line → ItemsStop items fault line
   in_charset : {entries : List TextEntry} {fault : PoFault} {line : ℕ} → SpellsEntries items entries
-      → All HasTexts entries → EntriesStop HasAdmittedCharset IsForeign entries fault line → ItemsStop items fault line
+      → All HasTexts entries → EntriesStop HasAdmittedCharset CharsetFault entries fault line
+      → ItemsStop items fault line
 
 -- The first fault of a text, with its line: a fault of the text or of one of its lines; or that of
 -- its items.

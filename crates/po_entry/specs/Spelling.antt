@@ -51,7 +51,7 @@ pub data SpellsContext (obsolete : Bool) : List TextItem → Option (List ℕ) �
   context : {line : ℕ} {items : List TextItem} {text : List ℕ}
       → SpellsKeywordText MsgCtxt (own_marks obsolete) line items text → SpellsContext obsolete items (Some text)
 
--- `msgstr` with each plural form from this index on
+-- `msgstr` with each plural form from this index on, which may be none
 pub data SpellsForms (obsolete : Bool) : ℕ → List TextItem → List (List ℕ) → Type 0 where
   no_form : {index : ℕ} → SpellsForms obsolete index [] []
   more_forms : {index line : ℕ} {own items : List TextItem} {form : List ℕ} {forms : List (List ℕ)}
@@ -69,7 +69,8 @@ pub data SpellsTranslation (obsolete : Bool) : List TextItem → Option (List �
       → SpellsTranslation obsolete (own ++ items) (Some text) (form ∷ forms)
 
 -- An entry's own lines: its context, if any, its msgid with its line, its plural, if any, and its
--- forms. All are obsolete or none is, and no comment stands among them.
+-- forms. All are obsolete or none is, and no comment stands among them. What the entry has in its
+-- head may be anything.
 pub data SpellsBody : List TextItem → TextEntry → Type 0 where
   own_lines : {entry : TextEntry} {first own last : List TextItem} → SpellsContext entry.obsolete first entry.context
       → SpellsKeywordText MsgId (own_marks entry.obsolete) entry.line own entry.id
@@ -92,8 +93,8 @@ pub data SpellsEntry : List TextItem → TextEntry → Type 0 where
       {body : TextEntry} → SpellsHead head comment_texts previous → AreInOrder previous → SpellsBody own body
       → SpellsEntry (head ++ own) (with_head comment_texts previous body)
 
--- the items of each entry in turn, and then comments that belong to no entry, which are dropped;
--- comments between two entries are in the head of the second
+-- the items of each entry in turn, and then comments, a head without previous texts, that belong to
+-- no entry and are dropped; comments between two entries are in the head of the second
 pub data SpellsEntries : List TextItem → List TextEntry → Type 0 where
   comments : {items : List TextItem} {comment_texts : List CommentText} → SpellsHead items comment_texts []
       → SpellsEntries items []

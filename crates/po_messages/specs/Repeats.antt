@@ -1,4 +1,5 @@
--- What stands twice in a list, and what a table keeps of numbers.
+-- What stands twice in a list, and what a table keeps of numbers: of lists of any kind, and from no
+-- section of the manual.
 use Rattle.std.specs.Prelude.{◌≡◌, ◌≢◌, ◌<◌, ◌==◌, ℕ, Bool, true, List, ◌∷◌, ◌++◌, AllPairs, Option, None, Some, get_or, length, if◌then◌else◌}
 use Rattle.po_messages.specs.declared.repeats.Seen.{Seen}
 
@@ -23,13 +24,14 @@ index_seen round seen number = index_of_round round (get_or seen number (record 
 abbrev pub IsUnseen : ℕ → List Seen → Type 0
 IsUnseen round seen = (number : ℕ) → index_seen round seen number ≡ None
 
--- of the first ones of things with these numbers, no two live ones have one number
+-- of the first `n` of the things, which have these numbers, no two live ones have the same number
 abbrev pub DifferUpTo : {X : Type 0} → (X → Bool) → List ℕ → List X → ℕ → Type 0
 DifferUpTo {X = X} live numbers things n =
     (i j : ℕ) (d : X) → i < j → j < n → live (get_or things i d) ≡ true → live (get_or things j d) ≡ true
     → get_or numbers i 0 ≢ get_or numbers j 0
 
--- the earliest live one that has the number of an earlier live one, and that one
+-- `later` is the index of the earliest live thing that has the number of an earlier live one, and
+-- `first` the index of that one
 pub record RepeatsAt {X : Type 0} (live : X → Bool) (numbers : List ℕ) (things : List X)
     (first later : ℕ) : Type 0 where
   pub earlier : first < later

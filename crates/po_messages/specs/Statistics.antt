@@ -1,4 +1,5 @@
--- The statistics of a catalogue (manual, "Invoking the msgfmt Program": `--statistics`).
+-- Whether an entry has a translation, and the statistics of a catalogue (manual, "Invoking the msgfmt
+-- Program": `--statistics`).
 use Rattle.std.specs.Prelude.{ℕ, ◌+◌, Bool, not, ◌&&◌, ◌==◌, List, [], ◌++◌, length, filter, codes, decimal}
 use Rattle.std.specs.Prelude.{if◌then◌else◌}
 use Rattle.po_entry.specs.TextEntry.{TextEntry}

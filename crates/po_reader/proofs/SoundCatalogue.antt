@@ -153,8 +153,8 @@ whole_fault false entry kind (validity.not_utf8 some) = validity.not_utf8 some
 whole_fault false entry kind (validity.forbidden utf8 some) =
     validity.forbidden utf8 (λ clean. some (record { no_nul = clean.no_nul; context = clean.context; id = clean.id }))
 
-pub whole_foreign : (all : Bool) (entry : TextEntry) (kind : PoFault) → faults.IsForeign (kept_entry all entry) kind
-    → faults.IsForeign entry kind
+pub whole_foreign : (all : Bool) (entry : TextEntry) (kind : PoFault) → faults.CharsetFault (kept_entry all entry) kind
+    → faults.CharsetFault entry kind
 whole_foreign true entry kind fails = fails
 whole_foreign false entry kind (faults.foreign refused) = faults.foreign refused
 

@@ -69,7 +69,7 @@ texts_go_on : {kind : PoFault} {line : ℕ} {entries : List TextEntry}
     → fault.EntriesStop HasTexts EntryTextFault entries kind line → All HasTexts entries → ⊥
 texts_go_on stops h = entries_go_on (λ entry kind has fails. no_texts_fault has fails) stops h
 
-not_foreign : (entry : TextEntry) (kind : PoFault) → HasAdmittedCharset entry → fault.IsForeign entry kind → ⊥
+not_foreign : (entry : TextEntry) (kind : PoFault) → HasAdmittedCharset entry → fault.CharsetFault entry kind → ⊥
 not_foreign entry kind admitted (fault.foreign refused) = refused admitted
 
 -- items that read have no fault
@@ -91,7 +91,7 @@ text_or_fault text a kind line h (fault.IsReadFault.in_text f) = no_fault text h
 text_or_fault text a kind line h (fault.IsReadFault.in_items {items = items} spelt s) =
     read_or_stopped (items_once text h.items items h.spelt spelt) h.read s
 
-charset_or_fault : (entry : TextEntry) → HasAdmittedCharset entry ⊎ ((kind : PoFault) × fault.IsForeign entry kind)
+charset_or_fault : (entry : TextEntry) → HasAdmittedCharset entry ⊎ ((kind : PoFault) × fault.CharsetFault entry kind)
 charset_or_fault entry =
     elim (charset_settled entry) [ inl admitted ↦ inl admitted | inr never ↦ inr (ForeignCharset, fault.foreign never) ]
 
@@ -128,7 +128,7 @@ spelt_unread : {items others : List TextItem} {f : PoFault} {m : ℕ} {entries :
     → ItemsFault others f m → SpellsEntries items entries → ⊥
 spelt_unread {entries = entries} i s r = fault_unread s (subst (λ (x : List TextItem). SpellsEntries x entries) i r)
 
-foreign_once : (entry : TextEntry) (f g : PoFault) → fault.IsForeign entry f → fault.IsForeign entry g → f ≡ g
+foreign_once : (entry : TextEntry) (f g : PoFault) → fault.CharsetFault entry f → fault.CharsetFault entry g → f ≡ g
 foreign_once entry f g (fault.foreign refused) (fault.foreign also) = refl
 
 stops_once : {m n : ℕ} {f g : PoFault} {items others : List TextItem} → items ≡ others → fault.ItemsStop items f m
@@ -148,7 +148,7 @@ stops_once i (fault.ItemsStop.in_charset r u t) (fault.ItemsStop.in_texts q v) =
     absurd (texts_go_on v (subst (All HasTexts) (spelt_once i r q) u))
 stops_once {n = n} {g = g} i (fault.ItemsStop.in_charset r u t) (fault.ItemsStop.in_charset q w v) =
     entries_stop_once not_foreign foreign_once t
-    (subst (λ (e : List TextEntry). fault.EntriesStop HasAdmittedCharset fault.IsForeign e g n)
+    (subst (λ (e : List TextEntry). fault.EntriesStop HasAdmittedCharset fault.CharsetFault e g n)
     (sym (spelt_once i r q)) v)
 
 pub text_fault_once : (text : List ℕ) (kind other : PoFault) (line other_line : ℕ) → fault.IsReadFault text kind line
@@ -176,7 +176,7 @@ pub texts_reported : {entries : List TextEntry} {kind : PoFault} {line : ℕ}
     → fault.EntriesStop HasTexts EntryTextFault entries kind line → kind ≢ OutOfMemory
 texts_reported stops = entries_reported (λ entry kind fails. texts_fault_reported fails) stops
 
-foreign_reported : (entry : TextEntry) (kind : PoFault) → fault.IsForeign entry kind → kind ≢ OutOfMemory
+foreign_reported : (entry : TextEntry) (kind : PoFault) → fault.CharsetFault entry kind → kind ≢ OutOfMemory
 foreign_reported entry kind (fault.foreign refused) = λ same. cc
 
 pub read_reported : (text : List ℕ) (kind : PoFault) (line : ℕ) → fault.IsReadFault text kind line → kind ≢ OutOfMemory

@@ -53,8 +53,8 @@ pub data ReadsPiece (size : ℕ) (old new : LinesLeft) : Type 0 where
 abbrev pub IsLeftError : LinesLeft → PoError → Type 0
 IsLeftError left error = IsFaultOf (IsLeftFault left) error
 
--- These entries were read of the text, and these lines are left: what they read as follows the entries, and
--- their fault is that of the text.
+-- if the lines left read as some entries, the text reads as those before and then these; and a fault of
+-- what is left is one of the text
 pub record IsReadSoFar (text : List ℕ) (left : LinesLeft) (before : List TextEntry) : Type 0 where
   pub reads : (more : List TextEntry) → ReadsLeft left more → ReadsText text (before ++ more)
   pub faults : (fault : PoFault) (line : ℕ) → IsLeftFault left fault line → IsReadFault text fault line

@@ -6,7 +6,7 @@ ghost use Rattle.po_syntax.specs.TextItem.{views};
 ghost use Rattle.po_entry.specs.EntryView.{entry_view};
 ghost use Rattle.po_entry.specs.Header.{HasAdmittedCharset};
 ghost use Rattle.po_entry.specs.Validity.{IsEntry, HasTexts, EntryTextFault};
-ghost use Rattle.po_entry.specs.Faults.{EntriesStop, IsForeign, IsStop, ItemsStop};
+ghost use Rattle.po_entry.specs.Faults.{EntriesStop, CharsetFault, IsStop, ItemsStop};
 ghost use Rattle.po_reader.specs.Internal.Keeping.{KeepsItems};
 ghost use Rattle.po_entry.specs.Viable.{last_line};
 
@@ -66,7 +66,7 @@ fn catalogue_of(alloc: Global, drafts: Vec<Fields>) -> Result<Catalogue, PoError
     requires { All (λ draft. IsEntry (entry_view draft)) drafts.items }
     ensures entries { IfOk result (λ c. c ≡ map entry_view drafts.items) }
     ensures charsets { OnOk result (All HasAdmittedCharset (map entry_view drafts.items)) }
-    ensures fault { IfErr result (IsStop (EntriesStop HasAdmittedCharset IsForeign (map entry_view drafts.items))) }
+    ensures fault { IfErr result (IsStop (EntriesStop HasAdmittedCharset CharsetFault (map entry_view drafts.items))) }
     ensures memory { IfErr result (λ e. e.kind ≡ PoFault.OutOfMemory → e.line ≡ 0) }
 {
     let mut catalogue = Catalogue::with_capacity(alloc, drafts.len())?;

@@ -53,8 +53,8 @@ pub record CanEnd (size : ℕ) (left : LinesLeft) (count : ℕ) : Type 0 where
   pub ends : EndsTranslation items
   pub anew : LineBeginsAnew (left.number + count) (drop count left.lines)
 
--- from `old` so many lines were read, which have these items, `new` is left, and no piece could end
--- before
+-- from `old` so many lines were read, which have these items, `new` is left, and after fewer lines no
+-- piece of at least `size` bytes could end
 pub record HasRead (size : ℕ) (old new : LinesLeft) (items : List TextItem) : Type 0 where
   pub count : ℕ
   pub within : count ≤ length old.lines

@@ -1,4 +1,5 @@
--- What a tool does over a reader, of its only input, and two writers; `IsRun` says which run an input has.
+-- What a tool does that reads its only input from a reader and writes to two writers: this project's
+-- own, as far as the manual's chapters on the tools leave it open.
 use Rattle.std.specs.Prelude.{◌≡◌, ◌≢◌, ◌⊎◌, ◌+◌, ◌≤◌, ℕ, List, Result, Err, IfOk, IsErrOf}
 use Rattle.std.specs.Io.KnownBytes.{Keeps}
 use Rattle.po_tools.specs.ToolRun.{ReaderView}
@@ -8,6 +9,8 @@ use Rattle.runs.specs.Run.{RunView}
 use Rattle.runs.specs.declared.tool_fault.ToolFault.{ToolFault}
 use Rattle.runs.specs.declared.tool_fault.ToolFault.TheVariants.{ReadFault, WriteFault, OutOfMemory}
 
+-- The tool leaves the reader and the writers, which were `reader`, `out` and `err`, as `reader'`,
+-- `out'` and `err'`, and returns this. `IsRun` says which run an input has.
 pub record RunsOver (IsRun : List ℕ → RunView → Type 0) (reader reader' : ReaderView) (out out' err err' : WriterView)
     (result : Result ℕ ToolFault) : Type 0 where
   pub calls : reader'.calls ≤ reader.calls + 4294967296

@@ -46,8 +46,7 @@ pub record Answers : Type 1 where
   pub variable : List ℕ → Option (List ℕ) → Type 0
   pub entries : List (List ℕ) → Type 0
 
--- what the reader has left from which envsubst reads its input, how often it was called, and how often
--- a call failed
+-- what a reader of an input has left, how often it was called, and how often a call failed
 pub record ReaderView : Type 0 where
   pub left : Option (List ℕ)
   pub calls : ℕ

@@ -6,7 +6,7 @@ use Rattle.std.proofs.lemmas.Iterator.Adapters.{YieldsList-from_vec}
 use Rattle.po_syntax.specs.declared.fault.PoError.{PoError}
 use Rattle.po_entry.specs.EntryView.{entry_view}
 use Rattle.po_entry.specs.Header.{HasAdmittedCharset}
-use Rattle.po_entry.specs.Faults.{IsForeign, foreign}
+use Rattle.po_entry.specs.Faults.{CharsetFault, foreign}
 use Rattle.po_entry.specs.Faults.EntriesStop.{here, later}
 use Rattle.po_reader.proofs.Loops.{drop_here, take_here, asked_more, asked_all}
 use Rattle.po_reader.proofs.items.catalogue_of.Goals as goal
@@ -41,7 +41,7 @@ returns-in-Err-clause-fault c =
     let fault = rw c.of.ensures at c.in-Err.ensures.fault in
     λ other. elim fault [
       | inl (refused, is) ↦
-          let fails = subst (IsForeign (entry_view c.in-Some.draft)) (sym (ap (λ (e : PoError). e.kind) is))
+          let fails = subst (CharsetFault (entry_view c.in-Some.draft)) (sym (ap (λ (e : PoError). e.kind) is))
           (foreign refused) in
           c.loop-draft.invariant.stops _ _
           (rw (drop_here _ _ _ turn.0 turn.1) (here fails (ap (λ (e : PoError). e.line) is)))

@@ -7,7 +7,7 @@ use Rattle.po_entry.specs.Validity.{HasTexts, EntryTextFault}
 use Rattle.po_entry.specs.TextEntry.{TextEntry}
 use Rattle.po_reader.proofs.RunsSpelt.{whole_spelt}
 use Rattle.po_reader.proofs.Faults.{items_fault}
-use Rattle.po_entry.specs.Faults.{EntriesStop, IsForeign}
+use Rattle.po_entry.specs.Faults.{EntriesStop, CharsetFault}
 use Rattle.po_entry.specs.Faults.ItemsStop.{in_items, in_texts, in_charset}
 use Rattle.po_reader.proofs.SoundCatalogue.{kept_sound, kept_texts, kept_admitted, kept_stop, texts_one, admitted_one, whole_fault, whole_foreign}
 use Rattle.po_reader.proofs.SoundCatalogue.{SoundEntry, entries_sound, drafts_valid}
@@ -75,6 +75,6 @@ returns-clause-fault c =
     err_step c.catalogue_of.result (λ e h other.
     let stops = kept_stop c.args.with_comments (admitted_one c.args.with_comments)
     (whole_foreign c.args.with_comments) spelt.0
-    (subst (λ (es : List TextEntry). EntriesStop HasAdmittedCharset IsForeign es e.kind e.line) spelt.2
+    (subst (λ (es : List TextEntry). EntriesStop HasAdmittedCharset CharsetFault es e.kind e.line) spelt.2
     (h other)) in
     in_charset (whole_spelt _ _ _ spelt.1) texts stops) c.catalogue_of.ensures.fault
