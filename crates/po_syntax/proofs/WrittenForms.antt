@@ -1,12 +1,11 @@
 -- The quoted form of bytes, byte by byte: four bytes for each at most, and the two quotes.
-use Rattle.std.proofs.Common.{◌≡◌, ◌==◌, ◌||◌, Option, Some, None, ◌/◌, ◌%◌, ℕ, ◌+◌, ◌<◌, Bool, true, false, if◌then◌else◌, nat_lt, List, [], ◌∷◌, ◌++◌, append_assoc, refl, sym, subst, arith, ◌≤◌, ◌*◌, length, lit≤}
+use Rattle.std.proofs.Common.{◌≡◌, ◌==◌, ◌||◌, Option, Some, None, ◌/◌, ◌%◌, ℕ, ◌+◌, ◌<◌, Bool, true, false, if◌then◌else◌, nat_lt, List, [], ◌∷◌, ◌++◌, append_assoc, refl, sym, subst, arith}
 use Rattle.std.specs.Char.{digit_char}
 use Rattle.std.proofs.lemmas.Bool.{cond_both, cond-true, eqb-true, eqb-false, lt-ltb, ltb-true, ltb-false, or_parts}
 use Rattle.std.specs.Option.{option_map_or}
 use Rattle.po_syntax.specs.Escapes.{escape_letter}
 use Rattle.po_syntax.specs.QuotedForm.{is_control, octal_escape, quoted, written_byte, written_bytes}
 use Rattle.po_syntax.specs.WrittenForm.{WritesByte, letter, delete, control, plain, WritesString, closing_quote, byte, WritesQuoted}
-use Rattle.std.proofs.lemmas.List.{length-append}
 
 pub digit_is : (d : ℕ) → d < 10 → digit_char d ≡ 48 + d
 digit_is d less = cond-true (nat_lt d 10) (48 + d) (87 + d) (lt-ltb d 10 less)
@@ -44,22 +43,3 @@ string_written (b ∷ bytes) =
 
 pub quoted_written : (bytes : List ℕ) → WritesQuoted bytes (quoted bytes)
 quoted_written bytes = (written_bytes bytes ++ 34 ∷ [], refl, string_written bytes)
-
-byte_at_most : {b : ℕ} {text : List ℕ} → WritesByte b text → length text ≤ 4
-byte_at_most (letter e) = lit≤ tt
-byte_at_most delete = lit≤ tt
-byte_at_most (control low range) = lit≤ tt
-byte_at_most (plain low none no_delete) = lit≤ tt
-
-bytes_at_most : (bytes : List ℕ) → length (written_bytes bytes) ≤ 4 * length bytes
-bytes_at_most [] = lit≤ tt
-bytes_at_most (b ∷ bytes) =
-    omega (
-      arith,
-      byte_at_most (byte_written b),
-      bytes_at_most bytes,
-      length-append (written_byte b) (written_bytes bytes),
-    )
-
-pub quoted_at_most : (bytes : List ℕ) → length (quoted bytes) ≤ 4 * length bytes + 2
-quoted_at_most bytes = omega (arith, bytes_at_most bytes, length-append (written_bytes bytes) (34 ∷ []))

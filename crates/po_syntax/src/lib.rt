@@ -6,7 +6,7 @@
 //! and its line. [`is_blank`] and [`skip_blanks`] say what a blank is.
 //!
 //! The modules in reading order: `item`, `fault`, `token`, `escape`, `quoted_string`, `line`,
-//! `text`, `pieces`, `quoting`, `laws`.
+//! `pieces`, `quoting`, `laws`.
 
 #![tactic(auto)]
 
@@ -18,7 +18,6 @@ mod line;
 mod pieces;
 mod quoted_string;
 mod quoting;
-mod text;
 mod token;
 
 pub use crate::fault::{PoError, PoFault};

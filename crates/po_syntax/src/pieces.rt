@@ -1,17 +1,19 @@
-//! The items of a text, some entries at a time.
+//! The lines of a text, and their items, some entries at a time.
 
-ghost use Rattle.std.specs.Prelude.{◌≡◌, ◌≢◌, ◌↔◌, ◌+◌, ◌<◌, ◌≤◌, ◌^◌, ◌∷◌, [], take, drop, List, ℕ, All, length, vec_len, true, false, IfOk, IfErr, OnOk, OnErr, IsTrue};
+ghost use Rattle.std.specs.Prelude.{◌≡◌, ◌≢◌, ◌↔◌, ◌+◌, ◌<◌, ◌≤◌, ◌^◌, ◌∷◌, [], take, drop, List, ℕ, All, length, vec_len, true, false, IfOk, IfErr, IfSome, MatchOption, OnOk, OnErr, IsTrue};
 ghost use Rattle.po_syntax.specs.declared.fault.PoFault.{PoFault};
 ghost use Rattle.po_syntax.specs.ItemContents.{HoldsText};
 ghost use Rattle.po_syntax.specs.LinesLeft.{LinesLeft, SpellsLeft, LeftStops, AreOfText, lines_of_rest};
 ghost use Rattle.po_syntax.specs.Piece.{BeginsAnew, EndsTranslation, IsPiece, IsString, IsTranslationWord};
-ghost use Rattle.po_syntax.specs.PoText.{SpellsText, TextFault};
+ghost use Rattle.po_syntax.specs.PoText.{SpellsText, TextFault, line_number, lines_of};
 ghost use Rattle.po_syntax.specs.TextItem.{TextItem, view, views};
 
-use crate::fault::PoError;
+use crate::fault::{PoError, PoFault};
 use crate::item::{Item, Keyword};
-use crate::text::{add_items, first_line, valid_text};
-use std::alloc::Global;
+use crate::line::add_line;
+use memchr::memchr;
+use simdutf8::compat::from_utf8;
+use std::alloc::{AllocError, Global};
 use std::marker::Model;
 
 /// A PO text that is read in pieces, each of which ends where an entry does: the text that is left
@@ -30,8 +32,41 @@ impl<'a> Model for Pieces<'a> {
     ghost invariant = { λ p. AreOfText (record { number = p.line; lines = lines_of_rest p.rest }) };
 }
 
+/// The longest text that is read, in bytes.
+const MAX_LEN: usize = 2_147_483_647;
+
 /// For how many items a piece has room at first.
 const FIRST_ROOM: usize = 128;
+
+/// The number of the line on which an index of the text stands, counted from 1.
+fn line_number(text: &[u8], index: usize) -> u32
+    requires inside { index ≤ length text.now }
+    requires small { length text.now < 2 ^ 31 }
+    ensures { result ≡ line_number text.now index }
+{
+    let feeds = text
+        .split_at(index)
+        .0
+        .iter()
+        .filter(|b| **b == b'\n')
+        .count();
+    1 + feeds as u32
+}
+
+/// Cuts off the first line: its text, and what stands after its LF, if it has one.
+#[tactic(auto, using(crate::proofs::Searches::one_line, crate::proofs::Searches::line_cut))]
+fn first_line(text: &[u8]) -> (&[u8], Option<&[u8]>)
+    ensures cut { MatchOption result.1 (lines_of text.now ≡ result.0.now ∷ [])
+        (λ rest. lines_of text.now ≡ result.0.now ∷ lines_of rest.now) }
+    ensures within { length result.0.now ≤ length text.now }
+    ensures less { IfSome result.1 (λ rest. length result.0.now + length rest.now < length text.now) }
+{
+    let Some(end) = memchr(b'\n', text) else {
+        return (text, None);
+    };
+    let (line, rest) = text.split_at(end);
+    (line, Some(rest.split_at(1).1))
+}
 
 /// Whether an item is a quoted string.
 fn is_string(item: &Item<'_>) -> bool
@@ -73,35 +108,30 @@ fn ends_translation(items: &[Item<'_>]) -> bool
     count < items.len() && is_translation_word(&items[count - 1])
 }
 
-/// Whether the first item is one with which no entry goes on after its last string.
-fn begins_anew(items: &[Item<'_>]) -> bool
-    ensures { IsTrue result ↔ BeginsAnew (views items.now) }
-{
-    matches!(
-        items.first(),
-        Some(
-            Item::Comment(..)
-                | Item::Word(
-                    Keyword::MsgCtxt | Keyword::MsgId | Keyword::MsgIdPlural | Keyword::MsgStr,
-                    ..
-                )
-        )
-    )
-}
-
-/// Whether an entry ends before the item of this index.
+/// Whether an entry ends before the item of this index: after a translation, and before an item with
+/// which no entry goes on after its last string.
 fn ends_entry(items: &[Item<'_>], index: usize) -> bool
     requires { index ≤ length items.now }
     ensures { IsTrue result ↔ (EndsTranslation (take index (views items.now)) × BeginsAnew (drop index (views items.now))) }
 {
     let (before, after) = items.split_at(index);
-    begins_anew(after) && ends_translation(before)
+    match after.first() {
+        Some(
+            Item::Comment(..)
+            | Item::Word(
+                Keyword::MsgCtxt | Keyword::MsgId | Keyword::MsgIdPlural | Keyword::MsgStr,
+                ..
+            ),
+        ) => ends_translation(before),
+        _ => false,
+    }
 }
 
 impl<'a> Pieces<'a> {
     /// The whole text, of which nothing is read yet. Refused with `TooLarge`, without a line, above
     /// 2,147,483,647 bytes; with `NotUtf8` at the first byte that is not; with `ForbiddenByte` at
     /// the first NUL.
+    #[tactic(auto, using(crate::proofs::Searches::none_found, crate::proofs::Searches::position_found, crate::specs::PoText::too_large, crate::specs::PoText::not_utf8, crate::specs::PoText::nul))]
     pub fn of(text: &'a [u8]) -> Result<Pieces<'a>, PoError>
         ensures found { IfOk result (λ left. (items : List TextItem) → SpellsLeft left items
             → SpellsText text.now items) }
@@ -110,9 +140,29 @@ impl<'a> Pieces<'a> {
         ensures fault { IfErr result (λ e. TextFault text.now e.kind e.line) }
         ensures memory { IfErr result (λ e. e.kind ≢ PoFault.OutOfMemory) }
     {
-        let text = valid_text(text)?;
+        if text.len() > MAX_LEN {
+            return Err(PoError {
+                kind: PoFault::TooLarge,
+                line: 0,
+            });
+        }
+        if let Err(error) = from_utf8(text) {
+            let line = line_number(text, error.valid_up_to());
+            return Err(PoError {
+                kind: PoFault::NotUtf8,
+                line,
+            });
+        }
+        if let Some(index) = memchr(0, text) {
+            let line = line_number(text, index);
+            return Err(PoError {
+                kind: PoFault::ForbiddenByte,
+                line,
+            });
+        }
+        let rest = text.strip_prefix(b"\xef\xbb\xbf").unwrap_or(text);
         Ok(Pieces {
-            rest: Some(text),
+            rest: Some(rest),
             line: 1,
         })
     }
@@ -156,7 +206,11 @@ impl<'a> Pieces<'a> {
         while let Some(text) = rest {
             let (first, after) = first_line(text);
             let count = items.len();
-            add_items(alloc, &mut items, first, line)?;
+            match add_line(alloc, &mut items, first, line) {
+                Ok(()) => {}
+                Err(PoFault::OutOfMemory) => return Err(AllocError.into()),
+                Err(kind) => return Err(PoError { kind, line }),
+            }
             if len >= size && ends_entry(&items, count) {
                 items.truncate(count);
                 break;

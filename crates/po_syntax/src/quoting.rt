@@ -1,6 +1,6 @@
 //! A string spelled as one quoted string.
 
-ghost use Rattle.std.specs.Prelude.{◌≡◌, ◌+◌, ◌-◌, ◌^◌, ◌≤◌, ◌++◌, length, min, true, IsOk, OnOk, OnErr, IfErr};
+ghost use Rattle.std.specs.Prelude.{◌≡◌, ◌+◌, ◌≤◌, ◌++◌, ℕ, List, length, true, IsOk, OnOk, OnErr, IfErr};
 ghost use Rattle.std.specs.List.{prefix_len};
 ghost use Rattle.std.specs.Vec.{vec_len, vec_capacity};
 ghost use Rattle.po_syntax.specs.declared.fault.PoFault.TheVariants.{OutOfMemory};
@@ -52,57 +52,21 @@ fn raw_bytes(bytes: &[u8]) -> usize
     bytes.iter().take_while(|b| is_raw(**b)).count()
 }
 
-/// How many bytes at the beginning stand in a quoted string as they are.
-fn raw_count(bytes: &[u8]) -> usize
-    ensures count { result ≡ prefix_len is_raw bytes.now }
-    ensures within { result ≤ length bytes.now }
-{
-    let rest = after_raw_blocks(bytes);
-    bytes.len() - rest.len() + raw_bytes(rest)
-}
-
 /// Splits off the bytes that are written as they are.
 #[tactic(auto, using(crate::proofs::RawRuns::written_prefix))]
 fn split_raw(bytes: &[u8]) -> (&[u8], &[u8])
     ensures parts { result.0.now ++ result.1.now ≡ bytes.now }
     ensures raw { written_bytes result.0.now ≡ result.0.now }
 {
-    bytes.split_at(raw_count(bytes))
-}
-
-/// How many bytes are written for one byte.
-#[tactic(auto, unfolding(crate::specs::QuotedForm::written_byte))]
-fn written_len(byte: u8) -> usize
-    ensures { result ≡ length (written_byte byte) }
-{
-    match byte {
-        7..14 | b'"' | b'\\' => 2,
-        0..32 | 127 => 4,
-        _ => 1,
-    }
-}
-
-/// The length of the quoted form, or 2^64 - 1 where it is longer.
-fn quoted_len(bytes: &[u8]) -> usize
-    ensures { result ≡ min (length (quoted bytes.now)) (2 ^ 64 - 1) }
-{
-    let mut len: usize = 2;
-    let mut rest = bytes;
-    loop {
-        let (raw, special) = split_raw(rest);
-        len = len.saturating_add(raw.len());
-        let Some((byte, after)) = special.split_first() else {
-            return len;
-        };
-        len = len.saturating_add(written_len(*byte));
-        rest = after;
-    }
+    let rest = after_raw_blocks(bytes);
+    bytes.split_at(bytes.len() - rest.len() + raw_bytes(rest))
 }
 
 /// Appends what is written for one byte.
 #[tactic(auto, unfolding(crate::specs::QuotedForm::written_byte))]
 fn write_byte(byte: u8, out: &mut Vec<u8>) -> Result<(), AllocError>
     ensures ok { OnOk result (out.new.items ≡ out.old.items ++ written_byte byte) }
+    ensures unchanged { OnErr result (out.new.items ≡ out.old.items) }
     ensures len { OnOk result (vec_len out.new ≡ vec_len out.old + length (written_byte byte)) }
     ensures capacity { vec_capacity out.old ≤ vec_capacity out.new }
     ensures room { vec_len out.old + length (written_byte byte) ≤ vec_capacity out.old → IsOk result }
@@ -127,9 +91,11 @@ fn write_byte(byte: u8, out: &mut Vec<u8>) -> Result<(), AllocError>
     }
 }
 
-/// Appends the quoted form. Where there is room for it, nothing is refused.
+/// Appends the quoted form, or, where it is refused, some of it. Where there is room for it, nothing
+/// is refused.
 fn write_quoted(bytes: &[u8], out: &mut Vec<u8>) -> Result<(), AllocError>
     ensures ok { OnOk result (out.new.items ≡ out.old.items ++ quoted bytes.now) }
+    ensures some { (written : List ℕ) × (out.new.items ≡ out.old.items ++ written) }
     ensures room { vec_len out.old + length (quoted bytes.now) ≤ vec_capacity out.old → IsOk result }
 {
     out.extend_from_slice(b"\"")?;
@@ -146,23 +112,8 @@ fn write_quoted(bytes: &[u8], out: &mut Vec<u8>) -> Result<(), AllocError>
     out.extend_from_slice(b"\"")
 }
 
-/// Makes room for the quoted form, whose length is asked only where there isn't room for four bytes for
-/// each.
-#[tactic(auto, using(crate::proofs::WrittenForms::quoted_at_most))]
-fn make_room(bytes: &[u8], out: &mut Vec<u8>) -> Result<(), AllocError>
-    ensures unchanged { out.new.items ≡ out.old.items }
-    ensures room { OnOk result (vec_len out.new + length (quoted bytes.now) ≤ vec_capacity out.new) }
-    ensures enough { vec_len out.old + length (quoted bytes.now) ≤ vec_capacity out.old → IsOk result }
-{
-    if (out.capacity() - out.len()) / 4 > bytes.len() {
-        return Ok(());
-    }
-    out.reserve(quoted_len(bytes))
-}
-
 /// Appends the quoted form of a text, as PO files are written (manual, "The Format of PO Files").
-/// Room for all of it is made first. Refused only where that allocation failed; then `out` is as it
-/// was.
+/// Refused only where an allocation failed; then `out` is as it was.
 pub fn quote(bytes: &[u8], out: &mut Vec<u8>) -> Result<(), PoError>
     ensures ok { OnOk result (out.new.items ≡ out.old.items ++ quoted bytes.now) }
     ensures unchanged { OnErr result (out.new.items ≡ out.old.items) }
@@ -171,7 +122,10 @@ pub fn quote(bytes: &[u8], out: &mut Vec<u8>) -> Result<(), PoError>
     // Where there is room for it, nothing is refused.
     ensures room { vec_len out.old + length (quoted bytes.now) ≤ vec_capacity out.old → IsOk result }
 {
-    make_room(bytes, out)?;
-    write_quoted(bytes, out)?;
+    let len = out.len();
+    if let Err(error) = write_quoted(bytes, out) {
+        out.truncate(len);
+        return Err(error.into());
+    }
     Ok(())
 }

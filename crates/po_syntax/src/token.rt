@@ -1,8 +1,8 @@
 //! The words, strings and blanks that a line is made of.
 
-ghost use Rattle.std.specs.Prelude.{◌≡◌, ◌<◌, ◌≤◌, length};
-ghost use Rattle.std.specs.List.{prefix_len};
-ghost use Rattle.po_syntax.specs.Internal.Token.{index_token, bracket_token, keyword_token, token_at};
+ghost use Rattle.std.specs.Prelude.{◌≡◌, ◌<◌, ◌≤◌, true, false, length, bytes_eq, MatchOption};
+ghost use Rattle.std.specs.List.{list_all, prefix_len};
+ghost use Rattle.po_syntax.specs.Internal.Token.{after_first_word, first_word, index_token, token_at, word_token};
 ghost use Rattle.po_syntax.specs.Spelling.{is_word_byte};
 ghost use Rattle.po_syntax.specs.Blanks.{is_blank, skip_blanks};
 ghost use Rattle.po_syntax.specs.Internal.LineView.{IsKeywordOf, IsTokenOf};
@@ -26,7 +26,8 @@ pub(crate) enum Token<'a> {
 pub fn is_blank(byte: u8) -> bool
     ensures { result ≡ is_blank byte }
 {
-    matches!(byte, b' ' | b'\t' | 11 | 12 | b'\r')
+    // Most bytes are above, and need no further test.
+    byte <= b' ' && matches!(byte, b' ' | b'\t' | 11 | 12 | b'\r')
 }
 
 /// Whether the byte can stand in a word: a letter, a digit or `_`.
@@ -42,14 +43,6 @@ fn blank_count(text: &[u8]) -> usize
     ensures within { result ≤ length text.now }
 {
     text.iter().take_while(|b| is_blank(**b)).count()
-}
-
-/// How long the word at the beginning is.
-fn word_len(text: &[u8]) -> usize
-    ensures count { result ≡ prefix_len is_word_byte text.now }
-    ensures within { result ≤ length text.now }
-{
-    text.iter().take_while(|b| is_word_byte(**b)).count()
 }
 
 /// The text after the blanks at its start (GNU gettext manual, "The Format of PO Files").
@@ -78,31 +71,39 @@ fn plural_form(text: &[u8]) -> Result<(Keyword, &[u8]), PoFault>
     }
 }
 
-/// The keyword `msgstr` or `msgstr[i]`, read after the word `msgstr`.
-fn translation(rest: &[u8]) -> Result<(Keyword, &[u8]), PoFault>
-    ensures { IsKeywordOf (bracket_token rest.now (skip_blanks rest.now)) result }
+/// What stands after the word with which the text begins, if it is this one.
+fn after_word<'a>(text: &'a [u8], word: &[u8]) -> Option<&'a [u8]>
+    requires { list_all is_word_byte word.now ≡ true }
+    ensures { MatchOption result (bytes_eq (first_word text.now) word.now ≡ false)
+        (λ rest. (first_word text.now ≡ word.now) × (rest.now ≡ after_first_word text.now)) }
 {
-    match skip_blanks(rest).split_first() {
-        Some((b'[', inside)) => plural_form(skip_blanks(inside)),
-        _ => Ok((Keyword::MsgStr, rest)),
+    let rest = text.strip_prefix(word)?;
+    match rest.first() {
+        Some(byte) if is_word_byte(*byte) => None,
+        _ => Some(rest),
     }
 }
 
-/// The keyword that a word is, and the text after it.
+/// The keyword with which the text begins, and the text after it.
 #[tactic(auto, unfolding(crate::specs::Internal::Token::keyword_token))]
-fn keyword<'a>(word: &[u8], rest: &'a [u8]) -> Result<(Keyword, &'a [u8]), PoFault>
-    ensures { IsKeywordOf (keyword_token word.now rest.now) result }
+fn keyword(text: &[u8]) -> Result<(Keyword, &[u8]), PoFault>
+    ensures { IsKeywordOf (word_token text.now) result }
 {
-    if word == b"msgctxt".as_slice() {
-        Ok((Keyword::MsgCtxt, rest))
-    } else if word == b"msgid".as_slice() {
-        Ok((Keyword::MsgId, rest))
-    } else if word == b"msgid_plural".as_slice() {
-        Ok((Keyword::MsgIdPlural, rest))
-    } else if word == b"msgstr".as_slice() {
-        translation(rest)
-    } else {
-        Err(PoFault::BadToken)
+    if let Some(rest) = after_word(text, b"msgid") {
+        return Ok((Keyword::MsgId, rest));
+    }
+    if let Some(rest) = after_word(text, b"msgstr") {
+        return match skip_blanks(rest).split_first() {
+            Some((b'[', inside)) => plural_form(skip_blanks(inside)),
+            _ => Ok((Keyword::MsgStr, rest)),
+        };
+    }
+    if let Some(rest) = after_word(text, b"msgctxt") {
+        return Ok((Keyword::MsgCtxt, rest));
+    }
+    match after_word(text, b"msgid_plural") {
+        Some(rest) => Ok((Keyword::MsgIdPlural, rest)),
+        None => Err(PoFault::BadToken),
     }
 }
 
@@ -121,7 +122,6 @@ pub(crate) fn next_token(text: &[u8]) -> Result<Token<'_>, PoFault>
     if !is_word_byte(*first) {
         return Err(PoFault::BadToken);
     }
-    let (word, rest) = text.split_at(word_len(text));
-    let (keyword, rest) = keyword(word, rest)?;
+    let (keyword, rest) = keyword(text)?;
     Ok(Token::Keyword(keyword, rest))
 }

@@ -51,9 +51,15 @@ keyword_token word rest =
     else WrongToken BadToken
 
 -- the word at the start of the text is the longest run of bytes of a word
+abbrev pub first_word : List ℕ → List ℕ
+first_word text = take (prefix_len is_word_byte text) text
+
+-- what stands after it
+abbrev pub after_first_word : List ℕ → List ℕ
+after_first_word text = drop (prefix_len is_word_byte text) text
+
 abbrev pub word_token : List ℕ → Token
-word_token text =
-    let count = prefix_len is_word_byte text in keyword_token (take count text) (drop count text)
+word_token text = keyword_token (first_word text) (after_first_word text)
 
 -- the token that the text begins with: a quote (34) opens a string, and a byte that is neither a
 -- quote nor one of a word begins none, as `#`

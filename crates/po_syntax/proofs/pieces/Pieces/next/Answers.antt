@@ -1,21 +1,17 @@
 use Rattle.std.proofs.Common.{◌≡◌, ◌∙◌, [], rules, ap, sym, subst, inl, length, arith}
 use Rattle.std.proofs.lemmas.List.{length-map, take-map}
-use Rattle.std.proofs.lemmas.Result.{err_from_is_err_and}
 use Rattle.po_syntax.specs.LinesLeft.{AreOfText, lines_of_rest}
 use Rattle.po_syntax.specs.Piece.{BeginsAnew, EndsTranslation}
 use Rattle.po_syntax.specs.TextItem.{view, views}
 use Rattle.po_syntax.proofs.PieceLemmas.{cut_at, ended_before, line_stops, lines_begin, none_read, piece_few, piece_hold, piece_whole, read_of_text, read_on}
 use Rattle.po_syntax.proofs.pieces.Pieces.next.Goals as goal
-use Rattle.po_syntax.proofs.pieces.Pieces.next.Goals.{else-len-size-via-then-len-size+else-ends_entry, else-len-size-via-else-len-size, in-Some+in_ok-add_items+then-len-size+then-ends_entry, in_default}
+use Rattle.po_syntax.proofs.pieces.Pieces.next.Goals.{else-len-size-via-then-len-size+else-ends_entry, else-len-size-via-else-len-size, in-Some+in-Ok+then-len-size+then-ends_entry, in_default}
 
-pub returns-in_err-add_items-clause-fault : goal.returns-in_err-add_items-clause-fault
-returns-in_err-add_items-clause-fault c =
-    let p = err_from_is_err_and c.from_residual-in_err-add_items.result c.from_residual-in_err-add_items.ensures.1 in
-    let e = c.in_err-add_items.field-0.0 in
+pub returns-in-Err-clause-fault : goal.returns-in-Err-clause-fault
+returns-in-Err-clause-fault c =
     let lines = ap lines_of_rest c.in-Some.is
     ∙ lines_begin c.in-Some.text.now c.first_line.result.0.now c.first_line.result.1 c.first_line.ensures.cut in
-    rw (p.1, p.2) (λ other. rw (c.in_err-add_items.ensures.line other)
-    (line_stops c.loop-rest.invariant.read lines (c.in_err-add_items.ensures.fault other)))
+    λ other. line_stops c.loop-rest.invariant.read lines (c.in-Err.ensures.fault other)
 
 pub loop-rest-init : goal.loop-rest-init
 loop-rest-init c =
@@ -28,10 +24,10 @@ overflow_add-line c =
 
 pub loop-rest-preserved : goal.loop-rest-preserved
 loop-rest-preserved c =
-    let found = c.in_ok-add_items.ensures.found in
+    let found = c.in-Ok.ensures.found in
     let own : c.len-count.result ≡ length c.loop-rest.items.items =
     omega (arith, c.len-count.ensures, c.loop-rest.items.ok.0) in
-    let cut = cut_at c.loop-rest.items.items c.add_items.new.items.items found.0 c.len-count.result own found.2 in
+    let cut = cut_at c.loop-rest.items.items c.add_line.new.items.items found.0 c.len-count.result own found.2 in
     let lines = ap lines_of_rest c.in-Some.is
     ∙ lines_begin c.in-Some.text.now c.first_line.result.0.now c.first_line.result.1 c.first_line.ensures.cut in
     rw found.2 (read_on c.loop-rest.invariant lines found.1
@@ -48,11 +44,11 @@ invariant_of-self c = read_of_text c.loop-rest.invariant.read (subst AreOfText c
 
 pub returns-clause-piece : goal.returns-clause-piece
 returns-clause-piece c = elim c.match-rest.branch [
-  | in-Some+in_ok-add_items+then-len-size+then-ends_entry w ↦
-      let found = w.in_ok-add_items.ensures.found in
+  | in-Some+in-Ok+then-len-size+then-ends_entry w ↦
+      let found = w.in-Ok.ensures.found in
       let own : w.len-count.result ≡ length c.loop-rest.items.items =
       omega (arith, w.len-count.ensures, c.loop-rest.items.ok.0) in
-      let cut = cut_at c.loop-rest.items.items w.add_items.new.items.items found.0 w.len-count.result own found.2 in
+      let cut = cut_at c.loop-rest.items.items w.add_line.new.items.items found.0 w.len-count.result own found.2 in
       let lines = ap lines_of_rest w.in-Some.is
       ∙ lines_begin w.in-Some.text.now w.first_line.result.0.now w.first_line.result.1 w.first_line.ensures.cut in
       let entry = rw w.deref.ensures.value at (w.ends_entry.ensures.0 w.if-ends_entry.true) in

@@ -1,24 +1,28 @@
-use Rattle.std.proofs.Common.{ap, length, arith}
-use Rattle.po_syntax.specs.PoText.{stops}
+use Rattle.std.proofs.Common.{◌≡◌, rules, ap, length, arith}
+use Rattle.po_syntax.specs.PoText.{IsSmall, stops, without_byte_order_mark}
 use Rattle.po_syntax.proofs.CleanLines.{clean_lines}
 use Rattle.po_syntax.proofs.Lines.{lines_len-lines_of, without_byte_order_mark-le}
+use Rattle.po_syntax.proofs.Searches.{none_found}
 use Rattle.po_syntax.proofs.pieces.Pieces.of.Goals as goal
 
 pub invariant_of-result : goal.invariant_of-result
 invariant_of-result c =
-    let checked = c.in_ok-text.ensures in
+    let text = c.args.text.now in
+    let found : c.unwrap_or-rest.result.now ≡ without_byte_order_mark text = search rules in
     record {
-      clean = rw checked.found (clean_lines c.args.text.now checked.utf8 checked.no_nul);
+      clean = rw found (clean_lines text c.in_default.ensures.cases.1 (none_found 0 text c.in_default-memchr.ensures));
       small = omega (
         arith,
-        lines_len-lines_of c.in_ok-text.text.now,
-        ap length checked.found,
-        without_byte_order_mark-le c.args.text.now,
-        checked.small,
+        lines_len-lines_of c.unwrap_or-rest.result.now,
+        ap length found,
+        without_byte_order_mark-le text,
+        c.if-text-gt-MAX_LEN.false,
       );
     }
 
 pub returns-clause-stops : goal.returns-clause-stops
 returns-clause-stops c = λ fault line h.
-    let checked = c.in_ok-text.ensures in
-    stops checked.small checked.utf8 checked.no_nul (rw checked.found at h)
+    let text = c.args.text.now in
+    let found : c.unwrap_or-rest.result.now ≡ without_byte_order_mark text = search rules in
+    let small : IsSmall text = omega (arith, c.if-text-gt-MAX_LEN.false) in
+    stops small c.in_default.ensures.cases.1 (none_found 0 text c.in_default-memchr.ensures) (rw found at h)
