@@ -89,6 +89,11 @@ pub first_refused : (end : ℕ) (items rest : List TextItem) (item : TextItem) (
 first_refused end items rest item fault is stage e =
     rw is (ap (λ next. comes_to end next rest) e ∙ stopped end fault (line_of item) rest)
 
+-- an item that is taken stands first
+pub taken : (end : ℕ) (items rest : List TextItem) (item : TextItem) → items ≡ item ∷ rest → (stage next : Stage)
+    → turn stage item ≡ next → comes_to end stage items ≡ comes_to end next rest
+taken end items rest item is stage next e = rw is (ap (λ s. comes_to end s rest) e)
+
 -- what a later place comes to an earlier one does
 pub fails_from : {earlier later : Outcome} {error : PoError} → earlier ≡ later
     → IsFaultOf (λ fault line. later ≡ Fault fault line) error

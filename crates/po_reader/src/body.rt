@@ -1,19 +1,117 @@
-//! The second half of an entry: context, msgid, plural and translations.
+//! The own lines of an entry: context, msgid, plural and forms.
 
-ghost use Rattle.std.specs.Prelude.{◌≡◌, ◌≢◌, ◌<◌, ◌≤◌, [], ℕ, true, length, IfOk, OnOk, IfErr, ◌^◌};
-ghost use Rattle.po_entry.specs.TextEntry.{texts, optional_text};
-ghost use Rattle.po_reader.specs.Internal.Stage.{SoFar, Between, Before, InHead, no_lines, with_own, with_entry};
+ghost use Rattle.std.specs.Prelude.{◌≡◌, ◌≢◌, ◌<◌, ◌≤◌, ◌^◌, [], ℕ, true, length, None, IfOk, IfErr, IfSome, OnOk, MatchOption};
+ghost use Rattle.po_syntax.specs.TextItem.{Word};
+ghost use Rattle.po_entry.specs.TextEntry.{TextEntry, texts, optional_text};
+ghost use Rattle.po_entry.specs.Spelling.{own_marks};
+ghost use Rattle.po_reader.specs.Internal.HeadView.{MakesEntry};
+ghost use Rattle.po_reader.specs.Internal.Stage.{SoFar, Between, Before, InHead, Stop, no_lines, with_own, with_entry};
 ghost use Rattle.po_reader.specs.Internal.Stage.{with_context, with_forms, with_translation};
 ghost use Rattle.po_reader.specs.Internal.Stage as stage;
-ghost use Rattle.po_reader.specs.Internal.Turn.{begins_form, begins_own};
+ghost use Rattle.po_reader.specs.Internal.Turn.{and_text, begins_form, begins_own, is_wanted, opened, turn_own};
 ghost use Rattle.po_reader.specs.Internal.Reads.{comes, Fails};
-ghost use Rattle.po_reader.specs.Internal.ReaderView.{body_view, original_view};
+ghost use Rattle.po_reader.specs.Internal.ReaderView.{wanted_view};
 
-use crate::cursor::Cursor;
-use crate::keywords::{Wanted, own_marks, take_keyword_text};
-use crate::strings::take_strings;
-use po_syntax::{Keyword, PoError};
+use crate::comment_texts::{has_fuzzy, others};
+use crate::cursor::{Cursor, take_strings};
+use crate::head::Head;
+use po_entry::Fields;
+use po_syntax::{Keyword, Marks, PoError, PoFault};
 use std::alloc::Global;
+
+/// What is wanted next of an entry.
+#[derive(Clone, Copy)]
+enum Wanted {
+    /// `msgid`, after a context.
+    Id,
+    /// `msgstr` or `msgid_plural`, after a msgid.
+    Translation,
+    /// The plural form with this index.
+    Form(u32),
+}
+
+/// Whether the keyword is one that can stand here.
+fn is_wanted(wanted: Wanted, keyword: Keyword) -> bool
+    ensures { result ≡ is_wanted (wanted_view wanted) keyword }
+{
+    match (wanted, keyword) {
+        (Wanted::Id, Keyword::MsgId) => true,
+        (Wanted::Translation, Keyword::MsgIdPlural | Keyword::MsgStr) => true,
+        (Wanted::Form(index), Keyword::MsgStrAt(found)) => found == index,
+        _ => false,
+    }
+}
+
+/// The fault of a keyword, if it isn't the wanted one or isn't obsolete or live as its entry is.
+fn keyword_fault(wanted: Wanted, obsolete: bool, keyword: Keyword, marks: Marks) -> Option<PoFault>
+    ensures step { (read : SoFar) (line : ℕ) → read.own.obsolete ≡ obsolete → MatchOption result
+        (turn_own read (wanted_view wanted) (Word keyword marks line) ≡ opened read read.own keyword line)
+        (λ fault. turn_own read (wanted_view wanted) (Word keyword marks line) ≡ Stop fault line) }
+    ensures wanted { result ≡ None → is_wanted (wanted_view wanted) keyword ≡ true }
+    ensures other { IfSome result (λ fault. fault ≢ PoFault.OutOfMemory) }
+{
+    match (wanted, keyword) {
+        _ if marks.previous => Some(PoFault::BadOrder),
+        _ if is_wanted(wanted, keyword) => {
+            if marks.obsolete == obsolete {
+                None
+            } else {
+                Some(PoFault::MixedObsolete)
+            }
+        }
+        // a plural form is wanted, and the index is wrong
+        (Wanted::Form(_), Keyword::MsgStrAt(_)) => Some(PoFault::BadPluralIndex),
+        _ => Some(PoFault::BadOrder),
+    }
+}
+
+/// The marks of an entry's own lines.
+fn own_marks(obsolete: bool) -> Marks
+    ensures { result ≡ own_marks obsolete }
+{
+    Marks {
+        obsolete,
+        previous: false,
+    }
+}
+
+/// A keyword of an entry's own lines, with its text.
+#[derive(Drop)]
+struct KeywordText {
+    keyword: Keyword,
+    line: u32,
+    text: Vec<u8>,
+}
+
+/// Takes the wanted keyword, which stands first, with its text.
+fn take_keyword_text(
+    alloc: Global,
+    rest: &mut Cursor<'_, '_>,
+    wanted: Wanted,
+    obsolete: bool,
+) -> Result<KeywordText, PoError>
+    ensures found { IfOk result (λ w. (read : SoFar) → read.own.obsolete ≡ obsolete
+        → comes (Between (Before read (wanted_view wanted))) rest.old
+        ≡ comes (Between (and_text read w.keyword w.line w.text.items)) rest.new) }
+    ensures wanted { IfOk result (λ w. is_wanted (wanted_view wanted) w.keyword ≡ true) }
+    ensures fewer { OnOk result (length rest.new.items < length rest.old.items) }
+    ensures fault { IfErr result (λ e. (read : SoFar) → read.own.obsolete ≡ obsolete
+        → Fails (Between (Before read (wanted_view wanted))) rest.old e) }
+{
+    let Some((keyword, marks, line)) = rest.first_word() else {
+        return Err(rest.refusal(PoFault::BadOrder));
+    };
+    if let Some(fault) = keyword_fault(wanted, obsolete, keyword, marks) {
+        return Err(rest.refusal(fault));
+    }
+    rest.advance();
+    let text = take_strings(alloc, rest, own_marks(obsolete))?;
+    Ok(KeywordText {
+        keyword,
+        line,
+        text,
+    })
+}
 
 /// Whether a `msgstr[i]` is the first item, and not one of a previous text.
 fn begins_form(rest: &Cursor<'_, '_>) -> bool
@@ -51,23 +149,17 @@ fn take_forms(
     }
 }
 
-/// What follows a msgid: its plural, if it has one, and its forms.
-#[derive(Drop)]
-pub(crate) struct Translation {
-    pub(crate) plural: Option<Vec<u8>>,
-    pub(crate) forms: Vec<Vec<u8>>,
-}
-
-/// Takes what follows a msgid, which stands first: a `msgstr`, or a plural and its forms.
+/// Takes what follows a msgid, which stands first: a `msgstr`, or a plural and its forms. Gives the
+/// plural, if there is one, and the forms.
 fn take_translation(
     alloc: Global,
     rest: &mut Cursor<'_, '_>,
     obsolete: bool,
-) -> Result<Translation, PoError>
+) -> Result<(Option<Vec<u8>>, Vec<Vec<u8>>), PoError>
     requires { length rest.old.items < 2 ^ 32 }
     ensures found { IfOk result (λ t. (read : SoFar) → read.own.obsolete ≡ obsolete
         → comes (Between (Before read stage.Translation)) rest.old
-        ≡ comes (Between (InHead (with_entry (with_translation read (optional_text t.plural) (texts t.forms.items))) 0))
+        ≡ comes (Between (InHead (with_entry (with_translation read (optional_text t.0) (texts t.1.items))) 0))
         rest.new) }
     ensures fewer { OnOk result (length rest.new.items < length rest.old.items) }
     ensures fault { IfErr result (λ e. (read : SoFar) → read.own.obsolete ≡ obsolete
@@ -76,26 +168,11 @@ fn take_translation(
     let first = take_keyword_text(alloc, rest, Wanted::Translation, obsolete)?;
     if let Keyword::MsgIdPlural = first.keyword {
         let forms = take_forms(alloc, rest, obsolete)?;
-        return Ok(Translation {
-            plural: Some(first.text),
-            forms,
-        });
+        return Ok((Some(first.text), forms));
     }
     let mut forms = Vec::with_capacity(alloc, 1)?;
     forms.push(first.text)?;
-    Ok(Translation {
-        plural: None,
-        forms,
-    })
-}
-
-/// A context and msgid, whether their entry is obsolete, and the line of the msgid.
-#[derive(Drop)]
-pub(crate) struct Original {
-    pub(crate) context: Option<Vec<u8>>,
-    pub(crate) id: Vec<u8>,
-    pub(crate) obsolete: bool,
-    pub(crate) line: u32,
+    Ok((None, forms))
 }
 
 /// Takes the context, if there is one, which stands first; and gives whether the entry is obsolete.
@@ -122,44 +199,43 @@ fn take_context(
     Ok((None, obsolete))
 }
 
-/// Takes the context, if there is one, and the msgid of an entry, which stand first.
-fn take_original(alloc: Global, rest: &mut Cursor<'_, '_>) -> Result<Original, PoError>
-    requires { begins_own rest.old.items ≡ true }
-    ensures found { IfOk result (λ o. (read : SoFar) (above : ℕ) → comes (Between (InHead read above)) rest.old
-        ≡ comes (Between (Before (with_own read (original_view o)) stage.Translation)) rest.new) }
-    ensures fewer { OnOk result (length rest.new.items < length rest.old.items) }
-    ensures fault { IfErr result (λ e. (read : SoFar) (above : ℕ) → Fails (Between (InHead read above)) rest.old e) }
-{
-    let (context, obsolete) = take_context(alloc, rest)?;
-    let id = take_keyword_text(alloc, rest, Wanted::Id, obsolete)?;
-    Ok(Original {
-        context,
-        id: id.text,
-        obsolete,
-        line: id.line,
-    })
-}
-
-/// The own lines of an entry.
-#[derive(Drop)]
-pub(crate) struct Body {
-    pub(crate) original: Original,
-    pub(crate) translation: Translation,
-}
-
-/// Takes the own lines of an entry, which stand first.
-pub(crate) fn take_body(alloc: Global, rest: &mut Cursor<'_, '_>) -> Result<Body, PoError>
+/// Takes the own lines of an entry, which stand first, and gives the fields of the entry that has
+/// this head.
+pub(crate) fn take_body(
+    alloc: Global,
+    rest: &mut Cursor<'_, '_>,
+    head: Head<'_>,
+) -> Result<Fields, PoError>
     requires few { length rest.old.items < 2 ^ 32 }
     requires begins { begins_own rest.old.items ≡ true }
-    ensures found { IfOk result (λ b. (read : SoFar) (above : ℕ) → comes (Between (InHead read above)) rest.old
-        ≡ comes (Between (InHead (with_entry (with_own read (body_view b))) 0)) rest.new) }
+    ensures found { IfOk result (λ fields. (own : TextEntry) × MakesEntry head.entry own fields
+        × ((read : SoFar) (above : ℕ) → comes (Between (InHead read above)) rest.old
+        ≡ comes (Between (InHead (with_entry (with_own read own)) 0)) rest.new)) }
     ensures fewer { OnOk result (length rest.new.items < length rest.old.items) }
     ensures fault { IfErr result (λ e. (read : SoFar) (above : ℕ) → Fails (Between (InHead read above)) rest.old e) }
 {
-    let original = take_original(alloc, rest)?;
-    let translation = take_translation(alloc, rest, original.obsolete)?;
-    Ok(Body {
-        original,
-        translation,
+    let Head {
+        comments,
+        extracted,
+        references,
+        flags,
+        previous,
+    } = head;
+    let (context, obsolete) = take_context(alloc, rest)?;
+    let id = take_keyword_text(alloc, rest, Wanted::Id, obsolete)?;
+    let (plural, forms) = take_translation(alloc, rest, obsolete)?;
+    Ok(Fields {
+        comments,
+        extracted,
+        references,
+        fuzzy: has_fuzzy(&flags),
+        flags: others(alloc, &flags)?,
+        previous,
+        context,
+        id: id.text,
+        plural,
+        forms,
+        obsolete,
+        line: id.line,
     })
 }

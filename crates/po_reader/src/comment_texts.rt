@@ -1,14 +1,16 @@
-//! The references and flags that comments spell.
+//! The references and flags that comments spell, and the flags that an entry keeps (manual, "The
+//! Format of PO Files").
 
-ghost use Rattle.std.specs.Prelude.{◌≡◌, ◌==◌, ◌<◌, ◌≤◌, ◌++◌, ◌∷◌, [], ℕ, Bool, length, position, IfSome, MatchOption, OnOk};
-ghost use Rattle.std.specs.List.{slice_split, suffix_len};
+ghost use Rattle.std.specs.Prelude.{◌≡◌, ◌==◌, ◌<◌, ◌≤◌, ◌++◌, ◌∷◌, [], ℕ, Bool, fold, length, position, IfOk, IfSome, MatchOption, OnOk};
+ghost use Rattle.std.specs.List.{list_any, slice_split, suffix_len};
 ghost use Rattle.po_syntax.specs.Blanks.{is_blank};
 ghost use Rattle.po_entry.specs.Bytes.{trimmed};
 ghost use Rattle.po_entry.specs.TextEntry.{slice_texts, texts};
-ghost use Rattle.po_entry.specs.Comments.{listed_references, listed_flags};
+ghost use Rattle.po_entry.specs.Comments.{is_fuzzy_flag, listed_references, listed_flags, with_flag};
 
 use po_syntax::{is_blank, skip_blanks};
 use std::alloc::{AllocError, Global};
+use std::collections::BTreeSet;
 
 /// The text without the blanks at its ends.
 fn trimmed(text: &[u8]) -> &[u8]
@@ -106,4 +108,37 @@ pub(crate) fn add_flags<'i>(flags: &mut Vec<&'i [u8]>, text: &'i [u8]) -> Result
         };
         rest = after;
     }
+}
+
+/// Whether the flag is `fuzzy`.
+fn is_fuzzy_flag(flag: &[u8]) -> bool
+    ensures { result ≡ is_fuzzy_flag flag.now }
+{
+    flag == b"fuzzy".as_slice()
+}
+
+/// Whether `fuzzy` is among the flags.
+pub(crate) fn has_fuzzy(elements: &[&[u8]]) -> bool
+    ensures { result ≡ list_any (λ flag. is_fuzzy_flag flag.now) elements.now }
+{
+    elements.iter().any(|flag| is_fuzzy_flag(flag))
+}
+
+/// The flags other than `fuzzy`, each once, where it first stands. A tree finds the flags seen
+/// before, so that no choice of flags makes this slow.
+pub(crate) fn others(alloc: Global, elements: &[&[u8]]) -> Result<Vec<Vec<u8>>, AllocError>
+    ensures { IfOk result (λ kept. texts kept.items ≡ fold with_flag [] (slice_texts elements.now)) }
+{
+    let mut seen = BTreeSet::new(alloc);
+    let mut kept = Vec::new(alloc);
+    for flag in elements {
+        if is_fuzzy_flag(flag) {
+            continue;
+        }
+        if !seen.insert(*flag)? {
+            continue;
+        }
+        kept.push(flag.to_vec(alloc)?)?;
+    }
+    Ok(kept)
 }

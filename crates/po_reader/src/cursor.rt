@@ -1,11 +1,16 @@
-//! The items that haven't been read yet.
+//! The items that haven't been read yet, and the strings that stand first among them.
 
-ghost use Rattle.std.specs.Prelude.{◌≡◌, ◌≢◌, ◌<◌, [], ◌∷◌, ℕ, false, drop, length, MatchBool, MatchOption};
+ghost use Rattle.std.specs.Prelude.{◌≡◌, ◌≢◌, ◌<◌, [], ◌∷◌, ℕ, false, drop, length, IfOk, IfErr, OnOk, MatchBool, MatchOption};
+ghost use Rattle.po_syntax.specs.declared.item.Keyword.{Keyword};
 ghost use Rattle.po_syntax.specs.TextItem.{Word, Str, line_of, view, views};
-ghost use Rattle.po_reader.specs.Internal.Turn.{begins_word, begins_string};
-ghost use Rattle.po_reader.specs.Internal.Reads.{Rest, line_at};
+ghost use Rattle.po_entry.specs.Viable.{last_line};
+ghost use Rattle.po_reader.specs.Internal.Stage.{SoFar, In, Between};
+ghost use Rattle.po_reader.specs.Internal.Turn as spec;
+ghost use Rattle.po_reader.specs.Internal.Turn.{begins_word, begins_string, closed};
+ghost use Rattle.po_reader.specs.Internal.Reads.{Rest, comes, line_at, Fails};
 
 use po_syntax::{Item, Keyword, Marks, PoError, PoFault};
+use std::alloc::Global;
 use std::marker::Model;
 
 /// The items that are left to be read.
@@ -26,11 +31,14 @@ impl<'i, 'a> Model for Cursor<'i, 'a> {
 }
 
 impl<'i, 'a> Cursor<'i, 'a> {
-    /// All of these items, the last of which stands on the line `end`.
-    pub(crate) fn of(items: &'i [Item<'a>], end: u32) -> Self
-        ensures { result ≡ record { items = views items.now; end = end } }
+    /// All of these items, which are those of a whole text.
+    pub(crate) fn of(items: &'i [Item<'a>]) -> Self
+        ensures { result ≡ record { items = views items.now; end = last_line (views items.now) } }
     {
-        Cursor { items, end }
+        Cursor {
+            items,
+            end: last_line(items),
+        }
     }
 
     /// The first item, if one is left.
@@ -104,11 +112,70 @@ impl<'i, 'a> Cursor<'i, 'a> {
     }
 }
 
+/// The line of the last item, and 0 where there is none.
+#[tactic(auto, using(crate::proofs::Loops::last_at, crate::proofs::Loops::some_length))]
+fn last_line(items: &[Item<'_>]) -> u32
+    ensures { result ≡ last_line (views items.now) }
+{
+    match items.last() {
+        Some(item) => line_of(item),
+        None => 0,
+    }
+}
+
 /// The line on which the item stands.
-pub(crate) fn line_of(item: &Item<'_>) -> u32
+fn line_of(item: &Item<'_>) -> u32
     ensures { result ≡ line_of (view item.now) }
 {
     match item {
         Item::Comment(_, _, line) | Item::Word(_, _, line) | Item::Str(_, _, line) => *line,
+    }
+}
+
+/// The fault of a string whose marks are not those of its text: `MixedObsolete` where own lines of
+/// an entry differ in their obsolete mark, else `BadOrder`.
+fn stray_string(wanted: Marks, found: Marks) -> PoFault
+    ensures fault { result ≡ spec.stray_string wanted found }
+    ensures other { result ≢ PoFault.OutOfMemory }
+{
+    if wanted.previous || found.previous {
+        PoFault::BadOrder
+    } else {
+        PoFault::MixedObsolete
+    }
+}
+
+/// Whether both have the same marks.
+fn same_marks(a: Marks, b: Marks) -> bool
+    ensures { result ≡ spec.same_marks a b }
+{
+    a.obsolete == b.obsolete && a.previous == b.previous
+}
+
+/// Takes the text of the strings that stand first, under these marks.
+pub(crate) fn take_strings(
+    alloc: Global,
+    rest: &mut Cursor<'_, '_>,
+    marks: Marks,
+) -> Result<Vec<u8>, PoError>
+    ensures found { IfOk result (λ text. (read : SoFar) (keyword : Keyword) → comes (In read keyword marks false [])
+        rest.old ≡ comes (Between (closed read keyword marks text.items)) rest.new) }
+    ensures fewer { OnOk result (length rest.new.items < length rest.old.items) }
+    ensures fault { IfErr result (λ e. (read : SoFar) (keyword : Keyword)
+        → Fails (In read keyword marks false []) rest.old e) }
+{
+    let mut text = Vec::with_capacity(alloc, rest.strings_len())?;
+    loop {
+        let Some((bytes, found)) = rest.first_string() else {
+            return Err(rest.refusal(PoFault::BadOrder));
+        };
+        if !same_marks(marks, found) {
+            return Err(rest.refusal(stray_string(marks, found)));
+        }
+        rest.advance();
+        text.extend_from_slice(bytes)?;
+        if rest.first_string().is_none() {
+            return Ok(text);
+        }
     }
 }

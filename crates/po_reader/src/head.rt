@@ -13,8 +13,7 @@ ghost use Rattle.po_reader.specs.Internal.ReaderView.{stepped, IsOfPrevious};
 ghost use Rattle.po_reader.specs.Internal.HeadView.{HoldsHead, HoldsComments};
 
 use crate::comment_texts::{add_flags, add_references};
-use crate::cursor::Cursor;
-use crate::strings::take_strings;
+use crate::cursor::{Cursor, take_strings};
 use po_entry::Previous;
 use po_syntax::{CommentKind, Item, Keyword, Marks, PoError, PoFault};
 use std::alloc::{AllocError, Global};
@@ -99,13 +98,6 @@ fn take_step<'i>(rest: &mut Cursor<'i, '_>, above: u32) -> Result<Step<'i>, PoFa
     }
 }
 
-/// Whether comments of a kind are wanted: all are, or only flags.
-fn is_kept(with_comments: bool, kind: CommentKind) -> bool
-    ensures { result ≡ (with_comments || same_kind Flags kind) }
-{
-    with_comments || matches!(kind, CommentKind::Flags)
-}
-
 /// Adds a comment to the fields of its kind, where it is wanted.
 fn add_comment<'i>(
     alloc: Global,
@@ -120,28 +112,12 @@ fn add_comment<'i>(
         ++ (record { kind = kind; text = text.now }) ∷ []))) }
     ensures previous { OnOk result (head.new.previous ≡ head.old.previous) }
 {
-    if is_kept(with_comments, kind) {
-        add_kept_comment(alloc, head, kind, text)?;
-    }
-    Ok(())
-}
-
-/// Adds a comment to the fields of its kind.
-fn add_kept_comment<'i>(
-    alloc: Global,
-    head: &mut Head<'i>,
-    kind: CommentKind,
-    text: &'i [u8],
-) -> Result<(), AllocError>
-    ensures comment_texts { OnOk result ((comment_texts : List CommentText) → HoldsComments head.old comment_texts
-        → HoldsComments head.new (comment_texts ++ (record { kind = kind; text = text.now }) ∷ [])) }
-    ensures previous { OnOk result (head.new.previous ≡ head.old.previous) }
-{
     match kind {
+        CommentKind::Flags => add_flags(&mut head.flags, text)?,
+        _ if !with_comments => {}
         CommentKind::Translator => head.comments.push(text.to_vec(alloc)?)?,
         CommentKind::Extracted => head.extracted.push(text.to_vec(alloc)?)?,
         CommentKind::Reference => add_references(alloc, &mut head.references, text)?,
-        CommentKind::Flags => add_flags(&mut head.flags, text)?,
     }
     Ok(())
 }
@@ -178,7 +154,11 @@ pub(crate) fn take_head<'i>(
         extracted: Vec::new(alloc),
         references: Vec::new(alloc),
         flags: Vec::new(alloc),
-        previous: Previous::none(),
+        previous: Previous {
+            context: None,
+            id: None,
+            plural: None,
+        },
     };
     let mut above = 0;
     loop {

@@ -1,20 +1,27 @@
-//! A catalogue from the items of a text.
+//! A catalogue from the items of a text. Before its texts are checked, an entry is a draft.
 
-ghost use Rattle.std.specs.Prelude.{◌≡◌, ◌≢◌, ◌<◌, ◌≤◌, ◌^◌, All, map, vec_len, IfOk, IfErr, OnOk};
+ghost use Rattle.std.specs.Prelude.{◌≡◌, ◌≢◌, ◌<◌, ◌≤◌, ◌^◌, [], List, All, length, map, vec_len, IfOk, IfErr, OnOk};
 ghost use Rattle.po_syntax.specs.ItemContents.{HoldsText};
 ghost use Rattle.po_syntax.specs.TextItem.{views};
 ghost use Rattle.po_entry.specs.EntryView.{entry_view};
 ghost use Rattle.po_entry.specs.Header.{HasAdmittedCharset};
+ghost use Rattle.po_entry.specs.TextEntry.{TextEntry};
 ghost use Rattle.po_entry.specs.Validity.{IsEntry, HasTexts, EntryTextFault};
 ghost use Rattle.po_entry.specs.Faults.{EntriesStop, CharsetFault, IsStop, ItemsStop};
-ghost use Rattle.po_reader.specs.Internal.Keeping.{KeepsItems};
 ghost use Rattle.po_entry.specs.Viable.{last_line};
+ghost use Rattle.po_reader.specs.KeptComments.{kept_entry};
+ghost use Rattle.po_reader.specs.Internal.Keeping.{KeepsItems};
+ghost use Rattle.po_reader.specs.Internal.Reads.{Reads, start, Fails};
 
-use crate::cursor::line_of;
-use crate::drafts::drafts_of;
+use crate::body::take_body;
+use crate::cursor::Cursor;
+use crate::head::take_head;
 use po_entry::{Catalogue, Entry, Fields, check_texts};
 use po_syntax::{Item, PoError, PoFault};
 use std::alloc::Global;
+
+/// How many items an entry has at least: two keywords and their strings.
+const LEAST_ITEMS: usize = 4;
 
 /// The entries that items spell, with their comments and references or without.
 pub(crate) fn read_items(
@@ -28,20 +35,29 @@ pub(crate) fn read_items(
     ensures fault { IfErr result (IsStop (ItemsStop (views items.entry.items))) }
     ensures memory { IfErr result (λ e. e.kind ≡ PoFault.OutOfMemory → e.line ≡ 0) }
 {
-    let drafts = drafts_of(alloc, &items, last_line(&items), with_comments)?;
+    let drafts = drafts_of(alloc, &items, with_comments)?;
     drop(items);
     check_drafts(&drafts)?;
     catalogue_of(alloc, drafts)
 }
 
-/// The line of the last item, and 0 where there is none.
-#[tactic(auto, using(crate::proofs::Loops::last_at, crate::proofs::Loops::some_length))]
-fn last_line(items: &[Item<'_>]) -> u32
-    ensures { result ≡ last_line (views items.now) }
+/// The drafts of the entries that the items spell, in order, with their comments and references or
+/// without.
+fn drafts_of(alloc: Global, items: &[Item<'_>], with_comments: bool) -> Result<Vec<Fields>, PoError>
+    requires { length items.now < 2 ^ 32 }
+    ensures found { IfOk result (λ drafts. (entries : List TextEntry)
+        × Reads (views items.now) entries
+        × (map entry_view drafts.items ≡ map (kept_entry with_comments) entries)) }
+    ensures fault { IfErr result (Fails (start []) (record { items = views items.now; end = last_line (views items.now) })) }
 {
-    match items.last() {
-        Some(item) => line_of(item),
-        None => 0,
+    let mut drafts = Vec::with_capacity(alloc, items.len() / LEAST_ITEMS)?;
+    let mut rest = Cursor::of(items);
+    loop {
+        let head = take_head(alloc, &mut rest, with_comments)?;
+        if rest.is_empty() {
+            return Ok(drafts);
+        }
+        drafts.push(take_body(alloc, &mut rest, head)?)?;
     }
 }
 

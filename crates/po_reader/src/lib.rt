@@ -5,23 +5,17 @@
 //! [`read`] reads a text piece by piece. A caller that keeps no catalogue takes the pieces one by
 //! one: [`next_catalogue`] and [`next_messages`].
 //!
-//! The modules in reading order: `cursor`, `strings`, `keywords`, `body`, `comment_texts`, `head`,
-//! `flags`, `drafts`, `items`, `piecewise`, `reading`, `laws`.
+//! The modules in reading order: `cursor`, `comment_texts`, `head`, `body`, `items`, `reading`,
+//! `laws`.
 
 #![tactic(auto)]
 
 mod body;
 mod comment_texts;
 mod cursor;
-mod drafts;
-mod flags;
 mod head;
 mod items;
-mod keywords;
 pub mod laws;
-mod piecewise;
 mod reading;
-mod strings;
 
-pub use crate::piecewise::{next_catalogue, next_messages};
-pub use crate::reading::{PIECE, read};
+pub use crate::reading::{PIECE, next_catalogue, next_messages, read};

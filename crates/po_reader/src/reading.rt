@@ -1,13 +1,81 @@
-//! A catalogue from a PO text.
+//! The entries of a text, a few at a time or all.
 
-ghost use Rattle.std.specs.Prelude.{◌≡◌, ◌≢◌, IfOk, IfErr};
+ghost use Rattle.std.specs.Prelude.{◌≡◌, ◌≢◌, IfOk, IfErr, OnOk};
 ghost use Rattle.po_entry.specs.ReadsText.{ReadsText};
 ghost use Rattle.po_entry.specs.Faults.{IsReadFault};
+ghost use Rattle.po_reader.specs.PieceRead.{ReadsOn, ReadsMessages, ReadsPiece, FaultsStay, IsLeftError, IsShorter};
+ghost use Rattle.po_reader.specs.Internal.Keeping.{KeepsReading};
 
-use crate::piecewise::next_catalogue;
+use crate::items::read_items;
 use po_entry::Catalogue;
+use po_syntax::laws::pieces_are_cut_off;
 use po_syntax::{Pieces, PoError, PoFault};
 use std::alloc::Global;
+
+/// The entries of the next piece: of at least this many bytes, or of all that is left. Where the
+/// lines that are left read as entries, they read as those of the piece and then those of the rest.
+///
+/// The first fault of a text may be on a line after the piece, as a line's fault comes before those
+/// of entries. So where a piece doesn't read, all that is left is read with it, and the fault is
+/// that of the whole.
+pub fn next_catalogue(
+    alloc: Global,
+    pieces: &mut Pieces<'_>,
+    size: usize,
+) -> Result<Catalogue, PoError>
+    ensures found { IfOk result (ReadsOn pieces.old pieces.new) }
+    ensures piece { OnOk result (ReadsPiece size pieces.old pieces.new) }
+    ensures faults { OnOk result (FaultsStay pieces.old pieces.new) }
+    ensures fewer { OnOk result (IsShorter pieces.old pieces.new) }
+    ensures fault { IfErr result (IsLeftError pieces.old) }
+{
+    next_entries(alloc, pieces, size, true)
+}
+
+/// The entries of the next piece, as `next_catalogue` reads them, but without their comments and
+/// references: for a caller that wants only their messages.
+pub fn next_messages(
+    alloc: Global,
+    pieces: &mut Pieces<'_>,
+    size: usize,
+) -> Result<Catalogue, PoError>
+    ensures found { IfOk result (ReadsMessages pieces.old pieces.new) }
+    ensures piece { OnOk result (ReadsPiece size pieces.old pieces.new) }
+    ensures faults { OnOk result (FaultsStay pieces.old pieces.new) }
+    ensures fewer { OnOk result (IsShorter pieces.old pieces.new) }
+    ensures fault { IfErr result (IsLeftError pieces.old) }
+{
+    next_entries(alloc, pieces, size, false)
+}
+
+/// The entries of the next piece, with their comments and references or without.
+fn next_entries(
+    alloc: Global,
+    pieces: &mut Pieces<'_>,
+    size: usize,
+    with_comments: bool,
+) -> Result<Catalogue, PoError>
+    ensures found { IfOk result (KeepsReading with_comments pieces.old pieces.new) }
+    ensures piece { OnOk result (ReadsPiece size pieces.old pieces.new) }
+    ensures faults { OnOk result (FaultsStay pieces.old pieces.new) }
+    ensures fewer { OnOk result (IsShorter pieces.old pieces.new) }
+    ensures fault { IfErr result (IsLeftError pieces.old) }
+{
+    let start = pieces.copy();
+    let items = pieces.next(alloc, size)?;
+    pieces_are_cut_off();
+    match read_items(alloc, items, with_comments) {
+        Ok(entries) => Ok(entries),
+        Err(error) => match error.kind {
+            PoFault::OutOfMemory => Err(error),
+            _ => {
+                *pieces = start;
+                let items = pieces.next(alloc, usize::MAX)?;
+                read_items(alloc, items, with_comments)
+            }
+        },
+    }
+}
 
 /// How many bytes of a text are read at a time, at least: few enough that the items and entries of
 /// a piece stay in a processor's cache.

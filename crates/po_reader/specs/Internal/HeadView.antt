@@ -1,7 +1,10 @@
--- What contracts see of a head while it is read.
+-- What contracts see of a head while it is read, and of the entry that is made of it.
 use Rattle.std.specs.Prelude.{◌≡◌, List}
 use Rattle.po_reader.specs.declared.head.Head.{Head}
-use Rattle.po_entry.specs.TextEntry.{slice_texts, texts}
+use Rattle.po_entry.specs.declared.fields.Fields.{Fields}
+use Rattle.po_entry.specs.EntryView.{entry_view}
+use Rattle.po_entry.specs.Spelling.{with_head}
+use Rattle.po_entry.specs.TextEntry.{TextEntry, slice_texts, texts}
 use Rattle.po_entry.specs.EntryParts.{CommentText, PreviousText}
 use Rattle.po_syntax.specs.declared.item.CommentKind.TheVariants.{Translator, Extracted}
 use Rattle.po_entry.specs.Comments.{texts_of, references_of, all_listed_flags, previous_of}
@@ -17,3 +20,9 @@ pub record HoldsComments (head : Head) (comment_texts : List CommentText) : Type
 pub record HoldsHead (head : Head) (comment_texts : List CommentText) (previous : List PreviousText) : Type 0 where
   pub head_comments : HoldsComments head comment_texts
   pub texts : head.previous ≡ previous_of previous
+
+-- the fields are those of the entry with this head and these own lines
+abbrev pub MakesEntry : Head → TextEntry → Fields → Type 0
+MakesEntry head own fields =
+    (comment_texts : List CommentText) (previous : List PreviousText) → HoldsHead head comment_texts previous
+    → entry_view fields ≡ with_head comment_texts previous own

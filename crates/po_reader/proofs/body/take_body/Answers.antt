@@ -1,17 +1,52 @@
-use Rattle.std.proofs.Common.{◌∙◌, refl}
-use Rattle.po_reader.specs.Internal.Stage.{with_own}
-use Rattle.po_reader.specs.Internal.ReaderView.{original_view}
+use Rattle.std.proofs.Common.{◌≡◌, [], fold, ap, refl, ◌∙◌}
+use Rattle.std.specs.List.{list_any}
+use Rattle.po_syntax.specs.declared.item.Keyword.TheVariants.{MsgId}
+use Rattle.po_entry.specs.Comments.{flags_of, fuzzy_of, is_fuzzy_flag, with_flag}
+use Rattle.po_entry.specs.TextEntry.{TextEntry, optional_text, slice_texts, texts}
+use Rattle.po_reader.specs.Internal.Stage.{with_own, with_context, with_text, no_lines}
+use Rattle.po_reader.specs.Internal.Turn.{with_keyword}
 use Rattle.po_reader.proofs.Results.{passed_on}
-use Rattle.po_reader.proofs.Turns.{fails_from}
+use Rattle.po_reader.proofs.SeenFlags.{list_any-slices}
+use Rattle.po_reader.proofs.Turns.{fails_from, id_wanted}
 use Rattle.po_reader.proofs.body.take_body.Goals as goal
 
-pub returns-in_err-translation-clause-fault : goal.returns-in_err-translation-clause-fault
-returns-in_err-translation-clause-fault c =
-    passed_on c.from_residual-in_err-translation.result _ c.from_residual-in_err-translation.ensures.1 (λ read above.
-    fails_from (c.in_ok-original.ensures.found read above)
-    (c.in_err-translation.ensures.fault (with_own read (original_view c.in_ok-original.original)) refl))
+pub returns-in_err-id-clause-fault : goal.returns-in_err-id-clause-fault
+returns-in_err-id-clause-fault c =
+    let first : TextEntry = with_context (no_lines c.in_ok-context.obsolete) (optional_text c.in_ok-context.context) in
+    passed_on c.from_residual-in_err-id.result _ c.from_residual-in_err-id.ensures.1 (λ read above.
+    fails_from (c.in_ok-context.ensures.found read above) (c.in_err-id.ensures.fault (with_own read first) refl))
+
+pub returns-in_err-plural-clause-fault : goal.returns-in_err-plural-clause-fault
+returns-in_err-plural-clause-fault c =
+    let first : TextEntry = with_context (no_lines c.in_ok-context.obsolete) (optional_text c.in_ok-context.context) in
+    let own = with_text MsgId c.in_ok-id.id.text.items (with_keyword MsgId c.in_ok-id.id.line first) in
+    passed_on c.from_residual-in_err-plural.result _ c.from_residual-in_err-plural.ensures.1 (λ read above.
+    fails_from (c.in_ok-context.ensures.found read above
+    ∙ rw (id_wanted c.in_ok-id.id.keyword c.in_ok-id.ensures.wanted) at
+    (c.in_ok-id.ensures.found (with_own read first) refl))
+    (c.in_err-plural.ensures.fault (with_own read own) refl))
 
 pub returns-clause-found : goal.returns-clause-found
-returns-clause-found c = λ read above.
-    c.in_ok-original.ensures.found read above
-    ∙ c.in_ok-translation.ensures.found (with_own read (original_view c.in_ok-original.original)) refl
+returns-clause-found c =
+    let first : TextEntry = with_context (no_lines c.in_ok-context.obsolete) (optional_text c.in_ok-context.context) in
+    let own = with_text MsgId c.in_ok-id.id.text.items (with_keyword MsgId c.in_ok-id.id.line first) in (
+      record own { plural = optional_text c.in_ok-plural.plural; forms = texts c.in_ok-plural.forms.items },
+      λ comment_texts previous h.
+          let fuzzy : c.has_fuzzy.result ≡ fuzzy_of comment_texts =
+          c.has_fuzzy.ensures ∙ list_any-slices is_fuzzy_flag c.deref.result.now
+          ∙ ap (list_any is_fuzzy_flag) (ap slice_texts c.deref.ensures.value ∙ h.head_comments.flags) in
+          let flags : texts c.in_ok-others.field-0.items ≡ flags_of comment_texts = c.in_ok-others.ensures
+          ∙ ap (fold with_flag []) (ap slice_texts c.deref-2.ensures.value ∙ h.head_comments.flags) in
+          rw (
+            h.head_comments.comments,
+            h.head_comments.extracted,
+            h.head_comments.references,
+            fuzzy,
+            flags,
+            h.texts,
+          ) refl,
+      λ read above. c.in_ok-context.ensures.found read above
+          ∙ rw (id_wanted c.in_ok-id.id.keyword c.in_ok-id.ensures.wanted) at
+          (c.in_ok-id.ensures.found (with_own read first) refl)
+          ∙ c.in_ok-plural.ensures.found (with_own read own) refl,
+    )

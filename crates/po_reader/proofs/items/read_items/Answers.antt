@@ -17,8 +17,7 @@ use Rattle.po_reader.proofs.items.read_items.Goals as goal
 
 pub returns-in_err-drafts-clause-fault : goal.returns-in_err-drafts-clause-fault
 returns-in_err-drafts-clause-fault c =
-    let stops = rw (c.last_line.ensures, c.deref.ensures.value, c.deref-2.ensures.value) at
-    c.in_err-drafts.ensures.fault in
+    let stops = rw c.deref.ensures.value at c.in_err-drafts.ensures.fault in
     passed_on c.from_residual.result _ c.from_residual.ensures.1
     (λ other. in_items (items_fault [] _ _ _ (stops.fault other)))
 
@@ -29,7 +28,7 @@ returns-in_err-drafts-clause-memory c =
 pub returns-in_err-check_drafts-clause-fault : goal.returns-in_err-check_drafts-clause-fault
 returns-in_err-check_drafts-clause-fault c =
     let spelt = rw c.deref.ensures.value at c.in_ok-drafts.ensures.found in
-    let stops = rw c.deref-3.ensures.value at c.in_err-check_drafts.ensures.fault in
+    let stops = rw c.deref-2.ensures.value at c.in_err-check_drafts.ensures.fault in
     let kept = subst (λ (es : List TextEntry).
     EntriesStop HasTexts EntryTextFault es c.in_err-check_drafts.field-0.0.kind
     c.in_err-check_drafts.field-0.0.line) spelt.2 stops in
@@ -48,13 +47,13 @@ catalogue_of-requires c =
     let spelt = rw c.deref.ensures.value at c.in_ok-drafts.ensures.found in
     let sound = subst (All SoundEntry) (sym spelt.2)
     (kept_sound c.args.with_comments spelt.0 (entries_sound (whole_spelt _ _ _ spelt.1) c.requires.hold)) in
-    let asked = rw c.deref-3.ensures.value at c.in_ok-check_drafts.ensures.ok in
+    let asked = rw c.deref-2.ensures.value at c.in_ok-check_drafts.ensures.ok in
     drafts_valid _ sound asked
 
 pub returns-clause-found : goal.returns-clause-found
 returns-clause-found c =
     let spelt = rw c.deref.ensures.value at c.in_ok-drafts.ensures.found in
-    let asked = rw c.deref-3.ensures.value at c.in_ok-check_drafts.ensures.ok in
+    let asked = rw c.deref-2.ensures.value at c.in_ok-check_drafts.ensures.ok in
     let texts = kept_texts c.args.with_comments spelt.0
     (subst (All HasTexts) spelt.2 (All-map HasTexts entry_view c.in_ok-drafts.drafts.items asked)) in
     let admitted = ok_step c.catalogue_of.result
@@ -69,7 +68,7 @@ returns-clause-found c =
 pub returns-clause-fault : goal.returns-clause-fault
 returns-clause-fault c =
     let spelt = rw c.deref.ensures.value at c.in_ok-drafts.ensures.found in
-    let asked = rw c.deref-3.ensures.value at c.in_ok-check_drafts.ensures.ok in
+    let asked = rw c.deref-2.ensures.value at c.in_ok-check_drafts.ensures.ok in
     let texts = kept_texts c.args.with_comments spelt.0
     (subst (All HasTexts) spelt.2 (All-map HasTexts entry_view c.in_ok-drafts.drafts.items asked)) in
     err_step c.catalogue_of.result (λ e h other.

@@ -3,7 +3,7 @@ use Rattle.std.specs.Prelude.{fold}
 use Rattle.po_entry.specs.TextEntry.{slice_texts, texts}
 use Rattle.po_entry.specs.Comments.{with_flag}
 use Rattle.po_entry.specs.Internal.SeenTexts.{HoldsTexts}
-use Rattle.po_reader.proofs.flags.others.Given as goal
+use Rattle.po_reader.proofs.comment_texts.others.Given as goal
 
 -- the flags among the elements so far are kept, and the tree has them
 abbrev pub invariant-loop-flag : goal.invariant-loop-flag

@@ -3,7 +3,7 @@ use Rattle.po_syntax.specs.declared.item.Keyword.{Keyword}
 use Rattle.po_reader.specs.Internal.Stage.{SoFar, In}
 use Rattle.po_reader.specs.Internal.Turn.{begins_string}
 use Rattle.po_reader.specs.Internal.Reads.{comes}
-use Rattle.po_reader.proofs.strings.take_strings.Given as goal
+use Rattle.po_reader.proofs.cursor.take_strings.Given as goal
 
 abbrev pub invariant-loop-bytes : goal.invariant-loop-bytes
 invariant-loop-bytes l = record {

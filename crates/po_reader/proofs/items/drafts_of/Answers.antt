@@ -4,11 +4,10 @@ use Rattle.po_entry.specs.TextEntry.{TextEntry}
 use Rattle.po_entry.specs.Spelling.{with_head}
 use Rattle.po_reader.specs.KeptComments.{kept_comments, kept_entry}
 use Rattle.po_reader.specs.Internal.Stage.{after_head}
-use Rattle.po_reader.specs.Internal.ReaderView.{body_view}
 use Rattle.po_reader.proofs.Results.{passed_on}
 use Rattle.po_reader.proofs.Heads.{kept_from}
 use Rattle.po_reader.proofs.Turns.{fails_from, head_over, own_lines_begin}
-use Rattle.po_reader.proofs.drafts.drafts_of.Goals as goal
+use Rattle.po_reader.proofs.items.drafts_of.Goals as goal
 
 pub returns-in_err-head-clause-fault : goal.returns-in_err-head-clause-fault
 returns-in_err-head-clause-fault c =
@@ -32,27 +31,27 @@ take_body-requires-clause-begins c =
     let head = c.in_ok-head.ensures.found in
     own_lines_begin head.2 _ head.5 (rw c.if-is_empty.false at c.is_empty.ensures)
 
-pub returns-in_err-body-clause-fault : goal.returns-in_err-body-clause-fault
-returns-in_err-body-clause-fault c =
+pub returns-in_err-take_body-clause-fault : goal.returns-in_err-take_body-clause-fault
+returns-in_err-take_body-clause-fault c =
     let reads = c.loop-drafts.invariant.reads in
     let head = c.in_ok-head.ensures.found in
-    passed_on c.from_residual-in_err-body.result _ c.from_residual-in_err-body.ensures.1
-    (fails_from (reads.1 ∙ head.4 reads.0) (c.in_err-body.ensures.fault (after_head reads.0 head.0 head.1) head.2))
+    passed_on c.from_residual-in_err-take_body.result _ c.from_residual-in_err-take_body.ensures.1
+    (fails_from (reads.1 ∙ head.4 reads.0) (c.in_err-take_body.ensures.fault (after_head reads.0 head.0 head.1) head.2))
 
 pub loop-drafts-preserved : goal.loop-drafts-preserved
 loop-drafts-preserved c =
     let reads = c.loop-drafts.invariant.reads in
     let head = c.in_ok-head.ensures.found in
-    let body = body_view c.in_ok-body.body in
-    let made = c.in_ok-fields_of.ensures (kept_comments c.args.with_comments head.0) head.1 head.3
-    ∙ kept_from c.args.with_comments head.0 head.1 body in
-    let first : TextEntry = with_head head.0 head.1 body in
+    let body = c.in_ok-take_body.ensures.found in
+    let made = body.1 (kept_comments c.args.with_comments head.0) head.1 head.3
+    ∙ kept_from c.args.with_comments head.0 head.1 body.0 in
+    let first : TextEntry = with_head head.0 head.1 body.0 in
     record {
       reads = (
         reads.0 ++ first ∷ [],
-        reads.1 ∙ head.4 reads.0 ∙ c.in_ok-body.ensures.found (after_head reads.0 head.0 head.1) head.2,
+        reads.1 ∙ head.4 reads.0 ∙ body.2 (after_head reads.0 head.0 head.1) head.2,
         rw (c.in_ok-push.ensures.items, map_push, map_push, made)
             (ap (λ es. es ++ kept_entry c.args.with_comments first ∷ []) reads.2),
       );
-      fewer = omega (arith, c.in_ok-head.ensures.fewer, c.in_ok-body.ensures.fewer, c.loop-drafts.invariant.fewer);
+      fewer = omega (arith, c.in_ok-head.ensures.fewer, c.in_ok-take_body.ensures.fewer, c.loop-drafts.invariant.fewer);
     }

@@ -12,7 +12,7 @@ use Rattle.po_entry.specs.Comments.{is_fuzzy_flag}
 use Rattle.po_entry.specs.Internal.SeenTexts.{HoldsTexts}
 use Rattle.po_entry.proofs.SeenTexts.{one_text_more}
 use Rattle.po_reader.proofs.SeenFlags.{flags_more}
-use Rattle.po_reader.proofs.flags.others.Goals as goal
+use Rattle.po_reader.proofs.comment_texts.others.Goals as goal
 
 pub loop-flag-init : goal.loop-flag-init
 loop-flag-init c = record {

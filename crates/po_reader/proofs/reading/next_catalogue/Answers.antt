@@ -2,7 +2,7 @@ use Rattle.std.proofs.Common.{subst, sym, ◌∙◌}
 use Rattle.po_reader.specs.PieceRead.{ReadsOn}
 use Rattle.po_reader.proofs.Heads.{all_kept}
 use Rattle.po_reader.proofs.Results.{ok_step}
-use Rattle.po_reader.proofs.piecewise.next_catalogue.Goals as goal
+use Rattle.po_reader.proofs.reading.next_catalogue.Goals as goal
 
 pub returns-clause-found : goal.returns-clause-found
 returns-clause-found c =
