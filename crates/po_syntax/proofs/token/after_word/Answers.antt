@@ -1,10 +1,10 @@
-use Rattle.std.proofs.Common.{◌≡◌, ℕ, true, false, List, [], ◌∷◌, ◌++◌, length, take, drop, All, Some, None, sym, ap, subst, ◌∙◌}
+use Rattle.std.proofs.Common.{◌≡◌, ℕ, true, false, List, [], ◌∷◌, ◌++◌, length, take, drop, Some, None, sym, ap, subst, ◌∙◌}
 use Rattle.std.specs.Prelude.{bytes_eq, slice_get}
 use Rattle.std.specs.List.{list_all, prefix_len}
-use Rattle.std.proofs.lemmas.Bool.{and_parts, false_from_ne_true}
+use Rattle.std.proofs.lemmas.Bool.{false_from_ne_true}
 use Rattle.std.proofs.lemmas.List.{take-append-drop}
-use Rattle.std.proofs.lemmas.List.Elements.{All-cons, All-nil}
 use Rattle.std.proofs.lemmas.List.Folds.{length-prefix_len}
+use Rattle.std.proofs.lemmas.List.Sums.{AllPass-from_list_all}
 use Rattle.std.proofs.lemmas.Slice.Eq.{bytes_eq-Decides}
 use Rattle.po_syntax.specs.Blanks.{FailsFirst}
 use Rattle.po_syntax.specs.Facts.Runs.{parts_of, run_length}
@@ -12,11 +12,6 @@ use Rattle.po_syntax.specs.Internal.Token.{after_first_word, first_word}
 use Rattle.po_syntax.specs.Spelling.{is_word_byte}
 use Rattle.po_syntax.proofs.token.after_word.Goals as goal
 use Rattle.po_syntax.proofs.token.after_word.Goals.{in_default-via-in-Some+else-is_word_byte, in_default-via-in_default}
-
-all_pass : (word : List ℕ) → list_all is_word_byte word ≡ true → All (λ b. is_word_byte b ≡ true) word
-all_pass [] e = All-nil (λ b. is_word_byte b ≡ true)
-all_pass (b ∷ word) e =
-    let both = and_parts _ _ e in All-cons (λ c. is_word_byte c ≡ true) b word both.0 (all_pass word both.1)
 
 -- the word ends where a byte of no word follows it
 ends : (word text : List ℕ) → list_all is_word_byte word ≡ true → take (length word) text ≡ word
@@ -27,7 +22,7 @@ ends word text all front last =
     let whole : word ++ rest ≡ text =
     subst (λ (w : List ℕ). w ++ rest ≡ text) front (take-append-drop (length word) text) in
     let count : prefix_len is_word_byte text ≡ length word = subst (λ t. prefix_len is_word_byte t ≡ length word) whole
-    (run_length is_word_byte word rest (all_pass word all) last) in
+    (run_length is_word_byte word rest (AllPass-from_list_all is_word_byte word all) last) in
     (ap (λ n. take n text) count ∙ front, ap (λ n. drop n text) (sym count))
 
 -- and goes on where a byte of a word does
@@ -42,14 +37,13 @@ goes_on word text (c ∷ more) b e first is = false_from_ne_true _ (λ same.
     (subst (λ n. FailsFirst is_word_byte (drop n text)) count (parts_of is_word_byte text).ends) in
     absurd (cc (first, last, is)))
 
-fails_first : (rest : List ℕ) (b : ℕ) → Some b ≡ slice_get rest 0 → is_word_byte b ≡ false
-    → FailsFirst is_word_byte rest
-fails_first [] b first is = tt
-fails_first (c ∷ more) b first is = cc
+no_word : (rest : List ℕ) (b : ℕ) → Some b ≡ slice_get rest 0 → is_word_byte b ≡ false → FailsFirst is_word_byte rest
+no_word [] b first is = tt
+no_word (c ∷ more) b first is = cc
 
-fails_none : (rest : List ℕ) → None ≡ slice_get rest 0 → FailsFirst is_word_byte rest
-fails_none [] none = tt
-fails_none (c ∷ more) none = cc
+no_byte : (rest : List ℕ) → None ≡ slice_get rest 0 → FailsFirst is_word_byte rest
+no_byte [] none = tt
+no_byte (c ∷ more) none = cc
 
 pub returns-in-Some : goal.returns-in-Some
 returns-in-Some c =
@@ -63,9 +57,9 @@ returns-in_default c =
     let rest = c.in_ok-rest.rest.now in
     let last : FailsFirst is_word_byte rest = elim c.in_default.branch [
       | in_default-via-in-Some+else-is_word_byte w ↦
-          fails_first rest w.in-Some.byte.now w.in-Some.ensures.value
+          no_word rest w.in-Some.byte.now w.in-Some.ensures.value
           (sym w.is_word_byte.ensures ∙ w.if-is_word_byte.false)
-      | in_default-via-in_default w ↦ fails_none rest w.in_default.ensures.value
+      | in_default-via-in_default w ↦ no_byte rest w.in_default.ensures.value
     ] in
     let word = ends c.args.word.now c.args.text.now c.requires ((bytes_eq-Decides _ c.args.word.now).0 cut.0)
     (subst (FailsFirst is_word_byte) cut.1 last) in
