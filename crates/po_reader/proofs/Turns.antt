@@ -100,6 +100,11 @@ pub fails_from : {earlier later : Outcome} {error : PoError} → earlier ≡ lat
     → IsFaultOf (λ fault line. earlier ≡ Fault fault line) error
 fails_from same fails = record { fault = λ other. same ∙ fails.fault other; memory = fails.memory }
 
+pub out_of_order : {earlier later : Outcome} {error : PoError} (at : ℕ) → earlier ≡ later
+    → error ≡ record { kind = BadOrder; line = at } → later ≡ Fault BadOrder at
+    → IsFaultOf (λ fault line. earlier ≡ Fault fault line) error
+out_of_order at same is fails = rw is (record { fault = λ other. same ∙ fails; memory = λ memory. absurd cc })
+
 pub form_follows : (end : ℕ) (read : SoFar) (index : ℕ) (rest : List TextItem) → begins_form rest ≡ true
     → comes_to end (Between (AfterForm read index)) rest ≡ comes_to end (Between (Before read (Form index))) rest
 form_follows end read index [] e = cc

@@ -1,12 +1,12 @@
-use Rattle.std.proofs.Common.{refl, ap, ◌++◌, ◌∷◌, [], ◌∙◌, arith}
+use Rattle.std.proofs.Common.{refl, sym, ap, ◌++◌, ◌∷◌, [], ◌∙◌, false, arith}
+use Rattle.std.proofs.lemmas.Bool.{le-ltb, lt-ltb}
 use Rattle.po_entry.specs.EntryParts.{CommentText, PreviousText}
-use Rattle.po_reader.specs.Internal.Stage.{after_head, Between}
+use Rattle.po_reader.specs.Internal.Stage.{after_head, Between, In, InHead}
 use Rattle.po_reader.specs.Internal.Reads.{comes}
 use Rattle.po_reader.specs.KeptComments.{kept_comments}
 use Rattle.po_reader.proofs.Results.{passed_on}
-use Rattle.po_reader.proofs.Heads.{holds_nothing, holds_previous}
-use Rattle.po_reader.proofs.Heads.{kept_nothing}
-use Rattle.po_reader.proofs.Turns.{fails_from, previous_closed}
+use Rattle.po_reader.proofs.Heads.{holds_nothing, holds_previous, kept_nothing}
+use Rattle.po_reader.proofs.Turns.{fails_from, first_refused, out_of_order, previous_closed, taken}
 use Rattle.po_reader.proofs.head.take_head.Goals as goal
 
 pub loop-kind-init : goal.loop-kind-init
@@ -22,85 +22,91 @@ loop-kind-init c = record {
   fewer = omega arith;
 }
 
-pub returns-in-Err-clause-fault : goal.returns-in-Err-clause-fault
-returns-in-Err-clause-fault c = λ entries.
-    let reads = c.loop-kind.invariant.reads in
-    fails_from (reads.3 entries)
-    (rw c.refusal.ensures (record {
-      fault = λ other. c.in-Err.ensures.fault (after_head entries reads.0 reads.1);
-      memory =
-          λ memory. absurd (c.in-Err.ensures.other memory);
-    }))
-
-pub returns-in-Ok-Over-clause-found : goal.returns-in-Ok-Over-clause-found
-returns-in-Ok-Over-clause-found c =
-    let reads = c.loop-kind.invariant.reads in
-    let step = rw c.in-Ok-Over.field-0-is at c.in-Ok-Over.ensures.found in
-    let over = rw c.in-Ok-Over.field-0-is at c.in-Ok-Over.ensures.over in (
-      reads.0,
-      reads.1,
-      c.loop-kind.above,
-      reads.2,
-      λ entries. reads.3 entries
-          ∙ step (after_head entries reads.0 reads.1),
-      over refl,
-    )
-
 pub loop-kind-preserved-in-Continue-1 : goal.loop-kind-preserved-in-Continue-1
 loop-kind-preserved-in-Continue-1 c =
     let reads = c.loop-kind.invariant.reads in
-    let step = rw c.in-Ok-HeadComment.field-0-is at c.in-Ok-HeadComment.ensures.found in
-    let fewer = rw c.in-Ok-HeadComment.field-0-is at c.in-Ok-HeadComment.ensures.fewer in
-    let comment_text : CommentText = record { kind = c.in-Ok-HeadComment.kind; text = c.in-Ok-HeadComment.text.now } in
+    let first = rw c.in-Some-Comment.field-0-is at c.in-Some-Comment.ensures in
+    let text : CommentText = record { kind = c.in-Some-Comment.kind; text = c.in-Some-Comment.text.now } in
     record {
       reads = (
-        reads.0 ++ comment_text ∷ [],
+        reads.0 ++ text ∷ [],
         reads.1,
         record {
-          head_comments =
-              c.in_ok-add_comment-in-Ok-HeadComment.ensures.comment_texts reads.0 reads.2.head_comments;
-          texts =
-              c.in_ok-add_comment-in-Ok-HeadComment.ensures.previous ∙ reads.2.texts;
+          head_comments = c.in_ok-add_comment-in-Some-Comment.ensures.comment_texts reads.0 reads.2.head_comments;
+          texts = c.in_ok-add_comment-in-Some-Comment.ensures.previous ∙ reads.2.texts;
         },
-        λ entries. reads.3 entries ∙ step (after_head entries reads.0 reads.1),
+        λ entries. rw c.advance.ensures.rest (reads.3 entries
+            ∙ taken _ _ _ _ first (Between (InHead (after_head entries reads.0 reads.1) c.loop-kind.above)) _ refl),
       );
-      fewer = omega (arith, fewer (λ e. cc), c.loop-kind.invariant.fewer);
+      fewer = omega (arith, c.advance.ensures.fewer, c.loop-kind.invariant.fewer);
     }
 
-pub returns-in_err-text-in-Ok-Previous-clause-fault : goal.returns-in_err-text-in-Ok-Previous-clause-fault
-returns-in_err-text-in-Ok-Previous-clause-fault c =
+pub returns-then-not-marks-clause-fault : goal.returns-then-not-marks-clause-fault
+returns-then-not-marks-clause-fault c = λ entries.
     let reads = c.loop-kind.invariant.reads in
-    let step = rw c.in-Ok-Previous.field-0-is at c.in-Ok-Previous.ensures.found in
-    passed_on c.from_residual-in_err-text-in-Ok-Previous.result _ c.from_residual-in_err-text-in-Ok-Previous.ensures.1
+    let first = rw c.in-Some-Word.field-0-is at c.in-Some-Word.ensures in
+    out_of_order _ (reads.3 entries) c.refusal.ensures (first_refused _ _ _ _ _ first
+    (Between (InHead (after_head entries reads.0 reads.1) c.loop-kind.above))
+    (rw (c.if-not-marks.true, sym c.begins_body.ensures ∙ c.if-begins_body.false) refl))
+
+pub returns-then-rank-above-clause-fault : goal.returns-then-rank-above-clause-fault
+returns-then-rank-above-clause-fault c = λ entries.
+    let reads = c.loop-kind.invariant.reads in
+    let first = rw c.in-Some-Word.field-0-is at c.in-Some-Word.ensures in
+    let low = rw c.rank.ensures at c.if-rank-above.true in
+    out_of_order _ (reads.3 entries) c.refusal-then-rank-above.ensures (first_refused _ _ _ _ _ first
+    (Between (InHead (after_head entries reads.0 reads.1) c.loop-kind.above))
+    (rw (c.if-not-marks.false, le-ltb _ _ low) refl))
+
+pub returns-in_err-text-in-Some-Word-clause-fault : goal.returns-in_err-text-in-Some-Word-clause-fault
+returns-in_err-text-in-Some-Word-clause-fault c =
+    let reads = c.loop-kind.invariant.reads in
+    let first = rw c.in-Some-Word.field-0-is at c.in-Some-Word.ensures in
+    let above = rw c.rank.ensures at c.if-rank-above.false in
+    passed_on c.from_residual-in_err-text-in-Some-Word.result _ c.from_residual-in_err-text-in-Some-Word.ensures.1
     (λ entries.
-    fails_from (reads.3 entries ∙ step (after_head entries reads.0 reads.1))
-    (c.in_err-text-in-Ok-Previous.ensures.fault (after_head entries reads.0 reads.1) c.in-Ok-Previous.keyword))
+    let read = after_head entries reads.0 reads.1 in
+    fails_from (reads.3 entries ∙ taken _ _ _ _ first (Between (InHead read c.loop-kind.above))
+    (In read c.in-Some-Word.keyword c.in-Some-Word.marks false [])
+    (rw (c.if-not-marks.false, lt-ltb _ _ above) refl))
+    (rw c.advance-in-Some-Word.ensures.rest at
+    (c.in_err-text-in-Some-Word.ensures.fault read c.in-Some-Word.keyword)))
 
 pub loop-kind-preserved : goal.loop-kind-preserved
 loop-kind-preserved c =
     let reads = c.loop-kind.invariant.reads in
-    let step = rw c.in-Ok-Previous.field-0-is at c.in-Ok-Previous.ensures.found in
-    let own = rw c.in-Ok-Previous.field-0-is at c.in-Ok-Previous.ensures.previous in
+    let first = rw c.in-Some-Word.field-0-is at c.in-Some-Word.ensures in
+    let above = rw c.rank.ensures at c.if-rank-above.false in
     let text : PreviousText =
-    record { keyword = c.in-Ok-Previous.keyword; text = c.in_ok-text-in-Ok-Previous.text.items } in
+    record { keyword = c.in-Some-Word.keyword; text = c.in_ok-text-in-Some-Word.text.items } in
     record {
       reads = (
         reads.0,
         reads.1 ++ text ∷ [],
         holds_previous c.loop-kind.head c.set_previous.new.previous
             (kept_comments c.args.with_comments reads.0) reads.1 text reads.2 c.set_previous.ensures,
-        λ entries. rw c.rank-above.ensures
-            (reads.3 entries ∙ step (after_head entries reads.0 reads.1)
-            ∙ c.in_ok-text-in-Ok-Previous.ensures.found
-            (after_head entries reads.0 reads.1) c.in-Ok-Previous.keyword
+        λ entries. let read = after_head entries reads.0 reads.1 in
+            rw c.rank-above.ensures
+            (reads.3 entries ∙ taken _ _ _ _ first (Between (InHead read c.loop-kind.above))
+            (In read c.in-Some-Word.keyword c.in-Some-Word.marks false [])
+            (rw (c.if-not-marks.false, lt-ltb _ _ above) refl)
+            ∙ rw c.advance-in-Some-Word.ensures.rest at
+            (c.in_ok-text-in-Some-Word.ensures.found read c.in-Some-Word.keyword)
             ∙ ap (λ gap. comes (Between gap) c.take_strings.new.rest)
-            (previous_closed (after_head entries reads.0 reads.1) c.in-Ok-Previous.keyword c.in-Ok-Previous.marks
-            c.in_ok-text-in-Ok-Previous.text.items own.1)),
+            (previous_closed read c.in-Some-Word.keyword c.in-Some-Word.marks
+            c.in_ok-text-in-Some-Word.text.items c.if-not-marks.false)),
       );
       fewer = omega (
         arith,
-        c.in_ok-text-in-Ok-Previous.ensures.fewer,
-        (rw c.in-Ok-Previous.field-0-is at c.in-Ok-Previous.ensures.fewer) (λ e. cc),
+        c.in_ok-text-in-Some-Word.ensures.fewer,
+        c.advance-in-Some-Word.ensures.fewer,
         c.loop-kind.invariant.fewer,
       );
     }
+
+pub returns-in-Some-Str-clause-fault : goal.returns-in-Some-Str-clause-fault
+returns-in-Some-Str-clause-fault c = λ entries.
+    let reads = c.loop-kind.invariant.reads in
+    let first = rw c.in-Some-Str.field-0-is at c.in-Some-Str.ensures in
+    out_of_order _ (reads.3 entries) c.refusal-in-Some-Str.ensures (first_refused _ _ _ _ _ first
+    (Between (InHead (after_head entries reads.0 reads.1) c.loop-kind.above)) refl)
