@@ -37,11 +37,11 @@ written_run (suc n) [] raw within = absurd (omega arith)
 written_run (suc n) (b ∷ text) raw within =
     rw (written_raw b (raw 0 (omega arith)), written_run n text (λ k less. raw (suc k) (omega arith)) (omega arith))
 
-pub written_prefix : (text : List ℕ)
-    → written_bytes (take (prefix_len is_raw text) text) ≡ take (prefix_len is_raw text) text
-written_prefix text =
-    written_run (prefix_len is_raw text) text (λ k less. prefix_len_passes is_raw text k 0 less)
-    (prefix_len-le-length is_raw text)
+pub written_prefix : (text : List ℕ) (n : ℕ) → n ≡ prefix_len is_raw text
+    → written_bytes (take n text) ≡ take n text
+written_prefix text n e =
+    written_run n text (λ k less. prefix_len_passes is_raw text k 0 (omega (arith, e, less)))
+    (omega (arith, e, prefix_len-le-length is_raw text))
 
 -- bytes that are all written as they are, and further ones
 pub raw_append : (xs ys : List ℕ) → prefix_len is_raw xs ≡ length xs

@@ -1,12 +1,10 @@
 -- The first fault of a line, with a case for each place that can have one: this project's own, as the
 -- manual names no faults (FORMATS.md, "Which fault is reported").
-use Rattle.std.specs.Prelude.{◌≡◌, ◌≢◌, ◌⊎◌, ℕ, ◌^◌, ◌<◌, ◌≤◌, false, ◌||◌, ◌==◌, List, [], ◌∷◌, ◌++◌, length, All}
-use Rattle.std.specs.Prelude.{IsTrue, None, codes}
+use Rattle.std.specs.Prelude.{◌≡◌, ◌≢◌, ◌⊎◌, ℕ, ◌^◌, ◌<◌, ◌≤◌, false, ◌||◌, ◌==◌, List, [], ◌∷◌, ◌++◌, length, All, IsTrue, None, codes}
 use Rattle.std.specs.Char.{is_digit}
 use Rattle.std.specs.Str.Parse.{IsNumeral, digits_value}
 use Rattle.po_syntax.specs.declared.fault.PoFault.{PoFault}
-use Rattle.po_syntax.specs.declared.fault.PoFault.TheVariants.{UnterminatedString, BadEscape, ForbiddenByte, BadToken}
-use Rattle.po_syntax.specs.declared.fault.PoFault.TheVariants.{BadPluralIndex}
+use Rattle.po_syntax.specs.declared.fault.PoFault.TheVariants.{UnterminatedString, BadEscape, ForbiddenByte, BadToken, BadPluralIndex}
 use Rattle.po_syntax.specs.declared.item.Keyword.{Keyword}
 use Rattle.po_syntax.specs.Blanks.{is_blank, IsBlank, FailsFirst}
 use Rattle.po_syntax.specs.Escapes.{NoDigitFirst, letter_value, SpellsEscape, SpellsString}

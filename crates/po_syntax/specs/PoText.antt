@@ -1,7 +1,6 @@
 -- The items of a PO text (manual, "The Format of PO Files"), and its first fault: this project's own,
 -- as the manual names no faults (FORMATS.md, "Which fault is reported").
-use Rattle.std.specs.Prelude.{◌≡◌, ◌≢◌, ℕ, ◌+◌, ◌^◌, ◌<◌, ◌≤◌, ◌⊎◌, ◌==◌, List, [], ◌∷◌, ◌++◌, take, drop, length}
-use Rattle.std.specs.Prelude.{if◌then◌else◌, IsUtf8, nat_eq, position, count_by, Some, All}
+use Rattle.std.specs.Prelude.{◌≡◌, ◌≢◌, ℕ, ◌+◌, ◌^◌, ◌<◌, ◌≤◌, ◌⊎◌, ◌==◌, List, [], ◌∷◌, ◌++◌, take, drop, length, if◌then◌else◌, IsUtf8, nat_eq, position, count_by, Some, All}
 use Rattle.std.specs.List.{slice_split, starts_with}
 use Rattle.std.specs.Str.Lossy.{utf8_valid_len}
 use Rattle.po_syntax.specs.declared.fault.PoFault.{PoFault}

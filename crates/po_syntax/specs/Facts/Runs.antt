@@ -1,12 +1,10 @@
 -- The runs at the start and at the end of a list, of the elements that pass a test. Lemmas over any
 -- test, which no clause can say.
-use Rattle.std.proofs.Common.{◌≡◌, ◌∙◌, refl, sym, ap, subst, ℕ, ◌+◌, ◌-◌, ◌≤◌, Bool, true, false, cond, List, []}
-use Rattle.std.proofs.Common.{◌∷◌, ◌++◌, append_assoc, append-nil, take, drop, length, reverse, All, arith}
+use Rattle.std.proofs.Common.{◌≡◌, ◌∙◌, refl, sym, ap, subst, ℕ, ◌+◌, ◌-◌, ◌≤◌, Bool, true, false, cond, List, [], ◌∷◌, ◌++◌, append_assoc, append-nil, take, drop, length, reverse, All, arith}
 use Rattle.std.specs.List.{prefix_len, suffix_len}
 use Rattle.std.proofs.Math.Numerals.{one-add}
 use Rattle.std.proofs.lemmas.Bool.{cond_both, cond-true, cond-false}
-use Rattle.std.proofs.lemmas.List.{take-append-drop, take-append-le, take_all, length-append, reverse-append}
-use Rattle.std.proofs.lemmas.List.{reverse-reverse, same_from_push}
+use Rattle.std.proofs.lemmas.List.{take-append-drop, take-append-le, take_all, length-append, reverse-append, reverse-reverse, same_from_push}
 use Rattle.std.proofs.lemmas.List.Sums.{suffix_len-le-length}
 use Rattle.std.proofs.lemmas.List.Elements.{All-nil, All-cons, All-head, All-tail, All-append}
 use Rattle.po_syntax.specs.Blanks.{FailsFirst, without_end}

@@ -1,7 +1,6 @@
 -- The tokens of a line: keywords, with the index of a plural form, and opening quotes
 -- (manual, "The Format of PO Files").
-use Rattle.std.specs.Prelude.{ℕ, ◌^◌, ◌==◌, nat_lt, if◌then◌else◌, List, [], ◌∷◌, take, drop, codes}
-use Rattle.std.specs.Prelude.{bytes_eq}
+use Rattle.std.specs.Prelude.{ℕ, ◌^◌, ◌==◌, nat_lt, if◌then◌else◌, List, [], ◌∷◌, take, drop, codes, bytes_eq}
 use Rattle.std.specs.List.{prefix_len}
 use Rattle.std.specs.Str.Parse.{digits_value}
 use Rattle.po_syntax.specs.declared.fault.PoFault.{PoFault}
