@@ -5,7 +5,7 @@ use Rattle.po_entry.specs.TextEntry.{no_previous, TextPrevious, TextEntry}
 use Rattle.po_entry.specs.EntryParts.{CommentText, PreviousText}
 use Rattle.po_entry.specs.Comments.{with_previous, same_kind, texts_of}
 use Rattle.po_reader.specs.declared.head.Head.{Head}
-use Rattle.po_reader.specs.Internal.HeadView.{HoldsHead}
+use Rattle.po_reader.specs.Internal.ReaderView.{HoldsHead}
 use Rattle.std.specs.Prelude.{All}
 use Rattle.std.proofs.lemmas.List.Elements.{All-nil, All-cons, All-head, All-tail, filter_passes}
 use Rattle.po_entry.specs.Facts.Filters.{all_pass, none_pass}

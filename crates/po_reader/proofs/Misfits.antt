@@ -16,9 +16,8 @@ use Rattle.po_entry.specs.Spelling.{own_marks, previous_marks}
 use Rattle.po_entry.specs.Viable.{IsViable, IsOwn, IsWrongIndex, IsMixed, with_obsolete, Misfit, index, mixed, order}
 use Rattle.po_reader.specs.Internal.Stage.{SoFar, Wanted, Id, Translation, Form, Gap, InHead, Before, AfterForm, Stage, Between, In, Stop, no_lines, with_entry}
 use Rattle.po_reader.specs.Internal.Turn.{turn, turn_gap, turn_head, turn_own, opened, closed, same_marks, stray_string, is_form, is_wanted, is_wrong_form, begins_body}
-use Rattle.po_reader.proofs.Turns.{marked}
+use Rattle.po_reader.proofs.Turns.{marked, goes_on}
 use Rattle.po_reader.proofs.SpeltRuns.{string_step}
-use Rattle.po_reader.proofs.Turns.{goes_on}
 
 module _ (prefix : List TextItem) where
   -- the item is refused with this fault, on its own line

@@ -16,8 +16,7 @@ use Rattle.po_entry.specs.Spelling as spell
 use Rattle.po_entry.specs.Spelling.{own_marks, previous_marks, with_head}
 use Rattle.po_reader.specs.Internal.Stage.{SoFar, Wanted, Id, Translation, Form, Gap, InHead, Before, AfterForm, Stage, Between, In, Stop, Entries, Fault, no_lines, only, with_own, with_text, with_entry}
 use Rattle.po_reader.specs.Internal.Turn.{turn, turn_head, turn_own, turn_gap, opened, closed, with_keyword, comes_to, same_marks, is_form, is_wanted, unwanted, stray_string}
-use Rattle.po_reader.proofs.Turns.{never}
-use Rattle.po_reader.proofs.Turns.{same_marks_true}
+use Rattle.po_reader.proofs.Turns.{never, same_marks_true}
 use Rattle.po_reader.proofs.PreviousOrder.{Rise, keywords, rise_order}
 
 -- these own items, where that is wanted, make this body of what was read of it

@@ -15,8 +15,7 @@ use Rattle.po_reader.specs.Internal.Turn.{turn, closed, comes_to, begins_string,
 use Rattle.po_reader.specs.Internal.Reads.{start}
 use Rattle.po_syntax.specs.Piece.{EndsInString}
 use Rattle.po_entry.proofs.JoinedPieces.{ends_rest, no_comment_last}
-use Rattle.po_reader.proofs.Turns.{text_ends, forms_end, form_follows}
-use Rattle.po_reader.proofs.Turns.{same_marks-refl}
+use Rattle.po_reader.proofs.Turns.{text_ends, forms_end, form_follows, same_marks-refl}
 use Rattle.po_reader.proofs.PreviousOrder.{Rise, keywords, order_rises}
 
 -- neither a string nor a plural form stands first

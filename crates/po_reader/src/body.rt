@@ -4,13 +4,11 @@ ghost use Rattle.std.specs.Prelude.{◌≡◌, ◌≢◌, ◌<◌, ◌≤◌, �
 ghost use Rattle.po_syntax.specs.TextItem.{Word};
 ghost use Rattle.po_entry.specs.TextEntry.{TextEntry, texts, optional_text};
 ghost use Rattle.po_entry.specs.Spelling.{own_marks};
-ghost use Rattle.po_reader.specs.Internal.HeadView.{MakesEntry};
-ghost use Rattle.po_reader.specs.Internal.Stage.{SoFar, Between, Before, InHead, Stop, no_lines, with_own, with_entry};
-ghost use Rattle.po_reader.specs.Internal.Stage.{with_context, with_forms, with_translation};
+ghost use Rattle.po_reader.specs.Internal.ReaderView.{MakesEntry, wanted_view};
+ghost use Rattle.po_reader.specs.Internal.Stage.{SoFar, Between, Before, InHead, Stop, no_lines, with_own, with_entry, with_context, with_forms, with_translation};
 ghost use Rattle.po_reader.specs.Internal.Stage as stage;
 ghost use Rattle.po_reader.specs.Internal.Turn.{and_text, begins_form, begins_own, is_wanted, opened, turn_own};
 ghost use Rattle.po_reader.specs.Internal.Reads.{comes, Fails};
-ghost use Rattle.po_reader.specs.Internal.ReaderView.{wanted_view};
 
 use crate::comment_texts::{has_fuzzy, others};
 use crate::cursor::{Cursor, take_strings};

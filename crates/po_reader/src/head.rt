@@ -8,7 +8,7 @@ ghost use Rattle.po_reader.specs.KeptComments.{kept_comments};
 ghost use Rattle.po_reader.specs.Internal.Stage.{Between, InHead, after_head};
 ghost use Rattle.po_reader.specs.Internal.Turn.{begins_body, EndsHead};
 ghost use Rattle.po_reader.specs.Internal.Reads.{comes, start, Fails};
-ghost use Rattle.po_reader.specs.Internal.HeadView.{HoldsHead, HoldsComments};
+ghost use Rattle.po_reader.specs.Internal.ReaderView.{HoldsHead, HoldsComments};
 
 use crate::comment_texts::{add_flags, add_references};
 use crate::cursor::{Cursor, take_strings};

@@ -1,6 +1,5 @@
 -- The reader's step from one item to the next, and what items come to.
-use Rattle.std.specs.Prelude.{◌≡◌, ℕ, ◌+◌, ◌==◌, nat_lt, Bool, true, false, not, ◌&&◌, ◌||◌, List, [], ◌∷◌, ◌++◌, fold}
-use Rattle.std.specs.Prelude.{if◌then◌else◌}
+use Rattle.std.specs.Prelude.{◌≡◌, ℕ, ◌+◌, ◌==◌, nat_lt, Bool, true, false, not, ◌&&◌, ◌||◌, List, [], ◌∷◌, ◌++◌, fold, if◌then◌else◌}
 use Rattle.std.specs.Bool.{beq}
 use Rattle.po_syntax.specs.declared.fault.PoFault.{PoFault}
 use Rattle.po_syntax.specs.declared.fault.PoFault.TheVariants.{BadOrder, BadPluralIndex, MixedObsolete}
@@ -11,9 +10,7 @@ use Rattle.po_syntax.specs.TextItem.{TextItem, Comment, Word, Str, line_of}
 use Rattle.po_entry.specs.TextEntry.{TextEntry}
 use Rattle.po_entry.specs.EntryParts.{rank}
 use Rattle.po_entry.specs.Spelling.{own_marks}
-use Rattle.po_reader.specs.Internal.Stage.{SoFar, Wanted, Id, Translation, Form, Gap, InHead, Before, AfterForm}
-use Rattle.po_reader.specs.Internal.Stage.{Stage, Between, In, Stop, Outcome, Entries, Fault}
-use Rattle.po_reader.specs.Internal.Stage.{no_lines, with_entry, with_own, with_comment, with_previous_text, with_text}
+use Rattle.po_reader.specs.Internal.Stage.{SoFar, Wanted, Id, Translation, Form, Gap, InHead, Before, AfterForm, Stage, Between, In, Stop, Outcome, Entries, Fault, no_lines, with_entry, with_own, with_comment, with_previous_text, with_text}
 
 abbrev pub same_marks : Marks → Marks → Bool
 same_marks a b = beq a.obsolete b.obsolete && beq a.previous b.previous

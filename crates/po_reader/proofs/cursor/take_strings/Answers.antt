@@ -2,18 +2,14 @@ use Rattle.std.proofs.Common.{◌≡◌, ◌++◌, true, false, rules, sym, ap, 
 use Rattle.po_reader.specs.Internal.Stage.{Fault, In}
 use Rattle.po_reader.specs.Internal.Turn.{begins_string}
 use Rattle.po_reader.specs.Internal.Reads.{line_at}
-use Rattle.po_reader.proofs.Turns.{fails_from, first_refused, no_string, taken, text_ends}
+use Rattle.po_reader.proofs.Turns.{fails_from, first_refused, no_string, out_of_order, taken, text_ends}
 use Rattle.po_reader.proofs.cursor.take_strings.Goals as goal
 
 pub returns-in_default-clause-fault : goal.returns-in_default-clause-fault
 returns-in_default-clause-fault c = λ read keyword.
     let reads = c.loop-bytes.invariant.reads in
-    fails_from (reads.2 read keyword)
-    (rw c.refusal.ensures (record {
-      fault = λ other. no_string _ _ c.in_default.ensures read keyword c.args.marks reads.0 c.loop-bytes.text.items
-          reads.1;
-      memory = λ memory. absurd cc;
-    }))
+    out_of_order _ (reads.2 read keyword) c.refusal.ensures
+    (no_string _ _ c.in_default.ensures read keyword c.args.marks reads.0 c.loop-bytes.text.items reads.1)
 
 pub returns-then-not-same_marks-clause-fault : goal.returns-then-not-same_marks-clause-fault
 returns-then-not-same_marks-clause-fault c = λ read keyword.

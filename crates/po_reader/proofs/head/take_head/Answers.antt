@@ -53,10 +53,9 @@ pub returns-then-rank-above-clause-fault : goal.returns-then-rank-above-clause-f
 returns-then-rank-above-clause-fault c = λ entries.
     let reads = c.loop-kind.invariant.reads in
     let first = rw c.in-Some-Word.field-0-is at c.in-Some-Word.ensures in
-    let low = rw c.rank.ensures at c.if-rank-above.true in
     out_of_order _ (reads.3 entries) c.refusal-then-rank-above.ensures (first_refused _ _ _ _ _ first
     (Between (InHead (after_head entries reads.0 reads.1) c.loop-kind.above))
-    (rw (c.if-not-marks.false, le-ltb _ _ low) refl))
+    (rw (c.if-not-marks.false, le-ltb _ _ (rw c.rank.ensures at c.if-rank-above.true)) refl))
 
 pub returns-in_err-text-in-Some-Word-clause-fault : goal.returns-in_err-text-in-Some-Word-clause-fault
 returns-in_err-text-in-Some-Word-clause-fault c =

@@ -1,7 +1,7 @@
 use Rattle.std.proofs.Common.{◌≡◌, List, ◌≤◌, length}
 use Rattle.po_entry.specs.EntryParts.{CommentText, PreviousText}
 use Rattle.po_entry.specs.TextEntry.{TextEntry}
-use Rattle.po_reader.specs.Internal.HeadView.{HoldsHead}
+use Rattle.po_reader.specs.Internal.ReaderView.{HoldsHead}
 use Rattle.po_reader.specs.Internal.Stage.{Between, InHead, after_head}
 use Rattle.po_reader.specs.Internal.Reads.{comes, start}
 use Rattle.po_reader.specs.KeptComments.{kept_comments}

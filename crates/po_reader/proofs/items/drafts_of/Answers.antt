@@ -11,9 +11,8 @@ use Rattle.po_reader.proofs.items.drafts_of.Goals as goal
 
 pub returns-in_err-head-clause-fault : goal.returns-in_err-head-clause-fault
 returns-in_err-head-clause-fault c =
-    let reads = c.loop-drafts.invariant.reads in
     passed_on c.from_residual-in_err-head.result _ c.from_residual-in_err-head.ensures.1
-    (fails_from reads.1 (c.in_err-head.ensures.fault reads.0))
+    (fails_from c.loop-drafts.invariant.reads.1 (c.in_err-head.ensures.fault c.loop-drafts.invariant.reads.0))
 
 pub returns-then-is_empty-clause-found : goal.returns-then-is_empty-clause-found
 returns-then-is_empty-clause-found c =

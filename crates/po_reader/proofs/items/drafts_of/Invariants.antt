@@ -1,4 +1,4 @@
-use Rattle.std.proofs.Common.{◌≡◌, [], List, ◌≤◌, length, map}
+use Rattle.std.proofs.Common.{◌≡◌, List, ◌≤◌, length, map}
 use Rattle.po_syntax.specs.TextItem.{views}
 use Rattle.po_entry.specs.TextEntry.{TextEntry}
 use Rattle.po_entry.specs.EntryView.{entry_view}

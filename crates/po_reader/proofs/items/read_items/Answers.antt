@@ -9,8 +9,7 @@ use Rattle.po_reader.proofs.RunsSpelt.{whole_spelt}
 use Rattle.po_reader.proofs.Faults.{items_fault}
 use Rattle.po_entry.specs.Faults.{EntriesStop, CharsetFault}
 use Rattle.po_entry.specs.Faults.ItemsStop.{in_items, in_texts, in_charset}
-use Rattle.po_reader.proofs.SoundCatalogue.{kept_sound, kept_texts, kept_admitted, kept_stop, texts_one, admitted_one, whole_fault, whole_foreign}
-use Rattle.po_reader.proofs.SoundCatalogue.{SoundEntry, entries_sound, drafts_valid}
+use Rattle.po_reader.proofs.SoundCatalogue.{kept_sound, kept_texts, kept_admitted, kept_stop, texts_one, admitted_one, whole_fault, whole_foreign, SoundEntry, entries_sound, drafts_valid}
 use Rattle.po_reader.proofs.Texts.{texts_reported}
 use Rattle.po_reader.proofs.Results.{ok_both, ok_step, err_step, passed_on}
 use Rattle.po_reader.proofs.items.read_items.Goals as goal

@@ -8,11 +8,7 @@ use Rattle.po_reader.proofs.reading.next_entries.Goals as goal
 pub returns-in_err-items-clause-fault : goal.returns-in_err-items-clause-fault
 returns-in_err-items-clause-fault c =
     passed_on c.from_residual.result _ c.from_residual.ensures.1
-    (record {
-      fault = λ other. in_lines (c.in_err-items.ensures.fault other);
-      memory =
-          c.in_err-items.ensures.memory;
-    })
+    (record { fault = λ other. in_lines (c.in_err-items.ensures.fault other); memory = c.in_err-items.ensures.memory })
 
 pub returns-in-Ok-clause-found : goal.returns-in-Ok-clause-found
 returns-in-Ok-clause-found c =
@@ -40,8 +36,7 @@ returns-in_err-items-in_default-clause-fault c =
     passed_on c.from_residual-in_err-items-in_default.result _ c.from_residual-in_err-items-in_default.ensures.1
     (record {
       fault = λ other. in_lines (rw c.copy-start.ensures at (c.in_err-items-in_default.ensures.fault other));
-      memory =
-          c.in_err-items-in_default.ensures.memory;
+      memory = c.in_err-items-in_default.ensures.memory;
     })
 
 pub returns-in_ok-items-in_default-clause-found : goal.returns-in_ok-items-in_default-clause-found
