@@ -83,8 +83,8 @@ fn set_previous(previous: &mut Previous, keyword: Keyword, text: Vec<u8>)
     }
 }
 
-/// Takes what stands before an entry's own lines, all of it or without comments other than flags: up
-/// to them, or to the end of the items.
+/// Takes what stands before an entry's own lines, or up to the end of the items: all of it, or
+/// without comments other than flags.
 pub(crate) fn take_head<'i>(
     alloc: Global,
     rest: &mut Cursor<'i, '_>,

@@ -48,7 +48,8 @@ fn drafts_of(alloc: Global, items: &[Item<'_>], with_comments: bool) -> Result<V
     ensures found { IfOk result (λ drafts. (entries : List TextEntry)
         × Reads (views items.now) entries
         × (map entry_view drafts.items ≡ map (kept_entry with_comments) entries)) }
-    ensures fault { IfErr result (Fails (start []) (record { items = views items.now; end = last_line (views items.now) })) }
+    ensures fault { IfErr result (Fails (start [])
+        (record { items = views items.now; end = last_line (views items.now) })) }
 {
     let mut drafts = Vec::with_capacity(alloc, items.len() / LEAST_ITEMS)?;
     let mut rest = Cursor::of(items);

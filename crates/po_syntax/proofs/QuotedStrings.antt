@@ -55,3 +55,5 @@ stops_at_end (b ∷ text) e = absurd (omega arith)
 
 pub escape_is : (text : List ℕ) {step : Step} → escape_at text ≡ step → EscapeSays text step
 escape_is text e = subst (EscapeSays text) e (escape_says text)
+
+pub ruleset plain_parts = (plain_before, spelt_plain, stops_plain)

@@ -7,7 +7,7 @@ use Rattle.std.proofs.lemmas.Bool.{cond-true, cond-false, eqb-false, lt-ltb, le-
 use Rattle.std.proofs.lemmas.Grind.{get_or_default_zero}
 use Rattle.std.proofs.lemmas.List.{drop-drop}
 use Rattle.memchr.specs.Find.{IsFirstByte, is_byte}
-use Rattle.po_syntax.specs.PoText.{lines_of}
+use Rattle.po_syntax.specs.PoText.{lines_of, too_large, not_utf8, nul}
 
 -- the index found, or the length where none is
 pub found_or_len : (test : ℕ → Bool) (text : List ℕ) (found : Option ℕ) → IsFirstByte test text found
@@ -44,3 +44,5 @@ line_cut text index h =
     let first : position_or_len (is_byte 10) text ≡ index = found_or_len (is_byte 10) text (Some index) h in
     let inside : index < length text = omega (arith, h.0.high) in
     rw drop-drop (rw first at (slice_split_first (is_byte 10) text 0 (rw first inside)))
+
+pub ruleset text_faults = (none_found, position_found, too_large, not_utf8, nul)

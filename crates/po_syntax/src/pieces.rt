@@ -108,11 +108,12 @@ fn ends_translation(items: &[Item<'_>]) -> bool
     count < items.len() && is_translation_word(&items[count - 1])
 }
 
-/// Whether an entry ends before the item of this index: after a translation, and before an item with
-/// which no entry goes on after its last string.
+/// Whether an entry ends before the item of this index: after a translation, and before an item
+/// with which no entry goes on after its last string.
 fn ends_entry(items: &[Item<'_>], index: usize) -> bool
     requires { index ≤ length items.now }
-    ensures { IsTrue result ↔ (EndsTranslation (take index (views items.now)) × BeginsAnew (drop index (views items.now))) }
+    ensures { IsTrue result ↔ (EndsTranslation (take index (views items.now))
+        × BeginsAnew (drop index (views items.now))) }
 {
     let (before, after) = items.split_at(index);
     match after.first() {
@@ -131,7 +132,7 @@ impl<'a> Pieces<'a> {
     /// The whole text, of which nothing is read yet. Refused with `TooLarge`, without a line, above
     /// 2,147,483,647 bytes; with `NotUtf8` at the first byte that is not; with `ForbiddenByte` at
     /// the first NUL.
-    #[tactic(auto, using(crate::proofs::Searches::none_found, crate::proofs::Searches::position_found, crate::specs::PoText::too_large, crate::specs::PoText::not_utf8, crate::specs::PoText::nul))]
+    #[tactic(auto, using(crate::proofs::Searches::text_faults))]
     pub fn of(text: &'a [u8]) -> Result<Pieces<'a>, PoError>
         ensures found { IfOk result (λ left. (items : List TextItem) → SpellsLeft left items
             → SpellsText text.now items) }

@@ -12,7 +12,7 @@ use std::alloc::Global;
 use std::borrow::CowSlice;
 
 /// Splits off the bytes that stand for themselves, up to the first quote or backslash.
-#[tactic(auto, using(crate::proofs::QuotedStrings::plain_before, crate::proofs::QuotedStrings::spelt_plain, crate::proofs::QuotedStrings::stops_plain))]
+#[tactic(auto, using(crate::proofs::QuotedStrings::plain_parts))]
 fn split_plain(text: &[u8]) -> (&[u8], &[u8])
     ensures spelt { (bytes end : List ℕ)
         → SpellsString result.1.now bytes end → SpellsString text.now (result.0.now ++ bytes) end }

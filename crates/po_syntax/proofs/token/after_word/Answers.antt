@@ -14,16 +14,16 @@ use Rattle.po_syntax.proofs.token.after_word.Goals as goal
 use Rattle.po_syntax.proofs.token.after_word.Goals.{in_default-via-in-Some+else-is_word_byte, in_default-via-in_default}
 
 -- the word ends where a byte of no word follows it
-ends : (word text : List ℕ) → list_all is_word_byte word ≡ true → take (length word) text ≡ word
-    → FailsFirst is_word_byte (drop (length word) text)
-    → (first_word text ≡ word) × (drop (length word) text ≡ after_first_word text)
-ends word text all front last =
-    let rest = drop (length word) text in
-    let whole : word ++ rest ≡ text =
-    subst (λ (w : List ℕ). w ++ rest ≡ text) front (take-append-drop (length word) text) in
+ends : (word text rest : List ℕ) → list_all is_word_byte word ≡ true → bytes_eq (take (length word) text) word ≡ true
+    → rest ≡ drop (length word) text → FailsFirst is_word_byte rest
+    → (first_word text ≡ word) × (rest ≡ after_first_word text)
+ends word text rest all same cut last =
+    let front : take (length word) text ≡ word = (bytes_eq-Decides (take (length word) text) word).0 same in
+    let whole : word ++ rest ≡ text = rw cut
+    (subst (λ (w : List ℕ). w ++ drop (length word) text ≡ text) front (take-append-drop (length word) text)) in
     let count : prefix_len is_word_byte text ≡ length word = subst (λ t. prefix_len is_word_byte t ≡ length word) whole
     (run_length is_word_byte word rest (AllPass-from_list_all is_word_byte word all) last) in
-    (ap (λ n. take n text) count ∙ front, ap (λ n. drop n text) (sym count))
+    (ap (λ n. take n text) count ∙ front, cut ∙ ap (λ n. drop n text) (sym count))
 
 -- and goes on where a byte of a word does
 goes_on : (word text rest : List ℕ) (b : ℕ) → rest ≡ drop (length word) text → Some b ≡ slice_get rest 0
@@ -54,13 +54,9 @@ returns-in-Some c =
 pub returns-in_default : goal.returns-in_default
 returns-in_default c =
     let cut = c.in_ok-rest.ensures.cases in
-    let rest = c.in_ok-rest.rest.now in
-    let last : FailsFirst is_word_byte rest = elim c.in_default.branch [
+    ends c.args.word.now c.args.text.now c.in_ok-rest.rest.now c.requires cut.0 cut.1 (elim c.in_default.branch [
       | in_default-via-in-Some+else-is_word_byte w ↦
-          no_word rest w.in-Some.byte.now w.in-Some.ensures.value
+          no_word c.in_ok-rest.rest.now w.in-Some.byte.now w.in-Some.ensures.value
           (sym w.is_word_byte.ensures ∙ w.if-is_word_byte.false)
-      | in_default-via-in_default w ↦ no_byte rest w.in_default.ensures.value
-    ] in
-    let word = ends c.args.word.now c.args.text.now c.requires ((bytes_eq-Decides _ c.args.word.now).0 cut.0)
-    (subst (FailsFirst is_word_byte) cut.1 last) in
-    (word.0, cut.1 ∙ word.1)
+      | in_default-via-in_default w ↦ no_byte c.in_ok-rest.rest.now w.in_default.ensures.value
+    ])
