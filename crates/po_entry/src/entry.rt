@@ -162,6 +162,15 @@ impl Entry {
         Ok(Entry { fields })
     }
 
+    /// The fields of the entry, to read more than one of them.
+    pub fn fields(&self) -> &Fields
+        ensures fields { entry_view result.now ≡ self.now }
+        ensures valid { IsEntry (entry_view result.now) }
+    {
+        let Self { fields } = self;
+        fields
+    }
+
     /// The translator's comments, each without its `#`.
     pub fn comments(&self) -> &[Vec<u8>]
         ensures { texts result.now ≡ self.now.comments }
