@@ -4,7 +4,8 @@ ghost use Rattle.std.specs.Prelude.{◌≡◌, ◌==◌, ◌++◌, ◌∷◌, �
 ghost use Rattle.std.specs.List.{join_with_byte, list_any};
 ghost use Rattle.mo_file.specs.Key.{query_key};
 ghost use Rattle.po_entry.specs.ReadsText.{ReadsText};
-ghost use Rattle.po_entry.specs.TextEntry.{TextEntry, texts};
+ghost use Rattle.po_entry.specs.EntryView.{entry_view};
+ghost use Rattle.po_entry.specs.TextEntry.{TextEntry, optional_text, texts};
 ghost use Rattle.po_reader.specs.Internal.Keeping.{IsTextError};
 ghost use Rattle.po_compile.specs.CompiledMessages.{plural_part, translation_of};
 ghost use Rattle.po_compile.specs.Collected.{live_messages, status_of};
@@ -12,7 +13,7 @@ ghost use Rattle.po_compile.specs.Internal.Cutting.{message_bytes, lengths_of};
 ghost use Rattle.po_compile.specs.Internal.Rows.{has_no_key};
 ghost use Rattle.po_compile.specs.declared.collecting.Lengths.{Lengths as LengthsSeen};
 
-use po_entry::Entry;
+use po_entry::{Entry, Fields};
 use po_messages::has_translation;
 use po_reader::{PIECE, next_messages};
 use po_syntax::{Pieces, PoError};
@@ -97,21 +98,22 @@ fn count_headers(lengths: &[Lengths]) -> usize
 }
 
 /// Appends the key of an entry.
-fn add_key(bytes: &mut Vec<u8>, entry: &Entry) -> Result<(), AllocError>
-    ensures { OnOk result (bytes.new.items ≡ bytes.old.items ++ query_key entry.now.context entry.now.id) }
+fn add_key(bytes: &mut Vec<u8>, fields: &Fields) -> Result<(), AllocError>
+    ensures { OnOk result (bytes.new.items
+        ≡ bytes.old.items ++ query_key (optional_text fields.now.context) fields.now.id.items) }
 {
-    if let Some(context) = entry.context() {
+    if let Some(context) = &fields.context {
         bytes.extend_from_slice(context)?;
         bytes.push(4)?;
     }
-    bytes.extend_from_slice(entry.id())
+    bytes.extend_from_slice(&fields.id)
 }
 
 /// Appends a NUL and the plural of an entry, where it has one.
-fn add_plural(bytes: &mut Vec<u8>, entry: &Entry) -> Result<(), AllocError>
-    ensures { OnOk result (bytes.new.items ≡ bytes.old.items ++ plural_part entry.now.plural) }
+fn add_plural(bytes: &mut Vec<u8>, fields: &Fields) -> Result<(), AllocError>
+    ensures { OnOk result (bytes.new.items ≡ bytes.old.items ++ plural_part (optional_text fields.now.plural)) }
 {
-    if let Some(plural) = entry.plural() {
+    if let Some(plural) = &fields.plural {
         bytes.push(0)?;
         bytes.extend_from_slice(plural)?;
     }
@@ -119,10 +121,10 @@ fn add_plural(bytes: &mut Vec<u8>, entry: &Entry) -> Result<(), AllocError>
 }
 
 /// Appends the forms of an entry with a NUL between them.
-fn add_forms(bytes: &mut Vec<u8>, entry: &Entry) -> Result<(), AllocError>
-    ensures { OnOk result (bytes.new.items ≡ bytes.old.items ++ translation_of entry.now) }
+fn add_forms(bytes: &mut Vec<u8>, fields: &Fields) -> Result<(), AllocError>
+    ensures { OnOk result (bytes.new.items ≡ bytes.old.items ++ translation_of (entry_view fields.now)) }
 {
-    let Some((first, rest)) = entry.forms().split_first() else {
+    let Some((first, rest)) = fields.forms.split_first() else {
         return Ok(());
     };
     bytes.extend_from_slice(first)?;
@@ -146,18 +148,19 @@ fn add_message(bytes: &mut Vec<u8>, entry: &Entry, use_fuzzy: bool) -> Result<Le
     ensures bytes { OnOk result (bytes.new.items ≡ bytes.old.items ++ message_bytes entry.now) }
     ensures lengths { IfOk result (λ lengths. lengths ≡ lengths_of use_fuzzy entry.now) }
 {
+    let fields = entry.fields();
     let start = bytes.len();
-    add_key(bytes, entry)?;
+    add_key(bytes, fields)?;
     let key = bytes.len() - start;
-    add_plural(bytes, entry)?;
+    add_plural(bytes, fields)?;
     let original = bytes.len() - start;
-    add_forms(bytes, entry)?;
+    add_forms(bytes, fields)?;
     let translation = bytes.len() - start - original;
     Ok(Lengths {
         key,
         original,
         translation,
-        line: entry.line(),
+        line: fields.line,
         status: status_of(entry, use_fuzzy),
     })
 }
@@ -168,14 +171,15 @@ fn add_message(bytes: &mut Vec<u8>, entry: &Entry, use_fuzzy: bool) -> Result<Le
 fn status_of(entry: &Entry, use_fuzzy: bool) -> Status
     ensures { result ≡ status_of use_fuzzy entry.now }
 {
-    let is_counted = !entry.obsolete() && !entry.is_header();
+    let fields = entry.fields();
+    let is_counted = !fields.obsolete && !entry.is_header();
     let has_translation = has_translation(entry);
     Status {
-        compiled: !entry.obsolete()
+        compiled: !fields.obsolete
             && has_translation
-            && (use_fuzzy || !entry.fuzzy() || entry.is_header()),
-        translated: is_counted && has_translation && !entry.fuzzy(),
-        fuzzy: is_counted && has_translation && entry.fuzzy(),
+            && (use_fuzzy || !fields.fuzzy || entry.is_header()),
+        translated: is_counted && has_translation && !fields.fuzzy,
+        fuzzy: is_counted && has_translation && fields.fuzzy,
         untranslated: is_counted && !has_translation,
     }
 }
@@ -193,7 +197,7 @@ pub(crate) fn with_entries(
         mut lengths,
     } = collected;
     for entry in entries {
-        if !entry.obsolete() {
+        if !entry.fields().obsolete {
             lengths.push(add_message(&mut bytes, entry, use_fuzzy)?)?;
         }
     }
