@@ -2,11 +2,12 @@
 
 ghost use Rattle.std.specs.Prelude.{◌≡◌, ◌++◌, OnOk, codes, option_copied};
 ghost use Rattle.std.specs.List.{flat_map};
+ghost use Rattle.po_entry.specs.EntryView.{entry_view};
 ghost use Rattle.po_entry.specs.TextEntry.{texts};
 ghost use Rattle.po_writer.specs.WrittenText as written;
 
 use crate::keyword_lines::{push_form, push_keyword, push_optional};
-use po_entry::{Entry, Previous};
+use po_entry::{Entry, Fields, Previous};
 use std::alloc::AllocError;
 
 /// Appends a line for each comment, after the mark of its kind.
@@ -132,12 +133,13 @@ fn push_translation(
 }
 
 /// Appends an entry's own lines.
-fn push_own(out: &mut Vec<u8>, prefix: &[u8], entry: &Entry) -> Result<(), AllocError>
-    ensures appended { OnOk result (out.new.items ≡ out.old.items ++ written.own_lines prefix.now entry.now) }
+fn push_own(out: &mut Vec<u8>, prefix: &[u8], fields: &Fields) -> Result<(), AllocError>
+    ensures appended { OnOk result (out.new.items
+        ≡ out.old.items ++ written.own_lines prefix.now (entry_view fields.now)) }
 {
-    push_optional(out, prefix, b"msgctxt", entry.context())?;
-    push_keyword(out, prefix, b"msgid", entry.id())?;
-    push_translation(out, prefix, entry.plural(), entry.forms())
+    push_optional(out, prefix, b"msgctxt", fields.context.as_deref())?;
+    push_keyword(out, prefix, b"msgid", &fields.id)?;
+    push_translation(out, prefix, fields.plural.as_deref(), &fields.forms)
 }
 
 /// What a line of a previous text begins with.
@@ -158,10 +160,11 @@ fn own_prefix(obsolete: bool) -> &'static [u8]
 pub(crate) fn push_entry(out: &mut Vec<u8>, entry: &Entry) -> Result<(), AllocError>
     ensures appended { OnOk result (out.new.items ≡ out.old.items ++ written.entry_lines entry.now) }
 {
-    push_comments(out, b"#", entry.comments())?;
-    push_comments(out, b"#.", entry.extracted())?;
-    push_elements(out, b"#: ", b" ", entry.references())?;
-    push_flags(out, entry.fuzzy(), entry.flags())?;
-    push_previous(out, previous_prefix(entry.obsolete()), entry.previous())?;
-    push_own(out, own_prefix(entry.obsolete()), entry)
+    let fields = entry.fields();
+    push_comments(out, b"#", &fields.comments)?;
+    push_comments(out, b"#.", &fields.extracted)?;
+    push_elements(out, b"#: ", b" ", &fields.references)?;
+    push_flags(out, fields.fuzzy, &fields.flags)?;
+    push_previous(out, previous_prefix(fields.obsolete), &fields.previous)?;
+    push_own(out, own_prefix(fields.obsolete), fields)
 }

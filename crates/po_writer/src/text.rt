@@ -41,7 +41,7 @@ pub(crate) fn push_entries(
         ≡ fold with_entry out.old.items (entries_marked obsolete entries.now)) }
 {
     for entry in entries {
-        if entry.obsolete() == obsolete {
+        if entry.fields().obsolete == obsolete {
             push_separated(out, entry)?;
         }
     }
