@@ -74,25 +74,13 @@ impl Catalogue {
         ensures fault { IfErr result (λ p. IsRefusedEntry entry p.1) }
     {
         if !has_admitted_charset(&entry) {
-            let line = entry.line();
-            return Err((
-                entry,
-                PoError {
-                    kind: PoFault::ForeignCharset,
-                    line,
-                },
-            ));
+            let (kind, line) = (PoFault::ForeignCharset, entry.line());
+            return Err((entry, PoError { kind, line }));
         }
         entry.invariant();
         match self.entries.push(entry) {
             Ok(()) => Ok(()),
-            Err(failed) => Err((
-                failed.value,
-                PoError {
-                    kind: PoFault::OutOfMemory,
-                    line: 0,
-                },
-            )),
+            Err(failed) => Err((failed.value, AllocError.into())),
         }
     }
 

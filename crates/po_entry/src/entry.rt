@@ -3,13 +3,11 @@
 ghost use Rattle.std.specs.Prelude.{◌≡◌, ◌<◌, IfOk, IfErr, IsOkUnless, None, map, [], false, length, option_copied};
 ghost use Rattle.po_entry.specs.TextEntry.{texts, no_previous};
 ghost use Rattle.po_entry.specs.EntryView.{entry_view, borrowed_entry};
+ghost use Rattle.po_entry.specs.Equality.{texts_eq, optional_eq};
 ghost use Rattle.po_entry.specs.Header.{is_header};
 ghost use Rattle.po_entry.specs.Validity.{IsEntry, RefusesMessage, out_of_memory};
 
-use crate::copies::{copy_optional, copy_slices, empty_texts};
-use crate::equality::{same_body, same_comments, same_previous};
-use crate::fields::Fields;
-use crate::previous::Previous;
+use crate::fields::{Fields, Previous, copy_optional, copy_slices, copy_texts, empty_texts};
 use crate::texts::check_texts;
 use po_syntax::PoError;
 use std::alloc::Global;
@@ -158,7 +156,21 @@ impl Entry {
         ensures copy { IfOk result (λ e. e ≡ self.now) }
         ensures memory { IsOkUnless result out_of_memory }
     {
-        let fields = self.fields.copy(alloc)?;
+        let fields = &self.fields;
+        let fields = Fields {
+            comments: copy_texts(alloc, &fields.comments)?,
+            extracted: copy_texts(alloc, &fields.extracted)?,
+            references: copy_texts(alloc, &fields.references)?,
+            fuzzy: fields.fuzzy,
+            flags: copy_texts(alloc, &fields.flags)?,
+            previous: fields.previous.copy(alloc)?,
+            context: copy_optional(alloc, fields.context.as_deref())?,
+            id: fields.id.as_slice().to_vec(alloc)?,
+            plural: copy_optional(alloc, fields.plural.as_deref())?,
+            forms: copy_texts(alloc, &fields.forms)?,
+            obsolete: fields.obsolete,
+            line: fields.line,
+        };
         Ok(Entry { fields })
     }
 
@@ -288,7 +300,7 @@ impl Entry {
     pub fn clear_previous(&mut self)
         ensures { self.new ≡ record self.old { previous = no_previous } }
     {
-        self.fields.previous.clear();
+        self.fields.previous = Previous::none();
     }
 
     /// Makes each form empty, and keeps how many there are.
@@ -310,8 +322,37 @@ impl PartialEq for Entry {
 
     /// Whether the entries are the same in all fields but the line.
     fn eq(&self, other: &Entry) -> bool {
-        same_comments(&self.fields, &other.fields)
-            && same_previous(&self.fields.previous, &other.fields.previous)
-            && same_body(&self.fields, &other.fields)
+        let (a, b) = (&self.fields, &other.fields);
+        same_texts(&a.comments, &b.comments)
+            && same_texts(&a.extracted, &b.extracted)
+            && same_texts(&a.references, &b.references)
+            && a.fuzzy == b.fuzzy
+            && same_texts(&a.flags, &b.flags)
+            && same_optional(a.previous.context.as_deref(), b.previous.context.as_deref())
+            && same_optional(a.previous.id.as_deref(), b.previous.id.as_deref())
+            && same_optional(a.previous.plural.as_deref(), b.previous.plural.as_deref())
+            && same_optional(a.context.as_deref(), b.context.as_deref())
+            && a.id == b.id
+            && same_optional(a.plural.as_deref(), b.plural.as_deref())
+            && same_texts(&a.forms, &b.forms)
+            && a.obsolete == b.obsolete
+    }
+}
+
+/// Whether two lists have the same texts in the same order.
+fn same_texts(a: &[Vec<u8>], b: &[Vec<u8>]) -> bool
+    ensures { result ≡ texts_eq (texts a.now) (texts b.now) }
+{
+    a == b
+}
+
+/// Whether both texts are missing, or both are there and equal.
+fn same_optional(a: Option<&[u8]>, b: Option<&[u8]>) -> bool
+    ensures { result ≡ optional_eq (option_copied a.entry) (option_copied b.entry) }
+{
+    match (a, b) {
+        (None, None) => true,
+        (Some(a), Some(b)) => a == b,
+        _ => false,
     }
 }

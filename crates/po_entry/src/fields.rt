@@ -1,11 +1,58 @@
-//! The fields of an entry, before they are checked.
+//! The fields of an entry, before they are checked, and copies of them, where memory can fail.
 
-ghost use Rattle.std.specs.Prelude.{◌≡◌, IfOk};
-ghost use Rattle.po_entry.specs.EntryView.{entry_view};
+ghost use Rattle.std.specs.Prelude.{◌≡◌, IfOk, option_copied, map, []};
+ghost use Rattle.po_entry.specs.TextEntry.{no_previous, optional_text, slice_texts, texts};
 
-use crate::copies::{copy_optional, copy_texts};
-use crate::previous::Previous;
 use std::alloc::{AllocError, Global};
+use std::marker::Model;
+
+/// The previous texts of an entry, on its `#|` lines: what its context, msgid and plural were when
+/// it was last translated. Where all are `None`, it has no previous text.
+#[derive(Debug, Drop)]
+pub struct Previous {
+    /// The previous `msgctxt`.
+    pub context: Option<Vec<u8>>,
+    /// The previous `msgid`.
+    pub id: Option<Vec<u8>>,
+    /// The previous `msgid_plural`.
+    pub plural: Option<Vec<u8>>,
+}
+
+impl Model for Previous {
+    ghost use Rattle.po_entry.specs.TextEntry.{TextPrevious, optional_text};
+
+    ghost Value = { TextPrevious };
+
+    ghost view = { λ p. record {
+      context = optional_text p.context;
+      id = optional_text p.id;
+      plural = optional_text p.plural;
+    } };
+}
+
+impl Previous {
+    /// No previous text.
+    pub fn none() -> Previous
+        ensures { result ≡ no_previous }
+    {
+        Previous {
+            context: None,
+            id: None,
+            plural: None,
+        }
+    }
+
+    /// A copy of the texts; refused only where an allocation failed.
+    pub fn copy(&self, alloc: Global) -> Result<Previous, AllocError>
+        ensures { IfOk result (λ p. p ≡ self.now) }
+    {
+        Ok(Previous {
+            context: copy_optional(alloc, self.context.as_deref())?,
+            id: copy_optional(alloc, self.id.as_deref())?,
+            plural: copy_optional(alloc, self.plural.as_deref())?,
+        })
+    }
+}
 
 /// The fields of an entry. Before their texts are checked they are a draft.
 #[derive(Debug, Drop)]
@@ -36,24 +83,43 @@ pub struct Fields {
     pub line: u32,
 }
 
-impl Fields {
-    /// A copy of all parts; refused only where an allocation failed.
-    pub(crate) fn copy(&self, alloc: Global) -> Result<Fields, AllocError>
-        ensures { IfOk result (λ copy. entry_view copy ≡ entry_view self.now) }
-    {
-        Ok(Fields {
-            comments: copy_texts(alloc, &self.comments)?,
-            extracted: copy_texts(alloc, &self.extracted)?,
-            references: copy_texts(alloc, &self.references)?,
-            fuzzy: self.fuzzy,
-            flags: copy_texts(alloc, &self.flags)?,
-            previous: self.previous.copy(alloc)?,
-            context: copy_optional(alloc, self.context.as_deref())?,
-            id: self.id.as_slice().to_vec(alloc)?,
-            plural: copy_optional(alloc, self.plural.as_deref())?,
-            forms: copy_texts(alloc, &self.forms)?,
-            obsolete: self.obsolete,
-            line: self.line,
-        })
+/// A copy of a text, where there is one; refused only where an allocation failed.
+pub fn copy_optional(alloc: Global, text: Option<&[u8]>) -> Result<Option<Vec<u8>>, AllocError>
+    ensures { IfOk result (λ copy. optional_text copy ≡ option_copied text.entry) }
+{
+    match text {
+        Some(bytes) => Ok(Some(bytes.to_vec(alloc)?)),
+        None => Ok(None),
+    }
+}
+
+/// Copies of the texts, in order; refused only where an allocation failed.
+pub fn copy_texts(alloc: Global, list: &[Vec<u8>]) -> Result<Vec<Vec<u8>>, AllocError>
+    ensures { IfOk result (λ copy. texts copy.items ≡ texts list.now) }
+{
+    let mut copy = Vec::with_capacity(alloc, list.len())?;
+    for text in list {
+        copy.push(text.as_slice().to_vec(alloc)?)?;
+    }
+    Ok(copy)
+}
+
+/// A copy of a list of slices as owned texts.
+pub(crate) fn copy_slices(alloc: Global, list: &[&[u8]]) -> Result<Vec<Vec<u8>>, AllocError>
+    ensures { IfOk result (λ copy. texts copy.items ≡ slice_texts list.now) }
+{
+    let mut copy = Vec::with_capacity(alloc, list.len())?;
+    for text in list {
+        copy.push(text.to_vec(alloc)?)?;
+    }
+    Ok(copy)
+}
+
+/// Empties each text; the list keeps its length.
+pub(crate) fn empty_texts(list: &mut [Vec<u8>])
+    ensures { texts list.new ≡ map (λ _. []) (texts list.old) }
+{
+    for text in list.iter_mut() {
+        text.clear();
     }
 }

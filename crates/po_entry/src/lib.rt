@@ -5,25 +5,20 @@
 //! [`check_texts`] admits, and a [`Catalogue`] only headers whose charset is admitted. What a text
 //! means is defined here too, in the specs: which entries its items spell.
 //!
-//! The modules in reading order: `previous`, `fields`, `copies`, `texts`, `entry`, `equality`,
-//! `charset`, `catalogue`, `laws`.
+//! The modules in reading order: `fields`, `texts`, `entry`, `charset`, `catalogue`,
+//! `laws`.
 
 #![tactic(auto)]
 
 mod catalogue;
 mod charset;
-mod copies;
 mod entry;
-mod equality;
 mod fields;
 pub mod laws;
-mod previous;
 mod texts;
 
 pub use crate::catalogue::Catalogue;
 pub use crate::charset::has_admitted_charset;
-pub use crate::copies::{copy_optional, copy_texts};
 pub use crate::entry::Entry;
-pub use crate::fields::Fields;
-pub use crate::previous::Previous;
+pub use crate::fields::{Fields, Previous, copy_optional, copy_texts};
 pub use crate::texts::check_texts;

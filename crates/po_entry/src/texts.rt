@@ -2,12 +2,11 @@
 
 ghost use Rattle.std.specs.Prelude.{MatchResult, All, IsTrue, ◌↔◌, option_to_list, option_copied};
 ghost use Rattle.po_entry.specs.EntryView.{entry_view};
-ghost use Rattle.po_entry.specs.TextEntry.{quoted_texts, previous_texts, texts};
+ghost use Rattle.po_entry.specs.TextEntry.{quoted_texts, texts};
 ghost use Rattle.po_entry.specs.Internal.Needs.{Meets};
 ghost use Rattle.po_entry.specs.Validity.{EntryTextFault, HasTexts, IsClean};
 
 use crate::fields::Fields;
-use crate::previous::Previous;
 use memchr::memchr;
 use po_syntax::PoFault;
 use simdutf8::is_utf8;
@@ -55,20 +54,13 @@ fn quoted_meet(need: Need, fields: &Fields) -> bool
 {
     // `&` here and below, and not `&&`: without branches, so that the proof takes one operand after
     // another.
-    previous_meets(need, &fields.previous)
+    optional_meets(need, fields.previous.context.as_deref())
+        & optional_meets(need, fields.previous.id.as_deref())
+        & optional_meets(need, fields.previous.plural.as_deref())
         & optional_meets(need, fields.context.as_deref())
         & meets(need, &fields.id)
         & optional_meets(need, fields.plural.as_deref())
         & all_meet(need, &fields.forms)
-}
-
-/// Whether the previous texts meet the need.
-fn previous_meets(need: Need, previous: &Previous) -> bool
-    ensures { IsTrue result ↔ All (Meets need) (previous_texts previous.now) }
-{
-    optional_meets(need, previous.context.as_deref())
-        & optional_meets(need, previous.id.as_deref())
-        & optional_meets(need, previous.plural.as_deref())
 }
 
 /// Whether the text meets the need, where there is one.

@@ -1,6 +1,6 @@
 use Rattle.std.proofs.Common.{◌≡◌, [], take}
 use Rattle.std.specs.Prelude.{All}
-use Rattle.po_entry.proofs.copies.empty_texts.Given as goal
+use Rattle.po_entry.proofs.fields.empty_texts.Given as goal
 
 abbrev pub invariant-loop-text : goal.invariant-loop-text
 invariant-loop-text l = All (λ v. v.items ≡ []) (take l.text-index l.list)

@@ -1,7 +1,7 @@
 use Rattle.std.proofs.Common.{◌≡◌, [], arith, ◌<◌, length}
 use Rattle.std.proofs.lemmas.List.{take_all}
 use Rattle.po_entry.proofs.Lists.{all_empty, All-written}
-use Rattle.po_entry.proofs.copies.empty_texts.Goals as goal
+use Rattle.po_entry.proofs.fields.empty_texts.Goals as goal
 
 pub loop-text-preserved : goal.loop-text-preserved
 loop-text-preserved c =
