@@ -11,11 +11,7 @@ use po_entry::{Entry, Fields, Previous};
 use std::alloc::AllocError;
 
 /// Appends a line for each comment, after the mark of its kind.
-pub(crate) fn push_comments(
-    out: &mut Vec<u8>,
-    mark: &[u8],
-    comments: &[Vec<u8>],
-) -> Result<(), AllocError>
+fn push_comments(out: &mut Vec<u8>, mark: &[u8], comments: &[Vec<u8>]) -> Result<(), AllocError>
     ensures appended { OnOk result (out.new.items
         ≡ out.old.items ++ written.comment_lines mark.now (texts comments.now)) }
 {
@@ -40,7 +36,7 @@ fn push_further(out: &mut Vec<u8>, separator: &[u8], elements: &[Vec<u8>]) -> Re
 }
 
 /// Appends a line of elements, where there are any.
-pub(crate) fn push_elements(
+fn push_elements(
     out: &mut Vec<u8>,
     mark: &[u8],
     separator: &[u8],
@@ -60,11 +56,7 @@ pub(crate) fn push_elements(
 }
 
 /// Appends the line of flags, `fuzzy` first, where there are any.
-pub(crate) fn push_flags(
-    out: &mut Vec<u8>,
-    fuzzy: bool,
-    flags: &[Vec<u8>],
-) -> Result<(), AllocError>
+fn push_flags(out: &mut Vec<u8>, fuzzy: bool, flags: &[Vec<u8>]) -> Result<(), AllocError>
     ensures appended { OnOk result (out.new.items
         ≡ out.old.items
         ++ written.elements_line (codes "#, ") (codes ", ") (written.all_flags fuzzy (texts flags.now))) }
@@ -79,11 +71,7 @@ pub(crate) fn push_flags(
 }
 
 /// Appends the previous texts that there are.
-pub(crate) fn push_previous(
-    out: &mut Vec<u8>,
-    prefix: &[u8],
-    previous: &Previous,
-) -> Result<(), AllocError>
+fn push_previous(out: &mut Vec<u8>, prefix: &[u8], previous: &Previous) -> Result<(), AllocError>
     ensures appended { OnOk result (out.new.items ≡ out.old.items ++ written.previous_lines prefix.now previous.now) }
 {
     push_optional(out, prefix, b"msgctxt", previous.context.as_deref())?;
@@ -102,17 +90,6 @@ fn push_forms(out: &mut Vec<u8>, prefix: &[u8], forms: &[Vec<u8>]) -> Result<(),
     Ok(())
 }
 
-/// Appends the only form of a message without a plural.
-fn push_single(out: &mut Vec<u8>, prefix: &[u8], forms: &[Vec<u8>]) -> Result<(), AllocError>
-    ensures appended { OnOk result (out.new.items
-        ≡ out.old.items ++ flat_map (written.keyword_lines prefix.now (codes "msgstr")) (texts forms.now)) }
-{
-    for form in forms {
-        push_keyword(out, prefix, b"msgstr", form)?;
-    }
-    Ok(())
-}
-
 /// Appends the plural, where there is one, and the forms.
 fn push_translation(
     out: &mut Vec<u8>,
@@ -123,13 +100,14 @@ fn push_translation(
     ensures appended { OnOk result (out.new.items
         ≡ out.old.items ++ written.translation_lines prefix.now (option_copied plural.entry) (texts forms.now)) }
 {
-    match plural {
-        Some(plural) => {
-            push_keyword(out, prefix, b"msgid_plural", plural)?;
-            push_forms(out, prefix, forms)
-        }
-        None => push_single(out, prefix, forms),
+    if let Some(plural) = plural {
+        push_keyword(out, prefix, b"msgid_plural", plural)?;
+        return push_forms(out, prefix, forms);
     }
+    for form in forms {
+        push_keyword(out, prefix, b"msgstr", form)?;
+    }
+    Ok(())
 }
 
 /// Appends an entry's own lines.
@@ -142,18 +120,16 @@ fn push_own(out: &mut Vec<u8>, prefix: &[u8], fields: &Fields) -> Result<(), All
     push_translation(out, prefix, fields.plural.as_deref(), &fields.forms)
 }
 
-/// What a line of a previous text begins with.
-fn previous_prefix(obsolete: bool) -> &'static [u8]
-    ensures { result.now ≡ written.previous_prefix obsolete }
+/// What a line of an entry's own begins with, and what one of its previous texts.
+fn prefixes(obsolete: bool) -> (&'static [u8], &'static [u8])
+    ensures own { result.0.now ≡ written.own_prefix obsolete }
+    ensures previous { result.1.now ≡ written.previous_prefix obsolete }
 {
-    if obsolete { b"#~| " } else { b"#| " }
-}
-
-/// What a line of the entry's own begins with: `#~ ` in an obsolete entry.
-fn own_prefix(obsolete: bool) -> &'static [u8]
-    ensures { result.now ≡ written.own_prefix obsolete }
-{
-    if obsolete { b"#~ " } else { b"" }
+    if obsolete {
+        (b"#~ ", b"#~| ")
+    } else {
+        (b"", b"#| ")
+    }
 }
 
 /// Appends all lines of an entry.
@@ -161,10 +137,11 @@ pub(crate) fn push_entry(out: &mut Vec<u8>, entry: &Entry) -> Result<(), AllocEr
     ensures appended { OnOk result (out.new.items ≡ out.old.items ++ written.entry_lines entry.now) }
 {
     let fields = entry.fields();
+    let (own, previous) = prefixes(fields.obsolete);
     push_comments(out, b"#", &fields.comments)?;
     push_comments(out, b"#.", &fields.extracted)?;
     push_elements(out, b"#: ", b" ", &fields.references)?;
     push_flags(out, fields.fuzzy, &fields.flags)?;
-    push_previous(out, previous_prefix(fields.obsolete), &fields.previous)?;
-    push_own(out, own_prefix(fields.obsolete), fields)
+    push_previous(out, previous, &fields.previous)?;
+    push_own(out, own, fields)
 }

@@ -2,7 +2,7 @@ use Rattle.std.proofs.Common.{◌≡◌, ◌++◌, codes, drop}
 use Rattle.std.specs.List.{flat_map}
 use Rattle.po_entry.specs.TextEntry.{texts}
 use Rattle.po_writer.specs.WrittenText.{keyword_lines}
-use Rattle.po_writer.proofs.entry_lines.push_single.Given as goal
+use Rattle.po_writer.proofs.entry_lines.push_translation.Given as goal
 
 abbrev pub invariant-loop-form : goal.invariant-loop-form
 invariant-loop-form l =
