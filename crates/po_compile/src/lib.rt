@@ -4,8 +4,8 @@
 //! of each text are collected in a buffer of its own, and their rows are sorted.
 //! [`compiled_messages`] are those that are compiled, before they are sorted.
 //!
-//! The modules in reading order: `options`, `compiling`, `inputs`, `collecting`, `prefix`, `row`,
-//! `rows`, `sorting`, `repeats`, `messages`; then `laws`.
+//! The modules in reading order: `options`, `compiling`, `inputs`, `collecting`, `row`, `rows`,
+//! `sorting`, `repeats`, `messages`; then `laws`.
 
 #![tactic(auto)]
 
@@ -15,7 +15,6 @@ mod inputs;
 pub mod laws;
 mod messages;
 mod options;
-mod prefix;
 mod repeats;
 mod row;
 mod rows;

@@ -1,14 +1,12 @@
 //! The messages of an MO file before they are written, as the profile's check reads them.
 
-ghost use Rattle.std.specs.Prelude.{◌≡◌, ◌<◌, ◌^◌, All, IfOk, OnOk, filter, length, map};
+ghost use Rattle.std.specs.Prelude.{◌≡◌, ◌<◌, ◌^◌, All, IfOk, OnOk, length, map};
 ghost use Rattle.po_messages.specs.Joined.{joined, joined_entries};
 ghost use Rattle.po_entry.specs.Validity.{IsCatalogueEntry};
 ghost use Rattle.po_compile.specs.CompiledInputs.{compiled_inputs, compiled_message, compiled_view};
-ghost use Rattle.po_compile.specs.Internal.Rows.{row_view, view_of_message};
 ghost use Rattle.po_compile.specs.OfInputs.{OfAllInputs};
 
 use crate::collecting::Collected;
-use crate::row::Row;
 use crate::rows::joined_rows;
 use std::alloc::{AllocError, Global};
 
@@ -36,16 +34,8 @@ pub fn compiled_messages<'b>(
     ensures valid { OnOk result (OfAllInputs inputs.now (λ _ catalogues. All IsCatalogueEntry (joined_entries catalogues))) }
 {
     let rows = joined_rows(alloc, inputs)?;
-    messages_of(alloc, &rows)
-}
-
-/// The messages of the rows that are compiled, in their order.
-fn messages_of<'b>(alloc: Global, rows: &[Row<'b>]) -> Result<Vec<CompiledMessage<'b>>, AllocError>
-    ensures { IfOk result (λ messages. map compiled_view messages.items
-        ≡ map view_of_message (filter (λ m. m.message.status.compiled) (map row_view rows.now))) }
-{
     let mut messages = Vec::with_capacity(alloc, rows.len())?;
-    for row in rows {
+    for row in &rows {
         if row.status.compiled {
             messages.push(CompiledMessage {
                 input: row.input,

@@ -1,6 +1,6 @@
 //! Messages that repeat an earlier one, looked for in the order of the texts.
 
-ghost use Rattle.std.specs.Prelude.{◌≡◌, ◌⊎◌, ◌<◌, ◌^◌, IfErr, IfOk, MatchOption, OnOk, length, map};
+ghost use Rattle.std.specs.Prelude.{◌≡◌, ◌⊎◌, ◌<◌, ◌^◌, IfErr, IfOk, OnOk, length, map};
 ghost use Rattle.po_messages.specs.Duplicate.{join_out_of_memory};
 ghost use Rattle.po_messages.specs.MessageView.{messages_of_keys};
 ghost use Rattle.po_compile.specs.Accepted.{fault_of_input};
@@ -11,7 +11,7 @@ use crate::collecting::Collected;
 use crate::row::Row;
 use crate::rows::joined_rows;
 use po_messages::laws::{messages_are_numbered_in_order, one_number_is_one_message};
-use po_messages::{JoinError, MessageKey, grouped};
+use po_messages::{JoinError, MessageKey, duplicate_at, grouped};
 use po_syntax::{PoError, PoFault};
 use std::alloc::{AllocError, Global};
 use std::slice::from_ref;
@@ -30,24 +30,6 @@ fn keys_of<'b>(alloc: Global, rows: &[Row<'b>]) -> Result<Vec<MessageKey<'b>>, A
     Ok(keys)
 }
 
-/// The fault of the first row that has the key of an earlier one. Keys are numbered in the order in
-/// which they first appear, so it is the first whose number isn't its index.
-fn first_repeat(alloc: Global, rows: &[Row<'_>]) -> Result<Option<JoinError>, AllocError>
-    ensures { IfOk result (λ found. MatchOption found (AllApart (input_keys (map row_view rows.now)))
-        (IsRepeat (map row_view rows.now))) }
-{
-    messages_are_numbered_in_order();
-    one_number_is_one_message();
-    let keys = keys_of(alloc, rows)?;
-    let (numbers, _) = grouped(alloc, &keys)?;
-    for (later, first) in numbers.iter().enumerate() {
-        if *first < later {
-            return Ok(Some(row_fault(&rows[*first], &rows[later])));
-        }
-    }
-    Ok(None)
-}
-
 /// What is reported of a row that repeats an earlier one.
 fn row_fault(first: &Row<'_>, later: &Row<'_>) -> JoinError
     ensures { result ≡ repeat_fault (row_view first.now) (row_view later.now) }
@@ -55,25 +37,30 @@ fn row_fault(first: &Row<'_>, later: &Row<'_>) -> JoinError
     JoinError {
         input: later.input,
         first_input: first.input,
-        error: PoError {
-            kind: PoFault::Duplicate(first.line),
-            line: later.line,
-        },
+        error: duplicate_at(first.line, later.line),
     }
 }
 
 /// Whether no message of the joined list of the inputs repeats another. Refused with the fault of
-/// `joined_duplicates`; and where an allocation failed.
+/// `joined_duplicates`; and where an allocation failed. Keys are numbered in the order in which they
+/// first appear, so the first row that has the key of an earlier one is the first whose number isn't
+/// its index.
 pub(crate) fn check_joined(alloc: Global, inputs: &[Collected]) -> Result<(), JoinError>
     requires { length inputs.now < 2 ^ 32 }
     ensures apart { OnOk result (AllApart (input_keys (all_messages inputs.now))) }
     ensures fault { IfErr result (λ e. (e ≡ join_out_of_memory) ⊎ IsRepeat (all_messages inputs.now) e) }
 {
+    messages_are_numbered_in_order();
+    one_number_is_one_message();
     let rows = joined_rows(alloc, inputs)?;
-    match first_repeat(alloc, &rows)? {
-        Some(error) => Err(error),
-        None => Ok(()),
+    let keys = keys_of(alloc, &rows)?;
+    let (numbers, _) = grouped(alloc, &keys)?;
+    for (later, first) in numbers.iter().enumerate() {
+        if *first < later {
+            return Err(row_fault(&rows[*first], &rows[later]));
+        }
     }
+    Ok(())
 }
 
 /// Whether no message of an input repeats another of the same input. Refused with the fault of

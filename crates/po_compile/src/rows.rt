@@ -6,8 +6,7 @@ ghost use Rattle.po_compile.specs.Internal.Cutting.{after_message, first_message
 ghost use Rattle.po_compile.specs.Internal.Rows.{all_messages, compiled_of, in_input_message, is_joined, row_view};
 
 use crate::collecting::{Collected, Lengths};
-use crate::prefix::{prefix_of, second_prefix_of};
-use crate::row::Row;
+use crate::row::{Row, prefix_of, second_prefix_of};
 use mo_file::BorrowedPair;
 use po_messages::split_at_most;
 use std::alloc::{AllocError, Global};
@@ -38,10 +37,9 @@ fn add_row<'b>(rows: &mut Vec<Row<'b>>, row: Row<'b>, headed: bool) -> Result<()
     ensures { OnOk result (map row_view rows.new.items
         ≡ map row_view rows.old.items ++ filter (λ m. is_joined headed m.message) (row_view row.entry ∷ [])) }
 {
-    if headed && row.key.is_empty() {
-        return Ok(());
+    if !headed || !row.key.is_empty() {
+        rows.push(row)?;
     }
-    rows.push(row)?;
     Ok(())
 }
 
@@ -64,15 +62,6 @@ fn add_rows<'b>(
     Ok(())
 }
 
-/// How many messages the inputs have.
-fn row_count(inputs: &[Collected]) -> usize {
-    let mut count: usize = 0;
-    for collected in inputs {
-        count = count.saturating_add(collected.lengths.len());
-    }
-    count
-}
-
 /// The rows of the joined list of the inputs, in its order.
 pub(crate) fn joined_rows<'b>(
     alloc: Global,
@@ -81,7 +70,11 @@ pub(crate) fn joined_rows<'b>(
     requires { length inputs.now < 2 ^ 32 }
     ensures { IfOk result (λ rows. map row_view rows.items ≡ all_messages inputs.now) }
 {
-    let mut rows = Vec::with_capacity(alloc, row_count(inputs))?;
+    let count = inputs.iter().fold(
+        0,
+        |sum: usize, input| sum.saturating_add(input.lengths.len()),
+    );
+    let mut rows = Vec::with_capacity(alloc, count)?;
     let mut headed = false;
     for (input, collected) in inputs.iter().enumerate() {
         add_rows(&mut rows, input as u32, collected, headed)?;

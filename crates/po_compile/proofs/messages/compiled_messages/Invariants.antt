@@ -1,10 +1,10 @@
 use Rattle.std.proofs.Common.{◌≡◌, take, map, filter}
 use Rattle.po_compile.specs.CompiledInputs.{compiled_view}
 use Rattle.po_compile.specs.Internal.Rows.{InputMessage, row_view, view_of_message}
-use Rattle.po_compile.proofs.messages.messages_of.Given as goal
+use Rattle.po_compile.proofs.messages.compiled_messages.Given as goal
 
 abbrev pub invariant-loop-row : goal.invariant-loop-row
 invariant-loop-row l =
     map compiled_view l.messages.items
     ≡ map view_of_message (filter (λ (m : InputMessage). m.message.status.compiled)
-    (map row_view (take l.row-index l.rows)))
+    (map row_view (take l.row-index l.row-items)))

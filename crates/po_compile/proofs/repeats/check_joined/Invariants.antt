@@ -1,5 +1,5 @@
 use Rattle.std.proofs.Common.{◌≡◌, ℕ, ◌<◌, get_or}
-use Rattle.po_compile.proofs.repeats.first_repeat.Given as goal
+use Rattle.po_compile.proofs.repeats.check_joined.Given as goal
 
 abbrev pub invariant-loop-later : goal.invariant-loop-later
 invariant-loop-later l = (i : ℕ) → i < l.later → get_or l.first-items i 0 ≡ i

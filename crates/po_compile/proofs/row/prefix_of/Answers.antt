@@ -1,7 +1,7 @@
 use Rattle.std.proofs.Common.{◌≡◌, arith, get_or}
 use Rattle.std.proofs.lemmas.Grind.{common_steps}
 use Rattle.po_compile.proofs.PrefixLemmas.{digit_read, fits}
-use Rattle.po_compile.proofs.prefix.prefix_of.Goals as goal
+use Rattle.po_compile.proofs.row.prefix_of.Goals as goal
 
 pub overflow_mul-prefix : goal.overflow_mul-prefix
 overflow_mul-prefix c = omega
