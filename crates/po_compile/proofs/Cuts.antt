@@ -1,6 +1,7 @@
 -- What is collected of live entries, cut into messages.
-use Rattle.std.proofs.Common.{◌≡◌, refl, sym, ap, ap₂, ◌∙◌, subst, ℕ, suc, ◌+◌, ◌<◌, ◌≤◌, ◌==◌, Bool, true, false, ◌||◌, cond, List, [], ◌∷◌, ◌++◌, append_assoc, append-nil, length, length-append, length-take, length-drop, filter, get_or, take, drop, map, arith}
+use Rattle.std.proofs.Common.{◌≡◌, nat_lt, refl, sym, ap, ap₂, ◌∙◌, subst, ℕ, suc, ◌+◌, ◌<◌, ◌≤◌, ◌==◌, Bool, true, false, ◌||◌, cond, List, [], ◌∷◌, ◌++◌, append_assoc, append-nil, length, length-append, length-take, length-drop, filter, get_or, take, drop, map, arith}
 use Rattle.std.specs.List.{list_any}
+use Rattle.std.proofs.lemmas.Bool.{lt-ltb}
 use Rattle.std.proofs.Math.Seq.{drop-append_seam, drop-length, take-append_seam}
 use Rattle.std.proofs.lemmas.List.{take-append-le, drop-append-le, map-append, take_all}
 use Rattle.std.proofs.lemmas.List.Elements.{filter_more, filter-append}
@@ -84,11 +85,14 @@ has_key l bytes key inside =
     omega (arith, key, inside, length-take l.key (take l.original bytes), length-take l.original bytes) in
     ap (λ n. n == 0) long
 
-pub any_shows : (lengths : List Lengths) (bytes : List ℕ) → Fit lengths bytes
-    → list_any has_no_key (cut lengths bytes) ≡ list_any (λ (l : Lengths). l.key == 0) lengths
-any_shows [] bytes fit = refl
-any_shows (l ∷ lengths) bytes fit =
-    ap₂ (λ a b. a || b) (has_key l bytes fit.0 fit.1) (any_shows lengths (after_message l bytes) fit.2)
+-- one is there where some are
+pub any_counted : {X : Type 0} (p : X → Bool) (xs : List X) → nat_lt 0 (length (filter p xs)) ≡ list_any p xs
+any_counted p [] = refl
+any_counted p (x ∷ xs) = one (p x) (any_counted p xs) where
+  one : (b : Bool) → nat_lt 0 (length (filter p xs)) ≡ list_any p xs
+      → nat_lt 0 (length (cond b (x ∷ filter p xs) (filter p xs))) ≡ (b || list_any p xs)
+  one true later = lt-ltb 0 (length (x ∷ filter p xs)) (omega arith)
+  one false later = later
 
 pub count_shows : (lengths : List Lengths) (bytes : List ℕ) → Fit lengths bytes
     → length (filter has_no_key (cut lengths bytes)) ≡ length (filter (λ (l : Lengths). l.key == 0) lengths)

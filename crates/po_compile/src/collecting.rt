@@ -1,7 +1,7 @@
 //! What compiling needs of the entries of an input, gathered in one buffer.
 
 ghost use Rattle.std.specs.Prelude.{◌≡◌, ◌==◌, ◌++◌, ◌∷◌, ℕ, [], List, IfOk, IfErr, OnOk, count_by, filter, length};
-ghost use Rattle.std.specs.List.{join_with_byte, list_any};
+ghost use Rattle.std.specs.List.{join_with_byte};
 ghost use Rattle.mo_file.specs.Key.{query_key};
 ghost use Rattle.po_entry.specs.ReadsText.{ReadsText};
 ghost use Rattle.po_entry.specs.EntryView.{entry_view};
@@ -68,26 +68,12 @@ impl Model for Collected {
 }
 
 impl Collected {
-    /// Whether one of the entries is a header.
-    pub(crate) fn has_header(&self) -> bool
-        ensures { result ≡ list_any has_no_key self.now }
-    {
-        any_header(&self.lengths)
-    }
-
     /// How many of the entries are headers.
     pub(crate) fn header_count(&self) -> usize
         ensures { result ≡ length (filter has_no_key self.now) }
     {
         count_headers(&self.lengths)
     }
-}
-
-/// Whether one of the entries is a header.
-fn any_header(lengths: &[Lengths]) -> bool
-    ensures { result ≡ list_any (λ (l : LengthsSeen). l.key == 0) lengths.now }
-{
-    lengths.iter().any(|l| l.key == 0)
 }
 
 /// How many of the entries are headers.

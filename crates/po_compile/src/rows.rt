@@ -78,7 +78,7 @@ pub(crate) fn joined_rows<'b>(
     let mut headed = false;
     for (input, collected) in inputs.iter().enumerate() {
         add_rows(&mut rows, input as u32, collected, headed)?;
-        headed = headed || collected.has_header();
+        headed = headed || collected.header_count() > 0;
     }
     Ok(rows)
 }

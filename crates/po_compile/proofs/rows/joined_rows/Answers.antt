@@ -1,7 +1,8 @@
-use Rattle.std.proofs.Common.{◌≡◌, ◌∷◌, ap, sym, ◌∙◌, ◌+◌, ◌||◌, ◌++◌, append_assoc, drop, filter, map}
+use Rattle.std.proofs.Common.{◌≡◌, ◌∷◌, ap, sym, ◌∙◌, ◌+◌, ◌||◌, ◌++◌, nat_lt, append_assoc, drop, filter, map}
 use Rattle.std.specs.List.{list_any}
 use Rattle.std.proofs.lemmas.List.{at_drop_more}
 use Rattle.po_compile.specs.Internal.Rows.{has_no_key, in_input_message, is_joined, joined_messages, row_view}
+use Rattle.po_compile.proofs.Cuts.{any_counted}
 use Rattle.po_compile.proofs.rows.joined_rows.Goals.{then-headed, else-headed}
 use Rattle.po_compile.proofs.rows.joined_rows.Goals as goal
 
@@ -17,7 +18,8 @@ loop-input-preserved c =
     let rest = joined_messages (i + 1) (headed || here) (drop (i + 1) all) in
     let then : c.if-headed.headed ≡ (headed || here) = elim c.if-headed.branch [
       | then-headed w ↦ w.headed-is ∙ w.if-headed.true ∙ sym (ap (λ b. b || here) w.if-headed.true)
-      | else-headed w ↦ w.headed-is ∙ w.has_header-headed.ensures ∙ sym (ap (λ b. b || here) w.if-headed.false)
+      | else-headed w ↦ w.headed-is ∙ ap (nat_lt 0) w.header_count.ensures ∙ any_counted has_no_key messages
+          ∙ sym (ap (λ b. b || here) w.if-headed.false)
     ] in
     ap (λ h. new ++ joined_messages (i + 1) h (drop (i + 1) all)) then ∙ ap (λ l. l ++ rest) c.in_ok-add_rows.ensures
     ∙ append_assoc old (map (in_input_message i) (filter (is_joined headed) messages)) rest
