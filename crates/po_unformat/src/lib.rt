@@ -4,11 +4,10 @@
 //! kept. What was compiled comes back from the text as the same bytes. [`original_parts`],
 //! [`key_parts`] and [`split_form`] take the texts from a message, which are borrowed.
 //!
-//! The modules in reading order: `fault`, `parts`, `entries`, `unformatting`, `laws`.
+//! The modules in reading order: `fault`, `parts`, `unformatting`, `laws`.
 
 #![tactic(auto)]
 
-mod entries;
 mod fault;
 pub mod laws;
 mod parts;

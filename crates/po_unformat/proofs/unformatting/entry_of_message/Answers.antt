@@ -3,7 +3,7 @@ use Rattle.std.specs.Borrow.{Bor}
 use Rattle.std.proofs.lemmas.List.{length-map}
 use Rattle.std.proofs.lemmas.List.Splits.{length-slice_split}
 use Rattle.mo_file.specs.Key.{is_nul}
-use Rattle.po_unformat.proofs.entries.entry_of_message.Goals as goal
+use Rattle.po_unformat.proofs.unformatting.entry_of_message.Goals as goal
 
 pub message-requires-else-is_none-clause-some_form : goal.message-requires-else-is_none-clause-some_form
 message-requires-else-is_none-clause-some_form c =

@@ -2,7 +2,7 @@ use Rattle.std.proofs.Common.{ap, sym, subst, ◌∙◌, Some}
 use Rattle.po_unformat.specs.Internal.Refused.{RefusesEntry}
 use Rattle.po_unformat.specs.Unformatted.{entry_of_message}
 use Rattle.po_unformat.proofs.MessageLemmas.{entry_of, refused_entry}
-use Rattle.po_unformat.proofs.entries.entry_at.Goals as goal
+use Rattle.po_unformat.proofs.unformatting.entry_at.Goals as goal
 
 pub returns-in-Ok-clause-entry : goal.returns-in-Ok-clause-entry
 returns-in-Ok-clause-entry c =
