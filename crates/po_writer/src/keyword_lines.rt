@@ -1,6 +1,6 @@
 //! A keyword and its string, on one line or on several.
 
-ghost use Rattle.std.specs.Prelude.{◌≡◌, ◌<◌, ◌++◌, ◌∷◌, [], codes, decimal, OnOk, nat_lt, length, option_copied};
+ghost use Rattle.std.specs.Prelude.{◌≡◌, ◌<◌, ◌++◌, ◌∷◌, [], codes, decimal, OnOk, length, option_copied};
 ghost use Rattle.std.specs.List.{flat_map};
 ghost use Rattle.po_writer.specs.WrittenText.{lines_with_ends, text_lines, keyword_lines, optional_lines, string_line};
 
@@ -19,13 +19,6 @@ fn split_line(text: &[u8]) -> (&[u8], &[u8])
         Some(end) => text.split_at(end + 1),
         None => text.split_at(text.len()),
     }
-}
-
-/// Whether a LF stands before the last byte of a text.
-fn has_several_lines(text: &[u8]) -> bool
-    ensures { result ≡ nat_lt 1 (length (lines_with_ends text.now)) }
-{
-    !split_line(text).1.is_empty()
 }
 
 /// Appends a prefix, the quoted form of a text or of a part of one, and a LF.
@@ -52,16 +45,16 @@ fn push_strings(out: &mut Vec<u8>, prefix: &[u8], text: &[u8]) -> Result<(), All
     Ok(())
 }
 
-/// Appends what stands after a keyword: its text, as one string or as one for each line.
+/// Appends what stands after a keyword: its text, as one string, or as one for each line where a LF
+/// stands before its last byte.
 fn push_text(out: &mut Vec<u8>, prefix: &[u8], text: &[u8]) -> Result<(), AllocError>
     ensures appended { OnOk result (out.new.items ≡ out.old.items ++ text_lines prefix.now text.now) }
 {
-    if has_several_lines(text) {
-        push_string(out, b"", b"")?;
-        push_strings(out, prefix, text)
-    } else {
-        push_string(out, b"", text)
+    if split_line(text).1.is_empty() {
+        return push_string(out, b"", text);
     }
+    push_string(out, b"", b"")?;
+    push_strings(out, prefix, text)
 }
 
 /// Appends a keyword with its text.
