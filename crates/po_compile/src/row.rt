@@ -7,7 +7,7 @@ ghost use Rattle.po_compile.specs.Internal.Prefix.{prefix_of, second_prefix_of};
 use crate::collecting::Status;
 use std::cmp::Ordering;
 
-const PREFIX_LEN: usize = 16;
+pub(crate) const PREFIX_LEN: usize = 16;
 
 /// A live entry's message, whose parts are borrowed from what was collected. Most rows are compared
 /// by the first bytes of their keys alone, which stand here as two numbers; the keys themselves lie
@@ -54,12 +54,4 @@ pub(crate) fn prefix_of(key: &[u8]) -> u128
         prefix = prefix * 256 + byte as u128;
     }
     prefix
-}
-
-/// The next sixteen bytes of a key, likewise.
-pub(crate) fn second_prefix_of(key: &[u8]) -> u128
-    ensures { result ≡ second_prefix_of key.now }
-{
-    let (_, rest) = key.split_at(PREFIX_LEN.min(key.len()));
-    prefix_of(rest)
 }

@@ -6,7 +6,7 @@ ghost use Rattle.po_compile.specs.Internal.Cutting.{after_message, first_message
 ghost use Rattle.po_compile.specs.Internal.Rows.{all_messages, compiled_of, in_input_message, is_joined, row_view};
 
 use crate::collecting::{Collected, Lengths};
-use crate::row::{Row, prefix_of, second_prefix_of};
+use crate::row::{PREFIX_LEN, Row, prefix_of};
 use mo_file::BorrowedPair;
 use po_messages::split_at_most;
 use std::alloc::{AllocError, Global};
@@ -19,9 +19,10 @@ fn split_row<'b>(input: u32, bytes: &'b [u8], lengths: &Lengths) -> (Row<'b>, &'
     let (original, after) = split_at_most(bytes, lengths.original);
     let (translation, rest) = split_at_most(after, lengths.translation);
     let (key, _) = split_at_most(original, lengths.key);
+    let (_, after_prefix) = split_at_most(key, PREFIX_LEN);
     let row = Row {
         prefix: prefix_of(key),
-        second_prefix: second_prefix_of(key),
+        second_prefix: prefix_of(after_prefix),
         key,
         original,
         translation,
