@@ -1,5 +1,5 @@
 -- The written text of a list of entries reads as the arranged list, but for the lines.
-use Rattle.std.proofs.Common.{◌≡◌, ◌≢◌, ◌==◌, ◌^◌, not, refl, ap, ℕ, ◌<◌, List, [], ◌∷◌, ◌++◌, length, length-append, map, filter, All, arith}
+use Rattle.std.proofs.Common.{◌≡◌, ◌^◌, not, refl, ap, ℕ, ◌<◌, List, [], ◌∷◌, ◌++◌, length, length-append, map, filter, All, arith}
 use Rattle.std.specs.List.{flat_map, join_by}
 use Rattle.std.specs.Str.{IsUtf8}
 use Rattle.std.proofs.lemmas.List.{append-nil}

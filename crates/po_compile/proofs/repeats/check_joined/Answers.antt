@@ -16,7 +16,8 @@ returns-then-first-later-clause-fault c =
     let alike = c.one_number_is_one_message.ensures in
     let in_order = c.messages_are_numbered_in_order.ensures in
     let are = c.deref-first-items.ensures.value ∙ c.in_ok-numbers.ensures.numbers
-    ∙ ap (group_numbers same_message) (ap messages_of_keys c.deref-2.ensures.value ∙ rw c.deref.ensures.value at c.in_ok-keys.ensures) in
+    ∙ ap (group_numbers same_message)
+    (ap messages_of_keys c.deref-2.ensures.value ∙ rw c.deref.ensures.value at c.in_ok-keys.ensures) in
     let first = c.index.result.now in
     let later = c.index-then-first-later.result.now in
     inr (subst (λ ms. IsRepeat ms c.row_fault.result) c.in_ok-rows.ensures (
@@ -38,7 +39,8 @@ loop-later-preserved c =
     let alike = c.one_number_is_one_message.ensures in
     let in_order = c.messages_are_numbered_in_order.ensures in
     let are = c.deref-first-items.ensures.value ∙ c.in_ok-numbers.ensures.numbers
-    ∙ ap (group_numbers same_message) (ap messages_of_keys c.deref-2.ensures.value ∙ rw c.deref.ensures.value at c.in_ok-keys.ensures) in
+    ∙ ap (group_numbers same_message)
+    (ap messages_of_keys c.deref-2.ensures.value ∙ rw c.deref.ensures.value at c.in_ok-keys.ensures) in
     own_more alike in_order messages numbers are c.loop-later.later
     (omega (arith, c.loop-later-test.true, numbers_long alike in_order messages numbers are)) c.if-first-later.false
     c.loop-later.invariant
@@ -50,7 +52,8 @@ returns-clause-apart c =
     let alike = c.one_number_is_one_message.ensures in
     let in_order = c.messages_are_numbered_in_order.ensures in
     let are = c.deref-first-items.ensures.value ∙ c.in_ok-numbers.ensures.numbers
-    ∙ ap (group_numbers same_message) (ap messages_of_keys c.deref-2.ensures.value ∙ rw c.deref.ensures.value at c.in_ok-keys.ensures) in
+    ∙ ap (group_numbers same_message)
+    (ap messages_of_keys c.deref-2.ensures.value ∙ rw c.deref.ensures.value at c.in_ok-keys.ensures) in
     let many = numbers_long alike in_order messages numbers are in
     let later = c.loop-later.later in
     subst (λ ms. AllApart (input_keys ms)) c.in_ok-rows.ensures
