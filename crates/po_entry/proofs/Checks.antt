@@ -27,13 +27,11 @@ pub on_option : {X : Type 0} (P : X → Type 0) (o : Option X) → (All P (optio
 on_option P None = (λ _. tt, λ _. All-nil P)
 on_option P (Some x) = (λ all. All-head P x [] all, λ h. All-cons P x [] h (All-nil P))
 
--- every test of three passes exactly where all do
-pub three : {P Q R : Type 0} (a b c : Bool) → (IsTrue a ↔ P) → (IsTrue b ↔ Q) → (IsTrue c ↔ R)
-    → (IsTrue (a && b && c) ↔ (P × Q × R))
-three true true true p q r = (λ t. (p.0 t, q.0 t, r.0 t), λ all. refl)
-three true true false p q r = (λ t. absurd (false≢true t), λ all. r.1 all.2)
-three true false c p q r = (λ t. absurd (false≢true t), λ all. absurd (false≢true (q.1 all.1)))
-three false b c p q r = (λ t. absurd (false≢true t), λ all. absurd (false≢true (p.1 all.0)))
+-- both tests pass exactly where both do
+pub two : {P Q : Type 0} (a b : Bool) → (IsTrue a ↔ P) → (IsTrue b ↔ Q) → (IsTrue (a && b) ↔ (P × Q))
+two true true p q = (λ t. (p.0 t, q.0 t), λ all. refl)
+two true false p q = (λ t. absurd (false≢true t), λ all. absurd (false≢true (q.1 all.1)))
+two false b p q = (λ t. absurd (false≢true t), λ all. absurd (false≢true (p.1 all.0)))
 
 -- a loop over vectors that tests each text: a step, the end, and an early answer
 pub tested_more : (P : List ℕ → Type 0) (xs : List (Vec ℕ)) (i : ℕ) (x : Vec ℕ) → i < length xs → x ≡ get_or xs i x

@@ -8,7 +8,7 @@ ghost use Rattle.po_entry.specs.Header.{is_header};
 ghost use Rattle.po_entry.specs.Validity.{IsEntry, RefusesMessage, out_of_memory};
 
 use crate::fields::{Fields, Previous, copy_optional, copy_slices, copy_texts, empty_texts};
-use crate::texts::check_texts;
+use crate::texts::check_any_texts;
 use po_syntax::PoError;
 use std::alloc::Global;
 use std::marker::Model;
@@ -68,7 +68,7 @@ impl Entry {
             obsolete: false,
             line: 0,
         };
-        match check_texts(&fields) {
+        match check_any_texts(&fields) {
             Ok(()) => Ok(Entry { fields }),
             Err(kind) => Err(PoError { kind, line: 0 }),
         }

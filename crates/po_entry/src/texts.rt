@@ -1,10 +1,11 @@
 //! What the texts of an entry may hold: UTF-8, and no byte that can't be written.
 
-ghost use Rattle.std.specs.Prelude.{MatchResult, All, IsTrue, ◌↔◌, option_to_list, option_copied};
+ghost use Rattle.std.specs.Prelude.{MatchResult, All, IfSome, IsTrue, ◌↔◌, option_to_list, option_copied};
+ghost use Rattle.po_entry.specs.Bytes.{Lacks};
 ghost use Rattle.po_entry.specs.EntryView.{entry_view};
 ghost use Rattle.po_entry.specs.TextEntry.{quoted_texts, texts};
 ghost use Rattle.po_entry.specs.Internal.Needs.{Meets};
-ghost use Rattle.po_entry.specs.Validity.{EntryTextFault, HasTexts, IsClean};
+ghost use Rattle.po_entry.specs.Validity.{EntryTextFault, HasTexts};
 
 use crate::fields::Fields;
 use memchr::memchr;
@@ -15,19 +16,34 @@ const NUL: u8 = 0;
 
 const EOT: u8 = 4;
 
-/// Whether an entry can have these texts. Refused with `NotUtf8` where a text of its quoted strings
-/// is not UTF-8, then with `ForbiddenByte` for a NUL in one, or for an EOT (byte 4) in its context
-/// or msgid; a previous text may hold an EOT.
+/// Whether an entry can have these texts, which hold no NUL, as those of items don't. Refused with
+/// `NotUtf8` where a text of its quoted strings is not UTF-8, then with `ForbiddenByte` for an EOT
+/// (byte 4) in its context or msgid; a previous text may hold one.
 pub fn check_texts(fields: &Fields) -> Result<(), PoFault>
+    requires { All (Lacks 0) (quoted_texts (entry_view fields.now)) }
     ensures { MatchResult result (λ _. HasTexts (entry_view fields.now)) (EntryTextFault (entry_view fields.now)) }
 {
     if !quoted_meet(Need::Utf8, fields) {
         return Err(PoFault::NotUtf8);
     }
-    if !are_clean(fields) {
+    if !lacks_eot(fields) {
         return Err(PoFault::ForbiddenByte);
     }
     Ok(())
+}
+
+/// Whether an entry can have these texts, as `check_texts` has it; a NUL is refused with
+/// `ForbiddenByte` too.
+pub(crate) fn check_any_texts(fields: &Fields) -> Result<(), PoFault>
+    ensures { MatchResult result (λ _. HasTexts (entry_view fields.now)) (EntryTextFault (entry_view fields.now)) }
+{
+    if quoted_meet(Need::Without(NUL), fields) {
+        check_texts(fields)
+    } else if quoted_meet(Need::Utf8, fields) {
+        Err(PoFault::ForbiddenByte)
+    } else {
+        Err(PoFault::NotUtf8)
+    }
 }
 
 /// What a text is tested for.
@@ -39,12 +55,11 @@ enum Need {
     Without(u8),
 }
 
-/// Whether no quoted text has a NUL, and neither context nor msgid an EOT.
-fn are_clean(fields: &Fields) -> bool
-    ensures { IsTrue result ↔ IsClean (entry_view fields.now) }
+/// Whether neither context nor msgid has an EOT.
+fn lacks_eot(fields: &Fields) -> bool
+    ensures { IsTrue result ↔ (IfSome (entry_view fields.now).context (Lacks 4) × Lacks 4 (entry_view fields.now).id) }
 {
-    quoted_meet(Need::Without(NUL), fields)
-        & optional_meets(Need::Without(EOT), fields.context.as_deref())
+    optional_meets(Need::Without(EOT), fields.context.as_deref())
         & meets(Need::Without(EOT), &fields.id)
 }
 

@@ -9,12 +9,13 @@ use Rattle.po_entry.specs.Facts.AllAppend.{All-right, All-left}
 use Rattle.po_syntax.specs.declared.item.CommentKind.TheVariants.{Translator, Extracted, Reference, Flags}
 use Rattle.po_entry.specs.declared.fields.Fields.{Fields}
 use Rattle.po_entry.specs.EntryView.{entry_view}
-use Rattle.po_entry.specs.TextEntry.{TextEntry}
-use Rattle.po_entry.specs.Bytes.{AreDistinct}
+use Rattle.po_entry.specs.TextEntry.{TextEntry, quoted_texts}
+use Rattle.po_entry.specs.Bytes.{AreDistinct, Lacks}
 use Rattle.po_entry.specs.Comments.{texts_of, references_of, all_listed_flags, flags_of}
 use Rattle.po_entry.specs.Validity.{HasTexts, IsEntry, IsTranslatorComment, IsReference, IsFlag, EntryTextFault}
 use Rattle.po_entry.specs.Spelling.{with_head, SpellsEntries}
 use Rattle.po_reader.proofs.Heads.{all_unmapped}
+use Rattle.po_reader.proofs.NoNul.{entry_texts}
 use Rattle.po_reader.proofs.SoundFields.{SoundCommentText, SoundFlagElement, SoundFlags, kind_sound, references_sound, all_flag_elements_sound, flags_sound}
 use Rattle.po_syntax.specs.declared.fault.PoFault.{PoFault}
 use Rattle.po_entry.specs.Header.{HasAdmittedCharset}
@@ -49,11 +50,13 @@ pub record SoundEntry (spelt : TextEntry) : Type 0 where
   pub distinct_flags : AreDistinct spelt.flags
   pub some_form : 0 < length spelt.forms
   pub one_form : spelt.plural ≡ None → length spelt.forms ≡ 1
+  pub no_nul : All (Lacks 0) (quoted_texts spelt)
 
 entry_sound : (comment_texts : List CommentText) (previous : List PreviousText) {items : List TextItem}
     (own : TextEntry) → All SoundCommentText comment_texts → spell.SpellsBody items own
+    → All (Lacks 0) (quoted_texts (with_head comment_texts previous own))
     → SoundEntry (with_head comment_texts previous own)
-entry_sound comment_texts previous own n (spell.own_lines c w t) =
+entry_sound comment_texts previous own n (spell.own_lines c w t) no_nul =
     let translator : All (IsCommentOf Translator) (texts_of Translator comment_texts) =
     kind_sound Translator comment_texts n in
     let extracted : All (IsCommentOf Extracted) (texts_of Extracted comment_texts) =
@@ -73,6 +76,7 @@ entry_sound comment_texts previous own n (spell.own_lines c w t) =
       distinct_flags = flags.distinct;
       some_form = (translation_sound t).0;
       one_form = (translation_sound t).1;
+      no_nul = no_nul;
     }
 
 -- every entry that sound items spell
@@ -82,9 +86,11 @@ entries_sound (spell.comments only) h = All-nil SoundEntry
 entries_sound (spell.entries {items = rest} {others = others}
     (spell.entry {head = head} {own = own} {comment_texts = comment_texts} {previous = previous}
     {body = body} above order lines) more) h =
-    let first = All-left HoldsText head own (All-left HoldsText (head ++ own) rest h) in
+    let entry = All-left HoldsText (head ++ own) rest h in
+    let first = All-left HoldsText head own entry in
     All-cons SoundEntry (with_head comment_texts previous body) others
-    (entry_sound comment_texts previous body (head_sound above first) lines)
+    (entry_sound comment_texts previous body (head_sound above first) lines
+    (entry_texts above lines first (All-right HoldsText head own entry)))
     (entries_sound more (All-right HoldsText (head ++ own) rest h))
 
 -- with texts that it can have, it is an entry
@@ -102,6 +108,11 @@ entry_valid spelt h t = record {
   one_form = h.one_form;
 }
 
+-- the texts of drafts
+pub drafts_hold : (made : List Fields) → All SoundEntry (map entry_view made)
+    → All (λ draft. All (Lacks 0) (quoted_texts (entry_view draft))) made
+drafts_hold made h = λ k d inside. (all_unmapped SoundEntry entry_view made h k d inside).no_nul
+
 -- the entries of drafts whose texts were checked
 pub drafts_valid : (made : List Fields) → All SoundEntry (map entry_view made)
     → All (λ draft. HasTexts (entry_view draft)) made → All (λ draft. IsEntry (entry_view draft)) made
@@ -118,6 +129,7 @@ sound_one false entry h = record {
   distinct_flags = h.distinct_flags;
   some_form = h.some_form;
   one_form = h.one_form;
+  no_nul = h.no_nul;
 }
 
 pub kept_sound : (all : Bool) (entries : List TextEntry) → All SoundEntry entries

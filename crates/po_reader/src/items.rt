@@ -3,7 +3,9 @@
 ghost use Rattle.std.specs.Prelude.{◌≡◌, ◌≢◌, ◌<◌, ◌≤◌, ◌^◌, [], List, All, length, map, vec_len, IfOk, IfErr, OnOk};
 ghost use Rattle.po_syntax.specs.ItemContents.{HoldsText};
 ghost use Rattle.po_syntax.specs.TextItem.{views};
+ghost use Rattle.po_entry.specs.Bytes.{Lacks};
 ghost use Rattle.po_entry.specs.EntryView.{entry_view};
+ghost use Rattle.po_entry.specs.TextEntry.{quoted_texts};
 ghost use Rattle.po_entry.specs.Header.{HasAdmittedCharset};
 ghost use Rattle.po_entry.specs.TextEntry.{TextEntry};
 ghost use Rattle.po_entry.specs.Validity.{IsEntry, HasTexts, EntryTextFault};
@@ -64,6 +66,7 @@ fn drafts_of(alloc: Global, items: &[Item<'_>], with_comments: bool) -> Result<V
 
 /// Whether entries can have the texts that were read for them, checked in their order.
 fn check_drafts(drafts: &[Fields]) -> Result<(), PoError>
+    requires { All (λ draft. All (Lacks 0) (quoted_texts (entry_view draft))) drafts.now }
     ensures ok { OnOk result (All (λ draft. HasTexts (entry_view draft)) drafts.now) }
     ensures fault { IfErr result (λ e. EntriesStop HasTexts EntryTextFault (map entry_view drafts.now) e.kind e.line) }
 {

@@ -7,7 +7,15 @@ pub returns-then-not-quoted_meet : goal.returns-then-not-quoted_meet
 returns-then-not-quoted_meet c =
     not_utf8 (λ all. false≢true (sym c.if-not-quoted_meet.true ∙ c.quoted_meet.ensures.1 all))
 
-pub returns-then-not-are_clean : goal.returns-then-not-are_clean
-returns-then-not-are_clean c =
+pub returns-then-not-lacks_eot : goal.returns-then-not-lacks_eot
+returns-then-not-lacks_eot c =
     forbidden (c.quoted_meet.ensures.0 c.if-not-quoted_meet.false)
-    (λ clean. false≢true (sym c.if-not-are_clean.true ∙ c.are_clean.ensures.1 clean))
+    (λ clean. false≢true (sym c.if-not-lacks_eot.true ∙ c.lacks_eot.ensures.1 (clean.context, clean.id)))
+
+pub returns : goal.returns
+returns c =
+    let lacks = c.lacks_eot.ensures.0 c.if-not-lacks_eot.false in
+    record {
+      utf8 = c.quoted_meet.ensures.0 c.if-not-quoted_meet.false;
+      clean = record { no_nul = c.requires; context = lacks.0; id = lacks.1 };
+    }

@@ -9,7 +9,7 @@ use Rattle.po_reader.proofs.RunsSpelt.{whole_spelt}
 use Rattle.po_reader.proofs.Faults.{items_fault}
 use Rattle.po_entry.specs.Faults.{EntriesStop, CharsetFault}
 use Rattle.po_entry.specs.Faults.ItemsStop.{in_items, in_texts, in_charset}
-use Rattle.po_reader.proofs.SoundCatalogue.{kept_sound, kept_texts, kept_admitted, kept_stop, texts_one, admitted_one, whole_fault, whole_foreign, SoundEntry, entries_sound, drafts_valid}
+use Rattle.po_reader.proofs.SoundCatalogue.{kept_sound, kept_texts, kept_admitted, kept_stop, texts_one, admitted_one, whole_fault, whole_foreign, SoundEntry, entries_sound, drafts_hold, drafts_valid}
 use Rattle.po_reader.proofs.Texts.{texts_reported}
 use Rattle.po_reader.proofs.Results.{ok_both, ok_step, err_step, passed_on}
 use Rattle.po_reader.proofs.items.read_items.Goals as goal
@@ -40,6 +40,13 @@ pub returns-in_err-check_drafts-clause-memory : goal.returns-in_err-check_drafts
 returns-in_err-check_drafts-clause-memory c =
     passed_on c.from_residual-in_err-check_drafts.result _ c.from_residual-in_err-check_drafts.ensures.1
     (λ memory. absurd (texts_reported c.in_err-check_drafts.ensures.fault memory))
+
+pub check_drafts-requires : goal.check_drafts-requires
+check_drafts-requires c =
+    let spelt = rw c.deref.ensures.value at c.in_ok-drafts.ensures.found in
+    let sound = subst (All SoundEntry) (sym spelt.2)
+    (kept_sound c.args.with_comments spelt.0 (entries_sound (whole_spelt _ _ _ spelt.1) c.requires.hold)) in
+    rw c.deref-2.ensures.value (drafts_hold c.in_ok-drafts.drafts.items sound)
 
 pub catalogue_of-requires : goal.catalogue_of-requires
 catalogue_of-requires c =
