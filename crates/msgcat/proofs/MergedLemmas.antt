@@ -25,7 +25,8 @@ use Rattle.po_merge.specs.InputsView.{named_entries, named_entry}
 use Rattle.po_merge.specs.Merged.{IsMergeFault, is_kept, is_kept_by, is_wanted, merged_messages}
 use Rattle.po_merge.specs.MergeLaws.{GroupsByNumber}
 use Rattle.po_merge.specs.MergedEntry.{merged_entry}
-use Rattle.po_merge.proofs.FirstOnes.{all_pass, none_all, none_pass}
+use Rattle.po_entry.specs.Facts.Filters.{all_pass, none_pass}
+use Rattle.po_merge.proofs.FirstOnes.{none_all}
 use Rattle.po_merge.proofs.GroupsMerged.{dropped_one, groups_valid, kept_one}
 use Rattle.po_writer.proofs.Rewritten.{join_same, kept, kept_same}
 use Rattle.po_writer.specs.TextParts.{AreParts, AreSeparated, separated}

@@ -21,18 +21,6 @@ pub none_all : {X : Type 0} (p : X → Bool) (xs : List X) → list_any p xs ≡
 none_all p xs none = λ k d inside.
     false_from_ne_true (p (get_or xs k d)) (λ e. false≢true (sym none ∙ list_any_at p xs k d inside e))
 
-pub none_pass : {X : Type 0} (p : X → Bool) (xs : List X) → All (λ x. p x ≡ false) xs → filter p xs ≡ []
-none_pass p [] h = refl
-none_pass p (x ∷ xs) h = ap (λ (b : Bool). cond b (x ∷ filter p xs) (filter p xs)) (All-head (λ y. p y ≡ false) x xs h)
-    ∙ none_pass p xs (All-tail (λ y. p y ≡ false) x xs h)
-
--- and where each one passes
-pub all_pass : {X : Type 0} (p : X → Bool) (xs : List X) → All (λ x. p x ≡ true) xs → filter p xs ≡ xs
-all_pass p [] h = refl
-all_pass p (x ∷ xs) h =
-    ap (λ (b : Bool). cond b (x ∷ filter p xs) (filter p xs)) (All-head (λ y. p y ≡ true) x xs h)
-    ∙ ap (λ l. x ∷ l) (all_pass p xs (All-tail (λ y. p y ≡ true) x xs h))
-
 -- what holds of each element holds of the first ones
 module _ {X : Type 0} (alike : X → X → Bool) (P : X → Type 0) where
   all_fold : (xs ys : List X) → All P xs → All P ys → All P (fold (with_new alike) xs ys)

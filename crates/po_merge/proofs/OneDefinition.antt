@@ -15,7 +15,7 @@ use Rattle.po_merge.specs.declared.input.MergeOptions.{MergeOptions}
 use Rattle.po_merge.specs.Inputs.{NamedEntry}
 use Rattle.po_merge.specs.InputsView.{named_entry, named_entries}
 use Rattle.po_merge.specs.MergedEntry.{first_of, first_with, has_previous, has_plural, first_translated, texts_of, with_others, collected, comment_of, translations, is_joined, joined_forms, merged_entry}
-use Rattle.po_merge.proofs.FirstOnes.{all_pass, none_pass}
+use Rattle.po_entry.specs.Facts.Filters.{all_pass, none_pass}
 use Rattle.po_merge.proofs.TranslationLaws.{joined_where_they_differ}
 use Rattle.po_merge.proofs.Valid.{first_keeps, first_with_keeps}
 

@@ -17,7 +17,8 @@ use Rattle.po_merge.specs.Groups.{with_new, first_ones, same_message, definition
 use Rattle.po_merge.specs.MergedEntry.{merged_entry}
 use Rattle.po_merge.specs.Merged.{is_kept, is_wanted, merged_messages}
 use Rattle.po_merge.specs.MergeLaws.{keep_all, OneInputStays, WithItself}
-use Rattle.po_merge.proofs.FirstOnes.{Apart, all_pass, group_of, none_all, none_pass}
+use Rattle.po_entry.specs.Facts.Filters.{all_pass, none_pass}
+use Rattle.po_merge.proofs.FirstOnes.{Apart, group_of, none_all}
 use Rattle.po_merge.proofs.Messages.{same_message_laws}
 use Rattle.po_merge.proofs.MessagesOnce.{same_is}
 use Rattle.po_merge.proofs.OneDefinition.{merged_to_it}
