@@ -11,8 +11,8 @@ pub mod laws;
 
 pub use po_entry::{Catalogue, Entry, Fields, Previous};
 pub use po_messages::{
-    InputEntry, JoinError, MessageKey, Stats, duplicates, entry_statistics, grouped,
-    has_translation, is_live, is_live_header, joined, joined_duplicates, message_key, statistics,
+    InputEntry, JoinError, MessageKey, Stats, duplicates, grouped, has_translation, is_live,
+    is_live_header, joined, joined_duplicates, message_key, statistics,
 };
 pub use po_reader::read;
 pub use po_writer::write;

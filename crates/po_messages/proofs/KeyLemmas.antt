@@ -1,5 +1,9 @@
--- Lists made of the same elements, element by element.
-use Rattle.std.proofs.Common.{◌≡◌, refl, ap, ℕ, zero, suc, ◌+◌, ◌<◌, List, [], ◌∷◌, ◌++◌, length, get_or, take, drop, map, arith, add-one}
+-- Lists made of the same elements, element by element, and the messages that bytes begin with.
+use Rattle.std.proofs.Common.{◌≡◌, ◌∙◌, refl, ap, append_assoc, ℕ, Option, Some, None, zero, suc, ◌+◌, ◌<◌, List, [], ◌∷◌, ◌++◌, length, get_or, take, drop, map, arith, add-one}
+use Rattle.std.specs.Prelude.{unwrap_or, option_map}
+use Rattle.std.specs.Borrow.{Bor}
+use Rattle.std.specs.Option.{option_and, option_copied}
+use Rattle.std.proofs.Math.Seq.{drop-append_seam, take-append_seam}
 
 -- the element at an index, and what two functions give of it
 pub element_at : {X Y Z : Type 0} (f : X → Y) (g : X → Z) (xs : List X) (ys : List Y) (zs : List Z) (i : ℕ) (d : Y)
@@ -21,3 +25,22 @@ element_at {X = X} f g xs ys zs i d e is js inside = rw (is, js) (found xs i (rw
         later.3,
         later.4,
       )
+
+-- the context, the msgid and what is after them, by the lengths of these
+pub key_split : (context : Option (List ℕ)) (id rest bytes : List ℕ) (first : Bor (List ℕ)) (span : Option ℕ) (len : ℕ)
+    → bytes ≡ (unwrap_or context [] ++ id) ++ rest → span ≡ option_map length context → len ≡ length id
+    → first.now ≡ take (unwrap_or span 0) bytes
+    → (option_copied (option_and span (Some first)) ≡ context) × (take len (drop (unwrap_or span 0) bytes) ≡ id)
+    × (drop len (drop (unwrap_or span 0) bytes) ≡ rest)
+key_split None id rest bytes first span len is span_is len_is first_is =
+    rw (is, span_is, len_is) (refl, take-append_seam id rest, drop-append_seam id rest)
+key_split (Some context) id rest bytes first span len is span_is len_is first_is =
+    let whole : bytes ≡ context ++ (id ++ rest) = is ∙ append_assoc context id rest in
+    rw (span_is, len_is) (
+      ap (λ (t : List ℕ). Some t) ((rw span_is at first_is) ∙ ap (take (length context)) whole
+          ∙ take-append_seam context (id ++ rest)),
+      ap (λ t. take (length id) (drop (length context) t)) whole
+          ∙ ap (take (length id)) (drop-append_seam context (id ++ rest)) ∙ take-append_seam id rest,
+      ap (λ t. drop (length id) (drop (length context) t)) whole
+          ∙ ap (drop (length id)) (drop-append_seam context (id ++ rest)) ∙ drop-append_seam id rest,
+    )

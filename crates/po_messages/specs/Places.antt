@@ -8,7 +8,7 @@ use Rattle.po_messages.specs.FirstOnes.{first_ones}
 use Rattle.po_messages.specs.Joined.{InputEntry, in_input}
 use Rattle.po_messages.specs.Message.{entry_message, entry_messages, same_message}
 use Rattle.po_messages.specs.Repeats.{IsFirstRepeat}
-use Rattle.po_messages.specs.declared.places.EntryPlace.{EntryPlace}
+use Rattle.po_messages.specs.declared.repeats.EntryPlace.{EntryPlace}
 
 -- the number of an entry's message among those of a list of entries
 abbrev pub number_in : List TextEntry → TextEntry → ℕ
@@ -23,6 +23,10 @@ IsNumbered all entry = Contains (entry_messages all) (entry_message entry)
 pub record AreNumbered (all entries : List TextEntry) (numbers : List ℕ) : Type 0 where
   pub among : All (IsNumbered all) entries
   pub numbers_are : numbers ≡ map (number_in all) entries
+
+-- whether it is live, where duplicates are looked for
+abbrev pub is_looked_at : EntryPlace → Bool
+is_looked_at place = place.is_live
 
 -- where the entries stand, and which of them are looked at
 abbrev pub place_of : (TextEntry → Bool) → TextEntry → EntryPlace

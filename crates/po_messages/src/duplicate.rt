@@ -1,17 +1,17 @@
 //! The first message that is defined twice, in one catalogue or across several.
 
 ghost use Rattle.std.specs.Prelude.{◌≡◌, ◌<◌, ◌^◌, length, IfOk, MatchResult, IsOkUnless};
-ghost use Rattle.po_messages.specs.JoinedView.{input_entry, input_entries};
-ghost use Rattle.po_messages.specs.Joined.{joined, joined_entries, entries_of};
-ghost use Rattle.po_messages.specs.Duplicate.{HasNoDuplicate, IsDuplicateFault, IsDuplicateFaultOf, duplicate_fault, join_out_of_memory};
+ghost use Rattle.po_messages.specs.JoinedView.{input_entries};
+ghost use Rattle.po_messages.specs.Joined.{joined, joined_entries, entries_of, is_live};
+ghost use Rattle.po_messages.specs.Duplicate.{HasNoDuplicate, IsDuplicateFault, IsDuplicateFaultOf, join_out_of_memory};
 ghost use Rattle.po_messages.specs.Message.{entry_messages};
 ghost use Rattle.po_messages.specs.MessageView.{messages_of_keys};
+ghost use Rattle.po_messages.specs.Places.{are_placed};
 ghost use Rattle.po_entry.specs.Validity.{out_of_memory};
 
 use crate::joining::{InputEntry, add_entries, is_live, joined};
 use crate::message_index::{MessageKey, grouped, message_key};
-use crate::places::duplicate_at;
-use crate::repeats::{Placed, first_repeat};
+use crate::repeats::{EntryPlace, duplicate_at, first_repeat};
 use po_entry::Catalogue;
 use po_syntax::PoError;
 use std::alloc::{AllocError, AllocFailed, Global};
@@ -86,43 +86,37 @@ fn first_duplicate(alloc: Global, entries: &[InputEntry<'_>]) -> Result<(), Join
     ensures exact { MatchResult result (λ _. HasNoDuplicate (entries_of (input_entries entries.now)))
         (IsDuplicateFault (input_entries entries.now)) }
 {
-    let keys = keys_of(alloc, entries)?;
+    let (keys, places) = keys_of(alloc, entries)?;
     let (numbers, _) = grouped(alloc, &keys)?;
     let mut seen = Vec::new(alloc);
-    match first_repeat(&mut seen, 1, &numbers, entries)? {
-        Some((first, later)) => Err(duplicate(&entries[first], &entries[later])),
-        None => Ok(()),
-    }
+    let Some((first, later)) = first_repeat(&mut seen, 1, &numbers, &places)? else {
+        return Ok(());
+    };
+    Err(JoinError {
+        input: entries[later].input,
+        first_input: entries[first].input,
+        error: duplicate_at(places[first].line, places[later].line),
+    })
 }
 
-impl Placed for InputEntry<'_> {
-    ghost use Rattle.po_messages.specs.Joined.{is_live};
-
-    ghost live = { λ e. is_live e.entry.now };
-
-    fn is_live(&self) -> bool {
-        is_live(self.entry)
-    }
-}
-
-/// The keys of the entries' messages.
-fn keys_of<'a>(alloc: Global, entries: &[InputEntry<'a>]) -> Result<Vec<MessageKey<'a>>, AllocError>
-    ensures { IfOk result (λ keys. messages_of_keys keys.items ≡ entry_messages (entries_of (input_entries entries.now))) }
+/// The keys of the entries' messages, and where the entries stand.
+fn keys_of<'a>(
+    alloc: Global,
+    entries: &[InputEntry<'a>],
+) -> Result<(Vec<MessageKey<'a>>, Vec<EntryPlace>), AllocError>
+    ensures keys { IfOk result (λ r. messages_of_keys r.0.items
+        ≡ entry_messages (entries_of (input_entries entries.now))) }
+    ensures places { IfOk result (λ r. r.1.items ≡ are_placed is_live (entries_of (input_entries entries.now))) }
 {
     let mut keys = Vec::with_capacity(alloc, entries.len())?;
-    for entry in entries {
-        keys.push(message_key(entry.entry))?;
+    let mut places = Vec::with_capacity(alloc, entries.len())?;
+    for member in entries {
+        let entry = member.entry;
+        keys.push(message_key(entry))?;
+        places.push(EntryPlace {
+            line: entry.line(),
+            is_live: is_live(entry),
+        })?;
     }
-    Ok(keys)
-}
-
-/// What is reported of an entry that repeats an earlier one.
-fn duplicate(first: &InputEntry<'_>, later: &InputEntry<'_>) -> JoinError
-    ensures { result ≡ duplicate_fault (input_entry first.now) (input_entry later.now) }
-{
-    JoinError {
-        input: later.input,
-        first_input: first.input,
-        error: duplicate_at(first.entry.line(), later.entry.line()),
-    }
+    Ok((keys, places))
 }

@@ -1,7 +1,6 @@
 //! The entries of several catalogues as one list, with the header of the first.
 
 ghost use Rattle.std.specs.Prelude.{◌≡◌, ◌++◌, ◌<◌, ◌^◌, length, map, All, OnOk, IfOk};
-ghost use Rattle.std.specs.List.{list_any};
 ghost use Rattle.po_messages.specs.Joined.{in_input, is_live, is_live_header, kept_entries, joined, joined_entries};
 ghost use Rattle.po_entry.specs.Validity.{IsCatalogueEntry};
 ghost use Rattle.po_messages.specs.JoinedView.{input_entries};
@@ -30,7 +29,7 @@ pub fn joined(alloc: Global, catalogues: &[Catalogue]) -> Result<Vec<InputEntry<
     for (input, catalogue) in catalogues.iter().enumerate() {
         let entries = catalogue.entries();
         add_entries(&mut joined, entries, input as u32, headed)?;
-        headed = headed || has_live_header(entries);
+        headed |= entries.iter().any(|entry| is_live_header(entry));
     }
     Ok(joined)
 }
@@ -51,13 +50,6 @@ pub(crate) fn add_entries<'a>(
         }
     }
     Ok(())
-}
-
-/// Whether one of the entries is a live header.
-fn has_live_header(entries: &[Entry]) -> bool
-    ensures { result ≡ list_any is_live_header entries.now }
-{
-    entries.iter().any(|entry| is_live_header(entry))
 }
 
 /// Whether the entry is a header that isn't obsolete.

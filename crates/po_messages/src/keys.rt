@@ -1,13 +1,12 @@
 //! The messages of entries, kept apart from the entries: their contexts and msgids, one behind the
 //! other in one buffer.
 
-ghost use Rattle.std.specs.Prelude.{◌≡◌, ◌++◌, ◌∷◌, ℕ, [], IfOk, List, OnOk, Option, drop, length, map, option_map, take, unwrap_or};
+ghost use Rattle.std.specs.Prelude.{◌≡◌, ◌++◌, ◌∷◌, [], IfOk, List, OnOk, Option, drop, length, map, option_map, take, unwrap_or};
 ghost use Rattle.std.specs.Option.{option_copied};
 ghost use Rattle.po_entry.specs.TextEntry.{TextEntry};
-ghost use Rattle.po_messages.specs.Keys.{HoldKeys, key_bytes, key_lengths};
+ghost use Rattle.po_messages.specs.Keys.{HoldKeys};
 ghost use Rattle.po_messages.specs.FirstOnes.{first_ones, group_numbers};
 ghost use Rattle.po_messages.specs.Message.{entry_message, same_message};
-ghost use Rattle.po_messages.specs.MessageView.{message_of_key, messages_of_keys};
 
 use crate::message_index::{MessageKey, grouped};
 use po_entry::Entry;
@@ -37,21 +36,6 @@ pub fn split_at_most<T>(items: &[T], len: usize) -> (&[T], &[T])
     ensures rest { result.1.now ≡ drop len items.now }
 {
     items.split_at(len.min(items.len()))
-}
-
-/// The first message, whose lengths these are, and the bytes after it.
-fn split_key<'b>(bytes: &'b [u8], lengths: &KeySpans) -> (MessageKey<'b>, &'b [u8])
-    ensures { (entry : TextEntry) (rest : List ℕ) → bytes.now ≡ key_bytes entry ++ rest
-        → lengths.now ≡ key_lengths entry → (message_of_key result.0 ≡ entry_message entry) × (result.1.now ≡ rest) }
-{
-    let Some(len) = lengths.context else {
-        let (id, rest) = split_at_most(bytes, lengths.id);
-        return (MessageKey { context: None, id }, rest);
-    };
-    let (context, after) = split_at_most(bytes, len);
-    let (id, rest) = split_at_most(after, lengths.id);
-    let context = Some(context);
-    (MessageKey { context, id }, rest)
 }
 
 /// Appends a text that may be absent. Returns its length, where there is one.
@@ -99,8 +83,10 @@ impl KeyBuffer {
         let mut keys = Vec::with_capacity(alloc, self.lengths.len())?;
         let mut rest = self.bytes.as_slice();
         for lengths in &self.lengths {
-            let (key, after) = split_key(rest, lengths);
-            keys.push(key)?;
+            let (context, after) = split_at_most(rest, lengths.context.unwrap_or(0));
+            let (id, after) = split_at_most(after, lengths.id);
+            let context = lengths.context.and(Some(context));
+            keys.push(MessageKey { context, id })?;
             rest = after;
         }
         grouped(alloc, &keys)

@@ -7,7 +7,8 @@
 //! translated. Of entries that are dropped before all are read, a [`KeyBuffer`] keeps the messages, by
 //! whose numbers [`repeated_lines`] finds the live ones that repeat an earlier one.
 //!
-//! The modules in reading order: `joining`, `message_index`, `keys`, `repeats`, `places`, `duplicate`, `stats`, `laws`.
+//! The modules in reading order: `joining`, `message_index`, `keys`, `repeats`, `duplicate`, `stats`,
+//! `laws`.
 
 #![tactic(auto)]
 
@@ -16,7 +17,6 @@ mod joining;
 mod keys;
 pub mod laws;
 mod message_index;
-mod places;
 mod repeats;
 mod stats;
 
@@ -24,6 +24,5 @@ pub use crate::duplicate::{JoinError, duplicates, joined_duplicates};
 pub use crate::joining::{InputEntry, is_live, is_live_header, joined};
 pub use crate::keys::{KeyBuffer, KeySpans, split_at_most};
 pub use crate::message_index::{MessageKey, grouped, message_key};
-pub use crate::places::{EntryPlace, duplicate_at, repeated_lines};
-pub use crate::repeats::Seen;
-pub use crate::stats::{Stats, entry_statistics, has_translation, statistics};
+pub use crate::repeats::{EntryPlace, Seen, duplicate_at, repeated_lines};
+pub use crate::stats::{Stats, has_translation, statistics};

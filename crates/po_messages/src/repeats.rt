@@ -1,8 +1,13 @@
-//! Numbers that stand twice in a list.
+//! Live entries that repeat an earlier one, by the numbers of their messages.
 
-ghost use Rattle.std.specs.Prelude.{◌≡◌, ◌≢◌, ◌<◌, ℕ, Bool, IfOk, MatchOption, OnOk, Some, length};
+ghost use Rattle.std.specs.Prelude.{◌≡◌, ◌≢◌, ◌<◌, ℕ, Bool, IfOk, List, MatchOption, OnOk, Some, filter, length};
+ghost use Rattle.po_entry.specs.TextEntry.{TextEntry};
+ghost use Rattle.po_syntax.specs.declared.fault.PoFault.{PoFault};
+ghost use Rattle.po_messages.specs.Duplicate.{AllDiffer};
+ghost use Rattle.po_messages.specs.Places.{AreNumbered, RepeatsOnLines, are_placed, is_looked_at};
 ghost use Rattle.po_messages.specs.Repeats.{DifferUpTo, IsUnseen, RepeatsAt, index_seen};
 
+use po_syntax::{PoError, PoFault};
 use std::alloc::AllocError;
 use std::mem::replace;
 
@@ -16,13 +21,13 @@ pub struct Seen {
     pub index: usize,
 }
 
-/// What is looked at, or left out, where numbers are looked for that stand twice.
-pub(crate) trait Placed {
-    ghost live: { Self → Bool };
-
-    /// Whether it is looked at.
-    fn is_live(&self) -> bool
-        ensures { result ≡ live self.now };
+/// Where an entry stands, and whether it is looked at.
+#[derive(Clone, Copy)]
+pub struct EntryPlace {
+    /// The line of its msgid.
+    pub line: u32,
+    /// Whether it is live, where duplicates are looked for.
+    pub is_live: bool,
 }
 
 /// Keeps the index of a number in this round. Returns the index that was kept before in it.
@@ -47,24 +52,26 @@ fn keep_index(
     Ok((before.round == round).then_some(before.index))
 }
 
-/// Of things with these numbers, the earliest live one that has the number of an earlier live one:
-/// the indexes of both. The table has none of this round, and is left so for later ones.
-pub(crate) fn first_repeat<T: Placed>(
+/// Of the entries of these numbers and places, the earliest live one that has the number of an
+/// earlier live one: the indexes of both. The table has none of this round, and is left so for
+/// later ones.
+pub(crate) fn first_repeat(
     seen: &mut Vec<Seen>,
     round: usize,
     numbers: &[usize],
-    things: &[T],
+    places: &[EntryPlace],
 ) -> Result<Option<(usize, usize)>, AllocError>
-    requires lengths { length numbers.now ≡ length things.now }
+    requires lengths { length numbers.now ≡ length places.now }
     requires round { 0 < round }
     requires unseen { IsUnseen round seen.old.items }
-    ensures found { IfOk result (λ found. MatchOption found (DifferUpTo T.live numbers.now things.now (length things.now))
-        (λ at. RepeatsAt T.live numbers.now things.now at.0 at.1)) }
+    ensures found { IfOk result (λ found. MatchOption found
+        (DifferUpTo is_looked_at numbers.now places.now (length places.now))
+        (λ at. RepeatsAt is_looked_at numbers.now places.now at.0 at.1)) }
     ensures later { OnOk result ((later : ℕ) → round < later → IsUnseen later seen.old.items
         → IsUnseen later seen.new.items) }
 {
-    for (later, thing) in things.iter().enumerate() {
-        if !thing.is_live() {
+    for (later, place) in places.iter().enumerate() {
+        if !place.is_live {
             continue;
         }
         if let Some(first) = keep_index(seen, round, numbers[later], later)? {
@@ -72,4 +79,37 @@ pub(crate) fn first_repeat<T: Placed>(
         }
     }
     Ok(None)
+}
+
+/// Of the entries of these numbers and places, the earliest live one that repeats an earlier live
+/// one: the lines of both. The table has none of this round, and is left so for later ones.
+pub fn repeated_lines(
+    seen: &mut Vec<Seen>,
+    round: usize,
+    numbers: &[usize],
+    places: &[EntryPlace],
+) -> Result<Option<(u32, u32)>, AllocError>
+    requires lengths { length numbers.now ≡ length places.now }
+    requires round { 0 < round }
+    requires unseen { IsUnseen round seen.old.items }
+    ensures found { IfOk result (λ found. (all entries : List TextEntry) (is_there : TextEntry → Bool)
+        → AreNumbered all entries numbers.now → places.now ≡ are_placed is_there entries
+        → MatchOption found (AllDiffer (filter is_there entries)) (RepeatsOnLines (filter is_there entries))) }
+    ensures later { OnOk result ((later : ℕ) → round < later → IsUnseen later seen.old.items
+        → IsUnseen later seen.new.items) }
+{
+    match first_repeat(seen, round, numbers, places)? {
+        Some((first, later)) => Ok(Some((places[first].line, places[later].line))),
+        None => Ok(None),
+    }
+}
+
+/// The fault of a message that stands on this line and, again, on a later one.
+pub fn duplicate_at(first: u32, line: u32) -> PoError
+    ensures { result ≡ record { kind = PoFault.Duplicate first; line = line } }
+{
+    PoError {
+        kind: PoFault::Duplicate(first),
+        line,
+    }
 }

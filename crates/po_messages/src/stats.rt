@@ -62,20 +62,12 @@ impl Stats {
 pub fn statistics(catalogue: &Catalogue) -> Stats
     ensures { result ≡ stats_of catalogue.now }
 {
-    entry_statistics(catalogue.entries())
-}
-
-/// How many of these entries, if live, are translated, fuzzy and untranslated. A header isn't
-/// counted.
-pub fn entry_statistics(entries: &[Entry]) -> Stats
-    ensures { result ≡ stats_of entries.now }
-{
     let mut stats = Stats {
         translated: 0,
         fuzzy: 0,
         untranslated: 0,
     };
-    for entry in entries {
+    for entry in catalogue.entries() {
         stats.add(entry);
     }
     stats

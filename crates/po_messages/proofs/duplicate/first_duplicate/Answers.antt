@@ -1,69 +1,54 @@
-use Rattle.std.proofs.Common.{◌∙◌, ◌≡◌, ◌<◌, ℕ, [], Bool, List, None, ap, arith, get_or, inr, length, subst, sym}
+use Rattle.std.proofs.Common.{◌∙◌, ◌<◌, ap, ap₂, arith, false, get_or, inr, length, subst, sym}
 use Rattle.std.specs.Prelude.{MatchOption}
 use Rattle.std.proofs.lemmas.List.{get_or-map, length-map}
-use Rattle.po_entry.specs.TextEntry.{plain_entry}
+use Rattle.po_syntax.specs.declared.fault.PoError.{PoError}
+use Rattle.po_syntax.specs.declared.fault.PoFault.TheVariants.{Duplicate}
 use Rattle.po_messages.specs.FirstOnes.{group_numbers}
-use Rattle.po_messages.specs.Joined.{InputEntry, is_live}
+use Rattle.po_messages.specs.Joined.{InputEntry, entries_of, is_live}
 use Rattle.po_messages.specs.JoinedView.{input_entries, input_entry}
 use Rattle.po_messages.specs.Message.{same_message}
 use Rattle.po_messages.specs.MessageView.{messages_of_keys}
+use Rattle.po_messages.specs.Places.{is_looked_at, place_of}
 use Rattle.po_messages.specs.Repeats.{DifferUpTo, RepeatsAt}
 use Rattle.po_messages.specs.declared.joining.InputEntry.{InputEntry as BorrowedEntry}
-use Rattle.po_messages.proofs.DuplicateLemmas.{duplicate_found, live_differ, number, numbers_of}
+use Rattle.po_messages.specs.declared.repeats.EntryPlace.{EntryPlace}
+use Rattle.po_messages.proofs.DuplicateLemmas.{duplicate_found, live_differ, number, numbers_of, placed_at}
 use Rattle.po_messages.proofs.RepeatLemmas.{all_differ, none_kept, repeat_of}
 use Rattle.po_messages.proofs.duplicate.first_duplicate.Goals as goal
 
-none : BorrowedEntry
-none = record { input = 0; entry = record { ref_ptr = (0, 0); now = plain_entry None [] None [] } }
-
-abbrev live : BorrowedEntry → Bool
-live e = is_live e.entry.now
-
-lives : (entries : List BorrowedEntry) (i : ℕ) (d : BorrowedEntry) (e : InputEntry) → i < length (input_entries entries)
-    → live (get_or entries i d) ≡ is_live (get_or (input_entries entries) i e).entry
-lives entries i d e inside =
-    ap (λ (x : InputEntry). is_live x.entry)
-    (sym (get_or-map input_entry entries i d e (omega (arith, inside, length-map entries input_entry))))
+none : EntryPlace
+none = record { line = 0; is_live = false }
 
 pub first_repeat-requires : goal.first_repeat-requires
 first_repeat-requires c =
     let xs = input_entries c.args.entries.now in
     let are = numbers_of xs c.deref-2.result.now
     (c.deref-2.ensures.value ∙ c.in_ok-numbers.ensures.numbers
-    ∙ ap (group_numbers same_message) (ap messages_of_keys c.deref.ensures.value ∙ c.in_ok-keys.ensures)) in
+    ∙ ap (group_numbers same_message) (ap messages_of_keys c.deref.ensures.value ∙ c.in_ok-keys.ensures.keys)) in
     record {
-      lengths = ap length are ∙ length-map xs (number xs) ∙ length-map c.args.entries.now input_entry;
+      lengths = ap length are ∙ length-map xs (number xs)
+          ∙ sym (ap length (c.deref-3.ensures.value ∙ c.in_ok-keys.ensures.places)
+          ∙ length-map (entries_of xs) (place_of is_live) ∙ length-map xs (λ e. e.entry));
       round = omega arith;
       unseen = none_kept c.new-seen.result.items c.new-seen.ensures.items 1 (omega arith);
     }
 
-pub returns-in-Some : goal.returns-in-Some
-returns-in-Some c =
-    let entries = c.args.entries.now in
-    let xs = input_entries entries in
+pub returns-in_default : goal.returns-in_default
+returns-in_default c =
+    let xs = input_entries c.args.entries.now in
     let numbers = c.deref-2.result.now in
+    let places = c.deref-3.result.now in
     let are = numbers_of xs numbers
     (c.deref-2.ensures.value ∙ c.in_ok-numbers.ensures.numbers
-    ∙ ap (group_numbers same_message) (ap messages_of_keys c.deref.ensures.value ∙ c.in_ok-keys.ensures)) in
-    let found = subst (λ o. MatchOption o (DifferUpTo live numbers entries (length entries))
-    (λ at. RepeatsAt live numbers entries at.0 at.1)) c.in-Some.is c.in_ok-first.ensures.found in
-    let a = c.index-entries-first.result in
-    let b = c.index-entries-later.result in
-    let inside : c.in-Some.later < length entries = omega (arith, found.within) in
-    let at = λ (i : ℕ) (x : BorrowedEntry) (is : x ≡ get_or entries i x) (below : i < length entries). ap input_entry is
-    ∙ sym (get_or-map input_entry entries i x (input_entry x) below) in
-    let repeat = repeat_of (number xs) (λ e. is_live e.entry) live xs entries numbers are
-    (lives entries) a c.in-Some.first c.in-Some.later (input_entry a) (input_entry b)
-    (omega (arith, inside, length-map entries input_entry))
-    (at c.in-Some.first a c.index-entries-first.is (omega (arith, found.earlier, inside)))
-    (at c.in-Some.later b c.index-entries-later.is inside) found in
+    ∙ ap (group_numbers same_message) (ap messages_of_keys c.deref.ensures.value ∙ c.in_ok-keys.ensures.keys)) in
+    let placed = c.deref-3.ensures.value ∙ c.in_ok-keys.ensures.places in
+    let found = subst (λ o. MatchOption o (DifferUpTo is_looked_at numbers places (length places))
+    (λ at. RepeatsAt is_looked_at numbers places at.0 at.1)) c.in_default.is c.in_ok-first.ensures.found in
     record {
-      exact = inr (
-        input_entry a,
-        input_entry b,
-        duplicate_found xs (input_entry a) (input_entry b) repeat,
-        c.duplicate.ensures,
-      );
+      exact = live_differ xs
+          (all_differ (number xs) (λ e. is_live e.entry) is_looked_at xs places numbers are
+          (λ i d e inside. ap is_looked_at (placed_at xs places placed i d e inside)) none (length places)
+          (ap length placed ∙ length-map (entries_of xs) (place_of is_live) ∙ length-map xs (λ e. e.entry)) found);
     }
 
 pub returns : goal.returns
@@ -71,14 +56,51 @@ returns c =
     let entries = c.args.entries.now in
     let xs = input_entries entries in
     let numbers = c.deref-2.result.now in
+    let places = c.deref-3.result.now in
     let are = numbers_of xs numbers
     (c.deref-2.ensures.value ∙ c.in_ok-numbers.ensures.numbers
-    ∙ ap (group_numbers same_message) (ap messages_of_keys c.deref.ensures.value ∙ c.in_ok-keys.ensures)) in
-    let found = subst (λ o. MatchOption o (DifferUpTo live numbers entries (length entries))
-    (λ at. RepeatsAt live numbers entries at.0 at.1)) c.in-None.is c.in_ok-first.ensures.found in
+    ∙ ap (group_numbers same_message) (ap messages_of_keys c.deref.ensures.value ∙ c.in_ok-keys.ensures.keys)) in
+    let placed = c.deref-3.ensures.value ∙ c.in_ok-keys.ensures.places in
+    let found = subst (λ o. MatchOption o (DifferUpTo is_looked_at numbers places (length places))
+    (λ at. RepeatsAt is_looked_at numbers places at.0 at.1)) c.in-Some.is c.in_ok-first.ensures.found in
+    let i = c.in-Some.first in
+    let j = c.in-Some.later in
+    let a = input_entry c.index-entries-first.result in
+    let b = input_entry c.index-entries-later.result in
+    let inside : j < length xs =
+    omega (
+      arith,
+      found.within,
+      ap length placed,
+      length-map (entries_of xs) (place_of is_live),
+      length-map xs (λ (e : InputEntry). e.entry),
+    ) in
+    let within : i < length xs = omega (arith, found.earlier, inside) in
+    let here = ap input_entry c.index-entries-first.is
+    ∙ sym (get_or-map input_entry entries i c.index-entries-first.result a
+    (omega (arith, within, length-map entries input_entry))) in
+    let there = ap input_entry c.index-entries-later.is
+    ∙ sym (get_or-map input_entry entries j c.index-entries-later.result b
+    (omega (arith, inside, length-map entries input_entry))) in
+    let lives = placed_at xs places placed in
+    let repeat = repeat_of (number xs) (λ e. is_live e.entry) is_looked_at xs places numbers are
+    (λ k d e below. ap is_looked_at (lives k d e below)) none i j a b inside here there found in
     record {
-      exact = live_differ xs
-          (all_differ (number xs) (λ e. is_live e.entry) live xs entries numbers are (lives entries) none
-          (length entries)
-          (sym (length-map entries input_entry)) found);
+      exact = inr (
+        a,
+        b,
+        duplicate_found xs a b repeat,
+        ap₂ (λ (first later : BorrowedEntry). record {
+          input = later.input;
+          first_input = first.input;
+          error = c.duplicate_at.result;
+        }) (sym c.index-entries-first.is) (sym c.index-entries-later.is)
+            ∙ ap (λ (e : PoError). record { input = b.input; first_input = a.input; error = e })
+            (c.duplicate_at.ensures
+            ∙ ap₂ (λ (first later : EntryPlace). record { kind = Duplicate first.line; line = later.line })
+            (c.index.ensures ∙ ap (λ l. get_or l i c.index.result.now) (sym c.deref-3.ensures.value)
+            ∙ lives i c.index.result.now a within ∙ ap (λ (e : InputEntry). place_of is_live e.entry) (sym here))
+            (c.index-2.ensures ∙ ap (λ l. get_or l j c.index-2.result.now) (sym c.deref-3.ensures.value)
+            ∙ lives j c.index-2.result.now b inside ∙ ap (λ (e : InputEntry). place_of is_live e.entry) (sym there))),
+      );
     }

@@ -1,13 +1,19 @@
-use Rattle.std.proofs.Common.{arith}
+use Rattle.std.proofs.Common.{arith, rules}
+use Rattle.std.proofs.lemmas.Iterator.{YieldsList-from_slice}
+use Rattle.std.proofs.lemmas.Iterator.Search.{any_from_yields_List}
 use Rattle.std.proofs.lemmas.Grind.{common_steps}
+use Rattle.po_messages.specs.Joined.{is_live_header}
 use Rattle.po_messages.specs.JoinedView.{input_entries}
 use Rattle.po_messages.proofs.JoiningLemmas.{valid_more}
 use Rattle.po_messages.proofs.joining.joined.Goals as goal
 
 pub loop-input-preserved : goal.loop-input-preserved
-loop-input-preserved c = record {
-  whole = grind (arith, common_steps);
-  valid = valid_more (input_entries c.loop-input.joined.items) _ c.loop-input.input c.loop-input.headed
-      c.entries-entries.result.now c.in_ok-add_entries.ensures c.loop-input.invariant.valid
-      c.entries-entries.ensures.valid;
-}
+loop-input-preserved c =
+    let some = any_from_yields_List is_live_header _ _ c.any-headed.result c.any-headed.ensures.ran
+    (YieldsList-from_slice c.entries-entries.result.now c.iter.ensures.rest) (λ x b q k. search rules) in
+    record {
+      whole = grind (arith, common_steps, some);
+      valid = valid_more (input_entries c.loop-input.joined.items) _ c.loop-input.input c.loop-input.headed
+          c.entries-entries.result.now c.in_ok-add_entries.ensures c.loop-input.invariant.valid
+          c.entries-entries.ensures.valid;
+    }

@@ -3,21 +3,18 @@ use Rattle.std.specs.Prelude.{MatchOption}
 use Rattle.std.proofs.lemmas.List.{get_or-map, get_or_default, length-map}
 use Rattle.std.proofs.lemmas.List.Elements.{All-filter}
 use Rattle.po_entry.specs.TextEntry.{TextEntry, plain_entry}
-use Rattle.po_messages.specs.Places.{IsNumbered, are_placed, number_in, place_of}
+use Rattle.po_messages.specs.Places.{IsNumbered, are_placed, is_looked_at, number_in, place_of}
 use Rattle.po_messages.specs.Repeats.{DifferUpTo, RepeatsAt}
-use Rattle.po_messages.specs.declared.places.EntryPlace.{EntryPlace}
+use Rattle.po_messages.specs.declared.repeats.EntryPlace.{EntryPlace}
 use Rattle.po_messages.proofs.NumberLemmas.{message_repeats, messages_differ}
 use Rattle.po_messages.proofs.RepeatLemmas.{all_differ, repeat_of}
-use Rattle.po_messages.proofs.places.repeated_lines.Goals as goal
+use Rattle.po_messages.proofs.repeats.repeated_lines.Goals as goal
 
 abbrev none : EntryPlace
 none = record { line = 0; is_live = false }
 
 no_entry : TextEntry
 no_entry = plain_entry None [] None []
-
-abbrev live : EntryPlace → Bool
-live place = place.is_live
 
 -- the place of the entry at an index
 at : (is_there : TextEntry → Bool) (entries : List TextEntry) (places : List EntryPlace)
@@ -30,8 +27,8 @@ pub returns-in-Some-clause-found : goal.returns-in-Some-clause-found
 returns-in-Some-clause-found c = λ all entries is_there are placed.
     let numbers = c.args.numbers.now in
     let places = c.args.places.now in
-    let found = subst (λ o. MatchOption o (DifferUpTo live numbers places (length places))
-    (λ at. RepeatsAt live numbers places at.0 at.1)) c.in-Some.is c.in_ok-first.ensures.found in
+    let found = subst (λ o. MatchOption o (DifferUpTo is_looked_at numbers places (length places))
+    (λ at. RepeatsAt is_looked_at numbers places at.0 at.1)) c.in-Some.is c.in_ok-first.ensures.found in
     let i = c.in-Some.first in
     let j = c.in-Some.later in
     let inside : j < length entries =
@@ -40,8 +37,8 @@ returns-in-Some-clause-found c = λ all entries is_there are placed.
     let a = get_or entries i no_entry in
     let b = get_or entries j no_entry in
     let here = at is_there entries places placed in
-    let repeat = repeat_of (number_in all) is_there live entries places numbers are.numbers_are
-    (λ k d e below. ap live (here k d e below)) none i j a b inside (get_or_default entries i no_entry a within)
+    let repeat = repeat_of (number_in all) is_there is_looked_at entries places numbers are.numbers_are
+    (λ k d e below. ap is_looked_at (here k d e below)) none i j a b inside (get_or_default entries i no_entry a within)
     (get_or_default entries j no_entry b inside) found in (
       a,
       b,
@@ -54,9 +51,9 @@ pub returns-in-None-clause-found : goal.returns-in-None-clause-found
 returns-in-None-clause-found c = λ all entries is_there are placed.
     let numbers = c.args.numbers.now in
     let places = c.args.places.now in
-    let found = subst (λ o. MatchOption o (DifferUpTo live numbers places (length places))
-    (λ at. RepeatsAt live numbers places at.0 at.1)) c.in-None.is c.in_ok-first.ensures.found in
+    let found = subst (λ o. MatchOption o (DifferUpTo is_looked_at numbers places (length places))
+    (λ at. RepeatsAt is_looked_at numbers places at.0 at.1)) c.in-None.is c.in_ok-first.ensures.found in
     messages_differ all (λ e. e) (filter is_there entries)
-    (all_differ (number_in all) is_there live entries places numbers are.numbers_are
-    (λ k d e below. ap live (at is_there entries places placed k d e below)) none (length places)
+    (all_differ (number_in all) is_there is_looked_at entries places numbers are.numbers_are
+    (λ k d e below. ap is_looked_at (at is_there entries places placed k d e below)) none (length places)
     (ap length placed ∙ length-map entries (place_of is_there)) found)
