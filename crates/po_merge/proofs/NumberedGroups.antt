@@ -10,7 +10,7 @@ use Rattle.std.proofs.lemmas.List.Elements.{filter_agree}
 use Rattle.std.specs.Cmp.{IsEquivalence}
 use Rattle.po_merge.specs.Inputs.{NamedEntry}
 use Rattle.po_messages.specs.Facts.Mapped.{cond_ap}
-use Rattle.po_messages.specs.FirstOnes.{first_ones as firsts_of}
+use Rattle.po_messages.specs.FirstOnes.{first_ones as firsts_of, group_numbers}
 use Rattle.po_messages.specs.Message.{Message, entry_message, same_message as one_message}
 use Rattle.po_merge.specs.declared.definition.NamedEntry.{NamedEntry as BorrowedEntry}
 use Rattle.po_merge.specs.InputsView.{named_entries, named_entry}
@@ -116,13 +116,14 @@ module _ (es : List NamedEntry) where
       ∙ groups_from (message_numbers es) numbers_are [] F (length F) refl refl
 
 -- the groups of definitions are those of their entries
-pub groups_are : (ds : List BorrowedEntry) (ns : List ℕ) (all : List (Vec BorrowedEntry))
-    → ns ≡ message_numbers (named_entries ds)
-    → map (λ g. g.items) all ≡ by_number (length (firsts_of one_message (named_messages (named_entries ds)))) ns ds
-    → group_entries all ≡ groups (named_entries ds)
-groups_are ds ns all numbers are =
+pub groups_made : (ds : List BorrowedEntry) (messages : List Message) (ns : List ℕ) (count : ℕ)
+    (all : List (Vec BorrowedEntry)) → messages ≡ named_messages (named_entries ds)
+    → ns ≡ group_numbers one_message messages → count ≡ length (firsts_of one_message messages)
+    → map (λ g. g.items) all ≡ by_number count ns ds → group_entries all ≡ groups (named_entries ds)
+groups_made ds messages ns count all of_entries numbers counted are =
     let es = named_entries ds in
-    let count = length (firsts_of one_message (named_messages es)) in
     sym (map-map named_entries (λ (g : Vec BorrowedEntry). g.items) all) ∙ ap (map named_entries) are
     ∙ by_number-mapped named_entry count ns ds
-    ∙ ap (λ (l : List ℕ). by_number count l es) numbers ∙ groups_by_number es
+    ∙ ap₂ (λ (n : ℕ) (l : List ℕ). by_number n l es)
+    (counted ∙ ap (λ l. length (firsts_of one_message l)) of_entries)
+    (numbers ∙ ap (group_numbers one_message) of_entries) ∙ groups_by_number es

@@ -17,7 +17,6 @@ use Rattle.po_merge.specs.Inputs.{NamedEntry}
 use Rattle.po_merge.specs.InputsView.{named_entry, named_entries}
 use Rattle.po_merge.specs.Groups.{with_new, first_ones}
 use Rattle.po_merge.specs.MergedEntry.{with_others, collected, same_forms, translations, form_count, joined_form, marked}
-use Rattle.po_merge.specs.Internal.FormsByIndex.{with_form}
 
 pub texts_more : (others : List (Vec ℕ)) (i : ℕ) (x : Vec ℕ) → i < length others → x ≡ get_or others i x
     → texts (take (i + 1) others) ≡ texts (take i others) ++ x.items ∷ []
@@ -89,6 +88,10 @@ joined_form_more ds i index d form below at is =
     (named_entries (take i ds)) (named_entry d)
     ∙ ap (λ (o : Option (List ℕ)). joined_form (named_entries (take i ds)) index
     ++ option_map_or (marked d.name.now) o []) is
+
+-- the translations that have a form of this index
+abbrev pub with_form : ℕ → List NamedEntry → List NamedEntry
+with_form index ts = filter (λ t. nat_lt index (length t.entry.forms)) ts
 
 -- dropping what has no form of this index, nor of a later one, changes no such form
 pub with_form_keeps : (index j : ℕ) (ts : List NamedEntry) → index ≤ j

@@ -64,14 +64,6 @@ fn is_wanted(options: &MergeOptions, count: usize) -> bool
     (options.more_than as usize) < count && is_below && (!options.unique || count < 2)
 }
 
-/// Whether the message of these definitions is kept.
-fn is_kept<T: Member>(definitions: &[T], options: &MergeOptions) -> bool
-    ensures { result ≡ is_kept_by T.header options.now definitions.now }
-{
-    definitions.iter().any(|definition| definition.is_header())
-        || is_wanted(options, definitions.len())
-}
-
 /// Leaves the definitions of a group's message: its live members, or all where none is live.
 fn keep_definitions<T: Member>(group: &mut Vec<T>)
     ensures { group.new.items ≡ definitions_by T.live group.old.items }
@@ -89,10 +81,11 @@ pub fn kept_definitions<T: Member>(group: Vec<T>, options: &MergeOptions) -> Opt
 {
     let mut definitions = group;
     keep_definitions(&mut definitions);
-    if !is_kept(&definitions, options) {
-        return None;
+    let has_header = definitions.iter().any(|definition| definition.is_header());
+    if has_header || is_wanted(options, definitions.len()) {
+        return Some(definitions);
     }
-    Some(definitions)
+    None
 }
 
 /// A part that some definitions have.

@@ -3,8 +3,8 @@
 ghost use Rattle.std.specs.Prelude.{◌≡◌, ◌<◌, ◌++◌, All, IfOk, IsUtf8, OnOk, length, map};
 ghost use Rattle.po_messages.specs.MessageView.{messages_of_keys};
 ghost use Rattle.po_entry.specs.Bytes.{Lacks};
-ghost use Rattle.po_merge.specs.Grouping.{IsDefinition, group_entries, named_messages};
-ghost use Rattle.po_merge.specs.Groups.{by_number, groups};
+ghost use Rattle.po_merge.specs.Grouping.{IsDefinition, named_messages};
+ghost use Rattle.po_merge.specs.Groups.{by_number};
 ghost use Rattle.po_merge.specs.Inputs.{named, all_entries};
 ghost use Rattle.po_merge.specs.InputsView.{inputs_view, named_entries};
 
@@ -31,7 +31,7 @@ fn push_all<'a>(
 }
 
 /// The entries of the inputs, in order.
-fn all_entries<'a>(
+pub(crate) fn all_entries<'a>(
     alloc: Global,
     inputs: &'a [Named<'a>],
 ) -> Result<Vec<NamedEntry<'a>>, AllocError>
@@ -47,7 +47,10 @@ fn all_entries<'a>(
 }
 
 /// The keys of the entries' messages.
-fn keys_of<'a>(alloc: Global, entries: &[NamedEntry<'a>]) -> Result<Vec<MessageKey<'a>>, AllocError>
+pub(crate) fn keys_of<'a>(
+    alloc: Global,
+    entries: &[NamedEntry<'a>],
+) -> Result<Vec<MessageKey<'a>>, AllocError>
     ensures { IfOk result (λ keys. messages_of_keys keys.items ≡ named_messages (named_entries entries.now)) }
 {
     let mut keys = Vec::with_capacity(alloc, entries.len())?;
@@ -77,19 +80,4 @@ pub fn groups_of<T: Copy>(
         groups[numbers[index]].push(*thing)?;
     }
     Ok(groups)
-}
-
-/// The entries of the inputs, grouped by their messages.
-pub(crate) fn grouped<'a>(
-    alloc: Global,
-    inputs: &'a [Named<'a>],
-) -> Result<Vec<Vec<NamedEntry<'a>>>, AllocError>
-    requires { All (λ input. Lacks 0 input.name.now) inputs.now }
-    ensures groups { IfOk result (λ all. group_entries all.items ≡ groups (all_entries (inputs_view inputs.now))) }
-    ensures valid { OnOk result (All IsDefinition (all_entries (inputs_view inputs.now))) }
-{
-    let entries = all_entries(alloc, inputs)?;
-    let keys = keys_of(alloc, &entries)?;
-    let (numbers, count) = po_messages::grouped(alloc, &keys)?;
-    groups_of(alloc, &entries, &numbers, count)
 }

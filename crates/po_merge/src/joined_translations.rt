@@ -1,10 +1,9 @@
 //! Translations that differ, joined in one with the names of their files between.
 
-ghost use Rattle.std.specs.Prelude.{◌≡◌, ◌<◌, ◌++◌, IfOk, OnOk};
+ghost use Rattle.std.specs.Prelude.{◌≡◌, ◌<◌, ◌++◌, IfOk, OnOk, length, nat_lt};
 ghost use Rattle.po_entry.specs.TextEntry.{texts};
 ghost use Rattle.po_merge.specs.InputsView.{named_entries};
-ghost use Rattle.po_merge.specs.Internal.FormsByIndex.{with_form};
-ghost use Rattle.po_merge.specs.MergedEntry.{ended, form_count, joined_form, joined_forms, marked, translations};
+ghost use Rattle.po_merge.specs.MergedEntry.{form_count, joined_form, joined_forms, marked, translations};
 
 use crate::definition::NamedEntry;
 use po_messages::has_translation;
@@ -43,17 +42,6 @@ fn form_count(translations: &[NamedEntry<'_>]) -> usize
     count
 }
 
-/// Appends a form, and a LF if it doesn't end with one.
-fn push_ended(joined: &mut Vec<u8>, form: &[u8]) -> Result<(), AllocError>
-    ensures { OnOk result (joined.new.items ≡ joined.old.items ++ ended form.now) }
-{
-    joined.extend_from_slice(form)?;
-    if form.ends_with(b"\n") {
-        return Ok(());
-    }
-    joined.extend_from_slice(b"\n")
-}
-
 /// Appends a line that names the input of a form, then the form, and a LF if it doesn't end with
 /// one.
 fn push_marked(joined: &mut Vec<u8>, name: &str, form: &[u8]) -> Result<(), AllocError>
@@ -62,8 +50,11 @@ fn push_marked(joined: &mut Vec<u8>, name: &str, form: &[u8]) -> Result<(), Allo
     joined.extend_from_slice(b"#-#-#-#-#  ")?;
     joined.extend_from_slice(name.as_bytes())?;
     joined.extend_from_slice(b"  #-#-#-#-#\n")?;
-    push_ended(joined, form)?;
-    Ok(())
+    joined.extend_from_slice(form)?;
+    if form.ends_with(b"\n") {
+        return Ok(());
+    }
+    Ok(joined.extend_from_slice(b"\n")?)
 }
 
 /// The forms of this index, joined, of the translations that have such a form.
@@ -85,23 +76,6 @@ fn joined_form(
     Ok(joined)
 }
 
-/// The translations that have a form of this index.
-fn with_form<'a>(
-    alloc: Global,
-    translations: &[NamedEntry<'a>],
-    index: usize,
-) -> Result<Vec<NamedEntry<'a>>, AllocError>
-    ensures { IfOk result (λ found. named_entries found.items ≡ with_form index (named_entries translations.now)) }
-{
-    let mut found = Vec::new(alloc);
-    for translation in translations {
-        if index < translation.entry.forms().len() {
-            found.push(*translation)?;
-        }
-    }
-    Ok(found)
-}
-
 /// The forms of the translations, joined index by index. Those that have no more forms are dropped
 /// on the way.
 pub(crate) fn joined_forms(
@@ -115,7 +89,12 @@ pub(crate) fn joined_forms(
     let mut forms = Vec::with_capacity(alloc, count)?;
     for index in 0..count {
         forms.push(joined_form(alloc, &translations, index)?)?;
-        translations = with_form(alloc, &translations, index + 1)?;
+        let next = index + 1;
+        translations.retain(
+            |translation|
+                ensures { result ≡ nat_lt next (length translation.now.entry.now.forms) }
+            { next < translation.entry.forms().len() },
+        );
     }
     Ok(forms)
 }

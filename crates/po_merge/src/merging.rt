@@ -11,11 +11,12 @@ ghost use Rattle.po_merge.specs.Merged.{IsMergeFault, merged, merged_messages};
 
 use crate::comments::comment_of;
 use crate::definition::{NamedEntry, Part, first_with, kept_definitions};
-use crate::grouping::grouped;
+use crate::grouping::{all_entries, groups_of, keys_of};
 use crate::input::{MergeOptions, Named};
 use crate::joined_translations::{joined_forms, translations};
 use po_entry::{Catalogue, Entry, copy_optional, copy_texts};
-use po_syntax::{CommentKind, PoError, PoFault};
+use po_messages::grouped;
+use po_syntax::{CommentKind, PoError};
 use std::alloc::{AllocError, Global};
 
 /// The forms of the first translation, or else of the first definition, and whether that definition
@@ -53,8 +54,8 @@ fn merged_forms(
     Ok((joined_forms(alloc, found)?, true))
 }
 
-/// What the definitions of one message are merged to, where there are several.
-fn joined_entry(
+/// What the definitions of one message are merged to.
+fn merged_entry(
     alloc: Global,
     options: &MergeOptions,
     definitions: &[NamedEntry<'_>],
@@ -64,6 +65,12 @@ fn joined_entry(
     ensures { IfOk result (λ entry. entry ≡ merged_entry options.now (named_entries definitions.now)) }
 {
     let first = definitions[0].entry;
+    if definitions.len() < 2 {
+        return match first.copy(alloc) {
+            Ok(entry) => Ok(entry),
+            Err(_) => Err(AllocError),
+        };
+    }
     let (forms, fuzzy) = merged_forms(alloc, options, definitions)?;
     Ok(Entry::of_fields(
         comment_of(alloc, options, CommentKind::Translator, definitions)?,
@@ -81,25 +88,6 @@ fn joined_entry(
         first.obsolete(),
         first.line(),
     ))
-}
-
-/// What the definitions of one message are merged to.
-fn merged_entry(
-    alloc: Global,
-    options: &MergeOptions,
-    definitions: &[NamedEntry<'_>],
-) -> Result<Entry, AllocError>
-    requires some { 0 < length definitions.now }
-    requires valid { All IsDefinition (named_entries definitions.now) }
-    ensures { IfOk result (λ entry. entry ≡ merged_entry options.now (named_entries definitions.now)) }
-{
-    if definitions.len() > 1 {
-        return joined_entry(alloc, options, definitions);
-    }
-    match definitions[0].entry.copy(alloc) {
-        Ok(entry) => Ok(entry),
-        Err(_) => Err(AllocError),
-    }
 }
 
 /// Adds an entry to those that are merged. Refused, without a line, with `ForeignCharset` for a
@@ -136,27 +124,7 @@ pub fn merge_definitions(
     Ok(merged)
 }
 
-/// Adds what the entries of one message are merged to, where the message is kept.
-fn push_group(
-    alloc: Global,
-    merged: &mut Catalogue,
-    options: &MergeOptions,
-    group: Vec<NamedEntry<'_>>,
-) -> Result<(), PoError>
-    requires { IsGroup (named_entries group.items) }
-    ensures pushed { OnOk result (merged.new ≡ merged.old
-        ++ merged_messages options.now (definitions (named_entries group.entry.items) ∷ [])) }
-    ensures fault { IfErr result (IsMergeFault
-        (merged_messages options.now (definitions (named_entries group.entry.items) ∷ []))) }
-{
-    let Some(definitions) = kept_definitions(group, options) else {
-        return Ok(());
-    };
-    let entry = merged_entry(alloc, options, &definitions)?;
-    push_entry(merged, entry)
-}
-
-/// What the entries of all messages are merged to.
+/// What the entries of all messages that are kept are merged to.
 fn merge_groups(
     alloc: Global,
     groups: Vec<Vec<NamedEntry<'_>>>,
@@ -170,7 +138,11 @@ fn merge_groups(
 {
     let mut merged = Catalogue::new(alloc);
     for group in groups {
-        match push_group(alloc, &mut merged, options, group) {
+        let Some(definitions) = kept_definitions(group, options) else {
+            continue;
+        };
+        let entry = merged_entry(alloc, options, &definitions)?;
+        match push_entry(&mut merged, entry) {
             Ok(()) => {}
             Err(error) => return Err(error),
         }
@@ -193,6 +165,9 @@ pub fn merge<'a>(
     ensures merged { IfOk result (λ catalogue. catalogue ≡ merged options.now (inputs_view inputs.now)) }
     ensures fault { IfErr result (IsMergeFault (merged options.now (inputs_view inputs.now))) }
 {
-    let groups = grouped(alloc, inputs)?;
+    let entries = all_entries(alloc, inputs)?;
+    let keys = keys_of(alloc, &entries)?;
+    let (numbers, count) = grouped(alloc, &keys)?;
+    let groups = groups_of(alloc, &entries, &numbers, count)?;
     merge_groups(alloc, groups, options)
 }

@@ -1,5 +1,5 @@
 -- Internal: sets of form lists, which say what was seen so far.
-use Rattle.std.specs.Prelude.{◌≡◌, ℕ, List, filter, length, nat_lt}
+use Rattle.std.specs.Prelude.{◌≡◌, ℕ, List}
 use Rattle.std.specs.List.{list_any}
 use Rattle.std.specs.Ordering.{nat_cmp}
 use Rattle.std.specs.Cmp.Lexicographic.{slice_cmp}
@@ -16,7 +16,3 @@ HasForms seen found =
     (q : Bor (List (Vec ℕ)))
     → contains (λ x y. slice_cmp (λ v w. slice_cmp nat_cmp v.items w.items) x.now y.now) seen q
     ≡ list_any (λ d. texts_eq (texts q.now) d.entry.forms) found
-
--- the translations that have a form of this index
-abbrev pub with_form : ℕ → List NamedEntry → List NamedEntry
-with_form index ts = filter (λ t. nat_lt index (length t.entry.forms)) ts

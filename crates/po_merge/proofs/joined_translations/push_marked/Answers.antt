@@ -1,4 +1,5 @@
-use Rattle.std.proofs.Common.{◌≡◌, ℕ, List, ◌++◌, ap, ap₂, ◌∙◌, append_assoc, codes}
+use Rattle.std.proofs.Common.{◌≡◌, ℕ, List, [], ◌∷◌, ◌++◌, ap, ap₂, ◌∙◌, append_assoc, codes, sym}
+use Rattle.std.specs.Prelude.{if◌then◌else◌}
 use Rattle.po_merge.specs.MergedEntry.{ended}
 use Rattle.po_merge.proofs.joined_translations.push_marked.Goals as goal
 
@@ -10,9 +11,15 @@ pub returns : goal.returns
 returns c =
     let head = codes "#-#-#-#-#  " in
     let tail = codes "  #-#-#-#-#\n" in
-    let named = c.in_ok-extend_from_slice-2.ensures.items
-    ∙ ap₂ (λ (x y : List ℕ). x ++ y) c.in_ok-extend_from_slice.ensures.items c.as_bytes.ensures.value in
-    c.in_ok-push_ended.ensures
-    ∙ ap (λ (x : List ℕ). x ++ ended c.args.form.now)
-    (c.in_ok-extend_from_slice-3.ensures.items ∙ ap (λ (x : List ℕ). x ++ tail) named)
-    ∙ four c.args.joined.now.items head c.args.name.now tail (ended c.args.form.now)
+    let name = c.args.name.now in
+    let form = c.args.form.now in
+    let marks = c.in_ok-extend_from_slice-3.ensures.items ∙ ap (λ (x : List ℕ). x ++ tail)
+    (c.in_ok-extend_from_slice-2.ensures.items
+    ∙ ap₂ (λ (x y : List ℕ). x ++ y) c.in_ok-extend_from_slice.ensures.items c.as_bytes.ensures.value) in
+    let bare = sym c.ends_with.ensures.value ∙ c.if-ends_with.false in
+    c.in_ok-extend_from_slice-5.ensures.items ∙ ap (λ (x : List ℕ). x ++ 10 ∷ [])
+    (c.in_ok-extend_from_slice-4.ensures.items ∙ ap (λ (x : List ℕ). x ++ form) marks)
+    ∙ append_assoc (((c.args.joined.now.items ++ head) ++ name) ++ tail) form (10 ∷ [])
+    ∙ ap (λ e. (((c.args.joined.now.items ++ head) ++ name) ++ tail) ++ e)
+    (sym (ap (λ b. if b then form else form ++ 10 ∷ []) bare))
+    ∙ four c.args.joined.now.items head name tail (ended form)

@@ -1,4 +1,4 @@
-use Rattle.std.proofs.Common.{◌≤◌, ◌++◌, ◌∷◌, [], ap, ap₂, arith, length, subst, sym, take, ◌∙◌, List}
+use Rattle.std.proofs.Common.{◌≤◌, ◌++◌, ◌∷◌, [], ap, ap₂, append-nil, arith, length, subst, sym, take, ◌∙◌, List}
 use Rattle.std.proofs.lemmas.List.{length-map, length_push, take_all}
 use Rattle.std.proofs.lemmas.Iterator.Consumers.{YieldsList-turn, YieldsList-end}
 use Rattle.std.proofs.lemmas.Iterator.Adapters.{YieldsList-from_vec}
@@ -6,20 +6,62 @@ use Rattle.po_entry.specs.TextEntry.{TextEntry}
 use Rattle.po_merge.specs.Grouping.{IsGroup, group_entries}
 use Rattle.po_merge.specs.Groups.{definitions}
 use Rattle.po_merge.specs.Inputs.{NamedEntry}
-use Rattle.po_merge.specs.InputsView.{named_entries}
+use Rattle.po_merge.specs.InputsView.{named_entries, named_entry}
 use Rattle.po_merge.specs.Merged.{IsMergeFault, merged_messages}
-use Rattle.po_merge.proofs.GroupsMerged.{fault_within, group_here, of_groups, of_groups_more}
+use Rattle.po_merge.specs.MergedEntry.{merged_entry}
+use Rattle.po_merge.proofs.GroupsMerged.{dropped_group, fault_within, group_here, group_kept, kept_group, of_groups, of_groups_more}
 use Rattle.po_merge.proofs.merging.merge_groups.Goals as goal
 
-pub push_group-requires : goal.push_group-requires
-push_group-requires c =
+pub loop-group-preserved-in_default : goal.loop-group-preserved-in_default
+loop-group-preserved-in_default c =
     let given = c.into_iter-group-iterator.ensures.into_iter_gives in
     let list = YieldsList-from_vec {s = c.into_iter-group-iterator.result} c.args.groups.items given.0
     (given.1 ∙ c.args.groups.ok.0) in
     let turn = YieldsList-turn list c.loop-group.yielded c.loop-group.group-iterator c.loop-group.yielded_by
     c.next.result c.next.new.self c.in-Some.group c.in-Some.is c.next.ensures.steps in
-    let here = group_here c.args.groups.items (length c.loop-group.yielded) c.in-Some.group turn.0 turn.1 in
-    subst IsGroup here.1 (c.requires (length c.loop-group.yielded) (named_entries c.in-Some.group.items) here.0)
+    let i = length c.loop-group.yielded in
+    let here = group_here c.args.groups.items i c.in-Some.group turn.0 turn.1 in
+    let o = c.args.options.now in
+    let all = group_entries c.args.groups.items in
+    let dropped = dropped_group o c.in-Some.group.items c.in_default.ensures.none in
+    c.loop-group.invariant ∙ sym (append-nil (of_groups o (take i all)))
+    ∙ ap (λ l. of_groups o (take i all) ++ l)
+    (sym dropped ∙ ap (λ (ds : List NamedEntry). merged_messages o (definitions ds ∷ [])) (sym here.1))
+    ∙ of_groups_more o all i (named_entries c.in-Some.group.items) here.0
+    ∙ ap (λ n. of_groups o (take n all)) (sym (length_push c.loop-group.yielded c.in-Some.group))
+
+pub merged_entry-requires-clause-some : goal.merged_entry-requires-clause-some
+merged_entry-requires-clause-some c =
+    let given = c.into_iter-group-iterator.ensures.into_iter_gives in
+    let list = YieldsList-from_vec {s = c.into_iter-group-iterator.result} c.args.groups.items given.0
+    (given.1 ∙ c.args.groups.ok.0) in
+    let turn = YieldsList-turn list c.loop-group.yielded c.loop-group.group-iterator c.loop-group.yielded_by
+    c.next.result c.next.new.self c.in-Some.group c.in-Some.is c.next.ensures.steps in
+    let i = length c.loop-group.yielded in
+    let here = group_here c.args.groups.items i c.in-Some.group turn.0 turn.1 in
+    let valid = group_kept c.in-Some.group.items c.in-Some-kept_definitions.definitions.items
+    c.in-Some-kept_definitions.ensures.some.0
+    (subst IsGroup here.1 (c.requires i (named_entries c.in-Some.group.items) here.0)) in
+    omega (
+      arith,
+      valid.some,
+      length-map c.in-Some-kept_definitions.definitions.items named_entry,
+      ap length c.deref.ensures.value,
+    )
+
+pub merged_entry-requires-clause-valid : goal.merged_entry-requires-clause-valid
+merged_entry-requires-clause-valid c =
+    let given = c.into_iter-group-iterator.ensures.into_iter_gives in
+    let list = YieldsList-from_vec {s = c.into_iter-group-iterator.result} c.args.groups.items given.0
+    (given.1 ∙ c.args.groups.ok.0) in
+    let turn = YieldsList-turn list c.loop-group.yielded c.loop-group.group-iterator c.loop-group.yielded_by
+    c.next.result c.next.new.self c.in-Some.group c.in-Some.is c.next.ensures.steps in
+    let i = length c.loop-group.yielded in
+    let here = group_here c.args.groups.items i c.in-Some.group turn.0 turn.1 in
+    let valid = group_kept c.in-Some.group.items c.in-Some-kept_definitions.definitions.items
+    c.in-Some-kept_definitions.ensures.some.0
+    (subst IsGroup here.1 (c.requires i (named_entries c.in-Some.group.items) here.0)) in
+    rw c.deref.ensures.value valid.valid
 
 pub loop-group-preserved : goal.loop-group-preserved
 loop-group-preserved c =
@@ -28,15 +70,19 @@ loop-group-preserved c =
     (given.1 ∙ c.args.groups.ok.0) in
     let turn = YieldsList-turn list c.loop-group.yielded c.loop-group.group-iterator c.loop-group.yielded_by
     c.next.result c.next.new.self c.in-Some.group c.in-Some.is c.next.ensures.steps in
-    let here = group_here c.args.groups.items (length c.loop-group.yielded) c.in-Some.group turn.0 turn.1 in
+    let i = length c.loop-group.yielded in
+    let here = group_here c.args.groups.items i c.in-Some.group turn.0 turn.1 in
     let o = c.args.options.now in
+    let some = c.in-Some-kept_definitions.ensures.some in
+    let is = kept_group c.in-Some.group.items c.in-Some-kept_definitions.definitions.items some.0 o some.1
+    ∙ ap (λ e. e ∷ []) (ap (λ l. merged_entry o (named_entries l)) (sym c.deref.ensures.value)
+    ∙ sym c.in_ok-entry.ensures) in
+    let all = group_entries c.args.groups.items in
     c.in-Ok.ensures.pushed
-    ∙ ap₂ (λ (l : List TextEntry) (ds : List NamedEntry). l ++ merged_messages o (definitions ds ∷ []))
-    c.loop-group.invariant (sym here.1)
-    ∙ of_groups_more o (group_entries c.args.groups.items) (length c.loop-group.yielded)
-    (named_entries c.in-Some.group.items) here.0
-    ∙ ap (λ n. of_groups o (take n (group_entries c.args.groups.items)))
-    (sym (length_push c.loop-group.yielded c.in-Some.group))
+    ∙ ap₂ (λ (a b : List TextEntry). a ++ b) c.loop-group.invariant
+    (sym is ∙ ap (λ (ds : List NamedEntry). merged_messages o (definitions ds ∷ [])) (sym here.1))
+    ∙ of_groups_more o all i (named_entries c.in-Some.group.items) here.0
+    ∙ ap (λ n. of_groups o (take n all)) (sym (length_push c.loop-group.yielded c.in-Some.group))
 
 pub returns-in-Err-clause-fault : goal.returns-in-Err-clause-fault
 returns-in-Err-clause-fault c =
@@ -45,12 +91,17 @@ returns-in-Err-clause-fault c =
     (given.1 ∙ c.args.groups.ok.0) in
     let turn = YieldsList-turn list c.loop-group.yielded c.loop-group.group-iterator c.loop-group.yielded_by
     c.next.result c.next.new.self c.in-Some.group c.in-Some.is c.next.ensures.steps in
-    let here = group_here c.args.groups.items (length c.loop-group.yielded) c.in-Some.group turn.0 turn.1 in
+    let i = length c.loop-group.yielded in
+    let here = group_here c.args.groups.items i c.in-Some.group turn.0 turn.1 in
     let o = c.args.options.now in
-    fault_within o (group_entries c.args.groups.items) (length c.loop-group.yielded)
-    (named_entries c.in-Some.group.items) c.in-Err.error here.0
-    (subst (λ (ds : List NamedEntry). IsMergeFault (merged_messages o (definitions ds ∷ [])) c.in-Err.error)
-    (sym here.1) c.in-Err.ensures.fault)
+    let some = c.in-Some-kept_definitions.ensures.some in
+    let is = kept_group c.in-Some.group.items c.in-Some-kept_definitions.definitions.items some.0 o some.1
+    ∙ ap (λ e. e ∷ []) (ap (λ l. merged_entry o (named_entries l)) (sym c.deref.ensures.value)
+    ∙ sym c.in_ok-entry.ensures) in
+    fault_within o (group_entries c.args.groups.items) i (named_entries c.in-Some.group.items) c.in-Err.error here.0
+    (subst (λ l. IsMergeFault l c.in-Err.error)
+    (sym is ∙ ap (λ (ds : List NamedEntry). merged_messages o (definitions ds ∷ [])) (sym here.1))
+    c.in-Err.ensures.fault)
 
 pub returns-clause-merged : goal.returns-clause-merged
 returns-clause-merged c =
