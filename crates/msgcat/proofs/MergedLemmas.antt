@@ -17,7 +17,7 @@ use Rattle.po_messages.specs.Joined.{is_live}
 use Rattle.po_messages.specs.Message.{same_message}
 use Rattle.po_merge.specs.declared.definition.NamedEntry.{NamedEntry as BorrowedEntry}
 use Rattle.po_merge.specs.declared.input.MergeOptions.{MergeOptions}
-use Rattle.po_merge.specs.EntryLaws.{IsSameButLine}
+use Rattle.po_merge.specs.EntryLaws.{IsSameButLine, LinesAreNotMerged}
 use Rattle.po_merge.specs.Grouping.{IsDefinition, IsGroup, message_numbers, named_messages}
 use Rattle.po_merge.specs.Groups.{by_number, definitions, definitions_by, first_ones, groups, with_number}
 use Rattle.po_merge.specs.Inputs.{NamedEntry}
@@ -215,6 +215,13 @@ fault_unlined a b error same (inr foreign) =
           (All-nil HasAdmittedCharset))),
       foreign.1,
     )
+
+-- definitions that are read again are merged to the same entry, but for its line
+pub merged_again : (o : MergeOptions) (ds named : List NamedEntry) (merged : List TextEntry)
+    → LinesAreNotMerged o ds named → AllZip IsSameButLine ds named → merged ≡ merged_entry o named ∷ []
+    → IsOnly (merged_entry o ds) merged
+merged_again o ds named merged law same is =
+    record { only = merged_entry o named; entries_are = is; same = sym (law same) }
 
 pub only_row : (text : List ℕ) (ds : List NamedEntry) (row : EntryRow) → AreRows text ds (row ∷ [])
     → (d : NamedEntry) × (ds ≡ d ∷ []) × IsRow text d row

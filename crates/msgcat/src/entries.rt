@@ -52,14 +52,6 @@ pub(crate) struct Entries<'a> {
     pub(crate) keys: KeyBuffer,
 }
 
-/// What stands from one index to another.
-pub(crate) fn between<T>(items: &[T], start: usize, end: usize) -> &[T]
-    ensures { (before own after : List T) → items.now ≡ before ++ (own ++ after) → start ≡ length before
-        → end ≡ length (before ++ own) → result.now ≡ own }
-{
-    items.get(start..end).unwrap_or(&[])
-}
-
 impl<'a> Entries<'a> {
     /// No entries, with room for so many bytes of text.
     pub(crate) fn with_capacity(alloc: Global, room: usize) -> Result<Entries<'a>, AllocError>

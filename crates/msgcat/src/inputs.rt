@@ -122,19 +122,16 @@ fn add_text<'a>(
     Ok(())
 }
 
-/// How many bytes the texts have, with an empty line before each.
-fn total_len(inputs: &[(&str, &[u8])]) -> usize {
-    inputs.iter().fold(0, |total, (_, text)| {
-        total.saturating_add(text.len()).saturating_add(1)
-    })
-}
-
 /// Reads inputs, up to the first that has a fault.
 fn read_each<'a>(alloc: Global, inputs: &[(&'a str, &[u8])]) -> Result<ReadInputs<'a>, AllocError>
     requires { All (λ file. Lacks 0 file.name) (named_files inputs.now) }
     ensures { IfOk result (AreReadUpTo (named_files inputs.now)) }
 {
-    let mut entries = Entries::with_capacity(alloc, total_len(inputs))?;
+    // Each text, with an empty line before it.
+    let room = inputs.iter().fold(0_usize, |total, (_, text)| {
+        total.saturating_add(text.len()).saturating_add(1)
+    });
+    let mut entries = Entries::with_capacity(alloc, room)?;
     let mut read = Vec::new(alloc);
     for (name, text) in inputs {
         let mut places = Vec::new(alloc);

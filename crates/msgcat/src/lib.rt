@@ -1,8 +1,7 @@
 //! msgcat as a function of its inputs and options: what it writes and reports, and its exit status; and
 //! as a whole, from reading its inputs to its status.
 //!
-//! The modules in reading order: `options`, `entries`, `inputs`, `merged_text`, `plan`,
-//! `plan_inputs`, `whole_run`.
+//! The modules in reading order: `options`, `entries`, `inputs`, `merged_text`, `plan`, `whole_run`.
 
 #![tactic(auto)]
 
@@ -11,10 +10,8 @@ mod inputs;
 mod merged_text;
 mod options;
 mod plan;
-mod plan_inputs;
 mod whole_run;
 
 pub use options::merge_options_of;
-pub use plan::{plan_msgcat, plan_msgcat_before};
-pub use plan_inputs::plan_msgcat_of;
+pub use plan::{plan_msgcat, plan_msgcat_before, plan_msgcat_of};
 pub use whole_run::run;

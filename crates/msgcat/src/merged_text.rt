@@ -9,13 +9,11 @@ ghost use Rattle.po_merge.specs.Groups.{definitions, groups};
 ghost use Rattle.po_merge.specs.Inputs as merge;
 ghost use Rattle.po_merge.specs.InputsView.{named_entries};
 ghost use Rattle.po_merge.specs.Merged.{IsMergeFault, merged_messages};
-ghost use Rattle.po_merge.specs.MergedEntry.{merged_entry};
-ghost use Rattle.po_writer.specs.TextParts.{separated};
 ghost use Rattle.msgcat.specs.Internal.Entries.{AreRows, IsRow};
 ghost use Rattle.msgcat.specs.Internal.Inputs.{HoldInputs};
-ghost use Rattle.msgcat.specs.Internal.MergedText.{AreGroups, AreInOrder, AreReadBack, AreWritten, IsOnly, IsTextOfMerged};
+ghost use Rattle.msgcat.specs.Internal.MergedText.{AreInOrder, AreReadBack, AreWritten, IsTextOfMerged};
 
-use crate::entries::{EntryRow, between};
+use crate::entries::EntryRow;
 use crate::inputs::NumberedEntries;
 use po_catalog::laws::what_is_written_reads_back;
 use po_entry::Catalogue;
@@ -26,20 +24,20 @@ use po_syntax::PoError;
 use po_writer::TextParts;
 use std::alloc::{AllocError, Global};
 
-/// The text of an entry, after an empty line.
-fn text_of<'t>(text: &'t [u8], row: &EntryRow<'_>) -> &'t [u8]
-    ensures { (entry : merge.NamedEntry) → IsRow text.now entry row.now
-        → result.now ≡ separated (entry.entry ∷ []) }
+/// What stands from one index to another.
+fn between<T>(items: &[T], start: usize, end: usize) -> &[T]
+    ensures { (before own after : List T) → items.now ≡ before ++ (own ++ after) → start ≡ length before
+        → end ≡ length (before ++ own) → result.now ≡ own }
 {
-    between(text, row.start, row.end)
+    items.get(start..end).unwrap_or(&[])
 }
 
-/// Adds the text of an entry.
+/// Adds the text of an entry, with the empty line before it.
 fn push_copy(parts: &mut TextParts, text: &[u8], row: &EntryRow<'_>) -> Result<(), AllocError>
     ensures { OnOk result ((entry : merge.NamedEntry) (before : List TextEntry) → IsRow text.now entry row.now
         → AreWritten before parts.old → AreWritten (before ++ entry.entry ∷ []) parts.new) }
 {
-    let own = text_of(text, row);
+    let own = between(text, row.start, row.end);
     if row.is_live {
         parts.add_texts(own, b"")
     } else {
@@ -88,29 +86,6 @@ fn definitions_of<'a, 'b: 'a>(
     Ok(found)
 }
 
-/// What the definitions of one message are merged to.
-fn merged_again(
-    alloc: Global,
-    text: &[u8],
-    options: &MergeOptions,
-    rows: &[EntryRow<'_>],
-) -> Result<Catalogue, PoError>
-    requires some { 0 < length rows.now }
-    requires rows { (definitions : List merge.NamedEntry) × AreRows text.now definitions rows.now
-        × AreInOrder definitions }
-    ensures merged { IfOk result (λ merged. (definitions : List merge.NamedEntry)
-        → AreRows text.now definitions rows.now → AreInOrder definitions
-        → IsOnly (merged_entry options.now definitions) merged) }
-    ensures fault { IfErr result (λ error. (definitions : List merge.NamedEntry)
-        → AreRows text.now definitions rows.now → AreInOrder definitions
-        → IsMergeFault (merged_entry options.now definitions ∷ []) error) }
-{
-    lines_are_not_merged();
-    let entries = read_again(alloc, text, rows)?;
-    let definitions = definitions_of(alloc, rows, &entries)?;
-    merge_definitions(alloc, options, &definitions)
-}
-
 /// Adds what the entries of one message are merged to, where the message is kept.
 fn push_group(
     alloc: Global,
@@ -129,39 +104,20 @@ fn push_group(
         → IsMergeFault (merged_messages options.now (definitions entries ∷ [])) error) }
 {
     one_definition_stays();
+    lines_are_not_merged();
     let Some(rows) = kept_definitions(group, options) else {
         return Ok(());
     };
     if rows.len() < 2 {
         return Ok(push_copy(parts, text, &rows[0])?);
     }
-    let merged = match merged_again(alloc, text, options, &rows) {
+    let entries = read_again(alloc, text, &rows)?;
+    let definitions = definitions_of(alloc, &rows, &entries)?;
+    let merged = match merge_definitions(alloc, options, &definitions) {
         Ok(merged) => merged,
         Err(error) => return Err(error),
     };
     Ok(parts.add(merged.entries())?)
-}
-
-/// What the groups of entries are merged to.
-fn merge_groups(
-    alloc: Global,
-    text: &[u8],
-    groups: Vec<Vec<EntryRow<'_>>>,
-    options: &MergeOptions,
-) -> Result<TextParts, PoError>
-    requires { (all : List (List merge.NamedEntry)) × AreGroups text.now all groups.items }
-    ensures { (all : List (List merge.NamedEntry)) → AreGroups text.now all groups.entry.items
-        → MatchResult result (AreWritten (merged_messages options.now (map definitions all)))
-        (IsMergeFault (merged_messages options.now (map definitions all))) }
-{
-    let mut parts = TextParts::with_capacity(alloc, text.len())?;
-    for group in groups {
-        match push_group(alloc, &mut parts, text, options, group) {
-            Ok(()) => {}
-            Err(error) => return Err(error),
-        }
-    }
-    Ok(parts)
 }
 
 /// The text of what inputs are merged to. Refused, without a line, with `ForeignCharset` for a
@@ -178,8 +134,12 @@ pub(crate) fn merged_text(
 {
     groups_are_numbered();
     let groups = groups_of(alloc, &inputs.rows, &inputs.numbers, inputs.count)?;
-    match merge_groups(alloc, &inputs.text, groups, options) {
-        Ok(parts) => Ok(parts.join()?),
-        Err(error) => Err(error),
+    let mut parts = TextParts::with_capacity(alloc, inputs.text.len())?;
+    for group in groups {
+        match push_group(alloc, &mut parts, &inputs.text, options, group) {
+            Ok(()) => {}
+            Err(error) => return Err(error),
+        }
     }
+    Ok(parts.join()?)
 }

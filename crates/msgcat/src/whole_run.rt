@@ -4,7 +4,7 @@ ghost use Rattle.msgcat.specs.WholeRun.{RunsMsgcat};
 ghost use Rattle.runs.specs.Inputs.{AsksFirst, asked_by};
 ghost use Rattle.runs.specs.ToolRuns.{asking};
 
-use crate::plan_inputs::plan_msgcat_of;
+use crate::plan::plan_msgcat_of;
 use po_merge::MergeOptions;
 use runs::{ByteOut, InputSource, Inputs, OutputFiles, OutputSystem, ProgramFault};
 use std::alloc::Global;

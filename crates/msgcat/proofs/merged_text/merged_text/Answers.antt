@@ -1,16 +1,22 @@
-use Rattle.std.proofs.Common.{◌∙◌, ap, length, sym}
+use Rattle.std.proofs.Common.{◌≤◌, ◌<◌, [], ◌∙◌, ap, arith, get_or, length, refl, subst, sym, take}
 use Rattle.std.specs.List.{position_or_len}
-use Rattle.std.proofs.lemmas.List.{length-map}
+use Rattle.std.proofs.lemmas.List.{length-map, length_push, take_all}
+use Rattle.std.proofs.lemmas.List.Elements.{All-nil}
+use Rattle.std.proofs.lemmas.Iterator.Consumers.{YieldsList-turn, YieldsList-end}
+use Rattle.std.proofs.lemmas.Iterator.Adapters.{YieldsList-from_vec}
+use Rattle.po_entry.specs.Header.{HasAdmittedCharset}
 use Rattle.po_messages.specs.FirstOnes.{first_ones}
 use Rattle.po_messages.specs.Message.{entry_message, same_message}
 use Rattle.po_messages.proofs.FirstOnes.{numbers_below}
 use Rattle.po_messages.proofs.MessageIndex.{same_message_laws}
+use Rattle.po_merge.proofs.GroupsMerged.{fault_within, of_groups, of_groups_more}
 use Rattle.po_merge.specs.Grouping.{named_messages}
 use Rattle.po_merge.specs.Groups.{groups}
 use Rattle.po_merge.specs.Inputs.{NamedEntry}
-use Rattle.msgcat.specs.Internal.Entries.{IsRow}
+use Rattle.msgcat.specs.Internal.Entries.{AreRows, IsRow}
+use Rattle.msgcat.specs.Internal.MergedText.{AreWritten, IsGroupOf}
 use Rattle.po_messages.specs.Facts.Zips.{zip_length}
-use Rattle.msgcat.proofs.MergedLemmas.{groups_hold}
+use Rattle.msgcat.proofs.MergedLemmas.{group_at, groups_hold}
 use Rattle.msgcat.proofs.merged_text.merged_text.Goals as goal
 
 pub groups_of-requires : goal.groups_of-requires
@@ -28,31 +34,85 @@ groups_of-requires c =
       below = rw (numbers, h.count) (numbers_below same_message same_message_laws (named_messages es));
     }
 
-pub merge_groups-requires : goal.merge_groups-requires
-merge_groups-requires c =
-    let es = c.requires.0 in
-    let h = c.requires.1 in (
-      groups es,
-      groups_hold c.args.inputs.now.text.items c.deref-3.result.now es c.args.inputs.now.rows.items c.deref.result.now
-          c.in_ok-groups.groups.items c.deref-2.result.now c.args.inputs.now.count h.rows c.deref-3.ensures.value
-          c.deref.ensures.value (c.deref-2.ensures.value ∙ h.numbers) h.count c.in_ok-groups.ensures
-          (c.groups_are_numbered.ensures es),
-    )
+pub loop-group-init : goal.loop-group-init
+loop-group-init c = λ es h. record { parts_are = c.in_ok-parts.ensures; admitted = All-nil HasAdmittedCharset }
 
-pub returns-in_ok-join-in-Ok : goal.returns-in_ok-join-in-Ok
-returns-in_ok-join-in-Ok c = λ es h.
-    let are = groups_hold c.args.inputs.now.text.items c.deref-3.result.now es c.args.inputs.now.rows.items
-    c.deref.result.now c.in_ok-groups.groups.items c.deref-2.result.now c.args.inputs.now.count h.rows
-    c.deref-3.ensures.value
-    c.deref.ensures.value (c.deref-2.ensures.value ∙ h.numbers) h.count c.in_ok-groups.ensures
-    (c.groups_are_numbered.ensures es) in
-    let written = c.in-Ok.ensures (groups es) are in
-    record { admitted = written.admitted; text_is = c.in_ok-join-in-Ok.ensures.written _ written.parts_are }
+pub push_group-requires : goal.push_group-requires
+push_group-requires c =
+    let es = c.requires.0 in
+    let h = c.requires.1 in
+    let all = groups es in
+    let text = c.args.inputs.now.text.items in
+    let are = groups_hold text text es c.args.inputs.now.rows.items c.deref.result.now c.in_ok-groups.groups.items
+    c.deref-2.result.now c.args.inputs.now.count h.rows refl c.deref.ensures.value
+    (c.deref-2.ensures.value ∙ h.numbers) h.count c.in_ok-groups.ensures (c.groups_are_numbered.ensures es) in
+    let list = c.in_ok-groups.groups in
+    let given = c.into_iter-group-iterator.ensures.into_iter_gives in
+    let yields = YieldsList-from_vec {s = c.into_iter-group-iterator.result} list.items given.0 (given.1 ∙ list.ok.0) in
+    let turn = YieldsList-turn yields c.loop-group.yielded c.loop-group.group-iterator c.loop-group.yielded_by
+    c.next.result c.next.new.self c.in-Some.group c.in-Some.is c.next.ensures.steps in
+    let i = length c.loop-group.yielded in
+    let group = group_at text all list.items i c.in-Some.group are turn.0 turn.1 in
+    let rows = subst (λ t. AreRows t (get_or all i []) c.in-Some.group.items) (sym c.deref-in-loop-group.ensures.value)
+    group.rows in
+    record { some = group.some; rows = (get_or all i [], rows) }
 
 pub returns-in-Err : goal.returns-in-Err
 returns-in-Err c = λ es h.
-    c.in-Err.ensures (groups es)
-    (groups_hold c.args.inputs.now.text.items c.deref-3.result.now es c.args.inputs.now.rows.items
-    c.deref.result.now c.in_ok-groups.groups.items c.deref-2.result.now c.args.inputs.now.count h.rows
-    c.deref-3.ensures.value c.deref.ensures.value (c.deref-2.ensures.value ∙ h.numbers) h.count c.in_ok-groups.ensures
-    (c.groups_are_numbered.ensures es))
+    let all = groups es in
+    let text = c.args.inputs.now.text.items in
+    let are = groups_hold text text es c.args.inputs.now.rows.items c.deref.result.now c.in_ok-groups.groups.items
+    c.deref-2.result.now c.args.inputs.now.count h.rows refl c.deref.ensures.value
+    (c.deref-2.ensures.value ∙ h.numbers) h.count c.in_ok-groups.ensures (c.groups_are_numbered.ensures es) in
+    let list = c.in_ok-groups.groups in
+    let given = c.into_iter-group-iterator.ensures.into_iter_gives in
+    let yields = YieldsList-from_vec {s = c.into_iter-group-iterator.result} list.items given.0 (given.1 ∙ list.ok.0) in
+    let turn = YieldsList-turn yields c.loop-group.yielded c.loop-group.group-iterator c.loop-group.yielded_by
+    c.next.result c.next.new.self c.in-Some.group c.in-Some.is c.next.ensures.steps in
+    let i = length c.loop-group.yielded in
+    let group = group_at text all list.items i c.in-Some.group are turn.0 turn.1 in
+    let rows = subst (λ t. AreRows t (get_or all i []) c.in-Some.group.items) (sym c.deref-in-loop-group.ensures.value)
+    group.rows in
+    let inside : i < length all = omega (arith, turn.0, zip_length (IsGroupOf text) all list.items are) in
+    fault_within c.args.options.now all i [] c.in-Err.error inside (c.in-Err.ensures.fault (get_or all i []) rows)
+
+pub loop-group-preserved : goal.loop-group-preserved
+loop-group-preserved c = λ es h.
+    let all = groups es in
+    let text = c.args.inputs.now.text.items in
+    let are = groups_hold text text es c.args.inputs.now.rows.items c.deref.result.now c.in_ok-groups.groups.items
+    c.deref-2.result.now c.args.inputs.now.count h.rows refl c.deref.ensures.value
+    (c.deref-2.ensures.value ∙ h.numbers) h.count c.in_ok-groups.ensures (c.groups_are_numbered.ensures es) in
+    let list = c.in_ok-groups.groups in
+    let given = c.into_iter-group-iterator.ensures.into_iter_gives in
+    let yields = YieldsList-from_vec {s = c.into_iter-group-iterator.result} list.items given.0 (given.1 ∙ list.ok.0) in
+    let turn = YieldsList-turn yields c.loop-group.yielded c.loop-group.group-iterator c.loop-group.yielded_by
+    c.next.result c.next.new.self c.in-Some.group c.in-Some.is c.next.ensures.steps in
+    let i = length c.loop-group.yielded in
+    let group = group_at text all list.items i c.in-Some.group are turn.0 turn.1 in
+    let rows = subst (λ t. AreRows t (get_or all i []) c.in-Some.group.items) (sym c.deref-in-loop-group.ensures.value)
+    group.rows in
+    let inside : i < length all = omega (arith, turn.0, zip_length (IsGroupOf text) all list.items are) in
+    subst (λ l. AreWritten l c.push_group.new.parts)
+    (of_groups_more c.args.options.now all i [] inside
+    ∙ ap (λ n. of_groups c.args.options.now (take n all)) (sym (length_push c.loop-group.yielded c.in-Some.group)))
+    (c.in-Ok.ensures.pushed (get_or all i []) (of_groups c.args.options.now (take i all)) rows
+    (c.loop-group.invariant es h))
+
+pub returns : goal.returns
+returns c = λ es h.
+    let all = groups es in
+    let text = c.args.inputs.now.text.items in
+    let are = groups_hold text text es c.args.inputs.now.rows.items c.deref.result.now c.in_ok-groups.groups.items
+    c.deref-2.result.now c.args.inputs.now.count h.rows refl c.deref.ensures.value
+    (c.deref-2.ensures.value ∙ h.numbers) h.count c.in_ok-groups.ensures (c.groups_are_numbered.ensures es) in
+    let list = c.in_ok-groups.groups in
+    let given = c.into_iter-group-iterator.ensures.into_iter_gives in
+    let yields = YieldsList-from_vec {s = c.into_iter-group-iterator.result} list.items given.0 (given.1 ∙ list.ok.0) in
+    let ended = YieldsList-end yields c.loop-group.yielded c.loop-group.group-iterator c.loop-group.yielded_by
+    c.next.result c.next.new.self c.in-None.is c.next.ensures.steps in
+    let i = length c.loop-group.yielded in
+    let past : length all ≤ i = omega (arith, ended.1, zip_length (IsGroupOf text) all list.items are) in
+    let written = subst (λ l. AreWritten (of_groups c.args.options.now l) c.loop-group.parts) (take_all i all past)
+    (c.loop-group.invariant es h) in
+    record { admitted = written.admitted; text_is = c.in_ok-join.ensures.written _ written.parts_are }

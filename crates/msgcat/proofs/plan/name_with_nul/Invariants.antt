@@ -2,7 +2,7 @@ use Rattle.std.proofs.Common.{take}
 use Rattle.std.specs.Prelude.{All}
 use Rattle.po_entry.specs.Bytes.{Lacks}
 use Rattle.runs.specs.Inputs.{named_inputs}
-use Rattle.msgcat.proofs.plan_inputs.name_with_nul.Given as goal
+use Rattle.msgcat.proofs.plan.name_with_nul.Given as goal
 
 -- no name so far holds NUL
 abbrev pub invariant-loop-input : goal.invariant-loop-input
