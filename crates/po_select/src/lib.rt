@@ -3,13 +3,11 @@
 //!
 //! A [`Selection`] says which entries are kept and how they are changed, and [`select`] applies it.
 //!
-//! The modules in reading order: `selection`, `selecting`, `laws`.
+//! The modules in reading order: `selection`, `laws`.
 
 #![tactic(auto)]
 
 pub mod laws;
-mod selecting;
 mod selection;
 
-pub use crate::selecting::select;
-pub use crate::selection::Selection;
+pub use crate::selection::{Selection, select};

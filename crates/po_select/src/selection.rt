@@ -1,12 +1,13 @@
 //! Which entries are kept, and what becomes of them.
 
-ghost use Rattle.std.specs.Prelude.{◌≡◌};
+ghost use Rattle.std.specs.Prelude.{◌≡◌, All, IfOk, IsOk, filter, map};
 ghost use Rattle.po_messages.specs.Joined.{is_live_header};
 ghost use Rattle.po_entry.specs.Validity.{IsCatalogueEntry};
-ghost use Rattle.po_select.specs.Selected.{changed, fuzzy_after, is_emptied, is_kept, meets, obsolete_after};
+ghost use Rattle.po_select.specs.Selected.{changed, fuzzy_after, is_emptied, is_kept, obsolete_after, selected};
 
-use po_entry::Entry;
+use po_entry::{Catalogue, Entry};
 use po_messages::{has_translation, is_live_header};
+use po_syntax::PoError;
 
 /// Which entries of a catalogue are kept, and how those that are kept are changed: the options of
 /// msgattrib (GNU gettext manual, "Invoking the msgattrib Program"). `--fuzzy` stands for
@@ -45,7 +46,14 @@ impl Selection {
     pub fn keeps(&self, entry: &Entry) -> bool
         ensures { result ≡ is_kept self.now entry.now }
     {
-        is_live_header(entry) || self.is_met_by(entry)
+        let is_translated = has_translation(entry);
+        is_live_header(entry)
+            || (!self.translated || is_translated)
+                && (!self.untranslated || !is_translated)
+                && (!self.no_fuzzy || !entry.fuzzy())
+                && (!self.only_fuzzy || entry.fuzzy())
+                && (!self.no_obsolete || !entry.obsolete())
+                && (!self.only_obsolete || entry.obsolete())
     }
 
     /// Changes an entry that is kept.
@@ -65,19 +73,6 @@ impl Selection {
             entry.clear_previous();
         }
         entry.invariant();
-    }
-
-    /// Whether an entry meets each given condition.
-    fn is_met_by(&self, entry: &Entry) -> bool
-        ensures { result ≡ meets self.now entry.now }
-    {
-        let is_translated = has_translation(entry);
-        (!self.translated || is_translated)
-            && (!self.untranslated || !is_translated)
-            && (!self.no_fuzzy || !entry.fuzzy())
-            && (!self.only_fuzzy || entry.fuzzy())
-            && (!self.no_obsolete || !entry.obsolete())
-            && (!self.only_obsolete || entry.obsolete())
     }
 
     /// Whether an entry has the flag `fuzzy` once it is changed.
@@ -103,5 +98,36 @@ impl Selection {
         } else {
             entry.obsolete() && !self.clear_obsolete
         }
+    }
+}
+
+/// The entries of a catalogue that are selected, each changed as the selection says (GNU gettext
+/// manual, "Invoking the msgattrib Program"). A live header is always kept, stays live and keeps
+/// its forms. The entries are moved and none is copied: no memory is taken, so nothing is refused.
+pub fn select(catalogue: Catalogue, selection: &Selection) -> Result<Catalogue, PoError>
+    ensures list { IfOk result (λ entries. entries ≡ selected selection.now catalogue) }
+    ensures never_refused { IsOk result }
+{
+    let mut entries = catalogue.into_entries();
+    keep_selected(&mut entries, selection);
+    change_all(&mut entries, selection);
+    Ok(Catalogue::of(entries))
+}
+
+/// Drops the entries that aren't kept.
+fn keep_selected(entries: &mut Vec<Entry>, selection: &Selection)
+    ensures { entries.new.items ≡ filter (is_kept selection.now) entries.old.items }
+{
+    entries.retain(|entry| selection.keeps(entry));
+}
+
+/// Changes each entry in its place.
+fn change_all(entries: &mut [Entry], selection: &Selection)
+    requires { All IsCatalogueEntry entries.old }
+    ensures changed { entries.new ≡ map (changed selection.now) entries.old }
+    ensures valid { All IsCatalogueEntry entries.new }
+{
+    for entry in entries.iter_mut() {
+        selection.change(entry);
     }
 }

@@ -1,7 +1,7 @@
 use Rattle.std.proofs.lemmas.List.Elements.{All-filter}
 use Rattle.po_entry.specs.Validity.{IsCatalogueEntry}
 use Rattle.po_select.specs.Selected.{is_kept}
-use Rattle.po_select.proofs.selecting.select.Goals as goal
+use Rattle.po_select.proofs.selection.select.Goals as goal
 
 pub change_all-requires : goal.change_all-requires
 change_all-requires c =

@@ -3,7 +3,7 @@ use Rattle.std.proofs.lemmas.List.Edits.{map_over_more}
 use Rattle.std.proofs.lemmas.List.Elements.{All-set}
 use Rattle.po_entry.specs.Validity.{IsCatalogueEntry}
 use Rattle.po_select.specs.Selected.{changed}
-use Rattle.po_select.proofs.selecting.change_all.Goals as goal
+use Rattle.po_select.proofs.selection.change_all.Goals as goal
 
 pub loop-entry-preserved : goal.loop-entry-preserved
 loop-entry-preserved c = record {

@@ -2,7 +2,7 @@ use Rattle.std.proofs.Common.{◌≡◌, ◌++◌, map, take, drop}
 use Rattle.std.specs.Prelude.{All}
 use Rattle.po_entry.specs.Validity.{IsCatalogueEntry}
 use Rattle.po_select.specs.Selected.{changed}
-use Rattle.po_select.proofs.selecting.change_all.Given as goal
+use Rattle.po_select.proofs.selection.change_all.Given as goal
 
 abbrev pub invariant-loop-entry : goal.invariant-loop-entry
 invariant-loop-entry l = record {
