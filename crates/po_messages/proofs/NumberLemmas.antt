@@ -1,8 +1,9 @@
 -- Entries by the numbers of their messages: which are of one message, and the first that repeats an earlier one.
-use Rattle.std.proofs.Common.{◌≡◌, ◌≢◌, sym, ap, ◌∙◌, subst, ℕ, filter, List, get_or, map, arith, All, AllPairs}
+use Rattle.std.proofs.Common.{◌≡◌, ◌≢◌, ◌<◌, sym, ap, ◌∙◌, subst, ℕ, Bool, false, filter, length, List, get_or, map, arith, All, AllPairs}
 use Rattle.std.specs.List.{position_or_len}
 use Rattle.std.proofs.lemmas.List.{get_or-map, length-map}
 use Rattle.std.proofs.lemmas.Simd.{map-map}
+use Rattle.std.proofs.lemmas.List.Elements.{All-filter}
 use Rattle.std.proofs.lemmas.List.Folds.{list_any_at}
 use Rattle.std.proofs.lemmas.List.Sums.{passes_at_first}
 use Rattle.po_syntax.specs.declared.fault.PoError.{PoError}
@@ -14,9 +15,11 @@ use Rattle.po_messages.specs.Facts.Mapped.{filter_map}
 use Rattle.po_messages.specs.FirstOnes.{first_ones, group_numbers}
 use Rattle.po_messages.specs.Joined.{InputEntry, in_input, is_live}
 use Rattle.po_messages.specs.Message.{Message, entry_message, entry_messages, same_message}
-use Rattle.po_messages.specs.Places.{AreNumbered, IsNumbered, Repeats, RepeatsOnLines, number_in}
-use Rattle.po_messages.specs.Repeats.{IsFirstRepeat}
+use Rattle.po_messages.specs.Places.{AreNumbered, IsNumbered, Repeats, RepeatsOnLines, are_placed, is_looked_at, number_in, place_of}
+use Rattle.po_messages.specs.Repeats.{DifferUpTo, IsFirstRepeat, RepeatsAt}
+use Rattle.po_messages.specs.declared.repeats.EntryPlace.{EntryPlace}
 use Rattle.po_messages.proofs.FirstOnes.{any_first_ones, found_within}
+use Rattle.po_messages.proofs.RepeatLemmas.{all_differ, repeat_of}
 use Rattle.po_messages.proofs.MessageIndex.{message_made, messages_are, same_message_laws}
 
 -- all of the entries are among their messages, and have these numbers
@@ -75,6 +78,51 @@ module _ (all : List TextEntry) where
         repeat_by (λ x y. number_in all (entry x) ≡ number_in all (entry y))
         (λ x y. IsSameMessage (entry x) (entry y)) xs a b (same_number (entry a) (entry b) both.0 both.1)
         (λ x y. number_same (entry x) (entry y)) h
+
+no_place : EntryPlace
+no_place = record { line = 0; is_live = false }
+
+-- things with an entry each, by the numbers of these among all, and where these stand
+module _ {X : Type 0} (entry : X → TextEntry) (xs : List X) (entries : List TextEntry) (of_xs : entries ≡ map entry xs)
+    (all : List TextEntry) (is_there : TextEntry → Bool) (numbers : List ℕ) (places : List EntryPlace)
+    (are : AreNumbered all entries numbers) (placed : places ≡ are_placed is_there entries) where
+  abbrev number : X → ℕ
+  number x = number_in all (entry x)
+
+  numbers_are : numbers ≡ map number xs
+  numbers_are = are.numbers_are ∙ ap (map (number_in all)) of_xs ∙ map-map (number_in all) entry xs
+
+  places_are : places ≡ map (λ x. place_of is_there (entry x)) xs
+  places_are = placed ∙ ap (are_placed is_there) of_xs ∙ map-map (place_of is_there) entry xs
+
+  pub as_many : length places ≡ length xs
+  as_many = ap length places_are ∙ length-map xs (λ x. place_of is_there (entry x))
+
+  pub place_at : (i : ℕ) (d : EntryPlace) (e : X) → i < length xs
+      → get_or places i d ≡ place_of is_there (entry (get_or xs i e))
+  place_at i d e inside = ap (λ l. get_or l i d) places_are
+      ∙ get_or-map (λ x. place_of is_there (entry x)) xs i e d inside
+
+  -- where no live ones have one number, no message stands twice
+  pub none_twice : DifferUpTo is_looked_at numbers places (length places)
+      → AllPairs (λ a b. ¬ IsSameMessage (entry a) (entry b)) (filter (λ x. is_there (entry x)) xs)
+  none_twice differ =
+      messages_differ all entry (filter (λ x. is_there (entry x)) xs)
+      (all_differ number (λ x. is_there (entry x)) is_looked_at xs places numbers numbers_are
+      (λ k d e below. ap is_looked_at (place_at k d e below)) no_place (length places) as_many differ)
+
+  -- the first that has the number of an earlier one
+  pub first_twice : (i j : ℕ) (a b : X) → j < length xs → a ≡ get_or xs i a → b ≡ get_or xs j b
+      → RepeatsAt is_looked_at numbers places i j
+      → IsFirstRepeat (λ x y. IsSameMessage (entry x) (entry y)) (filter (λ x. is_there (entry x)) xs) a b
+  first_twice i j a b inside at_a at_b found =
+      let known : All (λ x. IsNumbered all (entry x)) xs =
+      λ k d below. subst (IsNumbered all) (get_or-map entry xs k d (entry d) below)
+      ((subst (All (IsNumbered all)) of_xs are.among) k (entry d) (omega (arith, below, length-map xs entry))) in
+      message_repeats all entry (filter (λ x. is_there (entry x)) xs) a b
+      (All-filter (λ x. is_there (entry x)) (λ x. IsNumbered all (entry x)) xs known)
+      (repeat_of number (λ x. is_there (entry x)) is_looked_at xs places numbers numbers_are
+      (λ k d e below. ap is_looked_at (place_at k d e below)) no_place i j a b inside at_a at_b found)
 
 live_in : (input : ℕ) (entries : List TextEntry)
     → live_entries (map (in_input input) entries) ≡ map (in_input input) (filter is_live entries)

@@ -114,7 +114,7 @@ fn keys_of<'a>(
         let entry = member.entry;
         keys.push(message_key(entry))?;
         places.push(EntryPlace {
-            line: entry.line(),
+            line: entry.fields().line,
             is_live: is_live(entry),
         })?;
     }

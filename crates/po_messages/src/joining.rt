@@ -63,5 +63,5 @@ pub fn is_live_header(entry: &Entry) -> bool
 pub fn is_live(entry: &Entry) -> bool
     ensures { result ≡ is_live entry.now }
 {
-    !entry.obsolete()
+    !entry.fields().obsolete
 }

@@ -66,9 +66,10 @@ impl KeyBuffer {
         ensures { OnOk result ((before : List TextEntry) → HoldKeys before self.old
             → HoldKeys (before ++ entry.now ∷ []) self.new) }
     {
-        let context = append_optional(&mut self.bytes, entry.context())?;
-        self.bytes.extend_from_slice(entry.id())?;
-        let id = entry.id().len();
+        let fields = entry.fields();
+        let context = append_optional(&mut self.bytes, fields.context.as_deref())?;
+        self.bytes.extend_from_slice(&fields.id)?;
+        let id = fields.id.len();
         Ok(self.lengths.push(KeySpans { context, id })?)
     }
 

@@ -40,9 +40,10 @@ impl Hash for MessageKey<'_> {
 pub fn message_key(entry: &Entry) -> MessageKey<'_>
     ensures { message_of_key result ≡ entry_message entry.now }
 {
+    let fields = entry.fields();
     MessageKey {
-        context: entry.context(),
-        id: entry.id(),
+        context: fields.context.as_deref(),
+        id: &fields.id,
     }
 }
 

@@ -77,7 +77,7 @@ pub fn statistics(catalogue: &Catalogue) -> Stats
 pub fn has_translation(entry: &Entry) -> bool
     ensures { result ≡ has_translation entry.now }
 {
-    match entry.forms().first() {
+    match entry.fields().forms.first() {
         Some(form) => !form.is_empty(),
         None => false,
     }

@@ -1,34 +1,36 @@
-use Rattle.std.proofs.Common.{◌∙◌, ◌<◌, ap, ap₂, arith, false, get_or, inr, length, subst, sym}
+use Rattle.std.proofs.Common.{◌≡◌, ◌∙◌, ◌<◌, ℕ, ap, ap₂, arith, get_or, inr, length, refl, subst, sym}
 use Rattle.std.specs.Prelude.{MatchOption}
 use Rattle.std.proofs.lemmas.List.{get_or-map, length-map}
 use Rattle.po_syntax.specs.declared.fault.PoError.{PoError}
 use Rattle.po_syntax.specs.declared.fault.PoFault.TheVariants.{Duplicate}
+use Rattle.po_entry.specs.TextEntry.{TextEntry}
 use Rattle.po_messages.specs.FirstOnes.{group_numbers}
 use Rattle.po_messages.specs.Joined.{InputEntry, entries_of, is_live}
 use Rattle.po_messages.specs.JoinedView.{input_entries, input_entry}
 use Rattle.po_messages.specs.Message.{same_message}
 use Rattle.po_messages.specs.MessageView.{messages_of_keys}
-use Rattle.po_messages.specs.Places.{is_looked_at, place_of}
+use Rattle.po_messages.specs.Places.{is_looked_at, number_in, place_of}
 use Rattle.po_messages.specs.Repeats.{DifferUpTo, RepeatsAt}
 use Rattle.po_messages.specs.declared.joining.InputEntry.{InputEntry as BorrowedEntry}
 use Rattle.po_messages.specs.declared.repeats.EntryPlace.{EntryPlace}
-use Rattle.po_messages.proofs.DuplicateLemmas.{duplicate_found, live_differ, number, numbers_of, placed_at}
-use Rattle.po_messages.proofs.RepeatLemmas.{all_differ, none_kept, repeat_of}
+use Rattle.po_messages.proofs.DuplicateLemmas.{live_differ}
+use Rattle.po_messages.proofs.NumberLemmas.{are_numbered, as_many, first_twice, none_twice, place_at}
+use Rattle.po_messages.proofs.RepeatLemmas.{none_kept}
 use Rattle.po_messages.proofs.duplicate.first_duplicate.Goals as goal
-
-none : EntryPlace
-none = record { line = 0; is_live = false }
 
 pub first_repeat-requires : goal.first_repeat-requires
 first_repeat-requires c =
     let xs = input_entries c.args.entries.now in
-    let are = numbers_of xs c.deref-2.result.now
-    (c.deref-2.ensures.value ∙ c.in_ok-numbers.ensures.numbers
+    let entries = entries_of xs in
+    let numbers = c.deref-2.result.now in
+    let places = c.deref-3.result.now in
+    let are = are_numbered entries numbers (c.deref-2.ensures.value ∙ c.in_ok-numbers.ensures.numbers
     ∙ ap (group_numbers same_message) (ap messages_of_keys c.deref.ensures.value ∙ c.in_ok-keys.ensures.keys)) in
+    let placed = c.deref-3.ensures.value ∙ c.in_ok-keys.ensures.places in
+    let entry : InputEntry → TextEntry = λ e. e.entry in
     record {
-      lengths = ap length are ∙ length-map xs (number xs)
-          ∙ sym (ap length (c.deref-3.ensures.value ∙ c.in_ok-keys.ensures.places)
-          ∙ length-map (entries_of xs) (place_of is_live) ∙ length-map xs (λ e. e.entry));
+      lengths = ap length are.numbers_are ∙ length-map entries (number_in entries) ∙ length-map xs entry
+          ∙ sym (as_many entry xs entries refl entries is_live numbers places are placed);
       round = omega arith;
       unseen = none_kept c.new-seen.result.items c.new-seen.ensures.items 1 (omega arith);
     }
@@ -36,31 +38,29 @@ first_repeat-requires c =
 pub returns-in_default : goal.returns-in_default
 returns-in_default c =
     let xs = input_entries c.args.entries.now in
+    let entries = entries_of xs in
     let numbers = c.deref-2.result.now in
     let places = c.deref-3.result.now in
-    let are = numbers_of xs numbers
-    (c.deref-2.ensures.value ∙ c.in_ok-numbers.ensures.numbers
+    let are = are_numbered entries numbers (c.deref-2.ensures.value ∙ c.in_ok-numbers.ensures.numbers
     ∙ ap (group_numbers same_message) (ap messages_of_keys c.deref.ensures.value ∙ c.in_ok-keys.ensures.keys)) in
     let placed = c.deref-3.ensures.value ∙ c.in_ok-keys.ensures.places in
+    let entry : InputEntry → TextEntry = λ e. e.entry in
     let found = subst (λ o. MatchOption o (DifferUpTo is_looked_at numbers places (length places))
     (λ at. RepeatsAt is_looked_at numbers places at.0 at.1)) c.in_default.is c.in_ok-first.ensures.found in
     record {
-      exact = live_differ xs
-          (all_differ (number xs) (λ e. is_live e.entry) is_looked_at xs places numbers are
-          (λ i d e inside. ap is_looked_at (placed_at xs places placed i d e inside)) none (length places)
-          (ap length placed ∙ length-map (entries_of xs) (place_of is_live) ∙ length-map xs (λ e. e.entry)) found);
+      exact = live_differ xs (none_twice entry xs entries refl entries is_live numbers places are placed found);
     }
 
 pub returns : goal.returns
 returns c =
-    let entries = c.args.entries.now in
-    let xs = input_entries entries in
+    let xs = input_entries c.args.entries.now in
+    let entries = entries_of xs in
     let numbers = c.deref-2.result.now in
     let places = c.deref-3.result.now in
-    let are = numbers_of xs numbers
-    (c.deref-2.ensures.value ∙ c.in_ok-numbers.ensures.numbers
+    let are = are_numbered entries numbers (c.deref-2.ensures.value ∙ c.in_ok-numbers.ensures.numbers
     ∙ ap (group_numbers same_message) (ap messages_of_keys c.deref.ensures.value ∙ c.in_ok-keys.ensures.keys)) in
     let placed = c.deref-3.ensures.value ∙ c.in_ok-keys.ensures.places in
+    let entry : InputEntry → TextEntry = λ e. e.entry in
     let found = subst (λ o. MatchOption o (DifferUpTo is_looked_at numbers places (length places))
     (λ at. RepeatsAt is_looked_at numbers places at.0 at.1)) c.in-Some.is c.in_ok-first.ensures.found in
     let i = c.in-Some.first in
@@ -68,28 +68,19 @@ returns c =
     let a = input_entry c.index-entries-first.result in
     let b = input_entry c.index-entries-later.result in
     let inside : j < length xs =
-    omega (
-      arith,
-      found.within,
-      ap length placed,
-      length-map (entries_of xs) (place_of is_live),
-      length-map xs (λ (e : InputEntry). e.entry),
-    ) in
+    omega (arith, found.within, as_many entry xs entries refl entries is_live numbers places are placed) in
     let within : i < length xs = omega (arith, found.earlier, inside) in
-    let here = ap input_entry c.index-entries-first.is
-    ∙ sym (get_or-map input_entry entries i c.index-entries-first.result a
-    (omega (arith, within, length-map entries input_entry))) in
-    let there = ap input_entry c.index-entries-later.is
-    ∙ sym (get_or-map input_entry entries j c.index-entries-later.result b
-    (omega (arith, inside, length-map entries input_entry))) in
-    let lives = placed_at xs places placed in
-    let repeat = repeat_of (number xs) (λ e. is_live e.entry) is_looked_at xs places numbers are
-    (λ k d e below. ap is_looked_at (lives k d e below)) none i j a b inside here there found in
+    let at = λ (k : ℕ) (x : BorrowedEntry) (is : x ≡ get_or c.args.entries.now k x) (below : k < length xs).
+    ap input_entry is ∙ sym (get_or-map input_entry c.args.entries.now k x (input_entry x)
+    (omega (arith, below, length-map c.args.entries.now input_entry))) in
+    let here = at i c.index-entries-first.result c.index-entries-first.is within in
+    let there = at j c.index-entries-later.result c.index-entries-later.is inside in
+    let place = place_at entry xs entries refl entries is_live numbers places are placed in
     record {
       exact = inr (
         a,
         b,
-        duplicate_found xs a b repeat,
+        first_twice entry xs entries refl entries is_live numbers places are placed i j a b inside here there found,
         ap₂ (λ (first later : BorrowedEntry). record {
           input = later.input;
           first_input = first.input;
@@ -99,8 +90,8 @@ returns c =
             (c.duplicate_at.ensures
             ∙ ap₂ (λ (first later : EntryPlace). record { kind = Duplicate first.line; line = later.line })
             (c.index.ensures ∙ ap (λ l. get_or l i c.index.result.now) (sym c.deref-3.ensures.value)
-            ∙ lives i c.index.result.now a within ∙ ap (λ (e : InputEntry). place_of is_live e.entry) (sym here))
+            ∙ place i c.index.result.now a within ∙ ap (λ (e : InputEntry). place_of is_live e.entry) (sym here))
             (c.index-2.ensures ∙ ap (λ l. get_or l j c.index-2.result.now) (sym c.deref-3.ensures.value)
-            ∙ lives j c.index-2.result.now b inside ∙ ap (λ (e : InputEntry). place_of is_live e.entry) (sym there))),
+            ∙ place j c.index-2.result.now b inside ∙ ap (λ (e : InputEntry). place_of is_live e.entry) (sym there))),
       );
     }
