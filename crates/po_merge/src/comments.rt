@@ -17,11 +17,12 @@ use std::collections::BTreeSet;
 fn texts_of(entry: &Entry, kind: CommentKind) -> &[Vec<u8>]
     ensures { texts result.now ≡ texts_of kind entry.now }
 {
+    let fields = entry.fields();
     match kind {
-        CommentKind::Translator => entry.comments(),
-        CommentKind::Extracted => entry.extracted(),
-        CommentKind::Reference => entry.references(),
-        CommentKind::Flags => entry.flags(),
+        CommentKind::Translator => &fields.comments,
+        CommentKind::Extracted => &fields.extracted,
+        CommentKind::Reference => &fields.references,
+        CommentKind::Flags => &fields.flags,
     }
 }
 

@@ -103,13 +103,14 @@ pub(crate) enum Part {
 fn has_part(entry: &Entry, part: Part) -> bool
     ensures { result ≡ has_part part entry.now }
 {
+    let fields = entry.fields();
     match part {
         Part::Translation => has_translation(entry),
         Part::Previous => {
-            let previous = entry.previous();
+            let previous = &fields.previous;
             previous.context.is_some() || previous.id.is_some() || previous.plural.is_some()
         }
-        Part::Plural => entry.plural().is_some(),
+        Part::Plural => fields.plural.is_some(),
     }
 }
 

@@ -23,7 +23,7 @@ pub(crate) fn translations<'a>(
         if !has_translation(definition.entry) {
             continue;
         }
-        if !seen.insert(definition.entry.forms())? {
+        if !seen.insert(definition.entry.fields().forms.as_slice())? {
             continue;
         }
         found.push(*definition)?;

@@ -29,8 +29,8 @@ fn taken_forms(
     ensures forms { IfOk result (λ r. texts r.0.items ≡ (first_translated (named_entries definitions.now)).forms) }
     ensures fuzzy { IfOk result (λ r. r.1 ≡ (first_translated (named_entries definitions.now)).fuzzy) }
 {
-    let taken = first_with(definitions, Part::Translation);
-    Ok((copy_texts(alloc, taken.forms())?, taken.fuzzy()))
+    let taken = first_with(definitions, Part::Translation).fields();
+    Ok((copy_texts(alloc, &taken.forms)?, taken.fuzzy))
 }
 
 /// The forms that the definitions are merged to, and whether these are fuzzy.
@@ -72,21 +72,22 @@ fn merged_entry(
         };
     }
     let (forms, fuzzy) = merged_forms(alloc, options, definitions)?;
+    let first = first.fields();
+    let earliest = first_with(definitions, Part::Previous).fields();
+    let plural = first_with(definitions, Part::Plural).fields();
     Ok(Entry::of_fields(
         comment_of(alloc, options, CommentKind::Translator, definitions)?,
         comment_of(alloc, options, CommentKind::Extracted, definitions)?,
         comment_of(alloc, options, CommentKind::Reference, definitions)?,
         fuzzy,
         comment_of(alloc, options, CommentKind::Flags, definitions)?,
-        first_with(definitions, Part::Previous)
-            .previous()
-            .copy(alloc)?,
-        copy_optional(alloc, first.context())?,
-        first.id().to_vec(alloc)?,
-        copy_optional(alloc, first_with(definitions, Part::Plural).plural())?,
+        earliest.previous.copy(alloc)?,
+        copy_optional(alloc, first.context.as_deref())?,
+        first.id.as_slice().to_vec(alloc)?,
+        copy_optional(alloc, plural.plural.as_deref())?,
         forms,
-        first.obsolete(),
-        first.line(),
+        first.obsolete,
+        first.line,
     ))
 }
 

@@ -6,7 +6,7 @@ use Rattle.std.specs.BTreeMap.{is_at}
 use Rattle.std.specs.BTreeSet.{contains}
 use Rattle.std.proofs.lemmas.Bool.{not-true, not-false}
 use Rattle.std.proofs.lemmas.List.{map-append}
-use Rattle.po_entry.specs.TextEntry.{texts}
+use Rattle.po_entry.specs.TextEntry.{TextEntry, texts}
 use Rattle.po_entry.specs.Equality.{texts_eq}
 use Rattle.po_merge.specs.Inputs.{NamedEntry}
 use Rattle.po_merge.specs.InputsView.{named_entry, named_entries}
@@ -38,12 +38,13 @@ pub loop-definition-preserved-then-not-branch : goal.loop-definition-preserved-t
 loop-definition-preserved-then-not-branch c =
     let d = named_entry c.definition-item.result in
     let inv = c.loop-definition.invariant in
+    let forms = ap texts c.as_slice.ensures.value ∙ ap (λ (e : TextEntry). e.forms) c.fields.ensures.fields in
     let T = translations (named_entries (take c.loop-definition.definition-index c.args.definitions.now)) in
     let known : contains (λ x y. slice_cmp (λ v w. slice_cmp nat_cmp v.items w.items) x.now y.now)
-    c.loop-definition.seen c.forms.result ≡ list_any (same_forms d) T =
-    inv.met c.forms.result ∙ ap₂
+    c.loop-definition.seen c.as_slice.result ≡ list_any (same_forms d) T =
+    inv.met c.as_slice.result ∙ ap₂
     (λ (forms : List (List ℕ)) (l : List NamedEntry). list_any (λ e. texts_eq forms e.entry.forms) l)
-    c.forms.ensures inv.are_found in
+    forms inv.are_found in
     let met : list_any (same_forms d) T ≡ true =
     sym known ∙ not-false _ (sym c.in_ok-insert.ensures.added ∙ c.if-not-branch.true) in
     let unchanged = (rw c.if-not-branch.true at c.in_ok-insert.ensures.unchanged) in
@@ -60,12 +61,13 @@ pub loop-definition-preserved : goal.loop-definition-preserved
 loop-definition-preserved c =
     let d = named_entry c.definition-item.result in
     let inv = c.loop-definition.invariant in
+    let forms = ap texts c.as_slice.ensures.value ∙ ap (λ (e : TextEntry). e.forms) c.fields.ensures.fields in
     let T = translations (named_entries (take c.loop-definition.definition-index c.args.definitions.now)) in
     let known : contains (λ x y. slice_cmp (λ v w. slice_cmp nat_cmp v.items w.items) x.now y.now)
-    c.loop-definition.seen c.forms.result ≡ list_any (same_forms d) T =
-    inv.met c.forms.result ∙ ap₂
+    c.loop-definition.seen c.as_slice.result ≡ list_any (same_forms d) T =
+    inv.met c.as_slice.result ∙ ap₂
     (λ (forms : List (List ℕ)) (l : List NamedEntry). list_any (λ e. texts_eq forms e.entry.forms) l)
-    c.forms.ensures inv.are_found in
+    forms inv.are_found in
     let unmet : list_any (same_forms d) T ≡ false =
     sym known ∙ not-true _ (sym c.in_ok-insert.ensures.added ∙ c.if-not-branch.false) in
     let pushed = ap named_entries c.in_ok-push.ensures.items
@@ -77,6 +79,6 @@ loop-definition-preserved c =
           true false c.loop-definition-test.true c.definition-item.is
           (sym c.has_translation.ensures ∙ c.if-not-has_translation.false) unmet);
       met = subst (HasForms c.insert.new.self) (sym pushed)
-          (one_definition_more c.loop-definition.seen c.insert.new.self c.forms.result d
-          (named_entries c.loop-definition.found.items) inv.met c.forms.ensures c.in_ok-insert.ensures.updates.0);
+          (one_definition_more c.loop-definition.seen c.insert.new.self c.as_slice.result d
+          (named_entries c.loop-definition.found.items) inv.met forms c.in_ok-insert.ensures.updates.0);
     }

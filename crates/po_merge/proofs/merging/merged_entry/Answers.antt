@@ -12,15 +12,16 @@ of_fields-requires c =
     let ds = c.args.definitions.now in
     let first = ap (λ (d : BorrowedEntry). d.entry.now) (sym c.index-definitions-0.is)
     ∙ first_is ds c.index-definitions-0.result c.requires.some c.index-definitions-0.is in
-    let previous = c.in_ok-copy.ensures ∙ c.previous.ensures
-    ∙ ap (λ (e : TextEntry). e.previous) c.first_with.ensures in
-    let context = c.in_ok-copy_optional.ensures ∙ c.context.ensures ∙ ap (λ (e : TextEntry). e.context) first in
-    let text : c.in_ok-to_vec.field-0.items ≡ c.id.result.now = search rules in
-    let id = text ∙ c.id.ensures ∙ ap (λ (e : TextEntry). e.id) first in
-    let plural = c.in_ok-copy_optional-2.ensures ∙ c.plural.ensures
-    ∙ ap (λ (e : TextEntry). e.plural) c.first_with-2.ensures in
-    let obsolete = c.obsolete.ensures ∙ ap (λ (e : TextEntry). e.obsolete) first in
-    let line = c.line.ensures ∙ ap (λ (e : TextEntry). e.line) first in
+    let own = c.fields-first.ensures.fields ∙ first in
+    let previous = c.in_ok-copy.ensures
+    ∙ ap (λ (e : TextEntry). e.previous) (c.fields-earliest.ensures.fields ∙ c.first_with.ensures) in
+    let context = c.in_ok-copy_optional.ensures ∙ c.as_deref.ensures.value ∙ ap (λ (e : TextEntry). e.context) own in
+    let text : c.in_ok-to_vec.field-0.items ≡ c.as_slice.result.now = search rules in
+    let id = text ∙ c.as_slice.ensures.value ∙ ap (λ (e : TextEntry). e.id) own in
+    let plural = c.in_ok-copy_optional-2.ensures ∙ c.as_deref-2.ensures.value
+    ∙ ap (λ (e : TextEntry). e.plural) (c.fields-plural.ensures.fields ∙ c.first_with-2.ensures) in
+    let obsolete = ap (λ (e : TextEntry). e.obsolete) own in
+    let line = ap (λ (e : TextEntry). e.line) own in
     let some : 0 < length (named_entries ds) = omega (arith, c.requires.some, length-map ds named_entry) in
     rw (
       c.in_ok-comment_of.ensures,
@@ -29,14 +30,9 @@ of_fields-requires c =
       c.in_ok-comment_of-4.ensures,
       c.in_ok-forms.ensures.forms,
       c.in_ok-forms.ensures.fuzzy,
-      previous,
-      context,
-      id,
-      plural,
-      obsolete,
-      line,
     )
-    (merged_is_entry c.args.options.now (named_entries ds) some c.requires.valid)
+    (rw (previous, context, id, plural, obsolete, line)
+    (merged_is_entry c.args.options.now (named_entries ds) some c.requires.valid))
 
 pub returns-in-Ok : goal.returns-in-Ok
 returns-in-Ok c =
