@@ -8,7 +8,7 @@ ghost use Rattle.msgcat.specs.Internal.Entries.{HoldEntries};
 
 use po_entry::Entry;
 use po_merge::Member;
-use po_messages::{KeyBuffer, is_live};
+use po_messages::KeyBuffer;
 use po_writer::append_separated;
 use std::alloc::{AllocError, Global};
 
@@ -75,7 +75,7 @@ impl<'a> Entries<'a> {
             name,
             start,
             end: self.text.len(),
-            is_live: is_live(entry),
+            is_live: !entry.fields().obsolete,
             is_header: entry.is_header(),
         })?;
         self.keys.add(entry)

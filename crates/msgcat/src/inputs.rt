@@ -19,7 +19,7 @@ ghost use Rattle.runs.specs.NamedFile.{named_files};
 
 use crate::entries::{Entries, EntryRow};
 use po_entry::Catalogue;
-use po_messages::{EntryPlace, duplicate_at, is_live, repeated_lines, split_at_most};
+use po_messages::{EntryPlace, duplicate_at, repeated_lines, split_at_most};
 use po_reader::{PIECE, next_catalogue};
 use po_syntax::{Pieces, PoError, PoFault};
 use std::alloc::{AllocError, Global};
@@ -89,9 +89,10 @@ fn add_piece<'a>(
     ensures places { OnOk result (places.new.items ≡ places.old.items ++ are_placed is_live piece.now) }
 {
     for entry in piece.entries() {
+        let fields = entry.fields();
         places.push(EntryPlace {
-            line: entry.line(),
-            is_live: is_live(entry),
+            line: fields.line,
+            is_live: !fields.obsolete,
         })?;
         entries.add(name, entry)?;
     }

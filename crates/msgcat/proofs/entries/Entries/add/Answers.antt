@@ -1,5 +1,6 @@
-use Rattle.std.proofs.Common.{◌++◌, ◌∷◌, [], ◌∙◌, refl, subst, sym}
+use Rattle.std.proofs.Common.{◌++◌, ◌∷◌, [], ◌∙◌, ap, not, refl, subst, sym}
 use Rattle.std.proofs.lemmas.Result.{on_ok_weaker}
+use Rattle.po_entry.specs.TextEntry.{TextEntry}
 use Rattle.po_merge.specs.Inputs.{named}
 use Rattle.msgcat.specs.Internal.Entries.{AreRows, unnamed}
 use Rattle.po_messages.specs.Keys.{HoldKeys}
@@ -16,7 +17,8 @@ returns c =
           (row_more c.args.self.now.text.items c.append_separated.new.text.items before c.args.self.now.rows.items
           c.args.name.now c.args.entry.now _ have.rows c.in_ok-append_separated.ensures refl
           (c.len-start.ensures ∙ c.args.self.now.text.ok.0)
-          (c.len.ensures ∙ c.append_separated.new.text.ok.0) c.is_live.ensures c.is_header.ensures c.utf8.name
+          (c.len.ensures ∙ c.append_separated.new.text.ok.0)
+          (ap (λ (e : TextEntry). not e.obsolete) c.fields.ensures.fields) c.is_header.ensures c.utf8.name
           no_nul valid);
       keys = subst (λ l. HoldKeys l c.add.new.self) (unnamed_more before c.args.name.now c.args.entry.now)
           (added (unnamed before) have.keys);
