@@ -7,9 +7,9 @@ ghost use Rattle.po_entry.specs.TextEntry.{TextEntry};
 ghost use Rattle.po_reader.specs.Internal.Keeping.{IsTextError};
 ghost use Rattle.po_select.specs.declared.selection.Selection.{Selection};
 ghost use Rattle.po_syntax.specs.declared.fault.PoFault.{PoFault};
-ghost use Rattle.msgattrib.specs.Internal.SelectedText.{HaveNoDuplicate, AreSelected, HoldRows, IsRowsFault, IsSelectedText, IsSelectedWhole, IsSelectionFault, stays_live};
+ghost use Rattle.msgattrib.specs.Internal.SelectedText.{HaveNoDuplicate, HoldRows, IsRowsFault, IsSelectedText, IsSelectedWhole, IsSelectionFault};
 
-use po_entry::{Catalogue, Entry};
+use po_entry::Entry;
 use po_messages::{EntryPlace, KeyBuffer, duplicate_at, is_live, repeated_lines};
 use po_reader::{PIECE, next_catalogue};
 use po_select::{Selection, select};
@@ -28,20 +28,6 @@ pub(crate) struct Rows {
     pub(crate) kept: Vec<EntryPlace>,
 }
 
-/// Entries that have been read, and what is written of those that are selected.
-#[derive(Drop)]
-pub(crate) struct SelectedSoFar {
-    pub(crate) parts: TextParts,
-    pub(crate) rows: Rows,
-}
-
-/// Whether an entry is kept and live once it is changed.
-fn stays_live(selection: &Selection, entry: &Entry) -> bool
-    ensures { result ≡ stays_live selection.now entry.now }
-{
-    selection.keeps(entry) && !selection.obsolete_after(entry)
-}
-
 impl Rows {
     /// Adds entries.
     fn add_all(&mut self, entries: &[Entry], selection: &Selection) -> Result<(), AllocError>
@@ -57,7 +43,7 @@ impl Rows {
             })?;
             self.kept.push(EntryPlace {
                 line,
-                is_live: stays_live(selection, entry),
+                is_live: selection.keeps(entry) && !selection.obsolete_after(entry),
             })?;
         }
         Ok(())
@@ -83,43 +69,30 @@ impl Rows {
     }
 }
 
-/// Selects the entries of a piece, and writes them.
-fn select_piece(
-    so_far: &mut SelectedSoFar,
-    piece: Catalogue,
-    selection: &Selection,
-) -> Result<(), AllocError>
-    ensures { OnOk result ((before : List TextEntry) → AreSelected selection.now before so_far.old
-        → AreSelected selection.now (before ++ piece) so_far.new) }
-{
-    so_far.rows.add_all(piece.entries(), selection)?;
-    let selected = select(piece, selection).unwrap();
-    so_far.parts.add(selected.entries())
-}
-
-/// Selects the entries of a text, piece by piece.
+/// Selects the entries of a text, piece by piece: what is written of those that are selected, and
+/// the rows of all.
 fn select_pieces(
     alloc: Global,
     text: &[u8],
     selection: &Selection,
-) -> Result<SelectedSoFar, PoError>
+) -> Result<(TextParts, Rows), PoError>
     ensures found { IfOk result (IsSelectedWhole selection.now text.now) }
     ensures fault { IfErr result (IsTextError text.now) }
 {
     let mut pieces = Pieces::of(text)?;
-    let mut so_far = SelectedSoFar {
-        parts: TextParts::with_capacity(alloc, text.len())?,
-        rows: Rows {
-            keys: KeyBuffer::new(alloc),
-            read: Vec::new(alloc),
-            kept: Vec::new(alloc),
-        },
+    let mut parts = TextParts::with_capacity(alloc, text.len())?;
+    let mut rows = Rows {
+        keys: KeyBuffer::new(alloc),
+        read: Vec::new(alloc),
+        kept: Vec::new(alloc),
     };
     while !pieces.are_over() {
         let piece = next_catalogue(alloc, &mut pieces, PIECE)?;
-        select_piece(&mut so_far, piece, selection)?;
+        rows.add_all(piece.entries(), selection)?;
+        let selected = select(piece, selection).unwrap();
+        parts.add(selected.entries())?;
     }
-    Ok(so_far)
+    Ok((parts, rows))
 }
 
 /// What is written of the selected entries of a text. Refused with the text's first fault; with the
@@ -132,7 +105,7 @@ pub(crate) fn selected_text(
     ensures { MatchResult result (λ written. IsSelectedText selection.now text.now written.items)
         (IsSelectionFault selection.now text.now) }
 {
-    let SelectedSoFar { parts, rows } = select_pieces(alloc, text, selection)?;
+    let (parts, rows) = select_pieces(alloc, text, selection)?;
     rows.check(alloc)?;
     drop(rows);
     Ok(parts.join()?)

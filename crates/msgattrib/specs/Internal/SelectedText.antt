@@ -11,10 +11,10 @@ use Rattle.po_select.specs.declared.selection.Selection.{Selection}
 use Rattle.po_select.specs.Selected.{is_kept, obsolete_after, selected}
 use Rattle.po_writer.specs.TextParts.{AreParts}
 use Rattle.po_writer.specs.WrittenText.{written_text}
+use Rattle.po_writer.specs.declared.parts.TextParts.{TextParts}
 use Rattle.po_messages.specs.Keys.{HoldKeys}
 use Rattle.po_messages.specs.Places.{Repeats, are_placed}
 use Rattle.msgattrib.specs.declared.selected_text.Rows.{Rows}
-use Rattle.msgattrib.specs.declared.selected_text.SelectedSoFar.{SelectedSoFar}
 
 -- the entry is kept, and live once it is changed
 abbrev pub stays_live : Selection → TextEntry → Bool
@@ -27,15 +27,15 @@ pub record HoldRows (s : Selection) (entries : List TextEntry) (rows : Rows) : T
   pub kept : rows.kept.items ≡ are_placed (stays_live s) entries
 
 -- those of these entries that are selected are written, and these are the rows of all
-pub record AreSelected (s : Selection) (entries : List TextEntry) (so_far : SelectedSoFar) : Type 0 where
-  pub parts : AreParts (selected s entries) so_far.parts
-  pub rows : HoldRows s entries so_far.rows
+pub record AreSelected (s : Selection) (entries : List TextEntry) (parts : TextParts) (rows : Rows) : Type 0 where
+  pub parts_are : AreParts (selected s entries) parts
+  pub held : HoldRows s entries rows
 
 -- and they are all entries of the text
-pub record IsSelectedWhole (s : Selection) (text : List ℕ) (so_far : SelectedSoFar) : Type 0 where
+pub record IsSelectedWhole (s : Selection) (text : List ℕ) (so_far : TextParts × Rows) : Type 0 where
   pub entries : List TextEntry
   pub reads : ReadsText text entries
-  pub have : AreSelected s entries so_far
+  pub have : AreSelected s entries so_far.0 so_far.1
 
 -- neither the entries nor those that are selected have a duplicate
 pub record HaveNoDuplicate (s : Selection) (entries : List TextEntry) : Type 0 where

@@ -1,7 +1,12 @@
-use Rattle.std.proofs.Common.{[], ◌++◌}
+use Rattle.std.proofs.Common.{◌≡◌, ◌∙◌, [], ◌++◌, ap, subst}
+use Rattle.std.specs.Prelude.{IfOk}
 use Rattle.std.proofs.lemmas.Result.{err_from_is_err_and}
 use Rattle.po_entry.specs.Faults.IsReadFault.{in_text}
 use Rattle.po_reader.proofs.PieceReading.{read_all, read_more, read_none}
+use Rattle.po_select.specs.Selected.{selected}
+use Rattle.po_writer.specs.TextParts.{AreParts}
+use Rattle.msgattrib.specs.Internal.SelectedText.{HoldRows}
+use Rattle.msgattrib.proofs.SelectedLemmas.{selected_joined}
 use Rattle.msgattrib.proofs.selected_text.select_pieces.Goals as goal
 
 pub returns-in_err-pieces-clause-fault : goal.returns-in_err-pieces-clause-fault
@@ -17,19 +22,29 @@ loop-pieces-init c = record {
   before = [];
   read = read_none c.args.text.now c.in_ok-pieces.pieces c.in_ok-pieces.ensures.found c.in_ok-pieces.ensures.stops;
   selected = record {
-    parts = c.in_ok-with_capacity.ensures;
-    rows =
-        record { keys = c.new.ensures; read = c.new-2.ensures.items; kept = c.new-3.ensures.items };
+    parts_are = c.in_ok-parts.ensures;
+    held = record { keys = c.new.ensures; read = c.new-2.ensures.items; kept = c.new-3.ensures.items };
   };
 }
 
 pub loop-pieces-preserved : goal.loop-pieces-preserved
 loop-pieces-preserved c =
     let done = c.loop-pieces.invariant in
+    let piece = c.in_ok-piece.piece in
+    let chosen = c.args.selection.now in
+    let list = subst (λ answer. IfOk answer (λ entries. entries ≡ selected chosen piece))
+    c.unwrap-selected.ensures c.select.ensures.list in
     record {
-      before = done.before ++ c.in_ok-piece.piece;
-      read = read_more c.in_ok-piece.piece done.read c.in_ok-piece.ensures.found c.in_ok-piece.ensures.faults;
-      selected = c.in_ok-select_piece.ensures done.before done.selected;
+      before = done.before ++ piece;
+      read = read_more piece done.read c.in_ok-piece.ensures.found c.in_ok-piece.ensures.faults;
+      selected = record {
+        parts_are = subst (λ entries. AreParts entries c.add.new.self)
+            (ap (λ entries. selected chosen done.before ++ entries) (c.entries-in-loop-pieces.ensures.entries ∙ list)
+            ∙ selected_joined chosen done.before piece)
+            (c.in_ok-add.ensures.parts (selected chosen done.before) done.selected.parts_are);
+        held = subst (λ entries. HoldRows chosen (done.before ++ entries) c.add_all.new.self) c.entries.ensures.entries
+            (c.in_ok-add_all.ensures done.before done.selected.held);
+      };
     }
 
 pub returns-clause-found : goal.returns-clause-found
