@@ -14,12 +14,11 @@ use Rattle.po_entry.specs.ReadsText.{ReadsText}
 use Rattle.po_entry.specs.TextEntry.{TextEntry, SameButLine, with_line}
 use Rattle.po_entry.specs.Validity.{IsCatalogueEntry}
 use Rattle.po_messages.specs.Joined.{is_live}
-use Rattle.po_messages.specs.Message.{same_message}
 use Rattle.po_merge.specs.declared.definition.NamedEntry.{NamedEntry as BorrowedEntry}
 use Rattle.po_merge.specs.declared.input.MergeOptions.{MergeOptions}
 use Rattle.po_merge.specs.EntryLaws.{IsSameButLine, LinesAreNotMerged}
-use Rattle.po_merge.specs.Grouping.{IsDefinition, IsGroup, message_numbers, named_messages}
-use Rattle.po_merge.specs.Groups.{by_number, definitions, definitions_by, first_ones, groups, with_number}
+use Rattle.po_merge.specs.Grouping.{IsDefinition, IsGroup}
+use Rattle.po_merge.specs.Groups.{by_number, definitions, definitions_by, groups, with_number}
 use Rattle.po_merge.specs.Inputs.{NamedEntry}
 use Rattle.po_merge.specs.InputsView.{named_entries, named_entry}
 use Rattle.po_merge.specs.Merged.{IsMergeFault, is_kept, is_kept_by, is_wanted, merged_messages}
@@ -33,8 +32,10 @@ use Rattle.po_writer.specs.TextParts.{AreParts, AreSeparated, separated}
 use Rattle.po_writer.specs.WrittenText.{arranged, in_order, written_text}
 use Rattle.po_writer.specs.declared.parts.TextParts.{TextParts}
 use Rattle.msgcat.specs.Internal.Entries.{AreRows, IsRow, unnamed}
+use Rattle.msgcat.specs.Internal.Inputs.{HoldInputs}
 use Rattle.msgcat.specs.Internal.MergedText.{AreGroups, AreInOrder, AreReadBack, AreWritten, IsGroupOf, IsOnly}
 use Rattle.msgcat.specs.declared.entries.EntryRow.{EntryRow}
+use Rattle.msgcat.specs.declared.inputs.NumberedEntries.{NumberedEntries}
 use Rattle.po_messages.specs.Facts.Zips.{zip_all, zip_get, zip_length, zip_more}
 
 -- rows and their entries pass the same tests
@@ -353,13 +354,13 @@ one_of (r ∷ []) d some few = refl
 one_of (r ∷ s ∷ rows) d some few = absurd (omega (arith, few))
 
 -- the groups of rows by the numbers of their messages
-pub groups_hold : (text now : List ℕ) (es : List NamedEntry) (rows list : List EntryRow) (found : List (Vec EntryRow))
-    (ns : List ℕ) (count : ℕ) → AreRows text es rows → now ≡ text → list ≡ rows → ns ≡ message_numbers es
-    → count ≡ length (first_ones same_message (named_messages es))
-    → map (λ g. g.items) found ≡ by_number count ns list → GroupsByNumber es → AreGroups now (groups es) found
-groups_hold text now es rows list found ns count h now_is list_is numbers count_is of_rows law =
-    let held : AreRows now es list =
-    subst (λ t. AreRows t es list) (sym now_is) (subst (AreRows text es) (sym list_is) h) in
-    groups_are now count ns es list found (groups es) held of_rows
-    (ap₂ (λ (n : ℕ) (l : List ℕ). by_number n l es) count_is numbers ∙ law)
-    (groups_valid es (all_valid now es list held))
+pub groups_hold : (inputs : NumberedEntries) (es : List NamedEntry) (list : List EntryRow) (ns : List ℕ)
+    (found : List (Vec EntryRow)) → HoldInputs es inputs → list ≡ inputs.rows.items → ns ≡ inputs.numbers.items
+    → map (λ g. g.items) found ≡ by_number inputs.count ns list → GroupsByNumber es
+    → AreGroups inputs.text.items (groups es) found
+groups_hold inputs es list ns found h list_is numbers of_rows law =
+    let text = inputs.text.items in
+    let held : AreRows text es list = subst (AreRows text es) (sym list_is) h.rows in
+    groups_are text inputs.count ns es list found (groups es) held of_rows
+    (ap₂ (λ (n : ℕ) (l : List ℕ). by_number n l es) h.count (numbers ∙ h.numbers) ∙ law)
+    (groups_valid es (all_valid text es list held))

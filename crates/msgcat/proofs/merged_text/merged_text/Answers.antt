@@ -1,4 +1,4 @@
-use Rattle.std.proofs.Common.{◌≤◌, ◌<◌, [], ◌∙◌, ap, arith, get_or, length, refl, subst, sym, take}
+use Rattle.std.proofs.Common.{◌≤◌, ◌<◌, [], ◌∙◌, ap, arith, get_or, length, subst, sym, take}
 use Rattle.std.specs.List.{position_or_len}
 use Rattle.std.proofs.lemmas.List.{length-map, length_push, take_all}
 use Rattle.std.proofs.lemmas.List.Elements.{All-nil}
@@ -43,9 +43,8 @@ push_group-requires c =
     let h = c.requires.1 in
     let all = groups es in
     let text = c.args.inputs.now.text.items in
-    let are = groups_hold text text es c.args.inputs.now.rows.items c.deref.result.now c.in_ok-groups.groups.items
-    c.deref-2.result.now c.args.inputs.now.count h.rows refl c.deref.ensures.value
-    (c.deref-2.ensures.value ∙ h.numbers) h.count c.in_ok-groups.ensures (c.groups_are_numbered.ensures es) in
+    let are = groups_hold c.args.inputs.now es c.deref.result.now c.deref-2.result.now c.in_ok-groups.groups.items h
+    c.deref.ensures.value c.deref-2.ensures.value c.in_ok-groups.ensures (c.groups_are_numbered.ensures es) in
     let list = c.in_ok-groups.groups in
     let given = c.into_iter-group-iterator.ensures.into_iter_gives in
     let yields = YieldsList-from_vec {s = c.into_iter-group-iterator.result} list.items given.0 (given.1 ∙ list.ok.0) in
@@ -61,9 +60,8 @@ pub returns-in-Err : goal.returns-in-Err
 returns-in-Err c = λ es h.
     let all = groups es in
     let text = c.args.inputs.now.text.items in
-    let are = groups_hold text text es c.args.inputs.now.rows.items c.deref.result.now c.in_ok-groups.groups.items
-    c.deref-2.result.now c.args.inputs.now.count h.rows refl c.deref.ensures.value
-    (c.deref-2.ensures.value ∙ h.numbers) h.count c.in_ok-groups.ensures (c.groups_are_numbered.ensures es) in
+    let are = groups_hold c.args.inputs.now es c.deref.result.now c.deref-2.result.now c.in_ok-groups.groups.items h
+    c.deref.ensures.value c.deref-2.ensures.value c.in_ok-groups.ensures (c.groups_are_numbered.ensures es) in
     let list = c.in_ok-groups.groups in
     let given = c.into_iter-group-iterator.ensures.into_iter_gives in
     let yields = YieldsList-from_vec {s = c.into_iter-group-iterator.result} list.items given.0 (given.1 ∙ list.ok.0) in
@@ -80,9 +78,8 @@ pub loop-group-preserved : goal.loop-group-preserved
 loop-group-preserved c = λ es h.
     let all = groups es in
     let text = c.args.inputs.now.text.items in
-    let are = groups_hold text text es c.args.inputs.now.rows.items c.deref.result.now c.in_ok-groups.groups.items
-    c.deref-2.result.now c.args.inputs.now.count h.rows refl c.deref.ensures.value
-    (c.deref-2.ensures.value ∙ h.numbers) h.count c.in_ok-groups.ensures (c.groups_are_numbered.ensures es) in
+    let are = groups_hold c.args.inputs.now es c.deref.result.now c.deref-2.result.now c.in_ok-groups.groups.items h
+    c.deref.ensures.value c.deref-2.ensures.value c.in_ok-groups.ensures (c.groups_are_numbered.ensures es) in
     let list = c.in_ok-groups.groups in
     let given = c.into_iter-group-iterator.ensures.into_iter_gives in
     let yields = YieldsList-from_vec {s = c.into_iter-group-iterator.result} list.items given.0 (given.1 ∙ list.ok.0) in
@@ -103,9 +100,8 @@ pub returns : goal.returns
 returns c = λ es h.
     let all = groups es in
     let text = c.args.inputs.now.text.items in
-    let are = groups_hold text text es c.args.inputs.now.rows.items c.deref.result.now c.in_ok-groups.groups.items
-    c.deref-2.result.now c.args.inputs.now.count h.rows refl c.deref.ensures.value
-    (c.deref-2.ensures.value ∙ h.numbers) h.count c.in_ok-groups.ensures (c.groups_are_numbered.ensures es) in
+    let are = groups_hold c.args.inputs.now es c.deref.result.now c.deref-2.result.now c.in_ok-groups.groups.items h
+    c.deref.ensures.value c.deref-2.ensures.value c.in_ok-groups.ensures (c.groups_are_numbered.ensures es) in
     let list = c.in_ok-groups.groups in
     let given = c.into_iter-group-iterator.ensures.into_iter_gives in
     let yields = YieldsList-from_vec {s = c.into_iter-group-iterator.result} list.items given.0 (given.1 ∙ list.ok.0) in
