@@ -1,5 +1,5 @@
 -- The program of a tree: how it runs, and how many nodes begin in it.
-use Rattle.std.proofs.Common.{◌≡◌, ℕ, zero, suc, ◌+◌, ◌-◌, ◌*◌, ◌/◌, ◌%◌, ◌^◌, ◌<◌, ◌≤◌, true, false, nat_lt, inl, inr, List, [], ◌∷◌, length, drop, get_or, set, Option, Some, None, option_and_then, refl, sym, ap, ◌∙◌, drop-cons, add-one, arith}
+use Rattle.std.proofs.Common.{◌≡◌, ℕ, zero, suc, ◌+◌, ◌-◌, ◌*◌, ◌/◌, ◌%◌, ◌^◌, ◌<◌, ◌≤◌, true, false, nat_lt, ◌==◌, inl, inr, List, [], ◌∷◌, length, drop, get_or, set, Option, Some, None, option_and_then, option_map, refl, sym, ap, ◌∙◌, drop-cons, add-one, arith}
 use Rattle.std.proofs.Math.Seq.{drop-nil}
 use Rattle.std.proofs.lemmas.Bool.{cases_Bool}
 use Rattle.std.proofs.lemmas.Bool.Decides.{nat_tests}
@@ -12,7 +12,7 @@ use Rattle.plural_rule.specs.declared.instruction.Instruction.{Instruction}
 use Rattle.plural_rule.specs.declared.instruction.Action.{Action}
 use Rattle.plural_rule.specs.declared.instruction.Action.TheVariants.{Binary as BinaryAction, Branch as BranchAction}
 use Rattle.plural_rule.specs.Instruction.{operator_of-code, action_of, count_instruction, number_instruction, wide_instruction, low_instruction, not_instruction, binary_instruction, branch_instruction, choose_instruction, jump_instruction, begins}
-use Rattle.plural_rule.specs.Expression.{Tree, Count, Number, Not, Binary, Conditional, nodes, is_zero, needs_right, short_circuit_value, combined, truth, negated, binary_value, chosen, value, visited, visited_right}
+use Rattle.plural_rule.specs.Expression.{Tree, Count, Number, Not, Binary, Conditional, nodes, needs_right, short_circuit_value, combined, truth, binary_value, chosen, value, visited, visited_right}
 use Rattle.plural_rule.specs.Program.{is_lazy, branch_then, size, program, program_then, length-program, drop-program, low_of}
 use Rattle.plural_rule.specs.Internal.Run.{Next, act, with_value, left_with, left_by, Outcome, outcome, go_on, run, stored}
 
@@ -74,10 +74,11 @@ module _ (room n : ℕ) where
       → run room n (program_then k t rest) 0 (y ∷ x ∷ older) s ≡ resumed rest (y ∷ x ∷ older) (value t n) later
 
   after-not : (rest : List Instruction) (y : ℕ) (older : List ℕ) (v : Option ℕ) (s : ℕ) → length older + 1 < room
-      → resumed (not_instruction ∷ rest) (y ∷ older) v s ≡ resumed rest (y ∷ older) (negated v) s
+      → resumed (not_instruction ∷ rest) (y ∷ older) v s
+      ≡ resumed rest (y ∷ older) (option_map (λ x. truth (x == 0)) v) s
   after-not rest y older None s inside = refl
   after-not rest y older (Some x) s inside =
-      step not_instruction rest x y older s inside ∙ none-begins rest 0 (truth (is_zero x) ∷ y ∷ older) s
+      step not_instruction rest x y older s inside ∙ none-begins rest 0 (truth (x == 0) ∷ y ∷ older) s
 
   after-binary : (op : Operator) (rest : List Instruction) (values : List ℕ) (x : ℕ) (v : Option ℕ) (s : ℕ)
       → length values + 1 < room
@@ -144,7 +145,7 @@ module _ (room n : ℕ) where
       let third = program_then 0 c rest in
       let second = program_then 0 b (jump_instruction (size c) ∷ third) in
       step (choose_instruction (size b + 1)) second v y (x ∷ older) s (omega (arith, inside, size-some b))
-      ∙ elim (cases_Bool (is_zero v)) [
+      ∙ elim (cases_Bool (v == 0)) [
         | inl e ↦
             let all : later ≡ s + 0 + visited c n = omega (arith, rw e at at) in
             rw e (none-begins second (size b + 1) values s ∙ over b (jump_instruction (size c) ∷ third) 1 values s
@@ -218,19 +219,29 @@ room-left room n i p y x older s runs =
     elim (cases_Bool (nat_lt (1 + length older) room))
     [ inl e ↦ grind (arith, nat_tests) | inr e ↦ absurd (let none = rw e at runs in cc) ]
 
+-- the number of an instruction, and that there is one
+low_of-drop : (p : List Instruction) (i : ℕ) → low_of (drop i p) ≡ (get_or p i (count_instruction 0)).number
+low_of-drop [] i = ap low_of (drop-nil i)
+low_of-drop (x ∷ p) zero = refl
+low_of-drop (x ∷ p) (suc i) = low_of-drop p i
+
+pub operator-within : (p : List Instruction) (i : ℕ) (op : Operator)
+    → action_of (get_or p i (count_instruction 0)) ≡ BinaryAction op → i < length p
+operator-within [] i op e = absurd cc
+operator-within (x ∷ p) zero op e = omega arith
+operator-within (x ∷ p) (suc i) op e = omega (arith, operator-within p i op e)
+
 -- an instruction inside of a program
-pub acts : (room n : ℕ) (p : List Instruction) (i y x : ℕ) (older : List ℕ) (s : ℕ) {o : Outcome} (d : Instruction)
-    (action : Action) (next : Next) → i < length p → run room n (drop i p) 0 (y ∷ x ∷ older) s ≡ Some o
-    → action ≡ action_of (get_or p i d) → act n action (low_of (drop (i + 1) p)) (y ∷ x ∷ older) ≡ next
-    → go_on (run room n (drop (i + 1) p)) s next ≡ Some o
-acts room n p i y x older s d action next inside runs is leads =
-    let whole = ap (λ q. run room n q 0 (y ∷ x ∷ older) s) (sym (drop-cons p i d inside)) ∙ runs in
-    ap (go_on (run room n (drop (i + 1) p)) s) (sym leads)
-    ∙ ap (λ a. go_on (run room n (drop (i + 1) p)) s (act n a (low_of (drop (i + 1) p)) (y ∷ x ∷ older))) is
-    ∙ ap (λ k. go_on (run room n (drop k p)) s (act n (action_of (get_or p i d)) (low_of (drop k p)) (y ∷ x ∷ older)))
-    (add-one i)
-    ∙ sym (step room n (get_or p i d) (drop (suc i) p) y x older s
-    (room-left room n (get_or p i d) (drop (suc i) p) y x older s whole)) ∙ whole
+pub acts : (room n : ℕ) (p : List Instruction) (i y x : ℕ) (older : List ℕ) (s : ℕ) {o : Outcome} {action : Action}
+    {j : Instruction} {next : Next} → i < length p → run room n (drop i p) 0 (y ∷ x ∷ older) s ≡ Some o
+    → action ≡ action_of (get_or p i (count_instruction 0)) → j ≡ get_or p (i + 1) (count_instruction 0)
+    → act n action j.number (y ∷ x ∷ older) ≡ next → go_on (run room n (drop (i + 1) p)) s next ≡ Some o
+acts room n p i y x older s inside runs is is' leads =
+    let none = count_instruction 0 in
+    let whole = ap (λ q. run room n q 0 (y ∷ x ∷ older) s) (sym (drop-cons p i none inside)) ∙ runs in
+    rw (sym leads, is, is', add-one, sym (low_of-drop p (suc i)))
+    (sym (step room n (get_or p i none) (drop (suc i) p) y x older s
+    (room-left room n (get_or p i none) (drop (suc i) p) y x older s whole)) ∙ whole)
 
 pub skips : (room n : ℕ) (p : List Instruction) (i skip : ℕ) (values : List ℕ) (s : ℕ) {o : Outcome}
     → run room n (drop i p) skip values s ≡ Some o → run room n (drop (i + skip) p) 0 values s ≡ Some o
@@ -265,11 +276,22 @@ stored-set stack zero i y h = refl
 stored-set stack (suc k) i y h =
     rw (get_or-set_other stack i k y 0 (λ e. omega arith), stored-set stack k i y (omega arith)) refl
 
+stored-drop : (stack : List ℕ) (k taken : ℕ) → stored stack (k - taken) ≡ drop taken (stored stack k)
+stored-drop stack k zero = let e : k - 0 ≡ k = omega arith in rw e refl
+stored-drop stack zero (suc taken) = let e : 0 - suc taken ≡ 0 = omega arith in rw e refl
+stored-drop stack (suc k) (suc taken) = let e : suc k - suc taken ≡ k - taken =
+    omega arith in rw e (stored-drop stack k taken)
+
 pub stored-more : (stack : List ℕ) (len y : ℕ) → len < length stack
     → stored (set stack len y) (len + 1) ≡ y ∷ stored stack len
 stored-more stack len y inside =
     ap (stored (set stack len y)) (add-one len)
     ∙ rw (get_or-set_same stack len y 0 inside, stored-set stack len len y (omega arith)) refl
+
+pub stored-kept : (stack : List ℕ) (len y taken : ℕ) → len < length stack
+    → stored (set stack len y) (len + 1 - taken) ≡ drop taken (y ∷ stored stack len)
+stored-kept stack len y taken inside =
+    stored-drop (set stack len y) (len + 1) taken ∙ ap (drop taken) (stored-more stack len y inside)
 
 -- before an instruction there are two values, and there is room for another one
 pub record Ready (room len : ℕ) : Type 0 where

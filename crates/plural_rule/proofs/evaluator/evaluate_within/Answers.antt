@@ -1,8 +1,8 @@
-use Rattle.std.proofs.Common.{◌+◌, ◌-◌, ◌∷◌, length, drop, ap, ◌∙◌, sym, arith, length-drop, ◌<◌}
-use Rattle.std.proofs.lemmas.List.{drop_all}
+use Rattle.std.proofs.Common.{◌+◌, ◌-◌, ◌∷◌, length, drop, ap, ◌∙◌, sym, arith, length-set, length-drop, ◌<◌}
+use Rattle.std.proofs.lemmas.List.{drop_all, length-replicate}
 use Rattle.plural_rule.specs.Program.{tree_of}
 use Rattle.plural_rule.specs.Internal.Run.{run, stored}
-use Rattle.plural_rule.proofs.Programs.{stored-cons, starts, skips, ready}
+use Rattle.plural_rule.proofs.Programs.{stored-cons, stored-kept, starts, skips, ready}
 use Rattle.plural_rule.proofs.evaluator.evaluate_within.Goals as goal
 
 pub loop-index-init : goal.loop-index-init
@@ -12,6 +12,7 @@ loop-index-init g c = record {
   some = λ h. omega arith;
   inside = λ h. omega (arith, c.requires.room);
   bound = omega arith;
+  size = length-replicate g.row.N 0;
 }
 
 pub returns-in_default : goal.returns-in_default
@@ -35,17 +36,20 @@ loop-index-preserved g c =
     (sym (stored-cons loop.stack loop.len some)) ∙ loop.invariant.runs in
     let on = rw c.in-Some.is at
     (c.step-effect.ensures.next g.row.N (stored loop.stack (loop.len - 1)) loop.steps _ before) in
+    let inside = loop.invariant.inside c.loop-index-test.true in
     let runs = ap (λ vs. run g.row.N c.args.count (drop (i + e.skip) code) 0 (c.in-Some.value ∷ vs)
     (loop.steps + e.begins))
-    (c.keep-len.ensures ∙ ap (λ vs. drop e.taken (loop.newest ∷ vs)) (stored-cons loop.stack loop.len some))
+    (stored-kept loop.stack loop.len loop.newest e.taken (omega (arith, inside, loop.invariant.size))
+    ∙ ap (λ vs. drop e.taken (loop.newest ∷ vs)) (stored-cons loop.stack loop.len some))
     ∙ skips g.row.N c.args.count code i e.skip _ _ on in
-    let there = λ (h : i + e.skip < length code). ready g.row.N c.args.count (drop (i + e.skip) code) _ _ _ _
+    let after = λ (h : i + e.skip < length code). ready g.row.N c.args.count (drop (i + e.skip) code) _ _ _ _
     (omega (arith, h, length-drop (i + e.skip) code)) runs in
     record {
       runs = runs;
-      some = λ h. (there h).some;
-      inside = λ h. (there h).inside;
+      some = λ h. (after h).some;
+      inside = λ h. (after h).inside;
       bound = omega (arith, loop.invariant.bound);
+      size = length-set loop.stack loop.len loop.newest ∙ loop.invariant.size;
     }
 
 pub returns : goal.returns
