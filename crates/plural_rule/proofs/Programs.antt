@@ -1,8 +1,7 @@
 -- The program of a tree: how it runs, and how many nodes begin in it.
 use Rattle.std.proofs.Common.{◌≡◌, ℕ, zero, suc, ◌+◌, ◌-◌, ◌*◌, ◌/◌, ◌%◌, ◌^◌, ◌<◌, ◌≤◌, true, false, nat_lt, ◌==◌, inl, inr, List, [], ◌∷◌, length, drop, get_or, set, Option, Some, None, option_and_then, option_map, refl, sym, ap, ◌∙◌, drop-cons, add-one, arith}
 use Rattle.std.proofs.Math.Seq.{drop-nil}
-use Rattle.std.proofs.lemmas.Bool.{cases_Bool}
-use Rattle.std.proofs.lemmas.Bool.Decides.{nat_tests}
+use Rattle.std.proofs.lemmas.Bool.{cases_Bool, lt-ltb, ltb-true}
 use Rattle.std.proofs.lemmas.List.{drop-drop, get_or-set_same, get_or-set_other}
 use Rattle.plural_rule.specs.declared.evaluator.Effect.{Effect}
 use Rattle.std.proofs.lemmas.Nat.{div-add-mod'}
@@ -42,7 +41,7 @@ module _ (room n : ℕ) where
       → run room n (i ∷ rest) 0 (y ∷ x ∷ older) s
       ≡ go_on (run room n rest) s (act n (action_of i) (low_of rest) (y ∷ x ∷ older))
   step i rest y x older s inside =
-      let e : nat_lt (1 + length older) room ≡ true = grind (arith, nat_tests) in rw e refl
+      rw (lt-ltb (1 + length older) room (omega (arith, inside))) refl
 
   -- where no node begins
   none-begins : (rest : List Instruction) (skip : ℕ) (values : List ℕ) (s : ℕ)
@@ -217,7 +216,7 @@ room-left : (room n : ℕ) (i : Instruction) (p : List Instruction) (y x : ℕ) 
     → run room n (i ∷ p) 0 (y ∷ x ∷ older) s ≡ Some o → length older + 1 < room
 room-left room n i p y x older s runs =
     elim (cases_Bool (nat_lt (1 + length older) room))
-    [ inl e ↦ grind (arith, nat_tests) | inr e ↦ absurd (let none = rw e at runs in cc) ]
+    [ inl e ↦ omega (arith, ltb-true (1 + length older) room e) | inr e ↦ absurd (let none = rw e at runs in cc) ]
 
 -- the number of an instruction, and that there is one
 low_of-drop : (p : List Instruction) (i : ℕ) → low_of (drop i p) ≡ (get_or p i (count_instruction 0)).number

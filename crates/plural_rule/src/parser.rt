@@ -67,14 +67,8 @@ fn take_operand(room: &mut Room, codes: &mut [u16], parser: Parser, token: Token
             let len = push_numeral(room, parser.len, number);
             Some(Parser::new(len, parser.count, parser.len as u16, true))
         }
-        Token::Not => {
-            wait(codes, parser.count, Pending::Not);
-            Some(Parser::new(parser.len, parser.count + 1, parser.start, false))
-        }
-        Token::Open => {
-            wait(codes, parser.count, Pending::Open);
-            Some(Parser::new(parser.len, parser.count + 1, parser.start, false))
-        }
+        Token::Not => Some(wait(codes, parser.len, parser, Pending::Not)),
+        Token::Open => Some(wait(codes, parser.len, parser, Pending::Open)),
         _ => None,
     }
 }
@@ -92,14 +86,17 @@ fn take_operator(room: &mut Room, codes: &mut [u16], before: Parser, token: Toke
         Token::Binary(operator) => {
             begin(room, parser.len, parser.start);
             let len = push_branch(room, parser.len, operator);
-            wait(codes, parser.count, Pending::Binary(operator, parser.start));
-            Some(Parser::new(len, parser.count + 1, parser.start, false))
+            Some(wait(codes, len, parser, Pending::Binary(operator, parser.start)))
         }
         Token::Question => {
             begin(room, parser.len, parser.start);
             push(room, parser.len, Instruction::CHOOSE);
-            wait(codes, parser.count, Pending::Question(parser.start));
-            Some(Parser::new(parser.len + 1, parser.count + 1, parser.start, false))
+            Some(wait(
+                codes,
+                parser.len + 1,
+                parser,
+                Pending::Question(parser.start),
+            ))
         }
         Token::Colon => {
             let Some(Pending::Question(first)) = newest(codes, parser.count) else {
@@ -107,8 +104,8 @@ fn take_operator(room: &mut Room, codes: &mut [u16], before: Parser, token: Toke
             };
             skip_operand(room, parser.len, parser.start, 1);
             push(room, parser.len, Instruction::JUMP);
-            wait(codes, parser.count - 1, Pending::Colon(first));
-            Some(Parser::new(parser.len + 1, parser.count, parser.start, false))
+            let before = Parser::new(parser.len, parser.count - 1, parser.start, true);
+            Some(wait(codes, parser.len + 1, before, Pending::Colon(first)))
         }
         Token::Close => {
             let Some(Pending::Open) = newest(codes, parser.count) else {

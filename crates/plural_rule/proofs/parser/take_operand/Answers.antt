@@ -1,5 +1,5 @@
 use Rattle.std.proofs.Common.{◌≡◌, ◌≤◌, ◌^◌, true, nat_lt, length, arith, refl, sym}
-use Rattle.std.proofs.lemmas.Bool.Decides.{nat_tests}
+use Rattle.std.proofs.lemmas.Bool.{lt-ltb}
 use Rattle.std.proofs.lemmas.List.{length-take-le}
 use Rattle.plural_rule.specs.Internal.ParserState.{held}
 use Rattle.plural_rule.specs.Expression.{Count, Number}
@@ -20,7 +20,7 @@ pub returns-in-Number-clause-step : goal.returns-in-Number-clause-step
 returns-in-Number-clause-step c waiting h =
     let before = c.args.parser in
     let fits : before.len ≤ length c.args.room.now = omega (arith, c.requires.room.0) in
-    let small : nat_lt c.in-Number.number (2 ^ 64) ≡ true = grind (arith, nat_tests) in
+    let small : nat_lt c.in-Number.number (2 ^ 64) ≡ true = lt-ltb _ _ (omega arith) in
     rw (c.in-Number.is, c.new-in-Number.ensures)
     (rw small (
       refl,

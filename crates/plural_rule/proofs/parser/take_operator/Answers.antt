@@ -20,13 +20,13 @@ returns-in-Binary-clause-step c waiting tree h =
     let o = reduce (level op) waiting tree in
     let fits = short parser.len c.reduce-parser.new.room
     (omega (arith, c.reduce-parser.ensures.room.0, c.requires.room.0)) in
-    rw (c.in-Binary.is, c.new.ensures) (
+    rw (c.in-Binary.is, c.wait.ensures.parser) (
       refl,
       waits (held c.reduce-parser.new.room c.args.codes.now parser) o.stack o.tree (WaitBinary op o.tree)
           (branch_then op 0 []) _ _ _
           (rw (c.closing_level.ensures, c.in-Binary.is) at (c.reduce-parser.ensures.reduced waiting tree h)) fits
           (c.push_branch-len.ensures.items ∙ ap (λ p. p ++ branch_then op 0 []) c.begin.ensures) refl
-          c.wait.ensures,
+          c.wait.ensures.entries,
     )
 
 pub returns-in-Question-clause-step : goal.returns-in-Question-clause-step
@@ -35,13 +35,13 @@ returns-in-Question-clause-step c waiting tree h =
     let o = reduce 1 waiting tree in
     let fits = short parser.len c.reduce-parser.new.room
     (omega (arith, c.reduce-parser.ensures.room.0, c.requires.room.0)) in
-    rw (c.in-Question.is, c.new-in-Question.ensures) (
+    rw (c.in-Question.is, c.wait-in-Question.ensures.parser) (
       refl,
       waits (held c.reduce-parser.new.room c.args.codes.now parser) o.stack o.tree (WaitQuestion o.tree)
           (choose_instruction 0 ∷ []) _ _ _
           (rw (c.closing_level.ensures, c.in-Question.is) at (c.reduce-parser.ensures.reduced waiting tree h)) fits
           (c.push.ensures ∙ ap (λ p. p ++ choose_instruction 0 ∷ []) c.begin-in-Question.ensures) refl
-          c.wait-in-Question.ensures,
+          c.wait-in-Question.ensures.entries,
     )
 
 pub returns-in-Some-Question-clause-step : goal.returns-in-Some-Question-clause-step
@@ -52,10 +52,10 @@ returns-in-Some-Question-clause-step c waiting tree h =
     let popped = rw c.in-Some-Question.field-0-is at c.in-Some-Question.ensures in
     let small : first % 4096 ≡ first = let is = popped.1 in cc in
     let code = c.push-in-Colon.ensures ∙ ap (λ p. p ++ jump_instruction 0 ∷ []) c.skip_operand.ensures in
-    let count : c.reduce-parser.result.count - 1 + 1 ≡ c.reduce-parser.result.count = omega (arith, popped.2) in
-    let entries = ap (entries_in c.wait-in-Colon.new.codes) (sym count) ∙ c.wait-in-Colon.ensures
-    ∙ ap (λ i. Colon i ∷ entries_in c.args.codes.now (c.reduce-parser.result.count - 1)) small in
-    rw (c.in-Colon.is, c.new-in-Colon.ensures)
+    let entries = c.wait-in-Colon.ensures.entries
+    ∙ ap (λ i. Colon i ∷ entries_in c.args.codes.now c.new-before.result.count) small
+    ∙ ap (λ (p : Parser). Colon first ∷ entries_in c.args.codes.now p.count) c.new-before.ensures in
+    rw (c.in-Colon.is, c.wait-in-Colon.ensures.parser)
     (answers-colon (held c.reduce-parser.new.room c.args.codes.now parser) first _ o.stack o.tree _ _ _
     (rw (c.closing_level.ensures, c.in-Colon.is) at (c.reduce-parser.ensures.reduced waiting tree h)) popped.0 code
     entries refl)
@@ -68,8 +68,8 @@ returns-in-Some-Open-clause-step c waiting tree h =
     rw c.in-Close.is
     (answers-close (held c.reduce-parser.new.room c.args.codes.now parser) _ o.stack o.tree _ _ _
     (rw (c.closing_level.ensures, c.in-Close.is) at (c.reduce-parser.ensures.reduced waiting tree h)) popped.0
-    (ap (held c.reduce-parser.new.room c.args.codes.now) c.new-in-Close.ensures)
-    (ap (λ (p : Parser). p.complete) c.new-in-Close.ensures))
+    (ap (held c.reduce-parser.new.room c.args.codes.now) c.new.ensures)
+    (ap (λ (p : Parser). p.complete) c.new.ensures))
 
 -- an entry that waits for an operand has one instruction to come
 added : (op : Operator) → length (branch_then op 0 []) + 1 ≡ most_added (Binary op)
@@ -78,7 +78,13 @@ added op = elim (cases_Bool (is_lazy op)) [ inl e ↦ rw e refl | inr e ↦ rw e
 pub returns-in-Binary-clause-room : goal.returns-in-Binary-clause-room
 returns-in-Binary-clause-room c =
     let room = c.reduce-parser.ensures.room in
-    rw (c.in-Binary.is, c.new.ensures) (
-      omega (arith, ap weight c.wait.ensures, c.push_branch-len.ensures.len, room.0, added c.in-Binary.operator),
+    rw (c.in-Binary.is, c.wait.ensures.parser) (
+      omega (
+        arith,
+        ap weight c.wait.ensures.entries,
+        c.push_branch-len.ensures.len,
+        room.0,
+        added c.in-Binary.operator,
+      ),
       omega (arith, room.1),
     )
