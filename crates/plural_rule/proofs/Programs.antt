@@ -3,7 +3,6 @@ use Rattle.std.proofs.Common.{◌≡◌, ℕ, zero, suc, ◌+◌, ◌-◌, ◌*�
 use Rattle.std.proofs.Math.Seq.{drop-nil}
 use Rattle.std.proofs.lemmas.Bool.{cases_Bool, lt-ltb, ltb-true}
 use Rattle.std.proofs.lemmas.List.{drop-drop, get_or-set_same, get_or-set_other}
-use Rattle.plural_rule.specs.declared.evaluator.Effect.{Effect}
 use Rattle.std.proofs.lemmas.Nat.{div-add-mod'}
 use Rattle.plural_rule.specs.declared.operator.Operator.{Operator}
 use Rattle.plural_rule.specs.declared.operator.Operator.TheVariants.{Or, And}
@@ -13,7 +12,7 @@ use Rattle.plural_rule.specs.declared.instruction.Action.TheVariants.{Binary as 
 use Rattle.plural_rule.specs.Instruction.{operator_of-code, action_of, count_instruction, number_instruction, wide_instruction, low_instruction, not_instruction, binary_instruction, branch_instruction, choose_instruction, jump_instruction, begins}
 use Rattle.plural_rule.specs.Expression.{Tree, Count, Number, Not, Binary, Conditional, nodes, needs_right, short_circuit_value, combined, truth, binary_value, chosen, value, visited, visited_right}
 use Rattle.plural_rule.specs.Program.{is_lazy, branch_then, size, program, program_then, length-program, drop-program, low_of}
-use Rattle.plural_rule.specs.Internal.Run.{Next, act, with_value, left_with, left_by, Outcome, outcome, go_on, run, stored}
+use Rattle.plural_rule.specs.Internal.Run.{Next, act, with_value, left_by, Outcome, outcome, go_on, run, stored}
 
 pub nodes-le-size : (t : Tree) → nodes t ≤ size t
 nodes-le-size Count = omega arith
@@ -248,17 +247,14 @@ skips room n p i skip values s runs =
     ap (λ q. run room n q 0 values s) (sym (drop-drop skip i p)) ∙ sym (run-drop room n (drop i p) skip values s) ∙ runs
 
 -- an operator right after an operand
-pub fused : (room n : ℕ) (p : List Instruction) (i x s : ℕ) (values : List ℕ) (e : Effect) {o : Outcome} → e.skip ≡ 1
-    → e.taken ≡ 1 → go_on (run room n (drop (i + 1) p)) (s + e.begins) (with_value e.value values) ≡ Some o
-    → go_on (run room n (drop i p)) s (left_by e (x ∷ values)) ≡ Some o
-fused room n p i x s values e {o} skip taken runs = by e.value runs where
-  by : (v : Option ℕ) → go_on (run room n (drop (i + 1) p)) (s + e.begins) (with_value v values) ≡ Some o
-      → go_on (run room n (drop i p)) s (left_with v e (x ∷ values)) ≡ Some o
-  by None runs = ap (λ k. Some (record { value = None; steps = k })) (omega arith) ∙ runs
-  by (Some v) runs =
-      rw (skip, taken) (run-drop room n (drop i p) 1 (v ∷ values) (s + e.begins)
-      ∙ ap (λ q. run room n q 0 (v ∷ values) (s + e.begins)) (drop-drop 1 i p)
-      ∙ sym (none-begins room n (drop (i + 1) p) 0 (v ∷ values) (s + e.begins)) ∙ runs)
+pub fused : (room n : ℕ) (p : List Instruction) (i x s : ℕ) (values : List ℕ) (v : Option ℕ) (begins : ℕ) {o : Outcome}
+    → go_on (run room n (drop (i + 1) p)) (s + begins) (with_value v values) ≡ Some o
+    → go_on (run room n (drop i p)) s (left_by v 1 1 begins (x ∷ values)) ≡ Some o
+fused room n p i x s values None begins runs = ap (λ k. Some (record { value = None; steps = k })) (omega arith) ∙ runs
+fused room n p i x s values (Some v) begins runs =
+    run-drop room n (drop i p) 1 (v ∷ values) (s + begins)
+    ∙ ap (λ q. run room n q 0 (v ∷ values) (s + begins)) (drop-drop 1 i p)
+    ∙ sym (none-begins room n (drop (i + 1) p) 0 (v ∷ values) (s + begins)) ∙ runs
 
 length-stored : (stack : List ℕ) (k : ℕ) → length (stored stack k) ≡ k
 length-stored stack zero = refl

@@ -40,18 +40,9 @@ pub fn evaluate(instructions: &[Instruction], count: u64) -> (Option<u64>, u32)
     }
 }
 
-/// What an instruction does: it takes some of the newest values, adds one, and skips instructions.
-#[derive(Clone, Copy, Drop)]
-struct Effect {
-    /// The value that it adds, or `None` where it divides by 0.
-    value: Option<u64>,
-    /// How many values it takes, two at most.
-    taken: usize,
-    /// How many instructions it skips.
-    skip: u16,
-    /// How many nodes begin with it.
-    begins: u16,
-}
+/// What an instruction does: the value that it adds, or `None` where it divides by 0, how many values
+/// it takes, how many instructions it skips, and how many nodes begin with it.
+type Effect = (Option<u64>, usize, u16, u16);
 
 /// The same with room for `N` values: half of the instructions suffice, since an operator takes two.
 ///
@@ -69,15 +60,15 @@ fn evaluate_within<const N: usize>(instructions: &[Instruction], count: u64) -> 
     let mut steps = 0;
     let mut index = 0;
     while index < instructions.len() {
-        let effect = step(instructions, index, count, newest, stack[len - 1]);
-        steps += effect.begins as u32;
-        let Some(value) = effect.value else {
+        let (value, taken, skip, begins) = step(instructions, index, count, newest, stack[len - 1]);
+        steps += begins as u32;
+        let Some(value) = value else {
             return (None, steps);
         };
         stack[len] = newest;
-        len = len + 1 - effect.taken;
+        len = len + 1 - taken;
         newest = value;
-        index = index + 1 + effect.skip as usize;
+        index = index + 1 + skip as usize;
     }
     (Some(newest), steps)
 }
@@ -89,28 +80,24 @@ fn step(instructions: &[Instruction], index: usize, count: u64, newest: u64, bel
     requires { index < length instructions.now }
     ensures next { (room : ℕ) (older : List ℕ) (steps : ℕ) (o : Outcome) →
         run room count (drop index instructions.now) 0 (newest ∷ below ∷ older) steps ≡ Some o →
-        go_on (run room count (drop (index + 1) instructions.now)) steps (left_by result (newest ∷ below ∷ older)) ≡ Some o }
-    ensures taken { result.taken ≤ 2 }
+        go_on (run room count (drop (index + 1) instructions.now)) steps
+        (left_by result.0 result.1 result.2 result.3 (newest ∷ below ∷ older)) ≡ Some o }
+    ensures taken { result.1 ≤ 2 }
 {
     let next = instruction_at(instructions, index + 1);
-    let effect = act(
+    let (value, taken, skip, begins) = act(
         instructions[index].action(),
         next.number,
         count,
         newest,
         below,
     );
-    if effect.taken == 0 && effect.skip == 0 {
-        if let (Action::Binary(operator), Some(operand)) = (next.action(), effect.value) {
-            return Effect {
-                value: operator.combined(newest, operand),
-                taken: 1,
-                skip: 1,
-                begins: effect.begins,
-            };
+    if taken == 0 && skip == 0 {
+        if let (Action::Binary(operator), Some(operand)) = (next.action(), value) {
+            return (operator.combined(newest, operand), 1, 1, begins);
         }
     }
-    effect
+    (value, taken, skip, begins)
 }
 
 /// The instruction at an index, or one that isn't an operator where the program has ended.
@@ -129,10 +116,10 @@ fn instruction_at(instructions: &[Instruction], index: usize) -> Instruction
 #[inline(always)]
 fn act(action: Action, low: u32, count: u64, newest: u64, below: u64) -> Effect
     ensures next { (older : List ℕ) →
-        act count action low (newest ∷ below ∷ older) ≡ left_by result (newest ∷ below ∷ older) }
-    ensures taken { result.taken ≤ 2 }
+        act count action low (newest ∷ below ∷ older) ≡ left_by result.0 result.1 result.2 result.3 (newest ∷ below ∷ older) }
+    ensures taken { result.1 ≤ 2 }
 {
-    let (value, taken, skip, begins) = match action {
+    match action {
         Action::Count(begins) => (Some(count), 0, 0, begins),
         Action::Number(begins, number) => (Some(number as u64), 0, 0, begins),
         Action::Wide(begins, high) => (Some(high as u64 * 4294967296 + low as u64), 0, 1, begins),
@@ -147,11 +134,5 @@ fn act(action: Action, low: u32, count: u64, newest: u64, below: u64) -> Effect
         }
         Action::Choose(skip) => (Some(below), 2, if newest == 0 { skip } else { 0 }, 0),
         Action::Jump(skip) => (Some(newest), 1, skip, 0),
-    };
-    Effect {
-        value,
-        taken,
-        skip,
-        begins,
     }
 }

@@ -1,7 +1,6 @@
 -- Internal: a program that runs.
 use Rattle.std.specs.Prelude.{ℕ, zero, suc, ◌+◌, ◌*◌, ◌^◌, nat_lt, ◌==◌, List, [], ◌∷◌, length, drop, slice_index_or, Option, Some, None}
 use Rattle.std.specs.Prelude.{if◌then◌else◌}
-use Rattle.plural_rule.specs.declared.evaluator.Effect.{Effect}
 use Rattle.plural_rule.specs.declared.instruction.Instruction.{Instruction}
 use Rattle.plural_rule.specs.declared.instruction.Action.{Action}
 use Rattle.plural_rule.specs.declared.instruction.Action.TheVariants.{Count, Number, Wide, Not, Binary, Branch, Choose, Jump}
@@ -32,13 +31,10 @@ act n (Choose skip) low (x ∷ values) = Go (if x == 0 then skip else 0) values 
 act n (Jump skip) low values = Go skip values 0
 act n action low values = Undefined 0
 
--- the same from what the code says of the instruction
-abbrev pub left_with : Option ℕ → Effect → List ℕ → Next
-left_with None e values = Undefined e.begins
-left_with (Some v) e values = Go e.skip (v ∷ drop e.taken values) e.begins
-
-abbrev pub left_by : Effect → List ℕ → Next
-left_by e values = left_with e.value e values
+-- the same from what the code says of the instruction: the value, how many values it takes, and so on
+abbrev pub left_by : Option ℕ → ℕ → ℕ → ℕ → List ℕ → Next
+left_by None taken skip begins values = Undefined begins
+left_by (Some v) taken skip begins values = Go skip (v ∷ drop taken values) begins
 
 -- the value of a tree, and how many nodes are visited for it
 pub record Outcome : Type 0 where

@@ -22,28 +22,27 @@ returns-in_default g c =
     (loop.newest ∷ vs) loop.steps)
     (sym (stored-cons loop.stack loop.len (loop.invariant.some c.loop-index-test.true)))
     ∙ loop.invariant.runs in
-    let on = c.step-effect.ensures.next g.row.N (stored loop.stack (loop.len - 1)) loop.steps _ before in
+    let on = c.step-value.ensures.next g.row.N (stored loop.stack (loop.len - 1)) loop.steps _ before in
     let done = rw c.in_default.is at on in cc
 
 pub loop-index-preserved : goal.loop-index-preserved
 loop-index-preserved g c =
     let loop = c.loop-index in
     let code = c.args.instructions.now in
-    let e = c.step-effect.result in
+    let e = c.step-value.result in
     let i = loop.index + 1 in
     let some = loop.invariant.some c.loop-index-test.true in
     let before = ap (λ vs. run g.row.N c.args.count (drop loop.index code) 0 (loop.newest ∷ vs) loop.steps)
     (sym (stored-cons loop.stack loop.len some)) ∙ loop.invariant.runs in
     let on = rw c.in-Some.is at
-    (c.step-effect.ensures.next g.row.N (stored loop.stack (loop.len - 1)) loop.steps _ before) in
+    (c.step-value.ensures.next g.row.N (stored loop.stack (loop.len - 1)) loop.steps _ before) in
     let inside = loop.invariant.inside c.loop-index-test.true in
-    let runs = ap (λ vs. run g.row.N c.args.count (drop (i + e.skip) code) 0 (c.in-Some.value ∷ vs)
-    (loop.steps + e.begins))
-    (stored-kept loop.stack loop.len loop.newest e.taken (omega (arith, inside, loop.invariant.size))
-    ∙ ap (λ vs. drop e.taken (loop.newest ∷ vs)) (stored-cons loop.stack loop.len some))
-    ∙ skips g.row.N c.args.count code i e.skip _ _ on in
-    let after = λ (h : i + e.skip < length code). ready g.row.N c.args.count (drop (i + e.skip) code) _ _ _ _
-    (omega (arith, h, length-drop (i + e.skip) code)) runs in
+    let runs = ap (λ vs. run g.row.N c.args.count (drop (i + e.2) code) 0 (c.in-Some.value ∷ vs) (loop.steps + e.3))
+    (stored-kept loop.stack loop.len loop.newest e.1 (omega (arith, inside, loop.invariant.size))
+    ∙ ap (λ vs. drop e.1 (loop.newest ∷ vs)) (stored-cons loop.stack loop.len some))
+    ∙ skips g.row.N c.args.count code i e.2 _ _ on in
+    let after = λ (h : i + e.2 < length code). ready g.row.N c.args.count (drop (i + e.2) code) _ _ _ _
+    (omega (arith, h, length-drop (i + e.2) code)) runs in
     record {
       runs = runs;
       some = λ h. (after h).some;

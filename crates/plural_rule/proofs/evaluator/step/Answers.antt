@@ -3,15 +3,15 @@ use Rattle.std.proofs.Common.{◌≡◌, ap, ◌+◌, ◌∷◌, ◌∙◌, drop
 use Rattle.plural_rule.proofs.Programs.{acts, fused, operator-within}
 use Rattle.plural_rule.proofs.evaluator.step.Goals as goal
 
-pub returns-else-effect-eq0-clause-next : goal.returns-else-effect-eq0-clause-next
-returns-else-effect-eq0-clause-next c room older steps o runs =
+pub returns-else-taken-eq0-clause-next : goal.returns-else-taken-eq0-clause-next
+returns-else-taken-eq0-clause-next c room older steps o runs =
     acts room c.args.count c.args.instructions.now c.args.index c.args.newest c.args.below older steps c.requires runs
-    c.action.ensures c.instruction_at-next.ensures (c.act-effect.ensures.next older)
+    c.action.ensures c.instruction_at-next.ensures (c.act-value.ensures.next older)
 
-pub returns-then-effect-eq0-2-2-clause-next : goal.returns-then-effect-eq0-2-2-clause-next
-returns-then-effect-eq0-2-2-clause-next c room older steps o runs =
+pub returns-then-skip-eq0-2-clause-next : goal.returns-then-skip-eq0-2-clause-next
+returns-then-skip-eq0-2-clause-next c room older steps o runs =
     acts room c.args.count c.args.instructions.now c.args.index c.args.newest c.args.below older steps c.requires runs
-    c.action.ensures c.instruction_at-next.ensures (c.act-effect.ensures.next older)
+    c.action.ensures c.instruction_at-next.ensures (c.act-value.ensures.next older)
 
 pub returns-in-Binary-Some-clause-next : goal.returns-in-Binary-Some-clause-next
 returns-in-Binary-Some-clause-next c room older steps o runs =
@@ -19,9 +19,9 @@ returns-in-Binary-Some-clause-next c room older steps o runs =
     let n = c.args.count in
     let i = c.args.index in
     let on = acts room n code i c.args.newest c.args.below older steps c.requires runs c.action.ensures
-    c.instruction_at-next.ensures (c.act-effect.ensures.next older) in
-    let pushed = rw (c.in-Binary-Some.is-1, c.if-effect-eq0.true, c.if-effect-eq0-2.true) at on in
+    c.instruction_at-next.ensures (c.act-value.ensures.next older) in
+    let pushed = rw (c.in-Binary-Some.is-1, c.if-taken-eq0.true, c.if-skip-eq0.true) at on in
     let operator = ap action_of (sym c.instruction_at-next.ensures) ∙ sym c.in-Binary-Some.ensures in
-    fused room n code (i + 1) c.args.newest steps (c.args.below ∷ older) _ refl refl
+    fused room n code (i + 1) c.args.newest steps (c.args.below ∷ older) _ _
     (rw c.combined.ensures (acts room n code (i + 1) c.in-Binary-Some.operand c.args.newest (c.args.below ∷ older) _
     (operator-within code (i + 1) _ operator) pushed (sym operator) refl refl))
