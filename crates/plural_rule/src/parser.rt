@@ -17,7 +17,7 @@
 //! size, so the machine's stack doesn't grow with the expression.
 ghost use Rattle.std.specs.Prelude.{◌≡◌, ◌≤◌, List, None, length, take, MatchOption, ⊤};
 ghost use Rattle.plural_rule.specs.Expression.{Tree};
-ghost use Rattle.plural_rule.specs.Internal.ShiftReduce.{Waiting, State, reduce, want_step, have_step, step, finish};
+ghost use Rattle.plural_rule.specs.Internal.ShiftReduce.{Waiting, State, reduce, want_step, at_operator, step, finish};
 ghost use Rattle.plural_rule.specs.Internal.ParserState.{held, IsWaiting, IsOperand, Represents, Answers, HoldsTree, HoldsExpression, HasRoom, Grows, most_added};
 ghost use Rattle.plural_rule.specs.Grammar.{Spelt};
 ghost use Rattle.plural_rule.specs.PluralRule.{expression_limit};
@@ -73,15 +73,14 @@ fn take_operand(room: &mut Room, codes: &mut [u16], parser: Parser, token: Token
     }
 }
 
-/// Reads a token after a complete operand, or `None` where it can't stand here.
+/// Reads a token after a complete operand that what waits has been completed with, or `None` where it can't stand here.
 #[inline(always)]
-fn take_operator(room: &mut Room, codes: &mut [u16], before: Parser, token: Token) -> Option<Parser>
-    requires room { HasRoom codes.old before (most_added token) 1 }
-    ensures step { (waiting : List Waiting) (tree : Tree) → IsOperand (held room.old codes.old before) waiting tree →
-        Answers (have_step waiting tree token) result room.new codes.new }
-    ensures room { MatchOption result ⊤ (λ after. Grows codes.old before codes.new after (most_added token) 1) }
+fn take_operator(room: &mut Room, codes: &mut [u16], parser: Parser, token: Token) -> Option<Parser>
+    requires room { HasRoom codes.old parser (most_added token) 1 }
+    ensures step { (stack : List Waiting) (tree : Tree) → IsOperand (held room.old codes.old parser) stack tree →
+        Answers (at_operator (record { stack = stack; tree = tree }) token) result room.new codes.new }
+    ensures room { MatchOption result ⊤ (λ after. Grows codes.old parser codes.new after (most_added token) 1) }
 {
-    let parser = reduce(room, codes, before, token.closing_level());
     match token {
         Token::Binary(operator) => {
             begin(room, parser.len, parser.start);
@@ -126,7 +125,8 @@ fn take(room: &mut Room, codes: &mut [u16], parser: Parser, token: Token) -> Opt
     ensures room { MatchOption result ⊤ (λ after. Grows codes.old parser codes.new after (most_added token) 1) }
 {
     if parser.complete {
-        take_operator(room, codes, parser, token)
+        let reduced = reduce(room, codes, parser, token.closing_level());
+        take_operator(room, codes, reduced, token)
     } else {
         take_operand(room, codes, parser, token)
     }
