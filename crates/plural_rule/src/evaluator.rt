@@ -5,7 +5,7 @@ ghost use Rattle.plural_rule.specs.Instruction.{count_instruction};
 ghost use Rattle.plural_rule.specs.Expression.{nodes, value, visited};
 ghost use Rattle.plural_rule.specs.PluralRule.{expression_limit};
 ghost use Rattle.plural_rule.specs.Program.{program, tree_of};
-ghost use Rattle.plural_rule.specs.Internal.Run.{act, left_by, go_on, run, Outcome, outcome};
+ghost use Rattle.plural_rule.specs.Internal.Run.{act, left_by, go_on, run, Outcome};
 
 use crate::instruction::{Action, Instruction};
 use crate::operator::{Operator, truth};
@@ -21,7 +21,6 @@ const MEDIUM: usize = 128;
 
 /// The value of the expression with this program at `count`, or `None` where it divides by 0, and
 /// how many nodes were evaluated.
-#[tactic(auto, using(crate::proofs::Uniqueness::visited_le_nodes))]
 pub fn evaluate(instructions: &[Instruction], count: u64) -> (Option<u64>, u32)
     requires program { instructions.now ≡ program 0 (tree_of instructions.now) }
     requires limit { length instructions.now ≤ expression_limit }
@@ -52,7 +51,9 @@ fn evaluate_within<const N: usize>(instructions: &[Instruction], count: u64) -> 
     requires program { instructions.now ≡ program 0 (tree_of instructions.now) }
     requires room { length instructions.now + 5 ≤ 2 * N }
     requires size { N ≤ expression_limit }
-    ensures { record { value = result.0; steps = result.1 } ≡ outcome (tree_of instructions.now) count }
+    ensures value { result.0 ≡ value (tree_of instructions.now) count }
+    ensures steps { result.1 ≡ visited (tree_of instructions.now) count }
+    ensures bound { result.1 ≤ nodes (tree_of instructions.now) }
 {
     let mut stack = [0; N];
     let mut len = 1;

@@ -1,9 +1,17 @@
-use Rattle.std.proofs.Common.{◌+◌, ◌-◌, ◌∷◌, length, drop, ap, ◌∙◌, sym, arith, length-set, length-drop, ◌<◌}
+use Rattle.std.proofs.Common.{◌≡◌, ℕ, ◌≤◌, Option, Some, None, ◌+◌, ◌-◌, ◌∷◌, length, drop, ap, ◌∙◌, sym, arith, length-set, length-drop, ◌<◌}
 use Rattle.std.proofs.lemmas.List.{drop_all, length-replicate}
+use Rattle.plural_rule.specs.Expression.{Tree, value, visited, nodes}
 use Rattle.plural_rule.specs.Program.{tree_of}
-use Rattle.plural_rule.specs.Internal.Run.{run, stored}
+use Rattle.plural_rule.proofs.Uniqueness.{visited_le_nodes}
+use Rattle.plural_rule.specs.Internal.Run.{run, stored, Outcome, outcome}
 use Rattle.plural_rule.proofs.Programs.{stored-cons, stored-kept, starts, skips, ready}
 use Rattle.plural_rule.proofs.evaluator.evaluate_within.Goals as goal
+
+told : (t : Tree) (n : ℕ) (v : Option ℕ) (s : ℕ) → record { value = v; steps = s } ≡ outcome t n
+    → record { value : v ≡ value t n; steps : s ≡ visited t n; bound : s ≤ nodes t }
+told t n v s e =
+    let same = ap (λ (o : Outcome). o.steps) e in
+    record { value = ap (λ (o : Outcome). o.value) e; steps = same; bound = omega (arith, same, visited_le_nodes t n) }
 
 pub loop-index-init : goal.loop-index-init
 loop-index-init g c = record {
@@ -23,7 +31,7 @@ returns-in_default g c =
     (sym (stored-cons loop.stack loop.len (loop.invariant.some c.loop-index-test.true)))
     ∙ loop.invariant.runs in
     let on = c.step-value.ensures.next g.row.N (stored loop.stack (loop.len - 1)) loop.steps _ before in
-    let done = rw c.in_default.is at on in cc
+    let done = rw c.in_default.is at on in told _ _ None (loop.steps + c.step-value.result.3) cc
 
 pub loop-index-preserved : goal.loop-index-preserved
 loop-index-preserved g c =
@@ -55,4 +63,5 @@ pub returns : goal.returns
 returns g c =
     let loop = c.loop-index in
     let done = ap (λ p. run g.row.N c.args.count p 0 (loop.newest ∷ stored loop.stack loop.len) loop.steps)
-    (sym (drop_all loop.index c.args.instructions.now c.loop-index-test.false)) ∙ loop.invariant.runs in cc
+    (sym (drop_all loop.index c.args.instructions.now c.loop-index-test.false)) ∙ loop.invariant.runs in
+    told _ _ (Some loop.newest) loop.steps cc
