@@ -1,5 +1,5 @@
 //! The tokens of an expression's text, and the numerals and blanks of a header text.
-ghost use Rattle.std.specs.Prelude.{◌≡◌, ◌^◌, ◌<◌, ◌≤◌, [], ◌∷◌, length, take_while, slice_index, MatchOption, SomeIff, true, false};
+ghost use Rattle.std.specs.Prelude.{◌≡◌, ◌^◌, ◌<◌, ◌≤◌, [], ◌∷◌, length, take_while, MatchOption, SomeIff, false};
 ghost use Rattle.std.specs.Str.Parse.{AllDigits, digits_value};
 ghost use Rattle.std.specs.Char.{is_ascii_digit};
 ghost use Rattle.plural_rule.specs.Tokens.{IsSpelling};
@@ -60,27 +60,17 @@ pub(crate) fn token(text: &[u8]) -> Option<(Token, usize)>
 {
     let first = text[0];
     if first.is_ascii_digit() {
-        return numeral(text);
+        let digits = leading_digits(text);
+        return match decimal_value(digits) {
+            Some(value) => Some((Token::Number(value), digits.len())),
+            None => None,
+        };
     }
     if let Some(operator) = double_at(text) {
         return Some((Token::Binary(operator), 2));
     }
     match single(first) {
         Some(token) => Some((token, 1)),
-        None => None,
-    }
-}
-
-/// The numeral at the beginning of a text that begins with a digit.
-#[inline(always)]
-fn numeral(text: &[u8]) -> Option<(Token, usize)>
-    requires some { 0 < length text.now }
-    requires digit { is_ascii_digit (slice_index text.now 0) ≡ true }
-    ensures { MatchOption result (HasNoToken text.now) (λ r. IsTokenAt text.now r.0 r.1) }
-{
-    let digits = leading_digits(text);
-    match decimal_value(digits) {
-        Some(value) => Some((Token::Number(value), digits.len())),
         None => None,
     }
 }
