@@ -1,6 +1,6 @@
 -- Tokens that spell a tree are read as that tree.
 use Rattle.std.proofs.Common.{◌≡◌, ℕ, suc, ◌<◌, ◌≤◌, ◌^◌, ◌==◌, true, false, nat_le, nat_lt, List, [], ◌∷◌, ◌++◌, Some, option_and_then, refl, sym, ap, subst, ◌∙◌, append_assoc, append-nil, arith}
-use Rattle.std.proofs.lemmas.Bool.{le-leb, lt-leb, lt-ltb, ne_eqb}
+use Rattle.std.proofs.lemmas.Bool.{le-leb, leb-true, lt-leb, lt-ltb, ne_eqb}
 use Rattle.plural_rule.specs.declared.operator.Operator.{Operator}
 use Rattle.plural_rule.specs.declared.operator.Operator.TheVariants.{Or}
 use Rattle.plural_rule.specs.declared.token.Token.{Token}
@@ -11,8 +11,14 @@ use Rattle.plural_rule.specs.Internal.ShiftReduce.{Waiting, WaitNot, WaitOpen, W
 
 -- every operator's level is from 1 to 6
 pub level-range : (op : Operator) → (1 ≤ level op) × (level op ≤ 6)
-level-range Or = (omega arith, omega arith)
-level-range _ = (omega arith, omega arith)
+level-range op = (leb-true 1 (level op) (low op), leb-true (level op) 6 (high op)) where
+  low : (op : Operator) → nat_le 1 (level op) ≡ true
+  low Or = refl
+  low _ = refl
+
+  high : (op : Operator) → nat_le (level op) 6 ≡ true
+  high Or = refl
+  high _ = refl
 
 -- an operand of level k may stand after what waits: only `!` and operators that bind less tight are
 -- on top

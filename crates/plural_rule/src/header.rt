@@ -43,7 +43,6 @@ pub(crate) fn nplurals_digits(header: &[u8]) -> Option<&[u8]>
 }
 
 /// The text of the expression: what follows the first `plural=`, up to the first `;` or LF, or to the end.
-#[tactic(auto, using(crate::proofs::Searches::before_first_some, crate::proofs::Searches::before_first_none))]
 pub(crate) fn expression(header: &[u8]) -> Option<&[u8]>
     ensures { MatchOption result (expression_of header.now ≡ None)
         (λ text. expression_of header.now ≡ Some text.now) }

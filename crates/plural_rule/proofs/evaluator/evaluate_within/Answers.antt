@@ -7,11 +7,17 @@ use Rattle.plural_rule.specs.Internal.Run.{run, stored, Outcome, outcome}
 use Rattle.plural_rule.proofs.Programs.{stored-cons, stored-kept, starts, skips, ready}
 use Rattle.plural_rule.proofs.evaluator.evaluate_within.Goals as goal
 
-told : (t : Tree) (n : ℕ) (v : Option ℕ) (s : ℕ) → record { value = v; steps = s } ≡ outcome t n
+told : (t : Tree) (n : ℕ) (v : Option ℕ) (s : ℕ) → Some (record { value = v; steps = s }) ≡ Some (outcome t n)
     → record { value : v ≡ value t n; steps : s ≡ visited t n; bound : s ≤ nodes t }
 told t n v s e =
-    let same = ap (λ (o : Outcome). o.steps) e in
-    record { value = ap (λ (o : Outcome). o.value) e; steps = same; bound = omega (arith, same, visited_le_nodes t n) }
+    let both : record { value = v; steps = s } ≡ outcome t n = cc in
+    let same = ap (λ (o : Outcome). o.steps) both in
+    record {
+      value = ap (λ (o : Outcome). o.value) both;
+      steps = same;
+      bound =
+          omega (arith, same, visited_le_nodes t n);
+    }
 
 pub loop-index-init : goal.loop-index-init
 loop-index-init g c = record {
@@ -31,7 +37,7 @@ returns-in_default g c =
     (sym (stored-cons loop.stack loop.len (loop.invariant.some c.loop-index-test.true)))
     ∙ loop.invariant.runs in
     let on = c.step-value.ensures.next g.row.N (stored loop.stack (loop.len - 1)) loop.steps _ before in
-    let done = rw c.in_default.is at on in told _ _ None (loop.steps + c.step-value.result.3) cc
+    told _ _ None (loop.steps + c.step-value.result.3) (rw c.in_default.is at on)
 
 pub loop-index-preserved : goal.loop-index-preserved
 loop-index-preserved g c =
@@ -62,6 +68,6 @@ loop-index-preserved g c =
 pub returns : goal.returns
 returns g c =
     let loop = c.loop-index in
-    let done = ap (λ p. run g.row.N c.args.count p 0 (loop.newest ∷ stored loop.stack loop.len) loop.steps)
-    (sym (drop_all loop.index c.args.instructions.now c.loop-index-test.false)) ∙ loop.invariant.runs in
-    told _ _ (Some loop.newest) loop.steps cc
+    told _ _ (Some loop.newest) loop.steps
+    (ap (λ p. run g.row.N c.args.count p 0 (loop.newest ∷ stored loop.stack loop.len) loop.steps)
+    (sym (drop_all loop.index c.args.instructions.now c.loop-index-test.false)) ∙ loop.invariant.runs)
