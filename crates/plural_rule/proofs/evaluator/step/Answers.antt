@@ -1,5 +1,5 @@
 use Rattle.plural_rule.specs.Instruction.{action_of}
-use Rattle.std.proofs.Common.{◌≡◌, ap, ◌+◌, ◌∷◌, ◌∙◌, drop, refl, sym}
+use Rattle.std.proofs.Common.{ap, ◌+◌, ◌∷◌, ◌∙◌, refl, sym}
 use Rattle.plural_rule.proofs.Programs.{acts, fused, operator-within}
 use Rattle.plural_rule.proofs.evaluator.step.Goals as goal
 
