@@ -25,3 +25,9 @@ returns-in-Binary-Some-clause-next c room older steps o runs =
     fused room n code (i + 1) c.args.newest steps (c.args.below ∷ older) _ _
     (rw c.combined.ensures (acts room n code (i + 1) c.in-Binary-Some.operand c.args.newest (c.args.below ∷ older) _
     (operator-within code (i + 1) _ operator) pushed (sym operator) refl refl))
+
+pub returns-else-taken-eq0-clause-taken : goal.returns-else-taken-eq0-clause-taken
+returns-else-taken-eq0-clause-taken c = c.act-value.ensures.taken
+
+pub returns-then-skip-eq0-2-clause-taken : goal.returns-then-skip-eq0-2-clause-taken
+returns-then-skip-eq0-2-clause-taken c = c.act-value.ensures.taken

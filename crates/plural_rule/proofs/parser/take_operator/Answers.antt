@@ -67,3 +67,8 @@ returns-in-Binary-clause-room c =
       omega (arith, ap weight c.wait.ensures.entries, c.push_branch-len.ensures.len, added c.in-Binary.operator),
       omega arith,
     )
+
+pub returns-in-Question-clause-room : goal.returns-in-Question-clause-room
+returns-in-Question-clause-room c =
+    rw (c.in-Question.is, c.wait-in-Question.ensures.parser)
+    (omega (arith, ap weight c.wait-in-Question.ensures.entries), omega arith)
