@@ -60,8 +60,8 @@ fn take_operand(room: &mut Room, codes: &mut [u16], parser: Parser, token: Token
 {
     match token {
         Token::Count => {
-            push(room, parser.len, Instruction::COUNT);
-            Some(Parser::new(parser.len + 1, parser.count, parser.len as u16, true))
+            let len = push(room, parser.len, Instruction::COUNT);
+            Some(Parser::new(len, parser.count, parser.len as u16, true))
         }
         Token::Number(number) => {
             let len = push_numeral(room, parser.len, number);
@@ -89,22 +89,17 @@ fn take_operator(room: &mut Room, codes: &mut [u16], parser: Parser, token: Toke
         }
         Token::Question => {
             begin(room, parser.len, parser.start);
-            push(room, parser.len, Instruction::CHOOSE);
-            Some(wait(
-                codes,
-                parser.len + 1,
-                parser,
-                Pending::Question(parser.start),
-            ))
+            let len = push(room, parser.len, Instruction::CHOOSE);
+            Some(wait(codes, len, parser, Pending::Question(parser.start)))
         }
         Token::Colon => {
             let Some(Pending::Question(first)) = newest(codes, parser.count) else {
                 return None;
             };
             skip_operand(room, parser.len, parser.start, 1);
-            push(room, parser.len, Instruction::JUMP);
+            let len = push(room, parser.len, Instruction::JUMP);
             let before = Parser::new(parser.len, parser.count - 1, parser.start, true);
-            Some(wait(codes, parser.len + 1, before, Pending::Colon(first)))
+            Some(wait(codes, len, before, Pending::Colon(first)))
         }
         Token::Close => {
             let Some(Pending::Open) = newest(codes, parser.count) else {

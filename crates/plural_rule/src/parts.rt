@@ -38,13 +38,15 @@ impl Parser {
     }
 }
 
-/// Adds an instruction to a program of `len` instructions.
+/// Adds an instruction to a program of `len` instructions: how many there are then.
 #[inline(always)]
-pub(crate) fn push(room: &mut Room, len: usize, instruction: Instruction)
+pub(crate) fn push(room: &mut Room, len: usize, instruction: Instruction) -> usize
     requires { len < expression_limit }
-    ensures { take (len + 1) room.new ≡ take len room.old ++ instruction ∷ [] }
+    ensures items { take result room.new ≡ take len room.old ++ instruction ∷ [] }
+    ensures len { result ≡ len + 1 }
 {
     room[len] = instruction;
+    len + 1
 }
 
 /// Adds the instruction between the operands of `||` or `&&`: how many instructions there are then.
@@ -60,8 +62,7 @@ pub(crate) fn push_branch(room: &mut Room, len: usize, operator: Operator) -> us
         kind: 5,
         ..Instruction::binary(operator)
     };
-    push(room, len, branch);
-    len + 1
+    push(room, len, branch)
 }
 
 /// Counts one more node that begins with the instruction at an index.
@@ -102,8 +103,7 @@ pub(crate) fn push_numeral(room: &mut Room, len: usize, value: u64) -> usize
         ..Instruction::COUNT
     };
     if value < 4294967296 {
-        push(room, len, number);
-        return len + 1;
+        return push(room, len, number);
     }
     let high = Instruction {
         kind: 2,
@@ -114,9 +114,8 @@ pub(crate) fn push_numeral(room: &mut Room, len: usize, value: u64) -> usize
         number: number.number,
         ..Instruction::JUMP
     };
-    push(room, len, high);
-    push(room, len + 1, low);
-    len + 2
+    let len = push(room, len, high);
+    push(room, len, low)
 }
 
 /// Completes what waits for the last operand, which begins at `start`: how many instructions there are
@@ -131,15 +130,13 @@ pub(crate) fn complete(room: &mut Room, len: usize, start: u16, top: Pending) ->
     match top {
         Pending::Not => {
             begin(room, len, start);
-            push(room, len, Instruction::NOT);
-            (len + 1, start)
+            (push(room, len, Instruction::NOT), start)
         }
         Pending::Binary(operator, first) => {
             if operator.is_lazy() {
                 skip_operand(room, len, start, 1);
             }
-            push(room, len, Instruction::binary(operator));
-            (len + 1, first)
+            (push(room, len, Instruction::binary(operator)), first)
         }
         Pending::Colon(first) => {
             skip_operand(room, len, start, 0);

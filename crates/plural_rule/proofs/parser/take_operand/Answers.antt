@@ -15,7 +15,7 @@ returns-in-Count-clause-step c waiting h =
     rw (c.in-Count.is, c.new.ensures) (
       refl,
       first-operand (held c.args.room.now c.args.codes.now before) waiting Count _ before.len h
-          (sym (length-take-le before.len c.args.room.now fits)) c.push.ensures,
+          (sym (length-take-le before.len c.args.room.now fits)) c.push-len.ensures.items,
     )
 
 pub returns-in-Number-clause-step : goal.returns-in-Number-clause-step

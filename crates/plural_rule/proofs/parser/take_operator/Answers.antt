@@ -33,7 +33,7 @@ returns-in-Question-clause-step c stack tree h =
       refl,
       waits (held c.args.room.now c.args.codes.now parser) stack tree (WaitQuestion tree)
           (choose_instruction 0 ∷ []) _ _ _ h fits
-          (c.push.ensures ∙ ap (λ p. p ++ choose_instruction 0 ∷ []) c.begin-in-Question.ensures) refl
+          (c.push-len.ensures.items ∙ ap (λ p. p ++ choose_instruction 0 ∷ []) c.begin-in-Question.ensures) refl
           c.wait-in-Question.ensures.entries,
     )
 
@@ -42,7 +42,7 @@ returns-in-Some-Question-clause-step c stack tree h =
     let first = c.in-Some-Question.first in
     let popped = rw c.in-Some-Question.field-0-is at c.in-Some-Question.ensures in
     let small : first % 4096 ≡ first = let is = popped.1 in cc in
-    let code = c.push-in-Colon.ensures ∙ ap (λ p. p ++ jump_instruction 0 ∷ []) c.skip_operand.ensures in
+    let code = c.push-len-in-Colon.ensures.items ∙ ap (λ p. p ++ jump_instruction 0 ∷ []) c.skip_operand.ensures in
     let entries = c.wait-in-Colon.ensures.entries
     ∙ ap (λ i. Colon i ∷ entries_in c.args.codes.now c.new-before.result.count) small
     ∙ ap (λ (p : Parser). Colon first ∷ entries_in c.args.codes.now p.count) c.new-before.ensures in
