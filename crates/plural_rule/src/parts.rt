@@ -97,12 +97,12 @@ pub(crate) fn push_numeral(room: &mut Room, len: usize, value: u64) -> usize
     ensures items { take result room.new ≡ take len room.old ++ numeral_then 1 value [] }
     ensures len { result ≡ len + length (numeral_then 1 value []) }
 {
-    let number = Instruction {
-        kind: 1,
-        number: (value % 4294967296) as u32,
-        ..Instruction::COUNT
-    };
     if value < 4294967296 {
+        let number = Instruction {
+            kind: 1,
+            number: value as u32,
+            ..Instruction::COUNT
+        };
         return push(room, len, number);
     }
     let high = Instruction {
@@ -111,7 +111,7 @@ pub(crate) fn push_numeral(room: &mut Room, len: usize, value: u64) -> usize
         ..Instruction::COUNT
     };
     let low = Instruction {
-        number: number.number,
+        number: (value % 4294967296) as u32,
         ..Instruction::JUMP
     };
     let len = push(room, len, high);
@@ -132,10 +132,11 @@ pub(crate) fn complete(room: &mut Room, len: usize, start: u16, top: Pending) ->
             begin(room, len, start);
             (push(room, len, Instruction::NOT), start)
         }
+        Pending::Binary(operator, first) if operator.is_lazy() => {
+            skip_operand(room, len, start, 1);
+            (push(room, len, Instruction::binary(operator)), first)
+        }
         Pending::Binary(operator, first) => {
-            if operator.is_lazy() {
-                skip_operand(room, len, start, 1);
-            }
             (push(room, len, Instruction::binary(operator)), first)
         }
         Pending::Colon(first) => {
