@@ -126,14 +126,10 @@ fn act(action: Action, low: u32, count: u64, newest: u64, below: u64) -> Effect
         Action::Wide(begins, high) => (Some(high as u64 * 4294967296 + low as u64), 0, 1, begins),
         Action::Not => (Some(truth(newest == 0)), 1, 0, 0),
         Action::Binary(operator) => (operator.combined(below, newest), 2, 0, 0),
-        Action::Branch(operator, skip) => {
-            if operator.needs_right(newest) {
-                (Some(newest), 1, 0, 0)
-            } else {
-                (Some(truth(newest != 0)), 1, skip, 0)
-            }
-        }
-        Action::Choose(skip) => (Some(below), 2, if newest == 0 { skip } else { 0 }, 0),
+        Action::Branch(operator, _) if operator.needs_right(newest) => (Some(newest), 1, 0, 0),
+        Action::Branch(_, skip) => (Some(truth(newest != 0)), 1, skip, 0),
+        Action::Choose(skip) if newest == 0 => (Some(below), 2, skip, 0),
+        Action::Choose(_) => (Some(below), 2, 0, 0),
         Action::Jump(skip) => (Some(newest), 1, skip, 0),
     }
 }
