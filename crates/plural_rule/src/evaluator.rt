@@ -1,6 +1,6 @@
 //! The value of an expression at a count, by its program: one instruction after the other, with
 //! jumps that go forward only.
-ghost use Rattle.std.specs.Prelude.{◌≡◌, ℕ, ◌+◌, ◌*◌, ◌^◌, ◌<◌, ◌≤◌, List, ◌∷◌, length, drop, slice_index_or, Some};
+ghost use Rattle.std.specs.Prelude.{◌≡◌, ℕ, ◌+◌, ◌*◌, ◌<◌, ◌≤◌, List, ◌∷◌, length, drop, slice_index_or, Some};
 ghost use Rattle.plural_rule.specs.Instruction.{count_instruction};
 ghost use Rattle.plural_rule.specs.Expression.{nodes, value, visited};
 ghost use Rattle.plural_rule.specs.PluralRule.{expression_limit};
@@ -8,7 +8,7 @@ ghost use Rattle.plural_rule.specs.Program.{program, tree_of};
 ghost use Rattle.plural_rule.specs.Internal.Run.{act, left_by, go_on, run, Outcome};
 
 use crate::instruction::{Action, Instruction};
-use crate::operator::{Operator, truth};
+use crate::operator::truth;
 
 /// The most instructions of a program that runs with the smallest stack: a larger one takes longer to set up.
 const TINY: usize = 16;
