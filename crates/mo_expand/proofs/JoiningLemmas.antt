@@ -77,17 +77,6 @@ put_both old middle new start at first second None h len put =
 put_both old middle new start at first second (Some end) h len put =
     put_twice old middle new start at end first second h put
 
-pub joining-starts : (room : List ℕ) (start : ℕ) (whole : Option (List ℕ)) → start ≤ length room
-    → IsJoining room room start start whole whole
-joining-starts room start None h = record { order = omega arith; inside = h; len = refl; before = refl; is = refl }
-joining-starts room start (Some text) h = record {
-  order = omega arith;
-  inside = h;
-  len = refl;
-  before = refl;
-  is = let none : start - start ≡ 0 = omega arith in sym (ap (λ n. Some (take n (drop start room) ++ text)) none);
-}
-
 pub joining-ends : (old room new : List ℕ) (start at end : ℕ) (whole : Option (List ℕ)) (text : List ℕ)
     → IsJoining old room start at whole (Some text) → HasText room new at end text → length new ≡ length room
     → IsWritten old new start whole (Ends end)

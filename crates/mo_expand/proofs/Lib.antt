@@ -2,7 +2,6 @@ pub mod JoiningLemmas
 pub mod ListingLemmas
 pub mod SearchLemmas
 pub mod CompletingLemmas
-pub mod LayingOutLemmas
 pub mod RisingLemmas
 pub mod ExpandedFileLemmas
 pub mod Examples

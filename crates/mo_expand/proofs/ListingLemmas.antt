@@ -7,8 +7,8 @@ use Rattle.std.proofs.lemmas.Option.{none-some}
 use Rattle.std.specs.declared.cmp.Ordering.{Ordering}
 use Rattle.mo_file.specs.Key.{key_of, key_cmp}
 use Rattle.mo_file.specs.Message.{Message, originals, translations}
-use Rattle.mo_expand.specs.declared.listing.ListedMessage.{ListedMessage}
-use Rattle.mo_expand.specs.Internal.Listing.{message, messages, IsPlace}
+use Rattle.mo_file.specs.declared.pairs.BorrowedPair.{BorrowedPair}
+use Rattle.mo_file.specs.Pairs.{borrowed_message, messages_of_borrowed}
 use Rattle.mo_expand.specs.Merging.{beside, with_message}
 
 pub with_message-cons : (m other : Message) (others : List Message) (o : Ordering)
@@ -30,27 +30,29 @@ next-message (m ∷ ms) zero o t is_o is_t = let p = is_o in let q = is_t in gri
 next-message (m ∷ ms) (suc i) o t is_o is_t = let e : suc i + 1 ≡ suc (i + 1) =
     omega arith in rw e (ap (λ l. m ∷ l) (next-message ms i o t is_o is_t))
 
-pub listed-next : (listed : List ListedMessage) (i : ℕ) (ms : List Message) (x : ListedMessage) → i < length listed
-    → messages (take i listed) ≡ take i ms → slice_get (originals ms) i ≡ Some x.original.now
+pub listed-next : (listed : List BorrowedPair) (i : ℕ) (ms : List Message) (x : BorrowedPair) → i < length listed
+    → messages_of_borrowed (take i listed) ≡ take i ms → slice_get (originals ms) i ≡ Some x.original.now
     → slice_get (translations ms) i ≡ Some x.translation.now
-    → messages (take (i + 1) (slice_set listed i x)) ≡ take (i + 1) ms
+    → messages_of_borrowed (take (i + 1) (slice_set listed i x)) ≡ take (i + 1) ms
 listed-next listed i ms x inside is is_o is_t =
-    ap messages (take_more_set listed i x inside)
-    ∙ map-append message (take i listed) (x ∷ [])
-    ∙ ap (λ l. l ++ message x ∷ []) is
+    ap messages_of_borrowed (take_more_set listed i x inside)
+    ∙ map-append borrowed_message (take i listed) (x ∷ [])
+    ∙ ap (λ l. l ++ borrowed_message x ∷ []) is
     ∙ sym (next-message ms i x.original.now x.translation.now is_o is_t)
 
-moves : (listed : List ListedMessage) (at count : ℕ)
+moves : (listed : List BorrowedPair) (at count : ℕ)
     → copy_within listed at count (at + 1) ≡ take (at + 1) listed
     ++ (take (count - at) (drop at listed) ++ drop (at + 1 + (count - at)) listed)
 moves listed at count = append_assoc (take (at + 1) listed) (take (count - at) (drop at listed))
     (drop (at + 1 + (count - at)) listed)
 
 -- a list with a message at its place
-pub inserted : (listed : List ListedMessage) (count at : ℕ) (x : ListedMessage) → at ≤ count → count < length listed
-    → IsPlace (messages (take count listed)) (message x) (Some at) →
-    messages (take (count + 1) (slice_set (copy_within listed at count (at + 1)) at x))
-    ≡ with_message (message x) (messages (take count listed))
+pub inserted : (listed : List BorrowedPair) (count at : ℕ) (x : BorrowedPair) → at ≤ count → count < length listed
+    → with_message (borrowed_message x) (messages_of_borrowed (take count listed))
+    ≡ take at (messages_of_borrowed (take count listed)) ++ borrowed_message x
+    ∷ drop at (messages_of_borrowed (take count listed)) →
+    messages_of_borrowed (take (count + 1) (slice_set (copy_within listed at count (at + 1)) at x))
+    ≡ with_message (borrowed_message x) (messages_of_borrowed (take count listed))
 inserted listed count at x low high place =
     let middle = take (count - at) (drop at listed) in
     let tail = drop (at + 1 + (count - at)) listed in
@@ -69,12 +71,12 @@ inserted listed count at x low high place =
     let len : length (take at listed ++ x ∷ middle) ≡ count + 1 =
     omega (arith, length-append (take at listed) (x ∷ middle), before, moved_len, low) in
     let sum : at + (count - at) ≡ count = omega arith in
-    let after : drop at (messages (take count listed)) ≡ messages middle =
-    drop-map message at (take count listed)
-    ∙ ap messages (sym (ap (λ n. drop at (take n listed)) sum) ∙ drop-take at (count - at) listed) in
-    let first : take at (messages (take count listed)) ≡ messages (take at listed) =
-    take-map message at (take count listed) ∙ ap messages (take-take at count listed low) in
-    ap (λ l. messages (take (count + 1) l)) put
-    ∙ ap messages (take_at (take at listed ++ x ∷ middle) tail (count + 1) len)
-    ∙ map-append message (take at listed) (x ∷ middle)
-    ∙ sym (place.1 ∙ rw (first, after) refl)
+    let after : drop at (messages_of_borrowed (take count listed)) ≡ messages_of_borrowed middle =
+    drop-map borrowed_message at (take count listed)
+    ∙ ap messages_of_borrowed (sym (ap (λ n. drop at (take n listed)) sum) ∙ drop-take at (count - at) listed) in
+    let first : take at (messages_of_borrowed (take count listed)) ≡ messages_of_borrowed (take at listed) =
+    take-map borrowed_message at (take count listed) ∙ ap messages_of_borrowed (take-take at count listed low) in
+    ap (λ l. messages_of_borrowed (take (count + 1) l)) put
+    ∙ ap messages_of_borrowed (take_at (take at listed ++ x ∷ middle) tail (count + 1) len)
+    ∙ map-append borrowed_message (take at listed) (x ∷ middle)
+    ∙ sym (place ∙ rw (first, after) refl)

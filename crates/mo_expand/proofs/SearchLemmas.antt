@@ -1,16 +1,17 @@
 -- The search for the place of a message in a list whose keys rise.
-use Rattle.std.proofs.Common.{◌≡◌, ℕ, zero, suc, ◌+◌, ◌-◌, ◌<◌, ◌≤◌, List, [], ◌∷◌, ◌++◌, length, take, drop, None, Some, get_or, ap, ◌∙◌, subst, inl, inr, arith}
+use Rattle.std.proofs.Common.{◌≡◌, ℕ, zero, suc, ◌+◌, ◌-◌, ◌<◌, ◌≤◌, List, [], ◌∷◌, ◌++◌, length, take, drop, get_or, ap, ◌∙◌, subst, arith}
 use Rattle.std.specs.declared.cmp.Ordering.{Ordering}
 use Rattle.std.specs.declared.cmp.Ordering.TheVariants.{Less, Equal, Greater}
-use Rattle.std.specs.Ordering.{ordering_reverse}
+use Rattle.std.specs.List.Sorted.{IsNonDecreasingBy, IsPartitionPoint, IsSortedBy}
+use Rattle.std.specs.Ordering.{is_lt, ordering_index, ordering_reverse}
 use Rattle.std.proofs.lemmas.Cmp.{nat_list_cmp_total}
-use Rattle.std.proofs.lemmas.Bool.{cases_lt}
+use Rattle.std.proofs.lemmas.List.Sorted.{searchable_from_sorted}
 use Rattle.std.proofs.lemmas.List.{length-map, get_or-map}
 use Rattle.std.proofs.lemmas.Map.Lookups.{exact_bytes}
 use Rattle.mo_file.specs.Key.{AreRising, key_at, key_cmp, key_of, keys}
 use Rattle.mo_file.specs.Message.{Message}
-use Rattle.mo_expand.specs.declared.listing.ListedMessage.{ListedMessage}
-use Rattle.mo_expand.specs.Internal.Listing.{IsPlace, IsSearch, message, messages}
+use Rattle.mo_file.specs.declared.pairs.BorrowedPair.{BorrowedPair}
+use Rattle.mo_file.specs.Pairs.{borrowed_message, messages_of_borrowed}
 use Rattle.mo_expand.specs.Merging.{with_message}
 use Rattle.mo_expand.proofs.ListingLemmas.{with_message-cons, with_message-none}
 
@@ -38,44 +39,8 @@ rising_between ks rising i j before inside =
 reversed : (x y : List ℕ) (o : Ordering) → key_cmp x y ≡ o → key_cmp y x ≡ ordering_reverse o
 reversed x y o e = nat_list_cmp_total.antisymm y x ∙ ap ordering_reverse e
 
-pub search-less : (ks : List (List ℕ)) (key : List ℕ) (low high middle : ℕ) → AreRising ks → IsSearch ks key low high
-    → middle < high → key_cmp (key_at ks middle) key ≡ Less → IsSearch ks key (middle + 1) high
-search-less ks key low high middle rising is under less =
-    let inside = is.inside in
-    record {
-      ordered = omega (arith, under);
-      inside = inside;
-      below = λ k before. elim (cases_lt k middle) [
-        | inl lt ↦
-            nat_list_cmp_total.trans (key_at ks k) (key_at ks middle) key
-            (rising_between ks rising k middle lt (omega (arith, under, inside))) less
-        | inr at ↦ let same : middle ≡ k = omega (arith, at, before) in let P : ℕ → Type 0 =
-            λ n. key_cmp (key_at ks n) key ≡ Less in subst P same less
-      ];
-      above = is.above;
-    }
-
-pub search-greater : (ks : List (List ℕ)) (key : List ℕ) (low high middle : ℕ) → AreRising ks → IsSearch ks key low high
-    → low ≤ middle → middle < high → key_cmp (key_at ks middle) key ≡ Greater → IsSearch ks key low middle
-search-greater ks key low high middle rising is over under greater =
-    let inside = is.inside in
-    let less : key_cmp key (key_at ks middle) ≡ Less = reversed (key_at ks middle) key Greater greater in
-    record {
-      ordered = over;
-      inside = omega (arith, under, inside);
-      below = is.below;
-      above = λ k after within. elim (cases_lt middle k) [
-        | inl lt ↦
-            reversed key (key_at ks k) Less
-            (nat_list_cmp_total.trans key (key_at ks middle) (key_at ks k) less
-            (rising_between ks rising middle k lt within))
-        | inr at ↦ let same : middle ≡ k = omega (arith, at, after) in let P : ℕ → Type 0 =
-            λ n. key_cmp (key_at ks n) key ≡ Greater in subst P same greater
-      ];
-    }
-
 -- where all keys before a place are below a key, and the one there above it, the message comes there
-pub place-is : (m : Message) (ms : List Message) (at : ℕ) → at ≤ length ms
+place-is : (m : Message) (ms : List Message) (at : ℕ) → at ≤ length ms
     → ((k : ℕ) → k < at → key_cmp (key_at (keys ms) k) (key_of m.original) ≡ Less)
     → (at < length ms → key_cmp (key_at (keys ms) at) (key_of m.original) ≡ Greater) →
     with_message m ms ≡ take at ms ++ m ∷ drop at ms
@@ -88,7 +53,7 @@ place-is m (x ∷ xs) (suc at) inside below above =
     (λ lt. above (omega (arith, lt))))
 
 -- where a key is there already, nothing is added
-pub taken : (m : Message) (ms : List Message) (at : ℕ) → at < length ms
+taken : (m : Message) (ms : List Message) (at : ℕ) → at < length ms
     → ((k : ℕ) → k < at → key_cmp (key_at (keys ms) k) (key_of m.original) ≡ Less)
     → key_cmp (key_at (keys ms) at) (key_of m.original) ≡ Equal → with_message m ms ≡ ms
 taken m [] at inside below equal = absurd (omega (arith, inside))
@@ -98,76 +63,61 @@ taken m (x ∷ xs) (suc at) inside below equal =
     ∙ ap (λ l. x ∷ l) (taken m xs at (omega (arith, inside)) (λ k before. below (suc k) (omega (arith, before))) equal)
 
 -- the key of a listed message
-key-listed : (listed : List ListedMessage) (i : ℕ) (d : ListedMessage) → i < length listed
-    → key_at (keys (messages listed)) i ≡ key_of (get_or listed i d).original.now
+key-listed : (listed : List BorrowedPair) (i : ℕ) (d : BorrowedPair) → i < length listed
+    → key_at (keys (messages_of_borrowed listed)) i ≡ key_of (get_or listed i d).original.now
 key-listed listed i d inside =
-    let lt : i < length (messages listed) = omega (arith, length-map listed message, inside) in
-    get_or-map (λ (m : Message). key_of m.original) (messages listed) i (message d) [] lt
-    ∙ ap (λ (m : Message). key_of m.original) (get_or-map message listed i d (message d) inside)
+    let lt : i < length (messages_of_borrowed listed) = omega (arith, length-map listed borrowed_message, inside) in
+    get_or-map (λ (m : Message). key_of m.original) (messages_of_borrowed listed) i (borrowed_message d) [] lt
+    ∙ ap (λ (m : Message). key_of m.original) (get_or-map borrowed_message listed i d (borrowed_message d) inside)
 
 length-keys : (ms : List Message) → length (keys ms) ≡ length ms
 length-keys ms = length-map ms (λ m. key_of m.original)
 
-under-listed : (listed : List ListedMessage) (key : List ℕ) (low high middle : ℕ)
-    → IsSearch (keys (messages listed)) key low high → middle < high → middle < length listed
-under-listed listed key low high middle is under =
-    let inside = is.inside in
-    omega (arith, length-keys (messages listed), length-map listed message, inside, under)
+sorted-listed : (listed : List BorrowedPair) → AreRising (keys (messages_of_borrowed listed)) →
+    IsSortedBy (λ a b. is_lt (key_cmp (key_of a.original.now) (key_of b.original.now))) listed
+sorted-listed listed rising = λ k d low inside.
+    let next = rising.next k
+    (omega (arith, length-keys (messages_of_borrowed listed), length-map listed borrowed_message, inside)) in
+    let less = rw (key-listed listed k d (omega (arith, inside)), key-listed listed (k + 1) d inside) at next in
+    ap is_lt (reversed (key_of (get_or listed k d).original.now)
+    (key_of (get_or listed (k + 1) d).original.now) Less less)
 
-pub listed-less : (listed : List ListedMessage) (key : List ℕ) (low high middle : ℕ) (d : ListedMessage)
-    → AreRising (keys (messages listed)) → IsSearch (keys (messages listed)) key low high → middle < high
-    → key_cmp (key_of (get_or listed middle d).original.now) key ≡ Less
-    → IsSearch (keys (messages listed)) key (middle + 1) high
-listed-less listed key low high middle d rising is under less =
-    let inside = under-listed listed key low high middle is under in
-    search-less (keys (messages listed)) key low high middle rising is under
-    (ap (λ k. key_cmp k key) (key-listed listed middle d inside) ∙ less)
+-- what a search finds
+module _ (listed : List BorrowedPair) (m : BorrowedPair) (rising : AreRising (keys (messages_of_borrowed listed))) where
+  abbrev against : BorrowedPair → Ordering
+  against it = key_cmp (key_of it.original.now) (key_of m.original.now)
 
-pub listed-greater : (listed : List ListedMessage) (key : List ℕ) (low high middle : ℕ) (d : ListedMessage)
-    → AreRising (keys (messages listed)) → IsSearch (keys (messages listed)) key low high → low ≤ middle → middle < high
-    → key_cmp (key_of (get_or listed middle d).original.now) key ≡ Greater
-    → IsSearch (keys (messages listed)) key low middle
-listed-greater listed key low high middle d rising is over under greater =
-    let inside = under-listed listed key low high middle is under in
-    search-greater (keys (messages listed)) key low high middle rising is over under
-    (ap (λ k. key_cmp k key) (key-listed listed middle d inside) ∙ greater)
+  against-key : (i : ℕ) → i < length listed →
+      key_cmp (key_at (keys (messages_of_borrowed listed)) i) (key_of m.original.now) ≡ against (get_or listed i m)
+  against-key i inside = ap (λ k. key_cmp k (key_of m.original.now)) (key-listed listed i m inside)
 
-pub listed-equal : (listed : List ListedMessage) (m : Message) (low high middle : ℕ) (d : ListedMessage)
-    → AreRising (keys (messages listed)) → IsSearch (keys (messages listed)) (key_of m.original) low high
-    → middle < high → key_cmp (key_of (get_or listed middle d).original.now) (key_of m.original) ≡ Equal
-    → IsPlace (messages listed) m None
-listed-equal listed m low high middle d rising is under equal =
-    let inside = under-listed listed (key_of m.original) low high middle is under in
-    let ks = keys (messages listed) in
-    let here : key_cmp (key_at ks middle) (key_of m.original) ≡ Equal =
-    ap (λ k. key_cmp k (key_of m.original)) (key-listed listed middle d inside) ∙ equal in
-    let same : key_at ks middle ≡ key_of m.original = exact_bytes (key_at ks middle) (key_of m.original) here in
-    let within : middle < length (messages listed) = omega (arith, length-map listed message, inside) in
-    let among : middle < length ks = omega (arith, length-keys (messages listed), within) in
-    let P : ℕ → List ℕ → Type 0 = λ k key. key_cmp (key_at ks k) key ≡ Less in
-    taken m (messages listed) middle within
-    (λ k before. subst (P k) same (rising_between ks rising k middle before among)) here
+  pub listed-found : (at : ℕ) → at < length listed →
+      key_cmp (key_of (get_or listed at m).original.now) (key_of m.original.now) ≡ Equal →
+      with_message (borrowed_message m) (messages_of_borrowed listed) ≡ messages_of_borrowed listed
+  listed-found at inside equal =
+      let ks = keys (messages_of_borrowed listed) in
+      let here = against-key at inside ∙ equal in
+      let within : at < length (messages_of_borrowed listed) =
+      omega (arith, length-map listed borrowed_message, inside) in
+      let among : at < length ks = omega (arith, length-keys (messages_of_borrowed listed), within) in
+      taken (borrowed_message m) (messages_of_borrowed listed) at within
+      (λ k before. subst (λ key. key_cmp (key_at ks k) key ≡ Less)
+      (exact_bytes (key_at ks at) (key_of m.original.now) here)
+      (rising_between ks rising k at before among)) here
 
-pub listed-place : (listed : List ListedMessage) (m : Message) (low high : ℕ) → high ≤ low
-    → IsSearch (keys (messages listed)) (key_of m.original) low high → IsPlace (messages listed) m (Some low)
-listed-place listed m low high over is =
-    let ordered = is.ordered in
-    let inside = is.inside in
-    let within : low ≤ length (messages listed) =
-    omega (arith, length-keys (messages listed), ordered, over, inside) in (
-      within,
-      place-is m (messages listed) low within is.below
-          (λ lt. is.above low over (omega (arith, length-keys (messages listed), lt))),
-    )
-
-pub search-starts : (listed : List ListedMessage) (key : List ℕ)
-    → IsSearch (keys (messages listed)) key 0 (length listed)
-search-starts listed key =
-    let len : length (keys (messages listed)) ≡ length listed =
-    length-keys (messages listed) ∙ length-map listed message in
-    record {
-      ordered = omega arith;
-      inside = omega (arith, len);
-      below = λ k before. absurd (omega (arith, before));
-      above = λ k after within. absurd (omega (arith, len, after, within));
-    }
+  pub listed-place : (at : ℕ) → at ≤ length listed →
+      (IsNonDecreasingBy (λ it. ordering_index (key_cmp (key_of it.original.now) (key_of m.original.now))) listed →
+      IsPartitionPoint (λ it. key_cmp (key_of it.original.now) (key_of m.original.now) ≡ Less)
+      (λ it. key_cmp (key_of it.original.now) (key_of m.original.now) ≡ Greater) listed at) →
+      with_message (borrowed_message m) (messages_of_borrowed listed)
+      ≡ take at (messages_of_borrowed listed) ++ borrowed_message m ∷ drop at (messages_of_borrowed listed)
+  listed-place at inside found =
+      let point = found (searchable_from_sorted nat_list_cmp_total
+      (λ (it : BorrowedPair). key_of it.original.now) listed
+      (key_of m.original.now) (sorted-listed listed rising)) in
+      let len = length-map listed borrowed_message in
+      place-is (borrowed_message m) (messages_of_borrowed listed) at (omega (arith, len, inside))
+      (λ k before. against-key k (omega (arith, before, inside)) ∙ point.0 k m (omega arith) before)
+      (λ lt.
+      let here : at < length listed = omega (arith, len, lt) in
+      against-key at here ∙ point.1 at m (omega arith) here)

@@ -3,14 +3,14 @@
 ghost use Rattle.std.specs.Prelude.{◌≡◌, ◌+◌, ◌<◌, ◌≤◌, ℕ, None, IfSome, length, take, IsSome};
 ghost use Rattle.std.specs.List.{sum_by};
 ghost use Rattle.mo_file.specs.Key.{AreRising, keys};
+ghost use Rattle.mo_file.specs.Pairs.{messages_of_borrowed};
 ghost use Rattle.mo_expand.specs.Expanded.{system_count, system_message};
-ghost use Rattle.mo_expand.specs.Internal.Listing.{messages};
 ghost use Rattle.mo_expand.specs.Merging.{expanded_messages, strings_len, system_messages};
 
 use crate::expanding::{Expanded, count_in, expand_in};
-use crate::listing::{ListedMessage, insert};
+use crate::listing::insert;
 use crate::platform_text::PlatformText;
-use mo_file::Order;
+use mo_file::{BorrowedPair, Order};
 
 /// Adds the system-dependent messages of a file, completed by the texts of a platform, to the first
 /// `own` of a list. Their strings stand in `room`. The result is how many messages there are then;
@@ -19,15 +19,15 @@ pub(crate) fn add_completed<'b>(
     order: Order,
     bytes: &'b [u8],
     texts: &[PlatformText<'b>],
-    list: &mut [ListedMessage<'b>],
+    list: &mut [BorrowedPair<'b>],
     own: usize,
     room: &'b mut [u8],
 ) -> Option<usize>
     requires room { own + system_count order bytes.now ≤ length list.old }
-    requires rising { AreRising (keys (messages (take own list.old))) }
+    requires rising { AreRising (keys (messages_of_borrowed (take own list.old))) }
     ensures len { length list.new ≡ length list.old }
-    ensures messages { IfSome result (λ n. messages (take n list.new)
-        ≡ expanded_messages order bytes.now texts.now (messages (take own list.old))) }
+    ensures messages { IfSome result (λ n. messages_of_borrowed (take n list.new)
+        ≡ expanded_messages order bytes.now texts.now (messages_of_borrowed (take own list.old))) }
     ensures many { IfSome result (λ n. n ≤ length list.old) }
     ensures room { result ≡ None
         → ((j : ℕ) → j < system_count order bytes.now → IsSome (system_message order bytes.now texts.now j))
@@ -41,7 +41,7 @@ pub(crate) fn add_completed<'b>(
                 let (written, left) = rest.split_at_mut(end);
                 rest = left;
                 let written: &'b [u8] = written;
-                let added = ListedMessage {
+                let added = BorrowedPair {
                     original: &written[..middle],
                     translation: &written[middle..end],
                 };

@@ -9,10 +9,9 @@ ghost use Rattle.mo_expand.specs.ExpandedFile.{IsExpandedFile};
 
 use crate::completing::add_completed;
 use crate::expanding::count_in;
-use crate::laying_out::{lay_out, layout_len};
-use crate::listing::{ListedMessage, list_own};
+use crate::listing::list_own;
 use crate::platform_text::PlatformText;
-use mo_file::{Meter, MoView, Order, one_message_list};
+use mo_file::{BorrowedPair, Meter, MoView, Order, file_len, lay_out, one_message_list};
 
 /// What has become of a file that was to be expanded.
 #[derive(Clone, Copy, Debug)]
@@ -37,7 +36,7 @@ pub enum ExpandedFile {
 pub fn expand_file<'b>(
     bytes: &'b [u8],
     texts: &[PlatformText<'b>],
-    list: &mut [ListedMessage<'b>],
+    list: &mut [BorrowedPair<'b>],
     room: &'b mut [u8],
     file: &mut [u8],
 ) -> ExpandedFile
@@ -51,40 +50,22 @@ pub fn expand_file<'b>(
     let Some(order) = Order::of_file(bytes) else {
         return ExpandedFile::NotMoFile;
     };
-    match MoView::open(bytes, &mut Meter::new()) {
-        Ok(view) => expand_view(order, &view, texts, list, room, file),
-        Err(_) => ExpandedFile::NotMoFile,
-    }
-}
-
-/// Expands a file that was opened, in its byte order.
-fn expand_view<'b>(
-    order: Order,
-    view: &MoView<'b>,
-    texts: &[PlatformText<'b>],
-    list: &mut [ListedMessage<'b>],
-    room: &'b mut [u8],
-    file: &mut [u8],
-) -> ExpandedFile
-    ensures len { length file.new ≡ length file.old }
-    ensures file { IsExpandedFile order view.now.bytes texts.now view.now.messages
-        (length list.old) (length room.old) file.old file.new result }
-{
-    let bytes = view.bytes();
+    let Ok(view) = MoView::open(bytes, &mut Meter::new()) else {
+        return ExpandedFile::NotMoFile;
+    };
     let own = view.len() as usize;
     if list.len() < own + count_in(order, bytes) as usize {
         return ExpandedFile::ListTooShort;
     }
-    list_own(view, list);
+    list_own(&view, list);
     let Some(count) = add_completed(order, bytes, texts, list, own, room) else {
         return ExpandedFile::RoomTooShort;
     };
-    let len = layout_len(&list[..count]);
-    if len > u64::from(u32::MAX) {
+    let Ok(len) = file_len(&list[..count]) else {
         return ExpandedFile::TooLarge;
-    }
-    if len <= file.len() as u64 {
+    };
+    if len as usize <= file.len() {
         lay_out(order, file, &list[..count]);
     }
-    ExpandedFile::Len(len as u32)
+    ExpandedFile::Len(len)
 }

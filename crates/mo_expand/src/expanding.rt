@@ -4,14 +4,12 @@ ghost use Rattle.std.specs.Prelude.{◌≡◌, ◌<◌, ◌≤◌, length};
 ghost use Rattle.mo_file.specs.declared.byte_order.Order.{Order};
 ghost use Rattle.mo_file.specs.FileHeader.{HasMagicOf};
 ghost use Rattle.mo_expand.specs.declared.expanding.Expanded.TheVariants.{Absent};
-ghost use Rattle.mo_expand.specs.Expanded.{system_count, system_message, message_from};
-ghost use Rattle.mo_expand.specs.Segments.{text_at};
+ghost use Rattle.mo_expand.specs.Expanded.{system_count, system_message};
 ghost use Rattle.mo_expand.specs.Expanding.{IsExpanded};
 
 use crate::joining::{Written, put_text};
 use crate::platform_text::PlatformText;
-use crate::segments::word;
-use mo_file::Order;
+use mo_file::{Order, word};
 
 /// What has become of a message.
 #[derive(Clone, Copy, Debug)]
@@ -87,33 +85,9 @@ pub(crate) fn expand_in<'b>(
     if index >= count_in(order, bytes) {
         return Expanded::Absent;
     }
-    let original = word(
-        order,
-        bytes,
-        word(order, bytes, 40) as usize + 4 * index as usize,
-    );
-    let translation = word(
-        order,
-        bytes,
-        word(order, bytes, 44) as usize + 4 * index as usize,
-    );
-    put_message(order, bytes, texts, original, translation, room)
-}
-
-/// Writes the original and the translation that are described at two offsets.
-fn put_message<'b>(
-    order: Order,
-    bytes: &'b [u8],
-    texts: &[PlatformText<'b>],
-    original: u32,
-    translation: u32,
-    room: &mut [u8],
-) -> Expanded
-    requires { 48 ≤ length bytes.now }
-    ensures len { length room.new ≡ length room.old }
-    ensures message { IsExpanded room.old room.new (message_from
-        (text_at order bytes.now texts.now original) (text_at order bytes.now texts.now translation)) result }
-{
+    let index = 4 * index as usize;
+    let original = word(order, bytes, word(order, bytes, 40) as usize + index);
+    let translation = word(order, bytes, word(order, bytes, 44) as usize + index);
     match put_text(order, bytes, texts, original, room, 0) {
         Written::Ends(middle) => {
             match put_text(order, bytes, texts, translation, room, middle) {

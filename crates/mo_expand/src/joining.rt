@@ -5,8 +5,8 @@ ghost use Rattle.mo_expand.specs.Segments.{from_segment, text_at};
 ghost use Rattle.mo_expand.specs.Internal.Joining.{IsPut, IsWritten, with_rest};
 
 use crate::platform_text::PlatformText;
-use crate::segments::{inserted, part, terminated_part, word};
-use mo_file::Order;
+use crate::segments::{inserted, part, terminated_part};
+use mo_file::{Order, word};
 
 /// What stands in a descriptor after the last segment, in place of a name.
 const LAST: u32 = u32::MAX;

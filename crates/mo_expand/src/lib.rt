@@ -2,10 +2,12 @@
 //! texts of its own ("The Format of GNU MO Files").
 //!
 //! [`system_count`] says how many messages with such strings a file has, and [`expand`] completes one
-//! of them by the texts of a platform, in room that the caller hands in. The bytes may be of any
-//! origin.
+//! of them by the texts of a platform, in room that the caller hands in. [`expand_file`] makes a file
+//! that has none of them. The bytes may be of any origin.
 //!
-//! The modules in reading order: `platform_text`, `segments`, `joining`, `expanding`, `laws`.
+//! The modules in reading order: `platform_text`, `segments`, `joining`, `expanding`, `listing`,
+//! `completing`, `expanded_file`, `laws`.
+
 #![tactic(auto)]
 
 mod completing;
@@ -13,7 +15,6 @@ mod expanded_file;
 mod expanding;
 mod joining;
 mod laws;
-mod laying_out;
 mod listing;
 mod platform_text;
 mod segments;
@@ -21,5 +22,4 @@ mod segments;
 pub use expanded_file::{ExpandedFile, expand_file};
 pub use expanding::{Expanded, expand, system_count};
 pub use laws::{example_is_completed, example_needs_its_text, expanded_file_is_mo_file};
-pub use listing::ListedMessage;
 pub use platform_text::PlatformText;

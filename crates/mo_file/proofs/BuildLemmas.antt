@@ -1,8 +1,11 @@
 -- Building: the length of a layout, and the keys of pairs.
-use Rattle.std.proofs.Common.{◌≡◌, ℕ, ◌+◌, ◌*◌, ◌-◌, ◌<◌, List, [], ◌∷◌, ◌++◌, length, get_or, map, refl, sym}
-use Rattle.std.proofs.Common.{◌∙◌, ap, arith, length-append}
-use Rattle.std.specs.List.{slice_range, sum_by}
-use Rattle.std.proofs.lemmas.List.{length-map, length-drop, get_or-map, get_or-drop, take_rest}
+use Rattle.std.proofs.Common.{◌≡◌, ◌≢◌, ◌↔◌, ℕ, ◌+◌, ◌*◌, ◌<◌, Bool, true, false, IsTrue, List, [], ◌∷◌, ◌++◌, length, get_or}
+use Rattle.std.proofs.Common.{map, take, refl, sym, ◌∙◌, ap, arith, length-append}
+use Rattle.std.specs.List.{IsAllAdjacentAnswer, sum_by}
+use Rattle.std.specs.Ordering.{is_lt}
+use Rattle.std.specs.declared.cmp.Ordering.{Ordering}
+use Rattle.std.specs.declared.cmp.Ordering.TheVariants.{Less, Equal, Greater}
+use Rattle.std.proofs.lemmas.List.{length-map, get_or-map}
 use Rattle.std.proofs.lemmas.List.Sums.{sum_by-cons}
 use Rattle.mo_file.specs.declared.byte_order.Order.{Order}
 use Rattle.mo_file.specs.declared.byte_order.Order.TheVariants.{Little, Big}
@@ -12,7 +15,7 @@ use Rattle.mo_file.specs.Word.{word_bytes}
 use Rattle.mo_file.specs.Message.{Message, originals, translations}
 use Rattle.mo_file.specs.Layout.{layout, header, table, terminated}
 use Rattle.mo_file.specs.declared.pairs.Part.TheVariants.{Original, Translation}
-use Rattle.mo_file.specs.Key.{key_of, keys, key_at}
+use Rattle.mo_file.specs.Key.{AreRising, key_at, key_cmp, key_of, keys}
 use Rattle.mo_file.specs.Pairs.{messages_of_pairs, strings_of}
 
 abbrev message_len : Message → ℕ
@@ -26,9 +29,6 @@ length-word_bytes Big number = refl
 pub length-magic : (order : Order) → length (magic order) ≡ 4
 length-magic Little = refl
 length-magic Big = refl
-
-pub length-header : (order : Order) (count : ℕ) → length (header order count) ≡ 28
-length-header order count = simp (length-append, length-magic, length-word_bytes)
 
 pub length-table : (order : Order) (offset : ℕ) (strings : List (List ℕ)) →
     length (table order offset strings) ≡ 8 * length strings
@@ -100,27 +100,87 @@ module _ {P : Type 0} (f : P → Message) where
   layout-pairs order pairs =
       rw (originals-strings (map f pairs), translations-strings (map f pairs), length-map pairs f)
 
--- the key of a pair
-pub keys-pair : (pairs : List Pair) (i : ℕ) (pair : Pair) → i < length pairs → pair ≡ get_or pairs i pair →
-    key_at (keys (messages_of_pairs pairs)) i ≡ key_of pair.original.items
-keys-pair pairs i pair lt is =
-    rw (keys-pairs pairs) (get_or-map (λ q. key_of q.original.items) pairs i pair [] lt)
-    ∙ ap (λ (q : Pair). key_of q.original.items) (sym is)
+  -- what is written part by part
+  pub laid-out : (order : Order) (pairs : List P) (one two three four five : List ℕ) (tables second middle end : ℕ) →
+      tables ≡ 28 → take tables one ≡ header order (length pairs) →
+      take (tables + 8 * length pairs) two
+      ≡ take tables one ++ table order (28 + 16 * length pairs) (strings_of Original (map f pairs)) →
+      second ≡ 28 + 16 * length pairs + length (terminated (strings_of Original (map f pairs))) →
+      take (tables + 8 * length pairs + 8 * length pairs) three
+      ≡ take (tables + 8 * length pairs) two ++ table order second (strings_of Translation (map f pairs)) →
+      take middle four ≡ take (28 + 16 * length pairs) three ++ terminated (strings_of Original (map f pairs)) →
+      middle ≡ 28 + 16 * length pairs + length (terminated (strings_of Original (map f pairs))) →
+      take end five ≡ take middle four ++ terminated (strings_of Translation (map f pairs)) →
+      end ≡ middle + length (terminated (strings_of Translation (map f pairs))) →
+      take (length (layout order (map f pairs))) five ≡ layout order (map f pairs)
+  laid-out order pairs one two three four five tables second middle end t e1 e2 s e3 e4 m e5 d =
+      let ms = map f pairs in
+      let whole : length (layout order ms) ≡ end = omega (arith, length-layout-strings order pairs, m, d) in
+      let at : 28 + 16 * length pairs ≡ tables + 8 * length pairs + 8 * length pairs = omega (arith, t) in
+      let tables_there : take (28 + 16 * length pairs) three ≡ header order (length pairs)
+      ++ table order (28 + 16 * length pairs) (strings_of Original ms)
+      ++ table order second (strings_of Translation ms) =
+      ap (λ n. take n three) at ∙ e3
+      ∙ ap (λ l. l ++ table order second (strings_of Translation ms))
+      (e2 ∙ ap (λ l. l ++ table order (28 + 16 * length pairs) (strings_of Original ms)) e1) in
+      ap (λ n. take n five) whole
+      ∙ e5
+      ∙ ap (λ l. l ++ terminated (strings_of Translation ms))
+      (e4 ∙ ap (λ l. l ++ terminated (strings_of Original ms)) tables_there)
+      ∙ ap (λ n. header order (length pairs) ++ table order (28 + 16 * length pairs) (strings_of Original ms)
+      ++ table order n (strings_of Translation ms) ++ terminated (strings_of Original ms)
+      ++ terminated (strings_of Translation ms)) s
+      ∙ sym (layout-pairs order pairs)
 
-pub length-keys : (pairs : List Pair) → length (keys (messages_of_pairs pairs)) ≡ length pairs
+pub word_bytes-magic : (order : Order) → word_bytes order 0x950412de ≡ magic order
+unfolding word_bytes
+word_bytes-magic Little = refl
+word_bytes-magic Big = refl
+
+-- the key of a pair
+key-pair : (pairs : List Pair) (i : ℕ) (d : Pair) → i < length pairs →
+    key_at (keys (messages_of_pairs pairs)) i ≡ key_of (get_or pairs i d).original.items
+key-pair pairs i d lt = rw (keys-pairs pairs) (get_or-map (λ q. key_of q.original.items) pairs i d [] lt)
+
+length-keys : (pairs : List Pair) → length (keys (messages_of_pairs pairs)) ≡ length pairs
 length-keys pairs = simp length-map
 
--- the key of a pair after the first
-pub keys-next : (pairs : List Pair) (i : ℕ) (pair : Pair) →
-    i < length (slice_range pairs 1 (length pairs)) →
-    pair ≡ get_or (slice_range pairs 1 (length pairs)) i pair →
-    key_at (keys (messages_of_pairs pairs)) (i + 1) ≡ key_of pair.original.items
-keys-next pairs i pair lt is =
-    let inside = rw (take_rest pairs 1, length-drop 1 pairs) at lt in
-    let after : 1 + i ≡ i + 1 = omega arith in
-    let here = rw (take_rest pairs 1, get_or-drop 1 pairs i pair, after) at is in
-    keys-pair pairs (i + 1) pair (omega arith) here
+is_less : (o : Ordering) → true ≡ is_lt o → o ≡ Less
+is_less Less is = refl
+is_less Equal is = cc
+is_less Greater is = cc
 
--- the pairs after the first
-pub length-rest : (pairs : List Pair) → length (slice_range pairs 1 (length pairs)) ≡ length pairs - 1
-length-rest pairs = rw (take_rest pairs 1) (length-drop 1 pairs)
+isnt_less : (o : Ordering) → false ≡ is_lt o → o ≢ Less
+isnt_less Less is = cc
+isnt_less Equal is = λ less. cc
+isnt_less Greater is = λ less. cc
+
+-- whether keys rise, by what is answered of each two neighbours
+pub rising-answered : (pairs : List Pair) (r : Bool) →
+    IsAllAdjacentAnswer (λ a b answer. answer ≡ is_lt (key_cmp (key_of a.original.items) (key_of b.original.items)))
+    pairs r
+    → IsTrue r ↔ AreRising (keys (messages_of_pairs pairs))
+rising-answered [] true answers = (λ _. record { next = λ i lt. absurd (omega (arith, lt)) }, λ _. refl)
+rising-answered [] false answers = absurd (omega (arith, answers.1))
+rising-answered (p ∷ ps) true answers = (
+  λ _. record {
+    next = λ i lt.
+        let inside : i + 1 < length (p ∷ ps) = omega (arith, length-keys (p ∷ ps), lt) in
+        rw (key-pair (p ∷ ps) i p (omega (arith, inside)), key-pair (p ∷ ps) (i + 1) p inside)
+        (is_less _ (answers i p inside));
+  },
+  λ _. refl,
+)
+rising-answered (p ∷ ps) false answers = (
+  λ no. absurd (cc),
+  λ rising.
+      let inside = answers.1 in
+      let i = answers.0 in
+      let within : i + 1 < length (keys (messages_of_pairs (p ∷ ps))) =
+      omega (arith, length-keys (p ∷ ps), inside) in
+      let here = key-pair (p ∷ ps) i p (omega (arith, inside)) in
+      let next = key-pair (p ∷ ps) (i + 1) p inside in
+      absurd (isnt_less _ (answers.2 p)
+      (ap (λ k. key_cmp k (key_of (get_or (p ∷ ps) (i + 1) p).original.items)) (sym here)
+      ∙ ap (key_cmp (key_at (keys (messages_of_pairs (p ∷ ps))) i)) (sym next) ∙ rising.next i within)),
+)

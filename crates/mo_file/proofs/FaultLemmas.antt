@@ -1,6 +1,6 @@
 -- Faults: one byte order is shown, and which fault comes first.
 use Rattle.std.proofs.lemmas.Bool.{cases_lt}
-use Rattle.std.proofs.Common.{◌≡◌, ℕ, ◌+◌, ◌<◌, ◌≤◌, List, refl, ap, subst, arith, inl, inr}
+use Rattle.std.proofs.Common.{◌≡◌, ℕ, ◌+◌, ◌<◌, ◌≤◌, List, Option, None, Some, MatchOption, unwrap_or, refl, sym, ◌∙◌, ap, subst, arith, inl, inr}
 use Rattle.mo_file.specs.declared.byte_order.Order.{Order}
 use Rattle.mo_file.specs.declared.byte_order.Order.TheVariants.{Little, Big}
 use Rattle.mo_file.specs.declared.fault.MoError.{MoError}
@@ -104,3 +104,19 @@ checked header bytes messages valid count originals translations =
       sorted = λ i below unsorted.
           none (NotSorted (i + 1)) (header.order, shows, (i, refl, rw count at below, unsorted));
     }
+
+-- the words at the beginning of a valid file, read in the byte order that is found, are those of a checked file
+pub of-valid : (header : FileHeader) (bytes : List ℕ) (found : Option Order) →
+    MatchOption found ((order : Order) → ¬ HasMagicOf order bytes) (λ order. HasMagicOf order bytes) →
+    header.order ≡ unwrap_or found Big → header.count ≡ message_count header.order bytes →
+    header.originals ≡ originals_table header.order bytes →
+    header.translations ≡ translations_table header.order bytes → (order : Order) (messages : List Message) →
+    IsMoFile order bytes messages → (header.order ≡ order) × IsChecked header bytes
+of-valid header bytes None none same count originals translations order messages valid =
+    absurd (none order valid.shows)
+of-valid header bytes (Some o) shows same count originals translations order messages valid =
+    let is = same ∙ HasMagicOf-unique bytes order o valid.shows shows in (
+      is,
+      checked header bytes messages
+          (subst (λ o. IsMoFile o bytes messages) (sym is) valid) count originals translations,
+    )

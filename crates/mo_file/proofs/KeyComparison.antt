@@ -1,5 +1,5 @@
 -- How the keys of two texts compare, by where their common prefix ends.
-use Rattle.std.proofs.Common.{◌≡◌, ◌≢◌, ◌↔◌, Option, None, Some, IsTrue, ℕ, zero, suc, ◌+◌, ◌-◌, ◌<◌, ◌≤◌, ◌==◌, ◌||◌, nat_lt, Bool, true, false, cond, not, List, [], ◌∷◌, ◌++◌, length, take, drop, get_or, refl, sym, ap, ◌∙◌, arith, inl, inr}
+use Rattle.std.proofs.Common.{◌≡◌, ◌≢◌, Option, None, Some, ℕ, zero, suc, ◌+◌, ◌-◌, ◌<◌, ◌≤◌, ◌==◌, ◌||◌, Bool, true, false, cond, not, List, [], ◌∷◌, ◌++◌, length, take, drop, get_or, refl, sym, ap, ◌∙◌, arith, inl, inr}
 use Rattle.std.specs.Ordering.{nat_cmp, ordering_then}
 use Rattle.std.specs.declared.cmp.Ordering.{Ordering}
 use Rattle.std.specs.declared.cmp.Ordering.TheVariants.{Less, Equal, Greater}
@@ -170,11 +170,6 @@ kept-unequal Less b unequal = refl
 kept-unequal Equal b unequal = absurd (unequal refl)
 kept-unequal Greater b unequal = refl
 
-reports : (less same : Bool) → IsTrue less ↔ (cond less Less (cond same Equal Greater) ≡ Less)
-reports true same = (λ _. refl, λ _. refl)
-reports false true = (λ is. absurd (cc), λ is. absurd (cc))
-reports false false = (λ is. absurd (cc), λ is. absurd (cc))
-
 -- two texts that differ or stop at once
 before_text : (x y : List ℕ)
     → (0 < length x → 0 < length y → (not (get_or x 0 0 == get_or y 0 0) || get_or x 0 0 == 0) ≡ true) →
@@ -265,12 +260,8 @@ module _ (x y : List ℕ) (n : ℕ) (is : IsCommonPrefix 0 x y n) where
       ∙ sym (decided_after more end)
 
   -- two keys
-  decided_keys : key_cmp (key_of x) (key_of y) ≡ nat_cmp (get_or x n 0) (get_or y n 0)
+  pub decided_keys : key_cmp (key_of x) (key_of y) ≡ nat_cmp (get_or x n 0) (get_or y n 0)
   decided_keys =
       skip_keys n x y is.equal is.within_first is.within_second
       ∙ before_text (drop n x) (drop n y) (part_after x y n is)
       ∙ rw (at-drop n x, at-drop n y) refl
-
-  pub decided_below : (a b : ℕ) → a ≡ get_or x n 0 → b ≡ get_or y n 0 →
-      IsTrue (nat_lt a b) ↔ (key_cmp (key_of x) (key_of y) ≡ Less)
-  decided_below a b is_a is_b = rw (decided_keys, ← is_a, ← is_b) (reports (nat_lt a b) (a == b))

@@ -1,6 +1,5 @@
 pub mod CommonPrefixLemmas
 pub mod KeyComparison
-pub mod KeyLemmas
 pub mod FaultLemmas
 pub mod FaultTotality
 pub mod ViewLemmas

@@ -1,18 +1,19 @@
 -- The messages of a file: how many they are, what stands at an index, and that their keys rise.
-use Rattle.std.proofs.Common.{◌≡◌, ◌≢◌, ℕ, ◌+◌, ◌<◌, ◌≤◌, List, [], length, map, Option, None, Some, refl, ◌∙◌, ap, arith}
+use Rattle.std.proofs.Common.{◌≡◌, ◌≢◌, ℕ, ◌+◌, ◌<◌, ◌≤◌, List, [], length, map, Option, None, Some, refl, ◌∙◌, ap, arith, inl, inr}
 use Rattle.std.specs.List.{slice_get, slice_range}
 use Rattle.std.specs.Option.{option_map}
 use Rattle.std.specs.declared.cmp.Ordering.{Ordering}
 use Rattle.std.specs.declared.cmp.Ordering.TheVariants.{Less, Equal, Greater}
 use Rattle.std.proofs.lemmas.List.{length-map}
 use Rattle.std.proofs.lemmas.List.FromFn.{length-map-range_with_len, get_or-map-range_with_len}
-use Rattle.std.proofs.lemmas.Option.{slice_get-map, slice_get-get_or, get_or_from_slice_get}
+use Rattle.std.proofs.lemmas.Option.{slice_get_within, slice_get-map, slice_get-get_or, get_or_from_slice_get}
 use Rattle.mo_file.specs.declared.byte_order.Order.{Order}
 use Rattle.mo_file.specs.Message.{Message}
 use Rattle.mo_file.specs.Key.{key_of, keys, key_at, AreRising}
 use Rattle.mo_file.specs.FileHeader.{message_count}
-use Rattle.mo_file.specs.StringTable.{message_at, messages_of, original_at}
-use Rattle.mo_file.specs.Internal.Checking.{AreRisingBelow}
+use Rattle.mo_file.specs.declared.file_header.FileHeader.{FileHeader}
+use Rattle.mo_file.specs.StringTable.{end_at, message_at, messages_of, offset_at, original_at, string_at, translation_at}
+use Rattle.mo_file.specs.Internal.Checking.{AreRisingBelow, IsChecked}
 use Rattle.mo_file.specs.FileView.{IsStringAt}
 use Rattle.mo_file.proofs.KeyComparison.{some_nul}
 
@@ -66,3 +67,27 @@ pub string_at_end : (bytes : List ℕ) (start end : ℕ) → start ≤ end → �
     IsStringAt bytes start end (slice_range bytes start end)
 string_at_end bytes start end ordered terminated =
     record { order = ordered; text = refl; terminated = some_zero _ terminated }
+
+pub string-within : (bytes : List ℕ) (start end : ℕ) (string : List ℕ) → IsStringAt bytes start end string →
+    end < length bytes
+string-within bytes start end string is = slice_get_within bytes end 0 is.terminated
+
+-- where the strings of a message stand
+module _ (header : FileHeader) (bytes : List ℕ) (checked : IsChecked header bytes) (i : ℕ)
+    (counted : i < header.count) where
+  abbrev inside : i < message_count header.order bytes
+  inside = rw checked.read.count at counted
+
+  pub original-stands : IsStringAt bytes (offset_at header.order bytes header.originals i)
+      (end_at header.order bytes header.originals i) (original_at header.order bytes i)
+  unfolding string_at
+  original-stands =
+      rw checked.read.originals
+      (string_at_end bytes _ _ (omega arith) (λ other. checked.strings.terminated i inside (inl other)))
+
+  pub translation-stands : IsStringAt bytes (offset_at header.order bytes header.translations i)
+      (end_at header.order bytes header.translations i) (translation_at header.order bytes i)
+  unfolding string_at
+  translation-stands =
+      rw checked.read.translations
+      (string_at_end bytes _ _ (omega arith) (λ other. checked.strings.terminated i inside (inr other)))

@@ -1,16 +1,15 @@
 //! An MO file built from pairs, in any order or already in that of the originals.
 
-ghost use Rattle.std.specs.Prelude.{◌≡◌, ◌+◌, ◌-◌, ◌^◌, ◌<◌, ◌≤◌, length, map, min, IfErr, IfOk, OnOk};
+ghost use Rattle.std.specs.Prelude.{◌≡◌, ◌^◌, ◌≤◌, length, map, IfErr, IfOk, OnOk};
 ghost use Rattle.mo_file.specs.Building.{IsBuildFault};
 ghost use Rattle.mo_file.specs.Key.{AreRising, keys};
 ghost use Rattle.mo_file.specs.Layout.{LayoutFits, layout};
 ghost use Rattle.mo_file.specs.Pairs.{messages_of_borrowed, messages_of_pairs};
 
-use crate::byte_order::{FileOrder, Order};
+use crate::byte_order::Order;
 use crate::file_header::HEADER_LEN;
 use crate::pairs::{BorrowedPair, Pair, Part, StringPair, are_rising};
-use crate::writing::{originals_offset, push_header, push_strings, push_table};
-use byteorder::{BigEndian, LittleEndian};
+use crate::writing::lay_out;
 use std::alloc::{AllocError, Global};
 use thiserror::Error;
 
@@ -75,37 +74,19 @@ pub fn build_sorted(
     Ok(laid_out(alloc, order, pairs, file_len(pairs)?)?)
 }
 
-/// The length of a file of `len` bytes with one more pair, or 2^64 - 1 where it is longer.
-fn with_pair(len: u64, original: &[u8], translation: &[u8]) -> u64
-    ensures { result ≡ min (len + 18 + length original.now + length translation.now) (2 ^ 64 - 1) }
-{
-    len.saturating_add(PAIR_OVERHEAD)
-        .saturating_add(original.len() as u64)
-        .saturating_add(translation.len() as u64)
-}
-
-/// The length of the file in either byte order, or 2^64 - 1 where it is longer.
-fn layout_len<P: StringPair>(pairs: &[P]) -> u64
-    ensures { (order : Order) → result ≡ min (length (layout order (map P.message pairs.now))) (2 ^ 64 - 1) }
-{
-    let mut len = u64::from(HEADER_LEN);
-    for pair in pairs {
-        len = with_pair(
-            len,
-            pair.string(Part::Original),
-            pair.string(Part::Translation),
-        );
-    }
-    len
-}
-
 /// The length of the file in either byte order. Refused where 32 bits don't reach its end.
-fn file_len<P: StringPair>(pairs: &[P]) -> Result<u32, BuildError>
+pub fn file_len<P: StringPair>(pairs: &[P]) -> Result<u32, BuildError>
     ensures len { IfOk result (λ len. (order : Order) → len ≡ length (layout order (map P.message pairs.now))) }
     ensures fault { IfErr result (λ e. (e ≡ BuildError.TooLarge)
         × ((order : Order) → 2 ^ 32 ≤ length (layout order (map P.message pairs.now)))) }
 {
-    let len = layout_len(pairs);
+    let mut len = u64::from(HEADER_LEN);
+    for pair in pairs {
+        len = len
+            .saturating_add(PAIR_OVERHEAD)
+            .saturating_add(pair.string(Part::Original).len() as u64)
+            .saturating_add(pair.string(Part::Translation).len() as u64);
+    }
     if len > u64::from(u32::MAX) {
         return Err(BuildError::TooLarge);
     }
@@ -122,28 +103,7 @@ fn laid_out<P: StringPair>(
     requires { len ≡ length (layout order (map P.message pairs.now)) }
     ensures { IfOk result (λ bytes. bytes.items ≡ layout order (map P.message pairs.now)) }
 {
-    match order {
-        Order::Little => laid_out_in::<LittleEndian, P>(alloc, pairs, len),
-        Order::Big => laid_out_in::<BigEndian, P>(alloc, pairs, len),
-    }
-}
-
-/// The same in a byte order that is known here.
-fn laid_out_in<T: FileOrder, P: StringPair>(
-    alloc: Global,
-    pairs: &[P],
-    len: u32,
-) -> Result<Vec<u8>, AllocError>
-    requires { len ≡ length (layout T.order (map P.message pairs.now)) }
-    ensures { IfOk result (λ bytes. bytes.items ≡ layout T.order (map P.message pairs.now)) }
-{
-    let count = pairs.len() as u32;
-    let mut out = Vec::with_capacity(alloc, len as usize)?;
-    push_header::<T>(&mut out, count)?;
-    let originals = originals_offset(count);
-    let translations = push_table::<T, P>(&mut out, pairs, Part::Original, originals)?;
-    push_table::<T, P>(&mut out, pairs, Part::Translation, translations)?;
-    push_strings(&mut out, pairs, Part::Original)?;
-    push_strings(&mut out, pairs, Part::Translation)?;
-    Ok(out)
+    let mut file = Vec::from_elem(alloc, 0, len as usize)?;
+    lay_out(order, &mut file, pairs);
+    Ok(file)
 }

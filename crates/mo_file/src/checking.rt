@@ -5,18 +5,18 @@ ghost use Rattle.std.specs.Prelude.{◌≡◌, ◌+◌, ◌-◌, ◌^◌, ◌<�
 ghost use Rattle.mo_file.specs.Fault.{IsFirstFault, comparisons_before};
 ghost use Rattle.mo_file.specs.Internal.Checking.{AreRisingBelow, HasStrings, IsHeader};
 
-use crate::byte_order::FileOrder;
 use crate::fault::MoError;
 use crate::file_header::FileHeader;
-use crate::key::is_below;
+use crate::key::compare_originals;
 use crate::meter::Meter;
-use crate::strings::{range_at, rest_in};
+use crate::strings::{range_in, rest_at};
+use std::cmp::Ordering;
 
 /// Checks that each string lies inside the file and that a NUL follows it. A string outside the
 /// file is reported before a missing NUL, whichever message has it.
-pub(crate) fn check_strings<T: FileOrder>(header: FileHeader, bytes: &[u8]) -> Result<(), MoError>
-    requires read { IsHeader header bytes.now }
-    requires order { header.order ≡ T.order }
+#[inline(always)]
+pub(crate) fn check_strings(header: FileHeader, bytes: &[u8]) -> Result<(), MoError>
+    requires { IsHeader header bytes.now }
     ensures exact { MatchResult result
         (λ _. HasStrings header.order bytes.now)
         (IsFirstFault bytes.now) }
@@ -24,8 +24,8 @@ pub(crate) fn check_strings<T: FileOrder>(header: FileHeader, bytes: &[u8]) -> R
 {
     let mut unterminated = None;
     for i in 0..header.count {
-        let original_end = range_at::<T>(bytes, header.originals, i).end;
-        let translation_end = range_at::<T>(bytes, header.translations, i).end;
+        let original_end = range_in(header.order, bytes, header.originals, i).end;
+        let translation_end = range_in(header.order, bytes, header.translations, i).end;
         if original_end > bytes.len() || translation_end > bytes.len() {
             return Err(MoError::StringOutside(i));
         }
@@ -49,13 +49,8 @@ fn is_nul(bytes: &[u8], at: usize) -> bool
 
 /// Checks that each key is above the one before it, by one comparison for each two neighbours.
 #[inline(always)]
-pub(crate) fn check_keys<T: FileOrder>(
-    header: FileHeader,
-    bytes: &[u8],
-    meter: &mut Meter,
-) -> Result<(), MoError>
+pub(crate) fn check_keys(header: FileHeader, bytes: &[u8], meter: &mut Meter) -> Result<(), MoError>
     requires read { IsHeader header bytes.now }
-    requires order { header.order ≡ T.order }
     requires strings { HasStrings header.order bytes.now }
     requires room { meter.old < 2 ^ 63 }
     ensures sorted { MatchResult result
@@ -68,14 +63,14 @@ pub(crate) fn check_keys<T: FileOrder>(
     if header.count == 0 {
         return Ok(());
     }
-    let mut text = rest_in::<T>(header, bytes, 0);
+    let mut text = rest_at(header, bytes, 0);
     for i in 0..header.count - 1 {
-        let next = rest_in::<T>(header, bytes, i + 1);
+        let next = rest_at(header, bytes, i + 1);
         meter.add_one();
-        if !is_below(text, next) {
-            return Err(MoError::NotSorted(i + 1));
+        match compare_originals(text, next) {
+            Ordering::Less => text = next,
+            _ => return Err(MoError::NotSorted(i + 1)),
         }
-        text = next;
     }
     Ok(())
 }

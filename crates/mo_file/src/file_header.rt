@@ -1,16 +1,12 @@
 //! The seven words that begin an MO file.
 
-ghost use Rattle.std.specs.Prelude.{◌≡◌, ◌≤◌, List, IfErr, MatchResult, length};
-ghost use Rattle.mo_file.specs.declared.byte_order.Order.{Order};
+ghost use Rattle.std.specs.Prelude.{◌≡◌, ◌≤◌, IfErr, MatchResult, length};
 ghost use Rattle.mo_file.specs.FileHeader.{HasMagicOf, message_count, originals_table, translations_table};
-ghost use Rattle.mo_file.specs.MoFile.{IsMoFile};
 ghost use Rattle.mo_file.specs.Fault.{IsFirstFault, comparisons_before};
-ghost use Rattle.mo_file.specs.Message.{Message};
-ghost use Rattle.mo_file.specs.Internal.Checking.{IsChecked, IsHeader};
+ghost use Rattle.mo_file.specs.Internal.Checking.{IsHeader};
 
-use crate::byte_order::{FileOrder, Order, word};
+use crate::byte_order::{Order, word};
 use crate::fault::MoError;
-use byteorder::{BigEndian, LittleEndian};
 
 /// The length of the file header in bytes: seven words of 4.
 pub(crate) const HEADER_LEN: u32 = 28;
@@ -32,35 +28,35 @@ pub(crate) struct FileHeader {
 
 impl FileHeader {
     /// The words of the file header, read in this byte order.
-    fn of_words<T: FileOrder>(bytes: &[u8]) -> FileHeader
+    #[inline(always)]
+    pub(crate) fn of_words(order: Order, bytes: &[u8]) -> FileHeader
         requires { 28 ≤ length bytes.now }
-        ensures order { result.order ≡ T.order }
+        ensures order { result.order ≡ order }
         ensures count { result.count ≡ message_count result.order bytes.now }
         ensures originals { result.originals ≡ originals_table result.order bytes.now }
         ensures translations { result.translations ≡ translations_table result.order bytes.now }
     {
         FileHeader {
-            order: T::order(),
-            count: word::<T>(bytes, 8),
-            originals: word::<T>(bytes, 12),
-            translations: word::<T>(bytes, 16),
+            order,
+            count: word(order, bytes, 8),
+            originals: word(order, bytes, 12),
+            translations: word(order, bytes, 16),
         }
     }
 
     /// Reads the file header in the byte order that the magic number shows, and checks that both
     /// tables lie inside the file.
-    pub(crate) fn read<T: FileOrder>(bytes: &[u8]) -> Result<FileHeader, MoError>
+    #[inline(always)]
+    pub(crate) fn read(order: Order, bytes: &[u8]) -> Result<FileHeader, MoError>
         requires long { 28 ≤ length bytes.now }
-        requires shows { HasMagicOf T.order bytes.now }
-        ensures exact { MatchResult result
-            (λ header. IsHeader header bytes.now × (header.order ≡ T.order))
-            (IsFirstFault bytes.now) }
+        requires shows { HasMagicOf order bytes.now }
+        ensures exact { MatchResult result (λ header. IsHeader header bytes.now) (IsFirstFault bytes.now) }
         ensures no_comparison { IfErr result (λ e. comparisons_before e ≡ 0) }
     {
-        if word::<T>(bytes, 4) >> 16 > 1 {
+        if word(order, bytes, 4) >> 16 > 1 {
             return Err(MoError::BadRevision);
         }
-        let header = FileHeader::of_words::<T>(bytes);
+        let header = FileHeader::of_words(order, bytes);
         let table_len = DESCRIPTOR_LEN as usize * header.count as usize;
         if header.originals as usize + table_len > bytes.len()
             || header.translations as usize + table_len > bytes.len()
@@ -68,18 +64,6 @@ impl FileHeader {
             return Err(MoError::TableOutside);
         }
         Ok(header)
-    }
-
-    /// Reads the file header of a file that has been checked, and checks nothing.
-    pub(crate) fn of_checked(bytes: &[u8]) -> FileHeader
-        requires { (order : Order) × (messages : List Message) × IsMoFile order bytes.now messages }
-        ensures { (order : Order) (messages : List Message) → IsMoFile order bytes.now messages
-            → (result.order ≡ order) × IsChecked result bytes.now }
-    {
-        match Order::of_checked(bytes) {
-            Order::Little => FileHeader::of_words::<LittleEndian>(bytes),
-            Order::Big => FileHeader::of_words::<BigEndian>(bytes),
-        }
     }
 }
 

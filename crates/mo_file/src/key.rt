@@ -1,26 +1,14 @@
 //! The key of a message: its context and msgid, as an original spells them.
 
-ghost use Rattle.std.specs.Prelude.{◌≡◌, ◌↔◌, IsTrue};
+ghost use Rattle.std.specs.Prelude.{◌≡◌};
 ghost use Rattle.std.specs.Option.{option_copied};
-ghost use Rattle.std.specs.declared.cmp.Ordering.TheVariants.{Less};
 ghost use Rattle.mo_file.specs.Key.{key_cmp, key_of, query_key};
 
 use crate::common_prefix::{byte_at, common_prefix_len, long_common_prefix_len};
-use memchr::memchr;
 use std::cmp::Ordering;
 
 /// The byte that stands between a context and a msgid.
 const EOT: u8 = 4;
-
-/// The key of an original: what stands before its first NUL, or all of it.
-pub(crate) fn key_of(original: &[u8]) -> &[u8]
-    ensures { result.now ≡ key_of original.now }
-{
-    match memchr(0, original) {
-        Some(end) => &original[..end],
-        None => original,
-    }
-}
 
 /// Compares the key of an original with the key that a query asks for, by unsigned bytes; a prefix
 /// comes before what is longer. The query's key is `id` alone, or the context, a byte 4 (EOT) and
@@ -55,11 +43,11 @@ fn compare_id(original: &[u8], id: &[u8]) -> Ordering
     byte_at(original, at).cmp(&0)
 }
 
-/// Whether the key of an original is below that of another.
+/// Compares the keys of two originals in the same way.
 #[inline(always)]
-pub(crate) fn is_below(original: &[u8], other: &[u8]) -> bool
-    ensures { IsTrue result ↔ (key_cmp (key_of original.now) (key_of other.now) ≡ Less) }
+pub fn compare_originals(original: &[u8], other: &[u8]) -> Ordering
+    ensures { result ≡ key_cmp (key_of original.now) (key_of other.now) }
 {
     let at = long_common_prefix_len(0, original, other);
-    byte_at(original, at) < byte_at(other, at)
+    byte_at(original, at).cmp(&byte_at(other, at))
 }

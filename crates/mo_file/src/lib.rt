@@ -2,10 +2,10 @@
 //! unknown origin is checked and then read in place ("The Format of GNU MO Files" in the GNU
 //! gettext manual).
 //!
-//! [`build`] lays out a file, and [`build_sorted`] one of borrowed strings whose keys are known to
-//! rise. [`MoView::open`] checks a file, and the view then reads its messages, which stand in
-//! rising order of their keys. A [`Meter`] counts the looks at originals, so that a search can
-//! promise how few it needs.
+//! [`build`] lays out a file, [`build_sorted`] one of borrowed strings whose keys are known to
+//! rise, and [`lay_out`] the same in memory of the caller. [`MoView::open`] checks a file, and the
+//! view then reads its messages, which stand in rising order of their keys. A [`Meter`] counts the
+//! looks at originals, so that a search can promise how few it needs.
 //!
 //! To read a file: `fault`, `byte_order`, `file_header`, `strings`, `common_prefix`, `key`,
 //! `meter`, `checking`, `view`. To build one: `pairs`, `writing`, `building`. Then `laws`.
@@ -26,11 +26,11 @@ mod strings;
 mod view;
 mod writing;
 
-pub use building::{BuildError, build, build_sorted};
-pub use byte_order::Order;
+pub use building::{BuildError, build, build_sorted, file_len};
+pub use byte_order::{Order, word};
 pub use common_prefix::find_byte;
 pub use fault::MoError;
-pub use key::compare_key;
+pub use key::{compare_key, compare_originals};
 pub use laws::{
     known_revisions_are_valid, layout_is_mo_file, mo_file_or_fault, no_fault_of_mo_file,
     no_hash_table_is_laid_out, one_first_fault, one_message_list,
@@ -38,3 +38,4 @@ pub use laws::{
 pub use meter::Meter;
 pub use pairs::{BorrowedPair, Pair};
 pub use view::MoView;
+pub use writing::lay_out;

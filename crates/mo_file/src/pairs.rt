@@ -4,8 +4,7 @@ ghost use Rattle.std.specs.Prelude.{◌↔◌, IsTrue};
 ghost use Rattle.mo_file.specs.Key.{AreRising, keys};
 ghost use Rattle.mo_file.specs.Pairs.{messages_of_pairs};
 
-use crate::key::key_of;
-use std::cmp::Ordering;
+use crate::key::compare_originals;
 
 /// An original and its translation, as they stand in a file, without the NUL that ends each. The
 /// original is the key, or for a message with a plural the key, a NUL and the plural; the key is the
@@ -21,12 +20,15 @@ pub struct Pair {
 
 /// Which string of a pair is meant.
 #[derive(Clone, Copy)]
-pub(crate) enum Part {
+pub enum Part {
+    /// The original.
     Original,
+    /// The translation.
     Translation,
 }
 
 /// A pair whose strings are borrowed.
+#[repr(C)]
 #[derive(Clone, Copy, Debug)]
 pub struct BorrowedPair<'a> {
     /// The key, and where there is a plural a NUL and the plural.
@@ -36,7 +38,7 @@ pub struct BorrowedPair<'a> {
 }
 
 /// A pair, whoever owns its strings.
-pub(crate) trait StringPair {
+pub trait StringPair {
     ghost use Rattle.std.specs.Prelude.{◌≡◌};
     ghost use Rattle.mo_file.specs.Message.{Message};
     ghost use Rattle.mo_file.specs.Pairs.{string_of};
@@ -78,16 +80,5 @@ impl StringPair for BorrowedPair<'_> {
 pub(crate) fn are_rising(pairs: &[Pair]) -> bool
     ensures { IsTrue result ↔ AreRising (keys (messages_of_pairs pairs.now)) }
 {
-    if pairs.is_empty() {
-        return true;
-    }
-    let mut key = key_of(&pairs[0].original);
-    for pair in &pairs[1..] {
-        let next = key_of(&pair.original);
-        match key.cmp(next) {
-            Ordering::Less => key = next,
-            _ => return false,
-        }
-    }
-    true
+    pairs.is_sorted_by(|a, b| compare_originals(&a.original, &b.original).is_lt())
 }

@@ -10,14 +10,13 @@ ghost use Rattle.mo_file.specs.Fault.{IsFirstFault, comparisons_before};
 ghost use Rattle.mo_file.specs.Key.{AreRising, key_at, key_cmp, keys, query_key};
 ghost use Rattle.mo_file.specs.Message.{Message, originals, translations};
 
-use crate::byte_order::{FileOrder, Order};
+use crate::byte_order::Order;
 use crate::checking::{check_keys, check_strings};
 use crate::fault::MoError;
 use crate::file_header::{FileHeader, order_of};
 use crate::key::compare_key;
 use crate::meter::Meter;
-use crate::strings::{original_at, rest_at, translation_range};
-use byteorder::{BigEndian, LittleEndian};
+use crate::strings::{range_at, rest_at};
 use std::cmp::Ordering;
 use std::marker::Model;
 use std::ops::Range;
@@ -64,16 +63,17 @@ impl<'a> MoView<'a> {
             (λ e. meter.new ≡ meter.old + comparisons_before e) }
     {
         match order_of(bytes)? {
-            Order::Little => MoView::open_in::<LittleEndian>(bytes, meter),
-            Order::Big => MoView::open_in::<BigEndian>(bytes, meter),
+            Order::Little => MoView::open_in(Order::Little, bytes, meter),
+            Order::Big => MoView::open_in(Order::Big, bytes, meter),
         }
     }
 
-    /// Checks bytes after the magic number, which shows this byte order.
+    /// Checks bytes after the magic number, which shows this byte order. It is compiled for each of
+    /// the two, so that no loop asks for it.
     #[inline(always)]
-    fn open_in<T: FileOrder>(bytes: &'a [u8], meter: &mut Meter) -> Result<MoView<'a>, MoError>
+    fn open_in(order: Order, bytes: &'a [u8], meter: &mut Meter) -> Result<MoView<'a>, MoError>
         requires long { 28 ≤ length bytes.now }
-        requires shows { HasMagicOf T.order bytes.now }
+        requires shows { HasMagicOf order bytes.now }
         requires room { meter.old < 2 ^ 63 }
         ensures exact { MatchResult result
             (λ view. (order : Order) × IsMoFile order bytes.now view.messages)
@@ -83,9 +83,9 @@ impl<'a> MoView<'a> {
             (λ view. meter.new ≡ meter.old + (length view.messages - 1))
             (λ e. meter.new ≡ meter.old + comparisons_before e) }
     {
-        let header = FileHeader::read::<T>(bytes)?;
-        check_strings::<T>(header, bytes)?;
-        check_keys::<T>(header, bytes, meter)?;
+        let header = FileHeader::read(order, bytes)?;
+        check_strings(header, bytes)?;
+        check_keys(header, bytes, meter)?;
         Ok(MoView { bytes, header })
     }
 
@@ -97,10 +97,11 @@ impl<'a> MoView<'a> {
             → IsMoFile order bytes.now messages → result.messages ≡ messages }
         ensures bytes { result.bytes ≡ bytes.now }
     {
-        MoView {
-            bytes,
-            header: FileHeader::of_checked(bytes),
-        }
+        let header = match Order::of_file(bytes).unwrap_or(Order::Big) {
+            Order::Little => FileHeader::of_words(Order::Little, bytes),
+            Order::Big => FileHeader::of_words(Order::Big, bytes),
+        };
+        MoView { bytes, header }
     }
 
     /// How many messages the file has.
@@ -134,7 +135,7 @@ impl<'a> MoView<'a> {
         ensures cost { meter.new ≡ meter.old + 1 }
     {
         meter.add_one();
-        original_at(self.header, self.bytes, i)
+        &self.bytes[range_at(self.header.order, self.bytes, self.header.originals, i)]
     }
 
     /// The translation of message `i`: its forms with a NUL between them.
@@ -142,7 +143,7 @@ impl<'a> MoView<'a> {
         requires { i < length self.now.messages }
         ensures { slice_get (translations self.now.messages) i ≡ Some result.now }
     {
-        &self.bytes[translation_range(self.header, self.bytes, i)]
+        &self.bytes[self.translation_range(i)]
     }
 
     /// Where the translation of message `i` stands, in bytes from the start of the file. A NUL
@@ -151,7 +152,7 @@ impl<'a> MoView<'a> {
         requires { i < length self.now.messages }
         ensures { IsTranslationAt self.now i result.start result.end }
     {
-        translation_range(self.header, self.bytes, i)
+        range_at(self.header.order, self.bytes, self.header.translations, i)
     }
 
     /// The bytes of the file.

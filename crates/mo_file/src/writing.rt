@@ -1,84 +1,122 @@
-//! The header, the tables and the strings of an MO file, in the order in which they are written.
+//! An MO file laid out in memory of the caller.
 
-ghost use Rattle.std.specs.Prelude.{◌≡◌, ◌+◌, ◌*◌, ◌^◌, ◌<◌, ◌++◌, length, map, IfOk, OnOk};
-ghost use Rattle.mo_file.specs.Layout.{header, table, terminated};
+ghost use Rattle.std.specs.Prelude.{◌≡◌, ◌+◌, ◌*◌, ◌^◌, ◌<◌, ◌≤◌, ◌++◌, length, map, take};
+ghost use Rattle.mo_file.specs.Layout.{header, layout, table, terminated};
 ghost use Rattle.mo_file.specs.Pairs.{strings_of};
 ghost use Rattle.mo_file.specs.Word.{word_bytes};
 
-use crate::byte_order::{BIG_MAGIC, FileOrder, LITTLE_MAGIC, Order, push_word};
+use crate::byte_order::Order;
 use crate::file_header::{DESCRIPTOR_LEN, HEADER_LEN};
 use crate::pairs::{Part, StringPair};
-use std::alloc::AllocError;
+use byteorder::{BigEndian, ByteOrder, LittleEndian};
 
-/// Where the originals begin in a file of so many messages: after the file header and both tables.
-pub(crate) fn originals_offset(count: u32) -> u32
-    requires { 28 + 16 * count < 2 ^ 32 }
-    ensures { result ≡ 28 + 16 * count }
+/// The magic number, the first word of a file.
+const MAGIC: u32 = 0x950412de;
+
+/// Writes a text at an offset, and returns where it ends.
+fn put(file: &mut [u8], at: usize, text: &[u8]) -> usize
+    requires { at + length text.now ≤ length file.old }
+    ensures len { length file.new ≡ length file.old }
+    ensures end { result ≡ at + length text.now }
+    ensures text { take result file.new ≡ take at file.old ++ text.now }
 {
-    HEADER_LEN + 2 * DESCRIPTOR_LEN * count
+    let end = at + text.len();
+    file[at..end].copy_from_slice(text);
+    end
 }
 
-/// Appends the file header of a file of so many messages.
-pub(crate) fn push_header<T: FileOrder>(out: &mut Vec<u8>, count: u32) -> Result<(), AllocError>
-    requires { 28 + 16 * count < 2 ^ 32 }
-    ensures { OnOk result (out.new.items ≡ out.old.items ++ header T.order count) }
+/// Writes a word at an offset, and returns where it ends.
+#[tactic(auto, unfolding(crate::specs::Word::word_bytes))]
+fn put_word(order: Order, file: &mut [u8], at: usize, number: u32) -> usize
+    requires { at + 4 ≤ length file.old }
+    ensures len { length file.new ≡ length file.old }
+    ensures end { result ≡ at + 4 }
+    ensures text { take result file.new ≡ take at file.old ++ word_bytes order number }
 {
-    let magic = match T::order() {
-        Order::Little => LITTLE_MAGIC,
-        Order::Big => BIG_MAGIC,
-    };
-    out.extend_from_slice(&magic)?;
-    push_word::<T>(out, 0)?;
-    push_word::<T>(out, count)?;
-    push_word::<T>(out, HEADER_LEN)?;
-    push_word::<T>(out, HEADER_LEN + DESCRIPTOR_LEN * count)?;
-    push_word::<T>(out, 0)?;
-    push_word::<T>(out, originals_offset(count))
+    let mut bytes = [0; 4];
+    match order {
+        Order::Little => LittleEndian::write_u32(&mut bytes, number),
+        Order::Big => BigEndian::write_u32(&mut bytes, number),
+    }
+    put(file, at, &bytes)
 }
 
-/// Appends the length of a string and its offset.
-fn push_descriptor<T: FileOrder>(out: &mut Vec<u8>, len: u32, offset: u32) -> Result<(), AllocError>
-    ensures { OnOk result (out.new.items
-        ≡ out.old.items ++ word_bytes T.order len ++ word_bytes T.order offset) }
+/// Writes the file header of a file of so many messages, and returns where it ends.
+fn put_header(order: Order, file: &mut [u8], count: u32) -> usize
+    requires fits { 28 + 16 * count < 2 ^ 32 }
+    requires room { 28 ≤ length file.old }
+    ensures len { length file.new ≡ length file.old }
+    ensures end { result ≡ 28 }
+    ensures text { take result file.new ≡ header order count }
 {
-    push_word::<T>(out, len)?;
-    push_word::<T>(out, offset)
+    let mut at = put_word(order, file, 0, MAGIC);
+    at = put_word(order, file, at, 0);
+    at = put_word(order, file, at, count);
+    at = put_word(order, file, at, HEADER_LEN);
+    at = put_word(order, file, at, HEADER_LEN + DESCRIPTOR_LEN * count);
+    at = put_word(order, file, at, 0);
+    put_word(order, file, at, HEADER_LEN + 2 * DESCRIPTOR_LEN * count)
 }
 
-/// Appends the table of strings of which the first is to stand at `offset`, and returns the offset
-/// after the NUL of the last.
-pub(crate) fn push_table<T: FileOrder, P: StringPair>(
-    out: &mut Vec<u8>,
+/// Writes the table of strings, of which the first is to stand at `offset`. The result is where the
+/// last is to end.
+fn put_table<P: StringPair>(
+    order: Order,
+    file: &mut [u8],
+    at: usize,
     pairs: &[P],
     part: Part,
     offset: u32,
-) -> Result<u32, AllocError>
-    requires { offset + length (terminated (strings_of part (map P.message pairs.now))) < 2 ^ 32 }
-    ensures entries { OnOk result
-        (out.new.items ≡ out.old.items ++ table T.order offset (strings_of part (map P.message pairs.now))) }
-    ensures offset { IfOk result
-        (λ end. end ≡ offset + length (terminated (strings_of part (map P.message pairs.now)))) }
+) -> u32
+    requires room { at + 8 * length pairs.now ≤ length file.old }
+    requires fits { offset + length (terminated (strings_of part (map P.message pairs.now))) < 2 ^ 32 }
+    ensures len { length file.new ≡ length file.old }
+    ensures end { result ≡ offset + length (terminated (strings_of part (map P.message pairs.now))) }
+    ensures text { take (at + 8 * length pairs.now) file.new
+        ≡ take at file.old ++ table order offset (strings_of part (map P.message pairs.now)) }
 {
-    let mut at = offset;
+    let mut next = offset;
+    let mut end = at;
     for pair in pairs {
         let len = pair.string(part).len() as u32;
-        push_descriptor::<T>(out, len, at)?;
-        at += len + 1;
+        end = put_word(order, file, end, len);
+        end = put_word(order, file, end, next);
+        next += len + 1;
     }
-    Ok(at)
+    next
 }
 
-/// Appends the strings, each with its NUL.
-pub(crate) fn push_strings<P: StringPair>(
-    out: &mut Vec<u8>,
-    pairs: &[P],
-    part: Part,
-) -> Result<(), AllocError>
-    ensures { OnOk result (out.new.items ≡ out.old.items ++ terminated (strings_of part (map P.message pairs.now))) }
+/// Writes the strings, each with its NUL, and returns where they end.
+fn put_strings<P: StringPair>(file: &mut [u8], at: usize, pairs: &[P], part: Part) -> usize
+    requires { at + length (terminated (strings_of part (map P.message pairs.now))) ≤ length file.old }
+    ensures len { length file.new ≡ length file.old }
+    ensures end { result ≡ at + length (terminated (strings_of part (map P.message pairs.now))) }
+    ensures text { take result file.new
+        ≡ take at file.old ++ terminated (strings_of part (map P.message pairs.now)) }
 {
+    let mut end = at;
     for pair in pairs {
-        out.extend_from_slice(pair.string(part))?;
-        out.push(0)?;
+        end = put(file, end, pair.string(part));
+        end = put(file, end, &[0]);
     }
-    Ok(())
+    end
+}
+
+/// Lays out the file of these pairs from the beginning of the room on, as [`build`](crate::build)
+/// does. What the room has after the file stays.
+pub fn lay_out<P: StringPair>(order: Order, file: &mut [u8], pairs: &[P])
+    requires fits { length (layout order (map P.message pairs.now)) < 2 ^ 32 }
+    requires room { length (layout order (map P.message pairs.now)) ≤ length file.old }
+    ensures len { length file.new ≡ length file.old }
+    ensures text { take (length (layout order (map P.message pairs.now))) file.new
+        ≡ layout order (map P.message pairs.now) }
+{
+    let count = pairs.len() as u32;
+    let originals = HEADER_LEN + 2 * DESCRIPTOR_LEN * count;
+    let tables = put_header(order, file, count);
+    let translations = put_table(order, file, tables, pairs, Part::Original, originals);
+    let second = tables + DESCRIPTOR_LEN as usize * pairs.len();
+    put_table(order, file, second, pairs, Part::Translation, translations);
+    let middle = put_strings(file, originals as usize, pairs, Part::Original);
+    put_strings(file, middle, pairs, Part::Translation);
 }

@@ -7,7 +7,8 @@ ghost use Rattle.mo_file.specs.MoFile.{IsMoFile};
 ghost use Rattle.mo_expand.specs.ExpandedFile.{IsNotExpanded, expanded_file};
 ghost use Rattle.mo_expand.specs.Merging.{expanded_messages};
 
-use mo_expand::{ExpandedFile, ListedMessage, PlatformText, expand_file, expanded_file_is_mo_file};
+use mo_expand::{ExpandedFile, PlatformText, expand_file, expanded_file_is_mo_file};
+use mo_file::BorrowedPair;
 
 /// Expands an MO file into one without system-dependent messages: the messages of the file, and of
 /// the system-dependent ones, completed by the texts of a platform, those whose keys the file lacks,
@@ -20,7 +21,7 @@ use mo_expand::{ExpandedFile, ListedMessage, PlatformText, expand_file, expanded
 pub extern "C" fn pokit_expanded_file<'b>(
     bytes: &'b [u8],
     texts: &[PlatformText<'b>],
-    list: &mut [ListedMessage<'b>],
+    list: &mut [BorrowedPair<'b>],
     room: &'b mut [u8],
     file: &mut [u8],
 ) -> u32

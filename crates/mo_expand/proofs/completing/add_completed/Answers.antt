@@ -2,7 +2,7 @@ use Rattle.std.proofs.Common.{◌≡◌, ◌<◌, ◌∙◌, ap, sym, subst, ari
 use Rattle.std.specs.List.{slice_range}
 use Rattle.mo_file.specs.Key.{AreRising, keys}
 use Rattle.mo_expand.specs.Expanded.{system_count, system_message}
-use Rattle.mo_expand.specs.Internal.Listing.{messages}
+use Rattle.mo_file.specs.Pairs.{messages_of_borrowed}
 use Rattle.mo_expand.specs.Merging.{strings_len, with_message}
 use Rattle.mo_expand.proofs.CompletingLemmas.{added, passed, none_left, room-next, room-full, split-message, split-len}
 use Rattle.mo_expand.proofs.RisingLemmas.{rising-with_message}
@@ -30,7 +30,7 @@ loop-index-preserved c =
           (record {
             added = added _ _ c.loop-index.index _ _ _ _ inside c.loop-index.invariant.added w.in-Ends.ensures.message.0
                 (w.insert-count.ensures.messages
-                ∙ ap (λ m. with_message m (messages (take c.loop-index.count c.loop-index.list)))
+                ∙ ap (λ m. with_message m (messages_of_borrowed (take c.loop-index.count c.loop-index.list)))
                 (split-message c.expand_in.new.room _ _ w.in-Ends.middle w.in-Ends.end low
                 (ap (take w.in-Ends.middle) w.split_at_mut-written.ensures.front)
                 (ap (λ l. slice_range l w.in-Ends.middle w.in-Ends.end) w.split_at_mut-written.ensures.front)));

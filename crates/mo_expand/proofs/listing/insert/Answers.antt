@@ -1,19 +1,28 @@
-use Rattle.std.proofs.Common.{◌+◌, ◌≤◌, ◌∙◌, ap, take, arith, length-take}
+use Rattle.std.proofs.Common.{◌+◌, ◌≤◌, ◌∙◌, ap, take, sym, arith, length-take, rules}
 use Rattle.std.specs.Prelude.{slice_set}
-use Rattle.std.proofs.lemmas.List.{length-map}
-use Rattle.mo_expand.specs.Internal.Listing.{message, messages}
+use Rattle.std.proofs.lemmas.Fn.{always_returns_same}
+use Rattle.mo_file.specs.Key.{key_cmp, key_of}
+use Rattle.mo_file.specs.Pairs.{messages_of_borrowed}
 use Rattle.mo_expand.proofs.ListingLemmas.{inserted}
+use Rattle.mo_expand.proofs.SearchLemmas.{listed-found, listed-place}
 use Rattle.mo_expand.proofs.listing.insert.Goals as goal
 
-pub returns-in-Some-clause-messages : goal.returns-in-Some-clause-messages
-returns-in-Some-clause-messages c =
-    let low : c.in-Some.at ≤ c.args.count =
-    omega (
-      arith,
-      c.in-Some.ensures.0,
-      length-map (take c.args.count c.args.list.now) message,
-      length-take c.args.count c.args.list.now,
-      c.requires.room,
-    ) in
-    ap (λ l. messages (take (c.args.count + 1) (slice_set l c.in-Some.at c.args.added))) c.copy_within.ensures.after
-    ∙ inserted _ c.args.count c.in-Some.at c.args.added low c.requires.room c.in-Some.ensures
+pub returns-in-Ok-clause-messages : goal.returns-in-Ok-clause-messages
+returns-in-Ok-clause-messages c =
+    let found = c.in-Ok.ensures.position
+    (λ it. key_cmp (key_of it.original.now) (key_of c.args.added.original.now))
+    (always_returns_same _ _ _ (λ a r q k. search rules)) in
+    sym (listed-found _ c.args.added c.requires.rising c.in-Ok.field-0 c.in-Ok.ensures.bound (found c.args.added))
+
+pub returns-in-Err-clause-messages : goal.returns-in-Err-clause-messages
+returns-in-Err-clause-messages c =
+    let found = c.in-Err.ensures.position
+    (λ it. key_cmp (key_of it.original.now) (key_of c.args.added.original.now))
+    (always_returns_same _ _ _ (λ a r q k. search rules)) in
+    let inside = c.in-Err.ensures.bound in
+    let low : c.in-Err.at ≤ c.args.count =
+    omega (arith, inside, length-take c.args.count c.args.list.now, c.requires.room) in
+    ap (λ l. messages_of_borrowed (take (c.args.count + 1) (slice_set l c.in-Err.at c.args.added)))
+    c.copy_within.ensures.after
+    ∙ inserted _ c.args.count c.in-Err.at c.args.added low c.requires.room
+    (listed-place _ c.args.added c.requires.rising c.in-Err.at inside found)

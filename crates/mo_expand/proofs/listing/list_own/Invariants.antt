@@ -1,9 +1,9 @@
 use Rattle.std.proofs.Common.{◌≡◌, take}
-use Rattle.mo_expand.specs.Internal.Listing.{messages}
+use Rattle.mo_file.specs.Pairs.{messages_of_borrowed}
 use Rattle.mo_expand.proofs.listing.list_own.Given as goal
 
 abbrev pub invariant-loop-i : goal.invariant-loop-i
 invariant-loop-i l = record {
-  listed : messages (take l.i l.list) ≡ take l.i l.view.messages;
+  listed : messages_of_borrowed (take l.i l.list) ≡ take l.i l.view.messages;
   looks : l.meter ≡ l.i;
 }

@@ -1,14 +1,11 @@
-use Rattle.std.proofs.Common.{arith, ◌∙◌, ap, Some}
-use Rattle.mo_file.proofs.ViewLemmas.{length-messages_of, map-messages_of-at}
+use Rattle.std.proofs.Common.{◌∙◌, ap, sym, Some}
+use Rattle.std.specs.List.{slice_range}
+use Rattle.mo_file.specs.FileView.{FileView}
 use Rattle.mo_file.proofs.view.MoView.translation.Goals as goal
-
-pub translation_range-requires-clause-counted : goal.translation_range-requires-clause-counted
-translation_range-requires-clause-counted c =
-    let inside = rw (← c.self.view_is, length-messages_of) at c.requires in
-    omega (arith, c.self.invariant.read.count)
 
 pub returns : goal.returns
 returns c =
-    let inside = rw (← c.self.view_is, length-messages_of) at c.requires in
-    rw (← c.self.view_is)
-    (map-messages_of-at _ _ (λ m. m.translation) _ inside ∙ ap Some c.translation_range.ensures.text)
+    let is = c.translation_range.ensures in
+    is.1 ∙ ap Some (is.2.text
+    ∙ ap (λ (v : FileView). slice_range v.bytes c.translation_range.result.start c.translation_range.result.end)
+    (sym c.self.view_is))
