@@ -1,9 +1,10 @@
 -- Where a form of a translation stands in the file.
-use Rattle.std.proofs.Common.{◌≡◌, ℕ, ◌+◌, ◌-◌, ◌<◌, ◌≤◌, List, Some, length, take, drop, slice_get, slice_range, sym, ap, ◌∙◌, inl, inr, arith, length-drop}
+use Rattle.std.proofs.Common.{◌≡◌, ℕ, ◌+◌, ◌-◌, ◌<◌, ◌≤◌, List, Some, length, take, drop, slice_get, slice_range, unwrap_or, subst, sym, ap, ◌∙◌, inl, inr, arith, length-drop}
 use Rattle.std.proofs.lemmas.List.{drop-drop, get_or-drop, get_or-take, length-take, take-take}
 use Rattle.std.proofs.lemmas.Slice.{between_is}
 use Rattle.std.proofs.lemmas.Option.{get_or_from_slice_get, slice_get-get_or, slice_get_within}
-use Rattle.mo_file.specs.FileView.{IsStringAt}
+use Rattle.mo_file.specs.FileView.{FileView, IsStringAt, IsTranslationAt}
+use Rattle.mo_file.specs.Message.{translations}
 use Rattle.mo_lookup.specs.Place.{IsFormAt}
 
 -- a part loses its front
@@ -62,3 +63,12 @@ module _ (bytes translation form : List ℕ) (start end a b : ℕ) (there : IsSt
               (ap (λ t. slice_get t b) (sym there.text) ∙ nul)
         ];
       }
+
+-- and so of the translation that stands there
+pub form-placed : (file : FileView) (i start end a b : ℕ) (translation form : List ℕ) → IsTranslationAt file i start end
+    →
+    slice_get (translations file.messages) i ≡ Some translation → IsFormAt translation a b form →
+    IsStringAt file.bytes (start + a) (start + b) form
+form-placed file i start end a b translation form there is at =
+    let same : there.0 ≡ translation = ap (λ t. unwrap_or t translation) (sym there.1 ∙ is) in
+    form-in-file file.bytes translation form start end a b (subst (IsStringAt file.bytes start end) same there.2) at

@@ -1,16 +1,15 @@
 -- What a chain of catalogues answers: the first one that translates a query does (GNU gettext
 -- manual, "Specifying a Priority List of Languages").
-use Rattle.std.specs.Prelude.{◌≡◌, ℕ, ◌+◌, Bool, List, Some, length, min, slice_get, if◌then◌else◌}
+use Rattle.std.specs.Prelude.{ℕ, ◌+◌, Bool, List, length, min, if◌then◌else◌}
 use Rattle.std.specs.List.{find, position_or_len, sum_by}
 use Rattle.std.specs.Option.{is_some, option_map_or}
 use Rattle.plural_rule.specs.Expression.{nodes}
 use Rattle.mo_lookup.specs.declared.chain.ChainAnswer.{ChainAnswer}
-use Rattle.mo_file.specs.Key.{keys}
 use Rattle.mo_lookup.specs.Bound.{search_bound}
-use Rattle.mo_lookup.specs.Comparisons.{comparisons, query_comparisons}
+use Rattle.mo_lookup.specs.Comparisons.{query_comparisons}
 use Rattle.mo_lookup.specs.Query.{Query, can_be_key}
 use Rattle.mo_lookup.specs.Answer.{AnswerView, untranslated}
-use Rattle.mo_lookup.specs.CatalogView.{CatalogView, forms_found, answered, translation_under}
+use Rattle.mo_lookup.specs.CatalogView.{CatalogView, forms_found, answered}
 
 -- what the result of a look-up in a chain says
 abbrev pub chain_answer_view : ChainAnswer → AnswerView
@@ -42,19 +41,3 @@ chain_bound catalogues = sum_by (λ catalog. search_bound (length catalog.messag
 -- how many nodes the plural expression of the answering catalogue has, and 0 where none answers
 abbrev pub answering_nodes : List CatalogView → Query → ℕ
 answering_nodes chain query = option_map_or (λ catalog. nodes catalog.rule.tree) (find (translates query) chain) 0
-
--- internal: whether a catalogue has a key
-abbrev pub has_key : List ℕ → CatalogView → Bool
-has_key key catalog = is_some (translation_under key catalog.messages)
-
--- internal: how many keys are compared with a key in these catalogues
-abbrev pub key_comparisons : List ℕ → List CatalogView → ℕ
-key_comparisons key catalogues = sum_by (λ catalog. comparisons (keys catalog.messages) key) catalogues
-
--- internal: the first catalogue of a chain that has a key, its index, and its translation under the
--- key
-pub record IsFirstWith (key : List ℕ) (chain : List CatalogView) (index : ℕ) (catalog : CatalogView)
-    (translation : List ℕ) : Type 0 where
-  pub first : index ≡ position_or_len (has_key key) chain
-  pub there : slice_get chain index ≡ Some catalog
-  pub under : translation_under key catalog.messages ≡ Some translation

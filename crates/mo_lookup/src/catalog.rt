@@ -6,17 +6,16 @@ ghost use Rattle.plural_rule.specs.Expression.{nodes};
 ghost use Rattle.plural_rule.specs.PluralRule.{IsRuleOf, expression_limit};
 ghost use Rattle.mo_file.specs.declared.byte_order.Order.{Order};
 ghost use Rattle.mo_file.specs.Message.{Message};
-ghost use Rattle.mo_file.specs.Key.{keys, query_key};
 ghost use Rattle.mo_file.specs.MoFile.{IsMoFile};
 ghost use Rattle.mo_file.specs.Fault.{IsFirstFault, comparisons_before};
 ghost use Rattle.mo_lookup.specs.Bound.{search_bound};
-ghost use Rattle.mo_lookup.specs.Comparisons.{comparisons, query_comparisons};
-ghost use Rattle.mo_lookup.specs.Query.{query, given, can_be_key};
-ghost use Rattle.mo_lookup.specs.CatalogView.{IsCatalogView, header_text, forms, answered, translation_under};
-ghost use Rattle.mo_lookup.specs.Answer.{answer_view, translated};
+ghost use Rattle.mo_lookup.specs.Comparisons.{query_comparisons};
+ghost use Rattle.mo_lookup.specs.Query.{query, can_be_key};
+ghost use Rattle.mo_lookup.specs.CatalogView.{IsCatalogView, header_text, answered};
+ghost use Rattle.mo_lookup.specs.Answer.{answer_view};
 
 use crate::answer::Answer;
-use crate::lookup::{answered_form, look, translation};
+use crate::lookup::look;
 use crate::messages::ViewMessages;
 use crate::opening::checked;
 use mo_file::{Meter, MoError, MoView};
@@ -106,6 +105,7 @@ impl<'a> Catalog<'a> {
             ≡ query_comparisons self.now.messages (query context.entry id.now plural.entry) }
         ensures bound { result.comparisons ≤ search_bound (length self.now.messages) }
         ensures no_key { can_be_key (option_copied context.entry) id.now ≡ false → result.comparisons ≡ 0 }
+        ensures at_most_32 { result.comparisons ≤ 32 }
         ensures nodes { result.steps ≤ nodes self.now.rule.tree }
     {
         let view = &self.view;
@@ -117,42 +117,5 @@ impl<'a> Catalog<'a> {
             id,
             plural,
         )
-    }
-
-    /// The translation under the key of a context and a msgid, or None where no message has that
-    /// key.
-    pub(crate) fn translation(
-        &self,
-        context: Option<&[u8]>,
-        id: &[u8],
-        meter: &mut Meter,
-    ) -> Option<&'a [u8]>
-        requires { meter.old < 2 ^ 63 }
-        ensures found { option_copied result
-            ≡ translation_under (query_key (option_copied context.entry) id.now) self.now.messages }
-        ensures comparisons { meter.new
-            ≡ meter.old + comparisons (keys self.now.messages) (query_key (option_copied context.entry) id.now) }
-        ensures never_falls { meter.old ≤ meter.new }
-        ensures bound { meter.new ≤ meter.old + search_bound (length self.now.messages) }
-        ensures at_most_32 { meter.new ≤ meter.old + 32 }
-    {
-        let view = &self.view;
-        translation(&mut ViewMessages { view, meter }, context, id)
-    }
-
-    /// The form of a translation that is the answer: form 0 where no plural is given, else the one
-    /// that the rule selects. And how many nodes were evaluated for it.
-    pub(crate) fn answered_form(
-        &self,
-        translation: &'a [u8],
-        plural: Option<(&[u8], u64)>,
-    ) -> (&'a [u8], u32)
-        ensures text { result.0.now ≡ (translated (forms translation.now) self.now.rule (given plural.entry)).text }
-        ensures steps { result.1 ≡ (translated (forms translation.now) self.now.rule (given plural.entry)).steps }
-        ensures nodes { result.1 ≤ nodes self.now.rule.tree }
-    {
-        let (nplurals, program) = (self.rule.nplurals(), self.rule.program());
-        let (form, steps) = answered_form(nplurals, program, translation, plural);
-        (&translation[form], steps)
     }
 }

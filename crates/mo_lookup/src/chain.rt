@@ -1,11 +1,8 @@
 //! A chain of catalogues, of which the first that has a message answers for it.
 
-ghost use Rattle.std.specs.Prelude.{◌≡◌, ◌+◌, ◌^◌, ◌<◌, ◌≤◌, length, take, MatchOption};
-ghost use Rattle.std.specs.List.{position_or_len};
-ghost use Rattle.std.specs.Option.{option_copied};
-ghost use Rattle.mo_file.specs.Key.{query_key};
+ghost use Rattle.std.specs.Prelude.{◌≡◌, ◌+◌, ◌^◌, ◌<◌, ◌≤◌, length, take};
 ghost use Rattle.mo_lookup.specs.Query.{query};
-ghost use Rattle.mo_lookup.specs.Chain.{answering_nodes, asked, chain_bound, chain_answer_view, chain_answered, chain_comparisons, has_key, key_comparisons, IsFirstWith};
+ghost use Rattle.mo_lookup.specs.Chain.{answering_nodes, asked, chain_bound, chain_answer_view, chain_answered, chain_comparisons};
 
 use crate::catalog::Catalog;
 use crate::query::{can_be_key, untranslated_text};
@@ -82,75 +79,33 @@ impl<'c, 'a> Chain<'c, 'a> {
         ensures bound { result.comparisons ≤ chain_bound (take result.asked self.now) }
         ensures nodes { result.steps ≤ answering_nodes self.now (query context.entry id.now plural.entry) }
     {
+        let none = ChainAnswer {
+            text: untranslated_text(id, plural),
+            found: false,
+            comparisons: 0,
+            steps: 0,
+            asked: 0,
+        };
         if !can_be_key(context, id) {
-            return ChainAnswer {
-                text: untranslated_text(id, plural),
-                found: false,
-                comparisons: 0,
-                steps: 0,
-                asked: 0,
-            };
+            return none;
         }
         let before = meter.count();
-        let first = first_with(self.members, context, id, meter);
-        let comparisons = meter.count() - before;
-        let Some(first) = first else {
-            return ChainAnswer {
-                text: untranslated_text(id, plural),
-                found: false,
-                comparisons,
-                steps: 0,
-                asked: self.members.len() as u32,
-            };
-        };
-        let (text, steps) = first.catalog.answered_form(first.translation, plural);
+        for (index, catalog) in self.members.iter().enumerate() {
+            let answer = catalog.look(context, id, plural, meter);
+            if answer.found {
+                return ChainAnswer {
+                    text: answer.text,
+                    found: true,
+                    comparisons: meter.count() - before,
+                    steps: answer.steps,
+                    asked: index as u32 + 1,
+                };
+            }
+        }
         ChainAnswer {
-            text,
-            found: true,
-            comparisons,
-            steps,
-            asked: first.index + 1,
+            comparisons: meter.count() - before,
+            asked: self.members.len() as u32,
+            ..none
         }
     }
-}
-
-/// The first catalogue that has a key, with its index, counted from 0, and its translation under
-/// the key.
-#[derive(Drop)]
-struct First<'c, 'a> {
-    index: u32,
-    catalog: &'c Catalog<'a>,
-    translation: &'a [u8],
-}
-
-/// The first catalogue that has the key of a context and a msgid.
-fn first_with<'c, 'a>(
-    catalogs: &'c [Catalog<'a>],
-    context: Option<&[u8]>,
-    id: &[u8],
-    meter: &mut Meter,
-) -> Option<First<'c, 'a>>
-    requires few { length catalogs.now < 2 ^ 32 }
-    requires room { meter.old < 2 ^ 62 }
-    ensures found { let key = query_key (option_copied context.entry) id.now in
-        MatchOption result (position_or_len (has_key key) catalogs.now ≡ length catalogs.now)
-        (λ first. IsFirstWith key catalogs.now first.index first.catalog.now first.translation.now) }
-    ensures never_falls { meter.old ≤ meter.new }
-    ensures comparisons { let key = query_key (option_copied context.entry) id.now in
-        let first = position_or_len (has_key key) catalogs.now in
-        meter.new ≡ meter.old + key_comparisons key (take (first + 1) catalogs.now) }
-    ensures bound { let first = position_or_len (has_key (query_key (option_copied context.entry) id.now))
-        catalogs.now in
-        meter.new ≤ meter.old + chain_bound (take (first + 1) catalogs.now) }
-{
-    for (index, catalog) in catalogs.iter().enumerate() {
-        if let Some(translation) = catalog.translation(context, id, meter) {
-            return Some(First {
-                index: index as u32,
-                catalog,
-                translation,
-            });
-        }
-    }
-    None
 }

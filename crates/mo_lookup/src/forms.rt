@@ -1,12 +1,14 @@
 //! The forms of a translation ("Plural forms"): the parts between its NULs.
 
-ghost use Rattle.std.specs.Prelude.{◌≡◌, ◌≤◌, ℕ, [], ◌∷◌, List, None, Some, drop, length, slice_get, MatchOption};
-ghost use Rattle.plural_rule.specs.Expression.{nodes, value, visited};
+ghost use Rattle.std.specs.Prelude.{◌≡◌, ◌≤◌, ℕ, List, None, Some, drop, length, slice_get, MatchOption};
+ghost use Rattle.plural_rule.specs.declared.rule.Source.{Source};
+ghost use Rattle.plural_rule.specs.Expression.{nodes};
 ghost use Rattle.plural_rule.specs.PluralRule.{expression_limit};
 ghost use Rattle.plural_rule.specs.Program.{program as program_of, tree_of};
-ghost use Rattle.mo_lookup.specs.Answer.{form_at, selected_form};
+ghost use Rattle.mo_lookup.specs.Answer.{form_at, translated};
 ghost use Rattle.mo_lookup.specs.CatalogView.{forms};
 ghost use Rattle.mo_lookup.specs.Place.{IsFormAt};
+ghost use Rattle.mo_lookup.specs.Query.{given};
 
 use mo_file::find_byte;
 use plural_rule::{Instruction, evaluate};
@@ -23,18 +25,6 @@ pub(crate) fn first_form(translation: &[u8], start: usize) -> Range<usize>
     }
 }
 
-/// Where the second of the forms from byte `start` of a translation on begins, or None where there
-/// is one form alone.
-fn second_start(translation: &[u8], start: usize) -> Option<usize>
-    requires { start ≤ length translation.now }
-    ensures { MatchOption result (forms (drop start translation.now) ≡ drop start translation.now ∷ [])
-        (λ second. (second ≤ length translation.now) × (forms (drop start translation.now)
-        ≡ form_at (forms (drop start translation.now)) 0 ∷ forms (drop second translation.now))) }
-{
-    let len = find_byte(0, &translation[start..])?;
-    Some(start + len + 1)
-}
-
 /// Where the form of a translation with this index, counted from 0, stands in the translation, or
 /// None where it has fewer forms.
 fn form(translation: &[u8], index: u64) -> Option<Range<usize>>
@@ -44,27 +34,37 @@ fn form(translation: &[u8], index: u64) -> Option<Range<usize>>
 {
     let mut start = 0;
     for _ in 0..index {
-        start = second_start(translation, start)?;
+        start += find_byte(0, &translation[start..])? + 1;
     }
     Some(first_form(translation, start))
 }
 
-/// Where the form that a rule with `nplurals` forms selects for a count stands in a translation,
-/// and how many nodes of its expression were evaluated. Form 0 is selected where the value is
-/// undefined, isn't below `nplurals`, or has no form in this translation.
-pub(crate) fn selected_form(
-    translation: &[u8],
+/// Where the form that is the answer stands in a translation: form 0 where no plural is given, else
+/// the one that a rule with `nplurals` forms selects for the count. And how many nodes of its
+/// expression were evaluated for it. The rule selects form 0 where its value is undefined, isn't
+/// below `nplurals`, or has no form in this translation.
+pub(crate) fn answered_form(
     nplurals: u64,
     program: &[Instruction],
-    count: u64,
+    translation: &[u8],
+    plural: Option<(&[u8], u64)>,
 ) -> (Range<usize>, u32)
     requires program { program.now ≡ program_of 0 (tree_of program.now) }
     requires limit { length program.now ≤ expression_limit }
-    ensures text { IsFormAt translation.now result.0.start result.0.end
-        (selected_form (forms translation.now) nplurals (value (tree_of program.now) count)) }
-    ensures steps { result.1 ≡ visited (tree_of program.now) count }
+    ensures text { (source : Source) → IsFormAt translation.now result.0.start result.0.end
+        (translated (forms translation.now)
+        (record { source = source; nplurals = nplurals; tree = tree_of program.now })
+        (given plural.entry)).text }
+    ensures inside { (result.0.start ≤ result.0.end) × (result.0.end ≤ length translation.now) }
+    ensures steps { (source : Source) → result.1
+        ≡ (translated (forms translation.now)
+        (record { source = source; nplurals = nplurals; tree = tree_of program.now })
+        (given plural.entry)).steps }
     ensures nodes { result.1 ≤ nodes (tree_of program.now) }
 {
+    let Some((_, count)) = plural else {
+        return (first_form(translation, 0), 0);
+    };
     let (value, steps) = evaluate(program, count);
     let selected = match value {
         Some(index) if index < nplurals => form(translation, index),

@@ -1,29 +1,27 @@
 //! Looking up a message, by the number of plural forms and the program of the plural rule.
 
-ghost use Rattle.std.specs.Prelude.{◌≡◌, ◌+◌, ◌^◌, ◌<◌, ◌≤◌, ℕ, List, None, Some, length, slice_get, false, true, MatchOption};
+ghost use Rattle.std.specs.Prelude.{◌≡◌, ◌+◌, ◌^◌, ◌<◌, ◌≤◌, None, length, slice_get, false, MatchOption};
 ghost use Rattle.mo_file.specs.Message.{translations};
 ghost use Rattle.std.specs.Option.{option_copied};
 ghost use Rattle.plural_rule.specs.declared.rule.Source.{Source};
 ghost use Rattle.plural_rule.specs.Expression.{nodes};
 ghost use Rattle.plural_rule.specs.PluralRule.{expression_limit};
 ghost use Rattle.plural_rule.specs.Program.{program as program_of, tree_of};
-ghost use Rattle.mo_file.specs.FileView.{IsStringAt};
 ghost use Rattle.mo_file.specs.Key.{keys, query_key};
 ghost use Rattle.mo_lookup.specs.Bound.{search_bound};
 ghost use Rattle.mo_lookup.specs.Comparisons.{comparisons, query_comparisons};
 ghost use Rattle.mo_lookup.specs.Query.{query, given, can_be_key};
-ghost use Rattle.mo_lookup.specs.CatalogView.{forms, answered, translation_under};
-ghost use Rattle.mo_lookup.specs.Answer.{answer_view, translated};
-ghost use Rattle.mo_lookup.specs.Place.{IsFormAt, IsPlace, is_translation, located_view, text_at};
+ghost use Rattle.mo_lookup.specs.CatalogView.{answered, translation_under};
+ghost use Rattle.mo_lookup.specs.Answer.{answer_view};
+ghost use Rattle.mo_lookup.specs.Place.{IsPlace, located_view};
 
 use crate::answer::Answer;
-use crate::forms::{first_form, selected_form};
+use crate::forms::answered_form;
 use crate::messages::Messages;
 use crate::place::{Located, Place};
 use crate::query::{can_be_key, untranslated_place, untranslated_text};
 use crate::search::find;
 use plural_rule::Instruction;
-use std::ops::Range;
 
 /// Looks up a message as [`Catalog::look`](crate::Catalog::look) does, with a rule of `nplurals`
 /// forms whose expression stands in `program`, as `Rule::program` gives it: at most 4,096 nodes.
@@ -52,18 +50,20 @@ where
         ≡ query_comparisons (M.file messages.old).messages (query context.entry id.now plural.entry) }
     ensures bound { result.comparisons ≤ search_bound (length (M.file messages.old).messages) }
     ensures no_key { can_be_key (option_copied context.entry) id.now ≡ false → result.comparisons ≡ 0 }
+    ensures at_most_32 { result.comparisons ≤ 32 }
     ensures nodes { result.steps ≤ nodes (tree_of program.now) }
     ensures same_counter { M.counter messages.new ≡ M.counter messages.old }
 {
     let start = messages.count();
-    let translation = if can_be_key(context, id) {
-        translation(messages, context, id)
+    let found = if can_be_key(context, id) {
+        index_of(messages, context, id)
     } else {
         None
     };
     let comparisons = (messages.count() - start) as u32;
-    let (text, steps) = match translation {
-        Some(translation) => {
+    let (text, steps) = match found {
+        Some(index) => {
+            let translation = messages.translation(index);
             let (form, steps) = answered_form(nplurals, program, translation, plural);
             (&translation[form], steps)
         }
@@ -71,7 +71,7 @@ where
     };
     Answer {
         text,
-        found: translation.is_some(),
+        found: found.is_some(),
         comparisons,
         steps,
     }
@@ -117,7 +117,10 @@ pub fn locate<'a, M: Messages<'a>>(
         Some(index) => {
             let translation = messages.translation(index);
             let range = messages.translation_range(index);
-            translated_place(nplurals, program, translation, range, plural)
+            let (form, steps) = answered_form(nplurals, program, translation, plural);
+            let start = range.start + form.start;
+            let end = range.start + form.end;
+            (Place::Translation { start, end }, steps)
         }
         None => (untranslated_place(plural), 0),
     };
@@ -126,29 +129,6 @@ pub fn locate<'a, M: Messages<'a>>(
         comparisons,
         steps,
     }
-}
-
-/// The translation under the key of a context and a msgid, or None where no message has that key.
-pub(crate) fn translation<'a, M: Messages<'a>>(
-    messages: &mut M,
-    context: Option<&[u8]>,
-    id: &[u8],
-) -> Option<&'a [u8]>
-    requires keys { M.listed messages.old ≡ keys (M.file messages.old).messages }
-    requires room { M.counted messages.old < 2 ^ 63 }
-    ensures found { option_copied result
-        ≡ translation_under (query_key (option_copied context.entry) id.now) (M.file messages.old).messages }
-    ensures comparisons { M.counted messages.new
-        ≡ M.counted messages.old
-        + comparisons (keys (M.file messages.old).messages) (query_key (option_copied context.entry) id.now) }
-    ensures never_falls { M.counted messages.old ≤ M.counted messages.new }
-    ensures bound { M.counted messages.new
-        ≤ M.counted messages.old + search_bound (length (M.file messages.old).messages) }
-    ensures at_most_32 { M.counted messages.new ≤ M.counted messages.old + 32 }
-    ensures same_counter { M.counter messages.new ≡ M.counter messages.old }
-{
-    let index = index_of(messages, context, id)?;
-    Some(messages.translation(index))
 }
 
 /// The index of the message with the key of a context and a msgid, or None where no message has that
@@ -174,65 +154,4 @@ fn index_of<'a, M: Messages<'a>>(messages: &mut M, context: Option<&[u8]>, id: &
     // Called for its clause that the keys rise.
     let _rising = messages.len();
     find(messages, context, id)
-}
-
-/// The place of the form that is the answer, for a translation that stands at `range` in the file.
-/// And how many nodes were evaluated for it.
-fn translated_place(
-    nplurals: u64,
-    program: &[Instruction],
-    translation: &[u8],
-    range: Range<usize>,
-    plural: Option<(&[u8], u64)>,
-) -> (Place, u32)
-    requires program { program.now ≡ program_of 0 (tree_of program.now) }
-    requires limit { length program.now ≤ expression_limit }
-    requires there { (bytes : List ℕ) × IsStringAt bytes range.start range.end translation.now }
-    ensures translation { is_translation result.0 ≡ true }
-    ensures place { (bytes : List ℕ) → IsStringAt bytes range.start range.end translation.now
-        → IsPlace bytes (given plural.entry) result.0 }
-    ensures text { (source : Source) (bytes id : List ℕ) → IsStringAt bytes range.start range.end translation.now
-        → text_at bytes id (given plural.entry) result.0
-        ≡ (translated (forms translation.now)
-        (record { source = source; nplurals = nplurals; tree = tree_of program.now })
-        (given plural.entry)).text }
-    ensures steps { (source : Source) → result.1
-        ≡ (translated (forms translation.now)
-        (record { source = source; nplurals = nplurals; tree = tree_of program.now })
-        (given plural.entry)).steps }
-    ensures nodes { result.1 ≤ nodes (tree_of program.now) }
-{
-    let (form, steps) = answered_form(nplurals, program, translation, plural);
-    let place = Place::Translation {
-        start: range.start + form.start,
-        end: range.start + form.end,
-    };
-    (place, steps)
-}
-
-/// Where the form that is the answer stands in a translation: form 0 where no plural is given, else
-/// the one that the rule selects. And how many nodes were evaluated for it.
-pub(crate) fn answered_form(
-    nplurals: u64,
-    program: &[Instruction],
-    translation: &[u8],
-    plural: Option<(&[u8], u64)>,
-) -> (Range<usize>, u32)
-    requires program { program.now ≡ program_of 0 (tree_of program.now) }
-    requires limit { length program.now ≤ expression_limit }
-    ensures text { (source : Source) → IsFormAt translation.now result.0.start result.0.end
-        (translated (forms translation.now)
-        (record { source = source; nplurals = nplurals; tree = tree_of program.now })
-        (given plural.entry)).text }
-    ensures inside { (result.0.start ≤ result.0.end) × (result.0.end ≤ length translation.now) }
-    ensures steps { (source : Source) → result.1
-        ≡ (translated (forms translation.now)
-        (record { source = source; nplurals = nplurals; tree = tree_of program.now })
-        (given plural.entry)).steps }
-    ensures nodes { result.1 ≤ nodes (tree_of program.now) }
-{
-    match plural {
-        Some((_, count)) => selected_form(translation, nplurals, program, count),
-        None => (first_form(translation, 0), 0),
-    }
 }

@@ -1,37 +1,35 @@
-use Rattle.std.proofs.Common.{sym, ◌∙◌}
+use Rattle.std.proofs.Common.{None, Some, sym, ◌∙◌, arith}
 use Rattle.mo_lookup.specs.Query.{query}
-use Rattle.mo_lookup.proofs.ChainLemmas.{Answers-nodes, Answers-answered, chain-found, chain-none, chain_answered-none}
+use Rattle.mo_lookup.proofs.ChainLemmas.{HaveNot-all, chain_answered-is, first-found, found-translates, nodes-answering, none-found}
 use Rattle.mo_lookup.proofs.chain.Chain.look.Goals as goal
+
+pub returns-then-answer-clause-answered : goal.returns-then-answer-clause-answered
+returns-then-answer-clause-answered c =
+    let asked = query c.args.context c.args.id.now c.args.plural in
+    let catalog = c.catalog-item.result in
+    let answers = c.look-answer.ensures.answered in
+    let holds = found-translates catalog asked _ answers ∙ c.if-answer.true in
+    let inside = rw c.self.view_is at c.loop-index-test.true in
+    let first = first-found c.args.self.now asked (sym c.can_be_key.ensures ∙ c.if-not-can_be_key.false)
+    c.loop-index.index _ _ catalog c.loop-index.invariant inside (rw c.self.view_is at c.catalog-item.is) holds in
+    (rw c.if-answer.true at answers) ∙ chain_answered-is c.args.self.now asked (Some catalog) first
+
+pub returns-then-answer-clause-nodes : goal.returns-then-answer-clause-nodes
+returns-then-answer-clause-nodes c =
+    let asked = query c.args.context c.args.id.now c.args.plural in
+    let catalog = c.catalog-item.result in
+    let holds = found-translates catalog asked _ c.look-answer.ensures.answered ∙ c.if-answer.true in
+    let inside = rw c.self.view_is at c.loop-index-test.true in
+    let first = first-found c.args.self.now asked (sym c.can_be_key.ensures ∙ c.if-not-can_be_key.false)
+    c.loop-index.index _ _ catalog c.loop-index.invariant inside (rw c.self.view_is at c.catalog-item.is) holds in
+    omega (arith, c.look-answer.ensures.nodes, nodes-answering c.args.self.now asked catalog first)
 
 pub returns-clause-answered : goal.returns-clause-answered
 returns-clause-answered c =
     let asked = query c.args.context c.args.id.now c.args.plural in
-    let can_be = sym c.can_be_key.ensures ∙ c.if-not-can_be_key.false in
-    rw (← c.self.view_is)
-    (
-    Answers-answered _ asked _ _ _ _ _
-    (chain-found _ asked _ _ _ can_be c.in-Some.ensures.found) c.answered_form-steps.ensures.text
-    c.answered_form-steps.ensures.steps
-    )
-
-pub returns-clause-asked : goal.returns-clause-asked
-returns-clause-asked c =
-    let asked = query c.args.context c.args.id.now c.args.plural in
-    let can_be = sym c.can_be_key.ensures ∙ c.if-not-can_be_key.false in
-    rw (← c.self.view_is) (chain-found _ asked _ _ _ can_be c.in-Some.ensures.found).count_is
-
-pub returns-clause-nodes : goal.returns-clause-nodes
-returns-clause-nodes c =
-    let asked = query c.args.context c.args.id.now c.args.plural in
-    let can_be = sym c.can_be_key.ensures ∙ c.if-not-can_be_key.false in
-    rw (← c.self.view_is)
-    (Answers-nodes _ asked _ _ _ _
-    (chain-found _ asked _ _ _ can_be c.in-Some.ensures.found) c.answered_form-steps.ensures.nodes)
-
-pub returns-in_default-clause-answered : goal.returns-in_default-clause-answered
-returns-in_default-clause-answered c =
-    let asked = query c.args.context c.args.id.now c.args.plural in
-    let can_be = sym c.can_be_key.ensures ∙ c.if-not-can_be_key.false in
-    rw (← c.self.view_is)
-    (chain_answered-none _ asked _
-    (chain-none _ asked can_be c.in_default.ensures.found).0 c.untranslated_text-in_default.ensures)
+    let end = rw c.self.view_is at c.loop-index-test.false in
+    let none = HaveNot-all asked c.args.self.now c.loop-index.index _ _ c.loop-index.invariant end
+    (rw c.self.view_is at c.loop-index.auto.index-end) in
+    rw c.untranslated_text.ensures
+    (chain_answered-is c.args.self.now asked None
+    (none-found c.args.self.now asked (sym c.can_be_key.ensures ∙ c.if-not-can_be_key.false) none))
