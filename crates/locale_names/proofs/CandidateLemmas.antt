@@ -8,19 +8,6 @@ use Rattle.locale_names.specs.declared.name.Candidate.{Candidate}
 use Rattle.locale_names.specs.declared.position.Position.{Position}
 use Rattle.locale_names.specs.Candidate.{names_from, names_left, text_of}
 use Rattle.locale_names.specs.Names.{before, candidates, candidates_of_name, from_first, is_path_part, is_untranslated, language_parts, languages}
-use Rattle.locale_names.proofs.PartLemmas.{parts-none}
-
--- of a name whose five are given nothing is left
-pub all-given : (name : List ℕ) (later : List (List ℕ)) → drop 5 (candidates_of_name name) ++ later ≡ later
-unfolding candidates_of_name
-all-given name later = refl
-
--- of a name of which none is given all five are left
-pub none-given : (name : List ℕ)
-    → drop 0 (candidates_of_name name) ++ flat_map candidates_of_name (language_parts [])
-    ≡ flat_map candidates_of_name (name ∷ [])
-unfolding candidates_of_name
-none-given name = ap (λ parts. candidates_of_name name ++ flat_map candidates_of_name parts) parts-none
 
 next-of : (names : List (List ℕ)) (n : ℕ) (text : List ℕ) → slice_get names n ≡ Some text
     → drop n names ≡ text ∷ drop (n + 1) names
@@ -52,46 +39,6 @@ unfolding candidates_of_name
 third-name name modifier unmodified base language n m u b l i =
     let joined : before 95 (before 46 (before 64 name)) ++ from_first 64 name ≡ language ++ modifier = cc in
     ap (slice_get (candidates_of_name name)) i ∙ ap Some joined
-
--- a locale that has no candidates
-pub barred : (locale language : List ℕ) → (is_untranslated locale ≡ true) ⊎ (is_path_part locale ≡ false)
-    → flat_map candidates_of_name (language_parts []) ≡ candidates locale language
-barred locale language is =
-    ap (flat_map candidates_of_name) parts-none
-    ∙ sym (cond-true (is_untranslated locale || not (is_path_part locale)) []
-    (flat_map candidates_of_name (languages locale language))
-    (elim is [ inl e ↦ or_left _ _ e | inr e ↦ or_right _ _ (ap not e) ]))
-
--- a locale that has, and LANGUAGE
-pub not-barred : (locale language : List ℕ) → is_untranslated locale ≡ false → is_path_part locale ≡ true
-    → flat_map candidates_of_name (languages locale language) ≡ candidates locale language
-not-barred locale language fine plain =
-    sym (cond-false (is_untranslated locale || not (is_path_part locale)) []
-    (flat_map candidates_of_name (languages locale language)) (or_from _ _ fine (ap not plain)))
-
-pub of-locale : (locale language : List ℕ) → is_untranslated locale ≡ false → is_path_part locale ≡ true
-    → (length language == 0) ≡ true
-    → drop 0 (candidates_of_name locale) ++ flat_map candidates_of_name (language_parts []) ≡ candidates locale language
-of-locale locale language fine plain unset =
-    none-given locale
-    ∙ ap (flat_map candidates_of_name)
-    (sym (cond-true (length language == 0) (locale ∷ []) (language_parts language) unset))
-    ∙ not-barred locale language fine plain
-
--- the names left where a name's five are given, and the next language is taken
-pub next-taken : (old languages name after : List ℕ) (n : ℕ) → n ≡ 5
-    → language_parts languages ≡ name ∷ language_parts after
-    → drop n (candidates_of_name old) ++ flat_map candidates_of_name (language_parts languages)
-    ≡ drop 0 (candidates_of_name name) ++ flat_map candidates_of_name (language_parts after)
-next-taken old languages name after n five parts =
-    ap (λ (k : ℕ). drop k (candidates_of_name old) ++ flat_map candidates_of_name (language_parts languages)) five
-    ∙ all-given old (flat_map candidates_of_name (language_parts languages)) ∙ ap (flat_map candidates_of_name) parts
-
-pub none-left : (old languages : List ℕ) (n : ℕ) → n ≡ 5 → language_parts languages ≡ []
-    → drop n (candidates_of_name old) ++ flat_map candidates_of_name (language_parts languages) ≡ []
-none-left old languages n five parts =
-    ap (λ (k : ℕ). drop k (candidates_of_name old) ++ flat_map candidates_of_name (language_parts languages)) five
-    ∙ all-given old (flat_map candidates_of_name (language_parts languages)) ∙ ap (flat_map candidates_of_name) parts
 
 -- the names left of languages
 pub past-five : (name : List ℕ) (n : ℕ) (later : List (List ℕ)) → 5 ≤ n
@@ -135,13 +82,6 @@ pub matched-left : (names left : Position → List (List ℕ)) → ((p : Positio
     → MatchOption next (names at ≡ []) (λ n. names at ≡ text_of n.0 ∷ names n.1)
 matched-left names left same at None none = same at ∙ none
 matched-left names left same at (Some n) is = same at ∙ is ∙ ap (λ later. text_of n.0 ∷ later) (sym (same n.1))
-
-pub matched-first : (now first : List (List ℕ)) (after : Candidate × Position → List (List ℕ)) → now ≡ first
-    → (next : Option (Candidate × Position))
-    → MatchOption next (first ≡ []) (λ n. first ≡ text_of n.0 ∷ after n)
-    → MatchOption next (now ≡ []) (λ n. now ≡ text_of n.0 ∷ after n)
-matched-first now first after same None none = same ∙ none
-matched-first now first after same (Some n) is = same ∙ is
 
 -- the names from a position on
 pub barred-from : (locale language : List ℕ) (at : Position)

@@ -1,8 +1,8 @@
 -- Lemmas on the parts of LANGUAGE.
-use Rattle.std.proofs.Common.{◌≡◌, ℕ, ◌+◌, ◌<◌, Bool, true, false, not, cond, eqb, ◌==◌, inl, inr, List, [], ◌∷◌, length, take, drop, filter, refl, sym, ap, ◌∙◌, arith}
+use Rattle.std.proofs.Common.{◌≡◌, ℕ, ◌+◌, ◌<◌, Bool, true, false, not, cond, eqb, inl, inr, List, [], ◌∷◌, length, take, drop, filter, refl, sym, ap, ◌∙◌, arith}
 use Rattle.std.specs.Prelude.{take_while}
 use Rattle.std.specs.List.{slice_split, position_or_len, onto_first}
-use Rattle.std.proofs.lemmas.Bool.{cases_Bool, eqb-true}
+use Rattle.std.proofs.lemmas.Bool.{cases_Bool}
 use Rattle.std.proofs.lemmas.List.{drop_all}
 use Rattle.std.proofs.lemmas.List.Splits.{slice_split_first, slice_split-cons_no}
 use Rattle.std.proofs.lemmas.List.Sums.{take_while-cons}
@@ -69,7 +69,3 @@ parts-last bs n index end =
 pub parts-none : language_parts [] ≡ []
 unfolding language_parts is_untranslated
 parts-none = refl
-
-pub parts-empty : (text : List ℕ) → (length text == 0) ≡ true → language_parts text ≡ []
-parts-empty [] e = parts-none
-parts-empty (x ∷ xs) e = absurd (omega (arith, eqb-true (length (x ∷ xs)) 0 e))

@@ -1,8 +1,7 @@
-//! The candidates by their positions, for callers that keep numbers alone.
+//! The names of the locales whose catalogues are looked for, in order, by their positions.
 
-ghost use Rattle.std.specs.Prelude.{◌≡◌, ◌≤◌, [], ◌∷◌, drop, length, MatchOption};
-ghost use Rattle.std.specs.List.{flat_map};
-ghost use Rattle.locale_names.specs.Names.{candidates, candidates_of_name, language_parts};
+ghost use Rattle.std.specs.Prelude.{◌≡◌, [], ◌∷◌, drop, MatchOption};
+ghost use Rattle.locale_names.specs.Names.{candidates, language_parts};
 ghost use Rattle.locale_names.specs.Candidate.{names_from, names_left, text_of};
 
 use crate::language::next_language;
@@ -18,19 +17,6 @@ pub struct Position {
     pub given: u32,
 }
 
-/// The first candidate of LANGUAGE from an offset on, and the position after it.
-fn first_from(language: &[u8], offset: usize) -> Option<(Candidate<'_>, Position)>
-    requires { offset ≤ length language.now }
-    ensures { MatchOption result (flat_map candidates_of_name (language_parts (drop offset language.now)) ≡ [])
-        (λ next. flat_map candidates_of_name (language_parts (drop offset language.now))
-        ≡ text_of next.0 ∷ names_left next.1.given (language_parts (drop next.1.offset language.now))) }
-{
-    let Some((name, _)) = next_language(&language[offset..]) else {
-        return None;
-    };
-    Some((candidate_of_name(name, 0), Position { offset, given: 1 }))
-}
-
 /// The candidate of LANGUAGE at a position, where there is one, and the position after it.
 fn of_language(language: &[u8], position: Position) -> Option<(Candidate<'_>, Position)>
     ensures { MatchOption result (names_left position.given (language_parts (drop position.offset language.now)) ≡ [])
@@ -43,34 +29,23 @@ fn of_language(language: &[u8], position: Position) -> Option<(Candidate<'_>, Po
     let Some((name, len)) = next_language(&language[position.offset..]) else {
         return None;
     };
-    if position.given >= 5 {
-        return first_from(language, position.offset + len);
+    if position.given < 5 {
+        let next = Position {
+            offset: position.offset,
+            given: position.given + 1,
+        };
+        return Some((candidate_of_name(name, position.given), next));
     }
-    let next = Position {
-        offset: position.offset,
-        given: position.given + 1,
-    };
-    Some((candidate_of_name(name, position.given), next))
-}
-
-/// The candidate of a locale at a position, where there is one, and the position after it.
-fn of_locale(locale: &[u8], position: Position) -> Option<(Candidate<'_>, Position)>
-    ensures { MatchOption result (names_left position.given (locale.now ∷ []) ≡ [])
-        (λ next. names_left position.given (locale.now ∷ [])
-        ≡ text_of next.0 ∷ names_left next.1.given (locale.now ∷ [])) }
-{
-    if position.given >= 5 {
+    let offset = position.offset + len;
+    let Some((name, _)) = next_language(&language[offset..]) else {
         return None;
-    }
-    let next = Position {
-        offset: position.offset,
-        given: position.given + 1,
     };
-    Some((candidate_of_name(locale, position.given), next))
+    Some((candidate_of_name(name, 0), Position { offset, given: 1 }))
 }
 
-/// The candidate at a position, where there is one, and the position after it: the candidates of
-/// [`Candidates::new`](crate::Candidates::new), one after the other.
+/// The candidate at a position, where there is one, and the position after it. The candidates are
+/// those of LANGUAGE, or where it is empty those of the locale. There are none without a locale, in
+/// `C` and `POSIX`, and in a locale whose name has a slash. Names may come more than once.
 pub fn candidate_at<'a>(
     locale: &'a [u8],
     language: &'a [u8],
@@ -85,8 +60,15 @@ pub fn candidate_at<'a>(
     if is_untranslated(locale) || !is_path_part(locale) {
         return None;
     }
-    if language.is_empty() {
-        return of_locale(locale, position);
+    if !language.is_empty() {
+        return of_language(language, position);
     }
-    of_language(language, position)
+    if position.given >= 5 {
+        return None;
+    }
+    let next = Position {
+        offset: position.offset,
+        given: position.given + 1,
+    };
+    Some((candidate_of_name(locale, position.given), next))
 }

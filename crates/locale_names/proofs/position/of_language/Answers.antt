@@ -1,7 +1,8 @@
 use Rattle.std.proofs.Common.{ap, ◌∙◌, arith}
+use Rattle.std.specs.List.{flat_map}
 use Rattle.std.proofs.lemmas.List.{drop_all, take_rest}
-use Rattle.locale_names.specs.Names.{language_parts}
-use Rattle.locale_names.proofs.CandidateLemmas.{language-passed, matched-first, next-given, no-language-left}
+use Rattle.locale_names.specs.Names.{candidates_of_name, language_parts}
+use Rattle.locale_names.proofs.CandidateLemmas.{first-given, language-passed, next-given, no-language-left}
 use Rattle.locale_names.proofs.PartLemmas.{parts-none}
 use Rattle.locale_names.proofs.position.of_language.Goals as goal
 
@@ -13,11 +14,19 @@ returns-then-position-language c =
 pub returns-in_default : goal.returns-in_default
 returns-in_default c = no-language-left _ _ (simp take_rest at c.in_default.ensures.parts)
 
-pub returns-then-position-ge5 : goal.returns-then-position-ge5
-returns-then-position-ge5 c =
-    matched-first _ _ _ (language-passed c.args.language.now _ c.args.position.offset c.in-Some.len
-    c.args.position.given (simp take_rest at c.in-Some.ensures.parts) (omega arith)) c.first_from.result
-    c.first_from.ensures
+pub returns-then-position-lt5 : goal.returns-then-position-lt5
+returns-then-position-lt5 c =
+    next-given _ _ _ _ _ (simp take_rest at c.in-Some.ensures.parts) c.candidate_of_name.ensures
+
+pub returns-in_default-next_language : goal.returns-in_default-next_language
+returns-in_default-next_language c =
+    language-passed c.args.language.now _ c.args.position.offset c.in-Some.len c.args.position.given
+    (simp take_rest at c.in-Some.ensures.parts) (omega arith)
+    ∙ ap (flat_map candidates_of_name) (simp take_rest at c.in_default-next_language.ensures.parts)
 
 pub returns : goal.returns
-returns c = next-given _ _ _ _ _ (simp take_rest at c.in-Some.ensures.parts) c.candidate_of_name.ensures
+returns c =
+    language-passed c.args.language.now _ c.args.position.offset c.in-Some.len c.args.position.given
+    (simp take_rest at c.in-Some.ensures.parts) (omega arith)
+    ∙ first-given _ _ _ _ (simp take_rest at c.in-Some-next_language.ensures.parts)
+    c.candidate_of_name-2.ensures
