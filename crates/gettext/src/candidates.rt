@@ -5,7 +5,7 @@ ghost use Rattle.std.specs.Option.{option_map};
 ghost use Rattle.locale_names.specs.Candidate.{text_of};
 ghost use Rattle.gettext.specs.Locales as spec;
 
-use locale_names::{Candidate, Candidates};
+use locale_names::{Candidate, Position, candidate_at};
 use runs::ToolFault;
 use std::alloc::{AllocError, Global};
 use std::collections::BTreeSet;
@@ -38,23 +38,18 @@ pub fn locale_candidates(
         ≡ spec.candidates_of environment.now) }
     ensures memory { OnErr result (result ≡ Err ToolFault.OutOfMemory) }
 {
-    Ok(candidate_names(alloc, environment)?)
-}
-
-/// The names of the candidates, each once, or the error of a failed allocation.
-pub(crate) fn candidate_names(
-    alloc: Global,
-    environment: &Environment<'_>,
-) -> Result<Vec<Vec<u8>>, AllocError>
-    ensures { IfOk result (λ v. map (λ name. name.items) v.items ≡ spec.candidates_of environment.now) }
-{
+    let locale = locale_of(environment);
     let language = non_empty(environment.language).unwrap_or(b"");
-    let mut candidates = Candidates::new(locale_of(environment), language);
     let mut names = Vec::new(alloc);
-    while let Some(candidate) = candidates.next() {
+    let mut position = Position {
+        offset: 0,
+        given: 0,
+    };
+    while let Some((candidate, next)) = candidate_at(locale, language, position) {
         add_name(alloc, &mut names, candidate)?;
+        position = next;
     }
-    distinct(alloc, &names)
+    Ok(distinct(alloc, &names)?)
 }
 
 /// The names without repeats, each where it stands first. The names seen are kept in a tree, so

@@ -110,23 +110,17 @@ fn letter_escape(letter: u8) -> Option<Escape>
     ensures escape { result ≡ spec.letter_escape letter }
     ensures size { IfSome result (λ escape. escape.size ≡ 1) }
 {
-    match letter {
-        b'a' => of_letter(Some(7)),
-        b'b' => of_letter(Some(8)),
-        b'f' => of_letter(Some(12)),
-        b'n' => of_letter(Some(10)),
-        b'r' => of_letter(Some(13)),
-        b't' => of_letter(Some(9)),
-        b'v' => of_letter(Some(11)),
-        b'\\' => of_letter(Some(92)),
-        b'c' => of_letter(None),
-        _ => None,
-    }
-}
-
-/// An escape of one letter that gives this byte, or none.
-fn of_letter(byte: Option<u8>) -> Option<Escape>
-    ensures { result ≡ spec.letter byte }
-{
+    let byte = match letter {
+        b'a' => Some(7),
+        b'b' => Some(8),
+        b'f' => Some(12),
+        b'n' => Some(10),
+        b'r' => Some(13),
+        b't' => Some(9),
+        b'v' => Some(11),
+        b'\\' => Some(92),
+        b'c' => None,
+        _ => return None,
+    };
     Some(Escape { byte, size: 1 })
 }

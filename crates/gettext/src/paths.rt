@@ -5,10 +5,10 @@ ghost use Rattle.std.specs.Option.{option_copied};
 ghost use Rattle.gettext.specs.Locales.{candidates_of};
 ghost use Rattle.gettext.specs.Paths.{folder_of, path_of, paths_of};
 
-use crate::candidates::{Environment, candidate_names, non_empty};
+use crate::candidates::{Environment, locale_candidates, non_empty};
 use locale_names::is_path_part;
 use runs::ToolFault;
-use std::alloc::{AllocError, Global};
+use std::alloc::Global;
 
 /// The folder that the catalogues lie below where TEXTDOMAINDIR is unset or empty.
 pub const DEFAULT_FOLDER: &[u8] = b"/usr/share/locale";
@@ -28,7 +28,7 @@ pub fn catalogue_paths(
     ensures memory { OnErr result (result ≡ Err ToolFault.OutOfMemory) }
 {
     match argument.or(option).or(environment.textdomain) {
-        Some(domain) if is_path_part(domain) => Ok(domain_paths(alloc, domain, environment)?),
+        Some(domain) if is_path_part(domain) => domain_paths(alloc, domain, environment),
         _ => Ok(Vec::new(alloc)),
     }
 }
@@ -44,19 +44,7 @@ pub fn catalogue_path(
     ensures path { IfOk result (λ path. path.items ≡ path_of dir.now locale.now domain.now) }
     ensures memory { OnErr result (result ≡ Err ToolFault.OutOfMemory) }
 {
-    Ok(path_of(alloc, dir, locale, domain)?)
-}
-
-/// The path of a catalogue, or the error of a failed allocation.
-fn path_of(
-    alloc: Global,
-    folder: &[u8],
-    locale: &[u8],
-    domain: &[u8],
-) -> Result<Vec<u8>, AllocError>
-    ensures { IfOk result (λ path. path.items ≡ path_of folder.now locale.now domain.now) }
-{
-    let mut path = Vec::from_slice(alloc, folder)?;
+    let mut path = Vec::from_slice(alloc, dir)?;
     path.extend_from_slice(b"/")?;
     path.extend_from_slice(locale)?;
     path.extend_from_slice(b"/LC_MESSAGES/")?;
@@ -70,16 +58,17 @@ fn domain_paths(
     alloc: Global,
     domain: &[u8],
     environment: &Environment<'_>,
-) -> Result<Vec<Vec<u8>>, AllocError>
-    ensures { IfOk result (λ paths. map (λ path. path.items) paths.items
+) -> Result<Vec<Vec<u8>>, ToolFault>
+    ensures paths { IfOk result (λ paths. map (λ path. path.items) paths.items
         ≡ map (λ locale. path_of (folder_of environment.now) locale domain.now)
         (candidates_of environment.now)) }
+    ensures memory { OnErr result (result ≡ Err ToolFault.OutOfMemory) }
 {
     let folder = folder_of(environment);
-    let locales = candidate_names(alloc, environment)?;
+    let locales = locale_candidates(alloc, environment)?;
     let mut paths = Vec::new(alloc);
     for locale in &locales {
-        paths.push(path_of(alloc, folder, locale, domain)?)?;
+        paths.push(catalogue_path(alloc, folder, locale, domain)?)?;
     }
     Ok(paths)
 }

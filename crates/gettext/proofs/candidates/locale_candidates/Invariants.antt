@@ -1,13 +1,14 @@
 use Rattle.std.proofs.Common.{◌≡◌, ◌++◌, [], map, length, unwrap_or}
+use Rattle.locale_names.specs.Candidate.{names_from}
 use Rattle.locale_names.specs.Names.{candidates}
 use Rattle.gettext.specs.Locales.{locale_of, non_empty}
-use Rattle.gettext.proofs.candidates.candidate_names.Given as goal
+use Rattle.gettext.proofs.candidates.locale_candidates.Given as goal
 
 -- the names so far, and those that are still to be given
 abbrev pub invariant-loop-candidate : goal.invariant-loop-candidate
 invariant-loop-candidate l =
-    map (λ name. name.items) l.names.items ++ l.candidates
+    map (λ name. name.items) l.names.items ++ names_from l.locale l.language l.position
     ≡ candidates (locale_of l.environment) (unwrap_or (non_empty l.environment.language) [])
 
 abbrev pub decreases-loop-candidate : goal.decreases-loop-candidate
-decreases-loop-candidate l = length l.candidates
+decreases-loop-candidate l = length (names_from l.locale l.language l.position)

@@ -1,0 +1,9 @@
+use Rattle.std.proofs.Common.{refl, rules}
+use Rattle.locale_names.proofs.CandidateLemmas.{from-start}
+use Rattle.gettext.proofs.candidates.locale_candidates.Goals as goal
+
+pub loop-candidate-init : goal.loop-candidate-init
+loop-candidate-init c =
+    let start = from-start c.locale_of-locale.result.now c.unwrap_or-language.result.now
+    (record { offset = 0; given = 0 }) refl refl in
+    search rules
