@@ -1,8 +1,8 @@
 -- Variables and names that are sorted: the same values, found by binary search.
-use Rattle.std.proofs.Common.{◌≡◌, ◌∙◌, refl, sym, ap, ap₂, inl, inr, ℕ, zero, suc, ◌+◌, ◌<◌, ◌≤◌, Bool, true, false, not, ◌&&◌, cond, List, [], ◌∷◌, length, drop, map, filter, get_or, Option, Some, None, IsPermutation, arith}
+use Rattle.std.proofs.Common.{◌≡◌, ◌∙◌, refl, sym, ap, ap₂, inl, inr, ℕ, zero, suc, ◌+◌, ◌<◌, ◌≤◌, Bool, true, false, not, ◌&&◌, cond, List, [], ◌∷◌, length, drop, map, filter, get_or, Option, Some, None, IsPermutation, subst, arith}
 use Rattle.std.proofs.Math.Path.{fun_ext}
 use Rattle.std.specs.Borrow.{Bor}
-use Rattle.std.specs.List.{list_any}
+use Rattle.std.specs.List.{IsAllAdjacentAnswer, list_any}
 use Rattle.std.specs.List.Sorted.{IsStableBy, IsPartitionedBy, IsPartitionPoint, IsBinarySearchResult, IsSearchInRange, ties}
 use Rattle.std.specs.Ordering.{is_lt, is_eq, is_ge, ordering_index, ordering_reverse}
 use Rattle.std.specs.Result.{is_ok}
@@ -29,7 +29,7 @@ abbrev pub Variable : Type 0
 Variable = Name × Name
 
 -- how neighbours stand, by the test that a check of the order makes
-pub ge-not_lt : (o : Ordering) → true ≡ is_ge o → is_lt o ≡ false
+ge-not_lt : (o : Ordering) → true ≡ is_ge o → is_lt o ≡ false
 ge-not_lt Less e = cc
 ge-not_lt Equal e = refl
 ge-not_lt Greater e = refl
@@ -194,3 +194,17 @@ pub same-replacements : (vars sorted : List (List ℕ × List ℕ)) (only names 
 unfolding values_of
 same-replacements vars sorted only names values replaced =
     fun_ext (λ name. ap₂ (λ b v. cond b (Some v) None) (replaced name) (values name))
+
+-- what is answered of each two neighbours says that they are sorted
+pub names-sorted : (names : List Name) (r : Bool) →
+    IsAllAdjacentAnswer (λ a b answer. answer ≡ is_ge (name_cmp b.now a.now)) names r → r ≡ true → AreNamesSorted names
+names-sorted names r answers is =
+    let all = subst (IsAllAdjacentAnswer (λ a b answer. answer ≡ is_ge (name_cmp b.now a.now)) names) is answers in
+    λ k d low inside. ge-not_lt _ (all k d inside)
+
+pub variables-sorted : (vars : List Variable) (r : Bool) →
+    IsAllAdjacentAnswer (λ a b answer. answer ≡ is_ge (name_cmp b.0.now a.0.now)) vars r → r ≡ true →
+    AreVariablesSorted vars
+variables-sorted vars r answers is =
+    let all = subst (IsAllAdjacentAnswer (λ a b answer. answer ≡ is_ge (name_cmp b.0.now a.0.now)) vars) is answers in
+    λ k d low inside. ge-not_lt _ (all k d inside)

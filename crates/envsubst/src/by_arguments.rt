@@ -1,9 +1,7 @@
 //! envsubst by its arguments.
 ghost use Rattle.std.specs.Prelude.{◌≡◌, ◌+◌, ◌^◌, ◌<◌, ◌≤◌, IfOk, map};
-ghost use Rattle.std.specs.Option.{option_copied};
 ghost use Rattle.envsubst.specs.ByArguments.{RunsEnvsubst, WritesNames};
 ghost use Rattle.envsubst.specs.Failures.{ReadsFail, write_failures};
-ghost use Rattle.envsubst.specs.Usage.{replaced};
 ghost use Rattle.envsubst.specs.UsageView.{envsubst_arguments};
 
 use crate::arguments::EnvsubstArguments;
@@ -45,10 +43,18 @@ pub fn envsubst<S: EntrySource, R: ByteIn, W: ByteOut>(
     ensures write_failures { W.failures writer.new ≡ W.failures writer.old + write_failures result }
     ensures calls { R.calls reader.new ≤ R.calls reader.old + 2 ^ 32 }
 {
-    match given {
-        EnvsubstArguments::Names(format) => write_names(alloc, writer, format),
-        EnvsubstArguments::Replaced(format) => substitute(alloc, source, reader, writer, format),
-    }
+    let format = match given {
+        EnvsubstArguments::Names(format) => return write_names(alloc, writer, format),
+        EnvsubstArguments::Replaced(format) => format,
+    };
+    let entries = source.read_entries(alloc)?;
+    let variables = variables_in(alloc, entries.as_slice())?;
+    let Some(format) = format else {
+        return run_envsubst_in_blocks(alloc, reader, writer, variables.as_slice(), None);
+    };
+    let only = names(alloc, format.as_bytes())?;
+    let only = Some(only.as_slice());
+    run_envsubst_in_blocks(alloc, reader, writer, variables.as_slice(), only)
 }
 
 /// Writes the names of the variables in a SHELL-FORMAT.
@@ -58,32 +64,4 @@ fn write_names<W: ByteOut>(alloc: Global, writer: &mut W, format: &str) -> Resul
     ensures failures { W.failures writer.new ≡ W.failures writer.old + write_failures result }
 {
     put_all(writer, &name_lines(alloc, format.as_bytes())?)
-}
-
-/// Writes the input with its references to variables replaced.
-fn substitute<S: EntrySource, R: ByteIn, W: ByteOut>(
-    alloc: Global,
-    source: &S,
-    reader: &mut R,
-    writer: &mut W,
-    format: Option<&str>,
-) -> Result<(), ToolFault>
-    requires calls { R.calls reader.old < 2 ^ 63 }
-    requires read_failures { R.failures reader.old < 2 ^ 63 }
-    requires write_failures { W.failures writer.old < 2 ^ 63 }
-    ensures output { RunsEnvsubst (S.entries source.now) (R.remaining reader.old) (R.remaining reader.new)
-        (W.contents writer.old) (W.contents writer.new) (replaced (option_copied format.entry)) result }
-    ensures read_failures { ReadsFail result (R.calls reader.old) (R.calls reader.new)
-        (R.failures reader.old) (R.failures reader.new) }
-    ensures write_failures { W.failures writer.new ≡ W.failures writer.old + write_failures result }
-    ensures calls { R.calls reader.new ≤ R.calls reader.old + 2 ^ 32 }
-{
-    let entries = source.read_entries(alloc)?;
-    let variables = variables_in(alloc, entries.as_slice())?;
-    let Some(format) = format else {
-        return run_envsubst_in_blocks(alloc, reader, writer, variables.as_slice(), None);
-    };
-    let only = names(alloc, format.as_bytes())?;
-    let only = Some(only.as_slice());
-    run_envsubst_in_blocks(alloc, reader, writer, variables.as_slice(), only)
 }

@@ -5,7 +5,7 @@ ghost use Rattle.std.specs.Option.{option_map};
 ghost use Rattle.envsubst.specs.Internal.Sorted.{values_of_replacements};
 ghost use Rattle.envsubst.specs.Substitution.{is_replaced, names_given, pairs_in, value_of};
 
-use crate::sorted::{are_names_sorted, are_variables_sorted, is_in_sorted, sorted_value};
+use crate::sorted::sorted_value;
 use std::marker::Model;
 
 /// Variables, and the names to be replaced if they are given. What is sorted by name is searched by
@@ -40,13 +40,13 @@ impl<'a> Replacements<'a> {
         ensures only { result.only ≡ names_given only.entry }
     {
         let are_names_sorted = match only {
-            Some(names) => are_names_sorted(names),
+            Some(names) => names.is_sorted_by(|a, b| b.cmp(a).is_ge()),
             None => false,
         };
         Replacements {
             vars,
             only,
-            are_variables_sorted: are_variables_sorted(vars),
+            are_variables_sorted: vars.is_sorted_by(|a, b| b.0.cmp(a.0).is_ge()),
             are_names_sorted,
         }
     }
@@ -71,7 +71,7 @@ impl<'a> Replacements<'a> {
     {
         match self.only {
             None => true,
-            Some(names) if self.are_names_sorted => is_in_sorted(names, name),
+            Some(names) if self.are_names_sorted => names.binary_search(&name).is_ok(),
             Some(names) => names.contains(&name),
         }
     }

@@ -7,20 +7,6 @@ ghost use Rattle.envsubst.specs.Substitution.{is_replaced, pairs_in, value_of};
 
 use std::alloc::{AllocError, Global};
 
-/// Whether no variable's name is below that of the one before it.
-pub(crate) fn are_variables_sorted(vars: &[(&[u8], &[u8])]) -> bool
-    ensures { result ≡ true → AreVariablesSorted vars.now }
-{
-    vars.is_sorted_by(|a, b| b.0.cmp(a.0).is_ge())
-}
-
-/// Whether no name is below the one before it.
-pub(crate) fn are_names_sorted(names: &[&[u8]]) -> bool
-    ensures { result ≡ true → AreNamesSorted names.now }
-{
-    names.is_sorted_by(|a, b| b.cmp(a).is_ge())
-}
-
 /// The variables in the order of their names. Those of one name stay in their order, so that the
 /// first still counts.
 pub(crate) fn sorted_variables<'a>(
@@ -61,12 +47,4 @@ pub(crate) fn sorted_value<'a>(vars: &[(&'a [u8], &'a [u8])], name: &[u8]) -> &'
         Some((known, value)) => { if *known == name { value } else { &[] } }
         None => &[],
     }
-}
-
-/// Whether a name is among the names, found by binary search.
-pub(crate) fn is_in_sorted(names: &[&[u8]], name: &[u8]) -> bool
-    requires { AreNamesSorted names.now }
-    ensures { result ≡ list_any (λ n. bytes_eq n.now name.now) names.now }
-{
-    names.binary_search(&name).is_ok()
 }

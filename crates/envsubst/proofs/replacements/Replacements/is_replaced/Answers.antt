@@ -1,6 +1,8 @@
-use Rattle.std.proofs.Common.{sym, ap, ◌∙◌}
+use Rattle.std.proofs.Common.{IfSome, subst, sym, ap, ◌∙◌}
 use Rattle.std.specs.Str.{bytes_eq}
+use Rattle.envsubst.specs.Internal.Sorted.{AreNamesSorted}
 use Rattle.envsubst.specs.Substitution.{is_replaced, names_given}
+use Rattle.envsubst.proofs.SortedLemmas.{searched-name}
 use Rattle.envsubst.proofs.VariableLemmas.{list_any-map}
 use Rattle.envsubst.proofs.replacements.Replacements.is_replaced.Goals as goal
 
@@ -10,7 +12,10 @@ returns-in-Some c =
     let name = c.args.name.now in
     rw (← c.self.view_is)
     (
-    c.is_in_sorted.ensures
+    c.is_ok.ensures.value
+    ∙ searched-name c.in-Some.names.now name _
+    (subst (λ only. IfSome only (λ names. AreNamesSorted names.now)) c.in-Some.is (c.self.invariant.1 c.if-self.true))
+    c.binary_search.ensures.bound c.binary_search.ensures.position
     ∙ sym (list_any-map (λ n. n.now) (λ n. bytes_eq n name) c.in-Some.names.now)
     ∙ sym (ap (λ only. is_replaced (names_given only) name) c.in-Some.is)
     )

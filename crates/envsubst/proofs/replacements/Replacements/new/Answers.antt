@@ -1,0 +1,23 @@
+use Rattle.std.proofs.Common.{IfSome, subst, sym, ◌∙◌, rules}
+use Rattle.std.specs.Ordering.{is_ge}
+use Rattle.std.proofs.lemmas.List.Sorted.{answers_always}
+use Rattle.envsubst.specs.Internal.Sorted.{AreNamesSorted, name_cmp}
+use Rattle.envsubst.proofs.SortedLemmas.{names-sorted, variables-sorted}
+use Rattle.envsubst.proofs.replacements.Replacements.new.Goals as goal
+use Rattle.envsubst.proofs.replacements.Replacements.new.Goals.{in-Some, in-None}
+
+pub invariant_of-result : goal.invariant_of-result
+invariant_of-result c = (
+  variables-sorted c.args.vars.now _
+      (c.is_sorted_by.ensures.cases (λ a b. is_ge (name_cmp b.0.now a.0.now))
+      (answers_always _ _ _ (λ f a r g h. search rules))),
+  elim c.match-only.branch [
+    | in-Some w ↦ λ is.
+        subst (λ only. IfSome only (λ names. AreNamesSorted names.now)) (sym w.in-Some.is)
+        (names-sorted w.in-Some.names.now _
+        (w.is_sorted_by-are_names_sorted.ensures.cases (λ a b. is_ge (name_cmp b.now a.now))
+        (answers_always _ _ _ (λ f a r g h. search rules)))
+        (sym w.are_names_sorted-is ∙ is))
+    | in-None w ↦ λ is. absurd (cc (w.are_names_sorted-is, is))
+  ],
+)
