@@ -13,7 +13,7 @@ use Rattle.clap.specs.declared.builder.command.Command.{Command}
 use Rattle.clap.specs.declared.builder.command.Command.TheViews.{out-Command}
 use Rattle.command_line.specs.Arguments.{Argument, IsRuleOf, arguments_of}
 use Rattle.command_line.specs.Offering.{AddsArguments, IsToolCommand, IsToolShape, OffersTools, offered, offered_tools, top_of}
-use Rattle.runs.specs.Tools.{every_tool, tool_name}
+use Rattle.runs.specs.Tools.{tool_name}
 use Rattle.runs.specs.declared.tool.Tool.{Tool}
 
 -- one pair more
@@ -90,17 +90,12 @@ one_tool_more tools tool old sub new so_far command adds = record {
   global = adds.globals ∙ ap (λ b. (out-Command old).has_globals || b) command.global ∙ or-false _ ∙ so_far.global;
 }
 
-pub next_tool : (i : ℕ) (other : Tool) (old sub new : Command) → i < length every_tool
-    → OffersTools (take i every_tool) old
-    → IsToolCommand (get_or every_tool i other) sub → AddsSubcommand old sub new
-    → OffersTools (take (i + 1) every_tool) new
-next_tool i other old sub new below so_far command adds =
-    rw (← take_more every_tool i other below) at
-    (one_tool_more (take i every_tool) (get_or every_tool i other) old sub new so_far command adds)
-
-pub one_tool : (first : Option Tool) (tool : Tool) (old sub new : Command) → first ≡ Some tool → OffersTools [] old
-    → IsToolCommand tool sub → AddsSubcommand old sub new → OffersTools (offered_tools first) new
-one_tool first tool old sub new is none command adds = rw is (one_tool_more [] tool old sub new none command adds)
+pub next_tool : (tools : List Tool) (i : ℕ) (other : Tool) (old sub new : Command) → i < length tools
+    → OffersTools (take i tools) old
+    → IsToolCommand (get_or tools i other) sub → AddsSubcommand old sub new → OffersTools (take (i + 1) tools) new
+next_tool tools i other old sub new below so_far command adds =
+    rw (← take_more tools i other below) at
+    (one_tool_more (take i tools) (get_or tools i other) old sub new so_far command adds)
 
 -- the names of what is offered
 names_of_shapes : (tools : List Tool) (shapes : List Shape) → AllZip IsToolShape tools shapes

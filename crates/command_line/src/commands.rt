@@ -1,15 +1,12 @@
 //! The arguments that each tool takes, as `clap` commands.
-ghost use Rattle.std.specs.Prelude.{◌≡◌, ◌∷◌, [], IfOk, List, Some, codes, false, map, ℕ};
-ghost use Rattle.std.specs.Borrow.{Bor};
+ghost use Rattle.std.specs.Prelude.{◌≡◌, IfOk, false, map};
 ghost use Rattle.clap.specs.Built.{subcommand_names};
 ghost use Rattle.clap.specs.Simple.{app_of, new_app};
-ghost use Rattle.clap.specs.Walk.{rule_of, texts};
+ghost use Rattle.clap.specs.Walk.{rule_of};
 ghost use Rattle.clap.specs.declared.builder.command.Command.TheViews.{out-Command};
-ghost use Rattle.clap.specs.declared.builder.value_parser.ValueParser.TheVariants.{Names};
 ghost use Rattle.command_line.specs.Arguments.{IsRuleOf, arguments_of};
 ghost use Rattle.command_line.specs.Internal.Kind.{argument_of};
-ghost use Rattle.command_line.specs.Offering.{AddsArguments, IsToolCommand, OffersTools, offered, offered_tools};
-ghost use Rattle.runs.specs.Tools.{every_tool};
+ghost use Rattle.command_line.specs.Offering.{IsToolCommand, OffersTools, offered, offered_tools};
 
 use crate::help::{self, Help};
 use Kind::{ByteOrder, File, Files, Flag, Forms, Letter, Number, Output, ShortFlag, Text};
@@ -207,30 +204,23 @@ pub fn program<'a>(alloc: Global, first: Option<Tool>) -> Result<Command<'a>, Al
     ensures takes { IfOk result (OffersTools (offered_tools first)) }
 {
     match first {
-        Some(tool) => without_tools(alloc).subcommand(command_of(alloc, tool)?),
-        None => with_every_tool(alloc),
+        Some(tool) => with_tools(alloc, &[tool]),
+        None => with_tools(alloc, &TOOLS),
     }
 }
 
-/// The command of the whole program with the commands of all tools.
-fn with_every_tool<'a>(alloc: Global) -> Result<Command<'a>, AllocError>
-    ensures { IfOk result (OffersTools every_tool) }
+/// The command of the whole program with the commands of these tools.
+fn with_tools<'a>(alloc: Global, tools: &[Tool]) -> Result<Command<'a>, AllocError>
+    ensures { IfOk result (OffersTools tools.now) }
 {
-    let mut program = without_tools(alloc);
-    for tool in &TOOLS {
+    let mut program = described(alloc, "pokit", help::PROGRAM)
+        .disable_version_flag(true)
+        .disable_help_subcommand(true)
+        .subcommand_required(true);
+    for tool in tools {
         program = program.subcommand(command_of(alloc, *tool)?)?;
     }
     Ok(program)
-}
-
-/// The command of the whole program, without its tools.
-fn without_tools<'a>(alloc: Global) -> Command<'a>
-    ensures { OffersTools [] result }
-{
-    described(alloc, "pokit", help::PROGRAM)
-        .disable_version_flag(true)
-        .disable_help_subcommand(true)
-        .subcommand_required(true)
 }
 
 /// The command of a tool, with its options and arguments.
@@ -239,7 +229,11 @@ fn command_of<'a>(alloc: Global, tool: Tool) -> Result<Command<'a>, AllocError>
 {
     let (help, arguments) = parts_of(tool);
     let name: &'a str = tool.name();
-    with_arguments(alloc, described(alloc, name, help), arguments)
+    let mut command = described(alloc, name, help);
+    for argument in arguments {
+        command = command.arg(arg_of(alloc, *argument))?;
+    }
+    Ok(command)
 }
 
 /// What the help of a tool says, and its arguments and options.
@@ -271,21 +265,6 @@ fn described<'a>(alloc: Global, name: &'a str, help: Help) -> Command<'a>
     }
 }
 
-/// A command with these arguments and options.
-fn with_arguments<'a>(
-    alloc: Global,
-    command: Command<'a>,
-    arguments: &[Argument],
-) -> Result<Command<'a>, AllocError>
-    ensures { IfOk result (AddsArguments (map (λ a. argument_of a.0.now a.1) arguments.now) command.entry) }
-{
-    let mut command = command;
-    for argument in arguments {
-        command = command.arg(arg_of(alloc, *argument))?;
-    }
-    Ok(command)
-}
-
 /// An argument or an option, as `clap` has it.
 fn arg_of<'a>(alloc: Global, argument: Argument) -> Arg<'a>
     ensures rule { IsRuleOf (argument_of argument.entry.0.now argument.entry.1) (rule_of result) }
@@ -306,15 +285,9 @@ fn arg_of<'a>(alloc: Global, argument: Argument) -> Arg<'a>
             .long(name)
             .value_name("N")
             .value_parser(value_parser!(u32)),
-        ByteOrder => byte_order(arg.long(name)),
+        ByteOrder => arg
+            .long(name)
+            .value_name("ORDER")
+            .value_parser(BYTE_ORDERS.as_slice()),
     }
-}
-
-/// The option that names a byte order.
-fn byte_order<'a>(arg: Arg<'a>) -> Arg<'a>
-    ensures rule { (orders : Bor (List (Bor (List ℕ)))) × (texts orders.now ≡ codes "little" ∷ codes "big" ∷ [])
-        × (rule_of result ≡ record (rule_of arg.entry) { value_names = 1; parser = Some (Names orders) }) }
-    ensures local { result.global ≡ arg.entry.global }
-{
-    arg.value_name("ORDER").value_parser(BYTE_ORDERS.as_slice())
 }

@@ -1,11 +1,9 @@
 //! The tip on what GNU gettext alone has, if clap's text of a usage fault names it.
-ghost use Rattle.std.specs.Prelude.{◌≡◌, IfOk, option_and_then, option_map, string_bytes};
-ghost use Rattle.std.specs.List.{list_any};
+ghost use Rattle.std.specs.Prelude.{◌≡◌, ◌==◌, IfOk, option_and_then, option_map, string_bytes};
+ghost use Rattle.std.specs.List.{slice_split};
 ghost use Rattle.std.specs.Option.{option_copied};
-ghost use Rattle.std.specs.Str.{bytes_eq};
-ghost use Rattle.command_line.specs.OwnTip.{before_quote, gnu_checks, gnu_letters, gnu_options};
-ghost use Rattle.command_line.specs.OwnTip.{is_among, long_options, manual_of, option_tip, own_tip};
-ghost use Rattle.command_line.specs.OwnTip.{short_option, takes_files, tip_on, tool_tip, unknown_option};
+ghost use Rattle.command_line.specs.OwnTip.{before_quote, gnu_checks, gnu_options, is_among, manual_of};
+ghost use Rattle.command_line.specs.OwnTip.{option_tip, own_tip, takes_files, tip_on, tool_tip, unknown_option};
 ghost use Rattle.command_line.specs.OwnTip.{unknown_tool, word_after};
 
 use runs::Tool;
@@ -17,23 +15,16 @@ const UNKNOWN_OPTION: &str = "error: unexpected argument '";
 /// How clap's text of an unknown tool begins.
 const UNKNOWN_TOOL: &str = "error: unrecognized subcommand '";
 
-/// The options by which GNU's tools show their version.
-static VERSION_OPTIONS: [&str; 2] = ["-V", "--version"];
+/// The options by which GNU's tools show their version, words with a space between two.
+const VERSION_OPTIONS: &str = "-V --version";
 
 /// The tip where one of these was given.
 const VERSION_TIP: &str = "  tip: the first line of 'pokit --help' has the version\n\n";
 
 /// Options of GNU's msgfmt that check a text.
-static CHECKS: [&str; 8] = [
-    "-c",
-    "-C",
-    "--check",
-    "--check-accelerators",
-    "--check-compatibility",
-    "--check-domain",
-    "--check-format",
-    "--check-header",
-];
+const CHECKS: &str =
+    "-c -C --check --check-accelerators --check-compatibility --check-domain --check-format \
+     --check-header";
 
 /// The tip where one of `CHECKS` was given to msgfmt.
 const CHECK_TIP: &str =
@@ -43,118 +34,35 @@ const CHECK_TIP: &str =
 ";
 
 /// The tools of GNU gettext that pokit doesn't have.
-static GNU_TOOLS: [&str; 14] = [
-    "autopoint",
-    "gettextize",
-    "msgcmp",
-    "msgcomm",
-    "msgconv",
-    "msgen",
-    "msgexec",
-    "msgfilter",
-    "msggrep",
-    "msginit",
-    "msgmerge",
-    "msguniq",
-    "recode-sr-latin",
-    "xgettext",
-];
+const GNU_TOOLS: &str =
+    "autopoint gettextize msgcmp msgcomm msgconv msgen msgexec msgfilter msggrep msginit msgmerge \
+     msguniq recode-sr-latin xgettext";
 
-/// Long options of GNU's msgfmt that pokit's doesn't have.
-static MSGFMT_OPTIONS: [&str; 22] = [
-    "--alignment",
-    "--csharp",
-    "--csharp-resources",
-    "--desktop",
-    "--directory",
-    "--java",
-    "--java2",
-    "--keyword",
-    "--language",
-    "--locale",
-    "--no-convert",
-    "--no-redundancy",
-    "--properties-input",
-    "--qt",
-    "--resource",
-    "--source",
-    "--strict",
-    "--stringtable-input",
-    "--tcl",
-    "--template",
-    "--verbose",
-    "--xml",
-];
+/// Options of GNU's msgfmt that pokit's doesn't have, `CHECKS` aside.
+const MSGFMT_OPTIONS: &str =
+    "-D -L -P -a -d -j -k -l -r -v --alignment --csharp --csharp-resources --desktop --directory \
+     --java --java2 --keyword --language --locale --no-convert --no-redundancy --properties-input \
+     --qt --resource --source --strict --stringtable-input --tcl --template --verbose --xml";
 
 /// Those of GNU's msgunfmt.
-static MSGUNFMT_OPTIONS: [&str; 18] = [
-    "--color",
-    "--csharp",
-    "--csharp-resources",
-    "--escape",
-    "--force-po",
-    "--indent",
-    "--java",
-    "--locale",
-    "--no-escape",
-    "--properties-output",
-    "--resource",
-    "--sort-output",
-    "--strict",
-    "--stringtable-output",
-    "--style",
-    "--tcl",
-    "--verbose",
-    "--width",
-];
+const MSGUNFMT_OPTIONS: &str =
+    "-E -d -e -i -j -l -p -r -s -v -w --color --csharp --csharp-resources --escape --force-po \
+     --indent --java --locale --no-escape --properties-output --resource --sort-output --strict \
+     --stringtable-output --style --tcl --verbose --width";
 
 /// Those of GNU's msgattrib.
-static MSGATTRIB_OPTIONS: [&str; 20] = [
-    "--add-location",
-    "--color",
-    "--directory",
-    "--escape",
-    "--force-po",
-    "--ignore-file",
-    "--indent",
-    "--no-escape",
-    "--no-location",
-    "--only-file",
-    "--previous",
-    "--properties-input",
-    "--properties-output",
-    "--sort-by-file",
-    "--sort-output",
-    "--strict",
-    "--stringtable-input",
-    "--stringtable-output",
-    "--style",
-    "--width",
-];
+const MSGATTRIB_OPTIONS: &str =
+    "-D -E -F -P -e -i -n -p -s -w --add-location --color --directory --escape --force-po \
+     --ignore-file --indent --no-escape --no-location --only-file --previous --properties-input \
+     --properties-output --sort-by-file --sort-output --strict --stringtable-input \
+     --stringtable-output --style --width";
 
 /// Those of GNU's msgcat.
-static MSGCAT_OPTIONS: [&str; 20] = [
-    "--add-location",
-    "--color",
-    "--directory",
-    "--escape",
-    "--files-from",
-    "--force-po",
-    "--indent",
-    "--lang",
-    "--no-escape",
-    "--no-location",
-    "--properties-input",
-    "--properties-output",
-    "--sort-by-file",
-    "--sort-output",
-    "--strict",
-    "--stringtable-input",
-    "--stringtable-output",
-    "--style",
-    "--to-code",
-    "--width",
-];
+const MSGCAT_OPTIONS: &str =
+    "-< -> -D -E -F -P -e -f -i -n -p -s -t -w --add-location --color --directory --escape \
+     --files-from --force-po --indent --lang --no-escape --no-location --properties-input \
+     --properties-output --sort-by-file --sort-output --strict --stringtable-input \
+     --stringtable-output --style --to-code --width";
 
 /// The tip on the option or the tool that clap's text names, if GNU's alone has it.
 pub(crate) fn own_tip(
@@ -182,7 +90,7 @@ fn tip_on_option(
     let Some(option) = word_after(text, UNKNOWN_OPTION) else {
         return Ok(None);
     };
-    if VERSION_OPTIONS.contains(&option) {
+    if has_word(VERSION_OPTIONS, option) {
         return Ok(Some(String::from_str(alloc, VERSION_TIP)?));
     }
     if is_check(tool, option) {
@@ -200,7 +108,7 @@ fn tip_on_tool(alloc: Global, text: &str) -> Result<Option<String>, AllocError>
         ≡ option_and_then tool_tip (unknown_tool text.now)) }
 {
     match word_after(text, UNKNOWN_TOOL) {
-        Some(name) if GNU_TOOLS.contains(&name) => {
+        Some(name) if has_word(GNU_TOOLS, name) => {
             Ok(Some(tip_on(alloc, name, "a tool", manual_of(None))?))
         }
         _ => Ok(None),
@@ -255,7 +163,7 @@ fn is_check(tool: Option<Tool>, option: &str) -> bool
     ensures { result ≡ is_among (gnu_checks tool) option.now }
 {
     match tool {
-        Some(Tool::Msgfmt) => CHECKS.contains(&option),
+        Some(Tool::Msgfmt) => has_word(CHECKS, option),
         _ => false,
     }
 }
@@ -264,42 +172,23 @@ fn is_check(tool: Option<Tool>, option: &str) -> bool
 fn is_gnus(tool: Option<Tool>, option: &str) -> bool
     ensures { result ≡ is_among (gnu_options tool) option.now }
 {
-    is_one_of(letters_of(tool), option) || is_long(tool, option)
-}
-
-/// Whether the option is a dash and one of these letters.
-fn is_one_of(letters: &str, option: &str) -> bool
-    ensures { result ≡ list_any (λ letter. bytes_eq (short_option letter) option.now) letters.now }
-{
-    letters
-        .bytes()
-        .any(|letter| [b'-', letter].as_slice() == option.as_bytes())
-}
-
-/// The letters that are options of GNU's tool alone.
-fn letters_of(tool: Option<Tool>) -> &'static str
-    ensures { result.now ≡ gnu_letters tool }
-{
+    let Some(tool) = tool else {
+        return false;
+    };
     match tool {
-        Some(Tool::Msgfmt) => "DLPadjklrv",
-        Some(Tool::Msgunfmt) => "Edeijlprsvw",
-        Some(Tool::Msgattrib) => "DEFPeinpsw",
-        Some(Tool::Msgcat) => "<>DEFPefinpstw",
-        _ => "",
-    }
-}
-
-/// Whether it is a long option of GNU's tool alone.
-fn is_long(tool: Option<Tool>, option: &str) -> bool
-    ensures { result ≡ is_among (long_options tool) option.now }
-{
-    match tool {
-        Some(Tool::Msgfmt) => MSGFMT_OPTIONS.contains(&option),
-        Some(Tool::Msgunfmt) => MSGUNFMT_OPTIONS.contains(&option),
-        Some(Tool::Msgattrib) => MSGATTRIB_OPTIONS.contains(&option),
-        Some(Tool::Msgcat) => MSGCAT_OPTIONS.contains(&option),
+        Tool::Msgfmt => has_word(MSGFMT_OPTIONS, option),
+        Tool::Msgunfmt => has_word(MSGUNFMT_OPTIONS, option),
+        Tool::Msgattrib => has_word(MSGATTRIB_OPTIONS, option),
+        Tool::Msgcat => has_word(MSGCAT_OPTIONS, option),
         _ => false,
     }
+}
+
+/// Whether a list of words has this one.
+fn has_word(words: &str, word: &str) -> bool
+    ensures { result ≡ is_among (slice_split (λ b. b == 32) words.now) word.now }
+{
+    words.split(' ').any(|other| other == word)
 }
 
 /// Whether the tool's arguments are files.

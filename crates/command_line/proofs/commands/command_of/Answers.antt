@@ -1,10 +1,18 @@
-use Rattle.std.proofs.lemmas.Result.{IfOk-weaker}
-use Rattle.command_line.proofs.Arguing.{tool_command}
+use Rattle.std.proofs.Common.{◌≡◌, rules, take, take_all}
+use Rattle.command_line.specs.Internal.Kind.{argument_of}
+use Rattle.command_line.proofs.Arguing.{next_mapped, one_argument_more, tool_command}
 use Rattle.command_line.proofs.commands.command_of.Goals as goal
+
+pub loop-argument-preserved : goal.loop-argument-preserved
+loop-argument-preserved c =
+    let more = one_argument_more _ _ _ _ _ c.arg_of.result c.loop-argument.invariant c.in_ok-command.ensures
+    c.arg_of.ensures.local c.arg_of.ensures.rule in
+    rw (next_mapped (λ a. argument_of a.0.now a.1) c.parts_of.result.1.now c.loop-argument.argument-index _
+    c.loop-argument-test.true) at more
 
 pub returns : goal.returns
 returns c =
-    IfOk-weaker c.with_arguments.result _ _
-    (λ made adds. tool_command c.args.tool _ made
-    (rw c.name-name.ensures at c.described.ensures.app) c.described.ensures.local (rw c.parts_of.ensures at adds))
-    c.with_arguments.ensures
+    let all : take c.loop-argument.argument-index c.parts_of.result.1.now ≡ c.parts_of.result.1.now =
+    search (rules, take_all) in
+    tool_command c.args.tool _ _ (rw c.name-name.ensures at c.described-command.ensures.app)
+    c.described-command.ensures.local (rw (all, c.parts_of.ensures) at c.loop-argument.invariant)

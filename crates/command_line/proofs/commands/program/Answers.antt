@@ -1,18 +1,13 @@
 use Rattle.std.proofs.lemmas.Result.{IfOk-weaker}
-use Rattle.command_line.proofs.Arguing.{names_offered, one_tool}
+use Rattle.command_line.proofs.Arguing.{names_offered}
 use Rattle.command_line.proofs.commands.program.Goals as goal
 
-pub returns-in_ok-command_of-in-Some-clause-names : goal.returns-in_ok-command_of-in-Some-clause-names
-returns-in_ok-command_of-in-Some-clause-names c =
-    IfOk-weaker c.subcommand.result _ _
-    (λ program adds. names_offered c.args.first program
-    (one_tool c.args.first _ _ _ program c.in-Some.is c.without_tools.ensures c.in_ok-command_of-in-Some.ensures
-    adds))
-    c.subcommand.ensures
+pub returns-in-Some-clause-names : goal.returns-in-Some-clause-names
+returns-in-Some-clause-names c =
+    IfOk-weaker c.with_tools.result _ _ (λ program offers. names_offered c.args.first program (rw c.in-Some.is offers))
+    c.with_tools.ensures
 
-pub returns-in_ok-command_of-in-Some-clause-takes : goal.returns-in_ok-command_of-in-Some-clause-takes
-returns-in_ok-command_of-in-Some-clause-takes c =
-    IfOk-weaker c.subcommand.result _ _
-    (λ program adds. one_tool c.args.first _ _ _ program c.in-Some.is c.without_tools.ensures
-    c.in_ok-command_of-in-Some.ensures adds)
-    c.subcommand.ensures
+pub returns-in-None-clause-names : goal.returns-in-None-clause-names
+returns-in-None-clause-names c =
+    IfOk-weaker c.with_tools-in-None.result _ _
+    (λ program offers. names_offered c.args.first program (rw c.in-None.is offers)) c.with_tools-in-None.ensures

@@ -1,0 +1,6 @@
+use Rattle.std.proofs.Common.{take}
+use Rattle.command_line.specs.Offering.{OffersTools}
+use Rattle.command_line.proofs.commands.with_tools.Given as goal
+
+abbrev pub invariant-loop-tool : goal.invariant-loop-tool
+invariant-loop-tool l = OffersTools (take l.tool-index l.tools) l.program
