@@ -1,7 +1,6 @@
 //! What msgunfmt writes and reports: the PO text of an MO file.
-ghost use Rattle.std.specs.Prelude.{◌≡◌, ◌≢◌, ◌++◌, ℕ, List, IfOk, OnOk, OnErr, Err};
-ghost use Rattle.po_unformat.specs.UnformattedText.{IsUnformatted};
-ghost use Rattle.msgunfmt.specs.Msgunfmt.{IsMsgunfmtRun, unformat_line, unformat_text, unformatted_run};
+ghost use Rattle.std.specs.Prelude.{◌≡◌, ◌≢◌, ◌++◌, IfOk, OnOk, OnErr, Err};
+ghost use Rattle.msgunfmt.specs.Msgunfmt.{IsMsgunfmtRun, unformat_line, unformat_text};
 ghost use Rattle.runs.specs.Run.{refusal, run_view};
 
 use po_unformat::laws::empty_text;
@@ -42,21 +41,6 @@ fn refused_run(alloc: Global, name: &str, error: UnformatError) -> Result<Run, A
     Ok(refused(alloc, messages))
 }
 
-/// The run of a file that has a text.
-fn unformatted_run(alloc: Global, text: Vec<u8>) -> Run
-    ensures { (bytes : List ℕ) (file : IsUnformatted bytes text.items)
-        → run_view result ≡ unformatted_run file.messages text.items }
-{
-    empty_text();
-    let create = text.len() > 0;
-    Run {
-        output: text,
-        create,
-        messages: Vec::new(alloc),
-        status: 0,
-    }
-}
-
 /// What `msgunfmt` writes and reports of a file with this name: its PO text, where it has a message. A file that has no
 /// text is reported by one line, with status 1. Refused only where an allocation failed.
 pub fn plan_msgunfmt(alloc: Global, bytes: &[u8], name: &str) -> Result<Run, ToolFault>
@@ -64,7 +48,15 @@ pub fn plan_msgunfmt(alloc: Global, bytes: &[u8], name: &str) -> Result<Run, Too
     ensures memory { OnErr result (result ≡ Err ToolFault.OutOfMemory) }
 {
     match unformat(alloc, bytes) {
-        Ok(text) => Ok(unformatted_run(alloc, text)),
+        Ok(text) => {
+            empty_text();
+            Ok(Run {
+                create: text.len() > 0,
+                output: text,
+                messages: Vec::new(alloc),
+                status: 0,
+            })
+        }
         Err(error) => Ok(refused_run(alloc, name, error)?),
     }
 }
