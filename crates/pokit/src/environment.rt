@@ -7,15 +7,6 @@ use std::alloc::{AllocError, Global};
 use std::env::{Env, FillError};
 use std::rt::Files;
 
-/// What is asked of the system: a variable by its name, or an entry of the environment or an
-/// argument by its index.
-#[derive(Clone, Copy)]
-enum Query<'a> {
-    Variable(&'a str),
-    Entry(usize),
-    Argument(usize),
-}
-
 const PROGRAM: &str = "pokit";
 
 /// How many entries of the environment are asked for one by one.
@@ -32,7 +23,7 @@ impl<'r, R: Env> VariableSource for System<'r, R> {
     ghost variable = { λ _ _ _. Unit {0} };
 
     fn read_variable(&self, alloc: Global, name: &str) -> Result<Option<Vec<u8>>, AllocError> {
-        ask(alloc, self.0, Query::Variable(name))
+        ask(alloc, |room| self.0.var(name, room))
     }
 }
 
@@ -46,27 +37,23 @@ impl<'r, R: Env + Files> EntrySource for System<'r, R> {
         for index in 0..usize::MAX {
             if index == FEW_ENTRIES {
                 match read_named(alloc, self.0, ENTRIES_FILE) {
-                    Ok(bytes) => return entries_in(alloc, &bytes),
+                    Ok(bytes) => {
+                        return bytes
+                            .split(|byte| *byte == 0)
+                            .map(|entry| Vec::from_slice(alloc, entry))
+                            .try_collect(alloc);
+                    }
                     Err(InputFault::OutOfMemory) => return Err(AllocError),
                     Err(InputFault::CannotOpen | InputFault::ReadFault) => {}
                 }
             }
-            match ask(alloc, self.0, Query::Entry(index))? {
+            match ask(alloc, |room| self.0.var_at(index, room))? {
                 Some(entry) => entries.push(entry)?,
                 None => break,
             }
         }
         Ok(entries)
     }
-}
-
-/// The entries of a file that has a NUL behind each.
-fn entries_in(alloc: Global, bytes: &[u8]) -> Result<Vec<Vec<u8>>, AllocError> {
-    let mut entries = Vec::new(alloc);
-    for entry in bytes.split(|byte| *byte == 0) {
-        entries.push(Vec::from_slice(alloc, entry)?)?;
-    }
-    Ok(entries)
 }
 
 /// The name of the program, and the arguments. These are text, all or none; the path by which the
@@ -78,7 +65,7 @@ pub(crate) fn arguments(
     let mut arguments = Vec::new(alloc);
     arguments.push(String::from_str(alloc, PROGRAM)?)?;
     for index in 1..usize::MAX {
-        let Some(argument) = ask(alloc, env, Query::Argument(index))? else {
+        let Some(argument) = ask(alloc, |room| env.arg(index, room))? else {
             break;
         };
         match String::from_utf8(argument) {
@@ -89,12 +76,18 @@ pub(crate) fn arguments(
     Ok(arguments)
 }
 
-/// Asks, with twice the room each time until the answer fits. `None` where there is no such value.
-fn ask(alloc: Global, env: &impl Env, query: Query<'_>) -> Result<Option<Vec<u8>>, AllocError> {
+/// What `fill` writes, with twice the room each time until it fits, or `None` where there is no such
+/// value.
+fn ask<F: Fn(&mut [u8]) -> Result<usize, FillError>>(
+    alloc: Global,
+    fill: F,
+) -> Result<Option<Vec<u8>>, AllocError>
+    requires { F.IsAlwaysCallable fill }
+{
     let mut capacity = FIRST_CAPACITY;
     for _ in 0..usize::BITS {
         let mut answer = vec![in alloc; 0; capacity]?;
-        match fill(env, query, answer.as_mut_slice()) {
+        match fill(answer.as_mut_slice()) {
             Ok(length) => {
                 answer.truncate(length);
                 return Ok(Some(answer));
@@ -104,13 +97,4 @@ fn ask(alloc: Global, env: &impl Env, query: Query<'_>) -> Result<Option<Vec<u8>
         }
     }
     Err(AllocError)
-}
-
-/// Writes the answer into `room`, and returns its length.
-fn fill(env: &impl Env, query: Query<'_>, room: &mut [u8]) -> Result<usize, FillError> {
-    match query {
-        Query::Variable(name) => env.var(name, room),
-        Query::Entry(index) => env.var_at(index, room),
-        Query::Argument(index) => env.arg(index, room),
-    }
 }

@@ -1,9 +1,7 @@
 //! Inputs by their names, and outputs.
-ghost use Rattle.std.specs.Prelude.{◌≡◌};
-
 use runs::{
-    Counted, FileKind, InputFault, InputSource, MakeFault, OutputFault, OutputFiles, OutputSystem,
-    Owner, Rights, read_whole,
+    Counted, FileKind, InputFault, InputSource, MakeFault, OutputFault, OutputFiles, Owner, Rights,
+    read_whole,
 };
 use std::alloc::Global;
 use std::fs::{self, File, Metadata, OpenFile, OpenOptions, Permissions};
@@ -84,10 +82,9 @@ impl Write for Opened {
 /// The files of the system, as outputs are made.
 #[derive(Drop)]
 pub(crate) struct SystemFiles<'r> {
-    rt: &'r HostRuntime,
-    alloc: Global,
+    pub(crate) rt: &'r HostRuntime,
     // How often the system had no random number.
-    lacking: u32,
+    pub(crate) lacking: u32,
 }
 
 // No contract can say what a file of the system holds, so the log of the calls isn't known.
@@ -177,14 +174,14 @@ impl<'r> OutputFiles for SystemFiles<'r> {
             0 => None,
             1 => Some(Opened::Output(self.rt.stdout())),
             2 => Some(Opened::Errors(self.rt.stderr())),
-            _ => Some(Opened::File(append_to(self.alloc, self.rt, number)?)),
+            _ => Some(Opened::File(append_to(self.rt, number)?)),
         }
     }
 
     fn close(&mut self, file: Counted<Opened>) -> bool
         ensures { None ≡ logged (closes None (counted_failures file) result ∷ []) None }
     {
-        drop(file.into_inner());
+        drop(file);
         true
     }
 
@@ -215,13 +212,13 @@ fn owner_of(file: &File) -> Option<Owner> {
 
 /// The open stream of a number above those of the standard streams, opened anew to be written at its end,
 /// where it is open to be written. The library reaches no descriptor by its number.
-fn append_to(alloc: Global, rt: &HostRuntime, number: u32) -> Option<File> {
-    let info = format!(in alloc; "/proc/self/fdinfo/{number}").ok()?;
-    let bytes = read_named(alloc, rt, &info).ok()?;
+fn append_to(rt: &HostRuntime, number: u32) -> Option<File> {
+    let info = format!(in rt.alloc(); "/proc/self/fdinfo/{number}").ok()?;
+    let bytes = read_named(rt.alloc(), rt, &info).ok()?;
     if !is_for_writing(&bytes) {
         return None;
     }
-    let path = format!(in alloc; "/proc/self/fd/{number}").ok()?;
+    let path = format!(in rt.alloc(); "/proc/self/fd/{number}").ok()?;
     let mut options = OpenOptions::new();
     options.append(true);
     options.open(rt, path.as_str()).ok()
@@ -233,23 +230,4 @@ fn is_for_writing(info: &[u8]) -> bool {
     info.split(|byte| *byte == b'\n')
         .find(|line| line.starts_with(b"flags:"))
         .is_some_and(|flags| flags.ends_with(b"1") || flags.ends_with(b"2"))
-}
-
-/// What the tools write to: the files of the system, standard output and standard error.
-pub(crate) fn outputs(
-    alloc: Global,
-    rt: &HostRuntime,
-) -> OutputSystem<SystemFiles<'_>, Counted<Stdout>, Counted<Stderr>>
-    ensures out { result.out.failures ≡ 0 }
-    ensures err { result.err.failures ≡ 0 }
-{
-    OutputSystem {
-        files: SystemFiles {
-            rt,
-            alloc,
-            lacking: 0,
-        },
-        out: Counted::new(rt.stdout()),
-        err: Counted::new(rt.stderr()),
-    }
 }

@@ -14,9 +14,9 @@ mod streams;
 use clap::ArgMatches;
 use clap::error::ErrorKind;
 use command_line::Tool;
-use files::{System, outputs};
+use files::{System, SystemFiles};
 use options::Options;
-use runs::{Counted, Ending, ProgramFault};
+use runs::{Counted, Ending, OutputSystem, ProgramFault};
 use std::process::ExitCode;
 
 fn main(rt: HostRuntime) -> ExitCode {
@@ -72,15 +72,14 @@ fn run_tool(rt: &HostRuntime, matches: &ArgMatches<'_>) -> Ending {
         return Ending::Refused;
     };
     let given = Options(matches);
-    let outcome = po_tools::run(
-        rt.alloc(),
-        tool,
-        &mut System(rt),
-        &mut Counted::new(rt.reader()),
-        &mut outputs(rt.alloc(), rt),
-        &given,
-    );
-    match outcome {
+    let mut system = OutputSystem {
+        files: SystemFiles { rt, lacking: 0 },
+        out: Counted::new(rt.stdout()),
+        err: Counted::new(rt.stderr()),
+    };
+    let mut reader = Counted::new(rt.reader());
+    let source = &mut System(rt);
+    match po_tools::run(rt.alloc(), tool, source, &mut reader, &mut system, &given) {
         Ok(status) => Ending::Ran(status),
         Err(fault) => report_fault(rt, Some(tool), fault),
     }
