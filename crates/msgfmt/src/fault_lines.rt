@@ -16,10 +16,7 @@ use std::alloc::{AllocError, Global};
 fn input_name<'a>(inputs: &[(&'a str, &[u8])], input: u32) -> &'a str
     ensures { result.now ≡ Spec.input_name (named_files inputs.now) input }
 {
-    match inputs.get(input as usize) {
-        Some((name, _)) => name,
-        None => "",
-    }
+    inputs.get(input as usize).map_or("", |(name, _)| name)
 }
 
 /// Appends a line of a file: `FILE:LINE`.

@@ -1,14 +1,10 @@
 //! What the options of a command line mean for msgfmt.
-ghost use Rattle.std.specs.Prelude.{◌≡◌, codes};
+ghost use Rattle.std.specs.Prelude.{◌≡◌};
 ghost use Rattle.std.specs.Option.{option_copied};
-ghost use Rattle.msgfmt.specs.Options.{AreMsgfmtOptions, default_output, order_of};
-ghost use Rattle.runs.specs.ArgumentValues.{IsTextOr};
+ghost use Rattle.msgfmt.specs.Options.{AreMsgfmtOptions, order_of};
 
 use mo_file::Order;
-use runs::{Arguments, text_or};
-
-/// The MO file that msgfmt writes where the arguments name none.
-const DEFAULT_OUTPUT: &str = "messages.mo";
+use runs::Arguments;
 
 /// What `msgfmt` is asked for, besides its inputs.
 #[derive(Clone, Copy)]
@@ -35,19 +31,12 @@ pub fn msgfmt_options_of<A: Arguments>(arguments: &A) -> MsgfmtOptions
     }
 }
 
-/// The argument for the output of `msgfmt`: that of `-o`, or `messages.mo`.
-pub fn msgfmt_output_of<A: Arguments>(arguments: &A) -> &str
-    ensures { IsTextOr (A.text arguments.now) (codes "output-file") default_output result.now }
-{
-    text_or(arguments, "output-file", DEFAULT_OUTPUT)
-}
-
 /// The byte order by its name, little-endian where none is given.
 fn order_of(name: Option<&str>) -> Order
     ensures { result ≡ order_of (option_copied name.entry) }
 {
     match name {
-        Some(name) if name == "big" => Order::Big,
+        Some("big") => Order::Big,
         _ => Order::Little,
     }
 }

@@ -1,14 +1,20 @@
-//! What `--profile-check` finds wrong with the messages that are compiled.
-ghost use Rattle.std.specs.Prelude.{◌≡◌, find, length, option_map};
+//! What `--profile-check` finds wrong with the messages that inputs or catalogues are compiled to.
+ghost use Rattle.std.specs.Prelude.{◌≡◌, ◌⊎◌, ◌^◌, ◌<◌, true, None, Some, MatchResult, IfErr, OnOk, find, length, option_map};
 ghost use Rattle.std.specs.List.{list_any};
 ghost use Rattle.mo_lookup.specs.CatalogView.{forms};
+ghost use Rattle.po_compile.specs.OfInputs.{OfAllInputs};
 ghost use Rattle.po_entry.specs.Header.{first_form};
 ghost use Rattle.plural_rule.specs.PluralRule.{IsRuleOf, expression_limit};
+ghost use Rattle.msgfmt.specs.Msgfmt.{AreChecked};
 ghost use Rattle.msgfmt.specs.Profile as Spec;
 
+use crate::options::MsgfmtOptions;
 use plural_rule::{Reason, Rule, Source};
-use po_compile::CompiledMessage;
+use po_compile::{Collected, CompiledMessage, collect_catalogues, compiled_messages};
+use po_entry::Catalogue;
+use po_unformat::laws::texts_come_back;
 use po_unformat::{key_parts, original_parts, split_form};
+use std::alloc::Global;
 use thiserror::Error;
 
 /// What `--profile-check` finds wrong with the messages that are compiled.
@@ -82,23 +88,13 @@ pub(crate) enum End {
     Ending,
 }
 
-/// The byte at this end of a text, where it has one.
-fn end_byte(end: End, text: &[u8]) -> Option<u8>
-    ensures { result ≡ Spec.end_byte end text.now }
-{
-    match end {
-        End::Beginning => text.first().copied(),
-        End::Ending => text.last().copied(),
-    }
-}
-
 /// Whether a text has a newline at this end.
 fn has_newline(end: End, text: &[u8]) -> bool
     ensures { result ≡ Spec.has_newline end text.now }
 {
-    match end_byte(end, text) {
-        Some(byte) => byte == b'\n',
-        None => false,
+    match end {
+        End::Beginning => text.first().is_some_and(|byte| *byte == b'\n'),
+        End::Ending => text.last().is_some_and(|byte| *byte == b'\n'),
     }
 }
 
@@ -264,11 +260,69 @@ fn rule_of(header: &[u8]) -> Rule
 /// at its ends where its msgid has them; and that the rule's values at the counts from 0 to 1,000 are indices of
 /// forms, where an entry has a plural. The first fault is reported, with the input of its line, or input 0.
 #[inline(never)]
-pub(crate) fn check_messages(messages: &[CompiledMessage<'_>]) -> Option<(u32, CheckFault)>
+fn check_messages(messages: &[CompiledMessage<'_>]) -> Option<(u32, CheckFault)>
     ensures { Spec.IsChecked (Spec.checked_messages messages.now) result }
 {
     let Some(header) = header_of(messages) else {
         return Some((0, CheckFault::NoHeader));
     };
     first_fault(rule_of(first_form(header.translation)), messages)
+}
+
+/// Checks the messages that inputs are compiled to, as `profile_check` does.
+fn check_inputs(alloc: Global, inputs: &[Collected]) -> Result<(), (u32, CheckFault)>
+    requires { length inputs.now < 2 ^ 32 }
+    ensures fit { OnOk result (OfAllInputs inputs.now (λ use_fuzzy catalogues. AreChecked use_fuzzy catalogues None)) }
+    ensures unfit { IfErr result (λ reported. (reported ≡ (0, CheckFault.OutOfMemory))
+        ⊎ OfAllInputs inputs.now (λ use_fuzzy catalogues. AreChecked use_fuzzy catalogues (Some reported))) }
+{
+    texts_come_back();
+    let Ok(messages) = compiled_messages(alloc, inputs) else {
+        return Err((0, CheckFault::OutOfMemory));
+    };
+    match check_messages(&messages) {
+        None => Ok(()),
+        Some(reported) => Err(reported),
+    }
+}
+
+/// Checks the messages that catalogues are compiled to, in the order of their joined list: that there is a header;
+/// that it has a readable plural rule where an entry has a plural; that each entry but the header has as many forms
+/// as the rule, and newlines at its ends where its msgid has them; and that the rule's values at the counts from 0
+/// to 1,000 are indices of forms, where an entry has a plural. The first fault is reported with the input of its line,
+/// or input 0 where it has none. `OutOfMemory`, with input 0, may come in place of any result.
+pub fn profile_check(
+    alloc: Global,
+    catalogues: &[Catalogue],
+    use_fuzzy: bool,
+) -> Result<(), (u32, CheckFault)>
+    requires { length catalogues.now < 2 ^ 32 }
+    ensures { MatchResult result (λ _. AreChecked use_fuzzy catalogues.now None)
+        (λ reported. (reported ≡ (0, CheckFault.OutOfMemory))
+        ⊎ AreChecked use_fuzzy catalogues.now (Some reported)) }
+{
+    match collect_catalogues(alloc, catalogues, use_fuzzy) {
+        Ok(inputs) => check_inputs(alloc, &inputs),
+        Err(_) => Err((0, CheckFault::OutOfMemory)),
+    }
+}
+
+/// The check, where it is asked for.
+pub(crate) fn checked(
+    alloc: Global,
+    inputs: &[Collected],
+    options: &MsgfmtOptions,
+) -> Result<(), (u32, CheckFault)>
+    requires { length inputs.now < 2 ^ 32 }
+    ensures fit { OnOk result (options.now.profile_check ≡ true
+        → OfAllInputs inputs.now (λ use_fuzzy catalogues. AreChecked use_fuzzy catalogues None)) }
+    ensures unfit { IfErr result (λ reported. (reported ≡ (0, CheckFault.OutOfMemory))
+        ⊎ ((options.now.profile_check ≡ true)
+        × OfAllInputs inputs.now (λ use_fuzzy catalogues. AreChecked use_fuzzy catalogues (Some reported)))) }
+{
+    if options.profile_check {
+        check_inputs(alloc, inputs)
+    } else {
+        Ok(())
+    }
 }

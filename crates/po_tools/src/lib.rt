@@ -25,8 +25,8 @@ pub use gettext::{
 pub use msgattrib::{plan_msgattrib, selection_of};
 pub use msgcat::{merge_options_of, plan_msgcat, plan_msgcat_before, plan_msgcat_of};
 pub use msgfmt::{
-    CheckFault, MsgfmtOptions, first_profile_fault, msgfmt_options_of, msgfmt_output_of,
-    plan_msgfmt, plan_msgfmt_of, profile_check,
+    CheckFault, MsgfmtOptions, first_profile_fault, msgfmt_options_of, plan_msgfmt, plan_msgfmt_of,
+    profile_check,
 };
 pub use msgunfmt::plan_msgunfmt;
 pub use one_input::{run_msgattrib, run_msgfmt, run_msgunfmt};
@@ -42,6 +42,6 @@ pub use run_laws::{
 pub use runs::{
     Arguments, FileKind, Input, InputFault, InputSource, Inputs, MakeFault, OutputFault,
     OutputFiles, Owner, ProgramFault, Rights, Run, STANDARD, STDIN_NAME, Tool, deliver, read_one,
-    read_whole, report_fault, shown_name, write_run,
+    read_whole, report_fault, shown_name,
 };
 pub use tool_run::run;

@@ -1,6 +1,6 @@
 //! Each tool as a whole, by what its command line gives.
 ghost use Rattle.std.specs.Prelude.{◌^◌, ◌<◌};
-ghost use Rattle.po_tools.specs.ToolRun.{ReaderView, RunsEnvsubstLine, RunsGettextLine, RunsNgettextLine, RunsTool, answers_of, line_of, reached, reader_of};
+ghost use Rattle.po_tools.specs.ToolRun.{RunsTool, answers_of, line_of, reached, reader_of};
 
 use envsubst::{EntrySource, EnvsubstArguments, envsubst};
 use gettext::{
@@ -9,12 +9,15 @@ use gettext::{
 };
 use msgattrib::selection_of;
 use msgcat::merge_options_of;
-use msgfmt::{msgfmt_options_of, msgfmt_output_of};
+use msgfmt::msgfmt_options_of;
 use runs::{
-    Arguments, ByteIn, ByteOut, InputSource, OutputFiles, OutputSystem, ProgramFault, Tool,
-    input_of, inputs_of, output_of,
+    Arguments, ByteIn, ByteOut, InputSource, OutputFiles, OutputSystem, ProgramFault, STANDARD,
+    Tool,
 };
 use std::alloc::Global;
+
+/// The MO file that msgfmt writes where the arguments name none.
+const DEFAULT_OUTPUT: &str = "messages.mo";
 
 /// Runs a tool by what its command line gives, and returns its status: the inputs are those of `source`,
 /// `reader` is standard input where it is read in blocks, and all output goes to `system`.
@@ -40,117 +43,42 @@ where
         (reached (S.asked source.new)
         (reader_of (R.remaining reader.new) (R.calls reader.new) (R.failures reader.new)) system.new) result }
 {
+    let inputs = given.texts_of("FILE");
+    let input = given.text_of("FILE").unwrap_or(STANDARD);
+    let output = given.text_of("output-file");
     match tool {
-        Tool::Msgfmt => msgfmt::run(
-            alloc,
-            source,
-            system,
-            inputs_of(given),
-            msgfmt_output_of(given),
-            &msgfmt_options_of(given),
-        ),
-        Tool::Msgunfmt => msgunfmt::run(alloc, source, system, input_of(given), output_of(given)),
-        Tool::Msgattrib => msgattrib::run(
-            alloc,
-            source,
-            system,
-            input_of(given),
-            output_of(given),
-            &selection_of(given),
-        ),
-        Tool::Msgcat => msgcat::run(
-            alloc,
-            source,
-            system,
-            inputs_of(given),
-            output_of(given),
-            &merge_options_of(given),
-        ),
-        Tool::Gettext => look_up(alloc, source, system, given),
-        Tool::Ngettext => look_up_plural(alloc, source, system, given),
-        Tool::Envsubst => substitute(alloc, source, reader, system, given),
+        Tool::Msgfmt => {
+            let output = output.unwrap_or(DEFAULT_OUTPUT);
+            let options = msgfmt_options_of(given);
+            msgfmt::run(alloc, source, system, inputs, output, &options)
+        }
+        Tool::Msgunfmt => msgunfmt::run(alloc, source, system, input, output.unwrap_or(STANDARD)),
+        Tool::Msgattrib => {
+            let output = output.unwrap_or(STANDARD);
+            let selection = selection_of(given);
+            msgattrib::run(alloc, source, system, input, output, &selection)
+        }
+        Tool::Msgcat => {
+            let output = output.unwrap_or(STANDARD);
+            let options = merge_options_of(given);
+            msgcat::run(alloc, source, system, inputs, output, &options)
+        }
+        Tool::Gettext => {
+            let arguments = GettextArguments::given(given)?;
+            let options = gettext_options_of(given, arguments);
+            let domain = given.text_of("domain");
+            run_gettext(alloc, source, system, arguments.domain, domain, &options)
+        }
+        Tool::Ngettext => {
+            let arguments = NgettextArguments::given(given)?;
+            let options = ngettext_options_of(given, arguments);
+            let domain = given.text_of("domain");
+            run_ngettext(alloc, source, system, arguments.domain, domain, &options)
+        }
+        Tool::Envsubst => {
+            let arguments = EnvsubstArguments::given(given)?;
+            envsubst(alloc, &*source, reader, &mut system.out, arguments)?;
+            Ok(0)
+        }
     }
-}
-
-/// Runs `gettext`.
-fn look_up<'a, S, F: OutputFiles, O: ByteOut, E: ByteOut, A: Arguments>(
-    alloc: Global,
-    source: &mut S,
-    system: &mut OutputSystem<F, O, E>,
-    given: &'a A,
-) -> Result<u8, ProgramFault<'a>>
-where
-    S: InputSource + VariableSource + EntrySource,
-    requires out { system.old.out.failures < 2 ^ 63 }
-    requires err { system.old.err.failures < 2 ^ 63 }
-    ensures { (reader : ReaderView) → RunsGettextLine
-        (line_of (A.flag given.now) (A.text given.now) (A.texts given.now) (A.number given.now))
-        (answers_of S.file S.standard (S.variable source.old) (S.entries source.old))
-        (reached (S.asked source.old) reader system.old)
-        (reached (S.asked source.new) reader system.new) result }
-{
-    let arguments = GettextArguments::given(given)?;
-    run_gettext(
-        alloc,
-        source,
-        system,
-        arguments.domain,
-        given.text_of("domain"),
-        &gettext_options_of(given, arguments),
-    )
-}
-
-/// Runs `ngettext`.
-fn look_up_plural<'a, S, F: OutputFiles, O: ByteOut, E: ByteOut, A: Arguments>(
-    alloc: Global,
-    source: &mut S,
-    system: &mut OutputSystem<F, O, E>,
-    given: &'a A,
-) -> Result<u8, ProgramFault<'a>>
-where
-    S: InputSource + VariableSource + EntrySource,
-    requires out { system.old.out.failures < 2 ^ 63 }
-    requires err { system.old.err.failures < 2 ^ 63 }
-    ensures { (reader : ReaderView) → RunsNgettextLine
-        (line_of (A.flag given.now) (A.text given.now) (A.texts given.now) (A.number given.now))
-        (answers_of S.file S.standard (S.variable source.old) (S.entries source.old))
-        (reached (S.asked source.old) reader system.old)
-        (reached (S.asked source.new) reader system.new) result }
-{
-    let arguments = NgettextArguments::given(given)?;
-    run_ngettext(
-        alloc,
-        source,
-        system,
-        arguments.domain,
-        given.text_of("domain"),
-        &ngettext_options_of(given, arguments),
-    )
-}
-
-/// Runs `envsubst`.
-fn substitute<'a, S, R: ByteIn, F: OutputFiles, O: ByteOut, E: ByteOut, A: Arguments>(
-    alloc: Global,
-    source: &mut S,
-    reader: &mut R,
-    system: &mut OutputSystem<F, O, E>,
-    given: &'a A,
-) -> Result<u8, ProgramFault<'a>>
-where
-    S: InputSource + VariableSource + EntrySource,
-    requires calls { R.calls reader.old < 2 ^ 63 }
-    requires failures { R.failures reader.old < 2 ^ 63 }
-    requires out { system.old.out.failures < 2 ^ 63 }
-    requires err { system.old.err.failures < 2 ^ 63 }
-    ensures { RunsEnvsubstLine
-        (line_of (A.flag given.now) (A.text given.now) (A.texts given.now) (A.number given.now))
-        (answers_of S.file S.standard (S.variable source.old) (S.entries source.old))
-        (reached (S.asked source.old)
-        (reader_of (R.remaining reader.old) (R.calls reader.old) (R.failures reader.old)) system.old)
-        (reached (S.asked source.new)
-        (reader_of (R.remaining reader.new) (R.calls reader.new) (R.failures reader.new)) system.new) result }
-{
-    let arguments = EnvsubstArguments::given(given)?;
-    envsubst(alloc, &*source, reader, &mut system.out, arguments)?;
-    Ok(0)
 }

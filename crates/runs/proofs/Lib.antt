@@ -11,6 +11,5 @@ mod WholeOutputs
 mod AskedInTurn
 mod InputsInTurn
 pub mod ArgumentLemmas
-mod ToolRunLemmas
 mod WrittenRuns
 mod OneInputs

@@ -7,10 +7,11 @@ use Rattle.runs.specs.declared.output_files.OutputFault.{OutputFault}
 use Rattle.runs.specs.declared.output_files.FileKind.TheVariants.{Regular}
 use Rattle.runs.specs.declared.output_files.MakeFault.{MakeFault}
 use Rattle.runs.specs.declared.output_files.MakeFault.TheVariants.{Exists}
+use Rattle.runs.specs.declared.output_files.Owner.{Owner}
 use Rattle.runs.specs.declared.output_files.Rights.{Rights}
-use Rattle.runs.specs.FileCalls.{FileCall, FileLog, Course, done, fails, ◌▸◌, calls_of, logged, Runs, asks, reads_link, numbers, makes, fails_to_make, closes}
-use Rattle.runs.specs.FileRights.{first_mode}
-use Rattle.runs.specs.OutputFiles.{Closes, whole, cut, late, Fills, Replaces, made, taken, WritesFile, follows}
+use Rattle.runs.specs.FileCalls.{FileCall, FileLog, Course, done, fails, ◌▸◌, calls_of, logged, Runs, asks, reads_link, numbers, makes, fails_to_make, closes, sets_mode, sets_owner}
+use Rattle.runs.specs.FileRights.{first_mode, kept_mode}
+use Rattle.runs.specs.OutputFiles.{Closes, whole, cut, late, Fills, Finishes, NewFile, Replaces, made, taken, with_rights, WritesFile, follows}
 use Rattle.runs.specs.OutputPaths.{NamesNoStream, link_target, beside}
 
 pub logged-twice : (first rest : List FileCall) (log : FileLog)
@@ -44,6 +45,15 @@ pub done-for : {before end : FileLog} {fault : Option OutputFault} {P Q : Course
     → ((course : Course) → P course → Q course)
     → Runs before end fault P → Runs before end fault Q
 done-for for it = record { course = it.course; log = it.log; fault_is = it.fault_is; is = for it.course it.is }
+
+-- a new file is finished once it has its rights
+pub after-rights : {output : List ℕ} {new : NewFile} {old : Rights} (owner : Option Owner) {bits : ℕ}
+    {before owned kept end : FileLog} {fault : Option OutputFault}
+    → owned ≡ logged (sets_owner old.owner owner ∷ []) before → bits ≡ kept_mode old owner
+    → kept ≡ logged (sets_mode bits true ∷ []) owned → Runs kept end fault (Finishes output new)
+    → Runs before end fault (Fills output new (Some old))
+after-rights owner first bits-is second rest =
+    after-call _ first (after-call _ (rw bits-is at second) (done-for (λ course are. with_rights are) rest))
 
 -- what was put into a file that is closed then, and whether the system took all that was written
 pub put-closed : {T : Type 0} (result : Result T ToolFault) (closed : Bool) {output : List ℕ}

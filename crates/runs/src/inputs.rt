@@ -110,7 +110,13 @@ impl<'a> Inputs<'a> {
                     name: shown_name(argument),
                     bytes,
                 })?,
-                Err(why) => return ended(texts, argument, why),
+                Err(why) => {
+                    if why == InputFault::OutOfMemory {
+                        return Err(AllocError);
+                    }
+                    let fault = Some(fault_of(shown_name(argument), why));
+                    return Ok(Inputs { texts, fault });
+                }
             }
             is_stdin_read = is_stdin_read || standard;
         }
@@ -208,26 +214,6 @@ fn read_argument<S: InputSource>(
         (false, _) => source.read_file(alloc, argument),
         (true, false) => source.read_standard(alloc),
         (true, true) => Ok(Vec::new(alloc)),
-    }
-}
-
-/// The inputs that end at one that can't be read.
-fn ended<'a>(
-    texts: Vec<Input<'a>>,
-    argument: &'a str,
-    why: InputFault,
-) -> Result<Inputs<'a>, AllocError>
-    ensures inputs { IfOk result (λ inputs. (inputs.texts.items ≡ texts.entry.items)
-        × (option_map program_text inputs.fault ≡ Some (input_fault_text (shown_name argument.now) why))
-        × (why ≢ InputFault.OutOfMemory) × (inputs.fault ≢ Some ProgramFault.OutOfMemory)) }
-    ensures memory { OnErr result (why ≡ InputFault.OutOfMemory) }
-{
-    match why {
-        InputFault::OutOfMemory => Err(AllocError),
-        _ => Ok(Inputs {
-            texts,
-            fault: Some(fault_of(shown_name(argument), why)),
-        }),
     }
 }
 

@@ -1,15 +1,21 @@
-//! A system to which runs are written, as one value.
+//! A system to which runs are written, as one value: to the output file or to standard output, and
+//! then to standard error.
 ghost use Rattle.std.specs.Prelude.{◌^◌, ◌<◌};
-ghost use Rattle.runs.specs.Run.{run_view};
+ghost use Rattle.runs.specs.FileCalls.{fault_in};
+ghost use Rattle.runs.specs.Outputs.{WritesRun};
+ghost use Rattle.runs.specs.Run.{output_file, run_view};
 ghost use Rattle.runs.specs.ToolRuns.{Writes};
 
-use crate::device::ByteOut;
-use crate::output_files::OutputFiles;
-use crate::outputs::write_run;
+use crate::device::{ByteOut, put_all};
+use crate::output_files::{OutputFault, OutputFiles};
+use crate::output_writing::write_file;
 use crate::program_fault::ProgramFault;
-use crate::run::Run;
+use crate::run::{Run, deliver};
 use std::alloc::Global;
 use std::marker::Model;
+
+/// How many links are followed at most from the argument for an output file.
+const LINK_LIMIT: u32 = 40;
 
 /// A system to which runs are written: its files, standard output and standard error.
 #[derive(Drop)]
@@ -32,7 +38,9 @@ impl<F: OutputFiles, O: ByteOut, E: ByteOut> Model for OutputSystem<F, O, E> {
 }
 
 impl<F: OutputFiles, O: ByteOut, E: ByteOut> OutputSystem<F, O, E> {
-    /// Writes a run as `write_run` does, and returns its status.
+    /// Writes a run: all of its output to its output file, by the argument for it, or to standard output
+    /// where there is none, and then all of its messages to standard error. The output file is there
+    /// whole, or as it was. Returns the run's status.
     pub fn write<'a>(
         &mut self,
         alloc: Global,
@@ -43,13 +51,25 @@ impl<F: OutputFiles, O: ByteOut, E: ByteOut> OutputSystem<F, O, E> {
         requires err { self.old.err.failures < 2 ^ 63 }
         ensures { Writes (run_view run.now) argument.now self.old self.new result }
     {
-        write_run(
-            alloc,
-            &mut self.files,
-            &mut self.out,
-            &mut self.err,
-            run,
-            argument,
-        )
+        match self.write_output(alloc, run, argument) {
+            Ok(()) => Ok(run.status),
+            Err(OutputFault::CannotCreate) => Err(ProgramFault::CannotCreate(argument)),
+            Err(OutputFault::WriteFault) => Err(ProgramFault::WriteFault),
+            Err(OutputFault::OutOfMemory) => Err(ProgramFault::OutOfMemory),
+        }
+    }
+
+    /// Writes all of a run, or says why it can't.
+    fn write_output(&mut self, alloc: Global, run: &Run, argument: &str) -> Result<(), OutputFault>
+        requires out { self.old.out.failures < 2 ^ 63 }
+        requires err { self.old.err.failures < 2 ^ 63 }
+        ensures { WritesRun (run_view run.now) self.old self.new (output_file (run_view run.now) argument.now)
+            (fault_in result) }
+    {
+        let Some(name) = run.output_file(argument) else {
+            return deliver(run, &mut self.out, &mut self.err).or(Err(OutputFault::WriteFault));
+        };
+        write_file(alloc, &mut self.files, name, &run.output, LINK_LIMIT)?;
+        put_all(&mut self.err, &run.messages).or(Err(OutputFault::WriteFault))
     }
 }

@@ -1,12 +1,12 @@
 //! How an output is made: whole in a new file beside the one that it replaces, which then gets its path.
 ghost use Rattle.runs.specs.FileCalls.{Call, Runs, fault_in};
-ghost use Rattle.runs.specs.OutputFiles.{Closes, Fills, Finishes, Puts, Replaces, WritesFile, WritesInPlace, WritesStream};
+ghost use Rattle.runs.specs.OutputFiles.{Closes, Fills, Puts, Replaces, WritesFile, WritesInPlace, WritesStream};
 
-use crate::delivery::put_all;
-use crate::device::Counted;
-use crate::output_files::{FileKind, MakeFault, OutputFault, OutputFiles, Rights};
+use crate::device::{Counted, put_all};
+use crate::output_files::{
+    FileKind, MakeFault, OutputFault, OutputFiles, Rights, first_mode, kept_mode,
+};
 use crate::output_paths::{beside, link_target, stream_named};
-use crate::output_rights::{first_mode, kept_mode};
 use std::alloc::Global;
 
 /// How many further names are tried for a new file, where one is taken.
@@ -80,8 +80,9 @@ fn replace<T: OutputFiles>(
     }
 }
 
-/// Gives a new file the owner of the one that it replaces, as far as the system lets the run do that, and
-/// what is kept of its mode, and then all of the output and the path. Where that fails it is removed.
+/// Gives a new file the owner of the one that it replaces, if it does, as far as the system lets the run
+/// do that, and what is kept of its mode, and then all of the output and the path. Where that fails it
+/// is removed.
 fn fill<T: OutputFiles>(
     files: &mut T,
     file: T::File,
@@ -93,28 +94,13 @@ fn fill<T: OutputFiles>(
     ensures { Runs (T.log files.old) (T.log files.new) (fault_in result)
         (Fills output.now (record { path = new.now; target = path.now; made = T.File.contents file }) old) }
 {
-    let Some(old) = old else {
-        return finish(files, file, path, new, output);
-    };
-    let owner = files.set_owner(&file, old.owner);
-    if !files.set_mode(&file, kept_mode(old, owner)) {
-        files.remove(new);
-        return Err(OutputFault::CannotCreate);
+    if let Some(old) = old {
+        let owner = files.set_owner(&file, old.owner);
+        if !files.set_mode(&file, kept_mode(old, owner)) {
+            files.remove(new);
+            return Err(OutputFault::CannotCreate);
+        }
     }
-    finish(files, file, path, new, output)
-}
-
-/// Gives a new file all of the output, and then the path. Where that fails it is removed.
-fn finish<T: OutputFiles>(
-    files: &mut T,
-    file: T::File,
-    path: &str,
-    new: &str,
-    output: &[u8],
-) -> Result<(), OutputFault>
-    ensures { Runs (T.log files.old) (T.log files.new) (fault_in result)
-        (Finishes output.now (record { path = new.now; target = path.now; made = T.File.contents file })) }
-{
     if !put_and_close(files, file, output) {
         files.remove(new);
         return Err(OutputFault::WriteFault);

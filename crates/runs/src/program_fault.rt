@@ -7,8 +7,7 @@ ghost use Rattle.runs.specs.Internal.Parts.{joined};
 ghost use Rattle.runs.specs.ProgramFaults.{input_fault, program_line, program_text, stdin_text, tool_prefix};
 ghost use Rattle.runs.specs.declared.program_fault.ProgramFault.TheVariants.{OutOfMemory};
 
-use crate::delivery::put_all;
-use crate::device::ByteOut;
+use crate::device::{ByteOut, put_all};
 use crate::run::STDIN_NAME;
 use crate::tool_fault::ToolFault;
 use arrayvec::{ArrayVec, CapacityError};

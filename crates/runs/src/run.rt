@@ -1,11 +1,11 @@
-//! What a run of a tool comes to, and how it is delivered.
+//! What a run of a tool comes to, how it is delivered, and how the program ends.
 ghost use Rattle.std.specs.Prelude.{◌≡◌, ◌+◌, ◌^◌, ◌<◌, Err, OnOk, OnErr};
 ghost use Rattle.std.specs.Io.KnownBytes.{Appends};
 ghost use Rattle.std.specs.Option.{option_copied};
+ghost use Rattle.runs.specs.Ending.{exit_status};
 ghost use Rattle.runs.specs.Run.{run_view, output_file, refusal, shown_name, DeliversPrefix};
 
-use crate::delivery::put_all;
-use crate::device::ByteOut;
+use crate::device::{ByteOut, put_all};
 use crate::tool_fault::ToolFault;
 use std::alloc::Global;
 
@@ -81,4 +81,27 @@ pub fn deliver<O: ByteOut, E: ByteOut>(run: &Run, out: &mut O, err: &mut E) -> R
 {
     put_all(out, &run.output)?;
     put_all(err, &run.messages)
+}
+
+/// What the program has come to.
+#[derive(Clone, Copy, Debug, PartialEq, Eq)]
+pub enum Ending {
+    /// A tool has run, with this status.
+    Ran(u8),
+    /// Help was asked for, and whether all of it was printed.
+    Helped(bool),
+    /// There was a fault: of the command line, or of the tool, which has no status then.
+    Refused,
+}
+
+impl Ending {
+    /// The exit status: 0 after a run whose status is 0 and after help that was printed, else 1.
+    pub fn exit_status(self) -> u8
+        ensures { result ≡ exit_status self }
+    {
+        match self {
+            Ending::Ran(0) | Ending::Helped(true) => 0,
+            Ending::Ran(_) | Ending::Helped(false) | Ending::Refused => 1,
+        }
+    }
 }

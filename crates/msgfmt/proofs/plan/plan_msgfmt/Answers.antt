@@ -1,22 +1,93 @@
-use Rattle.std.proofs.Common.{arith, ap, inl, length}
+use Rattle.std.proofs.Common.{ap, arith, inl, inr, length, ⊎_elim}
+use Rattle.po_compile.specs.CompiledInputs.{AreCollected}
+use Rattle.runs.specs.NamedFile.{named_files}
+use Rattle.msgfmt.specs.Msgfmt.{input_texts}
 use Rattle.msgfmt.proofs.MsgfmtLemmas.{collected-count}
 use Rattle.msgfmt.proofs.plan.plan_msgfmt.Goals as goal
 
-pub plan_collected-requires-clause-few : goal.plan_collected-requires-clause-few
-plan_collected-requires-clause-few c =
-    let of = rw (c.deref.ensures.value, c.in_ok-texts.ensures) at c.in-Ok.ensures.found in
-    omega (
-      arith,
-      c.requires.few,
-      ap length c.deref-in-Ok.ensures.value,
-      collected-count c.args.options.now.use_fuzzy c.args.inputs.now c.in-Ok.collected.items of,
-    )
-
-pub returns-clause-run : goal.returns-clause-run
-returns-clause-run c =
+pub returns-in-Err-clause-run : goal.returns-in-Err-clause-run
+returns-in-Err-clause-run c =
     inl (record {
       error = c.in-Err.error;
       fault = inl (rw (c.deref.ensures.value, c.in_ok-texts.ensures) at c.in-Err.ensures.fault);
       not_memory = c.in_ok-refused_run-in-Err.ensures.0;
       run_is = c.in_ok-refused_run-in-Err.ensures.1;
     })
+
+pub checked-checked-requires : goal.checked-checked-requires
+checked-checked-requires c =
+    let of = rw (c.deref.ensures.value, c.in_ok-texts.ensures) at c.in-Ok.ensures.found in
+    omega (
+      arith,
+      c.requires.few,
+      ap length c.deref-2.ensures.value,
+      collected-count c.args.options.now.use_fuzzy c.args.inputs.now c.in-Ok.collected.items of,
+    )
+
+pub compile_collected-requires-clause-few : goal.compile_collected-requires-clause-few
+compile_collected-requires-clause-few c =
+    let of = rw (c.deref.ensures.value, c.in_ok-texts.ensures) at c.in-Ok.ensures.found in
+    omega (
+      arith,
+      c.requires.few,
+      ap length c.deref-3.ensures.value,
+      collected-count c.args.options.now.use_fuzzy c.args.inputs.now c.in-Ok.collected.items of,
+    )
+
+pub compile_collected-requires-clause-read : goal.compile_collected-requires-clause-read
+compile_collected-requires-clause-read c = (
+  input_texts (named_files c.args.inputs.now),
+  rw c.deref-3.ensures.value (rw (c.deref.ensures.value, c.in_ok-texts.ensures) at c.in-Ok.ensures.found),
+)
+
+pub returns-in-Err-default-clause-run : goal.returns-in-Err-default-clause-run
+returns-in-Err-default-clause-run c =
+    let texts = input_texts (named_files c.args.inputs.now) in
+    let of = rw (c.deref.ensures.value, c.in_ok-texts.ensures) at c.in-Ok.ensures.found in
+    inl (record {
+      error = c.in-Err-default.error;
+      fault = c.in-Err-default.ensures.fault texts (rw c.deref-3.ensures.value of);
+      not_memory = c.in_ok-refused_run-in-Err-default.ensures.0;
+      run_is = c.in_ok-refused_run-in-Err-default.ensures.1;
+    })
+
+pub returns-in-Ok-Ok-clause-run : goal.returns-in-Ok-Ok-clause-run
+returns-in-Ok-Ok-clause-run c =
+    let o = c.args.options.now in
+    let texts = input_texts (named_files c.args.inputs.now) in
+    let of = rw (c.deref.ensures.value, c.in_ok-texts.ensures) at c.in-Ok.ensures.found in
+    let read : AreCollected o.use_fuzzy texts c.deref-3.result.now = rw c.deref-3.ensures.value of in
+    let compiled = c.in-Ok-Ok.ensures.found texts read in
+    let fit = rw c.in-Ok-Ok.is-1 at c.checked-checked.ensures.fit in
+    inr (inr (record {
+      catalogues = read.catalogues;
+      read = compiled.0;
+      compiled = c.in-Ok-Ok.compiled;
+      is_compiled = compiled.1;
+      stats = c.in-Ok-Ok.ensures.statistics texts read;
+      checked = λ asked. fit asked o.use_fuzzy read.catalogues
+          (rw c.deref-2.ensures.value (rw c.deref-3.ensures.value at read.held));
+      run_is = c.in_ok-compiled_run-in-Ok-Ok.ensures;
+    }))
+
+pub returns-clause-run : goal.returns-clause-run
+returns-clause-run c =
+    let o = c.args.options.now in
+    let texts = input_texts (named_files c.args.inputs.now) in
+    let of = rw (c.deref.ensures.value, c.in_ok-texts.ensures) at c.in-Ok.ensures.found in
+    let read : AreCollected o.use_fuzzy texts c.deref-3.result.now = rw c.deref-3.ensures.value of in
+    let compiled = c.in-Ok-Err.ensures.found texts read in
+    let run = c.in_ok-failed_check_run-in-Ok-Err.ensures in
+    ⊎_elim (λ memory. absurd (run.0 (ap (λ f. f.1) memory)))
+    (λ found. inr (inl (record {
+      catalogues = read.catalogues;
+      read = compiled.0;
+      compiled = c.in-Ok-Err.field-0-0;
+      is_compiled = compiled.1;
+      asked = found.0;
+      fault = (c.in-Ok-Err.input, c.in-Ok-Err.fault);
+      checked = found.1 o.use_fuzzy read.catalogues
+          (rw c.deref-2.ensures.value (rw c.deref-3.ensures.value at read.held));
+      run_is = run.1;
+    })))
+    (rw c.in-Ok-Err.is-1 at c.checked-checked.ensures.unfit)

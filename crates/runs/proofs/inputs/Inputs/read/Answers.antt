@@ -1,5 +1,5 @@
-use Rattle.std.proofs.Common.{◌≡◌, ◌||◌, ◌+◌, Bool, List, length, length-append, refl, sym, subst, ◌∙◌, ap, ⊎_elim}
-use Rattle.std.proofs.lemmas.Result.{IfOk-weaker}
+use Rattle.std.proofs.Common.{◌≡◌, ◌||◌, ◌+◌, Bool, List, Some, length, length-append, refl, sym, subst, ◌∙◌, ap, ⊎_elim}
+use Rattle.std.proofs.lemmas.Bool.{false≢true}
 use Rattle.runs.specs.Inputs.{named_inputs}
 use Rattle.runs.specs.NamedFile.{NamedFile}
 use Rattle.runs.proofs.InputLemmas.{AsksBefore, AsksBefore-read, AsksBefore-unread, AsksBefore-first, AsksBefore-more, AsksBefore-none, Completes, Completes-none, Completes-read, Completes-unread, Completes-all, named-more}
@@ -61,15 +61,12 @@ loop-argument-preserved g c =
 
 pub returns-in-Err-clause-inputs : goal.returns-in-Err-clause-inputs
 returns-in-Err-clause-inputs g c =
-    IfOk-weaker c.ended.result _ _
-    (λ inputs reported.
-    rw (reported.0, reported.1)
+    rw (c.fault_of.ensures.text, c.shown_name-in-Err.ensures)
     (Completes-unread _ _ c.args.arguments.now c.loop-argument.argument-index _ c.loop-argument.is_stdin_read
     (named_inputs c.loop-argument.texts.items) c.in-Err.why c.loop-argument-test.true
-    (⊎_elim (λ memory. absurd (reported.2 memory))
+    (⊎_elim (λ memory. absurd (false≢true (rw memory at c.if-eq.ensures)))
     (λ reads. rw c.is_standard-standard.ensures at reads) c.in-Err.ensures.reading)
-    c.loop-argument.invariant.inputs))
-    c.ended.ensures.inputs
+    c.loop-argument.invariant.inputs)
 
 pub returns-in-Err-clause-asked : goal.returns-in-Err-clause-asked
 returns-in-Err-clause-asked g c =
@@ -85,13 +82,17 @@ returns-in_err-push-in-Ok-clause-asked g c =
     c.loop-argument-test.true c.loop-argument.invariant.asked
     (rw c.is_standard-standard.ensures at c.read_argument.ensures.asked))
 
-pub returns-in-Err-clause-asked_read : goal.returns-in-Err-clause-asked_read
-returns-in-Err-clause-asked_read g c =
-    IfOk-weaker c.ended.result _ _
-    (λ inputs reported.
-    AsksBefore-unread _ _ c.args.arguments.now c.loop-argument.argument-index _ _ _ _ reported.1
-    (ap (λ texts. length (named_inputs texts)) reported.0 ∙ c.loop-argument.invariant.count)
+pub returns-then-eq-clause-asked : goal.returns-then-eq-clause-asked
+returns-then-eq-clause-asked g c =
+    AsksBefore-first _ _ _ _ _
     (AsksBefore-more _ _ _ c.args.arguments.now c.loop-argument.argument-index _ c.loop-argument.is_stdin_read
     c.loop-argument-test.true c.loop-argument.invariant.asked
-    (rw c.is_standard-standard.ensures at c.read_argument.ensures.asked)))
-    c.ended.ensures.inputs
+    (rw c.is_standard-standard.ensures at c.read_argument.ensures.asked))
+
+pub returns-in-Err-clause-asked_read : goal.returns-in-Err-clause-asked_read
+returns-in-Err-clause-asked_read g c =
+    AsksBefore-unread _ _ c.args.arguments.now c.loop-argument.argument-index _ _ _ _
+    (ap Some c.fault_of.ensures.text) c.loop-argument.invariant.count
+    (AsksBefore-more _ _ _ c.args.arguments.now c.loop-argument.argument-index _ c.loop-argument.is_stdin_read
+    c.loop-argument-test.true c.loop-argument.invariant.asked
+    (rw c.is_standard-standard.ensures at c.read_argument.ensures.asked))

@@ -4,7 +4,7 @@ use Rattle.runs.specs.Inputs.{named_inputs}
 use Rattle.runs.specs.NamedFile.{named_files}
 use Rattle.runs.specs.Run.{run_view}
 use Rattle.msgfmt.proofs.MsgfmtLemmas.{refused, taken}
-use Rattle.msgfmt.proofs.plan_inputs.plan_msgfmt_of.Goals as goal
+use Rattle.msgfmt.proofs.whole_run.plan_msgfmt_of.Goals as goal
 
 pub returns-then-run-eq0-clause-fault : goal.returns-then-run-eq0-clause-fault
 returns-then-run-eq0-clause-fault c =

@@ -8,7 +8,7 @@ use Rattle.runs.specs.Outputs.{SystemView, WritesRun, MakesFile, OutputIs, cut, 
 use Rattle.runs.specs.Run.{RunView, DeliversPrefix}
 use Rattle.runs.specs.declared.output_files.OutputFault.TheVariants.{WriteFault}
 use Rattle.runs.specs.declared.tool_fault.ToolFault.{ToolFault}
-use Rattle.runs.proofs.outputs.write_output.Goals as goal
+use Rattle.runs.proofs.output_system.OutputSystem.write_output.Goals as goal
 
 delivers : {run : RunView} {before after : SystemView} (r : Result (Unit {0}) ToolFault) → after.files ≡ before.files
     → OnOk r (Appends before.out.bytes after.out.bytes run.output)
@@ -24,20 +24,20 @@ delivers (Err _) same output messages prefix out err failure = cut same (record 
 pub returns-in_default : goal.returns-in_default
 returns-in_default g c =
     let all = c.deliver.ensures in
-    rw (← c.output_file.ensures, c.in_default.is, c.or.ensures)
+    rw (← c.self.view_is, ← c.output_file.ensures, c.in_default.is, c.or.ensures)
     (delivers c.deliver.result refl all.output all.messages all.prefix all.out_failures all.err_failures all.cause)
 
 pub returns-in_err-write_file : goal.returns-in_err-write_file
 returns-in_err-write_file g c =
     let p = err_from_is_err_and c.from_residual.result c.from_residual.ensures.1 in
-    rw (← c.output_file.ensures, c.in-Some.is, p.1, p.2)
+    rw (← c.self.view_is, ← c.output_file.ensures, c.in-Some.is, p.1, p.2)
     (to_file refl (unmade (rw c.deref.ensures.value at c.in_err-write_file.ensures) refl))
 
 pub returns : goal.returns
 returns g c =
     let file = rw c.deref.ensures.value at c.in_ok-write_file.ensures in
     let put = c.put_all.ensures in
-    rw (← c.output_file.ensures, c.in-Some.is, c.or-2.ensures)
+    rw (← c.self.view_is, ← c.output_file.ensures, c.in-Some.is, c.or-2.ensures)
     (to_file refl (reports c.put_all.result file (rw c.deref-2.ensures.value at put.ok)
     (rw c.deref-2.ensures.value at put.prefix) put.no_failure put.cause)) where
       reports : {run : RunView} {name : List ℕ} {before after : SystemView} (r : Result (Unit {0}) ToolFault)

@@ -1,6 +1,6 @@
 use Rattle.std.proofs.Common.{inr}
 use Rattle.msgfmt.proofs.CheckedMessages.{checked}
-use Rattle.msgfmt.proofs.check.check_inputs.Goals as goal
+use Rattle.msgfmt.proofs.profile.check_inputs.Goals as goal
 
 pub returns-in-None-clause-fit : goal.returns-in-None-clause-fit
 returns-in-None-clause-fit c = λ use_fuzzy catalogues h.

@@ -1,7 +1,7 @@
 use Rattle.std.proofs.Common.{length, take, [], ◌-◌, ◌≡◌, ◌<◌, ◌≤◌}
 use Rattle.std.specs.Io.KnownBytes.{Appends}
 use Rattle.runs.specs.Device.{GivesFirst}
-use Rattle.runs.proofs.delivery.put_all.Given as goal
+use Rattle.runs.proofs.device.put_all.Given as goal
 
 abbrev pub invariant-loop-at : goal.invariant-loop-at
 invariant-loop-at g l = record {

@@ -4,7 +4,7 @@ use Rattle.std.proofs.lemmas.List.{length-map}
 use Rattle.po_compile.specs.Collected.{HoldCatalogues, live_messages}
 use Rattle.msgfmt.specs.Msgfmt.{AreChecked}
 use Rattle.msgfmt.specs.declared.profile.CheckFault.TheVariants.{OutOfMemory}
-use Rattle.msgfmt.proofs.check.profile_check.Goals as goal
+use Rattle.msgfmt.proofs.profile.profile_check.Goals as goal
 
 pub check_inputs-requires : goal.check_inputs-requires
 check_inputs-requires c =
