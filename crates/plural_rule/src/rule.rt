@@ -18,7 +18,7 @@ use std::marker::Model;
 pub const EXPRESSION_LIMIT: usize = 4096;
 
 /// Where a rule comes from.
-#[derive(Clone, Copy, PartialEq, Eq, Drop)]
+#[derive(Clone, Copy, Debug, PartialEq, Eq, Drop)]
 pub enum Source {
     /// The header text names it.
     Header,
@@ -28,7 +28,7 @@ pub enum Source {
 
 /// Why a header text gives the default rule. Where several hold, the first of `NoNumber`,
 /// `NoExpression`, `TooLong`, `Unreadable` is reported.
-#[derive(Clone, Copy, PartialEq, Eq, Drop)]
+#[derive(Clone, Copy, Debug, PartialEq, Eq, Drop)]
 pub enum Reason {
     /// There is no `nplurals=` with a number after it.
     NoNumber,
