@@ -319,6 +319,17 @@ waits parser stack t w after code entries start h fits is waiting is' =
           ∙ ap (λ es. pending (start_after stack) w ∷ es) h.entries_are;
     }
 
+-- what waits begins with `?`
+abbrev Asks : List Pending → Type 0
+Asks (QuestionPending first ∷ rest) = Unit {0}
+Asks _ = ⊥
+
+-- what waits for `:`, and then for the operand after it
+colon_of : (first first' : ℕ) (rest rest' : List Pending)
+    → QuestionPending first ∷ rest ≡ QuestionPending first' ∷ rest'
+    → ColonPending first ∷ rest ≡ ColonPending first' ∷ rest'
+colon_of first first' rest rest' e = cc
+
 -- `:` after an operand, where `?` waits for it
 pub answers-colon : (parser : Held) (first : ℕ) (rest : List Pending) (stack : List Waiting) (t : Tree) (after : Parser)
     (room : List Instruction) (codes : List ℕ) → IsOperand parser stack t
@@ -329,16 +340,15 @@ pub answers-colon : (parser : Held) (first : ℕ) (rest : List Pending) (stack :
 answers-colon parser first rest (WaitQuestion a ∷ below) t after room codes h e is is' waits =
     let before = λ (ys : List Instruction). waiting_then below (program_then 1 a ys) in
     let done = skips before (λ ys. sym (appended below a [] ys))
-    (choose_instruction 0) t parser.code parser.start 1 h.code_is h.start_is in
-    let same = sym e ∙ h.entries_are in (
+    (choose_instruction 0) t parser.code parser.start 1 h.code_is h.start_is in (
       waits,
       record {
         code_is = is ∙ ap (λ p. p ++ jump_instruction 0 ∷ []) done
             ∙ appended-after below a _ t _;
-        entries_are = cc;
+        entries_are = is' ∙ colon_of first (start_after below) rest (pendings below) (sym e ∙ h.entries_are);
       },
     )
-answers-colon parser first rest _ t after room codes h e is is' waits = absurd (let same = sym e ∙ h.entries_are in cc)
+answers-colon parser first rest _ t after room codes h e is is' waits = absurd (subst Asks (sym e ∙ h.entries_are) tt)
 
 -- `)` after an operand, where `(` waits for it
 pub answers-close : (parser : Held) (rest : List Pending) (stack : List Waiting) (t : Tree) (after : Parser)
