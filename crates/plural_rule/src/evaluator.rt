@@ -116,9 +116,8 @@ fn instruction_at(instructions: &[Instruction], index: usize) -> Instruction
 /// What an instruction does, where these are the newest values, and the next one has this number.
 #[inline(always)]
 fn act(action: Action, low: u32, count: u64, newest: u64, below: u64) -> Effect
-    ensures next { (older : List ℕ) →
-        act count action low (newest ∷ below ∷ older) ≡ left_by result.0 result.1 result.2 result.3 (newest ∷ below ∷ older) }
-    ensures taken { result.1 ≤ 2 }
+    ensures { (older : List ℕ) → (result.1 ≤ 2) ×
+        (act count action low (newest ∷ below ∷ older) ≡ left_by result.0 result.1 result.2 result.3 (newest ∷ below ∷ older)) }
 {
     match action {
         Action::Count(begins) => (Some(count), 0, 0, begins),
