@@ -123,9 +123,8 @@ pub(crate) fn push_numeral(room: &mut Room, len: usize, value: u64) -> usize
 #[inline(always)]
 pub(crate) fn complete(room: &mut Room, len: usize, start: u16, top: Pending) -> (usize, u16)
     requires { len + weight_of top ≤ expression_limit }
-    ensures items { take result.0 room.new ≡ completed_program top start (take len room.old) }
-    ensures start { result.1 ≡ first_of top start }
-    ensures len { result.0 ≤ len + weight_of top }
+    ensures { (take result.0 room.new ≡ completed_program top start (take len room.old)) ×
+        (result.1 ≡ first_of top start) × (result.0 ≤ len + weight_of top) }
 {
     match top {
         Pending::Not => {
@@ -143,7 +142,6 @@ pub(crate) fn complete(room: &mut Room, len: usize, start: u16, top: Pending) ->
             skip_operand(room, len, start, 0);
             (len, first)
         }
-        Pending::Question(first) => (len, first),
-        Pending::Open => (len, start),
+        Pending::Question(_) | Pending::Open => (len, start),
     }
 }
