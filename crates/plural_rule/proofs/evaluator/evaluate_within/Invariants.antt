@@ -10,7 +10,6 @@ invariant-loop-index g l = record {
   some : l.index < length l.instructions → 1 ≤ l.len;
   inside : l.index < length l.instructions → l.len < g.row.N;
   bound : l.steps ≤ 2 ^ 16 * l.index;
-  size : length l.stack ≡ g.row.N;
 }
 
 abbrev pub decreases-loop-index : goal.decreases-loop-index

@@ -1,0 +1,21 @@
+use Rattle.std.proofs.Common.{ap, ◌∙◌, ◌^◌, ◌≤◌, arith}
+use Rattle.std.specs.Str.Parse.{digits_value}
+use Rattle.std.specs.Char.{is_ascii_digit}
+use Rattle.plural_rule.proofs.Scanning.{first_byte-get, AllDigits-take_while, numeral-token, numeral-none}
+use Rattle.plural_rule.proofs.lexer.numeral.Goals as goal
+
+pub decimal_value-requires : goal.decimal_value-requires
+decimal_value-requires c = rw c.leading_digits-digits.ensures (AllDigits-take_while c.args.text.now)
+
+pub returns-in-Some : goal.returns-in-Some
+returns-in-Some c =
+    let first = ap is_ascii_digit (first_byte-get c.args.text.now c.requires.some) ∙ c.requires.digit in
+    rw c.leading_digits-digits.ensures
+    (numeral-token c.args.text.now c.in-Some.value first
+    (c.in-Some.ensures.1 ∙ ap (digits_value 10) c.leading_digits-digits.ensures))
+
+pub returns-in-None : goal.returns-in-None
+returns-in-None c =
+    let first = ap is_ascii_digit (first_byte-get c.args.text.now c.requires.some) ∙ c.requires.digit in
+    let large : 2 ^ 64 ≤ digits_value 10 c.leading_digits-digits.result.now = grind (arith, c.in-None.ensures) in
+    numeral-none c.args.text.now first (rw c.leading_digits-digits.ensures at large)
