@@ -32,7 +32,8 @@ _error_text.argtypes = [ctypes.c_uint32]
 _error_text.restype = ctypes.c_char_p
 _catalog_size = _library.pokit_catalog_size
 _catalog_size.restype = _size
-_look_up = _library.pokit_lookup
+# a look-up takes less time than letting go of the interpreter's lock and taking it again
+_look_up = ctypes.PyDLL(_library._name, handle=_library._handle).pokit_lookup
 _look_up.argtypes = [ctypes.c_void_p, ctypes.c_char_p, _size, ctypes.c_char_p, _size, ctypes.c_char_p, _size,
                      ctypes.c_uint64, ctypes.c_void_p]
 _look_up.restype = ctypes.c_char_p
@@ -68,7 +69,8 @@ class _Catalog(collections.abc.Mapping):
     def __init__(self, file, name="", charset="ascii"):
         message = ctypes.c_uint32()
         self._file = file
-        self.room = ctypes.byref((ctypes.c_uint64 * ((_catalog_size() + 7) // 8))())
+        self._memory = (ctypes.c_uint64 * ((_catalog_size() + 7) // 8))()
+        self.room = ctypes.c_void_p(ctypes.addressof(self._memory))
         error = _open(self.room, file, len(file), message)
         if error:
             raise OSError(0, _error_text(error).decode(), name)
@@ -169,41 +171,42 @@ class Translations(gettext.GNUTranslations):
     def _look(self, context, msgid, count):
         """The translation, None where there is none, or NotImplemented where GNUTranslations' own methods answer. A
         count selects the form; without a plural form the text is found by any count."""
-        if not (isinstance(count, int) and 0 <= count < _COUNTS):
-            return NotImplemented
+        catalog = self._catalog
         try:
-            room, charset = self._catalog.room, self._catalog.charset
+            charset = catalog.charset
             key = msgid.encode(charset)
             before = None if context is None else context.encode(charset)
         except AttributeError:
             return NotImplemented
         except UnicodeEncodeError:
             return None
-        text = _look_up(room, before, 0 if before is None else len(before), key, len(key), b"", 0, count, None)
+        text = _look_up(catalog.room, before, 0 if before is None else len(before), key, len(key), b"", 0, count, None)
         if text is not None:
             return text.decode(charset)
         return NotImplemented if b"\4" in key or (before is not None and b"\4" in before) else None
 
     def gettext(self, message):
         text = self._look(None, message, 1)
-        if text is NotImplemented:
-            return super().gettext(message)
-        return _NONE.gettext(self, message) if text is None else text
+        if text is None:
+            return _NONE.gettext(self, message)
+        return super().gettext(message) if text is NotImplemented else text
 
     def ngettext(self, msgid1, msgid2, n):
-        text = self._look(None, msgid1, n)
-        if text is NotImplemented:
-            return super().ngettext(msgid1, msgid2, n)
-        return _NONE.ngettext(self, msgid1, msgid2, n) if text is None else text
+        is_count = isinstance(n, int) and 0 <= n < _COUNTS
+        text = self._look(None, msgid1, n) if is_count else NotImplemented
+        if text is None:
+            return _NONE.ngettext(self, msgid1, msgid2, n)
+        return super().ngettext(msgid1, msgid2, n) if text is NotImplemented else text
 
     def pgettext(self, context, message):
         text = self._look(str(context), str(message), 1)
-        if text is NotImplemented:
-            return super().pgettext(context, message)
-        return _NONE.pgettext(self, context, message) if text is None else text
+        if text is None:
+            return _NONE.pgettext(self, context, message)
+        return super().pgettext(context, message) if text is NotImplemented else text
 
     def npgettext(self, context, msgid1, msgid2, n):
-        text = self._look(str(context), str(msgid1), n)
-        if text is NotImplemented:
-            return super().npgettext(context, msgid1, msgid2, n)
-        return _NONE.npgettext(self, context, msgid1, msgid2, n) if text is None else text
+        is_count = isinstance(n, int) and 0 <= n < _COUNTS
+        text = self._look(str(context), str(msgid1), n) if is_count else NotImplemented
+        if text is None:
+            return _NONE.npgettext(self, context, msgid1, msgid2, n)
+        return super().npgettext(context, msgid1, msgid2, n) if text is NotImplemented else text

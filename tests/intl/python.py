@@ -196,7 +196,7 @@ def try_copies(folder):
         told = subprocess.run([sys.executable, "-c", code], input=dumped, stdout=subprocess.PIPE).stdout
         check(told.decode().strip() == ascii(wanted[0]), "a copy in another process")
     room = pokit_gettext.Translations(io.BytesIO(bytes_))._catalog.room
-    check(outcome(copy.deepcopy, room) == outcome(pickle.dumps, room) == TypeError, "no address is copied")
+    check(outcome(copy.deepcopy, room) == outcome(pickle.dumps, room) == ValueError, "no address is copied")
 
 
 warnings.simplefilter("ignore")
