@@ -1,6 +1,6 @@
 -- Tokens that spell a tree are read as that tree.
-use Rattle.std.proofs.Common.{◌≡◌, ℕ, suc, ◌<◌, ◌≤◌, ◌^◌, ◌==◌, true, false, nat_le, nat_lt, List, [], ◌∷◌, ◌++◌, Some, option_and_then, refl, sym, ap, subst, ◌∙◌, append_assoc, append-nil, arith}
-use Rattle.std.proofs.lemmas.Bool.Decides.{nat_tests}
+use Rattle.std.proofs.Common.{◌≡◌, ℕ, suc, ◌<◌, ◌≤◌, ◌^◌, true, nat_le, List, [], ◌∷◌, ◌++◌, Some, option_and_then, refl, sym, ap, subst, ◌∙◌, append_assoc, append-nil, arith}
+use Rattle.std.proofs.lemmas.Bool.{le-leb, leb-true, lt-leb, lt-ltb, ne_eqb}
 use Rattle.plural_rule.specs.declared.operator.Operator.{Operator}
 use Rattle.plural_rule.specs.declared.operator.Operator.TheVariants.{Or}
 use Rattle.plural_rule.specs.declared.token.Token.{Token}
@@ -11,8 +11,14 @@ use Rattle.plural_rule.specs.Internal.ShiftReduce.{Waiting, WaitNot, WaitOpen, W
 
 -- every operator's level is from 1 to 6
 pub level-range : (op : Operator) → (1 ≤ level op) × (level op ≤ 6)
-level-range Or = (omega arith, omega arith)
-level-range _ = (omega arith, omega arith)
+level-range op = (leb-true 1 (level op) (low op), leb-true (level op) 6 (high op)) where
+  low : (op : Operator) → nat_le 1 (level op) ≡ true
+  low Or = refl
+  low _ = refl
+
+  high : (op : Operator) → nat_le (level op) 6 ≡ true
+  high Or = refl
+  high _ = refl
 
 -- an operand of level k may stand after what waits: only `!` and operators that bind less tight are
 -- on top
@@ -29,16 +35,16 @@ Fits-later j k _ h f = tt
 pub reduce-binary : (k : ℕ) (op : Operator) (a : Tree) (stack : List Waiting) (t : Tree) → k ≤ level op
     → reduce k (WaitBinary op a ∷ stack) t ≡ reduce k stack (Binary op a t)
 reduce-binary k op a stack t h =
-    let e : nat_le k (level op) ≡ true = grind (arith, nat_tests) in rw e
+    rw (le-leb k (level op) h)
 
 -- nothing that waits binds as tight as an operand that fits, from level 1 on
 pub reduce-fits : (k : ℕ) (stack : List Waiting) (t : Tree) → 1 ≤ k → k ≤ 6 → Fits k stack
     → reduce k stack t ≡ record { stack = stack; tree = t }
 reduce-fits k (WaitNot ∷ stack) t low high f = absurd (omega arith)
 reduce-fits k (WaitBinary op a ∷ stack) t low high f =
-    let e : nat_le k (level op) ≡ false = grind (arith, nat_tests) in rw e
+    rw (lt-leb k (level op) f)
 reduce-fits k (WaitColon a b ∷ stack) t low high f =
-    let e : (k == 0) ≡ false = grind (arith, nat_tests) in rw e
+    rw (ne_eqb k 0 (λ e. omega arith))
 reduce-fits k _ t low high f = refl
 
 -- what follows an operand of level k reduces it at most to this level, so operands that reduce alike have one outcome
@@ -81,7 +87,7 @@ reads (parentheses {xs} {a} d) st f rest ends =
     ap (outcome_from (Want (WaitOpen ∷ st))) (append_assoc xs (Close ∷ []) rest)
     ∙ reads d (WaitOpen ∷ st) tt (Close ∷ rest) (λ _ _ _ _ same. ap close (same 0 (omega arith)))
 reads count st f rest ends = refl
-reads (numeral v small) st f rest ends = let fits : nat_lt v (2 ^ 64) ≡ true = grind (arith, nat_tests) in rw fits refl
+reads (numeral v small) st f rest ends = rw (lt-ltb v (2 ^ 64) small) refl
 
 pub complete : (ts : List Token) (t : Tree) → Spells 0 ts t → outcome ts ≡ Some t
 complete ts t d =

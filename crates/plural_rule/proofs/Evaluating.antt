@@ -1,11 +1,11 @@
 -- An expression evaluates to its value, and to no other number.
-use Rattle.std.proofs.Common.{◌≡◌, ℕ, true, false, suc, inl, inr, Option, Some, None, option_and_then, refl, arith}
+use Rattle.std.proofs.Common.{◌≡◌, ℕ, ◌==◌, true, false, suc, inl, inr, Option, Some, None, option_and_then, option_map, refl, arith}
 use Rattle.std.specs.Prelude.{◌↔◌}
 use Rattle.std.proofs.lemmas.Bool.{cases_Bool, not-true, not-false, eqb-true, eqb-false, eq-eqb, ne_eqb, lt-ltb, le-ltb, le-leb, lt-leb}
 use Rattle.std.proofs.lemmas.Bool.Decides.{eqb_tells, leb_tells}
 use Rattle.plural_rule.specs.declared.operator.Operator.{Operator}
 use Rattle.plural_rule.specs.declared.operator.Operator.TheVariants.{Or, And, Equal, NotEqual, Less, Greater, AtMost, AtLeast, Add, Subtract, Multiply, Divide, Remainder}
-use Rattle.plural_rule.specs.Expression.{Tree, Count, Number, Not, Binary, Conditional, needs_right, short_circuit_value, combined, binary_value, chosen, negated, value}
+use Rattle.plural_rule.specs.Expression.{Tree, Count, Number, Not, Binary, Conditional, needs_right, short_circuit_value, combined, truth, binary_value, chosen, value}
 use Rattle.plural_rule.specs.Evaluates.{Evaluates, count, numeral, not_zero, not_other, or_first, or_second, or_neither, and_first, and_second, and_both, equal, equal_not, unequal, unequal_not, less, less_not, greater, greater_not, at_most, at_most_not, at_least, at_least_not, sum, difference, product, quotient, remainder, then_case, else_case}
 
 -- the value, as a record, which shows the tree and the number
@@ -94,7 +94,7 @@ known-binary n op a b (Some x) w h k =
       second None k e = tt
       second (Some y) k e = both n a b x h op y e k
 
-known-not : (n : ℕ) (a : Tree) (v : Option ℕ) → Known n a v → Known n (Not a) (negated v)
+known-not : (n : ℕ) (a : Tree) (v : Option ℕ) → Known n a v → Known n (Not a) (option_map (λ x. truth (x == 0)) v)
 known-not n a None h = tt
 known-not n a (Some x) h =
     elim (eqb_tells x 0) [ inl (e, z) ↦ rw e (not_zero x z h) | inr (e, z) ↦ rw e (not_other x z h) ]

@@ -7,6 +7,5 @@ pub mod Scanning
 pub mod ParserRun
 pub mod Programs
 pub mod Searches
-pub mod Rules
 pub mod Uniqueness
 pub mod Evaluating

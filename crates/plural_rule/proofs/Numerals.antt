@@ -25,11 +25,11 @@ below_ten_digit c h =
     let range = digit_from_value c h in
     grind (arith, nat_tests, range.0, range.1)
 
--- each of some decimal digits is worth less than ten
+-- what each of some decimal digits is worth
 pub digit-value : (digits : List ℕ) (i : ℕ) → AllDigits 10 digits → i < length digits
-    → digit_value (get_or digits i 0) < 10
+    → digit_value (get_or digits i 0) + 48 ≡ get_or digits i 0
 digit-value [] i h l = absurd (omega arith)
-digit-value (c ∷ digits) zero h l = h.0
+digit-value (c ∷ digits) zero h l = digit_value_digit c (digit_from_value c h.0)
 digit-value (c ∷ digits) (suc i) h l = digit-value digits i h.1 (omega arith)
 
 pub digits_number-some : (digits : List ℕ) → 0 < length digits → digits_number digits ≡ Some (digits_value 10 digits)

@@ -7,8 +7,7 @@ use Rattle.std.proofs.lemmas.Int.Digits.{digits_value-lt}
 use Rattle.std.proofs.lemmas.List.{length-take-le}
 use Rattle.plural_rule.specs.declared.operator.Operator.{Operator}
 use Rattle.plural_rule.specs.declared.operator.Operator.TheVariants.{Or, And}
-use Rattle.std.proofs.lemmas.Bool.{false≢true, cases_Bool, cases_lt}
-use Rattle.std.proofs.lemmas.Bool.Decides.{nat_tests}
+use Rattle.std.proofs.lemmas.Bool.{false≢true, cases_Bool, cases_lt, le-ltb, ltb-false}
 use Rattle.plural_rule.specs.declared.token.Token.{Token}
 use Rattle.plural_rule.specs.declared.token.Token.TheVariants.{Number as NumberToken, Binary as BinaryToken}
 use Rattle.plural_rule.specs.Expression.{Tree}
@@ -126,7 +125,7 @@ most-added text (NumberToken v) n at =
       several : (v n : ℕ) (own : List ℕ) → nat_lt v (2 ^ 32) ≡ false → length own ≡ n
           → digits_value 10 own < 10 ^ length own → digits_value 10 own ≡ v → 0 < n → 2 ≤ n
       several v n own large long below is some =
-          let least : 2 ^ 32 ≤ v = grind (arith, nat_tests) in
+          let least = ltb-false v (2 ^ 32) large in
           elim (cases_lt n 2) [
             | inl few ↦
                 let one : length own ≡ 1 = omega arith in
@@ -144,7 +143,7 @@ most-added text (BinaryToken op) n at =
 most-added text _ n at = at.some
 
 too_large : (state : State) (t : Token) → IsTooLarge t → step state t ≡ None
-too_large (Want stack) (NumberToken v) h = let e : nat_lt v (2 ^ 64) ≡ false = grind (arith, nat_tests) in rw e refl
+too_large (Want stack) (NumberToken v) h = rw (le-ltb v (2 ^ 64) h) refl
 too_large (Have stack t) (NumberToken v) h = refl
 too_large state _ h = absurd h
 

@@ -2,8 +2,7 @@
 use Rattle.std.proofs.Common.{◌≡◌, ℕ, zero, suc, ◌+◌, ◌-◌, ◌/◌, ◌%◌, ◌^◌, ◌<◌, ◌≤◌, true, false, nat_lt, inl, inr, List, [], ◌∷◌, ◌++◌, length, take, slice_set, slice_index_or, Some, None, refl, sym, ap, ◌∙◌, arith, subst, length-append}
 use Rattle.std.proofs.Math.Seq.{set-append_seam, get_or-append_seam, take-set-lt}
 use Rattle.std.proofs.lemmas.List.{length-take, length-take-le, get_or-take}
-use Rattle.std.proofs.lemmas.Bool.{cases_Bool}
-use Rattle.std.proofs.lemmas.Bool.Decides.{nat_tests}
+use Rattle.std.proofs.lemmas.Bool.{cases_Bool, lt-ltb}
 use Rattle.plural_rule.specs.declared.instruction.Instruction.{Instruction}
 use Rattle.plural_rule.specs.declared.parts.Parser.{Parser}
 use Rattle.plural_rule.specs.declared.pending.Pending.{Pending}
@@ -21,7 +20,7 @@ edited-seam : (edit : Instruction → Instruction) (xs : List Instruction) (i : 
     → edited edit (length xs) (xs ++ i ∷ ys) ≡ xs ++ edit i ∷ ys
 edited-seam edit xs i ys =
     let inside : nat_lt (length xs) (length (xs ++ i ∷ ys)) ≡ true =
-    grind (arith, nat_tests, length-append xs (i ∷ ys)) in
+    lt-ltb _ _ (omega (arith, length-append xs (i ∷ ys))) in
     rw inside (ap (λ j. slice_set (xs ++ i ∷ ys) (length xs) (edit j))
     (get_or-append_seam xs i ys (count_instruction 1)) ∙ set-append_seam xs i ys (edit i))
 
@@ -36,7 +35,8 @@ pub edited-within : (edit : Instruction → Instruction) (room : List Instructio
     → i < len → len ≤ length room → y ≡ edit (slice_index_or room i d)
     → take len (slice_set room i y) ≡ edited edit i (take len room)
 edited-within edit room len i d y h fits is =
-    let inside : nat_lt i (length (take len room)) ≡ true = grind (arith, nat_tests, length-take-le len room fits) in
+    let inside : nat_lt i (length (take len room)) ≡ true =
+    lt-ltb _ _ (omega (arith, h, length-take-le len room fits)) in
     let read : slice_index_or room i d ≡ slice_index_or (take len room) i (count_instruction 1) =
     read-within room i d (count_instruction 1) (omega arith) ∙ sym (get_or-take len room i (count_instruction 1) h) in
     rw inside (take-set-lt len room i y h ∙ ap (λ z. slice_set (take len room) i z) (is ∙ ap edit read))
@@ -114,7 +114,7 @@ begun-operand stack t code start is at fits =
     (omega (arith, ap length split, length-append xs (program 0 t), length-program t 0 [])) in
     let next : counted f.first ≡ more f.first =
     ap (λ n. record { kind = f.first.kind; operator = f.first.operator; count = n; number = f.first.number })
-    (grind (arith, f.small)) in
+    (omega (arith, f.small)) in
     ap (λ i. begun i code) at ∙ ap (begun (length xs)) (split ∙ ap (λ p. xs ++ p) f.is)
     ∙ edited-seam counted xs f.first f.rest
     ∙ ap (λ i. xs ++ i ∷ f.rest) next ∙ ap (λ p. xs ++ p) (sym f.next) ∙ waiting-append stack [] (program 1 t)
@@ -136,11 +136,16 @@ skips before apart i t code start extra is at =
     ∙ ap (skipping (length xs) (size t + extra)) split ∙ edited-seam (with_skip (size t + extra)) xs i (program 0 t)
     ∙ sym (apart (with_skip (size t + extra) i ∷ program 0 t))
 
--- what follows the first operand of what waits, apart
-after-first : (below : List Waiting) (a : Tree) (ys : List Instruction)
-    → waiting_then below (program_then 1 a ys) ≡ waiting_then below (program_then 1 a []) ++ ys
-after-first below a ys =
-    sym (waiting-append below (program_then 1 a []) ys ∙ ap (waiting_then below) (program-append a 1 [] ys))
+-- what follows the first operand of what waits, and an operand after one more instruction
+appended : (below : List Waiting) (a : Tree) (xs ys : List Instruction)
+    → waiting_then below (program_then 1 a xs) ++ ys ≡ waiting_then below (program_then 1 a (xs ++ ys))
+appended below a xs ys = waiting-append below _ ys ∙ ap (waiting_then below) (program-append a 1 xs ys)
+
+appended-after : (below : List Waiting) (a : Tree) (i : Instruction) (t : Tree) (ys : List Instruction)
+    → waiting_then below (program_then 1 a (i ∷ program 0 t)) ++ ys
+    ≡ waiting_then below (program_then 1 a (i ∷ program_then 0 t ys))
+appended-after below a i t ys =
+    appended below a _ ys ∙ ap (λ p. waiting_then below (program_then 1 a (i ∷ p))) (program-append t 0 [] ys)
 
 -- the newest of what waits, apart
 pub record Top (stack : List Waiting) (rest : List Pending) (top : Pending) : Type 0 where
@@ -174,8 +179,7 @@ completes k WaitNot below t parser h fits b =
       tree = Not t;
       is = refl;
       code_is = ap (λ p. p ++ not_instruction ∷ [])
-          (begun-operand below t parser.code parser.start h.code_is h.start_is fits)
-          ∙ simp (waiting-append, program-append);
+          (begun-operand below t parser.code parser.start h.code_is h.start_is fits) ∙ appended below t [] _;
       start_is = h.start_is;
     }
 completes k (WaitBinary op a) below t parser h fits b =
@@ -183,12 +187,12 @@ completes k (WaitBinary op a) below t parser h fits b =
     elim (cases_Bool (is_lazy op)) [
       | inl lazy ↦
           let before = λ (ys : List Instruction). waiting_then below (program_then 1 a ys) in
-          let done = skips before (after-first below a) (branch_instruction op 0) t parser.code parser.start 1
-          (rw lazy at h.code_is) (rw lazy at h.start_is) in
+          let done = skips before (λ ys. sym (appended below a [] ys))
+          (branch_instruction op 0) t parser.code parser.start 1 (rw lazy at h.code_is) (rw lazy at h.start_is) in
           record {
             tree = Binary op a t;
             is = rw b refl;
-            code_is = rw lazy (ap (λ p. p ++ last) done ∙ simp (waiting-append, program-append));
+            code_is = rw lazy (ap (λ p. p ++ last) done ∙ appended-after below a _ t last);
             start_is = refl;
           }
       | inr strict ↦
@@ -196,19 +200,15 @@ completes k (WaitBinary op a) below t parser h fits b =
             tree = Binary op a t;
             is = rw b refl;
             code_is =
-                rw strict (ap (λ p. p ++ last) (rw strict at h.code_is)
-                ∙ waiting-append below (program_then 1 a (program 0 t)) last
-                ∙ ap (waiting_then below)
-                (program-append a 1 (program 0 t) last ∙ ap (program_then 1 a) (program-append t 0 [] last)));
+                rw strict (ap (λ p. p ++ last) (rw strict at h.code_is) ∙ appended below a (program 0 t) last
+                ∙ ap (λ p. waiting_then below (program_then 1 a p)) (program-append t 0 [] last));
             start_is = refl;
           }
     ]
 completes k (WaitColon a c) below t parser h fits b =
     let before = λ (ys : List Instruction).
     waiting_then below (program_then 1 a (choose_instruction (size c + 1) ∷ program_then 0 c ys)) in
-    let apart = λ (ys : List Instruction). waiting-append below _ ys ∙ ap (waiting_then below) (program-append a 1 _ ys
-    ∙ ap (λ p. program_then 1 a (choose_instruction (size c + 1) ∷ p)) (program-append c 0 [] ys)) in
-    let done = skips before (λ ys. sym (apart ys))
+    let done = skips before (λ ys. sym (appended-after below a _ c ys))
     (jump_instruction 0) t parser.code parser.start 0 h.code_is h.start_is in
     let none : size t + 0 ≡ size t = omega arith in
     let skip : length parser.code - parser.start ≡ length parser.code - parser.start + 0 = omega arith in
@@ -311,14 +311,24 @@ waits parser stack t w after code entries start h fits is waiting is' =
       length-program t 0 [],
       size-some t,
     ) in
-    let place : parser.start % 4096 ≡ start_after stack = grind (arith, inside, h.start_is) in
+    let place : parser.start % 4096 ≡ start_after stack = omega (arith, inside, h.start_is) in
     record {
       code_is = is ∙ ap (λ p. p ++ after) (begun-operand stack t parser.code parser.start h.code_is h.start_is fits)
-          ∙ waiting-append stack (program 1 t) after ∙ ap (waiting_then stack) (program-append t 1 [] after)
-          ∙ sym waiting;
+          ∙ appended stack t [] after ∙ sym waiting;
       entries_are = is' ∙ ap (λ i. pending i w ∷ parser.entries) place
           ∙ ap (λ es. pending (start_after stack) w ∷ es) h.entries_are;
     }
+
+-- what waits begins with `?`
+abbrev Asks : List Pending → Type 0
+Asks (QuestionPending first ∷ rest) = Unit {0}
+Asks _ = ⊥
+
+-- what waits for `:`, and then for the operand after it
+colon_of : (first first' : ℕ) (rest rest' : List Pending)
+    → QuestionPending first ∷ rest ≡ QuestionPending first' ∷ rest'
+    → ColonPending first ∷ rest ≡ ColonPending first' ∷ rest'
+colon_of first first' rest rest' e = cc
 
 -- `:` after an operand, where `?` waits for it
 pub answers-colon : (parser : Held) (first : ℕ) (rest : List Pending) (stack : List Waiting) (t : Tree) (after : Parser)
@@ -329,16 +339,16 @@ pub answers-colon : (parser : Held) (first : ℕ) (rest : List Pending) (stack :
     → after.complete ≡ false → Answers (at_colon stack t) (Some after) room codes
 answers-colon parser first rest (WaitQuestion a ∷ below) t after room codes h e is is' waits =
     let before = λ (ys : List Instruction). waiting_then below (program_then 1 a ys) in
-    let done = skips before (after-first below a)
-    (choose_instruction 0) t parser.code parser.start 1 h.code_is h.start_is in
-    let same = sym e ∙ h.entries_are in (
+    let done = skips before (λ ys. sym (appended below a [] ys))
+    (choose_instruction 0) t parser.code parser.start 1 h.code_is h.start_is in (
       waits,
       record {
-        code_is = is ∙ ap (λ p. p ++ jump_instruction 0 ∷ []) done ∙ simp (waiting-append, program-append);
-        entries_are = cc;
+        code_is = is ∙ ap (λ p. p ++ jump_instruction 0 ∷ []) done
+            ∙ appended-after below a _ t _;
+        entries_are = is' ∙ colon_of first (start_after below) rest (pendings below) (sym e ∙ h.entries_are);
       },
     )
-answers-colon parser first rest _ t after room codes h e is is' waits = absurd (let same = sym e ∙ h.entries_are in cc)
+answers-colon parser first rest _ t after room codes h e is is' waits = absurd (subst Asks (sym e ∙ h.entries_are) tt)
 
 -- `)` after an operand, where `(` waits for it
 pub answers-close : (parser : Held) (rest : List Pending) (stack : List Waiting) (t : Tree) (after : Parser)

@@ -1,10 +1,8 @@
 -- The program of a tree: how it runs, and how many nodes begin in it.
-use Rattle.std.proofs.Common.{◌≡◌, ℕ, zero, suc, ◌+◌, ◌-◌, ◌*◌, ◌/◌, ◌%◌, ◌^◌, ◌<◌, ◌≤◌, true, false, nat_lt, inl, inr, List, [], ◌∷◌, length, drop, get_or, set, Option, Some, None, option_and_then, refl, sym, ap, ◌∙◌, drop-cons, add-one, arith}
+use Rattle.std.proofs.Common.{◌≡◌, ℕ, zero, suc, ◌+◌, ◌-◌, ◌*◌, ◌/◌, ◌%◌, ◌^◌, ◌<◌, ◌≤◌, true, false, nat_lt, ◌==◌, inl, inr, List, [], ◌∷◌, length, drop, get_or, set, Option, Some, None, option_and_then, option_map, refl, sym, ap, ◌∙◌, drop-cons, add-one, arith}
 use Rattle.std.proofs.Math.Seq.{drop-nil}
-use Rattle.std.proofs.lemmas.Bool.{cases_Bool}
-use Rattle.std.proofs.lemmas.Bool.Decides.{nat_tests}
+use Rattle.std.proofs.lemmas.Bool.{cases_Bool, lt-ltb, ltb-true}
 use Rattle.std.proofs.lemmas.List.{drop-drop, get_or-set_same, get_or-set_other}
-use Rattle.plural_rule.specs.declared.evaluator.Effect.{Effect}
 use Rattle.std.proofs.lemmas.Nat.{div-add-mod'}
 use Rattle.plural_rule.specs.declared.operator.Operator.{Operator}
 use Rattle.plural_rule.specs.declared.operator.Operator.TheVariants.{Or, And}
@@ -12,9 +10,9 @@ use Rattle.plural_rule.specs.declared.instruction.Instruction.{Instruction}
 use Rattle.plural_rule.specs.declared.instruction.Action.{Action}
 use Rattle.plural_rule.specs.declared.instruction.Action.TheVariants.{Binary as BinaryAction, Branch as BranchAction}
 use Rattle.plural_rule.specs.Instruction.{operator_of-code, action_of, count_instruction, number_instruction, wide_instruction, low_instruction, not_instruction, binary_instruction, branch_instruction, choose_instruction, jump_instruction, begins}
-use Rattle.plural_rule.specs.Expression.{Tree, Count, Number, Not, Binary, Conditional, nodes, is_zero, needs_right, short_circuit_value, combined, truth, negated, binary_value, chosen, value, visited, visited_right}
+use Rattle.plural_rule.specs.Expression.{Tree, Count, Number, Not, Binary, Conditional, nodes, needs_right, short_circuit_value, combined, truth, binary_value, chosen, value, visited, visited_right}
 use Rattle.plural_rule.specs.Program.{is_lazy, branch_then, size, program, program_then, length-program, drop-program, low_of}
-use Rattle.plural_rule.specs.Internal.Run.{Next, act, with_value, left_with, left_by, Outcome, outcome, go_on, run, stored}
+use Rattle.plural_rule.specs.Internal.Run.{Next, act, with_value, left_by, Outcome, outcome, go_on, run, stored}
 
 pub nodes-le-size : (t : Tree) → nodes t ≤ size t
 nodes-le-size Count = omega arith
@@ -42,7 +40,7 @@ module _ (room n : ℕ) where
       → run room n (i ∷ rest) 0 (y ∷ x ∷ older) s
       ≡ go_on (run room n rest) s (act n (action_of i) (low_of rest) (y ∷ x ∷ older))
   step i rest y x older s inside =
-      let e : nat_lt (1 + length older) room ≡ true = grind (arith, nat_tests) in rw e refl
+      rw (lt-ltb (1 + length older) room (omega (arith, inside))) refl
 
   -- where no node begins
   none-begins : (rest : List Instruction) (skip : ℕ) (values : List ℕ) (s : ℕ)
@@ -74,10 +72,11 @@ module _ (room n : ℕ) where
       → run room n (program_then k t rest) 0 (y ∷ x ∷ older) s ≡ resumed rest (y ∷ x ∷ older) (value t n) later
 
   after-not : (rest : List Instruction) (y : ℕ) (older : List ℕ) (v : Option ℕ) (s : ℕ) → length older + 1 < room
-      → resumed (not_instruction ∷ rest) (y ∷ older) v s ≡ resumed rest (y ∷ older) (negated v) s
+      → resumed (not_instruction ∷ rest) (y ∷ older) v s
+      ≡ resumed rest (y ∷ older) (option_map (λ x. truth (x == 0)) v) s
   after-not rest y older None s inside = refl
   after-not rest y older (Some x) s inside =
-      step not_instruction rest x y older s inside ∙ none-begins rest 0 (truth (is_zero x) ∷ y ∷ older) s
+      step not_instruction rest x y older s inside ∙ none-begins rest 0 (truth (x == 0) ∷ y ∷ older) s
 
   after-binary : (op : Operator) (rest : List Instruction) (values : List ℕ) (x : ℕ) (v : Option ℕ) (s : ℕ)
       → length values + 1 < room
@@ -144,7 +143,7 @@ module _ (room n : ℕ) where
       let third = program_then 0 c rest in
       let second = program_then 0 b (jump_instruction (size c) ∷ third) in
       step (choose_instruction (size b + 1)) second v y (x ∷ older) s (omega (arith, inside, size-some b))
-      ∙ elim (cases_Bool (is_zero v)) [
+      ∙ elim (cases_Bool (v == 0)) [
         | inl e ↦
             let all : later ≡ s + 0 + visited c n = omega (arith, rw e at at) in
             rw e (none-begins second (size b + 1) values s ∙ over b (jump_instruction (size c) ∷ third) 1 values s
@@ -216,21 +215,26 @@ room-left : (room n : ℕ) (i : Instruction) (p : List Instruction) (y x : ℕ) 
     → run room n (i ∷ p) 0 (y ∷ x ∷ older) s ≡ Some o → length older + 1 < room
 room-left room n i p y x older s runs =
     elim (cases_Bool (nat_lt (1 + length older) room))
-    [ inl e ↦ grind (arith, nat_tests) | inr e ↦ absurd (let none = rw e at runs in cc) ]
+    [ inl e ↦ omega (arith, ltb-true (1 + length older) room e) | inr e ↦ absurd (let none = rw e at runs in cc) ]
+
+pub operator-within : (p : List Instruction) (i : ℕ) (op : Operator)
+    → action_of (get_or p i (count_instruction 0)) ≡ BinaryAction op → i < length p
+operator-within [] i op e = absurd cc
+operator-within (x ∷ p) zero op e = omega arith
+operator-within (x ∷ p) (suc i) op e = omega (arith, operator-within p i op e)
 
 -- an instruction inside of a program
-pub acts : (room n : ℕ) (p : List Instruction) (i y x : ℕ) (older : List ℕ) (s : ℕ) {o : Outcome} (d : Instruction)
-    (action : Action) (next : Next) → i < length p → run room n (drop i p) 0 (y ∷ x ∷ older) s ≡ Some o
-    → action ≡ action_of (get_or p i d) → act n action (low_of (drop (i + 1) p)) (y ∷ x ∷ older) ≡ next
+pub acts : (room n : ℕ) (p : List Instruction) (i y x : ℕ) (older : List ℕ) (s : ℕ) {o : Outcome} {action : Action}
+    {next : Next} → i < length p → run room n (drop i p) 0 (y ∷ x ∷ older) s ≡ Some o
+    → action ≡ action_of (get_or p i (count_instruction 0))
+    → act n action (low_of (drop (i + 1) p)) (y ∷ x ∷ older) ≡ next
     → go_on (run room n (drop (i + 1) p)) s next ≡ Some o
-acts room n p i y x older s d action next inside runs is leads =
-    let whole = ap (λ q. run room n q 0 (y ∷ x ∷ older) s) (sym (drop-cons p i d inside)) ∙ runs in
-    ap (go_on (run room n (drop (i + 1) p)) s) (sym leads)
-    ∙ ap (λ a. go_on (run room n (drop (i + 1) p)) s (act n a (low_of (drop (i + 1) p)) (y ∷ x ∷ older))) is
-    ∙ ap (λ k. go_on (run room n (drop k p)) s (act n (action_of (get_or p i d)) (low_of (drop k p)) (y ∷ x ∷ older)))
-    (add-one i)
-    ∙ sym (step room n (get_or p i d) (drop (suc i) p) y x older s
-    (room-left room n (get_or p i d) (drop (suc i) p) y x older s whole)) ∙ whole
+acts room n p i y x older s inside runs is leads =
+    let none = count_instruction 0 in
+    let whole = ap (λ q. run room n q 0 (y ∷ x ∷ older) s) (sym (drop-cons p i none inside)) ∙ runs in
+    rw (sym leads, is, add-one)
+    (sym (step room n (get_or p i none) (drop (suc i) p) y x older s
+    (room-left room n (get_or p i none) (drop (suc i) p) y x older s whole)) ∙ whole)
 
 pub skips : (room n : ℕ) (p : List Instruction) (i skip : ℕ) (values : List ℕ) (s : ℕ) {o : Outcome}
     → run room n (drop i p) skip values s ≡ Some o → run room n (drop (i + skip) p) 0 values s ≡ Some o
@@ -238,17 +242,14 @@ skips room n p i skip values s runs =
     ap (λ q. run room n q 0 values s) (sym (drop-drop skip i p)) ∙ sym (run-drop room n (drop i p) skip values s) ∙ runs
 
 -- an operator right after an operand
-pub fused : (room n : ℕ) (p : List Instruction) (i x s : ℕ) (values : List ℕ) (e : Effect) {o : Outcome} → e.skip ≡ 1
-    → e.taken ≡ 1 → go_on (run room n (drop (i + 1) p)) (s + e.begins) (with_value e.value values) ≡ Some o
-    → go_on (run room n (drop i p)) s (left_by e (x ∷ values)) ≡ Some o
-fused room n p i x s values e {o} skip taken runs = by e.value runs where
-  by : (v : Option ℕ) → go_on (run room n (drop (i + 1) p)) (s + e.begins) (with_value v values) ≡ Some o
-      → go_on (run room n (drop i p)) s (left_with v e (x ∷ values)) ≡ Some o
-  by None runs = ap (λ k. Some (record { value = None; steps = k })) (omega arith) ∙ runs
-  by (Some v) runs =
-      rw (skip, taken) (run-drop room n (drop i p) 1 (v ∷ values) (s + e.begins)
-      ∙ ap (λ q. run room n q 0 (v ∷ values) (s + e.begins)) (drop-drop 1 i p)
-      ∙ sym (none-begins room n (drop (i + 1) p) 0 (v ∷ values) (s + e.begins)) ∙ runs)
+pub fused : (room n : ℕ) (p : List Instruction) (i x s : ℕ) (values : List ℕ) (v : Option ℕ) (begins : ℕ) {o : Outcome}
+    → go_on (run room n (drop (i + 1) p)) (s + begins) (with_value v values) ≡ Some o
+    → go_on (run room n (drop i p)) s (left_by v 1 1 begins (x ∷ values)) ≡ Some o
+fused room n p i x s values None begins runs = ap (λ k. Some (record { value = None; steps = k })) (omega arith) ∙ runs
+fused room n p i x s values (Some v) begins runs =
+    run-drop room n (drop i p) 1 (v ∷ values) (s + begins)
+    ∙ ap (λ q. run room n q 0 (v ∷ values) (s + begins)) (drop-drop 1 i p)
+    ∙ sym (none-begins room n (drop (i + 1) p) 0 (v ∷ values) (s + begins)) ∙ runs
 
 length-stored : (stack : List ℕ) (k : ℕ) → length (stored stack k) ≡ k
 length-stored stack zero = refl

@@ -1,18 +1,20 @@
 -- The token at the beginning of a text.
-use Rattle.std.proofs.Common.{◌≡◌, ◌≢◌, ℕ, suc, ◌-◌, ◌^◌, ◌<◌, ◌≤◌, true, inl, inr, List, [], ◌∷◌, ◌++◌, length, drop, get_or, refl, sym, ap, ◌∙◌, arith, subst, take-append-drop, length-drop, drop-cons}
+use Rattle.std.proofs.Common.{◌≡◌, ◌≢◌, ℕ, suc, ◌-◌, ◌^◌, ◌<◌, ◌≤◌, true, false, inl, inr, List, [], ◌∷◌, ◌++◌, length, drop, get_or, refl, sym, ap, ◌∙◌, arith, subst, take-append-drop, length-drop, drop-cons}
 use Rattle.std.specs.Prelude.{take_while}
 use Rattle.std.specs.List.{prefix_len}
 use Rattle.std.proofs.lemmas.Bool.{false≢true, cases_Bool, cond-true, cond-false}
 use Rattle.std.proofs.lemmas.List.Sums.{prefix_len_stops, prefix_len-le-length, take_while-cons}
 use Rattle.std.proofs.lemmas.List.Folds.{length-prefix_len}
+use Rattle.plural_rule.specs.declared.operator.Operator.{Operator}
+use Rattle.plural_rule.specs.declared.operator.Operator.TheVariants.{Or}
 use Rattle.plural_rule.specs.declared.token.Token.{Token}
 use Rattle.plural_rule.specs.declared.token.Token.TheVariants.{Number, Binary}
 use Rattle.std.specs.Str.Parse.{AllDigits, digits_value}
 use Rattle.std.specs.Char.{is_ascii_digit}
-use Rattle.plural_rule.specs.Tokens.{IsSpelling, IsLongest}
-use Rattle.plural_rule.specs.Internal.Scanner.{IsTokenAt, IsTooLarge, HasNoToken}
+use Rattle.plural_rule.specs.Tokens.{operator_bytes, IsSpelling, IsLongest}
+use Rattle.plural_rule.specs.Internal.Scanner.{IsTokenAt, IsTooLarge, HasNoToken, BeginsWithDouble, HasNoDouble}
 use Rattle.plural_rule.proofs.Numerals.{digit_below_ten, below_ten_digit}
-use Rattle.plural_rule.proofs.Lexing.{one_prefix, first_byte, operator-facts}
+use Rattle.plural_rule.proofs.Lexing.{one_prefix, first_byte, operator-facts, spelling-not_blank}
 
 -- bytes that spell a token and begin with a digit are digits
 digits-only : (u : Token) (bytes : List ℕ) → is_ascii_digit (first_byte bytes) ≡ true → IsSpelling u bytes
@@ -111,3 +113,46 @@ numeral-none text d large t own rest e spelt longest =
     (drop k text) own rest
     (n.some, AllDigits-take_while text, refl) n.longest spelt longest (take-append-drop k text ∙ e) in
     subst IsTooLarge same.same_token large
+
+-- two bytes and more that spell a token and don't begin with a digit are an operator of two bytes
+two-bytes : (op : Operator) (a b : ℕ) (more : List ℕ) → operator_bytes op ≡ a ∷ b ∷ more → more ≡ []
+two-bytes Or a b more e = cc
+two-bytes _ a b more e = cc
+
+several : (t : Token) (a b : ℕ) (more : List ℕ) → is_ascii_digit a ≡ false → IsSpelling t (a ∷ b ∷ more)
+    → (op : Operator) × (operator_bytes op ≡ a ∷ b ∷ []) × (more ≡ [])
+several (Number v) a b more d s = absurd (false≢true (sym d ∙ below_ten_digit a s.1.0))
+several (Binary op) a b more d s = let none =
+    two-bytes op a b more (sym s) in (op, sym s ∙ ap (λ xs. a ∷ b ∷ xs) none, none)
+several _ a b more d s = absurd cc
+
+none-longer : (text after : List ℕ) (t : Token) (a b : ℕ) (more : List ℕ) → is_ascii_digit a ≡ false → HasNoDouble text
+    → text ≡ a ∷ b ∷ (more ++ after) → IsSpelling t (a ∷ b ∷ more) → ⊥
+none-longer text after t a b more d none e s =
+    let o = several t a b more d s in none o.0 (rw e (record { two = omega arith; bytes = o.1 }))
+
+-- the operator of two bytes, or the token of one, at the beginning of a text
+pub double-token : (text : List ℕ) (op : Operator) → is_ascii_digit (get_or text 0 0) ≡ false → BeginsWithDouble text op
+    → IsTokenAt text (Binary op) 2
+double-token [] op d h = absurd (let two = h.two in omega arith)
+double-token (a ∷ []) op d h = absurd (let two = h.two in omega arith)
+double-token (a ∷ b ∷ rest) op d h =
+    record { some = omega arith; within = omega arith; spelling = sym h.bytes; longest = longer } where
+      longer : IsLongest (a ∷ b ∷ []) rest
+      longer t more after e n s = n (several t a b more d s).2
+
+pub single-token : (text : List ℕ) (t : Token) → 0 < length text → is_ascii_digit (get_or text 0 0) ≡ false
+    → HasNoDouble text → IsSpelling t (get_or text 0 0 ∷ []) → IsTokenAt text t 1
+single-token [] t some d none s = absurd (omega arith)
+single-token (a ∷ rest) t some d none s =
+    record { some = omega arith; within = omega arith; spelling = s; longest = longer } where
+      longer : IsLongest (a ∷ []) rest
+      longer u [] after e n h = n refl
+      longer u (b ∷ more) after e n h = none-longer (a ∷ rest) after u a b more d none (ap (λ xs. a ∷ xs) e) h
+
+pub no-single : (text : List ℕ) → is_ascii_digit (get_or text 0 0) ≡ false → HasNoDouble text
+    → ((t : Token) → IsSpelling t (get_or text 0 0 ∷ []) → ⊥) → HasNoToken text
+no-single text d none single t [] rest e s longest = absurd (false≢true (sym (spelling-not_blank t [] s)))
+no-single text d none single t (a ∷ []) rest e s longest = absurd (single t (rw e s))
+no-single text d none single t (a ∷ b ∷ own) rest e s longest =
+    absurd (none-longer text rest t a b own (rw e at d) none e s)

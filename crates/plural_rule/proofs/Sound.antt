@@ -1,7 +1,6 @@
 -- Tokens that are read as a tree spell that tree.
-use Rattle.std.proofs.Common.{◌≡◌, ℕ, zero, suc, ◌+◌, ◌-◌, ◌<◌, ◌≤◌, ◌^◌, ◌==◌, nat_le, nat_lt, inl, inr, List, [], ◌∷◌, ◌++◌, Option, Some, None, option_and_then, sym, append_assoc, append-nil, arith, subst}
-use Rattle.std.proofs.lemmas.Bool.{cases_Bool}
-use Rattle.std.proofs.lemmas.Bool.Decides.{nat_tests}
+use Rattle.std.proofs.Common.{◌≡◌, ℕ, zero, suc, ◌+◌, ◌-◌, ◌≤◌, ◌^◌, ◌==◌, nat_le, nat_lt, inl, inr, List, [], ◌∷◌, ◌++◌, Option, Some, None, option_and_then, sym, append_assoc, append-nil, arith, subst}
+use Rattle.std.proofs.lemmas.Bool.{cases_Bool, leb-true, leb-false, ltb-true, eqb-true}
 use Rattle.plural_rule.specs.declared.operator.Operator.{Operator}
 use Rattle.plural_rule.specs.declared.token.Token.{Token}
 use Rattle.plural_rule.specs.declared.token.Token.TheVariants.{Count as CountToken, Number as NumberToken, Not as NotToken, Binary as BinaryToken, Question, Colon, Open, Close}
@@ -86,15 +85,13 @@ reduces k (WaitNot ∷ stack) m t read low high h = reduces k stack 7 (Not t) re
 reduces k (WaitBinary op a ∷ stack) m t read low high h =
     elim (cases_Bool (nat_le k (level op))) [
       | inl e ↦
-          let at_most : k ≤ level op = grind (arith, nat_tests) in
-          rw e (reduces k stack (level op) (Binary op a t) read at_most high (holds-binary h))
-      | inr e ↦ let below : level op < k = grind (arith, nat_tests) in rw e (stays k m low below h)
+          rw e (reduces k stack (level op) (Binary op a t) read (leb-true k (level op) e) high (holds-binary h))
+      | inr e ↦ rw e (stays k m low (leb-false k (level op) e) h)
     ]
 reduces k (WaitColon a b ∷ stack) m t read low high h =
     elim (cases_Bool (k == 0)) [
       | inl e ↦
-          let zero_is : k ≤ 0 = grind (arith, nat_tests) in
-          rw e (reduces k stack 0 (Conditional a b t) read zero_is high (holds-colon h))
+          rw e (reduces k stack 0 (Conditional a b t) read (omega (arith, eqb-true k 0 e)) high (holds-colon h))
       | inr e ↦ rw e (stays k m low tt h)
     ]
 reduces k stack m t read low high h = stays k m low tt h
@@ -133,7 +130,7 @@ step-reads : (state : State) (token : Token) (read : List Token) → Read state 
 step-reads (Want stack) CountToken read w = holds read (CountToken ∷ []) w count (Fits-seven stack)
 step-reads (Want stack) (NumberToken v) read w =
     elim (cases_Bool (nat_lt v (2 ^ 64))) [
-      | inl e ↦ rw e (holds read (NumberToken v ∷ []) w (numeral v (grind (arith, nat_tests))) (Fits-seven stack))
+      | inl e ↦ rw e (holds read (NumberToken v ∷ []) w (numeral v (ltb-true v (2 ^ 64) e)) (Fits-seven stack))
       | inr e ↦ rw e tt
     ]
 step-reads (Want stack) NotToken read w = bang read w

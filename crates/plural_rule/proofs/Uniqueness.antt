@@ -1,5 +1,5 @@
 -- Laws of visits and of the rule of a header.
-use Rattle.std.proofs.Common.{◌≡◌, ◌≢◌, ℕ, ◌+◌, ◌<◌, ◌≤◌, inl, inr, List, length, Option, Some, None, refl, sym, ap, subst, ◌∙◌, arith}
+use Rattle.std.proofs.Common.{◌≡◌, ◌≢◌, ℕ, ◌+◌, ◌<◌, ◌≤◌, ◌==◌, inl, inr, List, length, Option, Some, None, refl, sym, ap, subst, ◌∙◌, arith}
 use Rattle.std.specs.Prelude.{◌↔◌}
 use Rattle.std.proofs.lemmas.Bool.{cases_Bool}
 use Rattle.plural_rule.specs.declared.operator.Operator.{Operator}
@@ -7,7 +7,7 @@ use Rattle.plural_rule.specs.declared.rule.Source.{Source}
 use Rattle.plural_rule.specs.declared.rule.Source.TheVariants.{Header, Default}
 use Rattle.plural_rule.specs.declared.rule.Reason.{Reason}
 use Rattle.plural_rule.specs.declared.rule.Reason.TheVariants.{NoNumber, NoExpression, Unreadable, TooLong}
-use Rattle.plural_rule.specs.Expression.{Tree, Count, Number, Not, Binary, Conditional, nodes, is_zero, needs_right, chosen, value, visited, visited_right}
+use Rattle.plural_rule.specs.Expression.{Tree, Count, Number, Not, Binary, Conditional, nodes, needs_right, chosen, value, visited, visited_right}
 use Rattle.plural_rule.specs.Grammar.{Spelt}
 use Rattle.plural_rule.specs.Header.{nplurals_of, expression_of}
 use Rattle.plural_rule.specs.PluralRule.{RuleView, IsReadable, IsReason, Gives, IsRuleOf, IsWithin, default_rule}
@@ -29,7 +29,7 @@ visited_right-le op (Some x) steps =
 chosen-le : (v : Option ℕ) (j k : ℕ) → chosen v j k 0 ≤ j + k
 chosen-le None j k = omega arith
 chosen-le (Some x) j k =
-    elim (cases_Bool (is_zero x)) [ inl e ↦ rw e (omega arith) | inr e ↦ rw e (omega arith) ]
+    elim (cases_Bool (x == 0)) [ inl e ↦ rw e (omega arith) | inr e ↦ rw e (omega arith) ]
 
 pub visited_le_nodes : (tree : Tree) (n : ℕ) → visited tree n ≤ nodes tree
 visited_le_nodes Count n = omega arith

@@ -2,7 +2,7 @@
 -- is `n`, a numeral or an operator, `?:` as one; parentheses are none. A visit is one step.
 -- GNU gettext manual, "Plural forms"; C standard, "Expressions", over unsigned numbers of 64 bits.
 use Rattle.std.specs.Prelude.{ℕ, ◌+◌, ◌-◌, ◌*◌, ◌/◌, ◌%◌, ◌^◌, Bool, true, false, not, nat_lt, nat_le, ◌==◌, Option}
-use Rattle.std.specs.Prelude.{Some, None, option_and_then, if◌then◌else◌}
+use Rattle.std.specs.Prelude.{Some, None, option_and_then, option_map, if◌then◌else◌}
 use Rattle.plural_rule.specs.declared.operator.Operator.{Operator}
 use Rattle.plural_rule.specs.declared.operator.Operator.TheVariants.{Or, And, Equal, NotEqual, Less, Greater, Remainder}
 use Rattle.plural_rule.specs.declared.operator.Operator.TheVariants.{AtMost, AtLeast, Add, Subtract, Multiply, Divide}
@@ -29,15 +29,11 @@ abbrev pub truth : Bool → ℕ
 truth true = 1
 truth false = 0
 
--- whether a number counts as false
-abbrev pub is_zero : ℕ → Bool
-is_zero x = x == 0
-
 -- whether the second operand is evaluated, where the first one's value is x: of `||` (`Or`) if x is
 -- 0, of `&&` (`And`) if it isn't, and of every other operator
 abbrev pub needs_right : Operator → ℕ → Bool
-needs_right Or x = is_zero x
-needs_right And x = not (is_zero x)
+needs_right Or x = x == 0
+needs_right And x = not (x == 0)
 needs_right _ x = true
 
 -- the value where the second operand isn't evaluated: of `||` 1, of `&&` 0
@@ -45,14 +41,11 @@ abbrev pub short_circuit_value : Operator → ℕ
 short_circuit_value Or = 1
 short_circuit_value _ = 0
 
--- a quotient or a remainder by y, which is undefined where y is 0
-abbrev pub divided : ℕ → ℕ → Option ℕ
-divided y quotient = if is_zero y then None else Some quotient
-
--- the value where both operands are evaluated, to x and y: a truth value, or a number modulo 2^64
+-- the value where both operands are evaluated, to x and y: a truth value, or a number modulo 2^64; a
+-- quotient and a remainder by 0 are undefined
 abbrev pub combined : Operator → ℕ → ℕ → Option ℕ
-combined Or x y = Some (truth (not (is_zero y)))
-combined And x y = Some (truth (not (is_zero y)))
+combined Or x y = Some (truth (not (y == 0)))
+combined And x y = Some (truth (not (y == 0)))
 combined Equal x y = Some (truth (x == y))
 combined NotEqual x y = Some (truth (not (x == y)))
 combined Less x y = Some (truth (nat_lt x y))
@@ -62,8 +55,8 @@ combined AtLeast x y = Some (truth (nat_le y x))
 combined Add x y = Some ((x + y) % 2 ^ 64)
 combined Subtract x y = Some ((x + (2 ^ 64 - y)) % 2 ^ 64)
 combined Multiply x y = Some ((x * y) % 2 ^ 64)
-combined Divide x y = divided y (x / y)
-combined Remainder x y = divided y (x % y)
+combined Divide x y = if y == 0 then None else Some (x / y)
+combined Remainder x y = if y == 0 then None else Some (x % y)
 
 -- the value of an operator with two operands, from the values of the first and of the second, each
 -- of which may be undefined
@@ -76,19 +69,14 @@ binary_value op (Some x) right =
 -- value
 abbrev pub chosen : {A : Type 0} → Option ℕ → A → A → A → A
 chosen None then_case else_case undefined = undefined
-chosen (Some x) then_case else_case undefined = if is_zero x then else_case else then_case
-
--- the value of `!a`
-abbrev pub negated : Option ℕ → Option ℕ
-negated None = None
-negated (Some x) = Some (truth (is_zero x))
+chosen (Some x) then_case else_case undefined = if x == 0 then else_case else then_case
 
 -- the value at a count, or none where it is undefined: a part that it needs divides by 0; where the
 -- count and all numerals are below 2^64, it is so too
 abbrev pub value : Tree → ℕ → Option ℕ
 value Count n = Some n
 value (Number v) n = Some v
-value (Not a) n = negated (value a n)
+value (Not a) n = option_map (λ x. truth (x == 0)) (value a n)
 value (Binary op a b) n = binary_value op (value a n) (value b n)
 value (Conditional a b c) n = chosen (value a n) (value b n) (value c n) None
 

@@ -33,13 +33,9 @@ rule_in parsed room =
 abbrev pub expression_limit : ℕ
 expression_limit = 4096
 
--- `n != 1`
-abbrev pub default_tree : Tree
-default_tree = Binary NotEqual Count (Number 1)
-
 -- the rule of a header without a readable one: two forms, and `n != 1`
 abbrev pub default_rule : Reason → RuleView
-default_rule reason = record { source = Default reason; nplurals = 2; tree = default_tree }
+default_rule reason = record { source = Default reason; nplurals = 2; tree = Binary NotEqual Count (Number 1) }
 
 -- the header names a number that fits 64 bits, and an expression within the limit that spells the
 -- tree

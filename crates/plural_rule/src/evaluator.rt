@@ -1,16 +1,14 @@
 //! The value of an expression at a count, by its program: one instruction after the other, with
 //! jumps that go forward only.
-ghost use Rattle.std.specs.Prelude.{◌≡◌, ℕ, ◌+◌, ◌*◌, ◌^◌, ◌<◌, ◌≤◌, List, ◌∷◌, length, drop, slice_index_or, ⊤, Some, MatchOption};
-ghost use Rattle.plural_rule.specs.declared.instruction.Instruction.{Instruction};
-ghost use Rattle.plural_rule.specs.declared.instruction.Action.TheVariants.{Binary};
-ghost use Rattle.plural_rule.specs.Instruction.{action_of};
+ghost use Rattle.std.specs.Prelude.{◌≡◌, ℕ, ◌+◌, ◌*◌, ◌<◌, ◌≤◌, List, ◌∷◌, length, drop, slice_index_or, Some};
+ghost use Rattle.plural_rule.specs.Instruction.{count_instruction};
 ghost use Rattle.plural_rule.specs.Expression.{nodes, value, visited};
 ghost use Rattle.plural_rule.specs.PluralRule.{expression_limit};
 ghost use Rattle.plural_rule.specs.Program.{program, tree_of, low_of};
-ghost use Rattle.plural_rule.specs.Internal.Run.{act, Go, left_by, go_on, run, stored, Outcome, outcome};
+ghost use Rattle.plural_rule.specs.Internal.Run.{act, left_by, go_on, run, stored, Outcome};
 
 use crate::instruction::{Action, Instruction};
-use crate::operator::{Operator, truth};
+use crate::operator::truth;
 
 /// The most instructions of a program that runs with the smallest stack: a larger one takes longer to set up.
 const TINY: usize = 16;
@@ -23,7 +21,6 @@ const MEDIUM: usize = 128;
 
 /// The value of the expression with this program at `count`, or `None` where it divides by 0, and
 /// how many nodes were evaluated.
-#[tactic(auto, using(crate::proofs::Uniqueness::visited_le_nodes))]
 pub fn evaluate(instructions: &[Instruction], count: u64) -> (Option<u64>, u32)
     requires program { instructions.now ≡ program 0 (tree_of instructions.now) }
     requires limit { length instructions.now ≤ expression_limit }
@@ -42,28 +39,21 @@ pub fn evaluate(instructions: &[Instruction], count: u64) -> (Option<u64>, u32)
     }
 }
 
-/// What an instruction does: it takes some of the newest values, adds one, and skips instructions.
-#[derive(Clone, Copy, Drop)]
-struct Effect {
-    /// The value that it adds, or `None` where it divides by 0.
-    value: Option<u64>,
-    /// How many values it takes, two at most.
-    taken: usize,
-    /// How many instructions it skips.
-    skip: u16,
-    /// How many nodes begin with it.
-    begins: u16,
-}
+/// What an instruction does: the value that it adds, or `None` where it divides by 0, how many values
+/// it takes, how many instructions it skips, and how many nodes begin with it.
+type Effect = (Option<u64>, usize, u16, u16);
 
 /// The same with room for `N` values: half of the instructions suffice, since an operator takes two.
 ///
-/// The newest value isn't in the array, whose first value is none of the program's.
+/// The newest value stands beside the array, whose first value is none of the program's.
 #[inline(never)]
 fn evaluate_within<const N: usize>(instructions: &[Instruction], count: u64) -> (Option<u64>, u32)
     requires program { instructions.now ≡ program 0 (tree_of instructions.now) }
     requires room { length instructions.now + 5 ≤ 2 * N }
     requires size { N ≤ expression_limit }
-    ensures { record { value = result.0; steps = result.1 } ≡ outcome (tree_of instructions.now) count }
+    ensures value { result.0 ≡ value (tree_of instructions.now) count }
+    ensures steps { result.1 ≡ visited (tree_of instructions.now) count }
+    ensures bound { result.1 ≤ nodes (tree_of instructions.now) }
 {
     let mut stack = [0; N];
     let mut len = 1;
@@ -71,14 +61,14 @@ fn evaluate_within<const N: usize>(instructions: &[Instruction], count: u64) -> 
     let mut steps = 0;
     let mut index = 0;
     while index < instructions.len() {
-        let effect = step(instructions, index, count, newest, stack[len - 1]);
-        steps += effect.begins as u32;
-        let Some(value) = effect.value else {
+        let (value, taken, skip, begins) = step(instructions, index, count, newest, stack[len - 1]);
+        steps += begins as u32;
+        let Some(value) = value else {
             return (None, steps);
         };
-        len = keep(&mut stack, len, newest, effect.taken);
+        len = keep(&mut stack, len, newest, taken);
         newest = value;
-        index = index + 1 + effect.skip as usize;
+        index = index + 1 + skip as usize;
     }
     (Some(newest), steps)
 }
@@ -108,70 +98,30 @@ fn step(instructions: &[Instruction], index: usize, count: u64, newest: u64, bel
     requires { index < length instructions.now }
     ensures next { (room : ℕ) (older : List ℕ) (steps : ℕ) (o : Outcome) →
         run room count (drop index instructions.now) 0 (newest ∷ below ∷ older) steps ≡ Some o →
-        go_on (run room count (drop (index + 1) instructions.now)) steps (left_by result (newest ∷ below ∷ older)) ≡ Some o }
-    ensures taken { result.taken ≤ 2 }
+        go_on (run room count (drop (index + 1) instructions.now)) steps
+        (left_by result.0 result.1 result.2 result.3 (newest ∷ below ∷ older)) ≡ Some o }
+    ensures taken { result.1 ≤ 2 }
 {
-    let instruction = instructions[index];
-    let Some(operand) = leaf(instruction, count) else {
-        return act(
-            instruction.action(),
-            instructions,
-            index + 1,
-            count,
-            newest,
-            below,
-        );
+    let (operand, begins) = match instructions[index].action() {
+        Action::Count(begins) => (count, begins),
+        Action::Number(begins, number) => (number as u64, begins),
+        action => return act(action, instructions, index + 1, count, newest, below),
     };
-    let (value, taken, skip) = match operator_at(instructions, index + 1) {
-        Some(operator) => (operator.combined(newest, operand), 1, 1),
-        None => (Some(operand), 0, 0),
-    };
-    Effect {
-        value,
-        taken,
-        skip,
-        begins: instruction.count,
+    match instruction_at(instructions, index + 1).action() {
+        Action::Binary(operator) => (operator.combined(newest, operand), 1, 1, begins),
+        _ => (Some(operand), 0, 0, begins),
     }
 }
 
-/// The number of the instruction at an index.
+/// The instruction at an index, or one that isn't an operator where the program has ended.
 #[inline(always)]
-fn low_at(instructions: &[Instruction], index: usize) -> u32
-    ensures { result ≡ low_of (drop index instructions.now) }
+fn instruction_at(instructions: &[Instruction], index: usize) -> Instruction
+    ensures { result ≡ slice_index_or instructions.now index (count_instruction 0) }
 {
     if index < instructions.len() {
-        instructions[index].number
+        instructions[index]
     } else {
-        0
-    }
-}
-
-/// The value of `n` or of a numeral below 2^32.
-#[inline(always)]
-fn leaf(instruction: Instruction, count: u64) -> Option<u64>
-    ensures { MatchOption result ⊤ (λ operand. (low : ℕ) (values : List ℕ) →
-        act count (action_of instruction) low values ≡ Go 0 (operand ∷ values) instruction.count) }
-{
-    match instruction.action() {
-        Action::Count(_) => Some(count),
-        Action::Number(_, number) => Some(number as u64),
-        _ => None,
-    }
-}
-
-/// The operator at an index, which takes the operand before it.
-#[inline(always)]
-fn operator_at(instructions: &[Instruction], index: usize) -> Option<Operator>
-    ensures { MatchOption result ⊤ (λ operator. (index < length instructions.now)
-        × ((d : Instruction) → Binary operator ≡ action_of (slice_index_or instructions.now index d))) }
-{
-    if index < instructions.len() {
-        match instructions[index].action() {
-            Action::Binary(operator) => Some(operator),
-            _ => None,
-        }
-    } else {
-        None
+        Instruction::default()
     }
 }
 
@@ -185,33 +135,22 @@ fn act(
     newest: u64,
     below: u64,
 ) -> Effect
-    ensures next { (older : List ℕ) → act count action (low_of (drop next instructions.now)) (newest ∷ below ∷ older)
-        ≡ left_by result (newest ∷ below ∷ older) }
-    ensures taken { result.taken ≤ 2 }
+    ensures { (older : List ℕ) → (result.1 ≤ 2) × (act count action (low_of (drop next instructions.now)) (newest ∷ below ∷ older)
+        ≡ left_by result.0 result.1 result.2 result.3 (newest ∷ below ∷ older)) }
 {
-    let (value, taken, skip, begins) = match action {
+    match action {
         Action::Count(begins) => (Some(count), 0, 0, begins),
         Action::Number(begins, number) => (Some(number as u64), 0, 0, begins),
         Action::Wide(begins, high) => {
-            let low = low_at(instructions, next) as u64;
-            (Some(high as u64 * 4294967296 + low), 0, 1, begins)
+            let low = instruction_at(instructions, next).number;
+            (Some(high as u64 * 4294967296 + low as u64), 0, 1, begins)
         }
         Action::Not => (Some(truth(newest == 0)), 1, 0, 0),
         Action::Binary(operator) => (operator.combined(below, newest), 2, 0, 0),
-        Action::Branch(operator, skip) => {
-            if operator.needs_right(newest) {
-                (Some(newest), 1, 0, 0)
-            } else {
-                (Some(operator.short_circuit_value()), 1, skip, 0)
-            }
-        }
-        Action::Choose(skip) => (Some(below), 2, if newest == 0 { skip } else { 0 }, 0),
+        Action::Branch(operator, _) if operator.needs_right(newest) => (Some(newest), 1, 0, 0),
+        Action::Branch(_, skip) => (Some(truth(newest != 0)), 1, skip, 0),
+        Action::Choose(skip) if newest == 0 => (Some(below), 2, skip, 0),
+        Action::Choose(_) => (Some(below), 2, 0, 0),
         Action::Jump(skip) => (Some(newest), 1, skip, 0),
-    };
-    Effect {
-        value,
-        taken,
-        skip,
-        begins,
     }
 }

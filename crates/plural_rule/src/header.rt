@@ -1,8 +1,7 @@
 //! The fields of a header text that make a plural rule.
 ghost use Rattle.std.specs.Prelude.{◌≡◌, ◌<◌, Some, None, length, MatchOption};
-ghost use Rattle.std.specs.List.{before_first};
 ghost use Rattle.std.specs.Str.Parse.{AllDigits, digits_value};
-ghost use Rattle.plural_rule.specs.Header.{after_first, nplurals_of, is_end, expression_of};
+ghost use Rattle.plural_rule.specs.Header.{after_first, nplurals_of, expression_of};
 
 use crate::lexer;
 use memchr::arch::all::is_suffix;
@@ -31,7 +30,9 @@ pub(crate) fn nplurals_digits(header: &[u8]) -> Option<&[u8]>
     ensures { MatchOption result (nplurals_of header.now ≡ None)
         (λ digits. AllDigits 10 digits.now × (nplurals_of header.now ≡ Some (digits_value 10 digits.now))) }
 {
-    let rest = after_first(header, b"nplurals=")?;
+    let Some(rest) = after_first(header, b"nplurals=") else {
+        return None;
+    };
     let digits = lexer::leading_digits(lexer::without_blanks(rest));
     if digits.is_empty() {
         None
@@ -40,21 +41,16 @@ pub(crate) fn nplurals_digits(header: &[u8]) -> Option<&[u8]>
     }
 }
 
-/// The text of the expression: what follows the first `plural=`.
+/// The text of the expression: what follows the first `plural=`, up to the first `;` or LF, or to the end.
 pub(crate) fn expression(header: &[u8]) -> Option<&[u8]>
     ensures { MatchOption result (expression_of header.now ≡ None)
         (λ text. expression_of header.now ≡ Some text.now) }
 {
-    Some(first_statement(after_first(header, b"plural=")?))
-}
-
-/// The text up to the first `;` or LF, or to the end.
-#[tactic(auto, using(crate::proofs::Searches::before_first_some, crate::proofs::Searches::before_first_none))]
-fn first_statement(text: &[u8]) -> &[u8]
-    ensures { result.now ≡ before_first is_end text.now }
-{
+    let Some(text) = after_first(header, b"plural=") else {
+        return None;
+    };
     match memchr2(b';', b'\n', text) {
-        Some(end) => &text[..end],
-        None => text,
+        Some(end) => Some(&text[..end]),
+        None => Some(text),
     }
 }

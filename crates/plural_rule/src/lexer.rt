@@ -1,20 +1,13 @@
 //! The tokens of an expression's text, and the numerals and blanks of a header text.
-ghost use Rattle.std.specs.Prelude.{◌≡◌, ◌^◌, ◌<◌, ◌≤◌, [], ◌∷◌, length, take_while, slice_index, MatchOption, SomeIff, true, false};
+ghost use Rattle.std.specs.Prelude.{◌≡◌, ◌^◌, ◌<◌, ◌≤◌, [], ◌∷◌, length, take_while, MatchOption, SomeIff, false};
 ghost use Rattle.std.specs.Str.Parse.{AllDigits, digits_value};
 ghost use Rattle.std.specs.Char.{is_ascii_digit};
-ghost use Rattle.plural_rule.specs.Tokens.{is_blank, IsSpelling};
+ghost use Rattle.plural_rule.specs.Tokens.{IsSpelling};
 ghost use Rattle.plural_rule.specs.Header.{without_blanks};
 ghost use Rattle.plural_rule.specs.Internal.Scanner.{IsTokenAt, HasNoToken, BeginsWithDouble, HasNoDouble};
 
 use crate::operator::Operator;
 use crate::token::Token;
-
-/// Whether a byte is a space or a TAB.
-fn is_blank(byte: u8) -> bool
-    ensures { result ≡ is_blank byte }
-{
-    byte == b' ' || byte == b'\t'
-}
 
 /// The text without the spaces and TABs at its beginning.
 pub(crate) fn without_blanks(text: &[u8]) -> &[u8]
@@ -22,7 +15,7 @@ pub(crate) fn without_blanks(text: &[u8]) -> &[u8]
     ensures shorter { length result.now ≤ length text.now }
 {
     for (index, byte) in text.iter().enumerate() {
-        if !is_blank(*byte) {
+        if *byte != b' ' && *byte != b'\t' {
             return &text[index..];
         }
     }
@@ -46,10 +39,13 @@ pub(crate) fn decimal_value(digits: &[u8]) -> Option<u64>
     requires { AllDigits 10 digits.now }
     ensures { SomeIff result (digits_value 10 digits.now < 2 ^ 64) (digits_value 10 digits.now) }
 {
-    let mut value: u64 = 0;
+    let mut value = 0;
     for digit in digits {
-        let digit = (*digit as char).to_digit(10)?;
-        value = value.checked_mul(10)?.checked_add(digit as u64)?;
+        let longer = value as u128 * 10 + (*digit - b'0') as u128;
+        if longer > u64::MAX as u128 {
+            return None;
+        }
+        value = longer as u64;
     }
     Some(value)
 }
@@ -64,27 +60,17 @@ pub(crate) fn token(text: &[u8]) -> Option<(Token, usize)>
 {
     let first = text[0];
     if first.is_ascii_digit() {
-        return numeral(text);
+        let digits = leading_digits(text);
+        return match decimal_value(digits) {
+            Some(value) => Some((Token::Number(value), digits.len())),
+            None => None,
+        };
     }
     if let Some(operator) = double_at(text) {
         return Some((Token::Binary(operator), 2));
     }
     match single(first) {
         Some(token) => Some((token, 1)),
-        None => None,
-    }
-}
-
-/// The numeral at the beginning of a text that begins with a digit.
-#[inline(always)]
-fn numeral(text: &[u8]) -> Option<(Token, usize)>
-    requires some { 0 < length text.now }
-    requires digit { is_ascii_digit (slice_index text.now 0) ≡ true }
-    ensures { MatchOption result (HasNoToken text.now) (λ r. IsTokenAt text.now r.0 r.1) }
-{
-    let digits = leading_digits(text);
-    match decimal_value(digits) {
-        Some(value) => Some((Token::Number(value), digits.len())),
         None => None,
     }
 }

@@ -1,6 +1,6 @@
 //! The operators of two operands in a plural expression.
 ghost use Rattle.std.specs.Prelude.{◌≡◌};
-ghost use Rattle.plural_rule.specs.Expression.{combined, needs_right, short_circuit_value, truth};
+ghost use Rattle.plural_rule.specs.Expression.{combined, needs_right, truth};
 ghost use Rattle.plural_rule.specs.Grammar.{level};
 ghost use Rattle.plural_rule.specs.Program.{is_lazy};
 ghost use Rattle.plural_rule.specs.Instruction.{operator_code, operator_of};
@@ -94,16 +94,6 @@ impl Operator {
             Operator::Or => left == 0,
             Operator::And => left != 0,
             _ => true,
-        }
-    }
-
-    /// The value of `||` or `&&` where the second operand isn't evaluated.
-    pub(crate) fn short_circuit_value(self) -> u64
-        ensures { result ≡ short_circuit_value self }
-    {
-        match self {
-            Operator::Or => 1,
-            _ => 0,
         }
     }
 

@@ -17,7 +17,7 @@
 //! size, so the machine's stack doesn't grow with the expression.
 ghost use Rattle.std.specs.Prelude.{◌≡◌, ◌≤◌, List, None, length, take, MatchOption, ⊤};
 ghost use Rattle.plural_rule.specs.Expression.{Tree};
-ghost use Rattle.plural_rule.specs.Internal.ShiftReduce.{Waiting, State, reduce, want_step, have_step, step, finish};
+ghost use Rattle.plural_rule.specs.Internal.ShiftReduce.{Waiting, State, reduce, want_step, at_operator, step, finish};
 ghost use Rattle.plural_rule.specs.Internal.ParserState.{held, IsWaiting, IsOperand, Represents, Answers, HoldsTree, HoldsExpression, HasRoom, Grows, most_added};
 ghost use Rattle.plural_rule.specs.Grammar.{Spelt};
 ghost use Rattle.plural_rule.specs.PluralRule.{expression_limit};
@@ -60,55 +60,46 @@ fn take_operand(room: &mut Room, codes: &mut [u16], parser: Parser, token: Token
 {
     match token {
         Token::Count => {
-            push(room, parser.len, Instruction::COUNT);
-            Some(Parser::new(parser.len + 1, parser.count, parser.len as u16, true))
+            let len = push(room, parser.len, Instruction::COUNT);
+            Some(Parser::new(len, parser.count, parser.len as u16, true))
         }
         Token::Number(number) => {
             let len = push_numeral(room, parser.len, number);
             Some(Parser::new(len, parser.count, parser.len as u16, true))
         }
-        Token::Not => {
-            wait(codes, parser.count, Pending::Not);
-            Some(Parser::new(parser.len, parser.count + 1, parser.start, false))
-        }
-        Token::Open => {
-            wait(codes, parser.count, Pending::Open);
-            Some(Parser::new(parser.len, parser.count + 1, parser.start, false))
-        }
+        Token::Not => Some(wait(codes, parser.len, parser, Pending::Not)),
+        Token::Open => Some(wait(codes, parser.len, parser, Pending::Open)),
         _ => None,
     }
 }
 
-/// Reads a token after a complete operand, or `None` where it can't stand here.
+/// Reads a token after a complete operand that what waits has been completed with, or `None` where it can't stand here.
 #[inline(always)]
-fn take_operator(room: &mut Room, codes: &mut [u16], before: Parser, token: Token) -> Option<Parser>
-    requires room { HasRoom codes.old before (most_added token) 1 }
-    ensures step { (waiting : List Waiting) (tree : Tree) → IsOperand (held room.old codes.old before) waiting tree →
-        Answers (have_step waiting tree token) result room.new codes.new }
-    ensures room { MatchOption result ⊤ (λ after. Grows codes.old before codes.new after (most_added token) 1) }
+fn take_operator(room: &mut Room, codes: &mut [u16], parser: Parser, token: Token) -> Option<Parser>
+    requires room { HasRoom codes.old parser (most_added token) 1 }
+    ensures step { (stack : List Waiting) (tree : Tree) → IsOperand (held room.old codes.old parser) stack tree →
+        Answers (at_operator (record { stack = stack; tree = tree }) token) result room.new codes.new }
+    ensures room { MatchOption result ⊤ (λ after. Grows codes.old parser codes.new after (most_added token) 1) }
 {
-    let parser = reduce(room, codes, before, token.closing_level());
     match token {
         Token::Binary(operator) => {
             begin(room, parser.len, parser.start);
             let len = push_branch(room, parser.len, operator);
-            wait(codes, parser.count, Pending::Binary(operator, parser.start));
-            Some(Parser::new(len, parser.count + 1, parser.start, false))
+            Some(wait(codes, len, parser, Pending::Binary(operator, parser.start)))
         }
         Token::Question => {
             begin(room, parser.len, parser.start);
-            push(room, parser.len, Instruction::CHOOSE);
-            wait(codes, parser.count, Pending::Question(parser.start));
-            Some(Parser::new(parser.len + 1, parser.count + 1, parser.start, false))
+            let len = push(room, parser.len, Instruction::CHOOSE);
+            Some(wait(codes, len, parser, Pending::Question(parser.start)))
         }
         Token::Colon => {
             let Some(Pending::Question(first)) = newest(codes, parser.count) else {
                 return None;
             };
             skip_operand(room, parser.len, parser.start, 1);
-            push(room, parser.len, Instruction::JUMP);
-            wait(codes, parser.count - 1, Pending::Colon(first));
-            Some(Parser::new(parser.len + 1, parser.count, parser.start, false))
+            let len = push(room, parser.len, Instruction::JUMP);
+            let before = Parser::new(parser.len, parser.count - 1, parser.start, true);
+            Some(wait(codes, len, before, Pending::Colon(first)))
         }
         Token::Close => {
             let Some(Pending::Open) = newest(codes, parser.count) else {
@@ -129,7 +120,8 @@ fn take(room: &mut Room, codes: &mut [u16], parser: Parser, token: Token) -> Opt
     ensures room { MatchOption result ⊤ (λ after. Grows codes.old parser codes.new after (most_added token) 1) }
 {
     if parser.complete {
-        take_operator(room, codes, parser, token)
+        let reduced = reduce(room, codes, parser, token.closing_level());
+        take_operator(room, codes, reduced, token)
     } else {
         take_operand(room, codes, parser, token)
     }

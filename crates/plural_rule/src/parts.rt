@@ -38,13 +38,15 @@ impl Parser {
     }
 }
 
-/// Adds an instruction to a program of `len` instructions.
+/// Adds an instruction to a program of `len` instructions: how many there are then.
 #[inline(always)]
-pub(crate) fn push(room: &mut Room, len: usize, instruction: Instruction)
+pub(crate) fn push(room: &mut Room, len: usize, instruction: Instruction) -> usize
     requires { len < expression_limit }
-    ensures { take (len + 1) room.new ≡ take len room.old ++ instruction ∷ [] }
+    ensures items { take result room.new ≡ take len room.old ++ instruction ∷ [] }
+    ensures len { result ≡ len + 1 }
 {
     room[len] = instruction;
+    len + 1
 }
 
 /// Adds the instruction between the operands of `||` or `&&`: how many instructions there are then.
@@ -60,8 +62,7 @@ pub(crate) fn push_branch(room: &mut Room, len: usize, operator: Operator) -> us
         kind: 5,
         ..Instruction::binary(operator)
     };
-    push(room, len, branch);
-    len + 1
+    push(room, len, branch)
 }
 
 /// Counts one more node that begins with the instruction at an index.
@@ -96,14 +97,13 @@ pub(crate) fn push_numeral(room: &mut Room, len: usize, value: u64) -> usize
     ensures items { take result room.new ≡ take len room.old ++ numeral_then 1 value [] }
     ensures len { result ≡ len + length (numeral_then 1 value []) }
 {
-    let number = Instruction {
-        kind: 1,
-        number: (value % 4294967296) as u32,
-        ..Instruction::COUNT
-    };
     if value < 4294967296 {
-        push(room, len, number);
-        return len + 1;
+        let number = Instruction {
+            kind: 1,
+            number: value as u32,
+            ..Instruction::COUNT
+        };
+        return push(room, len, number);
     }
     let high = Instruction {
         kind: 2,
@@ -111,12 +111,11 @@ pub(crate) fn push_numeral(room: &mut Room, len: usize, value: u64) -> usize
         ..Instruction::COUNT
     };
     let low = Instruction {
-        number: number.number,
+        number: (value % 4294967296) as u32,
         ..Instruction::JUMP
     };
-    push(room, len, high);
-    push(room, len + 1, low);
-    len + 2
+    let len = push(room, len, high);
+    push(room, len, low)
 }
 
 /// Completes what waits for the last operand, which begins at `start`: how many instructions there are
@@ -124,28 +123,25 @@ pub(crate) fn push_numeral(room: &mut Room, len: usize, value: u64) -> usize
 #[inline(always)]
 pub(crate) fn complete(room: &mut Room, len: usize, start: u16, top: Pending) -> (usize, u16)
     requires { len + weight_of top ≤ expression_limit }
-    ensures items { take result.0 room.new ≡ completed_program top start (take len room.old) }
-    ensures start { result.1 ≡ first_of top start }
-    ensures len { result.0 ≤ len + weight_of top }
+    ensures { (take result.0 room.new ≡ completed_program top start (take len room.old)) ×
+        (result.1 ≡ first_of top start) × (result.0 ≤ len + weight_of top) }
 {
     match top {
         Pending::Not => {
             begin(room, len, start);
-            push(room, len, Instruction::NOT);
-            (len + 1, start)
+            (push(room, len, Instruction::NOT), start)
+        }
+        Pending::Binary(operator, first) if operator.is_lazy() => {
+            skip_operand(room, len, start, 1);
+            (push(room, len, Instruction::binary(operator)), first)
         }
         Pending::Binary(operator, first) => {
-            if operator.is_lazy() {
-                skip_operand(room, len, start, 1);
-            }
-            push(room, len, Instruction::binary(operator));
-            (len + 1, first)
+            (push(room, len, Instruction::binary(operator)), first)
         }
         Pending::Colon(first) => {
             skip_operand(room, len, start, 0);
             (len, first)
         }
-        Pending::Question(first) => (len, first),
-        Pending::Open => (len, start),
+        Pending::Question(_) | Pending::Open => (len, start),
     }
 }

@@ -1,8 +1,9 @@
 //! What waits for its last operand while an expression is read.
-ghost use Rattle.std.specs.Prelude.{◌≡◌, ◌+◌, ◌-◌, ◌<◌, ◌≤◌, [], ◌∷◌, length, MatchOption};
+ghost use Rattle.std.specs.Prelude.{◌≡◌, ◌+◌, ◌-◌, ◌<◌, ◌≤◌, [], ◌∷◌, length, MatchOption, false};
 ghost use Rattle.plural_rule.specs.Internal.Pending.{binds, pending_of, within, entries_in};
 
 use crate::operator::Operator;
+use crate::parts::Parser;
 
 /// What waits for its last operand, with the index at which its instructions begin.
 #[derive(Clone, Copy, Drop)]
@@ -64,13 +65,15 @@ impl Pending {
     }
 }
 
-/// Adds to what waits, the newest of which are the first `count` codes, with an index below 4,096.
+/// Adds to what waits, with an index below 4,096, where the parser has `len` instructions: what it holds then.
 #[inline(always)]
-pub(crate) fn wait(codes: &mut [u16], count: usize, pending: Pending)
-    requires { count < length codes.old }
-    ensures { entries_in codes.new (count + 1) ≡ within pending ∷ entries_in codes.old count }
+pub(crate) fn wait(codes: &mut [u16], len: usize, before: Parser, pending: Pending) -> Parser
+    requires { before.count < length codes.old }
+    ensures entries { entries_in codes.new (before.count + 1) ≡ within pending ∷ entries_in codes.old before.count }
+    ensures parser { result ≡ record { len = len; count = before.count + 1; start = before.start; complete = false } }
 {
-    codes[count] = pending.code();
+    codes[before.count] = pending.code();
+    Parser::new(len, before.count + 1, before.start, false)
 }
 
 /// The newest of what waits.

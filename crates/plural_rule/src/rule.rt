@@ -1,7 +1,8 @@
 //! The rule of a header text.
 ghost use Rattle.std.specs.Prelude.{◌≡◌, ◌≤◌, length, take, MatchResult};
+ghost use Rattle.plural_rule.specs.declared.rule.Reason.{Reason};
 ghost use Rattle.plural_rule.specs.Expression.{value, visited, nodes};
-ghost use Rattle.plural_rule.specs.PluralRule.{IsRuleOf, IsReason, default_tree, expression_limit, rule_in, program_in};
+ghost use Rattle.plural_rule.specs.PluralRule.{IsRuleOf, IsReason, default_rule, expression_limit, rule_in, program_in};
 ghost use Rattle.plural_rule.specs.Program.{program as program_of, tree_of};
 ghost use Rattle.plural_rule.specs.Internal.ParserState.{HoldsRule};
 
@@ -203,7 +204,7 @@ fn read(header: &[u8], room: &mut Room) -> Result<(u64, usize), Reason>
 
 /// Writes the program of `n != 1`.
 fn write_default(room: &mut Room)
-    ensures { take 3 room.new ≡ program_of 0 default_tree }
+    ensures { (reason : Reason) → take 3 room.new ≡ program_of 0 (default_rule reason).tree }
 {
     push(room, 0, Instruction::COUNT);
     let len = push_numeral(room, 1, 1);

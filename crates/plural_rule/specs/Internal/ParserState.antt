@@ -108,7 +108,6 @@ completed_program _ start code = code
 
 abbrev pub first_of : Pending → ℕ → ℕ
 first_of (BinaryPending op first) start = first
-first_of (QuestionPending first) start = first
 first_of (ColonPending first) start = first
 first_of _ start = start
 

@@ -1,12 +1,11 @@
 -- Internal: a program that runs.
-use Rattle.std.specs.Prelude.{ℕ, zero, suc, ◌+◌, ◌*◌, ◌^◌, nat_lt, List, [], ◌∷◌, length, drop, slice_index_or, Option, Some, None}
+use Rattle.std.specs.Prelude.{ℕ, zero, suc, ◌+◌, ◌*◌, ◌^◌, nat_lt, ◌==◌, List, [], ◌∷◌, length, drop, slice_index_or, Option, Some, None}
 use Rattle.std.specs.Prelude.{if◌then◌else◌}
-use Rattle.plural_rule.specs.declared.evaluator.Effect.{Effect}
 use Rattle.plural_rule.specs.declared.instruction.Instruction.{Instruction}
 use Rattle.plural_rule.specs.declared.instruction.Action.{Action}
 use Rattle.plural_rule.specs.declared.instruction.Action.TheVariants.{Count, Number, Wide, Not, Binary, Branch, Choose, Jump}
 use Rattle.plural_rule.specs.Instruction.{action_of}
-use Rattle.plural_rule.specs.Expression.{Tree, truth, is_zero, needs_right, short_circuit_value, combined, value, visited}
+use Rattle.plural_rule.specs.Expression.{Tree, truth, needs_right, short_circuit_value, combined, value, visited}
 use Rattle.plural_rule.specs.Program.{low_of}
 
 -- what an instruction leaves: how many instructions are skipped, the values, newest first, and how
@@ -24,21 +23,18 @@ abbrev pub act : ℕ → Action → ℕ → List ℕ → Next
 act n (Count begins) low values = Go 0 (n ∷ values) begins
 act n (Number begins v) low values = Go 0 (v ∷ values) begins
 act n (Wide begins high) low values = Go 1 ((high * 2 ^ 32 + low) ∷ values) begins
-act n Not low (x ∷ values) = Go 0 (truth (is_zero x) ∷ values) 0
+act n Not low (x ∷ values) = Go 0 (truth (x == 0) ∷ values) 0
 act n (Binary op) low (y ∷ x ∷ values) = with_value (combined op x y) values
 act n (Branch op skip) low (x ∷ values) =
     if needs_right op x then Go 0 (x ∷ values) 0 else Go skip (short_circuit_value op ∷ values) 0
-act n (Choose skip) low (x ∷ values) = Go (if is_zero x then skip else 0) values 0
+act n (Choose skip) low (x ∷ values) = Go (if x == 0 then skip else 0) values 0
 act n (Jump skip) low values = Go skip values 0
 act n action low values = Undefined 0
 
--- the same from what the code says of the instruction
-abbrev pub left_with : Option ℕ → Effect → List ℕ → Next
-left_with None e values = Undefined e.begins
-left_with (Some v) e values = Go e.skip (v ∷ drop e.taken values) e.begins
-
-abbrev pub left_by : Effect → List ℕ → Next
-left_by e values = left_with e.value e values
+-- the same from what the code says of the instruction: the value, how many values it takes, and so on
+abbrev pub left_by : Option ℕ → ℕ → ℕ → ℕ → List ℕ → Next
+left_by None taken skip begins values = Undefined begins
+left_by (Some v) taken skip begins values = Go skip (v ∷ drop taken values) begins
 
 -- the value of a tree, and how many nodes are visited for it
 pub record Outcome : Type 0 where

@@ -1,30 +1,31 @@
-use Rattle.std.proofs.Common.{◌+◌, ◌∷◌, drop, refl}
-use Rattle.plural_rule.specs.declared.instruction.Instruction.{Instruction}
-use Rattle.plural_rule.specs.Program.{low_of}
-use Rattle.plural_rule.proofs.Programs.{acts, fused}
+use Rattle.plural_rule.specs.Instruction.{action_of}
+use Rattle.std.proofs.Common.{◌≡◌, ap, ◌+◌, [], ◌∷◌, ◌∙◌, refl, sym, drop, Some}
+use Rattle.plural_rule.specs.Internal.Run.{run, go_on, Go}
+use Rattle.plural_rule.proofs.Programs.{acts, fused, operator-within}
 use Rattle.plural_rule.proofs.evaluator.step.Goals as goal
+use Rattle.plural_rule.proofs.evaluator.step.Goals.{in-Count, in-Number}
 
-abbrev none : Instruction
-none = record { kind = 0; operator = 0; count = 0; number = 0 }
+pub returns-in_default : goal.returns-in_default
+returns-in_default c = record {
+  next = λ room older steps o runs. acts room c.args.count c.args.instructions.now c.args.index c.args.newest
+      c.args.below older steps c.requires runs c.action.ensures (c.act.ensures older).1;
+  taken = (c.act.ensures []).0;
+}
 
-pub returns-in_default-clause-next : goal.returns-in_default-clause-next
-returns-in_default-clause-next c room older steps o runs =
-    acts room c.args.count c.args.instructions.now c.args.index c.args.newest c.args.below older steps none _ _
-    c.requires runs c.action.ensures (c.act.ensures.next older)
-
-pub returns-in-None-clause-next : goal.returns-in-None-clause-next
-returns-in-None-clause-next c room older steps o runs =
-    acts room c.args.count c.args.instructions.now c.args.index c.args.newest c.args.below older steps none _ _
-    c.requires runs refl (c.in-Some.ensures _ _)
-
-pub returns-in-Some-operator_at-clause-next : goal.returns-in-Some-operator_at-clause-next
-returns-in-Some-operator_at-clause-next c room older steps o runs =
+pub returns-in-Binary-clause-next : goal.returns-in-Binary-clause-next
+returns-in-Binary-clause-next c room older steps o runs =
     let code = c.args.instructions.now in
     let n = c.args.count in
     let i = c.args.index in
-    let at = c.in-Some-operator_at.ensures in
-    let on = acts room n code i c.args.newest c.args.below older steps none _ _ c.requires runs refl
-    (c.in-Some.ensures (low_of (drop (i + 1) code)) (c.args.newest ∷ c.args.below ∷ older)) in
-    fused room n code (i + 1) c.args.newest steps (c.args.below ∷ older) _ refl refl
-    (rw c.combined.ensures (acts room n code (i + 1) c.in-Some.operand c.args.newest
-    (c.args.below ∷ older) _ none _ _ at.0 on (at.1 none) refl))
+    let e = c.match-action.operand in
+    let pushed : go_on (run room n (drop (i + 1) code)) steps (Go 0 (e.0 ∷ c.args.newest ∷ c.args.below ∷ older) e.1)
+    ≡ Some o = elim c.match-action.branch [
+      | in-Count w ↦ rw w.operand-is (acts room n code i c.args.newest c.args.below older steps c.requires runs
+          w.in-Count.ensures refl)
+      | in-Number w ↦ rw w.operand-is (acts room n code i c.args.newest c.args.below older steps c.requires runs
+          w.in-Number.ensures refl)
+    ] in
+    let operator = ap action_of (sym c.instruction_at.ensures) ∙ sym c.in-Binary.ensures in
+    fused room n code (i + 1) c.args.newest steps (c.args.below ∷ older) _ _
+    (rw c.combined.ensures (acts room n code (i + 1) e.0 c.args.newest (c.args.below ∷ older) _
+    (operator-within code (i + 1) _ operator) pushed (sym operator) refl))

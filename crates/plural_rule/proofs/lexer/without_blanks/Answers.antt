@@ -1,16 +1,17 @@
 use Rattle.std.proofs.Common.{drop, ap, ◌∙◌, sym, arith}
+use Rattle.std.proofs.lemmas.Bool.Decides.{nat_tests}
 use Rattle.std.proofs.lemmas.List.Sums.{prefix_len_is}
 use Rattle.plural_rule.specs.Tokens.{is_blank}
 use Rattle.plural_rule.proofs.Searches.{rest_from}
 use Rattle.plural_rule.proofs.lexer.without_blanks.Goals as goal
 
-pub returns-then-not-is_blank-clause-value : goal.returns-then-not-is_blank-clause-value
-returns-then-not-is_blank-clause-value c =
+pub returns-then-byte-ne9-clause-value : goal.returns-then-byte-ne9-clause-value
+returns-then-byte-ne9-clause-value c =
     let text = c.args.text.now in
     rest_from text c.loop-index.index
     ∙ ap (λ n. drop n text) (sym
     (prefix_len_is is_blank text c.loop-index.index 0 (omega arith) c.loop-index.invariant
-    (λ _. sym c.if-not-is_blank.ensures)))
+    (λ _. grind (arith, nat_tests))))
 
 pub returns-clause-value : goal.returns-clause-value
 returns-clause-value c =

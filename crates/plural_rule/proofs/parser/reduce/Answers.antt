@@ -12,9 +12,9 @@ loop-top-preserved c =
     let done = c.complete-len.ensures in
     let room = c.loop-top.invariant.room in
     record {
-      room = rw c.new-parser.ensures (omega (arith, ap weight popped, done.len, room.0), omega (arith, room.1));
+      room = rw c.new-parser.ensures (omega (arith, ap weight popped, done.2, room.0), omega (arith, room.1));
       reduces = λ waiting tree h.
-          rw (c.new-parser.ensures, done.items, done.start)
+          rw (c.new-parser.ensures, done.0, done.1)
           (Reduces-more c.args.next_level (held c.loop-top.room c.args.codes.now before) _ c.in-Some.top
           (reduce c.args.next_level waiting tree) (c.loop-top.invariant.reduces waiting tree h) popped
           (short before.len c.loop-top.room (omega (arith, room.0, c.requires.room.0)))

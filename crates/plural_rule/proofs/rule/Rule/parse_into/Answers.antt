@@ -1,19 +1,32 @@
-use Rattle.std.proofs.Common.{take}
-use Rattle.plural_rule.specs.PluralRule.{default_tree, expression_limit}
-use Rattle.plural_rule.proofs.Rules.{program_of_code, from-header, from-default}
+use Rattle.std.proofs.Common.{◌≡◌, List, sym, ap, subst, ◌∙◌}
+use Rattle.plural_rule.specs.declared.instruction.Instruction.{Instruction}
+use Rattle.plural_rule.specs.declared.rule.Source.TheVariants.{Default}
+use Rattle.plural_rule.specs.Expression.{Tree}
+use Rattle.plural_rule.specs.PluralRule.{IsReadable, default_rule, expression_limit}
+use Rattle.plural_rule.specs.Program.{program, tree_of, tree_of-program}
 use Rattle.plural_rule.proofs.rule.Rule.parse_into.Goals as goal
+
+tree_is : (code : List Instruction) (t : Tree) → code ≡ program 0 t → tree_of code ≡ t
+tree_is code t e = ap tree_of e ∙ tree_of-program t
+
+program_is : (code : List Instruction) (t : Tree) → code ≡ program 0 t → code ≡ program 0 (tree_of code)
+program_is code t e = e ∙ ap (program 0) (sym (tree_is code t e))
 
 pub returns-in-Ok-clause-rule : goal.returns-in-Ok-clause-rule
 returns-in-Ok-clause-rule c =
-    from-header expression_limit c.args.header.now c.in-Ok.nplurals (take c.in-Ok.len c.read.new.room) c.in-Ok.ensures.1
+    let h = c.in-Ok.ensures.1 in
+    subst (IsReadable expression_limit c.args.header.now c.in-Ok.nplurals) (sym (tree_is _ h.tree h.code_is)) h.readable
 
 pub returns-in-Ok-clause-program : goal.returns-in-Ok-clause-program
-returns-in-Ok-clause-program c = program_of_code _ c.in-Ok.ensures.1.tree c.in-Ok.ensures.1.code_is
+returns-in-Ok-clause-program c = program_is _ c.in-Ok.ensures.1.tree c.in-Ok.ensures.1.code_is
 
 pub returns-in-Err-clause-rule : goal.returns-in-Err-clause-rule
-returns-in-Err-clause-rule c =
-    from-default expression_limit c.args.header.now c.in-Err.reason
-    (take 3 c.write_default.new.room) c.in-Err.ensures c.write_default.ensures
+returns-in-Err-clause-rule c = (
+  c.in-Err.ensures,
+  ap (λ t. record { source = Default c.in-Err.reason; nplurals = 2; tree = t })
+      (tree_is _ (default_rule c.in-Err.reason).tree (c.write_default.ensures c.in-Err.reason)),
+)
 
 pub returns-in-Err-clause-program : goal.returns-in-Err-clause-program
-returns-in-Err-clause-program c = program_of_code _ default_tree c.write_default.ensures
+returns-in-Err-clause-program c =
+    program_is _ (default_rule c.in-Err.reason).tree (c.write_default.ensures c.in-Err.reason)

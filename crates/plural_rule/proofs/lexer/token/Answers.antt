@@ -1,0 +1,38 @@
+use Rattle.std.proofs.Common.{ap, sym, ◌∙◌, ◌^◌, ◌≤◌, arith}
+use Rattle.std.specs.Str.Parse.{digits_value}
+use Rattle.std.specs.Char.{is_ascii_digit}
+use Rattle.plural_rule.proofs.Scanning.{first_byte-get, AllDigits-take_while, numeral-token, numeral-none, double-token, single-token, no-single}
+use Rattle.plural_rule.proofs.lexer.token.Goals as goal
+
+pub decimal_value-requires : goal.decimal_value-requires
+decimal_value-requires c = rw c.leading_digits-digits.ensures (AllDigits-take_while c.args.text.now)
+
+pub returns-in-Some : goal.returns-in-Some
+returns-in-Some c =
+    let first = ap is_ascii_digit (first_byte-get c.args.text.now c.requires) ∙ sym c.is_ascii_digit.ensures.value
+    ∙ c.if-is_ascii_digit.true in
+    rw c.leading_digits-digits.ensures
+    (numeral-token c.args.text.now c.in-Some.value first
+    (c.in-Some.ensures.1 ∙ ap (digits_value 10) c.leading_digits-digits.ensures))
+
+pub returns-in-None : goal.returns-in-None
+returns-in-None c =
+    let first = ap is_ascii_digit (first_byte-get c.args.text.now c.requires) ∙ sym c.is_ascii_digit.ensures.value
+    ∙ c.if-is_ascii_digit.true in
+    let large : 2 ^ 64 ≤ digits_value 10 c.leading_digits-digits.result.now = grind (arith, c.in-None.ensures) in
+    numeral-none c.args.text.now first (rw c.leading_digits-digits.ensures at large)
+
+pub returns-in-Some-double_at : goal.returns-in-Some-double_at
+returns-in-Some-double_at c =
+    double-token c.args.text.now c.in-Some-double_at.operator
+    (sym c.is_ascii_digit.ensures.value ∙ c.if-is_ascii_digit.false) c.in-Some-double_at.ensures
+
+pub returns-in-Some-single : goal.returns-in-Some-single
+returns-in-Some-single c =
+    single-token c.args.text.now c.in-Some-single.token c.requires
+    (sym c.is_ascii_digit.ensures.value ∙ c.if-is_ascii_digit.false) c.in_default.ensures c.in-Some-single.ensures
+
+pub returns-in-None-single : goal.returns-in-None-single
+returns-in-None-single c =
+    no-single c.args.text.now
+    (sym c.is_ascii_digit.ensures.value ∙ c.if-is_ascii_digit.false) c.in_default.ensures c.in-None-single.ensures
