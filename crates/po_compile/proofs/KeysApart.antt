@@ -2,9 +2,13 @@
 use Rattle.std.proofs.Common.{◌≡◌, ◌≢◌, refl, sym, ap, ap₂, ◌∙◌, subst, inl, inr, ℕ, ◌+◌, ◌-◌, ◌<◌, Bool, false, List, [], ◌∷◌, filter, length, get_or, map, arith, AllPairs, ◌≤◌, suc, true, ◌==◌, ◌||◌, ◌++◌, length-append, All, IsPermutation}
 use Rattle.std.specs.Ordering.{is_lt, ordering_reverse}
 use Rattle.std.specs.List.Sorted.{IsSortedBy}
+use Rattle.std.specs.Bool.{MatchBool}
+use Rattle.std.specs.List.{AllWithin, HoldsAt, IsAllAdjacentAnswer}
+use Rattle.std.specs.Prelude.{◌↔◌, IsTrue}
+use Rattle.po_messages.specs.Facts.FirstRepeats.{pairs_of_map}
 use Rattle.std.specs.declared.cmp.Ordering.{Ordering}
 use Rattle.std.specs.declared.cmp.Ordering.TheVariants.{Less, Equal, Greater}
-use Rattle.std.proofs.lemmas.Bool.{cases_lt, not-true}
+use Rattle.std.proofs.lemmas.Bool.{cases_lt, eqb-true, not-true}
 use Rattle.std.proofs.lemmas.Cmp.{nat_list_cmp_total, nat_list_eq_equiv}
 use Rattle.std.proofs.lemmas.List.{get_or-map, get_or_default, length-map, get_or_append_left, map-append}
 use Rattle.std.proofs.lemmas.List.Kept.{AllPairs-filter, AllPairs-cons}
@@ -15,7 +19,7 @@ use Rattle.po_compile.specs.Internal.Rows.{AllApart, HasOneHeader, InputMessage,
 use Rattle.std.specs.List.{AllZip, list_any}
 use Rattle.std.specs.Str.{bytes_eq}
 use Rattle.std.proofs.Math.ListN.{get_or-map as map_at}
-use Rattle.std.proofs.lemmas.List.Elements.{All-nil, All-cons, All-head, All-tail, All-map, All-weaker, filter_passes}
+use Rattle.std.proofs.lemmas.List.Elements.{All-nil, All-cons, All-head, All-tail, All-map, All-weaker, All-from_all_within, filter_passes}
 use Rattle.std.proofs.lemmas.List.Sorted.{IsPermutation-filter_both, IsPermutation-map, IsPermutation-sym}
 use Rattle.std.proofs.lemmas.Map.Keys.{IsDistinct-IsPermutation}
 use Rattle.std.proofs.lemmas.Map.Made.{AllPairs-from_IsDistinct, IsDistinct-from_AllPairs}
@@ -44,6 +48,16 @@ not_above : (o : Ordering) → is_lt (ordering_reverse o) ≡ false → o ≢ Eq
 not_above Less h other = refl
 not_above Equal h other = absurd (other refl)
 not_above Greater h other = cc
+
+is_less : (o : Ordering) → true ≡ is_lt o → o ≡ Less
+is_less Less is = refl
+is_less Equal is = cc
+is_less Greater is = cc
+
+isnt_less : (o : Ordering) → false ≡ is_lt o → o ≢ Less
+isnt_less Less is = λ less. cc
+isnt_less Equal is = λ less. cc
+isnt_less Greater is = λ less. cc
 
 module _ {X : Type 0} (key : X → List ℕ) where
   -- the key of the first is below that of the second
@@ -87,23 +101,32 @@ module _ {X : Type 0} (key : X → List ℕ) where
         (λ equal. apart i (i + 1) [] (omega arith) (omega (arith, inside)) (here ∙ exact_bytes a b equal ∙ sym next));
   }
 
-  -- the keys rise up to a number of elements
-  abbrev pub RiseUpTo : List X → ℕ → Type 0
-  RiseUpTo xs n = (k : ℕ) → k + 1 < n → key_cmp (key_at (map key xs) k) (key_at (map key xs) (k + 1)) ≡ Less
-
-  -- one more key, above the last
-  pub rise_more : (xs : List X) (i : ℕ) (a b : X) → 0 < i → i < length xs → a ≡ get_or xs (i - 1) a → b ≡ get_or xs i b
-      → Below a b → RiseUpTo xs i → RiseUpTo xs (i + 1)
-  rise_more xs i a b some inside first second below so_far k within =
-      elim (cases_lt (k + 1) i) [
-        | inl before ↦ so_far k before
-        | inr past ↦
-            let last : k ≡ i - 1 = omega (arith, within, past, some) in
-            let next : k + 1 ≡ i = omega (arith, within, past) in
-            ap₂ key_cmp (ap (key_at (map key xs)) last ∙ get_or-map key xs (i - 1) a [] (omega (arith, inside))
-            ∙ ap key (sym first)) (ap (key_at (map key xs)) next ∙ get_or-map key xs i b [] inside
-            ∙ ap key (sym second)) ∙ below
-      ]
+  -- whether the keys rise, by what is answered of each two neighbours
+  pub rising_answered : (xs : List X) (r : Bool)
+      → IsAllAdjacentAnswer (λ a b answer. answer ≡ is_lt (key_cmp (key a) (key b))) xs r
+      → IsTrue r ↔ AreRising (map key xs)
+  rising_answered xs true answers = (
+    λ _. record {
+      next = λ i inside.
+          let long = length-map xs key in
+          let d = first_of xs (omega (arith, inside, long)) in
+          ap₂ key_cmp (get_or-map key xs i d [] (omega (arith, inside, long)))
+          (get_or-map key xs (i + 1) d [] (omega (arith, inside, long)))
+          ∙ is_less _ (answers i d (omega (arith, inside, long)));
+    },
+    λ _. refl,
+  )
+  rising_answered xs false answers = (
+    λ no. absurd (cc),
+    λ rising.
+        let i = answers.0 in
+        let within = answers.1 in
+        let long = length-map xs key in
+        let d = first_of xs (omega (arith, within)) in
+        absurd (isnt_less _ (answers.2 d)
+        (ap₂ key_cmp (sym (get_or-map key xs i d [] (omega (arith, within))))
+        (sym (get_or-map key xs (i + 1) d [] within)) ∙ rising.next i (omega (arith, within, long)))),
+  )
 
 pub apart_permuted : (ks ls : List (List ℕ)) → IsPermutation ks ls → AllApart ks → AllApart ls
 apart_permuted ks ls permuted apart =
@@ -196,6 +219,10 @@ module _ (inputs : List (List LiveMessage)) (rows sorted : List Row) (made : map
       (IsPermutation-map (λ (m : InputMessage). m.message.key) (all_messages inputs)
       (map row_view sorted) sorted_all) apart)
 
+no_bytes : (key : List ℕ) → (length key == 0) ≡ true → key ≡ []
+no_bytes [] is = refl
+no_bytes (byte ∷ key) is = absurd (omega (arith, eqb-true (length (byte ∷ key)) 0 is))
+
 -- one header among messages that differ and are no headers
 with_header : (headers others : List LiveMessage) → length headers ≤ 1 → All (λ m. has_no_key m ≡ true) headers
     → All (λ m. is_joined true m ≡ true) others → AllApart (message_keys others)
@@ -245,3 +272,32 @@ each_apart input headed (messages ∷ inputs) one apart =
 pub inputs_apart : (inputs : List (List LiveMessage)) → All HasOneHeader inputs
     → AllApart (input_keys (all_messages inputs)) → EachApart inputs
 inputs_apart inputs one apart = each_apart 0 false inputs one apart
+
+-- messages that are apart have one header at most
+one_header : (messages : List LiveMessage) → AllApart (message_keys messages) → HasOneHeader messages
+one_header messages apart = few (filter has_no_key messages) (filter_passes has_no_key messages)
+    (AllPairs-filter (λ (a b : LiveMessage). a.key ≢ b.key) has_no_key messages
+    (pairs_of_map (λ k l. k ≢ l) (λ (m : LiveMessage). m.key) messages apart)) where
+  few : (headers : List LiveMessage) → All (λ m. has_no_key m ≡ true) headers
+      → AllPairs (λ (a b : LiveMessage). a.key ≢ b.key) headers → length headers ≤ 1
+  few [] none apart = omega arith
+  few (h ∷ []) none apart = omega arith
+  few (h ∷ g ∷ headers) none apart =
+      absurd (apart 0 1 h (omega arith) (omega arith)
+      (no_bytes h.key (none 0 h (omega arith)) ∙ sym (no_bytes g.key (none 1 h (omega arith)))))
+
+-- inputs in each of which the messages are apart have one header at most each
+pub one_header_each : (inputs : List (List LiveMessage)) → EachApart inputs → All HasOneHeader inputs
+one_header_each inputs apart =
+    All-weaker (λ ms. AllApart (message_keys ms)) HasOneHeader one_header inputs apart
+
+-- whether each input has one header at most, by what is answered of each
+pub headers_counted : (inputs : List (List LiveMessage)) (r : Bool)
+    → MatchBool r (AllWithin HasOneHeader inputs 0 (length inputs))
+    ((k : ℕ) × (k < length inputs) × HoldsAt (λ messages. ¬ HasOneHeader messages) inputs k)
+    → IsTrue r ↔ All HasOneHeader inputs
+headers_counted inputs true counted = (λ _. All-from_all_within HasOneHeader inputs counted, λ _. refl)
+headers_counted inputs false counted = (
+  λ no. absurd (cc),
+  λ one. absurd (counted.2 [] (one counted.0 [] counted.1)),
+)

@@ -2,6 +2,8 @@
 
 ghost use Rattle.std.specs.Prelude.{◌≡◌, ◌⊎◌, ◌<◌, ◌^◌, IfErr, IfOk, OnOk, length, map};
 ghost use Rattle.po_messages.specs.Duplicate.{join_out_of_memory};
+ghost use Rattle.po_messages.specs.FirstOnes.{group_numbers};
+ghost use Rattle.po_messages.specs.Message.{same_message};
 ghost use Rattle.po_messages.specs.MessageView.{messages_of_keys};
 ghost use Rattle.po_compile.specs.Accepted.{fault_of_input};
 ghost use Rattle.po_compile.specs.Internal.Repeats.{EachApart, IsRepeat, IsRepeatInInput, key_message, repeat_fault};
@@ -16,18 +18,35 @@ use po_syntax::{PoError, PoFault};
 use std::alloc::{AllocError, Global};
 use std::slice::from_ref;
 
-/// The keys of rows, each as that of a message without a context.
-fn keys_of<'b>(alloc: Global, rows: &[Row<'b>]) -> Result<Vec<MessageKey<'b>>, AllocError>
-    ensures { IfOk result (λ keys. messages_of_keys keys.items ≡ map key_message (input_keys (map row_view rows.now))) }
+/// The keys of the joined list of the inputs, each as that of a message without a context.
+fn joined_keys<'b>(
+    alloc: Global,
+    inputs: &'b [Collected],
+) -> Result<Vec<MessageKey<'b>>, AllocError>
+    requires { length inputs.now < 2 ^ 32 }
+    ensures { IfOk result (λ keys. messages_of_keys keys.items
+        ≡ map key_message (input_keys (all_messages inputs.now))) }
 {
+    let rows = joined_rows(alloc, inputs)?;
     let mut keys = Vec::with_capacity(alloc, rows.len())?;
-    for row in rows {
+    for row in &rows {
         keys.push(MessageKey {
             context: None,
             id: row.key,
         })?;
     }
     Ok(keys)
+}
+
+/// The numbers of the keys of the joined list, in the order in which they first appear.
+fn key_numbers(alloc: Global, inputs: &[Collected]) -> Result<Vec<usize>, AllocError>
+    requires { length inputs.now < 2 ^ 32 }
+    ensures { IfOk result (λ numbers. numbers.items
+        ≡ group_numbers same_message (map key_message (input_keys (all_messages inputs.now)))) }
+{
+    let keys = joined_keys(alloc, inputs)?;
+    let (numbers, _) = grouped(alloc, &keys)?;
+    Ok(numbers)
 }
 
 /// What is reported of a row that repeats an earlier one.
@@ -42,9 +61,8 @@ fn row_fault(first: &Row<'_>, later: &Row<'_>) -> JoinError
 }
 
 /// Whether no message of the joined list of the inputs repeats another. Refused with the fault of
-/// `joined_duplicates`; and where an allocation failed. Keys are numbered in the order in which they
-/// first appear, so the first row that has the key of an earlier one is the first whose number isn't
-/// its index.
+/// `joined_duplicates`; and where an allocation failed. The first row that has the key of an earlier
+/// one is the first whose number isn't its index. Keys and rows aren't kept side by side for long.
 pub(crate) fn check_joined(alloc: Global, inputs: &[Collected]) -> Result<(), JoinError>
     requires { length inputs.now < 2 ^ 32 }
     ensures apart { OnOk result (AllApart (input_keys (all_messages inputs.now))) }
@@ -52,11 +70,10 @@ pub(crate) fn check_joined(alloc: Global, inputs: &[Collected]) -> Result<(), Jo
 {
     messages_are_numbered_in_order();
     one_number_is_one_message();
-    let rows = joined_rows(alloc, inputs)?;
-    let keys = keys_of(alloc, &rows)?;
-    let (numbers, _) = grouped(alloc, &keys)?;
+    let numbers = key_numbers(alloc, inputs)?;
     for (later, first) in numbers.iter().enumerate() {
         if *first < later {
+            let rows = joined_rows(alloc, inputs)?;
             return Err(row_fault(&rows[*first], &rows[later]));
         }
     }

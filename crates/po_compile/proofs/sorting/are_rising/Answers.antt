@@ -1,18 +1,13 @@
-use Rattle.std.proofs.Common.{arith, sym, ◌∙◌}
-use Rattle.std.proofs.lemmas.List.{length-map}
+use Rattle.std.proofs.Common.{rules}
+use Rattle.std.specs.Ordering.{is_lt}
+use Rattle.std.proofs.lemmas.List.Sorted.{answers_always}
+use Rattle.mo_file.specs.Key.{key_cmp}
 use Rattle.po_compile.specs.declared.row.Row.{Row}
-use Rattle.po_compile.proofs.KeysApart.{rise_more}
+use Rattle.po_compile.proofs.KeysApart.{rising_answered}
 use Rattle.po_compile.proofs.sorting.are_rising.Goals as goal
 
-pub loop-i-preserved : goal.loop-i-preserved
-loop-i-preserved c =
-    rise_more (λ (r : Row). r.key.now) c.args.rows.now c.loop-i.i c.index-rows-i.result c.index-rows-i-in-loop-i.result
-    (omega (arith, c.loop-i.auto.i)) c.loop-i-test.true c.index-rows-i.is c.index-rows-i-in-loop-i.is
-    (sym c.compare.ensures ∙ c.in-Less.is) c.loop-i.invariant
-
 pub returns : goal.returns
-returns c = λ _. record {
-  next =
-      λ k inside. c.loop-i.invariant k
-      (omega (arith, inside, c.loop-i-test.false, length-map c.args.rows.now (λ (r : Row). r.key.now)));
-}
+returns c =
+    rising_answered (λ (r : Row). r.key.now) c.args.rows.now _
+    (c.is_sorted_by.ensures.cases (λ a b. is_lt (key_cmp a.key.now b.key.now))
+    (answers_always _ _ _ (λ f a r g h. search rules)))

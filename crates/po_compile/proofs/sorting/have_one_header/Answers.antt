@@ -1,15 +1,11 @@
-use Rattle.std.proofs.Common.{All, subst, arith}
-use Rattle.std.proofs.lemmas.List.{take_all}
-use Rattle.std.proofs.lemmas.List.Elements.{All-more}
+use Rattle.std.proofs.Common.{rules}
+use Rattle.std.proofs.lemmas.Iterator.{YieldsList-from_slice, cases_from_all}
 use Rattle.po_compile.specs.Internal.Rows.{HasOneHeader}
+use Rattle.po_compile.proofs.KeysApart.{headers_counted}
 use Rattle.po_compile.proofs.sorting.have_one_header.Goals as goal
 
-pub loop-collected-preserved : goal.loop-collected-preserved
-loop-collected-preserved c =
-    All-more HasOneHeader c.args.inputs.now c.loop-collected.collected-index c.collected-item.result
-    c.loop-collected-test.true c.loop-collected.invariant
-    (subst HasOneHeader c.collected-item.is (omega (arith, c.header_count.ensures, c.if-header_count-gt1.false)))
-
 pub returns : goal.returns
-returns c = λ _. subst (All HasOneHeader)
-    (take_all c.loop-collected.collected-index c.args.inputs.now c.loop-collected-test.false) c.loop-collected.invariant
+returns c =
+    headers_counted c.args.inputs.now c.all.result
+    (cases_from_all _ _ c.all.result HasOneHeader (λ messages. ¬ HasOneHeader messages) c.all.ensures.ran
+    (YieldsList-from_slice c.args.inputs.now c.iter.ensures.rest) (λ x q k. search rules) (λ x q k. search rules))
