@@ -1,11 +1,18 @@
 -- Where a form of a translation stands in the file.
-use Rattle.std.proofs.Common.{◌≡◌, ℕ, ◌+◌, ◌-◌, ◌<◌, ◌≤◌, List, Some, length, take, drop, slice_get, slice_range, unwrap_or, subst, sym, ap, ◌∙◌, inl, inr, arith, length-drop}
+use Rattle.std.proofs.Common.{◌≡◌, refl, ℕ, ◌+◌, ◌-◌, ◌<◌, ◌≤◌, ◌==◌, Bool, true, false, ◌⊎◌, List, [], Option, None, Some, length, take, drop, slice_get, slice_range, unwrap_or, subst, sym, ap, ◌∙◌, inl, inr, arith, length-drop}
 use Rattle.std.proofs.lemmas.List.{drop-drop, get_or-drop, get_or-take, length-take, take-take}
 use Rattle.std.proofs.lemmas.Slice.{between_is}
 use Rattle.std.proofs.lemmas.Option.{get_or_from_slice_get, slice_get-get_or, slice_get_within}
 use Rattle.mo_file.specs.FileView.{FileView, IsStringAt, IsTranslationAt}
 use Rattle.mo_file.specs.Message.{translations}
-use Rattle.mo_lookup.specs.Place.{IsFormAt}
+use Rattle.std.specs.Prelude.{if◌then◌else◌}
+use Rattle.mo_lookup.specs.Answer.{untranslated_text}
+use Rattle.mo_lookup.specs.Place.{IsFormAt, IsPlace, located_view, untranslated_place}
+use Rattle.mo_lookup.specs.Query.{Query}
+use Rattle.mo_lookup.specs.declared.place.Located.{Located}
+use Rattle.std.specs.Option.{option_map_or}
+use Rattle.mo_lookup.specs.declared.place.Place.{Place}
+use Rattle.mo_lookup.specs.declared.place.Place.TheVariants.{Id, Plural}
 
 -- a part loses its front
 drop-slice_range : (xs : List ℕ) (s e a : ℕ) → drop a (slice_range xs s e) ≡ slice_range xs (s + a) e
@@ -72,3 +79,28 @@ pub form-placed : (file : FileView) (i start end a b : ℕ) (translation form : 
 form-placed file i start end a b translation form there is at =
     let same : there.0 ≡ translation = ap (λ t. unwrap_or t translation) (sym there.1 ∙ is) in
     form-in-file file.bytes translation form start end a b (subst (IsStringAt file.bytes start end) same there.2) at
+
+at_id : (id : List ℕ) (plural : Option (List ℕ × ℕ)) → untranslated_place plural ≡ Id → untranslated_text id plural ≡ id
+at_id id None is = refl
+at_id id (Some p) is = by_count (p.1 == 1) is where
+  by_count : (one : Bool) → (if one then Id else Plural) ≡ Id → (if one then id else p.0) ≡ id
+  by_count true is = refl
+  by_count false is = absurd (cc)
+
+at_plural : (id : List ℕ) (plural : Option (List ℕ × ℕ)) → untranslated_place plural ≡ Plural
+    → untranslated_text id plural ≡ option_map_or (λ p. p.0) plural []
+at_plural id None is = absurd (cc)
+at_plural id (Some p) is = by_count (p.1 == 1) is where
+  by_count : (one : Bool) → (if one then Id else Plural) ≡ Plural → (if one then id else p.0) ≡ p.0
+  by_count true is = absurd (cc)
+  by_count false is = refl
+
+-- where the text isn't in the file it is the msgid or the plural
+pub untranslated_view : (bytes : List ℕ) (query : Query) (located : Located) → IsPlace bytes query.plural located.place
+    → (located.place ≡ Id) ⊎ (located.place ≡ Plural)
+    → record { text = untranslated_text query.id query.plural; found = false; steps = located.steps }
+    ≡ located_view bytes query located
+untranslated_view bytes query located placed (inl is) =
+    rw (is, at_id query.id query.plural (subst (IsPlace bytes query.plural) is placed)) refl
+untranslated_view bytes query located placed (inr is) =
+    rw (is, at_plural query.id query.plural (subst (IsPlace bytes query.plural) is placed)) refl

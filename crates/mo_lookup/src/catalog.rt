@@ -15,9 +15,11 @@ ghost use Rattle.mo_lookup.specs.CatalogView.{IsCatalogView, header_text, answer
 ghost use Rattle.mo_lookup.specs.Answer.{answer_view};
 
 use crate::answer::Answer;
-use crate::lookup::look;
+use crate::lookup::locate;
 use crate::messages::ViewMessages;
 use crate::opening::checked;
+use crate::place::Place;
+use crate::query::untranslated_text;
 use mo_file::{Meter, MoError, MoView};
 use plural_rule::Rule;
 use std::marker::Model;
@@ -109,13 +111,23 @@ impl<'a> Catalog<'a> {
         ensures nodes { result.steps ≤ nodes self.now.rule.tree }
     {
         let view = &self.view;
-        look(
+        let located = locate(
             &mut ViewMessages { view, meter },
             self.rule.nplurals(),
             self.rule.program(),
             context,
             id,
             plural,
-        )
+        );
+        let (text, found) = match located.place {
+            Place::Translation { start, end } => (&view.bytes()[start..end], true),
+            Place::Id | Place::Plural => (untranslated_text(id, plural), false),
+        };
+        Answer {
+            text,
+            found,
+            comparisons: located.comparisons,
+            steps: located.steps,
+        }
     }
 }

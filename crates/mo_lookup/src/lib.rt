@@ -32,7 +32,7 @@ pub use laws::{
     bound_halves, bound_is_logarithm, each_key_finds_its_translation, other_keys_find_none,
     search_halves, search_is_bounded,
 };
-pub use lookup::{locate, look};
+pub use lookup::locate;
 pub use messages::{Messages, ViewMessages};
 pub use opening::open_into;
 pub use place::{Located, Place};

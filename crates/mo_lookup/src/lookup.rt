@@ -12,72 +12,18 @@ ghost use Rattle.mo_lookup.specs.Bound.{search_bound};
 ghost use Rattle.mo_lookup.specs.Comparisons.{comparisons, query_comparisons};
 ghost use Rattle.mo_lookup.specs.Query.{query, given, can_be_key};
 ghost use Rattle.mo_lookup.specs.CatalogView.{answered, translation_under};
-ghost use Rattle.mo_lookup.specs.Answer.{answer_view};
 ghost use Rattle.mo_lookup.specs.Place.{IsPlace, located_view};
 
-use crate::answer::Answer;
 use crate::forms::answered_form;
 use crate::messages::Messages;
 use crate::place::{Located, Place};
-use crate::query::{can_be_key, untranslated_place, untranslated_text};
+use crate::query::{can_be_key, untranslated_place};
 use crate::search::find;
 use plural_rule::Instruction;
 
-/// Looks up a message as [`Catalog::look`](crate::Catalog::look) does, with a rule of `nplurals`
-/// forms whose expression stands in `program`, as `Rule::program` gives it: at most 4,096 nodes.
-pub fn look<'a, 'q, M: Messages<'a>>(
-    messages: &mut M,
-    nplurals: u64,
-    program: &[Instruction],
-    context: Option<&[u8]>,
-    id: &'q [u8],
-    plural: Option<(&'q [u8], u64)>,
-) -> Answer<'q>
-where
-    'a: 'q,
-    requires keys { M.listed messages.old ≡ keys (M.file messages.old).messages }
-    requires room { M.counted messages.old < 2 ^ 63 }
-    requires program { program.now ≡ program_of 0 (tree_of program.now) }
-    requires limit { length program.now ≤ expression_limit }
-    ensures answered { (source : Source) → answer_view result
-        ≡ answered (record {
-          messages = (M.file messages.old).messages;
-          rule = record { source = source; nplurals = nplurals; tree = tree_of program.now };
-        })
-        (query context.entry id.now plural.entry) }
-    ensures counted { M.counted messages.new ≡ M.counted messages.old + result.comparisons }
-    ensures comparisons { result.comparisons
-        ≡ query_comparisons (M.file messages.old).messages (query context.entry id.now plural.entry) }
-    ensures bound { result.comparisons ≤ search_bound (length (M.file messages.old).messages) }
-    ensures no_key { can_be_key (option_copied context.entry) id.now ≡ false → result.comparisons ≡ 0 }
-    ensures at_most_32 { result.comparisons ≤ 32 }
-    ensures nodes { result.steps ≤ nodes (tree_of program.now) }
-    ensures same_counter { M.counter messages.new ≡ M.counter messages.old }
-{
-    let start = messages.count();
-    let found = if can_be_key(context, id) {
-        index_of(messages, context, id)
-    } else {
-        None
-    };
-    let comparisons = (messages.count() - start) as u32;
-    let (text, steps) = match found {
-        Some(index) => {
-            let translation = messages.translation(index);
-            let (form, steps) = answered_form(nplurals, program, translation, plural);
-            (&translation[form], steps)
-        }
-        None => (untranslated_text(id, plural), 0),
-    };
-    Answer {
-        text,
-        found: found.is_some(),
-        comparisons,
-        steps,
-    }
-}
-
-/// Looks up a message as [`look`] does, and answers where the text is.
+/// Looks up a message as [`Catalog::look`](crate::Catalog::look) does, and answers where the text is,
+/// with a rule of `nplurals` forms whose expression stands in `program`, as `Rule::program` gives it:
+/// at most 4,096 nodes.
 pub fn locate<'a, M: Messages<'a>>(
     messages: &mut M,
     nplurals: u64,
@@ -103,6 +49,7 @@ pub fn locate<'a, M: Messages<'a>>(
         ≡ query_comparisons (M.file messages.old).messages (query context.entry id.now plural.entry) }
     ensures bound { result.comparisons ≤ search_bound (length (M.file messages.old).messages) }
     ensures no_key { can_be_key (option_copied context.entry) id.now ≡ false → result.comparisons ≡ 0 }
+    ensures at_most_32 { result.comparisons ≤ 32 }
     ensures nodes { result.steps ≤ nodes (tree_of program.now) }
     ensures same_counter { M.counter messages.new ≡ M.counter messages.old }
 {
