@@ -1,6 +1,6 @@
 //! What compiling needs of the entries of an input, gathered in one buffer.
 
-ghost use Rattle.std.specs.Prelude.{◌≡◌, ◌==◌, ◌++◌, ◌∷◌, ℕ, [], List, IfOk, IfErr, OnOk, count_by, filter, length};
+ghost use Rattle.std.specs.Prelude.{◌≡◌, ◌++◌, ◌∷◌, ℕ, [], List, IfOk, IfErr, OnOk, filter, length};
 ghost use Rattle.std.specs.List.{join_with_byte};
 ghost use Rattle.mo_file.specs.Key.{query_key};
 ghost use Rattle.po_entry.specs.ReadsText.{ReadsText};
@@ -11,10 +11,8 @@ ghost use Rattle.po_compile.specs.CompiledMessages.{plural_part, translation_of}
 ghost use Rattle.po_compile.specs.Collected.{live_messages, status_of};
 ghost use Rattle.po_compile.specs.Internal.Cutting.{message_bytes, lengths_of};
 ghost use Rattle.po_compile.specs.Internal.Rows.{has_no_key};
-ghost use Rattle.po_compile.specs.declared.collecting.Lengths.{Lengths as LengthsSeen};
 
 use po_entry::{Entry, Fields};
-use po_messages::has_translation;
 use po_reader::{PIECE, next_messages};
 use po_syntax::{Pieces, PoError};
 use std::alloc::{AllocError, Global};
@@ -72,15 +70,8 @@ impl Collected {
     pub(crate) fn header_count(&self) -> usize
         ensures { result ≡ length (filter has_no_key self.now) }
     {
-        count_headers(&self.lengths)
+        self.lengths.iter().filter(|l| l.key == 0).count()
     }
-}
-
-/// How many of the entries are headers.
-fn count_headers(lengths: &[Lengths]) -> usize
-    ensures { result ≡ count_by (λ (l : LengthsSeen). l.key == 0) lengths.now }
-{
-    lengths.iter().filter(|l| l.key == 0).count()
 }
 
 /// Appends the key of an entry.
@@ -159,7 +150,7 @@ fn status_of(entry: &Entry, use_fuzzy: bool) -> Status
 {
     let fields = entry.fields();
     let is_counted = !fields.obsolete && !entry.is_header();
-    let has_translation = has_translation(entry);
+    let has_translation = !fields.forms[0].is_empty();
     Status {
         compiled: !fields.obsolete
             && has_translation

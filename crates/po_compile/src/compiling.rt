@@ -12,6 +12,7 @@ use crate::collecting::Collected;
 use crate::inputs::collect_all;
 use crate::laws::messages_mean_entries;
 use crate::options::{Compiled, Options};
+use crate::repeats::fault_of_input;
 use crate::rows::compiled_pairs;
 use crate::sorting::{sorted_rows, statistics_of};
 use mo_file::{BuildError, build_sorted, layout_is_mo_file};
@@ -93,9 +94,5 @@ fn reported_fault(error: BuildError) -> JoinError
         BuildError::OutOfMemory => PoFault::OutOfMemory,
         BuildError::NotSorted => unreachable!(),
     };
-    JoinError {
-        input: 0,
-        first_input: 0,
-        error: PoError { kind, line: 0 },
-    }
+    fault_of_input(0, PoError { kind, line: 0 })
 }

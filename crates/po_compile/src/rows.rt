@@ -1,6 +1,6 @@
 //! The rows of all inputs, and the pairs that they are written as.
 
-ghost use Rattle.std.specs.Prelude.{◌≡◌, ◌<◌, ◌^◌, ◌++◌, ◌∷◌, [], IfOk, OnOk, filter, length, map};
+ghost use Rattle.std.specs.Prelude.{◌≡◌, ◌+◌, ◌<◌, ◌≤◌, ◌^◌, ◌++◌, ◌∷◌, [], IfOk, OnOk, filter, length, map};
 ghost use Rattle.mo_file.specs.Pairs.{messages_of_borrowed};
 ghost use Rattle.po_compile.specs.Internal.Cutting.{after_message, first_message};
 ghost use Rattle.po_compile.specs.Internal.Rows.{all_messages, compiled_of, in_input_message, is_joined, row_view};
@@ -8,18 +8,19 @@ ghost use Rattle.po_compile.specs.Internal.Rows.{all_messages, compiled_of, in_i
 use crate::collecting::{Collected, Lengths};
 use crate::row::{PREFIX_LEN, Row, prefix_of};
 use mo_file::BorrowedPair;
-use po_messages::split_at_most;
 use std::alloc::{AllocError, Global};
 
 /// Cuts off the row of the message of these lengths, with the prefix of its key.
 fn split_row<'b>(input: u32, bytes: &'b [u8], lengths: &Lengths) -> (Row<'b>, &'b [u8])
+    requires key { lengths.now.key ≤ lengths.now.original }
+    requires inside { lengths.now.original + lengths.now.translation ≤ length bytes.now }
     ensures row { row_view result.0 ≡ in_input_message input (first_message lengths.now bytes.now) }
     ensures rest { result.1.now ≡ after_message lengths.now bytes.now }
 {
-    let (original, after) = split_at_most(bytes, lengths.original);
-    let (translation, rest) = split_at_most(after, lengths.translation);
-    let (key, _) = split_at_most(original, lengths.key);
-    let (_, after_prefix) = split_at_most(key, PREFIX_LEN);
+    let (original, after) = bytes.split_at(lengths.original);
+    let (translation, rest) = after.split_at(lengths.translation);
+    let key = &original[..lengths.key];
+    let (_, after_prefix) = key.split_at(PREFIX_LEN.min(key.len()));
     let row = Row {
         prefix: prefix_of(key),
         second_prefix: prefix_of(after_prefix),
