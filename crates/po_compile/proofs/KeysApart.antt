@@ -1,5 +1,5 @@
 -- Keys that rise, keys that are apart, and the entries that have them.
-use Rattle.std.proofs.Common.{◌≡◌, ◌≢◌, refl, sym, ap, ap₂, ◌∙◌, subst, inl, inr, ℕ, ◌+◌, ◌-◌, ◌<◌, Bool, false, List, [], ◌∷◌, filter, length, get_or, map, arith, AllPairs, ◌≤◌, suc, true, ◌==◌, ◌||◌, ◌++◌, length-append, All, IsPermutation}
+use Rattle.std.proofs.Common.{◌≡◌, ◌≢◌, refl, sym, ap, ap₂, ◌∙◌, subst, ℕ, ◌+◌, ◌<◌, Bool, false, List, [], ◌∷◌, filter, length, get_or, map, arith, AllPairs, ◌≤◌, suc, true, ◌==◌, ◌||◌, ◌++◌, length-append, All, IsPermutation}
 use Rattle.std.specs.Ordering.{is_lt, ordering_reverse}
 use Rattle.std.specs.List.Sorted.{IsSortedBy}
 use Rattle.std.specs.Bool.{MatchBool}
@@ -8,12 +8,12 @@ use Rattle.std.specs.Prelude.{◌↔◌, IsTrue}
 use Rattle.po_messages.specs.Facts.FirstRepeats.{pairs_of_map}
 use Rattle.std.specs.declared.cmp.Ordering.{Ordering}
 use Rattle.std.specs.declared.cmp.Ordering.TheVariants.{Less, Equal, Greater}
-use Rattle.std.proofs.lemmas.Bool.{cases_lt, eqb-true, not-true}
+use Rattle.std.proofs.lemmas.Bool.{eqb-true, not-true}
 use Rattle.std.proofs.lemmas.Cmp.{nat_list_cmp_total, nat_list_eq_equiv}
 use Rattle.std.proofs.lemmas.List.{get_or-map, get_or_default, length-map, get_or_append_left, map-append}
 use Rattle.std.proofs.lemmas.List.Kept.{AllPairs-filter, AllPairs-cons}
 use Rattle.std.proofs.lemmas.Map.Lookups.{exact_bytes}
-use Rattle.mo_file.specs.Key.{AreRising, key_at, key_cmp, query_key}
+use Rattle.mo_file.specs.Key.{AreRising, key_cmp, query_key}
 use Rattle.mo_lookup.proofs.RisingLemmas.{less_is_other, rising_between}
 use Rattle.po_compile.specs.Internal.Rows.{AllApart, HasOneHeader, InputMessage, all_messages, has_no_key, in_input_message, input_keys, input_message, is_joined, joined_messages, message_keys, row_view}
 use Rattle.std.specs.List.{AllZip, list_any}
@@ -278,13 +278,13 @@ one_header : (messages : List LiveMessage) → AllApart (message_keys messages) 
 one_header messages apart = few (filter has_no_key messages) (filter_passes has_no_key messages)
     (AllPairs-filter (λ (a b : LiveMessage). a.key ≢ b.key) has_no_key messages
     (pairs_of_map (λ k l. k ≢ l) (λ (m : LiveMessage). m.key) messages apart)) where
-  few : (headers : List LiveMessage) → All (λ m. has_no_key m ≡ true) headers
-      → AllPairs (λ (a b : LiveMessage). a.key ≢ b.key) headers → length headers ≤ 1
-  few [] none apart = omega arith
-  few (h ∷ []) none apart = omega arith
-  few (h ∷ g ∷ headers) none apart =
-      absurd (apart 0 1 h (omega arith) (omega arith)
-      (no_bytes h.key (none 0 h (omega arith)) ∙ sym (no_bytes g.key (none 1 h (omega arith)))))
+      few : (headers : List LiveMessage) → All (λ m. has_no_key m ≡ true) headers
+          → AllPairs (λ (a b : LiveMessage). a.key ≢ b.key) headers → length headers ≤ 1
+      few [] none apart = omega arith
+      few (h ∷ []) none apart = omega arith
+      few (h ∷ g ∷ headers) none apart =
+          absurd (apart 0 1 h (omega arith) (omega arith)
+          (no_bytes h.key (none 0 h (omega arith)) ∙ sym (no_bytes g.key (none 1 h (omega arith)))))
 
 -- inputs in each of which the messages are apart have one header at most each
 pub one_header_each : (inputs : List (List LiveMessage)) → EachApart inputs → All HasOneHeader inputs

@@ -72,13 +72,15 @@ pub fn compile_collected(
     let rows = sorted_rows(alloc, inputs)?;
     let pairs = compiled_pairs(alloc, &rows)?;
     let count = pairs.len();
+    let stats = statistics_of(&rows);
+    drop(rows);
     layout_is_mo_file();
     messages_mean_entries();
     match build_sorted(alloc, options.order, &pairs) {
         Ok(bytes) => Ok(Compiled {
             bytes,
             n: count as u32,
-            stats: statistics_of(&rows),
+            stats,
         }),
         Err(error) => Err(reported_fault(error)),
     }

@@ -19,7 +19,7 @@ overflow_cast-result c =
     let order = c.args.options.order in
     let pairs = c.in_ok-pairs.pairs.items in
     let fits = subst (λ ms. length (layout order ms) < 2 ^ 32)
-    (ap messages_of_borrowed c.deref-2.ensures.value) c.in-Ok.ensures.fits in
+    (ap messages_of_borrowed c.deref-3.ensures.value) c.in-Ok.ensures.fits in
     omega (
       arith,
       fits,
@@ -41,7 +41,7 @@ returns-in-Ok-clause-found c = λ texts of.
     let sorted = c.in_ok-rows.ensures.rows in
     let are = pairs_are use_fuzzy texts inputs rows of sorted messages messages
     (rw c.deref.ensures.value at c.in_ok-pairs.ensures) refl in
-    let pairs = ap messages_of_borrowed c.deref-2.ensures.value in
+    let pairs = ap messages_of_borrowed c.deref-3.ensures.value in
     let bytes = c.in-Ok.ensures.layout ∙ ap (layout order) pairs in
     let fits = subst (λ ms. length (layout order ms) < 2 ^ 32) pairs c.in-Ok.ensures.fits in (
       sorted_read use_fuzzy texts inputs rows of c.in_ok-rows.ensures.each sorted,
@@ -63,7 +63,7 @@ returns-in-Ok-clause-found c = λ texts of.
 
 pub returns-in-Ok-clause-statistics : goal.returns-in-Ok-clause-statistics
 returns-in-Ok-clause-statistics c = λ texts of.
-    c.statistics_of.ensures ∙ ap counts_of c.deref-in-Ok.ensures.value
+    c.statistics_of-stats.ensures ∙ ap counts_of c.deref-2.ensures.value
     ∙ counts_mean c.args.options.use_fuzzy of.catalogues c.args.inputs.now c.in_ok-rows.rows.items of.held
     c.in_ok-rows.ensures.rows
 
@@ -71,16 +71,16 @@ pub build_sorted-requires : goal.build_sorted-requires
 build_sorted-requires c =
     (pairs_are c.args.options.use_fuzzy c.requires.read.0 c.args.inputs.now c.in_ok-rows.rows.items c.requires.read.1
     c.in_ok-rows.ensures.rows (messages_of_borrowed c.in_ok-pairs.pairs.items)
-    (messages_of_borrowed c.deref-2.result.now)
-    (rw c.deref.ensures.value at c.in_ok-pairs.ensures) (ap messages_of_borrowed c.deref-2.ensures.value)).rising
+    (messages_of_borrowed c.deref-3.result.now)
+    (rw c.deref.ensures.value at c.in_ok-pairs.ensures) (ap messages_of_borrowed c.deref-3.ensures.value)).rising
 
 pub reported_fault-requires : goal.reported_fault-requires
 reported_fault-requires c = λ same.
     let are = pairs_are c.args.options.use_fuzzy c.requires.read.0 c.args.inputs.now c.in_ok-rows.rows.items
     c.requires.read.1 c.in_ok-rows.ensures.rows (messages_of_borrowed c.in_ok-pairs.pairs.items)
-    (messages_of_borrowed c.deref-2.result.now)
-    (rw c.deref.ensures.value at c.in_ok-pairs.ensures) (ap messages_of_borrowed c.deref-2.ensures.value) in
-    (subst (IsBuildFault c.args.options.order (messages_of_borrowed c.deref-2.result.now)) same
+    (messages_of_borrowed c.deref-3.result.now)
+    (rw c.deref.ensures.value at c.in_ok-pairs.ensures) (ap messages_of_borrowed c.deref-3.ensures.value) in
+    (subst (IsBuildFault c.args.options.order (messages_of_borrowed c.deref-3.result.now)) same
     c.in-Err.ensures.fault).1 are.rising
 
 pub returns-in_err-rows-clause-fault : goal.returns-in_err-rows-clause-fault
@@ -95,10 +95,10 @@ returns-clause-fault c = λ texts of.
     let use_fuzzy = c.args.options.use_fuzzy in
     let rows = c.in_ok-rows.rows.items in
     let sorted = c.in_ok-rows.ensures.rows in
-    let given = messages_of_borrowed c.deref-2.result.now in
+    let given = messages_of_borrowed c.deref-3.result.now in
     let are = pairs_are use_fuzzy texts c.args.inputs.now rows of sorted
     (messages_of_borrowed c.in_ok-pairs.pairs.items) given (rw c.deref.ensures.value at c.in_ok-pairs.ensures)
-    (ap messages_of_borrowed c.deref-2.ensures.value) in
+    (ap messages_of_borrowed c.deref-3.ensures.value) in
     build_refused c.args.options texts of.catalogues given c.in-Err.error c.reported_fault.result
     (sorted_read use_fuzzy texts c.args.inputs.now rows of c.in_ok-rows.ensures.each sorted) are
     c.in-Err.ensures.fault c.reported_fault.ensures

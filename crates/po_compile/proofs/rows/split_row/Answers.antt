@@ -1,4 +1,4 @@
-use Rattle.std.proofs.Common.{ap, sym, take, ◌∙◌}
+use Rattle.std.proofs.Common.{ap, take, ◌∙◌}
 use Rattle.std.proofs.lemmas.List.{drop_min}
 use Rattle.po_compile.specs.Internal.Prefix.{prefix_of}
 use Rattle.po_compile.proofs.rows.split_row.Goals as goal
