@@ -1,12 +1,13 @@
 -- Writing the segments of a string.
 use Rattle.std.proofs.Common.{◌≡◌, ℕ, suc, ◌+◌, ◌-◌, ◌<◌, ◌≤◌, List, ◌++◌, length, take, drop, Option, None, Some, [], unwrap_or, append_assoc, refl, sym, ap, ◌∙◌, subst, arith, length-take, length-drop, length-append}
 use Rattle.std.specs.List.{slice_range}
-use Rattle.std.specs.Prelude.{option_map}
+use Rattle.std.specs.Prelude.{Ok, option_map}
+use Rattle.std.specs.Option.{ok_or}
 use Rattle.std.proofs.Math.Seq.{take-add}
 use Rattle.std.proofs.lemmas.Option.{none-some}
 use Rattle.std.proofs.lemmas.List.{drop-drop, drop-take, take-take}
+use Rattle.mo_expand.specs.declared.joining.Missing.TheVariants.{Full}
 use Rattle.mo_expand.specs.declared.joining.Segment.{Segment}
-use Rattle.mo_expand.specs.declared.joining.Written.TheVariants.{Ends}
 use Rattle.mo_file.specs.declared.byte_order.Order.{Order}
 use Rattle.mo_file.specs.Word.{word_at}
 use Rattle.mo_expand.specs.declared.platform_text.PlatformText.{PlatformText}
@@ -79,7 +80,7 @@ put_both old middle new start at first second (Some end) h len put =
 
 pub joining-ends : (old room new : List ℕ) (start at end : ℕ) (whole : Option (List ℕ)) (text : List ℕ)
     → IsJoining old room start at whole (Some text) → HasText room new at end text → length new ≡ length room
-    → IsWritten old new start whole (Ends end)
+    → IsWritten old new start whole (Ok end)
 joining-ends old room new start at end whole text j h len =
     let order = j.order in
     let more = h.order in (
@@ -145,6 +146,13 @@ pub joining-is_full : (old room : List ℕ) (start at : ℕ) (whole : Option (Li
     → length old < start + length t
 joining-is_full old room start at whole text j full t is =
     is_full old room start at text t j.order j.inside j.len full (sym is ∙ j.is)
+
+-- the last segment was put, or there was no room for it
+pub joining-last : (old room new : List ℕ) (start at : ℕ) (whole : Option (List ℕ)) (text : List ℕ) (put : Option ℕ)
+    → IsJoining old room start at whole (Some text) → IsPut room new at text put → length new ≡ length room
+    → IsWritten old new start whole (ok_or put Full)
+joining-last old room new start at whole text None j full len = joining-is_full old room start at whole text j full
+joining-last old room new start at whole text (Some end) j h len = joining-ends old room new start at end whole text j h len
 
 longer : (literal text r : List ℕ) (n at : ℕ) → n < at + length (literal ++ text)
     → n < at + length (literal ++ text ++ r)

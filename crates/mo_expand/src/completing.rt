@@ -7,7 +7,8 @@ ghost use Rattle.mo_file.specs.Pairs.{messages_of_borrowed};
 ghost use Rattle.mo_expand.specs.Expanded.{system_count, system_message};
 ghost use Rattle.mo_expand.specs.Merging.{expanded_messages, strings_len, system_messages};
 
-use crate::expanding::{Expanded, count_in, expand_in};
+use crate::expanding::{count_in, expand_in};
+use crate::joining::Missing;
 use crate::listing::insert;
 use crate::platform_text::PlatformText;
 use mo_file::{BorrowedPair, Order};
@@ -37,7 +38,7 @@ pub(crate) fn add_completed<'b>(
     let mut rest = room;
     for index in 0..count_in(order, bytes) {
         match expand_in(order, bytes, texts, index, rest) {
-            Expanded::Ends(middle, end) => {
+            Ok((middle, end)) => {
                 let (written, left) = rest.split_at_mut(end);
                 rest = left;
                 let written: &'b [u8] = written;
@@ -47,8 +48,8 @@ pub(crate) fn add_completed<'b>(
                 };
                 count = insert(list, count, added);
             }
-            Expanded::Absent => {}
-            Expanded::Full => return None,
+            Err(Missing::Absent) => {}
+            Err(Missing::Full) => return None,
         }
     }
     Some(count)

@@ -1,27 +1,15 @@
 //! The messages of system-dependent strings, one at a time.
 
-ghost use Rattle.std.specs.Prelude.{◌≡◌, ◌<◌, ◌≤◌, length};
+ghost use Rattle.std.specs.Prelude.{◌≡◌, ◌<◌, ◌≤◌, Err, length};
 ghost use Rattle.mo_file.specs.declared.byte_order.Order.{Order};
 ghost use Rattle.mo_file.specs.FileHeader.{HasMagicOf};
-ghost use Rattle.mo_expand.specs.declared.expanding.Expanded.TheVariants.{Absent};
+ghost use Rattle.mo_expand.specs.declared.joining.Missing.TheVariants.{Absent};
 ghost use Rattle.mo_expand.specs.Expanded.{system_count, system_message};
 ghost use Rattle.mo_expand.specs.Expanding.{IsExpanded};
 
-use crate::joining::{Written, put_text};
+use crate::joining::{Missing, put_text};
 use crate::platform_text::PlatformText;
 use mo_file::{Order, word};
-
-/// What has become of a message.
-#[derive(Clone, Copy, Debug)]
-pub enum Expanded {
-    /// Its original is there, and ends at the first offset; then its translation, which ends at the
-    /// other.
-    Ends(usize, usize),
-    /// There is no such message: the platform lacks a text, or a string isn't well formed.
-    Absent,
-    /// There is no room for it.
-    Full,
-}
 
 /// How many system-dependent messages a file has, of which the platform may lack some.
 pub fn system_count(bytes: &[u8]) -> u32
@@ -53,21 +41,22 @@ pub(crate) fn count_in(order: Order, bytes: &[u8]) -> u32
 }
 
 /// Completes a system-dependent message by the texts of a platform, and writes its original and
-/// then its translation, each without a NUL at its end, from the beginning of `room` on.
+/// then its translation, each without a NUL at its end, from the beginning of `room` on. Returns
+/// where the original ends, and where the translation.
 pub fn expand<'b>(
     bytes: &'b [u8],
     texts: &[PlatformText<'b>],
     index: u32,
     room: &mut [u8],
-) -> Expanded
+) -> Result<(usize, usize), Missing>
     ensures len { length room.new ≡ length room.old }
     ensures message { (order : Order) → HasMagicOf order bytes.now
         → IsExpanded room.old room.new (system_message order bytes.now texts.now index) result }
-    ensures no_file { ((order : Order) → ¬ HasMagicOf order bytes.now) → result ≡ Absent }
+    ensures no_file { ((order : Order) → ¬ HasMagicOf order bytes.now) → result ≡ Err Absent }
 {
     match Order::of_file(bytes) {
         Some(order) => expand_in(order, bytes, texts, index, room),
-        None => Expanded::Absent,
+        None => Err(Missing::Absent),
     }
 }
 
@@ -78,25 +67,17 @@ pub(crate) fn expand_in<'b>(
     texts: &[PlatformText<'b>],
     index: u32,
     room: &mut [u8],
-) -> Expanded
+) -> Result<(usize, usize), Missing>
     ensures len { length room.new ≡ length room.old }
     ensures message { IsExpanded room.old room.new (system_message order bytes.now texts.now index) result }
 {
     if index >= count_in(order, bytes) {
-        return Expanded::Absent;
+        return Err(Missing::Absent);
     }
     let index = 4 * index as usize;
     let original = word(order, bytes, word(order, bytes, 40) as usize + index);
     let translation = word(order, bytes, word(order, bytes, 44) as usize + index);
-    match put_text(order, bytes, texts, original, room, 0) {
-        Written::Ends(middle) => {
-            match put_text(order, bytes, texts, translation, room, middle) {
-                Written::Ends(end) => Expanded::Ends(middle, end),
-                Written::Absent => Expanded::Absent,
-                Written::Full => Expanded::Full,
-            }
-        }
-        Written::Absent => Expanded::Absent,
-        Written::Full => Expanded::Full,
-    }
+    let middle = put_text(order, bytes, texts, original, room, 0)?;
+    let end = put_text(order, bytes, texts, translation, room, middle)?;
+    Ok((middle, end))
 }

@@ -14,12 +14,10 @@ const LAST: u32 = u32::MAX;
 /// The most segments that a string may have.
 const SEGMENT_LIMIT: u32 = 256;
 
-/// What has become of a text that was to be written.
-#[derive(Clone, Copy)]
-pub(crate) enum Written {
-    /// It is there, and ends at this offset.
-    Ends(usize),
-    /// There is no such text.
+/// Why a message that was to be written isn't there.
+#[derive(Clone, Copy, Debug)]
+pub enum Missing {
+    /// There is no such message: the platform lacks a text, or a string isn't well formed.
     Absent,
     /// There is no room for it.
     Full,
@@ -45,10 +43,8 @@ fn put_both(room: &mut [u8], at: usize, first: &[u8], second: &[u8]) -> Option<u
     ensures len { length room.new ≡ length room.old }
     ensures end { IsPut room.old room.new at (first.now ++ second.now) result }
 {
-    match put(room, at, first) {
-        Some(middle) => put(room, middle, second),
-        None => None,
-    }
+    let middle = put(room, at, first)?;
+    put(room, middle, second)
 }
 
 /// A segment of a string, as it is written.
@@ -88,7 +84,7 @@ fn segment_at<'b>(
     Some(Segment::Before(literal, text))
 }
 
-/// Writes the text of the string that is described at an offset.
+/// Writes the text of the string that is described at an offset, and returns where it ends.
 pub(crate) fn put_text<'b>(
     order: Order,
     bytes: &'b [u8],
@@ -96,7 +92,7 @@ pub(crate) fn put_text<'b>(
     described: u32,
     room: &mut [u8],
     start: usize,
-) -> Written
+) -> Result<usize, Missing>
     requires long { 48 ≤ length bytes.now }
     requires inside { start ≤ length room.old }
     ensures len { length room.new ≡ length room.old }
@@ -104,22 +100,19 @@ pub(crate) fn put_text<'b>(
 {
     let mut descriptor = described as usize + 4;
     if descriptor > bytes.len() {
-        return Written::Absent;
+        return Err(Missing::Absent);
     }
     let mut source = word(order, bytes, described as usize) as usize;
     let mut at = start;
     for i in 0..SEGMENT_LIMIT {
         match segment_at(order, bytes, texts, descriptor, source) {
-            None => return Written::Absent,
+            None => return Err(Missing::Absent),
             Some(Segment::Last(text)) => {
-                return match put(room, at, text) {
-                    Some(end) => Written::Ends(end),
-                    None => Written::Full,
-                };
+                return put(room, at, text).ok_or(Missing::Full);
             }
             Some(Segment::Before(literal, text)) => {
                 let Some(end) = put_both(room, at, literal, text) else {
-                    return Written::Full;
+                    return Err(Missing::Full);
                 };
                 at = end;
                 source += word(order, bytes, descriptor) as usize;
@@ -127,5 +120,5 @@ pub(crate) fn put_text<'b>(
             }
         }
     }
-    Written::Absent
+    Err(Missing::Absent)
 }

@@ -20,6 +20,7 @@ mod platform_text;
 mod segments;
 
 pub use expanded_file::{ExpandedFile, expand_file};
-pub use expanding::{Expanded, expand, system_count};
+pub use expanding::{expand, system_count};
+pub use joining::Missing;
 pub use laws::{example_is_completed, example_needs_its_text, expanded_file_is_mo_file};
 pub use platform_text::PlatformText;

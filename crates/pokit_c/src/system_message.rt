@@ -1,13 +1,13 @@
 //! System-dependent messages.
 
-ghost use Rattle.std.specs.Prelude.{◌≡◌, ◌<◌, ◌≤◌, None, length};
+ghost use Rattle.std.specs.Prelude.{◌≡◌, ◌<◌, ◌≤◌, Err, None, Ok, length};
 ghost use Rattle.mo_file.specs.declared.byte_order.Order.{Order};
 ghost use Rattle.mo_file.specs.FileHeader.{HasMagicOf};
-ghost use Rattle.mo_expand.specs.declared.expanding.Expanded.TheVariants.{Ends, Full};
+ghost use Rattle.mo_expand.specs.declared.joining.Missing.TheVariants.{Full};
 ghost use Rattle.mo_expand.specs.Expanded.{system_count, system_message};
 ghost use Rattle.mo_expand.specs.Expanding.{IsExpanded};
 
-use mo_expand::{Expanded, PlatformText, expand, system_count};
+use mo_expand::{Missing, PlatformText, expand, system_count};
 
 /// Where the two strings of a message end in the room that they were written to.
 #[repr(C)]
@@ -44,25 +44,25 @@ pub extern "C" fn pokit_system_message<'b>(
 ) -> u32
     ensures written { (order : Order) → HasMagicOf order bytes.now → result ≡ 0
         → IsExpanded room.old room.new (system_message order bytes.now texts.now index)
-        (Ends ends.new.original ends.new.translation) }
+        (Ok (ends.new.original, ends.new.translation)) }
     ensures absent { (order : Order) → HasMagicOf order bytes.now → result ≡ 1
         → system_message order bytes.now texts.now index ≡ None }
     ensures full { (order : Order) → HasMagicOf order bytes.now → result ≡ 2
-        → IsExpanded room.old room.new (system_message order bytes.now texts.now index) Full }
+        → IsExpanded room.old room.new (system_message order bytes.now texts.now index) (Err Full) }
     ensures no_file { ((order : Order) → ¬ HasMagicOf order bytes.now) → result ≡ 1 }
     ensures which { result ≤ 2 }
     ensures unchanged { 0 < result → ends.new ≡ ends.old }
     ensures len { length room.new ≡ length room.old }
 {
     match expand(bytes, texts, index, room) {
-        Expanded::Ends(original, translation) => {
+        Ok((original, translation)) => {
             *ends = PokitEnds {
                 original,
                 translation,
             };
             0
         }
-        Expanded::Absent => 1,
-        Expanded::Full => 2,
+        Err(Missing::Absent) => 1,
+        Err(Missing::Full) => 2,
     }
 }

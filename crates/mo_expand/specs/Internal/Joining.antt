@@ -1,11 +1,11 @@
 -- Internal: what it is to write a text into a part of some room.
-use Rattle.std.specs.Prelude.{◌≡◌, ℕ, ◌+◌, ◌<◌, ◌≤◌, List, ◌++◌, length, take, option_map, Option, None, Some}
+use Rattle.std.specs.Prelude.{◌≡◌, ℕ, ◌+◌, ◌<◌, ◌≤◌, List, ◌++◌, length, take, option_map, Option, None, Some, Result, Ok, Err}
 use Rattle.std.specs.List.{slice_range}
 use Rattle.mo_expand.specs.declared.joining.Segment.{Segment}
 use Rattle.mo_expand.specs.declared.joining.Segment.TheVariants.{Last, Before}
 use Rattle.mo_expand.specs.Segments.{join}
-use Rattle.mo_expand.specs.declared.joining.Written.{Written}
-use Rattle.mo_expand.specs.declared.joining.Written.TheVariants.{Ends, Absent, Full}
+use Rattle.mo_expand.specs.declared.joining.Missing.{Missing}
+use Rattle.mo_expand.specs.declared.joining.Missing.TheVariants.{Absent, Full}
 
 -- the room has a text from one offset up to another, and what stood before it
 pub record HasText (old new : List ℕ) (start end : ℕ) (text : List ℕ) : Type 0 where
@@ -20,11 +20,11 @@ IsPut old new start text (Some end) = HasText old new start end text
 IsPut old new start text None = length old < start + length text
 
 -- what has become of a text that may not be there
-abbrev pub IsWritten : List ℕ → List ℕ → ℕ → Option (List ℕ) → Written → Type 0
-IsWritten old new start text (Ends end) =
+abbrev pub IsWritten : List ℕ → List ℕ → ℕ → Option (List ℕ) → Result ℕ Missing → Type 0
+IsWritten old new start text (Ok end) =
     (text ≡ Some (slice_range new start end)) × HasText old new start end (slice_range new start end)
-IsWritten old new start text Absent = text ≡ None
-IsWritten old new start text Full = (t : List ℕ) → text ≡ Some t → length old < start + length t
+IsWritten old new start text (Err Absent) = text ≡ None
+IsWritten old new start text (Err Full) = (t : List ℕ) → text ≡ Some t → length old < start + length t
 
 -- the text of a segment that was read, and of those after it
 abbrev pub with_rest : Option Segment → Option (List ℕ) → Option (List ℕ)

@@ -1,7 +1,7 @@
 use Rattle.std.proofs.Common.{◌≡◌, suc, ◌-◌, ◌+◌, None, Some, subst, sym, arith}
 use Rattle.mo_expand.specs.Internal.Joining.{IsJoining}
 use Rattle.mo_expand.specs.Segments.{joined, text_at}
-use Rattle.mo_expand.proofs.JoiningLemmas.{joining-step, joining-ends, joining-goes_on, joining-is_full, joining-is_full_before, joining-has_ended}
+use Rattle.mo_expand.proofs.JoiningLemmas.{joining-step, joining-last, joining-goes_on, joining-is_full_before, joining-has_ended}
 use Rattle.mo_expand.proofs.joining.put_text.Goals as goal
 
 pub returns-in-None-clause-text : goal.returns-in-None-clause-text
@@ -10,21 +10,13 @@ returns-in-None-clause-text c =
     let j = joining-step _ _ _ _ _ _ _ _ _ _ _ _ None left c.in-None.ensures.segment c.loop-i.invariant.joining in
     j.is
 
-pub returns-in-Some-clause-text : goal.returns-in-Some-clause-text
-returns-in-Some-clause-text c =
+pub returns-in-Some-Last-clause-text : goal.returns-in-Some-Last-clause-text
+returns-in-Some-Last-clause-text c =
     let left : 256 - c.loop-i.i ≡ suc (256 - (c.loop-i.i + 1)) = omega arith in
     let first = joining-step _ _ _ _ _ _ _ _ _ _ _ _
     (Some c.in-Some-Last.field-0) left c.in-Some-Last.ensures.segment c.loop-i.invariant.joining in
     let j = rw c.in-Some-Last.field-0-is at first in
-    joining-ends _ _ _ _ _ _ _ _ j c.in-Some.ensures.end c.put.ensures.len
-
-pub returns-in-None-put-clause-text : goal.returns-in-None-put-clause-text
-returns-in-None-put-clause-text c =
-    let left : 256 - c.loop-i.i ≡ suc (256 - (c.loop-i.i + 1)) = omega arith in
-    let first = joining-step _ _ _ _ _ _ _ _ _ _ _ _
-    (Some c.in-Some-Last.field-0) left c.in-Some-Last.ensures.segment c.loop-i.invariant.joining in
-    let j = rw c.in-Some-Last.field-0-is at first in
-    joining-is_full _ _ _ _ _ _ j c.in-None-put.ensures.end
+    rw c.ok_or.ensures.value (joining-last _ _ _ _ _ _ _ _ j c.put.ensures.end c.put.ensures.len)
 
 pub returns-in_default-clause-text : goal.returns-in_default-clause-text
 returns-in_default-clause-text c =
@@ -41,9 +33,9 @@ loop-i-preserved c =
     (Some c.in-Some-Before.field-0) left c.in-Some-Before.ensures.segment c.loop-i.invariant.joining in
     let j = rw c.in-Some-Before.field-0-is at first in
     let next = joining-goes_on _ _ _ _ _ _ _ c.in-Some-Before.literal.now c.in-Some-Before.text.now _ j
-    c.in-Some-put_both.ensures.end c.put_both.ensures.len in
+    c.in-Some.ensures.end c.put_both.ensures.len in
     record {
-      joining = subst (λ n. IsJoining c.args.room.now c.put_both.new.room c.args.start c.in-Some-put_both.end
+      joining = subst (λ n. IsJoining c.args.room.now c.put_both.new.room c.args.start c.in-Some.end
           (text_at c.args.order c.args.bytes.now c.args.texts.now c.args.described)
           (joined c.args.order c.args.bytes.now c.args.texts.now (256 - (c.loop-i.i + 1)) (c.loop-i.descriptor + 8)
           (c.loop-i.source + n))) (sym c.word.ensures) next;
