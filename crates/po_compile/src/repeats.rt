@@ -4,7 +4,6 @@ ghost use Rattle.std.specs.Prelude.{◌≡◌, ◌⊎◌, ◌<◌, ◌^◌, IfEr
 ghost use Rattle.po_messages.specs.Duplicate.{join_out_of_memory};
 ghost use Rattle.po_messages.specs.FirstOnes.{group_numbers};
 ghost use Rattle.po_messages.specs.Message.{same_message};
-ghost use Rattle.po_messages.specs.MessageView.{messages_of_keys};
 ghost use Rattle.po_compile.specs.Accepted.{fault_of_input};
 ghost use Rattle.po_compile.specs.Internal.Repeats.{EachApart, IsRepeat, IsRepeatInInput, key_message, repeat_fault};
 ghost use Rattle.po_compile.specs.Internal.Rows.{AllApart, all_messages, input_keys, row_view};
@@ -18,14 +17,12 @@ use po_syntax::{PoError, PoFault};
 use std::alloc::{AllocError, Global};
 use std::slice::from_ref;
 
-/// The keys of the joined list of the inputs, each as that of a message without a context.
-fn joined_keys<'b>(
-    alloc: Global,
-    inputs: &'b [Collected],
-) -> Result<Vec<MessageKey<'b>>, AllocError>
+/// The number of each key of the joined list of the inputs. Keys are numbered in the order in which
+/// they first appear, each as that of a message without a context.
+fn key_numbers(alloc: Global, inputs: &[Collected]) -> Result<Vec<usize>, AllocError>
     requires { length inputs.now < 2 ^ 32 }
-    ensures { IfOk result (λ keys. messages_of_keys keys.items
-        ≡ map key_message (input_keys (all_messages inputs.now))) }
+    ensures { IfOk result (λ numbers. numbers.items
+        ≡ group_numbers same_message (map key_message (input_keys (all_messages inputs.now)))) }
 {
     let rows = joined_rows(alloc, inputs)?;
     let mut keys = Vec::with_capacity(alloc, rows.len())?;
@@ -35,16 +32,7 @@ fn joined_keys<'b>(
             id: row.key,
         })?;
     }
-    Ok(keys)
-}
-
-/// The numbers of the keys of the joined list, in the order in which they first appear.
-fn key_numbers(alloc: Global, inputs: &[Collected]) -> Result<Vec<usize>, AllocError>
-    requires { length inputs.now < 2 ^ 32 }
-    ensures { IfOk result (λ numbers. numbers.items
-        ≡ group_numbers same_message (map key_message (input_keys (all_messages inputs.now)))) }
-{
-    let keys = joined_keys(alloc, inputs)?;
+    drop(rows);
     let (numbers, _) = grouped(alloc, &keys)?;
     Ok(numbers)
 }
@@ -62,7 +50,7 @@ fn row_fault(first: &Row<'_>, later: &Row<'_>) -> JoinError
 
 /// Whether no message of the joined list of the inputs repeats another. Refused with the fault of
 /// `joined_duplicates`; and where an allocation failed. The first row that has the key of an earlier
-/// one is the first whose number isn't its index. Keys and rows aren't kept side by side for long.
+/// one is the first whose number isn't its index.
 pub(crate) fn check_joined(alloc: Global, inputs: &[Collected]) -> Result<(), JoinError>
     requires { length inputs.now < 2 ^ 32 }
     ensures apart { OnOk result (AllApart (input_keys (all_messages inputs.now))) }

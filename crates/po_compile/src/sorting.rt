@@ -1,9 +1,9 @@
 //! Rows in the order of their keys, and their statistics.
 
-ghost use Rattle.std.specs.Prelude.{◌≡◌, ◌<◌, ◌^◌, ◌↔◌, All, IfErr, IfOk, IsPermutation, IsTrue, MatchOption, OnOk, count_by, length, map};
+ghost use Rattle.std.specs.Prelude.{◌≡◌, ◌<◌, ◌^◌, ◌↔◌, All, IfErr, IfOk, IsPermutation, IsTrue, OnOk, count_by, length, map};
 ghost use Rattle.mo_file.specs.Key.{AreRising};
 ghost use Rattle.po_compile.specs.Internal.Repeats.{EachApart, IsRepeatFault};
-ghost use Rattle.po_compile.specs.Internal.Rows.{AllApart, AreSorted, AreSortedRows, HasOneHeader, all_messages, counts_of, input_keys};
+ghost use Rattle.po_compile.specs.Internal.Rows.{AreSorted, AreSortedRows, HasOneHeader, counts_of};
 ghost use Rattle.po_compile.specs.declared.row.Row.{Row as RowSeen};
 
 use crate::collecting::Collected;
@@ -11,7 +11,7 @@ use crate::repeats::{check_each, check_joined};
 use crate::row::{Row, compare};
 use crate::rows::joined_rows;
 use po_messages::{JoinError, Stats};
-use std::alloc::{AllocError, Global};
+use std::alloc::Global;
 
 /// Sorts rows by their keys.
 fn sort_rows(rows: &mut Vec<Row<'_>>)
@@ -35,26 +35,9 @@ fn have_one_header(inputs: &[Collected]) -> bool
     inputs.iter().all(|collected| collected.header_count() <= 1)
 }
 
-/// The rows of the joined list of the inputs, in the order of their keys, or None where a message
-/// repeats another: two neighbours have one key, or an input has two headers, of which the joined
-/// list has one at most.
-fn rising_rows(alloc: Global, inputs: &[Collected]) -> Result<Option<Vec<Row<'_>>>, AllocError>
-    requires { length inputs.now < 2 ^ 32 }
-    ensures { IfOk result (λ found. MatchOption found
-        (EachApart inputs.now → AllApart (input_keys (all_messages inputs.now)) → ⊥)
-        (λ rows. AreSortedRows inputs.now rows.items × EachApart inputs.now)) }
-{
-    let mut rows = joined_rows(alloc, inputs)?;
-    sort_rows(&mut rows);
-    if are_rising(&rows) && have_one_header(inputs) {
-        return Ok(Some(rows));
-    }
-    Ok(None)
-}
-
 /// The rows of the joined list of the inputs, in the order of their keys, where no message repeats
-/// another of its input or of the joined list. Where one does, the rows are dropped before the
-/// first repeat is looked for.
+/// another of its input or of the joined list. Where two neighbours have one key, or an input has two
+/// headers, of which the joined list has one at most, the first repeat is looked for, without the rows.
 ///
 /// Refused with the fault of `duplicates`, of the first input that has one; then with that of
 /// `joined_duplicates`; and where an allocation failed.
@@ -64,9 +47,12 @@ pub(crate) fn sorted_rows(alloc: Global, inputs: &[Collected]) -> Result<Vec<Row
     ensures each { OnOk result (EachApart inputs.now) }
     ensures fault { IfErr result (IsRepeatFault inputs.now) }
 {
-    if let Some(rows) = rising_rows(alloc, inputs)? {
+    let mut rows = joined_rows(alloc, inputs)?;
+    sort_rows(&mut rows);
+    if are_rising(&rows) && have_one_header(inputs) {
         return Ok(rows);
     }
+    drop(rows);
     check_each(alloc, inputs)?;
     check_joined(alloc, inputs)?;
     unreachable!()
