@@ -152,7 +152,8 @@ pub joining-last : (old room new : List ℕ) (start at : ℕ) (whole : Option (L
     → IsJoining old room start at whole (Some text) → IsPut room new at text put → length new ≡ length room
     → IsWritten old new start whole (ok_or put Full)
 joining-last old room new start at whole text None j full len = joining-is_full old room start at whole text j full
-joining-last old room new start at whole text (Some end) j h len = joining-ends old room new start at end whole text j h len
+joining-last old room new start at whole text (Some end) j h len =
+    joining-ends old room new start at end whole text j h len
 
 longer : (literal text r : List ℕ) (n at : ℕ) → n < at + length (literal ++ text)
     → n < at + length (literal ++ text ++ r)

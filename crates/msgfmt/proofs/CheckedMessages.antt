@@ -1,5 +1,6 @@
 -- The check of messages is that of the entries that are compiled to them.
-use Rattle.std.proofs.Common.{◌≡◌, ℕ, if◌then◌else◌, Bool, true, false, refl, ap, ap₂, ◌∙◌, subst, cond, List, [], ◌∷◌, map, find, Option, None, Some, All, MatchOption}
+use Rattle.std.proofs.Common.{◌≡◌, ℕ, if◌then◌else◌, Bool, true, false, refl, sym, ap, ap₂, ◌∙◌, subst, cond, List, [], ◌∷◌, map, find, Option, None, Some, All, MatchOption}
+use Rattle.std.specs.Borrow.{Bor}
 use Rattle.std.specs.Option.{is_some, option_map, option_or}
 use Rattle.std.proofs.lemmas.List.Elements.{All-cons, All-filter, All-head, All-nil, All-tail}
 use Rattle.mo_file.specs.Key.{key_of}
@@ -10,6 +11,7 @@ use Rattle.plural_rule.specs.declared.rule.Source.TheVariants.{Header, Default}
 use Rattle.po_entry.specs.TextEntry.{TextEntry, plain_entry, with_line}
 use Rattle.po_entry.specs.Header.{first_form}
 use Rattle.po_entry.specs.Validity.{IsCatalogueEntry, IsEntry}
+use Rattle.po_messages.specs.Facts.Mapped.{find_map}
 use Rattle.po_messages.specs.Joined.{InputEntry, entries_of, joined, joined_entries}
 use Rattle.po_compile.specs.CompiledInputs.{compiled_inputs, compiled_message, compiled_view}
 use Rattle.po_compile.specs.CompiledList.{is_compiled}
@@ -133,3 +135,14 @@ checked come_back use_fuzzy catalogues messages fault valid made found =
     let of_seen : IsChecked (map seen entries) fault = subst (λ es. IsChecked es fault) same found in
     check_seen entries fault (find is_header_entry entries)
     (subst (CheckedBy (map seen entries) fault) (found_seen is_header_entry (λ e. refl) entries) of_seen)
+
+-- the first message that passes a test is the first entry that does
+pub found_checked : (p : InputEntry → Bool) (messages : List CompiledMessage) (found : Option (Bor CompiledMessage))
+    → option_map (λ m. m.now) found ≡ find (λ m. p (checked_message m)) messages
+    → option_map (λ m. checked_message m.now) found ≡ find p (checked_messages messages)
+found_checked p messages found is =
+    both found ∙ ap (option_map checked_message) is ∙ sym (find_map p checked_message messages) where
+      both : (r : Option (Bor CompiledMessage))
+          → option_map (λ m. checked_message m.now) r ≡ option_map checked_message (option_map (λ m. m.now) r)
+      both None = refl
+      both (Some m) = refl

@@ -1,6 +1,6 @@
 //! Why inputs aren't compiled, and what the check finds, as the line that reports it, and as the run
 //! of it.
-ghost use Rattle.std.specs.Prelude.{◌≡◌, ◌≢◌, ◌++◌, ◌∷◌, decimal, IfOk, OnOk};
+ghost use Rattle.std.specs.Prelude.{◌≡◌, ◌≢◌, ◌++◌, IfOk, OnOk};
 ghost use Rattle.runs.specs.FaultText.{duplicate_text};
 ghost use Rattle.runs.specs.NamedFile.{named_files};
 ghost use Rattle.runs.specs.Run.{refusal, run_view};
@@ -19,21 +19,13 @@ fn input_name<'a>(inputs: &[(&'a str, &[u8])], input: u32) -> &'a str
     inputs.get(input as usize).map_or("", |(name, _)| name)
 }
 
-/// Appends a line of a file: `FILE:LINE`.
-fn push_file_line(out: &mut Vec<u8>, file: &str, line: u32) -> Result<(), AllocError>
-    ensures { OnOk result (out.new.items ≡ out.old.items ++ (file.now ++ 58 ∷ decimal line)) }
-{
-    out.extend_from_slice(file.as_bytes())?;
-    push_numbered(out, ":", line.into(), "")
-}
-
 /// Appends what is wrong with a duplicate of a message of another file.
 fn push_duplicate(out: &mut Vec<u8>, file: &str, line: u32) -> Result<(), AllocError>
     ensures { OnOk result (out.new.items ≡ out.old.items ++ duplicate_text file.now line) }
 {
     out.extend_from_slice(b"duplicate of the message at ")?;
-    push_file_line(out, file, line)?;
-    Ok(())
+    out.extend_from_slice(file.as_bytes())?;
+    push_numbered(out, ":", line.into(), "")
 }
 
 /// Appends why the inputs aren't compiled.

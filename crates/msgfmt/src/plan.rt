@@ -7,7 +7,7 @@ ghost use Rattle.runs.specs.Run.{run_view};
 
 use crate::fault_lines::{failed_check_run, refused_run};
 use crate::options::MsgfmtOptions;
-use crate::profile::checked;
+use crate::profile::check_inputs;
 use po_compile::{Compiled, Options, collect_all, compile_collected};
 use runs::{Run, ToolFault};
 use std::alloc::{AllocError, Global};
@@ -71,7 +71,10 @@ pub fn plan_msgfmt(
         Ok(collected) => collected,
         Err(error) => return Ok(refused_run(alloc, inputs, error)?),
     };
-    let checked = checked(alloc, &collected, options);
+    let checked = match options.profile_check {
+        true => check_inputs(alloc, &collected),
+        false => Ok(()),
+    };
     let compile_options = Options {
         use_fuzzy: options.use_fuzzy,
         order: options.order,

@@ -1,19 +1,17 @@
 //! What `--profile-check` finds wrong with the messages that inputs or catalogues are compiled to.
-ghost use Rattle.std.specs.Prelude.{◌≡◌, ◌⊎◌, ◌^◌, ◌<◌, true, None, Some, MatchResult, IfErr, OnOk, find, length, option_map};
+ghost use Rattle.std.specs.Prelude.{◌≡◌, ◌⊎◌, ◌^◌, ◌<◌, None, Some, MatchResult, IfErr, OnOk, find, length, option_map};
 ghost use Rattle.std.specs.List.{list_any};
 ghost use Rattle.mo_lookup.specs.CatalogView.{forms};
 ghost use Rattle.po_compile.specs.OfInputs.{OfAllInputs};
-ghost use Rattle.po_entry.specs.Header.{first_form};
 ghost use Rattle.plural_rule.specs.PluralRule.{IsRuleOf, expression_limit};
 ghost use Rattle.msgfmt.specs.Msgfmt.{AreChecked};
 ghost use Rattle.msgfmt.specs.Profile as Spec;
 
-use crate::options::MsgfmtOptions;
 use plural_rule::{Reason, Rule, Source};
 use po_compile::{Collected, CompiledMessage, collect_catalogues, compiled_messages};
 use po_entry::Catalogue;
 use po_unformat::laws::texts_come_back;
-use po_unformat::{key_parts, original_parts, split_form};
+use po_unformat::{first_part, key_parts, original_parts, split_form};
 use std::alloc::Global;
 use thiserror::Error;
 
@@ -53,8 +51,7 @@ const CHECKED_COUNTS: u64 = 1001;
 fn is_plural(message: &CompiledMessage<'_>) -> bool
     ensures { result ≡ Spec.is_plural (Spec.checked_message message.now) }
 {
-    let (_, plural) = original_parts(message.original);
-    plural.is_some()
+    original_parts(message.original).1.is_some()
 }
 
 /// Whether the entry of a message is the header.
@@ -181,27 +178,12 @@ fn first_count_fault(rule: &Rule, end: u64) -> Option<(u32, CheckFault)>
     None
 }
 
-/// The first form of a translation.
-fn first_form(translation: &[u8]) -> &[u8]
-    ensures { result.now ≡ first_form (forms translation.now) }
-{
-    match split_form(translation) {
-        Some((form, _)) => form,
-        None => translation,
-    }
-}
-
 /// The message of the first header.
 fn header_of<'m, 'b>(messages: &'m [CompiledMessage<'b>]) -> Option<&'m CompiledMessage<'b>>
     ensures { option_map (λ m. Spec.checked_message m.now) result
         ≡ find Spec.is_header_entry (Spec.checked_messages messages.now) }
 {
-    for message in messages {
-        if is_header(message) {
-            return Some(message);
-        }
-    }
-    None
+    messages.iter().find(|message| is_header(message))
 }
 
 /// The first message of an entry with a plural.
@@ -209,12 +191,7 @@ fn first_plural<'m, 'b>(messages: &'m [CompiledMessage<'b>]) -> Option<&'m Compi
     ensures { option_map (λ m. Spec.checked_message m.now) result
         ≡ find Spec.is_plural (Spec.checked_messages messages.now) }
 {
-    for message in messages {
-        if is_plural(message) {
-            return Some(message);
-        }
-    }
-    None
+    messages.iter().find(|message| is_plural(message))
 }
 
 /// A header without a readable rule is a fault for the first message with a plural, if there is one.
@@ -266,11 +243,11 @@ fn check_messages(messages: &[CompiledMessage<'_>]) -> Option<(u32, CheckFault)>
     let Some(header) = header_of(messages) else {
         return Some((0, CheckFault::NoHeader));
     };
-    first_fault(rule_of(first_form(header.translation)), messages)
+    first_fault(rule_of(first_part(header.translation)), messages)
 }
 
 /// Checks the messages that inputs are compiled to, as `profile_check` does.
-fn check_inputs(alloc: Global, inputs: &[Collected]) -> Result<(), (u32, CheckFault)>
+pub(crate) fn check_inputs(alloc: Global, inputs: &[Collected]) -> Result<(), (u32, CheckFault)>
     requires { length inputs.now < 2 ^ 32 }
     ensures fit { OnOk result (OfAllInputs inputs.now (λ use_fuzzy catalogues. AreChecked use_fuzzy catalogues None)) }
     ensures unfit { IfErr result (λ reported. (reported ≡ (0, CheckFault.OutOfMemory))
@@ -304,25 +281,5 @@ pub fn profile_check(
     match collect_catalogues(alloc, catalogues, use_fuzzy) {
         Ok(inputs) => check_inputs(alloc, &inputs),
         Err(_) => Err((0, CheckFault::OutOfMemory)),
-    }
-}
-
-/// The check, where it is asked for.
-pub(crate) fn checked(
-    alloc: Global,
-    inputs: &[Collected],
-    options: &MsgfmtOptions,
-) -> Result<(), (u32, CheckFault)>
-    requires { length inputs.now < 2 ^ 32 }
-    ensures fit { OnOk result (options.now.profile_check ≡ true
-        → OfAllInputs inputs.now (λ use_fuzzy catalogues. AreChecked use_fuzzy catalogues None)) }
-    ensures unfit { IfErr result (λ reported. (reported ≡ (0, CheckFault.OutOfMemory))
-        ⊎ ((options.now.profile_check ≡ true)
-        × OfAllInputs inputs.now (λ use_fuzzy catalogues. AreChecked use_fuzzy catalogues (Some reported)))) }
-{
-    if options.profile_check {
-        check_inputs(alloc, inputs)
-    } else {
-        Ok(())
     }
 }

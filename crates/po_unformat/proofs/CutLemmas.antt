@@ -12,6 +12,7 @@ use Rattle.std.proofs.lemmas.List.Splits.{slice_split_none, slice_split_at}
 use Rattle.std.proofs.lemmas.List.Sums.{position_or_len_is}
 use Rattle.mo_lookup.specs.CatalogView.{forms}
 use Rattle.po_entry.specs.Bytes.{Lacks}
+use Rattle.po_entry.specs.Header.{first_form}
 use Rattle.po_entry.specs.TextEntry.{slice_texts}
 use Rattle.po_unformat.specs.Unformatted.{context_of, id_of, is_eot, plural_of}
 
@@ -104,6 +105,10 @@ module _ (text : List ℕ) (lacks : Lacks 0 text) where
 
   pub first_all : take 1 (forms text) ≡ text ∷ []
   first_all = ap (take 1) (split_none 0 text lacks)
+
+pub first_taken : (texts : List (List ℕ)) (first : List ℕ) → take 1 texts ≡ first ∷ [] → first ≡ first_form texts
+first_taken [] first is = absurd (cc)
+first_taken (text ∷ texts) first is = ap (λ l. get_or l 0 []) (sym is)
 
 module _ (done : List (Bor (List ℕ))) (piece : Bor (List ℕ)) (all : List (List ℕ)) where
   pushed : slice_texts (done ++ piece ∷ []) ≡ slice_texts done ++ piece.now ∷ []

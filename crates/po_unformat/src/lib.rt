@@ -14,5 +14,5 @@ mod parts;
 mod unformatting;
 
 pub use crate::fault::UnformatError;
-pub use crate::parts::{key_parts, original_parts, split_form};
+pub use crate::parts::{first_part, key_parts, original_parts, split_form};
 pub use crate::unformatting::unformat;

@@ -5,6 +5,7 @@ ghost use Rattle.std.specs.Option.{option_copied};
 ghost use Rattle.mo_file.specs.Key.{key_of};
 ghost use Rattle.mo_lookup.specs.CatalogView.{forms};
 ghost use Rattle.po_entry.specs.Bytes.{Lacks};
+ghost use Rattle.po_entry.specs.Header.{first_form};
 ghost use Rattle.po_entry.specs.TextEntry.{slice_texts};
 ghost use Rattle.po_unformat.specs.Unformatted.{context_of, id_of, plural_of};
 
@@ -48,9 +49,10 @@ pub fn original_parts(original: &[u8]) -> (&[u8], Option<&[u8]>)
     }
 }
 
-/// What stands before the first NUL, or all.
-pub(crate) fn first_part(text: &[u8]) -> &[u8]
-    ensures { take 1 (forms text.now) ≡ result.now ∷ [] }
+/// What stands before the first NUL, or all: the first form of a translation.
+pub fn first_part(text: &[u8]) -> &[u8]
+    ensures part { take 1 (forms text.now) ≡ result.now ∷ [] }
+    ensures first { result.now ≡ first_form (forms text.now) }
 {
     match split_once_at(NUL, text) {
         Some((piece, _)) => piece,

@@ -1,9 +1,16 @@
-use Rattle.std.proofs.Common.{◌++◌, ◌∷◌, ap, ◌∙◌, append_assoc, codes, decimal}
+use Rattle.std.proofs.Common.{◌≡◌, ◌++◌, ◌∷◌, OnOk, ap, ap₂, ◌∙◌, append-nil, append_assoc, codes, decimal, subst}
 use Rattle.msgfmt.proofs.fault_lines.push_duplicate.Goals as goal
 
 pub returns : goal.returns
 returns c =
-    c.in_ok-push_file_line.ensures
-    ∙ ap (λ l. l ++ (c.args.file.now ++ 58 ∷ decimal c.args.line)) c.in_ok-extend_from_slice.ensures.items
-    ∙ append_assoc c.args.out.now.items (codes "duplicate of the message at ")
-    (c.args.file.now ++ 58 ∷ decimal c.args.line)
+    let out = c.args.out.now.items in
+    let text = codes "duplicate of the message at " in
+    let file = c.args.file.now in
+    let rest = 58 ∷ decimal c.args.line in
+    let is : c.extend_from_slice-2.new.self.items ++ rest ≡ out ++ (text ++ (file ++ rest)) = ap (λ l. l ++ rest)
+    (c.in_ok-extend_from_slice-2.ensures.items
+    ∙ ap₂ (λ a b. a ++ b) c.in_ok-extend_from_slice.ensures.items c.as_bytes.ensures.value)
+    ∙ append_assoc (out ++ text) file rest ∙ append_assoc out text (file ++ rest) in
+    let numbered = c.push_numbered.ensures in
+    subst (λ l. OnOk c.push_numbered.result (c.push_numbered.new.out.items ≡ l)) is
+    (rw (c.into.ensures, append-nil (decimal c.args.line)) at numbered)

@@ -1,8 +1,10 @@
-use Rattle.std.proofs.Common.{ap, arith, inl, inr, length, ⊎_elim}
+use Rattle.std.proofs.Common.{◌≡◌, ◌∙◌, ap, arith, false, inl, inr, length, sym, true, true≢false, ⊎_elim}
+use Rattle.std.specs.Prelude.{is_ok}
 use Rattle.po_compile.specs.CompiledInputs.{AreCollected}
 use Rattle.runs.specs.NamedFile.{named_files}
 use Rattle.msgfmt.specs.Msgfmt.{input_texts}
 use Rattle.msgfmt.proofs.MsgfmtLemmas.{collected-count}
+use Rattle.msgfmt.proofs.plan.plan_msgfmt.Goals.{in-true, in-false}
 use Rattle.msgfmt.proofs.plan.plan_msgfmt.Goals as goal
 
 pub returns-in-Err-clause-run : goal.returns-in-Err-clause-run
@@ -14,13 +16,13 @@ returns-in-Err-clause-run c =
       run_is = c.in_ok-refused_run-in-Err.ensures.1;
     })
 
-pub checked-checked-requires : goal.checked-checked-requires
-checked-checked-requires c =
+pub check_inputs-checked-requires : goal.check_inputs-checked-requires
+check_inputs-checked-requires c =
     let of = rw (c.deref.ensures.value, c.in_ok-texts.ensures) at c.in-Ok.ensures.found in
     omega (
       arith,
       c.requires.few,
-      ap length c.deref-2.ensures.value,
+      ap length c.deref-in-true.ensures.value,
       collected-count c.args.options.now.use_fuzzy c.args.inputs.now c.in-Ok.collected.items of,
     )
 
@@ -30,14 +32,14 @@ compile_collected-requires-clause-few c =
     omega (
       arith,
       c.requires.few,
-      ap length c.deref-3.ensures.value,
+      ap length c.deref-2.ensures.value,
       collected-count c.args.options.now.use_fuzzy c.args.inputs.now c.in-Ok.collected.items of,
     )
 
 pub compile_collected-requires-clause-read : goal.compile_collected-requires-clause-read
 compile_collected-requires-clause-read c = (
   input_texts (named_files c.args.inputs.now),
-  rw c.deref-3.ensures.value (rw (c.deref.ensures.value, c.in_ok-texts.ensures) at c.in-Ok.ensures.found),
+  rw c.deref-2.ensures.value (rw (c.deref.ensures.value, c.in_ok-texts.ensures) at c.in-Ok.ensures.found),
 )
 
 pub returns-in-Err-default-clause-run : goal.returns-in-Err-default-clause-run
@@ -46,7 +48,7 @@ returns-in-Err-default-clause-run c =
     let of = rw (c.deref.ensures.value, c.in_ok-texts.ensures) at c.in-Ok.ensures.found in
     inl (record {
       error = c.in-Err-default.error;
-      fault = c.in-Err-default.ensures.fault texts (rw c.deref-3.ensures.value of);
+      fault = c.in-Err-default.ensures.fault texts (rw c.deref-2.ensures.value of);
       not_memory = c.in_ok-refused_run-in-Err-default.ensures.0;
       run_is = c.in_ok-refused_run-in-Err-default.ensures.1;
     })
@@ -56,17 +58,19 @@ returns-in-Ok-Ok-clause-run c =
     let o = c.args.options.now in
     let texts = input_texts (named_files c.args.inputs.now) in
     let of = rw (c.deref.ensures.value, c.in_ok-texts.ensures) at c.in-Ok.ensures.found in
-    let read : AreCollected o.use_fuzzy texts c.deref-3.result.now = rw c.deref-3.ensures.value of in
+    let read : AreCollected o.use_fuzzy texts c.deref-2.result.now = rw c.deref-2.ensures.value of in
     let compiled = c.in-Ok-Ok.ensures.found texts read in
-    let fit = rw c.in-Ok-Ok.is-1 at c.checked-checked.ensures.fit in
     inr (inr (record {
       catalogues = read.catalogues;
       read = compiled.0;
       compiled = c.in-Ok-Ok.compiled;
       is_compiled = compiled.1;
       stats = c.in-Ok-Ok.ensures.statistics texts read;
-      checked = λ asked. fit asked o.use_fuzzy read.catalogues
-          (rw c.deref-2.ensures.value (rw c.deref-3.ensures.value at read.held));
+      checked = λ asked. elim c.if-options.branch [
+        | in-true w ↦ (rw (sym w.checked-is ∙ c.in-Ok-Ok.is-1) at w.check_inputs-checked.ensures.fit) o.use_fuzzy
+            read.catalogues (rw w.deref-in-true.ensures.value (rw c.deref-2.ensures.value at read.held))
+        | in-false w ↦ let wrong : true ≡ false = sym asked ∙ w.in-false.is in absurd (true≢false wrong)
+      ];
       run_is = c.in_ok-compiled_run-in-Ok-Ok.ensures;
     }))
 
@@ -75,19 +79,23 @@ returns-clause-run c =
     let o = c.args.options.now in
     let texts = input_texts (named_files c.args.inputs.now) in
     let of = rw (c.deref.ensures.value, c.in_ok-texts.ensures) at c.in-Ok.ensures.found in
-    let read : AreCollected o.use_fuzzy texts c.deref-3.result.now = rw c.deref-3.ensures.value of in
+    let read : AreCollected o.use_fuzzy texts c.deref-2.result.now = rw c.deref-2.ensures.value of in
     let compiled = c.in-Ok-Err.ensures.found texts read in
     let run = c.in_ok-failed_check_run-in-Ok-Err.ensures in
-    ⊎_elim (λ memory. absurd (run.0 (ap (λ f. f.1) memory)))
-    (λ found. inr (inl (record {
-      catalogues = read.catalogues;
-      read = compiled.0;
-      compiled = c.in-Ok-Err.field-0-0;
-      is_compiled = compiled.1;
-      asked = found.0;
-      fault = (c.in-Ok-Err.input, c.in-Ok-Err.fault);
-      checked = found.1 o.use_fuzzy read.catalogues
-          (rw c.deref-2.ensures.value (rw c.deref-3.ensures.value at read.held));
-      run_is = run.1;
-    })))
-    (rw c.in-Ok-Err.is-1 at c.checked-checked.ensures.unfit)
+    elim c.if-options.branch [
+      | in-true w ↦ ⊎_elim (λ memory. absurd (run.0 (ap (λ f. f.1) memory)))
+          (λ found. inr (inl (record {
+            catalogues = read.catalogues;
+            read = compiled.0;
+            compiled = c.in-Ok-Err.field-0-0;
+            is_compiled = compiled.1;
+            asked = w.in-true.is;
+            fault = (c.in-Ok-Err.input, c.in-Ok-Err.fault);
+            checked = found o.use_fuzzy read.catalogues
+                (rw w.deref-in-true.ensures.value (rw c.deref-2.ensures.value at read.held));
+            run_is = run.1;
+          })))
+          (rw (sym w.checked-is ∙ c.in-Ok-Err.is-1) at w.check_inputs-checked.ensures.unfit)
+      | in-false w ↦ let wrong : true ≡ false = ap is_ok (sym w.checked-is ∙ c.in-Ok-Err.is-1) in absurd
+          (true≢false wrong)
+    ]

@@ -10,7 +10,7 @@ returns-in-Some-clause-key c = let parts = c.in-Some.ensures in sym (ap key_of p
 pub returns-in-Some-clause-plural : goal.returns-in-Some-clause-plural
 returns-in-Some-clause-plural c =
     let parts = c.in-Some.ensures in
-    sym (ap plural_of parts.0 ∙ plural_cut _ _ parts.1 c.first_part.result.now c.first_part.ensures)
+    sym (ap plural_of parts.0 ∙ plural_cut _ _ parts.1 c.first_part.result.now c.first_part.ensures.part)
 
 pub returns-in-None-clause-key : goal.returns-in-None-clause-key
 returns-in-None-clause-key c = sym (before_all 0 c.args.original.now c.in-None.ensures)

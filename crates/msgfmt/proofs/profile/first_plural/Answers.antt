@@ -1,0 +1,13 @@
+use Rattle.std.proofs.Common.{rules}
+use Rattle.std.proofs.lemmas.Iterator.{YieldsList-from_slice}
+use Rattle.std.proofs.lemmas.Iterator.Search.{find_from_yields_List}
+use Rattle.msgfmt.specs.Profile.{checked_message, is_plural}
+use Rattle.msgfmt.proofs.CheckedMessages.{found_checked}
+use Rattle.po_compile.specs.declared.messages.CompiledMessage.{CompiledMessage}
+use Rattle.msgfmt.proofs.profile.first_plural.Goals as goal
+
+pub returns : goal.returns
+returns c =
+    found_checked is_plural c.args.messages.now c.find.result
+    (find_from_yields_List (λ (m : CompiledMessage). is_plural (checked_message m)) _ _ c.find.result c.find.ensures.ran
+    (YieldsList-from_slice c.args.messages.now c.iter.ensures.rest) (λ x b q k. search rules))
