@@ -1,8 +1,7 @@
 -- The first key that stands twice, by the numbers of keys.
-use Rattle.std.proofs.Common.{◌≡◌, ◌↔◌, inl, inr, refl, sym, ap, ap₂, ◌∙◌, ◌≢◌, AllPairs, drop, subst, ℕ, ◌+◌, ◌<◌, ◌≤◌, suc, Bool, true, false, cond, not, List, [], ◌∷◌, ◌++◌, length, length-append, length-take, filter, get_or, get_or-take, take, map, fold, arith, append-nil}
+use Rattle.std.proofs.Common.{◌≡◌, ◌↔◌, refl, sym, ap, ap₂, ◌∙◌, ◌≢◌, AllPairs, drop, subst, ℕ, ◌+◌, ◌<◌, ◌≤◌, suc, Bool, true, false, cond, not, List, [], ◌∷◌, ◌++◌, length, length-append, length-take, filter, get_or, get_or-take, take, map, fold, arith, append-nil}
 use Rattle.std.specs.List.{list_any, position_or_len}
 use Rattle.std.proofs.lemmas.List.{get_or_default, get_or-map, length-map, take-map}
-use Rattle.std.proofs.lemmas.Bool.{cases_lt}
 use Rattle.std.proofs.lemmas.Simd.{map-map}
 use Rattle.po_messages.specs.FirstOnes.{first_ones, group_numbers, with_new}
 use Rattle.po_messages.specs.Message.{Message, same_message}
@@ -96,14 +95,14 @@ module _ (alike : OneNumber) (in_order : NumberedInOrder) (messages : List Input
       (sym (at i (omega (arith, below, within))) ∙ same ∙ at j within) ∙ own j within in
       omega (arith, one, below)
 
-  pub own_more : (n : ℕ) → n < length keys → n ≤ get_or numbers n 0 → AreOwn n → AreOwn (n + 1)
-  own_more n inside least own i before =
-      elim (cases_lt i n) [
-        | inl below ↦ own i below
-        | inr past ↦ let here : i ≡ n = omega (arith, past, before) in ap (λ k. get_or numbers k 0) here
-            ∙ (let most = number_within n inside in let same : get_or numbers n 0 ≡ n = omega (arith, least, most) in
-            same) ∙ sym here
-      ]
+  pub number_below : (n d : ℕ) → n < length keys → get_or numbers n d ≢ n → get_or numbers n 0 < n
+  number_below n d inside other =
+      omega (
+        arith,
+        number_within n inside,
+        other,
+        get_or_default numbers n d 0 (omega (arith, inside, numbers_long)),
+      )
 
   pub repeat_found : (n : ℕ) → n < length keys → get_or numbers n 0 < n → AreOwn n → (first later : InputMessage)
       → first ≡ get_or messages (get_or numbers n 0) first → later ≡ get_or messages n later

@@ -59,13 +59,17 @@ pub(crate) fn check_joined(alloc: Global, inputs: &[Collected]) -> Result<(), Jo
     messages_are_numbered_in_order();
     one_number_is_one_message();
     let numbers = key_numbers(alloc, inputs)?;
-    for (later, first) in numbers.iter().enumerate() {
-        if *first < later {
-            let rows = joined_rows(alloc, inputs)?;
-            return Err(row_fault(&rows[*first], &rows[later]));
-        }
+    let mut later = 0;
+    while later < numbers.len() && numbers[later] == later {
+        later += 1;
     }
-    Ok(())
+    if later == numbers.len() {
+        return Ok(());
+    }
+    let first = numbers[later];
+    drop(numbers);
+    let rows = joined_rows(alloc, inputs)?;
+    Err(row_fault(&rows[first], &rows[later]))
 }
 
 /// Whether no message of an input repeats another of the same input. Refused with the fault of

@@ -1,54 +1,99 @@
-use Rattle.std.proofs.Common.{◌≡◌, ap, sym, subst, ◌∙◌, arith, inr, get_or}
+use Rattle.std.proofs.Common.{◌≡◌, ◌<◌, ◌≤◌, ap, sym, subst, ◌∙◌, arith, inr, get_or, length}
 use Rattle.std.proofs.Math.ListN.{get_or-map}
-use Rattle.std.proofs.lemmas.List.{take_all}
-use Rattle.po_compile.specs.Internal.Rows.{AllApart, all_messages, input_keys, row_view}
-use Rattle.po_compile.proofs.NumberedKeys.{numbers_long, own_apart, own_more, repeat_found}
+use Rattle.std.proofs.lemmas.List.{get_or_default, length-map, take_all}
+use Rattle.po_compile.specs.Internal.Rows.{AllApart, InputMessage, all_messages, input_keys, row_view}
+use Rattle.po_compile.proofs.NumberedKeys.{number_below, numbers_long, own_apart, repeat_found}
+use Rattle.po_compile.proofs.repeats.check_joined.Goals.{then-loop-later-test+else-index-later, else-loop-later-test}
 use Rattle.po_compile.proofs.repeats.check_joined.Goals as goal
 
-pub returns-then-first-later-clause-fault : goal.returns-then-first-later-clause-fault
-returns-then-first-later-clause-fault c =
+pub returns-then-later-len-clause-apart : goal.returns-then-later-len-clause-apart
+returns-then-later-len-clause-apart c =
     let messages = all_messages c.args.inputs.now in
-    let numbers = c.deref-first-items.result.now in
+    let numbers = c.in_ok-numbers.numbers.items in
     let alike = c.one_number_is_one_message.ensures in
     let in_order = c.messages_are_numbered_in_order.ensures in
-    let are = c.deref-first-items.ensures.value ∙ c.in_ok-numbers.ensures in
-    let first = c.index.result.now in
-    let later = c.index-then-first-later.result.now in
-    let rows = c.in_ok-rows.rows.items in
-    inr (
-      row_view first,
-      row_view later,
-      repeat_found alike in_order messages numbers are c.loop-later.later
-          (omega (arith, c.loop-later-test.true, numbers_long alike in_order messages numbers are))
-          c.if-first-later.true c.loop-later.invariant (row_view first) (row_view later)
-          (subst (λ ms. row_view first ≡ get_or ms (get_or numbers c.loop-later.later 0) (row_view first))
-          c.in_ok-rows.ensures
-          (ap row_view c.index.ensures ∙ sym (get_or-map row_view rows (get_or numbers c.loop-later.later 0) first)))
-          (subst (λ ms. row_view later ≡ get_or ms c.loop-later.later (row_view later)) c.in_ok-rows.ensures
-          (ap row_view c.index-then-first-later.ensures ∙ sym (get_or-map row_view rows c.loop-later.later later))),
-      c.row_fault.ensures,
-    )
-
-pub loop-later-preserved : goal.loop-later-preserved
-loop-later-preserved c =
-    let messages = all_messages c.args.inputs.now in
-    let numbers = c.deref-first-items.result.now in
-    let alike = c.one_number_is_one_message.ensures in
-    let in_order = c.messages_are_numbered_in_order.ensures in
-    let are = c.deref-first-items.ensures.value ∙ c.in_ok-numbers.ensures in
-    own_more alike in_order messages numbers are c.loop-later.later
-    (omega (arith, c.loop-later-test.true, numbers_long alike in_order messages numbers are)) c.if-first-later.false
-    c.loop-later.invariant
-
-pub returns-clause-apart : goal.returns-clause-apart
-returns-clause-apart c =
-    let messages = all_messages c.args.inputs.now in
-    let numbers = c.deref-first-items.result.now in
-    let alike = c.one_number_is_one_message.ensures in
-    let in_order = c.messages_are_numbered_in_order.ensures in
-    let are = c.deref-first-items.ensures.value ∙ c.in_ok-numbers.ensures in
+    let are = c.in_ok-numbers.ensures in
     let many = numbers_long alike in_order messages numbers are in
     let later = c.loop-later.later in
-    subst AllApart (take_all later (input_keys messages) (omega (arith, many, c.loop-later-test.false)))
-    (own_apart alike in_order messages numbers are later
-    (omega (arith, many, c.loop-later.auto.later-end)) c.loop-later.invariant)
+    let all : length (input_keys messages) ≤ later =
+    omega (arith, many, c.if-later-len.true, c.len-2.ensures, c.in_ok-numbers.numbers.ok.0) in
+    subst AllApart (take_all later (input_keys messages) all)
+    (own_apart alike in_order messages numbers are later (omega (arith, many, c.loop-later.invariant.inside))
+    c.loop-later.invariant.own)
+
+pub index-requires-2 : goal.index-requires-2
+index-requires-2 c =
+    let messages = all_messages c.args.inputs.now in
+    let numbers = c.in_ok-numbers.numbers.items in
+    let alike = c.one_number_is_one_message.ensures in
+    let in_order = c.messages_are_numbered_in_order.ensures in
+    let are = c.in_ok-numbers.ensures in
+    let many = numbers_long alike in_order messages numbers are in
+    let later = c.loop-later.later in
+    let rows = c.in_ok-rows.rows.items in
+    let first = c.index-first.result.now in
+    let inside : later < length numbers = omega (
+      arith,
+      c.if-later-len.false,
+      c.len-2.ensures,
+      c.in_ok-numbers.numbers.ok.0,
+      c.loop-later.invariant.inside,
+    ) in
+    let is : first ≡ get_or numbers later 0 = c.index-first.ensures ∙ get_or_default numbers later first 0 inside in
+    let below : get_or numbers later 0 < later = elim c.loop-later-test.branch [
+      | then-loop-later-test+else-index-later w ↦ number_below alike in_order messages numbers are later
+          w.index.result.now (omega (arith, inside, many)) (λ same. w.if-index-later.false (w.index.ensures ∙ same))
+      | else-loop-later-test w ↦
+          absurd (omega (arith, w.loop-later-test.false, c.len.ensures, c.in_ok-numbers.numbers.ok.0, inside))
+    ] in
+    omega (
+      arith,
+      is,
+      below,
+      inside,
+      many,
+      length-map messages (λ (m : InputMessage). m.message.key),
+      ap length c.in_ok-rows.ensures,
+      length-map rows row_view,
+      c.in_ok-rows.rows.ok.0,
+    )
+
+pub returns-clause-fault : goal.returns-clause-fault
+returns-clause-fault c =
+    let messages = all_messages c.args.inputs.now in
+    let numbers = c.in_ok-numbers.numbers.items in
+    let alike = c.one_number_is_one_message.ensures in
+    let in_order = c.messages_are_numbered_in_order.ensures in
+    let are = c.in_ok-numbers.ensures in
+    let many = numbers_long alike in_order messages numbers are in
+    let later = c.loop-later.later in
+    let rows = c.in_ok-rows.rows.items in
+    let first = c.index-first.result.now in
+    let one = c.index-2.result.now in
+    let other = c.index-3.result.now in
+    let inside : later < length numbers = omega (
+      arith,
+      c.if-later-len.false,
+      c.len-2.ensures,
+      c.in_ok-numbers.numbers.ok.0,
+      c.loop-later.invariant.inside,
+    ) in
+    let is : first ≡ get_or numbers later 0 = c.index-first.ensures ∙ get_or_default numbers later first 0 inside in
+    let below : get_or numbers later 0 < later = elim c.loop-later-test.branch [
+      | then-loop-later-test+else-index-later w ↦ number_below alike in_order messages numbers are later
+          w.index.result.now (omega (arith, inside, many)) (λ same. w.if-index-later.false (w.index.ensures ∙ same))
+      | else-loop-later-test w ↦
+          absurd (omega (arith, w.loop-later-test.false, c.len.ensures, c.in_ok-numbers.numbers.ok.0, inside))
+    ] in
+    inr (
+      row_view one,
+      row_view other,
+      repeat_found alike in_order messages numbers are later (omega (arith, inside, many)) below
+          c.loop-later.invariant.own (row_view one) (row_view other)
+          (subst (λ ms. row_view one ≡ get_or ms (get_or numbers later 0) (row_view one)) c.in_ok-rows.ensures
+          (ap row_view (c.index-2.ensures ∙ ap (λ k. get_or rows k one) is)
+          ∙ sym (get_or-map row_view rows (get_or numbers later 0) one)))
+          (subst (λ ms. row_view other ≡ get_or ms later (row_view other)) c.in_ok-rows.ensures
+          (ap row_view c.index-3.ensures ∙ sym (get_or-map row_view rows later other))),
+      c.row_fault.ensures,
+    )
