@@ -66,41 +66,37 @@ put-closed (Ok _) false none all part same more = rw (same, none) (late all)
 put-closed (Err _) true none all part same more = rw (more, none) (cut part)
 put-closed (Err _) false none all part same more = rw (more, none) (cut part)
 
-module _ {output path : List ℕ} {old : Option Rights} {tries bits : ℕ} (number : ℕ) {before named tried end : FileLog}
+module _ {output path : List ℕ} {old : Option Rights} {tries bits : ℕ} (number : ℕ) {before tried end : FileLog}
     {fault : Option OutputFault} where
   -- a new file is filled once it is made
   pub after-made : {new filled : List ℕ} {its : Option (List ℕ)} → number < 2 ^ 32 → new ≡ beside path number
-      → filled ≡ beside path number
-      → bits ≡ first_mode old → named ≡ logged (numbers number ∷ []) before
-      → tried ≡ logged (makes new bits its ∷ []) named
+      → filled ≡ beside path number → bits ≡ first_mode old → tried ≡ logged (makes new bits its ∷ []) before
       → Runs tried end fault (Fills output (record { path = filled; target = path; made = its }) old)
-      → Runs before end fault (Replaces output path old tries)
-  after-made {its} few new-is filled-is bits-is first second fills =
-      after-call (numbers number) first
-      (after-call (makes (beside path number) (first_mode old) its) (rw (new-is, bits-is) at second)
-      (done-for (λ course are. made few are) (rw filled-is at fills)))
+      → Runs before end fault (λ rest. Replaces output path old tries (numbers number ▸ rest))
+  after-made {its} few new-is filled-is bits-is makes-it fills =
+      after-call (makes (beside path number) (first_mode old) its) (rw (new-is, bits-is) at makes-it)
+      (done-for (λ course are. made few are) (rw filled-is at fills))
 
   -- another name is tried where one is taken
-  pub after-taken : (less : ℕ) {new : List ℕ} → less + 1 ≡ tries → new ≡ beside path number → bits ≡ first_mode old
-      → named ≡ logged (numbers number ∷ []) before → tried ≡ logged (fails_to_make new bits Exists ∷ []) named
-      → Runs tried end fault (Replaces output path old less)
-      → Runs before end fault (Replaces output path old tries)
-  after-taken less more new-is bits-is first second rest =
-      subst (λ n. Runs before end fault (Replaces output path old n)) more
-      (after-call (numbers number) first
-      (after-call (fails_to_make (beside path number) (first_mode old) Exists) (rw (new-is, bits-is) at second)
-      (done-for (λ course are. taken are) rest)))
+  pub after-taken : (less other : ℕ) {new : List ℕ} {named : FileLog} → less + 1 ≡ tries → new ≡ beside path number
+      → bits ≡ first_mode old → tried ≡ logged (fails_to_make new bits Exists ∷ []) before
+      → named ≡ logged (numbers other ∷ []) tried
+      → Runs named end fault (λ rest. Replaces output path old less (numbers other ▸ rest))
+      → Runs before end fault (λ rest. Replaces output path old tries (numbers number ▸ rest))
+  after-taken less other more new-is bits-is fails-it next rest =
+      subst (λ n. Runs before end fault (λ rest. Replaces output path old n (numbers number ▸ rest))) more
+      (after-call (fails_to_make (beside path number) (first_mode old) Exists) (rw (new-is, bits-is) at fails-it)
+      (done-for (λ course are. taken are) (after-call (numbers other) next rest)))
 
   -- none can be made
   pub after-unmade : {new : List ℕ} (why : MakeFault) → new ≡ beside path number → bits ≡ first_mode old
-      → named ≡ logged (numbers number ∷ []) before → tried ≡ logged (fails_to_make new bits why ∷ []) named
+      → tried ≡ logged (fails_to_make new bits why ∷ []) before
       → Runs tried end fault (λ rest.
       Replaces output path old tries
       (numbers number ▸ fails_to_make (beside path number) (first_mode old) why ▸ rest))
-      → Runs before end fault (Replaces output path old tries)
-  after-unmade why new-is bits-is first second rest =
-      after-call (numbers number) first
-      (after-call (fails_to_make (beside path number) (first_mode old) why) (rw (new-is, bits-is) at second) rest)
+      → Runs before end fault (λ rest. Replaces output path old tries (numbers number ▸ rest))
+  after-unmade why new-is bits-is fails-it rest =
+      after-call (fails_to_make (beside path number) (first_mode old) why) (rw (new-is, bits-is) at fails-it) rest
 
 -- what a link leads to is written next
 pub after-link : (old : Option Rights) {output path text copy target : List ℕ} {links less : ℕ}

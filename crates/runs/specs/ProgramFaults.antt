@@ -29,12 +29,6 @@ tool_prefix (Some tool) = codes "pokit " ++ tool ++ codes ": "
 abbrev pub program_line : Option (List ℕ) → ProgramFault → List ℕ
 program_line tool fault = tool_prefix tool ++ program_text fault ++ 10 ∷ []
 
--- the fault of a tool that works on the input of this name
-abbrev pub input_fault : ToolFault → Bor (List ℕ) → ProgramFault
-input_fault NotRead name = ReadFault name
-input_fault NotWritten name = WriteFault
-input_fault NoMemory name = OutOfMemory
-
 -- what a tool reports that reads standard input by itself
 abbrev pub stdin_text : ToolFault → List ℕ
 stdin_text NotRead = codes "<stdin>: read fault"

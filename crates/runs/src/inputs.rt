@@ -1,16 +1,12 @@
 //! The inputs of a tool, read in the order of the command line.
 ghost use Rattle.std.specs.Prelude.{◌≡◌, ◌≢◌, ◌↔◌, ◌⊎◌, ◌^◌, ◌+◌, ◌<◌, ◌≤◌, ◌∷◌, [], take, Err, IfErr, IfSome, IsErrOf, IsOk, OnErr, OnOk, map, option_map, false, true, None, Some, MatchResult, IfOk};
-ghost use Rattle.std.specs.Io.KnownBytes.{Consumes};
 ghost use Rattle.runs.specs.Inputs.{AreInputs, Asks, AsksFirst, IsInputFault, ReadsAs, asked_arguments, asked_by, asked_for, gives, refuses, named_inputs, input_fault_text};
 ghost use Rattle.runs.specs.NamedFile.{named_files};
 ghost use Rattle.runs.specs.ProgramFaults.{program_text};
 ghost use Rattle.runs.specs.Run.{is_standard, shown_name};
 
-use crate::device::ByteIn;
 use crate::program_fault::ProgramFault;
 use crate::run::{STANDARD, shown_name};
-use crate::tool_fault::ToolFault;
-use crate::whole_input::read_sized_input;
 use std::alloc::{AllocError, Global};
 
 /// Why an input isn't read.
@@ -104,21 +100,19 @@ impl<'a> Inputs<'a> {
         let mut texts = Vec::new(alloc);
         let mut is_stdin_read = false;
         for argument in arguments {
-            let standard = is_standard(argument);
-            match read_argument(alloc, source, argument, standard, is_stdin_read) {
-                Ok(bytes) => texts.push(Input {
-                    name: shown_name(argument),
-                    bytes,
-                })?,
+            let name = shown_name(argument);
+            let is_standard = *argument == STANDARD;
+            match read_argument(alloc, source, argument, is_stdin_read) {
+                Ok(bytes) => texts.push(Input { name, bytes })?,
                 Err(why) => {
                     if why == InputFault::OutOfMemory {
                         return Err(AllocError);
                     }
-                    let fault = Some(fault_of(shown_name(argument), why));
+                    let fault = Some(fault_of(name, why));
                     return Ok(Inputs { texts, fault });
                 }
             }
-            is_stdin_read = is_stdin_read || standard;
+            is_stdin_read = is_stdin_read || is_standard;
         }
         Ok(Inputs { texts, fault: None })
     }
@@ -154,42 +148,10 @@ pub fn read_one<'a, S: InputSource>(
     ensures read { OnOk result (S.refused source.new → ⊥) }
     ensures memory { IsErrOf result ProgramFault.OutOfMemory → S.refused source.new → ⊥ }
 {
-    match read_argument(alloc, source, argument, is_standard(argument), false) {
+    match read_argument(alloc, source, argument, false) {
         Ok(bytes) => Ok(bytes),
         Err(why) => Err(fault_of(shown_name(argument), why)),
     }
-}
-
-/// The bytes that are left of an open file or of standard input, but no more than 2,147,483,648.
-/// `expected_len` is how many are expected, 0 where that isn't known. A `ReadFault` comes where a
-/// call of the reader failed.
-pub fn read_whole<R: ByteIn>(
-    alloc: Global,
-    reader: &mut R,
-    expected_len: u64,
-) -> Result<Vec<u8>, InputFault>
-    requires calls { R.calls reader.old < 2 ^ 63 }
-    requires failures { R.failures reader.old < 2 ^ 63 }
-    ensures bytes { IfOk result (λ bytes. IfSome (R.remaining reader.old) (λ all. bytes.items ≡ take (2 ^ 31) all)) }
-    ensures left { IfOk result (λ bytes. Consumes (R.remaining reader.old) (R.remaining reader.new) bytes.items) }
-    ensures no_failure { OnOk result (R.failures reader.new ≡ R.failures reader.old) }
-    ensures read_fault { IsErrOf result InputFault.ReadFault → R.failures reader.new ≡ R.failures reader.old + 1 }
-    ensures out_of_memory { IsErrOf result InputFault.OutOfMemory → R.failures reader.new ≡ R.failures reader.old }
-    ensures opened { result ≢ Err InputFault.CannotOpen }
-    ensures calls { R.calls reader.new ≤ R.calls reader.old + 2 ^ 32 }
-{
-    match read_sized_input(alloc, reader, expected_len) {
-        Ok(bytes) => Ok(bytes),
-        Err(ToolFault::OutOfMemory) => Err(InputFault::OutOfMemory),
-        Err(_) => Err(InputFault::ReadFault),
-    }
-}
-
-/// Whether the argument stands for standard input.
-fn is_standard(argument: &str) -> bool
-    ensures { result ≡ is_standard argument.now }
-{
-    argument == STANDARD
 }
 
 /// Reads what one argument stands for.
@@ -197,23 +159,24 @@ fn read_argument<S: InputSource>(
     alloc: Global,
     source: &mut S,
     argument: &str,
-    standard: bool,
     is_stdin_read: bool,
 ) -> Result<Vec<u8>, InputFault>
     ensures reading { MatchResult result
-        (λ bytes. ReadsAs S.file S.standard argument.now standard is_stdin_read (gives bytes.items))
+        (λ bytes. ReadsAs S.file S.standard argument.now (is_standard argument.now) is_stdin_read (gives bytes.items))
         (λ why. (why ≡ InputFault.OutOfMemory)
-        ⊎ ReadsAs S.file S.standard argument.now standard is_stdin_read (refuses why)) }
+        ⊎ ReadsAs S.file S.standard argument.now (is_standard argument.now) is_stdin_read (refuses why)) }
     ensures asked { Asks (S.asked source.old) (S.asked source.new)
-        (asked_for argument.now standard is_stdin_read) }
+        (asked_for argument.now (is_standard argument.now) is_stdin_read) }
     ensures refused { MatchResult result
         (λ _. S.refused source.new → S.refused source.old × (is_stdin_read ≡ true))
         (λ why. why ≡ InputFault.OutOfMemory → S.refused source.new → ⊥) }
 {
-    match (standard, is_stdin_read) {
-        (false, _) => source.read_file(alloc, argument),
-        (true, false) => source.read_standard(alloc),
-        (true, true) => Ok(Vec::new(alloc)),
+    if argument != STANDARD {
+        source.read_file(alloc, argument)
+    } else if is_stdin_read {
+        Ok(Vec::new(alloc))
+    } else {
+        source.read_standard(alloc)
     }
 }
 

@@ -1,6 +1,6 @@
 //! How an output is made: whole in a new file beside the one that it replaces, which then gets its path.
-ghost use Rattle.runs.specs.FileCalls.{Call, Runs, fault_in};
-ghost use Rattle.runs.specs.OutputFiles.{Closes, Fills, Puts, Replaces, WritesFile, WritesInPlace, WritesStream};
+ghost use Rattle.runs.specs.FileCalls.{◌▸◌, Call, Runs, fault_in, numbers};
+ghost use Rattle.runs.specs.OutputFiles.{Closes, Fills, Puts, Replaces, WritesFile, WritesInPlace};
 
 use crate::device::{Counted, put_all};
 use crate::output_files::{
@@ -25,7 +25,10 @@ pub(crate) fn write_file<T: OutputFiles>(
     ensures { Runs (T.log files.old) (T.log files.new) (fault_in result) (WritesFile output.now links path.now) }
 {
     if let Some(number) = stream_named(path) {
-        return write_stream(files, number, output);
+        return match files.stream(number) {
+            Some(stream) => put(files, stream, output),
+            None => Err(OutputFault::CannotCreate),
+        };
     }
     let old = match files.kind(path) {
         FileKind::Regular(old) => old,
@@ -34,7 +37,10 @@ pub(crate) fn write_file<T: OutputFiles>(
     };
     match files.link(alloc, path) {
         Err(why) => Err(why),
-        Ok(None) => replace(alloc, files, path, old, output, FURTHER_NAMES),
+        Ok(None) => {
+            let number = files.number();
+            replace(alloc, files, path, old, output, number, FURTHER_NAMES)
+        }
         Ok(Some(text)) => {
             if links == 0 {
                 return Err(OutputFault::CannotCreate);
@@ -47,20 +53,20 @@ pub(crate) fn write_file<T: OutputFiles>(
     }
 }
 
-/// Replaces the file at the path, which has these rights or isn't there, by a new file. Where the name
-/// of that is taken another is tried, at most so often.
+/// Replaces the file at the path, which has these rights or isn't there, by a new file, whose name has
+/// this number. Where the name is taken another is tried, at most so often.
 fn replace<T: OutputFiles>(
     alloc: Global,
     files: &mut T,
     path: &str,
     old: Option<Rights>,
     output: &[u8],
+    number: u32,
     tries: u32,
 ) -> Result<(), OutputFault>
     ensures { Runs (T.log files.old) (T.log files.new) (fault_in result)
-        (Replaces output.now path.now old tries) }
+        (λ course. Replaces output.now path.now old tries (numbers number ▸ course)) }
 {
-    let number = files.number();
     let Ok(new) = beside(alloc, path, number) else {
         return Err(OutputFault::OutOfMemory);
     };
@@ -70,7 +76,8 @@ fn replace<T: OutputFiles>(
             if tries == 0 {
                 return Err(OutputFault::CannotCreate);
             }
-            replace(alloc, files, path, old, output, tries - 1)
+            let number = files.number();
+            replace(alloc, files, path, old, output, number, tries - 1)
         }
         Err(MakeFault::Forbidden) => match old {
             Some(_) => write_in_place(files, path, output),
@@ -122,20 +129,6 @@ fn write_in_place<T: OutputFiles>(
 {
     match files.open(path) {
         Some(file) => put(files, file, output),
-        None => Err(OutputFault::CannotCreate),
-    }
-}
-
-/// Writes an output to the open stream of this number, where it stands.
-fn write_stream<T: OutputFiles>(
-    files: &mut T,
-    number: u32,
-    output: &[u8],
-) -> Result<(), OutputFault>
-    ensures { Runs (T.log files.old) (T.log files.new) (fault_in result) (WritesStream output.now number) }
-{
-    match files.stream(number) {
-        Some(stream) => put(files, stream, output),
         None => Err(OutputFault::CannotCreate),
     }
 }

@@ -4,7 +4,7 @@ ghost use Rattle.std.specs.Io.KnownBytes.{Appends};
 ghost use Rattle.std.specs.Option.{option_copied};
 ghost use Rattle.runs.specs.Device.{GivesFirst};
 ghost use Rattle.runs.specs.Internal.Parts.{joined};
-ghost use Rattle.runs.specs.ProgramFaults.{input_fault, program_line, program_text, stdin_text, tool_prefix};
+ghost use Rattle.runs.specs.ProgramFaults.{program_line, program_text, stdin_text};
 ghost use Rattle.runs.specs.declared.program_fault.ProgramFault.TheVariants.{OutOfMemory};
 
 use crate::device::{ByteOut, put_all};
@@ -40,25 +40,16 @@ pub enum ProgramFault<'a> {
     OutOfMemory,
 }
 
-impl<'a> ProgramFault<'a> {
-    /// A fault met while the input of this name was read, or while a tool worked on it.
-    pub fn of_input(fault: ToolFault, name: &'a str) -> ProgramFault<'a>
-        ensures { result ≡ input_fault fault name.entry }
-    {
-        match fault {
-            ToolFault::ReadFault => ProgramFault::ReadFault(name),
-            ToolFault::WriteFault => ProgramFault::WriteFault,
-            ToolFault::OutOfMemory => ProgramFault::OutOfMemory,
-        }
-    }
-}
-
 // A tool that reads by itself reads standard input.
 impl From<ToolFault> for ProgramFault<'_> {
     ghost from_gives = { λ fault reported. program_text reported ≡ stdin_text fault };
 
     fn from(fault: ToolFault) -> Self {
-        ProgramFault::of_input(fault, STDIN_NAME)
+        match fault {
+            ToolFault::ReadFault => ProgramFault::ReadFault(STDIN_NAME),
+            ToolFault::WriteFault => ProgramFault::WriteFault,
+            ToolFault::OutOfMemory => ProgramFault::OutOfMemory,
+        }
     }
 }
 
@@ -138,19 +129,12 @@ fn put_parts<E: ByteOut>(err: &mut E, parts: &[&str]) -> Result<(), ToolFault>
 fn parts_of<'a>(tool: Option<&'a str>, fault: ProgramFault<'a>) -> [&'a str; 6]
     ensures { joined result ≡ program_line (option_copied tool.entry) fault.entry }
 {
-    let (program, tool) = tool_of(tool);
-    let (file, text) = text_of(fault);
-    [program, tool, ": ", file, text, "\n"]
-}
-
-/// The program, and the tool that reports a fault.
-fn tool_of(tool: Option<&str>) -> (&str, &str)
-    ensures { result.0.now ++ result.1.now ++ codes ": " ≡ tool_prefix (option_copied tool.entry) }
-{
-    match tool {
+    let (program, tool) = match tool {
         None => ("pokit", ""),
         Some(tool) => ("pokit ", tool),
-    }
+    };
+    let (file, text) = text_of(fault);
+    [program, tool, ": ", file, text, "\n"]
 }
 
 /// The name of a file, where a fault has one, and what is wrong.

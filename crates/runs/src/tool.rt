@@ -22,6 +22,17 @@ pub enum Tool {
     Envsubst,
 }
 
+/// All tools, in the order in which help lists them.
+pub static TOOLS: [Tool; 7] = [
+    Tool::Msgfmt,
+    Tool::Msgunfmt,
+    Tool::Msgattrib,
+    Tool::Msgcat,
+    Tool::Gettext,
+    Tool::Ngettext,
+    Tool::Envsubst,
+];
+
 impl Tool {
     /// Its name, by which the first argument names it.
     pub fn name(self) -> &'static str
@@ -42,15 +53,6 @@ impl Tool {
     pub fn of_name(name: &str) -> Option<Tool>
         ensures { MatchOption result ((tool : ATool) → name.now ≢ tool_name tool) (λ tool. name.now ≡ tool_name tool) }
     {
-        match name {
-            "msgfmt" => Some(Tool::Msgfmt),
-            "msgunfmt" => Some(Tool::Msgunfmt),
-            "msgattrib" => Some(Tool::Msgattrib),
-            "msgcat" => Some(Tool::Msgcat),
-            "gettext" => Some(Tool::Gettext),
-            "ngettext" => Some(Tool::Ngettext),
-            "envsubst" => Some(Tool::Envsubst),
-            _ => None,
-        }
+        TOOLS.iter().find(|tool| tool.name() == name).copied()
     }
 }

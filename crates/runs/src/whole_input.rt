@@ -4,6 +4,7 @@ ghost use Rattle.std.specs.Io.KnownBytes.{Consumes, IsAtEnd};
 ghost use Rattle.runs.specs.Device.{failure_of_read};
 
 use crate::device::ByteIn;
+use crate::inputs::InputFault;
 use crate::tool_fault::ToolFault;
 use std::alloc::{AllocError, Global};
 use std::io;
@@ -35,48 +36,48 @@ pub fn read_input<R: ByteIn>(alloc: Global, reader: &mut R) -> Result<Vec<u8>, T
     // Each call but the last gave a byte at least, so that none comes after the end.
     ensures end { IfOk result (λ v. R.calls reader.new ≤ R.calls reader.old + vec_len v + 1) }
 {
-    read_sized_input(alloc, reader, 0)
+    match read_whole(alloc, reader, 0) {
+        Ok(input) => Ok(input),
+        Err(InputFault::OutOfMemory) => Err(ToolFault::OutOfMemory),
+        Err(_) => Err(ToolFault::ReadFault),
+    }
 }
 
-/// The whole input, or its first `INPUT_LIMIT` bytes where it has more, of one that is expected to have
-/// `expected_len` bytes, or 0 where that isn't known. There is room for all of them before the first
-/// call of the reader, which fills it in place. The input may have fewer bytes or more.
+/// The bytes that are left of an open file or of standard input, but no more than `INPUT_LIMIT`.
+/// `expected_len` is how many are expected, 0 where that isn't known: there is room for all of them
+/// before the first call of the reader, which fills it in place. A `ReadFault` comes where a call of the
+/// reader failed.
 #[inline(never)]
-pub fn read_sized_input<R: ByteIn>(
+pub fn read_whole<R: ByteIn>(
     alloc: Global,
     reader: &mut R,
     expected_len: u64,
-) -> Result<Vec<u8>, ToolFault>
+) -> Result<Vec<u8>, InputFault>
     requires calls { R.calls reader.old < 2 ^ 63 }
     requires failures { R.failures reader.old < 2 ^ 63 }
-    ensures input { IfOk result (λ v. IfSome (R.remaining reader.old)
-        (λ xs. v.items ≡ take (2 ^ 31) xs)) }
-
-    // Just these bytes are gone from the reader.
-    ensures left { IfOk result (λ v. Consumes (R.remaining reader.old) (R.remaining reader.new) v.items) }
+    ensures bytes { IfOk result (λ bytes. IfSome (R.remaining reader.old) (λ all. bytes.items ≡ take (2 ^ 31) all)) }
+    ensures left { IfOk result (λ bytes. Consumes (R.remaining reader.old) (R.remaining reader.new) bytes.items) }
     ensures no_failure { OnOk result (R.failures reader.new ≡ R.failures reader.old) }
-    ensures read_fault { IsErrOf result ToolFault.ReadFault
-        → R.failures reader.new ≡ R.failures reader.old + 1 }
-    ensures out_of_memory { IsErrOf result ToolFault.OutOfMemory
-        → R.failures reader.new ≡ R.failures reader.old }
-    ensures no_write_fault { result ≢ Err ToolFault.WriteFault }
+    ensures read_fault { IsErrOf result InputFault.ReadFault → R.failures reader.new ≡ R.failures reader.old + 1 }
+    ensures out_of_memory { IsErrOf result InputFault.OutOfMemory → R.failures reader.new ≡ R.failures reader.old }
+    ensures opened { result ≢ Err InputFault.CannotOpen }
     ensures calls { R.calls reader.new ≤ R.calls reader.old + 2 ^ 32 }
 
     // Each call but the last gave a byte at least, so that none comes after the end.
-    ensures end { IfOk result (λ v. R.calls reader.new ≤ R.calls reader.old + vec_len v + 1) }
+    ensures end { IfOk result (λ bytes. R.calls reader.new ≤ R.calls reader.old + vec_len bytes + 1) }
 {
     let expected_len = expected_len.min(INPUT_LIMIT as u64) as usize;
     let mut input = Vec::new(alloc);
     let mut filled = 0;
     while filled < INPUT_LIMIT {
-        make_room(&mut input, filled, expected_len)?;
+        make_room(&mut input, filled, expected_len).or(Err(InputFault::OutOfMemory))?;
         match pull_after(reader, &mut input, filled) {
             Ok(0) => {
                 input.truncate(filled);
                 return Ok(input);
             }
             Ok(count) => filled += count,
-            Err(_) => return Err(ToolFault::ReadFault),
+            Err(_) => return Err(InputFault::ReadFault),
         }
     }
     input.truncate(filled);

@@ -8,7 +8,7 @@ returns-in-Err-clause-fault g c =
       | inl memory ↦ inl (c.fault_of.ensures.memory.1 memory)
       | inr reads ↦ inr (record {
         why = c.in-Err.why;
-        reads = rw c.is_standard.ensures at reads;
+        reads = reads;
         text_is = c.fault_of.ensures.text ∙ ap (λ name. input_fault_text name c.in-Err.why) c.shown_name.ensures;
       })
     ]

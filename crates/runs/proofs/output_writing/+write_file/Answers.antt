@@ -1,10 +1,15 @@
 use Rattle.std.proofs.Common.{◌≡◌, ◌∙◌, ◌+◌, ◌-◌, arith}
-use Rattle.runs.specs.OutputFiles.{stream, stops, special, replaces, unknown, unread, no_memory, too_long}
+use Rattle.runs.specs.OutputFiles.{lacking, taken, stream, stops, special, replaces, unknown, unread, no_memory, too_long}
 use Rattle.runs.proofs.OutputLemmas.{after-call, after-link, done-for, is-fault}
 use Rattle.runs.proofs.output_writing.+write_file.Goals as goal
 
-pub returns-in-Some : goal.returns-in-Some
-returns-in-Some g t c = done-for (λ course writes. stream c.in-Some.ensures writes) c.write_stream.ensures
+pub returns-in-Some-stream : goal.returns-in-Some-stream
+returns-in-Some-stream g t c =
+    after-call _ c.in-Some-stream.ensures
+    (done-for (λ course puts. stream c.in-Some.ensures (taken puts)) c.put.ensures)
+
+pub returns-in-None : goal.returns-in-None
+returns-in-None g t c = after-call _ c.in-None.ensures (is-fault (stream c.in-Some.ensures lacking))
 
 pub returns-in-Special : goal.returns-in-Special
 returns-in-Special g t c =
@@ -22,7 +27,9 @@ pub returns-in-Ok-None : goal.returns-in-Ok-None
 returns-in-Ok-None g t c =
     let read = rw c.in-Ok-None.field-0-is at c.in-Ok-None.ensures in
     after-call _ c.in-Regular.ensures
-    (after-call _ read (done-for (λ course are. replaces c.in_default.ensures are) c.replace.ensures))
+    (after-call _ read
+    (after-call _ c.number-number.ensures
+    (done-for (λ course are. replaces c.in_default.ensures are) c.replace.ensures)))
 
 pub returns-then-links-eq0 : goal.returns-then-links-eq0
 returns-then-links-eq0 g t c =

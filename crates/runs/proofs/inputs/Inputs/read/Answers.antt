@@ -26,12 +26,12 @@ returns-clause-asked_read g c =
 
 pub loop-argument-preserved : goal.loop-argument-preserved
 loop-argument-preserved g c =
-    let next : c.if-is_stdin_read.is_stdin_read ≡ (c.loop-argument.is_stdin_read || c.is_standard-standard.result) =
+    let next : c.if-is_stdin_read.is_stdin_read ≡ (c.loop-argument.is_stdin_read || c.eq-is_standard.result) =
     elim c.if-is_stdin_read.branch [
       | then-is_stdin_read w ↦ rw (w.is_stdin_read-is, w.if-is_stdin_read.true) refl
       | else-is_stdin_read w ↦ rw (w.is_stdin_read-is, w.if-is_stdin_read.false) refl
     ] in
-    let seen = sym (next ∙ ap (λ s. c.loop-argument.is_stdin_read || s) c.is_standard-standard.ensures) in
+    let seen = sym (next ∙ ap (λ s. c.loop-argument.is_stdin_read || s) c.eq-is_standard.ensures) in
     let ReaderView : Bool → Type 0 =
     λ seen. Completes g.S.InputSource.file g.S.InputSource.standard c.args.arguments.now
     (c.loop-argument.argument-index + 1) seen (named_inputs c.push.new.self.items) in
@@ -43,16 +43,16 @@ loop-argument-preserved g c =
     (g.S.InputSource.asked c.read_argument.new.source) c.args.arguments.now
     (c.loop-argument.argument-index + 1) seen in
     let texts = ap named_inputs c.in_ok-push-in-Ok.ensures.items
-    ∙ named-more c.loop-argument.texts.items _ _ c.shown_name.ensures in record {
+    ∙ named-more c.loop-argument.texts.items _ _ c.shown_name-name.ensures in record {
       inputs = subst ReaderView seen
           (subst (Done _) (sym texts)
           (Completes-read _ _ c.args.arguments.now c.loop-argument.argument-index _ c.loop-argument.is_stdin_read
           (named_inputs c.loop-argument.texts.items) c.in-Ok.bytes.items c.loop-argument-test.true
-          (rw c.is_standard-standard.ensures at c.in-Ok.ensures.reading) c.loop-argument.invariant.inputs));
+          c.in-Ok.ensures.reading c.loop-argument.invariant.inputs));
       asked = subst AskedOnce seen
           (AsksBefore-more _ _ _ c.args.arguments.now c.loop-argument.argument-index _ c.loop-argument.is_stdin_read
           c.loop-argument-test.true c.loop-argument.invariant.asked
-          (rw c.is_standard-standard.ensures at c.read_argument.ensures.asked));
+          c.read_argument.ensures.asked);
       refused = λ seen now. let before =
           c.in-Ok.ensures.refused now in c.loop-argument.invariant.refused before.1 before.0;
       count = ap length texts ∙ length-append (named_inputs c.loop-argument.texts.items) _
@@ -61,11 +61,10 @@ loop-argument-preserved g c =
 
 pub returns-in-Err-clause-inputs : goal.returns-in-Err-clause-inputs
 returns-in-Err-clause-inputs g c =
-    rw (c.fault_of.ensures.text, c.shown_name-in-Err.ensures)
+    rw (c.fault_of.ensures.text, c.shown_name-name.ensures)
     (Completes-unread _ _ c.args.arguments.now c.loop-argument.argument-index _ c.loop-argument.is_stdin_read
     (named_inputs c.loop-argument.texts.items) c.in-Err.why c.loop-argument-test.true
-    (⊎_elim (λ memory. absurd (false≢true (rw memory at c.if-eq.ensures)))
-    (λ reads. rw c.is_standard-standard.ensures at reads) c.in-Err.ensures.reading)
+    (⊎_elim (λ memory. absurd (false≢true (rw memory at c.if-eq.ensures))) (λ reads. reads) c.in-Err.ensures.reading)
     c.loop-argument.invariant.inputs)
 
 pub returns-in-Err-clause-asked : goal.returns-in-Err-clause-asked
@@ -73,21 +72,21 @@ returns-in-Err-clause-asked g c =
     AsksBefore-first _ _ _ _ _
     (AsksBefore-more _ _ _ c.args.arguments.now c.loop-argument.argument-index _ c.loop-argument.is_stdin_read
     c.loop-argument-test.true c.loop-argument.invariant.asked
-    (rw c.is_standard-standard.ensures at c.read_argument.ensures.asked))
+    c.read_argument.ensures.asked)
 
 pub returns-in_err-push-in-Ok-clause-asked : goal.returns-in_err-push-in-Ok-clause-asked
 returns-in_err-push-in-Ok-clause-asked g c =
     AsksBefore-first _ _ _ _ _
     (AsksBefore-more _ _ _ c.args.arguments.now c.loop-argument.argument-index _ c.loop-argument.is_stdin_read
     c.loop-argument-test.true c.loop-argument.invariant.asked
-    (rw c.is_standard-standard.ensures at c.read_argument.ensures.asked))
+    c.read_argument.ensures.asked)
 
 pub returns-then-eq-clause-asked : goal.returns-then-eq-clause-asked
 returns-then-eq-clause-asked g c =
     AsksBefore-first _ _ _ _ _
     (AsksBefore-more _ _ _ c.args.arguments.now c.loop-argument.argument-index _ c.loop-argument.is_stdin_read
     c.loop-argument-test.true c.loop-argument.invariant.asked
-    (rw c.is_standard-standard.ensures at c.read_argument.ensures.asked))
+    c.read_argument.ensures.asked)
 
 pub returns-in-Err-clause-asked_read : goal.returns-in-Err-clause-asked_read
 returns-in-Err-clause-asked_read g c =
@@ -95,4 +94,4 @@ returns-in-Err-clause-asked_read g c =
     (ap Some c.fault_of.ensures.text) c.loop-argument.invariant.count
     (AsksBefore-more _ _ _ c.args.arguments.now c.loop-argument.argument-index _ c.loop-argument.is_stdin_read
     c.loop-argument-test.true c.loop-argument.invariant.asked
-    (rw c.is_standard-standard.ensures at c.read_argument.ensures.asked))
+    c.read_argument.ensures.asked)

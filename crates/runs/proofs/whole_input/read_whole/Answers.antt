@@ -1,10 +1,10 @@
 use Rattle.std.proofs.Common.{◌≤◌, length, rules, arith, length-take-le}
 use Rattle.std.proofs.lemmas.List.{places}
 use Rattle.runs.proofs.DeviceLemmas.{filled-end, filled-more, taken-full}
-use Rattle.runs.proofs.whole_input.read_sized_input.Goals as goal
+use Rattle.runs.proofs.whole_input.read_whole.Goals as goal
 
-pub returns-in-Ok-eq0-clause-input : goal.returns-in-Ok-eq0-clause-input
-returns-in-Ok-eq0-clause-input g c =
+pub returns-in-Ok-eq0-clause-bytes : goal.returns-in-Ok-eq0-clause-bytes
+returns-in-Ok-eq0-clause-bytes g c =
     let fits : c.loop-filled.filled ≤ length c.pull_after.new.input.items = search (rules, places) in
     rw c.truncate.ensures.items
     (filled-end 2147483648 _ _ _ c.loop-filled.filled _ c.make_room.new.input.items c.pull_after.new.input.items
@@ -21,8 +21,8 @@ loop-filled-preserved g c = record {
   calls = omega (arith, c.in-Ok.ensures.counts);
 }
 
-pub returns-clause-input : goal.returns-clause-input
-returns-clause-input g c =
+pub returns-clause-bytes : goal.returns-clause-bytes
+returns-clause-bytes g c =
     let fits : c.loop-filled.filled ≤ length c.loop-filled.input.items = search (rules, places) in
     rw c.truncate-2.ensures.items
     (taken-full 2147483648 _ _ _ c.loop-filled.invariant.read

@@ -1,9 +1,0 @@
-use Rattle.runs.specs.OutputFiles.{lacking, taken}
-use Rattle.runs.proofs.OutputLemmas.{after-call, done-for, is-fault}
-use Rattle.runs.proofs.output_writing.write_stream.Goals as goal
-
-pub returns-in-None : goal.returns-in-None
-returns-in-None g c = after-call _ c.in-None.ensures (is-fault lacking)
-
-pub returns-in-Some : goal.returns-in-Some
-returns-in-Some g c = after-call _ c.in-Some.ensures (done-for (λ course puts. taken puts) c.put.ensures)
