@@ -2,7 +2,6 @@
 //! Catalog Files" of the GNU gettext manual).
 ghost use Rattle.std.specs.Prelude.{◌≡◌, map, IfOk, OnErr, Err};
 ghost use Rattle.std.specs.Option.{option_copied};
-ghost use Rattle.gettext.specs.Locales.{candidates_of};
 ghost use Rattle.gettext.specs.Paths.{folder_of, path_of, paths_of};
 
 use crate::candidates::{Environment, locale_candidates, non_empty};
@@ -27,10 +26,17 @@ pub fn catalogue_paths(
         ≡ paths_of (option_copied argument.entry) (option_copied option.entry) environment.now) }
     ensures memory { OnErr result (result ≡ Err ToolFault.OutOfMemory) }
 {
-    match argument.or(option).or(environment.textdomain) {
-        Some(domain) if is_path_part(domain) => domain_paths(alloc, domain, environment),
-        _ => Ok(Vec::new(alloc)),
+    let domain = match argument.or(option).or(environment.textdomain) {
+        Some(domain) if is_path_part(domain) => domain,
+        _ => return Ok(Vec::new(alloc)),
+    };
+    let folder = folder_of(environment);
+    let locales = locale_candidates(alloc, environment)?;
+    let mut paths = Vec::new(alloc);
+    for locale in &locales {
+        paths.push(catalogue_path(alloc, folder, locale, domain)?)?;
     }
+    Ok(paths)
 }
 
 /// Where the catalogue of a domain lies for a locale: `DIR/LOCALE/LC_MESSAGES/DOMAIN.mo`, with
@@ -51,26 +57,6 @@ pub fn catalogue_path(
     path.extend_from_slice(domain)?;
     path.extend_from_slice(b".mo")?;
     Ok(path)
-}
-
-/// The paths of the catalogues of a domain that can stand in a path.
-fn domain_paths(
-    alloc: Global,
-    domain: &[u8],
-    environment: &Environment<'_>,
-) -> Result<Vec<Vec<u8>>, ToolFault>
-    ensures paths { IfOk result (λ paths. map (λ path. path.items) paths.items
-        ≡ map (λ locale. path_of (folder_of environment.now) locale domain.now)
-        (candidates_of environment.now)) }
-    ensures memory { OnErr result (result ≡ Err ToolFault.OutOfMemory) }
-{
-    let folder = folder_of(environment);
-    let locales = locale_candidates(alloc, environment)?;
-    let mut paths = Vec::new(alloc);
-    for locale in &locales {
-        paths.push(catalogue_path(alloc, folder, locale, domain)?)?;
-    }
-    Ok(paths)
 }
 
 /// The folder that the catalogues lie below: TEXTDOMAINDIR, or the default.

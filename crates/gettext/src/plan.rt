@@ -4,7 +4,6 @@ ghost use Rattle.std.specs.List.{list_any};
 ghost use Rattle.std.specs.Option.{option_copied};
 ghost use Rattle.mo_lookup.specs.Chain.{chain_answered};
 ghost use Rattle.mo_lookup.specs.Query.{given};
-ghost use Rattle.gettext.specs.Escapes.{expansion, has_no_newline};
 ghost use Rattle.runs.specs.Run.{run_view};
 ghost use Rattle.gettext.specs.Gettext as Spec;
 ghost use Rattle.gettext.specs.GettextView.{gettext_view, ngettext_view};
@@ -13,7 +12,7 @@ ghost use Rattle.gettext.specs.Internal.OpensFile.{OpensFile};
 
 use crate::catalogues::bytes_of;
 use crate::count::count_of;
-use crate::escape::{Expanded, expand};
+use crate::escape::expand;
 use mo_file::Meter;
 use mo_lookup::{Catalog, Chain};
 use runs::{Run, ToolFault, push_location, push_mo_text};
@@ -124,17 +123,6 @@ where
     output.extend_from_slice(answer.text)
 }
 
-/// Expands the escapes of an argument.
-fn expanded(alloc: Global, argument: &str) -> Result<Expanded, AllocError>
-    ensures bytes { IfOk result (λ expanded. expanded.bytes.items ≡ expansion argument.now) }
-    ensures no_newline { IfOk result (λ expanded. expanded.no_newline ≡ has_no_newline argument.now) }
-{
-    let Ok(expanded) = expand(alloc, argument.as_bytes()) else {
-        return Err(AllocError);
-    };
-    Ok(expanded)
-}
-
 /// Appends the answer to a MSGID, and says whether a `\c` is expanded in it.
 fn push_answer(
     alloc: Global,
@@ -142,16 +130,17 @@ fn push_answer(
     chain: &Chain<'_, '_>,
     options: &GettextOptions<'_>,
     argument: &str,
-) -> Result<bool, AllocError>
+) -> Result<bool, ToolFault>
     ensures answer { OnOk result (output.new.items ≡ output.old.items
         ++ Spec.argument_answer chain.now (gettext_view options.now) argument.now) }
     ensures no_newline { IfOk result (λ omitted. omitted ≡ Spec.omits_newline (gettext_view options.now) argument.now) }
+    ensures memory { OnErr result (result ≡ Err ToolFault.OutOfMemory) }
 {
     if !options.expand {
         push_text(output, chain, options.context, argument.as_bytes(), None)?;
         return Ok(false);
     }
-    let expanded = expanded(alloc, argument)?;
+    let expanded = expand(alloc, argument.as_bytes())?;
     push_text(output, chain, options.context, &expanded.bytes, None)?;
     Ok(expanded.no_newline)
 }
@@ -162,11 +151,12 @@ fn push_answers(
     output: &mut Vec<u8>,
     chain: &Chain<'_, '_>,
     options: &GettextOptions<'_>,
-) -> Result<bool, AllocError>
+) -> Result<bool, ToolFault>
     ensures answers { OnOk result (output.new.items ≡ output.old.items
         ++ Spec.answers chain.now (gettext_view options.now)) }
     ensures no_newline { IfOk result (λ omitted. omitted
         ≡ list_any (Spec.omits_newline (gettext_view options.now)) (gettext_view options.now).arguments) }
+    ensures memory { OnErr result (result ≡ Err ToolFault.OutOfMemory) }
 {
     let Some((first, others)) = options.messages.split_first() else {
         return Ok(false);
@@ -215,19 +205,27 @@ fn push_plural_answer(
     output: &mut Vec<u8>,
     chain: &Chain<'_, '_>,
     options: &NgettextOptions<'_>,
-) -> Result<(), AllocError>
-    ensures { OnOk result (output.new.items ≡ output.old.items
+) -> Result<(), ToolFault>
+    ensures answer { OnOk result (output.new.items ≡ output.old.items
         ++ Spec.ngettext_output chain.now (ngettext_view options.now)) }
+    ensures memory { OnErr result (result ≡ Err ToolFault.OutOfMemory) }
 {
     let count = count_of(options.count.as_bytes());
     if !options.expand {
         let plural = Some((options.plural.as_bytes(), count));
-        let id = options.id.as_bytes();
-        return push_text(output, chain, options.context, id, plural);
+        push_text(
+            output,
+            chain,
+            options.context,
+            options.id.as_bytes(),
+            plural,
+        )?;
+        return Ok(());
     }
-    let id = expanded(alloc, options.id)?.bytes;
-    let plural = expanded(alloc, options.plural)?.bytes;
-    push_text(output, chain, options.context, &id, Some((&plural, count)))
+    let id = expand(alloc, options.id.as_bytes())?.bytes;
+    let plural = expand(alloc, options.plural.as_bytes())?.bytes;
+    push_text(output, chain, options.context, &id, Some((&plural, count)))?;
+    Ok(())
 }
 
 /// What `ngettext` writes over the catalogues that could be read, in the order in which they are asked: the form

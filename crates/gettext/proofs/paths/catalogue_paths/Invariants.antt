@@ -1,6 +1,6 @@
 use Rattle.std.proofs.Common.{◌≡◌, ◌++◌, map, drop}
 use Rattle.gettext.specs.Paths.{path_of}
-use Rattle.gettext.proofs.paths.domain_paths.Given as goal
+use Rattle.gettext.proofs.paths.catalogue_paths.Given as goal
 
 abbrev pub invariant-loop-locale : goal.invariant-loop-locale
 invariant-loop-locale l =
