@@ -11,20 +11,10 @@ ghost use Rattle.command_line.specs.Offering.{IsToolCommand, OffersTools, offere
 use crate::help::{self, Help};
 use Kind::{ByteOrder, File, Files, Flag, Forms, Letter, Number, Output, ShortFlag, Text};
 use clap::{Arg, ArgAction, Command, value_parser};
-use runs::Tool;
+use runs::{TOOLS, Tool};
 use std::alloc::{AllocError, Global};
 
 static BYTE_ORDERS: [&str; 2] = ["little", "big"];
-
-static TOOLS: [Tool; 7] = [
-    Tool::Msgfmt,
-    Tool::Msgunfmt,
-    Tool::Msgattrib,
-    Tool::Msgcat,
-    Tool::Gettext,
-    Tool::Ngettext,
-    Tool::Envsubst,
-];
 
 /// An argument or an option: the name by which it is read, what it is, and its help.
 type Argument = (&'static str, Kind, &'static str);
