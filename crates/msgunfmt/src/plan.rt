@@ -1,7 +1,7 @@
 //! What msgunfmt writes and reports: the PO text of an MO file.
-ghost use Rattle.std.specs.Prelude.{◌≡◌, ◌≢◌, ◌++◌, IfOk, OnOk, OnErr, Err};
-ghost use Rattle.msgunfmt.specs.Msgunfmt.{IsMsgunfmtRun, unformat_line, unformat_text};
-ghost use Rattle.runs.specs.Run.{refusal, run_view};
+ghost use Rattle.std.specs.Prelude.{◌≡◌, ◌++◌, IfOk, OnOk, OnErr, Err};
+ghost use Rattle.msgunfmt.specs.Msgunfmt.{IsMsgunfmtRun, unformat_text};
+ghost use Rattle.runs.specs.Run.{run_view};
 
 use po_unformat::laws::empty_text;
 use po_unformat::{UnformatError, unformat};
@@ -26,21 +26,6 @@ fn push_unformat_text(out: &mut Vec<u8>, error: UnformatError) -> Result<(), All
     out.extend_from_slice(text.as_bytes())
 }
 
-/// The run of a file that has no text.
-fn refused_run(alloc: Global, name: &str, error: UnformatError) -> Result<Run, AllocError>
-    ensures { IfOk result (λ run. (error ≢ UnformatError.OutOfMemory)
-        × (run_view run ≡ refusal (unformat_line name.now error))) }
-{
-    if error == UnformatError::OutOfMemory {
-        return Err(AllocError);
-    }
-    let mut messages = Vec::new(alloc);
-    push_location(&mut messages, "msgunfmt", name, 0)?;
-    push_unformat_text(&mut messages, error)?;
-    messages.extend_from_slice(b"\n")?;
-    Ok(refused(alloc, messages))
-}
-
 /// What `msgunfmt` writes and reports of a file with this name: its PO text, where it has a message. A file that has no
 /// text is reported by one line, with status 1. Refused only where an allocation failed.
 pub fn plan_msgunfmt(alloc: Global, bytes: &[u8], name: &str) -> Result<Run, ToolFault>
@@ -57,6 +42,15 @@ pub fn plan_msgunfmt(alloc: Global, bytes: &[u8], name: &str) -> Result<Run, Too
                 status: 0,
             })
         }
-        Err(error) => Ok(refused_run(alloc, name, error)?),
+        Err(error) => {
+            if error == UnformatError::OutOfMemory {
+                return Err(ToolFault::OutOfMemory);
+            }
+            let mut messages = Vec::new(alloc);
+            push_location(&mut messages, "msgunfmt", name, 0)?;
+            push_unformat_text(&mut messages, error)?;
+            messages.extend_from_slice(b"\n")?;
+            Ok(refused(alloc, messages))
+        }
     }
 }
