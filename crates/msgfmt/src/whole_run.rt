@@ -3,7 +3,8 @@
 ghost use Rattle.std.specs.Prelude.{◌≡◌, ◌≢◌, ◌⊎◌, ◌^◌, ◌<◌, [], None, Some, Err, IfOk, IfErr, IfSome, OnOk, false, map};
 ghost use Rattle.msgfmt.specs.Msgfmt.{AreWrong, IsMsgfmtRun, IsRefused, NoneRefused};
 ghost use Rattle.msgfmt.specs.WholeRun.{RunsMsgfmt};
-ghost use Rattle.runs.specs.Inputs.{AsksFirst, asked_by, named_inputs};
+ghost use Rattle.runs.specs.Inputs.{AsksFirst, asked_by};
+ghost use Rattle.runs.specs.NamedFile.{named_files};
 ghost use Rattle.runs.specs.Run.{run_view};
 ghost use Rattle.runs.specs.ToolRuns.{asking};
 
@@ -12,44 +13,45 @@ use crate::plan::plan_msgfmt;
 use runs::{ByteOut, InputSource, Inputs, OutputFiles, OutputSystem, ProgramFault, Run};
 use std::alloc::Global;
 
-/// What `msgfmt` comes to with the inputs that a command line names: the plan of all of them, or, where
-/// one can't be read, the refusal of those before it, or else that input's fault. The check of
+/// What `msgfmt` comes to with the inputs that a command line names, each with its name, and the fault of
+/// the one after them that can't be read: the plan of all of them, or, where one can't be read, the refusal
+/// of those before it, or else that input's fault. The check of
 /// `--profile-check` is of all inputs together, so it isn't made of only some of them. The command line
 /// names one at least, and fewer than 4,294,967,296; else, and only then, it is `WrongArguments`.
 /// `OutOfMemory` may come in place of any result.
 pub fn plan_msgfmt_of<'a>(
     alloc: Global,
-    inputs: &Inputs<'a>,
+    texts: &[(&str, &[u8])],
+    fault: Option<ProgramFault<'a>>,
     options: &MsgfmtOptions,
 ) -> Result<Run, ProgramFault<'a>>
-    ensures whole { inputs.now.fault ≡ None
-        → IfOk result (λ run. IsMsgfmtRun (named_inputs inputs.now.texts.items) options.now (run_view run)) }
-    ensures refused { inputs.now.fault ≢ None
-        → IfOk result (λ run. IsRefused (named_inputs inputs.now.texts.items) options.now (run_view run)) }
-    ensures right { OnOk result (AreWrong (named_inputs inputs.now.texts.items) inputs.now.fault → ⊥) }
+    ensures whole { fault.entry ≡ None
+        → IfOk result (λ run. IsMsgfmtRun (named_files texts.now) options.now (run_view run)) }
+    ensures refused { fault.entry ≢ None
+        → IfOk result (λ run. IsRefused (named_files texts.now) options.now (run_view run)) }
+    ensures right { OnOk result (AreWrong (named_files texts.now) fault.entry → ⊥) }
     ensures fault { IfErr result (λ reported. (reported ≡ ProgramFault.OutOfMemory)
-        ⊎ ((reported ≡ ProgramFault.WrongArguments) × AreWrong (named_inputs inputs.now.texts.items) inputs.now.fault)
-        ⊎ ((inputs.now.fault ≡ Some reported) × NoneRefused (named_inputs inputs.now.texts.items) options.now)) }
+        ⊎ ((reported ≡ ProgramFault.WrongArguments) × AreWrong (named_files texts.now) fault.entry)
+        ⊎ ((fault.entry ≡ Some reported) × NoneRefused (named_files texts.now) options.now)) }
 
     // An input that can't be read is told where there is none before it.
-    ensures first { named_inputs inputs.now.texts.items ≡ []
-        → IfSome inputs.now.fault (λ fault. result ≡ Err fault) }
+    ensures first { named_files texts.now ≡ []
+        → IfSome fault.entry (λ fault. result ≡ Err fault) }
 {
-    let texts = inputs.borrowed(alloc)?;
     if texts.len() > u32::MAX as usize {
         return Err(ProgramFault::WrongArguments);
     }
     if texts.is_empty() {
-        return Err(inputs.fault.unwrap_or(ProgramFault::WrongArguments));
+        return Err(fault.unwrap_or(ProgramFault::WrongArguments));
     }
-    let Some(fault) = inputs.fault else {
-        return plan_msgfmt(alloc, &texts, options).map_err(|_| ProgramFault::OutOfMemory);
+    let Some(fault) = fault else {
+        return plan_msgfmt(alloc, texts, options).map_err(|_| ProgramFault::OutOfMemory);
     };
     let unchecked = MsgfmtOptions {
         profile_check: false,
         ..*options
     };
-    let Ok(run) = plan_msgfmt(alloc, &texts, &unchecked) else {
+    let Ok(run) = plan_msgfmt(alloc, texts, &unchecked) else {
         return Err(ProgramFault::OutOfMemory);
     };
     if run.status == 0 { Err(fault) } else { Ok(run) }
@@ -76,6 +78,7 @@ pub fn run<'a, S: InputSource, F: OutputFiles, O: ByteOut, E: ByteOut>(
         options.now (map (λ argument. argument.now) arguments.now) output.now system.old system.new result }
 {
     let inputs = Inputs::read(alloc, source, arguments)?;
-    let run = plan_msgfmt_of(alloc, &inputs, options)?;
+    let texts = inputs.borrowed(alloc)?;
+    let run = plan_msgfmt_of(alloc, &texts, inputs.fault, options)?;
     system.write(alloc, &run, output)
 }
