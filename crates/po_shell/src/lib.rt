@@ -13,6 +13,5 @@ pub use gettext::{
     catalogue_path, catalogue_paths, count_of, expand, locale_candidates,
 };
 pub use runs::{
-    ByteIn, ByteOut, Counted, Failing, INPUT_LIMIT, ToolFault, put_all, read_input,
-    read_sized_input,
+    ByteIn, ByteOut, Counted, Failing, INPUT_LIMIT, ToolFault, put_all, read_input, read_whole,
 };
