@@ -8,12 +8,13 @@ ghost use Rattle.po_messages.specs.Keys.{HoldKeys};
 ghost use Rattle.po_messages.specs.FirstOnes.{first_ones, group_numbers};
 ghost use Rattle.po_messages.specs.Message.{entry_message, same_message};
 
-use crate::message_index::{MessageKey, grouped};
+use crate::message_index::{MessageKey, Seeded, numbered};
 use po_entry::Entry;
 use std::alloc::{AllocError, Global};
+use std::hash::{DefaultHasher, Hash, Hasher};
 
 /// How long the context of a message is, where it has one, and its msgid.
-#[derive(Clone, Copy)]
+#[derive(Clone, Copy, PartialEq, Eq, Hash)]
 pub struct KeySpans {
     /// That of the context, in bytes.
     pub context: Option<usize>,
@@ -90,6 +91,16 @@ impl KeyBuffer {
             keys.push(MessageKey { context, id })?;
             rest = after;
         }
-        grouped(alloc, &keys)
+        numbered(alloc, &keys, Seeded::of(&self.digest()))
+    }
+
+    /// A digest of all messages: of their lengths, which are whole words, and then of their bytes.
+    fn digest(&self) -> DefaultHasher {
+        let mut digest = DefaultHasher::new();
+        for lengths in &self.lengths {
+            lengths.hash(&mut digest);
+        }
+        digest.write(&self.bytes);
+        digest
     }
 }

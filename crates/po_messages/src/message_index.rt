@@ -28,10 +28,10 @@ impl Hash for MessageKey<'_> {
     ghost respects_eq = { equal_keys_write_alike };
 
     fn hash<H: Hasher>(&self, state: &mut H) {
-        state.write_usize(self.id.len());
         state.write(self.id);
         if let Some(context) = self.context {
             state.write(context);
+            state.write_usize(context.len());
         }
     }
 }
@@ -50,8 +50,17 @@ pub fn message_key(entry: &Entry) -> MessageKey<'_>
 /// Begins each hash with a digest of all keys, so that no choice of msgids makes an index slow: who
 /// changes a msgid changes the digest, and with it all hashes.
 #[derive(Clone, Copy)]
-struct Seeded {
+pub(crate) struct Seeded {
     start: DefaultHasher,
+}
+
+impl Seeded {
+    /// Begins each hash with this digest.
+    pub(crate) fn of(digest: &DefaultHasher) -> Seeded {
+        let mut start = DefaultHasher::new();
+        start.write_u64(digest.finish());
+        Seeded { start }
+    }
 }
 
 impl BuildHasher for Seeded {
@@ -64,24 +73,29 @@ impl BuildHasher for Seeded {
     }
 }
 
-/// The hasher of an index of these keys.
-fn hasher_of(keys: &[MessageKey<'_>]) -> Seeded {
-    let mut digest = DefaultHasher::new();
-    for key in keys {
-        key.hash(&mut digest);
-    }
-    let mut start = DefaultHasher::new();
-    start.write_u64(digest.finish());
-    Seeded { start }
-}
-
 /// For each key the number of its message, and how many messages there are. They are numbered from 0,
 /// in the order in which they first appear. Refused only where an allocation failed.
 pub fn grouped(alloc: Global, keys: &[MessageKey<'_>]) -> Result<(Vec<usize>, usize), AllocError>
     ensures numbers { IfOk result (λ r. r.0.items ≡ group_numbers same_message (messages_of_keys keys.now)) }
     ensures count { IfOk result (λ r. r.1 ≡ length (first_ones same_message (messages_of_keys keys.now))) }
 {
-    let mut index = IndexSet::with_capacity_and_hasher(alloc, keys.len(), hasher_of(keys))?;
+    let mut digest = DefaultHasher::new();
+    for key in keys {
+        key.hash(&mut digest);
+    }
+    numbered(alloc, keys, Seeded::of(&digest))
+}
+
+/// Numbers the messages of keys as `grouped` does, by an index that hashes so.
+pub(crate) fn numbered(
+    alloc: Global,
+    keys: &[MessageKey<'_>],
+    hasher: Seeded,
+) -> Result<(Vec<usize>, usize), AllocError>
+    ensures numbers { IfOk result (λ r. r.0.items ≡ group_numbers same_message (messages_of_keys keys.now)) }
+    ensures count { IfOk result (λ r. r.1 ≡ length (first_ones same_message (messages_of_keys keys.now))) }
+{
+    let mut index = IndexSet::with_capacity_and_hasher(alloc, keys.len(), hasher)?;
     let mut numbers = Vec::with_capacity(alloc, keys.len())?;
     for key in keys {
         let (number, _) = index.insert_full(*key)?;

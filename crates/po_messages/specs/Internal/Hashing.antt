@@ -1,5 +1,5 @@
 -- Internal: what the key of a message writes to a hasher.
-use Rattle.std.specs.Prelude.{◌≡◌, ℕ, ◌&&◌, true, List, [], ◌∷◌, ◌++◌, length, Option, None, Some}
+use Rattle.std.specs.Prelude.{◌≡◌, ℕ, ◌&&◌, true, List, [], ◌∷◌, length, Option, None, Some}
 use Rattle.std.specs.Hash.{usize, HashWrites}
 use Rattle.std.specs.Option.{option_eq}
 use Rattle.std.specs.Str.{bytes_eq}
@@ -11,18 +11,19 @@ use Rattle.po_messages.specs.declared.message_index.MessageKey.{MessageKey}
 
 abbrev pub context_writes : Option (Bor (List ℕ)) → HashWrites
 context_writes None = []
-context_writes (Some context) = context.now ∷ []
+context_writes (Some context) = context.now ∷ usize (length context.now)
 
--- the length of the msgid, the msgid, and the context if there is one
+-- the msgid, and the context with its length if there is one
 abbrev pub key_writes : MessageKey → HashWrites
-key_writes key = usize (length key.id.now) ++ (key.id.now ∷ context_writes key.context)
+key_writes key = key.id.now ∷ context_writes key.context
 
 contexts_write_alike : (a b : Option (Bor (List ℕ))) → option_eq (λ x y. bytes_eq x.now y.now) a b ≡ true
     → context_writes a ≡ context_writes b
 contexts_write_alike None None h = refl
 contexts_write_alike None (Some y) h = cc
 contexts_write_alike (Some x) None h = cc
-contexts_write_alike (Some x) (Some y) h = ap (λ (t : List ℕ). t ∷ []) ((bytes_eq-Decides x.now y.now).0 h)
+contexts_write_alike (Some x) (Some y) h =
+    ap (λ (t : List ℕ). t ∷ usize (length t)) ((bytes_eq-Decides x.now y.now).0 h)
 
 -- equal keys write the same
 pub equal_keys_write_alike : (a b : MessageKey)
@@ -31,5 +32,5 @@ pub equal_keys_write_alike : (a b : MessageKey)
 equal_keys_write_alike a b h =
     let contexts = option_eq (λ x y. bytes_eq x.now y.now) a.context b.context in
     let parts = and_parts contexts (bytes_eq a.id.now b.id.now) h in
-    ap₂ (λ (id : List ℕ) (context : HashWrites). usize (length id) ++ (id ∷ context))
+    ap₂ (λ (id : List ℕ) (context : HashWrites). id ∷ context)
     ((bytes_eq-Decides a.id.now b.id.now).0 parts.1) (contexts_write_alike a.context b.context parts.0)

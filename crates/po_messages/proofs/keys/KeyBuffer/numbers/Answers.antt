@@ -50,9 +50,9 @@ returns c =
       length-map entries key_lengths,
     ))) in
     record {
-      numbers = IfOk-weaker c.grouped.result _ _
-          (λ r are entries h. are ∙ ap (group_numbers same_message) (keys entries h)) c.grouped.ensures.numbers;
-      count = IfOk-weaker c.grouped.result _ _
+      numbers = IfOk-weaker c.numbered.result _ _
+          (λ r are entries h. are ∙ ap (group_numbers same_message) (keys entries h)) c.numbered.ensures.numbers;
+      count = IfOk-weaker c.numbered.result _ _
           (λ r is entries h. is ∙ ap (λ l. length (first_ones same_message l)) (keys entries h))
-          c.grouped.ensures.count;
+          c.numbered.ensures.count;
     }
