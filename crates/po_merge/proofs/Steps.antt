@@ -1,5 +1,5 @@
 -- What one more text or definition adds.
-use Rattle.std.proofs.Common.{◌≡◌, ℕ, ◌+◌, ◌<◌, Bool, true, false, cond, List, [], ◌∷◌, ◌++◌, Option, Some, None, refl, sym, ap, ◌∙◌, filter, take, get_or, length, append-nil, nat_lt, max, ◌≤◌, arith}
+use Rattle.std.proofs.Common.{◌≡◌, ℕ, ◌+◌, ◌<◌, Bool, true, false, cond, List, [], ◌∷◌, ◌++◌, Option, Some, None, refl, sym, ap, ◌∙◌, filter, take, get_or, length, append-nil, nat_lt, ◌≤◌, arith}
 use Rattle.std.specs.Prelude.{option_map, slice_get, if◌then◌else◌}
 use Rattle.std.specs.List.{list_any, flat_map}
 use Rattle.std.specs.Option.{option_map_or}
@@ -16,7 +16,7 @@ use Rattle.po_merge.specs.declared.definition.NamedEntry.{NamedEntry as Borrowed
 use Rattle.po_merge.specs.Inputs.{NamedEntry}
 use Rattle.po_merge.specs.InputsView.{named_entry, named_entries}
 use Rattle.po_merge.specs.Groups.{with_new, first_ones}
-use Rattle.po_merge.specs.MergedEntry.{with_others, collected, same_forms, translations, form_count, joined_form, marked}
+use Rattle.po_merge.specs.MergedEntry.{with_others, collected, same_forms, translations, joined_form, marked}
 
 pub texts_more : (others : List (Vec ℕ)) (i : ℕ) (x : Vec ℕ) → i < length others → x ≡ get_or others i x
     → texts (take (i + 1) others) ≡ texts (take i others) ++ x.items ∷ []
@@ -67,13 +67,6 @@ translations_more ds i d b c below at translated met =
           ap (λ (t : Bool). first_ones same_forms
           (filter (λ x. has_translation x.entry) (named_entries (take i ds)) ++ cond t (named_entry d ∷ []) [])) e
           ∙ ap (first_ones same_forms) (append-nil (filter (λ x. has_translation x.entry) (named_entries (take i ds))))
-
-pub form_count_more : (ds : List BorrowedEntry) (i : ℕ) (d : BorrowedEntry) → i < length ds → d ≡ get_or ds i d
-    → form_count (named_entries (take (i + 1) ds)) ≡ max (form_count (named_entries (take i ds)))
-    (length d.entry.now.forms)
-form_count_more ds i d below at = ap form_count (named_more ds i d below at)
-    ∙ fold_push (λ (count : ℕ) (t : NamedEntry). max count (length t.entry.forms)) 0 (named_entries (take i ds))
-    (named_entry d)
 
 flat_map_push : {X A : Type 0} (f : X → List A) (xs : List X) (x : X) → flat_map f (xs ++ x ∷ []) ≡ flat_map f xs ++ f x
 flat_map_push f xs x = flat_map-append f xs (x ∷ []) ∙ ap (λ (l : List _). flat_map f xs ++ l) (append-nil (f x))

@@ -143,10 +143,7 @@ fn merge_groups(
             continue;
         };
         let entry = merged_entry(alloc, options, &definitions)?;
-        match push_entry(&mut merged, entry) {
-            Ok(()) => {}
-            Err(error) => return Err(error),
-        }
+        push_entry(&mut merged, entry)?;
     }
     Ok(merged)
 }

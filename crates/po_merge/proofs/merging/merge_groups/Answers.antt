@@ -1,5 +1,6 @@
 use Rattle.std.proofs.Common.{◌≤◌, ◌++◌, ◌∷◌, [], ap, ap₂, append-nil, arith, length, subst, sym, take, ◌∙◌, List}
 use Rattle.std.proofs.lemmas.List.{length-map, length_push, take_all}
+use Rattle.std.proofs.lemmas.Result.{err_from_is_err_and}
 use Rattle.std.proofs.lemmas.Iterator.Consumers.{YieldsList-turn, YieldsList-end}
 use Rattle.std.proofs.lemmas.Iterator.Adapters.{YieldsList-from_vec}
 use Rattle.po_entry.specs.TextEntry.{TextEntry}
@@ -78,14 +79,14 @@ loop-group-preserved c =
     ∙ ap (λ e. e ∷ []) (ap (λ l. merged_entry o (named_entries l)) (sym c.deref.ensures.value)
     ∙ sym c.in_ok-entry.ensures) in
     let all = group_entries c.args.groups.items in
-    c.in-Ok.ensures.pushed
+    c.in_ok-push_entry.ensures.pushed
     ∙ ap₂ (λ (a b : List TextEntry). a ++ b) c.loop-group.invariant
     (sym is ∙ ap (λ (ds : List NamedEntry). merged_messages o (definitions ds ∷ [])) (sym here.1))
     ∙ of_groups_more o all i (named_entries c.in-Some.group.items) here.0
     ∙ ap (λ n. of_groups o (take n all)) (sym (length_push c.loop-group.yielded c.in-Some.group))
 
-pub returns-in-Err-clause-fault : goal.returns-in-Err-clause-fault
-returns-in-Err-clause-fault c =
+pub returns-in_err-push_entry-clause-fault : goal.returns-in_err-push_entry-clause-fault
+returns-in_err-push_entry-clause-fault c =
     let given = c.into_iter-group-iterator.ensures.into_iter_gives in
     let list = YieldsList-from_vec {s = c.into_iter-group-iterator.result} c.args.groups.items given.0
     (given.1 ∙ c.args.groups.ok.0) in
@@ -98,10 +99,13 @@ returns-in-Err-clause-fault c =
     let is = kept_group c.in-Some.group.items c.in-Some-kept_definitions.definitions.items some.0 o some.1
     ∙ ap (λ e. e ∷ []) (ap (λ l. merged_entry o (named_entries l)) (sym c.deref.ensures.value)
     ∙ sym c.in_ok-entry.ensures) in
-    fault_within o (group_entries c.args.groups.items) i (named_entries c.in-Some.group.items) c.in-Err.error here.0
-    (subst (λ l. IsMergeFault l c.in-Err.error)
+    let p = err_from_is_err_and c.from_residual-in_err-push_entry.result
+    c.from_residual-in_err-push_entry.ensures.1 in
+    rw (p.1, p.2) (fault_within o (group_entries c.args.groups.items) i
+    (named_entries c.in-Some.group.items) c.in_err-push_entry.field-0.0 here.0
+    (subst (λ l. IsMergeFault l c.in_err-push_entry.field-0.0)
     (sym is ∙ ap (λ (ds : List NamedEntry). merged_messages o (definitions ds ∷ [])) (sym here.1))
-    c.in-Err.ensures.fault)
+    c.in_err-push_entry.ensures.fault))
 
 pub returns-clause-merged : goal.returns-clause-merged
 returns-clause-merged c =
