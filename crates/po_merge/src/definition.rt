@@ -10,7 +10,7 @@ ghost use Rattle.po_merge.specs.Internal.FirstParts.{has_part};
 
 use crate::input::MergeOptions;
 use po_entry::Entry;
-use po_messages::{has_translation, is_live};
+use po_messages::is_live;
 
 /// An entry of one of several inputs, with that input's name.
 #[derive(Clone, Copy)]
@@ -100,12 +100,12 @@ pub(crate) enum Part {
 }
 
 /// Whether the entry has the part.
-fn has_part(entry: &Entry, part: Part) -> bool
+pub(crate) fn has_part(entry: &Entry, part: Part) -> bool
     ensures { result ≡ has_part part entry.now }
 {
     let fields = entry.fields();
     match part {
-        Part::Translation => has_translation(entry),
+        Part::Translation => fields.forms.first().is_some_and(|form| !form.is_empty()),
         Part::Previous => {
             let previous = &fields.previous;
             previous.context.is_some() || previous.id.is_some() || previous.plural.is_some()

@@ -5,8 +5,7 @@ ghost use Rattle.po_entry.specs.TextEntry.{texts};
 ghost use Rattle.po_merge.specs.InputsView.{named_entries};
 ghost use Rattle.po_merge.specs.MergedEntry.{form_count, joined_form, joined_forms, marked, translations};
 
-use crate::definition::NamedEntry;
-use po_messages::has_translation;
+use crate::definition::{NamedEntry, Part, has_part};
 use std::alloc::{AllocError, Global};
 use std::collections::BTreeSet;
 
@@ -20,7 +19,7 @@ pub(crate) fn translations<'a>(
     let mut seen = BTreeSet::new(alloc);
     let mut found = Vec::new(alloc);
     for definition in definitions {
-        if !has_translation(definition.entry) {
+        if !has_part(definition.entry, Part::Translation) {
             continue;
         }
         if !seen.insert(definition.entry.fields().forms.as_slice())? {

@@ -14,7 +14,7 @@ use crate::definition::{NamedEntry, Part, first_with, kept_definitions};
 use crate::grouping::{all_entries, groups_of, keys_of};
 use crate::input::{MergeOptions, Named};
 use crate::joined_translations::{joined_forms, translations};
-use po_entry::{Catalogue, Entry, copy_optional, copy_texts};
+use po_entry::{Catalogue, Entry, Fields, copy_optional, copy_texts};
 use po_messages::grouped;
 use po_syntax::{CommentKind, PoError};
 use std::alloc::{AllocError, Global};
@@ -71,58 +71,52 @@ fn merged_entry(
             Err(_) => Err(AllocError),
         };
     }
+    let comments = comment_of(alloc, options, CommentKind::Translator, definitions)?;
+    let extracted = comment_of(alloc, options, CommentKind::Extracted, definitions)?;
+    let references = comment_of(alloc, options, CommentKind::Reference, definitions)?;
+    let flags = comment_of(alloc, options, CommentKind::Flags, definitions)?;
     let (forms, fuzzy) = merged_forms(alloc, options, definitions)?;
     let first = first.fields();
     let earliest = first_with(definitions, Part::Previous).fields();
     let plural = first_with(definitions, Part::Plural).fields();
-    Ok(Entry::of_fields(
-        comment_of(alloc, options, CommentKind::Translator, definitions)?,
-        comment_of(alloc, options, CommentKind::Extracted, definitions)?,
-        comment_of(alloc, options, CommentKind::Reference, definitions)?,
+    Ok(Entry::of(Fields {
+        comments,
+        extracted,
+        references,
         fuzzy,
-        comment_of(alloc, options, CommentKind::Flags, definitions)?,
-        earliest.previous.copy(alloc)?,
-        copy_optional(alloc, first.context.as_deref())?,
-        first.id.as_slice().to_vec(alloc)?,
-        copy_optional(alloc, plural.plural.as_deref())?,
+        flags,
+        previous: earliest.previous.copy(alloc)?,
+        context: copy_optional(alloc, first.context.as_deref())?,
+        id: first.id.as_slice().to_vec(alloc)?,
+        plural: copy_optional(alloc, plural.plural.as_deref())?,
         forms,
-        first.obsolete,
-        first.line,
-    ))
+        obsolete: first.obsolete,
+        line: first.line,
+    }))
 }
 
-/// Adds an entry to those that are merged. Refused, without a line, with `ForeignCharset` for a
-/// header whose charset isn't admitted, or with `OutOfMemory`.
-fn push_entry(catalogue: &mut Catalogue, entry: Entry) -> Result<(), PoError>
-    ensures pushed { OnOk result (catalogue.new ≡ catalogue.old ++ entry ∷ []) }
-    ensures fault { IfErr result (IsMergeFault (entry ∷ [])) }
+/// Adds what the definitions of one message are merged to. Refused, without a line, with
+/// `ForeignCharset` for a header whose charset isn't admitted, or with `OutOfMemory`.
+pub fn merge_definitions(
+    alloc: Global,
+    options: &MergeOptions,
+    definitions: &[NamedEntry<'_>],
+    merged: &mut Catalogue,
+) -> Result<(), PoError>
+    requires some { 0 < length definitions.now }
+    requires valid { All IsDefinition (named_entries definitions.now) }
+    ensures merged { OnOk result (merged.new
+        ≡ merged.old ++ merged_entry options.now (named_entries definitions.now) ∷ []) }
+    ensures fault { IfErr result (IsMergeFault (merged_entry options.now (named_entries definitions.now) ∷ [])) }
 {
-    match catalogue.push(entry) {
+    let entry = merged_entry(alloc, options, definitions)?;
+    match merged.push(entry) {
         Ok(()) => Ok(()),
         Err(refused) => Err(PoError {
             kind: refused.1.kind,
             line: 0,
         }),
     }
-}
-
-/// What the definitions of one message are merged to, as a catalogue of one entry. Refused, without
-/// a line, with `ForeignCharset` for a header whose charset isn't admitted, or with `OutOfMemory`.
-pub fn merge_definitions(
-    alloc: Global,
-    options: &MergeOptions,
-    definitions: &[NamedEntry<'_>],
-) -> Result<Catalogue, PoError>
-    requires some { 0 < length definitions.now }
-    requires valid { All IsDefinition (named_entries definitions.now) }
-    ensures merged { IfOk result (λ merged. merged
-        ≡ merged_entry options.now (named_entries definitions.now) ∷ []) }
-    ensures fault { IfErr result (IsMergeFault (merged_entry options.now (named_entries definitions.now) ∷ [])) }
-{
-    let entry = merged_entry(alloc, options, definitions)?;
-    let mut merged = Catalogue::new(alloc);
-    push_entry(&mut merged, entry)?;
-    Ok(merged)
 }
 
 /// What the entries of all messages that are kept are merged to.
@@ -142,8 +136,7 @@ fn merge_groups(
         let Some(definitions) = kept_definitions(group, options) else {
             continue;
         };
-        let entry = merged_entry(alloc, options, &definitions)?;
-        push_entry(&mut merged, entry)?;
+        merge_definitions(alloc, options, &definitions, &mut merged)?;
     }
     Ok(merged)
 }

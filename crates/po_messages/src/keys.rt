@@ -52,16 +52,6 @@ fn append_optional(bytes: &mut Vec<u8>, text: Option<&[u8]>) -> Result<Option<us
 }
 
 impl KeyBuffer {
-    /// No messages.
-    pub fn new(alloc: Global) -> KeyBuffer
-        ensures { HoldKeys [] result }
-    {
-        KeyBuffer {
-            bytes: Vec::new(alloc),
-            lengths: Vec::new(alloc),
-        }
-    }
-
     /// Adds the message of an entry.
     pub fn add(&mut self, entry: &Entry) -> Result<(), AllocError>
         ensures { OnOk result ((before : List TextEntry) → HoldKeys before self.old

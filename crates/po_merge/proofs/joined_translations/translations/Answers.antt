@@ -25,12 +25,12 @@ loop-definition-init c = record {
       c.new-found.ensures.items);
 }
 
-pub loop-definition-preserved-then-not-has_translation : goal.loop-definition-preserved-then-not-has_translation
-loop-definition-preserved-then-not-has_translation c = record {
+pub loop-definition-preserved-then-not-has_part : goal.loop-definition-preserved-then-not-has_part
+loop-definition-preserved-then-not-has_part c = record {
   are_found = c.loop-definition.invariant.are_found
       ∙ sym (translations_more c.args.definitions.now c.loop-definition.definition-index c.definition-item.result false
       _ c.loop-definition-test.true c.definition-item.is
-      (sym c.has_translation.ensures ∙ c.if-not-has_translation.true) refl);
+      (sym c.has_part.ensures ∙ c.if-not-has_part.true) refl);
   met = c.loop-definition.invariant.met;
 }
 
@@ -52,7 +52,7 @@ loop-definition-preserved-then-not-branch c =
       are_found = inv.are_found
           ∙ sym (translations_more c.args.definitions.now c.loop-definition.definition-index c.definition-item.result
           true true c.loop-definition-test.true c.definition-item.is
-          (sym c.has_translation.ensures ∙ c.if-not-has_translation.false) met);
+          (sym c.has_part.ensures ∙ c.if-not-has_part.false) met);
       met = λ q. ap (list_any (is_at (λ y. slice_cmp (λ v w. slice_cmp nat_cmp v.items w.items) q.now y.now))) unchanged
           ∙ inv.met q;
     }
@@ -77,7 +77,7 @@ loop-definition-preserved c =
           pushed ∙ ap (λ l. l ++ d ∷ []) inv.are_found
           ∙ sym (translations_more c.args.definitions.now c.loop-definition.definition-index c.definition-item.result
           true false c.loop-definition-test.true c.definition-item.is
-          (sym c.has_translation.ensures ∙ c.if-not-has_translation.false) unmet);
+          (sym c.has_part.ensures ∙ c.if-not-has_part.false) unmet);
       met = subst (HasForms c.insert.new.self) (sym pushed)
           (one_definition_more c.loop-definition.seen c.insert.new.self c.as_slice.result d
           (named_entries c.loop-definition.found.items) inv.met forms c.in_ok-insert.ensures.updates.0);

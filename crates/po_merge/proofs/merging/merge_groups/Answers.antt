@@ -31,8 +31,8 @@ loop-group-preserved-in_default c =
     ∙ of_groups_more o all i (named_entries c.in-Some.group.items) here.0
     ∙ ap (λ n. of_groups o (take n all)) (sym (length_push c.loop-group.yielded c.in-Some.group))
 
-pub merged_entry-requires-clause-some : goal.merged_entry-requires-clause-some
-merged_entry-requires-clause-some c =
+pub merge_definitions-requires-clause-some : goal.merge_definitions-requires-clause-some
+merge_definitions-requires-clause-some c =
     let given = c.into_iter-group-iterator.ensures.into_iter_gives in
     let list = YieldsList-from_vec {s = c.into_iter-group-iterator.result} c.args.groups.items given.0
     (given.1 ∙ c.args.groups.ok.0) in
@@ -50,8 +50,8 @@ merged_entry-requires-clause-some c =
       ap length c.deref.ensures.value,
     )
 
-pub merged_entry-requires-clause-valid : goal.merged_entry-requires-clause-valid
-merged_entry-requires-clause-valid c =
+pub merge_definitions-requires-clause-valid : goal.merge_definitions-requires-clause-valid
+merge_definitions-requires-clause-valid c =
     let given = c.into_iter-group-iterator.ensures.into_iter_gives in
     let list = YieldsList-from_vec {s = c.into_iter-group-iterator.result} c.args.groups.items given.0
     (given.1 ∙ c.args.groups.ok.0) in
@@ -76,17 +76,16 @@ loop-group-preserved c =
     let o = c.args.options.now in
     let some = c.in-Some-kept_definitions.ensures.some in
     let is = kept_group c.in-Some.group.items c.in-Some-kept_definitions.definitions.items some.0 o some.1
-    ∙ ap (λ e. e ∷ []) (ap (λ l. merged_entry o (named_entries l)) (sym c.deref.ensures.value)
-    ∙ sym c.in_ok-entry.ensures) in
+    ∙ ap (λ l. merged_entry o (named_entries l) ∷ []) (sym c.deref.ensures.value) in
     let all = group_entries c.args.groups.items in
-    c.in_ok-push_entry.ensures.pushed
+    c.in_ok-merge_definitions.ensures.merged
     ∙ ap₂ (λ (a b : List TextEntry). a ++ b) c.loop-group.invariant
     (sym is ∙ ap (λ (ds : List NamedEntry). merged_messages o (definitions ds ∷ [])) (sym here.1))
     ∙ of_groups_more o all i (named_entries c.in-Some.group.items) here.0
     ∙ ap (λ n. of_groups o (take n all)) (sym (length_push c.loop-group.yielded c.in-Some.group))
 
-pub returns-in_err-push_entry-clause-fault : goal.returns-in_err-push_entry-clause-fault
-returns-in_err-push_entry-clause-fault c =
+pub returns-in_err-merge_definitions-clause-fault : goal.returns-in_err-merge_definitions-clause-fault
+returns-in_err-merge_definitions-clause-fault c =
     let given = c.into_iter-group-iterator.ensures.into_iter_gives in
     let list = YieldsList-from_vec {s = c.into_iter-group-iterator.result} c.args.groups.items given.0
     (given.1 ∙ c.args.groups.ok.0) in
@@ -97,15 +96,14 @@ returns-in_err-push_entry-clause-fault c =
     let o = c.args.options.now in
     let some = c.in-Some-kept_definitions.ensures.some in
     let is = kept_group c.in-Some.group.items c.in-Some-kept_definitions.definitions.items some.0 o some.1
-    ∙ ap (λ e. e ∷ []) (ap (λ l. merged_entry o (named_entries l)) (sym c.deref.ensures.value)
-    ∙ sym c.in_ok-entry.ensures) in
-    let p = err_from_is_err_and c.from_residual-in_err-push_entry.result
-    c.from_residual-in_err-push_entry.ensures.1 in
+    ∙ ap (λ l. merged_entry o (named_entries l) ∷ []) (sym c.deref.ensures.value) in
+    let p = err_from_is_err_and c.from_residual.result
+    c.from_residual.ensures.1 in
     rw (p.1, p.2) (fault_within o (group_entries c.args.groups.items) i
-    (named_entries c.in-Some.group.items) c.in_err-push_entry.field-0.0 here.0
-    (subst (λ l. IsMergeFault l c.in_err-push_entry.field-0.0)
+    (named_entries c.in-Some.group.items) c.in_err-merge_definitions.field-0.0 here.0
+    (subst (λ l. IsMergeFault l c.in_err-merge_definitions.field-0.0)
     (sym is ∙ ap (λ (ds : List NamedEntry). merged_messages o (definitions ds ∷ [])) (sym here.1))
-    c.in_err-push_entry.ensures.fault))
+    c.in_err-merge_definitions.ensures.fault))
 
 pub returns-clause-merged : goal.returns-clause-merged
 returns-clause-merged c =

@@ -7,8 +7,8 @@ use Rattle.po_merge.proofs.Valid.{merged_is_entry}
 use Rattle.po_merge.specs.InputsView.{named_entry, named_entries}
 use Rattle.po_merge.proofs.merging.merged_entry.Goals as goal
 
-pub of_fields-requires : goal.of_fields-requires
-of_fields-requires c =
+pub of-requires : goal.of-requires
+of-requires c =
     let ds = c.args.definitions.now in
     let first = ap (λ (d : BorrowedEntry). d.entry.now) (sym c.index-definitions-0.is)
     ∙ first_is ds c.index-definitions-0.result c.requires.some c.index-definitions-0.is in
@@ -24,10 +24,10 @@ of_fields-requires c =
     let line = ap (λ (e : TextEntry). e.line) own in
     let some : 0 < length (named_entries ds) = omega (arith, c.requires.some, length-map ds named_entry) in
     rw (
-      c.in_ok-comment_of.ensures,
-      c.in_ok-comment_of-2.ensures,
-      c.in_ok-comment_of-3.ensures,
-      c.in_ok-comment_of-4.ensures,
+      c.in_ok-comments.ensures,
+      c.in_ok-extracted.ensures,
+      c.in_ok-references.ensures,
+      c.in_ok-flags.ensures,
       c.in_ok-forms.ensures.forms,
       c.in_ok-forms.ensures.fuzzy,
     )
