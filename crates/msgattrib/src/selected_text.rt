@@ -82,7 +82,10 @@ fn select_pieces(
     let mut pieces = Pieces::of(text)?;
     let mut parts = TextParts::with_capacity(alloc, text.len())?;
     let mut rows = Rows {
-        keys: KeyBuffer::new(alloc),
+        keys: KeyBuffer {
+            bytes: Vec::new(alloc),
+            lengths: Vec::new(alloc),
+        },
         read: Vec::new(alloc),
         kept: Vec::new(alloc),
     };

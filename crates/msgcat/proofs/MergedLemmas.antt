@@ -26,7 +26,7 @@ use Rattle.po_merge.specs.MergeLaws.{GroupsByNumber}
 use Rattle.po_merge.specs.MergedEntry.{merged_entry}
 use Rattle.po_entry.specs.Facts.Filters.{all_pass, none_pass}
 use Rattle.po_merge.proofs.FirstOnes.{none_all}
-use Rattle.po_merge.proofs.GroupsMerged.{dropped_one, groups_valid, kept_one}
+use Rattle.po_merge.proofs.GroupsMerged.{dropped_one, groups_valid}
 use Rattle.po_writer.proofs.Rewritten.{join_same, kept, kept_same}
 use Rattle.po_writer.specs.TextParts.{AreParts, AreSeparated, separated}
 use Rattle.po_writer.specs.WrittenText.{arranged, in_order, written_text}
@@ -327,25 +327,22 @@ group_at text all groups i group h below here =
 -- one more message
 pub message_copied : (o : MergeOptions) (text : List ℕ) (ds : List NamedEntry) (row : EntryRow)
     (before : List TextEntry) (parts : TextParts) → ((d : NamedEntry) → merged_entry o (d ∷ []) ≡ d.entry)
-    → AreRows text ds (row ∷ []) → is_kept o ds ≡ true
+    → AreRows text ds (row ∷ [])
     → ((d : NamedEntry) → IsRow text d row → AreWritten (before ++ d.entry ∷ []) parts)
-    → AreWritten (before ++ merged_messages o (ds ∷ [])) parts
-message_copied o text ds row before parts law h keeps copied =
+    → AreWritten (before ++ merged_entry o ds ∷ []) parts
+message_copied o text ds row before parts law h copied =
     let only = only_row text ds row h in
-    let is : merged_messages o (ds ∷ []) ≡ only.0.entry ∷ [] =
-    kept_one o ds keeps ∙ ap (λ l. merged_entry o l ∷ []) only.1 ∙ ap (λ e. e ∷ []) (law only.0) in
-    subst (λ l. AreWritten (before ++ l) parts) (sym is) (copied only.0 only.2)
+    subst (λ e. AreWritten (before ++ e ∷ []) parts) (sym (ap (merged_entry o) only.1 ∙ law only.0))
+    (copied only.0 only.2)
 
 pub message_merged : (o : MergeOptions) (ds : List NamedEntry) (before merged : List TextEntry) (parts : TextParts)
-    → is_kept o ds ≡ true → IsOnly (merged_entry o ds) merged → All IsCatalogueEntry merged
-    → AreParts (before ++ merged) parts → All HasAdmittedCharset before
-    → AreWritten (before ++ merged_messages o (ds ∷ [])) parts
-message_merged o ds before merged parts keeps only valid are admitted =
+    → IsOnly (merged_entry o ds) merged → All IsCatalogueEntry merged → AreParts (before ++ merged) parts
+    → All HasAdmittedCharset before → AreWritten (before ++ merged_entry o ds ∷ []) parts
+message_merged o ds before merged parts only valid are admitted =
     let one : IsCatalogueEntry only.only =
     (subst (All IsCatalogueEntry) only.entries_are valid) 0 only.only (omega arith) in
-    subst (λ l. AreWritten (before ++ l) parts) (sym (kept_one o ds keeps))
-    (written_more before only.only (merged_entry o ds) parts only.same
-    (subst (λ l. AreParts (before ++ l) parts) only.entries_are are) admitted one.charset)
+    written_more before only.only (merged_entry o ds) parts only.same
+    (subst (λ l. AreParts (before ++ l) parts) only.entries_are are) admitted one.charset
 
 -- a list of one
 pub one_of : (rows : List EntryRow) (d : EntryRow) → 0 < length rows → length rows < 2 → rows ≡ get_or rows 0 d ∷ []

@@ -1,24 +1,20 @@
 //! Reading inputs: a piece is read, its entries are written and kept by their messages, and the
 //! piece is dropped before the next one is read. After the last input an index of all messages
 //! tells which entries are of one message.
-ghost use Rattle.std.specs.Prelude.{◌≡◌, ◌≢◌, ◌⊎◌, ◌++◌, All, IfErr, IfOk, List, MatchOption, OnOk};
-ghost use Rattle.std.specs.List.{AllZip};
-ghost use Rattle.po_messages.specs.Duplicate.{HasNoDuplicate};
+ghost use Rattle.std.specs.Prelude.{◌≡◌, ◌≢◌, ◌⊎◌, ◌++◌, All, IfErr, IfOk, List, OnOk};
 ghost use Rattle.po_messages.specs.Joined.{is_live};
 ghost use Rattle.po_entry.specs.Bytes.{Lacks};
 ghost use Rattle.po_entry.specs.ReadsText.{ReadsText};
 ghost use Rattle.po_entry.specs.TextEntry.{TextEntry};
 ghost use Rattle.po_entry.specs.Validity.{out_of_memory};
-ghost use Rattle.po_merge.specs.Grouping.{message_numbers};
 ghost use Rattle.po_merge.specs.Inputs as merge;
 ghost use Rattle.po_reader.specs.Internal.Keeping.{IsTextError};
-ghost use Rattle.msgcat.specs.Internal.Inputs.{AddsEntries, AreReadUpTo, HoldInputs, IsFirstRepeating, IsReadInput};
+ghost use Rattle.msgcat.specs.Internal.Inputs.{AddsEntries, AreReadUpTo, HoldInputs};
 ghost use Rattle.msgcat.specs.Msgcat.{AreReadAs, IsFileFault};
 ghost use Rattle.po_messages.specs.Places.{are_placed};
 ghost use Rattle.runs.specs.NamedFile.{named_files};
 
 use crate::entries::{Entries, EntryRow};
-use po_entry::Catalogue;
 use po_messages::{EntryPlace, duplicate_at, repeated_lines, split_at_most};
 use po_reader::{PIECE, next_catalogue};
 use po_syntax::{Pieces, PoError, PoFault};
@@ -77,28 +73,6 @@ pub(crate) struct NumberedEntries<'a> {
     pub(crate) count: usize,
 }
 
-/// Adds the entries of a piece of an input of this name.
-fn add_piece<'a>(
-    entries: &mut Entries<'a>,
-    places: &mut Vec<EntryPlace>,
-    name: &'a str,
-    piece: &Catalogue,
-) -> Result<(), AllocError>
-    requires { Lacks 0 name.now }
-    ensures entries { OnOk result (AddsEntries name.now piece.now entries.old entries.new) }
-    ensures places { OnOk result (places.new.items ≡ places.old.items ++ are_placed is_live piece.now) }
-{
-    for entry in piece.entries() {
-        let fields = entry.fields();
-        places.push(EntryPlace {
-            line: fields.line,
-            is_live: !fields.obsolete,
-        })?;
-        entries.add(name, entry)?;
-    }
-    Ok(())
-}
-
 /// Adds the entries of the text of an input of this name, up to its fault.
 fn add_text<'a>(
     alloc: Global,
@@ -118,7 +92,14 @@ fn add_text<'a>(
     let mut pieces = Pieces::of(text)?;
     while !pieces.are_over() {
         let piece = next_catalogue(alloc, &mut pieces, PIECE)?;
-        add_piece(entries, places, name, &piece)?;
+        for entry in piece.entries() {
+            let fields = entry.fields();
+            places.push(EntryPlace {
+                line: fields.line,
+                is_live: !fields.obsolete,
+            })?;
+            entries.add(name, entry)?;
+        }
     }
     Ok(())
 }
@@ -158,35 +139,6 @@ fn read_each<'a>(alloc: Global, inputs: &[(&'a str, &[u8])]) -> Result<ReadInput
     })
 }
 
-/// Looks for duplicates, input by input: the first duplicate of the first input that has one. The
-/// numbers are those of the entries' messages, also of entries after the last input.
-fn first_duplicate<'a>(
-    alloc: Global,
-    inputs: &[ReadInput<'a>],
-    numbers: &[usize],
-) -> Result<Option<FileFault<'a>>, AllocError>
-    requires { (read : List merge.Named) × (partial : List merge.NamedEntry) × AllZip IsReadInput read inputs.now
-        × (numbers.now ≡ message_numbers (merge.all_entries read ++ partial)) }
-    ensures { IfOk result (λ found. (read : List merge.Named) (partial : List merge.NamedEntry)
-        → AllZip IsReadInput read inputs.now → numbers.now ≡ message_numbers (merge.all_entries read ++ partial)
-        → MatchOption found (All (λ i. HasNoDuplicate i.entries) read) (IsFirstRepeating read)) }
-{
-    let mut seen = Vec::new(alloc);
-    let mut rest = numbers;
-    for (index, input) in inputs.iter().enumerate() {
-        let (own, after) = split_at_most(rest, input.places.len());
-        let found = repeated_lines(&mut seen, index + 1, own, &input.places)?;
-        if let Some((first, later)) = found {
-            return Ok(Some(FileFault {
-                name: input.name,
-                error: duplicate_at(first, later),
-            }));
-        }
-        rest = after;
-    }
-    Ok(None)
-}
-
 /// Reads inputs. Refused with the first fault of the first input that has one: its text's, or its
 /// first duplicate; and where an allocation failed.
 pub(crate) fn read_inputs<'a>(
@@ -206,8 +158,17 @@ pub(crate) fn read_inputs<'a>(
     } = read_each(alloc, inputs)?;
     let Entries { text, rows, keys } = entries;
     let (numbers, count) = keys.numbers(alloc)?;
-    if let Some(fault) = first_duplicate(alloc, &read, &numbers)? {
-        return Err(fault);
+    let mut seen = Vec::new(alloc);
+    let mut rest = numbers.as_slice();
+    for (index, input) in read.iter().enumerate() {
+        let (own, after) = split_at_most(rest, input.places.len());
+        if let Some((first, later)) = repeated_lines(&mut seen, index + 1, own, &input.places)? {
+            return Err(FileFault {
+                name: input.name,
+                error: duplicate_at(first, later),
+            });
+        }
+        rest = after;
     }
     match fault {
         Some(fault) => Err(fault),

@@ -9,6 +9,7 @@ ghost use Rattle.po_merge.specs.Groups.{definitions, groups};
 ghost use Rattle.po_merge.specs.Inputs as merge;
 ghost use Rattle.po_merge.specs.InputsView.{named_entries};
 ghost use Rattle.po_merge.specs.Merged.{IsMergeFault, merged_messages};
+ghost use Rattle.po_merge.specs.MergedEntry.{merged_entry};
 ghost use Rattle.msgcat.specs.Internal.Entries.{AreRows, IsRow};
 ghost use Rattle.msgcat.specs.Internal.Inputs.{HoldInputs};
 ghost use Rattle.msgcat.specs.Internal.MergedText.{AreInOrder, AreReadBack, AreWritten, IsTextOfMerged};
@@ -86,37 +87,33 @@ fn definitions_of<'a, 'b: 'a>(
     Ok(found)
 }
 
-/// Adds what the entries of one message are merged to, where the message is kept.
-fn push_group(
+/// Adds what the definitions of one message are merged to, by the rows of these.
+fn push_definitions(
     alloc: Global,
     parts: &mut TextParts,
     text: &[u8],
     options: &MergeOptions,
-    group: Vec<EntryRow<'_>>,
+    rows: &[EntryRow<'_>],
 ) -> Result<(), PoError>
-    requires some { 0 < length group.items }
-    requires rows { (entries : List merge.NamedEntry) × AreRows text.now entries group.items }
-    ensures pushed { OnOk result ((entries : List merge.NamedEntry) (before : List TextEntry)
-        → AreRows text.now entries group.entry.items → AreWritten before parts.old
-        → AreWritten (before ++ merged_messages options.now (definitions entries ∷ [])) parts.new) }
-    ensures fault { IfErr result (λ error. (entries : List merge.NamedEntry)
-        → AreRows text.now entries group.entry.items
-        → IsMergeFault (merged_messages options.now (definitions entries ∷ [])) error) }
+    requires some { 0 < length rows.now }
+    requires rows { (definitions : List merge.NamedEntry) × AreRows text.now definitions rows.now
+        × AreInOrder definitions }
+    ensures pushed { OnOk result ((definitions : List merge.NamedEntry) (before : List TextEntry)
+        → AreRows text.now definitions rows.now → AreInOrder definitions → AreWritten before parts.old
+        → AreWritten (before ++ merged_entry options.now definitions ∷ []) parts.new) }
+    ensures fault { IfErr result (λ error. (definitions : List merge.NamedEntry)
+        → AreRows text.now definitions rows.now → AreInOrder definitions
+        → IsMergeFault (merged_entry options.now definitions ∷ []) error) }
 {
     one_definition_stays();
     lines_are_not_merged();
-    let Some(rows) = kept_definitions(group, options) else {
-        return Ok(());
-    };
     if rows.len() < 2 {
         return Ok(push_copy(parts, text, &rows[0])?);
     }
-    let entries = read_again(alloc, text, &rows)?;
-    let definitions = definitions_of(alloc, &rows, &entries)?;
-    let merged = match merge_definitions(alloc, options, &definitions) {
-        Ok(merged) => merged,
-        Err(error) => return Err(error),
-    };
+    let entries = read_again(alloc, text, rows)?;
+    let definitions = definitions_of(alloc, rows, &entries)?;
+    let mut merged = Catalogue::new(alloc);
+    merge_definitions(alloc, options, &definitions, &mut merged)?;
     Ok(parts.add(merged.entries())?)
 }
 
@@ -133,13 +130,13 @@ pub(crate) fn merged_text(
         (IsMergeFault (merged_messages options.now (map definitions (groups entries)))) }
 {
     groups_are_numbered();
-    let groups = groups_of(alloc, &inputs.rows, &inputs.numbers, inputs.count)?;
     let mut parts = TextParts::with_capacity(alloc, inputs.text.len())?;
+    let groups = groups_of(alloc, &inputs.rows, &inputs.numbers, inputs.count)?;
     for group in groups {
-        match push_group(alloc, &mut parts, &inputs.text, options, group) {
-            Ok(()) => {}
-            Err(error) => return Err(error),
-        }
+        let Some(rows) = kept_definitions(group, options) else {
+            continue;
+        };
+        push_definitions(alloc, &mut parts, &inputs.text, options, &rows)?;
     }
     Ok(parts.join()?)
 }

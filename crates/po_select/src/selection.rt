@@ -1,6 +1,6 @@
 //! Which entries are kept, and what becomes of them.
 
-ghost use Rattle.std.specs.Prelude.{◌≡◌, All, IfOk, IsOk, filter, map};
+ghost use Rattle.std.specs.Prelude.{◌≡◌, All, IfOk, IsOk, map};
 ghost use Rattle.po_messages.specs.Joined.{is_live_header};
 ghost use Rattle.po_entry.specs.Validity.{IsCatalogueEntry};
 ghost use Rattle.po_select.specs.Selected.{changed, fuzzy_after, is_emptied, is_kept, obsolete_after, selected};
@@ -109,16 +109,9 @@ pub fn select(catalogue: Catalogue, selection: &Selection) -> Result<Catalogue, 
     ensures never_refused { IsOk result }
 {
     let mut entries = catalogue.into_entries();
-    keep_selected(&mut entries, selection);
+    entries.retain(|entry| selection.keeps(entry));
     change_all(&mut entries, selection);
     Ok(Catalogue::of(entries))
-}
-
-/// Drops the entries that aren't kept.
-fn keep_selected(entries: &mut Vec<Entry>, selection: &Selection)
-    ensures { entries.new.items ≡ filter (is_kept selection.now) entries.old.items }
-{
-    entries.retain(|entry| selection.keeps(entry));
 }
 
 /// Changes each entry in its place.

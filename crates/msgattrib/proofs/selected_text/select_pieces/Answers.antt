@@ -23,7 +23,11 @@ loop-pieces-init c = record {
   read = read_none c.args.text.now c.in_ok-pieces.pieces c.in_ok-pieces.ensures.found c.in_ok-pieces.ensures.stops;
   selected = record {
     parts_are = c.in_ok-parts.ensures;
-    held = record { keys = c.new.ensures; read = c.new-2.ensures.items; kept = c.new-3.ensures.items };
+    held = record {
+      keys = record { bytes = c.new.ensures.items; lengths = c.new-2.ensures.items };
+      read = c.new-3.ensures.items;
+      kept = c.new-4.ensures.items;
+    };
   };
 }
 

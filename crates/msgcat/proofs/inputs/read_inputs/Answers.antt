@@ -1,28 +1,43 @@
-use Rattle.std.proofs.Common.{◌≡◌, ◌++◌, ◌∙◌, [], ap, inr, length, subst, sym}
-use Rattle.std.specs.Prelude.{All, MatchOption}
-use Rattle.std.specs.List.{AllZip}
-use Rattle.po_messages.specs.Duplicate.{HasNoDuplicate}
+use Rattle.std.proofs.Common.{◌≡◌, ◌+◌, ◌++◌, ◌∙◌, [], ap, arith, drop, filter, inr, length, refl, subst, sym, take}
+use Rattle.std.specs.Prelude.{MatchOption}
+use Rattle.po_messages.specs.Duplicate.{AllDiffer}
 use Rattle.po_messages.specs.FirstOnes.{first_ones}
+use Rattle.po_messages.specs.Joined.{is_live}
 use Rattle.po_messages.specs.Message.{same_message}
+use Rattle.po_messages.specs.Places.{AreNumbered, RepeatsOnLines}
+use Rattle.po_messages.proofs.RepeatLemmas.{none_kept}
 use Rattle.po_merge.specs.Grouping.{message_numbers, named_messages}
 use Rattle.po_merge.specs.Inputs.{all_entries}
 use Rattle.msgcat.specs.Internal.Entries.{AreRows, unnamed}
-use Rattle.msgcat.specs.Internal.Inputs.{IsFaultOfFirst, IsFirstRepeating, IsReadInput}
-use Rattle.msgcat.proofs.InputLemmas.{all_read, message_numbers_of, messages_of, no_partial, repeating_fault, text_fault}
+use Rattle.msgcat.specs.Internal.Inputs.{IsFaultOfFirst}
+use Rattle.msgcat.proofs.InputLemmas.{AreLeft, all_left, all_read, left_after, message_numbers_of, messages_of, no_partial, none_left, own, own_count, own_numbered, places_are, repeating, repeating_fault, text_fault}
 use Rattle.runs.specs.NamedFile.{named_files}
 use Rattle.msgcat.proofs.inputs.read_inputs.Goals as goal
 
-pub first_duplicate-requires : goal.first_duplicate-requires
-first_duplicate-requires c =
+pub loop-index-init : goal.loop-index-init
+loop-index-init c = record {
+  unseen = λ round after. none_kept c.new-seen.result.items c.new-seen.ensures.items round after;
+  left = λ read partial known numbers. subst (AreLeft read partial 0) (sym c.as_slice-rest.ensures.value)
+      (all_left read partial c.in_ok-numbers.numbers.items numbers);
+}
+
+pub repeated_lines-requires-clause-lengths : goal.repeated_lines-requires-clause-lengths
+repeated_lines-requires-clause-lengths c =
     let up_to = c.in_ok-entries.ensures in
     let entries = all_entries up_to.inputs ++ up_to.partial in
     let numbers = message_numbers_of entries c.in_ok-numbers.numbers.items
-    (c.in_ok-numbers.ensures.numbers (unnamed entries) up_to.holds.keys) in (
-      up_to.inputs,
-      up_to.partial,
-      subst (AllZip IsReadInput up_to.inputs) (sym c.deref.ensures.value) up_to.known,
-      c.deref-2.ensures.value ∙ numbers,
-    )
+    (c.in_ok-numbers.ensures.numbers (unnamed entries) up_to.holds.keys) in
+    let left = c.loop-index.invariant.left up_to.inputs up_to.partial up_to.known numbers in
+    let i = c.loop-index.index in
+    let inputs = c.deref.result.now in
+    let input = c.index-read-index.result in
+    let here = c.index-read-index.is in
+    let inside = c.loop-index-test.true in
+    let rest = c.loop-index.rest.now in
+    let long = c.len.ensures ∙ input.places.ok.0 in
+    ap length (c.split_at_most.ensures.first ∙ ap (λ n. take n rest) long)
+    ∙ own_count up_to.inputs up_to.partial inputs i input rest up_to.known inside here left
+    ∙ sym (ap length c.deref-2.ensures.value)
 
 pub returns-in-Some-clause-fault : goal.returns-in-Some-clause-fault
 returns-in-Some-clause-fault c =
@@ -30,11 +45,52 @@ returns-in-Some-clause-fault c =
     let entries = all_entries up_to.inputs ++ up_to.partial in
     let numbers = message_numbers_of entries c.in_ok-numbers.numbers.items
     (c.in_ok-numbers.ensures.numbers (unnamed entries) up_to.holds.keys) in
-    let known = subst (AllZip IsReadInput up_to.inputs) (sym c.deref.ensures.value) up_to.known in
-    let found = subst (λ o. MatchOption o (All (λ i. HasNoDuplicate i.entries) up_to.inputs)
-    (IsFirstRepeating up_to.inputs)) c.in-Some.is
-    (c.in_ok-fault.ensures up_to.inputs up_to.partial known (c.deref-2.ensures.value ∙ numbers)) in
-    inr (repeating_fault (named_files c.args.inputs.now) c.in_ok-entries.field-0 up_to c.in-Some.fault found)
+    let left = c.loop-index.invariant.left up_to.inputs up_to.partial up_to.known numbers in
+    let i = c.loop-index.index in
+    let inputs = c.deref.result.now in
+    let input = c.index-read-index.result in
+    let here = c.index-read-index.is in
+    let inside = c.loop-index-test.true in
+    let rest = c.loop-index.rest.now in
+    let long = c.len.ensures ∙ input.places.ok.0 in
+    let mine = own up_to.inputs up_to.partial inputs i input rest up_to.known inside here left in
+    let list = filter is_live mine in
+    let own_are = subst (AreNumbered (unnamed entries) mine)
+    (sym (c.split_at_most.ensures.first ∙ ap (λ n. take n rest) long))
+    (own_numbered up_to.inputs up_to.partial inputs i input rest up_to.known inside here left) in
+    let places = c.deref-2.ensures.value
+    ∙ places_are up_to.inputs up_to.partial inputs i input rest up_to.known inside here left in
+    let found = subst (λ o. MatchOption o (AllDiffer list) (RepeatsOnLines list)) c.in-Some.is
+    (c.in_ok-first.ensures.found (unnamed entries) mine is_live own_are places) in
+    inr (repeating_fault (named_files c.args.inputs.now) c.in_ok-entries.field-0 up_to
+    (record { name = input.name; error = c.duplicate_at.result })
+    (repeating up_to.inputs up_to.partial inputs i input rest up_to.known inside here left
+    (c.in-Some.first, c.in-Some.later) _ found refl c.duplicate_at.ensures))
+
+pub loop-index-preserved : goal.loop-index-preserved
+loop-index-preserved c = record {
+  unseen = λ round after. c.in_ok-first.ensures.later round after
+      (c.loop-index.invariant.unseen round (omega (arith, after)));
+  left = λ read partial known numbers.
+      let i = c.loop-index.index in
+      let inputs = c.deref.result.now in
+      let input = c.index-read-index.result in
+      let here = c.index-read-index.is in
+      let inside = c.loop-index-test.true in
+      let rest = c.loop-index.rest.now in
+      let long = c.len.ensures ∙ input.places.ok.0 in
+      let left = c.loop-index.invariant.left read partial known numbers in
+      let mine = own read partial inputs i input rest known inside here left in
+      let all = unnamed (all_entries read ++ partial) in
+      let list = filter is_live mine in
+      let own_are = subst (AreNumbered all mine) (sym (c.split_at_most.ensures.first ∙ ap (λ n. take n rest) long))
+      (own_numbered read partial inputs i input rest known inside here left) in
+      let places = c.deref-2.ensures.value ∙ places_are read partial inputs i input rest known inside here left in
+      let differ = subst (λ o. MatchOption o (AllDiffer list) (RepeatsOnLines list)) c.in_default.is
+      (c.in_ok-first.ensures.found all mine is_live own_are places) in
+      subst (AreLeft read partial (i + 1)) (sym (c.split_at_most.ensures.rest ∙ ap (λ n. drop n rest) long))
+      (left_after read partial inputs i input rest known inside here left differ);
+}
 
 pub returns-in-Some-fault-clause-fault : goal.returns-in-Some-fault-clause-fault
 returns-in-Some-fault-clause-fault c =
@@ -42,10 +98,9 @@ returns-in-Some-fault-clause-fault c =
     let entries = all_entries up_to.inputs ++ up_to.partial in
     let numbers = message_numbers_of entries c.in_ok-numbers.numbers.items
     (c.in_ok-numbers.ensures.numbers (unnamed entries) up_to.holds.keys) in
-    let known = subst (AllZip IsReadInput up_to.inputs) (sym c.deref.ensures.value) up_to.known in
-    let distinct = subst (λ o. MatchOption o (All (λ i. HasNoDuplicate i.entries) up_to.inputs)
-    (IsFirstRepeating up_to.inputs)) c.in_default.is
-    (c.in_ok-fault.ensures up_to.inputs up_to.partial known (c.deref-2.ensures.value ∙ numbers)) in
+    let left = c.loop-index.invariant.left up_to.inputs up_to.partial up_to.known numbers in
+    let distinct = none_left up_to.inputs up_to.partial c.deref.result.now c.loop-index.index c.loop-index.rest.now
+    up_to.known c.loop-index-test.false left in
     let first = subst (λ o. MatchOption o ((up_to.rest ≡ []) × (up_to.partial ≡ [])) (IsFaultOfFirst up_to.rest))
     c.in-Some-fault.is up_to.end in
     inr (text_fault (named_files c.args.inputs.now) c.in_ok-entries.field-0 up_to c.in-Some-fault.fault distinct first)
@@ -56,10 +111,9 @@ returns-clause-read c =
     let entries = all_entries up_to.inputs ++ up_to.partial in
     let numbers = message_numbers_of entries c.in_ok-numbers.numbers.items
     (c.in_ok-numbers.ensures.numbers (unnamed entries) up_to.holds.keys) in
-    let known = subst (AllZip IsReadInput up_to.inputs) (sym c.deref.ensures.value) up_to.known in
-    let distinct = subst (λ o. MatchOption o (All (λ i. HasNoDuplicate i.entries) up_to.inputs)
-    (IsFirstRepeating up_to.inputs)) c.in_default.is
-    (c.in_ok-fault.ensures up_to.inputs up_to.partial known (c.deref-2.ensures.value ∙ numbers)) in
+    let left = c.loop-index.invariant.left up_to.inputs up_to.partial up_to.known numbers in
+    let distinct = none_left up_to.inputs up_to.partial c.deref.result.now c.loop-index.index c.loop-index.rest.now
+    up_to.known c.loop-index-test.false left in
     let none = subst (λ o. MatchOption o ((up_to.rest ≡ []) × (up_to.partial ≡ [])) (IsFaultOfFirst up_to.rest))
     c.in-None.is up_to.end in
     let whole = no_partial up_to.inputs up_to.partial none.1 in (
