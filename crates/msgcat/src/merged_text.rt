@@ -107,8 +107,8 @@ fn push_definitions(
 {
     one_definition_stays();
     lines_are_not_merged();
-    if rows.len() < 2 {
-        return Ok(push_copy(parts, text, &rows[0])?);
+    if let [row] = rows {
+        return Ok(push_copy(parts, text, row)?);
     }
     let entries = read_again(alloc, text, rows)?;
     let definitions = definitions_of(alloc, rows, &entries)?;

@@ -29,8 +29,8 @@ pub loop-pieces-preserved : goal.loop-pieces-preserved
 loop-pieces-preserved c =
     let done = c.loop-pieces.invariant in
     let piece = c.in_ok-piece.piece in
-    let whole = take_all c.loop-entry.entry-index c.entries-in-loop-pieces.result.now c.loop-entry-test.false
-    ∙ c.entries-in-loop-pieces.ensures.entries in
+    let whole = take_all c.loop-entry.entry-index c.entries-entry-items.result.now c.loop-entry-test.false
+    ∙ c.entries-entry-items.ensures.entries in
     let adds = subst (λ l. AddsEntries c.args.name.now l c.loop-pieces.entries c.loop-entry.entries) whole
     c.loop-entry.invariant.entries in
     record {

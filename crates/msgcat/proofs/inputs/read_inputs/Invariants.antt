@@ -11,6 +11,6 @@ use Rattle.msgcat.proofs.inputs.read_inputs.Given as goal
 abbrev pub invariant-loop-index : goal.invariant-loop-index
 invariant-loop-index l = record {
   unseen : (round : ℕ) → l.index < round → IsUnseen round l.seen.items;
-  left : (read : List Named) (partial : List NamedEntry) → AllZip IsReadInput read l.read.items
-      → l.numbers.items ≡ message_numbers (all_entries read ++ partial) → AreLeft read partial l.index l.rest;
+  left : (read : List Named) (partial : List NamedEntry) → AllZip IsReadInput read l.input-items
+      → l.initial.rest ≡ message_numbers (all_entries read ++ partial) → AreLeft read partial l.index l.rest;
 }

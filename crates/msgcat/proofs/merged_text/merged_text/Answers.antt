@@ -57,23 +57,25 @@ push_definitions-requires c =
     let own = get_or all i [] in
     let group = group_at text all list.items i c.in-Some.group are turn.0 turn.1 in
     let some = c.in-Some-kept_definitions.ensures.some in
-    let held = rows_kept o text own c.in-Some.group.items c.in-Some-kept_definitions.rows.items group.rows some.0 some.1 in
-    let rows = subst (λ t. AreRows t (definitions own) c.deref-2-in-loop-group.result.now)
+    let held = rows_kept o text own c.in-Some.group.items c.in-Some-kept_definitions.rows.items group.rows some.0
+    some.1 in
+    let rows = subst (λ t. AreRows t (definitions own) c.deref-in-loop-group-2.result.now)
     (sym c.deref-in-loop-group.ensures.value)
-    (subst (AreRows text (definitions own)) (sym c.deref-2-in-loop-group.ensures.value) held.0) in
+    (subst (AreRows text (definitions own)) (sym c.deref-in-loop-group-2.ensures.value) held.0) in
     record {
       some = omega (
         arith,
         definitions_some (λ r. r.is_live) c.in-Some.group.items group.some,
         ap length some.0,
-        ap length c.deref-2-in-loop-group.ensures.value,
+        ap length c.deref-in-loop-group-2.ensures.value,
       );
       rows = (definitions own, rows, definitions_in_order own);
     }
 
 pub returns-in_err-push_definitions : goal.returns-in_err-push_definitions
 returns-in_err-push_definitions c =
-    let p = err_from_is_err_and c.from_residual.result c.from_residual.ensures.1 in
+    let p = err_from_is_err_and c.from_residual-in_err-push_definitions.result
+    c.from_residual-in_err-push_definitions.ensures.1 in
     rw (p.1, p.2) (λ es h.
     let all = groups es in
     let text = c.args.inputs.now.text.items in
@@ -89,10 +91,11 @@ returns-in_err-push_definitions c =
     let own = get_or all i [] in
     let group = group_at text all list.items i c.in-Some.group are turn.0 turn.1 in
     let some = c.in-Some-kept_definitions.ensures.some in
-    let held = rows_kept o text own c.in-Some.group.items c.in-Some-kept_definitions.rows.items group.rows some.0 some.1 in
-    let rows = subst (λ t. AreRows t (definitions own) c.deref-2-in-loop-group.result.now)
+    let held = rows_kept o text own c.in-Some.group.items c.in-Some-kept_definitions.rows.items group.rows some.0
+    some.1 in
+    let rows = subst (λ t. AreRows t (definitions own) c.deref-in-loop-group-2.result.now)
     (sym c.deref-in-loop-group.ensures.value)
-    (subst (AreRows text (definitions own)) (sym c.deref-2-in-loop-group.ensures.value) held.0) in
+    (subst (AreRows text (definitions own)) (sym c.deref-in-loop-group-2.ensures.value) held.0) in
     let inside : i < length all = omega (arith, turn.0, zip_length (IsGroupOf text) all list.items are) in
     let error = c.in_err-push_definitions.field-0.0 in
     fault_within o all i [] error inside
@@ -138,10 +141,11 @@ loop-group-preserved c = λ es h.
     let own = get_or all i [] in
     let group = group_at text all list.items i c.in-Some.group are turn.0 turn.1 in
     let some = c.in-Some-kept_definitions.ensures.some in
-    let held = rows_kept o text own c.in-Some.group.items c.in-Some-kept_definitions.rows.items group.rows some.0 some.1 in
-    let rows = subst (λ t. AreRows t (definitions own) c.deref-2-in-loop-group.result.now)
+    let held = rows_kept o text own c.in-Some.group.items c.in-Some-kept_definitions.rows.items group.rows some.0
+    some.1 in
+    let rows = subst (λ t. AreRows t (definitions own) c.deref-in-loop-group-2.result.now)
     (sym c.deref-in-loop-group.ensures.value)
-    (subst (AreRows text (definitions own)) (sym c.deref-2-in-loop-group.ensures.value) held.0) in
+    (subst (AreRows text (definitions own)) (sym c.deref-in-loop-group-2.ensures.value) held.0) in
     let inside : i < length all = omega (arith, turn.0, zip_length (IsGroupOf text) all list.items are) in
     subst (λ l. AreWritten l c.push_definitions.new.parts)
     (ap (λ l. of_groups o (take i all) ++ l) (sym (kept_one o (definitions own) held.1))

@@ -1,4 +1,4 @@
-use Rattle.std.proofs.Common.{◌++◌, ◌∷◌, [], ◌∙◌, ap, arith, length, subst, sym}
+use Rattle.std.proofs.Common.{◌++◌, ◌∷◌, [], ◌∙◌, ap, arith, false, get_or, length, subst, sym}
 use Rattle.std.specs.Prelude.{All}
 use Rattle.std.specs.List.{AllZip}
 use Rattle.std.proofs.lemmas.List.{length-map}
@@ -13,14 +13,18 @@ use Rattle.po_merge.specs.MergedEntry.{merged_entry}
 use Rattle.po_messages.specs.Facts.Zips.{zip_length}
 use Rattle.po_writer.specs.TextParts.{AreParts}
 use Rattle.msgcat.specs.Internal.Entries.{AreRows, IsRow}
+use Rattle.msgcat.specs.declared.entries.EntryRow.{EntryRow}
 use Rattle.msgcat.proofs.MergedLemmas.{fault_unlined, merged_again, message_copied, message_merged, one_of}
 use Rattle.msgcat.proofs.merged_text.push_definitions.Goals as goal
 
-pub returns-then-rows-lt2-clause-pushed : goal.returns-then-rows-lt2-clause-pushed
-returns-then-rows-lt2-clause-pushed c = λ ds before h order have.
+abbrev none : EntryRow
+none = record { name = record { ref_ptr = (0, 0); now = [] }; start = 0; end = 0; is_live = false; is_header = false }
+
+pub returns-in-len1-clause-pushed : goal.returns-in-len1-clause-pushed
+returns-in-len1-clause-pushed c = λ ds before h order have.
     let text = c.args.text.now in
-    let row = c.index-rows-0.result in
-    let one = one_of c.args.rows.now row c.requires.some c.if-rows-lt2.true ∙ ap (λ r. r ∷ []) (sym c.index-rows-0.is) in
+    let row = get_or c.args.rows.now 0 none in
+    let one = one_of c.args.rows.now none c.requires.some (omega (arith, c.in-len1.len_below)) in
     message_copied c.args.options.now text ds row before c.push_copy.new.parts
     (c.one_definition_stays.ensures c.args.options.now) (subst (AreRows text ds) one h)
     (λ d is. c.in_ok-push_copy.ensures d before is have)
@@ -68,7 +72,8 @@ merge_definitions-requires-clause-valid c =
 
 pub returns-in_err-merge_definitions-clause-fault : goal.returns-in_err-merge_definitions-clause-fault
 returns-in_err-merge_definitions-clause-fault c =
-    let p = err_from_is_err_and c.from_residual.result c.from_residual.ensures.1 in
+    let p = err_from_is_err_and c.from_residual-in_err-merge_definitions.result
+    c.from_residual-in_err-merge_definitions.ensures.1 in
     rw (p.1, p.2) (λ ds h order.
     let o = c.args.options.now in
     let named = named_entries c.deref.result.now in
