@@ -117,18 +117,15 @@ fn read_each<'a>(alloc: Global, inputs: &[(&'a str, &[u8])]) -> Result<ReadInput
     let mut read = Vec::new(alloc);
     for (name, text) in inputs {
         let mut places = Vec::new(alloc);
-        match add_text(alloc, &mut entries, &mut places, name, text) {
-            Ok(()) => {}
-            Err(error) => {
-                if error.kind == PoFault::OutOfMemory {
-                    return Err(AllocError);
-                }
-                return Ok(ReadInputs {
-                    entries,
-                    inputs: read,
-                    fault: Some(FileFault { name, error }),
-                });
+        if let Err(error) = add_text(alloc, &mut entries, &mut places, name, text) {
+            if error.kind == PoFault::OutOfMemory {
+                return Err(AllocError);
             }
+            return Ok(ReadInputs {
+                entries,
+                inputs: read,
+                fault: Some(FileFault { name, error }),
+            });
         }
         read.push(ReadInput { name, places })?;
     }

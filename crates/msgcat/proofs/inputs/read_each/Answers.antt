@@ -58,7 +58,7 @@ loop-name-preserved c =
     let file = get_or files i none in
     let at = file_at files i none c.loop-name-test.true in
     let inside : i < length (named_files files) = omega (arith, c.loop-name-test.true, length-map files named_file) in
-    let read = c.in-Ok.ensures.read in
+    let read = (rw c.in_default.is at c.add_text.ensures.read) in
     record {
       inputs = so_far.inputs ++ record { name = file.0.now; entries = read.0 } ∷ [];
       texts = text_more (named_files files) i (named_file file) so_far.inputs file.0.now read.0 inside so_far.texts
