@@ -4,7 +4,6 @@ use Rattle.std.specs.List.{suffix_len}
 use Rattle.std.proofs.lemmas.Bool.{both_ways, eqb-true}
 use Rattle.std.proofs.lemmas.List.{take-append-drop}
 use Rattle.std.proofs.lemmas.List.Elements.{All-append, All-cons, All-head, All-nil, All-take, All-tail}
-use Rattle.std.proofs.lemmas.Str.{IsUtf8-drop, IsCharBoundary-after_ascii}
 use Rattle.po_syntax.specs.declared.item.Marks.{Marks}
 use Rattle.po_syntax.specs.declared.item.CommentKind.{CommentKind}
 use Rattle.po_syntax.specs.declared.item.CommentKind.TheVariants.{Translator}
@@ -17,8 +16,8 @@ use Rattle.po_syntax.specs.TextItem.{TextItem}
 use Rattle.po_syntax.specs.CleanLine.{IsCleanLine}
 use Rattle.po_syntax.proofs.CleanLines.{clean_lines}
 use Rattle.po_syntax.proofs.SpeltEscapes.{of_each_letter}
-use Rattle.po_syntax.proofs.SpeltKeywords.{of_blank}
 use Rattle.po_syntax.proofs.Tokens.{keyword_rest}
+use Rattle.po_syntax.proofs.Utf8Rests.{blank_low, rest-utf8}
 use Rattle.std.specs.Str.{IsAscii}
 use Rattle.std.proofs.lemmas.Str.Ascii.{IsAscii-cons}
 use Rattle.simdutf8.proofs.StepsLemmas.{IsUtf8-append_ascii}
@@ -45,13 +44,10 @@ trim_returns-twice text =
 -- a clean line after an ASCII byte, or after several
 clean_tail : (b : ℕ) (text : List ℕ) → b < 128 → IsCleanLine (b ∷ text) → IsCleanLine text
 clean_tail b text low clean = record {
-  utf8 = IsUtf8-drop (b ∷ text) 1 clean.utf8 (IsCharBoundary-after_ascii (b ∷ text) 0 clean.utf8 (omega arith) low);
+  utf8 = rest-utf8 [] text b low clean.utf8;
   no_nul = All-tail (λ b. b ≢ 0) b text clean.no_nul;
   one_line = All-tail (λ b. b ≢ 10) b text clean.one_line;
 }
-
-blank_low : (b : ℕ) → IsBlank b → b < 128
-blank_low b is = of_blank (λ a. a < 128) (omega arith) (omega arith) (omega arith) (omega arith) (omega arith) b is
 
 clean_after : (blanks text : List ℕ) → All IsBlank blanks → IsCleanLine (blanks ++ text) → IsCleanLine text
 clean_after [] text all clean = clean

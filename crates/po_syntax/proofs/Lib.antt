@@ -9,12 +9,14 @@ pub mod Totality
 pub mod QuotedForms
 pub mod CleanLines
 pub mod ItemTexts
+pub mod LentStrings
 pub mod QuotedTexts
 pub mod NoMemory
 pub mod Escapes
 pub mod SpeltEscapes
 pub mod SpeltKeywords
 pub mod SpeltLines
+pub mod Utf8Rests
 pub mod OneString
 pub mod OneLine
 pub mod WrittenForms

@@ -1,5 +1,5 @@
 -- What a piece of a text holds.
-use Rattle.std.proofs.Common.{◌≡◌, ◌≢◌, ◌⊎◌, ◌↔◌, ◌∙◌, inl, inr, refl, sym, subst, ap, ℕ, zero, suc, ◌+◌, ◌-◌, ◌<◌, ◌≤◌, ◌^◌, true, List, [], ◌∷◌, ◌++◌, append-nil, append_assoc, length, get_or, take, drop, length-drop, All, Option, Some, None, arith}
+use Rattle.std.proofs.Common.{◌≡◌, ◌≢◌, ◌⊎◌, ◌↔◌, ◌∙◌, inl, inr, refl, sym, subst, ap, ℕ, zero, suc, ◌+◌, ◌-◌, ◌<◌, ◌≤◌, ◌^◌, true, List, [], ◌∷◌, ◌++◌, append-nil, append_assoc, length, get_or, take, drop, length-drop, All, IsUtf8, Option, Some, None, arith}
 use Rattle.std.specs.Borrow.{Bor}
 use Rattle.std.specs.Prelude.{is_some, MatchOption}
 use Rattle.std.proofs.Math.Seq.{take-append_seam, drop-append_seam, drop-cons}
@@ -337,6 +337,12 @@ of_text_after count left h within = record {
 pub read_of_text : {size : ℕ} {old now : LinesLeft} {items : List TextItem} → HasRead size old now items → AreOfText old
     → AreOfText now
 read_of_text {old = old} read h = subst AreOfText (sym read.rest) (of_text_after read.count old h read.within)
+
+-- the line that is read next
+pub line_utf8 : {size : ℕ} {old now : LinesLeft} {items : List TextItem} {line : List ℕ} {others : List (List ℕ)}
+    → HasRead size old now items → AreOfText old → now.lines ≡ line ∷ others → IsUtf8 line
+line_utf8 {line = line} {others = others} read h e =
+    (All-head IsCleanLine line others (subst (All IsCleanLine) e (read_of_text read h).clean)).utf8
 
 -- a piece above 2 ^ 31 bytes is all that is left
 pub piece_whole : {size : ℕ} {old new : LinesLeft} {items : List TextItem} → IsPiece size old new items → AreOfText old

@@ -36,12 +36,12 @@ ShapeSays text (Tokens marks rest) =
 ShapeSays text NoShape = LineFault text BadToken
 
 -- what a comment's shape says of the text after its `#`
-abbrev CommentSays : List ℕ → Shape → Type 0
+abbrev pub CommentSays : List ℕ → Shape → Type 0
 CommentSays text (CommentLine kind rest) = SpellsComment text kind rest
 CommentSays text (Tokens marks rest) = ⊥
 CommentSays text NoShape = (rest : List ℕ) × ((text ≡ 124 ∷ rest) ⊎ (text ≡ 126 ∷ rest))
 
-comment_says : (text : List ℕ) → CommentSays text (comment_shape text)
+pub comment_says : (text : List ℕ) → CommentSays text (comment_shape text)
 comment_says [] = translator tt
 comment_says (b ∷ rest) =
     let P = λ (a : ℕ) (s : Shape). CommentSays (a ∷ rest) s in

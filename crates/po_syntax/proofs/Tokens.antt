@@ -23,7 +23,7 @@ pub rest_shorter : {text rest : List ℕ} {word : Keyword} → SpellsKeyword tex
 rest_shorter {rest = rest} spelt = let own =
     keyword_rest spelt in omega (arith, ap length own.1, length-append own.0 rest)
 
-says : (text : List ℕ) {token : Token} → token_at text ≡ token → TokenSays (skip_blanks text) token
+pub says : (text : List ℕ) {token : Token} → token_at text ≡ token → TokenSays (skip_blanks text) token
 says text e = subst (TokenSays (skip_blanks text)) e (first_says (skip_blanks text))
 
 skipped-le : (text : List ℕ) → length (skip_blanks text) ≤ length text

@@ -31,3 +31,9 @@ abbrev pub HoldsText : TextItem → Type 0
 HoldsText (Comment kind text line) = IsCommentOf kind text
 HoldsText (Word keyword marks line) = Unit {0}
 HoldsText (Str bytes marks line) = All (λ b. b ≢ 0) bytes
+
+-- this holds of the bytes of a string; nothing is said of other items
+abbrev pub OfString : (List ℕ → Type 0) → TextItem → Type 0
+OfString P (Comment kind text line) = Unit {0}
+OfString P (Word keyword marks line) = Unit {0}
+OfString P (Str bytes marks line) = P bytes

@@ -3,6 +3,7 @@ pub mod Escapes
 pub mod Spelling
 pub mod LineFaults
 pub mod ItemContents
+pub mod Lent
 pub mod PoText
 pub mod CleanLine
 pub mod LinesLeft

@@ -1,5 +1,12 @@
 //! The items of a PO text: comments, keywords and strings, each with its line.
 
+ghost use Rattle.std.specs.Prelude.{◌≡◌, ◌↔◌, All, IsTrue, IsUtf8};
+ghost use Rattle.po_syntax.specs.ItemContents.{OfString};
+ghost use Rattle.po_syntax.specs.Lent.{LendsUtf8, owns_utf8};
+ghost use Rattle.po_syntax.specs.Spelling.{own_marks, previous_marks};
+ghost use Rattle.po_syntax.specs.TextItem.{views};
+
+use simdutf8::is_utf8;
 use std::borrow::CowSlice;
 
 /// The keyword that a word of a PO text is (manual, "The Format of PO Files").
@@ -39,6 +46,28 @@ pub struct Marks {
     pub previous: bool,
 }
 
+impl Marks {
+    /// Those of an entry's own lines, which begin with `#~` where it is obsolete.
+    pub fn own(obsolete: bool) -> Marks
+        ensures { result ≡ own_marks obsolete }
+    {
+        Marks {
+            obsolete,
+            previous: false,
+        }
+    }
+
+    /// Those of previous texts, whose lines begin with `#|`, or with `#~|` in an obsolete entry.
+    pub fn of_previous(obsolete: bool) -> Marks
+        ensures { result ≡ previous_marks obsolete }
+    {
+        Marks {
+            obsolete,
+            previous: true,
+        }
+    }
+}
+
 /// An item of a PO text, with its line, counted from 1. It borrows from the text, and owns a
 /// string's bytes only where an escape makes them differ from the text's.
 #[derive(Drop)]
@@ -49,4 +78,26 @@ pub enum Item<'a> {
     Word(Keyword, Marks, u32),
     /// The bytes that one quoted string spells, under the marks of its line.
     Str(CowSlice<'a, u8>, Marks, u32),
+}
+
+/// Whether the bytes that a string owns are UTF-8.
+fn owns_utf8(item: &Item<'_>) -> bool
+    ensures { result ≡ owns_utf8 item.now }
+{
+    let Item::Str(string, ..) = item else {
+        return true;
+    };
+    match string {
+        CowSlice::Borrowed(_) => true,
+        CowSlice::Owned(bytes) => is_utf8(bytes),
+    }
+}
+
+/// Whether each string is UTF-8 by itself. One that is borrowed from a PO text is, so only those that
+/// own their bytes are tested.
+pub fn strings_are_utf8(items: &[Item<'_>]) -> bool
+    requires { All LendsUtf8 items.now }
+    ensures { IsTrue result ↔ All (OfString IsUtf8) (views items.now) }
+{
+    items.iter().all(|item| owns_utf8(item))
 }

@@ -1,8 +1,8 @@
 //! The items of one line.
 
-ghost use Rattle.std.specs.Prelude.{◌≡◌, ◌≢◌, ◌≤◌, ◌==◌, length, IfErr, OnOk};
-ghost use Rattle.std.specs.List.{suffix_len};
+ghost use Rattle.std.specs.Prelude.{◌≡◌, ◌≢◌, All, IfErr, IsUtf8, OnOk};
 ghost use Rattle.po_syntax.specs.Internal.Line.{shape_of, hash_shape, tilde_shape, comment_shape};
+ghost use Rattle.po_syntax.specs.Lent.{LendsUtf8};
 ghost use Rattle.po_syntax.specs.LineFaults.{LineFault, TokensFault};
 ghost use Rattle.po_syntax.specs.Spelling.{HoldsItems, HoldsTokens};
 ghost use Rattle.po_syntax.specs.ItemContents.{trim_returns};
@@ -19,30 +19,6 @@ enum Shape<'a> {
     Comment(CommentKind, &'a [u8]),
     Tokens(Marks, &'a [u8]),
 }
-
-/// A line without marks.
-const LIVE: Marks = Marks {
-    obsolete: false,
-    previous: false,
-};
-
-/// A line after `#|`.
-const PREVIOUS: Marks = Marks {
-    obsolete: false,
-    previous: true,
-};
-
-/// A line after `#~`.
-const OBSOLETE: Marks = Marks {
-    obsolete: true,
-    previous: false,
-};
-
-/// A line after `#~|`.
-const OBSOLETE_PREVIOUS: Marks = Marks {
-    obsolete: true,
-    previous: true,
-};
 
 /// The comment, read after its `#`; none where `|` or `~` follows.
 fn comment_shape(text: &[u8]) -> Option<Shape<'_>>
@@ -63,12 +39,12 @@ fn tilde_shape(text: &[u8]) -> Option<Shape<'_>>
     ensures { IsShapeOf (tilde_shape text.now) result }
 {
     if let Some((b'|', rest)) = text.split_first() {
-        return Some(Shape::Tokens(OBSOLETE_PREVIOUS, rest));
+        return Some(Shape::Tokens(Marks::of_previous(true), rest));
     }
     let text = skip_blanks(text);
     match text.split_first() {
         Some((b'#', rest)) => comment_shape(rest),
-        _ => Some(Shape::Tokens(OBSOLETE, text)),
+        _ => Some(Shape::Tokens(Marks::own(true), text)),
     }
 }
 
@@ -78,7 +54,7 @@ fn hash_shape(text: &[u8]) -> Option<Shape<'_>>
     ensures { IsShapeOf (hash_shape text.now) result }
 {
     match text.split_first() {
-        Some((b'|', rest)) => Some(Shape::Tokens(PREVIOUS, rest)),
+        Some((b'|', rest)) => Some(Shape::Tokens(Marks::of_previous(false), rest)),
         Some((b'~', rest)) => tilde_shape(rest),
         _ => comment_shape(text),
     }
@@ -92,23 +68,16 @@ fn shape_of(line: &[u8]) -> Option<Shape<'_>>
     let text = skip_blanks(line);
     match text.split_first() {
         Some((b'#', rest)) => hash_shape(rest),
-        _ => Some(Shape::Tokens(LIVE, text)),
+        _ => Some(Shape::Tokens(Marks::own(false), text)),
     }
-}
-
-/// How many CRs the text ends with.
-fn return_count(text: &[u8]) -> usize
-    ensures count { result ≡ suffix_len (λ b. b == 13) text.now }
-    ensures within { result ≤ length text.now }
-{
-    text.iter().rev().take_while(|b| **b == b'\r').count()
 }
 
 /// The text without the CRs at its end.
 fn trim_returns(text: &[u8]) -> &[u8]
     ensures { result.now ≡ trim_returns text.now }
 {
-    text.split_at(text.len() - return_count(text)).0
+    let count = text.iter().rev().take_while(|b| **b == b'\r').count();
+    text.split_at(text.len() - count).0
 }
 
 /// Appends the items of a line's tokens.
@@ -121,6 +90,7 @@ fn add_tokens<'a>(
 ) -> Result<(), PoFault>
     ensures found { OnOk result
         (AddsItems (HoldsTokens marks line text.now) items.old.items items.new.items) }
+    ensures lent { IsUtf8 text.now → All LendsUtf8 items.old.items → OnOk result (All LendsUtf8 items.new.items) }
     ensures fault { IfErr result (λ e. e ≢ PoFault.OutOfMemory → TokensFault text.now e) }
 {
     let mut rest = text;
@@ -149,6 +119,7 @@ pub(crate) fn add_line<'a>(
 ) -> Result<(), PoFault>
     ensures found { OnOk result
         (AddsItems (HoldsItems line text.now) items.old.items items.new.items) }
+    ensures lent { IsUtf8 text.now → All LendsUtf8 items.old.items → OnOk result (All LendsUtf8 items.new.items) }
     ensures fault { IfErr result (λ e. e ≢ PoFault.OutOfMemory → LineFault text.now e) }
 {
     match shape_of(text) {

@@ -3,6 +3,7 @@
 ghost use Rattle.std.specs.Prelude.{◌≡◌, ◌≢◌, ◌↔◌, ◌+◌, ◌<◌, ◌≤◌, ◌^◌, ◌∷◌, [], take, drop, List, ℕ, All, length, vec_len, true, false, IfOk, IfErr, IfSome, MatchOption, OnOk, OnErr, IsTrue};
 ghost use Rattle.po_syntax.specs.declared.fault.PoFault.{PoFault};
 ghost use Rattle.po_syntax.specs.ItemContents.{HoldsText};
+ghost use Rattle.po_syntax.specs.Lent.{LendsUtf8};
 ghost use Rattle.po_syntax.specs.LinesLeft.{LinesLeft, SpellsLeft, LeftStops, AreOfText, lines_of_rest};
 ghost use Rattle.po_syntax.specs.Piece.{BeginsAnew, EndsTranslation, IsPiece, IsString, IsTranslationWord};
 ghost use Rattle.po_syntax.specs.PoText.{SpellsText, TextFault, line_number, lines_of};
@@ -38,11 +39,11 @@ const MAX_LEN: usize = 2_147_483_647;
 /// For how many items a piece has room at first.
 const FIRST_ROOM: usize = 128;
 
-/// The number of the line on which an index of the text stands, counted from 1.
-fn line_number(text: &[u8], index: usize) -> u32
+/// A fault at an index of the text, on whose line, counted from 1, it is reported.
+fn fault_at(text: &[u8], index: usize, kind: PoFault) -> PoError
     requires inside { index ≤ length text.now }
     requires small { length text.now < 2 ^ 31 }
-    ensures { result ≡ line_number text.now index }
+    ensures { result ≡ record { kind = kind; line = line_number text.now index } }
 {
     let feeds = text
         .split_at(index)
@@ -50,7 +51,10 @@ fn line_number(text: &[u8], index: usize) -> u32
         .iter()
         .filter(|b| **b == b'\n')
         .count();
-    1 + feeds as u32
+    PoError {
+        kind,
+        line: 1 + feeds as u32,
+    }
 }
 
 /// Cuts off the first line: its text, and what stands after its LF, if it has one.
@@ -66,13 +70,6 @@ fn first_line(text: &[u8]) -> (&[u8], Option<&[u8]>)
     };
     let (line, rest) = text.split_at(end);
     (line, Some(rest.split_at(1).1))
-}
-
-/// Whether an item is a quoted string.
-fn is_string(item: &Item<'_>) -> bool
-    ensures { IsTrue result ↔ IsString (view item.now) }
-{
-    matches!(item, Item::Str(..))
 }
 
 /// Whether an item is the keyword of a translation.
@@ -91,7 +88,7 @@ fn before_strings(items: &[Item<'_>]) -> usize
         → drop before (views items.now) ≡ item ∷ strings → IsString item → ⊥ }
 {
     let mut count = items.len();
-    while count > 0 && is_string(&items[count - 1]) {
+    while count > 0 && matches!(items[count - 1], Item::Str(..)) {
         count -= 1;
     }
     count
@@ -148,18 +145,10 @@ impl<'a> Pieces<'a> {
             });
         }
         if let Err(error) = from_utf8(text) {
-            let line = line_number(text, error.valid_up_to());
-            return Err(PoError {
-                kind: PoFault::NotUtf8,
-                line,
-            });
+            return Err(fault_at(text, error.valid_up_to(), PoFault::NotUtf8));
         }
         if let Some(index) = memchr(0, text) {
-            let line = line_number(text, index);
-            return Err(PoError {
-                kind: PoFault::ForbiddenByte,
-                line,
-            });
+            return Err(fault_at(text, index, PoFault::ForbiddenByte));
         }
         let rest = text.strip_prefix(b"\xef\xbb\xbf").unwrap_or(text);
         Ok(Pieces {
@@ -195,6 +184,7 @@ impl<'a> Pieces<'a> {
         ensures piece { IfOk result (λ items. IsPiece size self.old self.new (views items.items)) }
         ensures whole { 2 ^ 31 < size → OnOk result (self.new.lines ≡ []) }
         ensures hold { IfOk result (λ items. All HoldsText (views items.items)) }
+        ensures lent { IfOk result (λ items. All LendsUtf8 items.items) }
         ensures few { IfOk result (λ items. vec_len items ≤ 2 ^ 31) }
         ensures fault { IfErr result (λ e. e.kind ≢ PoFault.OutOfMemory → LeftStops self.old e.kind e.line) }
         ensures memory { IfErr result (λ e. e.kind ≡ PoFault.OutOfMemory → e.line ≡ 0) }
@@ -234,6 +224,7 @@ impl<'a> Pieces<'a> {
 /// `OutOfMemory`, without a line, may come in place of any result.
 pub fn items(alloc: Global, text: &[u8]) -> Result<Vec<Item<'_>>, PoError>
     ensures found { IfOk result (λ items. SpellsText text.now (views items.items)) }
+    ensures lent { IfOk result (λ items. All LendsUtf8 items.items) }
     ensures fault { IfErr result (λ e. e.kind ≢ PoFault.OutOfMemory → TextFault text.now e.kind e.line) }
     ensures memory { IfErr result (λ e. e.kind ≡ PoFault.OutOfMemory → e.line ≡ 0) }
     ensures few { IfOk result (λ items. vec_len items ≤ length text.now) }

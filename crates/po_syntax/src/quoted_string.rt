@@ -1,8 +1,9 @@
 //! The bytes that a quoted string spells.
 
-ghost use Rattle.std.specs.Prelude.{◌≡◌, ◌≢◌, ℕ, ◌+◌, ◌<◌, ◌⊎◌, List, ◌∷◌, ◌++◌, length, IfOk, IfErr};
+ghost use Rattle.std.specs.Prelude.{◌≡◌, ◌≢◌, ℕ, ◌⊎◌, List, ◌∷◌, ◌++◌, IfOk, IfErr, IsUtf8};
 ghost use Rattle.std.specs.Cow.{cow_slice_items};
 ghost use Rattle.po_syntax.specs.Escapes.{SpellsString};
+ghost use Rattle.po_syntax.specs.Lent.{LentAreUtf8};
 ghost use Rattle.po_syntax.specs.LineFaults.{StringFault};
 
 use crate::escape::escape;
@@ -19,7 +20,7 @@ fn split_plain(text: &[u8]) -> (&[u8], &[u8])
     ensures stops { (fault : PoFault) → StringFault result.1.now fault → StringFault text.now fault }
     ensures special { (b : ℕ) (after : List ℕ)
         → result.1.now ≡ b ∷ after → (b ≡ 34) ⊎ (b ≡ 92) }
-    ensures parts { length result.0.now + length result.1.now ≡ length text.now }
+    ensures parts { result.0.now ++ result.1.now ≡ text.now }
 {
     let end = memchr2(b'"', b'\\', text).unwrap_or(text.len());
     text.split_at(end)
@@ -54,6 +55,7 @@ pub(crate) fn quoted_string(
     text: &[u8],
 ) -> Result<(CowSlice<'_, u8>, &[u8]), PoFault>
     ensures found { IfOk result (λ p. SpellsString text.now (cow_slice_items p.0) p.1.now) }
+    ensures lent { IfOk result (λ p. IsUtf8 text.now → LentAreUtf8 p.0) }
     ensures fault { IfErr result (λ e. e ≢ PoFault.OutOfMemory → StringFault text.now e) }
 {
     let (plain, end) = split_plain(text);

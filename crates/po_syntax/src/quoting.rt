@@ -44,22 +44,14 @@ fn after_raw_blocks(bytes: &[u8]) -> &[u8]
     rest
 }
 
-/// How many bytes at the beginning stand in a quoted string as they are, counted one by one.
-fn raw_bytes(bytes: &[u8]) -> usize
-    ensures count { result ≡ prefix_len is_raw bytes.now }
-    ensures within { result ≤ length bytes.now }
-{
-    bytes.iter().take_while(|b| is_raw(**b)).count()
-}
-
 /// Splits off the bytes that are written as they are.
-#[tactic(auto, using(crate::proofs::RawRuns::written_prefix))]
 fn split_raw(bytes: &[u8]) -> (&[u8], &[u8])
     ensures parts { result.0.now ++ result.1.now ≡ bytes.now }
     ensures raw { written_bytes result.0.now ≡ result.0.now }
 {
     let rest = after_raw_blocks(bytes);
-    bytes.split_at(bytes.len() - rest.len() + raw_bytes(rest))
+    let count = rest.iter().take_while(|b| is_raw(**b)).count();
+    bytes.split_at(bytes.len() - rest.len() + count)
 }
 
 /// Appends what is written for one byte.

@@ -1,7 +1,7 @@
 //! The words, strings and blanks that a line is made of.
 
-ghost use Rattle.std.specs.Prelude.{◌≡◌, ◌<◌, ◌≤◌, true, false, length, bytes_eq, MatchOption};
-ghost use Rattle.std.specs.List.{list_all, prefix_len};
+ghost use Rattle.std.specs.Prelude.{◌≡◌, ◌<◌, true, false, bytes_eq, MatchOption};
+ghost use Rattle.std.specs.List.{list_all};
 ghost use Rattle.po_syntax.specs.Internal.Token.{after_first_word, first_word, index_token, token_at, word_token};
 ghost use Rattle.po_syntax.specs.Spelling.{is_word_byte};
 ghost use Rattle.po_syntax.specs.Blanks.{is_blank, skip_blanks};
@@ -37,19 +37,12 @@ fn is_word_byte(byte: u8) -> bool
     byte.is_ascii_alphanumeric() || byte == b'_'
 }
 
-/// How many blanks the text begins with.
-fn blank_count(text: &[u8]) -> usize
-    ensures count { result ≡ prefix_len is_blank text.now }
-    ensures within { result ≤ length text.now }
-{
-    text.iter().take_while(|b| is_blank(**b)).count()
-}
-
 /// The text after the blanks at its start (GNU gettext manual, "The Format of PO Files").
 pub fn skip_blanks(text: &[u8]) -> &[u8]
     ensures { result.now ≡ skip_blanks text.now }
 {
-    text.split_at(blank_count(text)).1
+    let count = text.iter().take_while(|b| is_blank(**b)).count();
+    text.split_at(count).1
 }
 
 /// The keyword `msgstr[i]`, read after its bracket and the blanks that follow.

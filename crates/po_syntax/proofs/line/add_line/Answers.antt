@@ -1,11 +1,14 @@
 use Rattle.std.proofs.Common.{◌≡◌, ◌∙◌, refl, ap, [], ◌∷◌, Ok, Err}
 use Rattle.std.proofs.lemmas.List.{map_push}
+use Rattle.std.proofs.lemmas.List.Elements.{All-push}
 use Rattle.std.proofs.lemmas.Result.{on_ok_weaker, IfErr-weaker}
 use Rattle.po_syntax.specs.Internal.Line.{CommentLine, Tokens, shape_of}
 use Rattle.po_syntax.specs.ItemContents.{trim_returns}
+use Rattle.po_syntax.specs.Lent.{LendsUtf8}
 use Rattle.po_syntax.specs.TextItem.{Comment}
 use Rattle.po_syntax.specs.Internal.LineView.{shape_view}
 use Rattle.po_syntax.proofs.OneLine.{line_at}
+use Rattle.po_syntax.proofs.Utf8Rests.{tokens-utf8}
 use Rattle.po_syntax.proofs.line.add_line.Goals as goal
 
 pub returns-in-None-clause-fault : goal.returns-in-None-clause-fault
@@ -25,6 +28,12 @@ returns-in-Some-Tokens-clause-fault c =
     IfErr-weaker c.add_tokens.result _ _
     (λ e stops reported. line_at c.args.line _ (Err _) shape (stops reported)) c.add_tokens.ensures.fault
 
+pub returns-in-Some-Tokens-clause-lent : goal.returns-in-Some-Tokens-clause-lent
+returns-in-Some-Tokens-clause-lent c =
+    let shape : shape_of c.args.text.now ≡ Tokens c.in-Some-Tokens.marks c.in-Some-Tokens.rest.now =
+    c.in-Some-Tokens.ensures ∙ ap shape_view c.in-Some-Tokens.field-0-is in
+    λ utf8. c.add_tokens.ensures.lent (tokens-utf8 c.args.text.now shape utf8)
+
 pub returns-in_ok-push-in-Some-Comment-clause-found : goal.returns-in_ok-push-in-Some-Comment-clause-found
 returns-in_ok-push-in-Some-Comment-clause-found c =
     let shape : shape_of c.args.text.now ≡ CommentLine c.in-Some-Comment.kind c.in-Some-Comment.rest.now =
@@ -33,3 +42,7 @@ returns-in_ok-push-in-Some-Comment-clause-found c =
       line_at c.args.line _ (Ok _) shape refl,
       rw (c.in_ok-push-in-Some-Comment.ensures.items, map_push, c.trim_returns.ensures),
     )
+
+pub returns-in_ok-push-in-Some-Comment-clause-lent : goal.returns-in_ok-push-in-Some-Comment-clause-lent
+returns-in_ok-push-in-Some-Comment-clause-lent c = λ _ before.
+    rw c.in_ok-push-in-Some-Comment.ensures.items (All-push LendsUtf8 _ _ before tt)

@@ -1,4 +1,4 @@
-use Rattle.std.proofs.Common.{subst, [], ◌∷◌, ◌++◌, append_assoc, append-nil, arith}
+use Rattle.std.proofs.Common.{ap, subst, [], ◌∷◌, ◌++◌, append_assoc, append-nil, length, length-append, arith}
 use Rattle.std.proofs.lemmas.Result.{err_from_is_err_and}
 use Rattle.po_syntax.specs.Escapes.{SpellsString, escape}
 use Rattle.po_syntax.specs.LineFaults.{StringFault, in_escape, after_escape}
@@ -29,8 +29,13 @@ returns-in_err-byte-clause-fault c =
     (in_escape (escape_is _ c.in_err-byte.ensures)))))
 
 pub loop-mark-smaller : goal.loop-mark-smaller
-loop-mark-smaller c = omega
-    (arith, c.split_plain.ensures.parts, c.in-Some.ensures.cases, escape_shorter (escape_is _ c.in_ok-byte.ensures))
+loop-mark-smaller c = omega (
+  arith,
+  ap length c.split_plain.ensures.parts,
+  length-append c.split_plain.result.0.now c.split_plain.result.1.now,
+  c.in-Some.ensures.cases,
+  escape_shorter (escape_is _ c.in_ok-byte.ensures),
+)
 
 pub loop-mark-preserved : goal.loop-mark-preserved
 loop-mark-preserved c =

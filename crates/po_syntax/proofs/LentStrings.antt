@@ -1,0 +1,54 @@
+-- Of strings that are borrowed and UTF-8, and others, all are UTF-8 exactly where those others are.
+use Rattle.std.proofs.Common.{◌≡◌, refl, sym, Bool, true, false, ◌&&◌, List, [], ◌∷◌, ℕ, All, IsUtf8}
+use Rattle.std.specs.Prelude.{◌↔◌, IsTrue}
+use Rattle.std.specs.List.{list_all}
+use Rattle.std.specs.Str.{is_utf8}
+use Rattle.std.specs.Global.{Global, Vec}
+use Rattle.std.specs.declared.borrow.CowSlice.{CowSlice}
+use Rattle.std.specs.declared.borrow.CowSlice.TheVariants.{Borrowed, Owned}
+use Rattle.std.proofs.lemmas.Bool.{false≢true}
+use Rattle.std.proofs.lemmas.List.Elements.{All-nil, All-cons, All-head, All-tail}
+use Rattle.std.proofs.lemmas.Str.{IsUtf8-from_is_utf8, is_utf8-from_IsUtf8}
+use Rattle.po_syntax.specs.declared.item.Item.{Item}
+use Rattle.po_syntax.specs.declared.item.Item.TheVariants.{Comment, Word, Str}
+use Rattle.po_syntax.specs.declared.item.Marks.{Marks}
+use Rattle.po_syntax.specs.ItemContents.{OfString}
+use Rattle.po_syntax.specs.Lent.{LendsUtf8, owns_utf8}
+use Rattle.po_syntax.specs.TextItem.{view, views}
+
+tested : (bytes : List ℕ) (found : Bool) → (IsTrue found ↔ IsUtf8 bytes) → found ≡ is_utf8 bytes
+tested bytes true h = sym (is_utf8-from_IsUtf8 bytes (h.0 refl))
+tested bytes false h = by (is_utf8 bytes) refl where
+  by : (own : Bool) → is_utf8 bytes ≡ own → false ≡ own
+  by true e = absurd (false≢true (h.1 (IsUtf8-from_is_utf8 bytes e)))
+  by false e = refl
+
+pub owned : {item : Item} {string : CowSlice ℕ Global} {marks : Marks} {line : ℕ} {bytes : Vec ℕ} {found : Bool}
+    → item ≡ Str string marks line → string ≡ Owned bytes → (IsTrue found ↔ IsUtf8 bytes.items)
+    → found ≡ owns_utf8 item
+owned {bytes = bytes} {found = found} is string_is h = rw (is, string_is) (tested bytes.items found h)
+
+one : (item : Item) → LendsUtf8 item → IsTrue (owns_utf8 item) ↔ OfString IsUtf8 (view item)
+one (Comment kind text line) lent = (λ _. tt, λ _. refl)
+one (Word keyword marks line) lent = (λ _. tt, λ _. refl)
+one (Str (Borrowed bytes) marks line) lent = (λ _. lent, λ _. refl)
+one (Str (Owned bytes) marks line) lent = (IsUtf8-from_is_utf8 bytes.items, is_utf8-from_IsUtf8 bytes.items)
+
+both : (own others : Bool) (item : Item) (items : List Item) → (IsTrue own ↔ OfString IsUtf8 (view item))
+    → (IsTrue others ↔ All (OfString IsUtf8) (views items))
+    → IsTrue (own && others) ↔ All (OfString IsUtf8) (views (item ∷ items))
+both true others item items here more = (
+  λ passes. All-cons (OfString IsUtf8) (view item) (views items) (here.0 refl) (more.0 passes),
+  λ all. more.1 (All-tail (OfString IsUtf8) (view item) (views items) all),
+)
+both false others item items here more = (
+  λ never. absurd (false≢true never),
+  λ all. absurd (false≢true (here.1 (All-head (OfString IsUtf8) (view item) (views items) all))),
+)
+
+pub all_owned : (items : List Item) → All LendsUtf8 items
+    → IsTrue (list_all owns_utf8 items) ↔ All (OfString IsUtf8) (views items)
+all_owned [] lent = (λ _. All-nil (OfString IsUtf8), λ _. refl)
+all_owned (item ∷ items) lent =
+    both (owns_utf8 item) (list_all owns_utf8 items) item items (one item (All-head LendsUtf8 item items lent))
+    (all_owned items (All-tail LendsUtf8 item items lent))

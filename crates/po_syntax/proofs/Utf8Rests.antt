@@ -1,0 +1,141 @@
+-- What is left of a UTF-8 line after its marks, a token or a string is UTF-8, and so is what stands
+-- before a quote: a text is cut beside an ASCII byte.
+use Rattle.std.proofs.Common.{◌≡◌, ◌∙◌, refl, sym, ap, subst, ◌==◌, ℕ, ◌+◌, ◌<◌, List, [], ◌∷◌, ◌++◌, append_assoc, length, length-append, get_or, drop, codes, All, IsUtf8, arith}
+use Rattle.std.proofs.Math.Seq.{take-append_seam, drop-append_seam}
+use Rattle.std.proofs.lemmas.Bool.{cond_both}
+use Rattle.std.proofs.lemmas.List.Elements.{All-head, All-tail}
+use Rattle.std.proofs.lemmas.Str.{IsUtf8-drop, IsUtf8-take, IsCharBoundary-after_ascii, IsCharBoundary-before_ascii}
+use Rattle.po_syntax.specs.declared.item.Keyword.{Keyword}
+use Rattle.po_syntax.specs.declared.item.Marks.{Marks}
+use Rattle.po_syntax.specs.Blanks.{IsBlank, skip_blanks}
+use Rattle.po_syntax.specs.Escapes.{SpellsEscape, letter, octal, hexadecimal, SpellsString, closed, plain, escape}
+use Rattle.po_syntax.specs.Internal.Line.{Shape, CommentLine, Tokens, NoShape, comment_shape, obsolete_shape, tilde_shape, hash_shape, first_shape, shape_of}
+use Rattle.po_syntax.specs.Internal.Token.{OpeningQuote, KeywordToken, token_at}
+use Rattle.po_syntax.specs.Spelling.{SpellsKeyword, msgctxt, msgid, msgid_plural, msgstr, form}
+use Rattle.po_syntax.proofs.SpeltEscapes.{by_byte}
+use Rattle.po_syntax.proofs.SpeltKeywords.{of_blank, skips}
+use Rattle.po_syntax.proofs.SpeltLines.{CommentSays, comment_says}
+use Rattle.po_syntax.proofs.Tokens.{says}
+
+-- the byte at which a text is cut
+byte_at : (own rest : List ℕ) (b : ℕ) → get_or (own ++ b ∷ rest) (length own) 0 ≡ b
+byte_at [] rest b = refl
+byte_at (c ∷ own) rest b = byte_at own rest b
+
+pub before-utf8 : (own rest : List ℕ) (b : ℕ) → b < 128 → IsUtf8 (own ++ b ∷ rest) → IsUtf8 own
+before-utf8 own rest b low utf8 =
+    let text = own ++ b ∷ rest in
+    let inside : length own < length text = omega (arith, length-append own (b ∷ rest)) in
+    let cut = IsCharBoundary-before_ascii text (length own) inside (omega (arith, low, byte_at own rest b)) in
+    subst IsUtf8 (take-append_seam own (b ∷ rest)) (IsUtf8-take text (length own) utf8 cut)
+
+pub rest-utf8 : (own rest : List ℕ) (b : ℕ) → b < 128 → IsUtf8 (own ++ b ∷ rest) → IsUtf8 rest
+rest-utf8 own rest b low utf8 =
+    let text = own ++ b ∷ rest in
+    let begin = own ++ b ∷ [] in
+    let inside : length own < length text = omega (arith, length-append own (b ∷ rest)) in
+    let cut = IsCharBoundary-after_ascii text (length own) utf8 inside (omega (arith, low, byte_at own rest b)) in
+    let count : length own + 1 ≡ length begin = omega (arith, length-append own (b ∷ [])) in
+    let after : drop (length own + 1) text ≡ rest =
+    rw (count, ← append_assoc own (b ∷ []) rest) (drop-append_seam begin rest) in
+    subst IsUtf8 after (IsUtf8-drop text (length own + 1) utf8 cut)
+
+pub blank_low : (b : ℕ) → IsBlank b → b < 128
+blank_low b is = of_blank (λ a. a < 128) (omega arith) (omega arith) (omega arith) (omega arith) (omega arith) b is
+
+after_blanks : (blanks text : List ℕ) → All IsBlank blanks → IsUtf8 (blanks ++ text) → IsUtf8 text
+after_blanks [] text all utf8 = utf8
+after_blanks (b ∷ blanks) text all utf8 =
+    after_blanks blanks text (All-tail IsBlank b blanks all)
+    (rest-utf8 [] (blanks ++ text) b (blank_low b (All-head IsBlank b blanks all)) utf8)
+
+skipped : (text : List ℕ) → IsUtf8 text → IsUtf8 (skip_blanks text)
+skipped text utf8 =
+    let parts = skips text in
+    after_blanks parts.blanks (skip_blanks text) parts.are_blanks (subst IsUtf8 (sym parts.whole) utf8)
+
+after_keyword : {text rest : List ℕ} {word : Keyword} → SpellsKeyword text word rest → IsUtf8 text → IsUtf8 rest
+after_keyword (msgctxt {rest = rest} ends) = rest-utf8 (codes "msgctx") rest 116 (omega arith)
+after_keyword (msgid {rest = rest} ends) = rest-utf8 (codes "msgi") rest 100 (omega arith)
+after_keyword (msgid_plural {rest = rest} ends) = rest-utf8 (codes "msgid_plura") rest 108 (omega arith)
+after_keyword (msgstr {rest = rest} ends none) = rest-utf8 (codes "msgst") rest 114 (omega arith)
+after_keyword (form before inside digits after {rest = rest} p q numeral fits r) = λ utf8.
+    rest-utf8 (codes "msgstr" ++ (before ++ 91 ∷ (inside ++ (digits ++ after)))) rest 93 (omega arith)
+    (simp append_assoc utf8)
+
+pub token_rest-utf8 : (text : List ℕ) {word : Keyword} {rest : List ℕ} → token_at text ≡ KeywordToken word rest
+    → IsUtf8 text → IsUtf8 rest
+token_rest-utf8 text e utf8 = after_keyword (says text e) (skipped text utf8)
+
+pub inside-utf8 : (text : List ℕ) {inside : List ℕ} → token_at text ≡ OpeningQuote inside → IsUtf8 text
+    → IsUtf8 inside
+inside-utf8 text {inside} e utf8 =
+    rest-utf8 [] inside 34 (omega arith) (subst IsUtf8 (says text e) (skipped text utf8))
+
+-- the text ends with this rest
+abbrev Ends : List ℕ → List ℕ → Type 0
+Ends text rest = (own : List ℕ) × (text ≡ own ++ rest)
+
+escape_ends : {text rest : List ℕ} {b : ℕ} → SpellsEscape text b rest → Ends text rest
+escape_ends (letter {b = b} e) = (b ∷ [], refl)
+escape_ends (octal digits numeral few ends byte) = (digits, refl)
+escape_ends (hexadecimal digits numeral ends byte) = (120 ∷ digits, refl)
+
+string_ends : {text bytes rest : List ℕ} → SpellsString text bytes rest → Ends text (34 ∷ rest)
+string_ends closed = ([], refl)
+string_ends (plain {b = b} p q s) = let end = string_ends s in (b ∷ end.0, ap (λ t. b ∷ t) end.1)
+string_ends (escape {rest = rest} e s) =
+    let own = escape_ends e in
+    let end = string_ends s in (
+      92 ∷ own.0 ++ end.0,
+      ap (λ t. 92 ∷ t)
+          (own.1 ∙ ap (λ t. own.0 ++ t) end.1 ∙ sym (append_assoc own.0 end.0 (34 ∷ rest))),
+    )
+
+pub string_rest-utf8 : {text bytes rest : List ℕ} → SpellsString text bytes rest → IsUtf8 text → IsUtf8 rest
+string_rest-utf8 {rest = rest} s utf8 =
+    let end = string_ends s in rest-utf8 end.0 rest 34 (omega arith) (subst IsUtf8 end.1 utf8)
+
+-- the text of a line's tokens
+abbrev TokensUtf8 : Shape → Type 0
+TokensUtf8 (CommentLine kind text) = Unit {0}
+TokensUtf8 (Tokens marks text) = IsUtf8 text
+TokensUtf8 NoShape = Unit {0}
+
+of_comment : (text : List ℕ) (shape : Shape) → CommentSays text shape → TokensUtf8 shape
+of_comment text (CommentLine kind rest) says = tt
+of_comment text (Tokens marks rest) says = absurd says
+of_comment text NoShape says = tt
+
+of_obsolete : (text : List ℕ) → IsUtf8 text → TokensUtf8 (obsolete_shape text)
+unfolding obsolete_shape
+of_obsolete [] utf8 = utf8
+of_obsolete (b ∷ rest) utf8 =
+    cond_both (b == 35) _ _ TokensUtf8 (λ _. of_comment rest (comment_shape rest) (comment_says rest)) (λ _. utf8)
+
+of_tilde : (text : List ℕ) → IsUtf8 text → TokensUtf8 (tilde_shape text)
+unfolding tilde_shape
+of_tilde [] utf8 = of_obsolete [] utf8
+of_tilde (b ∷ rest) utf8 =
+    by_byte (λ a shape. IsUtf8 (a ∷ rest) → TokensUtf8 shape) b 124 (rest-utf8 [] rest 124 (omega arith))
+    (λ _ utf8. of_obsolete (skip_blanks (b ∷ rest)) (skipped (b ∷ rest) utf8)) utf8
+
+of_hash : (text : List ℕ) → IsUtf8 text → TokensUtf8 (hash_shape text)
+unfolding hash_shape
+of_hash [] utf8 = tt
+of_hash (b ∷ rest) utf8 =
+    let P = λ (a : ℕ) (shape : Shape). IsUtf8 (a ∷ rest) → TokensUtf8 shape in
+    by_byte P b 124 (rest-utf8 [] rest 124 (omega arith)) (λ _.
+    by_byte P b 126 (λ utf8. of_tilde rest (rest-utf8 [] rest 126 (omega arith) utf8))
+    (λ _ _. of_comment (b ∷ rest) (comment_shape (b ∷ rest)) (comment_says (b ∷ rest)))) utf8
+
+of_first : (text : List ℕ) → IsUtf8 text → TokensUtf8 (first_shape text)
+unfolding first_shape
+of_first [] utf8 = utf8
+of_first (b ∷ rest) utf8 =
+    by_byte (λ a shape. IsUtf8 (a ∷ rest) → TokensUtf8 shape) b 35
+    (λ utf8. of_hash rest (rest-utf8 [] rest 35 (omega arith) utf8)) (λ _ utf8. utf8) utf8
+
+pub tokens-utf8 : (line : List ℕ) {marks : Marks} {text : List ℕ} → shape_of line ≡ Tokens marks text → IsUtf8 line
+    → IsUtf8 text
+tokens-utf8 line e utf8 = subst TokensUtf8 e (of_first (skip_blanks line) (skipped line utf8))
