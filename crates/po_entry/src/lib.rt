@@ -21,4 +21,4 @@ pub use crate::catalogue::Catalogue;
 pub use crate::charset::has_admitted_charset;
 pub use crate::entry::Entry;
 pub use crate::fields::{Fields, Previous, copy_optional, copy_texts};
-pub use crate::texts::check_texts;
+pub use crate::texts::{check_read_texts, check_texts};

@@ -1,6 +1,6 @@
 //! What the texts of an entry may hold: UTF-8, and no byte that can't be written.
 
-ghost use Rattle.std.specs.Prelude.{MatchResult, All, IfSome, IsTrue, ◌↔◌, option_to_list, option_copied};
+ghost use Rattle.std.specs.Prelude.{◌≡◌, true, MatchResult, All, IfSome, IsTrue, IsUtf8, ◌↔◌, option_to_list, option_copied};
 ghost use Rattle.po_entry.specs.Bytes.{Lacks};
 ghost use Rattle.po_entry.specs.EntryView.{entry_view};
 ghost use Rattle.po_entry.specs.TextEntry.{quoted_texts, texts};
@@ -23,7 +23,17 @@ pub fn check_texts(fields: &Fields) -> Result<(), PoFault>
     requires { All (Lacks 0) (quoted_texts (entry_view fields.now)) }
     ensures { MatchResult result (λ _. HasTexts (entry_view fields.now)) (EntryTextFault (entry_view fields.now)) }
 {
-    if !quoted_meet(Need::Utf8, fields) {
+    check_read_texts(fields, false)
+}
+
+/// Whether an entry can have these texts, as `check_texts` has it. Where it is known that they are
+/// UTF-8, that is not tested.
+pub fn check_read_texts(fields: &Fields, are_utf8: bool) -> Result<(), PoFault>
+    requires no_nul { All (Lacks 0) (quoted_texts (entry_view fields.now)) }
+    requires utf8 { are_utf8 ≡ true → All IsUtf8 (quoted_texts (entry_view fields.now)) }
+    ensures { MatchResult result (λ _. HasTexts (entry_view fields.now)) (EntryTextFault (entry_view fields.now)) }
+{
+    if !are_utf8 && !quoted_meet(Need::Utf8, fields) {
         return Err(PoFault::NotUtf8);
     }
     if !lacks_eot(fields) {

@@ -1,0 +1,33 @@
+use Rattle.std.proofs.Common.{sym, ◌∙◌, IsUtf8}
+use Rattle.std.specs.Prelude.{All}
+use Rattle.std.proofs.lemmas.Bool.{false≢true}
+use Rattle.po_entry.specs.EntryView.{entry_view}
+use Rattle.po_entry.specs.TextEntry.{quoted_texts}
+use Rattle.po_entry.specs.Validity.EntryTextFault.{not_utf8, forbidden}
+use Rattle.po_entry.proofs.texts.check_read_texts.Goals as goal
+use Rattle.po_entry.proofs.texts.check_read_texts.Goals.{else-not-are_utf8-via-then-not-are_utf8+else-not-quoted_meet, else-not-are_utf8-via-else-not-are_utf8}
+
+pub returns-then-not-quoted_meet : goal.returns-then-not-quoted_meet
+returns-then-not-quoted_meet c =
+    not_utf8 (λ all. false≢true (sym c.if-not-quoted_meet.true ∙ c.quoted_meet.ensures.1 all))
+
+pub returns-then-not-lacks_eot : goal.returns-then-not-lacks_eot
+returns-then-not-lacks_eot c =
+    let utf8 : All IsUtf8 (quoted_texts (entry_view c.args.fields.now)) = elim c.else-not-are_utf8.branch [
+      | else-not-are_utf8-via-then-not-are_utf8+else-not-quoted_meet w ↦
+          w.quoted_meet.ensures.0 w.if-not-quoted_meet.false
+      | else-not-are_utf8-via-else-not-are_utf8 w ↦ c.requires.utf8 w.if-not-are_utf8.false
+    ] in
+    forbidden utf8 (λ clean. false≢true (sym c.if-not-lacks_eot.true ∙ c.lacks_eot.ensures.1 (clean.context, clean.id)))
+
+pub returns : goal.returns
+returns c =
+    let lacks = c.lacks_eot.ensures.0 c.if-not-lacks_eot.false in
+    record {
+      utf8 = elim c.else-not-are_utf8.branch [
+        | else-not-are_utf8-via-then-not-are_utf8+else-not-quoted_meet w ↦
+            w.quoted_meet.ensures.0 w.if-not-quoted_meet.false
+        | else-not-are_utf8-via-else-not-are_utf8 w ↦ c.requires.utf8 w.if-not-are_utf8.false
+      ];
+      clean = record { no_nul = c.requires.no_nul; context = lacks.0; id = lacks.1 };
+    }
