@@ -13,4 +13,4 @@ pub mod Turns
 pub mod Heads
 pub mod PieceReading
 pub mod SoundFields
-pub mod NoNul
+pub mod JoinedStrings

@@ -17,6 +17,11 @@ pub asked_more : {X : Type 0} (P : X → Type 0) (xs : List X) (i : ℕ) (x : X)
     → All P (take i xs) → P x → All P (take (i + 1) xs)
 asked_more P xs i x below is so_far here = All-more P xs i x below so_far (subst P is here)
 
+-- an element of those of which all hold it
+pub asked_one : {X : Type 0} (P : X → Type 0) (xs : List X) (i : ℕ) (x : X) → i < length xs → x ≡ get_or xs i x
+    → All P xs → P x
+asked_one P xs i x below is all = subst P (sym is) (all i x below)
+
 -- all elements were checked
 pub asked_all : {X : Type 0} (P : X → Type 0) (xs : List X) (i : ℕ) → length xs ≤ i → All P (take i xs) → All P xs
 asked_all P xs i past so_far = rw take_all at so_far

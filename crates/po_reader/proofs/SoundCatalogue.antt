@@ -1,9 +1,10 @@
 -- The entries that the items of a text spell are entries, if they can have their texts; kept with their comments or without.
-use Rattle.std.proofs.Common.{◌≡◌, ℕ, ◌<◌, Bool, List, Option, None, length, refl, ◌∙◌, arith, [], ◌++◌, get_or, map, true, false, ◌∷◌}
+use Rattle.std.proofs.Common.{◌≡◌, ◌≢◌, ℕ, ◌<◌, Bool, List, Option, None, length, refl, ◌∙◌, arith, [], ◌++◌, get_or, map, true, false, ◌∷◌, subst, sym, IsUtf8}
 use Rattle.std.specs.Prelude.{All}
-use Rattle.std.proofs.lemmas.List.Elements.{All-nil, All-cons, All-head, All-tail, All-weaker, All-map}
-use Rattle.po_syntax.specs.ItemContents.{IsCommentOf, HoldsText, IsComment}
-use Rattle.po_syntax.specs.TextItem.{TextItem, Comment}
+use Rattle.std.proofs.lemmas.List.Elements.{All-nil, All-append, All-cons, All-head, All-tail, All-weaker, All-map}
+use Rattle.std.proofs.lemmas.Str.{IsUtf8-append}
+use Rattle.po_syntax.specs.ItemContents.{IsCommentOf, HoldsText, IsComment, OfString}
+use Rattle.po_syntax.specs.TextItem.{TextItem, Comment, Str, Word}
 use Rattle.po_entry.specs.EntryParts.{CommentText, PreviousText}
 use Rattle.po_entry.specs.Facts.AllAppend.{All-right, All-left}
 use Rattle.po_syntax.specs.declared.item.CommentKind.TheVariants.{Translator, Extracted, Reference, Flags}
@@ -15,7 +16,7 @@ use Rattle.po_entry.specs.Comments.{texts_of, references_of, all_listed_flags, f
 use Rattle.po_entry.specs.Validity.{HasTexts, IsEntry, IsTranslatorComment, IsReference, IsFlag, EntryTextFault}
 use Rattle.po_entry.specs.Spelling.{with_head, SpellsEntries}
 use Rattle.po_reader.proofs.Heads.{all_unmapped}
-use Rattle.po_reader.proofs.NoNul.{entry_texts}
+use Rattle.po_reader.proofs.JoinedStrings.{entry_texts, entries_texts}
 use Rattle.po_reader.proofs.SoundFields.{SoundCommentText, SoundFlagElement, SoundFlags, kind_sound, references_sound, all_flag_elements_sound, flags_sound}
 use Rattle.po_syntax.specs.declared.fault.PoFault.{PoFault}
 use Rattle.po_entry.specs.Header.{HasAdmittedCharset}
@@ -79,6 +80,15 @@ entry_sound comment_texts previous own n (spell.own_lines c w t) no_nul =
       no_nul = no_nul;
     }
 
+-- no string that items hold has a NUL
+no_nul_one : (item : TextItem) → HoldsText item → OfString (Lacks 0) item
+no_nul_one (Comment kind text line) h = tt
+no_nul_one (Word keyword marks line) h = tt
+no_nul_one (Str bytes marks line) h = h
+
+no_nul_items : (items : List TextItem) → All HoldsText items → All (OfString (Lacks 0)) items
+no_nul_items items h = All-weaker HoldsText (OfString (Lacks 0)) no_nul_one items h
+
 -- every entry that sound items spell
 pub entries_sound : {items : List TextItem} {entries : List TextEntry} → SpellsEntries items entries
     → All HoldsText items → All SoundEntry entries
@@ -90,7 +100,8 @@ entries_sound (spell.entries {items = rest} {others = others}
     let first = All-left HoldsText head own entry in
     All-cons SoundEntry (with_head comment_texts previous body) others
     (entry_sound comment_texts previous body (head_sound above first) lines
-    (entry_texts above lines first (All-right HoldsText head own entry)))
+    (entry_texts (Lacks 0) (All-append (λ b. b ≢ 0)) above lines (no_nul_items head first)
+    (no_nul_items own (All-right HoldsText head own entry))))
     (entries_sound more (All-right HoldsText (head ++ own) rest h))
 
 -- with texts that it can have, it is an entry
@@ -112,6 +123,22 @@ entry_valid spelt h t = record {
 pub drafts_hold : (made : List Fields) → All SoundEntry (map entry_view made)
     → All (λ draft. All (Lacks 0) (quoted_texts (entry_view draft))) made
 drafts_hold made h = λ k d inside. (all_unmapped SoundEntry entry_view made h k d inside).no_nul
+
+-- where the strings are UTF-8, the texts of drafts are
+utf8_one : (all : Bool) (entry : TextEntry) → All IsUtf8 (quoted_texts entry)
+    → All IsUtf8 (quoted_texts (kept_entry all entry))
+utf8_one true entry h = h
+utf8_one false entry h = h
+
+pub drafts_utf8 : (all : Bool) {items : List TextItem} {entries : List TextEntry} (made : List Fields)
+    → SpellsEntries items entries → map entry_view made ≡ map (kept_entry all) entries → All (OfString IsUtf8) items
+    → All (λ draft. All IsUtf8 (quoted_texts (entry_view draft))) made
+drafts_utf8 all {entries = entries} made spelt same h =
+    let texts = entries_texts IsUtf8 IsUtf8-append spelt h in
+    all_unmapped (λ (entry : TextEntry). All IsUtf8 (quoted_texts entry)) entry_view made
+    (subst (All (λ (entry : TextEntry). All IsUtf8 (quoted_texts entry))) (sym same)
+    (All-map (λ (entry : TextEntry). All IsUtf8 (quoted_texts entry)) (kept_entry all) entries
+    (λ k d inside. utf8_one all (get_or entries k d) (texts k d inside))))
 
 -- the entries of drafts whose texts were checked
 pub drafts_valid : (made : List Fields) → All SoundEntry (map entry_view made)

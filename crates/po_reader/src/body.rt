@@ -3,7 +3,6 @@
 ghost use Rattle.std.specs.Prelude.{◌≡◌, ◌≢◌, ◌<◌, ◌≤◌, ◌^◌, [], ℕ, true, length, None, IfOk, IfErr, IfSome, OnOk, MatchOption};
 ghost use Rattle.po_syntax.specs.TextItem.{Word};
 ghost use Rattle.po_entry.specs.TextEntry.{TextEntry, texts, optional_text};
-ghost use Rattle.po_entry.specs.Spelling.{own_marks};
 ghost use Rattle.po_reader.specs.Internal.ReaderView.{MakesEntry, wanted_view};
 ghost use Rattle.po_reader.specs.Internal.Stage.{SoFar, Between, Before, InHead, Stop, no_lines, with_own, with_entry, with_context, with_forms, with_translation};
 ghost use Rattle.po_reader.specs.Internal.Stage as stage;
@@ -28,18 +27,6 @@ enum Wanted {
     Form(u32),
 }
 
-/// Whether the keyword is one that can stand here.
-fn is_wanted(wanted: Wanted, keyword: Keyword) -> bool
-    ensures { result ≡ is_wanted (wanted_view wanted) keyword }
-{
-    match (wanted, keyword) {
-        (Wanted::Id, Keyword::MsgId) => true,
-        (Wanted::Translation, Keyword::MsgIdPlural | Keyword::MsgStr) => true,
-        (Wanted::Form(index), Keyword::MsgStrAt(found)) => found == index,
-        _ => false,
-    }
-}
-
 /// The fault of a keyword, if it isn't the wanted one or isn't obsolete or live as its entry is.
 fn keyword_fault(wanted: Wanted, obsolete: bool, keyword: Keyword, marks: Marks) -> Option<PoFault>
     ensures step { (read : SoFar) (line : ℕ) → read.own.obsolete ≡ obsolete → MatchOption result
@@ -50,26 +37,15 @@ fn keyword_fault(wanted: Wanted, obsolete: bool, keyword: Keyword, marks: Marks)
 {
     match (wanted, keyword) {
         _ if marks.previous => Some(PoFault::BadOrder),
-        _ if is_wanted(wanted, keyword) => {
-            if marks.obsolete == obsolete {
-                None
-            } else {
-                Some(PoFault::MixedObsolete)
-            }
+        (Wanted::Form(index), Keyword::MsgStrAt(found)) if found != index => {
+            Some(PoFault::BadPluralIndex)
         }
-        // a plural form is wanted, and the index is wrong
-        (Wanted::Form(_), Keyword::MsgStrAt(_)) => Some(PoFault::BadPluralIndex),
+        (Wanted::Id, Keyword::MsgId)
+        | (Wanted::Translation, Keyword::MsgIdPlural | Keyword::MsgStr)
+        | (Wanted::Form(_), Keyword::MsgStrAt(_)) => {
+            (marks.obsolete != obsolete).then_some(PoFault::MixedObsolete)
+        }
         _ => Some(PoFault::BadOrder),
-    }
-}
-
-/// The marks of an entry's own lines.
-fn own_marks(obsolete: bool) -> Marks
-    ensures { result ≡ own_marks obsolete }
-{
-    Marks {
-        obsolete,
-        previous: false,
     }
 }
 
@@ -103,7 +79,7 @@ fn take_keyword_text(
         return Err(rest.refusal(fault));
     }
     rest.advance();
-    let text = take_strings(alloc, rest, own_marks(obsolete))?;
+    let text = take_strings(alloc, rest, Marks::own(obsolete))?;
     Ok(KeywordText {
         keyword,
         line,
@@ -191,7 +167,7 @@ fn take_context(
     let obsolete = marks.obsolete;
     if let Keyword::MsgCtxt = keyword {
         rest.advance();
-        let context = take_strings(alloc, rest, own_marks(obsolete))?;
+        let context = take_strings(alloc, rest, Marks::own(obsolete))?;
         return Ok((Some(context), obsolete));
     }
     Ok((None, obsolete))

@@ -1,8 +1,8 @@
 //! The references and flags that comments spell, and the flags that an entry keeps (manual, "The
 //! Format of PO Files").
 
-ghost use Rattle.std.specs.Prelude.{◌≡◌, ◌==◌, ◌<◌, ◌≤◌, ◌++◌, ◌∷◌, [], ℕ, Bool, fold, length, position, IfOk, IfSome, MatchOption, OnOk};
-ghost use Rattle.std.specs.List.{list_any, slice_split, suffix_len};
+ghost use Rattle.std.specs.Prelude.{◌≡◌, ◌==◌, ◌<◌, ◌++◌, ◌∷◌, [], ℕ, Bool, fold, length, position, IfOk, IfSome, MatchOption, OnOk};
+ghost use Rattle.std.specs.List.{list_any, slice_split};
 ghost use Rattle.po_syntax.specs.Blanks.{is_blank};
 ghost use Rattle.po_entry.specs.Bytes.{trimmed};
 ghost use Rattle.po_entry.specs.TextEntry.{slice_texts, texts};
@@ -17,15 +17,8 @@ fn trimmed(text: &[u8]) -> &[u8]
     ensures { result.now ≡ trimmed text.now }
 {
     let rest = skip_blanks(text);
-    rest.split_at(rest.len() - blanks_after(rest)).0
-}
-
-/// How many blanks the text ends with.
-fn blanks_after(text: &[u8]) -> usize
-    ensures count { result ≡ suffix_len is_blank text.now }
-    ensures within { result ≤ length text.now }
-{
-    text.iter().rev().take_while(|b| is_blank(**b)).count()
+    let after = rest.iter().rev().take_while(|b| is_blank(**b)).count();
+    rest.split_at(rest.len() - after).0
 }
 
 /// The index of the first blank.

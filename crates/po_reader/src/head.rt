@@ -103,11 +103,7 @@ pub(crate) fn take_head<'i>(
         extracted: Vec::new(alloc),
         references: Vec::new(alloc),
         flags: Vec::new(alloc),
-        previous: Previous {
-            context: None,
-            id: None,
-            plural: None,
-        },
+        previous: Previous::none(),
     };
     let mut above = 0;
     loop {

@@ -1,7 +1,8 @@
 //! A catalogue from the items of a text. Before its texts are checked, an entry is a draft.
 
-ghost use Rattle.std.specs.Prelude.{◌≡◌, ◌≢◌, ◌<◌, ◌≤◌, ◌^◌, [], List, All, length, map, vec_len, IfOk, IfErr, OnOk};
+ghost use Rattle.std.specs.Prelude.{◌≡◌, ◌<◌, ◌≤◌, ◌^◌, [], List, All, length, map, vec_len, true, IfOk, IfErr, IsUtf8, OnOk};
 ghost use Rattle.po_syntax.specs.ItemContents.{HoldsText};
+ghost use Rattle.po_syntax.specs.Lent.{LendsUtf8};
 ghost use Rattle.po_syntax.specs.TextItem.{views};
 ghost use Rattle.po_entry.specs.Bytes.{Lacks};
 ghost use Rattle.po_entry.specs.EntryView.{entry_view};
@@ -18,8 +19,8 @@ ghost use Rattle.po_reader.specs.Internal.Reads.{Reads, start, Fails};
 use crate::body::take_body;
 use crate::cursor::Cursor;
 use crate::head::take_head;
-use po_entry::{Catalogue, Entry, Fields, check_texts};
-use po_syntax::{Item, PoError, PoFault};
+use po_entry::{Catalogue, Entry, Fields, check_read_texts};
+use po_syntax::{Item, PoError, PoFault, strings_are_utf8};
 use std::alloc::Global;
 
 /// How many items an entry has at least: two keywords and their strings.
@@ -32,14 +33,16 @@ pub(crate) fn read_items(
     with_comments: bool,
 ) -> Result<Catalogue, PoError>
     requires hold { All HoldsText (views items.items) }
+    requires lent { All LendsUtf8 items.items }
     requires few { vec_len items ≤ 2 ^ 31 }
     ensures found { IfOk result (KeepsItems with_comments (views items.entry.items)) }
     ensures fault { IfErr result (IsStop (ItemsStop (views items.entry.items))) }
     ensures memory { IfErr result (λ e. e.kind ≡ PoFault.OutOfMemory → e.line ≡ 0) }
 {
+    let are_utf8 = strings_are_utf8(&items);
     let drafts = drafts_of(alloc, &items, with_comments)?;
     drop(items);
-    check_drafts(&drafts)?;
+    check_drafts(&drafts, are_utf8)?;
     catalogue_of(alloc, drafts)
 }
 
@@ -64,14 +67,16 @@ fn drafts_of(alloc: Global, items: &[Item<'_>], with_comments: bool) -> Result<V
     }
 }
 
-/// Whether entries can have the texts that were read for them, checked in their order.
-fn check_drafts(drafts: &[Fields]) -> Result<(), PoError>
-    requires { All (λ draft. All (Lacks 0) (quoted_texts (entry_view draft))) drafts.now }
+/// Whether entries can have the texts that were read for them, checked in their order. If the strings
+/// are UTF-8 by themselves, so are the texts.
+fn check_drafts(drafts: &[Fields], are_utf8: bool) -> Result<(), PoError>
+    requires no_nul { All (λ draft. All (Lacks 0) (quoted_texts (entry_view draft))) drafts.now }
+    requires utf8 { are_utf8 ≡ true → All (λ draft. All IsUtf8 (quoted_texts (entry_view draft))) drafts.now }
     ensures ok { OnOk result (All (λ draft. HasTexts (entry_view draft)) drafts.now) }
     ensures fault { IfErr result (λ e. EntriesStop HasTexts EntryTextFault (map entry_view drafts.now) e.kind e.line) }
 {
     for draft in drafts {
-        if let Err(kind) = check_texts(draft) {
+        if let Err(kind) = check_read_texts(draft, are_utf8) {
             return Err(PoError {
                 kind,
                 line: draft.line,

@@ -1,9 +1,15 @@
 use Rattle.po_entry.specs.EntryView.{entry_view}
+use Rattle.po_entry.specs.TextEntry.{quoted_texts}
 use Rattle.po_entry.specs.Validity.{HasTexts}
-use Rattle.std.proofs.Common.{refl}
+use Rattle.std.proofs.Common.{refl, All, IsUtf8}
 use Rattle.po_entry.specs.Faults.EntriesStop.{here, later}
-use Rattle.po_reader.proofs.Loops.{drop_here, asked_more, asked_all}
+use Rattle.po_reader.proofs.Loops.{drop_here, asked_more, asked_one, asked_all}
 use Rattle.po_reader.proofs.items.check_drafts.Goals as goal
+
+pub check_read_texts-requires-clause-utf8 : goal.check_read_texts-requires-clause-utf8
+check_read_texts-requires-clause-utf8 c = λ are.
+    asked_one (λ draft. All IsUtf8 (quoted_texts (entry_view draft))) _ _ _ c.loop-draft-test.true c.draft-item.is
+    (c.requires.utf8 are)
 
 pub returns-in-Err-clause-fault : goal.returns-in-Err-clause-fault
 returns-in-Err-clause-fault c =

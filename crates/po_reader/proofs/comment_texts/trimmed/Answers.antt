@@ -1,0 +1,17 @@
+use Rattle.std.proofs.Common.{rules, tests, ◌∙◌, refl}
+use Rattle.std.specs.Prelude.{reverse}
+use Rattle.std.proofs.lemmas.Iterator.Adapters.{YieldsList-from_rev_slice}
+use Rattle.std.proofs.lemmas.Iterator.Consumers.{count_from_yields_List}
+use Rattle.std.proofs.lemmas.Iterator.Search.{YieldsList-from_take_while}
+use Rattle.std.proofs.lemmas.List.Folds.{length-prefix_len}
+use Rattle.po_syntax.specs.Blanks.{is_blank}
+use Rattle.po_reader.proofs.comment_texts.trimmed.Goals as goal
+
+pub returns : goal.returns
+returns c =
+    let rest = c.skip_blanks-rest.result.now in
+    let after = count_from_yields_List c.take_while.result _ c.count-after.ensures.ran
+    (YieldsList-from_take_while _ is_blank (YieldsList-from_rev_slice rest cc) c.take_while.ensures.closure
+    c.take_while.ensures.done (λ x b q k. search (rules, tests)))
+    ∙ length-prefix_len is_blank (reverse rest) in
+    rw (c.split_at.ensures.front, after, c.skip_blanks-rest.ensures) refl
