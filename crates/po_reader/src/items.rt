@@ -67,8 +67,8 @@ fn drafts_of(alloc: Global, items: &[Item<'_>], with_comments: bool) -> Result<V
     }
 }
 
-/// Whether entries can have the texts that were read for them, checked in their order. If the strings
-/// are UTF-8 by themselves, so are the texts.
+/// Whether entries can have the texts that were read for them, checked in their order. If it is
+/// known that these are UTF-8, that is not tested.
 fn check_drafts(drafts: &[Fields], are_utf8: bool) -> Result<(), PoError>
     requires no_nul { All (λ draft. All (Lacks 0) (quoted_texts (entry_view draft))) drafts.now }
     requires utf8 { are_utf8 ≡ true → All (λ draft. All IsUtf8 (quoted_texts (entry_view draft))) drafts.now }

@@ -93,8 +93,8 @@ fn owns_utf8(item: &Item<'_>) -> bool
     }
 }
 
-/// Whether each string is UTF-8 by itself. One that is borrowed from a PO text is, so only those that
-/// own their bytes are tested.
+/// Whether each string is UTF-8 by itself. One that is borrowed from a PO text is, so only those
+/// that own their bytes are tested.
 pub fn strings_are_utf8(items: &[Item<'_>]) -> bool
     requires { All LendsUtf8 items.now }
     ensures { IsTrue result ↔ All (OfString IsUtf8) (views items.now) }
