@@ -1,8 +1,12 @@
 //! Looking up a message.
 
-ghost use Rattle.std.specs.Prelude.{◌≡◌, ◌+◌, ◌^◌, ◌<◌};
-ghost use Rattle.mo_lookup.specs.CatalogView.{CatalogView};
-ghost use Rattle.pokit_c.specs.Answered.{IsAnswer};
+ghost use Rattle.std.specs.Prelude.{◌≡◌, ◌+◌, ◌^◌, ◌<◌, ◌≤◌, length, false};
+ghost use Rattle.plural_rule.specs.Expression.{nodes};
+ghost use Rattle.mo_lookup.specs.Bound.{search_bound};
+ghost use Rattle.mo_lookup.specs.CatalogView.{CatalogView, answered};
+ghost use Rattle.mo_lookup.specs.Comparisons.{query_comparisons};
+ghost use Rattle.mo_lookup.specs.Query.{can_be_key};
+ghost use Rattle.pokit_c.specs.QueryView.{query_view, answer_view, IsTerminated, IsOfQuery};
 ghost use Rattle.pokit_c.specs.Opened.{IsOpened};
 
 use crate::catalog::PokitCatalog;
@@ -20,7 +24,18 @@ pub extern "C" fn pokit_catalog_look(
     located: &mut PokitLocated,
 )
     requires { (view : CatalogView) × IsOpened catalog.now view }
-    ensures { IsAnswer catalog.now query.now located.new }
+    ensures answered { (view : CatalogView) → IsOpened catalog.now view
+        → answer_view catalog.now.bytes.now query.now located.new ≡ answered view (query_view query.now) }
+    ensures terminated { IsTerminated catalog.now.bytes.now located.new }
+    ensures of_query { IsOfQuery query.now located.new }
+    ensures comparisons { (view : CatalogView) → IsOpened catalog.now view
+        → located.new.comparisons ≡ query_comparisons view.messages (query_view query.now) }
+    ensures bound { (view : CatalogView) → IsOpened catalog.now view
+        → located.new.comparisons ≤ search_bound (length view.messages) }
+    ensures no_key { can_be_key (query_view query.now).context query.now.id.now ≡ false
+        → located.new.comparisons ≡ 0 }
+    ensures nodes { (view : CatalogView) → IsOpened catalog.now view
+        → located.new.steps ≤ nodes view.rule.tree }
 {
     *located = look(catalog, query, &mut Meter::new());
 }
@@ -31,7 +46,18 @@ fn look(catalog: &PokitCatalog<'_>, query: &PokitQuery<'_>, meter: &mut Meter) -
     requires opened { (view : CatalogView) × IsOpened catalog.now view }
     requires room { meter.old < 2 ^ 63 }
     ensures counted { meter.new ≡ meter.old + result.comparisons }
-    ensures answer { IsAnswer catalog.now query.now result }
+    ensures answered { (view : CatalogView) → IsOpened catalog.now view
+        → answer_view catalog.now.bytes.now query.now result ≡ answered view (query_view query.now) }
+    ensures terminated { IsTerminated catalog.now.bytes.now result }
+    ensures of_query { IsOfQuery query.now result }
+    ensures comparisons { (view : CatalogView) → IsOpened catalog.now view
+        → result.comparisons ≡ query_comparisons view.messages (query_view query.now) }
+    ensures bound { (view : CatalogView) → IsOpened catalog.now view
+        → result.comparisons ≤ search_bound (length view.messages) }
+    ensures no_key { can_be_key (query_view query.now).context query.now.id.now ≡ false
+        → result.comparisons ≡ 0 }
+    ensures nodes { (view : CatalogView) → IsOpened catalog.now view
+        → result.steps ≤ nodes view.rule.tree }
 {
     let view = MoView::open_checked(catalog.bytes);
     let found = locate(

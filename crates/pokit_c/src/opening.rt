@@ -1,10 +1,13 @@
 //! Opening a catalogue.
 
-ghost use Rattle.std.specs.Prelude.{◌≡◌, ◌+◌, ◌^◌, ◌<◌, length};
+ghost use Rattle.std.specs.Prelude.{◌≡◌, ◌+◌, ◌^◌, ◌<◌, List, length};
+ghost use Rattle.mo_file.specs.declared.byte_order.Order.{Order};
 ghost use Rattle.mo_file.specs.declared.fault.MoError.{MoError};
-ghost use Rattle.mo_file.specs.Fault.{IsFirstFault, comparisons_before};
+ghost use Rattle.mo_file.specs.MoFile.{IsMoFile};
+ghost use Rattle.mo_file.specs.Fault.{IsFirstFault, comparisons_before, kind, index};
+ghost use Rattle.mo_file.specs.Message.{Message};
 ghost use Rattle.mo_lookup.specs.CatalogView.{CatalogView};
-ghost use Rattle.pokit_c.specs.Opened.{IsOpened, IsOpening};
+ghost use Rattle.pokit_c.specs.Opened.{IsOpened};
 
 use crate::catalog::PokitCatalog;
 use crate::fault::{index, number};
@@ -21,7 +24,13 @@ pub extern "C" fn pokit_catalog_open<'a>(
     bytes: &'a [u8],
     message: &mut u32,
 ) -> u32
-    ensures { IsOpening bytes.now catalog.old catalog.new message.new result }
+    ensures opened { result ≡ 0 → (view : CatalogView) × IsOpened catalog.new view }
+    ensures same { result ≡ 0 → catalog.new.bytes.now ≡ bytes.now }
+    ensures no_message { result ≡ 0 → message.new ≡ 0 }
+    ensures fault { 0 < result → (fault : MoError) × (result ≡ kind fault) × (message.new ≡ index fault)
+        × IsFirstFault bytes.now fault }
+    ensures unchanged { 0 < result → catalog.new ≡ catalog.old }
+    ensures only { (order : Order) (messages : List Message) → IsMoFile order bytes.now messages → result ≡ 0 }
 {
     open(catalog, bytes, message, &mut Meter::new())
 }
@@ -36,7 +45,13 @@ fn open<'a>(
     meter: &mut Meter,
 ) -> u32
     requires { meter.old < 2 ^ 63 }
-    ensures opening { IsOpening bytes.now catalog.old catalog.new message.new result }
+    ensures opened { result ≡ 0 → (view : CatalogView) × IsOpened catalog.new view }
+    ensures same { result ≡ 0 → catalog.new.bytes.now ≡ bytes.now }
+    ensures no_message { result ≡ 0 → message.new ≡ 0 }
+    ensures fault { 0 < result → (fault : MoError) × (result ≡ kind fault) × (message.new ≡ index fault)
+        × IsFirstFault bytes.now fault }
+    ensures unchanged { 0 < result → catalog.new ≡ catalog.old }
+    ensures only { (order : Order) (messages : List Message) → IsMoFile order bytes.now messages → result ≡ 0 }
     ensures cost { result ≡ 0 → (view : CatalogView) × IsOpened catalog.new view
         × (meter.new ≡ meter.old + length view.messages) }
     ensures cost_of_fault { 0 < result → (fault : MoError) × IsFirstFault bytes.now fault
