@@ -81,6 +81,7 @@ pub fn grouped(alloc: Global, keys: &[MessageKey<'_>]) -> Result<(Vec<usize>, us
 {
     let mut digest = DefaultHasher::new();
     for key in keys {
+        digest.write_usize(key.id.len());
         key.hash(&mut digest);
     }
     numbered(alloc, keys, Seeded::of(&digest))
