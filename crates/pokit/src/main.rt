@@ -11,7 +11,7 @@ mod files;
 mod options;
 mod streams;
 
-use clap::ArgMatches;
+use clap::Error;
 use clap::error::ErrorKind;
 use command_line::Tool;
 use files::{System, SystemFiles};
@@ -20,15 +20,12 @@ use runs::{Counted, Ending, OutputSystem, ProgramFault};
 use std::process::ExitCode;
 
 fn main(rt: HostRuntime) -> ExitCode {
-    let ending = match started(&rt) {
-        Ok(ending) => ending,
-        Err(fault) => report_fault(&rt, None, fault),
-    };
+    let ending = run(&rt).unwrap_or_else(|fault| report_fault(&rt, None, fault));
     ExitCode::from(ending.exit_status())
 }
 
-/// Takes the arguments.
-fn started(rt: &HostRuntime) -> Result<Ending, ProgramFault<'static>> {
+/// Parses the arguments, and runs the tool that the first one names.
+fn run(rt: &HostRuntime) -> Result<Ending, ProgramFault<'static>> {
     if streams::replace_closed(rt).is_err() {
         return Err(ProgramFault::CannotOpen(streams::PLACEHOLDER));
     }
@@ -37,52 +34,51 @@ fn started(rt: &HostRuntime) -> Result<Ending, ProgramFault<'static>> {
     let first = arguments
         .get(1)
         .and_then(|argument| Tool::of_name(*argument));
-    match run(rt, first, arguments.as_slice()) {
-        Ok(ending) => Ok(ending),
-        Err(fault) => Ok(report_fault(rt, first, fault)),
-    }
-}
-
-/// Parses the arguments and runs the tool. Help and usage faults are written here.
-fn run(
-    rt: &HostRuntime,
-    first: Option<Tool>,
-    arguments: &[&str],
-) -> Result<Ending, ProgramFault<'static>> {
-    let command = command_line::program(rt.alloc(), first)?;
-    match command.try_get_matches_from(arguments) {
-        Ok(matches) => Ok(run_tool(rt, &matches)),
-        Err(error) if error.kind() == ErrorKind::OutOfMemory => Err(ProgramFault::OutOfMemory),
-        Err(error) if error.use_stderr() => {
-            let text = format!(in rt.alloc(); "{error}")?;
-            let text = command_line::reworded(rt.alloc(), first, text.as_str())?;
-            let _ = rt.eprint(&text);
-            Ok(Ending::Refused)
-        }
-        Err(error) => Ok(Ending::Helped(error.print(rt).is_ok())),
-    }
-}
-
-/// Runs the tool that the first argument names.
-fn run_tool(rt: &HostRuntime, matches: &ArgMatches<'_>) -> Ending {
-    let Some((name, matches)) = matches.subcommand() else {
-        return Ending::Refused;
-    };
-    let Some(tool) = Tool::of_name(name) else {
-        return Ending::Refused;
-    };
-    let given = Options(matches);
+    let mut reader = Counted::new(rt.reader());
     let mut system = OutputSystem {
         files: SystemFiles { rt, lacking: 0 },
         out: Counted::new(rt.stdout()),
         err: Counted::new(rt.stderr()),
     };
-    let mut reader = Counted::new(rt.reader());
-    let source = &mut System(rt);
+    let Ok(command) = command_line::program(rt.alloc(), first) else {
+        return Ok(report_fault(rt, first, ProgramFault::OutOfMemory));
+    };
+    let matches = match command.try_get_matches_from(arguments.as_slice()) {
+        Ok(matches) => matches,
+        Err(error) => {
+            let ending = explain(rt, first, &error);
+            return Ok(ending.unwrap_or_else(|fault| report_fault(rt, first, fault)));
+        }
+    };
+    let Some((name, matches)) = matches.subcommand() else {
+        return Ok(Ending::Refused);
+    };
+    let Some(tool) = Tool::of_name(name) else {
+        return Ok(Ending::Refused);
+    };
+    let (source, given) = (&mut System(rt), Options(matches));
     match po_tools::run(rt.alloc(), tool, source, &mut reader, &mut system, &given) {
-        Ok(status) => Ending::Ran(status),
-        Err(fault) => report_fault(rt, Some(tool), fault),
+        Ok(status) => Ok(Ending::Ran(status)),
+        Err(fault) => Ok(report_fault(rt, Some(tool), fault)),
     }
+}
+
+/// Writes the help that was asked for, or what is wrong with the arguments.
+fn explain(
+    rt: &HostRuntime,
+    first: Option<Tool>,
+    error: &Error,
+) -> Result<Ending, ProgramFault<'static>> {
+    if error.kind() == ErrorKind::OutOfMemory {
+        return Err(ProgramFault::OutOfMemory);
+    }
+    if !error.use_stderr() {
+        return Ok(Ending::Helped(error.print(rt).is_ok()));
+    }
+    let text = format!(in rt.alloc(); "{error}")?;
+    let text = command_line::reworded(rt.alloc(), first, text.as_str())?;
+    let _ = rt.eprint(&text);
+    Ok(Ending::Refused)
 }
 
 /// Reports a fault. Where that fails too, the status alone reports it.
