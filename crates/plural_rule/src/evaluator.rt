@@ -135,7 +135,8 @@ fn act(
     newest: u64,
     below: u64,
 ) -> Effect
-    ensures { (older : List ℕ) → (result.1 ≤ 2) × (act count action (low_of (drop next instructions.now)) (newest ∷ below ∷ older)
+    ensures { (older : List ℕ) → (result.1 ≤ 2) ×
+        (act count action (low_of (drop next instructions.now)) (newest ∷ below ∷ older)
         ≡ left_by result.0 result.1 result.2 result.3 (newest ∷ below ∷ older)) }
 {
     match action {
