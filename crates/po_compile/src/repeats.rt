@@ -10,7 +10,7 @@ ghost use Rattle.po_compile.specs.Internal.Rows.{AllApart, all_messages, input_k
 
 use crate::collecting::Collected;
 use crate::row::Row;
-use crate::rows::joined_rows;
+use crate::rows::{joined_rows, room_for};
 use po_messages::laws::{messages_are_numbered_in_order, one_number_is_one_message};
 use po_messages::{JoinError, MessageKey, duplicate_at, grouped};
 use po_syntax::{PoError, PoFault};
@@ -18,14 +18,15 @@ use std::alloc::{AllocError, Global};
 use std::slice::from_ref;
 
 /// The number of each key of the joined list of the inputs. Keys are numbered in the order in which
-/// they first appear, each as that of a message without a context.
+/// they first appear, each as that of a message without a context. Their room is taken before that of
+/// the rows, so that it doesn't stand in the way of what is taken once these are dropped.
 fn key_numbers(alloc: Global, inputs: &[Collected]) -> Result<Vec<usize>, AllocError>
     requires { length inputs.now < 2 ^ 32 }
     ensures { IfOk result (λ numbers. numbers.items
         ≡ group_numbers same_message (map key_message (input_keys (all_messages inputs.now)))) }
 {
+    let mut keys = Vec::with_capacity(alloc, room_for(inputs))?;
     let rows = joined_rows(alloc, inputs)?;
-    let mut keys = Vec::with_capacity(alloc, rows.len())?;
     for row in &rows {
         keys.push(MessageKey {
             context: None,

@@ -64,6 +64,14 @@ fn add_rows<'b>(
     Ok(())
 }
 
+/// How many rows the inputs have at most: a capacity.
+pub(crate) fn room_for(inputs: &[Collected]) -> usize {
+    inputs.iter().fold(
+        0,
+        |sum: usize, input| sum.saturating_add(input.lengths.len()),
+    )
+}
+
 /// The rows of the joined list of the inputs, in its order.
 pub(crate) fn joined_rows<'b>(
     alloc: Global,
@@ -72,11 +80,7 @@ pub(crate) fn joined_rows<'b>(
     requires { length inputs.now < 2 ^ 32 }
     ensures { IfOk result (λ rows. map row_view rows.items ≡ all_messages inputs.now) }
 {
-    let count = inputs.iter().fold(
-        0,
-        |sum: usize, input| sum.saturating_add(input.lengths.len()),
-    );
-    let mut rows = Vec::with_capacity(alloc, count)?;
+    let mut rows = Vec::with_capacity(alloc, room_for(inputs))?;
     let mut headed = false;
     for (input, collected) in inputs.iter().enumerate() {
         add_rows(&mut rows, input as u32, collected, headed)?;
