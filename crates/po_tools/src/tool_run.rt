@@ -43,24 +43,28 @@ where
         (reached (S.asked source.new)
         (reader_of (R.remaining reader.new) (R.calls reader.new) (R.failures reader.new)) system.new) result }
 {
-    let inputs = given.texts_of("FILE");
-    let input = given.text_of("FILE").unwrap_or(STANDARD);
-    let output = given.text_of("output-file");
     match tool {
         Tool::Msgfmt => {
-            let output = output.unwrap_or(DEFAULT_OUTPUT);
             let options = msgfmt_options_of(given);
+            let inputs = given.texts_of("FILE");
+            let output = given.text_of("output-file").unwrap_or(DEFAULT_OUTPUT);
             msgfmt::run(alloc, source, system, inputs, output, &options)
         }
-        Tool::Msgunfmt => msgunfmt::run(alloc, source, system, input, output.unwrap_or(STANDARD)),
+        Tool::Msgunfmt => {
+            let input = given.text_of("FILE").unwrap_or(STANDARD);
+            let output = given.text_of("output-file").unwrap_or(STANDARD);
+            msgunfmt::run(alloc, source, system, input, output)
+        }
         Tool::Msgattrib => {
-            let output = output.unwrap_or(STANDARD);
             let selection = selection_of(given);
+            let input = given.text_of("FILE").unwrap_or(STANDARD);
+            let output = given.text_of("output-file").unwrap_or(STANDARD);
             msgattrib::run(alloc, source, system, input, output, &selection)
         }
         Tool::Msgcat => {
-            let output = output.unwrap_or(STANDARD);
             let options = merge_options_of(given);
+            let inputs = given.texts_of("FILE");
+            let output = given.text_of("output-file").unwrap_or(STANDARD);
             msgcat::run(alloc, source, system, inputs, output, &options)
         }
         Tool::Gettext => {

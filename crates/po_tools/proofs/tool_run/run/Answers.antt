@@ -22,20 +22,23 @@ pub returns-in-Msgfmt : goal.returns-in-Msgfmt
 returns-in-Msgfmt g c =
     let output : IsTextOr (g.A.Arguments.text c.args.given.now) (codes "output-file") default_output
     c.unwrap_or-output.result.now =
-    text_is _ _ c.text_of-output.result c.text_of-output.ensures c.unwrap_or-output.ensures in
+    text_is _ _ c.text_of.result c.text_of.ensures c.unwrap_or-output.ensures in
     search (rules, output)
 
 pub returns-in-Msgunfmt : goal.returns-in-Msgunfmt
 returns-in-Msgunfmt g c =
     let output : IsTextOr (g.A.Arguments.text c.args.given.now) (codes "output-file") (codes "-")
-    c.unwrap_or.result.now = text_is _ _ c.text_of-output.result c.text_of-output.ensures c.unwrap_or.ensures in
+    c.unwrap_or-output-in-Msgunfmt.result.now =
+    text_is _ _ c.text_of-in-Msgunfmt-2.result c.text_of-in-Msgunfmt-2.ensures
+    c.unwrap_or-output-in-Msgunfmt.ensures in
     search (rules, output)
 
 pub returns-in-Msgattrib : goal.returns-in-Msgattrib
 returns-in-Msgattrib g c =
     let output : IsTextOr (g.A.Arguments.text c.args.given.now) (codes "output-file") (codes "-")
     c.unwrap_or-output-in-Msgattrib.result.now =
-    text_is _ _ c.text_of-output.result c.text_of-output.ensures c.unwrap_or-output-in-Msgattrib.ensures in
+    text_is _ _ c.text_of-in-Msgattrib-2.result c.text_of-in-Msgattrib-2.ensures
+    c.unwrap_or-output-in-Msgattrib.ensures in
     rw c.in-Msgattrib.is (record {
       selection = c.selection_of-selection.result;
       selection_is = c.selection_of-selection.ensures;
@@ -46,7 +49,7 @@ pub returns-in-Msgcat : goal.returns-in-Msgcat
 returns-in-Msgcat g c =
     let output : IsTextOr (g.A.Arguments.text c.args.given.now) (codes "output-file") (codes "-")
     c.unwrap_or-output-in-Msgcat.result.now =
-    text_is _ _ c.text_of-output.result c.text_of-output.ensures c.unwrap_or-output-in-Msgcat.ensures in
+    text_is _ _ c.text_of-in-Msgcat.result c.text_of-in-Msgcat.ensures c.unwrap_or-output-in-Msgcat.ensures in
     search (rules, output)
 
 pub returns-in_err-arguments-in-Gettext : goal.returns-in_err-arguments-in-Gettext
