@@ -12,20 +12,20 @@ use Rattle.std.proofs.lemmas.List.Splits.{join_with_byte-slice_split, slice_spli
 use Rattle.std.proofs.lemmas.List.Sums.{take_while-cons}
 use Rattle.std.proofs.lemmas.Slice.Eq.{bytes_eq-Decides}
 use Rattle.memchr.specs.Find.{is_byte}
-use Rattle.locale_names.specs.Names.{candidates, candidates_of_name, is_path_part, is_untranslated, language_parts, languages}
+use Rattle.locale_names.specs.Names.{candidates, candidates_of_name, is_path_part, is_c_locale, language_parts, languages}
 use Rattle.locale_names.proofs.SearchLemmas.{nil-from_length}
 use Rattle.gettext.specs.declared.candidates.Environment.{Environment}
 use Rattle.gettext.specs.Environments.{environment_view}
 use Rattle.gettext.specs.Locales.{non_empty, locale_of, candidates_of, distinct}
-use Rattle.gettext.specs.Candidates.{Lacks, IsUntranslated, CanStandInPath, Count, no_part, ends, omitted, counts, Lists, AreLanguages, untranslated, no_path, the_locale, of_language, FirstPlaces, AreCandidates}
+use Rattle.gettext.specs.Candidates.{Lacks, IsCLocale, CanStandInPath, Count, no_part, ends, omitted, counts, Lists, AreLanguages, untranslated, no_path, the_locale, of_language, FirstPlaces, AreCandidates}
 use Rattle.gettext.proofs.ChoiceLemmas.{says, from_text, from_no_text, locale_chosen}
 use Rattle.gettext.proofs.NameParts.{have_five, are_five}
 use Rattle.gettext.proofs.NamesOnce.{places_of, are_places, neither}
 
 -- the tests of a name
-untranslated_decides : (name : List ℕ) → Decides (is_untranslated name) (IsUntranslated name)
-unfolding is_untranslated
-untranslated_decides name =
+c_locale_decides : (name : List ℕ) → Decides (is_c_locale name) (IsCLocale name)
+unfolding is_c_locale
+c_locale_decides name =
     Decides-or (bytes_eq name (codes "C")) (bytes_eq name (codes "POSIX")) (bytes_eq-Decides name (codes "C"))
     (bytes_eq-Decides name (codes "POSIX"))
 
@@ -46,12 +46,12 @@ fails test decides never = false_from_ne_true test (λ e. never (decides.0 e))
 
 -- the parts that count
 abbrev may_count : List ℕ → Bool
-may_count part = not (is_untranslated part)
+may_count part = not (is_c_locale part)
 
 abbrev counting : List (List ℕ) → List (List ℕ)
 counting parts = filter is_path_part (take_while may_count parts)
 
-counting-next : (part : List ℕ) (parts : List (List ℕ)) (u f : Bool) → is_untranslated part ≡ u → is_path_part part ≡ f
+counting-next : (part : List ℕ) (parts : List (List ℕ)) (u f : Bool) → is_c_locale part ≡ u → is_path_part part ≡ f
     → counting (part ∷ parts) ≡ cond u [] (cond f (part ∷ counting parts) (counting parts))
 counting-next part parts true f e p =
     ap (filter is_path_part)
@@ -63,14 +63,14 @@ counting-next part parts false f e p =
 
 count_of : (parts : List (List ℕ)) → Count parts (counting parts)
 count_of [] = no_part
-count_of (part ∷ parts) = elim (cases_Bool (is_untranslated part)) [
-  | inl u ↦ rw (counting-next part parts true (is_path_part part) u refl) (ends ((untranslated_decides part).0 u))
+count_of (part ∷ parts) = elim (cases_Bool (is_c_locale part)) [
+  | inl u ↦ rw (counting-next part parts true (is_path_part part) u refl) (ends ((c_locale_decides part).0 u))
   | inr u ↦ elim (cases_Bool (is_path_part part)) [
     | inl f ↦ rw (counting-next part parts false true u f)
-        (counts (not_from_Decides (is_untranslated part) (untranslated_decides part) u) ((path_decides part).0 f)
+        (counts (not_from_Decides (is_c_locale part) (c_locale_decides part) u) ((path_decides part).0 f)
         (count_of parts))
     | inr f ↦ rw (counting-next part parts false false u f)
-        (omitted (not_from_Decides (is_untranslated part) (untranslated_decides part) u)
+        (omitted (not_from_Decides (is_c_locale part) (c_locale_decides part) u)
         (not_from_Decides (is_path_part part) (path_decides part) f) (count_of parts))
   ]
 ]
@@ -78,12 +78,12 @@ count_of (part ∷ parts) = elim (cases_Bool (is_untranslated part)) [
 is_count_of : {parts names : List (List ℕ)} → Count parts names → counting parts ≡ names
 is_count_of no_part = refl
 is_count_of (ends {part = part} {parts = parts} u) =
-    counting-next part parts true (is_path_part part) ((untranslated_decides part).1 u) refl
+    counting-next part parts true (is_path_part part) ((c_locale_decides part).1 u) refl
 is_count_of (omitted {part = part} {parts = parts} u f rest) =
-    counting-next part parts false false (fails (is_untranslated part) (untranslated_decides part) u)
+    counting-next part parts false false (fails (is_c_locale part) (c_locale_decides part) u)
     (fails (is_path_part part) (path_decides part) f) ∙ is_count_of rest
 is_count_of (counts {part = part} {parts = parts} u f rest) =
-    counting-next part parts false true (fails (is_untranslated part) (untranslated_decides part) u)
+    counting-next part parts false true (fails (is_c_locale part) (c_locale_decides part) u)
     ((path_decides part).1 f) ∙ ap (λ l. part ∷ l) (is_count_of rest)
 
 -- the parts of a text
@@ -150,10 +150,10 @@ are_listed text names h =
 
 -- the languages of a locale and LANGUAGE
 abbrev asked_for : List ℕ → List ℕ → List (List ℕ)
-asked_for locale language = cond (is_untranslated locale || not (is_path_part locale)) [] (languages locale language)
+asked_for locale language = cond (is_c_locale locale || not (is_path_part locale)) [] (languages locale language)
 
 flat : (locale language : List ℕ) → candidates locale language ≡ flat_map candidates_of_name (asked_for locale language)
-flat locale language = of_either (is_untranslated locale || not (is_path_part locale)) where
+flat locale language = of_either (is_c_locale locale || not (is_path_part locale)) where
   of_either : (none : Bool) → cond none [] (flat_map candidates_of_name (languages locale language))
       ≡ flat_map candidates_of_name (cond none [] (languages locale language))
   of_either true = refl
@@ -171,11 +171,11 @@ some_language locale language h =
     cond-false (eqb (length language) 0) (locale ∷ []) (language_parts language)
     (false_from_ne_true (eqb (length language) 0) (λ e. h (nil-from_length language e)))
 
-translated_asked : (env : Environment) → is_untranslated (locale_of env) ≡ false → is_path_part (locale_of env) ≡ true
+translated_asked : (env : Environment) → is_c_locale (locale_of env) ≡ false → is_path_part (locale_of env) ≡ true
     → AreLanguages (environment_view env) (languages_of env)
 translated_asked env u f =
     let locale = (locale_chosen env (locale_of env)).0 refl in
-    let is_translated = not_from_Decides (is_untranslated (locale_of env)) (untranslated_decides (locale_of env)) u in
+    let is_translated = not_from_Decides (is_c_locale (locale_of env)) (c_locale_decides (locale_of env)) u in
     elim (says env.language) [
       | inl a ↦ rw (u, f, a.1) (the_locale locale is_translated ((path_decides (locale_of env)).0 f) a.0)
       | inr a ↦ rw (u, f, a.2, some_language (locale_of env) a.0 a.1.some)
@@ -183,9 +183,9 @@ translated_asked env u f =
     ]
 
 are_asked : (env : Environment) → AreLanguages (environment_view env) (languages_of env)
-are_asked env = elim (cases_Bool (is_untranslated (locale_of env))) [
+are_asked env = elim (cases_Bool (is_c_locale (locale_of env))) [
   | inl u ↦ rw u (untranslated ((locale_chosen env (locale_of env)).0 refl)
-      ((untranslated_decides (locale_of env)).0 u))
+      ((c_locale_decides (locale_of env)).0 u))
   | inr u ↦ elim (cases_Bool (is_path_part (locale_of env))) [
     | inl f ↦ translated_asked env u f
     | inr f ↦ rw (u, f) (no_path ((locale_chosen env (locale_of env)).0 refl)
@@ -196,24 +196,24 @@ are_asked env = elim (cases_Bool (is_untranslated (locale_of env))) [
 is_asked : (env : Environment) (names : List (List ℕ)) → AreLanguages (environment_view env) names
     → languages_of env ≡ names
 is_asked env names (untranslated {locale = locale} is u) =
-    rw (← (locale_chosen env locale).1 is, (untranslated_decides locale).1 u)
+    rw (← (locale_chosen env locale).1 is, (c_locale_decides locale).1 u)
 is_asked env names (no_path {locale = locale} is f) =
     rw (
       ← (locale_chosen env locale).1 is,
       fails (is_path_part locale) (path_decides locale) f,
-      or-true (is_untranslated locale),
+      or-true (is_c_locale locale),
     )
 is_asked env names (the_locale {locale = locale} is u f none) =
     rw (
       ← (locale_chosen env locale).1 is,
-      fails (is_untranslated locale) (untranslated_decides locale) u,
+      fails (is_c_locale locale) (c_locale_decides locale) u,
       (path_decides locale).1 f,
       from_no_text env.language none,
     )
 is_asked env names (of_language {locale = locale} {text = text} is u f has listed) =
     rw (
       ← (locale_chosen env locale).1 is,
-      fails (is_untranslated locale) (untranslated_decides locale) u,
+      fails (is_c_locale locale) (c_locale_decides locale) u,
       (path_decides locale).1 f,
       from_text env.language text has,
     )

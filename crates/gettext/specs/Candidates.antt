@@ -37,9 +37,9 @@ pub data HaveFive : List (List ℕ) → List (List ℕ) → Type 0 where
   next_name : {name : List ℕ} {names five others : List (List ℕ)} → HasFive name five → HaveFive names others
       → HaveFive (name ∷ names) (five ++ others)
 
--- the locales in which nothing is translated
-abbrev pub IsUntranslated : List ℕ → Type 0
-IsUntranslated name = (name ≡ codes "C") ⊎ (name ≡ codes "POSIX")
+-- the locales `C` and `POSIX`, in which nothing is translated
+abbrev pub IsCLocale : List ℕ → Type 0
+IsCLocale name = (name ≡ codes "C") ⊎ (name ≡ codes "POSIX")
 
 -- it isn't empty and has no slash
 abbrev pub CanStandInPath : List ℕ → Type 0
@@ -49,10 +49,10 @@ CanStandInPath name = (name ≢ []) × Lacks 47 name
 -- `POSIX`
 pub data Count : List (List ℕ) → List (List ℕ) → Type 0 where
   no_part : Count [] []
-  ends : {part : List ℕ} {parts : List (List ℕ)} → IsUntranslated part → Count (part ∷ parts) []
-  omitted : {part : List ℕ} {parts names : List (List ℕ)} → (IsUntranslated part → ⊥) → (CanStandInPath part → ⊥)
+  ends : {part : List ℕ} {parts : List (List ℕ)} → IsCLocale part → Count (part ∷ parts) []
+  omitted : {part : List ℕ} {parts names : List (List ℕ)} → (IsCLocale part → ⊥) → (CanStandInPath part → ⊥)
       → Count parts names → Count (part ∷ parts) names
-  counts : {part : List ℕ} {parts names : List (List ℕ)} → (IsUntranslated part → ⊥) → CanStandInPath part
+  counts : {part : List ℕ} {parts names : List (List ℕ)} → (IsCLocale part → ⊥) → CanStandInPath part
       → Count parts names → Count (part ∷ parts) (part ∷ names)
 
 -- LANGUAGE lists these names, with a colon between two
@@ -66,11 +66,11 @@ pub record Lists (text : List ℕ) (names : List (List ℕ)) : Type 0 where
 -- The languages that are asked for: those of LANGUAGE, where it isn't empty, else the locale. There
 -- are none in an untranslated locale, and in one that can't stand in a path.
 pub data AreLanguages (env : EnvironmentView) : List (List ℕ) → Type 0 where
-  untranslated : {locale : List ℕ} → IsLocale env locale → IsUntranslated locale → AreLanguages env []
+  untranslated : {locale : List ℕ} → IsLocale env locale → IsCLocale locale → AreLanguages env []
   no_path : {locale : List ℕ} → IsLocale env locale → (CanStandInPath locale → ⊥) → AreLanguages env []
-  the_locale : {locale : List ℕ} → IsLocale env locale → (IsUntranslated locale → ⊥) → CanStandInPath locale
+  the_locale : {locale : List ℕ} → IsLocale env locale → (IsCLocale locale → ⊥) → CanStandInPath locale
       → HasNoText env.language → AreLanguages env (locale ∷ [])
-  of_language : {locale text : List ℕ} {names : List (List ℕ)} → IsLocale env locale → (IsUntranslated locale → ⊥)
+  of_language : {locale text : List ℕ} {names : List (List ℕ)} → IsLocale env locale → (IsCLocale locale → ⊥)
       → CanStandInPath locale → HasText env.language text → Lists text names → AreLanguages env names
 
 -- after the names seen, each name at its first place alone

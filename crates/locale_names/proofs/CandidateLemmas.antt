@@ -7,7 +7,7 @@ use Rattle.std.proofs.lemmas.Option.{slice_get_within, get_or_from_slice_get}
 use Rattle.locale_names.specs.declared.name.Candidate.{Candidate}
 use Rattle.locale_names.specs.declared.position.Position.{Position}
 use Rattle.locale_names.specs.Candidate.{names_from, names_left, text_of}
-use Rattle.locale_names.specs.Names.{before, candidates, candidates_of_name, from_first, is_path_part, is_untranslated, language_parts, languages}
+use Rattle.locale_names.specs.Names.{before, candidates, candidates_of_name, from_first, is_path_part, is_c_locale, language_parts, languages}
 
 next-of : (names : List (List ℕ)) (n : ℕ) (text : List ℕ) → slice_get names n ≡ Some text
     → drop n names ≡ text ∷ drop (n + 1) names
@@ -85,21 +85,21 @@ matched-left names left same at (Some n) is = same at ∙ is ∙ ap (λ later. t
 
 -- the names from a position on
 pub barred-from : (locale language : List ℕ) (at : Position)
-    → (is_untranslated locale ≡ true) ⊎ (is_path_part locale ≡ false) → names_from locale language at ≡ []
+    → (is_c_locale locale ≡ true) ⊎ (is_path_part locale ≡ false) → names_from locale language at ≡ []
 unfolding names_from
 barred-from locale language at is =
-    cond-true (is_untranslated locale || not (is_path_part locale)) [] _
+    cond-true (is_c_locale locale || not (is_path_part locale)) [] _
     (elim is [ inl e ↦ or_left _ _ e | inr e ↦ or_right _ _ (ap not e) ])
 
-not-barred-from : (locale language : List ℕ) (at : Position) → is_untranslated locale ≡ false
+not-barred-from : (locale language : List ℕ) (at : Position) → is_c_locale locale ≡ false
     → is_path_part locale ≡ true
     → names_from locale language at
     ≡ names_left at.given (cond (length language == 0) (locale ∷ []) (language_parts (drop at.offset language)))
 unfolding names_from
 not-barred-from locale language at fine plain =
-    cond-false (is_untranslated locale || not (is_path_part locale)) [] _ (or_from _ _ fine (ap not plain))
+    cond-false (is_c_locale locale || not (is_path_part locale)) [] _ (or_from _ _ fine (ap not plain))
 
-pub from-locale : (locale language : List ℕ) → is_untranslated locale ≡ false → is_path_part locale ≡ true
+pub from-locale : (locale language : List ℕ) → is_c_locale locale ≡ false → is_path_part locale ≡ true
     → (length language == 0) ≡ true → (at : Position)
     → names_from locale language at ≡ names_left at.given (locale ∷ [])
 from-locale locale language fine plain unset at =
@@ -107,7 +107,7 @@ from-locale locale language fine plain unset at =
     ∙ ap (names_left at.given)
     (cond-true (length language == 0) (locale ∷ []) (language_parts (drop at.offset language)) unset)
 
-pub from-language : (locale language : List ℕ) → is_untranslated locale ≡ false → is_path_part locale ≡ true
+pub from-language : (locale language : List ℕ) → is_c_locale locale ≡ false → is_path_part locale ≡ true
     → (length language == 0) ≡ false → (at : Position)
     → names_from locale language at ≡ names_left at.given (language_parts (drop at.offset language))
 from-language locale language fine plain set at =
@@ -125,7 +125,7 @@ pub from-start : (locale language : List ℕ) (at : Position) → at.offset ≡ 
     → names_from locale language at ≡ candidates locale language
 unfolding names_from
 from-start locale language at offset given =
-    let bar = is_untranslated locale || not (is_path_part locale) in
+    let bar = is_c_locale locale || not (is_path_part locale) in
     ap (λ (o : ℕ). cond bar []
     (names_left at.given (cond (length language == 0) (locale ∷ []) (language_parts (drop o language))))) offset
     ∙ ap (λ (g : ℕ). cond bar [] (names_left g (languages locale language))) given

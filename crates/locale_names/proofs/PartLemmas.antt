@@ -7,7 +7,7 @@ use Rattle.std.proofs.lemmas.List.{drop_all}
 use Rattle.std.proofs.lemmas.List.Splits.{slice_split_first, slice_split-cons_no}
 use Rattle.std.proofs.lemmas.List.Sums.{take_while-cons}
 use Rattle.memchr.specs.Find.{is_byte}
-use Rattle.locale_names.specs.Names.{is_untranslated, is_path_part, language_parts}
+use Rattle.locale_names.specs.Names.{is_c_locale, is_path_part, language_parts}
 use Rattle.locale_names.proofs.SearchLemmas.{byte-here, byte-later}
 
 -- the parts of a text, up to the first separator and after it
@@ -26,10 +26,10 @@ split-last (b ∷ bs) e = elim (cases_Bool (eqb b 58)) [
 ]
 
 abbrev counts : List ℕ → Bool
-counts part = not (is_untranslated part)
+counts part = not (is_c_locale part)
 
 -- the parts that count of a part and those after it
-kept : (untranslated fits : Bool) (part : List ℕ) (parts : List (List ℕ)) → untranslated ≡ is_untranslated part
+kept : (untranslated fits : Bool) (part : List ℕ) (parts : List (List ℕ)) → untranslated ≡ is_c_locale part
     → fits ≡ is_path_part part
     → filter is_path_part (take_while counts (part ∷ parts))
     ≡ cond untranslated [] (cond fits (part ∷ filter is_path_part (take_while counts parts))
@@ -45,27 +45,27 @@ kept false fits part parts u f =
 
 -- a part that ends at a separator, and those after it
 pub parts-next : (bs : List ℕ) (n : ℕ) → n ≡ position_or_len (is_byte 58) bs → n < length bs
-    → language_parts bs ≡ cond (is_untranslated (take n bs)) []
+    → language_parts bs ≡ cond (is_c_locale (take n bs)) []
     (cond (is_path_part (take n bs)) (take n bs ∷ language_parts (drop (n + 1) bs))
     (language_parts (drop (n + 1) bs)))
-unfolding language_parts is_untranslated
+unfolding language_parts is_c_locale
 parts-next bs n index l =
     ap (λ parts. filter is_path_part (take_while counts parts)) (split-next bs n index l)
     ∙ kept _ _ (take n bs) (slice_split (is_byte 58) (drop (n + 1) bs)) refl refl
 
 -- the last part
 pub parts-last : (bs : List ℕ) (n : ℕ) → n ≡ position_or_len (is_byte 58) bs → n ≡ length bs
-    → language_parts bs ≡ cond (is_untranslated bs) []
+    → language_parts bs ≡ cond (is_c_locale bs) []
     (cond (is_path_part bs) (bs ∷ language_parts (drop n bs)) (language_parts (drop n bs)))
-unfolding language_parts is_untranslated
+unfolding language_parts is_c_locale
 parts-last bs n index end =
     ap (λ parts. filter is_path_part (take_while counts parts)) (split-last bs (sym index ∙ end))
     ∙ kept _ _ bs [] refl refl
-    ∙ ap (λ later. cond (is_untranslated bs) []
+    ∙ ap (λ later. cond (is_c_locale bs) []
     (cond (is_path_part bs) (bs ∷ language_parts later) (language_parts later)))
     (sym (drop_all n bs (omega (arith, end))))
 
 -- without a text there is no part
 pub parts-none : language_parts [] ≡ []
-unfolding language_parts is_untranslated
+unfolding language_parts is_c_locale
 parts-none = refl

@@ -6,9 +6,9 @@ use Rattle.std.specs.List.{list_any, flat_map, slice_split, position_or_len}
 use Rattle.std.specs.Str.{bytes_eq}
 use Rattle.memchr.specs.Find.{is_byte}
 
--- the locales in which nothing is translated
-unfoldable pub is_untranslated : List ℕ → Bool
-is_untranslated name = bytes_eq name (codes "C") || bytes_eq name (codes "POSIX")
+-- the locales `C` and `POSIX`, in which nothing is translated
+unfoldable pub is_c_locale : List ℕ → Bool
+is_c_locale name = bytes_eq name (codes "C") || bytes_eq name (codes "POSIX")
 
 -- a name that can stand in a path: it isn't empty and has no slash
 abbrev pub is_path_part : List ℕ → Bool
@@ -34,7 +34,7 @@ candidates_of_name name =
 -- the parts of LANGUAGE that count, up to the first `C` or `POSIX`
 unfoldable pub language_parts : List ℕ → List (List ℕ)
 language_parts text =
-    filter is_path_part (take_while (λ part. not (is_untranslated part)) (slice_split (is_byte 58) text))
+    filter is_path_part (take_while (λ part. not (is_c_locale part)) (slice_split (is_byte 58) text))
 
 -- the languages that are asked for: those of LANGUAGE, where it isn't empty, else the locale
 abbrev pub languages : List ℕ → List ℕ → List (List ℕ)
@@ -44,5 +44,5 @@ languages locale language = if length language == 0 then locale ∷ [] else lang
 -- untranslated one, and in one whose name has a slash
 abbrev pub candidates : List ℕ → List ℕ → List (List ℕ)
 candidates locale language =
-    if is_untranslated locale || not (is_path_part locale) then []
+    if is_c_locale locale || not (is_path_part locale) then []
     else flat_map candidates_of_name (languages locale language)

@@ -1,14 +1,14 @@
 //! The parts of LANGUAGE: languages in order of preference, with a colon between two.
 
 ghost use Rattle.std.specs.Prelude.{◌≡◌, ◌<◌, ◌≤◌, [], ◌∷◌, drop, length, IfSome, MatchOption, if◌then◌else◌};
-ghost use Rattle.locale_names.specs.Names.{is_untranslated, is_path_part, language_parts};
+ghost use Rattle.locale_names.specs.Names.{is_c_locale, is_path_part, language_parts};
 
-use crate::name::{is_path_part, is_untranslated, len_before};
+use crate::name::{is_c_locale, is_path_part, len_before};
 
 /// What stands before the first colon, and how many bytes it has with the colon.
 fn first_part(languages: &[u8]) -> (&[u8], usize)
     requires { 0 < length languages.now }
-    ensures parts { language_parts languages.now ≡ (if is_untranslated result.0.now then []
+    ensures parts { language_parts languages.now ≡ (if is_c_locale result.0.now then []
         else (if is_path_part result.0.now then result.0.now ∷ language_parts (drop result.1 languages.now)
         else language_parts (drop result.1 languages.now))) }
     ensures passed { (0 < result.1) × (result.1 ≤ length languages.now) }
@@ -32,7 +32,7 @@ pub(crate) fn next_language(languages: &[u8]) -> Option<(&[u8], usize)>
     while at < languages.len() {
         let (part, len) = first_part(&languages[at..]);
         at += len;
-        if is_untranslated(part) {
+        if is_c_locale(part) {
             return None;
         }
         if is_path_part(part) {

@@ -26,9 +26,9 @@ pub fn len_before(byte: u8, text: &[u8]) -> usize
 }
 
 /// Whether the name is `C` or `POSIX`, in which the messages are the msgids.
-#[tactic(auto, unfolding(crate::specs::Names::is_untranslated))]
-pub(crate) fn is_untranslated(name: &[u8]) -> bool
-    ensures { result ≡ spec.is_untranslated name.now }
+#[tactic(auto, unfolding(crate::specs::Names::is_c_locale))]
+pub(crate) fn is_c_locale(name: &[u8]) -> bool
+    ensures { result ≡ spec.is_c_locale name.now }
 {
     name == b"C".as_slice() || name == b"POSIX".as_slice()
 }

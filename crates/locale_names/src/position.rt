@@ -5,7 +5,7 @@ ghost use Rattle.locale_names.specs.Names.{candidates, language_parts};
 ghost use Rattle.locale_names.specs.Candidate.{names_from, names_left, text_of};
 
 use crate::language::next_language;
-use crate::name::{Candidate, candidate_of_name, is_path_part, is_untranslated};
+use crate::name::{Candidate, candidate_of_name, is_c_locale, is_path_part};
 
 /// Where a walk over the candidates of a locale and LANGUAGE is. All zeros are its beginning.
 #[repr(C)]
@@ -57,7 +57,7 @@ pub fn candidate_at<'a>(
         (λ next. names_from locale.now language.now position
         ≡ text_of next.0 ∷ names_from locale.now language.now next.1) }
 {
-    if is_untranslated(locale) || !is_path_part(locale) {
+    if is_c_locale(locale) || !is_path_part(locale) {
         return None;
     }
     if !language.is_empty() {
