@@ -1,6 +1,6 @@
 -- Arguments and tools, as they are added one after another.
 use Rattle.std.proofs.Common.{◌≡◌, ℕ, suc, ◌+◌, ◌<◌, ◌==◌, false, ◌||◌, List, [], ◌∷◌, ◌++◌, length, map, take, get_or, refl}
-use Rattle.std.proofs.Common.{ap, ◌∙◌, sym, arith, append_assoc, append-nil, Option, None, Some}
+use Rattle.std.proofs.Common.{ap, ◌∙◌, sym, arith, append_assoc, Option, None, Some}
 use Rattle.std.proofs.lemmas.Bool.Decides.{nat_tests}
 use Rattle.std.proofs.Math.Bool.{or-false}
 use Rattle.std.proofs.lemmas.List.{map-append, take_more}
@@ -29,14 +29,6 @@ pub next_mapped : {X Y : Type 0} (f : X → Y) (xs : List X) (i : ℕ) (other : 
     → map f (take i xs) ++ f (get_or xs i other) ∷ [] ≡ map f (take (i + 1) xs)
 next_mapped f xs i other below =
     sym (ap (map f) (take_more xs i other below) ∙ map-append f (take i xs) (get_or xs i other ∷ []))
-
-pub no_arguments : (command : Command) → AddsArguments [] command command
-no_arguments command = record {
-  rules = [];
-  are = tt;
-  shape = ap (λ l. on_top (λ s. record s { rules = l }) (app_of command)) (sym (append-nil (app_of command).top.rules));
-  global = refl;
-}
 
 pub one_argument_more : (arguments : List Argument) (argument : Argument) (first old new : Command) (arg : Arg)
     → AddsArguments arguments first old → AddsArg old arg new → arg.global ≡ false → IsRuleOf argument (rule_of arg)

@@ -1,8 +1,8 @@
 -- Names that hold NUL, and names that don't.
-use Rattle.std.proofs.Common.{◌≡◌, ℕ, ◌<◌, List, [], ◌∷◌, Option, None, Some, true, false, ◌||◌, ◌==◌, eqb, sym, ap, ◌∙◌, get_or, length, inl, inr, arith}
+use Rattle.std.proofs.Common.{◌≡◌, refl, ℕ, zero, suc, ◌<◌, List, [], ◌∷◌, Option, None, Some, true, false, ◌||◌, ◌==◌, eqb, sym, ap, ◌∙◌, get_or, length, inl, inr, arith}
 use Rattle.std.specs.Prelude.{Contains}
+use Rattle.std.specs.Borrow.{Bor}
 use Rattle.std.specs.List.{list_any}
-use Rattle.std.proofs.Math.ListN.{get_or-map}
 use Rattle.std.specs.Option.{is_some}
 use Rattle.std.proofs.lemmas.Bool.{cases_Bool, eqb-true, eqb-false, false_from_ne_true, or_parts}
 use Rattle.std.proofs.lemmas.List.{length-map}
@@ -10,8 +10,7 @@ use Rattle.std.proofs.lemmas.List.Elements.{All-nil, All-cons, All-head, All-tai
 use Rattle.std.proofs.lemmas.List.Folds.{list_any_at, list_any_none}
 use Rattle.memchr.specs.Find.{IsFirstByte, is_byte}
 use Rattle.po_entry.specs.Bytes.{Lacks}
-use Rattle.runs.specs.declared.inputs.Input.{Input}
-use Rattle.runs.specs.Inputs.{named_input, named_inputs}
+use Rattle.runs.specs.NamedFile.{named_file, named_files}
 
 pub lacks : (name : List ℕ) → list_any (λ b. b == 0) name ≡ false → Lacks 0 name
 lacks [] h = All-nil (λ b. b ≡ 0 → ⊥)
@@ -26,14 +25,15 @@ holds (b ∷ name) h lacks = elim (cases_Bool (eqb b 0)) [
       (All-tail (λ c. c ≡ 0 → ⊥) b name lacks)
 ]
 
-pub among : (inputs : List Input) (i : ℕ) (input : Input) → i < length inputs → input ≡ get_or inputs i input
-    → Contains (named_inputs inputs) (named_input input)
-among inputs i input below at = (
-  i,
-  omega (arith, below, length-map inputs named_input),
-  get_or-map named_input inputs i input
-      ∙ ap named_input (sym at),
-)
+pub among : (files : List (Bor (List ℕ) × Bor (List ℕ))) (i : ℕ) (none : Bor (List ℕ) × Bor (List ℕ))
+    → i < length files → Contains (named_files files) (named_file (get_or files i none))
+among files i none below =
+    (i, omega (arith, below, length-map files named_file), named files i below) where
+      named : (files : List (Bor (List ℕ) × Bor (List ℕ))) (i : ℕ) → i < length files
+          → get_or (named_files files) i (named_file (get_or files i none)) ≡ named_file (get_or files i none)
+      named [] i below = absurd (omega (arith, below))
+      named (file ∷ files) zero below = refl
+      named (file ∷ files) (suc i) below = named files i (omega (arith, below))
 
 -- a NUL is found in a name exactly if it holds one
 pub nul_is_found : (name : List ℕ) (nul : Option ℕ) → IsFirstByte (is_byte 0) name nul

@@ -4,7 +4,6 @@ ghost use Rattle.std.specs.Prelude.{◌≡◌, ◌≢◌, ◌⊎◌, All, Err, I
 ghost use Rattle.po_entry.specs.Bytes.{Lacks};
 ghost use Rattle.po_merge.specs.Inputs.{Named};
 ghost use Rattle.msgcat.specs.Msgcat.{AreReadAs, HasNulName, IsMsgcatRun, IsUnread, first_name};
-ghost use Rattle.runs.specs.Inputs.{named_inputs};
 ghost use Rattle.runs.specs.NamedFile.{named_files};
 ghost use Rattle.runs.specs.ProgramFaults.{program_text};
 ghost use Rattle.runs.specs.Run.{run_view};
@@ -13,7 +12,7 @@ use crate::inputs::read_inputs;
 use crate::merged_text::merged_text;
 use memchr::memchr;
 use po_merge::MergeOptions;
-use runs::{Input, Inputs, ProgramFault, Run, ToolFault};
+use runs::{ProgramFault, Run, ToolFault};
 use std::alloc::Global;
 use text_runs::{refused_text, text_run};
 
@@ -76,45 +75,43 @@ pub fn plan_msgcat_before<'a>(
     }
 }
 
-/// What `msgcat` comes to with the inputs that a command line names: the plan of all of them, or,
-/// where one can't be read, what `plan_msgcat_before` says of those before it. A file whose name
-/// holds NUL can't be opened.
+/// What `msgcat` comes to with the inputs that a command line names, each with its name, and the
+/// fault of the one after them that can't be read: the plan of all of them, or, where one can't be
+/// read, what `plan_msgcat_before` says of those before it. A file whose name holds NUL can't be
+/// opened.
 pub fn plan_msgcat_of<'a>(
     alloc: Global,
-    inputs: &Inputs<'a>,
+    texts: &[(&'a str, &[u8])],
+    fault: Option<ProgramFault<'a>>,
     options: &MergeOptions,
 ) -> Result<Run, ProgramFault<'a>>
-    ensures whole { inputs.now.fault ≡ None
-        → IfOk result (λ run. IsMsgcatRun (named_inputs inputs.now.texts.items) options.now (run_view run)) }
-    ensures refused { inputs.now.fault ≢ None
-        → IfOk result (λ run. IsUnread (named_inputs inputs.now.texts.items) (run_view run)) }
+    ensures whole { fault.entry ≡ None
+        → IfOk result (λ run. IsMsgcatRun (named_files texts.now) options.now (run_view run)) }
+    ensures refused { fault.entry ≢ None → IfOk result (λ run. IsUnread (named_files texts.now) (run_view run)) }
     ensures fault { IfErr result (λ reported. (reported ≡ ProgramFault.OutOfMemory)
-        ⊎ (HasNulName (named_inputs inputs.now.texts.items) (program_text reported))
-        ⊎ ((inputs.now.fault ≡ Some reported)
-        × ((read : List Named) × AreReadAs (named_inputs inputs.now.texts.items) read))) }
+        ⊎ (HasNulName (named_files texts.now) (program_text reported))
+        ⊎ ((fault.entry ≡ Some reported) × ((read : List Named) × AreReadAs (named_files texts.now) read))) }
 
     // An input that can't be read is told where there is none before it.
-    ensures first { named_inputs inputs.now.texts.items ≡ []
-        → IfSome inputs.now.fault (λ fault. result ≡ Err fault) }
+    ensures first { named_files texts.now ≡ [] → IfSome fault.entry (λ fault. result ≡ Err fault) }
 {
-    if let Some(name) = name_with_nul(&inputs.texts) {
+    if let Some(name) = name_with_nul(texts) {
         return Err(ProgramFault::CannotOpen(name));
     }
-    let texts = inputs.borrowed(alloc)?;
-    match inputs.fault {
-        Some(fault) => plan_msgcat_before(alloc, &texts, fault),
-        None => plan_msgcat(alloc, &texts, options).map_err(|_| ProgramFault::OutOfMemory),
+    match fault {
+        Some(fault) => plan_msgcat_before(alloc, texts, fault),
+        None => plan_msgcat(alloc, texts, options).map_err(|_| ProgramFault::OutOfMemory),
     }
 }
 
 /// The first name that holds NUL, so that no file can have it.
-fn name_with_nul<'a>(inputs: &[Input<'a>]) -> Option<&'a str>
-    ensures { MatchOption result (All (λ file. Lacks 0 file.name) (named_inputs inputs.now))
-        (λ name. HasNulName (named_inputs inputs.now) (program_text (ProgramFault.CannotOpen name))) }
+fn name_with_nul<'a>(files: &[(&'a str, &[u8])]) -> Option<&'a str>
+    ensures { MatchOption result (All (λ file. Lacks 0 file.name) (named_files files.now))
+        (λ name. HasNulName (named_files files.now) (program_text (ProgramFault.CannotOpen name))) }
 {
-    for input in inputs {
-        if memchr(0, input.name.as_bytes()).is_some() {
-            return Some(input.name);
+    for file in files {
+        if memchr(0, file.0.as_bytes()).is_some() {
+            return Some(file.0);
         }
     }
     None

@@ -30,6 +30,7 @@ pub fn run<'a, S: InputSource, F: OutputFiles, O: ByteOut, E: ByteOut>(
         options.now (map (λ argument. argument.now) arguments.now) output.now system.old system.new result }
 {
     let inputs = Inputs::read(alloc, source, arguments)?;
-    let run = plan_msgcat_of(alloc, &inputs, options)?;
+    let texts = inputs.borrowed(alloc)?;
+    let run = plan_msgcat_of(alloc, &texts, inputs.fault, options)?;
     system.write(alloc, &run, output)
 }

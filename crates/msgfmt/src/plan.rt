@@ -31,9 +31,10 @@ fn compiled_run(
 ) -> Result<Run, AllocError>
     ensures { IfOk result (λ run. run_view run ≡ Spec.compiled_run options.now compiled) }
 {
-    let messages = match options.statistics {
-        true => compiled.stats.line(alloc).map_err(|_| AllocError)?,
-        false => Vec::new(alloc),
+    let messages = if options.statistics {
+        compiled.stats.line(alloc).map_err(|_| AllocError)?
+    } else {
+        Vec::new(alloc)
     };
     let create = compiled.n > 0;
     let output = if create {
@@ -54,8 +55,8 @@ fn compiled_run(
 /// reported by one line, with status 1; else the first fault of the check is, where it is asked
 /// for. Refused only where an allocation failed.
 ///
-/// The check comes first, so that what it takes of the memory is free again; its fault is reported only where the
-/// inputs are compiled.
+/// The check comes first, so that what it takes of the memory is free again; its fault is reported
+/// only where the inputs are compiled.
 pub fn plan_msgfmt(
     alloc: Global,
     inputs: &[(&str, &[u8])],
@@ -71,9 +72,10 @@ pub fn plan_msgfmt(
         Ok(collected) => collected,
         Err(error) => return Ok(refused_run(alloc, inputs, error)?),
     };
-    let checked = match options.profile_check {
-        true => check_inputs(alloc, &collected),
-        false => Ok(()),
+    let checked = if options.profile_check {
+        check_inputs(alloc, &collected)
+    } else {
+        Ok(())
     };
     let compile_options = Options {
         use_fuzzy: options.use_fuzzy,

@@ -13,12 +13,12 @@ use crate::plan::plan_msgfmt;
 use runs::{ByteOut, InputSource, Inputs, OutputFiles, OutputSystem, ProgramFault, Run};
 use std::alloc::Global;
 
-/// What `msgfmt` comes to with the inputs that a command line names, each with its name, and the fault of
-/// the one after them that can't be read: the plan of all of them, or, where one can't be read, the refusal
-/// of those before it, or else that input's fault. The check of
-/// `--profile-check` is of all inputs together, so it isn't made of only some of them. The command line
-/// names one at least, and fewer than 4,294,967,296; else, and only then, it is `WrongArguments`.
-/// `OutOfMemory` may come in place of any result.
+/// What `msgfmt` comes to with the inputs that a command line names, each with its name, and the
+/// fault of the one after them that can't be read: the plan of all of them, or, where one can't be
+/// read, the refusal of those before it, or else that input's fault. The check of `--profile-check`
+/// is of all inputs together, so it isn't made of only some of them. The command line names one at
+/// least, and fewer than 4,294,967,296; else, and only then, it is `WrongArguments`. `OutOfMemory`
+/// may come in place of any result.
 pub fn plan_msgfmt_of<'a>(
     alloc: Global,
     texts: &[(&str, &[u8])],

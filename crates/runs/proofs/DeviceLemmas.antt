@@ -51,11 +51,6 @@ pub on-err : {T E : Type 0} (r : Result T E) (P : Type 0) → P → OnErr r P
 on-err (Ok x) P p = tt
 on-err (Err e) P p = p
 
--- what holds after an error holds at one
-pub at-err : {T E : Type 0} (r : Result T E) (e : E) (P : Type 0) → r ≡ Err e → OnErr r P → P
-at-err (Ok x) e P is h = cc
-at-err (Err d) e P is h = h
-
 -- the first call is given the whole piece
 Gives-one : (xs : List (List ℕ)) (b c : Option (List (List ℕ))) (piece given : List ℕ) → given ≡ piece → b ≡ Some xs
     → Gives b c given → GivesFirst (Some xs) c piece

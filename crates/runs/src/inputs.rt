@@ -118,7 +118,7 @@ impl<'a> Inputs<'a> {
     }
 
     /// The inputs that were read, borrowed.
-    pub fn borrowed(&self, alloc: Global) -> Result<Vec<(&str, &[u8])>, AllocError>
+    pub fn borrowed<'s>(&'s self, alloc: Global) -> Result<Vec<(&'a str, &'s [u8])>, AllocError>
         ensures files { IfOk result (λ borrowed. named_files borrowed.items ≡ named_inputs self.now.texts.items) }
         ensures none { self.now.texts.items ≡ [] → IsOk result }
     {

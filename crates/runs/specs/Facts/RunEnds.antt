@@ -1,8 +1,9 @@
 -- What a tool does, by the way in which it ends.
-use Rattle.std.proofs.Common.{◌≡◌, ◌≢◌, ◌⊎◌, ℕ, List, [], None, Some, Option, Result, Err, IfSome, option_map, refl, inl, inr}
+use Rattle.std.proofs.Common.{◌≡◌, ◌≢◌, ◌⊎◌, ℕ, List, [], ◌∷◌, None, Some, Option, Result, Err, IfSome, option_map, refl, inl, inr}
+use Rattle.runs.specs.declared.inputs.Input.{Input}
 use Rattle.runs.specs.declared.program_fault.ProgramFault.{ProgramFault}
 use Rattle.runs.specs.declared.program_fault.ProgramFault.TheVariants.{OutOfMemory}
-use Rattle.runs.specs.Inputs.{IsInputFault}
+use Rattle.runs.specs.Inputs.{IsInputFault, named_inputs}
 use Rattle.runs.specs.NamedFile.{NamedFile}
 use Rattle.runs.specs.Outputs.{SystemView}
 use Rattle.runs.specs.ProgramFaults.{program_text}
@@ -27,6 +28,11 @@ pub inputs_ended : {source : Asking} {plan : Planning} {arguments : List (List �
     → RunsInputs source plan arguments output system system (Err reported)
 inputs_ended reported reads read (inl memory) = rw memory (no_memory_to_plan reads (read memory) refl)
 inputs_ended reported reads read (inr none) = has_none reads none refl
+
+-- nothing was read where nothing that was read has a name
+pub none_read : (inputs : List Input) → named_inputs inputs ≡ [] → inputs ≡ []
+none_read [] none = refl
+none_read (input ∷ inputs) none = cc
 
 told_is : {T : Type 0} (reported fault : ProgramFault) → ◌≡◌ {A = Result T ProgramFault} (Err reported) (Err fault)
     → reported ≡ OutOfMemory → Some fault ≡ Some OutOfMemory

@@ -4,7 +4,7 @@ use Rattle.po_compile.specs.CompiledInputs.{AreCollected}
 use Rattle.runs.specs.NamedFile.{named_files}
 use Rattle.msgfmt.specs.Msgfmt.{input_texts}
 use Rattle.msgfmt.proofs.MsgfmtLemmas.{collected-count}
-use Rattle.msgfmt.proofs.plan.plan_msgfmt.Goals.{in-true, in-false}
+use Rattle.msgfmt.proofs.plan.plan_msgfmt.Goals.{then-options, else-options}
 use Rattle.msgfmt.proofs.plan.plan_msgfmt.Goals as goal
 
 pub returns-in-Err-clause-run : goal.returns-in-Err-clause-run
@@ -22,7 +22,7 @@ check_inputs-checked-requires c =
     omega (
       arith,
       c.requires.few,
-      ap length c.deref-in-true.ensures.value,
+      ap length c.deref-then-options.ensures.value,
       collected-count c.args.options.now.use_fuzzy c.args.inputs.now c.in-Ok.collected.items of,
     )
 
@@ -67,9 +67,9 @@ returns-in-Ok-Ok-clause-run c =
       is_compiled = compiled.1;
       stats = c.in-Ok-Ok.ensures.statistics texts read;
       checked = λ asked. elim c.if-options.branch [
-        | in-true w ↦ (rw (sym w.checked-is ∙ c.in-Ok-Ok.is-1) at w.check_inputs-checked.ensures.fit) o.use_fuzzy
-            read.catalogues (rw w.deref-in-true.ensures.value (rw c.deref-2.ensures.value at read.held))
-        | in-false w ↦ let wrong : true ≡ false = sym asked ∙ w.in-false.is in absurd (true≢false wrong)
+        | then-options w ↦ (rw (sym w.checked-is ∙ c.in-Ok-Ok.is-1) at w.check_inputs-checked.ensures.fit) o.use_fuzzy
+            read.catalogues (rw w.deref-then-options.ensures.value (rw c.deref-2.ensures.value at read.held))
+        | else-options w ↦ let wrong : true ≡ false = sym asked ∙ w.if-options.false in absurd (true≢false wrong)
       ];
       run_is = c.in_ok-compiled_run-in-Ok-Ok.ensures;
     }))
@@ -83,19 +83,19 @@ returns-clause-run c =
     let compiled = c.in-Ok-Err.ensures.found texts read in
     let run = c.in_ok-failed_check_run-in-Ok-Err.ensures in
     elim c.if-options.branch [
-      | in-true w ↦ ⊎_elim (λ memory. absurd (run.0 (ap (λ f. f.1) memory)))
+      | then-options w ↦ ⊎_elim (λ memory. absurd (run.0 (ap (λ f. f.1) memory)))
           (λ found. inr (inl (record {
             catalogues = read.catalogues;
             read = compiled.0;
             compiled = c.in-Ok-Err.field-0-0;
             is_compiled = compiled.1;
-            asked = w.in-true.is;
+            asked = w.if-options.true;
             fault = (c.in-Ok-Err.input, c.in-Ok-Err.fault);
             checked = found o.use_fuzzy read.catalogues
-                (rw w.deref-in-true.ensures.value (rw c.deref-2.ensures.value at read.held));
+                (rw w.deref-then-options.ensures.value (rw c.deref-2.ensures.value at read.held));
             run_is = run.1;
           })))
           (rw (sym w.checked-is ∙ c.in-Ok-Err.is-1) at w.check_inputs-checked.ensures.unfit)
-      | in-false w ↦ let wrong : true ≡ false = ap is_ok (sym w.checked-is ∙ c.in-Ok-Err.is-1) in absurd
+      | else-options w ↦ let wrong : true ≡ false = ap is_ok (sym w.checked-is ∙ c.in-Ok-Err.is-1) in absurd
           (true≢false wrong)
     ]

@@ -1,18 +1,13 @@
-use Rattle.std.proofs.Common.{◌≡◌, List, [], ◌∷◌, ap, refl, ◌∙◌}
+use Rattle.std.proofs.Common.{◌≡◌, ap, refl, ◌∙◌}
 use Rattle.std.proofs.lemmas.Bool.{false≢true}
 use Rattle.std.proofs.lemmas.Result.{err_from_is_err_and}
 use Rattle.runs.specs.Inputs.{named_inputs}
 use Rattle.runs.specs.NamedFile.{named_files}
 use Rattle.runs.specs.Run.{run_view}
 use Rattle.runs.specs.ToolRuns.{no_memory_to_plan, no_memory_to_read, runs}
-use Rattle.runs.specs.declared.inputs.Input.{Input}
-use Rattle.runs.specs.Facts.RunEnds.{inputs_ended, none_unread}
+use Rattle.runs.specs.Facts.RunEnds.{inputs_ended, none_read, none_unread}
 use Rattle.msgfmt.proofs.WholeRuns.{no_run, planned}
 use Rattle.msgfmt.proofs.whole_run.run.Goals as goal
-
-no_text : (texts : List Input) → named_inputs texts ≡ [] → texts ≡ []
-no_text [] none = refl
-no_text (text ∷ texts) none = cc
 
 pub returns-in_err-inputs-clause-run : goal.returns-in_err-inputs-clause-run
 returns-in_err-inputs-clause-run g c =
@@ -24,7 +19,7 @@ returns-in_err-texts-clause-run g c =
     let p = err_from_is_err_and c.from_residual-in_err-texts.result c.from_residual-in_err-texts.ensures.1 in
     let read = c.in_ok-inputs.ensures in
     rw (p.1, p.2) (no_memory_to_plan (record { are = read.inputs; asks = read.asked_read })
-    (λ none. absurd (false≢true (c.in_err-texts.ensures.none (no_text c.in_ok-inputs.inputs.texts.items none)))) refl)
+    (λ none. absurd (false≢true (c.in_err-texts.ensures.none (none_read c.in_ok-inputs.inputs.texts.items none)))) refl)
 
 pub returns-in_err-run-clause-run : goal.returns-in_err-run-clause-run
 returns-in_err-run-clause-run g c =
