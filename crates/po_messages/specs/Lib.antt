@@ -5,7 +5,6 @@ pub mod JoinedView
 pub mod Duplicate
 pub mod DuplicateLaws
 pub mod DistinctText
-pub mod Keys
 pub mod Repeats
 pub mod Places
 pub mod Statistics

@@ -1,34 +1,47 @@
 //! The messages of entries, kept apart from the entries: their contexts and msgids, one behind the
 //! other in one buffer.
 
-ghost use Rattle.std.specs.Prelude.{◌≡◌, ◌++◌, ◌∷◌, [], IfOk, List, OnOk, Option, drop, length, map, option_map, take, unwrap_or};
+ghost use Rattle.std.specs.Prelude.{◌≡◌, ◌++◌, ◌∷◌, [], IfOk, OnErr, OnOk, drop, length, option_map, take, unwrap_or};
 ghost use Rattle.std.specs.Option.{option_copied};
-ghost use Rattle.po_entry.specs.TextEntry.{TextEntry};
-ghost use Rattle.po_messages.specs.Keys.{HoldKeys};
 ghost use Rattle.po_messages.specs.FirstOnes.{first_ones, group_numbers};
+ghost use Rattle.po_messages.specs.Internal.Keys.{message_in};
 ghost use Rattle.po_messages.specs.Message.{entry_message, same_message};
+ghost use Rattle.po_messages.specs.MessageView.{message_of_key};
 
 use crate::message_index::{MessageKey, Seeded, numbered};
 use po_entry::Entry;
 use std::alloc::{AllocError, Global};
 use std::hash::{DefaultHasher, Hash, Hasher};
+use std::marker::Model;
 
-/// How long the context of a message is, where it has one, and its msgid.
+/// How long a message is, and how long its context, where it has one, in bytes.
 #[derive(Clone, Copy, PartialEq, Eq, Hash)]
-pub struct KeySpans {
-    /// That of the context, in bytes.
-    pub context: Option<usize>,
-    /// That of the msgid, in bytes.
-    pub id: usize,
+struct KeySpans {
+    context: Option<usize>,
+    /// That of the context and the msgid.
+    len: usize,
 }
 
 /// The messages of some entries.
 #[derive(Drop)]
 pub struct KeyBuffer {
     /// The context and the msgid of each, one behind the other.
-    pub bytes: Vec<u8>,
+    bytes: Vec<u8>,
     /// The lengths of these, in the same order.
-    pub lengths: Vec<KeySpans>,
+    lengths: Vec<KeySpans>,
+}
+
+impl Model for KeyBuffer {
+    ghost use Rattle.std.specs.Prelude.{List};
+    ghost use Rattle.po_messages.specs.Message.{Message};
+
+    ghost Value = { List Message };
+
+    ghost use Rattle.po_messages.specs.Internal.Keys.{MakeUp, cut_messages};
+
+    ghost view = { λ k. cut_messages k.lengths.items k.bytes.items };
+
+    ghost invariant = { λ k. MakeUp k.lengths.items k.bytes.items };
 }
 
 /// Cuts off so many, or all where there are fewer.
@@ -39,46 +52,77 @@ pub fn split_at_most<T>(items: &[T], len: usize) -> (&[T], &[T])
     items.split_at(len.min(items.len()))
 }
 
-/// Appends a text that may be absent. Returns its length, where there is one.
-fn append_optional(bytes: &mut Vec<u8>, text: Option<&[u8]>) -> Result<Option<usize>, AllocError>
-    ensures appended { OnOk result (bytes.new.items ≡ bytes.old.items ++ unwrap_or (option_copied text.entry) []) }
-    ensures len { IfOk result (λ len. len ≡ option_map length (option_copied text.entry)) }
+/// Appends a context, where there is one, and a msgid. Where an allocation failed, nothing is
+/// appended.
+fn append_key(
+    bytes: &mut Vec<u8>,
+    context: Option<&[u8]>,
+    id: &[u8],
+) -> Result<KeySpans, AllocError>
+    ensures appended { OnOk result (bytes.new.items
+        ≡ bytes.old.items ++ (unwrap_or (option_copied context.entry) [] ++ id.now)) }
+    ensures lengths { IfOk result (λ lengths. lengths ≡ record {
+      context = option_map length (option_copied context.entry);
+      len = length (unwrap_or (option_copied context.entry) [] ++ id.now);
+    }) }
+    ensures unchanged { OnErr result (bytes.new.items ≡ bytes.old.items) }
 {
-    let Some(text) = text else {
-        return Ok(None);
-    };
-    bytes.extend_from_slice(text)?;
-    Ok(Some(text.len()))
+    let own = context.unwrap_or(&[]);
+    let len = own.len() + id.len();
+    bytes.reserve(len)?;
+    bytes.extend_from_slice(own)?;
+    bytes.extend_from_slice(id)?;
+    Ok(KeySpans {
+        context: context.map(|text| text.len()),
+        len,
+    })
+}
+
+/// The key of the message that these bytes are.
+fn key_in<'a>(bytes: &'a [u8], lengths: &KeySpans) -> MessageKey<'a>
+    ensures { message_of_key result ≡ message_in lengths.now bytes.now }
+{
+    let (context, id) = split_at_most(bytes, lengths.context.unwrap_or(0));
+    MessageKey {
+        context: lengths.context.and(Some(context)),
+        id,
+    }
 }
 
 impl KeyBuffer {
-    /// Adds the message of an entry.
+    /// No messages. Nothing is allocated.
+    pub fn new(alloc: Global) -> KeyBuffer
+        ensures { result ≡ [] }
+    {
+        KeyBuffer {
+            bytes: Vec::new(alloc),
+            lengths: Vec::new(alloc),
+        }
+    }
+
+    /// Adds the message of an entry. Where an allocation failed, nothing is added.
     pub fn add(&mut self, entry: &Entry) -> Result<(), AllocError>
-        ensures { OnOk result ((before : List TextEntry) → HoldKeys before self.old
-            → HoldKeys (before ++ entry.now ∷ []) self.new) }
+        ensures ok { OnOk result (self.new ≡ self.old ++ entry_message entry.now ∷ []) }
+        ensures unchanged { OnErr result (self.new ≡ self.old) }
     {
         let fields = entry.fields();
-        let context = append_optional(&mut self.bytes, fields.context.as_deref())?;
-        self.bytes.extend_from_slice(&fields.id)?;
-        let id = fields.id.len();
-        Ok(self.lengths.push(KeySpans { context, id })?)
+        self.lengths.reserve(1)?;
+        let lengths = append_key(&mut self.bytes, fields.context.as_deref(), &fields.id)?;
+        self.lengths.push_reserved(lengths);
+        Ok(())
     }
 
     /// For each message its number among them, in the order in which they first appear, and how many
     /// of them differ.
     pub fn numbers(&self, alloc: Global) -> Result<(Vec<usize>, usize), AllocError>
-        ensures numbers { IfOk result (λ r. (entries : List TextEntry) → HoldKeys entries self.now
-            → r.0.items ≡ group_numbers same_message (map entry_message entries)) }
-        ensures count { IfOk result (λ r. (entries : List TextEntry) → HoldKeys entries self.now
-            → r.1 ≡ length (first_ones same_message (map entry_message entries))) }
+        ensures numbers { IfOk result (λ r. r.0.items ≡ group_numbers same_message self.now) }
+        ensures count { IfOk result (λ r. r.1 ≡ length (first_ones same_message self.now)) }
     {
         let mut keys = Vec::with_capacity(alloc, self.lengths.len())?;
         let mut rest = self.bytes.as_slice();
         for lengths in &self.lengths {
-            let (context, after) = split_at_most(rest, lengths.context.unwrap_or(0));
-            let (id, after) = split_at_most(after, lengths.id);
-            let context = lengths.context.and(Some(context));
-            keys.push(MessageKey { context, id })?;
+            let (own, after) = split_at_most(rest, lengths.len);
+            keys.push(key_in(own, lengths))?;
             rest = after;
         }
         numbered(alloc, &keys, Seeded::of(&self.digest()))

@@ -22,7 +22,7 @@ mod stats;
 
 pub use crate::duplicate::{JoinError, duplicates, joined_duplicates};
 pub use crate::joining::{InputEntry, is_live, is_live_header, joined};
-pub use crate::keys::{KeyBuffer, KeySpans, split_at_most};
+pub use crate::keys::{KeyBuffer, split_at_most};
 pub use crate::message_index::{MessageKey, grouped, message_key};
 pub use crate::repeats::{EntryPlace, Seen, duplicate_at, repeated_lines};
 pub use crate::stats::{Stats, has_translation, statistics};
