@@ -9,12 +9,14 @@ use Rattle.po_messages.specs.Duplicate.{AllDiffer, HasNoDuplicate, IsSameMessage
 use Rattle.po_messages.specs.Facts.FirstRepeats.{pairs_map, repeat_map}
 use Rattle.po_messages.specs.Facts.Mapped.{filter_map, filter_twice}
 use Rattle.po_messages.specs.Joined.{in_input, is_live}
+use Rattle.po_messages.specs.Message.{entry_message, entry_messages}
 use Rattle.po_select.specs.declared.selection.Selection.{Selection}
 use Rattle.po_select.specs.Selected.{changed, is_kept, selected}
 use Rattle.msgattrib.specs.Msgattrib.{IsMsgattribRun, error_line}
-use Rattle.po_messages.specs.Places.{RepeatsOnLines}
+use Rattle.po_messages.specs.Places.{RepeatsOnLines, are_placed, place_of}
 use Rattle.po_messages.specs.Repeats.{IsFirstRepeat}
-use Rattle.msgattrib.specs.Internal.SelectedText.{IsSelectionFault, RepeatsSelected, stays_live}
+use Rattle.msgattrib.specs.Internal.SelectedText.{HoldRows, IsSelectionFault, RepeatsSelected, stays_live}
+use Rattle.msgattrib.specs.declared.selected_text.Rows.{Rows}
 use Rattle.po_messages.proofs.NumberLemmas.{duplicate_in}
 use Rattle.runs.specs.Run.{refusal, run_view}
 use Rattle.runs.specs.declared.run.Run.{Run}
@@ -31,6 +33,19 @@ live_selected : (s : Selection) (entries : List TextEntry)
     → filter is_live (selected s entries) ≡ map (changed s) (filter (stays_live s) entries)
 live_selected s entries = filter_map is_live (changed s) (filter (is_kept s) entries)
     ∙ ap (map (changed s)) (filter_twice (is_kept s) (λ e. is_live (changed s e)) entries)
+
+-- the rows of further entries
+pub rows_more : (s : Selection) (before entries : List TextEntry) (old new : Rows) → HoldRows s before old
+    → new.keys ≡ old.keys ++ entry_messages entries
+    → new.read.items ≡ old.read.items ++ are_placed is_live entries
+    → new.kept.items ≡ old.kept.items ++ are_placed (stays_live s) entries → HoldRows s (before ++ entries) new
+rows_more s before entries old new held keys read kept = record {
+  keys = keys ∙ ap (λ l. l ++ entry_messages entries) held.keys ∙ sym (map-append entry_message before entries);
+  read = read ∙ ap (λ l. l ++ are_placed is_live entries) held.read
+      ∙ sym (map-append (place_of is_live) before entries);
+  kept = kept ∙ ap (λ l. l ++ are_placed (stays_live s) entries) held.kept
+      ∙ sym (map-append (place_of (stays_live s)) before entries);
+}
 
 -- one that stands twice among those that are selected
 pub repeats_selected : (s : Selection) (entries : List TextEntry) (lines : ℕ × ℕ) (error : PoError)

@@ -4,10 +4,13 @@
 
 ghost use Rattle.std.specs.Prelude.{◌≡◌, ◌⊎◌, ◌++◌, IfErr, IfOk, List, MatchResult, OnOk};
 ghost use Rattle.po_entry.specs.TextEntry.{TextEntry};
+ghost use Rattle.po_messages.specs.Joined.{is_live};
+ghost use Rattle.po_messages.specs.Message.{entry_messages};
+ghost use Rattle.po_messages.specs.Places.{are_placed};
 ghost use Rattle.po_reader.specs.Internal.Keeping.{IsTextError};
 ghost use Rattle.po_select.specs.declared.selection.Selection.{Selection};
 ghost use Rattle.po_syntax.specs.declared.fault.PoFault.{PoFault};
-ghost use Rattle.msgattrib.specs.Internal.SelectedText.{HaveNoDuplicate, HoldRows, IsRowsFault, IsSelectedText, IsSelectedWhole, IsSelectionFault};
+ghost use Rattle.msgattrib.specs.Internal.SelectedText.{HaveNoDuplicate, HoldRows, IsRowsFault, IsSelectedText, IsSelectedWhole, IsSelectionFault, stays_live};
 
 use po_entry::Entry;
 use po_messages::{EntryPlace, KeyBuffer, duplicate_at, is_live, repeated_lines};
@@ -31,8 +34,10 @@ pub(crate) struct Rows {
 impl Rows {
     /// Adds entries.
     fn add_all(&mut self, entries: &[Entry], selection: &Selection) -> Result<(), AllocError>
-        ensures { OnOk result ((before : List TextEntry) → HoldRows selection.now before self.old
-            → HoldRows selection.now (before ++ entries.now) self.new) }
+        ensures keys { OnOk result (self.new.keys ≡ self.old.keys ++ entry_messages entries.now) }
+        ensures read { OnOk result (self.new.read.items ≡ self.old.read.items ++ are_placed is_live entries.now) }
+        ensures kept { OnOk result (self.new.kept.items
+            ≡ self.old.kept.items ++ are_placed (stays_live selection.now) entries.now) }
     {
         for entry in entries {
             let line = entry.line();
@@ -82,10 +87,7 @@ fn select_pieces(
     let mut pieces = Pieces::of(text)?;
     let mut parts = TextParts::with_capacity(alloc, text.len())?;
     let mut rows = Rows {
-        keys: KeyBuffer {
-            bytes: Vec::new(alloc),
-            lengths: Vec::new(alloc),
-        },
+        keys: KeyBuffer::new(alloc),
         read: Vec::new(alloc),
         kept: Vec::new(alloc),
     };

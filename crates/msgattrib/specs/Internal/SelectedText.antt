@@ -12,7 +12,7 @@ use Rattle.po_select.specs.Selected.{is_kept, obsolete_after, selected}
 use Rattle.po_writer.specs.TextParts.{AreParts}
 use Rattle.po_writer.specs.WrittenText.{written_text}
 use Rattle.po_writer.specs.declared.parts.TextParts.{TextParts}
-use Rattle.po_messages.specs.Keys.{HoldKeys}
+use Rattle.po_messages.specs.Message.{entry_messages}
 use Rattle.po_messages.specs.Places.{Repeats, are_placed}
 use Rattle.msgattrib.specs.declared.selected_text.Rows.{Rows}
 
@@ -22,7 +22,7 @@ stays_live s entry = is_kept s entry && not (obsolete_after s entry)
 
 -- these are the rows of the entries
 pub record HoldRows (s : Selection) (entries : List TextEntry) (rows : Rows) : Type 0 where
-  pub keys : HoldKeys entries rows.keys
+  pub keys : rows.keys ≡ entry_messages entries
   pub read : rows.read.items ≡ are_placed is_live entries
   pub kept : rows.kept.items ≡ are_placed (stays_live s) entries
 
