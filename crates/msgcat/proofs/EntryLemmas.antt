@@ -7,6 +7,7 @@ use Rattle.po_entry.specs.Header.{is_header}
 use Rattle.po_entry.specs.TextEntry.{TextEntry}
 use Rattle.po_entry.specs.Validity.{IsCatalogueEntry}
 use Rattle.po_messages.specs.Joined.{is_live}
+use Rattle.po_messages.specs.Message.{entry_message, entry_messages}
 use Rattle.po_merge.specs.Inputs.{NamedEntry, named}
 use Rattle.po_writer.specs.TextParts.{separated}
 use Rattle.po_messages.specs.Facts.Zips.{zip_more}
@@ -58,6 +59,9 @@ row_more old new before rows name entry row have grown name_is start end live he
       can = record { valid = record { valid = valid.valid; utf8 = utf8; no_nul = no_nul }; charset = valid.charset };
     })
 
-pub unnamed_more : (before : List NamedEntry) (name : List ℕ) (entry : TextEntry)
-    → unnamed before ++ entry ∷ [] ≡ unnamed (before ++ named name entry ∷ [])
-unnamed_more before name entry = sym (map-append (λ (e : NamedEntry). e.entry) before (named name entry ∷ []))
+pub messages_more : (before : List NamedEntry) (name : List ℕ) (entry : TextEntry)
+    → entry_messages (unnamed before) ++ entry_message entry ∷ []
+    ≡ entry_messages (unnamed (before ++ named name entry ∷ []))
+messages_more before name entry =
+    sym (ap entry_messages (map-append (λ (e : NamedEntry). e.entry) before (named name entry ∷ []))
+    ∙ map-append entry_message (unnamed before) (entry ∷ []))

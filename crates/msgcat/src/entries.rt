@@ -60,10 +60,7 @@ impl<'a> Entries<'a> {
         Ok(Entries {
             text: Vec::with_capacity(alloc, room)?,
             rows: Vec::new(alloc),
-            keys: KeyBuffer {
-                bytes: Vec::new(alloc),
-                lengths: Vec::new(alloc),
-            },
+            keys: KeyBuffer::new(alloc),
         })
     }
 

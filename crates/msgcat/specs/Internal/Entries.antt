@@ -7,7 +7,7 @@ use Rattle.po_messages.specs.Joined.{is_live}
 use Rattle.po_merge.specs.Grouping.{IsDefinition}
 use Rattle.po_merge.specs.Inputs.{NamedEntry}
 use Rattle.po_writer.specs.TextParts.{separated}
-use Rattle.po_messages.specs.Keys.{HoldKeys}
+use Rattle.po_messages.specs.Message.{entry_messages}
 use Rattle.msgcat.specs.declared.entries.Entries.{Entries}
 use Rattle.msgcat.specs.declared.entries.EntryRow.{EntryRow}
 
@@ -38,4 +38,4 @@ unnamed entries = map (λ e. e.entry) entries
 -- these are the entries that are kept
 pub record HoldEntries (entries : List NamedEntry) (kept : Entries) : Type 0 where
   pub rows : AreRows kept.text.items entries kept.rows.items
-  pub keys : HoldKeys (unnamed entries) kept.keys
+  pub keys : kept.keys ≡ entry_messages (unnamed entries)

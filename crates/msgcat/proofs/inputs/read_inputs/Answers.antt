@@ -2,7 +2,7 @@ use Rattle.std.proofs.Common.{◌≡◌, ◌+◌, ◌++◌, ◌∙◌, [], ap, a
 use Rattle.std.specs.Prelude.{MatchOption}
 use Rattle.std.specs.List.{AllZip}
 use Rattle.po_messages.specs.Duplicate.{AllDiffer}
-use Rattle.po_messages.specs.FirstOnes.{first_ones}
+use Rattle.po_messages.specs.FirstOnes.{first_ones, group_numbers}
 use Rattle.po_messages.specs.Joined.{is_live}
 use Rattle.po_messages.specs.Message.{same_message}
 use Rattle.po_messages.specs.Places.{AreNumbered, RepeatsOnLines}
@@ -26,7 +26,7 @@ repeated_lines-requires-clause-lengths c =
     let up_to = c.in_ok-entries.ensures in
     let entries = all_entries up_to.inputs ++ up_to.partial in
     let numbers = message_numbers_of entries c.in_ok-numbers.numbers.items
-    (c.in_ok-numbers.ensures.numbers (unnamed entries) up_to.holds.keys) in
+    (c.in_ok-numbers.ensures.numbers ∙ ap (group_numbers same_message) up_to.holds.keys) in
     let known = subst (AllZip IsReadInput up_to.inputs) (sym c.deref-input-items.ensures.value) up_to.known in
     let left = c.loop-index.invariant.left up_to.inputs up_to.partial known (c.as_slice-rest.ensures.value ∙ numbers) in
     let i = c.loop-index.index in
@@ -45,7 +45,7 @@ returns-in-Some-clause-fault c =
     let up_to = c.in_ok-entries.ensures in
     let entries = all_entries up_to.inputs ++ up_to.partial in
     let numbers = message_numbers_of entries c.in_ok-numbers.numbers.items
-    (c.in_ok-numbers.ensures.numbers (unnamed entries) up_to.holds.keys) in
+    (c.in_ok-numbers.ensures.numbers ∙ ap (group_numbers same_message) up_to.holds.keys) in
     let known = subst (AllZip IsReadInput up_to.inputs) (sym c.deref-input-items.ensures.value) up_to.known in
     let left = c.loop-index.invariant.left up_to.inputs up_to.partial known (c.as_slice-rest.ensures.value ∙ numbers) in
     let i = c.loop-index.index in
@@ -99,7 +99,7 @@ returns-in-Some-fault-clause-fault c =
     let up_to = c.in_ok-entries.ensures in
     let entries = all_entries up_to.inputs ++ up_to.partial in
     let numbers = message_numbers_of entries c.in_ok-numbers.numbers.items
-    (c.in_ok-numbers.ensures.numbers (unnamed entries) up_to.holds.keys) in
+    (c.in_ok-numbers.ensures.numbers ∙ ap (group_numbers same_message) up_to.holds.keys) in
     let known = subst (AllZip IsReadInput up_to.inputs) (sym c.deref-input-items.ensures.value) up_to.known in
     let left = c.loop-index.invariant.left up_to.inputs up_to.partial known (c.as_slice-rest.ensures.value ∙ numbers) in
     let distinct = none_left up_to.inputs up_to.partial c.deref-input-items.result.now c.loop-index.index
@@ -114,7 +114,7 @@ returns-clause-read c =
     let up_to = c.in_ok-entries.ensures in
     let entries = all_entries up_to.inputs ++ up_to.partial in
     let numbers = message_numbers_of entries c.in_ok-numbers.numbers.items
-    (c.in_ok-numbers.ensures.numbers (unnamed entries) up_to.holds.keys) in
+    (c.in_ok-numbers.ensures.numbers ∙ ap (group_numbers same_message) up_to.holds.keys) in
     let known = subst (AllZip IsReadInput up_to.inputs) (sym c.deref-input-items.ensures.value) up_to.known in
     let left = c.loop-index.invariant.left up_to.inputs up_to.partial known (c.as_slice-rest.ensures.value ∙ numbers) in
     let distinct = none_left up_to.inputs up_to.partial c.deref-input-items.result.now c.loop-index.index
@@ -131,7 +131,8 @@ returns-clause-read c =
             up_to.holds.rows;
         numbers = numbers
             ∙ ap message_numbers whole;
-        count = c.in_ok-numbers.ensures.count (unnamed entries) up_to.holds.keys
-            ∙ ap (λ l. length (first_ones same_message l)) (messages_of entries ∙ ap named_messages whole);
+        count = c.in_ok-numbers.ensures.count
+            ∙ ap (λ l. length (first_ones same_message l))
+            (up_to.holds.keys ∙ messages_of entries ∙ ap named_messages whole);
       },
     )

@@ -3,8 +3,8 @@ use Rattle.std.proofs.lemmas.Result.{on_ok_weaker}
 use Rattle.po_entry.specs.TextEntry.{TextEntry}
 use Rattle.po_merge.specs.Inputs.{named}
 use Rattle.msgcat.specs.Internal.Entries.{AreRows, unnamed}
-use Rattle.po_messages.specs.Keys.{HoldKeys}
-use Rattle.msgcat.proofs.EntryLemmas.{row_more, unnamed_more}
+use Rattle.po_messages.specs.Message.{entry_message}
+use Rattle.msgcat.proofs.EntryLemmas.{row_more, messages_more}
 use Rattle.msgcat.proofs.entries.Entries.add.Goals as goal
 
 pub returns : goal.returns
@@ -20,7 +20,7 @@ returns c =
           (c.len.ensures ∙ c.append_separated.new.text.ok.0)
           (ap (λ (e : TextEntry). not e.obsolete) c.fields.ensures.fields) c.is_header.ensures c.utf8.name
           no_nul valid);
-      keys = subst (λ l. HoldKeys l c.add.new.self) (unnamed_more before c.args.name.now c.args.entry.now)
-          (added (unnamed before) have.keys);
+      keys = added ∙ ap (λ l. l ++ entry_message c.args.entry.now ∷ []) have.keys
+          ∙ messages_more before c.args.name.now c.args.entry.now;
     })
-    c.add.ensures
+    c.add.ensures.ok
