@@ -76,7 +76,7 @@ pub(crate) const GETTEXT: Help = Help {
         "pokit gettext [OPTIONS] [TEXTDOMAIN] MSGID\n       pokit gettext [OPTIONS] -s [MSGID]...",
     ),
     after: "Arguments:
-  [TEXTDOMAIN]  The text domain, where -d isn't given
+  [TEXTDOMAIN]  The text domain, in place of that of -d
   MSGID         The message to look up; with -s any number of them; -- stands before one like -1
 
 Examples:
@@ -91,7 +91,7 @@ pub(crate) const NGETTEXT: Help = Help {
     about: "Prints the translation of a message with a count",
     usage: Some("pokit ngettext [OPTIONS] [TEXTDOMAIN] MSGID MSGID-PLURAL COUNT"),
     after: "Arguments:
-  [TEXTDOMAIN]  The text domain, where -d isn't given
+  [TEXTDOMAIN]  The text domain, in place of that of -d
   MSGID         The message to look up
   MSGID-PLURAL  Its plural
   COUNT         The count, which selects the plural form; -- stands before one like -1
