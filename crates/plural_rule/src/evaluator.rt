@@ -8,7 +8,6 @@ ghost use Rattle.plural_rule.specs.Program.{program, tree_of, low_of};
 ghost use Rattle.plural_rule.specs.Internal.Run.{act, left_by, go_on, run, stored, Outcome};
 
 use crate::instruction::{Action, Instruction};
-use crate::operator::truth;
 
 /// The most instructions of a program that runs with the smallest stack: a larger one takes longer to set up.
 const TINY: usize = 16;
@@ -146,10 +145,10 @@ fn act(
             let low = instruction_at(instructions, next).number;
             (Some(high as u64 * 4294967296 + low as u64), 0, 1, begins)
         }
-        Action::Not => (Some(truth(newest == 0)), 1, 0, 0),
+        Action::Not => (Some((newest == 0) as u64), 1, 0, 0),
         Action::Binary(operator) => (operator.combined(below, newest), 2, 0, 0),
         Action::Branch(operator, _) if operator.needs_right(newest) => (Some(newest), 1, 0, 0),
-        Action::Branch(_, skip) => (Some(truth(newest != 0)), 1, skip, 0),
+        Action::Branch(_, skip) => (Some((newest != 0) as u64), 1, skip, 0),
         Action::Choose(skip) if newest == 0 => (Some(below), 2, skip, 0),
         Action::Choose(_) => (Some(below), 2, 0, 0),
         Action::Jump(skip) => (Some(newest), 1, skip, 0),

@@ -1,6 +1,6 @@
 //! The instructions of a program that computes an expression.
 ghost use Rattle.std.specs.Prelude.{◌≡◌};
-ghost use Rattle.plural_rule.specs.Instruction.{binary_instruction, begins, action_of};
+ghost use Rattle.plural_rule.specs.Instruction.{binary_instruction, action_of};
 
 use crate::operator::Operator;
 
@@ -85,16 +85,10 @@ impl Instruction {
     {
         Instruction {
             kind: 4,
-            operator: operator.code(),
-            ..Instruction::NOT
+            operator: operator as u8,
+            count: 0,
+            number: 0,
         }
-    }
-
-    /// How many nodes begin with the instruction.
-    pub(crate) fn begins(self) -> u16
-        ensures { result ≡ begins self }
-    {
-        if self.kind < 3 { self.count } else { 0 }
     }
 
     /// What the instruction does.

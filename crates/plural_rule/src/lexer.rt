@@ -83,13 +83,14 @@ fn double_at(text: &[u8]) -> Option<Operator>
     if text.len() < 2 {
         return None;
     }
-    match (text[0], text[1]) {
-        (b'|', b'|') => Some(Operator::Or),
-        (b'&', b'&') => Some(Operator::And),
-        (b'=', b'=') => Some(Operator::Equal),
-        (b'!', b'=') => Some(Operator::NotEqual),
-        (b'<', b'=') => Some(Operator::AtMost),
-        (b'>', b'=') => Some(Operator::AtLeast),
+    let second = text[1];
+    match text[0] {
+        b'|' if second == b'|' => Some(Operator::Or),
+        b'&' if second == b'&' => Some(Operator::And),
+        b'=' if second == b'=' => Some(Operator::Equal),
+        b'!' if second == b'=' => Some(Operator::NotEqual),
+        b'<' if second == b'=' => Some(Operator::AtMost),
+        b'>' if second == b'=' => Some(Operator::AtLeast),
         _ => None,
     }
 }

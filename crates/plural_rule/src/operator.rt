@@ -1,9 +1,9 @@
 //! The operators of two operands in a plural expression.
 ghost use Rattle.std.specs.Prelude.{◌≡◌};
-ghost use Rattle.plural_rule.specs.Expression.{combined, needs_right, truth};
+ghost use Rattle.plural_rule.specs.Expression.{combined, needs_right};
 ghost use Rattle.plural_rule.specs.Grammar.{level};
 ghost use Rattle.plural_rule.specs.Program.{is_lazy};
-ghost use Rattle.plural_rule.specs.Instruction.{operator_code, operator_of};
+ghost use Rattle.plural_rule.specs.Instruction.{operator_of};
 
 /// An operator of two operands, with the meaning that it has in C for unsigned numbers of 64 bits.
 #[derive(Clone, Copy, Drop)]
@@ -51,13 +51,6 @@ impl Operator {
         }
     }
 
-    /// The number that stands for the operator in a node.
-    pub(crate) fn code(self) -> u8
-        ensures { result ≡ operator_code self }
-    {
-        self as u8
-    }
-
     /// The operator for which a number stands; any number above 11 stands for `%`.
     pub(crate) fn of_code(code: u8) -> Operator
         ensures { result ≡ operator_of code }
@@ -101,27 +94,20 @@ impl Operator {
     pub(crate) fn combined(self, left: u64, right: u64) -> Option<u64>
         ensures { result ≡ combined self left right }
     {
-        let value = match self {
-            Operator::Or | Operator::And => truth(right != 0),
-            Operator::Equal => truth(left == right),
-            Operator::NotEqual => truth(left != right),
-            Operator::Less => truth(left < right),
-            Operator::Greater => truth(right < left),
-            Operator::AtMost => truth(left <= right),
-            Operator::AtLeast => truth(right <= left),
-            Operator::Add => left.wrapping_add(right),
-            Operator::Subtract => left.wrapping_sub(right),
-            Operator::Multiply => left.wrapping_mul(right),
+        let holds = match self {
+            Operator::Or | Operator::And => right != 0,
+            Operator::Equal => left == right,
+            Operator::NotEqual => left != right,
+            Operator::Less => left < right,
+            Operator::Greater => right < left,
+            Operator::AtMost => left <= right,
+            Operator::AtLeast => right <= left,
+            Operator::Add => return Some(left.wrapping_add(right)),
+            Operator::Subtract => return Some(left.wrapping_sub(right)),
+            Operator::Multiply => return Some(left.wrapping_mul(right)),
             Operator::Divide => return left.checked_div(right),
             Operator::Remainder => return left.checked_rem(right),
         };
-        Some(value)
+        Some(holds as u64)
     }
-}
-
-/// 1 for true, and 0 for false.
-pub(crate) fn truth(holds: bool) -> u64
-    ensures { result ≡ truth holds }
-{
-    if holds { 1 } else { 0 }
 }

@@ -60,7 +60,9 @@ pub(crate) fn push_branch(room: &mut Room, len: usize, operator: Operator) -> us
     }
     let branch = Instruction {
         kind: 5,
-        ..Instruction::binary(operator)
+        operator: operator as u8,
+        count: 0,
+        number: 0,
     };
     push(room, len, branch)
 }
@@ -100,19 +102,23 @@ pub(crate) fn push_numeral(room: &mut Room, len: usize, value: u64) -> usize
     if value < 4294967296 {
         let number = Instruction {
             kind: 1,
+            operator: 0,
+            count: 1,
             number: value as u32,
-            ..Instruction::COUNT
         };
         return push(room, len, number);
     }
     let high = Instruction {
         kind: 2,
+        operator: 0,
+        count: 1,
         number: (value / 4294967296) as u32,
-        ..Instruction::COUNT
     };
     let low = Instruction {
+        kind: 7,
+        operator: 0,
+        count: 0,
         number: (value % 4294967296) as u32,
-        ..Instruction::JUMP
     };
     let len = push(room, len, high);
     push(room, len, low)

@@ -2,6 +2,7 @@
 ghost use Rattle.std.specs.Prelude.{◌≡◌, ◌+◌, ◌-◌, ◌<◌, ◌≤◌, [], ◌∷◌, length, MatchOption, false};
 ghost use Rattle.plural_rule.specs.Internal.Pending.{binds, pending_of, within, entries_in};
 
+use crate::instruction::Instruction;
 use crate::operator::Operator;
 use crate::parts::Parser;
 
@@ -44,7 +45,7 @@ impl Pending {
             Pending::Question(first) => 4096 + first % 4096,
             Pending::Colon(first) => 8192 + first % 4096,
             Pending::Binary(operator, first) => {
-                4096 * (3 + operator.code() as u16) + first % 4096
+                4096 * (3 + Instruction::binary(operator).operator as u16) + first % 4096
             }
         }
     }

@@ -142,7 +142,14 @@ impl Rule {
         ensures limit { result ≤ expression_limit }
         ensures some { 1 ≤ result }
     {
-        node_count(self.program())
+        let instructions = self.program();
+        let mut count = 0;
+        for instruction in instructions {
+            if instruction.kind < 3 {
+                count += instruction.count as u32;
+            }
+        }
+        count
     }
 
     /// The value of the expression at a count, or `None` where it divides by 0, and how many nodes were evaluated.
@@ -162,19 +169,6 @@ impl Rule {
     {
         self.program.as_slice()
     }
-}
-
-/// How many nodes the expression of a program has.
-fn node_count(instructions: &[Instruction]) -> u32
-    requires program { instructions.now ≡ program_of 0 (tree_of instructions.now) }
-    requires limit { length instructions.now ≤ expression_limit }
-    ensures { result ≡ nodes (tree_of instructions.now) }
-{
-    let mut count = 0;
-    for instruction in instructions {
-        count += instruction.begins() as u32;
-    }
-    count
 }
 
 /// Reads the number of plural forms of a header, and the program of its expression to the first

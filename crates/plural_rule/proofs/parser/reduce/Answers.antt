@@ -31,3 +31,12 @@ pub returns-clause-reduced : goal.returns-clause-reduced
 returns-clause-reduced c waiting tree h =
     Reduces-end c.args.next_level (held c.loop-top.room c.args.codes.now c.loop-top.parser)
     (reduce c.args.next_level waiting tree) c.in_default.ensures (c.loop-top.invariant.reduces waiting tree h)
+
+pub complete-len-requires : goal.complete-len-requires
+complete-len-requires c = omega (arith, ap weight c.in-Some.ensures.0, c.loop-top.invariant.room.0, c.requires.room.0)
+
+pub overflow_sub-parser : goal.overflow_sub-parser
+overflow_sub-parser c = omega (arith, c.in-Some.ensures.2)
+
+pub loop-top-smaller : goal.loop-top-smaller
+loop-top-smaller c = rw c.new-parser.ensures (omega (arith, c.in-Some.ensures.2))

@@ -72,3 +72,36 @@ pub returns-in-Question-clause-room : goal.returns-in-Question-clause-room
 returns-in-Question-clause-room c =
     rw (c.in-Question.is, c.wait-in-Question.ensures.parser)
     (omega (arith, ap weight c.wait-in-Question.ensures.entries), omega arith)
+
+pub returns-in-Some-Question-clause-room : goal.returns-in-Some-Question-clause-room
+returns-in-Some-Question-clause-room c =
+    let popped = rw c.in-Some-Question.field-0-is at c.in-Some-Question.ensures in
+    let entries = rw c.new-before.ensures at c.wait-in-Colon.ensures.entries in
+    rw (c.in-Colon.is, c.wait-in-Colon.ensures.parser, c.new-before.ensures)
+    (omega (arith, ap weight entries, ap weight popped.0, c.push-len-in-Colon.ensures.len), omega (arith, popped.2))
+
+pub returns-in-Some-Open-clause-room : goal.returns-in-Some-Open-clause-room
+returns-in-Some-Open-clause-room c =
+    let popped = rw c.in-Some-Open.field-0-is at c.in-Some-Open.ensures in
+    rw (c.in-Close.is, c.new.ensures) (omega (arith, ap weight popped.0), omega arith)
+
+pub push_branch-len-requires : goal.push_branch-len-requires
+push_branch-len-requires c =
+    omega (arith, added c.in-Binary.operator, rw c.in-Binary.is at c.requires.room.0)
+
+pub push-len-requires : goal.push-len-requires
+push-len-requires c = omega (arith, rw c.in-Question.is at c.requires.room.0)
+
+pub push-len-requires-in-Colon : goal.push-len-requires-in-Colon
+push-len-requires-in-Colon c = omega (arith, rw c.in-Colon.is at c.requires.room.0)
+
+pub overflow_sub-parser : goal.overflow_sub-parser
+overflow_sub-parser c =
+    let popped = rw c.in-Some-Question.field-0-is at c.in-Some-Question.ensures in omega (arith, popped.2)
+
+pub wait-requires-in-Colon : goal.wait-requires-in-Colon
+wait-requires-in-Colon c = rw c.new-before.ensures (omega arith)
+
+pub overflow_sub-parser-in-Close : goal.overflow_sub-parser-in-Close
+overflow_sub-parser-in-Close c =
+    let popped = rw c.in-Some-Open.field-0-is at c.in-Some-Open.ensures in omega (arith, popped.2)

@@ -24,6 +24,6 @@ returns-in-Colon c = rw c.in-Colon.is (coded 2 c.in-Colon.first)
 
 pub returns-in-Binary : goal.returns-in-Binary
 returns-in-Binary c =
-    rw (c.in-Binary.is, c.code.ensures)
+    rw (c.in-Binary.is, c.binary.ensures)
     (coded (3 + operator_code c.in-Binary.operator) c.in-Binary.first
     ∙ of_operator c.in-Binary.operator (c.in-Binary.first % 4096))
