@@ -71,33 +71,21 @@ record First (p q : List Instruction) (most : ℕ) : Type 0 where
 first-of : (k : ℕ) (t : Tree) (rest : List Instruction) (most : ℕ) → k + size t ≤ most
     → First (program_then k t rest) (program_then (1 + k) t rest) most
 first-of k Count rest most h =
-    record {
-      first = count_instruction (1 + k);
-      rest = rest;
-      is = refl;
-      next =
-          ap (λ n. count_instruction n ∷ rest) (omega arith);
-      small = omega arith;
-    }
+    let more : 1 + k + 1 ≡ 1 + (1 + k) = omega arith in
+    let next = sym (ap (λ n. count_instruction n ∷ rest) more) in
+    record { first = count_instruction (1 + k); rest = rest; is = refl; next = next; small = omega arith }
 first-of k (Number v) rest most h =
+    let more : 1 + k + 1 ≡ 1 + (1 + k) = omega arith in
     elim (cases_Bool (nat_lt v (2 ^ 32))) [
-      | inl e ↦ record {
-        first = number_instruction (1 + k) v;
-        rest = rest;
-        is = rw e refl;
-        next =
-            rw e (ap (λ n. number_instruction n v ∷ rest) (omega arith));
-        small = omega (arith, rw e at h);
-      }
-      | inr e ↦ record {
-        first = wide_instruction (1 + k) (v / 2 ^ 32);
-        rest = low_instruction (v % 2 ^ 32) ∷ rest;
-        is =
-            rw e refl;
-        next = rw e (ap (λ n. wide_instruction n (v / 2 ^ 32) ∷ low_instruction (v % 2 ^ 32) ∷ rest)
-            (omega arith));
-        small = omega (arith, rw e at h);
-      }
+      | inl e ↦
+          let i = number_instruction (1 + k) v in
+          let next = ap (λ n. number_instruction n v ∷ rest) more in
+          record { first = i; rest = rest; is = rw e refl; next = rw e (sym next); small = omega (arith, rw e at h) }
+      | inr e ↦
+          let i = wide_instruction (1 + k) (v / 2 ^ 32) in
+          let low = low_instruction (v % 2 ^ 32) ∷ rest in
+          let next = ap (λ n. wide_instruction n (v / 2 ^ 32) ∷ low) more in
+          record { first = i; rest = low; is = rw e refl; next = rw e (sym next); small = omega (arith, rw e at h) }
     ]
 first-of k (Not a) rest most h = first-of (1 + k) a _ most (omega arith)
 first-of k (Binary op a b) rest most h = first-of (1 + k) a _ most (omega arith)

@@ -147,8 +147,13 @@ fn act(
         }
         Action::Not => (Some((newest == 0) as u64), 1, 0, 0),
         Action::Binary(operator) => (operator.combined(below, newest), 2, 0, 0),
-        Action::Branch(operator, _) if operator.needs_right(newest) => (Some(newest), 1, 0, 0),
-        Action::Branch(_, skip) => (Some((newest != 0) as u64), 1, skip, 0),
+        Action::Branch(operator, skip) => {
+            if operator.needs_right(newest) {
+                (Some(newest), 1, 0, 0)
+            } else {
+                (Some((newest != 0) as u64), 1, skip, 0)
+            }
+        }
         Action::Choose(skip) if newest == 0 => (Some(below), 2, skip, 0),
         Action::Choose(_) => (Some(below), 2, 0, 0),
         Action::Jump(skip) => (Some(newest), 1, skip, 0),

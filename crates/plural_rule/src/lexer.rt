@@ -83,14 +83,20 @@ fn double_at(text: &[u8]) -> Option<Operator>
     if text.len() < 2 {
         return None;
     }
-    let second = text[1];
-    match text[0] {
-        b'|' if second == b'|' => Some(Operator::Or),
-        b'&' if second == b'&' => Some(Operator::And),
-        b'=' if second == b'=' => Some(Operator::Equal),
-        b'!' if second == b'=' => Some(Operator::NotEqual),
-        b'<' if second == b'=' => Some(Operator::AtMost),
-        b'>' if second == b'=' => Some(Operator::AtLeast),
+    let first = text[0];
+    if text[1] == b'=' {
+        return match first {
+            b'=' => Some(Operator::Equal),
+            b'!' => Some(Operator::NotEqual),
+            b'<' => Some(Operator::AtMost),
+            b'>' => Some(Operator::AtLeast),
+            _ => None,
+        };
+    }
+    match first {
+        _ if text[1] != first => None,
+        b'|' => Some(Operator::Or),
+        b'&' => Some(Operator::And),
         _ => None,
     }
 }

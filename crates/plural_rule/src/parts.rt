@@ -137,11 +137,10 @@ pub(crate) fn complete(room: &mut Room, len: usize, start: u16, top: Pending) ->
             begin(room, len, start);
             (push(room, len, Instruction::NOT), start)
         }
-        Pending::Binary(operator, first) if operator.is_lazy() => {
-            skip_operand(room, len, start, 1);
-            (push(room, len, Instruction::binary(operator)), first)
-        }
         Pending::Binary(operator, first) => {
+            if operator.is_lazy() {
+                skip_operand(room, len, start, 1);
+            }
             (push(room, len, Instruction::binary(operator)), first)
         }
         Pending::Colon(first) => {

@@ -12,12 +12,8 @@ told : (t : Tree) (n : ℕ) (v : Option ℕ) (s : ℕ) → Some (record { value 
 told t n v s e =
     let both : record { value = v; steps = s } ≡ outcome t n = cc in
     let same = ap (λ (o : Outcome). o.steps) both in
-    record {
-      value = ap (λ (o : Outcome). o.value) both;
-      steps = same;
-      bound =
-          omega (arith, same, visited_le_nodes t n);
-    }
+    let value = ap (λ (o : Outcome). o.value) both in
+    record { value = value; steps = same; bound = omega (arith, same, visited_le_nodes t n) }
 
 pub loop-index-init : goal.loop-index-init
 loop-index-init g c = record {

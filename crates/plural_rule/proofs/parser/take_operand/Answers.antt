@@ -42,14 +42,8 @@ returns-in-Not-clause-room c =
 
 pub returns-in-Open-clause-step : goal.returns-in-Open-clause-step
 returns-in-Open-clause-step c waiting h =
-    rw (c.in-Open.is, c.wait-in-Open.ensures.parser) (
-      refl,
-      record {
-        code_is = h.code_is;
-        entries_are = c.wait-in-Open.ensures.entries
-            ∙ ap (λ es. Open ∷ es) h.entries_are;
-      },
-    )
+    let entries = c.wait-in-Open.ensures.entries ∙ ap (λ es. Open ∷ es) h.entries_are in
+    rw (c.in-Open.is, c.wait-in-Open.ensures.parser) (refl, record { code_is = h.code_is; entries_are = entries })
 
 pub returns-in-Open-clause-room : goal.returns-in-Open-clause-room
 returns-in-Open-clause-room c =

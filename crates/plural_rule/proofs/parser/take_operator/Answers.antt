@@ -86,8 +86,7 @@ returns-in-Some-Open-clause-room c =
     rw (c.in-Close.is, c.new.ensures) (omega (arith, ap weight popped.0), omega arith)
 
 pub push_branch-len-requires : goal.push_branch-len-requires
-push_branch-len-requires c =
-    omega (arith, added c.in-Binary.operator, rw c.in-Binary.is at c.requires.room.0)
+push_branch-len-requires c = omega (arith, added c.in-Binary.operator, rw c.in-Binary.is at c.requires.room.0)
 
 pub push-len-requires : goal.push-len-requires
 push-len-requires c = omega (arith, rw c.in-Question.is at c.requires.room.0)
