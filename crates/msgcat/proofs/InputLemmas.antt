@@ -48,12 +48,8 @@ pub record AreLeft (read : List Named) (partial : List NamedEntry) (i : ℕ) (re
   pub numbered : AreNumbered (unnamed (all_entries read ++ partial))
       (unnamed (all_entries (drop i read) ++ partial)) rest
 
-pub messages_of : (entries : List NamedEntry) → map entry_message (unnamed entries) ≡ named_messages entries
+messages_of : (entries : List NamedEntry) → map entry_message (unnamed entries) ≡ named_messages entries
 messages_of entries = map-map entry_message (λ (e : NamedEntry). e.entry) entries
-
-pub message_numbers_of : (entries : List NamedEntry) (numbers : List ℕ)
-    → numbers ≡ group_numbers same_message (map entry_message (unnamed entries)) → numbers ≡ message_numbers entries
-message_numbers_of entries numbers is = is ∙ ap (group_numbers same_message) (messages_of entries)
 
 pub all_left : (read : List Named) (partial : List NamedEntry) (numbers : List ℕ)
     → numbers ≡ message_numbers (all_entries read ++ partial) → AreLeft read partial 0 numbers

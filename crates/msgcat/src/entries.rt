@@ -19,8 +19,8 @@ pub(crate) struct EntryRow<'a> {
     pub(crate) name: &'a str,
     /// Where its text begins, with the empty line before it.
     pub(crate) start: usize,
-    /// Where its text ends.
-    pub(crate) end: usize,
+    /// How long its text is, with that line.
+    pub(crate) len: usize,
     /// Whether it is live.
     pub(crate) is_live: bool,
     /// Whether it is a header.
@@ -74,7 +74,7 @@ impl<'a> Entries<'a> {
         self.rows.push(EntryRow {
             name,
             start,
-            end: self.text.len(),
+            len: self.text.len() - start,
             is_live: !entry.fields().obsolete,
             is_header: entry.is_header(),
         })?;

@@ -1,6 +1,6 @@
 //! Merging the entries of inputs, message by message: the text of a message's only definition is
 //! copied, and several are read again from their texts.
-ghost use Rattle.std.specs.Prelude.{◌≡◌, ◌<◌, ◌++◌, ◌∷◌, ℕ, [], All, IfErr, IfOk, List, MatchResult, OnOk, length, map};
+ghost use Rattle.std.specs.Prelude.{◌≡◌, ◌<◌, ◌++◌, ◌∷◌, ℕ, [], All, IfErr, IfOk, List, MatchResult, OnOk, drop, length, map, take};
 ghost use Rattle.std.specs.List.{AllZip};
 ghost use Rattle.po_entry.specs.TextEntry.{TextEntry};
 ghost use Rattle.po_merge.specs.EntryLaws.{IsSameButLine};
@@ -20,17 +20,19 @@ use po_catalog::laws::what_is_written_reads_back;
 use po_entry::Catalogue;
 use po_merge::laws::{groups_are_numbered, lines_are_not_merged, one_definition_stays};
 use po_merge::{MergeOptions, NamedEntry, groups_of, kept_definitions, merge_definitions};
+use po_messages::split_at_most;
 use po_reader::read;
 use po_syntax::PoError;
 use po_writer::TextParts;
 use std::alloc::{AllocError, Global};
 
-/// What stands from one index to another.
-fn between<T>(items: &[T], start: usize, end: usize) -> &[T]
-    ensures { (before own after : List T) → items.now ≡ before ++ (own ++ after) → start ≡ length before
-        → end ≡ length (before ++ own) → result.now ≡ own }
+/// So many bytes of a text from an index, or fewer where the text ends before.
+fn part_of(text: &[u8], start: usize, len: usize) -> &[u8]
+    ensures { result.now ≡ take len (drop start text.now) }
 {
-    items.get(start..end).unwrap_or(&[])
+    let (_, rest) = split_at_most(text, start);
+    let (own, _) = split_at_most(rest, len);
+    own
 }
 
 /// Adds the text of an entry, with the empty line before it.
@@ -38,7 +40,7 @@ fn push_copy(parts: &mut TextParts, text: &[u8], row: &EntryRow<'_>) -> Result<(
     ensures { OnOk result ((entry : merge.NamedEntry) (before : List TextEntry) → IsRow text.now entry row.now
         → AreWritten before parts.old → AreWritten (before ++ entry.entry ∷ []) parts.new) }
 {
-    let own = between(text, row.start, row.end);
+    let own = part_of(text, row.start, row.len);
     if row.is_live {
         parts.add_texts(own, b"")
     } else {

@@ -1,13 +1,12 @@
 -- The entries of inputs, kept by their texts and messages. Internal to this crate.
-use Rattle.std.specs.Prelude.{◌≡◌, ℕ, List, [], ◌∷◌, ◌++◌, length, map}
+use Rattle.std.specs.Prelude.{◌≡◌, ℕ, List, [], ◌∷◌, drop, length, map, take}
 use Rattle.std.specs.List.{AllZip}
 use Rattle.po_entry.specs.Header.{HasAdmittedCharset, is_header}
 use Rattle.po_entry.specs.TextEntry.{TextEntry}
 use Rattle.po_messages.specs.Joined.{is_live}
-use Rattle.po_merge.specs.Grouping.{IsDefinition}
+use Rattle.po_merge.specs.Grouping.{IsDefinition, named_messages}
 use Rattle.po_merge.specs.Inputs.{NamedEntry}
 use Rattle.po_writer.specs.TextParts.{separated}
-use Rattle.po_messages.specs.Message.{entry_messages}
 use Rattle.msgcat.specs.declared.entries.Entries.{Entries}
 use Rattle.msgcat.specs.declared.entries.EntryRow.{EntryRow}
 
@@ -18,11 +17,8 @@ pub record CanBeMerged (entry : NamedEntry) : Type 0 where
 
 -- the row says where the text of the entry stands, after an empty line, and what is known of the entry
 pub record IsRow (text : List ℕ) (entry : NamedEntry) (row : EntryRow) : Type 0 where
-  pub before : List ℕ
-  pub after : List ℕ
-  pub text_is : text ≡ before ++ (separated (entry.entry ∷ []) ++ after)
-  pub start : row.start ≡ length before
-  pub end : row.end ≡ length (before ++ separated (entry.entry ∷ []))
+  pub own : take row.len (drop row.start text) ≡ separated (entry.entry ∷ [])
+  pub len : row.len ≡ length (separated (entry.entry ∷ []))
   pub name : row.name.now ≡ entry.name
   pub live : row.is_live ≡ is_live entry.entry
   pub header : row.is_header ≡ is_header entry.entry
@@ -38,4 +34,4 @@ unnamed entries = map (λ e. e.entry) entries
 -- these are the entries that are kept
 pub record HoldEntries (entries : List NamedEntry) (kept : Entries) : Type 0 where
   pub rows : AreRows kept.text.items entries kept.rows.items
-  pub keys : kept.keys ≡ entry_messages (unnamed entries)
+  pub keys : kept.keys ≡ named_messages entries

@@ -11,7 +11,7 @@ use Rattle.po_merge.specs.Grouping.{message_numbers, named_messages}
 use Rattle.po_merge.specs.Inputs.{all_entries}
 use Rattle.msgcat.specs.Internal.Entries.{AreRows, unnamed}
 use Rattle.msgcat.specs.Internal.Inputs.{IsFaultOfFirst, IsReadInput}
-use Rattle.msgcat.proofs.InputLemmas.{AreLeft, all_left, all_read, left_after, message_numbers_of, messages_of, no_partial, none_left, own, own_count, own_numbered, places_are, repeating, repeating_fault, text_fault}
+use Rattle.msgcat.proofs.InputLemmas.{AreLeft, all_left, all_read, left_after, no_partial, none_left, own, own_count, own_numbered, places_are, repeating, repeating_fault, text_fault}
 use Rattle.runs.specs.NamedFile.{named_files}
 use Rattle.msgcat.proofs.inputs.read_inputs.Goals as goal
 
@@ -25,8 +25,7 @@ pub repeated_lines-requires-clause-lengths : goal.repeated_lines-requires-clause
 repeated_lines-requires-clause-lengths c =
     let up_to = c.in_ok-entries.ensures in
     let entries = all_entries up_to.inputs ++ up_to.partial in
-    let numbers = message_numbers_of entries c.in_ok-numbers.numbers.items
-    (c.in_ok-numbers.ensures.numbers ∙ ap (group_numbers same_message) up_to.holds.keys) in
+    let numbers = c.in_ok-numbers.ensures.numbers ∙ ap (group_numbers same_message) up_to.holds.keys in
     let known = subst (AllZip IsReadInput up_to.inputs) (sym c.deref-input-items.ensures.value) up_to.known in
     let left = c.loop-index.invariant.left up_to.inputs up_to.partial known (c.as_slice-rest.ensures.value ∙ numbers) in
     let i = c.loop-index.index in
@@ -44,8 +43,7 @@ pub returns-in-Some-clause-fault : goal.returns-in-Some-clause-fault
 returns-in-Some-clause-fault c =
     let up_to = c.in_ok-entries.ensures in
     let entries = all_entries up_to.inputs ++ up_to.partial in
-    let numbers = message_numbers_of entries c.in_ok-numbers.numbers.items
-    (c.in_ok-numbers.ensures.numbers ∙ ap (group_numbers same_message) up_to.holds.keys) in
+    let numbers = c.in_ok-numbers.ensures.numbers ∙ ap (group_numbers same_message) up_to.holds.keys in
     let known = subst (AllZip IsReadInput up_to.inputs) (sym c.deref-input-items.ensures.value) up_to.known in
     let left = c.loop-index.invariant.left up_to.inputs up_to.partial known (c.as_slice-rest.ensures.value ∙ numbers) in
     let i = c.loop-index.index in
@@ -98,8 +96,7 @@ pub returns-in-Some-fault-clause-fault : goal.returns-in-Some-fault-clause-fault
 returns-in-Some-fault-clause-fault c =
     let up_to = c.in_ok-entries.ensures in
     let entries = all_entries up_to.inputs ++ up_to.partial in
-    let numbers = message_numbers_of entries c.in_ok-numbers.numbers.items
-    (c.in_ok-numbers.ensures.numbers ∙ ap (group_numbers same_message) up_to.holds.keys) in
+    let numbers = c.in_ok-numbers.ensures.numbers ∙ ap (group_numbers same_message) up_to.holds.keys in
     let known = subst (AllZip IsReadInput up_to.inputs) (sym c.deref-input-items.ensures.value) up_to.known in
     let left = c.loop-index.invariant.left up_to.inputs up_to.partial known (c.as_slice-rest.ensures.value ∙ numbers) in
     let distinct = none_left up_to.inputs up_to.partial c.deref-input-items.result.now c.loop-index.index
@@ -113,8 +110,7 @@ pub returns-clause-read : goal.returns-clause-read
 returns-clause-read c =
     let up_to = c.in_ok-entries.ensures in
     let entries = all_entries up_to.inputs ++ up_to.partial in
-    let numbers = message_numbers_of entries c.in_ok-numbers.numbers.items
-    (c.in_ok-numbers.ensures.numbers ∙ ap (group_numbers same_message) up_to.holds.keys) in
+    let numbers = c.in_ok-numbers.ensures.numbers ∙ ap (group_numbers same_message) up_to.holds.keys in
     let known = subst (AllZip IsReadInput up_to.inputs) (sym c.deref-input-items.ensures.value) up_to.known in
     let left = c.loop-index.invariant.left up_to.inputs up_to.partial known (c.as_slice-rest.ensures.value ∙ numbers) in
     let distinct = none_left up_to.inputs up_to.partial c.deref-input-items.result.now c.loop-index.index
@@ -133,6 +129,6 @@ returns-clause-read c =
             ∙ ap message_numbers whole;
         count = c.in_ok-numbers.ensures.count
             ∙ ap (λ l. length (first_ones same_message l))
-            (up_to.holds.keys ∙ messages_of entries ∙ ap named_messages whole);
+            (up_to.holds.keys ∙ ap named_messages whole);
       },
     )

@@ -12,7 +12,7 @@ use Rattle.msgcat.proofs.MergedLemmas.{definition_more}
 use Rattle.msgcat.proofs.merged_text.definitions_of.Goals as goal
 
 abbrev none : EntryRow
-none = record { name = record { ref_ptr = (0, 0); now = [] }; start = 0; end = 0; is_live = false; is_header = false }
+none = record { name = record { ref_ptr = (0, 0); now = [] }; start = 0; len = 0; is_live = false; is_header = false }
 
 pub loop-index-preserved : goal.loop-index-preserved
 loop-index-preserved c = λ text definitions h back.

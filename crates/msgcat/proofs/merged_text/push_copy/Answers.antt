@@ -1,6 +1,5 @@
 use Rattle.std.proofs.Common.{◌∷◌, [], ◌∙◌, refl, sym}
 use Rattle.std.proofs.lemmas.Result.{on_ok_weaker}
-use Rattle.po_writer.specs.TextParts.{separated}
 use Rattle.msgcat.proofs.MergedLemmas.{live_text, obsolete_text, written_more}
 use Rattle.msgcat.proofs.merged_text.push_copy.Goals as goal
 
@@ -8,8 +7,8 @@ pub returns-then-row : goal.returns-then-row
 returns-then-row c =
     on_ok_weaker c.add_texts.result
     (λ added entry before h have.
-    let own = live_text entry.entry c.between-own.result.now (sym h.live ∙ c.if-row.true)
-    (c.between-own.ensures h.before (separated (entry.entry ∷ [])) h.after h.text_is h.start h.end) in
+    let own = live_text entry.entry c.part_of-own.result.now (sym h.live ∙ c.if-row.true)
+    (c.part_of-own.ensures ∙ h.own) in
     written_more before entry.entry entry.entry c.add_texts.new.self refl
     (added before (entry.entry ∷ []) have.parts_are own) have.admitted h.can.charset)
     c.add_texts.ensures.parts
@@ -18,8 +17,8 @@ pub returns-else-row : goal.returns-else-row
 returns-else-row c =
     on_ok_weaker c.add_texts-else-row.result
     (λ added entry before h have.
-    let own = obsolete_text entry.entry c.between-own.result.now (sym h.live ∙ c.if-row.false)
-    (c.between-own.ensures h.before (separated (entry.entry ∷ [])) h.after h.text_is h.start h.end) in
+    let own = obsolete_text entry.entry c.part_of-own.result.now (sym h.live ∙ c.if-row.false)
+    (c.part_of-own.ensures ∙ h.own) in
     written_more before entry.entry entry.entry c.add_texts-else-row.new.self refl
     (added before (entry.entry ∷ []) have.parts_are own) have.admitted h.can.charset)
     c.add_texts-else-row.ensures.parts

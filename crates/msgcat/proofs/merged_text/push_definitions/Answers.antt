@@ -18,7 +18,7 @@ use Rattle.msgcat.proofs.MergedLemmas.{fault_unlined, merged_again, message_copi
 use Rattle.msgcat.proofs.merged_text.push_definitions.Goals as goal
 
 abbrev none : EntryRow
-none = record { name = record { ref_ptr = (0, 0); now = [] }; start = 0; end = 0; is_live = false; is_header = false }
+none = record { name = record { ref_ptr = (0, 0); now = [] }; start = 0; len = 0; is_live = false; is_header = false }
 
 pub returns-in-len1-clause-pushed : goal.returns-in-len1-clause-pushed
 returns-in-len1-clause-pushed c = λ ds before h order have.
