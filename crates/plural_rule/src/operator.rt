@@ -94,20 +94,20 @@ impl Operator {
     pub(crate) fn combined(self, left: u64, right: u64) -> Option<u64>
         ensures { result ≡ combined self left right }
     {
-        let holds = match self {
-            Operator::Or | Operator::And => right != 0,
-            Operator::Equal => left == right,
-            Operator::NotEqual => left != right,
-            Operator::Less => left < right,
-            Operator::Greater => right < left,
-            Operator::AtMost => left <= right,
-            Operator::AtLeast => right <= left,
-            Operator::Add => return Some(left.wrapping_add(right)),
-            Operator::Subtract => return Some(left.wrapping_sub(right)),
-            Operator::Multiply => return Some(left.wrapping_mul(right)),
+        let value = match self {
+            Operator::Or | Operator::And => (right != 0) as u64,
+            Operator::Equal => (left == right) as u64,
+            Operator::NotEqual => (left != right) as u64,
+            Operator::Less => (left < right) as u64,
+            Operator::Greater => (right < left) as u64,
+            Operator::AtMost => (left <= right) as u64,
+            Operator::AtLeast => (right <= left) as u64,
+            Operator::Add => left.wrapping_add(right),
+            Operator::Subtract => left.wrapping_sub(right),
+            Operator::Multiply => left.wrapping_mul(right),
             Operator::Divide => return left.checked_div(right),
             Operator::Remainder => return left.checked_rem(right),
         };
-        Some(holds as u64)
+        Some(value)
     }
 }
