@@ -9,6 +9,4 @@ pub mod FuzzyFlags
 pub mod JoinedPieces
 pub mod TextsFaults
 pub mod Settled
-pub mod TextListLemmas
-pub mod PlainEntries
 pub mod SeenTexts

@@ -7,11 +7,11 @@ use Rattle.po_entry.specs.TextEntry.{TextEntry, texts, optional_text, slice_text
 -- the entry that these fields make
 abbrev pub entry_view : Fields → TextEntry
 entry_view fields = record {
-  comments = fields.comments;
-  extracted = fields.extracted;
-  references = fields.references;
+  comments = texts fields.comments.items;
+  extracted = texts fields.extracted.items;
+  references = texts fields.references.items;
   fuzzy = fields.fuzzy;
-  flags = fields.flags;
+  flags = texts fields.flags.items;
   previous = fields.previous;
   context = optional_text fields.context;
   id = fields.id.items;

@@ -1,5 +1,4 @@
 pub mod TextEntry
-pub mod TextLists
 pub mod EntryView
 pub mod Bytes
 pub mod Header

@@ -4,19 +4,18 @@ ghost use Rattle.std.specs.Prelude.{◌≡◌, ◌++◌, OnOk, codes, option_cop
 ghost use Rattle.std.specs.List.{flat_map};
 ghost use Rattle.po_entry.specs.EntryView.{entry_view};
 ghost use Rattle.po_entry.specs.TextEntry.{texts};
-ghost use Rattle.po_entry.specs.TextLists.{texts_left};
 ghost use Rattle.po_writer.specs.WrittenText as written;
 
 use crate::keyword_lines::{push_form, push_keyword, push_optional};
-use po_entry::{Entry, Fields, Previous, TextList, TextListIter};
+use po_entry::{Entry, Fields, Previous};
 use std::alloc::AllocError;
 
 /// Appends a line for each comment, after the mark of its kind.
-fn push_comments(out: &mut Vec<u8>, mark: &[u8], comments: &TextList) -> Result<(), AllocError>
+fn push_comments(out: &mut Vec<u8>, mark: &[u8], comments: &[Vec<u8>]) -> Result<(), AllocError>
     ensures appended { OnOk result (out.new.items
-        ≡ out.old.items ++ written.comment_lines mark.now comments.now) }
+        ≡ out.old.items ++ written.comment_lines mark.now (texts comments.now)) }
 {
-    for comment in comments.iter() {
+    for comment in comments {
         out.extend_from_slice(mark)?;
         out.extend_from_slice(comment)?;
         out.push(b'\n')?;
@@ -25,13 +24,9 @@ fn push_comments(out: &mut Vec<u8>, mark: &[u8], comments: &TextList) -> Result<
 }
 
 /// Appends elements, with a separator before each.
-fn push_further(
-    out: &mut Vec<u8>,
-    separator: &[u8],
-    elements: TextListIter<'_>,
-) -> Result<(), AllocError>
+fn push_further(out: &mut Vec<u8>, separator: &[u8], elements: &[Vec<u8>]) -> Result<(), AllocError>
     ensures appended { OnOk result (out.new.items
-        ≡ out.old.items ++ flat_map (λ element. separator.now ++ element) (texts_left elements.entry)) }
+        ≡ out.old.items ++ flat_map (λ element. separator.now ++ element) (texts elements.now)) }
 {
     for element in elements {
         out.extend_from_slice(separator)?;
@@ -45,33 +40,32 @@ fn push_elements(
     out: &mut Vec<u8>,
     mark: &[u8],
     separator: &[u8],
-    elements: &TextList,
+    elements: &[Vec<u8>],
 ) -> Result<(), AllocError>
     ensures appended { OnOk result (out.new.items
-        ≡ out.old.items ++ written.elements_line mark.now separator.now elements.now) }
+        ≡ out.old.items ++ written.elements_line mark.now separator.now (texts elements.now)) }
 {
-    let mut left = elements.iter();
-    let Some(first) = left.next() else {
+    let Some((first, others)) = elements.split_first() else {
         return Ok(());
     };
     out.extend_from_slice(mark)?;
     out.extend_from_slice(first)?;
-    push_further(out, separator, left)?;
+    push_further(out, separator, others)?;
     out.push(b'\n')?;
     Ok(())
 }
 
 /// Appends the line of flags, `fuzzy` first, where there are any.
-fn push_flags(out: &mut Vec<u8>, fuzzy: bool, flags: &TextList) -> Result<(), AllocError>
+fn push_flags(out: &mut Vec<u8>, fuzzy: bool, flags: &[Vec<u8>]) -> Result<(), AllocError>
     ensures appended { OnOk result (out.new.items
         ≡ out.old.items
-        ++ written.elements_line (codes "#, ") (codes ", ") (written.all_flags fuzzy flags.now)) }
+        ++ written.elements_line (codes "#, ") (codes ", ") (written.all_flags fuzzy (texts flags.now))) }
 {
     if !fuzzy {
         return push_elements(out, b"#, ", b", ", flags);
     }
     out.extend_from_slice(b"#, fuzzy")?;
-    push_further(out, b", ", flags.iter())?;
+    push_further(out, b", ", flags)?;
     out.push(b'\n')?;
     Ok(())
 }
