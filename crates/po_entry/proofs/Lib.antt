@@ -9,4 +9,6 @@ pub mod FuzzyFlags
 pub mod JoinedPieces
 pub mod TextsFaults
 pub mod Settled
+pub mod TextListLemmas
+pub mod PlainEntries
 pub mod SeenTexts

@@ -7,11 +7,11 @@ use Rattle.po_entry.specs.TextEntry.{TextEntry, texts, optional_text, slice_text
 -- the entry that these fields make
 abbrev pub entry_view : Fields → TextEntry
 entry_view fields = record {
-  comments = texts fields.comments.items;
-  extracted = texts fields.extracted.items;
-  references = texts fields.references.items;
+  comments = fields.comments;
+  extracted = fields.extracted;
+  references = fields.references;
   fuzzy = fields.fuzzy;
-  flags = texts fields.flags.items;
+  flags = fields.flags;
   previous = fields.previous;
   context = optional_text fields.context;
   id = fields.id.items;

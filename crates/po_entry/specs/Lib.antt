@@ -1,4 +1,5 @@
 pub mod TextEntry
+pub mod TextLists
 pub mod EntryView
 pub mod Bytes
 pub mod Header

@@ -8,6 +8,7 @@ ghost use Rattle.po_entry.specs.Header.{is_header};
 ghost use Rattle.po_entry.specs.Validity.{IsEntry, RefusesMessage, out_of_memory};
 
 use crate::fields::{Fields, Previous, copy_optional, copy_slices, copy_texts, empty_texts};
+use crate::text_list::{TextList, same_lists};
 use crate::texts::check_any_texts;
 use po_syntax::PoError;
 use std::alloc::Global;
@@ -55,11 +56,11 @@ impl Entry {
         let plural = copy_optional(alloc, plural)?;
         let forms = copy_slices(alloc, forms)?;
         let fields = Fields {
-            comments: Vec::new(alloc),
-            extracted: Vec::new(alloc),
-            references: Vec::new(alloc),
+            comments: TextList::new(alloc),
+            extracted: TextList::new(alloc),
+            references: TextList::new(alloc),
             fuzzy: false,
-            flags: Vec::new(alloc),
+            flags: TextList::new(alloc),
             previous: Previous::none(),
             context,
             id,
@@ -76,11 +77,11 @@ impl Entry {
 
     /// The entry of these fields.
     pub fn of_fields(
-        comments: Vec<Vec<u8>>,
-        extracted: Vec<Vec<u8>>,
-        references: Vec<Vec<u8>>,
+        comments: TextList,
+        extracted: TextList,
+        references: TextList,
         fuzzy: bool,
-        flags: Vec<Vec<u8>>,
+        flags: TextList,
         previous: Previous,
         context: Option<Vec<u8>>,
         id: Vec<u8>,
@@ -158,11 +159,11 @@ impl Entry {
     {
         let fields = &self.fields;
         let fields = Fields {
-            comments: copy_texts(alloc, &fields.comments)?,
-            extracted: copy_texts(alloc, &fields.extracted)?,
-            references: copy_texts(alloc, &fields.references)?,
+            comments: fields.comments.copy(alloc)?,
+            extracted: fields.extracted.copy(alloc)?,
+            references: fields.references.copy(alloc)?,
             fuzzy: fields.fuzzy,
-            flags: copy_texts(alloc, &fields.flags)?,
+            flags: fields.flags.copy(alloc)?,
             previous: fields.previous.copy(alloc)?,
             context: copy_optional(alloc, fields.context.as_deref())?,
             id: fields.id.as_slice().to_vec(alloc)?,
@@ -184,22 +185,22 @@ impl Entry {
     }
 
     /// The translator's comments, each without its `#`.
-    pub fn comments(&self) -> &[Vec<u8>]
-        ensures { texts result.now ≡ self.now.comments }
+    pub fn comments(&self) -> &TextList
+        ensures { result.now ≡ self.now.comments }
     {
         &self.fields.comments
     }
 
     /// The comments extracted from the program, each without its `#.`.
-    pub fn extracted(&self) -> &[Vec<u8>]
-        ensures { texts result.now ≡ self.now.extracted }
+    pub fn extracted(&self) -> &TextList
+        ensures { result.now ≡ self.now.extracted }
     {
         &self.fields.extracted
     }
 
     /// The references to the program, in order.
-    pub fn references(&self) -> &[Vec<u8>]
-        ensures { texts result.now ≡ self.now.references }
+    pub fn references(&self) -> &TextList
+        ensures { result.now ≡ self.now.references }
     {
         &self.fields.references
     }
@@ -212,8 +213,8 @@ impl Entry {
     }
 
     /// The flags other than `fuzzy`, in order.
-    pub fn flags(&self) -> &[Vec<u8>]
-        ensures { texts result.now ≡ self.now.flags }
+    pub fn flags(&self) -> &TextList
+        ensures { result.now ≡ self.now.flags }
     {
         &self.fields.flags
     }
@@ -323,11 +324,11 @@ impl PartialEq for Entry {
     /// Whether the entries are the same in all fields but the line.
     fn eq(&self, other: &Entry) -> bool {
         let (a, b) = (&self.fields, &other.fields);
-        same_texts(&a.comments, &b.comments)
-            && same_texts(&a.extracted, &b.extracted)
-            && same_texts(&a.references, &b.references)
+        same_lists(&a.comments, &b.comments)
+            && same_lists(&a.extracted, &b.extracted)
+            && same_lists(&a.references, &b.references)
             && a.fuzzy == b.fuzzy
-            && same_texts(&a.flags, &b.flags)
+            && same_lists(&a.flags, &b.flags)
             && same_optional(a.previous.context.as_deref(), b.previous.context.as_deref())
             && same_optional(a.previous.id.as_deref(), b.previous.id.as_deref())
             && same_optional(a.previous.plural.as_deref(), b.previous.plural.as_deref())

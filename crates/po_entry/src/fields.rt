@@ -3,6 +3,7 @@
 ghost use Rattle.std.specs.Prelude.{◌≡◌, IfOk, option_copied, map, []};
 ghost use Rattle.po_entry.specs.TextEntry.{no_previous, optional_text, slice_texts, texts};
 
+use crate::text_list::TextList;
 use std::alloc::{AllocError, Global};
 use std::marker::Model;
 
@@ -58,15 +59,15 @@ impl Previous {
 #[derive(Debug, Drop)]
 pub struct Fields {
     /// The translator's comments, each without its `#`.
-    pub comments: Vec<Vec<u8>>,
+    pub comments: TextList,
     /// The comments extracted from the program, each without its `#.`.
-    pub extracted: Vec<Vec<u8>>,
+    pub extracted: TextList,
     /// The references, on `#:` lines.
-    pub references: Vec<Vec<u8>>,
+    pub references: TextList,
     /// Whether the flag `fuzzy` is there.
     pub fuzzy: bool,
     /// The other flags of the `#,` lines.
-    pub flags: Vec<Vec<u8>>,
+    pub flags: TextList,
     /// The texts on `#|` lines.
     pub previous: Previous,
     /// The text of `msgctxt`.

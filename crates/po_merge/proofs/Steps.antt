@@ -18,12 +18,6 @@ use Rattle.po_merge.specs.InputsView.{named_entry, named_entries}
 use Rattle.po_merge.specs.Groups.{with_new, first_ones}
 use Rattle.po_merge.specs.MergedEntry.{with_others, collected, same_forms, translations, joined_form, marked}
 
-pub texts_more : (others : List (Vec ℕ)) (i : ℕ) (x : Vec ℕ) → i < length others → x ≡ get_or others i x
-    → texts (take (i + 1) others) ≡ texts (take i others) ++ x.items ∷ []
-texts_more others i x below at =
-    ap texts (take_more others i x below ∙ ap (λ (v : Vec ℕ). take i others ++ v ∷ []) (sym at))
-    ∙ map-append (λ (v : Vec ℕ). v.items) (take i others) (x ∷ [])
-
 pub named_more : (ds : List BorrowedEntry) (i : ℕ) (d : BorrowedEntry) → i < length ds → d ≡ get_or ds i d
     → named_entries (take (i + 1) ds) ≡ named_entries (take i ds) ++ named_entry d ∷ []
 named_more ds i d below at =

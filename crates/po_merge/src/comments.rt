@@ -1,21 +1,20 @@
 //! The comments, references and flags of a merged entry.
 
 ghost use Rattle.std.specs.Prelude.{◌≡◌, ◌<◌, ◌++◌, ℕ, List, length, IfOk, OnOk};
-ghost use Rattle.po_entry.specs.TextEntry.{texts};
 ghost use Rattle.po_entry.specs.Internal.SeenTexts.{HoldsTexts};
 ghost use Rattle.po_merge.specs.InputsView.{named_entries};
 ghost use Rattle.po_merge.specs.MergedEntry.{collected, comment_of, texts_of, with_others};
 
 use crate::definition::{NamedEntry, Part, first_with};
 use crate::input::MergeOptions;
-use po_entry::{Entry, copy_texts};
+use po_entry::{Entry, TextList};
 use po_syntax::CommentKind;
 use std::alloc::{AllocError, Global};
 use std::collections::BTreeSet;
 
 /// The entry's comments of one kind; of its flags those other than `fuzzy`.
-fn texts_of(entry: &Entry, kind: CommentKind) -> &[Vec<u8>]
-    ensures { texts result.now ≡ texts_of kind entry.now }
+fn texts_of(entry: &Entry, kind: CommentKind) -> &TextList
+    ensures { result.now ≡ texts_of kind entry.now }
 {
     let fields = entry.fields();
     match kind {
@@ -28,29 +27,28 @@ fn texts_of(entry: &Entry, kind: CommentKind) -> &[Vec<u8>]
 
 /// Appends those of the texts that weren't seen.
 fn push_others<'a>(
-    alloc: Global,
-    done: &mut Vec<Vec<u8>>,
+    done: &mut TextList,
     seen: &BTreeSet<&'a [u8]>,
-    others: &'a [Vec<u8>],
+    others: &'a TextList,
 ) -> Result<(), AllocError>
-    requires { HoldsTexts seen.now (texts done.old.items) }
-    ensures { OnOk result (texts done.new.items ≡ with_others (texts done.old.items) (texts others.now)) }
+    requires { HoldsTexts seen.now done.old }
+    ensures { OnOk result (done.new ≡ with_others done.old others.now) }
 {
-    for text in others {
-        if !seen.contains(&text.as_slice()) {
-            done.push(text.as_slice().to_vec(alloc)?)?;
+    for text in others.iter() {
+        if !seen.contains(&text) {
+            done.push(text)?;
         }
     }
     Ok(())
 }
 
 /// Adds texts to those that were seen.
-fn add_seen<'a>(seen: &mut BTreeSet<&'a [u8]>, others: &'a [Vec<u8>]) -> Result<(), AllocError>
+fn add_seen<'a>(seen: &mut BTreeSet<&'a [u8]>, others: &'a TextList) -> Result<(), AllocError>
     ensures { (done : List (List ℕ)) → HoldsTexts seen.old done
-        → OnOk result (HoldsTexts seen.new (done ++ texts others.now)) }
+        → OnOk result (HoldsTexts seen.new (done ++ others.now)) }
 {
-    for text in others {
-        seen.insert(text.as_slice())?;
+    for text in others.iter() {
+        seen.insert(text)?;
     }
     Ok(())
 }
@@ -60,14 +58,14 @@ fn collected(
     alloc: Global,
     definitions: &[NamedEntry<'_>],
     kind: CommentKind,
-) -> Result<Vec<Vec<u8>>, AllocError>
-    ensures { IfOk result (λ all. texts all.items ≡ collected (texts_of kind) (named_entries definitions.now)) }
+) -> Result<TextList, AllocError>
+    ensures { IfOk result (λ all. all ≡ collected (texts_of kind) (named_entries definitions.now)) }
 {
     let mut seen = BTreeSet::new(alloc);
-    let mut all = Vec::new(alloc);
+    let mut all = TextList::new(alloc);
     for definition in definitions {
         let others = texts_of(definition.entry, kind);
-        push_others(alloc, &mut all, &seen, others)?;
+        push_others(&mut all, &seen, others)?;
         add_seen(&mut seen, others)?;
     }
     Ok(all)
@@ -79,15 +77,12 @@ pub(crate) fn comment_of(
     options: &MergeOptions,
     kind: CommentKind,
     definitions: &[NamedEntry<'_>],
-) -> Result<Vec<Vec<u8>>, AllocError>
+) -> Result<TextList, AllocError>
     requires { 0 < length definitions.now }
-    ensures { IfOk result (λ all. texts all.items ≡ comment_of options.now kind (named_entries definitions.now)) }
+    ensures { IfOk result (λ all. all ≡ comment_of options.now kind (named_entries definitions.now)) }
 {
     if options.use_first {
-        copy_texts(
-            alloc,
-            texts_of(first_with(definitions, Part::Translation), kind),
-        )
+        texts_of(first_with(definitions, Part::Translation), kind).copy(alloc)
     } else {
         collected(alloc, definitions, kind)
     }

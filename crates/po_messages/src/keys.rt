@@ -1,14 +1,13 @@
 //! The messages of entries, kept apart from the entries: their contexts and msgids, one behind the
 //! other in one buffer.
 
-ghost use Rattle.std.specs.Prelude.{◌≡◌, ◌++◌, ◌∷◌, [], IfOk, OnErr, OnOk, drop, length, option_map, take, unwrap_or};
-ghost use Rattle.std.specs.Option.{option_copied};
+ghost use Rattle.std.specs.Prelude.{◌≡◌, ◌++◌, ◌∷◌, [], IfOk, OnErr, OnOk, drop, length, take};
 ghost use Rattle.po_messages.specs.FirstOnes.{first_ones, group_numbers};
-ghost use Rattle.po_messages.specs.Internal.Keys.{message_in};
+ghost use Rattle.po_messages.specs.Internal.Keys.{lengths_of, message_bytes, message_in};
 ghost use Rattle.po_messages.specs.Message.{entry_message, same_message};
 ghost use Rattle.po_messages.specs.MessageView.{message_of_key};
 
-use crate::message_index::{MessageKey, Seeded, numbered};
+use crate::message_index::{MessageKey, Seeded, message_key, numbered};
 use po_entry::Entry;
 use std::alloc::{AllocError, Global};
 use std::hash::{DefaultHasher, Hash, Hasher};
@@ -52,28 +51,19 @@ pub fn split_at_most<T>(items: &[T], len: usize) -> (&[T], &[T])
     items.split_at(len.min(items.len()))
 }
 
-/// Appends a context, where there is one, and a msgid. Where an allocation failed, nothing is
-/// appended.
-fn append_key(
-    bytes: &mut Vec<u8>,
-    context: Option<&[u8]>,
-    id: &[u8],
-) -> Result<KeySpans, AllocError>
-    ensures appended { OnOk result (bytes.new.items
-        ≡ bytes.old.items ++ (unwrap_or (option_copied context.entry) [] ++ id.now)) }
-    ensures lengths { IfOk result (λ lengths. lengths ≡ record {
-      context = option_map length (option_copied context.entry);
-      len = length (unwrap_or (option_copied context.entry) [] ++ id.now);
-    }) }
+/// Appends the bytes of a message. Where an allocation failed, nothing is appended.
+fn append_key(bytes: &mut Vec<u8>, key: &MessageKey<'_>) -> Result<KeySpans, AllocError>
+    ensures appended { OnOk result (bytes.new.items ≡ bytes.old.items ++ message_bytes (message_of_key key.now)) }
+    ensures lengths { IfOk result (λ lengths. lengths ≡ lengths_of (message_of_key key.now)) }
     ensures unchanged { OnErr result (bytes.new.items ≡ bytes.old.items) }
 {
-    let own = context.unwrap_or(&[]);
-    let len = own.len() + id.len();
+    let context = key.context.unwrap_or(&[]);
+    let len = context.len() + key.id.len();
     bytes.reserve(len)?;
-    bytes.extend_from_slice(own)?;
-    bytes.extend_from_slice(id)?;
+    bytes.extend_from_slice(context)?;
+    bytes.extend_from_slice(key.id)?;
     Ok(KeySpans {
-        context: context.map(|text| text.len()),
+        context: key.context.map(|text| text.len()),
         len,
     })
 }
@@ -105,9 +95,8 @@ impl KeyBuffer {
         ensures ok { OnOk result (self.new ≡ self.old ++ entry_message entry.now ∷ []) }
         ensures unchanged { OnErr result (self.new ≡ self.old) }
     {
-        let fields = entry.fields();
         self.lengths.reserve(1)?;
-        let lengths = append_key(&mut self.bytes, fields.context.as_deref(), &fields.id)?;
+        let lengths = append_key(&mut self.bytes, &message_key(entry))?;
         self.lengths.push_reserved(lengths);
         Ok(())
     }

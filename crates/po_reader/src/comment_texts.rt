@@ -1,16 +1,17 @@
-//! The references and flags that comments spell, and the flags that an entry keeps (manual, "The
-//! Format of PO Files").
+//! The references and flags that comments spell (manual, "The Format of PO Files").
 
 ghost use Rattle.std.specs.Prelude.{◌≡◌, ◌==◌, ◌<◌, ◌++◌, ◌∷◌, [], ℕ, Bool, fold, length, position, IfOk, IfSome, MatchOption, OnOk};
-ghost use Rattle.std.specs.List.{list_any, slice_split};
+ghost use Rattle.std.specs.List.{slice_split};
 ghost use Rattle.po_syntax.specs.Blanks.{is_blank};
 ghost use Rattle.po_entry.specs.Bytes.{trimmed};
-ghost use Rattle.po_entry.specs.TextEntry.{slice_texts, texts};
-ghost use Rattle.po_entry.specs.Comments.{is_fuzzy_flag, listed_references, listed_flags, with_flag};
+ghost use Rattle.po_entry.specs.Comments.{listed_references, listed_flags};
+ghost use Rattle.po_reader.specs.Internal.KeptFlags.{kept_flags, one_flag_more};
 
+use crate::flags::Flags;
+use po_entry::TextList;
 use po_syntax::{is_blank, skip_blanks};
 use std::alloc::{AllocError, Global};
-use std::collections::BTreeSet;
+use std::mem::replace;
 
 /// The text without the blanks at its ends.
 fn trimmed(text: &[u8]) -> &[u8]
@@ -53,30 +54,15 @@ fn cut(text: &[u8], at: Option<usize>) -> (&[u8], Option<&[u8]>)
     (element, Some(rest.split_at(1).1))
 }
 
-/// Adds an element. The first gets room for itself alone, as most lists have no other.
-fn add_element(elements: &mut Vec<Vec<u8>>, element: Vec<u8>) -> Result<(), AllocError>
-    ensures { OnOk result (texts elements.new.items ≡ texts elements.old.items ++ element.items ∷ []) }
-{
-    if elements.is_empty() {
-        elements.reserve_exact(1)?;
-    }
-    elements.push(element)?;
-    Ok(())
-}
-
 /// Adds the elements of a text, which stand between blanks.
-pub(crate) fn add_references(
-    alloc: Global,
-    elements: &mut Vec<Vec<u8>>,
-    text: &[u8],
-) -> Result<(), AllocError>
-    ensures { OnOk result (texts elements.new.items ≡ texts elements.old.items ++ listed_references text.now) }
+pub(crate) fn add_references(list: &mut TextList, text: &[u8]) -> Result<(), AllocError>
+    ensures { OnOk result (list.new ≡ list.old ++ listed_references text.now) }
 {
     let mut rest = text;
     loop {
         let (element, after) = cut(rest, first_blank(rest));
         if !element.is_empty() {
-            add_element(elements, element.to_vec(alloc)?)?;
+            list.push(element)?;
         }
         let Some(after) = after else {
             return Ok(());
@@ -85,53 +71,36 @@ pub(crate) fn add_references(
     }
 }
 
-/// Adds the flags of a text, `fuzzy` among them, which stand between commas.
-pub(crate) fn add_flags<'i>(flags: &mut Vec<&'i [u8]>, text: &'i [u8]) -> Result<(), AllocError>
-    ensures { OnOk result (slice_texts flags.new.items ≡ slice_texts flags.old.items ++ listed_flags text.now) }
+/// Adds the flags of a text, which stand between commas. Where an allocation failed, none are left.
+pub(crate) fn add_flags<'i>(
+    alloc: Global,
+    flags: &mut Flags<'i>,
+    text: &'i [u8],
+) -> Result<(), AllocError>
+    ensures { OnOk result (kept_flags flags.new
+        ≡ fold one_flag_more (kept_flags flags.old) (listed_flags text.now)) }
 {
+    let taken = replace(flags, Flags::new(alloc));
+    *flags = with_flags(taken, text)?;
+    Ok(())
+}
+
+/// These flags and those of a text, which stand between commas.
+fn with_flags<'i>(flags: Flags<'i>, text: &'i [u8]) -> Result<Flags<'i>, AllocError>
+    ensures { IfOk result (λ more. kept_flags more
+        ≡ fold one_flag_more (kept_flags flags.entry) (listed_flags text.now)) }
+{
+    let mut flags = flags;
     let mut rest = text;
     loop {
         let (piece, after) = cut(rest, first_comma(rest));
         let element = trimmed(piece);
         if !element.is_empty() {
-            flags.push(element)?;
+            flags = flags.add(element)?;
         }
         let Some(after) = after else {
-            return Ok(());
+            return Ok(flags);
         };
         rest = after;
     }
-}
-
-/// Whether the flag is `fuzzy`.
-fn is_fuzzy_flag(flag: &[u8]) -> bool
-    ensures { result ≡ is_fuzzy_flag flag.now }
-{
-    flag == b"fuzzy".as_slice()
-}
-
-/// Whether `fuzzy` is among the flags.
-pub(crate) fn has_fuzzy(elements: &[&[u8]]) -> bool
-    ensures { result ≡ list_any (λ flag. is_fuzzy_flag flag.now) elements.now }
-{
-    elements.iter().any(|flag| is_fuzzy_flag(flag))
-}
-
-/// The flags other than `fuzzy`, each once, where it first stands. A tree finds the flags seen
-/// before, so that no choice of flags makes this slow.
-pub(crate) fn others(alloc: Global, elements: &[&[u8]]) -> Result<Vec<Vec<u8>>, AllocError>
-    ensures { IfOk result (λ kept. texts kept.items ≡ fold with_flag [] (slice_texts elements.now)) }
-{
-    let mut seen = BTreeSet::new(alloc);
-    let mut kept = Vec::new(alloc);
-    for flag in elements {
-        if is_fuzzy_flag(flag) {
-            continue;
-        }
-        if !seen.insert(*flag)? {
-            continue;
-        }
-        kept.push(flag.to_vec(alloc)?)?;
-    }
-    Ok(kept)
 }

@@ -12,18 +12,18 @@ ghost use Rattle.po_reader.specs.Internal.ReaderView.{HoldsHead, HoldsComments};
 
 use crate::comment_texts::{add_flags, add_references};
 use crate::cursor::{Cursor, take_strings};
-use po_entry::Previous;
+use crate::flags::Flags;
+use po_entry::{Previous, TextList};
 use po_syntax::{CommentKind, Item, Keyword, PoError, PoFault};
 use std::alloc::{AllocError, Global};
 
 /// What stands before an entry's own lines.
 #[derive(Drop)]
 pub(crate) struct Head<'i> {
-    pub(crate) comments: Vec<Vec<u8>>,
-    pub(crate) extracted: Vec<Vec<u8>>,
-    pub(crate) references: Vec<Vec<u8>>,
-    /// The flags with their repeats, `fuzzy` among them.
-    pub(crate) flags: Vec<&'i [u8]>,
+    pub(crate) comments: TextList,
+    pub(crate) extracted: TextList,
+    pub(crate) references: TextList,
+    pub(crate) flags: Flags<'i>,
     pub(crate) previous: Previous,
 }
 
@@ -47,6 +47,7 @@ fn begins_body(keyword: Keyword) -> bool
 }
 
 /// Adds a comment to the fields of its kind, where it is wanted.
+#[tactic(auto, using(crate::proofs::HeldFlags::holds_flags))]
 fn add_comment<'i>(
     alloc: Global,
     head: &mut Head<'i>,
@@ -61,11 +62,11 @@ fn add_comment<'i>(
     ensures previous { OnOk result (head.new.previous ≡ head.old.previous) }
 {
     match kind {
-        CommentKind::Flags => add_flags(&mut head.flags, text)?,
+        CommentKind::Flags => add_flags(alloc, &mut head.flags, text)?,
         _ if !with_comments => {}
-        CommentKind::Translator => head.comments.push(text.to_vec(alloc)?)?,
-        CommentKind::Extracted => head.extracted.push(text.to_vec(alloc)?)?,
-        CommentKind::Reference => add_references(alloc, &mut head.references, text)?,
+        CommentKind::Translator => head.comments.push(text)?,
+        CommentKind::Extracted => head.extracted.push(text)?,
+        CommentKind::Reference => add_references(&mut head.references, text)?,
     }
     Ok(())
 }
@@ -99,10 +100,10 @@ pub(crate) fn take_head<'i>(
     ensures fault { IfErr result (λ e. (entries : List TextEntry) → Fails (start entries) rest.old e) }
 {
     let mut head = Head {
-        comments: Vec::new(alloc),
-        extracted: Vec::new(alloc),
-        references: Vec::new(alloc),
-        flags: Vec::new(alloc),
+        comments: TextList::new(alloc),
+        extracted: TextList::new(alloc),
+        references: TextList::new(alloc),
+        flags: Flags::new(alloc),
         previous: Previous::none(),
     };
     let mut above = 0;

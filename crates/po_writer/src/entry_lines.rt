@@ -4,18 +4,19 @@ ghost use Rattle.std.specs.Prelude.{◌≡◌, ◌++◌, OnOk, codes, option_cop
 ghost use Rattle.std.specs.List.{flat_map};
 ghost use Rattle.po_entry.specs.EntryView.{entry_view};
 ghost use Rattle.po_entry.specs.TextEntry.{texts};
+ghost use Rattle.po_entry.specs.TextLists.{texts_left};
 ghost use Rattle.po_writer.specs.WrittenText as written;
 
 use crate::keyword_lines::{push_form, push_keyword, push_optional};
-use po_entry::{Entry, Fields, Previous};
+use po_entry::{Entry, Fields, Previous, TextList, TextListIter};
 use std::alloc::AllocError;
 
 /// Appends a line for each comment, after the mark of its kind.
-fn push_comments(out: &mut Vec<u8>, mark: &[u8], comments: &[Vec<u8>]) -> Result<(), AllocError>
+fn push_comments(out: &mut Vec<u8>, mark: &[u8], comments: &TextList) -> Result<(), AllocError>
     ensures appended { OnOk result (out.new.items
-        ≡ out.old.items ++ written.comment_lines mark.now (texts comments.now)) }
+        ≡ out.old.items ++ written.comment_lines mark.now comments.now) }
 {
-    for comment in comments {
+    for comment in comments.iter() {
         out.extend_from_slice(mark)?;
         out.extend_from_slice(comment)?;
         out.push(b'\n')?;
@@ -24,9 +25,13 @@ fn push_comments(out: &mut Vec<u8>, mark: &[u8], comments: &[Vec<u8>]) -> Result
 }
 
 /// Appends elements, with a separator before each.
-fn push_further(out: &mut Vec<u8>, separator: &[u8], elements: &[Vec<u8>]) -> Result<(), AllocError>
+fn push_further(
+    out: &mut Vec<u8>,
+    separator: &[u8],
+    elements: TextListIter<'_>,
+) -> Result<(), AllocError>
     ensures appended { OnOk result (out.new.items
-        ≡ out.old.items ++ flat_map (λ element. separator.now ++ element) (texts elements.now)) }
+        ≡ out.old.items ++ flat_map (λ element. separator.now ++ element) (texts_left elements.entry)) }
 {
     for element in elements {
         out.extend_from_slice(separator)?;
@@ -40,32 +45,33 @@ fn push_elements(
     out: &mut Vec<u8>,
     mark: &[u8],
     separator: &[u8],
-    elements: &[Vec<u8>],
+    elements: &TextList,
 ) -> Result<(), AllocError>
     ensures appended { OnOk result (out.new.items
-        ≡ out.old.items ++ written.elements_line mark.now separator.now (texts elements.now)) }
+        ≡ out.old.items ++ written.elements_line mark.now separator.now elements.now) }
 {
-    let Some((first, others)) = elements.split_first() else {
+    let mut left = elements.iter();
+    let Some(first) = left.next() else {
         return Ok(());
     };
     out.extend_from_slice(mark)?;
     out.extend_from_slice(first)?;
-    push_further(out, separator, others)?;
+    push_further(out, separator, left)?;
     out.push(b'\n')?;
     Ok(())
 }
 
 /// Appends the line of flags, `fuzzy` first, where there are any.
-fn push_flags(out: &mut Vec<u8>, fuzzy: bool, flags: &[Vec<u8>]) -> Result<(), AllocError>
+fn push_flags(out: &mut Vec<u8>, fuzzy: bool, flags: &TextList) -> Result<(), AllocError>
     ensures appended { OnOk result (out.new.items
         ≡ out.old.items
-        ++ written.elements_line (codes "#, ") (codes ", ") (written.all_flags fuzzy (texts flags.now))) }
+        ++ written.elements_line (codes "#, ") (codes ", ") (written.all_flags fuzzy flags.now)) }
 {
     if !fuzzy {
         return push_elements(out, b"#, ", b", ", flags);
     }
     out.extend_from_slice(b"#, fuzzy")?;
-    push_further(out, b", ", flags)?;
+    push_further(out, b", ", flags.iter())?;
     out.push(b'\n')?;
     Ok(())
 }

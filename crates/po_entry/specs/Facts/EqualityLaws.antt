@@ -7,12 +7,12 @@ use Rattle.std.proofs.lemmas.Slice.Eq.{bytes_eq-Decides, slice_eq-Decides}
 use Rattle.po_entry.specs.TextEntry.{TextEntry, TextPrevious, SameButLine}
 use Rattle.po_entry.specs.Equality.{texts_eq, optional_eq, previous_eq, entry_eq}
 
-both_decide : {P Q : Type 0} (a b : Bool) → Decides a P → Decides b Q → Decides (a && b) (P × Q)
+pub both_decide : {P Q : Type 0} (a b : Bool) → Decides a P → Decides b Q → Decides (a && b) (P × Q)
 both_decide true true p q = (λ _. (p.0 refl, q.0 refl), λ _. refl)
 both_decide true false p q = (λ t. absurd (false≢true t), λ h. q.1 h.1)
 both_decide false b p q = (λ t. absurd (false≢true t), λ h. p.1 h.0)
 
-texts_decide : (a b : List (List ℕ)) → Decides (texts_eq a b) (a ≡ b)
+pub texts_decide : (a b : List (List ℕ)) → Decides (texts_eq a b) (a ≡ b)
 texts_decide a b = slice_eq-Decides bytes_eq-Decides a b (texts_eq a b) refl
 
 optional_decide : (a b : Option (List ℕ)) → Decides (optional_eq a b) (a ≡ b)
@@ -93,7 +93,7 @@ entry_decide a b =
       ),
     )
 
-answer : (x y : Bool) → (x ≡ true → y ≡ true) → (y ≡ true → x ≡ true) → x ≡ y
+pub answer : (x y : Bool) → (x ≡ true → y ≡ true) → (y ≡ true → x ≡ true) → x ≡ y
 answer true true p q = refl
 answer true false p q = sym (p refl)
 answer false true p q = q refl

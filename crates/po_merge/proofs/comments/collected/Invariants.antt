@@ -1,5 +1,4 @@
 use Rattle.std.proofs.Common.{◌≡◌, take}
-use Rattle.po_entry.specs.TextEntry.{texts}
 use Rattle.po_merge.specs.InputsView.{named_entries}
 use Rattle.po_merge.specs.MergedEntry.{collected, texts_of}
 use Rattle.po_entry.specs.Internal.SeenTexts.{HoldsTexts}
@@ -8,7 +7,6 @@ use Rattle.po_merge.proofs.comments.collected.Given as goal
 -- the texts of the definitions so far are collected, and the set has them
 abbrev pub invariant-loop-definition : goal.invariant-loop-definition
 invariant-loop-definition l = record {
-  are_collected : texts l.all.items
-      ≡ collected (texts_of l.kind) (named_entries (take l.definition-index l.definitions));
-  met : HoldsTexts l.seen (texts l.all.items);
+  are_collected : l.all ≡ collected (texts_of l.kind) (named_entries (take l.definition-index l.definitions));
+  met : HoldsTexts l.seen l.all;
 }

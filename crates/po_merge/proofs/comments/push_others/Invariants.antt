@@ -1,10 +1,12 @@
-use Rattle.std.proofs.Common.{◌≡◌, ◌++◌, filter, not, take}
+use Rattle.std.proofs.Common.{◌≡◌, ◌++◌, filter, not}
 use Rattle.std.specs.List.{list_any}
 use Rattle.std.specs.Str.{bytes_eq}
-use Rattle.po_entry.specs.TextEntry.{texts}
+use Rattle.po_entry.specs.TextLists.{texts_left}
+use Rattle.po_merge.specs.MergedEntry.{with_others}
 use Rattle.po_merge.proofs.comments.push_others.Given as goal
 
--- those of the texts so far that aren't among the earlier ones stand after these
+-- what there is, with those of the texts left that aren't among the earlier ones, is all that comes out
 abbrev pub invariant-loop-text : goal.invariant-loop-text
-invariant-loop-text l = texts l.done.items ≡ texts l.initial.done.items
-    ++ filter (λ t. not (list_any (bytes_eq t) (texts l.initial.done.items))) (texts (take l.text-index l.others))
+invariant-loop-text l =
+    l.done ++ filter (λ t. not (list_any (bytes_eq t) l.initial.done)) (texts_left l.text-iterator)
+    ≡ with_others l.initial.done l.others

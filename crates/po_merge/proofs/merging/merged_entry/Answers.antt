@@ -24,10 +24,10 @@ of-requires c =
     let line = ap (λ (e : TextEntry). e.line) own in
     let some : 0 < length (named_entries ds) = omega (arith, c.requires.some, length-map ds named_entry) in
     rw (
-      c.in_ok-comments.ensures,
-      c.in_ok-extracted.ensures,
-      c.in_ok-references.ensures,
-      c.in_ok-flags.ensures,
+      c.comments.view_is ∙ c.in_ok-comments.ensures,
+      c.extracted.view_is ∙ c.in_ok-extracted.ensures,
+      c.references.view_is ∙ c.in_ok-references.ensures,
+      c.flags.view_is ∙ c.in_ok-flags.ensures,
       c.in_ok-forms.ensures.forms,
       c.in_ok-forms.ensures.fuzzy,
     )

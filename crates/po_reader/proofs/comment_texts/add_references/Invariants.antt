@@ -1,11 +1,9 @@
 use Rattle.std.proofs.Common.{◌≡◌, ◌++◌, length}
-use Rattle.po_entry.specs.TextEntry.{texts}
 use Rattle.po_entry.specs.Comments.{listed_references}
 use Rattle.po_reader.proofs.comment_texts.add_references.Given as goal
 
-abbrev pub invariant-loop-elements : goal.invariant-loop-elements
-invariant-loop-elements l =
-    texts l.elements.items ++ listed_references l.rest ≡ texts l.initial.elements.items ++ listed_references l.text
+abbrev pub invariant-loop-list : goal.invariant-loop-list
+invariant-loop-list l = l.list ++ listed_references l.rest ≡ l.initial.list ++ listed_references l.text
 
-abbrev pub decreases-loop-elements : goal.decreases-loop-elements
-decreases-loop-elements l = length l.rest
+abbrev pub decreases-loop-list : goal.decreases-loop-list
+decreases-loop-list l = length l.rest

@@ -9,10 +9,6 @@ use Rattle.po_messages.specs.MessageView.{message_of_key, messages_of_keys}
 use Rattle.po_messages.specs.declared.keys.KeySpans.{KeySpans}
 use Rattle.po_messages.proofs.keys.KeyBuffer.numbers.Goals as goal
 
-pub loop-lengths-init : goal.loop-lengths-init
-loop-lengths-init c =
-    rw (c.in_ok-keys.ensures.items, c.as_slice-rest.ensures.value, c.deref-lengths-items.ensures.value) c.self.view_is
-
 pub loop-lengths-preserved : goal.loop-lengths-preserved
 loop-lengths-preserved c =
     let i = c.loop-lengths.lengths-index in
