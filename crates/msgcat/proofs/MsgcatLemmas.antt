@@ -1,5 +1,5 @@
 -- Files that are read as the catalogues of inputs, and the run of a header that can't stand in a catalogue.
-use Rattle.std.proofs.Common.{◌≡◌, ℕ, ◌<◌, List, sym, ap, ◌∙◌, subst, get_or, length, arith}
+use Rattle.std.proofs.Common.{◌≡◌, ℕ, ◌<◌, List, [], sym, ap, ◌∙◌, subst, get_or, length, arith}
 use Rattle.std.specs.Prelude.{All}
 use Rattle.po_entry.specs.Bytes.{Lacks}
 use Rattle.std.specs.Borrow.{Bor}
@@ -7,8 +7,11 @@ use Rattle.std.proofs.Math.ListN.{get_or-map}
 use Rattle.std.proofs.lemmas.List.{get_or_default, length-map}
 use Rattle.runs.specs.NamedFile.{NamedFile, named_file, named_files}
 
-abbrev Files : Type 0
+abbrev pub Files : Type 0
 Files = List (Bor (List ℕ) × Bor (List ℕ))
+
+abbrev pub no_file : Bor (List ℕ) × Bor (List ℕ)
+no_file = (record { ref_ptr = (0, 0); now = [] }, record { ref_ptr = (0, 0); now = [] })
 
 pub file_at : (files : Files) (i : ℕ) (e : Bor (List ℕ) × Bor (List ℕ)) → i < length files
     → named_file (get_or files i e) ≡ get_or (named_files files) i (named_file (get_or files i e))

@@ -1,5 +1,5 @@
 -- Names that hold NUL, and names that don't.
-use Rattle.std.proofs.Common.{◌≡◌, refl, ℕ, zero, suc, ◌<◌, List, [], ◌∷◌, Option, None, Some, true, false, ◌||◌, ◌==◌, eqb, sym, ap, ◌∙◌, get_or, length, inl, inr, arith}
+use Rattle.std.proofs.Common.{◌≡◌, ℕ, ◌<◌, List, [], ◌∷◌, Option, None, Some, true, false, ◌||◌, ◌==◌, eqb, sym, ap, ◌∙◌, get_or, length, inl, inr, arith}
 use Rattle.std.specs.Prelude.{Contains}
 use Rattle.std.specs.Borrow.{Bor}
 use Rattle.std.specs.List.{list_any}
@@ -11,6 +11,7 @@ use Rattle.std.proofs.lemmas.List.Folds.{list_any_at, list_any_none}
 use Rattle.memchr.specs.Find.{IsFirstByte, is_byte}
 use Rattle.po_entry.specs.Bytes.{Lacks}
 use Rattle.runs.specs.NamedFile.{named_file, named_files}
+use Rattle.msgcat.proofs.MsgcatLemmas.{Files, file_at}
 
 pub lacks : (name : List ℕ) → list_any (λ b. b == 0) name ≡ false → Lacks 0 name
 lacks [] h = All-nil (λ b. b ≡ 0 → ⊥)
@@ -25,15 +26,9 @@ holds (b ∷ name) h lacks = elim (cases_Bool (eqb b 0)) [
       (All-tail (λ c. c ≡ 0 → ⊥) b name lacks)
 ]
 
-pub among : (files : List (Bor (List ℕ) × Bor (List ℕ))) (i : ℕ) (none : Bor (List ℕ) × Bor (List ℕ))
-    → i < length files → Contains (named_files files) (named_file (get_or files i none))
-among files i none below =
-    (i, omega (arith, below, length-map files named_file), named files i below) where
-      named : (files : List (Bor (List ℕ) × Bor (List ℕ))) (i : ℕ) → i < length files
-          → get_or (named_files files) i (named_file (get_or files i none)) ≡ named_file (get_or files i none)
-      named [] i below = absurd (omega (arith, below))
-      named (file ∷ files) zero below = refl
-      named (file ∷ files) (suc i) below = named files i (omega (arith, below))
+pub among : (files : Files) (i : ℕ) (none : Bor (List ℕ) × Bor (List ℕ)) → i < length files
+    → Contains (named_files files) (named_file (get_or files i none))
+among files i none below = (i, omega (arith, below, length-map files named_file), sym (file_at files i none below))
 
 -- a NUL is found in a name exactly if it holds one
 pub nul_is_found : (name : List ℕ) (nul : Option ℕ) → IsFirstByte (is_byte 0) name nul

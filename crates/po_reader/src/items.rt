@@ -1,8 +1,7 @@
 //! A catalogue from the items of a text. Before its texts are checked, an entry is a draft.
 
 ghost use Rattle.std.specs.Prelude.{◌≡◌, ◌<◌, ◌≤◌, ◌^◌, [], List, All, length, map, vec_len, true, IfOk, IfErr, IsUtf8, OnOk};
-ghost use Rattle.po_syntax.specs.ItemContents.{HoldsText};
-ghost use Rattle.po_syntax.specs.Lent.{LendsUtf8};
+ghost use Rattle.po_syntax.specs.ItemContents.{HoldsText, OfString};
 ghost use Rattle.po_syntax.specs.TextItem.{views};
 ghost use Rattle.po_entry.specs.Bytes.{Lacks};
 ghost use Rattle.po_entry.specs.EntryView.{entry_view};
@@ -20,26 +19,27 @@ use crate::body::take_body;
 use crate::cursor::Cursor;
 use crate::head::take_head;
 use po_entry::{Catalogue, Entry, Fields, check_read_texts};
-use po_syntax::{Item, PoError, PoFault, strings_are_utf8};
+use po_syntax::{Item, PoError, PoFault};
 use std::alloc::Global;
 
 /// How many items an entry has at least: two keywords and their strings.
 const LEAST_ITEMS: usize = 4;
 
-/// The entries that items spell, with their comments and references or without.
+/// The entries that items spell, with their comments and references or without. If it is known that
+/// the strings are UTF-8, that is not tested.
 pub(crate) fn read_items(
     alloc: Global,
     items: Vec<Item<'_>>,
+    are_utf8: bool,
     with_comments: bool,
 ) -> Result<Catalogue, PoError>
     requires hold { All HoldsText (views items.items) }
-    requires lent { All LendsUtf8 items.items }
+    requires utf8 { are_utf8 ≡ true → All (OfString IsUtf8) (views items.items) }
     requires few { vec_len items ≤ 2 ^ 31 }
     ensures found { IfOk result (KeepsItems with_comments (views items.entry.items)) }
     ensures fault { IfErr result (IsStop (ItemsStop (views items.entry.items))) }
     ensures memory { IfErr result (λ e. e.kind ≡ PoFault.OutOfMemory → e.line ≡ 0) }
 {
-    let are_utf8 = strings_are_utf8(&items);
     let drafts = drafts_of(alloc, &items, with_comments)?;
     drop(items);
     check_drafts(&drafts, are_utf8)?;

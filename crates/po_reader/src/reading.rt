@@ -9,7 +9,7 @@ ghost use Rattle.po_reader.specs.Internal.Keeping.{KeepsReading};
 use crate::items::read_items;
 use po_entry::Catalogue;
 use po_syntax::laws::pieces_are_cut_off;
-use po_syntax::{Pieces, PoError, PoFault};
+use po_syntax::{Pieces, PoError, PoFault, strings_are_utf8};
 use std::alloc::Global;
 
 /// The entries of the next piece: of at least this many bytes, or of all that is left. Where the
@@ -63,15 +63,17 @@ fn next_entries(
 {
     let start = pieces.copy();
     let items = pieces.next(alloc, size)?;
+    let are_utf8 = strings_are_utf8(&items);
     pieces_are_cut_off();
-    match read_items(alloc, items, with_comments) {
+    match read_items(alloc, items, are_utf8, with_comments) {
         Ok(entries) => Ok(entries),
         Err(error) => match error.kind {
             PoFault::OutOfMemory => Err(error),
             _ => {
                 *pieces = start;
                 let items = pieces.next(alloc, usize::MAX)?;
-                read_items(alloc, items, with_comments)
+                let are_utf8 = strings_are_utf8(&items);
+                read_items(alloc, items, are_utf8, with_comments)
             }
         },
     }

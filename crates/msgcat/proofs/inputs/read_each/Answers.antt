@@ -11,23 +11,20 @@ use Rattle.msgcat.specs.Internal.Entries.{HoldEntries}
 use Rattle.msgcat.specs.Internal.Inputs.{IsReadInput}
 use Rattle.po_messages.specs.Places.{are_placed}
 use Rattle.msgcat.proofs.InputLemmas.{entries_more, known_more, text_more}
-use Rattle.msgcat.proofs.MsgcatLemmas.{file_at, name_lacks}
+use Rattle.msgcat.proofs.MsgcatLemmas.{file_at, name_lacks, no_file}
 use Rattle.runs.specs.NamedFile.{NamedFile, named_file, named_files}
 use Rattle.msgcat.proofs.inputs.read_each.Goals as goal
 
-abbrev none : Bor (List ℕ) × Bor (List ℕ)
-none = (record { ref_ptr = (0, 0); now = [] }, record { ref_ptr = (0, 0); now = [] })
-
 pub add_text-requires : goal.add_text-requires
-add_text-requires c = name_lacks c.args.inputs.now c.loop-name.name-index none c.loop-name-test.true c.requires
+add_text-requires c = name_lacks c.args.inputs.now c.loop-name.name-index no_file c.loop-name-test.true c.requires
 
 pub returns-in-Err : goal.returns-in-Err
 returns-in-Err c =
     let so_far = c.loop-name.invariant in
     let i = c.loop-name.name-index in
     let files = c.args.inputs.now in
-    let file = get_or files i none in
-    let at = file_at files i none c.loop-name-test.true in
+    let file = get_or files i no_file in
+    let at = file_at files i no_file c.loop-name-test.true in
     let inside : i < length (named_files files) = omega (arith, c.loop-name-test.true, length-map files named_file) in
     let other : c.in-Err.error.kind ≢ OutOfMemory = search rules in
     let partial = c.in-Err.ensures.partial other in
@@ -55,8 +52,8 @@ loop-name-preserved c =
     let so_far = c.loop-name.invariant in
     let i = c.loop-name.name-index in
     let files = c.args.inputs.now in
-    let file = get_or files i none in
-    let at = file_at files i none c.loop-name-test.true in
+    let file = get_or files i no_file in
+    let at = file_at files i no_file c.loop-name-test.true in
     let inside : i < length (named_files files) = omega (arith, c.loop-name-test.true, length-map files named_file) in
     let read = (rw c.in_default.is at c.add_text.ensures.read) in
     record {

@@ -6,11 +6,9 @@ use Rattle.std.proofs.lemmas.List.{map-append, take_all, take_more}
 use Rattle.std.proofs.lemmas.List.Elements.{All-push}
 use Rattle.po_entry.specs.Bytes.{Lacks}
 use Rattle.runs.specs.NamedFile.{named_file, named_files}
+use Rattle.msgcat.proofs.MsgcatLemmas.{no_file}
 use Rattle.msgcat.proofs.NulNames.{among, holds, lacks, nul_is_found}
 use Rattle.msgcat.proofs.plan.name_with_nul.Goals as goal
-
-abbrev none : Bor (List ℕ) × Bor (List ℕ)
-none = (record { ref_ptr = (0, 0); now = [] }, record { ref_ptr = (0, 0); now = [] })
 
 pub returns-then-is_some : goal.returns-then-is_some
 returns-then-is_some c =
@@ -18,10 +16,10 @@ returns-then-is_some c =
     ∙ ap (list_any (λ b. b == 0)) c.as_bytes.ensures.value in
     let files = c.args.files.now in
     let i = c.loop-file.file-index in
-    let file = get_or files i none in
+    let file = get_or files i no_file in
     record {
       file = named_file file;
-      among = among files i none c.loop-file-test.true;
+      among = among files i no_file c.loop-file-test.true;
       nul = holds file.0.now (sym found ∙ c.if-is_some.true);
       text_is = refl;
     }
@@ -32,9 +30,9 @@ loop-file-preserved c =
     ∙ ap (list_any (λ b. b == 0)) c.as_bytes.ensures.value in
     let files = c.args.files.now in
     let i = c.loop-file.file-index in
-    let file = get_or files i none in
+    let file = get_or files i no_file in
     subst (All (λ file. Lacks 0 file.name))
-    (sym (ap named_files (take_more files i none c.loop-file-test.true)
+    (sym (ap named_files (take_more files i no_file c.loop-file-test.true)
     ∙ map-append named_file (take i files) (file ∷ [])))
     (All-push (λ file. Lacks 0 file.name) (named_files (take i files)) (named_file file) c.loop-file.invariant
     (lacks file.0.now (sym found ∙ c.if-is_some.false)))

@@ -16,7 +16,7 @@ use Rattle.po_reader.proofs.items.read_items.Goals as goal
 
 pub returns-in_err-drafts-clause-fault : goal.returns-in_err-drafts-clause-fault
 returns-in_err-drafts-clause-fault c =
-    let stops = rw c.deref-2.ensures.value at c.in_err-drafts.ensures.fault in
+    let stops = rw c.deref.ensures.value at c.in_err-drafts.ensures.fault in
     passed_on c.from_residual.result _ c.from_residual.ensures.1
     (λ other. in_items (items_fault [] _ _ _ (stops.fault other)))
 
@@ -26,8 +26,8 @@ returns-in_err-drafts-clause-memory c =
 
 pub returns-in_err-check_drafts-clause-fault : goal.returns-in_err-check_drafts-clause-fault
 returns-in_err-check_drafts-clause-fault c =
-    let spelt = rw c.deref-2.ensures.value at c.in_ok-drafts.ensures.found in
-    let stops = rw c.deref-3.ensures.value at c.in_err-check_drafts.ensures.fault in
+    let spelt = rw c.deref.ensures.value at c.in_ok-drafts.ensures.found in
+    let stops = rw c.deref-2.ensures.value at c.in_err-check_drafts.ensures.fault in
     let kept = subst (λ (es : List TextEntry).
     EntriesStop HasTexts EntryTextFault es c.in_err-check_drafts.field-0.0.kind
     c.in_err-check_drafts.field-0.0.line) spelt.2 stops in
@@ -43,30 +43,30 @@ returns-in_err-check_drafts-clause-memory c =
 
 pub check_drafts-requires-clause-utf8 : goal.check_drafts-requires-clause-utf8
 check_drafts-requires-clause-utf8 c = λ are.
-    let spelt = rw c.deref-2.ensures.value at c.in_ok-drafts.ensures.found in
-    let strings = (rw c.deref.ensures.value at c.strings_are_utf8-are_utf8.ensures).0 are in
-    rw c.deref-3.ensures.value
+    let spelt = rw c.deref.ensures.value at c.in_ok-drafts.ensures.found in
+    let strings = c.requires.utf8 are in
+    rw c.deref-2.ensures.value
     (drafts_utf8 c.args.with_comments c.in_ok-drafts.drafts.items (whole_spelt _ _ _ spelt.1) spelt.2 strings)
 
 pub check_drafts-requires-clause-no_nul : goal.check_drafts-requires-clause-no_nul
 check_drafts-requires-clause-no_nul c =
-    let spelt = rw c.deref-2.ensures.value at c.in_ok-drafts.ensures.found in
+    let spelt = rw c.deref.ensures.value at c.in_ok-drafts.ensures.found in
     let sound = subst (All SoundEntry) (sym spelt.2)
     (kept_sound c.args.with_comments spelt.0 (entries_sound (whole_spelt _ _ _ spelt.1) c.requires.hold)) in
-    rw c.deref-3.ensures.value (drafts_hold c.in_ok-drafts.drafts.items sound)
+    rw c.deref-2.ensures.value (drafts_hold c.in_ok-drafts.drafts.items sound)
 
 pub catalogue_of-requires : goal.catalogue_of-requires
 catalogue_of-requires c =
-    let spelt = rw c.deref-2.ensures.value at c.in_ok-drafts.ensures.found in
+    let spelt = rw c.deref.ensures.value at c.in_ok-drafts.ensures.found in
     let sound = subst (All SoundEntry) (sym spelt.2)
     (kept_sound c.args.with_comments spelt.0 (entries_sound (whole_spelt _ _ _ spelt.1) c.requires.hold)) in
-    let asked = rw c.deref-3.ensures.value at c.in_ok-check_drafts.ensures.ok in
+    let asked = rw c.deref-2.ensures.value at c.in_ok-check_drafts.ensures.ok in
     drafts_valid _ sound asked
 
 pub returns-clause-found : goal.returns-clause-found
 returns-clause-found c =
-    let spelt = rw c.deref-2.ensures.value at c.in_ok-drafts.ensures.found in
-    let asked = rw c.deref-3.ensures.value at c.in_ok-check_drafts.ensures.ok in
+    let spelt = rw c.deref.ensures.value at c.in_ok-drafts.ensures.found in
+    let asked = rw c.deref-2.ensures.value at c.in_ok-check_drafts.ensures.ok in
     let texts = kept_texts c.args.with_comments spelt.0
     (subst (All HasTexts) spelt.2 (All-map HasTexts entry_view c.in_ok-drafts.drafts.items asked)) in
     let admitted = ok_step c.catalogue_of.result
@@ -80,8 +80,8 @@ returns-clause-found c =
 
 pub returns-clause-fault : goal.returns-clause-fault
 returns-clause-fault c =
-    let spelt = rw c.deref-2.ensures.value at c.in_ok-drafts.ensures.found in
-    let asked = rw c.deref-3.ensures.value at c.in_ok-check_drafts.ensures.ok in
+    let spelt = rw c.deref.ensures.value at c.in_ok-drafts.ensures.found in
+    let asked = rw c.deref-2.ensures.value at c.in_ok-check_drafts.ensures.ok in
     let texts = kept_texts c.args.with_comments spelt.0
     (subst (All HasTexts) spelt.2 (All-map HasTexts entry_view c.in_ok-drafts.drafts.items asked)) in
     err_step c.catalogue_of.result (λ e h other.
