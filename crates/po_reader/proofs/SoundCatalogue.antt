@@ -140,11 +140,11 @@ drafts_utf8 all {entries = entries} made spelt same h =
     (All-map (λ (entry : TextEntry). All IsUtf8 (quoted_texts entry)) (kept_entry all) entries
     (λ k d inside. utf8_one all (get_or entries k d) (texts k d inside))))
 
--- the entries of drafts whose texts were checked
+-- drafts are those of entries, if they can have their texts
 pub drafts_valid : (made : List Fields) → All SoundEntry (map entry_view made)
-    → All (λ draft. HasTexts (entry_view draft)) made → All (λ draft. IsEntry (entry_view draft)) made
-drafts_valid made h t = λ k d inside. entry_valid (entry_view (get_or made k d))
-    (all_unmapped SoundEntry entry_view made h k d inside) (t k d inside)
+    → All (λ draft. HasTexts (entry_view draft) → IsEntry (entry_view draft)) made
+drafts_valid made h = λ k d inside.
+    entry_valid (entry_view (get_or made k d)) (all_unmapped SoundEntry entry_view made h k d inside)
 
 sound_one : (all : Bool) (entry : TextEntry) → SoundEntry entry → SoundEntry (kept_entry all entry)
 sound_one true entry h = h

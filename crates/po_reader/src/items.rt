@@ -9,11 +9,11 @@ ghost use Rattle.po_entry.specs.TextEntry.{quoted_texts};
 ghost use Rattle.po_entry.specs.Header.{HasAdmittedCharset};
 ghost use Rattle.po_entry.specs.TextEntry.{TextEntry};
 ghost use Rattle.po_entry.specs.Validity.{IsEntry, HasTexts, EntryTextFault};
-ghost use Rattle.po_entry.specs.Faults.{EntriesStop, CharsetFault, IsStop, ItemsStop};
+ghost use Rattle.po_entry.specs.Faults.{EntriesStop, IsStop, ItemsStop};
 ghost use Rattle.po_entry.specs.Viable.{last_line};
 ghost use Rattle.po_reader.specs.KeptComments.{kept_entry};
 ghost use Rattle.po_reader.specs.Internal.Keeping.{KeepsItems};
-ghost use Rattle.po_reader.specs.Internal.Reads.{Reads, start, Fails};
+ghost use Rattle.po_reader.specs.Internal.Reads.{ChecksStop, Reads, start, Fails};
 
 use crate::body::take_body;
 use crate::cursor::Cursor;
@@ -42,8 +42,7 @@ pub(crate) fn read_items(
 {
     let drafts = drafts_of(alloc, &items, with_comments)?;
     drop(items);
-    check_drafts(&drafts, are_utf8)?;
-    catalogue_of(alloc, drafts)
+    catalogue_of(alloc, drafts, are_utf8)
 }
 
 /// The drafts of the entries that the items spell, in order, with their comments and references or
@@ -86,14 +85,19 @@ fn check_drafts(drafts: &[Fields], are_utf8: bool) -> Result<(), PoError>
     Ok(())
 }
 
-/// The catalogue of the entries that were read, whose headers' charsets are checked in their order.
-fn catalogue_of(alloc: Global, drafts: Vec<Fields>) -> Result<Catalogue, PoError>
-    requires { All (λ draft. IsEntry (entry_view draft)) drafts.items }
+/// The catalogue of the entries that were read: their texts are checked in their order, then their
+/// headers' charsets. If it is known that the texts are UTF-8, that is not tested.
+fn catalogue_of(alloc: Global, drafts: Vec<Fields>, are_utf8: bool) -> Result<Catalogue, PoError>
+    requires no_nul { All (λ draft. All (Lacks 0) (quoted_texts (entry_view draft))) drafts.items }
+    requires utf8 { are_utf8 ≡ true → All (λ draft. All IsUtf8 (quoted_texts (entry_view draft))) drafts.items }
+    requires entries { All (λ draft. HasTexts (entry_view draft) → IsEntry (entry_view draft)) drafts.items }
     ensures entries { IfOk result (λ c. c ≡ map entry_view drafts.items) }
+    ensures texts { OnOk result (All HasTexts (map entry_view drafts.items)) }
     ensures charsets { OnOk result (All HasAdmittedCharset (map entry_view drafts.items)) }
-    ensures fault { IfErr result (IsStop (EntriesStop HasAdmittedCharset CharsetFault (map entry_view drafts.items))) }
+    ensures fault { IfErr result (IsStop (ChecksStop (map entry_view drafts.items))) }
     ensures memory { IfErr result (λ e. e.kind ≡ PoFault.OutOfMemory → e.line ≡ 0) }
 {
+    check_drafts(&drafts, are_utf8)?;
     let mut catalogue = Catalogue::with_capacity(alloc, drafts.len())?;
     for draft in drafts {
         if let Err((_, error)) = catalogue.push(Entry::of(draft)) {

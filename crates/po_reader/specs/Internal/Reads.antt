@@ -1,10 +1,14 @@
 -- Which entries the reader finds.
-use Rattle.std.specs.Prelude.{◌≡◌, ℕ, List, [], ◌∷◌}
+use Rattle.std.specs.Prelude.{◌≡◌, ◌⊎◌, ℕ, All, List, [], ◌∷◌}
 use Rattle.po_syntax.specs.TextItem.{TextItem, line_of}
 use Rattle.po_entry.specs.TextEntry.{TextEntry}
+use Rattle.po_entry.specs.Faults.{CharsetFault, EntriesStop}
+use Rattle.po_entry.specs.Header.{HasAdmittedCharset}
+use Rattle.po_entry.specs.Validity.{EntryTextFault, HasTexts}
 use Rattle.po_entry.specs.Viable.{last_line}
 use Rattle.po_reader.specs.Internal.Stage.{Stage, Between, InHead, Outcome, Entries, Fault, only}
 use Rattle.po_syntax.specs.declared.fault.PoError.{PoError}
+use Rattle.po_syntax.specs.declared.fault.PoFault.{PoFault}
 use Rattle.po_reader.specs.Internal.Turn.{comes_to}
 use Rattle.po_reader.specs.PieceRead.{IsFaultOf}
 
@@ -42,3 +46,10 @@ line_at rest = first_line rest.end rest.items
 -- the rest comes to this error from there on; or it is out of memory, without a line
 abbrev pub Fails : Stage → Rest → PoError → Type 0
 Fails stage rest error = IsFaultOf (λ fault line. comes stage rest ≡ Fault fault line) error
+
+-- the first entry that can't have its texts, or where all can, the first header whose charset isn't
+-- admitted
+abbrev pub ChecksStop : List TextEntry → PoFault → ℕ → Type 0
+ChecksStop entries fault line =
+    EntriesStop HasTexts EntryTextFault entries fault line
+    ⊎ (All HasTexts entries × EntriesStop HasAdmittedCharset CharsetFault entries fault line)
