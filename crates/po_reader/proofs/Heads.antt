@@ -12,15 +12,14 @@ use Rattle.po_entry.specs.Facts.Filters.{all_pass, none_pass}
 use Rattle.po_syntax.specs.declared.item.CommentKind.{CommentKind}
 use Rattle.po_syntax.specs.declared.item.CommentKind.TheVariants.{Translator, Extracted, Reference, Flags}
 use Rattle.po_entry.specs.Spelling.{with_head}
-use Rattle.po_reader.specs.Internal.KeptFlags.{kept_flags, no_flags}
 use Rattle.po_reader.specs.KeptComments.{kept_comments, kept_entry}
 
 pub holds_nothing : (head : Head) → head.comments ≡ [] → head.extracted ≡ [] → head.references ≡ []
-    → kept_flags head.flags ≡ no_flags → head.previous ≡ no_previous → HoldsHead head [] []
+    → head.flags.items ≡ [] → head.previous ≡ no_previous → HoldsHead head [] []
 holds_nothing head comments extracted references flags previous =
     record {
       head_comments =
-          record { comments = comments; extracted = extracted; references = references; flags = flags };
+          record { comments = comments; extracted = extracted; references = references; flags = rw flags };
       texts = previous;
     }
 
@@ -40,7 +39,7 @@ holds_previous head fields comment_texts previous text h e = record {
       ∙ sym (fold_push (λ fields (p : PreviousText). with_previous p.keyword p.text fields) no_previous previous text);
 }
 
-abbrev pub is_flags : CommentText → Bool
+abbrev is_flags : CommentText → Bool
 is_flags comment_text = same_kind Flags comment_text.kind
 
 pub kept_nothing : (all : Bool) → kept_comments all [] ≡ []

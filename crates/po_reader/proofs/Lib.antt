@@ -4,7 +4,6 @@ pub mod Splits
 pub mod Loops
 pub mod Misfits
 pub mod SeenFlags
-pub mod HeldFlags
 pub mod SpeltRuns
 pub mod RunsSpelt
 pub mod Texts

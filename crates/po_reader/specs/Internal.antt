@@ -2,6 +2,5 @@
 pub mod Stage
 pub mod Turn
 pub mod Reads
-pub mod KeptFlags
 pub mod ReaderView
 pub mod Keeping

@@ -9,6 +9,7 @@ ghost use Rattle.po_reader.specs.Internal.Stage as stage;
 ghost use Rattle.po_reader.specs.Internal.Turn.{and_text, begins_form, begins_own, is_wanted, opened, turn_own};
 ghost use Rattle.po_reader.specs.Internal.Reads.{comes, Fails};
 
+use crate::comment_texts::{has_fuzzy, others};
 use crate::cursor::{Cursor, take_strings};
 use crate::head::Head;
 use po_entry::Fields;
@@ -197,13 +198,15 @@ pub(crate) fn take_body(
     let (context, obsolete) = take_context(alloc, rest)?;
     let id = take_keyword_text(alloc, rest, Wanted::Id, obsolete)?;
     let (plural, forms) = take_translation(alloc, rest, obsolete)?;
-    let (fuzzy, flags) = flags.into_parts();
+    let fuzzy = has_fuzzy(&flags);
+    let others = others(alloc, &flags)?;
+    drop(flags);
     Ok(Fields {
         comments,
         extracted,
         references,
         fuzzy,
-        flags,
+        flags: others,
         previous,
         context,
         id: id.text,

@@ -1,17 +1,17 @@
-//! The references and flags that comments spell (manual, "The Format of PO Files").
+//! The references and flags that comments spell, and the flags that an entry keeps (manual, "The
+//! Format of PO Files").
 
 ghost use Rattle.std.specs.Prelude.{◌≡◌, ◌==◌, ◌<◌, ◌++◌, ◌∷◌, [], ℕ, Bool, fold, length, position, IfOk, IfSome, MatchOption, OnOk};
-ghost use Rattle.std.specs.List.{slice_split};
+ghost use Rattle.std.specs.List.{list_any, slice_split};
 ghost use Rattle.po_syntax.specs.Blanks.{is_blank};
 ghost use Rattle.po_entry.specs.Bytes.{trimmed};
-ghost use Rattle.po_entry.specs.Comments.{listed_references, listed_flags};
-ghost use Rattle.po_reader.specs.Internal.KeptFlags.{kept_flags, one_flag_more};
+ghost use Rattle.po_entry.specs.TextEntry.{slice_texts};
+ghost use Rattle.po_entry.specs.Comments.{is_fuzzy_flag, listed_references, listed_flags, with_flag};
 
-use crate::flags::Flags;
 use po_entry::TextList;
 use po_syntax::{is_blank, skip_blanks};
 use std::alloc::{AllocError, Global};
-use std::mem::replace;
+use std::collections::BTreeSet;
 
 /// The text without the blanks at its ends.
 fn trimmed(text: &[u8]) -> &[u8]
@@ -71,36 +71,53 @@ pub(crate) fn add_references(list: &mut TextList, text: &[u8]) -> Result<(), All
     }
 }
 
-/// Adds the flags of a text, which stand between commas. Where an allocation failed, none are left.
-pub(crate) fn add_flags<'i>(
-    alloc: Global,
-    flags: &mut Flags<'i>,
-    text: &'i [u8],
-) -> Result<(), AllocError>
-    ensures { OnOk result (kept_flags flags.new
-        ≡ fold one_flag_more (kept_flags flags.old) (listed_flags text.now)) }
+/// Adds the flags of a text, `fuzzy` among them, which stand between commas.
+pub(crate) fn add_flags<'i>(flags: &mut Vec<&'i [u8]>, text: &'i [u8]) -> Result<(), AllocError>
+    ensures { OnOk result (slice_texts flags.new.items ≡ slice_texts flags.old.items ++ listed_flags text.now) }
 {
-    let taken = replace(flags, Flags::new(alloc));
-    *flags = with_flags(taken, text)?;
-    Ok(())
-}
-
-/// These flags and those of a text, which stand between commas.
-fn with_flags<'i>(flags: Flags<'i>, text: &'i [u8]) -> Result<Flags<'i>, AllocError>
-    ensures { IfOk result (λ more. kept_flags more
-        ≡ fold one_flag_more (kept_flags flags.entry) (listed_flags text.now)) }
-{
-    let mut flags = flags;
     let mut rest = text;
     loop {
         let (piece, after) = cut(rest, first_comma(rest));
         let element = trimmed(piece);
         if !element.is_empty() {
-            flags = flags.add(element)?;
+            flags.push(element)?;
         }
         let Some(after) = after else {
-            return Ok(flags);
+            return Ok(());
         };
         rest = after;
     }
+}
+
+/// Whether the flag is `fuzzy`.
+fn is_fuzzy_flag(flag: &[u8]) -> bool
+    ensures { result ≡ is_fuzzy_flag flag.now }
+{
+    flag == b"fuzzy".as_slice()
+}
+
+/// Whether `fuzzy` is among the flags.
+pub(crate) fn has_fuzzy(elements: &[&[u8]]) -> bool
+    ensures { result ≡ list_any (λ flag. is_fuzzy_flag flag.now) elements.now }
+{
+    elements.iter().any(|flag| is_fuzzy_flag(flag))
+}
+
+/// The flags other than `fuzzy`, each once, where it first stands. A tree finds the flags seen
+/// before, so that no choice of flags makes this slow.
+pub(crate) fn others(alloc: Global, elements: &[&[u8]]) -> Result<TextList, AllocError>
+    ensures { IfOk result (λ kept. kept ≡ fold with_flag [] (slice_texts elements.now)) }
+{
+    let mut seen = BTreeSet::new(alloc);
+    let mut kept = TextList::new(alloc);
+    for flag in elements {
+        if is_fuzzy_flag(flag) {
+            continue;
+        }
+        if !seen.insert(*flag)? {
+            continue;
+        }
+        kept.push(flag)?;
+    }
+    Ok(kept)
 }

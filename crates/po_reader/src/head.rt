@@ -12,7 +12,6 @@ ghost use Rattle.po_reader.specs.Internal.ReaderView.{HoldsHead, HoldsComments};
 
 use crate::comment_texts::{add_flags, add_references};
 use crate::cursor::{Cursor, take_strings};
-use crate::flags::Flags;
 use po_entry::{Previous, TextList};
 use po_syntax::{CommentKind, Item, Keyword, PoError, PoFault};
 use std::alloc::{AllocError, Global};
@@ -23,7 +22,8 @@ pub(crate) struct Head<'i> {
     pub(crate) comments: TextList,
     pub(crate) extracted: TextList,
     pub(crate) references: TextList,
-    pub(crate) flags: Flags<'i>,
+    /// The flags with their repeats, `fuzzy` among them.
+    pub(crate) flags: Vec<&'i [u8]>,
     pub(crate) previous: Previous,
 }
 
@@ -47,9 +47,7 @@ fn begins_body(keyword: Keyword) -> bool
 }
 
 /// Adds a comment to the fields of its kind, where it is wanted.
-#[tactic(auto, using(crate::proofs::HeldFlags::holds_flags))]
 fn add_comment<'i>(
-    alloc: Global,
     head: &mut Head<'i>,
     with_comments: bool,
     kind: CommentKind,
@@ -62,7 +60,7 @@ fn add_comment<'i>(
     ensures previous { OnOk result (head.new.previous ≡ head.old.previous) }
 {
     match kind {
-        CommentKind::Flags => add_flags(alloc, &mut head.flags, text)?,
+        CommentKind::Flags => add_flags(&mut head.flags, text)?,
         _ if !with_comments => {}
         CommentKind::Translator => head.comments.push(text)?,
         CommentKind::Extracted => head.extracted.push(text)?,
@@ -103,15 +101,15 @@ pub(crate) fn take_head<'i>(
         comments: TextList::new(alloc),
         extracted: TextList::new(alloc),
         references: TextList::new(alloc),
-        flags: Flags::new(alloc),
         previous: Previous::none(),
+        flags: Vec::new(alloc),
     };
     let mut above = 0;
     loop {
         match rest.first() {
             Some(Item::Comment(kind, text, _)) => {
                 rest.advance();
-                add_comment(alloc, &mut head, with_comments, *kind, text)?;
+                add_comment(&mut head, with_comments, *kind, text)?;
             }
             Some(Item::Word(keyword, marks, _)) => {
                 if !marks.previous {

@@ -5,7 +5,7 @@
 //! [`read`] reads a text piece by piece. A caller that keeps no catalogue takes the pieces one by
 //! one: [`next_catalogue`] and [`next_messages`].
 //!
-//! The modules in reading order: `cursor`, `flags`, `comment_texts`, `head`, `body`, `items`, `reading`,
+//! The modules in reading order: `cursor`, `comment_texts`, `head`, `body`, `items`, `reading`,
 //! `laws`.
 
 #![tactic(auto)]
@@ -13,7 +13,6 @@
 mod body;
 mod comment_texts;
 mod cursor;
-mod flags;
 mod head;
 mod items;
 pub mod laws;

@@ -1,12 +1,12 @@
-use Rattle.std.proofs.Common.{◌≡◌, ap, refl, ◌∙◌}
+use Rattle.std.proofs.Common.{◌≡◌, [], fold, ap, refl, ◌∙◌}
+use Rattle.std.specs.List.{list_any}
 use Rattle.po_syntax.specs.declared.item.Keyword.TheVariants.{MsgId}
-use Rattle.po_entry.specs.Comments.{all_listed_flags, flags_of, fuzzy_of}
-use Rattle.po_entry.specs.TextEntry.{TextEntry, optional_text, texts}
-use Rattle.po_reader.specs.Internal.KeptFlags.{KeptFlags, no_flags}
+use Rattle.po_entry.specs.Comments.{flags_of, fuzzy_of, is_fuzzy_flag, with_flag}
+use Rattle.po_entry.specs.TextEntry.{TextEntry, optional_text, slice_texts, texts}
 use Rattle.po_reader.specs.Internal.Stage.{with_own, with_context, with_text, no_lines}
 use Rattle.po_reader.specs.Internal.Turn.{with_keyword}
 use Rattle.po_reader.proofs.Results.{passed_on}
-use Rattle.po_reader.proofs.SeenFlags.{fuzzy_kept, others_kept}
+use Rattle.po_reader.proofs.SeenFlags.{list_any-slices}
 use Rattle.po_reader.proofs.Turns.{fails_from, id_wanted}
 use Rattle.po_reader.proofs.body.take_body.Goals as goal
 
@@ -32,13 +32,11 @@ returns-clause-found c =
     let own = with_text MsgId c.in_ok-id.id.text.items (with_keyword MsgId c.in_ok-id.id.line first) in (
       record own { plural = optional_text c.in_ok-plural.plural; forms = texts c.in_ok-plural.forms.items },
       λ comment_texts previous h.
-          let kept = h.head_comments.flags in
-          let fuzzy : c.into_parts-fuzzy.result.0 ≡ fuzzy_of comment_texts =
-          c.into_parts-fuzzy.ensures.fuzzy ∙ ap (λ (k : KeptFlags). k.fuzzy) kept
-          ∙ fuzzy_kept no_flags (all_listed_flags comment_texts) in
-          let flags : c.into_parts-fuzzy.result.1 ≡ flags_of comment_texts =
-          c.into_parts-fuzzy.ensures.others ∙ ap (λ (k : KeptFlags). k.others) kept
-          ∙ others_kept no_flags (all_listed_flags comment_texts) in
+          let fuzzy : c.has_fuzzy-fuzzy.result ≡ fuzzy_of comment_texts =
+          c.has_fuzzy-fuzzy.ensures ∙ list_any-slices is_fuzzy_flag c.deref.result.now
+          ∙ ap (list_any is_fuzzy_flag) (ap slice_texts c.deref.ensures.value ∙ h.head_comments.flags) in
+          let flags : c.in_ok-others.others ≡ flags_of comment_texts = c.in_ok-others.ensures
+          ∙ ap (fold with_flag []) (ap slice_texts c.deref-2.ensures.value ∙ h.head_comments.flags) in
           rw (
             h.head_comments.comments,
             h.head_comments.extracted,

@@ -15,7 +15,7 @@ loop-kind-init c = record {
     [],
     [],
     rw (kept_nothing c.args.with_comments)
-        (holds_nothing _ c.new.ensures c.new-2.ensures c.new-3.ensures c.new-4.ensures c.none.ensures),
+        (holds_nothing _ c.new.ensures c.new-2.ensures c.new-3.ensures c.new-4.ensures.items c.none.ensures),
     λ entries. refl,
   );
   fewer = omega arith;
