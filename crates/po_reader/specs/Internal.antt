@@ -3,4 +3,5 @@ pub mod Stage
 pub mod Turn
 pub mod Reads
 pub mod ReaderView
+pub mod Places
 pub mod Keeping

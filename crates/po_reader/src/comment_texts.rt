@@ -8,10 +8,10 @@ ghost use Rattle.po_entry.specs.Bytes.{trimmed};
 ghost use Rattle.po_entry.specs.TextEntry.{slice_texts};
 ghost use Rattle.po_entry.specs.Comments.{is_fuzzy_flag, listed_references, listed_flags, with_flag};
 
+use crate::repeats::{is_repeat, sorted_places};
 use po_entry::TextList;
 use po_syntax::{is_blank, skip_blanks};
 use std::alloc::{AllocError, Global};
-use std::collections::BTreeSet;
 
 /// The text without the blanks at its ends.
 fn trimmed(text: &[u8]) -> &[u8]
@@ -103,18 +103,17 @@ pub(crate) fn has_fuzzy(elements: &[&[u8]]) -> bool
     elements.iter().any(|flag| is_fuzzy_flag(flag))
 }
 
-/// The flags other than `fuzzy`, each once, where it first stands. A tree finds the flags seen
-/// before, so that no choice of flags makes this slow.
+/// The flags other than `fuzzy`, each once, where it first stands.
 pub(crate) fn others(alloc: Global, elements: &[&[u8]]) -> Result<TextList, AllocError>
     ensures { IfOk result (λ kept. kept ≡ fold with_flag [] (slice_texts elements.now)) }
 {
-    let mut seen = BTreeSet::new(alloc);
+    let places = sorted_places(alloc, elements)?;
     let mut kept = TextList::new(alloc);
-    for flag in elements {
+    for (place, flag) in elements.iter().enumerate() {
         if is_fuzzy_flag(flag) {
             continue;
         }
-        if !seen.insert(*flag)? {
+        if is_repeat(elements, &places, place) {
             continue;
         }
         kept.push(flag)?;
