@@ -8,7 +8,7 @@ ghost use Rattle.po_entry.specs.Bytes.{trimmed};
 ghost use Rattle.po_entry.specs.TextEntry.{slice_texts};
 ghost use Rattle.po_entry.specs.Comments.{is_fuzzy_flag, listed_references, listed_flags, with_flag};
 
-use crate::repeats::{is_repeat, sorted_places};
+use crate::repeats::repeats;
 use po_entry::TextList;
 use po_syntax::{is_blank, skip_blanks};
 use std::alloc::{AllocError, Global};
@@ -107,13 +107,13 @@ pub(crate) fn has_fuzzy(elements: &[&[u8]]) -> bool
 pub(crate) fn others(alloc: Global, elements: &[&[u8]]) -> Result<TextList, AllocError>
     ensures { IfOk result (λ kept. kept ≡ fold with_flag [] (slice_texts elements.now)) }
 {
-    let places = sorted_places(alloc, elements)?;
+    let repeats = repeats(alloc, elements)?;
     let mut kept = TextList::new(alloc);
     for (place, flag) in elements.iter().enumerate() {
         if is_fuzzy_flag(flag) {
             continue;
         }
-        if is_repeat(elements, &places, place) {
+        if repeats[place] {
             continue;
         }
         kept.push(flag)?;

@@ -1,9 +1,9 @@
 //! Which texts of a list repeat an earlier one. Their places are sorted, a word for each, so that no
 //! choice of texts makes this slow.
 
-ghost use Rattle.std.specs.Prelude.{◌≡◌, ◌<◌, ℕ, Contains, IfOk, length};
+ghost use Rattle.std.specs.Prelude.{◌≡◌, ◌+◌, ◌<◌, ◌≤◌, ℕ, All, Contains, IfOk, length};
 ghost use Rattle.po_entry.specs.TextEntry.{slice_texts};
-ghost use Rattle.po_reader.specs.Internal.Places.{AreSortedPlaces, is_repeat, place_cmp, text_at};
+ghost use Rattle.po_reader.specs.Internal.Places.{AreSortedPlaces, IsRun, TellRepeats, place_cmp, text_at};
 
 use std::alloc::{AllocError, Global};
 use std::cmp::Ordering;
@@ -27,7 +27,8 @@ fn compare(texts: &[&[u8]], a: usize, b: usize) -> Ordering
 
 /// The numbers below a count.
 fn numbers_below(alloc: Global, count: usize) -> Result<Vec<usize>, AllocError>
-    ensures { IfOk result (λ numbers. (number : ℕ) → number < count → Contains numbers.items number) }
+    ensures all { IfOk result (λ numbers. (number : ℕ) → number < count → Contains numbers.items number) }
+    ensures below { IfOk result (λ numbers. All (λ number. number < count) numbers.items) }
 {
     let mut numbers = Vec::with_capacity(alloc, count)?;
     for number in 0..count {
@@ -37,7 +38,7 @@ fn numbers_below(alloc: Global, count: usize) -> Result<Vec<usize>, AllocError>
 }
 
 /// The places of texts in the order of the texts, those of one text in rising order.
-pub(crate) fn sorted_places(alloc: Global, texts: &[&[u8]]) -> Result<Vec<usize>, AllocError>
+fn sorted_places(alloc: Global, texts: &[&[u8]]) -> Result<Vec<usize>, AllocError>
     ensures { IfOk result (λ places. AreSortedPlaces (slice_texts texts.now) places.items) }
 {
     let mut places = numbers_below(alloc, texts.len())?;
@@ -45,14 +46,33 @@ pub(crate) fn sorted_places(alloc: Global, texts: &[&[u8]]) -> Result<Vec<usize>
     Ok(places)
 }
 
-/// Whether the text at a place repeats an earlier one: whether the first place of this text, found
-/// by binary search, is another.
-pub(crate) fn is_repeat(texts: &[&[u8]], places: &[usize], place: usize) -> bool
+/// Where the first place of the text stands whose place is at an index, in sorted places; `first` is
+/// that of the text of the index before.
+fn first_of_text(texts: &[&[u8]], places: &[usize], first: usize, index: usize) -> usize
     requires places { AreSortedPlaces (slice_texts texts.now) places.now }
-    requires inside { place < length texts.now }
-    ensures { result ≡ is_repeat (slice_texts texts.now) place }
+    requires run { IsRun (slice_texts texts.now) places.now first index }
+    requires upto { first ≤ index }
+    requires inside { index < length places.now }
+    ensures run { IsRun (slice_texts texts.now) places.now result (index + 1) }
+    ensures upto { result ≤ index }
 {
-    let text = text_at(texts, place);
-    let first = places.partition_point(|other| text_at(texts, *other).cmp(text).is_lt());
-    places[first] != place
+    if text_at(texts, places[first]) == text_at(texts, places[index]) {
+        first
+    } else {
+        index
+    }
+}
+
+/// For each text whether it repeats an earlier one: whether the first place of this text is another.
+pub(crate) fn repeats(alloc: Global, texts: &[&[u8]]) -> Result<Vec<bool>, AllocError>
+    ensures { IfOk result (λ repeats. TellRepeats (slice_texts texts.now) repeats.items) }
+{
+    let places = sorted_places(alloc, texts)?;
+    let mut repeats = Vec::from_elem(alloc, false, texts.len())?;
+    let mut first = 0;
+    for index in 0..places.len() {
+        first = first_of_text(texts, &places, first, index);
+        repeats[places[index]] = places[first] != places[index];
+    }
+    Ok(repeats)
 }
