@@ -103,12 +103,19 @@ pub(crate) fn has_fuzzy(elements: &[&[u8]]) -> bool
     elements.iter().any(|flag| is_fuzzy_flag(flag))
 }
 
-/// The flags other than `fuzzy`, each once, where it first stands.
+/// The flags other than `fuzzy`, each once, where it first stands. Where there is one flag, as in
+/// most entries that have any, nothing is sorted.
 pub(crate) fn others(alloc: Global, elements: &[&[u8]]) -> Result<TextList, AllocError>
     ensures { IfOk result (λ kept. kept ≡ fold with_flag [] (slice_texts elements.now)) }
 {
-    let repeats = repeats(alloc, elements)?;
     let mut kept = TextList::new(alloc);
+    if let [flag] = elements {
+        if !is_fuzzy_flag(flag) {
+            kept.push(flag)?;
+        }
+        return Ok(kept);
+    }
+    let repeats = repeats(alloc, elements)?;
     for (place, flag) in elements.iter().enumerate() {
         if is_fuzzy_flag(flag) {
             continue;

@@ -31,6 +31,6 @@ loop-place-preserved c =
     let inside = c.loop-place-test.true in
     let is = told_at (slice_texts elements) c.in_ok-repeats.repeats.items c.in_ok-repeats.ensures place
     (omega (arith, inside, length-map elements (λ t. t.now))) c.index.result.now c.index.ensures in
-    c.in_ok-push.ensures.ok
+    c.in_ok-push-2.ensures.ok
     ∙ flags_more elements place none c.loop-place.kept false inside c.loop-place.invariant
     (rw (← c.if-is_fuzzy_flag.ensures, is, c.if-index.false) refl)
