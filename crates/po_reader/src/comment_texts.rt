@@ -103,12 +103,15 @@ pub(crate) fn has_fuzzy(elements: &[&[u8]]) -> bool
     elements.iter().any(|flag| is_fuzzy_flag(flag))
 }
 
-/// The flags other than `fuzzy`, each once, where it first stands. Where there is one flag, as in
-/// most entries that have any, nothing is sorted.
+/// The flags other than `fuzzy`, each once, where it first stands. Most entries have no flag or one,
+/// and nothing is sorted then.
 pub(crate) fn others(alloc: Global, elements: &[&[u8]]) -> Result<TextList, AllocError>
     ensures { IfOk result (λ kept. kept ≡ fold with_flag [] (slice_texts elements.now)) }
 {
     let mut kept = TextList::new(alloc);
+    if elements.is_empty() {
+        return Ok(kept);
+    }
     if let [flag] = elements {
         if !is_fuzzy_flag(flag) {
             kept.push(flag)?;
