@@ -46,8 +46,8 @@ fn sorted_places(alloc: Global, texts: &[&[u8]]) -> Result<Vec<usize>, AllocErro
     Ok(places)
 }
 
-/// Where the first place of the text stands whose place is at an index, in sorted places; `first` is
-/// that of the text of the index before.
+/// The index at which the places of one text begin, for the text whose place is at `index`; `first`
+/// is that for the text of the index before.
 fn first_of_text(texts: &[&[u8]], places: &[usize], first: usize, index: usize) -> usize
     requires places { AreSortedPlaces (slice_texts texts.now) places.now }
     requires run { IsRun (slice_texts texts.now) places.now first index }
