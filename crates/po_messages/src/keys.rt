@@ -10,11 +10,11 @@ ghost use Rattle.po_messages.specs.MessageView.{message_of_key};
 use crate::message_index::{MessageKey, Seeded, message_key, numbered};
 use po_entry::Entry;
 use std::alloc::{AllocError, Global};
-use std::hash::{DefaultHasher, Hash, Hasher};
+use std::hash::{DefaultHasher, Hasher};
 use std::marker::Model;
 
 /// How long a message is, and how long its context, where it has one, in bytes.
-#[derive(Clone, Copy, PartialEq, Eq, Hash)]
+#[derive(Clone, Copy)]
 struct KeySpans {
     context: Option<usize>,
     /// That of the context and the msgid.
@@ -117,11 +117,12 @@ impl KeyBuffer {
         numbered(alloc, &keys, Seeded::of(&self.digest()))
     }
 
-    /// A digest of all messages: of their lengths, which are whole words, and then of their bytes.
+    /// A digest of all messages: of their lengths, two in a word, and then of their bytes.
     fn digest(&self) -> DefaultHasher {
         let mut digest = DefaultHasher::new();
         for lengths in &self.lengths {
-            lengths.hash(&mut digest);
+            let context = lengths.context.unwrap_or(usize::MAX);
+            digest.write_usize(lengths.len ^ context.rotate_left(usize::BITS / 2));
         }
         digest.write(&self.bytes);
         digest
