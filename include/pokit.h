@@ -32,8 +32,9 @@
  * Charsets. A text is the bytes of the file: nothing is converted. pokit_charset answers the charset that the header
  * entry names.
  *
- * Other languages. libpokit.so has each function of this header as an export of its name, those that are inline in C
- * among them: pokit_lookup asks with plain arguments, and pokit_catalog_size says how much memory a catalogue takes.
+ * Other languages. libpokit.so exports the functions that are marked with POKIT_FUNCTION here, which are inline in C, and
+ * those of libpokit.a: pokit_lookup asks with plain arguments, and pokit_catalog_size says how much memory a catalogue
+ * takes.
  *
  * Works from C99 and from C++11, where a pointer and a size_t have 64 bits: on x86-64 Linux, where all tests run, and
  * on aarch64 Linux, where they were run under qemu. */

@@ -21,7 +21,7 @@ Examples:
   pokit msgfmt -o de.mo de.po
   LANG=de_DE.UTF-8 TEXTDOMAINDIR=locale pokit gettext -s -d bookshelf Bookshelf
 
-Exit status: 0, or 1 after any fault.",
+Exit status: 0, or 1 after any fault but a damaged catalogue, which gettext and ngettext skip.",
 };
 
 pub(crate) const MSGFMT: Help = Help {
@@ -84,7 +84,8 @@ Examples:
   pokit gettext -s Bookshelf
   pokit gettext -s -c button Open
 
-Exit status: 0, also where there is no translation; 1 after any fault.",
+Exit status: 0, also where there is no translation and where a damaged catalogue is skipped;
+1 after any other fault.",
 };
 
 pub(crate) const NGETTEXT: Help = Help {
@@ -101,7 +102,8 @@ Examples:
   pokit ngettext '%d book' '%d books' 3
   pokit ngettext -- '%d book' '%d books' -1
 
-Exit status: 0, also where there is no translation; 1 after any fault.",
+Exit status: 0, also where there is no translation and where a damaged catalogue is skipped;
+1 after any other fault.",
 };
 
 pub(crate) const ENVSUBST: Help = Help {
