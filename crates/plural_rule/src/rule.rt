@@ -11,7 +11,6 @@ use crate::instruction::Instruction;
 use crate::operator::Operator;
 use crate::parts::{Room, begin, push, push_numeral};
 use crate::{header, lexer, parser};
-use arrayvec::ArrayVec;
 use std::marker::Model;
 
 /// The most bytes that an expression may have, and so the most nodes.
@@ -46,9 +45,8 @@ pub enum Reason {
 /// so pass it by reference. See the GNU gettext manual, "Plural forms".
 #[derive(Drop)]
 pub struct Rule {
-    source: Source,
-    nplurals: u64,
-    program: ArrayVec<Instruction, EXPRESSION_LIMIT>,
+    parsed: ParsedRule,
+    room: [Instruction; EXPRESSION_LIMIT],
 }
 
 /// A plural rule whose program stands in memory of the caller.
@@ -63,18 +61,17 @@ pub struct ParsedRule {
 }
 
 impl Model for Rule {
-    ghost use Rattle.std.specs.Prelude.{◌≡◌};
     ghost use Rattle.std.specs.Coded.{codes};
-    ghost use Rattle.plural_rule.specs.PluralRule.{RuleView};
-    ghost use Rattle.plural_rule.specs.Program.{program as program_of, tree_of, tree_code};
+    ghost use Rattle.plural_rule.specs.PluralRule.{IsParsed, RuleView, rule_in};
+    ghost use Rattle.plural_rule.specs.Program.{tree_code};
 
     ghost Value = { RuleView };
 
     ghost coded = { Prim.hlevel (codes, tree_code (Prim.hlevel codes)) };
 
-    ghost view = { λ r. record { source = r.source; nplurals = r.nplurals; tree = tree_of r.program.items } };
+    ghost view = { λ r. rule_in r.parsed r.room };
 
-    ghost invariant = { λ r. r.program.items ≡ program_of 0 (tree_of r.program.items) };
+    ghost invariant = { λ r. IsParsed r.parsed r.room };
 }
 
 impl Rule {
@@ -89,13 +86,7 @@ impl Rule {
     {
         let mut room = [Instruction::COUNT; EXPRESSION_LIMIT];
         let parsed = Rule::parse_into(header, &mut room);
-        let mut program = ArrayVec::from(room);
-        program.truncate(parsed.instruction_count as usize);
-        Rule {
-            source: parsed.source,
-            nplurals: parsed.nplurals,
-            program,
-        }
+        Rule { parsed, room }
     }
 
     /// The same with the program at the beginning of `room`, as [`evaluate`] takes it.
@@ -126,14 +117,14 @@ impl Rule {
     pub fn source(&self) -> Source
         ensures { result ≡ self.now.source }
     {
-        self.source
+        self.parsed.source
     }
 
     /// The number of plural forms.
     pub fn nplurals(&self) -> u64
         ensures { result ≡ self.now.nplurals }
     {
-        self.nplurals
+        self.parsed.nplurals
     }
 
     /// How many nodes the expression has: `n`, numerals and operators.
@@ -167,7 +158,7 @@ impl Rule {
         ensures tree { tree_of result.now ≡ self.now.tree }
         ensures limit { length result.now ≤ expression_limit }
     {
-        self.program.as_slice()
+        &self.room[..self.parsed.instruction_count as usize]
     }
 }
 
