@@ -9,6 +9,12 @@ ghost use Rattle.po_entry.specs.TextLists.{texts_left};
 use std::alloc::{AllocError, Global};
 use std::marker::Model;
 
+/// For how many texts there is room with the first: the smallest piece of memory holds so many lengths.
+const FIRST_LENGTHS: usize = 3;
+
+/// For how many bytes there is room with the first text, where that is shorter: two references.
+const FIRST_BYTES: usize = 40;
+
 /// A list of texts, one behind the other in one buffer: comments, references or flags.
 #[derive(Debug, Drop)]
 pub struct TextList {
@@ -51,8 +57,8 @@ impl TextList {
         ensures ok { OnOk result (self.new ≡ self.old ++ text.now ∷ []) }
         ensures unchanged { OnErr result (self.new ≡ self.old) }
     {
-        make_room(&mut self.lengths, 1)?;
-        make_room(&mut self.bytes, text.len())?;
+        make_room(&mut self.lengths, 1, FIRST_LENGTHS)?;
+        make_room(&mut self.bytes, text.len(), FIRST_BYTES)?;
         self.bytes.extend_from_slice(text)?;
         self.lengths.push_reserved(text.len());
         Ok(())
@@ -79,13 +85,14 @@ impl TextList {
     }
 }
 
-/// Makes room for so many more; in an empty vector for no others, since most lists have one text.
-fn make_room<T>(vector: &mut Vec<T>, more: usize) -> Result<(), AllocError>
+/// Makes room for so many more; in an empty vector for so many at first, and no others, since most
+/// lists have few texts.
+fn make_room<T>(vector: &mut Vec<T>, more: usize, first: usize) -> Result<(), AllocError>
     ensures items { vector.new.items ≡ vector.old.items }
     ensures room { OnOk result (vec_len vector.new + more ≤ vec_capacity vector.new) }
 {
     if vector.is_empty() {
-        vector.reserve_exact(more)
+        vector.reserve_exact(more.max(first))
     } else {
         vector.reserve(more)
     }
