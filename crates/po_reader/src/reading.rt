@@ -81,7 +81,7 @@ fn next_entries(
 
 /// How many bytes of a text are read at a time, at least: few enough that the items and entries of
 /// a piece stay in a processor's cache.
-pub const PIECE: usize = 4_096;
+pub const PIECE: usize = 1_024;
 
 /// Reads a PO text as a catalogue (GNU gettext manual, "The Format of PO Files").
 ///

@@ -37,7 +37,7 @@ impl<'a> Model for Pieces<'a> {
 const MAX_LEN: usize = 2_147_483_647;
 
 /// For how many items a piece has room at first.
-const FIRST_ROOM: usize = 256;
+const FIRST_ROOM: usize = 64;
 
 /// A fault at an index of the text, on whose line, counted from 1, it is reported.
 fn fault_at(text: &[u8], index: usize, kind: PoFault) -> PoError
