@@ -9,7 +9,8 @@ ghost use Rattle.po_entry.specs.TextLists.{texts_left};
 use std::alloc::{AllocError, Global};
 use std::marker::Model;
 
-/// For how many texts there is room with the first: the smallest piece of memory holds so many lengths.
+/// For how many texts there is room with the first: the smallest piece of memory holds so many
+/// lengths.
 const FIRST_LENGTHS: usize = 3;
 
 /// For how many bytes there is room with the first text, where that is shorter: two references.
