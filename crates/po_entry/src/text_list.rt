@@ -86,7 +86,7 @@ impl TextList {
     }
 }
 
-/// Makes room for so many more; in an empty vector for so many at first, and no others, since most
+/// Makes room for so many more, and in an empty vector for `first` at least, but for no others: most
 /// lists have few texts.
 fn make_room<T>(vector: &mut Vec<T>, more: usize, first: usize) -> Result<(), AllocError>
     ensures items { vector.new.items ≡ vector.old.items }
