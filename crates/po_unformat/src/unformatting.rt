@@ -1,6 +1,6 @@
 //! The entries of messages, and the PO text of an MO file.
 
-ghost use Rattle.std.specs.Prelude.{◌≡◌, ◌<◌, Some, IfErr, IfOk, MatchResult, length, slice_get};
+ghost use Rattle.std.specs.Prelude.{◌≡◌, ◌<◌, [], Some, IfErr, IfOk, MatchResult, OnOk, length, slice_get};
 ghost use Rattle.po_entry.specs.TextEntry.{TextEntry};
 ghost use Rattle.po_entry.specs.Validity.{IsEntry, RefusesMessage};
 ghost use Rattle.po_unformat.specs.Internal.Refused.{RefusesEntry, RefusesMessages, error_at};
@@ -61,26 +61,38 @@ fn entry_at(alloc: Global, view: &MoView<'_>, i: u32) -> Result<Entry, UnformatE
     }
 }
 
-/// The text of the entries of a file, in a buffer that has room for so many bytes at first. One
-/// entry is held at a time.
+/// Appends the entries of a file to an empty text. One entry is held at a time.
+fn append_entries(alloc: Global, view: &MoView<'_>, text: &mut Vec<u8>) -> Result<(), UnformatError>
+    requires { text.old.items ≡ [] }
+    ensures written { OnOk result (AreWrittenAs text.new.items view.now.messages) }
+    ensures fault { IfErr result (RefusesMessages view.now.messages) }
+{
+    let mut is_admitted = true;
+    for i in 0..view.len() {
+        let appended = {
+            let entry = entry_at(alloc, view, i)?;
+            is_admitted &= has_admitted_charset(&entry);
+            append(text, &entry)
+        };
+        let Ok(()) = appended else {
+            return Err(UnformatError::OutOfMemory);
+        };
+    }
+    if is_admitted {
+        Ok(())
+    } else {
+        Err(UnformatError::ForeignCharset)
+    }
+}
+
+/// The text of the entries of a file, in a buffer that has room for so many bytes at first.
 fn text_of(alloc: Global, view: &MoView<'_>, room: usize) -> Result<Vec<u8>, UnformatError>
     ensures { MatchResult result (λ text. AreWrittenAs text.items view.now.messages)
         (RefusesMessages view.now.messages) }
 {
     let mut text = Vec::with_capacity(alloc, room)?;
-    let mut is_admitted = true;
-    for i in 0..view.len() {
-        let entry = entry_at(alloc, view, i)?;
-        let Ok(()) = append(&mut text, &entry) else {
-            return Err(UnformatError::OutOfMemory);
-        };
-        is_admitted &= has_admitted_charset(&entry);
-    }
-    if is_admitted {
-        Ok(text)
-    } else {
-        Err(UnformatError::ForeignCharset)
-    }
+    append_entries(alloc, view, &mut text)?;
+    Ok(text)
 }
 
 /// The PO text of an MO file of any origin, in either byte order: a live entry for each message, in

@@ -4,16 +4,16 @@ use Rattle.po_entry.specs.Validity.{IsEntry}
 use Rattle.po_writer.specs.WrittenText.{written_text}
 use Rattle.po_unformat.specs.Unformatted.{unformatted}
 use Rattle.po_unformat.proofs.MessageLemmas.{admitted_more, all_more, all_written, foreign_more, live_at, live_messages, one_more, refused_messages, some_foreign}
-use Rattle.po_unformat.proofs.unformatting.text_of.Goals as goal
+use Rattle.po_unformat.proofs.unformatting.append_entries.Goals as goal
 
-pub returns-in_err-entry : goal.returns-in_err-entry
-returns-in_err-entry c =
-    let p = err_from_is_err_and c.from_residual-in_err-entry.result c.from_residual-in_err-entry.ensures.1 in
+pub returns-in_err-entry-clause-fault : goal.returns-in_err-entry-clause-fault
+returns-in_err-entry-clause-fault c =
+    let p = err_from_is_err_and c.from_residual.result c.from_residual.ensures.1 in
     let why = c.in_err-entry.ensures.fault in
     rw (p.1, p.2) (refused_messages c.args.view.now.messages why.0 c.loop-i.i why.1 c.loop-i.invariant.valid _ why.2)
 
-pub append-requires : goal.append-requires
-append-requires c = live_at c.args.view.now.messages c.loop-i.i c.in_ok-entry.entry c.in_ok-entry.ensures.entry
+pub append-appended-requires : goal.append-appended-requires
+append-appended-requires c = live_at c.args.view.now.messages c.loop-i.i c.in_ok-entry.entry c.in_ok-entry.ensures.entry
 
 pub loop-i-preserved : goal.loop-i-preserved
 loop-i-preserved c =
@@ -23,7 +23,8 @@ loop-i-preserved c =
     let at = c.in_ok-entry.ensures.entry in
     let before = c.loop-i.invariant in
     record {
-      written = c.in-Ok.ensures.appended (take i (unformatted messages)) (live_messages i messages) before.written
+      written = (rw c.in-Ok.is at c.append-appended.ensures.appended) (take i (unformatted messages))
+          (live_messages i messages) before.written
           ∙ ap written_text (sym (one_more messages i entry at));
       valid = all_more messages i entry at IsEntry before.valid c.in_ok-entry.ensures.valid;
       admitted = admitted_more messages i entry at c.loop-i.is_admitted c.has_admitted_charset-is_admitted.result
@@ -32,16 +33,16 @@ loop-i-preserved c =
           c.has_admitted_charset-is_admitted.ensures before.foreign;
     }
 
-pub returns-then-is_admitted : goal.returns-then-is_admitted
-returns-then-is_admitted c =
+pub returns-then-is_admitted-clause-written : goal.returns-then-is_admitted-clause-written
+returns-then-is_admitted-clause-written c =
     let end : c.loop-i.i ≡ length c.args.view.now.messages =
     omega (arith, c.loop-i.auto, c.loop-i-test.false, c.len-i-end.ensures.count) in
     let done = c.loop-i.invariant in
     all_written c.args.view.now.messages c.loop-i.i end done.valid c.loop-i.text.items done.written
     (done.admitted c.if-is_admitted.true)
 
-pub returns-else-is_admitted : goal.returns-else-is_admitted
-returns-else-is_admitted c =
+pub returns-else-is_admitted-clause-fault : goal.returns-else-is_admitted-clause-fault
+returns-else-is_admitted-clause-fault c =
     let end : c.loop-i.i ≡ length c.args.view.now.messages =
     omega (arith, c.loop-i.auto, c.loop-i-test.false, c.len-i-end.ensures.count) in
     let done = c.loop-i.invariant in

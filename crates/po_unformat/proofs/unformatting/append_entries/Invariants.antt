@@ -3,7 +3,7 @@ use Rattle.po_entry.specs.Header.{HasAdmittedCharset}
 use Rattle.po_entry.specs.Validity.{IsEntry}
 use Rattle.po_writer.specs.WrittenText.{written_text}
 use Rattle.po_unformat.specs.Unformatted.{unformatted}
-use Rattle.po_unformat.proofs.unformatting.text_of.Given as goal
+use Rattle.po_unformat.proofs.unformatting.append_entries.Given as goal
 
 -- the entries so far are written, and it is known whether each charset is admitted
 abbrev pub invariant-loop-i : goal.invariant-loop-i
