@@ -2,19 +2,21 @@
 
 ghost use Rattle.std.specs.Prelude.{◌≡◌, ◌<◌, ◌++◌, ◌∷◌, [], length, All, IfOk, IfErr, OnOk, map};
 ghost use Rattle.po_entry.specs.Bytes.{Lacks};
+ghost use Rattle.po_entry.specs.EntryView.{entry_view};
 ghost use Rattle.po_entry.specs.TextEntry.{texts};
 ghost use Rattle.po_merge.specs.Grouping.{IsDefinition, IsGroup, group_entries};
 ghost use Rattle.po_merge.specs.InputsView.{inputs_view, named_entries};
 ghost use Rattle.po_merge.specs.MergedEntry.{merged_entry, first_translated};
 ghost use Rattle.po_merge.specs.Groups.{definitions};
 ghost use Rattle.po_merge.specs.Merged.{IsMergeFault, merged, merged_messages};
+ghost use Rattle.po_merge.specs.Internal.Comments.{comments_alone};
 
 use crate::comments::comment_of;
 use crate::definition::{NamedEntry, Part, first_with, kept_definitions};
 use crate::grouping::{all_entries, groups_of, keys_of};
 use crate::input::{MergeOptions, Named};
 use crate::joined_translations::{joined_forms, translations};
-use po_entry::{Catalogue, Entry, Fields, copy_optional, copy_texts};
+use po_entry::{Catalogue, Entry, Fields, Previous, copy_optional, copy_texts};
 use po_messages::grouped;
 use po_syntax::{CommentKind, PoError};
 use std::alloc::{AllocError, Global};
@@ -54,6 +56,58 @@ fn merged_forms(
     Ok((joined_forms(alloc, found)?, true))
 }
 
+/// The comments, references and flags that the definitions are merged to, in fields without texts.
+fn merged_comments(
+    alloc: Global,
+    options: &MergeOptions,
+    definitions: &[NamedEntry<'_>],
+) -> Result<Fields, AllocError>
+    requires { 0 < length definitions.now }
+    ensures { IfOk result (λ fields. entry_view fields
+        ≡ comments_alone (merged_entry options.now (named_entries definitions.now))) }
+{
+    Ok(Fields {
+        comments: comment_of(alloc, options, CommentKind::Translator, definitions)?,
+        extracted: comment_of(alloc, options, CommentKind::Extracted, definitions)?,
+        references: comment_of(alloc, options, CommentKind::Reference, definitions)?,
+        fuzzy: false,
+        flags: comment_of(alloc, options, CommentKind::Flags, definitions)?,
+        previous: Previous::none(),
+        context: None,
+        id: Vec::new(alloc),
+        plural: None,
+        forms: Vec::new(alloc),
+        obsolete: false,
+        line: 0,
+    })
+}
+
+/// Fills in the texts that the definitions are merged to.
+fn fill_texts(
+    alloc: Global,
+    options: &MergeOptions,
+    definitions: &[NamedEntry<'_>],
+    fields: &mut Fields,
+) -> Result<(), AllocError>
+    requires { 0 < length definitions.now }
+    ensures { OnOk result (entry_view fields.old ≡ comments_alone (merged_entry options.now (named_entries definitions.now))
+        → entry_view fields.new ≡ merged_entry options.now (named_entries definitions.now)) }
+{
+    let first = definitions[0].entry.fields();
+    let earliest = first_with(definitions, Part::Previous).fields();
+    let plural = first_with(definitions, Part::Plural).fields();
+    let (forms, fuzzy) = merged_forms(alloc, options, definitions)?;
+    fields.forms = forms;
+    fields.fuzzy = fuzzy;
+    fields.previous = earliest.previous.copy(alloc)?;
+    fields.context = copy_optional(alloc, first.context.as_deref())?;
+    fields.id = first.id.as_slice().to_vec(alloc)?;
+    fields.plural = copy_optional(alloc, plural.plural.as_deref())?;
+    fields.obsolete = first.obsolete;
+    fields.line = first.line;
+    Ok(())
+}
+
 /// What the definitions of one message are merged to.
 fn merged_entry(
     alloc: Global,
@@ -64,35 +118,15 @@ fn merged_entry(
     requires valid { All IsDefinition (named_entries definitions.now) }
     ensures { IfOk result (λ entry. entry ≡ merged_entry options.now (named_entries definitions.now)) }
 {
-    let first = definitions[0].entry;
     if definitions.len() < 2 {
-        return match first.copy(alloc) {
+        return match definitions[0].entry.copy(alloc) {
             Ok(entry) => Ok(entry),
             Err(_) => Err(AllocError),
         };
     }
-    let comments = comment_of(alloc, options, CommentKind::Translator, definitions)?;
-    let extracted = comment_of(alloc, options, CommentKind::Extracted, definitions)?;
-    let references = comment_of(alloc, options, CommentKind::Reference, definitions)?;
-    let flags = comment_of(alloc, options, CommentKind::Flags, definitions)?;
-    let (forms, fuzzy) = merged_forms(alloc, options, definitions)?;
-    let first = first.fields();
-    let earliest = first_with(definitions, Part::Previous).fields();
-    let plural = first_with(definitions, Part::Plural).fields();
-    Ok(Entry::of(Fields {
-        comments,
-        extracted,
-        references,
-        fuzzy,
-        flags,
-        previous: earliest.previous.copy(alloc)?,
-        context: copy_optional(alloc, first.context.as_deref())?,
-        id: first.id.as_slice().to_vec(alloc)?,
-        plural: copy_optional(alloc, plural.plural.as_deref())?,
-        forms,
-        obsolete: first.obsolete,
-        line: first.line,
-    }))
+    let mut fields = merged_comments(alloc, options, definitions)?;
+    fill_texts(alloc, options, definitions, &mut fields)?;
+    Ok(Entry::of(fields))
 }
 
 /// Adds what the definitions of one message are merged to. Refused, without a line, with
