@@ -11,4 +11,5 @@ pub mod InputLemmas
 pub mod JoinedRows
 pub mod KeysApart
 pub mod NumberedKeys
+pub mod CompiledRows
 pub mod SortedRows

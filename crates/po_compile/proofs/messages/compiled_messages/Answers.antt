@@ -1,9 +1,30 @@
-use Rattle.std.proofs.Common.{ap, ◌∙◌, List, filter, map}
-use Rattle.std.proofs.lemmas.List.{take_all}
+use Rattle.std.proofs.Common.{◌++◌, ◌∷◌, [], ap, sym, ◌∙◌, List, filter, map}
+use Rattle.std.proofs.lemmas.List.{map-append, take_all}
+use Rattle.po_compile.specs.CompiledInputs.{compiled_view}
 use Rattle.po_compile.specs.Internal.Rows.{InputMessage, all_messages, row_view, view_of_message}
+use Rattle.po_compile.proofs.CompiledRows.{one_kept, one_omitted}
 use Rattle.po_compile.proofs.JoinedRows.{joined_valid}
 use Rattle.po_compile.proofs.SortedRows.{compiled_views}
 use Rattle.po_compile.proofs.messages.compiled_messages.Goals as goal
+use Rattle.po_compile.proofs.messages.compiled_messages.Goals.{then-row+in_ok-push, else-row}
+
+pub loop-row-preserved : goal.loop-row-preserved
+loop-row-preserved c =
+    let rows = c.deref-row-items.result.now in
+    let i = c.loop-row.row-index in
+    let row = c.row-item.result in
+    let inside = c.loop-row-test.true in
+    let here = c.row-item.is in
+    elim c.if-row.branch [
+      | then-row+in_ok-push w ↦
+          ap (λ v. map compiled_view v.items) w.messages-is ∙ ap (map compiled_view) w.in_ok-push.ensures.items
+          ∙ map-append compiled_view c.loop-row.messages.items _
+          ∙ ap (λ l. l ++ view_of_message (row_view row) ∷ []) c.loop-row.invariant
+          ∙ sym (one_kept view_of_message rows i row inside here w.if-row.true)
+      | else-row w ↦
+          ap (λ v. map compiled_view v.items) w.messages-is ∙ c.loop-row.invariant
+          ∙ sym (one_omitted view_of_message rows i row inside here w.if-row.false)
+    ]
 
 pub returns-clause-messages : goal.returns-clause-messages
 returns-clause-messages c = λ use_fuzzy catalogues held.

@@ -1,0 +1,33 @@
+-- The messages of rows that are compiled, row by row.
+use Rattle.std.proofs.Common.{◌≡◌, ◌+◌, ◌<◌, ◌++◌, ◌∷◌, [], ◌∙◌, ℕ, Bool, true, false, List, ap, append-nil, cond, filter, get_or, length, map, sym, take}
+use Rattle.std.proofs.lemmas.List.{map-append, take_more}
+use Rattle.std.proofs.lemmas.List.Elements.{filter-append}
+use Rattle.po_compile.specs.Internal.Rows.{InputMessage, row_view}
+use Rattle.po_compile.specs.declared.row.Row.{Row}
+
+abbrev compiled : List InputMessage → List InputMessage
+compiled messages = filter (λ (m : InputMessage). m.message.status.compiled) messages
+
+module _ {X : Type 0} (f : InputMessage → X) (rows : List Row) (i : ℕ) (row : Row) (inside : i < length rows)
+    (is : row ≡ get_or rows i row) where
+  abbrev so_far : List X
+  so_far = map f (compiled (map row_view (take i rows)))
+
+  one_more : map f (compiled (map row_view (take (i + 1) rows))) ≡ so_far ++ map f (compiled (row_view row ∷ []))
+  one_more =
+      ap (λ rs. map f (compiled (map row_view rs)))
+      (take_more rows i row inside ∙ ap (λ r. take i rows ++ r ∷ []) (sym is))
+      ∙ ap (λ ms. map f (compiled ms)) (map-append row_view (take i rows) (row ∷ []))
+      ∙ ap (map f)
+      (filter-append (λ (m : InputMessage). m.message.status.compiled) (map row_view (take i rows)) (row_view row ∷ []))
+      ∙ map-append f (compiled (map row_view (take i rows))) (compiled (row_view row ∷ []))
+
+  -- a row that is compiled
+  pub one_kept : row.status.compiled ≡ true
+      → map f (compiled (map row_view (take (i + 1) rows))) ≡ so_far ++ f (row_view row) ∷ []
+  one_kept kept = one_more ∙ ap (λ (b : Bool). so_far ++ map f (cond b (row_view row ∷ []) [])) kept
+
+  -- and one that isn't
+  pub one_omitted : row.status.compiled ≡ false → map f (compiled (map row_view (take (i + 1) rows))) ≡ so_far
+  one_omitted omitted =
+      one_more ∙ ap (λ (b : Bool). so_far ++ map f (cond b (row_view row ∷ []) [])) omitted ∙ append-nil so_far
