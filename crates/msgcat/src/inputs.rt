@@ -9,12 +9,14 @@ ghost use Rattle.po_entry.specs.TextEntry.{TextEntry};
 ghost use Rattle.po_entry.specs.Validity.{out_of_memory};
 ghost use Rattle.po_merge.specs.Inputs as merge;
 ghost use Rattle.po_reader.specs.Internal.Keeping.{IsTextError};
-ghost use Rattle.msgcat.specs.Internal.Inputs.{AddsEntries, AreReadUpTo, HoldInputs};
+ghost use Rattle.po_messages.specs.Duplicate.{HasNoDuplicate};
+ghost use Rattle.msgcat.specs.Internal.Inputs.{AddsEntries, AreNumberedInputs, AreReadUpTo, HoldInputs, IsFirstRepeating};
 ghost use Rattle.msgcat.specs.Msgcat.{AreReadAs, IsFileFault};
 ghost use Rattle.po_messages.specs.Places.{are_placed};
 ghost use Rattle.runs.specs.NamedFile.{named_files};
 
 use crate::entries::{Entries, EntryRow};
+use po_entry::Catalogue;
 use po_messages::{EntryPlace, duplicate_at, repeated_lines, split_at_most};
 use po_reader::{PIECE, next_catalogue};
 use po_syntax::{Pieces, PoError, PoFault};
@@ -73,6 +75,28 @@ pub(crate) struct NumberedEntries<'a> {
     pub(crate) count: usize,
 }
 
+/// Adds the entries of a piece of the text of an input of this name.
+fn add_piece<'a>(
+    entries: &mut Entries<'a>,
+    places: &mut Vec<EntryPlace>,
+    name: &'a str,
+    piece: &Catalogue,
+) -> Result<(), AllocError>
+    requires { Lacks 0 name.now }
+    ensures added { OnOk result (AddsEntries name.now piece.now entries.old entries.new) }
+    ensures places { OnOk result (places.new.items ≡ places.old.items ++ are_placed is_live piece.now) }
+{
+    for entry in piece.entries() {
+        let fields = entry.fields();
+        places.push(EntryPlace {
+            line: fields.line,
+            is_live: !fields.obsolete,
+        })?;
+        entries.add(name, entry)?;
+    }
+    Ok(())
+}
+
 /// Adds the entries of the text of an input of this name, up to its fault.
 fn add_text<'a>(
     alloc: Global,
@@ -92,14 +116,7 @@ fn add_text<'a>(
     let mut pieces = Pieces::of(text)?;
     while !pieces.are_over() {
         let piece = next_catalogue(alloc, &mut pieces, PIECE)?;
-        for entry in piece.entries() {
-            let fields = entry.fields();
-            places.push(EntryPlace {
-                line: fields.line,
-                is_live: !fields.obsolete,
-            })?;
-            entries.add(name, entry)?;
-        }
+        add_piece(entries, places, name, &piece)?;
     }
     Ok(())
 }
@@ -136,6 +153,36 @@ fn read_each<'a>(alloc: Global, inputs: &[(&'a str, &[u8])]) -> Result<ReadInput
     })
 }
 
+/// Looks for the first input in which a live entry repeats an earlier one, by the numbers of the
+/// messages of all. Refused with its first duplicate, and where an allocation failed.
+fn check_inputs<'a>(
+    alloc: Global,
+    inputs: &[ReadInput<'a>],
+    numbers: &[usize],
+) -> Result<(), FileFault<'a>>
+    requires { (read : List merge.Named) × (partial : List merge.NamedEntry)
+        × AreNumberedInputs read partial inputs.now numbers.now }
+    ensures distinct { OnOk result ((read : List merge.Named) (partial : List merge.NamedEntry)
+        → AreNumberedInputs read partial inputs.now numbers.now → All (λ input. HasNoDuplicate input.entries) read) }
+    ensures fault { IfErr result (λ fault. (read : List merge.Named) (partial : List merge.NamedEntry)
+        → AreNumberedInputs read partial inputs.now numbers.now
+        → (fault.error ≡ out_of_memory) ⊎ IsFirstRepeating read fault) }
+{
+    let mut seen = Vec::new(alloc);
+    let mut rest = numbers;
+    for (index, input) in inputs.iter().enumerate() {
+        let (own, after) = split_at_most(rest, input.places.len());
+        if let Some((first, later)) = repeated_lines(&mut seen, index + 1, own, &input.places)? {
+            return Err(FileFault {
+                name: input.name,
+                error: duplicate_at(first, later),
+            });
+        }
+        rest = after;
+    }
+    Ok(())
+}
+
 /// Reads inputs. Refused with the first fault of the first input that has one: its text's, or its
 /// first duplicate; and where an allocation failed.
 pub(crate) fn read_inputs<'a>(
@@ -148,32 +195,17 @@ pub(crate) fn read_inputs<'a>(
     ensures fault { IfErr result (λ fault. (fault.error ≡ out_of_memory)
         ⊎ IsFileFault (named_files inputs.now) fault.name.now fault.error) }
 {
-    let ReadInputs {
-        entries,
-        inputs: read,
-        fault,
-    } = read_each(alloc, inputs)?;
-    let Entries { text, rows, keys } = entries;
-    let (numbers, count) = keys.numbers(alloc)?;
-    let mut seen = Vec::new(alloc);
-    let mut rest = numbers.as_slice();
-    for (index, input) in read.iter().enumerate() {
-        let (own, after) = split_at_most(rest, input.places.len());
-        if let Some((first, later)) = repeated_lines(&mut seen, index + 1, own, &input.places)? {
-            return Err(FileFault {
-                name: input.name,
-                error: duplicate_at(first, later),
-            });
-        }
-        rest = after;
+    let read = read_each(alloc, inputs)?;
+    let (numbers, count) = read.entries.keys.numbers(alloc)?;
+    check_inputs(alloc, &read.inputs, &numbers)?;
+    if let Some(fault) = read.fault {
+        return Err(fault);
     }
-    match fault {
-        Some(fault) => Err(fault),
-        None => Ok(NumberedEntries {
-            text,
-            rows,
-            numbers,
-            count,
-        }),
-    }
+    let Entries { text, rows, .. } = read.entries;
+    Ok(NumberedEntries {
+        text,
+        rows,
+        numbers,
+        count,
+    })
 }

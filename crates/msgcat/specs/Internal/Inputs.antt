@@ -54,6 +54,12 @@ pub record AreReadUpTo (files : List NamedFile) (read : ReadInputs) : Type 0 whe
   pub known : AllZip IsReadInput inputs read.inputs.items
   pub end : MatchOption read.fault ((rest ≡ []) × (partial ≡ [])) (IsFaultOfFirst rest)
 
+-- these are the inputs that are read, before the partial entries of another, and the numbers of their messages
+pub record AreNumberedInputs (read : List Named) (partial : List NamedEntry) (inputs : List ReadInput)
+    (numbers : List ℕ) : Type 0 where
+  pub known : AllZip IsReadInput read inputs
+  pub numbers_are : numbers ≡ message_numbers (all_entries read ++ partial)
+
 -- the first input with a duplicate
 pub record IsFirstRepeating (inputs : List Named) (fault : FileFault) : Type 0 where
   pub before : List Named

@@ -1,11 +1,10 @@
-use Rattle.std.proofs.Common.{[], ◌++◌, ◌∙◌, ap, append-nil, append_assoc, subst, sym}
-use Rattle.std.proofs.lemmas.List.{map-append, take_all}
+use Rattle.std.proofs.Common.{[], ◌++◌, ◌∙◌, ap, append-nil, append_assoc, sym}
+use Rattle.std.proofs.lemmas.List.{map-append}
 use Rattle.std.proofs.lemmas.Result.{err_from_is_err_and}
 use Rattle.po_messages.specs.Joined.{is_live}
 use Rattle.po_entry.specs.Faults.IsReadFault.{in_text}
 use Rattle.po_reader.proofs.PieceReading.{read_all, read_more, read_none}
 use Rattle.po_messages.specs.Places.{are_placed, place_of}
-use Rattle.msgcat.specs.Internal.Inputs.{AddsEntries}
 use Rattle.msgcat.proofs.InputLemmas.{adds_more, adds_none}
 use Rattle.msgcat.proofs.inputs.add_text.Goals as goal
 
@@ -29,18 +28,13 @@ pub loop-pieces-preserved : goal.loop-pieces-preserved
 loop-pieces-preserved c =
     let done = c.loop-pieces.invariant in
     let piece = c.in_ok-piece.piece in
-    let whole = take_all c.loop-entry.entry-index c.entries-entry-items.result.now c.loop-entry-test.false
-    ∙ c.entries-entry-items.ensures.entries in
-    let adds = subst (λ l. AddsEntries c.args.name.now l c.loop-pieces.entries c.loop-entry.entries) whole
-    c.loop-entry.invariant.entries in
     record {
       before = done.before ++ piece;
       read = read_more piece done.read c.in_ok-piece.ensures.found c.in_ok-piece.ensures.faults;
       adds = adds_more c.args.name.now done.before piece c.args.entries.now c.loop-pieces.entries
-          c.loop-entry.entries done.adds adds;
+          c.add_piece.new.entries done.adds c.in_ok-add_piece.ensures.added;
       places =
-          c.loop-entry.invariant.places ∙ ap (λ l. c.loop-pieces.places.items ++ are_placed is_live l) whole
-          ∙ ap (λ l. l ++ are_placed is_live piece) done.places
+          c.in_ok-add_piece.ensures.places ∙ ap (λ l. l ++ are_placed is_live piece) done.places
           ∙ append_assoc c.args.places.now.items (are_placed is_live done.before) (are_placed is_live piece)
           ∙ ap (λ l. c.args.places.now.items ++ l) (sym (map-append (place_of is_live) done.before piece));
     }

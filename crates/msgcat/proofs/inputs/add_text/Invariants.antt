@@ -1,4 +1,4 @@
-use Rattle.std.proofs.Common.{◌≡◌, List, ◌++◌, length, take}
+use Rattle.std.proofs.Common.{◌≡◌, List, ◌++◌, length}
 use Rattle.po_entry.specs.TextEntry.{TextEntry}
 use Rattle.po_reader.specs.PieceRead.{IsReadSoFar}
 use Rattle.po_messages.specs.Joined.{is_live}
@@ -17,10 +17,3 @@ invariant-loop-pieces l = record {
 
 abbrev pub decreases-loop-pieces : goal.decreases-loop-pieces
 decreases-loop-pieces l = length l.pieces.lines
-
--- and those of the piece so far
-abbrev pub invariant-loop-entry : goal.invariant-loop-entry
-invariant-loop-entry l = record {
-  entries : AddsEntries l.name (take l.entry-index l.entry-items) l.initial.entries l.entries;
-  places : l.places.items ≡ l.initial.places.items ++ are_placed is_live (take l.entry-index l.entry-items);
-}
