@@ -1,6 +1,6 @@
 -- Lemmas on a whole run of envsubst.
 use Rattle.std.proofs.Common.{◌≡◌, ℕ, ◌+◌, ◌<◌, List, [], ◌++◌, length, take, Option, Some, None, refl, sym, ap, subst, ◌∙◌, append-nil, append_assoc, drop, take-append-drop, ◌≤◌, ◌-◌, arith, inl, inr, Result, Ok, Err, OnOk, OnErr}
-use Rattle.std.proofs.KnownBytes.{Appends-trans, Consumes-nil, Consumes-trans, Consumes-kept}
+use Rattle.std.proofs.KnownBytes.{Appends-nil, Appends-trans, Consumes-nil, Consumes-trans, Consumes-kept}
 use Rattle.std.proofs.Math.Seq.{take-add, take-append-add}
 use Rattle.std.proofs.lemmas.List.{take_all}
 use Rattle.std.specs.Io.KnownBytes.{Appends, Consumes, Keeps, IsAtEnd}
@@ -203,6 +203,18 @@ pub ends-within : (values : Values) (input left old new : Option (List ℕ)) (fa
 ends-within values input left old new ReadFault other p = absurd (other refl)
 ends-within values input left old new WriteFault other p = inl p
 ends-within values input left old new OutOfMemory other p = p
+
+-- nothing was read, and nothing written
+pub stops-unread : (values : Values) (input old : Option (List ℕ)) → StopsWithin values input input old old
+stops-unread values input old = record {
+  read = [];
+  reads = Consumes-nil input;
+  stops = record {
+    written = [];
+    appends = Appends-nil old;
+    prefix = λ rest. (substitution values rest, refl);
+  };
+}
 
 abbrev same_result : Result (Unit {0}) ToolFault → Result (Unit {0}) ToolFault → Type 0
 same_result r s = r ≡ s

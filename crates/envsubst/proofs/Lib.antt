@@ -1,5 +1,6 @@
 pub mod EnvsubstLemmas
 pub mod NameLemmas
+pub mod NameLines
 pub mod ReferenceLemmas
 pub mod StreamLemmas
 pub mod SubstitutionLemmas

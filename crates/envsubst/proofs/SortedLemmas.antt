@@ -1,7 +1,8 @@
 -- Variables and names that are sorted: the same values, found by binary search.
-use Rattle.std.proofs.Common.{◌≡◌, ◌∙◌, refl, sym, ap, ap₂, inl, inr, ℕ, zero, suc, ◌+◌, ◌<◌, ◌≤◌, Bool, true, false, not, ◌&&◌, cond, List, [], ◌∷◌, length, drop, map, filter, get_or, Option, Some, None, IsPermutation, subst, arith}
+use Rattle.std.proofs.Common.{◌≡◌, ◌∙◌, refl, sym, ap, ap₂, inl, inr, ℕ, zero, suc, ◌+◌, ◌<◌, ◌≤◌, Bool, true, false, not, ◌&&◌, cond, List, [], ◌∷◌, length, drop, map, filter, get_or, Option, Some, None, option_map, IsPermutation, subst, arith}
 use Rattle.std.proofs.Math.Path.{fun_ext}
 use Rattle.std.specs.Borrow.{Bor}
+use Rattle.std.specs.Global.{Vec}
 use Rattle.std.specs.List.{IsAllAdjacentAnswer, list_any}
 use Rattle.std.specs.List.Sorted.{IsStableBy, IsPartitionedBy, IsPartitionPoint, IsBinarySearchResult, IsSearchInRange, ties}
 use Rattle.std.specs.Ordering.{is_lt, is_eq, is_ge, ordering_index, ordering_reverse}
@@ -19,7 +20,7 @@ use Rattle.std.proofs.lemmas.List.Folds.{list_any_at, list_any_none}
 use Rattle.std.proofs.lemmas.List.Sorted.{searchable_from_sorted, list_any-IsPermutation}
 use Rattle.std.proofs.lemmas.Map.Text.{is_eq-slice_cmp}
 use Rattle.envsubst.specs.Internal.Sorted.{name_cmp, AreNamesSorted, AreVariablesSorted}
-use Rattle.envsubst.specs.Substitution.{value_of, is_replaced, values_of, pairs_in}
+use Rattle.envsubst.specs.Substitution.{value_of, is_replaced, names_given, values_of, pairs_in}
 use Rattle.envsubst.proofs.VariableLemmas.{value_of-next, list_any-map}
 
 abbrev pub Name : Type 0
@@ -185,6 +186,15 @@ same-names names sorted moved name =
     list_any-map (λ (n : Name). n.now) (λ n. bytes_eq n name) sorted
     ∙ sym (list_any-IsPermutation (λ (n : Name). bytes_eq n.now name) names sorted moved)
     ∙ sym (list_any-map (λ (n : Name). n.now) (λ n. bytes_eq n name) names)
+
+-- the names that a list holds, where there is one, are those that a slice of it holds
+pub given-names : (slice : Option (Bor (List Name))) (list : Option (Vec Name))
+    → option_map (λ names. names.now) slice ≡ option_map (λ names. names.items) list
+    → names_given slice ≡ option_map (λ names. map (λ n. n.now) names.items) list
+given-names None None is = refl
+given-names None (Some list) is = cc
+given-names (Some slice) None is = cc
+given-names (Some slice) (Some list) is = ap (option_map (map (λ (n : Name). n.now))) is
 
 -- variables with the same values and names that replace the same make references the same
 pub same-replacements : (vars sorted : List (List ℕ × List ℕ)) (only names : Option (List (List ℕ)))

@@ -1,7 +1,9 @@
 //! envsubst by its arguments.
-ghost use Rattle.std.specs.Prelude.{◌≡◌, ◌+◌, ◌^◌, ◌<◌, ◌≤◌, IfOk, map};
+ghost use Rattle.std.specs.Prelude.{◌≡◌, ◌+◌, ◌^◌, ◌<◌, ◌≤◌, IfOk, OnErr, Err, map, option_map};
+ghost use Rattle.std.specs.Option.{option_copied};
 ghost use Rattle.envsubst.specs.ByArguments.{RunsEnvsubst, WritesNames};
 ghost use Rattle.envsubst.specs.Failures.{ReadsFail, write_failures};
+ghost use Rattle.envsubst.specs.References.{names_in};
 ghost use Rattle.envsubst.specs.UsageView.{envsubst_arguments};
 
 use crate::arguments::EnvsubstArguments;
@@ -49,12 +51,21 @@ pub fn envsubst<S: EntrySource, R: ByteIn, W: ByteOut>(
     };
     let entries = source.read_entries(alloc)?;
     let variables = variables_in(alloc, entries.as_slice())?;
-    let Some(format) = format else {
-        return run_envsubst_in_blocks(alloc, reader, writer, variables.as_slice(), None);
-    };
-    let only = names(alloc, format.as_bytes())?;
-    let only = Some(only.as_slice());
+    let names = names_given(alloc, format)?;
+    let only = names.as_deref();
     run_envsubst_in_blocks(alloc, reader, writer, variables.as_slice(), only)
+}
+
+/// The names of the variables in a SHELL-FORMAT, where one is given.
+fn names_given(alloc: Global, format: Option<&str>) -> Result<Option<Vec<&[u8]>>, ToolFault>
+    ensures names { IfOk result (λ given. option_map (λ names. map (λ name. name.now) names.items) given
+        ≡ option_map names_in (option_copied format.entry)) }
+    ensures memory { OnErr result (result ≡ Err ToolFault.OutOfMemory) }
+{
+    match format {
+        Some(format) => Ok(Some(names(alloc, format.as_bytes())?)),
+        None => Ok(None),
+    }
 }
 
 /// Writes the names of the variables in a SHELL-FORMAT.

@@ -1,9 +1,9 @@
 //! Variables and names that are sorted, and so found by binary search.
-ghost use Rattle.std.specs.Prelude.{◌≡◌, ℕ, List, Some, map, true, IfOk};
+ghost use Rattle.std.specs.Prelude.{◌≡◌, ℕ, List, map, option_map, true, IfOk, IfSome};
 ghost use Rattle.std.specs.List.{list_any};
 ghost use Rattle.std.specs.Str.{bytes_eq};
 ghost use Rattle.envsubst.specs.Internal.Sorted.{AreNamesSorted, AreVariablesSorted};
-ghost use Rattle.envsubst.specs.Substitution.{is_replaced, pairs_in, value_of};
+ghost use Rattle.envsubst.specs.Substitution.{is_replaced, names_given, pairs_in, value_of};
 
 use std::alloc::{AllocError, Global};
 
@@ -22,19 +22,22 @@ pub(crate) fn sorted_variables<'a>(
     Ok(sorted)
 }
 
-/// The names in order.
+/// The names in order, where they are given.
 pub(crate) fn sorted_names<'a>(
     alloc: Global,
-    names: &[&'a [u8]],
-) -> Result<Vec<&'a [u8]>, AllocError>
-    ensures sorted { IfOk result (λ sorted. AreNamesSorted sorted.items) }
+    names: Option<&[&'a [u8]]>,
+) -> Result<Option<Vec<&'a [u8]>>, AllocError>
+    ensures sorted { IfOk result (λ sorted. IfSome sorted (λ names. AreNamesSorted names.items)) }
     ensures replaced { IfOk result (λ sorted. (name : List ℕ)
-        → is_replaced (Some (map (λ n. n.now) sorted.items)) name
-        ≡ is_replaced (Some (map (λ n. n.now) names.now)) name) }
+        → is_replaced (option_map (λ names. map (λ n. n.now) names.items) sorted) name
+        ≡ is_replaced (names_given names.entry) name) }
 {
+    let Some(names) = names else {
+        return Ok(None);
+    };
     let mut sorted = Vec::from_slice(alloc, names)?;
     sorted.sort_unstable_by(|a, b| a.cmp(b));
-    Ok(sorted)
+    Ok(Some(sorted))
 }
 
 /// The value of the first variable of that name, found by binary search; empty where there is none.

@@ -70,13 +70,10 @@ pub fn run_envsubst_in_blocks<R: ByteIn, W: ByteOut>(
     ensures write_failures { W.failures writer.new ≡ W.failures writer.old + write_failures result }
     ensures calls { R.calls reader.new ≤ R.calls reader.old + 2 ^ 32 }
 {
-    let block = Some(Vec::new(alloc));
     let vars = sorted_variables(alloc, vars)?;
-    let Some(names) = only else {
-        return substitute_all(reader, writer, vars.as_slice(), None, block);
-    };
-    let names = sorted_names(alloc, names)?;
-    let only = Some(names.as_slice());
+    let names = sorted_names(alloc, only)?;
+    let only = names.as_deref();
+    let block = Some(Vec::new(alloc));
     substitute_all(reader, writer, vars.as_slice(), only, block)
 }
 

@@ -1,8 +1,9 @@
-use Rattle.std.proofs.Common.{rules}
+use Rattle.std.proofs.Common.{rules, sym, ap, ◌∙◌}
 use Rattle.std.specs.Ordering.{is_lt}
 use Rattle.std.proofs.lemmas.Cmp.{nat_list_cmp_total}
 use Rattle.std.proofs.lemmas.List.Sorted.{answers_always, ranks_by}
 use Rattle.envsubst.specs.Internal.Sorted.{name_cmp}
+use Rattle.envsubst.specs.Substitution.{is_replaced, names_given}
 use Rattle.envsubst.proofs.SortedLemmas.{same-names}
 use Rattle.envsubst.proofs.sorted.sorted_names.Goals as goal
 
@@ -12,6 +13,7 @@ returns-clause-sorted c =
     (answers_always _ _ _ (λ f a r g h. search rules))
 
 pub returns-clause-replaced : goal.returns-clause-replaced
-returns-clause-replaced c =
+returns-clause-replaced c = λ name.
     let moved = c.sort_unstable_by.ensures.permutation in
-    same-names c.args.names.now _ (rw c.in_ok-sorted.ensures.items at moved)
+    same-names c.in-Some.names.now _ (rw c.in_ok-sorted.ensures.items at moved) name
+    ∙ sym (ap (λ only. is_replaced (names_given only) name) c.in-Some.is)

@@ -1,32 +1,32 @@
-use Rattle.std.proofs.Common.{Some, None, map, subst, sym, ap, ◌∙◌}
+use Rattle.std.proofs.Common.{subst, ap, ◌∙◌}
+use Rattle.std.proofs.lemmas.Result.{err_from_is_err_and}
 use Rattle.envsubst.specs.Envsubst.{EndsAs}
 use Rattle.envsubst.specs.Substitution.{value_of, is_replaced, names_given, pairs_in}
-use Rattle.envsubst.proofs.SortedLemmas.{same-replacements}
+use Rattle.envsubst.proofs.EnvsubstLemmas.{stops-unread}
+use Rattle.envsubst.proofs.SortedLemmas.{given-names, same-replacements}
 use Rattle.envsubst.proofs.whole_input.run_envsubst_in_blocks.Goals as goal
+
+pub returns-in_err-vars-clause-output : goal.returns-in_err-vars-clause-output
+returns-in_err-vars-clause-output g c =
+    let p = err_from_is_err_and c.from_residual.result c.from_residual.ensures.1 in
+    rw (p.1, p.2) (stops-unread _ _ _)
+
+pub returns-in_err-names-clause-output : goal.returns-in_err-names-clause-output
+returns-in_err-names-clause-output g c =
+    let p = err_from_is_err_and c.from_residual-in_err-names.result c.from_residual-in_err-names.ensures.1 in
+    rw (p.1, p.2) (stops-unread _ _ _)
 
 pub returns-clause-output : goal.returns-clause-output
 returns-clause-output g c =
+    let only = given-names c.as_deref-only.result c.in_ok-names.names c.as_deref-only.ensures.value in
     let same =
-    same-replacements (pairs_in c.args.vars.now) (pairs_in c.as_slice-3.result.now) (names_given c.args.only)
-    (Some (map (λ n. n.now) c.as_slice-2.result.now))
-    (λ name. ap (λ vars. value_of (pairs_in vars) name) c.as_slice-3.ensures.value ∙ c.in_ok-vars.ensures.values name)
-    (λ name.
-    ap (λ names. is_replaced (Some (map (λ n. n.now) names)) name) c.as_slice-2.ensures.value
-    ∙ c.in_ok-names.ensures.replaced name ∙ sym (ap (λ only. is_replaced (names_given only) name) c.in-Some.is)) in
+    same-replacements (pairs_in c.args.vars.now) (pairs_in c.as_slice.result.now) (names_given c.args.only)
+    (names_given c.as_deref-only.result)
+    (λ name. ap (λ vars. value_of (pairs_in vars) name) c.as_slice.ensures.value ∙ c.in_ok-vars.ensures.values name)
+    (λ name. ap (λ names. is_replaced names name) only ∙ c.in_ok-names.ensures.replaced name) in
     subst
     (λ values. EndsAs values (g.R.ByteIn.remaining c.args.reader.now)
-    (g.R.ByteIn.remaining c.substitute_all-2.new.reader)
+    (g.R.ByteIn.remaining c.substitute_all.new.reader)
     (g.W.ByteOut.contents c.args.writer.now)
-    (g.W.ByteOut.contents c.substitute_all-2.new.writer) c.substitute_all-2.result)
-    same c.substitute_all-2.ensures.output
-
-pub returns-in_default-clause-output : goal.returns-in_default-clause-output
-returns-in_default-clause-output g c =
-    let same =
-    same-replacements (pairs_in c.args.vars.now) (pairs_in c.as_slice.result.now) (names_given c.args.only) None
-    (λ name. ap (λ vars. value_of (pairs_in vars) name) c.as_slice.ensures.value ∙ c.in_ok-vars.ensures.values name)
-    (λ name. sym (ap (λ only. is_replaced (names_given only) name) c.in_default.is)) in
-    subst
-    (λ values. EndsAs values (g.R.ByteIn.remaining c.args.reader.now) (g.R.ByteIn.remaining c.substitute_all.new.reader)
-    (g.W.ByteOut.contents c.args.writer.now) (g.W.ByteOut.contents c.substitute_all.new.writer) c.substitute_all.result)
+    (g.W.ByteOut.contents c.substitute_all.new.writer) c.substitute_all.result)
     same c.substitute_all.ensures.output
