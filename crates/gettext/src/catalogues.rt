@@ -33,13 +33,16 @@ pub fn find_catalogues<S: InputSource + VariableSource>(
         (searching (S.variable source.old) S.file (S.asked source.old) (S.asked source.new))
         (given_domain (option_copied argument.entry) (option_copied option.entry)) (catalogue_files found.items)) }
 {
-    let environment = OwnedEnvironment::read(alloc, &*source)?;
-    let Ok(paths) = catalogue_paths(
-        alloc,
-        bytes_of(argument),
-        bytes_of(option),
-        &environment.borrowed(),
-    ) else {
+    let searched = {
+        let environment = OwnedEnvironment::read(alloc, &*source)?;
+        catalogue_paths(
+            alloc,
+            bytes_of(argument),
+            bytes_of(option),
+            &environment.borrowed(),
+        )
+    };
+    let Ok(paths) = searched else {
         return Err(AllocError);
     };
     read_catalogues(alloc, source, paths.as_slice())

@@ -29,9 +29,12 @@ pub fn run_gettext<S: InputSource + VariableSource, F: OutputFiles, O: ByteOut, 
         (given_domain (option_copied argument.entry) (option_copied domain.entry))
         (λ files run. IsGettextRun files (gettext_view options.now) run) system.old system.new result }
 {
-    let found = find_catalogues(alloc, source, argument, domain)?;
-    let borrowed = borrowed_catalogues(alloc, found.as_slice())?;
-    let Ok(run) = plan_gettext(alloc, borrowed.as_slice(), options) else {
+    let planned = {
+        let found = find_catalogues(alloc, source, argument, domain)?;
+        let borrowed = borrowed_catalogues(alloc, found.as_slice())?;
+        plan_gettext(alloc, borrowed.as_slice(), options)
+    };
+    let Ok(run) = planned else {
         return Err(ProgramFault::OutOfMemory);
     };
     system.write(alloc, &run, STANDARD)
@@ -52,9 +55,12 @@ pub fn run_ngettext<S: InputSource + VariableSource, F: OutputFiles, O: ByteOut,
         (given_domain (option_copied argument.entry) (option_copied domain.entry))
         (λ files run. IsNgettextRun files (ngettext_view options.now) run) system.old system.new result }
 {
-    let found = find_catalogues(alloc, source, argument, domain)?;
-    let borrowed = borrowed_catalogues(alloc, found.as_slice())?;
-    let Ok(run) = plan_ngettext(alloc, borrowed.as_slice(), options) else {
+    let planned = {
+        let found = find_catalogues(alloc, source, argument, domain)?;
+        let borrowed = borrowed_catalogues(alloc, found.as_slice())?;
+        plan_ngettext(alloc, borrowed.as_slice(), options)
+    };
+    let Ok(run) = planned else {
         return Err(ProgramFault::OutOfMemory);
     };
     system.write(alloc, &run, STANDARD)
