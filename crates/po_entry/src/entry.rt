@@ -157,21 +157,8 @@ impl Entry {
         ensures copy { IfOk result (λ e. e ≡ self.now) }
         ensures memory { IsOkUnless result out_of_memory }
     {
-        let fields = &self.fields;
-        let fields = Fields {
-            comments: fields.comments.copy(alloc)?,
-            extracted: fields.extracted.copy(alloc)?,
-            references: fields.references.copy(alloc)?,
-            fuzzy: fields.fuzzy,
-            flags: fields.flags.copy(alloc)?,
-            previous: fields.previous.copy(alloc)?,
-            context: copy_optional(alloc, fields.context.as_deref())?,
-            id: fields.id.as_slice().to_vec(alloc)?,
-            plural: copy_optional(alloc, fields.plural.as_deref())?,
-            forms: copy_texts(alloc, &fields.forms)?,
-            obsolete: fields.obsolete,
-            line: fields.line,
-        };
+        let mut fields = Fields::empty(alloc);
+        fields.copy_from(&self.fields, alloc)?;
         Ok(Entry { fields })
     }
 

@@ -1,7 +1,8 @@
 //! The fields of an entry, before they are checked, and copies of them, where memory can fail.
 
-ghost use Rattle.std.specs.Prelude.{◌≡◌, IfOk, option_copied, map, []};
-ghost use Rattle.po_entry.specs.TextEntry.{no_previous, optional_text, slice_texts, texts};
+ghost use Rattle.std.specs.Prelude.{◌≡◌, IfOk, OnOk, None, option_copied, map, []};
+ghost use Rattle.po_entry.specs.EntryView.{entry_view};
+ghost use Rattle.po_entry.specs.TextEntry.{no_previous, optional_text, plain_entry, slice_texts, texts};
 
 use crate::text_list::TextList;
 use std::alloc::{AllocError, Global};
@@ -82,6 +83,47 @@ pub struct Fields {
     pub obsolete: bool,
     /// The line of `msgid`, counted from 1; 0 where the entry has none.
     pub line: u32,
+}
+
+impl Fields {
+    /// Fields without a text, at line 0. Nothing is allocated.
+    pub(crate) fn empty(alloc: Global) -> Fields
+        ensures { entry_view result ≡ plain_entry None [] None [] }
+    {
+        Fields {
+            comments: TextList::new(alloc),
+            extracted: TextList::new(alloc),
+            references: TextList::new(alloc),
+            fuzzy: false,
+            flags: TextList::new(alloc),
+            previous: Previous::none(),
+            context: None,
+            id: Vec::new(alloc),
+            plural: None,
+            forms: Vec::new(alloc),
+            obsolete: false,
+            line: 0,
+        }
+    }
+
+    /// Copies each of the other fields; refused only where an allocation failed.
+    pub(crate) fn copy_from(&mut self, other: &Fields, alloc: Global) -> Result<(), AllocError>
+        ensures { OnOk result (entry_view self.new ≡ entry_view other.now) }
+    {
+        self.comments = other.comments.copy(alloc)?;
+        self.extracted = other.extracted.copy(alloc)?;
+        self.references = other.references.copy(alloc)?;
+        self.fuzzy = other.fuzzy;
+        self.flags = other.flags.copy(alloc)?;
+        self.previous = other.previous.copy(alloc)?;
+        self.context = copy_optional(alloc, other.context.as_deref())?;
+        self.id = other.id.as_slice().to_vec(alloc)?;
+        self.plural = copy_optional(alloc, other.plural.as_deref())?;
+        self.forms = copy_texts(alloc, &other.forms)?;
+        self.obsolete = other.obsolete;
+        self.line = other.line;
+        Ok(())
+    }
 }
 
 /// A copy of a text, where there is one; refused only where an allocation failed.
