@@ -104,17 +104,37 @@ pub(crate) fn take_head<'i>(
         previous: Previous::none(),
         flags: Vec::new(alloc),
     };
+    fill_head(alloc, rest, with_comments, &mut head)?;
+    Ok(head)
+}
+
+/// Fills a head that holds nothing, as `take_head` has it.
+fn fill_head<'i>(
+    alloc: Global,
+    rest: &mut Cursor<'i, '_>,
+    with_comments: bool,
+    head: &mut Head<'i>,
+) -> Result<(), PoError>
+    requires { HoldsHead head.old [] [] }
+    ensures found { OnOk result ((comment_texts : List CommentText) × (previous : List PreviousText)
+        × (above : ℕ) × HoldsHead head.new (kept_comments with_comments comment_texts) previous
+        × ((entries : List TextEntry) → comes (start entries) rest.old
+        ≡ comes (Between (InHead (after_head entries comment_texts previous) above)) rest.new)
+        × EndsHead above rest.new.items) }
+    ensures fewer { OnOk result (length rest.new.items ≤ length rest.old.items) }
+    ensures fault { IfErr result (λ e. (entries : List TextEntry) → Fails (start entries) rest.old e) }
+{
     let mut above = 0;
     loop {
         match rest.first() {
             Some(Item::Comment(kind, text, _)) => {
                 rest.advance();
-                add_comment(&mut head, with_comments, *kind, text)?;
+                add_comment(head, with_comments, *kind, text)?;
             }
             Some(Item::Word(keyword, marks, _)) => {
                 if !marks.previous {
                     if begins_body(*keyword) {
-                        return Ok(head);
+                        return Ok(());
                     }
                     return Err(rest.refusal(PoFault::BadOrder));
                 }
@@ -127,7 +147,7 @@ pub(crate) fn take_head<'i>(
                 above = rank(*keyword);
             }
             Some(Item::Str(..)) => return Err(rest.refusal(PoFault::BadOrder)),
-            None if above == 0 => return Ok(head),
+            None if above == 0 => return Ok(()),
             None => return Err(rest.refusal(PoFault::BadOrder)),
         }
     }
