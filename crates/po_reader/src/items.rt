@@ -1,6 +1,6 @@
 //! A catalogue from the items of a text. Before its texts are checked, an entry is a draft.
 
-ghost use Rattle.std.specs.Prelude.{◌≡◌, ◌<◌, ◌≤◌, ◌^◌, [], List, All, length, map, vec_len, true, IfOk, IfErr, IsUtf8, OnOk};
+ghost use Rattle.std.specs.Prelude.{◌≡◌, ◌≢◌, ◌<◌, ◌≤◌, ◌^◌, [], List, All, length, map, vec_len, true, IfOk, IfErr, IsUtf8, OnOk};
 ghost use Rattle.po_syntax.specs.ItemContents.{HoldsText, OfString};
 ghost use Rattle.po_syntax.specs.TextItem.{views};
 ghost use Rattle.po_entry.specs.Bytes.{Lacks};
@@ -9,7 +9,7 @@ ghost use Rattle.po_entry.specs.TextEntry.{quoted_texts};
 ghost use Rattle.po_entry.specs.Header.{HasAdmittedCharset};
 ghost use Rattle.po_entry.specs.TextEntry.{TextEntry};
 ghost use Rattle.po_entry.specs.Validity.{IsEntry, HasTexts, EntryTextFault};
-ghost use Rattle.po_entry.specs.Faults.{EntriesStop, IsStop, ItemsStop};
+ghost use Rattle.po_entry.specs.Faults.{CharsetFault, EntriesStop, IsStop, ItemsStop};
 ghost use Rattle.po_entry.specs.Viable.{last_line};
 ghost use Rattle.po_reader.specs.KeptComments.{kept_entry};
 ghost use Rattle.po_reader.specs.Internal.Keeping.{KeepsItems};
@@ -99,10 +99,25 @@ fn catalogue_of(alloc: Global, drafts: Vec<Fields>, are_utf8: bool) -> Result<Ca
 {
     check_drafts(&drafts, are_utf8)?;
     let mut catalogue = Catalogue::with_capacity(alloc, drafts.len())?;
+    push_drafts(&mut catalogue, drafts)?;
+    Ok(catalogue)
+}
+
+/// Pushes the entries of drafts whose texts were checked into a catalogue that is empty.
+fn push_drafts(catalogue: &mut Catalogue, drafts: Vec<Fields>) -> Result<(), PoError>
+    requires empty { catalogue.old ≡ [] }
+    requires texts { All (λ draft. HasTexts (entry_view draft)) drafts.items }
+    requires entries { All (λ draft. HasTexts (entry_view draft) → IsEntry (entry_view draft)) drafts.items }
+    ensures entries { OnOk result (catalogue.new ≡ map entry_view drafts.items) }
+    ensures charsets { OnOk result (All HasAdmittedCharset (map entry_view drafts.items)) }
+    ensures fault { IfErr result (λ e. e.kind ≢ PoFault.OutOfMemory
+        → EntriesStop HasAdmittedCharset CharsetFault (map entry_view drafts.items) e.kind e.line) }
+    ensures memory { IfErr result (λ e. e.kind ≡ PoFault.OutOfMemory → e.line ≡ 0) }
+{
     for draft in drafts {
         if let Err((_, error)) = catalogue.push(Entry::of(draft)) {
             return Err(error);
         }
     }
-    Ok(catalogue)
+    Ok(())
 }

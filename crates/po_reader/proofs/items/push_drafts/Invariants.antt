@@ -4,7 +4,7 @@ use Rattle.po_entry.specs.EntryView.{entry_view}
 use Rattle.po_entry.specs.Header.{HasAdmittedCharset}
 use Rattle.po_entry.specs.Faults.{EntriesStop, CharsetFault}
 use Rattle.po_syntax.specs.declared.fault.PoFault.{PoFault}
-use Rattle.po_reader.proofs.items.catalogue_of.Given as goal
+use Rattle.po_reader.proofs.items.push_drafts.Given as goal
 
 abbrev pub invariant-loop-draft : goal.invariant-loop-draft
 invariant-loop-draft l = record {
