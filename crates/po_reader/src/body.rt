@@ -188,19 +188,18 @@ pub(crate) fn take_body(
     ensures fewer { OnOk result (length rest.new.items < length rest.old.items) }
     ensures fault { IfErr result (λ e. (read : SoFar) (above : ℕ) → Fails (Between (InHead read above)) rest.old e) }
 {
+    let (context, obsolete) = take_context(alloc, rest)?;
+    let id = take_keyword_text(alloc, rest, Wanted::Id, obsolete)?;
+    let (plural, forms) = take_translation(alloc, rest, obsolete)?;
+    let fuzzy = has_fuzzy(&head.flags);
+    let others = others(alloc, &head.flags)?;
     let Head {
         comments,
         extracted,
         references,
-        flags,
         previous,
+        ..
     } = head;
-    let (context, obsolete) = take_context(alloc, rest)?;
-    let id = take_keyword_text(alloc, rest, Wanted::Id, obsolete)?;
-    let (plural, forms) = take_translation(alloc, rest, obsolete)?;
-    let fuzzy = has_fuzzy(&flags);
-    let others = others(alloc, &flags)?;
-    drop(flags);
     Ok(Fields {
         comments,
         extracted,
