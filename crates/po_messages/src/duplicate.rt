@@ -1,16 +1,16 @@
 //! The first message that is defined twice, in one catalogue or across several.
 
-ghost use Rattle.std.specs.Prelude.{◌≡◌, ◌<◌, ◌^◌, length, IfOk, MatchResult, IsOkUnless};
-ghost use Rattle.po_messages.specs.JoinedView.{input_entries};
+ghost use Rattle.std.specs.Prelude.{◌≡◌, ◌<◌, ◌^◌, [], length, IfOk, OnOk, MatchOption, MatchResult, IsOkUnless};
+ghost use Rattle.po_messages.specs.FirstOnes.{group_numbers};
+ghost use Rattle.po_messages.specs.JoinedView.{input_entries, input_entry};
 ghost use Rattle.po_messages.specs.Joined.{joined, joined_entries, entries_of, is_live};
-ghost use Rattle.po_messages.specs.Duplicate.{HasNoDuplicate, IsDuplicateFault, IsDuplicateFaultOf, join_out_of_memory};
-ghost use Rattle.po_messages.specs.Message.{entry_messages};
-ghost use Rattle.po_messages.specs.MessageView.{messages_of_keys};
+ghost use Rattle.po_messages.specs.Duplicate.{HasNoDuplicate, IsDuplicateFault, IsDuplicateFaultOf, IsFirstDuplicate, join_out_of_memory};
+ghost use Rattle.po_messages.specs.Message.{entry_messages, same_message};
 ghost use Rattle.po_messages.specs.Places.{are_placed};
 ghost use Rattle.po_entry.specs.Validity.{out_of_memory};
 
 use crate::joining::{InputEntry, add_entries, is_live, joined};
-use crate::message_index::{MessageKey, grouped, message_key};
+use crate::message_index::{grouped, message_key};
 use crate::repeats::{EntryPlace, duplicate_at, first_repeat};
 use po_entry::Catalogue;
 use po_syntax::PoError;
@@ -86,30 +86,46 @@ fn first_duplicate(alloc: Global, entries: &[InputEntry<'_>]) -> Result<(), Join
     ensures exact { MatchResult result (λ _. HasNoDuplicate (entries_of (input_entries entries.now)))
         (IsDuplicateFault (input_entries entries.now)) }
 {
-    let (keys, places) = keys_of(alloc, entries)?;
-    let (numbers, _) = grouped(alloc, &keys)?;
-    let mut seen = Vec::new(alloc);
-    let Some((first, later)) = first_repeat(&mut seen, 1, &numbers, &places)? else {
-        return Ok(());
-    };
-    Err(JoinError {
-        input: entries[later].input,
-        first_input: entries[first].input,
-        error: duplicate_at(places[first].line, places[later].line),
-    })
+    match first_pair(alloc, entries)? {
+        Some((first, later)) => Err(JoinError {
+            input: later.input,
+            first_input: first.input,
+            error: duplicate_at(first.entry.fields().line, later.entry.fields().line),
+        }),
+        None => Ok(()),
+    }
 }
 
-/// The keys of the entries' messages, and where the entries stand.
-fn keys_of<'a>(
+/// The earliest live entry that repeats an earlier live one, behind that one.
+fn first_pair<'a>(
     alloc: Global,
     entries: &[InputEntry<'a>],
-) -> Result<(Vec<MessageKey<'a>>, Vec<EntryPlace>), AllocError>
-    ensures keys { IfOk result (λ r. messages_of_keys r.0.items
-        ≡ entry_messages (entries_of (input_entries entries.now))) }
-    ensures places { IfOk result (λ r. r.1.items ≡ are_placed is_live (entries_of (input_entries entries.now))) }
+) -> Result<Option<(InputEntry<'a>, InputEntry<'a>)>, AllocError>
+    ensures { IfOk result (λ pair. MatchOption pair (HasNoDuplicate (entries_of (input_entries entries.now)))
+        (λ p. IsFirstDuplicate (input_entries entries.now) (input_entry p.0) (input_entry p.1))) }
+{
+    let mut places = Vec::with_capacity(alloc, entries.len())?;
+    let (numbers, _) = numbers_of(&mut places, alloc, entries)?;
+    let mut seen = Vec::new(alloc);
+    let Some((first, later)) = first_repeat(&mut seen, 1, &numbers, &places)? else {
+        return Ok(None);
+    };
+    Ok(Some((entries[first], entries[later])))
+}
+
+/// The numbers of the entries' messages, and how many of these there are. Adds to an empty list
+/// where the entries stand.
+fn numbers_of(
+    places: &mut Vec<EntryPlace>,
+    alloc: Global,
+    entries: &[InputEntry<'_>],
+) -> Result<(Vec<usize>, usize), AllocError>
+    requires { places.old.items ≡ [] }
+    ensures numbers { IfOk result (λ r. r.0.items
+        ≡ group_numbers same_message (entry_messages (entries_of (input_entries entries.now)))) }
+    ensures places { OnOk result (places.new.items ≡ are_placed is_live (entries_of (input_entries entries.now))) }
 {
     let mut keys = Vec::with_capacity(alloc, entries.len())?;
-    let mut places = Vec::with_capacity(alloc, entries.len())?;
     for member in entries {
         let entry = member.entry;
         keys.push(message_key(entry))?;
@@ -118,5 +134,5 @@ fn keys_of<'a>(
             is_live: is_live(entry),
         })?;
     }
-    Ok((keys, places))
+    grouped(alloc, &keys)
 }

@@ -1,6 +1,6 @@
 //! An index of entries by context and msgid.
 
-ghost use Rattle.std.specs.Prelude.{◌≡◌, IfOk, length};
+ghost use Rattle.std.specs.Prelude.{◌≡◌, [], IfOk, length};
 ghost use Rattle.po_messages.specs.FirstOnes.{first_ones, group_numbers};
 ghost use Rattle.po_messages.specs.Message.{entry_message, same_message};
 ghost use Rattle.po_messages.specs.MessageView.{message_of_key, messages_of_keys};
@@ -97,6 +97,19 @@ pub(crate) fn numbered(
     ensures count { IfOk result (λ r. r.1 ≡ length (first_ones same_message (messages_of_keys keys.now))) }
 {
     let mut index = IndexSet::with_capacity_and_hasher(alloc, keys.len(), hasher)?;
+    numbered_by(&mut index, alloc, keys)
+}
+
+/// Numbers the messages of keys by this index, which has none yet.
+fn numbered_by<'a>(
+    index: &mut IndexSet<MessageKey<'a>, Seeded>,
+    alloc: Global,
+    keys: &[MessageKey<'a>],
+) -> Result<(Vec<usize>, usize), AllocError>
+    requires { index.old.keys ≡ [] }
+    ensures numbers { IfOk result (λ r. r.0.items ≡ group_numbers same_message (messages_of_keys keys.now)) }
+    ensures count { IfOk result (λ r. r.1 ≡ length (first_ones same_message (messages_of_keys keys.now))) }
+{
     let mut numbers = Vec::with_capacity(alloc, keys.len())?;
     for key in keys {
         let (number, _) = index.insert_full(*key)?;

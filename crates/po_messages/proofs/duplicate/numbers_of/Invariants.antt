@@ -4,7 +4,7 @@ use Rattle.po_messages.specs.JoinedView.{input_entries}
 use Rattle.po_messages.specs.Message.{entry_messages}
 use Rattle.po_messages.specs.MessageView.{messages_of_keys}
 use Rattle.po_messages.specs.Places.{are_placed}
-use Rattle.po_messages.proofs.duplicate.keys_of.Given as goal
+use Rattle.po_messages.proofs.duplicate.numbers_of.Given as goal
 
 -- the keys and places of the entries so far
 abbrev pub invariant-loop-member : goal.invariant-loop-member

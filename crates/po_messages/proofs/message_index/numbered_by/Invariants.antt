@@ -1,6 +1,6 @@
 use Rattle.std.proofs.Common.{take}
 use Rattle.po_messages.proofs.MessageIndex.{AreNumbered}
-use Rattle.po_messages.proofs.message_index.numbered.Given as goal
+use Rattle.po_messages.proofs.message_index.numbered_by.Given as goal
 
 -- the keys so far are in the index, and numbered
 abbrev pub invariant-loop-key : goal.invariant-loop-key

@@ -4,7 +4,7 @@ use Rattle.po_messages.specs.FirstOnes.{first_ones, group_numbers}
 use Rattle.po_messages.specs.Message.{same_message}
 use Rattle.po_messages.specs.MessageView.{message_of_key, messages_of_keys}
 use Rattle.po_messages.proofs.MessageIndex.{firsts_more, numbers_more}
-use Rattle.po_messages.proofs.message_index.numbered.Goals as goal
+use Rattle.po_messages.proofs.message_index.numbered_by.Goals as goal
 
 pub loop-key-preserved : goal.loop-key-preserved
 loop-key-preserved c =
