@@ -1,8 +1,9 @@
 -- Bytes that are written as they are.
-use Rattle.std.proofs.Common.{◌≡◌, ◌==◌, ◌||◌, ℕ, zero, suc, ◌+◌, ◌<◌, ◌≤◌, Bool, true, false, cond, nat_lt, List, [], ◌∷◌, ◌++◌, length, get_or, take, arith, refl, sym, ap, ◌∙◌, subst}
+use Rattle.std.proofs.Common.{◌≡◌, ◌==◌, ◌||◌, ℕ, zero, suc, ◌+◌, ◌<◌, ◌≤◌, Bool, true, false, cond, nat_lt, List, [], ◌∷◌, ◌++◌, length, get_or, take, append-nil, arith, refl, sym, ap, ◌∙◌, subst}
 use Rattle.std.specs.List.{prefix_len}
 use Rattle.std.proofs.lemmas.Bool.{or_parts, not-true, ltb-false, ne_eqb}
-use Rattle.std.proofs.lemmas.List.{length_push, take_more}
+use Rattle.std.proofs.lemmas.Grind.{flat_map-append}
+use Rattle.std.proofs.lemmas.List.{length_push, nil_from_length, take_more}
 use Rattle.std.proofs.lemmas.List.Sums.{prefix_len_passes, prefix_len-le-length}
 use Rattle.po_syntax.specs.QuotedForm.{is_control, is_raw, written_byte, written_bytes}
 
@@ -63,3 +64,16 @@ raw_more xs i d below h raw =
     subst (λ (l : List ℕ). prefix_len is_raw l ≡ length l) (sym (take_more xs i d below))
     (raw_append (take i xs) (get_or xs i d ∷ []) h ∙ ap (λ (b : Bool). length (take i xs) + cond b 1 0) raw
     ∙ sym (length_push (take i xs) (get_or xs i d)))
+
+-- bytes that begin with a run of raw ones: what is written for them
+module _ (rest raw special : List ℕ) (parts : raw ++ special ≡ rest) (is_run : written_bytes raw ≡ raw) where
+  pub run_written : written_bytes rest ≡ raw ++ written_bytes special
+  run_written = ap written_bytes (sym parts) ∙ flat_map-append written_byte raw special
+      ∙ ap (λ l. l ++ written_bytes special) is_run
+
+  pub byte_after_run : (byte : ℕ) (after : List ℕ) → special ≡ byte ∷ after
+      → written_bytes rest ≡ raw ++ (written_byte byte ++ written_bytes after)
+  byte_after_run byte after is = run_written ∙ ap (λ l. raw ++ written_bytes l) is
+
+  pub run_alone : length special ≡ 0 → written_bytes rest ≡ raw
+  run_alone none = run_written ∙ ap (λ l. raw ++ written_bytes l) (nil_from_length special none) ∙ append-nil raw

@@ -105,6 +105,17 @@ fn ends_translation(items: &[Item<'_>]) -> bool
     count < items.len() && is_translation_word(&items[count - 1])
 }
 
+/// Whether there is a first item, and no entry goes on with it after its last string.
+fn begins_anew(items: &[Item<'_>]) -> bool
+    ensures { IsTrue result ↔ BeginsAnew (views items.now) }
+{
+    match items.first() {
+        Some(Item::Comment(..)) => true,
+        Some(Item::Word(keyword, ..)) => !matches!(keyword, Keyword::MsgStrAt(_)),
+        _ => false,
+    }
+}
+
 /// Whether an entry ends before the item of this index: after a translation, and before an item
 /// with which no entry goes on after its last string.
 fn ends_entry(items: &[Item<'_>], index: usize) -> bool
@@ -113,16 +124,7 @@ fn ends_entry(items: &[Item<'_>], index: usize) -> bool
         × BeginsAnew (drop index (views items.now))) }
 {
     let (before, after) = items.split_at(index);
-    match after.first() {
-        Some(
-            Item::Comment(..)
-            | Item::Word(
-                Keyword::MsgCtxt | Keyword::MsgId | Keyword::MsgIdPlural | Keyword::MsgStr,
-                ..
-            ),
-        ) => ends_translation(before),
-        _ => false,
-    }
+    begins_anew(after) && ends_translation(before)
 }
 
 impl<'a> Pieces<'a> {
@@ -191,18 +193,37 @@ impl<'a> Pieces<'a> {
         ensures unchanged { OnErr result (self.new ≡ self.old) }
     {
         let mut items = Vec::with_capacity(alloc, FIRST_ROOM)?;
+        *self = self.add_piece(alloc, size, &mut items)?;
+        Ok(items)
+    }
+
+    /// Adds the items of the next piece to an empty list, as `next` says. Returns what is left after
+    /// the piece.
+    fn add_piece(
+        &self,
+        alloc: Global,
+        size: usize,
+        items: &mut Vec<Item<'a>>,
+    ) -> Result<Pieces<'a>, PoError>
+        requires { items.old.items ≡ [] }
+        ensures of_text { AreOfText self.now }
+        ensures piece { IfOk result (λ left. IsPiece size self.now left (views items.new.items)) }
+        ensures lent { OnOk result (All LendsUtf8 items.new.items) }
+        ensures fault { IfErr result (λ e. e.kind ≢ PoFault.OutOfMemory → LeftStops self.now e.kind e.line) }
+        ensures memory { IfErr result (λ e. e.kind ≡ PoFault.OutOfMemory → e.line ≡ 0) }
+    {
         let mut rest = self.rest;
         let mut line = self.line;
         let mut len = 0;
         while let Some(text) = rest {
             let (first, after) = first_line(text);
             let count = items.len();
-            match add_line(alloc, &mut items, first, line) {
+            match add_line(alloc, items, first, line) {
                 Ok(()) => {}
                 Err(PoFault::OutOfMemory) => return Err(AllocError.into()),
                 Err(kind) => return Err(PoError { kind, line }),
             }
-            if len >= size && ends_entry(&items, count) {
+            if len >= size && ends_entry(items, count) {
                 items.truncate(count);
                 break;
             }
@@ -210,8 +231,7 @@ impl<'a> Pieces<'a> {
             line += 1;
             len += first.len() + 1;
         }
-        *self = Pieces { rest, line };
-        Ok(items)
+        Ok(Pieces { rest, line })
     }
 }
 
