@@ -82,12 +82,10 @@ one_tool_more tools tool old sub new so_far command adds = record {
   global = adds.globals ∙ ap (λ b. (out-Command old).has_globals || b) command.global ∙ or-false _ ∙ so_far.global;
 }
 
-pub next_tool : (tools : List Tool) (i : ℕ) (other : Tool) (old sub new : Command) → i < length tools
-    → OffersTools (take i tools) old
-    → IsToolCommand (get_or tools i other) sub → AddsSubcommand old sub new → OffersTools (take (i + 1) tools) new
-next_tool tools i other old sub new below so_far command adds =
-    rw (← take_more tools i other below) at
-    (one_tool_more (take i tools) (get_or tools i other) old sub new so_far command adds)
+-- the next of the tools that the program is to have
+pub next_tool : (tools : List Tool) (i : ℕ) (other : Tool) (new : Command) → i < length tools
+    → OffersTools (take i tools ++ get_or tools i other ∷ []) new → OffersTools (take (i + 1) tools) new
+next_tool tools i other new below offers = rw (← take_more tools i other below) at offers
 
 -- the names of what is offered
 names_of_shapes : (tools : List Tool) (shapes : List Shape) → AllZip IsToolShape tools shapes

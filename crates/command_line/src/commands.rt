@@ -1,8 +1,9 @@
 //! The arguments that each tool takes, as `clap` commands.
-ghost use Rattle.std.specs.Prelude.{◌≡◌, IfOk, false, map};
+ghost use Rattle.std.specs.Prelude.{◌≡◌, ◌++◌, ◌∷◌, [], IfOk, List, false, map};
 ghost use Rattle.clap.specs.Built.{subcommand_names};
 ghost use Rattle.clap.specs.Simple.{app_of, new_app};
 ghost use Rattle.clap.specs.Walk.{rule_of};
+ghost use Rattle.runs.specs.declared.tool.Tool.{Tool};
 ghost use Rattle.clap.specs.declared.builder.command.Command.TheViews.{out-Command};
 ghost use Rattle.command_line.specs.Arguments.{IsRuleOf, arguments_of};
 ghost use Rattle.command_line.specs.Internal.Kind.{argument_of};
@@ -208,9 +209,18 @@ fn with_tools<'a>(alloc: Global, tools: &[Tool]) -> Result<Command<'a>, AllocErr
         .disable_help_subcommand(true)
         .subcommand_required(true);
     for tool in tools {
-        program = program.subcommand(command_of(alloc, *tool)?)?;
+        program = with_tool(alloc, program, *tool)?;
     }
     Ok(program)
+}
+
+/// The command of the whole program with the command of one tool more.
+fn with_tool<'a>(alloc: Global, program: Command<'a>, tool: Tool) -> Result<Command<'a>, AllocError>
+    ensures { IfOk result (λ more. (tools : List Tool) → OffersTools tools program.entry
+        → OffersTools (tools ++ tool ∷ []) more) }
+{
+    let command = command_of(alloc, tool)?;
+    program.subcommand(command)
 }
 
 /// The command of a tool, with its options and arguments.
