@@ -36,15 +36,8 @@ impl<'r, R: Env + Files> EntrySource for System<'r, R> {
         let mut entries = Vec::new(alloc);
         for index in 0..usize::MAX {
             if index == FEW_ENTRIES {
-                match read_named(alloc, self.0, ENTRIES_FILE) {
-                    Ok(bytes) => {
-                        return bytes
-                            .split(|byte| *byte == 0)
-                            .map(|entry| Vec::from_slice(alloc, entry))
-                            .try_collect(alloc);
-                    }
-                    Err(InputFault::OutOfMemory) => return Err(AllocError),
-                    Err(InputFault::CannotOpen | InputFault::ReadFault) => {}
+                if let Some(all) = all_entries(alloc, self.0)? {
+                    return Ok(all);
                 }
             }
             match ask(alloc, |room| self.0.var_at(index, room))? {
@@ -53,6 +46,21 @@ impl<'r, R: Env + Files> EntrySource for System<'r, R> {
             }
         }
         Ok(entries)
+    }
+}
+
+/// The entries of the environment by the file that has them all, or `None` where it can't be read.
+fn all_entries(alloc: Global, rt: &impl Files) -> Result<Option<Vec<Vec<u8>>>, AllocError> {
+    match read_named(alloc, rt, ENTRIES_FILE) {
+        Ok(bytes) => {
+            let entries = bytes
+                .split(|byte| *byte == 0)
+                .map(|entry| Vec::from_slice(alloc, entry))
+                .try_collect(alloc)?;
+            Ok(Some(entries))
+        }
+        Err(InputFault::OutOfMemory) => Err(AllocError),
+        Err(InputFault::CannotOpen | InputFault::ReadFault) => Ok(None),
     }
 }
 

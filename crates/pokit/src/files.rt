@@ -213,15 +213,19 @@ fn owner_of(file: &File) -> Option<Owner> {
 /// The open stream of a number above those of the standard streams, opened anew to be written at its end,
 /// where it is open to be written. The library reaches no descriptor by its number.
 fn append_to(rt: &HostRuntime, number: u32) -> Option<File> {
-    let info = format!(in rt.alloc(); "/proc/self/fdinfo/{number}").ok()?;
-    let bytes = read_named(rt.alloc(), rt, &info).ok()?;
-    if !is_for_writing(&bytes) {
+    if !is_for_writing(&info_of(rt, number)?) {
         return None;
     }
     let path = format!(in rt.alloc(); "/proc/self/fd/{number}").ok()?;
     let mut options = OpenOptions::new();
     options.append(true);
     options.open(rt, path.as_str()).ok()
+}
+
+/// What the system tells of a descriptor.
+fn info_of(rt: &HostRuntime, number: u32) -> Option<Vec<u8>> {
+    let path = format!(in rt.alloc(); "/proc/self/fdinfo/{number}").ok()?;
+    read_named(rt.alloc(), rt, &path).ok()
 }
 
 /// Whether a descriptor is open to be written, by what the system tells of it: the last digit of its

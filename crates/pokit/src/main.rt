@@ -11,8 +11,8 @@ mod files;
 mod options;
 mod streams;
 
-use clap::Error;
 use clap::error::ErrorKind;
+use clap::{ArgMatches, Error};
 use command_line::Tool;
 use files::{System, SystemFiles};
 use options::Options;
@@ -34,32 +34,36 @@ fn run(rt: &HostRuntime) -> Result<Ending, ProgramFault<'static>> {
     let first = arguments
         .get(1)
         .and_then(|argument| Tool::of_name(*argument));
+    let Ok(command) = command_line::program(rt.alloc(), first) else {
+        return Ok(report_fault(rt, first, ProgramFault::OutOfMemory));
+    };
+    match command.try_get_matches_from(arguments.as_slice()) {
+        Ok(matches) => Ok(run_tool(rt, &matches)),
+        Err(error) => {
+            let ending = explain(rt, first, &error);
+            Ok(ending.unwrap_or_else(|fault| report_fault(rt, first, fault)))
+        }
+    }
+}
+
+/// Runs the tool that the arguments name.
+fn run_tool(rt: &HostRuntime, matches: &ArgMatches<'_>) -> Ending {
+    let Some((name, matches)) = matches.subcommand() else {
+        return Ending::Refused;
+    };
+    let Some(tool) = Tool::of_name(name) else {
+        return Ending::Refused;
+    };
     let mut reader = Counted::new(rt.reader());
     let mut system = OutputSystem {
         files: SystemFiles { rt, lacking: 0 },
         out: Counted::new(rt.stdout()),
         err: Counted::new(rt.stderr()),
     };
-    let Ok(command) = command_line::program(rt.alloc(), first) else {
-        return Ok(report_fault(rt, first, ProgramFault::OutOfMemory));
-    };
-    let matches = match command.try_get_matches_from(arguments.as_slice()) {
-        Ok(matches) => matches,
-        Err(error) => {
-            let ending = explain(rt, first, &error);
-            return Ok(ending.unwrap_or_else(|fault| report_fault(rt, first, fault)));
-        }
-    };
-    let Some((name, matches)) = matches.subcommand() else {
-        return Ok(Ending::Refused);
-    };
-    let Some(tool) = Tool::of_name(name) else {
-        return Ok(Ending::Refused);
-    };
     let (source, given) = (&mut System(rt), Options(matches));
     match po_tools::run(rt.alloc(), tool, source, &mut reader, &mut system, &given) {
-        Ok(status) => Ok(Ending::Ran(status)),
-        Err(fault) => Ok(report_fault(rt, Some(tool), fault)),
+        Ok(status) => Ending::Ran(status),
+        Err(fault) => report_fault(rt, Some(tool), fault),
     }
 }
 
