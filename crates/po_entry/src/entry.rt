@@ -3,7 +3,7 @@
 ghost use Rattle.std.specs.Prelude.{◌≡◌, ◌<◌, IfOk, IfErr, IsOkUnless, None, map, [], false, length, option_copied};
 ghost use Rattle.po_entry.specs.TextEntry.{texts, no_previous};
 ghost use Rattle.po_entry.specs.EntryView.{entry_view, borrowed_entry};
-ghost use Rattle.po_entry.specs.Equality.{texts_eq, optional_eq};
+ghost use Rattle.po_entry.specs.Equality.{bodies_eq, comments_eq, optional_eq, previous_eq, texts_eq};
 ghost use Rattle.po_entry.specs.Header.{is_header};
 ghost use Rattle.po_entry.specs.Validity.{IsEntry, RefusesMessage, out_of_memory};
 
@@ -17,9 +17,15 @@ use std::marker::Model;
 /// An entry of a catalogue: its comments, its texts, and whether it is fuzzy and obsolete (GNU
 /// gettext manual, "The Format of PO Files"). No text holds a NUL, all are UTF-8, and each part can
 /// be written so that it reads back.
-#[derive(Debug, Drop)]
+#[derive(Debug)]
 pub struct Entry {
     fields: Fields,
+}
+
+impl Drop for Entry {
+    fn drop(self) {
+        let Entry { fields: _ } = self;
+    }
 }
 
 impl Model for Entry {
@@ -311,20 +317,39 @@ impl PartialEq for Entry {
     /// Whether the entries are the same in all fields but the line.
     fn eq(&self, other: &Entry) -> bool {
         let (a, b) = (&self.fields, &other.fields);
-        same_lists(&a.comments, &b.comments)
-            && same_lists(&a.extracted, &b.extracted)
-            && same_lists(&a.references, &b.references)
-            && a.fuzzy == b.fuzzy
-            && same_lists(&a.flags, &b.flags)
-            && same_optional(a.previous.context.as_deref(), b.previous.context.as_deref())
-            && same_optional(a.previous.id.as_deref(), b.previous.id.as_deref())
-            && same_optional(a.previous.plural.as_deref(), b.previous.plural.as_deref())
-            && same_optional(a.context.as_deref(), b.context.as_deref())
-            && a.id == b.id
-            && same_optional(a.plural.as_deref(), b.plural.as_deref())
-            && same_texts(&a.forms, &b.forms)
-            && a.obsolete == b.obsolete
+        same_comments(a, b) && same_previous(&a.previous, &b.previous) && same_bodies(a, b)
     }
+}
+
+/// Whether two entries have the same comments, references and flags.
+fn same_comments(a: &Fields, b: &Fields) -> bool
+    ensures { result ≡ comments_eq (entry_view a.now) (entry_view b.now) }
+{
+    same_lists(&a.comments, &b.comments)
+        && same_lists(&a.extracted, &b.extracted)
+        && same_lists(&a.references, &b.references)
+        && a.fuzzy == b.fuzzy
+        && same_lists(&a.flags, &b.flags)
+}
+
+/// Whether two entries have the same previous texts.
+fn same_previous(a: &Previous, b: &Previous) -> bool
+    ensures { result ≡ previous_eq a.now b.now }
+{
+    same_optional(a.context.as_deref(), b.context.as_deref())
+        && same_optional(a.id.as_deref(), b.id.as_deref())
+        && same_optional(a.plural.as_deref(), b.plural.as_deref())
+}
+
+/// Whether two entries have the same texts, and are both live or both obsolete.
+fn same_bodies(a: &Fields, b: &Fields) -> bool
+    ensures { result ≡ bodies_eq (entry_view a.now) (entry_view b.now) }
+{
+    same_optional(a.context.as_deref(), b.context.as_deref())
+        && a.id == b.id
+        && same_optional(a.plural.as_deref(), b.plural.as_deref())
+        && same_texts(&a.forms, &b.forms)
+        && a.obsolete == b.obsolete
 }
 
 /// Whether two lists have the same texts in the same order.

@@ -17,11 +17,20 @@ const FIRST_LENGTHS: usize = 3;
 const FIRST_BYTES: usize = 40;
 
 /// A list of texts, one behind the other in one buffer: comments, references or flags.
-#[derive(Debug, Drop)]
+#[derive(Debug)]
 pub struct TextList {
     bytes: Vec<u8>,
     /// The length of each, in bytes.
     lengths: Vec<usize>,
+}
+
+impl Drop for TextList {
+    fn drop(self) {
+        let TextList {
+            bytes: _,
+            lengths: _,
+        } = self;
+    }
 }
 
 impl Model for TextList {
