@@ -22,12 +22,20 @@ struct KeySpans {
 }
 
 /// The messages of some entries.
-#[derive(Drop)]
 pub struct KeyBuffer {
     /// The context and the msgid of each, one behind the other.
     bytes: Vec<u8>,
     /// The lengths of these, in the same order.
     lengths: Vec<KeySpans>,
+}
+
+impl Drop for KeyBuffer {
+    fn drop(self) {
+        let KeyBuffer {
+            bytes: _,
+            lengths: _,
+        } = self;
+    }
 }
 
 impl Model for KeyBuffer {

@@ -193,13 +193,7 @@ pub(crate) fn take_body(
     let (plural, forms) = take_translation(alloc, rest, obsolete)?;
     let fuzzy = has_fuzzy(&head.flags);
     let others = others(alloc, &head.flags)?;
-    let Head {
-        comments,
-        extracted,
-        references,
-        previous,
-        ..
-    } = head;
+    let (comments, extracted, references, previous) = head.into_texts();
     Ok(Fields {
         comments,
         extracted,

@@ -17,7 +17,6 @@ use po_syntax::{CommentKind, Item, Keyword, PoError, PoFault};
 use std::alloc::{AllocError, Global};
 
 /// What stands before an entry's own lines.
-#[derive(Drop)]
 pub(crate) struct Head<'i> {
     pub(crate) comments: TextList,
     pub(crate) extracted: TextList,
@@ -25,6 +24,34 @@ pub(crate) struct Head<'i> {
     /// The flags with their repeats, `fuzzy` among them.
     pub(crate) flags: Vec<&'i [u8]>,
     pub(crate) previous: Previous,
+}
+
+impl Drop for Head<'_> {
+    fn drop(self) {
+        let Head {
+            comments: _,
+            extracted: _,
+            references: _,
+            flags: _,
+            previous: _,
+        } = self;
+    }
+}
+
+impl Head<'_> {
+    /// Its comments, extracted comments, references and previous texts.
+    pub(crate) fn into_texts(self) -> (TextList, TextList, TextList, Previous)
+        ensures { result ≡ (self.entry.comments, self.entry.extracted, self.entry.references, self.entry.previous) }
+    {
+        let Head {
+            comments,
+            extracted,
+            references,
+            previous,
+            flags: _,
+        } = self;
+        (comments, extracted, references, previous)
+    }
 }
 
 /// The rank of a keyword among the previous texts; 0 where it is none of theirs.

@@ -38,6 +38,7 @@ returns-clause-found c =
           let flags : c.in_ok-others.others ≡ flags_of comment_texts = c.in_ok-others.ensures
           ∙ ap (fold with_flag []) (ap slice_texts c.deref-2.ensures.value ∙ h.head_comments.flags) in
           rw (
+            c.into_texts-comments.ensures,
             h.head_comments.comments,
             h.head_comments.extracted,
             h.head_comments.references,
