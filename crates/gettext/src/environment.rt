@@ -17,7 +17,6 @@ pub trait VariableSource {
 }
 
 /// The values of the variables that choose a catalogue; an unset one is `None`.
-#[derive(Drop)]
 pub struct OwnedEnvironment {
     /// LC_ALL.
     pub lc_all: Option<Vec<u8>>,
@@ -31,6 +30,19 @@ pub struct OwnedEnvironment {
     pub textdomain: Option<Vec<u8>>,
     /// TEXTDOMAINDIR.
     pub textdomaindir: Option<Vec<u8>>,
+}
+
+impl Drop for OwnedEnvironment {
+    fn drop(self) {
+        let OwnedEnvironment {
+            lc_all: _,
+            lc_messages: _,
+            lang: _,
+            language: _,
+            textdomain: _,
+            textdomaindir: _,
+        } = self;
+    }
 }
 
 impl OwnedEnvironment {

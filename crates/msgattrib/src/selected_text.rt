@@ -21,7 +21,6 @@ use po_writer::TextParts;
 use std::alloc::{AllocError, Global};
 
 /// What is kept of the entries that have been read.
-#[derive(Drop)]
 pub(crate) struct Rows {
     /// Their messages.
     pub(crate) keys: KeyBuffer,
@@ -29,6 +28,16 @@ pub(crate) struct Rows {
     pub(crate) read: Vec<EntryPlace>,
     /// Where they stand, and which of them are live once they are selected: one that isn't kept is not.
     pub(crate) kept: Vec<EntryPlace>,
+}
+
+impl Drop for Rows {
+    fn drop(self) {
+        let Rows {
+            keys: _,
+            read: _,
+            kept: _,
+        } = self;
+    }
 }
 
 impl Rows {

@@ -1,6 +1,6 @@
 //! The entries of inputs, kept by their texts, which are written one behind the other, and by their
 //! messages.
-ghost use Rattle.std.specs.Prelude.{◌++◌, ◌∷◌, [], IfOk, List, OnOk};
+ghost use Rattle.std.specs.Prelude.{◌≡◌, ◌++◌, ◌∷◌, [], IfOk, List, OnOk};
 ghost use Rattle.po_entry.specs.Bytes.{Lacks};
 ghost use Rattle.po_entry.specs.Validity.{IsCatalogueEntry};
 ghost use Rattle.po_merge.specs.Inputs.{NamedEntry, named};
@@ -42,7 +42,6 @@ impl Member for EntryRow<'_> {
 }
 
 /// Entries of inputs, in their order.
-#[derive(Drop)]
 pub(crate) struct Entries<'a> {
     /// Their texts, each after an empty line.
     pub(crate) text: Vec<u8>,
@@ -50,6 +49,16 @@ pub(crate) struct Entries<'a> {
     pub(crate) rows: Vec<EntryRow<'a>>,
     /// Their messages.
     pub(crate) keys: KeyBuffer,
+}
+
+impl Drop for Entries<'_> {
+    fn drop(self) {
+        let Entries {
+            text: _,
+            rows: _,
+            keys: _,
+        } = self;
+    }
 }
 
 impl<'a> Entries<'a> {
@@ -79,5 +88,17 @@ impl<'a> Entries<'a> {
             is_header: entry.is_header(),
         })?;
         self.keys.add(entry)
+    }
+
+    /// Their texts and rows.
+    pub(crate) fn into_texts(self) -> (Vec<u8>, Vec<EntryRow<'a>>)
+        ensures { result ≡ (self.entry.text, self.entry.rows) }
+    {
+        let Entries {
+            text,
+            rows,
+            keys: _,
+        } = self;
+        (text, rows)
     }
 }

@@ -63,7 +63,6 @@ pub(crate) struct ReadInputs<'a> {
 }
 
 /// The entries of inputs in none of which a live entry repeats an earlier one.
-#[derive(Drop)]
 pub(crate) struct NumberedEntries<'a> {
     /// The texts of their entries, each after an empty line.
     pub(crate) text: Vec<u8>,
@@ -73,6 +72,17 @@ pub(crate) struct NumberedEntries<'a> {
     pub(crate) numbers: Vec<usize>,
     /// How many messages there are.
     pub(crate) count: usize,
+}
+
+impl Drop for NumberedEntries<'_> {
+    fn drop(self) {
+        let NumberedEntries {
+            text: _,
+            rows: _,
+            numbers: _,
+            count: _,
+        } = self;
+    }
 }
 
 /// Adds the entries of a piece of the text of an input of this name.
@@ -201,7 +211,7 @@ pub(crate) fn read_inputs<'a>(
     if let Some(fault) = read.fault {
         return Err(fault);
     }
-    let Entries { text, rows, .. } = read.entries;
+    let (text, rows) = read.entries.into_texts();
     Ok(NumberedEntries {
         text,
         rows,

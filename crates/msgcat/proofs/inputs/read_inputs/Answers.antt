@@ -72,8 +72,9 @@ returns-clause-read c =
       up_to.inputs,
       all_read (named_files c.args.inputs.now) c.in_ok-read.read up_to distinct none.0,
       record {
-        rows = subst (λ l. AreRows c.in_ok-read.read.entries.text.items l c.in_ok-read.read.entries.rows.items) whole
-            up_to.holds.rows;
+        rows = rw (c.into_texts-text.ensures) (subst
+            (λ l. AreRows c.in_ok-read.read.entries.text.items l c.in_ok-read.read.entries.rows.items) whole
+            up_to.holds.rows);
         numbers = numbers ∙ ap message_numbers whole;
         count = c.in_ok-numbers.ensures.count
             ∙ ap (λ l. length (first_ones same_message l))
