@@ -23,6 +23,7 @@ pub struct Entry {
 }
 
 impl Drop for Entry {
+    #[inline(always)]
     fn drop(self) {
         let Entry { fields: _ } = self;
     }

@@ -25,6 +25,7 @@ pub struct TextList {
 }
 
 impl Drop for TextList {
+    #[inline(always)]
     fn drop(self) {
         let TextList {
             bytes: _,

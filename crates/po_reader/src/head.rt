@@ -27,6 +27,7 @@ pub(crate) struct Head<'i> {
 }
 
 impl Drop for Head<'_> {
+    #[inline(always)]
     fn drop(self) {
         let Head {
             comments: _,
@@ -40,6 +41,7 @@ impl Drop for Head<'_> {
 
 impl Head<'_> {
     /// Its comments, extracted comments, references and previous texts.
+    #[inline(always)]
     pub(crate) fn into_texts(self) -> (TextList, TextList, TextList, Previous)
         ensures { result ≡ (self.entry.comments, self.entry.extracted, self.entry.references, self.entry.previous) }
     {
