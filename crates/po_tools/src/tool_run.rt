@@ -1,6 +1,8 @@
 //! Each tool as a whole, by what its command line gives.
-ghost use Rattle.std.specs.Prelude.{◌^◌, ◌<◌};
+ghost use Rattle.std.specs.Prelude.{◌^◌, ◌<◌, Option, List};
+ghost use Rattle.po_tools.specs.ToolRun.{ReaderView, RunsEnvsubstLine, RunsGettextLine, RunsNgettextLine};
 ghost use Rattle.po_tools.specs.ToolRun.{RunsTool, answers_of, line_of, reached, reader_of};
+ghost use Rattle.runs.specs.Inputs.{Asked};
 
 use envsubst::{EntrySource, EnvsubstArguments, envsubst};
 use gettext::{
@@ -67,22 +69,77 @@ where
             let output = given.text_of("output-file").unwrap_or(STANDARD);
             msgcat::run(alloc, source, system, inputs, output, &options)
         }
-        Tool::Gettext => {
-            let arguments = GettextArguments::given(given)?;
-            let options = gettext_options_of(given, arguments);
-            let domain = given.text_of("domain");
-            run_gettext(alloc, source, system, arguments.domain, domain, &options)
-        }
-        Tool::Ngettext => {
-            let arguments = NgettextArguments::given(given)?;
-            let options = ngettext_options_of(given, arguments);
-            let domain = given.text_of("domain");
-            run_ngettext(alloc, source, system, arguments.domain, domain, &options)
-        }
-        Tool::Envsubst => {
-            let arguments = EnvsubstArguments::given(given)?;
-            envsubst(alloc, &*source, reader, &mut system.out, arguments)?;
-            Ok(0)
-        }
+        Tool::Gettext => look_up(alloc, source, system, given),
+        Tool::Ngettext => look_up_plural(alloc, source, system, given),
+        Tool::Envsubst => substitute(alloc, &*source, reader, system, given),
     }
+}
+
+/// Runs gettext by its command line, or refuses one that fits none of its usages.
+fn look_up<'a, S, F: OutputFiles, O: ByteOut, E: ByteOut, A: Arguments>(
+    alloc: Global,
+    source: &mut S,
+    system: &mut OutputSystem<F, O, E>,
+    given: &'a A,
+) -> Result<u8, ProgramFault<'a>>
+where
+    S: InputSource + VariableSource + EntrySource,
+    requires out { system.old.out.failures < 2 ^ 63 }
+    requires err { system.old.err.failures < 2 ^ 63 }
+    ensures { (reader : ReaderView) → RunsGettextLine
+        (line_of (A.flag given.now) (A.text given.now) (A.texts given.now) (A.number given.now))
+        (answers_of S.file S.standard (S.variable source.old) (S.entries source.old))
+        (reached (S.asked source.old) reader system.old) (reached (S.asked source.new) reader system.new) result }
+{
+    let arguments = GettextArguments::given(given)?;
+    let options = gettext_options_of(given, arguments);
+    let domain = given.text_of("domain");
+    run_gettext(alloc, source, system, arguments.domain, domain, &options)
+}
+
+/// The same of ngettext.
+fn look_up_plural<'a, S, F: OutputFiles, O: ByteOut, E: ByteOut, A: Arguments>(
+    alloc: Global,
+    source: &mut S,
+    system: &mut OutputSystem<F, O, E>,
+    given: &'a A,
+) -> Result<u8, ProgramFault<'a>>
+where
+    S: InputSource + VariableSource + EntrySource,
+    requires out { system.old.out.failures < 2 ^ 63 }
+    requires err { system.old.err.failures < 2 ^ 63 }
+    ensures { (reader : ReaderView) → RunsNgettextLine
+        (line_of (A.flag given.now) (A.text given.now) (A.texts given.now) (A.number given.now))
+        (answers_of S.file S.standard (S.variable source.old) (S.entries source.old))
+        (reached (S.asked source.old) reader system.old) (reached (S.asked source.new) reader system.new) result }
+{
+    let arguments = NgettextArguments::given(given)?;
+    let options = ngettext_options_of(given, arguments);
+    let domain = given.text_of("domain");
+    run_ngettext(alloc, source, system, arguments.domain, domain, &options)
+}
+
+/// Runs envsubst by its command line, or refuses one that fits none of its usages.
+fn substitute<'a, S, R: ByteIn, F: OutputFiles, O: ByteOut, E: ByteOut, A: Arguments>(
+    alloc: Global,
+    source: &S,
+    reader: &mut R,
+    system: &mut OutputSystem<F, O, E>,
+    given: &'a A,
+) -> Result<u8, ProgramFault<'a>>
+where
+    S: InputSource + VariableSource + EntrySource,
+    requires calls { R.calls reader.old < 2 ^ 63 }
+    requires failures { R.failures reader.old < 2 ^ 63 }
+    requires out { system.old.out.failures < 2 ^ 63 }
+    ensures { (asked : Option (List Asked)) → RunsEnvsubstLine
+        (line_of (A.flag given.now) (A.text given.now) (A.texts given.now) (A.number given.now))
+        (answers_of S.file S.standard (S.variable source.now) (S.entries source.now))
+        (reached asked (reader_of (R.remaining reader.old) (R.calls reader.old) (R.failures reader.old)) system.old)
+        (reached asked (reader_of (R.remaining reader.new) (R.calls reader.new) (R.failures reader.new)) system.new)
+        result }
+{
+    let arguments = EnvsubstArguments::given(given)?;
+    envsubst(alloc, source, reader, &mut system.out, arguments)?;
+    Ok(0)
 }

@@ -1,10 +1,8 @@
-use Rattle.std.proofs.Common.{◌≡◌, ℕ, List, None, Some, Option, Err, Ok, ap, codes, refl, rules}
-use Rattle.std.proofs.lemmas.Result.{err_from_is_err_and}
+use Rattle.std.proofs.Common.{◌≡◌, ℕ, List, None, Some, Option, ap, codes, rules}
 use Rattle.std.specs.Borrow.{Bor}
 use Rattle.std.specs.Option.{option_copied, unwrap_or}
 use Rattle.msgfmt.specs.Options.{default_output}
 use Rattle.runs.specs.ArgumentValues.{IsTextOr}
-use Rattle.po_tools.specs.ToolRun.{no_envsubst, no_gettext, no_ngettext, runs_envsubst, runs_gettext, runs_ngettext}
 use Rattle.po_tools.proofs.tool_run.run.Goals as goal
 
 -- the text that is given, or another
@@ -52,77 +50,11 @@ returns-in-Msgcat g c =
     text_is _ _ c.text_of-in-Msgcat.result c.text_of-in-Msgcat.ensures c.unwrap_or-output-in-Msgcat.ensures in
     search (rules, output)
 
-pub returns-in_err-arguments-in-Gettext : goal.returns-in_err-arguments-in-Gettext
-returns-in_err-arguments-in-Gettext g c =
-    let p = err_from_is_err_and c.from_residual.result c.from_residual.ensures.1 in
-    let are = c.in_err-arguments-in-Gettext.ensures in
-    rw c.in-Gettext.is (no_gettext are.shell_is are.arguments_are
-    (record { none = are.taken.0; nothing = refl; fault = rw (p.1, p.2) (ap (λ fault. Err fault) are.taken.1) }))
+pub returns-in-Gettext : goal.returns-in-Gettext
+returns-in-Gettext g c = rw c.in-Gettext.is (c.look_up.ensures _)
 
-pub returns-in_ok-arguments-in-Gettext : goal.returns-in_ok-arguments-in-Gettext
-returns-in_ok-arguments-in-Gettext g c =
-    let are = c.in_ok-arguments-in-Gettext.ensures in
-    rw c.in-Gettext.is (runs_gettext are.shell_is are.arguments_are are.taken c.gettext_options_of-options.ensures
-    (record { domain = _; domain_is = c.text_of-domain.ensures; runs = c.run_gettext.ensures; unread = refl }))
+pub returns-in-Ngettext : goal.returns-in-Ngettext
+returns-in-Ngettext g c = rw c.in-Ngettext.is (c.look_up_plural.ensures _)
 
-pub returns-in_err-arguments-in-Ngettext : goal.returns-in_err-arguments-in-Ngettext
-returns-in_err-arguments-in-Ngettext g c =
-    let from = c.from_residual-in_err-arguments-in-Ngettext in
-    let p = err_from_is_err_and from.result from.ensures.1 in
-    let are = c.in_err-arguments-in-Ngettext.ensures in
-    rw c.in-Ngettext.is (no_ngettext are.arguments_are
-    (record { none = are.taken.0; nothing = refl; fault = rw (p.1, p.2) (ap (λ fault. Err fault) are.taken.1) }))
-
-pub returns-in_ok-arguments-in-Ngettext : goal.returns-in_ok-arguments-in-Ngettext
-returns-in_ok-arguments-in-Ngettext g c =
-    let are = c.in_ok-arguments-in-Ngettext.ensures in
-    rw c.in-Ngettext.is (runs_ngettext are.arguments_are are.taken c.ngettext_options_of-options.ensures
-    (record {
-      domain = _;
-      domain_is = c.text_of-domain-in-Ngettext.ensures;
-      runs = c.run_ngettext.ensures;
-      unread =
-          refl;
-    }))
-
-pub returns-in_err-arguments-in-Envsubst : goal.returns-in_err-arguments-in-Envsubst
-returns-in_err-arguments-in-Envsubst g c =
-    let from = c.from_residual-in_err-arguments-in-Envsubst in
-    let p = err_from_is_err_and from.result from.ensures.1 in
-    let are = c.in_err-arguments-in-Envsubst.ensures in
-    rw c.in-Envsubst.is (no_envsubst are.variables_is are.arguments_are
-    (record { none = are.taken.0; nothing = refl; fault = rw (p.1, p.2) (ap (λ fault. Err fault) are.taken.1) }))
-
-pub returns-in_err-envsubst-in-Envsubst : goal.returns-in_err-envsubst-in-Envsubst
-returns-in_err-envsubst-in-Envsubst g c =
-    let from = c.from_residual-in_err-envsubst-in-Envsubst in
-    let p = err_from_is_err_and from.result from.ensures.1 in
-    let are = c.in_ok-arguments-in-Envsubst.ensures in
-    let run = c.in_err-envsubst-in-Envsubst in
-    rw (c.in-Envsubst.is, ← c.system.view_is, p.1) (runs_envsubst are.variables_is are.arguments_are are.taken
-    (record {
-      outcome = Err run.field-0.0;
-      runs = run.ensures.output;
-      read_failures = run.ensures.read_failures;
-      write_failures = run.ensures.write_failures;
-      answer = p.2;
-      asks_nothing = refl;
-      files = refl;
-      err = refl;
-    }))
-
-pub returns-in_ok-envsubst-in-Envsubst : goal.returns-in_ok-envsubst-in-Envsubst
-returns-in_ok-envsubst-in-Envsubst g c =
-    let are = c.in_ok-arguments-in-Envsubst.ensures in
-    let run = c.in_ok-envsubst-in-Envsubst in
-    rw (c.in-Envsubst.is, ← c.system.view_is) (runs_envsubst are.variables_is are.arguments_are are.taken
-    (record {
-      outcome = Ok tt;
-      runs = run.ensures.output;
-      read_failures = run.ensures.read_failures;
-      write_failures = run.ensures.write_failures;
-      answer = refl;
-      asks_nothing = refl;
-      files = refl;
-      err = refl;
-    }))
+pub returns-in-Envsubst : goal.returns-in-Envsubst
+returns-in-Envsubst g c = rw c.in-Envsubst.is (c.substitute.ensures _)
