@@ -17,3 +17,12 @@ pub returns-clause-run : goal.returns-clause-run
 returns-clause-run g c =
     let run = rw (c.deref.ensures.value, c.shown_name.ensures) at c.in-Ok.ensures.run in
     runs_one c.in_ok-text.ensures.bytes run c.write.ensures
+
+pub returns-in_err-text-clause-asked : goal.returns-in_err-text-clause-asked
+returns-in_err-text-clause-asked g c = c.read_one.ensures.asked
+
+pub returns-in_default-clause-asked : goal.returns-in_default-clause-asked
+returns-in_default-clause-asked g c = c.read_one.ensures.asked
+
+pub returns-clause-asked : goal.returns-clause-asked
+returns-clause-asked g c = c.read_one.ensures.asked

@@ -42,3 +42,15 @@ returns-clause-run g c =
     (planned (named_inputs c.in_ok-inputs.inputs.texts.items) c.args.options.now (run_view c.in_ok-run.run')
     c.in_ok-inputs.inputs.fault (rw same at c.in_ok-run.ensures.whole) (rw same at c.in_ok-run.ensures.refused))
     c.write.ensures
+
+pub returns-in_err-inputs-clause-asked : goal.returns-in_err-inputs-clause-asked
+returns-in_err-inputs-clause-asked g c = c.read.ensures.asked
+
+pub returns-in_err-texts-clause-asked : goal.returns-in_err-texts-clause-asked
+returns-in_err-texts-clause-asked g c = c.read.ensures.asked
+
+pub returns-in_err-run-clause-asked : goal.returns-in_err-run-clause-asked
+returns-in_err-run-clause-asked g c = c.read.ensures.asked
+
+pub returns-clause-asked : goal.returns-clause-asked
+returns-clause-asked g c = c.read.ensures.asked
