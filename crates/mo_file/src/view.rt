@@ -1,6 +1,6 @@
 //! An MO file that has been checked, read where it lies.
 
-ghost use Rattle.std.specs.Prelude.{◌≡◌, ◌+◌, ◌-◌, ◌^◌, ◌<◌, ◌≤◌, List, Some, length, IfOk, IsOk, MatchResult, slice_get};
+ghost use Rattle.std.specs.Prelude.{◌≡◌, ◌+◌, ◌-◌, ◌^◌, ◌<◌, ◌≤◌, List, [], Some, length, IfOk, IsOk, MatchResult, slice_get};
 ghost use Rattle.std.specs.Option.{option_copied};
 ghost use Rattle.mo_file.specs.declared.byte_order.Order.{Order};
 ghost use Rattle.mo_file.specs.FileHeader.{HasMagicOf};
@@ -20,6 +20,13 @@ use crate::strings::{range_at, rest_at};
 use std::cmp::Ordering;
 use std::marker::Model;
 use std::ops::Range;
+
+/// A file without messages: the magic number, revision 0, no messages, two tables after the file header,
+/// and no hash table.
+const EMPTY_FILE: [u8; 28] = [
+    0xde, 0x12, 0x04, 0x95, 0, 0, 0, 0, 0, 0, 0, 0, 28, 0, 0, 0, 28, 0, 0, 0, 0, 0, 0, 0, 28, 0, 0,
+    0,
+];
 
 /// The messages of an MO file, read in place from its bytes ("The Format of GNU MO Files"). They
 /// stand in rising order of their keys.
@@ -102,6 +109,22 @@ impl<'a> MoView<'a> {
             Order::Big => FileHeader::of_words(Order::Big, bytes),
         };
         MoView { bytes, header }
+    }
+
+    /// The view of a file without messages, which is a file header alone.
+    #[inline(always)]
+    pub fn empty() -> MoView<'a>
+        ensures { result.messages ≡ [] }
+    {
+        MoView {
+            bytes: &EMPTY_FILE,
+            header: FileHeader {
+                order: Order::Little,
+                count: 0,
+                originals: 28,
+                translations: 28,
+            },
+        }
     }
 
     /// How many messages the file has.

@@ -1,0 +1,28 @@
+use Rattle.std.proofs.Common.{arith, refl, ℕ, ◌+◌, ◌<◌}
+use Rattle.mo_file.specs.Word.{word_at}
+use Rattle.mo_file.specs.StringTable.{messages_of}
+use Rattle.mo_file.proofs.view.MoView.empty.Goals as goal
+
+none_below : (i : ℕ) → i < 0 → ⊥
+none_below i under = omega (arith, under)
+
+pub invariant_of-result : goal.invariant_of-result
+unfolding word_at
+invariant_of-result c = record {
+  read = record {
+    long = omega (arith);
+    shows = refl;
+    known = omega (arith);
+    count = refl;
+    originals = refl;
+    translations = refl;
+    originals_inside = omega (arith);
+    translations_inside = omega (arith);
+  };
+  strings = record { inside = λ i under _. none_below i under; terminated = λ i under _. none_below i under };
+  sorted = λ i under _. none_below (i + 1) under;
+}
+
+pub returns : goal.returns
+unfolding messages_of word_at
+returns c = refl
