@@ -99,6 +99,21 @@ fn expressions(rt: HostRuntime) {
     }
 }
 
+#[test]
+fn a_rule_in_the_place_of_another(rt: HostRuntime) {
+    let mut rule = Rule::of_no_header();
+    assert!(rt; is_default(&rule, Reason::NoNumber));
+    for (text, forms, nodes, count, value, steps) in EXPRESSIONS {
+        rule.reparse(text.as_bytes());
+        let is_right = is_named(&rule, *forms)
+            && rule.nodes() == *nodes
+            && rule.eval(*count) == (*value, *steps);
+        assert!(rt; is_right, "{text} at {count}");
+    }
+    rule.reparse(b"");
+    assert!(rt; is_default(&rule, Reason::NoNumber));
+}
+
 /// The header text, the number of forms, and the value at 5.
 const FIELDS: &[(&str, u64, u64)] = &[
     ("nplurals=2; plural=18446744073709551615;", 2, u64::MAX),

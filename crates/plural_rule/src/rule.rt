@@ -1,5 +1,5 @@
 //! The rule of a header text.
-ghost use Rattle.std.specs.Prelude.{◌≡◌, ◌≤◌, length, take, MatchResult};
+ghost use Rattle.std.specs.Prelude.{◌≡◌, ◌≤◌, [], length, take, MatchResult};
 ghost use Rattle.plural_rule.specs.declared.rule.Reason.{Reason};
 ghost use Rattle.plural_rule.specs.Expression.{value, visited, nodes};
 ghost use Rattle.plural_rule.specs.PluralRule.{IsRuleOf, IsReason, default_rule, expression_limit, rule_in, program_in};
@@ -8,13 +8,34 @@ ghost use Rattle.plural_rule.specs.Internal.ParserState.{HoldsRule};
 
 use crate::evaluator::evaluate;
 use crate::instruction::Instruction;
-use crate::operator::Operator;
-use crate::parts::{Room, begin, push, push_numeral};
+use crate::parts::Room;
 use crate::{header, lexer, parser};
 use std::marker::Model;
 
 /// The most bytes that an expression may have, and so the most nodes.
 pub const EXPRESSION_LIMIT: usize = 4096;
+
+/// The program of `n != 1`.
+const DEFAULT_PROGRAM: [Instruction; 3] = [
+    Instruction {
+        kind: 0,
+        operator: 0,
+        count: 2,
+        number: 0,
+    },
+    Instruction {
+        kind: 1,
+        operator: 0,
+        count: 1,
+        number: 1,
+    },
+    Instruction {
+        kind: 4,
+        operator: 3,
+        count: 0,
+        number: 0,
+    },
+];
 
 /// Where a rule comes from.
 #[derive(Clone, Copy, Debug, PartialEq, Eq, Drop)]
@@ -87,6 +108,33 @@ impl Rule {
         let mut room = [Instruction::COUNT; EXPRESSION_LIMIT];
         let parsed = Rule::parse_into(header, &mut room);
         Rule { parsed, room }
+    }
+
+    /// The rule of an empty header text, which is the default one.
+    #[inline(always)]
+    pub fn of_no_header() -> Rule
+        ensures { IsRuleOf expression_limit [] result }
+    {
+        let mut room = [Instruction::default(); EXPRESSION_LIMIT];
+        room[0] = DEFAULT_PROGRAM[0];
+        room[1] = DEFAULT_PROGRAM[1];
+        room[2] = DEFAULT_PROGRAM[2];
+        Rule {
+            parsed: ParsedRule {
+                source: Source::Default(Reason::NoNumber),
+                nplurals: 2,
+                instruction_count: 3,
+            },
+            room,
+        }
+    }
+
+    /// Reads the rule of a header text, as [`Rule::parse`] does, in the place of this rule.
+    #[inline(always)]
+    pub fn reparse(&mut self, header: &[u8])
+        ensures { IsRuleOf expression_limit header.now self.new }
+    {
+        self.parsed = Rule::parse_into(header, &mut self.room);
     }
 
     /// The same with the program at the beginning of `room`, as [`evaluate`] takes it.
@@ -191,8 +239,5 @@ fn read(header: &[u8], room: &mut Room) -> Result<(u64, usize), Reason>
 fn write_default(room: &mut Room)
     ensures { (reason : Reason) → take 3 room.new ≡ program_of 0 (default_rule reason).tree }
 {
-    push(room, 0, Instruction::COUNT);
-    let len = push_numeral(room, 1, 1);
-    push(room, len, Instruction::binary(Operator::NotEqual));
-    begin(room, 3, 0);
+    room[..3].copy_from_slice(&DEFAULT_PROGRAM);
 }
