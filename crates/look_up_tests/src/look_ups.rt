@@ -75,6 +75,24 @@ fn one_message_or_none(rt: HostRuntime) {
     }
 }
 
+#[test]
+fn a_file_in_the_place_of_another(rt: HostRuntime) {
+    let mut catalog = Catalog::empty();
+    assert_eq!(rt; translation_of(&catalog, b"a"), None);
+    assert!(rt; catalog.reopen(&ONE, &mut Meter::new()).is_ok());
+    assert_eq!(rt; translation_of(&catalog, b"a"), Some(b"b" as &[u8]));
+    assert!(rt; catalog.reopen(&ONE[..27], &mut Meter::new()).is_err());
+    assert_eq!(rt; translation_of(&catalog, b"a"), Some(b"b" as &[u8]));
+    assert!(rt; catalog.reopen(&EMPTY, &mut Meter::new()).is_ok());
+    assert_eq!(rt; catalog.len(), 0);
+}
+
+/// The translation of a msgid without a context.
+fn translation_of<'a>(catalog: &Catalog<'a>, id: &'a [u8]) -> Option<&'a [u8]> {
+    let answer = catalog.look(None, id, None, &mut Meter::new());
+    answer.found.then_some(answer.text)
+}
+
 /// How many comparisons are allowed among so many keys.
 const BOUNDS: &[(usize, u32)] = &[(1, 1), (2, 2), (3, 2), (4, 3), (7, 3), (8, 4)];
 

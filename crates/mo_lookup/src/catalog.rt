@@ -1,6 +1,6 @@
 //! A catalogue: an MO file of any origin, and the plural rule of its header.
 
-ghost use Rattle.std.specs.Prelude.{◌≡◌, ◌+◌, ◌^◌, ◌<◌, ◌≤◌, List, length, MatchResult, IsOk, IfOk, false};
+ghost use Rattle.std.specs.Prelude.{◌≡◌, ◌+◌, ◌^◌, ◌<◌, ◌≤◌, List, [], length, MatchResult, IsOk, IfOk, OnOk, OnErr, false};
 ghost use Rattle.std.specs.Option.{option_copied};
 ghost use Rattle.plural_rule.specs.Expression.{nodes};
 ghost use Rattle.plural_rule.specs.PluralRule.{IsRuleOf, expression_limit};
@@ -66,6 +66,37 @@ impl<'a> Catalog<'a> {
             rule: Rule::parse(header),
             view,
         })
+    }
+
+    /// The catalogue of a file without messages.
+    #[inline(always)]
+    pub fn empty() -> Catalog<'a>
+        ensures messages { result.messages ≡ [] }
+        ensures view { IsCatalogView result.messages result.rule }
+    {
+        Catalog {
+            rule: Rule::of_no_header(),
+            view: MoView::empty(),
+        }
+    }
+
+    /// Opens bytes as [`Catalog::open`] does, in the place of this catalogue. Where they are refused, it
+    /// stays as it was.
+    #[inline(never)]
+    pub fn reopen(&mut self, bytes: &'a [u8], meter: &mut Meter) -> Result<(), MoError>
+        requires { meter.old < 2 ^ 63 }
+        ensures exact { MatchResult result (λ _. (order : Order) × IsMoFile order bytes.now self.new.messages)
+            (IsFirstFault bytes.now) }
+        ensures only { (order : Order) (messages : List Message) → IsMoFile order bytes.now messages → IsOk result }
+        ensures view { OnOk result (IsCatalogView self.new.messages self.new.rule) }
+        ensures unchanged { OnErr result (self.new ≡ self.old) }
+        ensures cost { MatchResult result (λ _. meter.new ≡ meter.old + length self.new.messages)
+            (λ fault. meter.new ≡ meter.old + comparisons_before fault) }
+    {
+        let (view, header) = checked(bytes, meter)?;
+        self.view = view;
+        self.rule.reparse(header);
+        Ok(())
     }
 
     /// How many messages the file has, its header entry among them.
