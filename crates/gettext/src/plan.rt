@@ -1,19 +1,20 @@
 //! What gettext and ngettext write: the answers of a chain of catalogues.
-ghost use Rattle.std.specs.Prelude.{◌≡◌, ◌^◌, ◌<◌, ◌≤◌, ◌++◌, None, Some, length, IfOk, OnOk, OnErr, Err};
+ghost use Rattle.std.specs.Prelude.{◌≡◌, ◌^◌, ◌<◌, ◌≤◌, ◌++◌, None, Some, length, IfOk, MatchOption, OnOk, OnErr, Err};
 ghost use Rattle.std.specs.List.{list_any};
 ghost use Rattle.std.specs.Option.{option_copied};
+ghost use Rattle.mo_file.specs.Fault.{IsFirstFault};
 ghost use Rattle.mo_lookup.specs.Chain.{chain_answered};
 ghost use Rattle.mo_lookup.specs.Query.{given};
 ghost use Rattle.runs.specs.Run.{run_view};
 ghost use Rattle.gettext.specs.Gettext as Spec;
 ghost use Rattle.gettext.specs.GettextView.{gettext_view, ngettext_view};
 ghost use Rattle.runs.specs.NamedFile.{named_files};
-ghost use Rattle.gettext.specs.Internal.OpensFile.{OpensFile};
+ghost use Rattle.gettext.specs.Internal.OpensFile.{Joins, OpensFile};
 
 use crate::catalogues::bytes_of;
 use crate::count::count_of;
 use crate::escape::expand;
-use mo_file::Meter;
+use mo_file::{Meter, MoError};
 use mo_lookup::{Catalog, Chain};
 use runs::{Run, ToolFault, push_location, push_mo_text};
 use std::alloc::{AllocError, Global};
@@ -58,8 +59,7 @@ struct Opened<'a> {
 }
 
 /// Opens one more file: a catalogue joins the chain, and any other file is reported by a line. A
-/// catalogue is large: only the stack frame of this function has one.
-#[inline(never)]
+/// catalogue is large, so it is opened where it stays.
 fn open_file<'a>(
     opened: &mut Opened<'a>,
     tool: &str,
@@ -68,18 +68,29 @@ fn open_file<'a>(
 ) -> Result<(), AllocError>
     ensures { OnOk result (OpensFile tool.now (record { name = name.now; bytes = bytes.now }) opened.old opened.new) }
 {
-    match Catalog::open(bytes, &mut Meter::new()) {
-        Ok(catalog) => {
-            opened.catalogs.push(catalog)?;
-            Ok(())
-        }
-        Err(fault) => {
+    match join(&mut opened.catalogs, bytes)? {
+        None => Ok(()),
+        Some(fault) => {
             push_location(&mut opened.messages, tool, name, 0)?;
             push_mo_text(&mut opened.messages, fault)?;
             opened.messages.extend_from_slice(b"\n")?;
             Ok(())
         }
     }
+}
+
+/// Opens a file, whose catalogue joins the others; or the fault for which it is refused.
+#[inline(never)]
+fn join<'a>(catalogs: &mut Vec<Catalog<'a>>, bytes: &'a [u8]) -> Result<Option<MoError>, AllocError>
+    ensures { IfOk result (λ fault. MatchOption fault (Joins bytes.now catalogs.old.items catalogs.new.items)
+        (λ fault. IsFirstFault bytes.now fault × (catalogs.new.items ≡ catalogs.old.items))) }
+{
+    let catalog = catalogs.push_mut(Catalog::empty())?;
+    let Err(fault) = catalog.reopen(bytes, &mut Meter::new()) else {
+        return Ok(None);
+    };
+    catalogs.truncate(catalogs.len() - 1);
+    Ok(Some(fault))
 }
 
 /// Opens each file, in order.

@@ -1,9 +1,19 @@
 -- Internal: a file is opened after others.
-use Rattle.std.specs.Prelude.{◌≡◌, ◌++◌, ◌∷◌, ℕ, List}
-use Rattle.mo_lookup.specs.CatalogView.{CatalogView}
+use Rattle.std.specs.Prelude.{◌≡◌, ◌++◌, ◌∷◌, [], ℕ, List}
+use Rattle.mo_file.specs.declared.byte_order.Order.{Order}
+use Rattle.mo_file.specs.MoFile.{IsMoFile}
+use Rattle.mo_lookup.specs.CatalogView.{CatalogView, IsCatalogView}
 use Rattle.gettext.specs.declared.plan.Opened.{Opened}
 use Rattle.gettext.specs.Gettext.{Opens}
 use Rattle.runs.specs.NamedFile.{NamedFile}
+
+-- the catalogue of these bytes joins others
+pub record Joins (bytes : List ℕ) (old new : List CatalogView) : Type 0 where
+  pub catalog : CatalogView
+  pub order : Order
+  pub is_file : IsMoFile order bytes catalog.messages
+  pub is_catalog : IsCatalogView catalog.messages catalog.rule
+  pub joined : new ≡ old ++ catalog ∷ []
 
 -- what it adds to the chain and to the lines goes before what further files add
 pub record OpensFile (tool : List ℕ) (file : NamedFile) (old new : Opened) : Type 0 where
