@@ -56,6 +56,16 @@ impl TextList {
         }
     }
 
+    /// No texts, with room for so many that have so many bytes in all.
+    pub fn with_capacity(alloc: Global, count: usize, bytes: usize) -> Result<TextList, AllocError>
+        ensures { IfOk result (λ list. list ≡ []) }
+    {
+        Ok(TextList {
+            bytes: Vec::with_capacity(alloc, bytes)?,
+            lengths: Vec::with_capacity(alloc, count)?,
+        })
+    }
+
     /// Whether there is no text.
     pub fn is_empty(&self) -> bool
         ensures { result ≡ (length self.now == 0) }

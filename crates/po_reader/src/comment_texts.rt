@@ -103,22 +103,32 @@ pub(crate) fn has_fuzzy(elements: &[&[u8]]) -> bool
     elements.iter().any(|flag| is_fuzzy_flag(flag))
 }
 
+/// How many bytes texts have in all.
+fn total_len(texts: &[&[u8]]) -> usize {
+    let mut total: usize = 0;
+    for text in texts {
+        total = total.saturating_add(text.len());
+    }
+    total
+}
+
 /// The flags other than `fuzzy`, each once, where it first stands. Most entries have no flag or one,
 /// and nothing is sorted then.
 pub(crate) fn others(alloc: Global, elements: &[&[u8]]) -> Result<TextList, AllocError>
     ensures { IfOk result (λ kept. kept ≡ fold with_flag [] (slice_texts elements.now)) }
 {
-    let mut kept = TextList::new(alloc);
     if elements.is_empty() {
-        return Ok(kept);
+        return Ok(TextList::new(alloc));
     }
     if let [flag] = elements {
+        let mut kept = TextList::new(alloc);
         if !is_fuzzy_flag(flag) {
             kept.push(flag)?;
         }
         return Ok(kept);
     }
     let repeats = repeats(alloc, elements)?;
+    let mut kept = TextList::with_capacity(alloc, elements.len(), total_len(elements))?;
     for (place, flag) in elements.iter().enumerate() {
         if is_fuzzy_flag(flag) {
             continue;
