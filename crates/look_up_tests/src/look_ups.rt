@@ -31,9 +31,10 @@ type Opened = (u32, u64, Source, &'static [Query]);
 /// isn't as it should be.
 fn first_wrong(bytes: &[u8], (count, most, source, queries): Opened) -> Option<usize> {
     let mut meter = Meter::new();
-    let Ok(catalog) = Catalog::open(bytes, &mut meter) else {
+    let mut catalog = Catalog::empty();
+    if catalog.reopen(bytes, &mut meter).is_err() {
         return Some(queries.len());
-    };
+    }
     if catalog.len() != count || meter.count() > most || catalog.rule().source() != source {
         return Some(queries.len());
     }
@@ -73,24 +74,6 @@ fn one_message_or_none(rt: HostRuntime) {
     for (bytes, opened) in LAID_OUT {
         assert_eq!(rt; first_wrong(bytes, *opened), None);
     }
-}
-
-#[test]
-fn a_file_in_the_place_of_another(rt: HostRuntime) {
-    let mut catalog = Catalog::empty();
-    assert_eq!(rt; translation_of(&catalog, b"a"), None);
-    assert!(rt; catalog.reopen(&ONE, &mut Meter::new()).is_ok());
-    assert_eq!(rt; translation_of(&catalog, b"a"), Some(b"b" as &[u8]));
-    assert!(rt; catalog.reopen(&ONE[..27], &mut Meter::new()).is_err());
-    assert_eq!(rt; translation_of(&catalog, b"a"), Some(b"b" as &[u8]));
-    assert!(rt; catalog.reopen(&EMPTY, &mut Meter::new()).is_ok());
-    assert_eq!(rt; catalog.len(), 0);
-}
-
-/// The translation of a msgid without a context.
-fn translation_of<'a>(catalog: &Catalog<'a>, id: &'a [u8]) -> Option<&'a [u8]> {
-    let answer = catalog.look(None, id, None, &mut Meter::new());
-    answer.found.then_some(answer.text)
 }
 
 /// How many comparisons are allowed among so many keys.

@@ -90,19 +90,7 @@ const EXPRESSIONS: &[(&str, u64, u32, u64, Option<u64>, u32)] = &[
 
 #[test]
 fn expressions(rt: HostRuntime) {
-    for (text, forms, nodes, count, value, steps) in EXPRESSIONS {
-        let rule = Rule::parse(text.as_bytes());
-        let is_right = is_named(&rule, *forms)
-            && rule.nodes() == *nodes
-            && rule.eval(*count) == (*value, *steps);
-        assert!(rt; is_right, "{text} at {count}");
-    }
-}
-
-#[test]
-fn a_rule_in_the_place_of_another(rt: HostRuntime) {
     let mut rule = Rule::of_no_header();
-    assert!(rt; is_default(&rule, Reason::NoNumber));
     for (text, forms, nodes, count, value, steps) in EXPRESSIONS {
         rule.reparse(text.as_bytes());
         let is_right = is_named(&rule, *forms)
@@ -110,8 +98,6 @@ fn a_rule_in_the_place_of_another(rt: HostRuntime) {
             && rule.eval(*count) == (*value, *steps);
         assert!(rt; is_right, "{text} at {count}");
     }
-    rule.reparse(b"");
-    assert!(rt; is_default(&rule, Reason::NoNumber));
 }
 
 /// The header text, the number of forms, and the value at 5.
