@@ -8,6 +8,7 @@ ghost use Rattle.mo_file.specs.MoFile.{IsMoFile};
 ghost use Rattle.mo_file.specs.FileView.{IsTranslationAt};
 ghost use Rattle.mo_file.specs.Fault.{IsFirstFault, comparisons_before};
 ghost use Rattle.mo_file.specs.Key.{AreRising, key_at, key_cmp, keys, query_key};
+ghost use Rattle.mo_file.specs.Layout.{layout};
 ghost use Rattle.mo_file.specs.Message.{Message, originals, translations};
 
 use crate::byte_order::Order;
@@ -21,8 +22,8 @@ use std::cmp::Ordering;
 use std::marker::Model;
 use std::ops::Range;
 
-/// A file without messages: the magic number, revision 0, no messages, two tables after the file header,
-/// and no hash table.
+/// A file without messages: the magic number, revision 0, no messages, two tables after the file
+/// header, and no hash table.
 const EMPTY_FILE: [u8; 28] = [
     0xde, 0x12, 0x04, 0x95, 0, 0, 0, 0, 0, 0, 0, 0, 28, 0, 0, 0, 28, 0, 0, 0, 0, 0, 0, 0, 28, 0, 0,
     0,
@@ -111,10 +112,12 @@ impl<'a> MoView<'a> {
         MoView { bytes, header }
     }
 
-    /// The view of a file without messages, which is a file header alone.
+    /// The view of a file without messages, as it is laid out: a file header alone, in little byte
+    /// order.
     #[inline(always)]
     pub fn empty() -> MoView<'a>
-        ensures { result.messages ≡ [] }
+        ensures messages { result.messages ≡ [] }
+        ensures bytes { result.bytes ≡ layout Order.Little [] }
     {
         MoView {
             bytes: &EMPTY_FILE,

@@ -1,5 +1,5 @@
 use Rattle.std.proofs.Common.{arith, refl, ℕ, ◌+◌, ◌<◌}
-use Rattle.mo_file.specs.Word.{word_at}
+use Rattle.mo_file.specs.Word.{word_at, word_bytes}
 use Rattle.mo_file.specs.StringTable.{messages_of}
 use Rattle.mo_file.proofs.view.MoView.empty.Goals as goal
 
@@ -23,6 +23,10 @@ invariant_of-result c = record {
   sorted = λ i under _. none_below (i + 1) under;
 }
 
-pub returns : goal.returns
+pub returns-clause-messages : goal.returns-clause-messages
 unfolding messages_of word_at
-returns c = refl
+returns-clause-messages c = refl
+
+pub returns-clause-bytes : goal.returns-clause-bytes
+unfolding word_bytes
+returns-clause-bytes c = refl
