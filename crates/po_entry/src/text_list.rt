@@ -1,48 +1,44 @@
 //! Lists of texts, each kept in one buffer.
 
-ghost use Rattle.std.specs.Prelude.{◌≡◌, ◌+◌, ◌≤◌, ◌==◌, ◌++◌, ◌∷◌, [], IfOk, OnErr, OnOk, length};
+ghost use Rattle.std.specs.Prelude.{◌≡◌, ◌+◌, ◌≤◌, ◌==◌, ◌++◌, ◌∷◌, [], IfOk, MatchOption, OnErr, OnOk, length};
 ghost use Rattle.std.specs.Iterator.{YieldsFirstBy, item_count};
 ghost use Rattle.std.specs.Vec.{vec_capacity, vec_len};
 ghost use Rattle.po_entry.specs.Equality.{texts_eq};
-ghost use Rattle.po_entry.specs.TextLists.{texts_left};
+ghost use Rattle.po_entry.specs.TextLists.{texts_in, texts_left};
 
+use byteorder::{ByteOrder, LittleEndian};
 use std::alloc::{AllocError, Global};
 use std::marker::Model;
 
-/// For how many texts there is room with the first: the smallest piece of memory holds so many
-/// lengths.
-const FIRST_LENGTHS: usize = 3;
+/// How many bytes the length of a text takes.
+const LENGTH_BYTES: usize = 8;
 
-/// For how many bytes there is room with the first text, where that is shorter: two references.
-const FIRST_BYTES: usize = 40;
+/// For how many bytes there is room with the first text, where that is shorter: two references with
+/// their lengths.
+const FIRST_BYTES: usize = 56;
 
-/// A list of texts, one behind the other in one buffer: comments, references or flags.
+/// A list of texts in one buffer, each behind its length: comments, references or flags.
 #[derive(Debug)]
 pub struct TextList {
     bytes: Vec<u8>,
-    /// The length of each, in bytes.
-    lengths: Vec<usize>,
 }
 
 impl Drop for TextList {
     #[inline(always)]
     fn drop(self) {
-        let TextList {
-            bytes: _,
-            lengths: _,
-        } = self;
+        let TextList { bytes: _ } = self;
     }
 }
 
 impl Model for TextList {
     ghost use Rattle.std.specs.Prelude.{List, ℕ};
-    ghost use Rattle.po_entry.specs.TextLists.{MakeUp, cut_texts};
+    ghost use Rattle.po_entry.specs.TextLists.{AreTexts, texts_in};
 
     ghost Value = { List (List ℕ) };
 
-    ghost view = { λ l. cut_texts l.lengths.items l.bytes.items };
+    ghost view = { λ l. texts_in l.bytes.items };
 
-    ghost invariant = { λ l. MakeUp l.lengths.items l.bytes.items };
+    ghost invariant = { λ l. AreTexts l.bytes.items };
 }
 
 impl TextList {
@@ -52,7 +48,6 @@ impl TextList {
     {
         TextList {
             bytes: Vec::new(alloc),
-            lengths: Vec::new(alloc),
         }
     }
 
@@ -60,9 +55,9 @@ impl TextList {
     pub fn with_capacity(alloc: Global, count: usize, bytes: usize) -> Result<TextList, AllocError>
         ensures { IfOk result (λ list. list ≡ []) }
     {
+        let lengths = count.saturating_mul(LENGTH_BYTES);
         Ok(TextList {
-            bytes: Vec::with_capacity(alloc, bytes)?,
-            lengths: Vec::with_capacity(alloc, count)?,
+            bytes: Vec::with_capacity(alloc, bytes.saturating_add(lengths))?,
         })
     }
 
@@ -70,7 +65,7 @@ impl TextList {
     pub fn is_empty(&self) -> bool
         ensures { result ≡ (length self.now == 0) }
     {
-        self.lengths.is_empty()
+        self.bytes.is_empty()
     }
 
     /// Adds a text at the end. Where an allocation failed, the list stays as it was.
@@ -78,10 +73,10 @@ impl TextList {
         ensures ok { OnOk result (self.new ≡ self.old ++ text.now ∷ []) }
         ensures unchanged { OnErr result (self.new ≡ self.old) }
     {
-        make_room(&mut self.lengths, 1, FIRST_LENGTHS)?;
-        make_room(&mut self.bytes, text.len(), FIRST_BYTES)?;
+        make_room(&mut self.bytes, LENGTH_BYTES + text.len())?;
+        let length = (text.len() as u64).to_le_bytes();
+        self.bytes.extend_from_slice(&length)?;
         self.bytes.extend_from_slice(text)?;
-        self.lengths.push_reserved(text.len());
         Ok(())
     }
 
@@ -89,10 +84,7 @@ impl TextList {
     pub fn iter(&self) -> TextListIter<'_>
         ensures { texts_left result ≡ self.now }
     {
-        TextListIter {
-            bytes: &self.bytes,
-            lengths: &self.lengths,
-        }
+        TextListIter { bytes: &self.bytes }
     }
 
     /// A copy of the list; refused only where an allocation failed.
@@ -101,21 +93,20 @@ impl TextList {
     {
         Ok(TextList {
             bytes: self.bytes.as_slice().to_vec(alloc)?,
-            lengths: self.lengths.as_slice().to_vec(alloc)?,
         })
     }
 }
 
-/// Makes room for so many more, and in an empty vector for `first` at least, but for no others: most
-/// lists have few texts.
-fn make_room<T>(vector: &mut Vec<T>, more: usize, first: usize) -> Result<(), AllocError>
-    ensures items { vector.new.items ≡ vector.old.items }
-    ensures room { OnOk result (vec_len vector.new + more ≤ vec_capacity vector.new) }
+/// Makes room for so many bytes more, and in an empty buffer for two references at least, but for no
+/// others: most lists have few texts.
+fn make_room(bytes: &mut Vec<u8>, more: usize) -> Result<(), AllocError>
+    ensures items { bytes.new.items ≡ bytes.old.items }
+    ensures room { OnOk result (vec_len bytes.new + more ≤ vec_capacity bytes.new) }
 {
-    if vector.is_empty() {
-        vector.reserve_exact(more.max(first))
+    if bytes.is_empty() {
+        bytes.reserve_exact(more.max(FIRST_BYTES))
     } else {
-        vector.reserve(more)
+        bytes.reserve(more)
     }
 }
 
@@ -123,14 +114,27 @@ fn make_room<T>(vector: &mut Vec<T>, more: usize, first: usize) -> Result<(), Al
 pub(crate) fn same_lists(a: &TextList, b: &TextList) -> bool
     ensures { result ≡ texts_eq a.now b.now }
 {
-    a.lengths == b.lengths && a.bytes == b.bytes
+    a.bytes == b.bytes
+}
+
+/// The first text of a buffer, and the bytes after it; none where no length stands there.
+#[tactic(auto, using(crate::proofs::TextListLemmas::texts_short))]
+fn first_text(bytes: &[u8]) -> Option<(&[u8], &[u8])>
+    ensures { MatchOption result (texts_in bytes.now ≡ [])
+        (λ p. texts_in bytes.now ≡ p.0.now ∷ texts_in p.1.now) }
+{
+    if bytes.len() < LENGTH_BYTES {
+        return None;
+    }
+    let length = LittleEndian::read_u64(bytes) as usize;
+    let (_, rest) = bytes.split_at(LENGTH_BYTES);
+    Some(rest.split_at(length.min(rest.len())))
 }
 
 /// The texts of a list, in order.
 #[derive(Drop)]
 pub struct TextListIter<'a> {
     bytes: &'a [u8],
-    lengths: &'a [usize],
 }
 
 impl<'a> Iterator for TextListIter<'a> {
@@ -141,10 +145,8 @@ impl<'a> Iterator for TextListIter<'a> {
     ghost remaining = { item_count texts_left };
 
     fn next(&mut self) -> Option<&'a [u8]> {
-        let (len, lengths) = self.lengths.split_first()?;
-        let (text, bytes) = self.bytes.split_at(self.bytes.len().min(*len));
-        self.bytes = bytes;
-        self.lengths = lengths;
+        let (text, rest) = first_text(self.bytes)?;
+        self.bytes = rest;
         Some(text)
     }
 }
