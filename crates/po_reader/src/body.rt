@@ -1,8 +1,9 @@
 //! The own lines of an entry: context, msgid, plural and forms.
 
-ghost use Rattle.std.specs.Prelude.{◌≡◌, ◌≢◌, ◌<◌, ◌≤◌, ◌^◌, [], ℕ, true, length, None, IfOk, IfErr, IfSome, OnOk, MatchOption};
+ghost use Rattle.std.specs.Prelude.{◌≡◌, ◌≢◌, ◌<◌, ◌≤◌, ◌^◌, ◌++◌, ◌∷◌, [], ℕ, true, length, None, IfOk, IfErr, IfSome, OnOk, MatchOption};
 ghost use Rattle.po_syntax.specs.TextItem.{Word};
 ghost use Rattle.po_entry.specs.TextEntry.{TextEntry, texts, optional_text};
+ghost use Rattle.po_entry.specs.declared.fields.Fields.{Fields};
 ghost use Rattle.po_reader.specs.Internal.ReaderView.{MakesEntry, wanted_view};
 ghost use Rattle.po_reader.specs.Internal.Stage.{SoFar, Between, Before, InHead, Stop, no_lines, with_own, with_entry, with_context, with_forms, with_translation};
 ghost use Rattle.po_reader.specs.Internal.Stage as stage;
@@ -173,17 +174,18 @@ fn take_context(
     Ok((None, obsolete))
 }
 
-/// Takes the own lines of an entry, which stand first, and gives the fields of the entry that has
-/// this head.
+/// Takes the own lines of an entry, which stand first, and adds the draft of the entry that has this
+/// head.
 pub(crate) fn take_body(
     alloc: Global,
     rest: &mut Cursor<'_, '_>,
     head: Head<'_>,
-) -> Result<Fields, PoError>
+    drafts: &mut Vec<Fields>,
+) -> Result<(), PoError>
     requires few { length rest.old.items < 2 ^ 32 }
     requires begins { begins_own rest.old.items ≡ true }
-    ensures found { IfOk result (λ fields. (own : TextEntry) × MakesEntry head.entry own fields
-        × ((read : SoFar) (above : ℕ) → comes (Between (InHead read above)) rest.old
+    ensures found { OnOk result ((own : TextEntry) × (draft : Fields) × MakesEntry head.entry own draft
+        × (drafts.new.items ≡ drafts.old.items ++ draft ∷ []) × ((read : SoFar) (above : ℕ) → comes (Between (InHead read above)) rest.old
         ≡ comes (Between (InHead (with_entry (with_own read own)) 0)) rest.new)) }
     ensures fewer { OnOk result (length rest.new.items < length rest.old.items) }
     ensures fault { IfErr result (λ e. (read : SoFar) (above : ℕ) → Fails (Between (InHead read above)) rest.old e) }
@@ -194,7 +196,7 @@ pub(crate) fn take_body(
     let fuzzy = has_fuzzy(&head.flags);
     let others = others(alloc, &head.flags)?;
     let (comments, extracted, references, previous) = head.into_texts();
-    Ok(Fields {
+    drafts.push(Fields {
         comments,
         extracted,
         references,
@@ -207,5 +209,6 @@ pub(crate) fn take_body(
         forms,
         obsolete,
         line: id.line,
-    })
+    })?;
+    Ok(())
 }

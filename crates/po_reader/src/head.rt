@@ -40,6 +40,20 @@ impl Drop for Head<'_> {
 }
 
 impl Head<'_> {
+    /// One that holds nothing.
+    #[inline(always)]
+    pub(crate) fn new(alloc: Global) -> Self
+        ensures { HoldsHead result [] [] }
+    {
+        Head {
+            comments: TextList::new(alloc),
+            extracted: TextList::new(alloc),
+            references: TextList::new(alloc),
+            previous: Previous::none(),
+            flags: Vec::new(alloc),
+        }
+    }
+
     /// Its comments, extracted comments, references and previous texts.
     #[inline(always)]
     pub(crate) fn into_texts(self) -> (TextList, TextList, TextList, Previous)
@@ -111,34 +125,9 @@ fn set_previous(previous: &mut Previous, keyword: Keyword, text: Vec<u8>)
     }
 }
 
-/// Takes what stands before an entry's own lines, or up to the end of the items: all of it, or
-/// without comments other than flags.
+/// Takes what stands before an entry's own lines, or up to the end of the items, into a head that
+/// holds nothing: all of it, or without comments other than flags.
 pub(crate) fn take_head<'i>(
-    alloc: Global,
-    rest: &mut Cursor<'i, '_>,
-    with_comments: bool,
-) -> Result<Head<'i>, PoError>
-    ensures found { IfOk result (λ head. (comment_texts : List CommentText) × (previous : List PreviousText)
-        × (above : ℕ) × HoldsHead head (kept_comments with_comments comment_texts) previous
-        × ((entries : List TextEntry) → comes (start entries) rest.old
-        ≡ comes (Between (InHead (after_head entries comment_texts previous) above)) rest.new)
-        × EndsHead above rest.new.items) }
-    ensures fewer { OnOk result (length rest.new.items ≤ length rest.old.items) }
-    ensures fault { IfErr result (λ e. (entries : List TextEntry) → Fails (start entries) rest.old e) }
-{
-    let mut head = Head {
-        comments: TextList::new(alloc),
-        extracted: TextList::new(alloc),
-        references: TextList::new(alloc),
-        previous: Previous::none(),
-        flags: Vec::new(alloc),
-    };
-    fill_head(alloc, rest, with_comments, &mut head)?;
-    Ok(head)
-}
-
-/// Fills a head that holds nothing, as `take_head` has it.
-fn fill_head<'i>(
     alloc: Global,
     rest: &mut Cursor<'i, '_>,
     with_comments: bool,

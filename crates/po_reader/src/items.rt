@@ -17,7 +17,7 @@ ghost use Rattle.po_reader.specs.Internal.Reads.{ChecksStop, Reads, start, Fails
 
 use crate::body::take_body;
 use crate::cursor::Cursor;
-use crate::head::take_head;
+use crate::head::{Head, take_head};
 use po_entry::{Catalogue, Entry, Fields, check_read_texts};
 use po_syntax::{Item, PoError, PoFault};
 use std::alloc::Global;
@@ -58,11 +58,12 @@ fn drafts_of(alloc: Global, items: &[Item<'_>], with_comments: bool) -> Result<V
     let mut drafts = Vec::with_capacity(alloc, items.len() / LEAST_ITEMS)?;
     let mut rest = Cursor::of(items);
     loop {
-        let head = take_head(alloc, &mut rest, with_comments)?;
+        let mut head = Head::new(alloc);
+        take_head(alloc, &mut rest, with_comments, &mut head)?;
         if rest.is_empty() {
             return Ok(drafts);
         }
-        drafts.push(take_body(alloc, &mut rest, head)?)?;
+        take_body(alloc, &mut rest, head, &mut drafts)?;
     }
 }
 

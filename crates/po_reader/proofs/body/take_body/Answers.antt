@@ -31,6 +31,7 @@ returns-clause-found c =
     let first : TextEntry = with_context (no_lines c.in_ok-context.obsolete) (optional_text c.in_ok-context.context) in
     let own = with_text MsgId c.in_ok-id.id.text.items (with_keyword MsgId c.in_ok-id.id.line first) in (
       record own { plural = optional_text c.in_ok-plural.plural; forms = texts c.in_ok-plural.forms.items },
+      _,
       λ comment_texts previous h.
           let fuzzy : c.has_fuzzy-fuzzy.result ≡ fuzzy_of comment_texts =
           c.has_fuzzy-fuzzy.ensures ∙ list_any-slices is_fuzzy_flag c.deref.result.now
@@ -46,6 +47,7 @@ returns-clause-found c =
             flags,
             h.texts,
           ) refl,
+      c.in_ok-push.ensures.items,
       λ read above. c.in_ok-context.ensures.found read above
           ∙ rw (id_wanted c.in_ok-id.id.keyword c.in_ok-id.ensures.wanted) at
           (c.in_ok-id.ensures.found (with_own read first) refl)

@@ -1,11 +1,104 @@
-use Rattle.po_reader.proofs.Heads.{holds_nothing}
+use Rattle.std.proofs.Common.{refl, sym, ap, ◌++◌, ◌∷◌, [], ◌∙◌, false, arith}
+use Rattle.std.proofs.lemmas.Bool.{le-ltb, lt-ltb}
+use Rattle.po_entry.specs.EntryParts.{CommentText, PreviousText}
+use Rattle.po_reader.specs.Internal.Stage.{after_head, Between, In, InHead}
+use Rattle.po_reader.specs.Internal.Reads.{comes}
+use Rattle.po_reader.specs.KeptComments.{kept_comments}
 use Rattle.po_reader.proofs.Results.{passed_on}
+use Rattle.po_reader.proofs.Heads.{holds_previous, kept_nothing}
+use Rattle.po_reader.proofs.Turns.{fails_from, first_refused, out_of_order, previous_closed, taken}
 use Rattle.po_reader.proofs.head.take_head.Goals as goal
 
-pub fill_head-requires : goal.fill_head-requires
-fill_head-requires c =
-    holds_nothing _ c.new.ensures c.new-2.ensures c.new-3.ensures c.new-4.ensures.items c.none.ensures
+pub loop-kind-init : goal.loop-kind-init
+loop-kind-init c = record {
+  reads = ([], [], rw (kept_nothing c.args.with_comments) c.requires, λ entries. refl);
+  fewer = omega arith;
+}
 
-pub returns-in_err-fill_head-clause-fault : goal.returns-in_err-fill_head-clause-fault
-returns-in_err-fill_head-clause-fault c =
-    passed_on c.from_residual.result _ c.from_residual.ensures.1 c.in_err-fill_head.ensures.fault
+pub loop-kind-preserved-in-Continue-1 : goal.loop-kind-preserved-in-Continue-1
+loop-kind-preserved-in-Continue-1 c =
+    let reads = c.loop-kind.invariant.reads in
+    let first = rw c.in-Some-Comment.field-0-is at c.in-Some-Comment.ensures in
+    let text : CommentText = record { kind = c.in-Some-Comment.kind; text = c.in-Some-Comment.text.now } in
+    record {
+      reads = (
+        reads.0 ++ text ∷ [],
+        reads.1,
+        record {
+          head_comments = c.in_ok-add_comment-in-Some-Comment.ensures.comment_texts reads.0 reads.2.head_comments;
+          texts = c.in_ok-add_comment-in-Some-Comment.ensures.previous ∙ reads.2.texts;
+        },
+        λ entries. rw c.advance.ensures.rest (reads.3 entries
+            ∙ taken _ _ _ _ first (Between (InHead (after_head entries reads.0 reads.1) c.loop-kind.above)) _ refl),
+      );
+      fewer = omega (arith, c.advance.ensures.fewer, c.loop-kind.invariant.fewer);
+    }
+
+pub returns-then-not-marks-clause-fault : goal.returns-then-not-marks-clause-fault
+returns-then-not-marks-clause-fault c = λ entries.
+    let reads = c.loop-kind.invariant.reads in
+    let first = rw c.in-Some-Word.field-0-is at c.in-Some-Word.ensures in
+    out_of_order _ (reads.3 entries) c.refusal.ensures (first_refused _ _ _ _ _ first
+    (Between (InHead (after_head entries reads.0 reads.1) c.loop-kind.above))
+    (rw (c.if-not-marks.true, sym c.begins_body.ensures ∙ c.if-begins_body.false) refl))
+
+pub returns-then-rank-above-clause-fault : goal.returns-then-rank-above-clause-fault
+returns-then-rank-above-clause-fault c = λ entries.
+    let reads = c.loop-kind.invariant.reads in
+    let first = rw c.in-Some-Word.field-0-is at c.in-Some-Word.ensures in
+    out_of_order _ (reads.3 entries) c.refusal-then-rank-above.ensures (first_refused _ _ _ _ _ first
+    (Between (InHead (after_head entries reads.0 reads.1) c.loop-kind.above))
+    (rw (c.if-not-marks.false, le-ltb _ _ (rw c.rank.ensures at c.if-rank-above.true)) refl))
+
+pub returns-in_err-text-in-Some-Word-clause-fault : goal.returns-in_err-text-in-Some-Word-clause-fault
+returns-in_err-text-in-Some-Word-clause-fault c =
+    let reads = c.loop-kind.invariant.reads in
+    let first = rw c.in-Some-Word.field-0-is at c.in-Some-Word.ensures in
+    let above = rw c.rank.ensures at c.if-rank-above.false in
+    passed_on c.from_residual-in_err-text-in-Some-Word.result _ c.from_residual-in_err-text-in-Some-Word.ensures.1
+    (λ entries.
+    let read = after_head entries reads.0 reads.1 in
+    fails_from (reads.3 entries ∙ taken _ _ _ _ first (Between (InHead read c.loop-kind.above))
+    (In read c.in-Some-Word.keyword c.in-Some-Word.marks false [])
+    (rw (c.if-not-marks.false, lt-ltb _ _ above) refl))
+    (rw c.advance-in-Some-Word.ensures.rest at
+    (c.in_err-text-in-Some-Word.ensures.fault read c.in-Some-Word.keyword)))
+
+pub loop-kind-preserved : goal.loop-kind-preserved
+loop-kind-preserved c =
+    let reads = c.loop-kind.invariant.reads in
+    let first = rw c.in-Some-Word.field-0-is at c.in-Some-Word.ensures in
+    let above = rw c.rank.ensures at c.if-rank-above.false in
+    let text : PreviousText =
+    record { keyword = c.in-Some-Word.keyword; text = c.in_ok-text-in-Some-Word.text.items } in
+    record {
+      reads = (
+        reads.0,
+        reads.1 ++ text ∷ [],
+        holds_previous c.loop-kind.head c.set_previous.new.previous
+            (kept_comments c.args.with_comments reads.0) reads.1 text reads.2 c.set_previous.ensures,
+        λ entries. let read = after_head entries reads.0 reads.1 in
+            rw c.rank-above.ensures
+            (reads.3 entries ∙ taken _ _ _ _ first (Between (InHead read c.loop-kind.above))
+            (In read c.in-Some-Word.keyword c.in-Some-Word.marks false [])
+            (rw (c.if-not-marks.false, lt-ltb _ _ above) refl)
+            ∙ rw c.advance-in-Some-Word.ensures.rest at
+            (c.in_ok-text-in-Some-Word.ensures.found read c.in-Some-Word.keyword)
+            ∙ ap (λ gap. comes (Between gap) c.take_strings.new.rest)
+            (previous_closed read c.in-Some-Word.keyword c.in-Some-Word.marks
+            c.in_ok-text-in-Some-Word.text.items c.if-not-marks.false)),
+      );
+      fewer = omega (
+        arith,
+        c.in_ok-text-in-Some-Word.ensures.fewer,
+        c.advance-in-Some-Word.ensures.fewer,
+        c.loop-kind.invariant.fewer,
+      );
+    }
+
+pub returns-in-Some-Str-clause-fault : goal.returns-in-Some-Str-clause-fault
+returns-in-Some-Str-clause-fault c = λ entries.
+    let reads = c.loop-kind.invariant.reads in
+    let first = rw c.in-Some-Str.field-0-is at c.in-Some-Str.ensures in
+    out_of_order _ (reads.3 entries) c.refusal-in-Some-Str.ensures (first_refused _ _ _ _ _ first
+    (Between (InHead (after_head entries reads.0 reads.1) c.loop-kind.above)) refl)

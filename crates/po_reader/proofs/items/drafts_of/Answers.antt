@@ -9,15 +9,15 @@ use Rattle.po_reader.proofs.Heads.{kept_from}
 use Rattle.po_reader.proofs.Turns.{fails_from, head_over, own_lines_begin}
 use Rattle.po_reader.proofs.items.drafts_of.Goals as goal
 
-pub returns-in_err-head-clause-fault : goal.returns-in_err-head-clause-fault
-returns-in_err-head-clause-fault c =
-    passed_on c.from_residual-in_err-head.result _ c.from_residual-in_err-head.ensures.1
-    (fails_from c.loop-drafts.invariant.reads.1 (c.in_err-head.ensures.fault c.loop-drafts.invariant.reads.0))
+pub returns-in_err-take_head-clause-fault : goal.returns-in_err-take_head-clause-fault
+returns-in_err-take_head-clause-fault c =
+    passed_on c.from_residual-in_err-take_head.result _ c.from_residual-in_err-take_head.ensures.1
+    (fails_from c.loop-head.invariant.reads.1 (c.in_err-take_head.ensures.fault c.loop-head.invariant.reads.0))
 
 pub returns-then-is_empty-clause-found : goal.returns-then-is_empty-clause-found
 returns-then-is_empty-clause-found c =
-    let reads = c.loop-drafts.invariant.reads in
-    let head = c.in_ok-head.ensures.found in (
+    let reads = c.loop-head.invariant.reads in
+    let head = c.in_ok-take_head.ensures.found in (
       reads.0,
       reads.1 ∙ head.4 reads.0
           ∙ head_over _ head.2 _ (after_head reads.0 head.0 head.1)
@@ -27,30 +27,30 @@ returns-then-is_empty-clause-found c =
 
 pub take_body-requires-clause-begins : goal.take_body-requires-clause-begins
 take_body-requires-clause-begins c =
-    let head = c.in_ok-head.ensures.found in
+    let head = c.in_ok-take_head.ensures.found in
     own_lines_begin head.2 _ head.5 (rw c.if-is_empty.false at c.is_empty.ensures)
 
 pub returns-in_err-take_body-clause-fault : goal.returns-in_err-take_body-clause-fault
 returns-in_err-take_body-clause-fault c =
-    let reads = c.loop-drafts.invariant.reads in
-    let head = c.in_ok-head.ensures.found in
+    let reads = c.loop-head.invariant.reads in
+    let head = c.in_ok-take_head.ensures.found in
     passed_on c.from_residual-in_err-take_body.result _ c.from_residual-in_err-take_body.ensures.1
     (fails_from (reads.1 ∙ head.4 reads.0) (c.in_err-take_body.ensures.fault (after_head reads.0 head.0 head.1) head.2))
 
-pub loop-drafts-preserved : goal.loop-drafts-preserved
-loop-drafts-preserved c =
-    let reads = c.loop-drafts.invariant.reads in
-    let head = c.in_ok-head.ensures.found in
+pub loop-head-preserved : goal.loop-head-preserved
+loop-head-preserved c =
+    let reads = c.loop-head.invariant.reads in
+    let head = c.in_ok-take_head.ensures.found in
     let body = c.in_ok-take_body.ensures.found in
-    let made = body.1 (kept_comments c.args.with_comments head.0) head.1 head.3
+    let made = body.2 (kept_comments c.args.with_comments head.0) head.1 head.3
     ∙ kept_from c.args.with_comments head.0 head.1 body.0 in
     let first : TextEntry = with_head head.0 head.1 body.0 in
     record {
       reads = (
         reads.0 ++ first ∷ [],
-        reads.1 ∙ head.4 reads.0 ∙ body.2 (after_head reads.0 head.0 head.1) head.2,
-        rw (c.in_ok-push.ensures.items, map_push, map_push, made)
+        reads.1 ∙ head.4 reads.0 ∙ body.4 (after_head reads.0 head.0 head.1) head.2,
+        rw (body.3, map_push, map_push, made)
             (ap (λ es. es ++ kept_entry c.args.with_comments first ∷ []) reads.2),
       );
-      fewer = omega (arith, c.in_ok-head.ensures.fewer, c.in_ok-take_body.ensures.fewer, c.loop-drafts.invariant.fewer);
+      fewer = omega (arith, c.in_ok-take_head.ensures.fewer, c.in_ok-take_body.ensures.fewer, c.loop-head.invariant.fewer);
     }

@@ -5,7 +5,7 @@ use Rattle.po_reader.specs.Internal.ReaderView.{HoldsHead}
 use Rattle.po_reader.specs.Internal.Stage.{Between, InHead, after_head}
 use Rattle.po_reader.specs.Internal.Reads.{comes, start}
 use Rattle.po_reader.specs.KeptComments.{kept_comments}
-use Rattle.po_reader.proofs.head.fill_head.Given as goal
+use Rattle.po_reader.proofs.head.take_head.Given as goal
 
 abbrev pub invariant-loop-kind : goal.invariant-loop-kind
 invariant-loop-kind l = record {
