@@ -18,9 +18,9 @@ ghost use Rattle.po_reader.specs.Internal.Reads.{ChecksStop, Reads, start, Fails
 use crate::body::take_body;
 use crate::cursor::Cursor;
 use crate::head::{Head, take_head};
-use po_entry::{Catalogue, Entry, Fields, check_read_texts};
+use po_entry::{Catalogue, Entry, Fields, check_read_texts, has_admitted_charset};
 use po_syntax::{Item, PoError, PoFault};
-use std::alloc::Global;
+use std::alloc::{AllocError, Global};
 
 /// How many items an entry has at least: two keywords and their strings.
 const LEAST_ITEMS: usize = 4;
@@ -99,25 +99,35 @@ fn catalogue_of(alloc: Global, drafts: Vec<Fields>, are_utf8: bool) -> Result<Ca
     ensures memory { IfErr result (λ e. e.kind ≡ PoFault.OutOfMemory → e.line ≡ 0) }
 {
     check_drafts(&drafts, are_utf8)?;
-    let mut catalogue = Catalogue::with_capacity(alloc, drafts.len())?;
-    push_drafts(&mut catalogue, drafts)?;
-    Ok(catalogue)
+    let entries = entries_of(alloc, drafts)?;
+    check_charsets(&entries)?;
+    Ok(Catalogue::of(entries))
 }
 
-/// Pushes the entries of drafts whose texts were checked into a catalogue that is empty.
-fn push_drafts(catalogue: &mut Catalogue, drafts: Vec<Fields>) -> Result<(), PoError>
-    requires empty { catalogue.old ≡ [] }
-    requires texts { All (λ draft. HasTexts (entry_view draft)) drafts.items }
-    requires entries { All (λ draft. HasTexts (entry_view draft) → IsEntry (entry_view draft)) drafts.items }
-    ensures entries { OnOk result (catalogue.new ≡ map entry_view drafts.items) }
-    ensures charsets { OnOk result (All HasAdmittedCharset (map entry_view drafts.items)) }
-    ensures fault { IfErr result (λ e. e.kind ≢ PoFault.OutOfMemory
-        → EntriesStop HasAdmittedCharset CharsetFault (map entry_view drafts.items) e.kind e.line) }
-    ensures memory { IfErr result (λ e. e.kind ≡ PoFault.OutOfMemory → e.line ≡ 0) }
+/// The entries of drafts whose texts were checked.
+fn entries_of(alloc: Global, drafts: Vec<Fields>) -> Result<Vec<Entry>, AllocError>
+    requires { All (λ draft. IsEntry (entry_view draft)) drafts.items }
+    ensures { IfOk result (λ entries. entries.items ≡ map entry_view drafts.items) }
 {
+    let mut entries = Vec::with_capacity(alloc, drafts.len())?;
     for draft in drafts {
-        if let Err((_, error)) = catalogue.push(Entry::of(draft)) {
-            return Err(error);
+        entries.push_reserved(Entry::of(draft));
+    }
+    Ok(entries)
+}
+
+/// Whether the charset of each header is admitted, asked in the order of the entries.
+fn check_charsets(entries: &[Entry]) -> Result<(), PoError>
+    ensures ok { OnOk result (All HasAdmittedCharset entries.now) }
+    ensures fault { IfErr result (λ e. EntriesStop HasAdmittedCharset CharsetFault entries.now e.kind e.line) }
+    ensures other { IfErr result (λ e. e.kind ≢ PoFault.OutOfMemory) }
+{
+    for entry in entries {
+        if !has_admitted_charset(entry) {
+            return Err(PoError {
+                kind: PoFault::ForeignCharset,
+                line: entry.line(),
+            });
         }
     }
     Ok(())

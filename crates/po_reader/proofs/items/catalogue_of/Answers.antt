@@ -1,7 +1,7 @@
 use Rattle.std.proofs.Common.{inl, inr}
 use Rattle.std.proofs.lemmas.List.Elements.{All-map}
 use Rattle.po_entry.specs.EntryView.{entry_view}
-use Rattle.po_entry.specs.Validity.{HasTexts}
+use Rattle.po_entry.specs.Validity.{HasTexts, IsEntry}
 use Rattle.po_reader.proofs.Results.{passed_on}
 use Rattle.po_reader.proofs.Texts.{texts_reported}
 use Rattle.po_reader.proofs.items.catalogue_of.Goals as goal
@@ -23,17 +23,24 @@ pub returns-clause-texts : goal.returns-clause-texts
 returns-clause-texts c =
     All-map HasTexts entry_view c.args.drafts.items (rw c.deref.ensures.value at c.in_ok-check_drafts.ensures.ok)
 
-pub push_drafts-requires-clause-texts : goal.push_drafts-requires-clause-texts
-push_drafts-requires-clause-texts c = rw c.deref.ensures.value at c.in_ok-check_drafts.ensures.ok
+pub entries_of-requires : goal.entries_of-requires
+entries_of-requires c =
+    let texts = rw c.deref.ensures.value at c.in_ok-check_drafts.ensures.ok in
+    λ k draft inside. c.requires.entries k draft inside (texts k draft inside)
 
-pub returns-in_err-push_drafts-clause-fault : goal.returns-in_err-push_drafts-clause-fault
-returns-in_err-push_drafts-clause-fault c =
+pub returns-in_err-check_charsets-clause-fault : goal.returns-in_err-check_charsets-clause-fault
+returns-in_err-check_charsets-clause-fault c =
     let texts = All-map HasTexts entry_view c.args.drafts.items
     (rw c.deref.ensures.value at c.in_ok-check_drafts.ensures.ok) in
-    passed_on c.from_residual-in_err-push_drafts.result _ c.from_residual-in_err-push_drafts.ensures.1
-    (λ other. inr (texts, c.in_err-push_drafts.ensures.fault other))
+    let stops = rw (c.deref-2.ensures.value, c.in_ok-entries.ensures) at c.in_err-check_charsets.ensures.fault in
+    passed_on c.from_residual-in_err-check_charsets.result _ c.from_residual-in_err-check_charsets.ensures.1
+    (λ other. inr (texts, stops))
 
-pub returns-in_err-push_drafts-clause-memory : goal.returns-in_err-push_drafts-clause-memory
-returns-in_err-push_drafts-clause-memory c =
-    passed_on c.from_residual-in_err-push_drafts.result _ c.from_residual-in_err-push_drafts.ensures.1
-    c.in_err-push_drafts.ensures.memory
+pub of-requires : goal.of-requires
+of-requires c =
+    let texts = rw c.deref.ensures.value at c.in_ok-check_drafts.ensures.ok in
+    let valid = All-map IsEntry entry_view c.args.drafts.items
+    (λ k draft inside. c.requires.entries k draft inside (texts k draft inside)) in
+    let charsets = rw (c.deref-2.ensures.value, c.in_ok-entries.ensures) at c.in_ok-check_charsets.ensures.ok in
+    rw c.in_ok-entries.ensures
+    (λ k entry inside. record { valid = valid k entry inside; charset = charsets k entry inside })
