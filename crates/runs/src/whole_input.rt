@@ -1,5 +1,5 @@
 //! Reading a whole input.
-ghost use Rattle.std.specs.Prelude.{◌≡◌, ◌≢◌, ◌+◌, ◌-◌, ◌^◌, ◌<◌, ◌≤◌, take, drop, vec_len, IfOk, OnOk, IfSome, IsErrOf, Err};
+ghost use Rattle.std.specs.Prelude.{◌≡◌, ◌≢◌, ◌+◌, ◌-◌, ◌^◌, ◌<◌, ◌≤◌, [], take, drop, vec_len, IfOk, OnOk, IfSome, IsErrOf, Err};
 ghost use Rattle.std.specs.Io.KnownBytes.{Consumes, IsAtEnd};
 ghost use Rattle.runs.specs.Device.{failure_of_read};
 
@@ -12,7 +12,8 @@ use std::io;
 /// How many bytes of an input are read at most: 2,147,483,648.
 pub const INPUT_LIMIT: usize = 1 << 31;
 
-/// How many bytes of room are made where it isn't known how many will come: 64 KB.
+/// How many bytes are made room for at a time: 64 KB, which are still in a processor's cache when
+/// they are read into.
 const ROOM_LEN: usize = 1 << 16;
 
 /// The whole input, or its first `INPUT_LIMIT` bytes where it has more. A `ReadFault` comes where
@@ -44,9 +45,8 @@ pub fn read_input<R: ByteIn>(alloc: Global, reader: &mut R) -> Result<Vec<u8>, T
 }
 
 /// The bytes that are left of an open file or of standard input, but no more than `INPUT_LIMIT`.
-/// `expected_len` is how many are expected, 0 where that isn't known: there is room for all of them
-/// before the first call of the reader, which fills it in place. A `ReadFault` comes where a call of the
-/// reader failed.
+/// `expected_len` is how many are expected, 0 where that isn't known: memory for all of them is taken
+/// before the first call of the reader. A `ReadFault` comes where a call of the reader failed.
 #[inline(never)]
 pub fn read_whole<R: ByteIn>(
     alloc: Global,
@@ -67,10 +67,10 @@ pub fn read_whole<R: ByteIn>(
     ensures end { IfOk result (λ bytes. R.calls reader.new ≤ R.calls reader.old + vec_len bytes + 1) }
 {
     let expected_len = expected_len.min(INPUT_LIMIT as u64) as usize;
-    let mut input = Vec::new(alloc);
+    let mut input = with_memory(alloc, expected_len).or(Err(InputFault::OutOfMemory))?;
     let mut filled = 0;
     while filled < INPUT_LIMIT {
-        make_room(&mut input, filled, expected_len).or(Err(InputFault::OutOfMemory))?;
+        make_room(&mut input, filled).or(Err(InputFault::OutOfMemory))?;
         match pull_after(reader, &mut input, filled) {
             Ok(0) => {
                 input.truncate(filled);
@@ -84,9 +84,19 @@ pub fn read_whole<R: ByteIn>(
     Ok(input)
 }
 
-/// Makes `input` longer than `filled`: at first by one byte more than are expected, so that the end
-/// of the input is seen without further room.
-fn make_room(input: &mut Vec<u8>, filled: usize, expected_len: usize) -> Result<(), AllocError>
+/// An empty vector with memory for one byte more than are expected, so that the end of the input is
+/// seen without further memory.
+fn with_memory(alloc: Global, expected_len: usize) -> Result<Vec<u8>, AllocError>
+    ensures { IfOk result (λ input. input.items ≡ []) }
+{
+    if expected_len == 0 {
+        return Ok(Vec::new(alloc));
+    }
+    Vec::with_capacity(alloc, expected_len.saturating_add(1))
+}
+
+/// Makes `input` longer than `filled`, where it has memory by no more than that.
+fn make_room(input: &mut Vec<u8>, filled: usize) -> Result<(), AllocError>
     requires filled { filled ≤ vec_len input.old }
     requires limit { filled < 2 ^ 31 }
     requires len { vec_len input.old ≤ 2 ^ 31 }
@@ -98,10 +108,9 @@ fn make_room(input: &mut Vec<u8>, filled: usize, expected_len: usize) -> Result<
     if filled < input.len() {
         return Ok(());
     }
-    let room = if filled == 0 && expected_len != 0 {
-        expected_len.saturating_add(1)
-    } else {
-        ROOM_LEN
+    let room = match input.capacity().saturating_sub(filled) {
+        0 => ROOM_LEN,
+        spare => spare.min(ROOM_LEN),
     };
     input.resize(filled.saturating_add(room).min(INPUT_LIMIT), 0)
 }

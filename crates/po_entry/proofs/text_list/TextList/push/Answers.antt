@@ -6,14 +6,25 @@ pub invariant_of-self-2 : goal.invariant_of-self-2
 invariant_of-self-2 c =
     let text = c.args.text.now in
     let before = c.self.inside.bytes.items in
-    rw (c.in_ok-extend_from_slice-2.ensures.items, c.in_ok-extend_from_slice.ensures.items,
-    c.in_ok-make_room.ensures.items, c.to_le_bytes-length.ensures, append_assoc)
+    rw (
+      c.in_ok-extend_from_slice-2.ensures.items,
+      c.in_ok-extend_from_slice.ensures.items,
+      c.in_ok-make_room.ensures.items,
+      c.to_le_bytes-length.ensures,
+      append_assoc,
+    )
     (more_AreTexts before text c.self.invariant (omega (arith, c.type_inv.text)))
 
 pub returns-clause-ok : goal.returns-clause-ok
 returns-clause-ok c =
     let text = c.args.text.now in
     let before = c.self.inside.bytes.items in
-    rw (c.in_ok-extend_from_slice-2.ensures.items, c.in_ok-extend_from_slice.ensures.items,
-    c.in_ok-make_room.ensures.items, c.to_le_bytes-length.ensures, append_assoc, ← c.self.view_is)
+    rw (
+      c.in_ok-extend_from_slice-2.ensures.items,
+      c.in_ok-extend_from_slice.ensures.items,
+      c.in_ok-make_room.ensures.items,
+      c.to_le_bytes-length.ensures,
+      append_assoc,
+      ← c.self.view_is,
+    )
     (texts_more before text c.self.invariant (omega (arith, c.type_inv.text)))
