@@ -10,7 +10,9 @@ pub returns-then-not-has_admitted_charset-clause-fault : goal.returns-then-not-h
 returns-then-not-has_admitted_charset-clause-fault c =
     c.loop-entry.invariant.stops _ _
     (rw (drop_here _ _ _ c.loop-entry-test.true c.entry-item.is)
-    (here (foreign (λ admitted. absurd (false≢true (sym c.if-not-has_admitted_charset.true ∙ c.has_admitted_charset.ensures.1 admitted)))) c.line.ensures))
+    (here (foreign (λ admitted.
+    absurd (false≢true (sym c.if-not-has_admitted_charset.true ∙ c.has_admitted_charset.ensures.1 admitted))))
+    c.line.ensures))
 
 pub returns-clause-ok : goal.returns-clause-ok
 returns-clause-ok c =

@@ -52,5 +52,10 @@ loop-head-preserved c =
         rw (body.3, map_push, map_push, made)
             (ap (λ es. es ++ kept_entry c.args.with_comments first ∷ []) reads.2),
       );
-      fewer = omega (arith, c.in_ok-take_head.ensures.fewer, c.in_ok-take_body.ensures.fewer, c.loop-head.invariant.fewer);
+      fewer = omega (
+        arith,
+        c.in_ok-take_head.ensures.fewer,
+        c.in_ok-take_body.ensures.fewer,
+        c.loop-head.invariant.fewer,
+      );
     }
