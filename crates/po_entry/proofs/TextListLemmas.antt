@@ -1,5 +1,5 @@
 -- Texts in one buffer, each behind its length.
-use Rattle.std.proofs.Common.{◌≡◌, ◌∙◌, refl, sym, ap, ap₂, ℕ, zero, suc, ◌≤◌, ◌<◌, ◌+◌, ◌^◌, Bool, true, inl, inr, List, [], ◌∷◌, ◌++◌, length, length-append, length-drop, take, drop, append-nil, All, arith}
+use Rattle.std.proofs.Common.{◌≡◌, ◌∙◌, refl, sym, ap, ap₂, ℕ, zero, suc, ◌≤◌, ◌<◌, ◌^◌, inl, inr, List, [], ◌∷◌, ◌++◌, length, length-append, length-drop, drop, append-nil, All, arith}
 use Rattle.std.specs.Prelude.{bytes_eq}
 use Rattle.std.specs.List.{flat_map}
 use Rattle.std.proofs.lemmas.Bool.{cases_lt, le-ltb, lt-ltb}
@@ -95,11 +95,6 @@ pub more_AreTexts : (bytes text : List ℕ) → AreTexts bytes → IsShort text
     → AreTexts (bytes ++ measured text)
 more_AreTexts bytes text h small =
     rw (texts_more bytes text h small) (more_laid bytes text h, more_small bytes text h small)
-
--- there is no text exactly if there is no byte
-pub texts_count : (bytes : List ℕ) → AreTexts bytes → length bytes ≡ 0 → length (texts_in bytes) ≡ 0
-texts_count [] h none = rw (no_texts [] refl) refl
-texts_count (b ∷ bytes) h none = absurd (omega (arith, none))
 
 -- two lists are the same exactly if their bytes are
 pub same_texts : (xs ys : List ℕ) → AreTexts xs → AreTexts ys

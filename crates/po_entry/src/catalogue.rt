@@ -39,15 +39,6 @@ impl Catalogue {
         }
     }
 
-    /// The empty catalogue, with room for this many entries.
-    pub fn with_capacity(alloc: Global, capacity: usize) -> Result<Catalogue, AllocError>
-        ensures { IfOk result (λ catalogue. catalogue ≡ []) }
-    {
-        Ok(Catalogue {
-            entries: Vec::with_capacity(alloc, capacity)?,
-        })
-    }
-
     /// The catalogue of these entries, each of which can stand in one. Nothing is allocated.
     pub fn of(entries: Vec<Entry>) -> Catalogue
         requires { All IsCatalogueEntry entries.items }

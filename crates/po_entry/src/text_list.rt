@@ -97,8 +97,8 @@ impl TextList {
     }
 }
 
-/// Makes room for so many bytes more, and in an empty buffer for two references at least, but for no
-/// others: most lists have few texts.
+/// Makes room for so many bytes more, and in an empty buffer for two references at least, but for
+/// no others: most lists have few texts.
 fn make_room(bytes: &mut Vec<u8>, more: usize) -> Result<(), AllocError>
     ensures items { bytes.new.items ≡ bytes.old.items }
     ensures room { OnOk result (vec_len bytes.new + more ≤ vec_capacity bytes.new) }

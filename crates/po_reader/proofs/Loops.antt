@@ -1,7 +1,7 @@
 -- Steps of the loops over drafts, and the last item of a text.
-use Rattle.std.proofs.Common.{◌≡◌, ℕ, ◌+◌, ◌-◌, ◌<◌, ◌≤◌, List, [], ◌∷◌, ◌++◌, Some, length, take, drop, get_or, sym, ap, ◌∙◌, subst, arith, zero, suc, add-one, drop-cons}
+use Rattle.std.proofs.Common.{◌≡◌, ℕ, ◌+◌, ◌-◌, ◌<◌, ◌≤◌, List, [], ◌∷◌, Some, length, take, drop, get_or, sym, ap, ◌∙◌, subst, arith, zero, suc, add-one, drop-cons}
 use Rattle.std.specs.Prelude.{All, slice_get}
-use Rattle.std.proofs.lemmas.List.{take_all, take_more}
+use Rattle.std.proofs.lemmas.List.{take_all}
 use Rattle.std.proofs.lemmas.List.Elements.{All-more}
 use Rattle.po_syntax.specs.declared.item.Item.{Item}
 use Rattle.po_syntax.specs.TextItem.{line_of, view, views}
@@ -39,8 +39,3 @@ pub some_length : (items : List Item) (item : Item) → Some item ≡ slice_get 
     → length items - 1 + 1 ≡ length items
 some_length [] item e = cc
 some_length (first ∷ items) item e = omega arith
-
--- one more element at the beginning
-pub take_here : {X : Type 0} (xs : List X) (i : ℕ) (x : X) → i < length xs → x ≡ get_or xs i x
-    → take (i + 1) xs ≡ take i xs ++ x ∷ []
-take_here xs i x below is = take_more xs i x below ∙ ap (λ y. take i xs ++ y ∷ []) (sym is)

@@ -174,8 +174,8 @@ fn take_context(
     Ok((None, obsolete))
 }
 
-/// Takes the own lines of an entry, which stand first, and adds the draft of the entry that has this
-/// head.
+/// Takes the own lines of an entry, which stand first, and adds the draft of the entry that has
+/// this head.
 pub(crate) fn take_body(
     alloc: Global,
     rest: &mut Cursor<'_, '_>,

@@ -1,7 +1,6 @@
 -- The lines on standard error that report the faults of the program itself: this project's own
 -- words, since the manual leaves them open.
 use Rattle.std.specs.Prelude.{ℕ, List, [], ◌∷◌, ◌++◌, Option, Some, None, codes}
-use Rattle.std.specs.Borrow.{Bor}
 use Rattle.runs.specs.declared.tool_fault.ToolFault.{ToolFault}
 use Rattle.runs.specs.declared.tool_fault.ToolFault.TheVariants.{ReadFault as NotRead, WriteFault as NotWritten}
 use Rattle.runs.specs.declared.tool_fault.ToolFault.TheVariants.{OutOfMemory as NoMemory}

@@ -1,4 +1,4 @@
-use Rattle.std.proofs.Common.{◌∙◌, ◌++◌, ◌∷◌, [], List, ℕ, ap, ap₂, append_assoc, arith}
+use Rattle.std.proofs.Common.{append_assoc, arith}
 use Rattle.po_entry.proofs.TextListLemmas.{more_AreTexts, texts_more}
 use Rattle.po_entry.proofs.text_list.TextList.push.Goals as goal
 
@@ -13,7 +13,7 @@ invariant_of-self-2 c =
       c.to_le_bytes-length.ensures,
       append_assoc,
     )
-    (more_AreTexts before text c.self.invariant (omega (arith, c.type_inv.text)))
+    (more_AreTexts before text c.self.invariant (omega arith))
 
 pub returns-clause-ok : goal.returns-clause-ok
 returns-clause-ok c =
@@ -27,4 +27,4 @@ returns-clause-ok c =
       append_assoc,
       ← c.self.view_is,
     )
-    (texts_more before text c.self.invariant (omega (arith, c.type_inv.text)))
+    (texts_more before text c.self.invariant (omega arith))
