@@ -18,6 +18,7 @@ use Rattle.po_reader.specs.Internal.Turn.{comes_to}
 use Rattle.po_reader.specs.Internal.Reads.{start}
 use Rattle.po_reader.proofs.SpeltRuns.{IsApart, spelt_go_on}
 use Rattle.po_reader.proofs.Texts.{read_or_stopped}
+use Rattle.po_syntax.specs.CleanLine.{IsCleanLine}
 use Rattle.po_syntax.specs.LinesLeft.{LeftStops, LinesLeft, SpellsLeft}
 use Rattle.po_syntax.specs.PoText.{SpellsText, SpellsLines, LinesStop, TextFault}
 use Rattle.po_syntax.specs.declared.item.Keyword.TheVariants.{MsgStrAt}
@@ -94,13 +95,16 @@ nothing_stops rest none stops = read_or_stopped (sym none) reads_nothing stops
 left_over : (left : LinesLeft) → left.lines ≡ [] → ReadsLeft left []
 left_over left none = record {
   items = [];
-  spelt = subst (λ (lines : List (List ℕ)). SpellsLines left.number lines []) (sym none) refl;
+  spelt = (
+    rw none (All-nil IsCleanLine),
+    subst (λ (lines : List (List ℕ)). SpellsLines left.number lines []) (sym none) refl,
+  );
   read = reads_nothing;
 }
 
 -- nothing is spelt where no line is left
 nothing_left : (left : LinesLeft) (items : List TextItem) → left.lines ≡ [] → SpellsLeft left items → items ≡ []
-nothing_left left items none h = subst (λ (lines : List (List ℕ)). SpellsLines left.number lines items) none h
+nothing_left left items none h = subst (λ (lines : List (List ℕ)). SpellsLines left.number lines items) none h.1
 
 -- a piece that reads, and what is left after it, read together
 pub piece_joined : (old new : LinesLeft) (items : List TextItem) (entries : List TextEntry) → SpellsOn old new items
@@ -147,14 +151,10 @@ piece_faults old new items entries spelt stops (inl none) anew read fault line
     (piece.in_items {items = rest} more stopped) =
     absurd (nothing_stops rest (nothing_left new rest none more) stopped)
 
-no_line_stops : (new : LinesLeft) (fault : PoFault) (line : ℕ) → new.lines ≡ [] → LeftStops new fault line → ⊥
-no_line_stops new fault line none stopped =
-    subst (λ (lines : List (List ℕ)). LinesStop new.number lines fault line) none stopped
-
 -- nothing is wrong where no line is left
-pub faults_over : (old new : LinesLeft) → new.lines ≡ [] → FaultsStay old new
-faults_over old new none fault line (piece.in_lines stopped) = absurd (no_line_stops new fault line none stopped)
-faults_over old new none fault line (piece.in_items {items = rest} more stopped) =
+pub faults_over : (old new : LinesLeft) → StopsStay old new → new.lines ≡ [] → FaultsStay old new
+faults_over old new stops none fault line (piece.in_lines stopped) = piece.in_lines (stops fault line stopped)
+faults_over old new stops none fault line (piece.in_items {items = rest} more stopped) =
     absurd (nothing_stops rest (nothing_left new rest none more) stopped)
 
 -- where the items of what is left are kept, what is left is

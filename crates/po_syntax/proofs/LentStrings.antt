@@ -1,5 +1,5 @@
 -- Of strings that are borrowed and UTF-8, and others, all are UTF-8 exactly where those others are.
-use Rattle.std.proofs.Common.{◌≡◌, refl, sym, Bool, true, false, ◌&&◌, List, [], ◌∷◌, ℕ, All, IsUtf8}
+use Rattle.std.proofs.Common.{◌≡◌, ◌∙◌, refl, sym, ap, Bool, true, false, ◌&&◌, List, [], ◌∷◌, ◌++◌, append_assoc, ℕ, All, IsUtf8}
 use Rattle.std.specs.Prelude.{◌↔◌, IsTrue}
 use Rattle.std.specs.List.{list_all}
 use Rattle.std.specs.Str.{is_utf8}
@@ -7,11 +7,12 @@ use Rattle.std.specs.Global.{Global, Vec}
 use Rattle.std.specs.declared.borrow.CowSlice.{CowSlice}
 use Rattle.std.specs.declared.borrow.CowSlice.TheVariants.{Borrowed, Owned}
 use Rattle.std.proofs.lemmas.Bool.{false≢true}
-use Rattle.std.proofs.lemmas.List.Elements.{All-nil, All-cons, All-head, All-tail}
+use Rattle.std.proofs.lemmas.List.Elements.{All-nil, All-cons, All-push, All-head, All-tail}
 use Rattle.std.proofs.lemmas.Str.{IsUtf8-from_is_utf8, is_utf8-from_IsUtf8}
 use Rattle.po_syntax.specs.declared.item.Item.{Item}
 use Rattle.po_syntax.specs.declared.item.Item.TheVariants.{Comment, Word, Str}
 use Rattle.po_syntax.specs.declared.item.Marks.{Marks}
+use Rattle.po_syntax.specs.Internal.LineView.{AddsLent}
 use Rattle.po_syntax.specs.ItemContents.{OfString}
 use Rattle.po_syntax.specs.Lent.{LendsUtf8, owns_utf8}
 use Rattle.po_syntax.specs.TextItem.{view, views}
@@ -52,3 +53,12 @@ all_owned [] lent = (λ _. All-nil (OfString IsUtf8), λ _. refl)
 all_owned (item ∷ items) lent =
     both (owns_utf8 item) (list_all owns_utf8 items) item items (one item (All-head LendsUtf8 item items lent))
     (all_owned items (All-tail LendsUtf8 item items lent))
+
+-- an item more after others
+pub one_more : (text : List ℕ) (old items new : List Item) (item : Item) → AddsLent text old items
+    → new ≡ items ++ item ∷ [] → (IsUtf8 text → LendsUtf8 item) → AddsLent text old new
+one_more text old items new item before is lent = (
+  before.0 ++ item ∷ [],
+  is ∙ ap (λ l. l ++ item ∷ []) before.1 ∙ append_assoc old before.0 (item ∷ []),
+  λ utf8. All-push LendsUtf8 before.0 item (before.2 utf8) (lent utf8),
+)

@@ -22,4 +22,5 @@ pub mod OneLine
 pub mod WrittenForms
 pub mod LineNumbers
 pub mod FaultyLines
+pub mod CleanTexts
 pub mod PieceLemmas

@@ -17,6 +17,7 @@ use Rattle.po_syntax.proofs.SpeltEscapes.{by_byte}
 use Rattle.po_syntax.specs.declared.fault.PoFault.{PoFault}
 use Rattle.po_syntax.specs.declared.fault.PoFault.TheVariants.{NotUtf8, ForbiddenByte}
 use Rattle.po_syntax.specs.declared.item.Marks.{Marks}
+use Rattle.po_syntax.specs.ItemContents.{IsText}
 use Rattle.po_syntax.specs.LineFaults.{LineFault}
 use Rattle.po_syntax.specs.LineNumbers.{HasFeeds, none, feed, other, BeginsLine, at_start, after_feed, at_end, before_feed, HasLine, IsOnItsLine, ItemsAreOnTheirLines, HasFaultOnLine, no_line, not_utf8, nul, in_line, marked_text, MarkIsOmitted}
 use Rattle.po_syntax.specs.PoText.{line_number, lines_of, LinesStop, SpellsLines, TextFault, without_byte_order_mark}
@@ -50,7 +51,7 @@ no_feeds (b ∷ line) lacks =
     other (All-head (λ x. x ≢ 10) b line lacks) (no_feeds line (All-tail (λ x. x ≢ 10) b line lacks))
 
 -- a text is its only line, or has a first line, after which the others stand
-data Cut : List ℕ → Type 0 where
+pub data Cut : List ℕ → Type 0 where
   only_line : {text : List ℕ} → All (λ b. b ≢ 10) text → lines_of text ≡ text ∷ [] → Cut text
   first_line : (first rest : List ℕ) → All (λ b. b ≢ 10) first → lines_of (first ++ 10 ∷ rest) ≡ first ∷ lines_of rest
       → Cut (first ++ 10 ∷ rest)
@@ -63,7 +64,7 @@ cut_other b text e (first_line first rest lacks is) =
     first_line (b ∷ first) rest (All-cons (λ x. x ≢ 10) b first (eqb-false b 10 e) lacks)
     (slice_split-cons_no (λ x. x == 10) b (first ++ 10 ∷ rest) e ∙ ap (onto_first b) is)
 
-cut : (text : List ℕ) → Cut text
+pub cut : (text : List ℕ) → Cut text
 cut [] = only_line (All-nil (λ x. x ≢ 10)) refl
 cut (b ∷ text) = by_byte (λ (a : ℕ) (u : Unit {0}). Cut (a ∷ text)) b 10 {x = tt} {y = tt}
     (first_line [] text (All-nil (λ x. x ≢ 10)) refl) (λ e. cut_other b text e (cut text))
@@ -218,6 +219,17 @@ mark_utf8 : IsUtf8 (0xEF ∷ 0xBB ∷ 0xBF ∷ [])
 unfolding encode
 mark_utf8 = (0xFEFF ∷ [], (refl, refl))
 
+mark_has_none : All (λ (b : ℕ). b ≢ 0) (0xEF ∷ 0xBB ∷ 0xBF ∷ [])
+mark_has_none = All-cons (λ (b : ℕ). b ≢ 0) 0xEF (0xBB ∷ 0xBF ∷ []) (omega arith)
+    (All-cons (λ (b : ℕ). b ≢ 0) 0xBB (0xBF ∷ []) (omega arith)
+    (All-cons (λ (b : ℕ). b ≢ 0) 0xBF [] (omega arith) (All-nil (λ b. b ≢ 0))))
+
+pub text_after_mark : (text : List ℕ) → IsText text → IsText (marked_text text)
+text_after_mark text h = record {
+  utf8 = IsUtf8-append (0xEF ∷ 0xBB ∷ 0xBF ∷ []) text mark_utf8 h.utf8;
+  no_nul = All-append (λ b. b ≢ 0) (0xEF ∷ 0xBB ∷ 0xBF ∷ []) text mark_has_none h.no_nul;
+}
+
 unmarked : (text : List ℕ) → ((rest : List ℕ) → text ≢ marked_text rest) → without_byte_order_mark text ≡ text
 unmarked text unlike =
     cond_both (starts_with nat_eq text (0xEF ∷ 0xBB ∷ 0xBF ∷ [])) (drop 3 text) text (λ t. t ≡ text) (λ e.
@@ -225,13 +237,11 @@ unmarked text unlike =
     absurd (unlike (drop 3 text) (sym (take-append-drop 3 text) ∙ ap (λ l. l ++ drop 3 text) (sym mark)))) (λ _. refl)
 
 pub mark_omitted : (text : List ℕ) (items : List TextItem) → MarkIsOmitted text items
-mark_omitted text items small unlike h = record {
-  small = small;
-  utf8 = IsUtf8-append (0xEF ∷ 0xBB ∷ 0xBF ∷ []) text mark_utf8 h.utf8;
-  no_nul = All-append (λ b. b ≢ 0) (0xEF ∷ 0xBB ∷ 0xBF ∷ []) text mark_has_none h.no_nul;
-  lines = subst (λ l. SpellsLines 1 (lines_of l) items) (unmarked text unlike) h.lines;
-} where
-  mark_has_none : All (λ (b : ℕ). b ≢ 0) (0xEF ∷ 0xBB ∷ 0xBF ∷ [])
-  mark_has_none = All-cons (λ (b : ℕ). b ≢ 0) 0xEF (0xBB ∷ 0xBF ∷ []) (omega arith)
-      (All-cons (λ (b : ℕ). b ≢ 0) 0xBB (0xBF ∷ []) (omega arith)
-      (All-cons (λ (b : ℕ). b ≢ 0) 0xBF [] (omega arith) (All-nil (λ b. b ≢ 0))))
+mark_omitted text items small unlike h =
+    let marked = text_after_mark text (record { utf8 = h.utf8; no_nul = h.no_nul }) in
+    record {
+      small = small;
+      utf8 = marked.utf8;
+      no_nul = marked.no_nul;
+      lines = subst (λ l. SpellsLines 1 (lines_of l) items) (unmarked text unlike) h.lines;
+    }

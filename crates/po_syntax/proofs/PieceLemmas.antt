@@ -1,24 +1,31 @@
 -- What a piece of a text holds.
-use Rattle.std.proofs.Common.{◌≡◌, ◌≢◌, ◌⊎◌, ◌↔◌, ◌∙◌, inl, inr, refl, sym, subst, ap, ℕ, zero, suc, ◌+◌, ◌-◌, ◌<◌, ◌≤◌, ◌^◌, true, List, [], ◌∷◌, ◌++◌, append-nil, append_assoc, length, get_or, take, drop, length-drop, All, IsUtf8, Option, Some, None, arith}
+use Rattle.std.proofs.Common.{◌≡◌, ◌≢◌, ◌⊎◌, ◌↔◌, ◌∙◌, inl, inr, refl, sym, subst, ap, ℕ, zero, suc, ◌+◌, ◌-◌, ◌<◌, ◌≤◌, ◌^◌, Bool, true, false, List, [], ◌∷◌, ◌++◌, append-nil, append_assoc, length, get_or, take, drop, length-drop, All, IsUtf8, Option, Some, None, arith}
 use Rattle.std.specs.Borrow.{Bor}
-use Rattle.std.specs.Prelude.{is_some, MatchOption}
+use Rattle.std.specs.Prelude.{is_some, unwrap_or, IsSome, IsTrue, MatchOption}
 use Rattle.std.proofs.Math.Seq.{take-append_seam, drop-append_seam, drop-cons}
 use Rattle.std.proofs.lemmas.Bool.{cases_lt}
-use Rattle.std.proofs.lemmas.List.{drop-drop, drop_all, drop-take, take-take, length-map}
-use Rattle.std.proofs.lemmas.List.Elements.{All-cons, All-drop, All-head, All-tail, All-take}
+use Rattle.std.proofs.lemmas.List.{drop-drop, drop_all, drop-take, take_all, take-take, take-append-drop, length-map}
+use Rattle.std.proofs.lemmas.Str.{IsUtf8-nil}
+use Rattle.std.proofs.lemmas.List.Elements.{All-nil, All-append, All-cons, All-drop, All-head, All-tail, All-take}
 use Rattle.std.proofs.lemmas.List.Sums.{sum_by-take-drop, sum_by-take-le, sum_by-cons}
+use Rattle.po_syntax.specs.declared.fault.PoError.{PoError}
 use Rattle.po_syntax.specs.declared.fault.PoFault.{PoFault}
 use Rattle.po_syntax.specs.declared.item.Item.{Item}
 use Rattle.po_syntax.specs.CleanLine.{IsCleanLine}
-use Rattle.po_syntax.specs.ItemContents.{HoldsText}
+use Rattle.po_syntax.specs.Internal.LineView.{AddsLent}
+use Rattle.po_syntax.specs.Internal.PieceEnd.{IsCut}
+use Rattle.po_syntax.specs.ItemContents.{HoldsText, IsText}
+use Rattle.po_syntax.specs.Lent.{LendsUtf8}
 use Rattle.po_syntax.specs.LineFaults.{LineFault}
 use Rattle.po_syntax.specs.Spelling.{HoldsItems}
-use Rattle.po_syntax.specs.LinesLeft.{LinesLeft, SpellsLeft, LeftStops, AreOfText, left_after, lines_len, lines_of_rest}
+use Rattle.po_syntax.specs.LinesLeft.{LinesLeft, SpellsLeft, LeftStops, AreOfText, all_lines, lines_len, lines_of_rest}
 use Rattle.po_syntax.specs.Piece.{IsString, IsTranslationWord, IsTranslation, EndsTranslation, IsNew, BeginsAnew, LineBeginsAnew, CanEnd, HasRead, IsPiece, EndsInString, LeftAnew}
-use Rattle.po_syntax.specs.PoText.{SpellsLines, LinesStop, lines_of}
+use Rattle.po_syntax.specs.PoText.{SpellsLines, LinesStop, TextFault, lines_of, without_byte_order_mark}
 use Rattle.po_syntax.specs.TextItem.{TextItem, Comment, Word, Str, view, views}
+use Rattle.po_syntax.proofs.CleanTexts.{first_lines_clean}
 use Rattle.po_syntax.proofs.ItemTexts.{lines_texts}
-use Rattle.po_syntax.proofs.Lines.{lines-few, lines_some, some_length}
+use Rattle.po_syntax.proofs.CleanLines.{clean_lines}
+use Rattle.po_syntax.proofs.Lines.{lines-few, lines_some, lines_len-lines_of, without_byte_order_mark-le, some_length}
 use Rattle.po_syntax.proofs.Uniqueness.{line_once, lines_once}
 
 -- where some text is left, a line is
@@ -218,17 +225,25 @@ pub record ReadSoFar (size : ℕ) (old now : LinesLeft) (items : List TextItem) 
   pub read : HasRead size old now items
   pub len_is : len ≡ lines_len (take read.count old.lines)
 
-pub none_read : (size : ℕ) (old : LinesLeft) → ReadSoFar size old old [] 0
+-- and what their items borrow is UTF-8, where the lines are clean
+pub record ReadLent (size : ℕ) (old now : LinesLeft) (items : List Item) (len : ℕ) : Type 0 where
+  pub so_far : ReadSoFar size old now (views items) len
+  pub lent : All IsCleanLine (take so_far.read.count old.lines) → All LendsUtf8 items
+
+pub none_read : (size : ℕ) (old : LinesLeft) → ReadLent size old old [] 0
 none_read size old = record {
-  read = record {
-    count = 0;
-    within = omega arith;
-    rest = let same : old.number + 0 ≡ old.number = omega arith in
-        rw same refl;
-    spelt = refl;
-    fewest = λ fewer less. absurd (omega (arith, less));
+  so_far = record {
+    read = record {
+      count = 0;
+      within = omega arith;
+      rest = let same : old.number + 0 ≡ old.number = omega arith in
+          rw same refl;
+      spelt = refl;
+      fewest = λ fewer less. absurd (omega (arith, less));
+    };
+    len_is = refl;
   };
-  len_is = refl;
+  lent = λ clean. All-nil LendsUtf8;
 }
 
 next_line : {size : ℕ} {old now : LinesLeft} {items : List TextItem} (read : HasRead size old now items)
@@ -254,95 +269,241 @@ no_end {size} {old = old} so_far e spelt none can =
     none (subst (λ (l : ℕ). size ≤ l) (sym so_far.len_is) can.large) (subst EndsTranslation items can.ends)
     (subst BeginsAnew same anew.2)
 
+-- the line that is read next, and those before it
+line_utf8 : {size : ℕ} {old now : LinesLeft} {items : List TextItem} {line : List ℕ} {others : List (List ℕ)}
+    (read : HasRead size old now items) → now.lines ≡ line ∷ others
+    → All IsCleanLine (take (suc read.count) old.lines) → IsUtf8 line × All IsCleanLine (take read.count old.lines)
+line_utf8 {old = old} {line = line} {others = others} read e clean =
+    let parts = last_line read.count old.lines line others (next_line read e) in (
+      (All-head IsCleanLine line [] (subst (All IsCleanLine) parts.1
+          (All-drop IsCleanLine read.count (take (suc read.count) old.lines) clean))).utf8,
+      subst (All IsCleanLine) parts.0 (All-take IsCleanLine read.count (take (suc read.count) old.lines) clean),
+    )
+
 -- a line more is read
-pub read_on : {size len : ℕ} {old now : LinesLeft} {items here : List TextItem} {line : List ℕ} {others : List (List ℕ)}
-    → ReadSoFar size old now items len
-    → now.lines ≡ line ∷ others → HoldsItems now.number line here
-    → (size ≤ len → EndsTranslation items → BeginsAnew here → ⊥)
-    → ReadSoFar size old (record { number = now.number + 1; lines = others }) (items ++ here) (len + (length line + 1))
-read_on {size} {old = old} {now = now} {items = items} {here = here} {line = line}
-    {others = others} so_far e spelt none =
-    let read = so_far.read in
+pub read_on : {size len : ℕ} {old now : LinesLeft} {before after : List Item} {here : List TextItem} {line : List ℕ}
+    {others : List (List ℕ)} → ReadLent size old now before len → views after ≡ views before ++ here
+    → AddsLent line before after → now.lines ≡ line ∷ others → HoldsItems now.number line here
+    → (size ≤ len → EndsTranslation (views before) → BeginsAnew here → ⊥)
+    → ReadLent size old (record { text = now.text; number = now.number + 1; lines = others }) after
+    (len + (length line + 1))
+read_on {size} {old = old} {now = now} {before = before} {after = after} {here = here} {line = line}
+    {others = others} so_far all added e spelt none =
+    let read = so_far.so_far.read in
     let next = next_line read e in
+    let text : now.text ≡ old.text = ap (λ (left : LinesLeft). left.text) read.rest in
     let number : now.number ≡ old.number + read.count = ap (λ (left : LinesLeft). left.number) read.rest in
     let counted : now.number + 1 ≡ old.number + suc read.count = omega arith in
     record {
-      read = record {
-        count = suc read.count;
-        within = some_line read.count old.lines line others next;
-        rest = rw (counted, ← drop_rest read.count old.lines line others next) refl;
-        spelt = spelt_more read.count old.number old.lines line others items here read.spelt next
-            (here_spelt read spelt);
-        fewest = λ fewer less can.
-            elim (cases_lt fewer read.count) [
-              | inl before ↦ read.fewest fewer before can
-              | inr last ↦ let same : fewer ≡ read.count =
-                  omega arith in no_end so_far e spelt none (subst (CanEnd size old) same can)
-            ];
+      so_far = record {
+        read = record {
+          count = suc read.count;
+          within = some_line read.count old.lines line others next;
+          rest = rw (text, counted, ← drop_rest read.count old.lines line others next) refl;
+          spelt = rw all
+              (spelt_more read.count old.number old.lines line others (views before) here read.spelt next
+              (here_spelt read spelt));
+          fewest = λ fewer less can.
+              elim (cases_lt fewer read.count) [
+                | inl before ↦ read.fewest fewer before can
+                | inr last ↦ let same : fewer ≡ read.count =
+                    omega arith in no_end so_far.so_far e spelt none (subst (CanEnd size old) same can)
+              ];
+        };
+        len_is = omega (arith, len_more read.count old.lines line others next, so_far.so_far.len_is);
       };
-      len_is = omega (arith, len_more read.count old.lines line others next, so_far.len_is);
+      lent = λ clean.
+          let clean = line_utf8 read e clean in
+          rw added.1 (All-append LendsUtf8 before added.0 (so_far.lent clean.1) (added.2 clean.0));
     }
 
--- a piece ends before a line that begins anew
-pub ended_before : {size len : ℕ} {old now : LinesLeft} {items here : List TextItem} {line : List ℕ}
-    {others : List (List ℕ)} → ReadSoFar size old now items len
+-- a piece is cut off
+pub cut_off : {size len : ℕ} {old now : LinesLeft} {items : List Item} (so_far : ReadLent size old now items len)
+    → (now.lines ≡ []) ⊎ CanEnd size old so_far.so_far.read.count
+    → (cut : IsCut size len old now (views items))
+    × (All IsCleanLine (take cut.read.count old.lines) → All LendsUtf8 items)
+cut_off so_far ends = let own = so_far.so_far in
+    (record { read = own.read; len_is = own.len_is; ends = ends }, so_far.lent)
+
+-- a piece can end before a line that begins anew
+pub can_end : {size len : ℕ} {old now : LinesLeft} {items here : List TextItem} {line : List ℕ}
+    {others : List (List ℕ)} (so_far : ReadSoFar size old now items len)
     → now.lines ≡ line ∷ others → HoldsItems now.number line here → size ≤ len → EndsTranslation items → BeginsAnew here
-    → IsPiece size old now items
-ended_before {size} {old = old} {items = items} {here = here} so_far e spelt large ends anew = let read =
+    → CanEnd size old so_far.read.count
+can_end {size} {old = old} {items = items} {here = here} so_far e spelt large ends anew = let read =
     so_far.read in record {
-      read = read;
-      ends = inr (record {
-        large = subst (λ (l : ℕ). size ≤ l) so_far.len_is large;
-        items = items;
-        spelt = read.spelt;
-        ends = ends;
-        anew = subst (LineBeginsAnew (old.number + read.count)) (sym (next_line read e))
-            (here, here_spelt read spelt, anew);
-      });
+      large = subst (λ (l : ℕ). size ≤ l) so_far.len_is large;
+      items = items;
+      spelt = read.spelt;
+      ends = ends;
+      anew = subst (LineBeginsAnew (old.number + read.count)) (sym (next_line read e))
+          (here, here_spelt read spelt, anew);
     }
 
 -- the fault of the line that is read next
 pub line_stops : {size : ℕ} {old now : LinesLeft} {items : List TextItem} {line : List ℕ} {others : List (List ℕ)}
     {fault : PoFault} → HasRead size old now items → now.lines ≡ line ∷ others → LineFault line fault
-    → LeftStops old fault now.number
+    → LinesStop old.number old.lines fault now.number
 line_stops {old = old} {now = now} {items = items} {fault = fault} read e stops =
     let number : now.number ≡ old.number + read.count = ap (λ (left : LinesLeft). left.number) read.rest in
     stops_after read.count old.number old.lines items fault now.number read.spelt
     (subst (λ (lines : List (List ℕ)). LinesStop (old.number + read.count) lines fault now.number)
     (sym (next_line read e)) (inl (stops, number)))
 
--- what is left of lines of a text
-pub of_text_after : (count : ℕ) (left : LinesLeft) → AreOfText left → count ≤ length left.lines
-    → AreOfText (left_after left count)
-of_text_after count left h within = record {
-  clean = All-drop IsCleanLine count left.lines h.clean;
-  small = omega (
-    arith,
-    h.small,
-    count_le count left.lines within,
-    sum_by-take-drop (λ (l : List ℕ). length l + 1) left.lines count,
-  );
-} where
-  count_le : (count : ℕ) (lines : List (List ℕ)) → count ≤ length lines → count ≤ lines_len (take count lines)
-  count_le zero lines h = omega arith
-  count_le (suc count) [] h = absurd (omega arith)
-  count_le (suc count) (line ∷ lines) h =
-      omega (
-        arith,
-        count_le count lines (omega arith),
-        sum_by-cons (λ (l : List ℕ). length l + 1) line (take count lines),
-      )
+count_le : (count : ℕ) (lines : List (List ℕ)) → count ≤ length lines → count ≤ lines_len (take count lines)
+count_le zero lines h = omega arith
+count_le (suc count) [] h = absurd (omega arith)
+count_le (suc count) (line ∷ lines) h =
+    omega (
+      arith,
+      count_le count lines (omega arith),
+      sum_by-cons (λ (l : List ℕ). length l + 1) line (take count lines),
+    )
 
--- what is left of a text that is read
-pub read_of_text : {size : ℕ} {old now : LinesLeft} {items : List TextItem} → HasRead size old now items → AreOfText old
-    → AreOfText now
-read_of_text {old = old} read h = subst AreOfText (sym read.rest) (of_text_after read.count old h read.within)
+-- how many lines and bytes are left after others
+few_after : (count : ℕ) (left : LinesLeft) → count ≤ length left.lines
+    → left.number + count + lines_len (drop count left.lines) ≤ left.number + lines_len left.lines
+few_after count left within =
+    omega (
+      arith,
+      count_le count left.lines within,
+      sum_by-take-drop (λ (l : List ℕ). length l + 1) left.lines count,
+    )
 
--- the line that is read next
-pub line_utf8 : {size : ℕ} {old now : LinesLeft} {items : List TextItem} {line : List ℕ} {others : List (List ℕ)}
-    → HasRead size old now items → AreOfText old → now.lines ≡ line ∷ others → IsUtf8 line
-line_utf8 {line = line} {others = others} read h e =
-    (All-head IsCleanLine line others (subst (All IsCleanLine) e (read_of_text read h).clean)).utf8
+-- how many are left of a text
+pub of_text_few : (left : LinesLeft) → AreOfText left → left.number + lines_len left.lines ≤ 2 ^ 31 + 1
+of_text_few left h =
+    let number : left.number ≡ 1 + h.count = ap (λ (l : LinesLeft). l.number) h.rest in
+    let lines : left.lines ≡ drop h.count (all_lines left.text).lines = ap (λ (l : LinesLeft). l.lines) h.rest in
+    omega (
+      arith,
+      few_after h.count (all_lines left.text) h.within,
+      ap lines_len lines,
+      lines_len-lines_of (without_byte_order_mark left.text),
+      without_byte_order_mark-le left.text,
+      h.small,
+    )
+
+-- and of what is read
+pub read_few : {size : ℕ} {old now : LinesLeft} {items : List TextItem} → HasRead size old now items → AreOfText old
+    → now.number + lines_len now.lines ≤ 2 ^ 31 + 1
+read_few {old = old} {now = now} read h =
+    omega (
+      arith,
+      ap (λ (l : LinesLeft). l.number) read.rest,
+      ap (λ (l : LinesLeft). lines_len l.lines) read.rest,
+      few_after read.count old read.within,
+      of_text_few old h,
+    )
+
+-- how many bytes are read, and how many the next line has
+pub len_few : {size len : ℕ} {old now : LinesLeft} {items : List TextItem} {line : List ℕ} {others : List (List ℕ)}
+    → ReadSoFar size old now items len → AreOfText old → now.lines ≡ line ∷ others
+    → len + length line ≤ 2 ^ 32 + 1
+len_few {old = old} {line = line} {others = others} so_far h e =
+    omega (
+      arith,
+      so_far.len_is,
+      sum_by-take-le (λ (l : List ℕ). length l + 1) old.lines so_far.read.count,
+      of_text_few old h,
+      read_few so_far.read h,
+      ap lines_len e,
+      sum_by-cons (λ (l : List ℕ). length l + 1) line others,
+    )
+
+-- the items of a piece, before those of the line after it
+pub lent_before : (text : List ℕ) (old new : List Item) (count : ℕ) → count ≡ length old → AddsLent text old new
+    → take count new ≡ old
+lent_before text old new count is added = rw (is, added.1) (take-append_seam old added.0)
+
+-- so many lines, and so many more
+lines_joined : (count more : ℕ) (lines : List (List ℕ)) → (take count (take (count + more) lines) ≡ take count lines)
+    × (drop count (take (count + more) lines) ≡ take more (drop count lines))
+lines_joined count more lines =
+    (take-take count (count + more) lines (omega arith), drop-take count more lines)
+
+clean_joined : (count more : ℕ) (lines : List (List ℕ)) → All IsCleanLine (take count lines)
+    → All IsCleanLine (take more (drop count lines)) → All IsCleanLine (take (count + more) lines)
+clean_joined count more lines first others =
+    let parts = lines_joined count more lines in
+    let all = take (count + more) lines in
+    subst (All IsCleanLine) (take-append-drop count all)
+    (All-append IsCleanLine (take count all) (drop count all) (subst (All IsCleanLine) (sym parts.0) first)
+    (subst (All IsCleanLine) (sym parts.1) others))
+
+spelt_joined : (count more number : ℕ) (lines : List (List ℕ)) (items others : List TextItem)
+    → SpellsLines number (take count lines) items → SpellsLines (number + count) (take more (drop count lines)) others
+    → SpellsLines number (take (count + more) lines) (items ++ others)
+spelt_joined count more number lines items others h g =
+    let parts = lines_joined count more lines in
+    joined_after count number (take (count + more) lines) items others
+    (subst (λ l. SpellsLines number l items) (sym parts.0) h)
+    (subst (λ l. SpellsLines (number + count) l others) (sym parts.1) g)
+
+-- what is left of a text after clean lines that are read
+read_of_text : {size : ℕ} {old now : LinesLeft} {items : List TextItem} (read : HasRead size old now items)
+    → All IsCleanLine (take read.count old.lines) → AreOfText old → AreOfText now
+read_of_text {old = old} {items = items} read clean h =
+    let all = (all_lines old.text).lines in
+    let number : old.number ≡ 1 + h.count = ap (λ (l : LinesLeft). l.number) h.rest in
+    let lines : old.lines ≡ drop h.count all = ap (λ (l : LinesLeft). l.lines) h.rest in
+    let next : old.number + read.count ≡ 1 + (h.count + read.count) = omega arith in
+    let left : drop read.count old.lines ≡ drop (h.count + read.count) all =
+    ap (drop read.count) lines ∙ drop-drop read.count h.count all in
+    let spelt : SpellsLines (1 + h.count) (take read.count (drop h.count all)) items =
+    subst (λ n. SpellsLines n (take read.count (drop h.count all)) items) number
+    (subst (λ l. SpellsLines old.number (take read.count l) items) lines read.spelt) in
+    subst AreOfText (sym read.rest) (record {
+      small = h.small;
+      count = h.count + read.count;
+      within = omega (arith, h.within, read.within, ap length lines, length-drop h.count all);
+      rest = rw (next, left) refl;
+      clean = clean_joined h.count read.count all h.clean
+          (subst (λ l. All IsCleanLine (take read.count l)) lines clean);
+      items = h.items ++ items;
+      spelt = spelt_joined h.count read.count 1 all h.items items h.spelt spelt;
+    })
+
+-- of a text that is UTF-8 without NUL, any lines are
+left_clean : (count : ℕ) (left : LinesLeft) → AreOfText left → IsText left.text
+    → All IsCleanLine (take count left.lines)
+left_clean count left h text =
+    let lines : left.lines ≡ drop h.count (all_lines left.text).lines = ap (λ (l : LinesLeft). l.lines) h.rest in
+    All-take IsCleanLine count left.lines (subst (All IsCleanLine) (sym lines)
+    (All-drop IsCleanLine h.count (all_lines left.text).lines (clean_lines left.text text.utf8 text.no_nul)))
+
+-- of such a text the first fault of the lines left is the first of all
+pub left_stops : {left : LinesLeft} {fault : PoFault} {line : ℕ} → AreOfText left → IsText left.text
+    → LinesStop left.number left.lines fault line → LeftStops left fault line
+left_stops {left} {fault} {line} h is stopped =
+    let number : left.number ≡ 1 + h.count = ap (λ (l : LinesLeft). l.number) h.rest in
+    let lines : left.lines ≡ drop h.count (all_lines left.text).lines = ap (λ (l : LinesLeft). l.lines) h.rest in
+    TextFault.stops h.small is.utf8 is.no_nul
+    (stops_after h.count 1 (all_lines left.text).lines h.items fault line h.spelt
+    (subst (λ n. LinesStop n (drop h.count (all_lines left.text).lines) fault line) number
+    (subst (λ l. LinesStop left.number l fault line) lines stopped)))
+
+-- a piece that is cut off, where its lines are clean
+pub clean_piece : {size len : ℕ} {old new : LinesLeft} {items : List TextItem} (cut : IsCut size len old new items)
+    → All IsCleanLine (take cut.read.count old.lines) → IsPiece size old new items
+clean_piece cut clean = record { read = cut.read; clean = clean; ends = cut.ends }
+
+pub piece_of_text : {size : ℕ} {old new : LinesLeft} {items : List TextItem} → IsPiece size old new items
+    → AreOfText old → AreOfText new
+piece_of_text piece h = read_of_text piece.read piece.clean h
+
+-- where they aren't, the text isn't either
+pub text_holds_other : {size len : ℕ} {old new : LinesLeft} {items : List TextItem} → IsCut size len old new items
+    → AreOfText old → (clean : Bool)
+    → ((count : ℕ) → len ≡ lines_len (take count old.lines) → IsTrue clean ↔ All IsCleanLine (take count old.lines))
+    → clean ≡ false → IsText old.text → ⊥
+text_holds_other {old = old} cut h clean tested not text =
+    let is = (tested cut.read.count cut.len_is).1 (left_clean cut.read.count old h text) in absurd (cc (is, not))
+
+pub has_fault : {T : Type 0} {Fits : Type 0} (Is : T → Type 0) (found : Option T) → MatchOption found Fits Is
+    → (Fits → ⊥) → IsSome found
+has_fault Is None fits other = absurd (other fits)
+has_fault Is (Some fault) is other = refl
 
 -- a piece above 2 ^ 31 bytes is all that is left
 pub piece_whole : {size : ℕ} {old new : LinesLeft} {items : List TextItem} → IsPiece size old new items → AreOfText old
@@ -359,16 +520,15 @@ piece_whole {size} {old} {new} piece h large = ended piece.ends where
       absurd (omega (
         arith,
         can.large,
-        h.small,
+        of_text_few old h,
         next,
         sum_by-take-drop (λ (l : List ℕ). length l + 1) old.lines piece.read.count,
       ))
 
-pub piece_hold : {size : ℕ} {old new : LinesLeft} {items : List TextItem} → IsPiece size old new items → AreOfText old
+pub piece_hold : {size : ℕ} {old new : LinesLeft} {items : List TextItem} → IsPiece size old new items
     → All HoldsText items
-piece_hold {size} {old} {new} {items} piece h =
-    lines_texts old.number (take piece.read.count old.lines) items piece.read.spelt
-    (All-take IsCleanLine piece.read.count old.lines h.clean)
+piece_hold {old = old} {items = items} piece =
+    lines_texts old.number (take piece.read.count old.lines) items piece.read.spelt piece.clean
 
 pub piece_few : {size : ℕ} {old new : LinesLeft} {items : List TextItem} → IsPiece size old new items → AreOfText old
     → length items ≤ 2 ^ 31
@@ -378,28 +538,33 @@ piece_few {size} {old} {new} {items} piece h =
       few : (lines : List (List ℕ)) → SpellsLines old.number lines items → lines_len lines ≤ lines_len old.lines
           → length items ≤ 2 ^ 31
       few [] spelt le = omega (arith, ap length spelt)
-      few (line ∷ lines) spelt le = omega (arith, lines-few old.number (line ∷ lines) items spelt, h.small)
+      few (line ∷ lines) spelt le = omega (arith, lines-few old.number (line ∷ lines) items spelt, of_text_few old h)
 
 -- what is left after a piece, in what was left before
 pub piece_spelt : (size : ℕ) (old new : LinesLeft) (items more : List TextItem) → IsPiece size old new items
     → SpellsLeft new more → SpellsLeft old (items ++ more)
 piece_spelt size old new items more piece h =
-    joined_after piece.read.count old.number old.lines items more piece.read.spelt
-    (subst (λ (left : LinesLeft). SpellsLeft left more) piece.read.rest h)
+    let count = piece.read.count in
+    let left = subst (λ (left : LinesLeft). SpellsLeft left more) piece.read.rest h in (
+      subst (All IsCleanLine) (take-append-drop count old.lines)
+          (All-append IsCleanLine (take count old.lines) (drop count old.lines) piece.clean left.0),
+      joined_after count old.number old.lines items more piece.read.spelt left.1,
+    )
 
 -- where no line is left after a piece, what was left before spells its items
 pub piece_all : (size : ℕ) (old new : LinesLeft) (items : List TextItem) → IsPiece size old new items → new.lines ≡ []
     → SpellsLeft old items
 piece_all size old new items piece over =
-    let nothing : SpellsLeft new [] =
-    subst (λ (lines : List (List ℕ)). SpellsLines new.number lines []) (sym over) refl in
+    let nothing : SpellsLeft new [] = (
+      rw over (All-nil IsCleanLine),
+      subst (λ (lines : List (List ℕ)). SpellsLines new.number lines []) (sym over) refl,
+    ) in
     rw append-nil at (piece_spelt size old new items [] piece nothing)
 
 pub piece_stops : (size : ℕ) (old new : LinesLeft) (items : List TextItem) (fault : PoFault) (line : ℕ)
     → IsPiece size old new items → LeftStops new fault line → LeftStops old fault line
 piece_stops size old new items fault line piece h =
-    stops_after piece.read.count old.number old.lines items fault line piece.read.spelt
-    (subst (λ (left : LinesLeft). LeftStops left fault line) piece.read.rest h)
+    subst (λ (text : List ℕ). TextFault text fault line) (ap (λ (left : LinesLeft). left.text) piece.read.rest) h
 
 -- items that end a translation end in a string
 ends_in_string : (before : ℕ) (items : List TextItem) → IsTranslation (drop before items) → EndsInString items
@@ -439,9 +604,9 @@ pub piece_anew : (size : ℕ) (old new : LinesLeft) (items : List TextItem) → 
 piece_anew size old new items piece item more h = ended piece.ends where
   ended : (new.lines ≡ []) ⊎ CanEnd size old piece.read.count → IsNew item
   ended (inl over) = let none : item ∷ more ≡ [] =
-      subst (λ (lines : List (List ℕ)). SpellsLines new.number lines (item ∷ more)) over h in absurd (cc)
+      subst (λ (lines : List (List ℕ)). SpellsLines new.number lines (item ∷ more)) over h.1 in absurd (cc)
   ended (inr can) = line_anew (old.number + piece.read.count) (drop piece.read.count old.lines) item more can.anew
-      (subst (λ (left : LinesLeft). SpellsLeft left (item ∷ more)) piece.read.rest h)
+      (subst (λ (left : LinesLeft). SpellsLeft left (item ∷ more)) piece.read.rest h).1
 
 pub piece_shorter : (size : ℕ) (old new : LinesLeft) (items : List TextItem) → IsPiece size old new items
     → old.lines ≢ [] → length new.lines < length old.lines
@@ -464,3 +629,22 @@ piece_shorter size old new items piece some = ended piece.ends where
         counted piece.read.count can.items can.spelt can.ends,
         some_length old.lines some,
       )
+
+-- the first fault of a text, by what its bytes are and by that of the lines that are left
+pub first_of_text : {left : LinesLeft} → AreOfText left → (found : Option PoError) (error : PoError)
+    → MatchOption found (IsText left.text) (λ e. TextFault left.text e.kind e.line)
+    → LinesStop left.number left.lines error.kind error.line
+    → LeftStops left (unwrap_or found error).kind (unwrap_or found error).line
+first_of_text h None error is stopped = left_stops h is stopped
+first_of_text h (Some first) error is stopped = is
+
+-- the bytes of the first lines that are left
+pub rest_text : (rest : Option (Bor (List ℕ))) (own empty : Bor (List ℕ)) → own ≡ unwrap_or rest empty
+    → empty.now ≡ [] → (count len : ℕ) → len ≡ lines_len (take count (lines_of_rest rest))
+    → IsText (take len own.now) ↔ All IsCleanLine (take count (lines_of_rest rest))
+rest_text None own empty is none count len e = (
+  λ text. rw (take_all {A = List ℕ} count [] (omega arith)) (All-nil IsCleanLine),
+  λ clean. rw (is, none, take_all {A = ℕ} len [] (omega arith))
+      (record { utf8 = IsUtf8-nil; no_nul = All-nil (λ b. b ≢ 0) }),
+)
+rest_text (Some rest) own empty is none count len e = rw (is, e) (first_lines_clean count rest.now)

@@ -3,3 +3,4 @@ pub mod LineView
 pub mod Line
 pub mod QuotedString
 pub mod Token
+pub mod PieceEnd

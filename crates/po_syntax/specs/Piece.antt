@@ -1,6 +1,7 @@
 -- Where a piece of a text ends: at a line with which an entry begins anew after a translation
 -- (manual, "The Format of PO Files").
 use Rattle.std.specs.Prelude.{◌≡◌, ◌≢◌, ◌⊎◌, ℕ, ◌+◌, ◌<◌, ◌≤◌, List, [], ◌∷◌, length, take, drop, All}
+use Rattle.po_syntax.specs.CleanLine.{IsCleanLine}
 use Rattle.po_syntax.specs.LinesLeft.{LinesLeft, SpellsLeft, left_after, lines_len}
 use Rattle.po_syntax.specs.Spelling.{HoldsItems}
 use Rattle.po_syntax.specs.PoText.{SpellsLines}
@@ -63,9 +64,10 @@ pub record HasRead (size : ℕ) (old new : LinesLeft) (items : List TextItem) : 
   pub fewest : (fewer : ℕ) → fewer < count → CanEnd size old fewer → ⊥
 
 -- From `old` a piece was read that has these items, and `new` is left: the piece is the fewest
--- lines after which it can end, or all of them where it can't.
+-- lines after which it can end, or all of them where it can't. They are UTF-8 without NUL.
 pub record IsPiece (size : ℕ) (old new : LinesLeft) (items : List TextItem) : Type 0 where
   pub read : HasRead size old new items
+  pub clean : All IsCleanLine (take read.count old.lines)
   pub ends : (new.lines ≡ []) ⊎ CanEnd size old read.count
 
 -- the last item, where there is one, is a quoted string

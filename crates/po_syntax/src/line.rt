@@ -1,12 +1,11 @@
 //! The items of one line.
 
-ghost use Rattle.std.specs.Prelude.{◌≡◌, ◌≢◌, All, IfErr, IsUtf8, OnOk};
+ghost use Rattle.std.specs.Prelude.{◌≡◌, ◌≢◌, IfErr, OnOk};
 ghost use Rattle.po_syntax.specs.Internal.Line.{shape_of, hash_shape, tilde_shape, comment_shape};
-ghost use Rattle.po_syntax.specs.Lent.{LendsUtf8};
 ghost use Rattle.po_syntax.specs.LineFaults.{LineFault, TokensFault};
 ghost use Rattle.po_syntax.specs.Spelling.{HoldsItems, HoldsTokens};
 ghost use Rattle.po_syntax.specs.ItemContents.{trim_returns};
-ghost use Rattle.po_syntax.specs.Internal.LineView.{AddsItems, IsShapeOf};
+ghost use Rattle.po_syntax.specs.Internal.LineView.{AddsItems, AddsLent, IsShapeOf};
 
 use crate::fault::PoFault;
 use crate::item::{CommentKind, Item, Marks};
@@ -90,7 +89,7 @@ fn add_tokens<'a>(
 ) -> Result<(), PoFault>
     ensures found { OnOk result
         (AddsItems (HoldsTokens marks line text.now) items.old.items items.new.items) }
-    ensures lent { IsUtf8 text.now → All LendsUtf8 items.old.items → OnOk result (All LendsUtf8 items.new.items) }
+    ensures lent { OnOk result (AddsLent text.now items.old.items items.new.items) }
     ensures fault { IfErr result (λ e. e ≢ PoFault.OutOfMemory → TokensFault text.now e) }
 {
     let mut rest = text;
@@ -119,7 +118,7 @@ pub(crate) fn add_line<'a>(
 ) -> Result<(), PoFault>
     ensures found { OnOk result
         (AddsItems (HoldsItems line text.now) items.old.items items.new.items) }
-    ensures lent { IsUtf8 text.now → All LendsUtf8 items.old.items → OnOk result (All LendsUtf8 items.new.items) }
+    ensures lent { OnOk result (AddsLent text.now items.old.items items.new.items) }
     ensures fault { IfErr result (λ e. e ≢ PoFault.OutOfMemory → LineFault text.now e) }
 {
     match shape_of(text) {

@@ -2,11 +2,13 @@
 
 ghost use Rattle.std.specs.Prelude.{◌≡◌, ◌≢◌, ◌↔◌, ◌+◌, ◌<◌, ◌≤◌, ◌^◌, ◌∷◌, [], take, drop, List, ℕ, All, length, vec_len, true, false, IfOk, IfErr, IfSome, MatchOption, OnOk, OnErr, IsTrue};
 ghost use Rattle.po_syntax.specs.declared.fault.PoFault.{PoFault};
-ghost use Rattle.po_syntax.specs.ItemContents.{HoldsText};
+ghost use Rattle.po_syntax.specs.CleanLine.{IsCleanLine};
+ghost use Rattle.po_syntax.specs.Internal.PieceEnd.{IsCut};
+ghost use Rattle.po_syntax.specs.ItemContents.{HoldsText, IsText};
 ghost use Rattle.po_syntax.specs.Lent.{LendsUtf8};
-ghost use Rattle.po_syntax.specs.LinesLeft.{LinesLeft, SpellsLeft, LeftStops, AreOfText, lines_of_rest};
+ghost use Rattle.po_syntax.specs.LinesLeft.{LinesLeft, SpellsLeft, LeftStops, AreOfText, lines_len, lines_of_rest};
 ghost use Rattle.po_syntax.specs.Piece.{BeginsAnew, EndsTranslation, IsPiece, IsString, IsTranslationWord};
-ghost use Rattle.po_syntax.specs.PoText.{SpellsText, TextFault, line_number, lines_of};
+ghost use Rattle.po_syntax.specs.PoText.{LinesStop, SpellsText, TextFault, line_number, lines_of};
 ghost use Rattle.po_syntax.specs.TextItem.{TextItem, view, views};
 
 use crate::fault::{PoError, PoFault};
@@ -14,13 +16,16 @@ use crate::item::{Item, Keyword};
 use crate::line::add_line;
 use memchr::memchr;
 use simdutf8::compat::from_utf8;
+use simdutf8::is_utf8;
 use std::alloc::{AllocError, Global};
 use std::marker::Model;
 
-/// A PO text that is read in pieces, each of which ends where an entry does: the text that is left
-/// to be read, and the number of its first line, counted from 1 (manual, "The Format of PO Files").
+/// A PO text that is read in pieces, each of which ends where an entry does: what is left of it to
+/// be read, and the number of the first line of that, counted from 1 (manual, "The Format of PO
+/// Files").
 #[derive(Drop)]
 pub struct Pieces<'a> {
+    text: &'a [u8],
     rest: Option<&'a [u8]>,
     line: u32,
 }
@@ -28,9 +33,20 @@ pub struct Pieces<'a> {
 impl<'a> Model for Pieces<'a> {
     ghost Value = { LinesLeft };
 
-    ghost view = { λ p. record { number = p.line; lines = lines_of_rest p.rest } };
+    ghost view = { λ p. record { text = p.text.now; number = p.line; lines = lines_of_rest p.rest } };
 
-    ghost invariant = { λ p. AreOfText (record { number = p.line; lines = lines_of_rest p.rest }) };
+    ghost invariant = { λ p. AreOfText (record { text = p.text.now; number = p.line; lines = lines_of_rest p.rest }) };
+}
+
+/// Where a piece ends.
+#[derive(Clone, Copy)]
+struct PieceEnd<'a> {
+    /// What stands after it.
+    rest: Option<&'a [u8]>,
+    /// The number of the line after it.
+    line: u32,
+    /// How many bytes it has, with an LF after each line.
+    len: usize,
 }
 
 /// The longest text that is read, in bytes.
@@ -55,6 +71,26 @@ fn fault_at(text: &[u8], index: usize, kind: PoFault) -> PoError
         kind,
         line: 1 + feeds as u32,
     }
+}
+
+/// Whether a text is UTF-8 without NUL.
+fn is_text(text: &[u8]) -> bool
+    ensures { IsTrue result ↔ IsText text.now }
+{
+    is_utf8(text) && memchr(0, text).is_none()
+}
+
+/// The first fault of a text's bytes: at the first one that isn't UTF-8, else at the first NUL.
+#[tactic(auto, using(crate::proofs::Searches::text_faults))]
+fn byte_fault(text: &[u8]) -> Option<PoError>
+    requires { length text.now < 2 ^ 31 }
+    ensures { MatchOption result (IsText text.now) (λ e. TextFault text.now e.kind e.line) }
+{
+    if let Err(error) = from_utf8(text) {
+        return Some(fault_at(text, error.valid_up_to(), PoFault::NotUtf8));
+    }
+    let index = memchr(0, text)?;
+    Some(fault_at(text, index, PoFault::ForbiddenByte))
 }
 
 /// Cuts off the first line: its text, and what stands after its LF, if it has one.
@@ -129,8 +165,7 @@ fn ends_entry(items: &[Item<'_>], index: usize) -> bool
 
 impl<'a> Pieces<'a> {
     /// The whole text, of which nothing is read yet. Refused with `TooLarge`, without a line, above
-    /// 2,147,483,647 bytes; with `NotUtf8` at the first byte that is not; with `ForbiddenByte` at
-    /// the first NUL.
+    /// 2,147,483,647 bytes.
     #[tactic(auto, using(crate::proofs::Searches::text_faults))]
     pub fn of(text: &'a [u8]) -> Result<Pieces<'a>, PoError>
         ensures found { IfOk result (λ left. (items : List TextItem) → SpellsLeft left items
@@ -146,14 +181,9 @@ impl<'a> Pieces<'a> {
                 line: 0,
             });
         }
-        if let Err(error) = from_utf8(text) {
-            return Err(fault_at(text, error.valid_up_to(), PoFault::NotUtf8));
-        }
-        if let Some(index) = memchr(0, text) {
-            return Err(fault_at(text, index, PoFault::ForbiddenByte));
-        }
         let rest = text.strip_prefix(b"\xef\xbb\xbf").unwrap_or(text);
         Ok(Pieces {
+            text,
             rest: Some(rest),
             line: 1,
         })
@@ -164,6 +194,7 @@ impl<'a> Pieces<'a> {
         ensures { result ≡ self.now }
     {
         Pieces {
+            text: self.text,
             rest: self.rest,
             line: self.line,
         }
@@ -180,8 +211,12 @@ impl<'a> Pieces<'a> {
 
     /// The items of the next piece: the fewest whole lines of at least this many bytes at whose end
     /// an entry ends, as the next line begins another; or all that is left. So comments are in one
-    /// piece with the entry after them. Refused with the leftmost fault of the first line that has
-    /// one, or with `OutOfMemory`; then as much is left as before.
+    /// piece with the entry after them.
+    ///
+    /// The bytes of a piece are tested with it. Where it holds one that isn't UTF-8, or a NUL, or a
+    /// line with a fault, the whole text is refused, for the first of these in it: with `NotUtf8`,
+    /// with `ForbiddenByte`, or with the leftmost fault of the first line that has one. Then, and
+    /// where it is refused with `OutOfMemory`, as much is left as before.
     pub fn next(&mut self, alloc: Global, size: usize) -> Result<Vec<Item<'a>>, PoError>
         ensures piece { IfOk result (λ items. IsPiece size self.old self.new (views items.items)) }
         ensures whole { 2 ^ 31 < size → OnOk result (self.new.lines ≡ []) }
@@ -193,23 +228,80 @@ impl<'a> Pieces<'a> {
         ensures unchanged { OnErr result (self.new ≡ self.old) }
     {
         let mut items = Vec::with_capacity(alloc, FIRST_ROOM)?;
-        *self = self.add_piece(alloc, size, &mut items)?;
+        let end = self.add_tested_piece(alloc, size, &mut items)?;
+        *self = Pieces {
+            text: self.text,
+            rest: end.rest,
+            line: end.line,
+        };
         Ok(items)
     }
 
-    /// Adds the items of the next piece to an empty list, as `next` says. Returns what is left after
-    /// the piece.
+    /// Adds the items of the next piece to an empty list, as `next` says. Returns where the piece
+    /// ends.
+    fn add_tested_piece(
+        &self,
+        alloc: Global,
+        size: usize,
+        items: &mut Vec<Item<'a>>,
+    ) -> Result<PieceEnd<'a>, PoError>
+        requires { items.old.items ≡ [] }
+        ensures of_text { AreOfText self.now }
+        ensures piece { IfOk result (λ end. IsPiece size self.now
+            (record { text = self.now.text; number = end.line; lines = lines_of_rest end.rest }) (views items.new.items)) }
+        ensures lent { OnOk result (All LendsUtf8 items.new.items) }
+        ensures fault { IfErr result (λ e. e.kind ≢ PoFault.OutOfMemory → LeftStops self.now e.kind e.line) }
+        ensures memory { IfErr result (λ e. e.kind ≡ PoFault.OutOfMemory → e.line ≡ 0) }
+    {
+        let end = match self.add_piece(alloc, size, items) {
+            Ok(end) => end,
+            Err(error) => return Err(self.first_fault(error)),
+        };
+        if !self.begins_with_text(end.len) {
+            return Err(byte_fault(self.text).unwrap());
+        }
+        Ok(end)
+    }
+
+    /// Whether the first lines that are left, of so many bytes with an LF after each, are UTF-8
+    /// without NUL.
+    fn begins_with_text(&self, len: usize) -> bool
+        ensures { (count : ℕ) → len ≡ lines_len (take count self.now.lines)
+            → (IsTrue result ↔ All IsCleanLine (take count self.now.lines)) }
+    {
+        let rest = self.rest.unwrap_or(&[]);
+        is_text(rest.split_at(len.min(rest.len())).0)
+    }
+
+    /// The first fault of the text, if this is that of the lines that are left; or out of memory.
+    fn first_fault(&self, error: PoError) -> PoError
+        requires fault { error.kind ≢ PoFault.OutOfMemory
+            → LinesStop self.now.number self.now.lines error.kind error.line }
+        requires memory { error.kind ≡ PoFault.OutOfMemory → error.line ≡ 0 }
+        ensures fault { result.kind ≢ PoFault.OutOfMemory → LeftStops self.now result.kind result.line }
+        ensures memory { result.kind ≡ PoFault.OutOfMemory → result.line ≡ 0 }
+    {
+        match error.kind {
+            PoFault::OutOfMemory => error,
+            _ => byte_fault(self.text).unwrap_or(error),
+        }
+    }
+
+    /// Adds the items of the next piece to an empty list, as `next` says, but doesn't test its
+    /// bytes. Returns where the piece ends.
     fn add_piece(
         &self,
         alloc: Global,
         size: usize,
         items: &mut Vec<Item<'a>>,
-    ) -> Result<Pieces<'a>, PoError>
+    ) -> Result<PieceEnd<'a>, PoError>
         requires { items.old.items ≡ [] }
         ensures of_text { AreOfText self.now }
-        ensures piece { IfOk result (λ left. IsPiece size self.now left (views items.new.items)) }
-        ensures lent { OnOk result (All LendsUtf8 items.new.items) }
-        ensures fault { IfErr result (λ e. e.kind ≢ PoFault.OutOfMemory → LeftStops self.now e.kind e.line) }
+        ensures cut { IfOk result (λ end. (cut : IsCut size end.len self.now
+            (record { text = self.now.text; number = end.line; lines = lines_of_rest end.rest }) (views items.new.items))
+            × (All IsCleanLine (take cut.read.count self.now.lines) → All LendsUtf8 items.new.items)) }
+        ensures fault { IfErr result (λ e. e.kind ≢ PoFault.OutOfMemory
+            → LinesStop self.now.number self.now.lines e.kind e.line) }
         ensures memory { IfErr result (λ e. e.kind ≡ PoFault.OutOfMemory → e.line ≡ 0) }
     {
         let mut rest = self.rest;
@@ -231,7 +323,7 @@ impl<'a> Pieces<'a> {
             line += 1;
             len += first.len() + 1;
         }
-        Ok(Pieces { rest, line })
+        Ok(PieceEnd { rest, line, len })
     }
 }
 

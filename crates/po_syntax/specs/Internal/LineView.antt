@@ -1,5 +1,5 @@
 -- What contracts see of what the code reads. Internal to this crate.
-use Rattle.std.specs.Prelude.{◌≡◌, ℕ, List, ◌++◌, Option, Result, MatchOption, MatchResult}
+use Rattle.std.specs.Prelude.{◌≡◌, ℕ, List, ◌++◌, All, IsUtf8, Option, Result, MatchOption, MatchResult}
 use Rattle.std.specs.Borrow.{Bor}
 use Rattle.po_syntax.specs.declared.fault.PoFault.{PoFault}
 use Rattle.po_syntax.specs.declared.item.Item.{Item}
@@ -10,6 +10,7 @@ use Rattle.po_syntax.specs.declared.token.Token.{Token}
 use Rattle.po_syntax.specs.declared.token.Token.TheVariants as token
 use Rattle.po_syntax.specs.Internal.Line as line
 use Rattle.po_syntax.specs.Internal.QuotedString.{Step, Byte, Stop}
+use Rattle.po_syntax.specs.Lent.{LendsUtf8}
 use Rattle.po_syntax.specs.TextItem.{TextItem, views}
 use Rattle.po_syntax.specs.Internal.Token as spec
 
@@ -44,3 +45,7 @@ IsShapeOf shape result =
 -- the new items are the old ones and then items that are spelt
 abbrev pub AddsItems : (List TextItem → Type 0) → List Item → List Item → Type 0
 AddsItems Spells old new = (spelt : List TextItem) × Spells spelt × (views new ≡ views old ++ spelt)
+
+-- after the old items others stand; what these borrow is UTF-8 where the text is
+abbrev pub AddsLent : List ℕ → List Item → List Item → Type 0
+AddsLent text old new = (added : List Item) × (new ≡ old ++ added) × (IsUtf8 text → All LendsUtf8 added)

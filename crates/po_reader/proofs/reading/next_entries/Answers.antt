@@ -49,8 +49,10 @@ returns-in_ok-items-in_default-clause-found c =
 
 pub returns-in_ok-items-in_default-clause-faults : goal.returns-in_ok-items-in_default-clause-faults
 returns-in_ok-items-in_default-clause-faults c =
+    let piece = rw c.copy-start.ensures at c.in_ok-items-in_default.ensures.piece in
     ok_always c.read_items-in_default.result
     (λ kept. faults_over c.args.pieces.now c.next-in_default.new.self
+    (λ fault line. c.pieces_are_cut_off.ensures.stops _ _ _ _ fault line piece)
     (c.in_ok-items-in_default.ensures.whole (omega arith)))
 
 pub returns-in_ok-items-in_default-clause-fewer : goal.returns-in_ok-items-in_default-clause-fewer

@@ -1,6 +1,6 @@
 use Rattle.std.proofs.Common.{◌≡◌, ◌∙◌, refl, ap, [], ◌∷◌, Ok, Err}
 use Rattle.std.proofs.lemmas.List.{map_push}
-use Rattle.std.proofs.lemmas.List.Elements.{All-push}
+use Rattle.std.proofs.lemmas.List.Elements.{All-cons, All-nil}
 use Rattle.std.proofs.lemmas.Result.{on_ok_weaker, IfErr-weaker}
 use Rattle.po_syntax.specs.Internal.Line.{CommentLine, Tokens, shape_of}
 use Rattle.po_syntax.specs.ItemContents.{trim_returns}
@@ -32,7 +32,8 @@ pub returns-in-Some-Tokens-clause-lent : goal.returns-in-Some-Tokens-clause-lent
 returns-in-Some-Tokens-clause-lent c =
     let shape : shape_of c.args.text.now ≡ Tokens c.in-Some-Tokens.marks c.in-Some-Tokens.rest.now =
     c.in-Some-Tokens.ensures ∙ ap shape_view c.in-Some-Tokens.field-0-is in
-    λ utf8. c.add_tokens.ensures.lent (tokens-utf8 c.args.text.now shape utf8)
+    on_ok_weaker c.add_tokens.result
+    (λ added. (added.0, added.1, λ utf8. added.2 (tokens-utf8 c.args.text.now shape utf8))) c.add_tokens.ensures.lent
 
 pub returns-in_ok-push-in-Some-Comment-clause-found : goal.returns-in_ok-push-in-Some-Comment-clause-found
 returns-in_ok-push-in-Some-Comment-clause-found c =
@@ -44,5 +45,5 @@ returns-in_ok-push-in-Some-Comment-clause-found c =
     )
 
 pub returns-in_ok-push-in-Some-Comment-clause-lent : goal.returns-in_ok-push-in-Some-Comment-clause-lent
-returns-in_ok-push-in-Some-Comment-clause-lent c = λ _ before.
-    rw c.in_ok-push-in-Some-Comment.ensures.items (All-push LendsUtf8 _ _ before tt)
+returns-in_ok-push-in-Some-Comment-clause-lent c =
+    (_, c.in_ok-push-in-Some-Comment.ensures.items, λ utf8. All-cons LendsUtf8 _ [] tt (All-nil LendsUtf8))

@@ -1,10 +1,9 @@
 use Rattle.std.proofs.Common.{◌≡◌, ◌∙◌, refl, ap, [], ◌∷◌, ◌++◌, append_assoc, append-nil, Ok, Err, arith}
 use Rattle.std.proofs.lemmas.List.{map_push}
-use Rattle.std.proofs.lemmas.List.Elements.{All-push}
 use Rattle.std.proofs.lemmas.Result.{err_from_is_err_and}
 use Rattle.std.specs.Cow.{cow_slice_items}
 use Rattle.po_syntax.specs.Escapes.{SpellsString}
-use Rattle.po_syntax.specs.Lent.{LendsUtf8}
+use Rattle.po_syntax.proofs.LentStrings.{one_more}
 use Rattle.po_syntax.specs.TextItem.{Word, Str}
 use Rattle.po_syntax.specs.Internal.Token.{LineEnd, OpeningQuote, KeywordToken, token_at}
 use Rattle.po_syntax.specs.Internal.LineView.{token_view}
@@ -65,10 +64,9 @@ loop-inside-preserved-in-OpeningQuote c =
       λ fault h. c.loop-inside.invariant.3 _
           (tokens_at c.args.marks c.args.line _ (Err _) opens (Ok (_, _), quoted, (Err fault, h, refl))),
       λ utf8. string_rest-utf8 quoted (inside-utf8 c.loop-inside.rest.now opens (c.loop-inside.invariant.4 utf8)),
-      λ utf8 before. rw c.in_ok-push-in-OpeningQuote.ensures.items
-          (All-push LendsUtf8 _ _ (c.loop-inside.invariant.5 utf8 before)
-          (c.in_ok-bytes-in-OpeningQuote.ensures.lent
-          (inside-utf8 c.loop-inside.rest.now opens (c.loop-inside.invariant.4 utf8)))),
+      one_more _ _ _ _ _ c.loop-inside.invariant.5 c.in_ok-push-in-OpeningQuote.ensures.items (λ utf8.
+          c.in_ok-bytes-in-OpeningQuote.ensures.lent
+          (inside-utf8 c.loop-inside.rest.now opens (c.loop-inside.invariant.4 utf8))),
     )
 
 pub loop-inside-smaller : goal.loop-inside-smaller
@@ -87,6 +85,5 @@ loop-inside-preserved c =
           (c.loop-inside.invariant.2 _ (tokens_at c.args.marks c.args.line _ (Ok _) key (Ok more, h, refl))),
       λ fault h. c.loop-inside.invariant.3 _ (tokens_at c.args.marks c.args.line _ (Err _) key (Err fault, h, refl)),
       λ utf8. token_rest-utf8 c.loop-inside.rest.now key (c.loop-inside.invariant.4 utf8),
-      λ utf8 before. rw c.in_ok-push-in-Keyword.ensures.items
-          (All-push LendsUtf8 _ _ (c.loop-inside.invariant.5 utf8 before) tt),
+      one_more _ _ _ _ _ c.loop-inside.invariant.5 c.in_ok-push-in-Keyword.ensures.items (λ utf8. tt),
     )

@@ -1,6 +1,6 @@
-use Rattle.std.proofs.Common.{◌≡◌, ◌++◌, List, length, All, IsUtf8}
+use Rattle.std.proofs.Common.{◌≡◌, ◌++◌, List, length, IsUtf8}
 use Rattle.po_syntax.specs.declared.fault.PoFault.{PoFault}
-use Rattle.po_syntax.specs.Lent.{LendsUtf8}
+use Rattle.po_syntax.specs.Internal.LineView.{AddsLent}
 use Rattle.po_syntax.specs.LineFaults.{TokensFault}
 use Rattle.po_syntax.specs.Spelling.{HoldsTokens}
 use Rattle.po_syntax.specs.TextItem.{TextItem, views}
@@ -14,7 +14,7 @@ invariant-loop-inside l =
     → HoldsTokens l.marks l.line l.text (spelt ++ more))
     × ((fault : PoFault) → TokensFault l.rest fault → TokensFault l.text fault)
     × (IsUtf8 l.text → IsUtf8 l.rest)
-    × (IsUtf8 l.text → All LendsUtf8 l.initial.items.items → All LendsUtf8 l.items.items)
+    × AddsLent l.text l.initial.items.items l.items.items
 
 abbrev pub decreases-loop-inside : goal.decreases-loop-inside
 decreases-loop-inside l = length l.rest

@@ -1,16 +1,12 @@
-use Rattle.std.proofs.Common.{length, All}
-use Rattle.po_syntax.specs.Lent.{LendsUtf8}
+use Rattle.std.proofs.Common.{length}
 use Rattle.po_syntax.specs.LinesLeft.{lines_of_rest}
-use Rattle.po_syntax.specs.TextItem.{views}
-use Rattle.po_syntax.proofs.PieceLemmas.{ReadSoFar}
+use Rattle.po_syntax.proofs.PieceLemmas.{ReadLent}
 use Rattle.po_syntax.proofs.pieces.Pieces.add_piece.Given as goal
 
 abbrev pub invariant-loop-rest : goal.invariant-loop-rest
-invariant-loop-rest l = record {
-  so_far : ReadSoFar l.size l.self (record { number = l.line; lines = lines_of_rest l.rest }) (views l.items.items)
-      l.len;
-  lent : All LendsUtf8 l.items.items;
-}
+invariant-loop-rest l =
+    ReadLent l.size l.self (record { text = l.self.text; number = l.line; lines = lines_of_rest l.rest }) l.items.items
+    l.len
 
 abbrev pub decreases-loop-rest : goal.decreases-loop-rest
 decreases-loop-rest l = length (lines_of_rest l.rest)

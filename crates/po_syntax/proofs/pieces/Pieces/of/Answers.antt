@@ -1,8 +1,8 @@
-use Rattle.std.proofs.Common.{◌≡◌, rules, ap, length, arith}
-use Rattle.po_syntax.specs.PoText.{IsSmall, stops, without_byte_order_mark}
-use Rattle.po_syntax.proofs.CleanLines.{clean_lines}
-use Rattle.po_syntax.proofs.Lines.{lines_len-lines_of, without_byte_order_mark-le}
-use Rattle.po_syntax.proofs.Searches.{none_found}
+use Rattle.std.proofs.Common.{◌≡◌, [], refl, rules, arith}
+use Rattle.std.proofs.lemmas.List.Elements.{All-nil}
+use Rattle.po_syntax.specs.CleanLine.{IsCleanLine}
+use Rattle.po_syntax.specs.PoText.{without_byte_order_mark}
+use Rattle.po_syntax.proofs.CleanTexts.{text_of_clean_lines}
 use Rattle.po_syntax.proofs.pieces.Pieces.of.Goals as goal
 
 pub invariant_of-result : goal.invariant_of-result
@@ -10,19 +10,23 @@ invariant_of-result c =
     let text = c.args.text.now in
     let found : c.unwrap_or-rest.result.now ≡ without_byte_order_mark text = search rules in
     record {
-      clean = rw found (clean_lines text c.in_default.ensures.cases.1 (none_found 0 text c.in_default-memchr.ensures));
-      small = omega (
-        arith,
-        lines_len-lines_of c.unwrap_or-rest.result.now,
-        ap length found,
-        without_byte_order_mark-le text,
-        c.if-text-gt-MAX_LEN.false,
-      );
+      small = omega (arith, c.if-text-gt-MAX_LEN.false);
+      count = 0;
+      within = omega arith;
+      rest = rw found refl;
+      clean = All-nil IsCleanLine;
+      items = [];
+      spelt = refl;
     }
 
-pub returns-clause-stops : goal.returns-clause-stops
-returns-clause-stops c = λ fault line h.
+pub returns-clause-found : goal.returns-clause-found
+returns-clause-found c = λ items h.
     let text = c.args.text.now in
     let found : c.unwrap_or-rest.result.now ≡ without_byte_order_mark text = search rules in
-    let small : IsSmall text = omega (arith, c.if-text-gt-MAX_LEN.false) in
-    stops small c.in_default.ensures.cases.1 (none_found 0 text c.in_default-memchr.ensures) (rw found at h)
+    let whole = text_of_clean_lines text (rw found at h.0) in
+    record {
+      small = omega (arith, c.if-text-gt-MAX_LEN.false);
+      utf8 = whole.utf8;
+      no_nul = whole.no_nul;
+      lines = rw found at h.1;
+    }
