@@ -101,10 +101,10 @@ pub(crate) fn numbered(
 }
 
 /// Numbers the messages of keys by this index, which has none yet.
-fn numbered_by<'a>(
-    index: &mut IndexSet<MessageKey<'a>, Seeded>,
+fn numbered_by<'k, 'a>(
+    index: &mut IndexSet<&'k MessageKey<'a>, Seeded>,
     alloc: Global,
-    keys: &[MessageKey<'a>],
+    keys: &'k [MessageKey<'a>],
 ) -> Result<(Vec<usize>, usize), AllocError>
     requires { index.old.keys ≡ [] }
     ensures numbers { IfOk result (λ r. r.0.items ≡ group_numbers same_message (messages_of_keys keys.now)) }
@@ -112,7 +112,7 @@ fn numbered_by<'a>(
 {
     let mut numbers = Vec::with_capacity(alloc, keys.len())?;
     for key in keys {
-        let (number, _) = index.insert_full(*key)?;
+        let (number, _) = index.insert_full(key)?;
         numbers.push(number)?;
     }
     Ok((numbers, index.len()))

@@ -22,6 +22,6 @@ returns c =
     let whole = ap messages_of_keys (take_all c.loop-key.key-index c.args.keys.now c.loop-key-test.false) in
     record {
       numbers = c.loop-key.invariant.numbers_are ∙ ap (group_numbers same_message) whole;
-      count = c.len.ensures.len ∙ sym (length-map c.loop-key.index.keys message_of_key)
+      count = c.len.ensures.len ∙ sym (length-map c.loop-key.index.keys (λ key. message_of_key key.now))
           ∙ ap length (c.loop-key.invariant.firsts ∙ ap (first_ones same_message) whole);
     }
