@@ -20,7 +20,7 @@ use Rattle.po_reader.proofs.SpeltRuns.{IsApart, spelt_go_on}
 use Rattle.po_reader.proofs.Texts.{read_or_stopped}
 use Rattle.po_syntax.specs.CleanLine.{IsCleanLine}
 use Rattle.po_syntax.specs.LinesLeft.{LeftStops, LinesLeft, SpellsLeft}
-use Rattle.po_syntax.specs.PoText.{SpellsText, SpellsLines, LinesStop, TextFault}
+use Rattle.po_syntax.specs.PoText.{SpellsText, SpellsLines, TextFault}
 use Rattle.po_syntax.specs.declared.item.Keyword.TheVariants.{MsgStrAt}
 use Rattle.po_reader.specs.PieceRead.{ReadsOn, FaultsStay, IsLeftFault, IsReadSoFar}
 use Rattle.po_reader.specs.Internal.Keeping.{SpellsOn, KeepsReading, KeepsItems, StopsStay}

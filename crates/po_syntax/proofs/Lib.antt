@@ -23,4 +23,7 @@ pub mod WrittenForms
 pub mod LineNumbers
 pub mod FaultyLines
 pub mod CleanTexts
+pub mod TranslationEnds
+pub mod LinesRead
+pub mod TextLeft
 pub mod PieceLemmas

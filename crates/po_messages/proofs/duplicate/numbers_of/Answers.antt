@@ -1,5 +1,5 @@
 use Rattle.std.proofs.Common.{◌∙◌, ◌++◌, ◌∷◌, [], Bool, ℕ, List, ap, ap₂, sym}
-use Rattle.std.proofs.lemmas.List.{map_more, map_push}
+use Rattle.std.proofs.lemmas.List.{map_push}
 use Rattle.po_entry.specs.TextEntry.{TextEntry}
 use Rattle.po_messages.specs.Joined.{is_live}
 use Rattle.po_messages.specs.Message.{Message, entry_message, entry_messages}

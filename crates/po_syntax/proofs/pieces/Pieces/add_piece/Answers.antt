@@ -1,7 +1,9 @@
 use Rattle.std.proofs.Common.{◌≡◌, ◌∙◌, ap, sym, subst, inl, inr, length, arith}
 use Rattle.po_syntax.specs.LinesLeft.{AreOfText, lines_of_rest}
 use Rattle.po_syntax.specs.Piece.{BeginsAnew, EndsTranslation}
-use Rattle.po_syntax.proofs.PieceLemmas.{can_end, cut_at, cut_off, len_few, lent_before, line_stops, lines_begin, none_read, read_few, read_on}
+use Rattle.po_syntax.proofs.LinesRead.{can_end, cut_off, lent_before, line_stops, lines_begin, none_read, read_on}
+use Rattle.po_syntax.proofs.TextLeft.{len_few, read_few}
+use Rattle.po_syntax.proofs.TranslationEnds.{cut_at}
 use Rattle.po_syntax.proofs.pieces.Pieces.add_piece.Goals as goal
 use Rattle.po_syntax.proofs.pieces.Pieces.add_piece.Goals.{else-len-size-via-then-len-size+else-ends_entry, else-len-size-via-else-len-size, in-Some+in-Ok+then-len-size+then-ends_entry, in_default}
 

@@ -1,6 +1,6 @@
 use Rattle.std.proofs.Common.{length}
 use Rattle.po_syntax.specs.LinesLeft.{lines_of_rest}
-use Rattle.po_syntax.proofs.PieceLemmas.{ReadLent}
+use Rattle.po_syntax.proofs.LinesRead.{ReadLent}
 use Rattle.po_syntax.proofs.pieces.Pieces.add_piece.Given as goal
 
 abbrev pub invariant-loop-rest : goal.invariant-loop-rest

@@ -1,0 +1,233 @@
+-- The lines of a piece, which are read one after the other.
+use Rattle.std.proofs.Common.{◌≡◌, ◌⊎◌, ◌∙◌, inl, inr, refl, sym, subst, ap, ℕ, zero, suc, ◌+◌, ◌≤◌, List, [], ◌∷◌, ◌++◌, append-nil, append_assoc, length, take, drop, All, IsUtf8, Option, Some, None, arith}
+use Rattle.std.specs.Borrow.{Bor}
+use Rattle.std.specs.Prelude.{MatchOption}
+use Rattle.std.proofs.Math.Seq.{take-append_seam}
+use Rattle.std.proofs.lemmas.Bool.{cases_lt}
+use Rattle.std.proofs.lemmas.List.{drop-take, take-take}
+use Rattle.std.proofs.lemmas.List.Elements.{All-nil, All-append, All-drop, All-head, All-take}
+use Rattle.std.proofs.lemmas.List.Sums.{sum_by-take-drop, sum_by-cons}
+use Rattle.po_syntax.specs.declared.fault.PoFault.{PoFault}
+use Rattle.po_syntax.specs.declared.item.Item.{Item}
+use Rattle.po_syntax.specs.CleanLine.{IsCleanLine}
+use Rattle.po_syntax.specs.Internal.LineView.{AddsLent}
+use Rattle.po_syntax.specs.Internal.PieceEnd.{IsCut}
+use Rattle.po_syntax.specs.Lent.{LendsUtf8}
+use Rattle.po_syntax.specs.LineFaults.{LineFault}
+use Rattle.po_syntax.specs.Spelling.{HoldsItems}
+use Rattle.po_syntax.specs.LinesLeft.{LinesLeft, lines_len, lines_of_rest}
+use Rattle.po_syntax.specs.Piece.{EndsTranslation, BeginsAnew, LineBeginsAnew, CanEnd, HasRead}
+use Rattle.po_syntax.specs.PoText.{SpellsLines, LinesStop, lines_of}
+use Rattle.po_syntax.specs.TextItem.{TextItem, views}
+use Rattle.po_syntax.proofs.Uniqueness.{line_once, lines_once}
+use Rattle.po_syntax.proofs.TranslationEnds.{drop_rest, some_line}
+
+-- the first line, and those after it
+pub lines_begin : (text line : List ℕ) (rest : Option (Bor (List ℕ)))
+    → MatchOption rest (lines_of text ≡ line ∷ []) (λ r. lines_of text ≡ line ∷ lines_of r.now)
+    → lines_of text ≡ line ∷ lines_of_rest rest
+lines_begin text line None h = h
+lines_begin text line (Some rest) h = h
+
+-- what lines spell after which others are left, and what those spell
+pub joined_after : (count number : ℕ) (lines : List (List ℕ)) (items more : List TextItem)
+    → SpellsLines number (take count lines) items → SpellsLines (number + count) (drop count lines) more
+    → SpellsLines number lines (items ++ more)
+joined_after zero number lines items more h g =
+    let same : number + 0 ≡ number = omega arith in
+    rw h (subst (λ (n : ℕ). SpellsLines n lines more) same g)
+joined_after (suc count) number [] items more h g = rw (h, g) refl
+joined_after (suc count) number (line ∷ lines) items more h g =
+    let sum : number + suc count ≡ (number + 1) + count = omega arith in (
+      h.0,
+      h.1 ++ more,
+      h.2,
+      joined_after count (number + 1) lines h.1 more h.3
+          (subst (λ (n : ℕ). SpellsLines n (drop count lines) more) sum g),
+      ap (λ (x : List TextItem). x ++ more) h.4 ∙ append_assoc h.0 h.1 more,
+    )
+
+-- the fault of lines that are left after others that have none
+pub stops_after : (count number : ℕ) (lines : List (List ℕ)) (items : List TextItem) (fault : PoFault) (line : ℕ)
+    → SpellsLines number (take count lines) items → LinesStop (number + count) (drop count lines) fault line
+    → LinesStop number lines fault line
+stops_after zero number lines items fault line h g =
+    let same : number + 0 ≡ number = omega arith in subst (λ (n : ℕ). LinesStop n lines fault line) same g
+stops_after (suc count) number [] items fault line h g = g
+stops_after (suc count) number (first ∷ lines) items fault line h g =
+    let sum : number + suc count ≡ (number + 1) + count = omega arith in
+    inr (
+      h.0,
+      h.2,
+      stops_after count (number + 1) lines h.1 fault line h.3
+          (subst (λ (n : ℕ). LinesStop n (drop count lines) fault line) sum g),
+    )
+
+-- one line more: what stands before it, and it alone
+last_line : (count : ℕ) (lines : List (List ℕ)) (line : List ℕ) (others : List (List ℕ))
+    → drop count lines ≡ line ∷ others
+    → (take count (take (suc count) lines) ≡ take count lines) × (drop count (take (suc count) lines) ≡ line ∷ [])
+last_line count lines line others e =
+    let next : suc count ≡ count + 1 = omega arith in (
+      take-take count (suc count) lines (omega arith),
+      ap (λ k. drop count (take k lines)) next ∙ drop-take count 1 lines
+          ∙ ap (take 1) e,
+    )
+
+spelt_more : (count number : ℕ) (lines : List (List ℕ)) (line : List ℕ) (others : List (List ℕ))
+    (items here : List TextItem) → SpellsLines number (take count lines) items → drop count lines ≡ line ∷ others
+    → HoldsItems (number + count) line here
+    → SpellsLines number (take (suc count) lines) (items ++ here)
+spelt_more count number lines line others items here h e s =
+    let parts = last_line count lines line others e in
+    joined_after count number (take (suc count) lines) items here
+    (subst (λ l. SpellsLines number l items) (sym parts.0) h)
+    (subst (λ l. SpellsLines (number + count) l here) (sym parts.1) (here, [], s, refl, sym (append-nil here)))
+
+len_more : (count : ℕ) (lines : List (List ℕ)) (line : List ℕ) (others : List (List ℕ))
+    → drop count lines ≡ line ∷ others
+    → lines_len (take (suc count) lines) ≡ lines_len (take count lines) + (length line + 1)
+len_more count lines line others e =
+    let parts = last_line count lines line others e in
+    omega (
+      arith,
+      sum_by-take-drop (λ (l : List ℕ). length l + 1) (take (suc count) lines) count,
+      ap lines_len parts.0,
+      ap lines_len parts.1,
+      sum_by-cons (λ (l : List ℕ). length l + 1) line [],
+    )
+
+-- so many bytes are read so far
+pub record ReadSoFar (size : ℕ) (old now : LinesLeft) (items : List TextItem) (len : ℕ) : Type 0 where
+  pub read : HasRead size old now items
+  pub len_is : len ≡ lines_len (take read.count old.lines)
+
+-- and what their items borrow is UTF-8, where the lines are clean
+pub record ReadLent (size : ℕ) (old now : LinesLeft) (items : List Item) (len : ℕ) : Type 0 where
+  pub so_far : ReadSoFar size old now (views items) len
+  pub lent : All IsCleanLine (take so_far.read.count old.lines) → All LendsUtf8 items
+
+pub none_read : (size : ℕ) (old : LinesLeft) → ReadLent size old old [] 0
+none_read size old = record {
+  so_far = record {
+    read = record {
+      count = 0;
+      within = omega arith;
+      rest = let same : old.number + 0 ≡ old.number = omega arith in
+          rw same refl;
+      spelt = refl;
+      fewest = λ fewer less. absurd (omega (arith, less));
+    };
+    len_is = refl;
+  };
+  lent = λ clean. All-nil LendsUtf8;
+}
+
+next_line : {size : ℕ} {old now : LinesLeft} {items : List TextItem} (read : HasRead size old now items)
+    {lines : List (List ℕ)} → now.lines ≡ lines → drop read.count old.lines ≡ lines
+next_line read e = sym (ap (λ (left : LinesLeft). left.lines) read.rest) ∙ e
+
+here_spelt : {size : ℕ} {old now : LinesLeft} {items here : List TextItem} {line : List ℕ}
+    (read : HasRead size old now items) → HoldsItems now.number line here
+    → HoldsItems (old.number + read.count) line here
+here_spelt {here = here} {line = line} read spelt =
+    subst (λ (left : LinesLeft). HoldsItems left.number line here) read.rest spelt
+
+-- a piece can end before a line only where its items and those before them say so
+no_end : {size len : ℕ} {old now : LinesLeft} {items here : List TextItem} {line : List ℕ} {others : List (List ℕ)}
+    (so_far : ReadSoFar size old now items len)
+    → now.lines ≡ line ∷ others → HoldsItems now.number line here
+    → (size ≤ len → EndsTranslation items → BeginsAnew here → ⊥) → CanEnd size old so_far.read.count → ⊥
+no_end {size} {old = old} so_far e spelt none can =
+    let read = so_far.read in
+    let items = lines_once old.number (take read.count old.lines) can.spelt read.spelt in
+    let anew = subst (LineBeginsAnew (old.number + read.count)) (next_line read e) can.anew in
+    let same = line_once anew.1 (here_spelt read spelt) in
+    none (subst (λ (l : ℕ). size ≤ l) (sym so_far.len_is) can.large) (subst EndsTranslation items can.ends)
+    (subst BeginsAnew same anew.2)
+
+-- the line that is read next, and those before it
+line_utf8 : {size : ℕ} {old now : LinesLeft} {items : List TextItem} {line : List ℕ} {others : List (List ℕ)}
+    (read : HasRead size old now items) → now.lines ≡ line ∷ others
+    → All IsCleanLine (take (suc read.count) old.lines) → IsUtf8 line × All IsCleanLine (take read.count old.lines)
+line_utf8 {old = old} {line = line} {others = others} read e clean =
+    let parts = last_line read.count old.lines line others (next_line read e) in (
+      (All-head IsCleanLine line [] (subst (All IsCleanLine) parts.1
+          (All-drop IsCleanLine read.count (take (suc read.count) old.lines) clean))).utf8,
+      subst (All IsCleanLine) parts.0 (All-take IsCleanLine read.count (take (suc read.count) old.lines) clean),
+    )
+
+-- a line more is read
+pub read_on : {size len : ℕ} {old now : LinesLeft} {before after : List Item} {here : List TextItem} {line : List ℕ}
+    {others : List (List ℕ)} → ReadLent size old now before len → views after ≡ views before ++ here
+    → AddsLent line before after → now.lines ≡ line ∷ others → HoldsItems now.number line here
+    → (size ≤ len → EndsTranslation (views before) → BeginsAnew here → ⊥)
+    → ReadLent size old (record { text = now.text; number = now.number + 1; lines = others }) after
+    (len + (length line + 1))
+read_on {size} {old = old} {now = now} {before = before} {after = after} {here = here} {line = line}
+    {others = others} so_far all added e spelt none =
+    let read = so_far.so_far.read in
+    let next = next_line read e in
+    let text : now.text ≡ old.text = ap (λ (left : LinesLeft). left.text) read.rest in
+    let number : now.number ≡ old.number + read.count = ap (λ (left : LinesLeft). left.number) read.rest in
+    let counted : now.number + 1 ≡ old.number + suc read.count = omega arith in
+    record {
+      so_far = record {
+        read = record {
+          count = suc read.count;
+          within = some_line read.count old.lines line others next;
+          rest = rw (text, counted, ← drop_rest read.count old.lines line others next) refl;
+          spelt = rw all
+              (spelt_more read.count old.number old.lines line others (views before) here read.spelt next
+              (here_spelt read spelt));
+          fewest = λ fewer less can.
+              elim (cases_lt fewer read.count) [
+                | inl before ↦ read.fewest fewer before can
+                | inr last ↦ let same : fewer ≡ read.count =
+                    omega arith in no_end so_far.so_far e spelt none (subst (CanEnd size old) same can)
+              ];
+        };
+        len_is = omega (arith, len_more read.count old.lines line others next, so_far.so_far.len_is);
+      };
+      lent = λ clean.
+          let clean = line_utf8 read e clean in
+          rw added.1 (All-append LendsUtf8 before added.0 (so_far.lent clean.1) (added.2 clean.0));
+    }
+
+-- a piece is cut off
+pub cut_off : {size len : ℕ} {old now : LinesLeft} {items : List Item} (so_far : ReadLent size old now items len)
+    → (now.lines ≡ []) ⊎ CanEnd size old so_far.so_far.read.count
+    → (cut : IsCut size len old now (views items))
+    × (All IsCleanLine (take cut.read.count old.lines) → All LendsUtf8 items)
+cut_off so_far ends = let own = so_far.so_far in
+    (record { read = own.read; len_is = own.len_is; ends = ends }, so_far.lent)
+
+-- a piece can end before a line that begins anew
+pub can_end : {size len : ℕ} {old now : LinesLeft} {items here : List TextItem} {line : List ℕ}
+    {others : List (List ℕ)} (so_far : ReadSoFar size old now items len)
+    → now.lines ≡ line ∷ others → HoldsItems now.number line here → size ≤ len → EndsTranslation items → BeginsAnew here
+    → CanEnd size old so_far.read.count
+can_end {size} {old = old} {items = items} {here = here} so_far e spelt large ends anew = let read =
+    so_far.read in record {
+      large = subst (λ (l : ℕ). size ≤ l) so_far.len_is large;
+      items = items;
+      spelt = read.spelt;
+      ends = ends;
+      anew = subst (LineBeginsAnew (old.number + read.count)) (sym (next_line read e))
+          (here, here_spelt read spelt, anew);
+    }
+
+-- the fault of the line that is read next
+pub line_stops : {size : ℕ} {old now : LinesLeft} {items : List TextItem} {line : List ℕ} {others : List (List ℕ)}
+    {fault : PoFault} → HasRead size old now items → now.lines ≡ line ∷ others → LineFault line fault
+    → LinesStop old.number old.lines fault now.number
+line_stops {old = old} {now = now} {items = items} {fault = fault} read e stops =
+    let number : now.number ≡ old.number + read.count = ap (λ (left : LinesLeft). left.number) read.rest in
+    stops_after read.count old.number old.lines items fault now.number read.spelt
+    (subst (λ (lines : List (List ℕ)). LinesStop (old.number + read.count) lines fault now.number)
+    (sym (next_line read e)) (inl (stops, number)))
+
+-- the items of a piece, before those of the line after it
+pub lent_before : (text : List ℕ) (old new : List Item) (count : ℕ) → count ≡ length old → AddsLent text old new
+    → take count new ≡ old
+lent_before text old new count is added = rw (is, added.1) (take-append_seam old added.0)
