@@ -142,8 +142,8 @@ apart left (item ∷ items) anew h = first item (anew item items h) where
 pub piece_faults : (old new : LinesLeft) (items : List TextItem) (entries : List TextEntry) → SpellsOn old new items
     → StopsStay old new → (new.lines ≡ []) ⊎ EndsInString items → LeftAnew new → ReadsItems items entries
     → FaultsStay old new
-piece_faults old new items entries spelt stops ends anew read fault line (piece.in_lines stopped) =
-    piece.in_lines (stops fault line stopped)
+piece_faults old new items entries spelt stops ends anew read fault line (piece.in_text stopped) =
+    piece.in_text (stops fault line stopped)
 piece_faults old new items entries spelt stops (inr ends) anew read fault line
     (piece.in_items {items = rest} more stopped) =
     piece.in_items (spelt rest more) (items_stop_after items rest entries read ends (apart new rest anew more) stopped)
@@ -153,7 +153,7 @@ piece_faults old new items entries spelt stops (inl none) anew read fault line
 
 -- nothing is wrong where no line is left
 pub faults_over : (old new : LinesLeft) → StopsStay old new → new.lines ≡ [] → FaultsStay old new
-faults_over old new stops none fault line (piece.in_lines stopped) = piece.in_lines (stops fault line stopped)
+faults_over old new stops none fault line (piece.in_text stopped) = piece.in_text (stops fault line stopped)
 faults_over old new stops none fault line (piece.in_items {items = rest} more stopped) =
     absurd (nothing_stops rest (nothing_left new rest none more) stopped)
 
@@ -168,7 +168,7 @@ fault_of_text : (text : List ℕ) (old : LinesLeft)
     → ((items : List TextItem) → SpellsLeft old items → SpellsText text items)
     → ((fault : PoFault) (line : ℕ) → LeftStops old fault line → TextFault text fault line)
     → (fault : PoFault) (line : ℕ) → IsLeftFault old fault line → IsReadFault text fault line
-fault_of_text text old spelt stops fault line (piece.in_lines stopped) =
+fault_of_text text old spelt stops fault line (piece.in_text stopped) =
     faults.IsReadFault.in_text (stops fault line stopped)
 fault_of_text text old spelt stops fault line (piece.in_items {items = items} h stopped) =
     faults.IsReadFault.in_items (spelt items h) stopped

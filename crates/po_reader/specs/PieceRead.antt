@@ -27,10 +27,10 @@ abbrev pub ReadsMessages : LinesLeft → LinesLeft → List TextEntry → Type 0
 ReadsMessages old new messages =
     (entries : List TextEntry) × (messages ≡ map without_comments entries) × ReadsOn old new entries
 
--- The fault of what is left to be read, with its line: that of the first line that has one; or that
--- of the items.
+-- The fault of what is left to be read, with its line: the first of the text, in its bytes or lines;
+-- or that of the items.
 pub data IsLeftFault (left : LinesLeft) : PoFault → ℕ → Type 0 where
-  in_lines : {fault : PoFault} {line : ℕ} → LeftStops left fault line → IsLeftFault left fault line
+  in_text : {fault : PoFault} {line : ℕ} → LeftStops left fault line → IsLeftFault left fault line
   in_items : {items : List TextItem} {fault : PoFault} {line : ℕ} → SpellsLeft left items → ItemsStop items fault line
       → IsLeftFault left fault line
 

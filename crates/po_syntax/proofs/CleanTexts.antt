@@ -1,5 +1,5 @@
 -- Where a text is UTF-8 without NUL, its lines are, and the other way round.
-use Rattle.std.proofs.Common.{◌≡◌, ◌≢◌, ◌↔◌, ◌∙◌, refl, sym, ap, subst, ℕ, zero, suc, ◌+◌, List, [], ◌∷◌, ◌++◌, length, take, drop, All, IsUtf8, nat_eq, arith}
+use Rattle.std.proofs.Common.{◌≡◌, ◌≢◌, ◌↔◌, ◌∙◌, refl, ap, subst, ℕ, zero, suc, ◌+◌, List, [], ◌∷◌, ◌++◌, length, take, drop, All, IsUtf8, nat_eq, arith}
 use Rattle.std.specs.List.{starts_with}
 use Rattle.std.proofs.Math.Seq.{take-append_seam, drop-append_seam, take-append-add}
 use Rattle.std.proofs.lemmas.Bool.{cond_both}
@@ -97,17 +97,21 @@ pub first_lines_clean : (count : ℕ) (text : List ℕ)
     → IsText (take (lines_len (take count (lines_of text))) text) ↔ All IsCleanLine (take count (lines_of text))
 first_lines_clean count text = (lines_clean count text (cut text), text_clean count text (cut text))
 
-text_of_lines : (text : List ℕ) → All IsCleanLine (lines_of text) → IsText text
-text_of_lines text h =
+-- and all of its lines, exactly if it is
+all_lines_clean : (text : List ℕ) → IsText text ↔ All IsCleanLine (lines_of text)
+all_lines_clean text =
     let lines = lines_of text in
     let all : take (length lines) lines ≡ lines = take_all (length lines) lines (omega arith) in
-    subst IsText (take_all (lines_len lines) text (omega (arith, lines_len-lines_of text)))
-    (subst (λ l. IsText (take (lines_len l) text)) all
-    (text_clean (length lines) text (cut text) (subst (All IsCleanLine) (sym all) h)))
+    let whole : take (lines_len lines) text ≡ text =
+    take_all (lines_len lines) text (omega (arith, lines_len-lines_of text)) in
+    rw (all, whole) at (first_lines_clean (length lines) text)
+
+pub lines_of_text : (text : List ℕ) → IsText text → All IsCleanLine (lines_of text)
+lines_of_text text = (all_lines_clean text).0
 
 -- a text whose lines are clean is so itself, with its byte order mark
 pub text_of_clean_lines : (text : List ℕ) → All IsCleanLine (all_lines text).lines → IsText text
-text_of_clean_lines text h = marked (text_of_lines (without_byte_order_mark text) h) where
+text_of_clean_lines text h = marked ((all_lines_clean (without_byte_order_mark text)).1 h) where
   marked : IsText (without_byte_order_mark text) → IsText text
   marked = cond_both (starts_with nat_eq text (0xEF ∷ 0xBB ∷ 0xBF ∷ [])) (drop 3 text) text
       (λ own. IsText own → IsText text) (λ e own.

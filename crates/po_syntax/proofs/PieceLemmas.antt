@@ -16,16 +16,12 @@ use Rattle.po_syntax.proofs.ItemTexts.{lines_texts}
 use Rattle.po_syntax.proofs.Lines.{lines-few, some_length}
 use Rattle.po_syntax.proofs.Uniqueness.{line_once, lines_once}
 use Rattle.po_syntax.proofs.LinesRead.{joined_after}
-use Rattle.po_syntax.proofs.TextLeft.{of_text_few, read_of_text, left_clean}
+use Rattle.po_syntax.proofs.TextLeft.{of_text_few, left_clean}
 
 -- a piece that is cut off, where its lines are clean
 pub clean_piece : {size len : ℕ} {old new : LinesLeft} {items : List TextItem} (cut : IsCut size len old new items)
     → All IsCleanLine (take cut.read.count old.lines) → IsPiece size old new items
 clean_piece cut clean = record { read = cut.read; clean = clean; ends = cut.ends }
-
-pub piece_of_text : {size : ℕ} {old new : LinesLeft} {items : List TextItem} → IsPiece size old new items
-    → AreOfText old → AreOfText new
-piece_of_text piece h = read_of_text piece.read piece.clean h
 
 -- where they aren't, the text isn't either
 pub text_holds_other : {size len : ℕ} {old new : LinesLeft} {items : List TextItem} → IsCut size len old new items

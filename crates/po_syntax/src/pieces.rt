@@ -246,7 +246,6 @@ impl<'a> Pieces<'a> {
         items: &mut Vec<Item<'a>>,
     ) -> Result<PieceEnd<'a>, PoError>
         requires { items.old.items ≡ [] }
-        ensures of_text { AreOfText self.now }
         ensures piece { IfOk result (λ end. IsPiece size self.now
             (record { text = self.now.text; number = end.line; lines = lines_of_rest end.rest }) (views items.new.items)) }
         ensures lent { OnOk result (All LendsUtf8 items.new.items) }
@@ -296,7 +295,6 @@ impl<'a> Pieces<'a> {
         items: &mut Vec<Item<'a>>,
     ) -> Result<PieceEnd<'a>, PoError>
         requires { items.old.items ≡ [] }
-        ensures of_text { AreOfText self.now }
         ensures cut { IfOk result (λ end. (cut : IsCut size end.len self.now
             (record { text = self.now.text; number = end.line; lines = lines_of_rest end.rest }) (views items.new.items))
             × (All IsCleanLine (take cut.read.count self.now.lines) → All LendsUtf8 items.new.items)) }

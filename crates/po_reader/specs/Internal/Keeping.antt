@@ -24,7 +24,7 @@ abbrev pub KeepsItems : Bool → List TextItem → List TextEntry → Type 0
 KeepsItems all items kept =
     (entries : List TextEntry) × ReadsItems items entries × (kept ≡ map (kept_entry all) entries)
 
--- a fault of a line that is left is one of the lines that were left before
+-- the text's first fault is the same as before
 abbrev pub StopsStay : LinesLeft → LinesLeft → Type 0
 StopsStay old new = (fault : PoFault) (line : ℕ) → LeftStops new fault line → LeftStops old fault line
 

@@ -1,5 +1,5 @@
 use Rattle.std.proofs.Common.{arith}
-use Rattle.po_reader.specs.PieceRead.IsLeftFault.{in_items, in_lines}
+use Rattle.po_reader.specs.PieceRead.IsLeftFault.{in_items, in_text}
 use Rattle.po_reader.specs.PieceRead.ReadsPiece.{all, piece}
 use Rattle.po_reader.proofs.PieceReading.{faults_over, items_kept, piece_faults}
 use Rattle.po_reader.proofs.Results.{err_both, ok_always, ok_step, passed_on}
@@ -8,7 +8,7 @@ use Rattle.po_reader.proofs.reading.next_entries.Goals as goal
 pub returns-in_err-items-clause-fault : goal.returns-in_err-items-clause-fault
 returns-in_err-items-clause-fault c =
     passed_on c.from_residual.result _ c.from_residual.ensures.1
-    (record { fault = λ other. in_lines (c.in_err-items.ensures.fault other); memory = c.in_err-items.ensures.memory })
+    (record { fault = λ other. in_text (c.in_err-items.ensures.fault other); memory = c.in_err-items.ensures.memory })
 
 pub returns-in-Ok-clause-found : goal.returns-in-Ok-clause-found
 returns-in-Ok-clause-found c =
@@ -35,7 +35,7 @@ pub returns-in_err-items-in_default-clause-fault : goal.returns-in_err-items-in_
 returns-in_err-items-in_default-clause-fault c =
     passed_on c.from_residual-in_err-items-in_default.result _ c.from_residual-in_err-items-in_default.ensures.1
     (record {
-      fault = λ other. in_lines (rw c.copy-start.ensures at (c.in_err-items-in_default.ensures.fault other));
+      fault = λ other. in_text (rw c.copy-start.ensures at (c.in_err-items-in_default.ensures.fault other));
       memory = c.in_err-items-in_default.ensures.memory;
     })
 

@@ -64,6 +64,3 @@ returns-clause-cut c = elim c.match-rest.branch [
       rw w.items-is
       (cut_off c.loop-rest.invariant (inl (ap lines_of_rest w.in_default.is)))
 ]
-
-pub returns-clause-of_text : goal.returns-clause-of_text
-returns-clause-of_text c = subst AreOfText c.self.view_is c.self.invariant

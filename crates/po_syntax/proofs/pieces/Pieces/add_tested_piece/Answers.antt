@@ -1,3 +1,5 @@
+use Rattle.std.proofs.Common.{subst}
+use Rattle.po_syntax.specs.LinesLeft.{AreOfText}
 use Rattle.po_syntax.proofs.NoMemory.{text_reported}
 use Rattle.po_syntax.proofs.PieceLemmas.{clean_piece, has_fault, text_holds_other}
 use Rattle.po_syntax.proofs.pieces.Pieces.add_tested_piece.Goals as goal
@@ -7,7 +9,8 @@ unwrap-requires c =
     let cut = c.in-Ok.ensures.cut.0 in
     has_fault _ c.byte_fault.result c.byte_fault.ensures
     (rw (← c.self.view_is) at
-    (text_holds_other cut c.in-Ok.ensures.of_text c.begins_with_text.result c.begins_with_text.ensures
+    (text_holds_other cut (subst AreOfText c.self.view_is c.self.invariant) c.begins_with_text.result
+    c.begins_with_text.ensures
     c.if-not-begins_with_text.true))
 
 pub returns-then-not-begins_with_text-clause-memory : goal.returns-then-not-begins_with_text-clause-memory

@@ -1,14 +1,16 @@
-use Rattle.std.proofs.Common.{◌≡◌, ap, arith}
+use Rattle.std.proofs.Common.{◌≡◌, ap, subst, arith}
 use Rattle.std.proofs.lemmas.List.{length-map}
-use Rattle.po_syntax.specs.LinesLeft.{LinesLeft}
+use Rattle.po_syntax.specs.LinesLeft.{AreOfText, LinesLeft}
 use Rattle.po_syntax.specs.TextItem.{view}
-use Rattle.po_syntax.proofs.PieceLemmas.{piece_few, piece_hold, piece_of_text, piece_whole}
+use Rattle.po_syntax.proofs.PieceLemmas.{piece_few, piece_hold, piece_whole}
+use Rattle.po_syntax.proofs.TextLeft.{read_of_text}
 use Rattle.po_syntax.proofs.pieces.Pieces.next.Goals as goal
 
 pub invariant_of-self : goal.invariant_of-self
 invariant_of-self c =
     let text : c.self.inside.text.now ≡ c.args.self.now.text = ap (λ (left : LinesLeft). left.text) c.self.view_is in
-    rw text (piece_of_text c.in_ok-end.ensures.piece c.add_tested_piece.ensures.of_text)
+    let piece = c.in_ok-end.ensures.piece in
+    rw text (read_of_text piece.read piece.clean (subst AreOfText c.self.view_is c.self.invariant))
 
 pub returns-clause-piece : goal.returns-clause-piece
 returns-clause-piece c =
@@ -16,7 +18,8 @@ returns-clause-piece c =
     rw text c.in_ok-end.ensures.piece
 
 pub returns-clause-whole : goal.returns-clause-whole
-returns-clause-whole c = λ large. piece_whole c.in_ok-end.ensures.piece c.add_tested_piece.ensures.of_text large
+returns-clause-whole c =
+    λ large. piece_whole c.in_ok-end.ensures.piece (subst AreOfText c.self.view_is c.self.invariant) large
 
 pub returns-clause-hold : goal.returns-clause-hold
 returns-clause-hold c = piece_hold c.in_ok-end.ensures.piece
@@ -28,5 +31,5 @@ returns-clause-few c =
       arith,
       items.ok.0,
       length-map items.items view,
-      piece_few c.in_ok-end.ensures.piece c.add_tested_piece.ensures.of_text,
+      piece_few c.in_ok-end.ensures.piece (subst AreOfText c.self.view_is c.self.invariant),
     )
