@@ -1,5 +1,5 @@
 -- Texts in one buffer, each behind its length.
-use Rattle.std.proofs.Common.{◌≡◌, ◌∙◌, refl, sym, ap, ap₂, ℕ, zero, suc, ◌≤◌, ◌<◌, ◌^◌, inl, inr, List, [], ◌∷◌, ◌++◌, length, length-append, length-drop, drop, append-nil, All, arith}
+use Rattle.std.proofs.Common.{◌≡◌, ◌∙◌, refl, sym, ap, ap₂, ℕ, zero, suc, ◌≤◌, ◌<◌, ◌^◌, inl, inr, List, [], ◌∷◌, ◌++◌, Some, length, length-append, length-drop, take, drop, append-nil, All, arith}
 use Rattle.std.specs.Prelude.{bytes_eq}
 use Rattle.std.specs.List.{flat_map}
 use Rattle.std.proofs.lemmas.Bool.{cases_lt, le-ltb, lt-ltb}
@@ -11,10 +11,30 @@ use Rattle.byteorder.specs.Endian.{little_bytes, little_number}
 use Rattle.byteorder.specs.Numbers.{little_number-reads_back, length-bytes_low_first}
 use Rattle.po_entry.specs.Equality.{texts_eq}
 use Rattle.po_entry.specs.Facts.EqualityLaws.{answer, texts_decide}
-use Rattle.po_entry.specs.TextLists.{AreTexts, after_text, cut_texts, first_text, measured, texts_in}
+use Rattle.po_entry.specs.TextLists.{AreTexts, cut_texts, measured, text_before, text_length, texts_in}
 
 abbrev IsShort : List ℕ → Type 0
 IsShort text = length text < 2 ^ 64
+
+-- texts of what is shorter are all that the first one stands before
+same_before : (f g : List ℕ → List (List ℕ)) (bytes : List ℕ)
+    → ((rest : List ℕ) → length rest < length bytes → f rest ≡ g rest)
+    → text_before f (text_length bytes) ≡ text_before g (text_length bytes)
+same_before f g [] same = refl
+same_before f g (first ∷ rest) same =
+    let behind = length-drop 8 rest in
+    elim (cases_lt first 255) [
+      | inl short ↦ rw (lt-ltb first 255 short)
+          (ap (λ texts. take first rest ∷ texts)
+          (same (drop first rest) (omega (arith, length-drop first rest))))
+      | inr long ↦ elim (cases_lt (length rest) 8) [
+        | inl few ↦ rw (le-ltb _ _ long, lt-ltb (length rest) 8 few) refl
+        | inr whole ↦ rw (le-ltb _ _ long, le-ltb _ _ whole)
+            (ap (λ texts. take (little_number 8 rest) (drop 8 rest) ∷ texts)
+            (same (drop (little_number 8 rest) (drop 8 rest))
+            (omega (arith, behind, length-drop (little_number 8 rest) (drop 8 rest)))))
+      ]
+    ]
 
 -- as many as there are bytes are enough
 cut_same : (few many : ℕ) (bytes : List ℕ) → length bytes ≤ few → length bytes ≤ many
@@ -25,51 +45,50 @@ cut_same zero (suc many) (b ∷ bytes) fits fit = absurd (omega (arith, fits))
 cut_same (suc few) zero [] fits fit = refl
 cut_same (suc few) zero (b ∷ bytes) fits fit = absurd (omega (arith, fit))
 cut_same (suc few) (suc many) bytes fits fit =
-    let head = length-drop 8 bytes in
-    let rest = length-drop (little_number 8 bytes) (drop 8 bytes) in
-    elim (cases_lt (length bytes) 8) [
-      | inl short ↦ rw (lt-ltb (length bytes) 8 short) refl
-      | inr long ↦ rw (le-ltb _ _ long)
-          (ap (λ texts. first_text bytes ∷ texts) (cut_same few many (after_text bytes)
-          (omega (arith, long, head, rest, fits)) (omega (arith, long, head, rest, fit))))
+    same_before (cut_texts few) (cut_texts many) bytes
+    (λ rest less. cut_same few many rest (omega (arith, fits, less)) (omega (arith, fit, less)))
+
+-- the first text stands before the others
+pub texts_first : (bytes : List ℕ) → texts_in bytes ≡ text_before texts_in (text_length bytes)
+unfolding texts_in
+texts_first [] = refl
+texts_first (b ∷ bytes) =
+    same_before (cut_texts (length bytes)) texts_in (b ∷ bytes)
+    (λ rest less. cut_same (length bytes) (length rest) rest (omega (arith, less)) (omega arith))
+
+-- eight bytes are the length that stands before what follows them
+long_laid : (bytes behind : List ℕ) → length bytes ≡ 8
+    → text_length (255 ∷ bytes ++ behind) ≡ Some (little_number 8 (bytes ++ behind), behind)
+long_laid bytes behind eight =
+    let whole : 8 ≤ length (bytes ++ behind) = omega (arith, eight, length-append bytes behind) in
+    rw (le-ltb _ _ whole, drop_at bytes behind 8 eight) refl
+
+-- the length of a text stands before it
+length_laid : (text others : List ℕ) → IsShort text
+    → text_length (measured text ++ others) ≡ Some (length text, text ++ others)
+length_laid text others short =
+    let behind = text ++ others in
+    elim (cases_lt (length text) 255) [
+      | inl below ↦ rw (lt-ltb (length text) 255 below, lt-ltb (length text) 255 below) refl
+      | inr above ↦
+          rw (le-ltb _ _ above)
+          (long_laid (little_bytes 8 (length text)) behind (length-bytes_low_first 0 8 (length text))
+          ∙ ap (λ number. Some (number, behind)) (little_number-reads_back 8 (length text) behind short))
     ]
-
--- where no length stands there is no text
-pub texts_short : (bytes : List ℕ) → length bytes < 8 → texts_in bytes ≡ []
-unfolding texts_in
-texts_short [] short = refl
-texts_short (b ∷ bytes) short = rw (lt-ltb (length (b ∷ bytes)) 8 short) refl
-
--- else the first text stands before the others
-pub texts_first : (bytes : List ℕ) → 8 ≤ length bytes
-    → texts_in bytes ≡ first_text bytes ∷ texts_in (after_text bytes)
-unfolding texts_in
-texts_first [] long = absurd (omega (arith, long))
-texts_first (b ∷ bytes) long =
-    let whole = b ∷ bytes in
-    let head = length-drop 8 whole in
-    let rest = length-drop (little_number 8 whole) (drop 8 whole) in
-    rw (le-ltb _ _ long) (ap (λ texts. first_text whole ∷ texts)
-    (cut_same (length bytes) (length (after_text whole)) (after_text whole) (omega (arith, head, rest)) (omega arith)))
 
 -- what is laid out as texts is cut into them
 pub texts_laid : (texts : List (List ℕ)) → All IsShort texts
     → texts_in (flat_map measured texts) ≡ texts
-texts_laid [] short = texts_short [] (omega arith)
+texts_laid [] short = texts_first []
 texts_laid (text ∷ texts) short =
     let others = flat_map measured texts in
-    let bytes = little_bytes 8 (length text) in
-    let eight : length bytes ≡ 8 = length-bytes_low_first 0 8 (length text) in
-    let number : little_number 8 (bytes ++ (text ++ others)) ≡ length text =
-    little_number-reads_back 8 (length text) (text ++ others) (All-head IsShort text texts short) in
-    let behind : drop 8 (bytes ++ (text ++ others)) ≡ text ++ others =
-    drop_at bytes (text ++ others) 8 eight in
-    texts_first (bytes ++ (text ++ others)) (omega (arith, eight, length-append bytes (text ++ others)))
-    ∙ rw (number, behind) (ap₂ (λ (first : List ℕ) rest. first ∷ rest) (take_at text others (length text) refl)
+    texts_first (measured text ++ others)
+    ∙ rw (length_laid text others (All-head IsShort text texts short))
+    (ap₂ (λ (first : List ℕ) rest. first ∷ rest) (take_at text others (length text) refl)
     (rw (drop_at text others (length text) refl) (texts_laid texts (All-tail IsShort text texts short))))
 
 pub no_texts : (bytes : List ℕ) → bytes ≡ [] → texts_in bytes ≡ []
-no_texts bytes none = texts_short bytes (rw none (omega arith))
+no_texts bytes none = rw none (texts_first [])
 
 pub none_AreTexts : (bytes : List ℕ) → bytes ≡ [] → AreTexts bytes
 none_AreTexts bytes none = rw (no_texts bytes none) (sym none, All-nil _)

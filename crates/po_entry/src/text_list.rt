@@ -1,21 +1,24 @@
 //! Lists of texts, each kept in one buffer.
 
-ghost use Rattle.std.specs.Prelude.{◌≡◌, ◌+◌, ◌≤◌, ◌==◌, ◌++◌, ◌∷◌, [], IfOk, MatchOption, OnErr, OnOk, length};
+ghost use Rattle.std.specs.Prelude.{◌≡◌, ◌+◌, ◌≤◌, ◌==◌, ◌++◌, ◌∷◌, [], IfOk, MatchOption, None, OnErr, OnOk, Some, length};
 ghost use Rattle.std.specs.Iterator.{YieldsFirstBy, item_count};
 ghost use Rattle.std.specs.Vec.{vec_capacity, vec_len};
 ghost use Rattle.po_entry.specs.Equality.{texts_eq};
-ghost use Rattle.po_entry.specs.TextLists.{texts_in, texts_left};
+ghost use Rattle.po_entry.specs.TextLists.{length_bytes, text_length, texts_in, texts_left};
 
 use byteorder::{ByteOrder, LittleEndian};
 use std::alloc::{AllocError, Global};
 use std::marker::Model;
 
-/// How many bytes the length of a text takes.
+/// The byte before a length of eight bytes. A length below it is one byte.
+const LONG: u8 = 255;
+
+/// How many bytes a long length takes, besides the byte before it.
 const LENGTH_BYTES: usize = 8;
 
 /// For how many bytes there is room with the first text, where that is shorter: two references with
 /// their lengths.
-const FIRST_BYTES: usize = 56;
+const FIRST_BYTES: usize = 40;
 
 /// A list of texts in one buffer, each behind its length: comments, references or flags.
 #[derive(Debug)]
@@ -55,7 +58,8 @@ impl TextList {
     pub fn with_capacity(alloc: Global, count: usize, bytes: usize) -> Result<TextList, AllocError>
         ensures { IfOk result (λ list. list ≡ []) }
     {
-        let lengths = count.saturating_mul(LENGTH_BYTES);
+        let long = bytes / LONG as usize;
+        let lengths = count.saturating_add(long * LENGTH_BYTES);
         Ok(TextList {
             bytes: Vec::with_capacity(alloc, bytes.saturating_add(lengths))?,
         })
@@ -73,9 +77,7 @@ impl TextList {
         ensures ok { OnOk result (self.new ≡ self.old ++ text.now ∷ []) }
         ensures unchanged { OnErr result (self.new ≡ self.old) }
     {
-        make_room(&mut self.bytes, LENGTH_BYTES + text.len())?;
-        let length = (text.len() as u64).to_le_bytes();
-        self.bytes.extend_from_slice(&length)?;
+        push_length(&mut self.bytes, text)?;
         self.bytes.extend_from_slice(text)?;
         Ok(())
     }
@@ -110,6 +112,24 @@ fn make_room(bytes: &mut Vec<u8>, more: usize) -> Result<(), AllocError>
     }
 }
 
+/// Adds the length of a text, with room for the text itself. Where an allocation failed, the buffer
+/// stays as it was.
+fn push_length(bytes: &mut Vec<u8>, text: &[u8]) -> Result<(), AllocError>
+    ensures ok { OnOk result (bytes.new.items ≡ bytes.old.items ++ length_bytes (length text.now)) }
+    ensures room { OnOk result (vec_len bytes.new + length text.now ≤ vec_capacity bytes.new) }
+    ensures unchanged { OnErr result (bytes.new.items ≡ bytes.old.items) }
+{
+    if text.len() < LONG as usize {
+        make_room(bytes, 1 + text.len())?;
+        bytes.push(text.len() as u8)?;
+        return Ok(());
+    }
+    make_room(bytes, 1 + LENGTH_BYTES + text.len())?;
+    bytes.push(LONG)?;
+    bytes.extend_from_slice(&(text.len() as u64).to_le_bytes())?;
+    Ok(())
+}
+
 /// Whether two lists have the same texts in the same order.
 pub(crate) fn same_lists(a: &TextList, b: &TextList) -> bool
     ensures { result ≡ texts_eq a.now b.now }
@@ -117,17 +137,29 @@ pub(crate) fn same_lists(a: &TextList, b: &TextList) -> bool
     a.bytes == b.bytes
 }
 
-/// The first text of a buffer, and the bytes after it; none where no length stands there.
-#[tactic(auto, using(crate::proofs::TextListLemmas::texts_short))]
+/// The length with which a buffer begins, and the bytes after it; none where no whole length stands
+/// there.
+fn text_length(bytes: &[u8]) -> Option<(usize, &[u8])>
+    ensures { MatchOption result (text_length bytes.now ≡ None)
+        (λ p. text_length bytes.now ≡ Some (p.0, p.1.now)) }
+{
+    let (&first, rest) = bytes.split_first()?;
+    if first < LONG {
+        return Some((first as usize, rest));
+    }
+    if rest.len() < LENGTH_BYTES {
+        return None;
+    }
+    let (length, rest) = rest.split_at(LENGTH_BYTES);
+    Some((LittleEndian::read_u64(length) as usize, rest))
+}
+
+/// The first text of a buffer, and the bytes after it; none where no whole length stands there.
 fn first_text(bytes: &[u8]) -> Option<(&[u8], &[u8])>
     ensures { MatchOption result (texts_in bytes.now ≡ [])
         (λ p. texts_in bytes.now ≡ p.0.now ∷ texts_in p.1.now) }
 {
-    if bytes.len() < LENGTH_BYTES {
-        return None;
-    }
-    let length = LittleEndian::read_u64(bytes) as usize;
-    let (_, rest) = bytes.split_at(LENGTH_BYTES);
+    let (length, rest) = text_length(bytes)?;
     Some(rest.split_at(length.min(rest.len())))
 }
 

@@ -7,10 +7,8 @@ invariant_of-self-2 c =
     let text = c.args.text.now in
     let before = c.self.inside.bytes.items in
     rw (
-      c.in_ok-extend_from_slice-2.ensures.items,
       c.in_ok-extend_from_slice.ensures.items,
-      c.in_ok-make_room.ensures.items,
-      c.to_le_bytes-length.ensures,
+      c.in_ok-push_length.ensures.ok,
       append_assoc,
     )
     (more_AreTexts before text c.self.invariant (omega arith))
@@ -20,10 +18,8 @@ returns-clause-ok c =
     let text = c.args.text.now in
     let before = c.self.inside.bytes.items in
     rw (
-      c.in_ok-extend_from_slice-2.ensures.items,
       c.in_ok-extend_from_slice.ensures.items,
-      c.in_ok-make_room.ensures.items,
-      c.to_le_bytes-length.ensures,
+      c.in_ok-push_length.ensures.ok,
       append_assoc,
       ← c.self.view_is,
     )
