@@ -1,25 +1,44 @@
 -- What is selected of the entries of a text.
-use Rattle.std.proofs.Common.{◌≡◌, ◌≢◌, sym, ap, subst, ◌∙◌, ℕ, List, ◌++◌, map, filter, inl, inr}
+use Rattle.std.proofs.Common.{◌≡◌, ◌≢◌, refl, sym, ap, ap₂, subst, ◌∙◌, ℕ, Bool, true, false, cond, ◌&&◌, ◌||◌, List, [], ◌∷◌, ◌++◌, AllPairs, map, filter, inl, inr}
 use Rattle.std.proofs.lemmas.List.{map-append}
 use Rattle.std.proofs.lemmas.List.Elements.{filter-append}
+use Rattle.std.proofs.lemmas.List.Kept.{AllPairs-filter}
 use Rattle.po_syntax.specs.declared.fault.PoError.{PoError}
-use Rattle.po_syntax.specs.declared.fault.PoFault.TheVariants.{Duplicate, OutOfMemory}
+use Rattle.po_syntax.specs.declared.fault.PoFault.TheVariants.{OutOfMemory}
+use Rattle.po_entry.specs.ReadsText.{ReadsText}
 use Rattle.po_entry.specs.TextEntry.{TextEntry}
-use Rattle.po_messages.specs.Duplicate.{AllDiffer, HasNoDuplicate, IsSameMessage}
-use Rattle.po_messages.specs.Facts.FirstRepeats.{pairs_map, repeat_map}
+use Rattle.po_messages.specs.Duplicate.{AllDiffer, HasNoDuplicate, IsDuplicateFaultOf, IsSameMessage}
+use Rattle.po_messages.specs.Facts.FirstRepeats.{pairs_map, pairs_of_map}
 use Rattle.po_messages.specs.Facts.Mapped.{filter_map, filter_twice}
-use Rattle.po_messages.specs.Joined.{in_input, is_live}
-use Rattle.po_messages.specs.Message.{entry_message, entry_messages}
+use Rattle.po_messages.specs.Joined.{is_live}
+use Rattle.po_messages.specs.Message.{entry_message}
+use Rattle.po_messages.specs.MessageHash.{message_hash}
+use Rattle.po_reader.proofs.Texts.{text_once}
 use Rattle.po_select.specs.declared.selection.Selection.{Selection}
 use Rattle.po_select.specs.Selected.{changed, is_kept, selected}
 use Rattle.msgattrib.specs.Msgattrib.{IsMsgattribRun, error_line}
-use Rattle.po_messages.specs.Places.{RepeatsOnLines, are_placed, place_of}
-use Rattle.po_messages.specs.Repeats.{IsFirstRepeat}
-use Rattle.msgattrib.specs.Internal.SelectedText.{HoldRows, IsSelectionFault, RepeatsSelected, stays_live}
-use Rattle.msgattrib.specs.declared.selected_text.Rows.{Rows}
-use Rattle.po_messages.proofs.NumberLemmas.{duplicate_in}
+use Rattle.msgattrib.specs.Internal.SelectedText.{HaveNoDuplicate, IsSelectionFault, hashes_of, may_repeat, stays_live}
 use Rattle.runs.specs.Run.{refusal, run_view}
 use Rattle.runs.specs.declared.run.Run.{Run}
+
+abbrev hash_of : TextEntry → ℕ
+hash_of entry = message_hash (entry_message entry)
+
+-- tests that answer alike pass the same
+filter_alike : {X : Type 0} (p q : X → Bool) → ((x : X) → p x ≡ q x) → (xs : List X) → filter p xs ≡ filter q xs
+filter_alike p q alike [] = refl
+filter_alike {X = X} p q alike (x ∷ xs) =
+    ap₂ (λ (b : Bool) (l : List X). cond b (x ∷ l) l) (alike x) (filter_alike p q alike xs)
+
+first_of_either : (a b : Bool) → (a || b) && a ≡ a
+first_of_either true b = refl
+first_of_either false true = refl
+first_of_either false false = refl
+
+second_of_either : (a b : Bool) → (a || b) && b ≡ b
+second_of_either true b = refl
+second_of_either false true = refl
+second_of_either false false = refl
 
 -- entries are selected one by one
 pub selected_joined : (s : Selection) (before entries : List TextEntry)
@@ -34,43 +53,85 @@ live_selected : (s : Selection) (entries : List TextEntry)
 live_selected s entries = filter_map is_live (changed s) (filter (is_kept s) entries)
     ∙ ap (map (changed s)) (filter_twice (is_kept s) (λ e. is_live (changed s e)) entries)
 
--- the rows of further entries
-pub rows_more : (s : Selection) (before entries : List TextEntry) (old new : Rows) → HoldRows s before old
-    → new.keys ≡ old.keys ++ entry_messages entries
-    → new.read.items ≡ old.read.items ++ are_placed is_live entries
-    → new.kept.items ≡ old.kept.items ++ are_placed (stays_live s) entries → HoldRows s (before ++ entries) new
-rows_more s before entries old new held keys read kept = record {
-  keys = keys ∙ ap (λ l. l ++ entry_messages entries) held.keys ∙ sym (map-append entry_message before entries);
-  read = read ∙ ap (λ l. l ++ are_placed is_live entries) held.read
-      ∙ sym (map-append (place_of is_live) before entries);
-  kept = kept ∙ ap (λ l. l ++ are_placed (stays_live s) entries) held.kept
-      ∙ sym (map-append (place_of (stays_live s)) before entries);
-}
+-- the hashes of further entries
+pub hashes_joined : (s : Selection) (before entries : List TextEntry)
+    → hashes_of s before ++ hashes_of s entries ≡ hashes_of s (before ++ entries)
+hashes_joined s before entries =
+    sym (ap (map hash_of) (filter-append (may_repeat s) before entries)
+    ∙ map-append hash_of (filter (may_repeat s) before) (filter (may_repeat s) entries))
 
--- one that stands twice among those that are selected
-pub repeats_selected : (s : Selection) (entries : List TextEntry) (lines : ℕ × ℕ) (error : PoError)
-    → HasNoDuplicate entries
-    → RepeatsOnLines (filter (stays_live s) entries) lines → error ≡ record { kind = Duplicate lines.0; line = 0 }
-    → RepeatsSelected s entries error
-repeats_selected s entries lines error distinct found error_is =
-    let first = changed s found.0 in
-    let later = changed s found.1 in
-    let repeat = repeat_map IsSameMessage (changed s) (filter (stays_live s) entries) found.0 found.1 found.2 in
-    record {
-      distinct = distinct;
-      first = in_input 0 first;
-      later = in_input 0 later;
-      duplicate = duplicate_in 0 (selected s entries) first later
-          (subst (λ l. IsFirstRepeat IsSameMessage l first later) (sym (live_selected s entries)) repeat);
-      error_is = error_is ∙ ap (λ (l : ℕ × ℕ). record { kind = Duplicate l.0; line = 0 }) found.3;
-    }
+-- those that are live, one way or another, are among those that may repeat
+among_live : (s : Selection) (entries : List TextEntry)
+    → filter is_live (filter (may_repeat s) entries) ≡ filter is_live entries
+among_live s entries = filter_twice (may_repeat s) is_live entries
+    ∙ filter_alike (λ e. may_repeat s e && is_live e) is_live
+    (λ e. first_of_either (is_live e) (stays_live s e)) entries
 
--- none stands twice among them
-pub selected_differ : (s : Selection) (entries : List TextEntry) → AllDiffer (filter (stays_live s) entries)
+among_staying : (s : Selection) (entries : List TextEntry)
+    → filter (stays_live s) (filter (may_repeat s) entries) ≡ filter (stays_live s) entries
+among_staying s entries = filter_twice (may_repeat s) (stays_live s) entries
+    ∙ filter_alike (λ e. may_repeat s e && stays_live s e) (stays_live s)
+    (λ e. second_of_either (is_live e) (stays_live s e)) entries
+
+-- none stands twice among those that are selected
+selected_differ : (s : Selection) (entries : List TextEntry) → AllDiffer (filter (stays_live s) entries)
     → HasNoDuplicate (selected s entries)
 selected_differ s entries differ =
     subst AllDiffer (sym (live_selected s entries))
     (pairs_map (λ a b. ¬ IsSameMessage a b) (changed s) (filter (stays_live s) entries) differ)
+
+-- where hashes differ, so do messages
+pub no_duplicate : (s : Selection) (entries : List TextEntry) → AllPairs (λ a b. a ≢ b) (hashes_of s entries)
+    → HaveNoDuplicate s entries
+no_duplicate s entries differ =
+    let may = filter (may_repeat s) entries in
+    let apart : AllDiffer may =
+    λ i j d below inside same. pairs_of_map (λ a b. a ≢ b) hash_of may differ i j d below inside
+    (ap₂ (λ context id. message_hash (record { context = context; id = id })) same.0 same.1) in
+    let among : (p : TextEntry → Bool) → AllDiffer (filter p may) =
+    λ p. AllPairs-filter (λ a b. ¬ IsSameMessage a b) p may apart in
+    record {
+      read = subst AllDiffer (among_live s entries) (among is_live);
+      kept = selected_differ s entries (subst AllDiffer (among_staying s entries) (among (stays_live s)));
+    }
+
+-- the text that is read once more reads the same
+pub still_distinct : (s : Selection) (text : List ℕ) (entries : List TextEntry) → ReadsText text entries
+    → HaveNoDuplicate s entries → (others : List TextEntry) → ReadsText text others → HaveNoDuplicate s others
+still_distinct s text entries reads distinct others read =
+    subst (HaveNoDuplicate s) (text_once text entries others reads read) distinct
+
+-- the duplicate of a text's entries
+pub repeating : (s : Selection) (text : List ℕ) (entries : List TextEntry) (error : PoError) → ReadsText text entries
+    → IsDuplicateFaultOf entries error → IsSelectionFault s text error
+repeating s text entries error reads (inl memory) = inl (ap (λ (e : PoError). e.kind) memory)
+repeating s text entries error reads (inr (first, later, duplicate, error_is)) =
+    inr (inl (inr (record {
+      entries = entries;
+      reads = reads;
+      first = first;
+      later = later;
+      duplicate = duplicate;
+      error_is = error_is;
+    })))
+
+-- the duplicate of those that are selected
+pub repeating_selected : (s : Selection) (text : List ℕ) (entries : List TextEntry) (error : PoError)
+    → ReadsText text entries → HasNoDuplicate entries → IsDuplicateFaultOf (selected s entries) error
+    → IsSelectionFault s text (record { kind = error.kind; line = 0 })
+repeating_selected s text entries error reads distinct (inl memory) = inl (ap (λ (e : PoError). e.kind) memory)
+repeating_selected s text entries error reads distinct (inr (first, later, duplicate, error_is)) =
+    inr (inr (record {
+      entries = entries;
+      reads = reads;
+      repeats = record {
+        distinct = distinct;
+        first = first;
+        later = later;
+        duplicate = duplicate;
+        error_is = ap (λ (e : PoError). record { kind = e.kind; line = 0 }) error_is;
+      };
+    }))
 
 -- the run that reports a fault
 pub run_refused : (name text : List ℕ) (s : Selection) (error : PoError) (run : Run) → IsSelectionFault s text error

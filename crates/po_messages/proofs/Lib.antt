@@ -11,3 +11,4 @@ pub mod WrittenCounts
 pub mod EarlierNamed
 pub mod KeyLemmas
 pub mod NumberLemmas
+pub mod HashLemmas

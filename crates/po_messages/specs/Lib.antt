@@ -11,5 +11,6 @@ pub mod Statistics
 pub mod FirstOnes
 pub mod Message
 pub mod MessageView
+pub mod MessageHash
 pub mod StatisticsLaws
 pub mod Internal

@@ -1,6 +1,6 @@
 //! Laws of messages, each the contract of a function that does nothing: a call brings the law into a
 //! proof.
-ghost use Rattle.std.specs.Prelude.{◌≡◌, ◌⊎◌, ◌↔◌, ℕ, ◌<◌, List, get_or, length, take};
+ghost use Rattle.std.specs.Prelude.{◌≡◌, ◌≢◌, ◌⊎◌, ◌↔◌, ℕ, ◌<◌, List, false, get_or, length, take};
 ghost use Rattle.std.specs.List.{position_or_len};
 ghost use Rattle.po_entry.specs.TextEntry.{TextEntry};
 ghost use Rattle.po_messages.specs.Duplicate.{HasNoDuplicate, IsFirstDuplicate};
@@ -8,6 +8,7 @@ ghost use Rattle.po_messages.specs.DuplicateLaws.{FaultNamesEarlier};
 ghost use Rattle.po_messages.specs.Joined.{InputEntry, entries_of};
 ghost use Rattle.po_messages.specs.FirstOnes.{first_ones, group_numbers};
 ghost use Rattle.po_messages.specs.Message.{Message, same_message};
+ghost use Rattle.po_messages.specs.MessageHash.{message_hash};
 ghost use Rattle.po_messages.specs.Omitted.{OmitsLaterHeaders};
 ghost use Rattle.po_messages.specs.Statistics.{stats_line};
 ghost use Rattle.po_messages.specs.StatisticsLaws.{CountsAddUp, EmptyAreUntranslated, FlaggedAreFuzzy, WritesStatistics};
@@ -59,6 +60,11 @@ pub fn messages_are_numbered_in_order()
     ensures { (messages : List Message) (i : ℕ) (d : Message) → i < length messages
         → get_or (group_numbers same_message messages) i 0
         ≡ position_or_len (same_message (get_or messages i d)) (first_ones same_message (take i messages)) }
+{}
+
+/// Messages of different hashes differ.
+pub fn messages_of_different_hashes_differ()
+    ensures { (a b : Message) → message_hash a ≢ message_hash b → same_message a b ≡ false }
 {}
 
 /// The statistics count each live entry but the header once. The untranslated ones are those with

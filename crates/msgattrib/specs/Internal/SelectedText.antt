@@ -1,5 +1,5 @@
 -- A text whose entries are selected piece by piece. Internal to this crate.
-use Rattle.std.specs.Prelude.{◌≡◌, ◌⊎◌, ◌&&◌, ℕ, Bool, List, map, not}
+use Rattle.std.specs.Prelude.{◌≡◌, ◌⊎◌, ◌&&◌, ◌||◌, ℕ, Bool, List, filter, map, not}
 use Rattle.po_syntax.specs.declared.fault.PoError.{PoError}
 use Rattle.po_syntax.specs.declared.fault.PoFault.TheVariants.{Duplicate, OutOfMemory}
 use Rattle.po_entry.specs.ReadsText.{ReadsText}
@@ -12,30 +12,31 @@ use Rattle.po_select.specs.Selected.{is_kept, obsolete_after, selected}
 use Rattle.po_writer.specs.TextParts.{AreParts}
 use Rattle.po_writer.specs.WrittenText.{written_text}
 use Rattle.po_writer.specs.declared.parts.TextParts.{TextParts}
-use Rattle.po_messages.specs.Message.{entry_messages}
-use Rattle.po_messages.specs.Places.{Repeats, are_placed}
-use Rattle.msgattrib.specs.declared.selected_text.Rows.{Rows}
+use Rattle.po_messages.specs.Message.{entry_message}
+use Rattle.po_messages.specs.MessageHash.{message_hash}
 
 -- the entry is kept, and live once it is changed
 abbrev pub stays_live : Selection → TextEntry → Bool
 stays_live s entry = is_kept s entry && not (obsolete_after s entry)
 
--- these are the rows of the entries
-pub record HoldRows (s : Selection) (entries : List TextEntry) (rows : Rows) : Type 0 where
-  pub keys : rows.keys ≡ entry_messages entries
-  pub read : rows.read.items ≡ are_placed is_live entries
-  pub kept : rows.kept.items ≡ are_placed (stays_live s) entries
+-- the entry is live, or is once it is changed
+abbrev pub may_repeat : Selection → TextEntry → Bool
+may_repeat s entry = is_live entry || stays_live s entry
 
--- those of these entries that are selected are written, and these are the rows of all
-pub record AreSelected (s : Selection) (entries : List TextEntry) (parts : TextParts) (rows : Rows) : Type 0 where
+-- the hashes of the messages of such entries
+abbrev pub hashes_of : Selection → List TextEntry → List ℕ
+hashes_of s entries = map (λ entry. message_hash (entry_message entry)) (filter (may_repeat s) entries)
+
+-- those of these entries that are selected are written, and these are the hashes
+pub record AreSelected (s : Selection) (entries : List TextEntry) (parts : TextParts) (hashes : List ℕ) : Type 0 where
   pub parts_are : AreParts (selected s entries) parts
-  pub held : HoldRows s entries rows
+  pub hashes_are : hashes ≡ hashes_of s entries
 
 -- and they are all entries of the text
-pub record IsSelectedWhole (s : Selection) (text : List ℕ) (so_far : TextParts × Rows) : Type 0 where
+pub record IsSelectedWhole (s : Selection) (text : List ℕ) (parts : TextParts) (hashes : List ℕ) : Type 0 where
   pub entries : List TextEntry
   pub reads : ReadsText text entries
-  pub have : AreSelected s entries so_far.0 so_far.1
+  pub have : AreSelected s entries parts hashes
 
 -- neither the entries nor those that are selected have a duplicate
 pub record HaveNoDuplicate (s : Selection) (entries : List TextEntry) : Type 0 where
@@ -49,10 +50,6 @@ pub record RepeatsSelected (s : Selection) (entries : List TextEntry) (error : P
   pub later : InputEntry
   pub duplicate : IsFirstDuplicate (map (in_input 0) (selected s entries)) first later
   pub error_is : error ≡ record { kind = Duplicate first.entry.line; line = 0 }
-
--- why entries are refused
-abbrev pub IsRowsFault : Selection → List TextEntry → PoError → Type 0
-IsRowsFault s entries error = Repeats entries error ⊎ RepeatsSelected s entries error
 
 -- the text reads as entries without a duplicate, and those that are selected, which have none, are written
 pub record IsSelectedText (s : Selection) (text written : List ℕ) : Type 0 where

@@ -1,24 +1,21 @@
 -- Internal: what the key of a message writes to a hasher.
-use Rattle.std.specs.Prelude.{◌≡◌, ℕ, ◌&&◌, true, List, [], ◌∷◌, length, Option, None, Some}
+use Rattle.std.specs.Prelude.{◌≡◌, ℕ, ◌&&◌, true, List, ◌∷◌, length, Option, None, Some}
 use Rattle.std.specs.Hash.{usize, HashWrites}
-use Rattle.std.specs.Option.{option_eq}
+use Rattle.std.specs.Option.{option_copied, option_eq}
 use Rattle.std.specs.Str.{bytes_eq}
 use Rattle.std.specs.Borrow.{Bor}
 use Rattle.std.proofs.Common.{refl, ap, ap₂}
 use Rattle.std.proofs.lemmas.Bool.{and_parts}
 use Rattle.std.proofs.lemmas.Slice.Eq.{bytes_eq-Decides}
+use Rattle.po_messages.specs.MessageHash.{context_writes, message_writes}
+use Rattle.po_messages.specs.MessageView.{message_of_key}
 use Rattle.po_messages.specs.declared.message_index.MessageKey.{MessageKey}
 
-abbrev pub context_writes : Option (Bor (List ℕ)) → HashWrites
-context_writes None = []
-context_writes (Some context) = context.now ∷ usize (length context.now)
-
--- the msgid, and the context with its length if there is one
 abbrev pub key_writes : MessageKey → HashWrites
-key_writes key = key.id.now ∷ context_writes key.context
+key_writes key = message_writes (message_of_key key)
 
 contexts_write_alike : (a b : Option (Bor (List ℕ))) → option_eq (λ x y. bytes_eq x.now y.now) a b ≡ true
-    → context_writes a ≡ context_writes b
+    → context_writes (option_copied a) ≡ context_writes (option_copied b)
 contexts_write_alike None None h = refl
 contexts_write_alike None (Some y) h = cc
 contexts_write_alike (Some x) None h = cc

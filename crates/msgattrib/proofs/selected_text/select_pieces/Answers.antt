@@ -1,15 +1,12 @@
-use Rattle.std.proofs.Common.{◌≡◌, ◌∙◌, [], ◌++◌, ap, subst}
+use Rattle.std.proofs.Common.{◌≡◌, ◌∙◌, ℕ, List, [], ◌++◌, ap, ap₂, subst}
 use Rattle.std.specs.Prelude.{IfOk}
 use Rattle.std.proofs.lemmas.Result.{err_from_is_err_and}
 use Rattle.po_entry.specs.Faults.IsReadFault.{in_text}
 use Rattle.po_reader.proofs.PieceReading.{read_all, read_more, read_none}
 use Rattle.po_select.specs.Selected.{selected}
 use Rattle.po_writer.specs.TextParts.{AreParts}
-use Rattle.po_messages.specs.Joined.{is_live}
-use Rattle.po_messages.specs.Message.{entry_messages}
-use Rattle.po_messages.specs.Places.{are_placed}
-use Rattle.msgattrib.specs.Internal.SelectedText.{stays_live}
-use Rattle.msgattrib.proofs.SelectedLemmas.{rows_more, selected_joined}
+use Rattle.msgattrib.specs.Internal.SelectedText.{hashes_of}
+use Rattle.msgattrib.proofs.SelectedLemmas.{hashes_joined, selected_joined}
 use Rattle.msgattrib.proofs.selected_text.select_pieces.Goals as goal
 
 pub returns-in_err-pieces-clause-fault : goal.returns-in_err-pieces-clause-fault
@@ -26,7 +23,7 @@ loop-pieces-init c = record {
   read = read_none c.args.text.now c.in_ok-pieces.pieces c.in_ok-pieces.ensures.found c.in_ok-pieces.ensures.stops;
   selected = record {
     parts_are = c.in_ok-parts.ensures;
-    held = record { keys = c.new.ensures; read = c.new-2.ensures.items; kept = c.new-3.ensures.items };
+    hashes_are = c.new-hashes.ensures.items;
   };
 }
 
@@ -46,11 +43,9 @@ loop-pieces-preserved c =
             (ap (λ entries. selected chosen done.before ++ entries) (c.entries-in-loop-pieces.ensures.entries ∙ list)
             ∙ selected_joined chosen done.before piece)
             (c.in_ok-add.ensures.parts (selected chosen done.before) done.selected.parts_are);
-        held = rows_more chosen done.before piece c.loop-pieces.rows c.add_all.new.self done.selected.held
-            (c.in_ok-add_all.ensures.keys ∙ ap (λ l. c.loop-pieces.rows.keys ++ entry_messages l) entries)
-            (c.in_ok-add_all.ensures.read ∙ ap (λ l. c.loop-pieces.rows.read.items ++ are_placed is_live l) entries)
-            (c.in_ok-add_all.ensures.kept
-            ∙ ap (λ l. c.loop-pieces.rows.kept.items ++ are_placed (stays_live chosen) l) entries);
+        hashes_are = c.in_ok-add_hashes.ensures
+            ∙ ap₂ (λ (before : List ℕ) entries. before ++ hashes_of chosen entries) done.selected.hashes_are entries
+            ∙ hashes_joined chosen done.before piece;
       };
     }
 

@@ -8,7 +8,7 @@ abbrev pub invariant-loop-pieces : goal.invariant-loop-pieces
 invariant-loop-pieces l = record {
   before : List TextEntry;
   read : IsReadSoFar l.text l.pieces before;
-  selected : AreSelected l.selection before l.parts l.rows;
+  selected : AreSelected l.selection before l.parts l.hashes.items;
 }
 
 abbrev pub decreases-loop-pieces : goal.decreases-loop-pieces

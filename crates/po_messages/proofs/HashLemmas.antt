@@ -1,0 +1,39 @@
+-- Numbers of which no two are the same rise where they are sorted.
+use Rattle.std.proofs.Common.{◌≡◌, ◌≢◌, ◌↔◌, refl, sym, ℕ, Bool, true, false, List, AllPairs, Decides, IsPermutation, IsSorted, IsTrue, eqb, nat_lt, arith}
+use Rattle.std.specs.List.{IsAllAdjacentAnswer}
+use Rattle.std.specs.List.Sorted.{IsStrictlyIncreasing}
+use Rattle.std.specs.Ordering.{nat_cmp}
+use Rattle.std.proofs.lemmas.Bool.{eq-eqb, eqb-true, ltb-true, lt-ltb}
+use Rattle.std.proofs.lemmas.List.Kept.{AllPairs-from_increasing}
+use Rattle.std.proofs.lemmas.List.Sorted.{IsNonDecreasingBy-from_sort, IsPermutation-sym}
+use Rattle.std.proofs.lemmas.Map.Keys.{IsDistinct-IsPermutation, IsStrictlyIncreasing-from_distinct}
+use Rattle.std.proofs.lemmas.Map.Made.{AllPairs-from_IsDistinct, IsDistinct-from_AllPairs}
+
+decides : (a b : ℕ) → Decides (eqb a b) (a ≡ b)
+decides a b = (eqb-true a b, eq-eqb a b)
+
+flips : (a b : ℕ) → eqb a b ≡ eqb b a
+flips a b = grind arith
+
+module _ (xs ys : List ℕ) (permuted : IsPermutation xs ys) where
+  pub rising_from_differ : IsSorted nat_cmp ys → AllPairs (λ a b. a ≢ b) xs → IsStrictlyIncreasing ys
+  rising_from_differ sorted differ =
+      IsStrictlyIncreasing-from_distinct ys (IsNonDecreasingBy-from_sort (λ n. n) ys sorted)
+      (IsDistinct-IsPermutation eqb flips xs ys permuted (IsDistinct-from_AllPairs decides xs differ))
+
+  pub differ_from_rising : IsStrictlyIncreasing ys → AllPairs (λ a b. a ≢ b) xs
+  differ_from_rising rising =
+      let below = AllPairs-from_increasing ys rising in
+      AllPairs-from_IsDistinct decides xs
+      (IsDistinct-IsPermutation eqb flips ys xs (IsPermutation-sym xs ys permuted)
+      (IsDistinct-from_AllPairs decides ys (λ i j d less inside same. omega (arith, below i j d less inside, same))))
+
+-- whether numbers rise, by what is answered of each two neighbours
+pub rising_answered : (xs : List ℕ) (r : Bool) → IsAllAdjacentAnswer (λ a b answer. answer ≡ nat_lt a b) xs r
+    → IsTrue r ↔ IsStrictlyIncreasing xs
+rising_answered xs true answers = (λ _ k inside. ltb-true _ _ (sym (answers k 0 inside)), λ _. refl)
+rising_answered xs false answers = (
+  λ no. absurd (cc),
+  λ rising. absurd
+      (let less = lt-ltb _ _ (rising answers.0 answers.1) in let isnt = answers.2 0 in cc (less, isnt)),
+)

@@ -1,0 +1,26 @@
+//! The hashes of messages: where all differ, no message stands twice.
+
+ghost use Rattle.std.specs.Prelude.{◌≡◌, ◌≢◌, ◌↔◌, AllPairs, IsTrue};
+ghost use Rattle.po_messages.specs.Message.{entry_message};
+ghost use Rattle.po_messages.specs.MessageHash.{message_hash};
+
+use crate::message_index::message_key;
+use po_entry::Entry;
+use std::hash::{DefaultHasher, Hash, Hasher};
+
+/// The hash of an entry's message. Two messages may have one hash, but a message has only one.
+pub fn message_hash(entry: &Entry) -> u64
+    ensures { result ≡ message_hash (entry_message entry.now) }
+{
+    let mut hasher = DefaultHasher::new();
+    message_key(entry).hash(&mut hasher);
+    hasher.finish()
+}
+
+/// Whether no two of the numbers are the same. They are left sorted.
+pub fn all_differ(numbers: &mut [u64]) -> bool
+    ensures { IsTrue result ↔ AllPairs (λ a b. a ≢ b) numbers.old }
+{
+    numbers.sort_unstable();
+    numbers.is_sorted_by(|a, b| a < b)
+}
