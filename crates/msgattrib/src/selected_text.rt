@@ -81,8 +81,8 @@ pub(crate) fn selected_text(
     ensures { MatchResult result (λ written. IsSelectedText selection.now text.now written.items)
         (IsSelectionFault selection.now text.now) }
 {
-    let (parts, mut hashes) = select_pieces(alloc, text, selection)?;
-    if !all_differ(&mut hashes) {
+    let (parts, hashes) = select_pieces(alloc, text, selection)?;
+    if !all_differ(hashes) {
         check_duplicates(alloc, text, selection)?;
     }
     Ok(parts.join()?)

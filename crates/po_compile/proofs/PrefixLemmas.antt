@@ -1,6 +1,6 @@
 -- Keys are ordered by their prefixes, where these differ.
-use Rattle.std.proofs.Common.{◌≡◌, ◌≢◌, refl, sym, ap, ap₂, ◌∙◌, ℕ, zero, suc, ◌+◌, ◌*◌, ◌-◌, ◌^◌, ◌<◌, ◌≤◌, List, [], ◌∷◌, drop, get_or, arith, add-one, All}
-use Rattle.std.proofs.Math.Nat.{mul-le-mul_right, one-le-pow, pow-le-pow_right, pow-suc}
+use Rattle.std.proofs.Common.{◌≡◌, ◌≢◌, refl, sym, ap, ap₂, ◌∙◌, ℕ, zero, suc, ◌+◌, ◌*◌, ◌^◌, ◌<◌, ◌≤◌, List, [], ◌∷◌, ◌++◌, drop, length, take, replicate, arith, All}
+use Rattle.std.proofs.Math.Nat.{mul-le-mul_right, one-le-pow}
 use Rattle.std.proofs.lemmas.Nat.{pow-add}
 use Rattle.std.proofs.Math.Seq.{drop-nil}
 use Rattle.std.specs.Ordering.{nat_cmp, ordering_then, ordering_reverse, MatchOrdering}
@@ -9,6 +9,8 @@ use Rattle.std.specs.declared.cmp.Ordering.TheVariants.{Less, Equal, Greater}
 use Rattle.std.specs.Cmp.{nat_cmp_is}
 use Rattle.std.proofs.lemmas.Cmp.{ranked, nat_list_cmp_total}
 use Rattle.std.proofs.lemmas.List.Elements.{All-head, All-tail}
+use Rattle.byteorder.specs.Endian.{big_from, big_number}
+use Rattle.byteorder.specs.Numbers.{big_from-cons}
 use Rattle.mo_file.specs.Key.{key_cmp}
 use Rattle.mo_lookup.proofs.RisingLemmas.{equal_is_same}
 use Rattle.po_compile.specs.Internal.Prefix.{digits, prefix_of, second_prefix_of}
@@ -94,53 +96,42 @@ digits_first n a b in_a in_b =
     (λ h. ap (digits n) (equal_is_same a b h))
     (λ h. digits_rise n b a in_b in_a (nat_list_cmp_total.antisymm b a ∙ ap ordering_reverse h))
 
-below_next : (n p byte : ℕ) → p < 256 ^ n → byte < 256 → p * 256 + byte < 256 ^ suc n
-below_next n p byte below small = omega (arith, below, small)
+-- the digits that stand in bytes
+none_stand : (i n : ℕ) → big_from i n [] ≡ 0
+none_stand i zero = refl
+none_stand i (suc n) = omega (arith, none_stand (suc i) n)
 
--- the next digit
-next_digit : (k place : ℕ) (text : List ℕ)
-    → digits (suc k) (drop place text) ≡ get_or text place 0 * 256 ^ k + digits k (drop (suc place) text)
-next_digit zero place [] = rw (drop-nil place) refl
-next_digit (suc k) place [] = rw (drop-nil place) (omega arith)
-next_digit k zero (byte ∷ text) = refl
-next_digit k (suc place) (byte ∷ text) = next_digit k place text
+digits_stand : (n : ℕ) (text : List ℕ) → big_number n text ≡ digits n text
+digits_stand zero text = refl
+digits_stand (suc n) [] = none_stand 0 (suc n)
+digits_stand (suc n) (byte ∷ text) =
+    ap (λ rest. byte * 256 ^ n + rest) (big_from-cons 0 n byte text ∙ digits_stand n text)
 
-spread : (p b x d : ℕ) → (p * 256 + b) * x + d ≡ p * (x * 256) + (b * x + d)
-spread p b x d = omega arith
+abbrev AreZeros : List ℕ → Type 0
+AreZeros bytes = (n : ℕ) → digits n bytes ≡ 0
 
--- so many digits are read, and those that are left
-abbrev pub IsRead : ℕ → ℕ → List ℕ → ℕ → Type 0
-IsRead n place text prefix =
-    (prefix < 256 ^ place) × (prefix * 256 ^ (n - place) + digits (n - place) (drop place text) ≡ digits n text)
+zeros : (n m : ℕ) → digits n (replicate m 0) ≡ 0
+zeros zero m = refl
+zeros (suc n) zero = refl
+zeros (suc n) (suc m) = omega (arith, zeros n m)
 
-digit_more : (k n place : ℕ) (text : List ℕ) (prefix byte : ℕ) → byte ≡ get_or text place 0
-    → prefix * 256 ^ suc k + digits (suc k) (drop place text) ≡ digits n text
-    → (prefix * 256 + byte) * 256 ^ k + digits k (drop (suc place) text) ≡ digits n text
-digit_more k n place text prefix byte is spelt =
-    let left = digits k (drop (suc place) text) in
-    let digit : digits (suc k) (drop place text) ≡ byte * 256 ^ k + left =
-    next_digit k place text ∙ ap (λ b. b * 256 ^ k + left) (sym is) in
-    let power : 256 ^ suc k ≡ 256 ^ k * 256 = pow-suc 256 k in
-    spread prefix byte (256 ^ k) left ∙ ap₂ (λ x d. prefix * x + d) (sym power) (sym digit) ∙ spelt
+zeros_left : (k : ℕ) (bytes : List ℕ) → AreZeros bytes → AreZeros (drop k bytes)
+zeros_left zero bytes none = none
+zeros_left (suc k) [] none = none
+zeros_left (suc k) (byte ∷ bytes) none = zeros_left k bytes (λ n. omega (arith, none (suc n)))
 
-read_next : (k n place : ℕ) (text : List ℕ) (prefix byte : ℕ) → n - place ≡ suc k → n - (place + 1) ≡ k
-    → byte ≡ get_or text place 0 → byte < 256 → IsRead n place text prefix
-    → IsRead n (place + 1) text (prefix * 256 + byte)
-read_next k n place text prefix byte here next is small so_far = (
-  rw add-one (below_next place prefix byte so_far.0 small),
-  rw next (rw add-one (digit_more k n place text prefix byte is (rw here at so_far.1))),
-)
+-- zeros after a text are no digits
+digits_padded : (n : ℕ) (text bytes : List ℕ) → AreZeros bytes → digits n (take n text ++ bytes) ≡ digits n text
+digits_padded zero text bytes none = refl
+digits_padded (suc n) [] bytes none = none (suc n)
+digits_padded (suc n) (byte ∷ text) bytes none = ap (λ rest. byte * 256 ^ n + rest) (digits_padded n text bytes none)
 
-pub digit_read : (n place : ℕ) (text : List ℕ) (prefix byte : ℕ) → place < n → byte ≡ get_or text place 0 → byte < 256
-    → IsRead n place text prefix → IsRead n (place + 1) text (prefix * 256 + byte)
-digit_read n place text prefix byte inside is small so_far =
-    read_next (n - (place + 1)) n place text prefix byte (omega (arith, inside)) refl is small so_far
-
-pub fits : (place prefix : ℕ) → place < 16 → prefix < 256 ^ place → prefix * 256 + 255 < 2 ^ 128
-fits place prefix inside below =
-    let most : 256 ^ suc place ≤ 256 ^ 16 =
-    pow-le-pow_right {n = 256} (omega arith) {i = suc place} {j = 16} (omega (arith, inside)) in
-    omega (arith, below, most)
+pub prefix_read : (first key : List ℕ) → first ≡ take 16 key
+    → big_number 16 (first ++ drop (length first) (replicate 16 0)) ≡ prefix_of key
+prefix_read first key is =
+    let left = drop (length first) (replicate 16 0) in
+    let none : AreZeros left = zeros_left (length first) (replicate 16 0) (λ n. zeros n 16) in
+    digits_stand 16 (first ++ left) ∙ ap (λ l. digits 16 (l ++ left)) is ∙ digits_padded 16 key left none
 
 then_decided : (p o : Ordering) → p ≢ Equal → ordering_then p o ≡ o → p ≡ o
 then_decided Less o other is = is

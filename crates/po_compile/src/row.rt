@@ -5,6 +5,7 @@ ghost use Rattle.mo_file.specs.Key.{key_cmp};
 ghost use Rattle.po_compile.specs.Internal.Prefix.{prefix_of, second_prefix_of};
 
 use crate::collecting::Status;
+use byteorder::{BigEndian, ByteOrder};
 use std::cmp::Ordering;
 
 pub(crate) const PREFIX_LEN: usize = 16;
@@ -48,10 +49,8 @@ pub(crate) fn compare(a: &Row<'_>, b: &Row<'_>) -> Ordering
 pub(crate) fn prefix_of(key: &[u8]) -> u128
     ensures { result ≡ prefix_of key.now }
 {
-    let mut prefix = 0;
-    for index in 0..PREFIX_LEN {
-        let byte = key.get(index).copied().unwrap_or(0);
-        prefix = prefix * 256 + byte as u128;
-    }
-    prefix
+    let (first, _) = key.split_at(PREFIX_LEN.min(key.len()));
+    let mut bytes = [0; PREFIX_LEN];
+    bytes[..first.len()].copy_from_slice(first);
+    BigEndian::read_u128(&bytes)
 }

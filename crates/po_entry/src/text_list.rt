@@ -16,9 +16,9 @@ const LONG: u8 = 255;
 /// How many bytes a long length takes, besides the byte before it.
 const LENGTH_BYTES: usize = 8;
 
-/// For how many bytes there is room with the first text, where that is shorter: two references with
-/// their lengths.
-const FIRST_BYTES: usize = 40;
+/// For how many bytes there is room with the first text, where that is shorter: three references
+/// with their lengths.
+const FIRST_BYTES: usize = 56;
 
 /// A list of texts in one buffer, each behind its length: comments, references or flags.
 #[derive(Debug)]
@@ -99,7 +99,7 @@ impl TextList {
     }
 }
 
-/// Makes room for so many bytes more, and in an empty buffer for two references at least, but for
+/// Makes room for so many bytes more, and in an empty buffer for three references at least, but for
 /// no others: most lists have few texts.
 fn make_room(bytes: &mut Vec<u8>, more: usize) -> Result<(), AllocError>
     ensures items { bytes.new.items ≡ bytes.old.items }

@@ -17,9 +17,9 @@ pub fn message_hash(entry: &Entry) -> u64
     hasher.finish()
 }
 
-/// Whether no two of the numbers are the same. They are left sorted.
-pub fn all_differ(numbers: &mut [u64]) -> bool
-    ensures { IsTrue result ↔ AllPairs (λ a b. a ≢ b) numbers.old }
+/// Whether no two of the numbers are the same.
+pub fn all_differ(mut numbers: Vec<u64>) -> bool
+    ensures { IsTrue result ↔ AllPairs (λ a b. a ≢ b) numbers.items }
 {
     numbers.sort_unstable();
     numbers.is_sorted_by(|a, b| a < b)

@@ -1,4 +1,4 @@
-use Rattle.std.proofs.Common.{◌≢◌, ◌∙◌, AllPairs, subst}
+use Rattle.std.proofs.Common.{◌≢◌, AllPairs, subst}
 use Rattle.msgattrib.proofs.SelectedLemmas.{no_duplicate}
 use Rattle.msgattrib.proofs.selected_text.selected_text.Goals.{else-not-all_differ, then-not-all_differ+in_ok-check_duplicates}
 use Rattle.msgattrib.proofs.selected_text.selected_text.Goals as goal
@@ -14,7 +14,7 @@ returns c =
             w.in_ok-check_duplicates.ensures.distinct made.entries made.reads
         | else-not-all_differ w ↦
             no_duplicate c.args.selection.now made.entries
-            (subst (AllPairs (λ a b. a ≢ b)) (c.deref_mut.ensures.value ∙ made.have.hashes_are)
+            (subst (AllPairs (λ a b. a ≢ b)) made.have.hashes_are
             (c.all_differ.ensures.0 w.if-not-all_differ.false))
       ];
       text_is = c.in_ok-join.ensures.written _ made.have.parts_are;
