@@ -1,5 +1,5 @@
 -- The first catalogue of a chain that translates a query.
-use Rattle.std.proofs.Common.{◌≡◌, ℕ, suc, ◌+◌, ◌*◌, ◌<◌, ◌≤◌, Bool, true, List, ◌∷◌, Option, None, Some, length, min, cond, take, drop, get_or, slice_get, refl, sym, ◌∙◌, ap, arith}
+use Rattle.std.proofs.Common.{◌≡◌, ℕ, suc, ◌+◌, ◌*◌, ◌<◌, ◌≤◌, Bool, true, List, ◌∷◌, Option, None, Some, length, take, drop, get_or, slice_get, refl, sym, ◌∙◌, ap, arith}
 use Rattle.std.proofs.Math.Seq.{drop-cons}
 use Rattle.std.proofs.lemmas.List.{drop_all}
 use Rattle.std.proofs.lemmas.List.Folds.{find_at}
@@ -8,10 +8,10 @@ use Rattle.std.specs.List.{find, position_or_len}
 use Rattle.std.specs.Option.{is_some, option_map_or}
 use Rattle.plural_rule.specs.Expression.{nodes}
 use Rattle.plural_rule.specs.PluralRule.{RuleView}
-use Rattle.mo_lookup.specs.Query.{Query, can_be_key}
+use Rattle.mo_lookup.specs.Query.{Query}
 use Rattle.mo_lookup.specs.Answer.{AnswerView, answer, translated, untranslated}
 use Rattle.mo_lookup.specs.CatalogView.{CatalogView, answered}
-use Rattle.mo_lookup.specs.Chain.{answering_nodes, asked, chain_answered, chain_bound, chain_comparisons, translates}
+use Rattle.mo_lookup.specs.Chain.{answering_nodes, chain_answered, chain_bound, chain_comparisons, translates}
 
 translated-found : (fs : List (List ℕ)) (rule : RuleView) (plural : Option (List ℕ × ℕ)) →
     (translated fs rule plural).found ≡ true
@@ -51,19 +51,13 @@ first-at test chain index catalog first inside is holds =
     let none : position_or_len test (drop index chain) ≡ 0 = rw (cut, holds) refl in
     omega arith
 
-module _ (chain : List CatalogView) (query : Query) (can_be : can_be_key query.context query.id ≡ true) where
-  asked-can_be_key : asked chain query ≡ min (length chain) (position_or_len (translates query) chain + 1)
-  asked-can_be_key = ap (λ b. cond b (min (length chain) (position_or_len (translates query) chain + 1)) 0) can_be
-
-  -- where no catalogue translates it, all are asked
+module _ (chain : List CatalogView) (query : Query) where
+  -- where no catalogue translates it, none is found
   pub none-found : position_or_len (translates query) chain ≡ length chain → find (translates query) chain ≡ None
   none-found none =
       find_at (translates query) chain ∙ ap (slice_get chain) none ∙ slice_get_past chain (length chain) (omega arith)
 
-  pub all-asked : position_or_len (translates query) chain ≡ length chain → asked chain query ≡ length chain
-  all-asked none = omega (arith, asked-can_be_key)
-
-  -- where one does, it is the first, and those up to it are asked
+  -- where one does, it is the first
   module _ (index began counted : ℕ) (catalog : CatalogView) (none : HaveNot query chain index began counted)
       (inside : index < length chain) (is : catalog ≡ get_or chain index catalog)
       (holds : translates query catalog ≡ true) where
@@ -74,9 +68,6 @@ module _ (chain : List CatalogView) (query : Query) (can_be : can_be_key query.c
     first-found =
         find_at (translates query) chain ∙ ap (slice_get chain) (sym here)
         ∙ slice_get-get_or chain index catalog inside ∙ ap (λ x. Some x) (sym is)
-
-    pub those-asked : index + 1 ≡ asked chain query
-    those-asked = omega (arith, asked-can_be_key, here)
 
 -- what a chain answers, by the catalogue that is found
 pub chain_answered-is : (chain : List CatalogView) (query : Query) (found : Option CatalogView) →

@@ -11,7 +11,6 @@ use Rattle.mo_lookup.specs.Place.{IsFormAt, IsPlace, located_view, untranslated_
 use Rattle.mo_lookup.specs.Query.{Query}
 use Rattle.mo_lookup.specs.declared.place.Located.{Located}
 use Rattle.std.specs.Option.{option_map_or}
-use Rattle.mo_lookup.specs.declared.place.Place.{Place}
 use Rattle.mo_lookup.specs.declared.place.Place.TheVariants.{Id, Plural}
 
 -- a part loses its front

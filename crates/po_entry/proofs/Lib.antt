@@ -11,4 +11,3 @@ pub mod TextsFaults
 pub mod Settled
 pub mod TextListLemmas
 pub mod PlainEntries
-pub mod SeenTexts

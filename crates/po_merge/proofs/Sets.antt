@@ -11,14 +11,19 @@ use Rattle.std.specs.BTreeMap.{is_at}
 use Rattle.std.specs.BTreeSet.{BTreeSet, contains}
 use Rattle.std.proofs.lemmas.List.Folds.{list_any-append}
 use Rattle.std.proofs.lemmas.Slice.Eq.{bytes_eq-Decides}
-use Rattle.std.proofs.Math.Bool.{or-false}
+use Rattle.std.proofs.Math.Bool.{or-false, or-true}
 use Rattle.po_entry.specs.TextEntry.{texts}
 use Rattle.po_entry.specs.Equality.{texts_eq}
-use Rattle.po_entry.specs.Internal.SeenTexts.{HoldsTexts}
-use Rattle.po_entry.proofs.SeenTexts.{cond_or}
+use Rattle.po_merge.specs.Internal.SeenTexts.{HoldsTexts}
 use Rattle.po_merge.specs.Inputs.{NamedEntry}
 use Rattle.po_merge.specs.MergedEntry.{with_others}
 use Rattle.po_merge.specs.Internal.FormsByIndex.{HasForms}
+
+pub cond_or : (a b c : Bool) → a ≡ b → cond a true c ≡ (c || b)
+cond_or true true c e = sym (or-true c)
+cond_or true false c e = cc
+cond_or false true c e = cc
+cond_or false false c e = sym (or-false c)
 
 forms_tie : (a b : List (Vec ℕ))
     → texts_eq (texts a) (texts b) ≡ is_eq (slice_cmp (λ v w. slice_cmp nat_cmp v.items w.items) a b)

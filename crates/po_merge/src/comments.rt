@@ -1,7 +1,7 @@
 //! The comments, references and flags of a merged entry.
 
 ghost use Rattle.std.specs.Prelude.{◌≡◌, ◌<◌, ◌++◌, ℕ, List, length, IfOk, OnOk};
-ghost use Rattle.po_entry.specs.Internal.SeenTexts.{HoldsTexts};
+ghost use Rattle.po_merge.specs.Internal.SeenTexts.{HoldsTexts};
 ghost use Rattle.po_merge.specs.InputsView.{named_entries};
 ghost use Rattle.po_merge.specs.MergedEntry.{collected, comment_of, texts_of, with_others};
 

@@ -85,13 +85,6 @@ pub record AreSeen {T : Type 0} (live : T → Bool) (numbers : List ℕ) (things
   pub differ : DifferUpTo live numbers things n
 
 module _ {T : Type 0} (live : T → Bool) (numbers : List ℕ) (things : List T) where
-  pub seen_none : (at : ℕ → Option ℕ) → ((number : ℕ) → at number ≡ None) → AreSeen live numbers things at 0
-  seen_none at none = record {
-    kept = λ number index is. absurd (let no = none number in cc (is, no));
-    met = λ index below. absurd (omega (arith, below));
-    differ = λ i j d first below. absurd (omega (arith, below));
-  }
-
   module _ (i : ℕ) where
     pub seen_skipped : (at : ℕ → Option ℕ) → AreSeen live numbers things at i
         → ((d : T) → live (get_or things i d) ≡ false) → AreSeen live numbers things at (i + 1)

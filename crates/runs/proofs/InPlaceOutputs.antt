@@ -113,10 +113,6 @@ writes_in_place files gives (opened puts) = put_in_place files gives.0.0.2 puts 
 
 -- an open stream is written
 module _ (files : Files) (number : ℕ) where
-  stream_closed : Option (List ℕ) → Files
-  stream_closed bytes = record
-      { at = files.at; streams = put_stream number bytes files.streams; opened = stream_of number }
-
   other_stream : (bytes : Option (List ℕ)) (n : ℕ) → stream_of number ≢ stream_of n
       → put_stream number bytes files.streams n ≡ files.streams n
   other_stream bytes n other =

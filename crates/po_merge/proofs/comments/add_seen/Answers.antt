@@ -6,7 +6,7 @@ use Rattle.std.specs.Str.{bytes_eq}
 use Rattle.std.specs.BTreeMap.{is_at}
 use Rattle.std.specs.BTreeSet.{contains}
 use Rattle.std.proofs.Math.Bool.{or_assoc}
-use Rattle.po_entry.proofs.SeenTexts.{cond_or}
+use Rattle.po_merge.proofs.Sets.{cond_or}
 use Rattle.po_entry.specs.TextLists.{texts_left}
 use Rattle.po_merge.proofs.comments.add_seen.Goals as goal
 

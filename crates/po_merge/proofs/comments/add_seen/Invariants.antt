@@ -5,7 +5,7 @@ use Rattle.std.specs.List.{list_any}
 use Rattle.std.specs.Str.{bytes_eq}
 use Rattle.std.specs.Borrow.{Bor}
 use Rattle.std.specs.BTreeSet.{contains}
-use Rattle.po_entry.specs.Internal.SeenTexts.{HoldsTexts}
+use Rattle.po_merge.specs.Internal.SeenTexts.{HoldsTexts}
 use Rattle.po_entry.specs.TextLists.{texts_left}
 use Rattle.po_merge.proofs.comments.add_seen.Given as goal
 

@@ -1,6 +1,6 @@
 use Rattle.std.proofs.Common.{◌≡◌, sym, ap₂, ◌∙◌, subst}
 use Rattle.po_merge.specs.MergedEntry.{texts_of, with_others}
-use Rattle.po_entry.specs.Internal.SeenTexts.{HoldsTexts}
+use Rattle.po_merge.specs.Internal.SeenTexts.{HoldsTexts}
 use Rattle.po_merge.proofs.Sets.{same_texts_met}
 use Rattle.po_merge.proofs.Steps.{collected_more}
 use Rattle.po_merge.proofs.comments.collected.Goals as goal

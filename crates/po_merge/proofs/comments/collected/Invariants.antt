@@ -1,7 +1,7 @@
 use Rattle.std.proofs.Common.{◌≡◌, take}
 use Rattle.po_merge.specs.InputsView.{named_entries}
 use Rattle.po_merge.specs.MergedEntry.{collected, texts_of}
-use Rattle.po_entry.specs.Internal.SeenTexts.{HoldsTexts}
+use Rattle.po_merge.specs.Internal.SeenTexts.{HoldsTexts}
 use Rattle.po_merge.proofs.comments.collected.Given as goal
 
 -- the texts of the definitions so far are collected, and the set has them

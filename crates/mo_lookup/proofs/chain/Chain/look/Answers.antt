@@ -1,4 +1,4 @@
-use Rattle.std.proofs.Common.{None, Some, sym, ◌∙◌, arith}
+use Rattle.std.proofs.Common.{None, Some, ◌∙◌, arith}
 use Rattle.mo_lookup.specs.Query.{query}
 use Rattle.mo_lookup.proofs.ChainLemmas.{HaveNot-all, chain_answered-is, first-found, found-translates, nodes-answering, none-found}
 use Rattle.mo_lookup.proofs.chain.Chain.look.Goals as goal
@@ -10,7 +10,7 @@ returns-then-answer-clause-answered c =
     let answers = c.look-answer.ensures.answered in
     let holds = found-translates catalog asked _ answers ∙ c.if-answer.true in
     let inside = rw c.self.view_is at c.loop-index-test.true in
-    let first = first-found c.args.self.now asked (sym c.can_be_key.ensures ∙ c.if-not-can_be_key.false)
+    let first = first-found c.args.self.now asked
     c.loop-index.index _ _ catalog c.loop-index.invariant inside (rw c.self.view_is at c.catalog-item.is) holds in
     (rw c.if-answer.true at answers) ∙ chain_answered-is c.args.self.now asked (Some catalog) first
 
@@ -20,7 +20,7 @@ returns-then-answer-clause-nodes c =
     let catalog = c.catalog-item.result in
     let holds = found-translates catalog asked _ c.look-answer.ensures.answered ∙ c.if-answer.true in
     let inside = rw c.self.view_is at c.loop-index-test.true in
-    let first = first-found c.args.self.now asked (sym c.can_be_key.ensures ∙ c.if-not-can_be_key.false)
+    let first = first-found c.args.self.now asked
     c.loop-index.index _ _ catalog c.loop-index.invariant inside (rw c.self.view_is at c.catalog-item.is) holds in
     omega (arith, c.look-answer.ensures.nodes, nodes-answering c.args.self.now asked catalog first)
 
@@ -32,4 +32,4 @@ returns-clause-answered c =
     (rw c.self.view_is at c.loop-index.auto.index-end) in
     rw c.untranslated_text.ensures
     (chain_answered-is c.args.self.now asked None
-    (none-found c.args.self.now asked (sym c.can_be_key.ensures ∙ c.if-not-can_be_key.false) none))
+    (none-found c.args.self.now asked none))
