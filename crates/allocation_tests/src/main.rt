@@ -1,5 +1,5 @@
-//! Makes one call that allocates, in a row of values worked out by hand, so that a script can let each of its
-//! allocations fail. The status reports what came of it:
+//! Makes one call that allocates, in a row of values worked out by hand, so that a script can let
+//! each of its allocations fail. The status reports what came of it:
 //!
 //! - 0: the call answered, and rightly;
 //! - 3: it answered out of memory, and left its arguments as they were;

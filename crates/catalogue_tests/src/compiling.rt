@@ -51,8 +51,8 @@ fn compiled(rt: &impl Abort, alloc: Global, text: &[u8], options: Options) -> Co
     }
 }
 
-/// The context, msgid and msgid_plural with its count that are looked up, the answer, and whether it
-/// was found.
+/// The context, msgid and msgid_plural with its count that are looked up, the answer, and whether
+/// it was found.
 type Look = (
     Option<&'static [u8]>,
     &'static [u8],

@@ -3,7 +3,8 @@
 //! of their own, since the gate proves a crate once more together with the tests in it.
 //!
 //! `texts`, `summary` and `assertions` serve the others, which are in reading order: `items`,
-//! `reading`, `built_entries`, `writing`, `catalogues`, `tools`, `compiling`, `damaged`, `documented`.
+//! `reading`, `built_entries`, `writing`, `catalogues`, `tools`, `compiling`, `damaged`,
+//! `documented`.
 
 #![tactic(auto)]
 

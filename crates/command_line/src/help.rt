@@ -1,6 +1,6 @@
 //! What the help of the program and of each tool says besides options: its first line; the usage of
-//! tools that take arguments in several forms; and after the options these forms, examples, and what
-//! the exit status is.
+//! tools that take arguments in several forms; and after the options these forms, examples, and
+//! what the exit status is.
 
 /// What the help of a command says.
 #[derive(Clone, Copy)]

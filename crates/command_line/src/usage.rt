@@ -27,8 +27,8 @@ const FILE_TIP: &str = "  tip: to pass '";
 /// A line with nothing in it.
 const BLANK: &str = "\n";
 
-/// The command line, where `help TOOL` is spelled out as `TOOL --help`, and `help` as `--help`. What
-/// follows `help TOOL` is left out.
+/// The command line, where `help TOOL` is spelled out as `TOOL --help`, and `help` as `--help`.
+/// What follows `help TOOL` is left out.
 pub fn spelled_out(alloc: Global, arguments: &[String]) -> Result<Vec<&str>, AllocError>
     ensures { IfOk result (λ spelled. map (λ word. word.now) spelled.items
         ≡ spelled_out (map string_bytes arguments.now)) }

@@ -1,5 +1,5 @@
-//! Laws of substitution, each the contract of a function that does nothing: a call brings the law into
-//! a proof.
+//! Laws of substitution, each the contract of a function that does nothing: a call brings the law
+//! into a proof.
 ghost use Rattle.std.specs.Prelude.{◌≡◌, ◌↔◌, ℕ, List, Option, Some, Ok, Err};
 ghost use Rattle.envsubst.specs.Envsubst.{EndsAs};
 ghost use Rattle.envsubst.specs.EnvsubstLaw.{TookAll, TookAllRead, TookBeginning, TookBeginningOfRead};
@@ -36,8 +36,8 @@ pub fn names_are_listed()
 {}
 
 /// What a run has written where it ends: the text with its references replaced; after a fault a
-/// beginning of that; and where the fault isn't of the writer, a beginning whatever follows what was
-/// read. Where it is of the reader, all that was read has come out, but for 257 bytes at most.
+/// beginning of that; and where the fault isn't of the writer, a beginning whatever follows what
+/// was read. Where it is of the reader, all that was read has come out, but for 257 bytes at most.
 pub fn output_is_replaced()
     ensures whole { (values : Values) (text : List ℕ) (left old new : Option (List ℕ))
         → EndsAs values (Some text) left old new (Ok tt) → TookAll values text old new }

@@ -1,5 +1,5 @@
-//! envsubst: the substitution of variables, in pieces and in a whole input, and what the tool does by
-//! its arguments.
+//! envsubst: the substitution of variables, in pieces and in a whole input, and what the tool does
+//! by its arguments.
 //!
 //! The modules in reading order: `variable`, `reference`, `sorted`, `replacements`, `holding`,
 //! `substituter`, `whole_input`, `arguments`, `by_arguments`, `laws`.

@@ -77,7 +77,8 @@ pub fn run_envsubst_in_blocks<R: ByteIn, W: ByteOut>(
     substitute_all(reader, writer, vars.as_slice(), only, block)
 }
 
-/// Writes the input with its references replaced, and gathers the output in a block where one is given.
+/// Writes the input with its references replaced, and gathers the output in a block where one is
+/// given.
 #[inline(never)]
 fn substitute_all<R: ByteIn, W: ByteOut>(
     reader: &mut R,
@@ -125,8 +126,8 @@ fn part_len(vars: &[(&[u8], &[u8])]) -> usize
     (GATHERED_LEN / longest).max(1)
 }
 
-/// Takes one more piece, with a block in parts of so many bytes. What they become is gathered in it,
-/// and all of it is written before it is returned.
+/// Takes one more piece, with a block in parts of so many bytes. What they become is gathered in
+/// it, and all of it is written before it is returned.
 fn feed_in_blocks<W: ByteOut>(
     substituter: &mut Substituter<'_>,
     block: Option<Vec<u8>>,

@@ -20,9 +20,9 @@ pub struct CatalogueFile {
     pub bytes: Vec<u8>,
 }
 
-/// Reads the catalogues of a text domain, given by an argument or by an option, in the order in which
-/// the environment asks for them: those whose files can be read. Refused only where an allocation
-/// failed.
+/// Reads the catalogues of a text domain, given by an argument or by an option, in the order in
+/// which the environment asks for them: those whose files can be read. Refused only where an
+/// allocation failed.
 pub fn find_catalogues<S: InputSource + VariableSource>(
     alloc: Global,
     source: &mut S,

@@ -1,5 +1,5 @@
-//! Laws of escapes, of COUNT and of where catalogues are looked for, each the contract of a function
-//! that does nothing: a call brings the law into a proof.
+//! Laws of escapes, of COUNT and of where catalogues are looked for, each the contract of a
+//! function that does nothing: a call brings the law into a proof.
 ghost use Rattle.std.specs.Prelude.{◌≡◌, ◌↔◌, ℕ, Bool, List, Option};
 ghost use Rattle.gettext.specs.declared.candidates.Environment.{Environment};
 ghost use Rattle.gettext.specs.Candidates.{AreCandidates};

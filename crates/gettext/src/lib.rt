@@ -1,8 +1,9 @@
-//! gettext and ngettext as functions of their inputs: the locales and the paths of the catalogues of a
-//! text domain, what stands in arguments, what each tool writes and reports, and each as a whole.
+//! gettext and ngettext as functions of their inputs: the locales and the paths of the catalogues
+//! of a text domain, what stands in arguments, what each tool writes and reports, and each as a
+//! whole.
 //!
-//! The modules in reading order: `candidates`, `environment`, `paths`, `catalogues`, `count`, `escape`,
-//! `arguments`, `plan`, `options`, `whole_run`, `laws`.
+//! The modules in reading order: `candidates`, `environment`, `paths`, `catalogues`, `count`,
+//! `escape`, `arguments`, `plan`, `options`, `whole_run`, `laws`.
 
 #![tactic(auto)]
 

@@ -113,7 +113,8 @@ fn open_all<'a>(
     Ok(opened)
 }
 
-/// Appends the answer to a msgid, or to a msgid, a plural and a count where a plural form is asked for.
+/// Appends the answer to a msgid, or to a msgid, a plural and a count where a plural form is asked
+/// for.
 fn push_text<'a, 'q>(
     output: &mut Vec<u8>,
     chain: &Chain<'_, 'a>,
@@ -156,7 +157,8 @@ fn push_answer(
     Ok(expanded.no_newline)
 }
 
-/// Appends the answers to the MSGIDs, with a space between two, and says whether a `\c` is expanded in one.
+/// Appends the answers to the MSGIDs, with a space between two, and says whether a `\c` is expanded
+/// in one.
 fn push_answers(
     alloc: Global,
     output: &mut Vec<u8>,
@@ -182,9 +184,9 @@ fn push_answers(
     Ok(omitted)
 }
 
-/// What `gettext` writes over the catalogues that could be read, in the order in which they are asked: the
-/// answers, each a translation or the MSGID itself; on standard error a line for each catalogue that is refused
-/// and so omitted. Refused only where an allocation failed.
+/// What `gettext` writes over the catalogues that could be read, in the order in which they are
+/// asked: the answers, each a translation or the MSGID itself; on standard error a line for each
+/// catalogue that is refused and so omitted. Refused only where an allocation failed.
 pub fn plan_gettext(
     alloc: Global,
     catalogues: &[(&str, &[u8])],
@@ -239,9 +241,10 @@ fn push_plural_answer(
     Ok(())
 }
 
-/// What `ngettext` writes over the catalogues that could be read, in the order in which they are asked: the form
-/// of the translation for the count, or MSGID for a count of 1 and MSGID-PLURAL for any other; on standard error
-/// a line for each catalogue that is refused and so omitted. Refused only where an allocation failed.
+/// What `ngettext` writes over the catalogues that could be read, in the order in which they are
+/// asked: the form of the translation for the count, or MSGID for a count of 1 and MSGID-PLURAL for
+/// any other; on standard error a line for each catalogue that is refused and so omitted. Refused
+/// only where an allocation failed.
 pub fn plan_ngettext(
     alloc: Global,
     catalogues: &[(&str, &[u8])],

@@ -12,9 +12,9 @@ use crate::plan::{GettextOptions, NgettextOptions, plan_gettext, plan_ngettext};
 use runs::{ByteOut, InputSource, OutputFiles, OutputSystem, ProgramFault, STANDARD};
 use std::alloc::Global;
 
-/// Runs `gettext`: reads the catalogues of the text domain that an argument or the option `-d` gives,
-/// plans as `plan_gettext` does, and writes the run. Returns the run's status. Nothing is written where
-/// an allocation failed before the run was planned.
+/// Runs `gettext`: reads the catalogues of the text domain that an argument or the option `-d`
+/// gives, plans as `plan_gettext` does, and writes the run. Returns the run's status. Nothing is
+/// written where an allocation failed before the run was planned.
 pub fn run_gettext<S: InputSource + VariableSource, F: OutputFiles, O: ByteOut, E: ByteOut>(
     alloc: Global,
     source: &mut S,

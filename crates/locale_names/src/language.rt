@@ -20,9 +20,9 @@ fn first_part(languages: &[u8]) -> (&[u8], usize)
     (&languages[..end], end + 1)
 }
 
-/// The first part of LANGUAGE that counts, and how many bytes there are up to its end, with the colon
-/// after it. Parts that are empty or have a slash don't count, and neither does what stands from the
-/// first part `C` or `POSIX` on.
+/// The first part of LANGUAGE that counts, and how many bytes there are up to its end, with the
+/// colon after it. Parts that are empty or have a slash don't count, and neither does what stands
+/// from the first part `C` or `POSIX` on.
 pub(crate) fn next_language(languages: &[u8]) -> Option<(&[u8], usize)>
     ensures parts { MatchOption result (language_parts languages.now ≡ [])
         (λ next. language_parts languages.now ≡ next.0.now ∷ language_parts (drop next.1 languages.now)) }

@@ -1,5 +1,6 @@
-//! Every truncation of four files, and every change of one of their bytes: each is refused with the fault that
-//! a plain reading of "The Format of GNU MO Files" finds first, or is asked, and answers as that does.
+//! Every truncation of four files, and every change of one of their bytes: each is refused with the
+//! fault that a plain reading of "The Format of GNU MO Files" finds first, or is asked, and answers
+//! as that does.
 
 use crate::samples::{CONTEXTS, ONE, ONE_BIG, TWO};
 use mo_file::{Meter, MoError};
@@ -8,8 +9,8 @@ use std::alloc::{AllocError, Global};
 
 const FILES: &[&[u8]] = &[&ONE, &ONE_BIG, &TWO, &CONTEXTS];
 
-/// Where the table of the translations begins in two of the files: what is before it is changed in one
-/// test, and the rest in another, so that neither takes long.
+/// Where the table of the translations begins in two of the files: what is before it is changed in
+/// one test, and the rest in another, so that neither takes long.
 const TRANSLATIONS_OF_TWO: usize = 44;
 
 const TRANSLATIONS_OF_CONTEXTS: usize = 52;
@@ -54,7 +55,8 @@ fn end(file: &[u8], table: usize, i: u32) -> usize {
     start(file, table, i).wrapping_add(word(file, entry(file, table, i)) as usize)
 }
 
-/// What stands before the first byte of this value, and what after it; none where there is no such byte.
+/// What stands before the first byte of this value, and what after it; none where there is no such
+/// byte.
 fn cut(byte: u8, text: &[u8]) -> Option<(&[u8], &[u8])> {
     let at = text.iter().position(|other| *other == byte)?;
     Some((text.get(..at)?, text.get(at.wrapping_add(1)..)?))

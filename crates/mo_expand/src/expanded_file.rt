@@ -29,10 +29,10 @@ pub enum ExpandedFile {
 }
 
 /// Expands an MO file into one without system-dependent messages: it has those of the file, and of
-/// the system-dependent ones, completed by the texts of a platform, those whose keys the file lacks,
-/// in rising order of their keys. The new file is written from the beginning of `file` on, in the
-/// byte order of the old one. The bytes may be any; `list` and `room` are for the messages and for
-/// the strings that are completed.
+/// the system-dependent ones, completed by the texts of a platform, those whose keys the file
+/// lacks, in rising order of their keys. The new file is written from the beginning of `file` on,
+/// in the byte order of the old one. The bytes may be any; `list` and `room` are for the messages
+/// and for the strings that are completed.
 pub fn expand_file<'b>(
     bytes: &'b [u8],
     texts: &[PlatformText<'b>],

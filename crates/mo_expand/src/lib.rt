@@ -1,9 +1,9 @@
 //! System-dependent strings of MO files: strings with names as PRIu64, for which each platform has
 //! texts of its own ("The Format of GNU MO Files").
 //!
-//! [`system_count`] says how many messages with such strings a file has, and [`expand`] completes one
-//! of them by the texts of a platform, in room that the caller hands in. [`expand_file`] makes a file
-//! that has none of them. The bytes may be of any origin.
+//! [`system_count`] says how many messages with such strings a file has, and [`expand`] completes
+//! one of them by the texts of a platform, in room that the caller hands in. [`expand_file`] makes
+//! a file that has none of them. The bytes may be of any origin.
 //!
 //! The modules in reading order: `platform_text`, `segments`, `joining`, `expanding`, `listing`,
 //! `completing`, `expanded_file`, `laws`.

@@ -19,8 +19,8 @@ pub fn no_hash_table_is_laid_out()
     ensures { NoHashTableIsLaidOut }
 {}
 
-/// A file is laid out as the manual draws it: the tables of the originals and of the translations, then
-/// the originals and then the translations, in either byte order.
+/// A file is laid out as the manual draws it: the tables of the originals and of the translations,
+/// then the originals and then the translations, in either byte order.
 pub fn files_are_laid_out()
     ensures little { layout Order.Little two_messages ≡ file_of_two }
     ensures big { layout Order.Big one_message ≡ big_file_of_one }

@@ -7,8 +7,8 @@ ghost use Rattle.mo_file.specs.Pairs.{messages_of_pairs};
 use crate::key::compare_originals;
 
 /// An original and its translation, as they stand in a file, without the NUL that ends each. The
-/// original is the key, or for a message with a plural the key, a NUL and the plural; the key is the
-/// msgid, or the context, a byte 4 (EOT) and the msgid. The translation is the forms with a NUL
+/// original is the key, or for a message with a plural the key, a NUL and the plural; the key is
+/// the msgid, or the context, a byte 4 (EOT) and the msgid. The translation is the forms with a NUL
 /// between them ("The Format of GNU MO Files").
 #[derive(Debug, Drop)]
 pub struct Pair {

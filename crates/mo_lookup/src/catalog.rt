@@ -80,8 +80,8 @@ impl<'a> Catalog<'a> {
         }
     }
 
-    /// Opens bytes as [`Catalog::open`] does, in the place of this catalogue. Where they are refused, it
-    /// stays as it was.
+    /// Opens bytes as [`Catalog::open`] does, in the place of this catalogue. Where they are
+    /// refused, it stays as it was.
     #[inline(never)]
     pub fn reopen(&mut self, bytes: &'a [u8], meter: &mut Meter) -> Result<(), MoError>
         requires { meter.old < 2 ^ 63 }

@@ -39,8 +39,8 @@ pub fn other_keys_find_none()
     ensures { OtherKeysFindNone }
 {}
 
-/// The value of the rule selects the form of that index, if the rule counts so many forms and there is
-/// one; else form 0 is selected.
+/// The value of the rule selects the form of that index, if the rule counts so many forms and there
+/// is one; else form 0 is selected.
 pub fn forms_are_selected()
     ensures undefined { (forms : List (List ℕ)) (nplurals : ℕ) → selected_form forms nplurals None ≡ form_at forms 0 }
     ensures counted { (forms : List (List ℕ)) (nplurals index : ℕ) → index < nplurals → index < length forms

@@ -2,12 +2,12 @@
 //! count select.
 //!
 //! [`Catalog::open`] checks bytes of any origin once and reads the plural rule of their header
-//! entry; [`Catalog::reopen`] does so in the place of another catalogue, and [`open_into`] in memory
-//! of the caller. [`Catalog::look`] then answers a query by at most floor(log2 N) + 1 comparisons
-//! among N keys, and evaluates each node of the plural expression at most once; [`locate`] answers
-//! where the text is. A [`Chain`] asks one catalogue after the other. None of them allocates: texts
-//! are slices of the file or of the query. [`find`] is the binary search over any list of [`Keys`],
-//! which it only compares.
+//! entry; [`Catalog::reopen`] does so in the place of another catalogue, and [`open_into`] in
+//! memory of the caller. [`Catalog::look`] then answers a query by at most floor(log2 N) + 1
+//! comparisons among N keys, and evaluates each node of the plural expression at most once;
+//! [`locate`] answers where the text is. A [`Chain`] asks one catalogue after the other. None of
+//! them allocates: texts are slices of the file or of the query. [`find`] is the binary search over
+//! any list of [`Keys`], which it only compares.
 //!
 //! The modules in reading order: `query`, `search`, `messages`, `forms`, `answer`, `place`,
 //! `lookup`, `opening`, `catalog`, `chain`, `laws`.

@@ -21,9 +21,9 @@ use crate::query::{can_be_key, untranslated_place};
 use crate::search::find;
 use plural_rule::Instruction;
 
-/// Looks up a message as [`Catalog::look`](crate::Catalog::look) does, and answers where the text is,
-/// with a rule of `nplurals` forms whose expression stands in `program`, as `Rule::program` gives it:
-/// at most 4,096 nodes.
+/// Looks up a message as [`Catalog::look`](crate::Catalog::look) does, and answers where the text
+/// is, with a rule of `nplurals` forms whose expression stands in `program`, as `Rule::program`
+/// gives it: at most 4,096 nodes.
 pub fn locate<'a, M: Messages<'a>>(
     messages: &mut M,
     nplurals: u64,
@@ -78,8 +78,8 @@ pub fn locate<'a, M: Messages<'a>>(
     }
 }
 
-/// The index of the message with the key of a context and a msgid, or None where no message has that
-/// key.
+/// The index of the message with the key of a context and a msgid, or None where no message has
+/// that key.
 fn index_of<'a, M: Messages<'a>>(messages: &mut M, context: Option<&[u8]>, id: &[u8]) -> Option<u32>
     requires keys { M.listed messages.old ≡ keys (M.file messages.old).messages }
     requires room { M.counted messages.old < 2 ^ 63 }

@@ -10,9 +10,9 @@ use po_select::Selection;
 use runs::{ByteOut, InputSource, OutputFiles, OutputSystem, ProgramFault, read_one, shown_name};
 use std::alloc::Global;
 
-/// Runs `msgattrib`: reads the input of its argument, plans as `plan_msgattrib` does, and writes the run.
-/// Returns the run's status. Nothing is written where the input can't be read, and where an allocation
-/// failed before the run was planned.
+/// Runs `msgattrib`: reads the input of its argument, plans as `plan_msgattrib` does, and writes
+/// the run. Returns the run's status. Nothing is written where the input can't be read, and where
+/// an allocation failed before the run was planned.
 pub fn run<'a, S: InputSource, F: OutputFiles, O: ByteOut, E: ByteOut>(
     alloc: Global,
     source: &mut S,

@@ -1,7 +1,8 @@
-//! msgcat as a function of its inputs and options: what it writes and reports, and its exit status; and
-//! as a whole, from reading its inputs to its status.
+//! msgcat as a function of its inputs and options: what it writes and reports, and its exit status;
+//! and as a whole, from reading its inputs to its status.
 //!
-//! The modules in reading order: `options`, `entries`, `inputs`, `merged_text`, `plan`, `whole_run`.
+//! The modules in reading order: `options`, `entries`, `inputs`, `merged_text`, `plan`,
+//! `whole_run`.
 
 #![tactic(auto)]
 

@@ -48,8 +48,8 @@ fn push_copy(parts: &mut TextParts, text: &[u8], row: &EntryRow<'_>) -> Result<(
     }
 }
 
-/// Entries that are read again from their texts, which stand in the order of a written text. Refused
-/// where these are larger than a text can be, and where an allocation failed.
+/// Entries that are read again from their texts, which stand in the order of a written text.
+/// Refused where these are larger than a text can be, and where an allocation failed.
 fn read_again(alloc: Global, text: &[u8], rows: &[EntryRow<'_>]) -> Result<Catalogue, AllocError>
     ensures { IfOk result (λ read. (entries : List merge.NamedEntry) → AreRows text.now entries rows.now
         → AreInOrder entries → AreReadBack entries read) }

@@ -1,5 +1,5 @@
-//! What msgcat writes and reports: the text of the catalogue that PO texts are merged to; and what it
-//! comes to where an input can't be read.
+//! What msgcat writes and reports: the text of the catalogue that PO texts are merged to; and what
+//! it comes to where an input can't be read.
 ghost use Rattle.std.specs.Prelude.{◌≡◌, ◌≢◌, ◌⊎◌, All, Err, IfErr, IfOk, IfSome, List, MatchOption, None, OnErr, Some, []};
 ghost use Rattle.po_entry.specs.Bytes.{Lacks};
 ghost use Rattle.po_merge.specs.Inputs.{Named};

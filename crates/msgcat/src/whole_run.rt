@@ -9,9 +9,9 @@ use po_merge::MergeOptions;
 use runs::{ByteOut, InputSource, Inputs, OutputFiles, OutputSystem, ProgramFault};
 use std::alloc::Global;
 
-/// Runs `msgcat`: reads the inputs of its arguments in their order, plans as `plan_msgcat_of` does, and
-/// writes the run. Returns the run's status. Nothing is written where what was read has no run, and
-/// where an allocation failed before the run was planned.
+/// Runs `msgcat`: reads the inputs of its arguments in their order, plans as `plan_msgcat_of` does,
+/// and writes the run. Returns the run's status. Nothing is written where what was read has no run,
+/// and where an allocation failed before the run was planned.
 pub fn run<'a, S: InputSource, F: OutputFiles, O: ByteOut, E: ByteOut>(
     alloc: Global,
     source: &mut S,

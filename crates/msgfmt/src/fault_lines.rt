@@ -1,5 +1,5 @@
-//! Why inputs aren't compiled, and what the check finds, as the line that reports it, and as the run
-//! of it.
+//! Why inputs aren't compiled, and what the check finds, as the line that reports it, and as the
+//! run of it.
 ghost use Rattle.std.specs.Prelude.{◌≡◌, ◌≢◌, ◌++◌, IfOk, OnOk};
 ghost use Rattle.runs.specs.FaultText.{duplicate_text};
 ghost use Rattle.runs.specs.NamedFile.{named_files};

@@ -1,5 +1,5 @@
-//! msgfmt as a function of its inputs and options: what it writes and reports, and its exit status; and
-//! as a whole, from reading its inputs to its status.
+//! msgfmt as a function of its inputs and options: what it writes and reports, and its exit status;
+//! and as a whole, from reading its inputs to its status.
 //!
 //! The modules in reading order: `options`, `profile`, `fault_lines`, `plan`, `whole_run`, `laws`.
 

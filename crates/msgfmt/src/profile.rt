@@ -27,10 +27,12 @@ pub enum CheckFault {
     /// The message at this line has another number of plural forms than the rule.
     #[error("wrong number of plural forms")]
     FormCount(u32),
-    /// At this line the plural or a form begins with a newline where the msgid doesn't, or the other way round.
+    /// At this line the plural or a form begins with a newline where the msgid doesn't, or the
+    /// other way round.
     #[error("first newline differs")]
     LeadingNewline(u32),
-    /// At this line the plural or a form ends with a newline where the msgid doesn't, or the other way round.
+    /// At this line the plural or a form ends with a newline where the msgid doesn't, or the other
+    /// way round.
     #[error("last newline differs")]
     TrailingNewline(u32),
     /// The rule divides by 0 at this count.
@@ -194,7 +196,8 @@ fn first_plural<'m, 'b>(messages: &'m [CompiledMessage<'b>]) -> Option<&'m Compi
     messages.iter().find(|message| is_plural(message))
 }
 
-/// A header without a readable rule is a fault for the first message with a plural, if there is one.
+/// A header without a readable rule is a fault for the first message with a plural, if there is
+/// one.
 fn rule_fault(source: Source, plural: Option<&CompiledMessage<'_>>) -> Option<(u32, CheckFault)>
     ensures { result ≡ Spec.rule_fault source (option_map (λ m. Spec.checked_message m.now) plural.entry) }
 {
@@ -224,7 +227,8 @@ fn first_fault(rule: Rule, messages: &[CompiledMessage<'_>]) -> Option<(u32, Che
     }
 }
 
-/// The rule of a header text. What reading it takes of the stack is given back before the rule is used.
+/// The rule of a header text. What reading it takes of the stack is given back before the rule is
+/// used.
 #[inline(never)]
 fn rule_of(header: &[u8]) -> Rule
     ensures { IsRuleOf expression_limit header.now result }
@@ -232,10 +236,11 @@ fn rule_of(header: &[u8]) -> Rule
     Rule::parse(header)
 }
 
-/// Asks of the messages that are compiled, in text order: that there is a header; that it has a readable plural
-/// rule where an entry has a plural; that each entry but the header has as many forms as the rule, and newlines
-/// at its ends where its msgid has them; and that the rule's values at the counts from 0 to 1,000 are indices of
-/// forms, where an entry has a plural. The first fault is reported, with the input of its line, or input 0.
+/// Asks of the messages that are compiled, in text order: that there is a header; that it has a
+/// readable plural rule where an entry has a plural; that each entry but the header has as many
+/// forms as the rule, and newlines at its ends where its msgid has them; and that the rule's values
+/// at the counts from 0 to 1,000 are indices of forms, where an entry has a plural. The first fault
+/// is reported, with the input of its line, or input 0.
 #[inline(never)]
 fn check_messages(messages: &[CompiledMessage<'_>]) -> Option<(u32, CheckFault)>
     ensures { Spec.IsChecked (Spec.checked_messages messages.now) result }
@@ -263,11 +268,12 @@ pub(crate) fn check_inputs(alloc: Global, inputs: &[Collected]) -> Result<(), (u
     }
 }
 
-/// Checks the messages that catalogues are compiled to, in the order of their joined list: that there is a header;
-/// that it has a readable plural rule where an entry has a plural; that each entry but the header has as many forms
-/// as the rule, and newlines at its ends where its msgid has them; and that the rule's values at the counts from 0
-/// to 1,000 are indices of forms, where an entry has a plural. The first fault is reported with the input of its line,
-/// or input 0 where it has none. `OutOfMemory`, with input 0, may come in place of any result.
+/// Checks the messages that catalogues are compiled to, in the order of their joined list: that
+/// there is a header; that it has a readable plural rule where an entry has a plural; that each
+/// entry but the header has as many forms as the rule, and newlines at its ends where its msgid has
+/// them; and that the rule's values at the counts from 0 to 1,000 are indices of forms, where an
+/// entry has a plural. The first fault is reported with the input of its line, or input 0 where it
+/// has none. `OutOfMemory`, with input 0, may come in place of any result.
 pub fn profile_check(
     alloc: Global,
     catalogues: &[Catalogue],

@@ -1,5 +1,5 @@
-//! msgfmt as a whole: the inputs of its command line are read, also where one can't be, and their run
-//! is planned and written.
+//! msgfmt as a whole: the inputs of its command line are read, also where one can't be, and their
+//! run is planned and written.
 ghost use Rattle.std.specs.Prelude.{◌≡◌, ◌≢◌, ◌⊎◌, ◌^◌, ◌<◌, [], None, Some, Err, IfOk, IfErr, IfSome, OnOk, false, map};
 ghost use Rattle.msgfmt.specs.Msgfmt.{AreWrong, IsMsgfmtRun, IsRefused, NoneRefused};
 ghost use Rattle.msgfmt.specs.WholeRun.{RunsMsgfmt};
@@ -57,9 +57,9 @@ pub fn plan_msgfmt_of<'a>(
     if run.status == 0 { Err(fault) } else { Ok(run) }
 }
 
-/// Runs `msgfmt`: reads the inputs of its arguments in their order, plans as `plan_msgfmt_of` does, and
-/// writes the run. Returns the run's status. Nothing is written where what was read has no run, and
-/// where an allocation failed before the run was planned.
+/// Runs `msgfmt`: reads the inputs of its arguments in their order, plans as `plan_msgfmt_of` does,
+/// and writes the run. Returns the run's status. Nothing is written where what was read has no run,
+/// and where an allocation failed before the run was planned.
 pub fn run<'a, S: InputSource, F: OutputFiles, O: ByteOut, E: ByteOut>(
     alloc: Global,
     source: &mut S,

@@ -1,5 +1,5 @@
-//! msgunfmt as a function of its input: what it writes and reports, and its exit status (`plan`); and
-//! as a whole, from reading its input to its status (`whole_run`).
+//! msgunfmt as a function of its input: what it writes and reports, and its exit status (`plan`);
+//! and as a whole, from reading its input to its status (`whole_run`).
 
 #![tactic(auto)]
 

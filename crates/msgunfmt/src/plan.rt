@@ -26,8 +26,9 @@ fn push_unformat_text(out: &mut Vec<u8>, error: UnformatError) -> Result<(), All
     out.extend_from_slice(text.as_bytes())
 }
 
-/// What `msgunfmt` writes and reports of a file with this name: its PO text, where it has a message. A file that has no
-/// text is reported by one line, with status 1. Refused only where an allocation failed.
+/// What `msgunfmt` writes and reports of a file with this name: its PO text, where it has a
+/// message. A file that has no text is reported by one line, with status 1. Refused only where an
+/// allocation failed.
 pub fn plan_msgunfmt(alloc: Global, bytes: &[u8], name: &str) -> Result<Run, ToolFault>
     ensures run { IfOk result (λ run. IsMsgunfmtRun (record { name = name.now; bytes = bytes.now }) (run_view run)) }
     ensures memory { OnErr result (result ≡ Err ToolFault.OutOfMemory) }

@@ -9,9 +9,9 @@ use crate::plan::plan_msgunfmt;
 use runs::{ByteOut, InputSource, OutputFiles, OutputSystem, ProgramFault, read_one, shown_name};
 use std::alloc::Global;
 
-/// Runs `msgunfmt`: reads the input of its argument, plans as `plan_msgunfmt` does, and writes the run.
-/// Returns the run's status. Nothing is written where the input can't be read, and where an allocation
-/// failed before the run was planned.
+/// Runs `msgunfmt`: reads the input of its argument, plans as `plan_msgunfmt` does, and writes the
+/// run. Returns the run's status. Nothing is written where the input can't be read, and where an
+/// allocation failed before the run was planned.
 pub fn run<'a, S: InputSource, F: OutputFiles, O: ByteOut, E: ByteOut>(
     alloc: Global,
     source: &mut S,

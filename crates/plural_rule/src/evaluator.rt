@@ -9,7 +9,8 @@ ghost use Rattle.plural_rule.specs.Internal.Run.{act, left_by, go_on, run, store
 
 use crate::instruction::{Action, Instruction};
 
-/// The most instructions of a program that runs with the smallest stack: a larger one takes longer to set up.
+/// The most instructions of a program that runs with the smallest stack: a larger one takes longer
+/// to set up.
 const TINY: usize = 16;
 
 /// The same for the next larger one.
@@ -38,11 +39,12 @@ pub fn evaluate(instructions: &[Instruction], count: u64) -> (Option<u64>, u32)
     }
 }
 
-/// What an instruction does: the value that it adds, or `None` where it divides by 0, how many values
-/// it takes, how many instructions it skips, and how many nodes begin with it.
+/// What an instruction does: the value that it adds, or `None` where it divides by 0, how many
+/// values it takes, how many instructions it skips, and how many nodes begin with it.
 type Effect = (Option<u64>, usize, u16, u16);
 
-/// The same with room for `N` values: half of the instructions suffice, since an operator takes two.
+/// The same with room for `N` values: half of the instructions suffice, since an operator takes
+/// two.
 ///
 /// The newest value stands beside the array, whose first value is none of the program's.
 #[inline(never)]
@@ -72,7 +74,8 @@ fn evaluate_within<const N: usize>(instructions: &[Instruction], count: u64) -> 
     (Some(newest), steps)
 }
 
-/// Keeps the values before the newest, where an instruction takes some and adds one: how many there are.
+/// Keeps the values before the newest, where an instruction takes some and adds one: how many there
+/// are.
 #[inline(always)]
 fn keep<const N: usize>(stack: &mut [u64; N], len: usize, newest: u64, taken: usize) -> usize
     requires some { 1 ≤ len }
@@ -90,8 +93,8 @@ fn keep<const N: usize>(stack: &mut [u64; N], len: usize, newest: u64, taken: us
     }
 }
 
-/// What the instruction at an index does, where these are the newest values, and with it an operator
-/// right after an operand.
+/// What the instruction at an index does, where these are the newest values, and with it an
+/// operator right after an operand.
 #[inline(always)]
 fn step(instructions: &[Instruction], index: usize, count: u64, newest: u64, below: u64) -> Effect
     requires { index < length instructions.now }
@@ -124,7 +127,8 @@ fn instruction_at(instructions: &[Instruction], index: usize) -> Instruction
     }
 }
 
-/// What an instruction does, where these are the newest values, and the next one stands at an index.
+/// What an instruction does, where these are the newest values, and the next one stands at an
+/// index.
 #[inline(always)]
 fn act(
     action: Action,

@@ -25,7 +25,8 @@ fn after_first<'a>(text: &'a [u8], name: &[u8]) -> Option<&'a [u8]>
     None
 }
 
-/// The decimal digits of the number of plural forms, one at least: after the first `nplurals=` and blanks.
+/// The decimal digits of the number of plural forms, one at least: after the first `nplurals=` and
+/// blanks.
 pub(crate) fn nplurals_digits(header: &[u8]) -> Option<&[u8]>
     ensures { MatchOption result (nplurals_of header.now ≡ None)
         (λ digits. AllDigits 10 digits.now × (nplurals_of header.now ≡ Some (digits_value 10 digits.now))) }
@@ -41,7 +42,8 @@ pub(crate) fn nplurals_digits(header: &[u8]) -> Option<&[u8]>
     }
 }
 
-/// The text of the expression: what follows the first `plural=`, up to the first `;` or LF, or to the end.
+/// The text of the expression: what follows the first `plural=`, up to the first `;` or LF, or to
+/// the end.
 pub(crate) fn expression(header: &[u8]) -> Option<&[u8]>
     ensures { MatchOption result (expression_of header.now ≡ None)
         (λ text. expression_of header.now ≡ Some text.now) }

@@ -1,4 +1,5 @@
-//! Laws of plural rules, each the contract of a function that does nothing: a call brings the law into a proof.
+//! Laws of plural rules, each the contract of a function that does nothing: a call brings the law
+//! into a proof.
 ghost use Rattle.std.specs.Prelude.{◌≡◌, ◌≤◌, ◌↔◌, ℕ, List, Some};
 ghost use Rattle.plural_rule.specs.Evaluates.{Evaluates};
 ghost use Rattle.plural_rule.specs.Expression.{Tree, value, visited, nodes};

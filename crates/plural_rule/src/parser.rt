@@ -1,6 +1,7 @@
 //! Reads an expression by operator precedence.
 //!
-//! The grammar is C's, as the GNU gettext manual has it in "Plural forms", with the loosest operators first:
+//! The grammar is C's, as the GNU gettext manual has it in "Plural forms", with the loosest
+//! operators first:
 //!
 //! ```text
 //! expression     = or | or "?" expression ":" expression
@@ -13,8 +14,8 @@
 //! unary          = "!" unary | "(" expression ")" | "n" | numeral
 //! ```
 //!
-//! The instructions stand in memory of the caller, and what waits for an operand in an array of fixed
-//! size, so the machine's stack doesn't grow with the expression.
+//! The instructions stand in memory of the caller, and what waits for an operand in an array of
+//! fixed size, so the machine's stack doesn't grow with the expression.
 ghost use Rattle.std.specs.Prelude.{◌≡◌, ◌≤◌, List, None, length, take, MatchOption, ⊤};
 ghost use Rattle.plural_rule.specs.Expression.{Tree};
 ghost use Rattle.plural_rule.specs.Internal.ShiftReduce.{Waiting, State, reduce, want_step, at_operator, step, finish};
@@ -28,7 +29,8 @@ use crate::parts::{Parser, Room, begin, complete, push, push_branch, push_numera
 use crate::pending::{Pending, newest, wait};
 use crate::token::Token;
 
-/// The most bytes of a text that is read with the smaller stack: the larger one takes longer to set up.
+/// The most bytes of a text that is read with the smaller stack: the larger one takes longer to set
+/// up.
 const SHORT: usize = 240;
 
 /// Completes what waits for the last operand and binds at least as tight as `next_level`.
@@ -73,7 +75,8 @@ fn take_operand(room: &mut Room, codes: &mut [u16], parser: Parser, token: Token
     }
 }
 
-/// Reads a token after a complete operand that what waits has been completed with, or `None` where it can't stand here.
+/// Reads a token after a complete operand that what waits has been completed with, or `None` where
+/// it can't stand here.
 #[inline(always)]
 fn take_operator(room: &mut Room, codes: &mut [u16], parser: Parser, token: Token) -> Option<Parser>
     requires room { HasRoom codes.old parser (most_added token) 1 }
@@ -145,7 +148,8 @@ fn finish(room: &mut Room, codes: &[u16], before: Parser) -> Option<usize>
     }
 }
 
-/// How many instructions the program of the expression that a text spells has, which then are the first of `room`.
+/// How many instructions the program of the expression that a text spells has, which then are the
+/// first of `room`.
 pub(crate) fn parse(text: &[u8], room: &mut Room) -> Option<usize>
     requires { length text.now ≤ expression_limit }
     ensures { MatchOption result ((tree : Tree) → Spelt tree text.now → ⊥)

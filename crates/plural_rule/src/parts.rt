@@ -13,8 +13,8 @@ use crate::rule::EXPRESSION_LIMIT;
 /// The memory of the caller, whose first instructions are the program.
 pub(crate) type Room = [Instruction; EXPRESSION_LIMIT];
 
-/// What the parser holds beside the instructions and the codes of what waits: how many there are of each, where the
-/// last complete operand begins, and whether the text ends with it.
+/// What the parser holds beside the instructions and the codes of what waits: how many there are of
+/// each, where the last complete operand begins, and whether the text ends with it.
 #[derive(Clone, Copy, Drop)]
 pub(crate) struct Parser {
     pub(crate) len: usize,
@@ -79,7 +79,8 @@ pub(crate) fn begin(room: &mut Room, len: usize, index: u16)
     }
 }
 
-/// Lets the instruction before the last operand, which begins at `start`, skip it and `more` others.
+/// Lets the instruction before the last operand, which begins at `start`, skip it and `more`
+/// others.
 pub(crate) fn skip_operand(room: &mut Room, len: usize, start: u16, more: u16)
     requires len { len ≤ expression_limit }
     requires more { more ≤ 1 }
@@ -124,8 +125,8 @@ pub(crate) fn push_numeral(room: &mut Room, len: usize, value: u64) -> usize
     push(room, len, low)
 }
 
-/// Completes what waits for the last operand, which begins at `start`: how many instructions there are
-/// then, and where the new operand begins.
+/// Completes what waits for the last operand, which begins at `start`: how many instructions there
+/// are then, and where the new operand begins.
 #[inline(always)]
 pub(crate) fn complete(room: &mut Room, len: usize, start: u16, top: Pending) -> (usize, u16)
     requires { len + weight_of top ≤ expression_limit }

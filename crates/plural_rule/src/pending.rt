@@ -66,7 +66,8 @@ impl Pending {
     }
 }
 
-/// Adds to what waits, with an index below 4,096, where the parser has `len` instructions: what it holds then.
+/// Adds to what waits, with an index below 4,096, where the parser has `len` instructions: what it
+/// holds then.
 #[inline(always)]
 pub(crate) fn wait(codes: &mut [u16], len: usize, before: Parser, pending: Pending) -> Parser
     requires { before.count < length codes.old }

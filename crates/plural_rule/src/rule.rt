@@ -54,7 +54,8 @@ pub enum Reason {
     NoNumber,
     /// There is no `plural=`.
     NoExpression,
-    /// The number of plural forms or a numeral is 2^64 or more, or the expression isn't one of the grammar.
+    /// The number of plural forms or a numeral is 2^64 or more, or the expression isn't one of the
+    /// grammar.
     Unreadable,
     /// The expression has more than `EXPRESSION_LIMIT` bytes.
     TooLong,
@@ -191,7 +192,8 @@ impl Rule {
         count
     }
 
-    /// The value of the expression at a count, or `None` where it divides by 0, and how many nodes were evaluated.
+    /// The value of the expression at a count, or `None` where it divides by 0, and how many nodes
+    /// were evaluated.
     pub fn eval(&self, count: u64) -> (Option<u64>, u32)
         ensures value { result.0 ≡ value self.now.tree count }
         ensures steps { result.1 ≡ visited self.now.tree count }

@@ -26,8 +26,8 @@ pub(crate) enum Token {
 }
 
 impl Token {
-    /// The level down to which an operand before it is completed: that of an operator of two operands.
-    /// `?:` groups to the right, so `?` leaves what waits after a `:`.
+    /// The level down to which an operand before it is completed: that of an operator of two
+    /// operands. `?:` groups to the right, so `?` leaves what waits after a `:`.
     pub(crate) fn closing_level(self) -> u8
         ensures { result ≡ closing_level self }
     {

@@ -1,5 +1,5 @@
-//! Laws of catalogues, each the contract of a function that does nothing: a call brings the law into a
-//! proof. Those of the crates below are re-exported.
+//! Laws of catalogues, each the contract of a function that does nothing: a call brings the law
+//! into a proof. Those of the crates below are re-exported.
 ghost use Rattle.std.specs.Prelude.{◌≡◌, List, All, map};
 ghost use Rattle.po_syntax.specs.PoText.{IsSmall};
 ghost use Rattle.po_entry.specs.TextEntry.{TextEntry, with_line};

@@ -1,6 +1,6 @@
 //! Catalogues of PO entries under one name: the types, the reader, the writer, duplicates, the
-//! joined list and statistics, each re-exported from the crate that has it (GNU gettext manual, "The
-//! Format of PO Files" and "Invoking the msgfmt Program").
+//! joined list and statistics, each re-exported from the crate that has it (GNU gettext manual,
+//! "The Format of PO Files" and "Invoking the msgfmt Program").
 //!
 //! The crates below the tools name what they need, and none waits for this one. What is its own is
 //! in `laws`: what is written reads back.

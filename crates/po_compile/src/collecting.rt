@@ -142,9 +142,9 @@ fn add_message(bytes: &mut Vec<u8>, entry: &Entry, use_fuzzy: bool) -> Result<Le
     })
 }
 
-/// Whether an entry is compiled, and what the statistics count it as. It is compiled where it is live
-/// and translated, and not fuzzy, unless fuzzy entries are compiled too. A header's flag `fuzzy` is
-/// ignored.
+/// Whether an entry is compiled, and what the statistics count it as. It is compiled where it is
+/// live and translated, and not fuzzy, unless fuzzy entries are compiled too. A header's flag
+/// `fuzzy` is ignored.
 fn status_of(entry: &Entry, use_fuzzy: bool) -> Status
     ensures { result ≡ status_of use_fuzzy entry.now }
 {

@@ -1,7 +1,7 @@
 //! Compiling PO catalogues to MO files (GNU gettext manual, "Invoking the msgfmt Program").
 //!
-//! [`compile`] compiles one text, [`compile_all`] several. No catalogue is made of them: the messages
-//! of each text are collected in a buffer of its own, and their rows are sorted.
+//! [`compile`] compiles one text, [`compile_all`] several. No catalogue is made of them: the
+//! messages of each text are collected in a buffer of its own, and their rows are sorted.
 //! [`compiled_messages`] are those that are compiled, before they are sorted.
 //!
 //! The modules in reading order: `options`, `compiling`, `inputs`, `collecting`, `row`, `rows`,

@@ -18,8 +18,8 @@ use std::alloc::{AllocError, Global};
 use std::slice::from_ref;
 
 /// The number of each key of the joined list of the inputs. Keys are numbered in the order in which
-/// they first appear, each as that of a message without a context. Their room is taken before that of
-/// the rows, so that it doesn't stand in the way of what is taken once these are dropped.
+/// they first appear, each as that of a message without a context. Their room is taken before that
+/// of the rows, so that it doesn't stand in the way of what is taken once these are dropped.
 fn key_numbers(alloc: Global, inputs: &[Collected]) -> Result<Vec<usize>, AllocError>
     requires { length inputs.now < 2 ^ 32 }
     ensures { IfOk result (λ numbers. numbers.items
@@ -50,8 +50,8 @@ fn row_fault(first: &Row<'_>, later: &Row<'_>) -> JoinError
 }
 
 /// Whether no message of the joined list of the inputs repeats another. Refused with the fault of
-/// `joined_duplicates`; and where an allocation failed. The first row that has the key of an earlier
-/// one is the first whose number isn't its index.
+/// `joined_duplicates`; and where an allocation failed. The first row that has the key of an
+/// earlier one is the first whose number isn't its index.
 pub(crate) fn check_joined(alloc: Global, inputs: &[Collected]) -> Result<(), JoinError>
     requires { length inputs.now < 2 ^ 32 }
     ensures apart { OnOk result (AllApart (input_keys (all_messages inputs.now))) }

@@ -36,8 +36,9 @@ fn have_one_header(inputs: &[Collected]) -> bool
 }
 
 /// The rows of the joined list of the inputs, in the order of their keys, where no message repeats
-/// another of its input or of the joined list. Where two neighbours have one key, or an input has two
-/// headers, of which the joined list has one at most, the first repeat is looked for, without the rows.
+/// another of its input or of the joined list. Where two neighbours have one key, or an input has
+/// two headers, of which the joined list has one at most, the first repeat is looked for, without
+/// the rows.
 ///
 /// Refused with the fault of `duplicates`, of the first input that has one; then with that of
 /// `joined_duplicates`; and where an allocation failed.

@@ -60,8 +60,8 @@ pub(crate) fn keys_of<'a>(
     Ok(keys)
 }
 
-/// What belongs to each message, by the numbers of the messages, which are below a count. Refused only
-/// where an allocation failed.
+/// What belongs to each message, by the numbers of the messages, which are below a count. Refused
+/// only where an allocation failed.
 pub fn groups_of<T: Copy>(
     alloc: Global,
     things: &[T],

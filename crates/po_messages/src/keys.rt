@@ -109,8 +109,8 @@ impl KeyBuffer {
         Ok(())
     }
 
-    /// For each message its number among them, in the order in which they first appear, and how many
-    /// of them differ.
+    /// For each message its number among them, in the order in which they first appear, and how
+    /// many of them differ.
     pub fn numbers(&self, alloc: Global) -> Result<(Vec<usize>, usize), AllocError>
         ensures numbers { IfOk result (λ r. r.0.items ≡ group_numbers same_message self.now) }
         ensures count { IfOk result (λ r. r.1 ≡ length (first_ones same_message self.now)) }

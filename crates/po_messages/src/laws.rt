@@ -1,5 +1,5 @@
-//! Laws of messages, each the contract of a function that does nothing: a call brings the law into a
-//! proof.
+//! Laws of messages, each the contract of a function that does nothing: a call brings the law into
+//! a proof.
 ghost use Rattle.std.specs.Prelude.{◌≡◌, ◌≢◌, ◌⊎◌, ◌↔◌, ℕ, ◌<◌, List, false, get_or, length, take};
 ghost use Rattle.std.specs.List.{position_or_len};
 ghost use Rattle.po_entry.specs.TextEntry.{TextEntry};
@@ -77,8 +77,8 @@ pub fn statistics_count_each_once()
 {}
 
 /// The line of the statistics has the count of translated messages, always, and after commas those
-/// of fuzzy translations and of untranslated messages that aren't 0. A noun is in the singular after
-/// 1 alone.
+/// of fuzzy translations and of untranslated messages that aren't 0. A noun is in the singular
+/// after 1 alone.
 pub fn statistics_are_written()
     ensures { (stats : Stats) → WritesStatistics stats (stats_line stats) }
 {}

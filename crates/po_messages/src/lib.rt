@@ -4,12 +4,12 @@
 //!
 //! [`joined`] lists the entries of several inputs, [`duplicates`] finds the first message that
 //! stands twice, [`grouped`] numbers the messages of keys, and [`statistics`] counts what is
-//! translated. Of entries that are dropped before all are read, a [`KeyBuffer`] keeps the messages, by
-//! whose numbers [`repeated_lines`] finds the live ones that repeat an earlier one. Where no more
-//! than that is asked, their [`message_hash`]es show that none does, if [`all_differ`].
+//! translated. Of entries that are dropped before all are read, a [`KeyBuffer`] keeps the messages,
+//! by whose numbers [`repeated_lines`] finds the live ones that repeat an earlier one. Where no
+//! more than that is asked, their [`message_hash`]es show that none does, if [`all_differ`].
 //!
-//! The modules in reading order: `joining`, `message_index`, `keys`, `hashes`, `repeats`, `duplicate`,
-//! `stats`, `laws`.
+//! The modules in reading order: `joining`, `message_index`, `keys`, `hashes`, `repeats`,
+//! `duplicate`, `stats`, `laws`.
 
 #![tactic(auto)]
 

@@ -73,8 +73,8 @@ impl BuildHasher for Seeded {
     }
 }
 
-/// For each key the number of its message, and how many messages there are. They are numbered from 0,
-/// in the order in which they first appear. Refused only where an allocation failed.
+/// For each key the number of its message, and how many messages there are. They are numbered from
+/// 0, in the order in which they first appear. Refused only where an allocation failed.
 pub fn grouped(alloc: Global, keys: &[MessageKey<'_>]) -> Result<(Vec<usize>, usize), AllocError>
     ensures numbers { IfOk result (λ r. r.0.items ≡ group_numbers same_message (messages_of_keys keys.now)) }
     ensures count { IfOk result (λ r. r.1 ≡ length (first_ones same_message (messages_of_keys keys.now))) }

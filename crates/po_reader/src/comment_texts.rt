@@ -112,8 +112,8 @@ fn total_len(texts: &[&[u8]]) -> usize {
     total
 }
 
-/// The flags other than `fuzzy`, each once, where it first stands. Most entries have no flag or one,
-/// and nothing is sorted then.
+/// The flags other than `fuzzy`, each once, where it first stands. Most entries have no flag or
+/// one, and nothing is sorted then.
 pub(crate) fn others(alloc: Global, elements: &[&[u8]]) -> Result<TextList, AllocError>
     ensures { IfOk result (λ kept. kept ≡ fold with_flag [] (slice_texts elements.now)) }
 {

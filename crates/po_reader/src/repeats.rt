@@ -1,5 +1,5 @@
-//! Which texts of a list repeat an earlier one. Their places are sorted, a word for each, so that no
-//! choice of texts makes this slow.
+//! Which texts of a list repeat an earlier one. Their places are sorted, a word for each, so that
+//! no choice of texts makes this slow.
 
 ghost use Rattle.std.specs.Prelude.{◌≡◌, ◌+◌, ◌<◌, ◌≤◌, ℕ, All, Contains, IfOk, length};
 ghost use Rattle.po_entry.specs.TextEntry.{slice_texts};
@@ -63,7 +63,8 @@ fn first_of_text(texts: &[&[u8]], places: &[usize], first: usize, index: usize) 
     }
 }
 
-/// For each text whether it repeats an earlier one: whether the first place of this text is another.
+/// For each text whether it repeats an earlier one: whether the first place of this text is
+/// another.
 pub(crate) fn repeats(alloc: Global, texts: &[&[u8]]) -> Result<Vec<bool>, AllocError>
     ensures { IfOk result (λ repeats. TellRepeats (slice_texts texts.now) repeats.items) }
 {

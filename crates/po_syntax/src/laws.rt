@@ -123,8 +123,8 @@ pub fn quoted_form_holds_text()
         → All (λ b. b < 256) bytes → All (λ b. 32 ≤ b) (quoted bytes) }
 {}
 
-/// After a piece, what is left reads on: where it spells items, what was left before spells those of
-/// the piece and then these; its first fault is the first fault of what was left before; and it
+/// After a piece, what is left reads on: where it spells items, what was left before spells those
+/// of the piece and then these; its first fault is the first fault of what was left before; and it
 /// begins with no item with which an entry of the piece could go on.
 pub fn pieces_are_cut_off()
     ensures spelt { (size : ℕ) (old new : LinesLeft) (items more : List TextItem)

@@ -83,8 +83,8 @@ fn write_byte(byte: u8, out: &mut Vec<u8>) -> Result<(), AllocError>
     }
 }
 
-/// Appends the quoted form, or some of it where it is refused. Where there is room for it, nothing is
-/// refused.
+/// Appends the quoted form, or some of it where it is refused. Where there is room for it, nothing
+/// is refused.
 fn write_quoted(bytes: &[u8], out: &mut Vec<u8>) -> Result<(), AllocError>
     ensures ok { OnOk result (out.new.items ≡ out.old.items ++ quoted bytes.now) }
     ensures some { (written : List ℕ) × (out.new.items ≡ out.old.items ++ written) }

@@ -6,9 +6,9 @@
 //! and deliver.
 //!
 //! Each tool is in a crate of its own, over `runs`: `msgfmt`, `msgunfmt`, `msgattrib`, `msgcat`,
-//! `gettext` (with ngettext) and `envsubst`. Here are all of them under one name, with [`run`], which
-//! runs the tool that is asked for by what its command line gives (`tool_run`), the calls that
-//! read one input (`one_input`) and the laws of their runs (`run_laws`).
+//! `gettext` (with ngettext) and `envsubst`. Here are all of them under one name, with [`run`],
+//! which runs the tool that is asked for by what its command line gives (`tool_run`), the calls
+//! that read one input (`one_input`) and the laws of their runs (`run_laws`).
 
 #![tactic(auto)]
 

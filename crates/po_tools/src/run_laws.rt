@@ -12,7 +12,8 @@ use po_messages::laws::{no_first_duplicate_where_none, one_first_duplicate};
 use po_reader::laws::one_reading;
 use po_unformat::laws::{no_fault_where_unformatted, one_text, one_unformat_fault};
 
-/// Inputs and options of `msgfmt` have one run: its output, messages and status are functions of them.
+/// Inputs and options of `msgfmt` have one run: its output, messages and status are functions of
+/// them.
 pub fn one_msgfmt_run()
     ensures { OneMsgfmtRun }
 {

@@ -21,8 +21,9 @@ use std::alloc::Global;
 /// The MO file that msgfmt writes where the arguments name none.
 const DEFAULT_OUTPUT: &str = "messages.mo";
 
-/// Runs a tool by what its command line gives, and returns its status: the inputs are those of `source`,
-/// `reader` is standard input where it is read in blocks, and all output goes to `system`.
+/// Runs a tool by what its command line gives, and returns its status: the inputs are those of
+/// `source`, `reader` is standard input where it is read in blocks, and all output goes to
+/// `system`.
 pub fn run<'a, S, R: ByteIn, F: OutputFiles, O: ByteOut, E: ByteOut, A: Arguments>(
     alloc: Global,
     tool: Tool,

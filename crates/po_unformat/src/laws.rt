@@ -12,8 +12,8 @@ use po_compile::laws::{
 use po_reader::laws::{entries_can_stand, one_reading};
 use po_writer::laws::{live_entries_stay, some_entry_is_written, written_text_reads};
 
-/// A compiled file has a PO text, which is accepted if it is not too large: the layout of its compiled list
-/// in the same byte order is the same bytes, and so is what it is compiled to.
+/// A compiled file has a PO text, which is accepted if it is not too large: the layout of its
+/// compiled list in the same byte order is the same bytes, and so is what it is compiled to.
 pub fn unformat_then_compile()
     ensures { UnformatThenCompile }
 {

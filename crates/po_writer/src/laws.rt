@@ -25,16 +25,16 @@ pub fn texts_are_written()
     ensures { TextsAreWritten }
 {}
 
-/// An entry is written line by line: each comment after `#` and each extracted one after `#.`; in one
-/// line the references, with one space between two; in one the flags, `fuzzy` first; the previous
-/// texts; and the context, the msgid, the plural and the forms, each after its keyword.
+/// An entry is written line by line: each comment after `#` and each extracted one after `#.`; in
+/// one line the references, with one space between two; in one the flags, `fuzzy` first; the
+/// previous texts; and the context, the msgid, the plural and the forms, each after its keyword.
 #[tactic(auto, using(crate::proofs::EntryLines::entry_written))]
 pub fn entries_are_written()
     ensures { (entry : TextEntry) → IsEntry entry → WritesEntry entry (entry_lines entry) }
 {}
 
-/// The entries are written live ones first, then obsolete ones, each kind in its order, with an empty
-/// line between two.
+/// The entries are written live ones first, then obsolete ones, each kind in its order, with an
+/// empty line between two.
 #[tactic(auto, using(crate::proofs::EntryLines::entries_arranged, crate::proofs::EntryLines::entries_stand))]
 pub fn live_before_obsolete()
     ensures arranged { (entries : List TextEntry) → IsArranged entries (arranged entries) }

@@ -1,8 +1,8 @@
 //! Catalogues as PO texts that read back (GNU gettext manual, "The Format of PO Files").
 //!
-//! [`write`] writes a catalogue, [`append`] one entry after a text, and [`append_separated`] one after
-//! an empty line. [`TextParts`] collects the live and the obsolete entries of a text that is written
-//! piece by piece.
+//! [`write`] writes a catalogue, [`append`] one entry after a text, and [`append_separated`] one
+//! after an empty line. [`TextParts`] collects the live and the obsolete entries of a text that is
+//! written piece by piece.
 //!
 //! The modules in reading order: `text`, `entry_lines`, `keyword_lines`, `parts`, `laws`.
 

@@ -30,8 +30,8 @@ impl<'r, R: Env> VariableSource for System<'r, R> {
 impl<'r, R: Env + Files> EntrySource for System<'r, R> {
     ghost entries = { λ _ _. Unit {0} };
 
-    // Where there are many, they are read from the file that has them all, since the system walks to
-    // each entry from the first.
+    // Where there are many, they are read from the file that has them all, since the system walks
+    // to each entry from the first.
     fn read_entries(&self, alloc: Global) -> Result<Vec<Vec<u8>>, AllocError> {
         let mut entries = Vec::new(alloc);
         for index in 0..usize::MAX {
@@ -84,8 +84,8 @@ pub(crate) fn arguments(
     Ok(arguments)
 }
 
-/// What `fill` writes, with twice the room each time until it fits, or `None` where there is no such
-/// value.
+/// What `fill` writes, with twice the room each time until it fits, or `None` where there is no
+/// such value.
 fn ask<F: Fn(&mut [u8]) -> Result<usize, FillError>>(
     alloc: Global,
     fill: F,

@@ -13,8 +13,8 @@ use std::rt::{Files, Stderr, Stdout};
 /// The length of an input where it isn't known.
 const UNKNOWN_LEN: u64 = 0;
 
-/// The bits of a mode that say who may do what with a file, set-user-id, set-group-id and sticky among
-/// them.
+/// The bits of a mode that say who may do what with a file, set-user-id, set-group-id and sticky
+/// among them.
 const PERMISSION_BITS: u32 = 0o7777;
 
 /// Where the inputs of the program are read from.
@@ -210,8 +210,8 @@ fn owner_of(file: &File) -> Option<Owner> {
     Some(rights_of(&file.metadata().ok()?).owner)
 }
 
-/// The open stream of a number above those of the standard streams, opened anew to be written at its end,
-/// where it is open to be written. The library reaches no descriptor by its number.
+/// The open stream of a number above those of the standard streams, opened anew to be written at
+/// its end, where it is open to be written. The library reaches no descriptor by its number.
 fn append_to(rt: &HostRuntime, number: u32) -> Option<File> {
     if !is_for_writing(&info_of(rt, number)?) {
         return None;
@@ -228,8 +228,8 @@ fn info_of(rt: &HostRuntime, number: u32) -> Option<Vec<u8>> {
     read_named(rt.alloc(), rt, &path).ok()
 }
 
-/// Whether a descriptor is open to be written, by what the system tells of it: the last digit of its
-/// flags, which are octal, is 1 or 2.
+/// Whether a descriptor is open to be written, by what the system tells of it: the last digit of
+/// its flags, which are octal, is 1 or 2.
 fn is_for_writing(info: &[u8]) -> bool {
     info.split(|byte| *byte == b'\n')
         .find(|line| line.starts_with(b"flags:"))

@@ -11,10 +11,10 @@ use mo_expand::{ExpandedFile, PlatformText, expand_file, expanded_file_is_mo_fil
 use mo_file::BorrowedPair;
 
 /// Expands an MO file into one without system-dependent messages: the messages of the file, and of
-/// the system-dependent ones, completed by the texts of a platform, those whose keys the file lacks,
-/// in rising order of their keys. The result is how long the new file is, which is written from the
-/// beginning of `file` on where it fits; else `file` stays as it was. The result is 0 where there is
-/// none: the bytes aren't an MO file, the list is shorter than its messages with the
+/// the system-dependent ones, completed by the texts of a platform, those whose keys the file
+/// lacks, in rising order of their keys. The result is how long the new file is, which is written
+/// from the beginning of `file` on where it fits; else `file` stays as it was. The result is 0
+/// where there is none: the bytes aren't an MO file, the list is shorter than its messages with the
 /// system-dependent ones, `room` is too short for the strings of these, or the new file would have
 /// more than 4,294,967,295 bytes.
 #[unsafe(no_mangle)]

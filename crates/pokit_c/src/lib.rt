@@ -6,9 +6,9 @@
 //! [`pokit_catalog_look`](looking::pokit_catalog_look) answers a query.
 //! [`pokit_candidate`](candidate::pokit_candidate) names the locales whose catalogues are looked
 //! for. [`pokit_system_count`](system_message::pokit_system_count) and
-//! [`pokit_system_message`](system_message::pokit_system_message) complete system-dependent messages,
-//! and [`pokit_expanded_file`](expanded_file::pokit_expanded_file) makes a file that has none.
-//! None of them allocates, and there is no state besides the arguments. C calls them by the
+//! [`pokit_system_message`](system_message::pokit_system_message) complete system-dependent
+//! messages, and [`pokit_expanded_file`](expanded_file::pokit_expanded_file) makes a file that has
+//! none. None of them allocates, and there is no state besides the arguments. C calls them by the
 //! inline functions of include/pokit.h.
 //!
 //! The modules in reading order: `catalog`, `fault`, `opening`, `query`, `looking`, `candidate`,

@@ -14,9 +14,9 @@ use crate::query::{PokitLocated, PokitQuery};
 use mo_file::{Meter, MoView};
 use mo_lookup::{ViewMessages, locate};
 
-/// Looks up a message in a catalogue that was opened, as mo_lookup's `locate` does ("Plural forms").
-/// `located` says where the text of the answer is: in the file's bytes, or that it is the query's
-/// msgid or plural.
+/// Looks up a message in a catalogue that was opened, as mo_lookup's `locate` does ("Plural
+/// forms"). `located` says where the text of the answer is: in the file's bytes, or that it is the
+/// query's msgid or plural.
 #[unsafe(no_mangle)]
 pub extern "C" fn pokit_catalog_look(
     catalog: &PokitCatalog<'_>,

@@ -35,8 +35,8 @@ pub extern "C" fn pokit_catalog_open<'a>(
     open(catalog, bytes, message, &mut Meter::new())
 }
 
-/// What [`pokit_catalog_open`] says. The meter counts the comparisons: as many as there are messages, or those
-/// before the fault.
+/// What [`pokit_catalog_open`] says. The meter counts the comparisons: as many as there are
+/// messages, or those before the fault.
 #[inline(always)]
 fn open<'a>(
     catalog: &mut PokitCatalog<'a>,

@@ -73,8 +73,9 @@ pub struct Inputs<'a> {
 }
 
 impl<'a> Inputs<'a> {
-    /// Reads the file of each argument, or standard input for `-`, which is empty from the second time on.
-    /// The first that can't be read ends the inputs. Refused only where an allocation failed.
+    /// Reads the file of each argument, or standard input for `-`, which is empty from the second
+    /// time on. The first that can't be read ends the inputs. Refused only where an allocation
+    /// failed.
     pub fn read<S: InputSource>(
         alloc: Global,
         source: &mut S,

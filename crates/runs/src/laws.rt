@@ -1,5 +1,5 @@
-//! Laws of inputs and outputs, each the contract of a function that does nothing: a call brings the law into a
-//! proof.
+//! Laws of inputs and outputs, each the contract of a function that does nothing: a call brings the
+//! law into a proof.
 ghost use Rattle.std.specs.Prelude.{◌≡◌, ◌↔◌, ◌⊎◌, ◌<◌, ◌^◌, ◌++◌, ℕ, List, Option, codes, decimal, false, replicate, slice_index};
 ghost use Rattle.runs.specs.AskedLaw.{AsksInTurn};
 ghost use Rattle.runs.specs.FileCalls.{Course};
@@ -21,34 +21,34 @@ ghost use Rattle.runs.specs.declared.output_files.Rights.{Rights};
 use crate::inputs::InputSource;
 
 /// An output file is there whole, or as it was: at every moment the file to which the path leads
-/// holds all of the output or what it held before, where it isn't written in place; after success it
-/// holds the output, after a fault what it held, and no other path has changed. It gives nobody more
-/// than the file did that it replaces, and its mode is what is kept of that file's. An open stream
-/// takes all of the output after what it took before.
+/// holds all of the output or what it held before, where it isn't written in place; after success
+/// it holds the output, after a fault what it held, and no other path has changed. It gives nobody
+/// more than the file did that it replaces, and its mode is what is kept of that file's. An open
+/// stream takes all of the output after what it took before.
 pub fn whole_or_as_it_was()
     ensures { (output path : List ℕ) (links : ℕ) (course : Course)
         → WritesFile output links path course
         → IsWholeOrAsItWasThroughout output path course }
 {}
 
-/// Arguments have one list of inputs, up to the same that can't be read, where the system reads each as
-/// one thing.
+/// Arguments have one list of inputs, up to the same that can't be read, where the system reads
+/// each as one thing.
 pub fn inputs_are_one<S: InputSource>()
     ensures { (arguments : List (List ℕ)) (inputs others : List NamedFile) (fault other : Option (List ℕ))
         → HasOneReading S.file S.standard → AreInputs S.file S.standard false arguments inputs fault
         → AreInputs S.file S.standard false arguments others other → (inputs ≡ others) × (fault ≡ other) }
 {}
 
-/// A run that is written has its status, and all of it is there: its output where the path of its file
-/// leads, or on standard output where no file is made, and its messages on standard error.
+/// A run that is written has its status, and all of it is there: its output where the path of its
+/// file leads, or on standard output where no file is made, and its messages on standard error.
 pub fn written_runs_are_whole()
     ensures { (run : RunView) (output : List ℕ) (before now : SystemView) (status : ℕ)
         → Writes run output before now (Ok status)
         → (status ≡ run.status) × IsAllWritten run before now (output_file run output) }
 {}
 
-/// Standard output, standard error and the descriptors of a process are streams, by these names and by
-/// no other. A path names one stream at most.
+/// Standard output, standard error and the descriptors of a process are streams, by these names and
+/// by no other. A path names one stream at most.
 pub fn streams_have_names()
     ensures exactly { (path : List ℕ) (number : ℕ) → NamesStream path number ↔
         ((path ≡ codes "/dev/stdout") × (number ≡ 1))
@@ -75,16 +75,16 @@ pub fn new_files_are_named()
     ensures unnamed { (number : ℕ) → beside (codes "de/..") number ≡ codes "de/../.output." ++ decimal number }
 {}
 
-/// What a new file keeps of a mode gives nobody more than the old file did, but the two owners; it is
-/// all that can be kept so, and all nine bits where the owner and the group are the same.
+/// What a new file keeps of a mode gives nobody more than the old file did, but the two owners; it
+/// is all that can be kept so, and all nine bits where the owner and the group are the same.
 pub fn rights_are_kept()
     ensures nobody_gets_more { (old : Rights) (owner : Option Owner) (whose : Owner) → IsWhose owner whose
         → GivesNobodyMore old (record { mode = kept_mode old owner; owner = whose }) }
     ensures kept { (old : Rights) (owner : Owner) → KeepsRights old owner (kept_mode old (Some owner)) }
 {}
 
-/// The inputs of arguments are the files of their names but `-`, in their order, and standard input for
-/// the first `-`; each further `-` is an empty text.
+/// The inputs of arguments are the files of their names but `-`, in their order, and standard input
+/// for the first `-`; each further `-` is an empty text.
 pub fn inputs_stand_in_turn<S: InputSource>()
     ensures { (arguments : List (List ℕ)) (inputs : List NamedFile) (fault : Option (List ℕ))
         → AreInputs S.file S.standard false arguments inputs fault

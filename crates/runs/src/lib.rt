@@ -1,10 +1,10 @@
-//! What the tools of pokit share: their names, readers and writers that count their failures, what a
-//! run comes to and how it is delivered, inputs and outputs, options and arguments, and the lines of
-//! faults.
+//! What the tools of pokit share: their names, readers and writers that count their failures, what
+//! a run comes to and how it is delivered, inputs and outputs, options and arguments, and the lines
+//! of faults.
 //!
-//! The modules in reading order: `tool`, `tool_fault`, `device`, `failing` for tests, `whole_input`,
-//! `run`, `program_fault`, `fault_text`, `arguments`, `inputs`, `output_files`, `output_paths`,
-//! `output_writing`, `output_system`, `laws`.
+//! The modules in reading order: `tool`, `tool_fault`, `device`, `failing` for tests,
+//! `whole_input`, `run`, `program_fault`, `fault_text`, `arguments`, `inputs`, `output_files`,
+//! `output_paths`, `output_writing`, `output_system`, `laws`.
 
 #![tactic(auto)]
 

@@ -1,5 +1,5 @@
-//! The calls of the system by which an output file is made, and what a new one keeps of the rights of
-//! the one that it replaces.
+//! The calls of the system by which an output file is made, and what a new one keeps of the rights
+//! of the one that it replaces.
 ghost use Rattle.std.specs.Prelude.{◌≡◌, []};
 ghost use Rattle.runs.specs.FileCalls.{logged};
 ghost use Rattle.runs.specs.FileRights.{first_mode, kept_bits, kept_mode};
@@ -11,7 +11,8 @@ use std::io::Write;
 /// The mode of a file that replaces none, of which the system takes the umask.
 const SYSTEM_MODE: u32 = 0o666;
 
-/// The mode of a file that replaces another, until it has the mode that is kept: it is its owner's alone.
+/// The mode of a file that replaces another, until it has the mode that is kept: it is its owner's
+/// alone.
 const PRIVATE_MODE: u32 = 0o600;
 
 /// Whose a file is: a user and a group, by their numbers.
@@ -26,8 +27,8 @@ pub struct Owner {
 /// Who may do what with a file.
 #[derive(Clone, Copy, Debug, PartialEq, Eq)]
 pub struct Rights {
-    /// The mode: what its owner, its group and others may do, nine bits, and set-user-id, set-group-id
-    /// and sticky, three.
+    /// The mode: what its owner, its group and others may do, nine bits, and set-user-id,
+    /// set-group-id and sticky, three.
     pub mode: u32,
     /// Whose the file is.
     pub owner: Owner,
@@ -100,8 +101,8 @@ pub trait OutputFiles {
             (λ file. log self.new ≡ logged (makes path.now mode (Self.File.contents file) ∷ []) (log self.old))
             (λ why. log self.new ≡ logged (fails_to_make path.now mode why ∷ []) (log self.old)) };
 
-    /// Gives an open file this owner, as far as the system lets the run do that. Returns whose it is
-    /// then, where the system says so.
+    /// Gives an open file this owner, as far as the system lets the run do that. Returns whose it
+    /// is then, where the system says so.
     fn set_owner(&mut self, file: &Self::File, owner: Owner) -> Option<Owner>
         ensures { log self.new ≡ logged (sets_owner owner result ∷ []) (log self.old) };
 
@@ -121,7 +122,8 @@ pub trait OutputFiles {
             (log self.new ≡ logged (lacks_stream number ∷ []) (log self.old))
             (λ file. log self.new ≡ logged (takes_stream number (Self.File.contents file) ∷ []) (log self.old)) };
 
-    /// Closes a file, or lets a stream go. Returns whether the system has taken all that was written.
+    /// Closes a file, or lets a stream go. Returns whether the system has taken all that was
+    /// written.
     fn close(&mut self, file: Counted<Self::File>) -> bool
         ensures { log self.new ≡ logged (closes (Self.File.contents (counted_inner file)) (counted_failures file) result ∷ [])
             (log self.old) };
@@ -145,8 +147,8 @@ pub(crate) fn first_mode(old: Option<Rights>) -> u32
     }
 }
 
-/// The mode of a new file, by the rights of the one that it replaces and whose the new one is, where
-/// that is known.
+/// The mode of a new file, by the rights of the one that it replaces and whose the new one is,
+/// where that is known.
 pub(crate) fn kept_mode(old: Rights, owner: Option<Owner>) -> u32
     ensures { result ≡ kept_mode old owner }
 {
@@ -160,9 +162,9 @@ pub(crate) fn kept_mode(old: Rights, owner: Option<Owner>) -> u32
     }
 }
 
-/// What is kept of a mode, by whether the file's user and its group are the same as before. Set-user-id,
-/// set-group-id and sticky never are. Where one is another, others may not write; where the group is
-/// another, it and others may what both might.
+/// What is kept of a mode, by whether the file's user and its group are the same as before.
+/// Set-user-id, set-group-id and sticky never are. Where one is another, others may not write;
+/// where the group is another, it and others may what both might.
 fn kept_bits(mode: u32, same_user: bool, same_group: bool) -> u32
     ensures { result ≡ kept_bits mode same_user same_group }
 {

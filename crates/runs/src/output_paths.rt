@@ -39,8 +39,8 @@ pub(crate) fn link_target(alloc: Global, path: &str, text: &str) -> Result<Strin
     Ok(Path::new(path).with_file_name(alloc, text)?.into_string())
 }
 
-/// The number of the open stream that the path names, of the process that looks it up. `None` where the
-/// path is one of the file system.
+/// The number of the open stream that the path names, of the process that looks it up. `None` where
+/// the path is one of the file system.
 pub(crate) fn stream_named(path: &str) -> Option<u32>
     ensures { MatchOption result (NamesNoStream path.now) (λ number. NamesStream path.now number) }
 {

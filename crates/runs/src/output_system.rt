@@ -38,9 +38,9 @@ impl<F: OutputFiles, O: ByteOut, E: ByteOut> Model for OutputSystem<F, O, E> {
 }
 
 impl<F: OutputFiles, O: ByteOut, E: ByteOut> OutputSystem<F, O, E> {
-    /// Writes a run: all of its output to its output file, by the argument for it, or to standard output
-    /// where there is none, and then all of its messages to standard error. The output file is there
-    /// whole, or as it was. Returns the run's status.
+    /// Writes a run: all of its output to its output file, by the argument for it, or to standard
+    /// output where there is none, and then all of its messages to standard error. The output file
+    /// is there whole, or as it was. Returns the run's status.
     pub fn write<'a>(
         &mut self,
         alloc: Global,

@@ -1,4 +1,5 @@
-//! How an output is made: whole in a new file beside the one that it replaces, which then gets its path.
+//! How an output is made: whole in a new file beside the one that it replaces, which then gets its
+//! path.
 ghost use Rattle.runs.specs.FileCalls.{◌▸◌, Call, Runs, fault_in, numbers};
 ghost use Rattle.runs.specs.OutputFiles.{Closes, Fills, Puts, Replaces, WritesFile, WritesInPlace};
 
@@ -12,9 +13,9 @@ use std::alloc::Global;
 /// How many further names are tried for a new file, where one is taken.
 const FURTHER_NAMES: u32 = 999;
 
-/// Writes an output to the file that the path leads to, through at most so many links. Where that is a
-/// regular file or isn't there, it is replaced; an open stream is written where it stands, and anything
-/// else in place.
+/// Writes an output to the file that the path leads to, through at most so many links. Where that
+/// is a regular file or isn't there, it is replaced; an open stream is written where it stands, and
+/// anything else in place.
 pub(crate) fn write_file<T: OutputFiles>(
     alloc: Global,
     files: &mut T,
@@ -53,8 +54,8 @@ pub(crate) fn write_file<T: OutputFiles>(
     }
 }
 
-/// Replaces the file at the path, which has these rights or isn't there, by a new file, whose name has
-/// this number. Where the name is taken another is tried, at most so often.
+/// Replaces the file at the path, which has these rights or isn't there, by a new file, whose name
+/// has this number. Where the name is taken another is tried, at most so often.
 fn replace<T: OutputFiles>(
     alloc: Global,
     files: &mut T,
@@ -87,9 +88,9 @@ fn replace<T: OutputFiles>(
     }
 }
 
-/// Gives a new file the owner of the one that it replaces, if it does, as far as the system lets the run
-/// do that, and what is kept of its mode, and then all of the output and the path. Where that fails it
-/// is removed.
+/// Gives a new file the owner of the one that it replaces, if it does, as far as the system lets
+/// the run do that, and what is kept of its mode, and then all of the output and the path. Where
+/// that fails it is removed.
 fn fill<T: OutputFiles>(
     files: &mut T,
     file: T::File,

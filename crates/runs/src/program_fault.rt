@@ -69,13 +69,13 @@ impl<T: Drop> From<AllocFailed<T>> for ProgramFault<'_> {
     }
 }
 
-/// A fault line that is written at once: 4,096 bytes at most, as many as a pipe takes without a part of
-/// another process's among them.
+/// A fault line that is written at once: 4,096 bytes at most, as many as a pipe takes without a
+/// part of another process's among them.
 type Line = ArrayVec<u8, 4096>;
 
-/// Writes the line of a fault after `pokit TOOL: `, or after `pokit: ` where no tool is known, at once,
-/// or part by part where it has more than 4,096 bytes. Nothing is allocated. Returns `WriteFault` where
-/// a call of the writer failed or took no byte.
+/// Writes the line of a fault after `pokit TOOL: `, or after `pokit: ` where no tool is known, at
+/// once, or part by part where it has more than 4,096 bytes. Nothing is allocated. Returns
+/// `WriteFault` where a call of the writer failed or took no byte.
 pub fn report_fault<E: ByteOut>(
     err: &mut E,
     tool: Option<&str>,

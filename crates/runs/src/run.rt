@@ -26,8 +26,8 @@ pub fn shown_name(argument: &str) -> &str
     }
 }
 
-/// What a run of a tool comes to: the bytes of its output and of its messages on standard error, whether an
-/// output file is to be made, and the exit status.
+/// What a run of a tool comes to: the bytes of its output and of its messages on standard error,
+/// whether an output file is to be made, and the exit status.
 #[derive(Debug, Drop)]
 pub struct Run {
     /// What the tool writes to its output file or to standard output.
@@ -41,8 +41,8 @@ pub struct Run {
 }
 
 impl Run {
-    /// The file that is made for the output, by the argument for it, where there is something to write
-    /// and the argument isn't that for standard output.
+    /// The file that is made for the output, by the argument for it, where there is something to
+    /// write and the argument isn't that for standard output.
     pub fn output_file<'a>(&self, argument: &'a str) -> Option<&'a str>
         ensures { option_copied result ≡ output_file (run_view self.now) argument.now }
     {
@@ -50,8 +50,8 @@ impl Run {
     }
 }
 
-/// The run of inputs that are refused: nothing is written, and these messages report why. It takes no
-/// memory.
+/// The run of inputs that are refused: nothing is written, and these messages report why. It takes
+/// no memory.
 pub fn refused(alloc: Global, messages: Vec<u8>) -> Run
     ensures { run_view result ≡ refusal messages.items }
 {

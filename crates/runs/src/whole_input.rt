@@ -45,8 +45,9 @@ pub fn read_input<R: ByteIn>(alloc: Global, reader: &mut R) -> Result<Vec<u8>, T
 }
 
 /// The bytes that are left of an open file or of standard input, but no more than `INPUT_LIMIT`.
-/// `expected_len` is how many are expected, 0 where that isn't known: memory for all of them is taken
-/// before the first call of the reader. A `ReadFault` comes where a call of the reader failed.
+/// `expected_len` is how many are expected, 0 where that isn't known: memory for all of them is
+/// taken before the first call of the reader. A `ReadFault` comes where a call of the reader
+/// failed.
 #[inline(never)]
 pub fn read_whole<R: ByteIn>(
     alloc: Global,

@@ -1,4 +1,5 @@
-//! A system in memory: inputs that fail at a call, a file, and standard streams that fail at a call.
+//! A system in memory: inputs that fail at a call, a file, and standard streams that fail at a
+//! call.
 ghost use Rattle.std.specs.Prelude.{◌≡◌, ◌∷◌, [], None};
 ghost use Rattle.runs.specs.Counted.{counted_failures};
 ghost use Rattle.runs.specs.FileCalls.{closes, logged};
@@ -60,7 +61,8 @@ impl Arguments for Line {
     }
 }
 
-/// Inputs of one text, each of which fails at a call, and an environment: the locale, and one variable `A`.
+/// Inputs of one text, each of which fails at a call, and an environment: the locale, and one
+/// variable `A`.
 #[derive(Drop)]
 pub(crate) struct FakeSource {
     /// The text.
@@ -124,7 +126,8 @@ fn copy_of(alloc: Global, text: &[u8]) -> Result<Vec<u8>, AllocError> {
     Ok(copy)
 }
 
-/// The files of a system that has none at first: what was written last, and whether it got its path.
+/// The files of a system that has none at first: what was written last, and whether it got its
+/// path.
 #[derive(Drop)]
 pub(crate) struct FakeFiles {
     /// Where files are kept.

@@ -1,5 +1,5 @@
-//! The calls that read one input, over a reader and two writers: once as they go, and once each where the
-//! reader, the output and the messages fail.
+//! The calls that read one input, over a reader and two writers: once as they go, and once each
+//! where the reader, the output and the messages fail.
 
 use mo_file::Order;
 use po_shell::{Counted, Failing, ToolFault};
@@ -14,7 +14,8 @@ struct Row {
     messages: &'static [u8],
 }
 
-/// The call that fails of the reader, of the writer of the output and of that of the messages, 0 for none.
+/// The call that fails of the reader, of the writer of the output and of that of the messages, 0
+/// for none.
 type Calls = (u64, u64, u64);
 
 const ONE_MESSAGE: &[u8] = b"msgid \"a\"\nmsgstr \"b\"\n";
@@ -65,8 +66,8 @@ const SET_FUZZY: Selection = Selection {
     empty: false,
 };
 
-/// Whether a row's call over devices of which these calls fail, each of one byte, returns this and leaves
-/// this output and these messages.
+/// Whether a row's call over devices of which these calls fail, each of one byte, returns this and
+/// leaves this output and these messages.
 fn leaves(
     alloc: Global,
     row: &Row,

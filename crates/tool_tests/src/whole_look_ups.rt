@@ -61,12 +61,12 @@ const REPLACED: Row = Row {
     status: 0,
 };
 
-/// What has gone out of that where the read after so many bytes of the input fails: all that these bytes
-/// decide.
+/// What has gone out of that where the read after so many bytes of the input fails: all that these
+/// bytes decide.
 const REPLACED_BEFORE: &[&[u8]] = &[b"", b"c", b"c ", b"c ", b"c ", b"c b."];
 
-/// The call at which a row whose call of the output fails doesn't leave what it should, where one does:
-/// what went out before it.
+/// The call at which a row whose call of the output fails doesn't leave what it should, where one
+/// does: what went out before it.
 fn wrong_output(alloc: Global, row: &Row) -> Option<usize> {
     for taken in 0..row.output.len() {
         let calls = Calls {

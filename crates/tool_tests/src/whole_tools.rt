@@ -1,5 +1,5 @@
-//! Each tool as a whole, over a system in memory whose calls fail in turn: what is returned, and what has
-//! been written then.
+//! Each tool as a whole, over a system in memory whose calls fail in turn: what is returned, and
+//! what has been written then.
 use crate::fake_system::{FakeFiles, FakeSource, Line};
 use po_shell::{Counted, Failing};
 use po_tools::{ProgramFault, Tool, run};
@@ -18,7 +18,8 @@ pub(crate) struct Row {
     pub(crate) status: u8,
 }
 
-/// The call that fails of each input, of the file and standard output, and of standard error; 0 for none.
+/// The call that fails of each input, of the file and standard output, and of standard error; 0 for
+/// none.
 #[derive(Clone, Copy)]
 pub(crate) struct Calls {
     pub(crate) input: u64,
@@ -134,7 +135,8 @@ const ROWS: &[Row] = &[
     },
 ];
 
-/// Whether this is left of the output: in the file, where there is one, and else on standard output.
+/// Whether this is left of the output: in the file, where there is one, and else on standard
+/// output.
 fn is_left(files: &FakeFiles, gone_out: &[u8], output: &[u8]) -> bool {
     if files.is_there {
         files.closed.as_slice() == output && gone_out.is_empty()
@@ -143,8 +145,8 @@ fn is_left(files: &FakeFiles, gone_out: &[u8], output: &[u8]) -> bool {
     }
 }
 
-/// Whether a tool over a system with these calls comes to this outcome, and leaves this output and these
-/// messages.
+/// Whether a tool over a system with these calls comes to this outcome, and leaves this output and
+/// these messages.
 pub(crate) fn leaves(
     alloc: Global,
     row: &Row,
@@ -203,8 +205,8 @@ fn wrong_read(alloc: Global, row: &Row) -> Option<u64> {
     None
 }
 
-/// After how many bytes of the output a failing call doesn't leave what it should, where one does: no file
-/// where one is made, and else a prefix on standard output; and no message.
+/// After how many bytes of the output a failing call doesn't leave what it should, where one does:
+/// no file where one is made, and else a prefix on standard output; and no message.
 fn wrong_output(alloc: Global, row: &Row) -> Option<usize> {
     let is_file = row.tool == Tool::Msgfmt || row.line.output.is_some();
     for taken in 0..row.output.len() {
@@ -221,8 +223,8 @@ fn wrong_output(alloc: Global, row: &Row) -> Option<usize> {
     None
 }
 
-/// After how many bytes of the messages a failing call doesn't leave what it should, where one does: the
-/// whole output, and the messages before it.
+/// After how many bytes of the messages a failing call doesn't leave what it should, where one
+/// does: the whole output, and the messages before it.
 fn wrong_messages(alloc: Global, row: &Row) -> Option<usize> {
     for taken in 0..row.messages.len() {
         let calls = Calls {

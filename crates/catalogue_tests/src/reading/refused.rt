@@ -1,5 +1,5 @@
-//! Texts that are refused: one for each fault, with its line, and one that is too large. More are in
-//! `tests/cli/refused.cases`.
+//! Texts that are refused: one for each fault, with its line, and one that is too large. More are
+//! in `tests/cli/refused.cases`.
 
 use crate::assertions::{Refused, assert_refused};
 use po_reader::read;
