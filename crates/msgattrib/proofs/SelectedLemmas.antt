@@ -1,7 +1,7 @@
 -- What is selected of the entries of a text.
-use Rattle.std.proofs.Common.{◌≡◌, ◌≢◌, refl, sym, ap, ap₂, subst, ◌∙◌, ℕ, Bool, true, false, cond, ◌&&◌, ◌||◌, List, [], ◌∷◌, ◌++◌, AllPairs, map, filter, inl, inr}
+use Rattle.std.proofs.Common.{◌≡◌, ◌≢◌, refl, sym, ap, ap₂, subst, ◌∙◌, ℕ, Bool, true, false, ◌&&◌, ◌||◌, List, ◌++◌, AllPairs, map, filter, inl, inr}
 use Rattle.std.proofs.lemmas.List.{map-append}
-use Rattle.std.proofs.lemmas.List.Elements.{filter-append}
+use Rattle.std.proofs.lemmas.List.Elements.{filter-append, filter_agree}
 use Rattle.std.proofs.lemmas.List.Kept.{AllPairs-filter}
 use Rattle.po_syntax.specs.declared.fault.PoError.{PoError}
 use Rattle.po_syntax.specs.declared.fault.PoFault.TheVariants.{OutOfMemory}
@@ -23,12 +23,6 @@ use Rattle.runs.specs.declared.run.Run.{Run}
 
 abbrev hash_of : TextEntry → ℕ
 hash_of entry = message_hash (entry_message entry)
-
--- tests that answer alike pass the same
-filter_alike : {X : Type 0} (p q : X → Bool) → ((x : X) → p x ≡ q x) → (xs : List X) → filter p xs ≡ filter q xs
-filter_alike p q alike [] = refl
-filter_alike {X = X} p q alike (x ∷ xs) =
-    ap₂ (λ (b : Bool) (l : List X). cond b (x ∷ l) l) (alike x) (filter_alike p q alike xs)
 
 first_of_either : (a b : Bool) → (a || b) && a ≡ a
 first_of_either true b = refl
@@ -64,13 +58,13 @@ hashes_joined s before entries =
 among_live : (s : Selection) (entries : List TextEntry)
     → filter is_live (filter (may_repeat s) entries) ≡ filter is_live entries
 among_live s entries = filter_twice (may_repeat s) is_live entries
-    ∙ filter_alike (λ e. may_repeat s e && is_live e) is_live
+    ∙ filter_agree (λ e. may_repeat s e && is_live e) is_live
     (λ e. first_of_either (is_live e) (stays_live s e)) entries
 
 among_staying : (s : Selection) (entries : List TextEntry)
     → filter (stays_live s) (filter (may_repeat s) entries) ≡ filter (stays_live s) entries
 among_staying s entries = filter_twice (may_repeat s) (stays_live s) entries
-    ∙ filter_alike (λ e. may_repeat s e && stays_live s e) (stays_live s)
+    ∙ filter_agree (λ e. may_repeat s e && stays_live s e) (stays_live s)
     (λ e. second_of_either (is_live e) (stays_live s e)) entries
 
 -- none stands twice among those that are selected

@@ -1,5 +1,6 @@
 -- Numbers of which no two are the same rise where they are sorted.
 use Rattle.std.proofs.Common.{◌≡◌, ◌≢◌, ◌↔◌, refl, sym, ℕ, Bool, true, false, List, AllPairs, Decides, IsPermutation, IsSorted, IsTrue, eqb, nat_lt, arith}
+use Rattle.std.specs.Cmp.{nat_eq_equiv}
 use Rattle.std.specs.List.{IsAllAdjacentAnswer}
 use Rattle.std.specs.List.Sorted.{IsStrictlyIncreasing}
 use Rattle.std.specs.Ordering.{nat_cmp}
@@ -12,20 +13,17 @@ use Rattle.std.proofs.lemmas.Map.Made.{AllPairs-from_IsDistinct, IsDistinct-from
 decides : (a b : ℕ) → Decides (eqb a b) (a ≡ b)
 decides a b = (eqb-true a b, eq-eqb a b)
 
-flips : (a b : ℕ) → eqb a b ≡ eqb b a
-flips a b = grind arith
-
 module _ (xs ys : List ℕ) (permuted : IsPermutation xs ys) where
   pub rising_from_differ : IsSorted nat_cmp ys → AllPairs (λ a b. a ≢ b) xs → IsStrictlyIncreasing ys
   rising_from_differ sorted differ =
       IsStrictlyIncreasing-from_distinct ys (IsNonDecreasingBy-from_sort (λ n. n) ys sorted)
-      (IsDistinct-IsPermutation eqb flips xs ys permuted (IsDistinct-from_AllPairs decides xs differ))
+      (IsDistinct-IsPermutation eqb nat_eq_equiv.symm xs ys permuted (IsDistinct-from_AllPairs decides xs differ))
 
   pub differ_from_rising : IsStrictlyIncreasing ys → AllPairs (λ a b. a ≢ b) xs
   differ_from_rising rising =
       let below = AllPairs-from_increasing ys rising in
       AllPairs-from_IsDistinct decides xs
-      (IsDistinct-IsPermutation eqb flips ys xs (IsPermutation-sym xs ys permuted)
+      (IsDistinct-IsPermutation eqb nat_eq_equiv.symm ys xs (IsPermutation-sym xs ys permuted)
       (IsDistinct-from_AllPairs decides ys (λ i j d less inside same. omega (arith, below i j d less inside, same))))
 
 -- whether numbers rise, by what is answered of each two neighbours
