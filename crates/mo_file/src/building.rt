@@ -56,13 +56,15 @@ pub fn build(alloc: Global, order: Order, pairs: &[Pair]) -> Result<Vec<u8>, Bui
     if !are_rising(pairs) {
         return Err(BuildError::NotSorted);
     }
-    Ok(laid_out(alloc, order, pairs, len)?)
+    Ok(laid_out(alloc, Vec::new(alloc), order, pairs, len)?)
 }
 
 /// The MO file of pairs whose keys rise, as [`build`] lays it out. It doesn't check the keys again,
-/// and reads each string once.
+/// and reads each string once. It is written over what `room` holds, where that is long enough, and
+/// else into new memory.
 pub fn build_sorted(
     alloc: Global,
+    room: Vec<u8>,
     order: Order,
     pairs: &[BorrowedPair<'_>],
 ) -> Result<Vec<u8>, BuildError>
@@ -71,7 +73,8 @@ pub fn build_sorted(
     ensures fits { OnOk result (LayoutFits order (messages_of_borrowed pairs.now)) }
     ensures fault { IfErr result (IsBuildFault order (messages_of_borrowed pairs.now)) }
 {
-    Ok(laid_out(alloc, order, pairs, file_len(pairs)?)?)
+    let len = file_len(pairs)?;
+    Ok(laid_out(alloc, room, order, pairs, len)?)
 }
 
 /// The length of the file in either byte order. Refused where 32 bits don't reach its end.
@@ -93,9 +96,11 @@ pub fn file_len<P: StringPair>(pairs: &[P]) -> Result<u32, BuildError>
     Ok(len as u32)
 }
 
-/// The file of pairs whose layout has this length.
+/// The file of pairs whose layout has this length, in the memory of `room` where that is long
+/// enough.
 fn laid_out<P: StringPair>(
     alloc: Global,
+    room: Vec<u8>,
     order: Order,
     pairs: &[P],
     len: u32,
@@ -103,7 +108,14 @@ fn laid_out<P: StringPair>(
     requires { len ≡ length (layout order (map P.message pairs.now)) }
     ensures { IfOk result (λ bytes. bytes.items ≡ layout order (map P.message pairs.now)) }
 {
-    let mut file = Vec::from_elem(alloc, 0, len as usize)?;
+    let len = len as usize;
+    let mut file = if room.len() < len {
+        drop(room);
+        Vec::from_elem(alloc, 0, len)?
+    } else {
+        room
+    };
+    file.truncate(len);
     lay_out(order, &mut file, pairs);
     Ok(file)
 }

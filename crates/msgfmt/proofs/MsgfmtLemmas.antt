@@ -1,8 +1,7 @@
 -- What a run of msgfmt comes to, by the way in which it ends.
-use Rattle.std.proofs.Common.{◌≡◌, ◌≢◌, ℕ, Bool, true, false, List, length, sym, ap, subst, ◌∙◌, inl, inr, arith}
+use Rattle.std.proofs.Common.{◌≡◌, ◌≢◌, Bool, true, false, List, length, sym, ap, subst, ◌∙◌, inl, inr, arith}
 use Rattle.std.proofs.lemmas.List.{length-map}
 use Rattle.std.proofs.lemmas.Slice.Zip.{AllZip-long}
-use Rattle.std.specs.Borrow.{Bor}
 use Rattle.po_entry.specs.ReadsText.{ReadsText}
 use Rattle.po_messages.specs.Joined.{joined_entries}
 use Rattle.po_compile.specs.Accepted.{IsCompileFault}
@@ -12,17 +11,15 @@ use Rattle.po_compile.specs.Compiling.{IsCompilation}
 use Rattle.po_compile.specs.declared.options.Options.{Options}
 use Rattle.msgfmt.specs.declared.options.MsgfmtOptions.{MsgfmtOptions}
 use Rattle.msgfmt.specs.Msgfmt.{NoneRefused, IsMsgfmtRun, IsRefused, compile_options, input_texts}
-use Rattle.runs.specs.NamedFile.{NamedFile, named_file, named_files}
+use Rattle.runs.specs.NamedFile.{NamedFile}
 use Rattle.runs.specs.Run.{RunView}
 
 -- each input is collected
-pub collected-count : (use_fuzzy : Bool) (inputs : List (Bor (List ℕ) × Bor (List ℕ)))
-    (collected : List (List LiveMessage)) → AreCollected use_fuzzy (input_texts (named_files inputs)) collected
-    → length collected ≡ length inputs
+pub collected-count : (use_fuzzy : Bool) (inputs : List NamedFile) (collected : List (List LiveMessage))
+    → AreCollected use_fuzzy (input_texts inputs) collected → length collected ≡ length inputs
 collected-count use_fuzzy inputs collected of =
     ap length of.held.messages ∙ length-map of.catalogues (live_messages use_fuzzy)
-    ∙ AllZip-long ReadsText (input_texts (named_files inputs)) of.catalogues of.read
-    ∙ length-map (named_files inputs) (λ file. file.bytes) ∙ length-map inputs named_file
+    ∙ AllZip-long ReadsText (input_texts inputs) of.catalogues of.read ∙ length-map inputs (λ file. file.bytes)
 
 -- where no check is asked for, a run of status 0 is that of inputs that are compiled
 pub taken : (inputs : List NamedFile) (o unchecked : MsgfmtOptions) (run : RunView) → unchecked.profile_check ≡ false

@@ -3,3 +3,4 @@ pub mod Profile
 pub mod ProfileFaults
 pub mod Options
 pub mod WholeRun
+pub mod Internal

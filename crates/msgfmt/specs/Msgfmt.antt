@@ -31,9 +31,13 @@ compile_options o = record { use_fuzzy = o.use_fuzzy; order = o.order }
 abbrev pub input_texts : List NamedFile → List (List ℕ)
 input_texts inputs = map (λ file. file.bytes) inputs
 
--- the name of the input of this index, counted from 0
-abbrev pub input_name : List NamedFile → ℕ → List ℕ
-input_name inputs i = option_map_or (λ file. file.name) (slice_get inputs i) []
+-- the names of the inputs
+abbrev pub input_names : List NamedFile → List (List ℕ)
+input_names inputs = map (λ file. file.name) inputs
+
+-- the name of the input of this index, counted from 0, of those of all
+abbrev pub input_name : List (List ℕ) → ℕ → List ℕ
+input_name names i = option_map_or (λ name. name) (slice_get names i) []
 
 -- what is wrong, where a duplicate is of a message of this other file
 abbrev pub across_text : List ℕ → PoFault → List ℕ
@@ -41,15 +45,15 @@ across_text file (Duplicate line) = duplicate_text file line
 across_text file fault = po_text fault
 
 -- what is wrong with the inputs; two inputs are named only for a duplicate across them
-abbrev pub join_text : List NamedFile → JoinError → List ℕ
-join_text inputs error =
+abbrev pub join_text : List (List ℕ) → JoinError → List ℕ
+join_text names error =
     if error.first_input == error.input then po_text error.error.kind
-    else across_text (input_name inputs error.first_input) error.error.kind
+    else across_text (input_name names error.first_input) error.error.kind
 
 -- the line that says why the inputs aren't compiled
-abbrev pub join_line : List NamedFile → JoinError → List ℕ
-join_line inputs error =
-    fault_line (codes "msgfmt") (input_name inputs error.input) error.error.line (join_text inputs error)
+abbrev pub join_line : List (List ℕ) → JoinError → List ℕ
+join_line names error =
+    fault_line (codes "msgfmt") (input_name names error.input) error.error.line (join_text names error)
 
 -- the line at which a fault of the check is reported; 0 is none
 abbrev pub line_of_fault : CheckFault → ℕ
@@ -71,9 +75,9 @@ check_text (IndexOutside count) = codes "plural rule too large for " ++ decimal 
 check_text OutOfMemory = codes "out of memory"
 
 -- the line that reports a fault of the check
-abbrev pub check_line : List NamedFile → Reported → List ℕ
-check_line inputs reported =
-    fault_line (codes "msgfmt") (input_name inputs reported.0) (line_of_fault reported.1) (check_text reported.1)
+abbrev pub check_line : List (List ℕ) → Reported → List ℕ
+check_line names reported =
+    fault_line (codes "msgfmt") (input_name names reported.0) (line_of_fault reported.1) (check_text reported.1)
 
 -- the check of the joined list of these catalogues: its first fault, or none
 abbrev pub AreChecked : Bool → List (List TextEntry) → Option Reported → Type 0
@@ -93,11 +97,11 @@ compiled_run o compiled = record {
 pub compiled_status : (o : MsgfmtOptions) (compiled : Compiled) → (compiled_run o compiled).status ≡ 0
 compiled_status o compiled = refl
 
-pub refused_status : (inputs : List NamedFile) (error : JoinError) → (refusal (join_line inputs error)).status ≡ 1
-refused_status inputs error = refl
+pub refused_status : (names : List (List ℕ)) (error : JoinError) → (refusal (join_line names error)).status ≡ 1
+refused_status names error = refl
 
-pub failed_status : (inputs : List NamedFile) (fault : Reported) → (refusal (check_line inputs fault)).status ≡ 1
-failed_status inputs fault = refl
+pub failed_status : (names : List (List ℕ)) (fault : Reported) → (refusal (check_line names fault)).status ≡ 1
+failed_status names fault = refl
 
 -- The inputs aren't compiled, which is reported before any fault of the check. A failed allocation
 -- (`NoMemory`, which is `OutOfMemory` of PoFault) makes no run: it is reported without a file.
@@ -105,7 +109,7 @@ pub record IsRefused (inputs : List NamedFile) (o : MsgfmtOptions) (run : RunVie
   pub error : JoinError
   pub fault : IsCompileFault (compile_options o) (input_texts inputs) error
   pub not_memory : error.error.kind ≢ NoMemory
-  pub run_is : run ≡ refusal (join_line inputs error)
+  pub run_is : run ≡ refusal (join_line (input_names inputs) error)
 
 -- the inputs are compiled, and the check that is asked for reports a fault: then no file is made
 pub record FailsCheck (inputs : List NamedFile) (o : MsgfmtOptions) (run : RunView) : Type 0 where
@@ -116,7 +120,7 @@ pub record FailsCheck (inputs : List NamedFile) (o : MsgfmtOptions) (run : RunVi
   pub asked : o.profile_check ≡ true
   pub fault : Reported
   pub checked : AreChecked o.use_fuzzy catalogues (Some fault)
-  pub run_is : run ≡ refusal (check_line inputs fault)
+  pub run_is : run ≡ refusal (check_line (input_names inputs) fault)
 
 -- the inputs are compiled, with the statistics of all entries of their joined list, and where the check
 -- is asked for it reports no fault

@@ -1,8 +1,8 @@
 //! Why inputs aren't compiled, and what the check finds, as the line that reports it, and as the
 //! run of it.
 ghost use Rattle.std.specs.Prelude.{◌≡◌, ◌≢◌, ◌++◌, IfOk, OnOk};
+ghost use Rattle.po_entry.specs.TextEntry.{slice_texts};
 ghost use Rattle.runs.specs.FaultText.{duplicate_text};
-ghost use Rattle.runs.specs.NamedFile.{named_files};
 ghost use Rattle.runs.specs.Run.{refusal, run_view};
 ghost use Rattle.msgfmt.specs.Msgfmt as Spec;
 
@@ -12,11 +12,11 @@ use po_syntax::PoFault;
 use runs::{Run, push_location, push_numbered, push_po_text, refused};
 use std::alloc::{AllocError, Global};
 
-/// The name of an input.
-fn input_name<'a>(inputs: &[(&'a str, &[u8])], input: u32) -> &'a str
-    ensures { result.now ≡ Spec.input_name (named_files inputs.now) input }
+/// The name of an input, of those of all.
+fn input_name<'a>(names: &[&'a str], input: u32) -> &'a str
+    ensures { result.now ≡ Spec.input_name (slice_texts names.now) input }
 {
-    inputs.get(input as usize).map_or("", |(name, _)| name)
+    names.get(input as usize).map_or("", |name| name)
 }
 
 /// Appends what is wrong with a duplicate of a message of another file.
@@ -29,16 +29,12 @@ fn push_duplicate(out: &mut Vec<u8>, file: &str, line: u32) -> Result<(), AllocE
 }
 
 /// Appends why the inputs aren't compiled.
-fn push_join_text(
-    out: &mut Vec<u8>,
-    inputs: &[(&str, &[u8])],
-    error: JoinError,
-) -> Result<(), AllocError>
-    ensures { OnOk result (out.new.items ≡ out.old.items ++ Spec.join_text (named_files inputs.now) error) }
+fn push_join_text(out: &mut Vec<u8>, names: &[&str], error: JoinError) -> Result<(), AllocError>
+    ensures { OnOk result (out.new.items ≡ out.old.items ++ Spec.join_text (slice_texts names.now) error) }
 {
     match error.error.kind {
         PoFault::Duplicate(line) if error.first_input != error.input => {
-            push_duplicate(out, input_name(inputs, error.first_input), line)
+            push_duplicate(out, input_name(names, error.first_input), line)
         }
         fault => push_po_text(out, fault),
     }
@@ -81,11 +77,11 @@ fn push_check_text(out: &mut Vec<u8>, fault: CheckFault) -> Result<(), AllocErro
 /// The run of inputs that aren't compiled.
 pub(crate) fn refused_run(
     alloc: Global,
-    inputs: &[(&str, &[u8])],
+    names: &[&str],
     error: JoinError,
 ) -> Result<Run, AllocError>
     ensures { IfOk result (λ run. (error.error.kind ≢ PoFault.OutOfMemory)
-        × (run_view run ≡ refusal (Spec.join_line (named_files inputs.now) error))) }
+        × (run_view run ≡ refusal (Spec.join_line (slice_texts names.now) error))) }
 {
     if error.error.kind == PoFault::OutOfMemory {
         return Err(AllocError);
@@ -94,10 +90,10 @@ pub(crate) fn refused_run(
     push_location(
         &mut messages,
         "msgfmt",
-        input_name(inputs, error.input),
+        input_name(names, error.input),
         error.error.line,
     )?;
-    push_join_text(&mut messages, inputs, error)?;
+    push_join_text(&mut messages, names, error)?;
     messages.extend_from_slice(b"\n")?;
     Ok(refused(alloc, messages))
 }
@@ -105,12 +101,12 @@ pub(crate) fn refused_run(
 /// The run of inputs that the check refuses.
 pub(crate) fn failed_check_run(
     alloc: Global,
-    inputs: &[(&str, &[u8])],
+    names: &[&str],
     input: u32,
     fault: CheckFault,
 ) -> Result<Run, AllocError>
     ensures { IfOk result (λ run. (fault ≢ CheckFault.OutOfMemory)
-        × (run_view run ≡ refusal (Spec.check_line (named_files inputs.now) (input, fault)))) }
+        × (run_view run ≡ refusal (Spec.check_line (slice_texts names.now) (input, fault)))) }
 {
     if fault == CheckFault::OutOfMemory {
         return Err(AllocError);
@@ -119,7 +115,7 @@ pub(crate) fn failed_check_run(
     push_location(
         &mut messages,
         "msgfmt",
-        input_name(inputs, input),
+        input_name(names, input),
         line_of_fault(fault),
     )?;
     push_check_text(&mut messages, fault)?;

@@ -1,8 +1,8 @@
 //! What msgfmt writes and reports: the MO file of PO texts.
-ghost use Rattle.std.specs.Prelude.{◌≡◌, ◌^◌, ◌<◌, length, IfOk, OnErr, Err};
-ghost use Rattle.po_compile.specs.CompiledInputs.{AreCollected};
+ghost use Rattle.std.specs.Prelude.{◌≡◌, ◌^◌, ◌<◌, List, length, IfOk, OnErr, Err};
 ghost use Rattle.po_entry.specs.TextEntry.{slice_texts};
-ghost use Rattle.runs.specs.NamedFile.{named_files};
+ghost use Rattle.runs.specs.NamedFile.{NamedFile, named_files};
+ghost use Rattle.msgfmt.specs.Internal.Gathered.{HoldInputs, IsGathered};
 ghost use Rattle.msgfmt.specs.Msgfmt as Spec;
 ghost use Rattle.runs.specs.Run.{run_view};
 
@@ -10,8 +10,28 @@ use crate::fault_lines::{failed_check_run, refused_run};
 use crate::options::MsgfmtOptions;
 use crate::profile::check_inputs;
 use po_compile::{Collected, Compiled, Options, collect_all, compile_collected};
+use po_messages::JoinError;
 use runs::{Run, ToolFault};
 use std::alloc::{AllocError, Global};
+
+/// The names of inputs, and what is collected of their texts, or why one isn't read. The run of the
+/// inputs needs no more of them.
+#[derive(Drop)]
+pub(crate) struct Gathered<'a> {
+    names: Vec<&'a str>,
+    collected: Result<Vec<Collected>, JoinError>,
+}
+
+/// The names of the inputs.
+fn names_of<'a>(alloc: Global, inputs: &[(&'a str, &[u8])]) -> Result<Vec<&'a str>, AllocError>
+    ensures { IfOk result (λ names. slice_texts names.items ≡ Spec.input_names (named_files inputs.now)) }
+{
+    let mut names = Vec::with_capacity(alloc, inputs.len())?;
+    for (name, _) in inputs {
+        names.push(*name)?;
+    }
+    Ok(names)
+}
 
 /// The texts of the inputs.
 fn texts_of<'a>(alloc: Global, inputs: &[(&str, &'a [u8])]) -> Result<Vec<&'a [u8]>, AllocError>
@@ -22,6 +42,23 @@ fn texts_of<'a>(alloc: Global, inputs: &[(&str, &'a [u8])]) -> Result<Vec<&'a [u
         texts.push(*text)?;
     }
     Ok(texts)
+}
+
+/// Gathers what the run of inputs needs of them.
+pub(crate) fn gather<'a>(
+    alloc: Global,
+    inputs: &[(&'a str, &[u8])],
+    use_fuzzy: bool,
+) -> Result<Gathered<'a>, AllocError>
+    requires { length inputs.now < 2 ^ 32 }
+    ensures { IfOk result (IsGathered use_fuzzy (named_files inputs.now)) }
+{
+    let names = names_of(alloc, inputs)?;
+    let texts = texts_of(alloc, inputs)?;
+    Ok(Gathered {
+        names,
+        collected: collect_all(alloc, &texts, use_fuzzy),
+    })
 }
 
 /// The run of inputs that are compiled.
@@ -51,19 +88,22 @@ fn compiled_run(
     })
 }
 
-/// The run of inputs whose live entries are collected.
+/// The run of inputs with these names, whose live entries are collected.
 ///
 /// The check comes first, so that what it takes of the memory is free again; its fault is reported
 /// only where the inputs are compiled.
 fn collected_run(
     alloc: Global,
-    inputs: &[(&str, &[u8])],
+    names: &[&str],
     collected: &[Collected],
+    room: Vec<u8>,
     options: &MsgfmtOptions,
 ) -> Result<Run, AllocError>
     requires few { length collected.now < 2 ^ 32 }
-    requires read { AreCollected options.now.use_fuzzy (Spec.input_texts (named_files inputs.now)) collected.now }
-    ensures { IfOk result (λ run. Spec.IsMsgfmtRun (named_files inputs.now) options.now (run_view run)) }
+    requires read { (inputs : List NamedFile) × HoldInputs options.now.use_fuzzy inputs (slice_texts names.now) collected.now }
+    ensures { IfOk result (λ run. (inputs : List NamedFile)
+        → HoldInputs options.now.use_fuzzy inputs (slice_texts names.now) collected.now
+        → Spec.IsMsgfmtRun inputs options.now (run_view run)) }
 {
     let checked = if options.profile_check {
         check_inputs(alloc, collected)
@@ -74,13 +114,33 @@ fn collected_run(
         use_fuzzy: options.use_fuzzy,
         order: options.order,
     };
-    let compiled = match compile_collected(alloc, collected, compile_options) {
+    let compiled = match compile_collected(alloc, collected, room, compile_options) {
         Ok(compiled) => compiled,
-        Err(error) => return refused_run(alloc, inputs, error),
+        Err(error) => return refused_run(alloc, names, error),
     };
     match checked {
         Ok(()) => compiled_run(alloc, options, compiled),
-        Err((input, fault)) => failed_check_run(alloc, inputs, input, fault),
+        Err((input, fault)) => failed_check_run(alloc, names, input, fault),
+    }
+}
+
+/// The run of inputs of which this is gathered. The compiled file is written over what `room`
+/// holds, where that is long enough.
+pub(crate) fn gathered_run(
+    alloc: Global,
+    gathered: Gathered<'_>,
+    room: Vec<u8>,
+    options: &MsgfmtOptions,
+) -> Result<Run, AllocError>
+    requires few { length gathered.names.items < 2 ^ 32 }
+    requires read { (inputs : List NamedFile) × IsGathered options.now.use_fuzzy inputs gathered }
+    ensures { IfOk result (λ run. (inputs : List NamedFile) → IsGathered options.now.use_fuzzy inputs gathered.entry
+        → Spec.IsMsgfmtRun inputs options.now (run_view run)) }
+{
+    let Gathered { names, collected } = gathered;
+    match collected {
+        Ok(collected) => collected_run(alloc, &names, &collected, room, options),
+        Err(error) => refused_run(alloc, &names, error),
     }
 }
 
@@ -98,9 +158,6 @@ pub fn plan_msgfmt(
     ensures run { IfOk result (λ run. Spec.IsMsgfmtRun (named_files inputs.now) options.now (run_view run)) }
     ensures memory { OnErr result (result ≡ Err ToolFault.OutOfMemory) }
 {
-    let texts = texts_of(alloc, inputs)?;
-    match collect_all(alloc, &texts, options.use_fuzzy) {
-        Ok(collected) => Ok(collected_run(alloc, inputs, &collected, options)?),
-        Err(error) => Ok(refused_run(alloc, inputs, error)?),
-    }
+    let gathered = gather(alloc, inputs, options.use_fuzzy)?;
+    Ok(gathered_run(alloc, gathered, Vec::new(alloc), options)?)
 }

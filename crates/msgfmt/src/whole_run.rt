@@ -1,17 +1,42 @@
 //! msgfmt as a whole: the inputs of its command line are read, also where one can't be, and their
 //! run is planned and written.
-ghost use Rattle.std.specs.Prelude.{◌≡◌, ◌≢◌, ◌⊎◌, ◌^◌, ◌<◌, [], None, Some, Err, IfOk, IfErr, IfSome, OnOk, false, map};
+ghost use Rattle.std.specs.Prelude.{◌≡◌, ◌≢◌, ◌⊎◌, ◌^◌, ◌<◌, [], None, Some, Err, IfOk, IfErr, IfSome, OnOk, false, length, map};
 ghost use Rattle.msgfmt.specs.Msgfmt.{AreWrong, IsMsgfmtRun, IsRefused, NoneRefused};
 ghost use Rattle.msgfmt.specs.WholeRun.{RunsMsgfmt};
-ghost use Rattle.runs.specs.Inputs.{AsksFirst, asked_by};
-ghost use Rattle.runs.specs.NamedFile.{named_files};
+ghost use Rattle.runs.specs.Inputs.{AsksFirst, asked_by, named_inputs};
 ghost use Rattle.runs.specs.Run.{run_view};
 ghost use Rattle.runs.specs.ToolRuns.{asking};
 
 use crate::options::MsgfmtOptions;
-use crate::plan::plan_msgfmt;
+use crate::plan::{gather, gathered_run};
 use runs::{ByteOut, InputSource, Inputs, OutputFiles, OutputSystem, ProgramFault, Run};
-use std::alloc::Global;
+use std::alloc::{AllocError, Global};
+
+/// What was read of the last input: memory for what is compiled.
+fn last_bytes(alloc: Global, inputs: Inputs<'_>) -> Vec<u8> {
+    let Inputs { mut texts, .. } = inputs;
+    match texts.pop() {
+        Some(input) => input.bytes,
+        None => Vec::new(alloc),
+    }
+}
+
+/// What `msgfmt` writes and reports of the inputs that were read, as `plan_msgfmt` says it. Their
+/// memory is free again before they are compiled, and the last input's is written over.
+fn plan_inputs(
+    alloc: Global,
+    inputs: Inputs<'_>,
+    options: &MsgfmtOptions,
+) -> Result<Run, AllocError>
+    requires { length inputs.texts.items < 2 ^ 32 }
+    ensures { IfOk result (λ run. IsMsgfmtRun (named_inputs inputs.entry.texts.items) options.now (run_view run)) }
+{
+    let borrowed = inputs.borrowed(alloc)?;
+    let gathered = gather(alloc, &borrowed, options.use_fuzzy)?;
+    drop(borrowed);
+    let room = last_bytes(alloc, inputs);
+    gathered_run(alloc, gathered, room, options)
+}
 
 /// What `msgfmt` comes to with the inputs that a command line names, each with its name, and the
 /// fault of the one after them that can't be read: the plan of all of them, or, where one can't be
@@ -21,37 +46,37 @@ use std::alloc::Global;
 /// may come in place of any result.
 pub fn plan_msgfmt_of<'a>(
     alloc: Global,
-    texts: &[(&str, &[u8])],
-    fault: Option<ProgramFault<'a>>,
+    inputs: Inputs<'a>,
     options: &MsgfmtOptions,
 ) -> Result<Run, ProgramFault<'a>>
-    ensures whole { fault.entry ≡ None
-        → IfOk result (λ run. IsMsgfmtRun (named_files texts.now) options.now (run_view run)) }
-    ensures refused { fault.entry ≢ None
-        → IfOk result (λ run. IsRefused (named_files texts.now) options.now (run_view run)) }
-    ensures right { OnOk result (AreWrong (named_files texts.now) fault.entry → ⊥) }
+    ensures whole { inputs.entry.fault ≡ None
+        → IfOk result (λ run. IsMsgfmtRun (named_inputs inputs.entry.texts.items) options.now (run_view run)) }
+    ensures refused { inputs.entry.fault ≢ None
+        → IfOk result (λ run. IsRefused (named_inputs inputs.entry.texts.items) options.now (run_view run)) }
+    ensures right { OnOk result (AreWrong (named_inputs inputs.entry.texts.items) inputs.entry.fault → ⊥) }
     ensures fault { IfErr result (λ reported. (reported ≡ ProgramFault.OutOfMemory)
-        ⊎ ((reported ≡ ProgramFault.WrongArguments) × AreWrong (named_files texts.now) fault.entry)
-        ⊎ ((fault.entry ≡ Some reported) × NoneRefused (named_files texts.now) options.now)) }
+        ⊎ ((reported ≡ ProgramFault.WrongArguments) × AreWrong (named_inputs inputs.entry.texts.items) inputs.entry.fault)
+        ⊎ ((inputs.entry.fault ≡ Some reported) × NoneRefused (named_inputs inputs.entry.texts.items) options.now)) }
 
     // An input that can't be read is told where there is none before it.
-    ensures first { named_files texts.now ≡ []
-        → IfSome fault.entry (λ fault. result ≡ Err fault) }
+    ensures first { named_inputs inputs.entry.texts.items ≡ []
+        → IfSome inputs.entry.fault (λ fault. result ≡ Err fault) }
 {
-    if texts.len() > u32::MAX as usize {
+    let fault = inputs.fault;
+    if inputs.texts.len() > u32::MAX as usize {
         return Err(ProgramFault::WrongArguments);
     }
-    if texts.is_empty() {
+    if inputs.texts.is_empty() {
         return Err(fault.unwrap_or(ProgramFault::WrongArguments));
     }
     let Some(fault) = fault else {
-        return plan_msgfmt(alloc, texts, options).map_err(|_| ProgramFault::OutOfMemory);
+        return plan_inputs(alloc, inputs, options).map_err(|_| ProgramFault::OutOfMemory);
     };
     let unchecked = MsgfmtOptions {
         profile_check: false,
         ..*options
     };
-    let Ok(run) = plan_msgfmt(alloc, texts, &unchecked) else {
+    let Ok(run) = plan_inputs(alloc, inputs, &unchecked) else {
         return Err(ProgramFault::OutOfMemory);
     };
     if run.status == 0 { Err(fault) } else { Ok(run) }
@@ -78,7 +103,6 @@ pub fn run<'a, S: InputSource, F: OutputFiles, O: ByteOut, E: ByteOut>(
         options.now (map (λ argument. argument.now) arguments.now) output.now system.old system.new result }
 {
     let inputs = Inputs::read(alloc, source, arguments)?;
-    let texts = inputs.borrowed(alloc)?;
-    let run = plan_msgfmt_of(alloc, &texts, inputs.fault, options)?;
+    let run = plan_msgfmt_of(alloc, inputs, options)?;
     system.write(alloc, &run, output)
 }

@@ -33,7 +33,7 @@ pub fn compile_all(alloc: Global, texts: &[&[u8]], options: Options) -> Result<C
     ensures statistics { IfOk result (HasStatistics (slice_texts texts.now)) }
 {
     match collect_all(alloc, texts, options.use_fuzzy) {
-        Ok(inputs) => compile_collected(alloc, &inputs, options),
+        Ok(inputs) => compile_collected(alloc, &inputs, Vec::new(alloc), options),
         Err(error) => Err(error),
     }
 }
@@ -54,10 +54,12 @@ pub fn compile(alloc: Global, text: &[u8], options: Options) -> Result<Compiled,
 }
 
 /// Compiles the joined list of inputs whose live entries are collected. Refused as `compile_all`
-/// refuses their texts.
+/// refuses their texts. The file is written over what `room` holds, where that is long enough: the
+/// bytes of a text that was collected are.
 pub fn compile_collected(
     alloc: Global,
     inputs: &[Collected],
+    room: Vec<u8>,
     options: Options,
 ) -> Result<Compiled, JoinError>
     requires few { length inputs.now < 2 ^ 32 }
@@ -76,7 +78,7 @@ pub fn compile_collected(
     drop(rows);
     layout_is_mo_file();
     messages_mean_entries();
-    match build_sorted(alloc, options.order, &pairs) {
+    match build_sorted(alloc, room, options.order, &pairs) {
         Ok(bytes) => Ok(Compiled {
             bytes,
             n: count as u32,

@@ -22,7 +22,7 @@ use Rattle.runs.specs.FaultText.{fault_line, mo_text}
 use Rattle.gettext.specs.Gettext.{GettextRequest, NgettextRequest, IsGettextRun, IsNgettextRun, Opens, output_run, gettext_output, ngettext_output}
 use Rattle.gettext.specs.Gettext.Opens.{none, opened, refused}
 use Rattle.po_compile.specs.CompiledInputs.{compiled_inputs}
-use Rattle.msgfmt.specs.Msgfmt.{AreChecked, IsRefused, check_line, compile_options, compiled_run, input_texts, join_line}
+use Rattle.msgfmt.specs.Msgfmt.{AreChecked, IsRefused, check_line, compile_options, compiled_run, input_names, input_texts, join_line}
 use Rattle.runs.specs.NamedFile.{NamedFile}
 use Rattle.msgfmt.specs.Profile.{Reported, first_fault, is_header_entry}
 use Rattle.po_tools.specs.RunLaws.{OneMsgfmtRun}
@@ -148,7 +148,7 @@ module _ (one_list : MessagesAreOne) (one_reading : CataloguesAreOne) (no_fault 
       one_fault (compile_options o) (input_texts inputs) is.error also.error is.fault also.fault
       (λ memory. is.not_memory (ap (λ (e : JoinError). e.error.kind) memory))
       (λ memory. also.not_memory (ap (λ (e : JoinError). e.error.kind) memory)) in
-      is.run_is ∙ ap (λ (e : JoinError). refusal (join_line inputs e)) error ∙ sym also.run_is
+      is.run_is ∙ ap (λ (e : JoinError). refusal (join_line (input_names inputs) e)) error ∙ sym also.run_is
   msgfmt_once inputs o run other (inl is) (inr (inl also)) =
       absurd (refused_only inputs o run also.catalogues also.compiled is also.read also.is_compiled)
   msgfmt_once inputs o run other (inl is) (inr (inr also)) =
@@ -161,7 +161,8 @@ module _ (one_list : MessagesAreOne) (one_reading : CataloguesAreOne) (no_fault 
       let faults = same_check inputs o is.catalogues also.catalogues (Some is.fault)
       (Some also.fault) is.read also.read is.checked also.checked in
       let fault : is.fault ≡ also.fault = cc in
-      is.run_is ∙ ap (λ (reported : Reported). refusal (check_line inputs reported)) fault ∙ sym also.run_is
+      is.run_is ∙ ap (λ (reported : Reported). refusal (check_line (input_names inputs) reported)) fault
+      ∙ sym also.run_is
   msgfmt_once inputs o run other (inr (inl is)) (inr (inr also)) =
       let faults = same_check inputs o is.catalogues also.catalogues (Some is.fault) None is.read also.read is.checked
       (also.checked is.asked) in cc

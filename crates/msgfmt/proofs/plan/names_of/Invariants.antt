@@ -1,0 +1,8 @@
+use Rattle.std.proofs.Common.{◌≡◌, take}
+use Rattle.po_entry.specs.TextEntry.{slice_texts}
+use Rattle.runs.specs.NamedFile.{named_files}
+use Rattle.msgfmt.specs.Msgfmt.{input_names}
+use Rattle.msgfmt.proofs.plan.names_of.Given as goal
+
+abbrev pub invariant-loop-name : goal.invariant-loop-name
+invariant-loop-name l = slice_texts l.names.items ≡ input_names (named_files (take l.name-index l.inputs))
