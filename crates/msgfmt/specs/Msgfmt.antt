@@ -55,6 +55,12 @@ abbrev pub join_line : List (List ℕ) → JoinError → List ℕ
 join_line names error =
     fault_line (codes "msgfmt") (input_name names error.input) error.error.line (join_text names error)
 
+-- a duplicate across inputs is reported in the later one, with the file of the earlier one
+pub duplicate_across : join_line (codes "a.po" ∷ codes "b.po" ∷ [])
+    (record { input = 1; first_input = 0; error = record { kind = Duplicate 1; line = 3 } })
+    ≡ fault_line (codes "msgfmt") (codes "b.po") 3 (duplicate_text (codes "a.po") 1)
+duplicate_across = refl
+
 -- the line at which a fault of the check is reported; 0 is none
 abbrev pub line_of_fault : CheckFault → ℕ
 line_of_fault (NoRule line reason) = line

@@ -22,7 +22,7 @@ use Rattle.po_messages.proofs.DuplicateLemmas.{entries_of_input, live_of_entries
 use Rattle.po_compile.specs.Accepted.{IsFaultOfInput, IsReadingFault, fault_input, AreRead, IsCompileFault, fault_of_only_input}
 use Rattle.po_compile.specs.Collected.{HoldCatalogues, LiveMessage, live_messages}
 use Rattle.po_compile.specs.Internal.Repeats.{EachApart, HaveOneKey, IsRepeat, IsRepeatFault, IsRepeatInInput, repeat_fault}
-use Rattle.po_compile.specs.Internal.Rows.{AllApart, InputMessage, all_messages, in_input_message, input_keys, input_message, AreSortedRows, compiled_of, row_view}
+use Rattle.po_compile.specs.Internal.Rows.{AllApart, InputMessage, all_messages, in_input_message, input_keys, input_message, AreSortedRows, compiled_of, row_view, row_key}
 use Rattle.po_compile.proofs.Filters.{split_at}
 use Rattle.po_compile.proofs.JoinedRows.{all_are, joined_valid, of_input}
 use Rattle.po_compile.proofs.KeysApart.{joined_distinct, read_distinct, rising_apart, sorted_keys}
@@ -215,7 +215,7 @@ module _ (use_fuzzy : Bool) where
     each = read_distinct use_fuzzy texts of.catalogues of.read (subst EachApart of.held.messages each);
     distinct = joined_distinct use_fuzzy of.catalogues
         (subst (λ ins. AllApart (input_keys (all_messages ins))) of.held.messages
-        (sorted_keys inputs rows are.all (rising_apart (map (λ (r : Row). r.key.now) rows) are.rising)));
+        (sorted_keys inputs rows are.all (rising_apart (map row_key rows) are.rising)));
   }
 
 -- the pairs of sorted rows are the messages of the texts' entries

@@ -15,7 +15,7 @@ use Rattle.std.proofs.lemmas.List.Kept.{AllPairs-filter, AllPairs-cons}
 use Rattle.std.proofs.lemmas.Map.Lookups.{exact_bytes}
 use Rattle.mo_file.specs.Key.{AreRising, key_cmp, query_key}
 use Rattle.mo_lookup.proofs.RisingLemmas.{less_is_other, rising_between}
-use Rattle.po_compile.specs.Internal.Rows.{AllApart, HasOneHeader, InputMessage, all_messages, has_no_key, in_input_message, input_keys, input_message, is_joined, joined_messages, message_keys, row_view}
+use Rattle.po_compile.specs.Internal.Rows.{AllApart, HasOneHeader, InputMessage, all_messages, has_no_key, in_input_message, input_keys, input_message, is_joined, joined_messages, message_keys, row_view, row_key}
 use Rattle.std.specs.List.{AllZip, list_any}
 use Rattle.std.specs.Str.{bytes_eq}
 use Rattle.std.proofs.Math.ListN.{get_or-map as map_at}
@@ -193,7 +193,7 @@ module _ {X : Type 0} (R : X → X → Type 0) where
 
 -- the messages of rows whose keys differ
 pub sorted_keys : (inputs : List (List LiveMessage)) (rows : List Row)
-    → IsPermutation (all_messages inputs) (map row_view rows) → AllApart (map (λ (r : Row). r.key.now) rows)
+    → IsPermutation (all_messages inputs) (map row_view rows) → AllApart (map row_key rows)
     → AllApart (input_keys (all_messages inputs))
 sorted_keys inputs rows all apart =
     let key : InputMessage → List ℕ = λ m. m.message.key in
@@ -209,10 +209,10 @@ module _ (inputs : List (List LiveMessage)) (rows sorted : List Row) (made : map
   sorted_all = subst (λ ms. IsPermutation ms (map row_view sorted)) made
       (IsPermutation-map row_view rows sorted permuted)
 
-  pub all_apart : AllApart (map (λ (r : Row). r.key.now) sorted) → AllApart (input_keys (all_messages inputs))
+  pub all_apart : AllApart (map row_key sorted) → AllApart (input_keys (all_messages inputs))
   all_apart apart = sorted_keys inputs sorted sorted_all apart
 
-  pub sorted_apart : AllApart (input_keys (all_messages inputs)) → AllApart (map (λ (r : Row). r.key.now) sorted)
+  pub sorted_apart : AllApart (input_keys (all_messages inputs)) → AllApart (map row_key sorted)
   sorted_apart apart =
       subst AllApart (map-map (λ (m : InputMessage). m.message.key) row_view sorted)
       (apart_permuted (input_keys (all_messages inputs)) (input_keys (map row_view sorted))

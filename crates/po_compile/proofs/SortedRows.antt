@@ -104,7 +104,6 @@ module _ (use_fuzzy : Bool) where
         let compiled : InputMessage → Bool = λ m. m.message.status.compiled in
         let message : InputMessage → Message = λ m. m.message.message in
         let key : InputMessage → List ℕ = λ m. m.message.key in
-        let row_key : Row → List ℕ = λ r. r.key.now in
         let kept = filter compiled (map row_view rows) in
         let filtered = IsPermutation-map message (filter compiled given) kept
         (IsPermutation-filter compiled given (map row_view rows) moved) in

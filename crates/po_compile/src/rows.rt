@@ -11,25 +11,21 @@ use mo_file::BorrowedPair;
 use std::alloc::{AllocError, Global};
 
 /// Cuts off the row of the message of these lengths, with the prefix of its key.
-fn split_row<'b>(input: u32, bytes: &'b [u8], lengths: &Lengths) -> (Row<'b>, &'b [u8])
+fn split_row<'b>(input: u32, bytes: &'b [u8], lengths: &'b Lengths) -> (Row<'b>, &'b [u8])
     requires key { lengths.now.key ≤ lengths.now.original }
     requires inside { lengths.now.original + lengths.now.translation ≤ length bytes.now }
     ensures row { row_view result.0 ≡ in_input_message input (first_message lengths.now bytes.now) }
     ensures rest { result.1.now ≡ after_message lengths.now bytes.now }
 {
-    let (original, after) = bytes.split_at(lengths.original);
-    let (translation, rest) = after.split_at(lengths.translation);
-    let key = &original[..lengths.key];
+    let (message, rest) = bytes.split_at(lengths.original + lengths.translation);
+    let key = &message[..lengths.key];
     let (_, after_prefix) = key.split_at(PREFIX_LEN.min(key.len()));
     let row = Row {
         prefix: prefix_of(key),
         second_prefix: prefix_of(after_prefix),
-        key,
-        original,
-        translation,
+        message,
+        lengths,
         input,
-        line: lengths.line,
-        status: lengths.status,
     };
     (row, rest)
 }
@@ -39,7 +35,7 @@ fn add_row<'b>(rows: &mut Vec<Row<'b>>, row: Row<'b>, headed: bool) -> Result<()
     ensures { OnOk result (map row_view rows.new.items
         ≡ map row_view rows.old.items ++ filter (λ m. is_joined headed m.message) (row_view row.entry ∷ [])) }
 {
-    if !headed || !row.key.is_empty() {
+    if !headed || row.lengths.key > 0 {
         rows.push(row)?;
     }
     Ok(())
@@ -98,10 +94,10 @@ pub(crate) fn compiled_pairs<'b>(
 {
     let mut pairs = Vec::with_capacity(alloc, rows.len())?;
     for row in rows {
-        if row.status.compiled {
+        if row.lengths.status.compiled {
             pairs.push(BorrowedPair {
-                original: row.original,
-                translation: row.translation,
+                original: row.original(),
+                translation: row.translation(),
             })?;
         }
     }

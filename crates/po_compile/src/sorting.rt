@@ -1,12 +1,11 @@
 //! Rows in the order of their keys, and their statistics.
 
-ghost use Rattle.std.specs.Prelude.{◌≡◌, ◌<◌, ◌^◌, ◌↔◌, All, IfErr, IfOk, IsPermutation, IsTrue, OnOk, count_by, length, map};
+ghost use Rattle.std.specs.Prelude.{◌≡◌, ◌-◌, ◌<◌, ◌^◌, ◌↔◌, All, IfErr, IfOk, IsPermutation, IsTrue, OnOk, count_by, length, map};
 ghost use Rattle.mo_file.specs.Key.{AreRising};
 ghost use Rattle.po_compile.specs.Internal.Repeats.{EachApart, IsRepeatFault};
-ghost use Rattle.po_compile.specs.Internal.Rows.{AreSorted, AreSortedRows, HasOneHeader, counts_of};
-ghost use Rattle.po_compile.specs.declared.row.Row.{Row as RowSeen};
+ghost use Rattle.po_compile.specs.Internal.Rows.{AreSorted, AreSortedRows, HasOneHeader, counts_of, row_key, with_counted};
 
-use crate::collecting::Collected;
+use crate::collecting::{Collected, Status};
 use crate::repeats::{check_each, check_joined};
 use crate::row::{Row, compare};
 use crate::rows::joined_rows;
@@ -23,7 +22,7 @@ fn sort_rows(rows: &mut Vec<Row<'_>>)
 
 /// Whether the key of each row is above that of the row before it.
 fn are_rising(rows: &[Row<'_>]) -> bool
-    ensures { IsTrue result ↔ AreRising (map (λ (r : RowSeen). r.key.now) rows.now) }
+    ensures { IsTrue result ↔ AreRising (map row_key rows.now) }
 {
     rows.is_sorted_by(|a, b| compare(a, b).is_lt())
 }
@@ -59,13 +58,29 @@ pub(crate) fn sorted_rows(alloc: Global, inputs: &[Collected]) -> Result<Vec<Row
     unreachable!()
 }
 
+/// Counts a message.
+fn count(stats: &mut Stats, status: Status)
+    requires translated { stats.old.translated < 2 ^ 64 - 1 }
+    requires fuzzy { stats.old.fuzzy < 2 ^ 64 - 1 }
+    requires untranslated { stats.old.untranslated < 2 ^ 64 - 1 }
+    ensures { stats.new ≡ with_counted stats.old status }
+{
+    stats.translated += u64::from(status.translated);
+    stats.fuzzy += u64::from(status.fuzzy);
+    stats.untranslated += u64::from(status.untranslated);
+}
+
 /// How many messages are translated, fuzzy and untranslated.
 pub(crate) fn statistics_of(rows: &[Row<'_>]) -> Stats
     ensures { result ≡ counts_of rows.now }
 {
-    Stats {
-        translated: rows.iter().filter(|row| row.status.translated).count() as u64,
-        fuzzy: rows.iter().filter(|row| row.status.fuzzy).count() as u64,
-        untranslated: rows.iter().filter(|row| row.status.untranslated).count() as u64,
+    let mut stats = Stats {
+        translated: 0,
+        fuzzy: 0,
+        untranslated: 0,
+    };
+    for row in rows {
+        count(&mut stats, row.lengths.status);
     }
+    stats
 }

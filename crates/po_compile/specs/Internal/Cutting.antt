@@ -20,10 +20,14 @@ lengths_of use_fuzzy entry = record {
   status = status_of use_fuzzy entry;
 }
 
+-- the key of the message of these lengths, with which the bytes begin
+abbrev pub first_key : Lengths → List ℕ → List ℕ
+first_key l bytes = take l.key (take l.original bytes)
+
 -- the message of these lengths, with which the bytes begin
 abbrev pub first_message : Lengths → List ℕ → LiveMessage
 first_message l bytes = record {
-  key = take l.key (take l.original bytes);
+  key = first_key l bytes;
   message = record { original = take l.original bytes; translation = take l.translation (drop l.original bytes) };
   line = l.line;
   status = l.status;

@@ -1,7 +1,7 @@
 -- The rows of several inputs that are compiled, in the order of their joined list and sorted (manual,
 -- "Invoking the msgfmt Program": several input files).
 use Rattle.std.specs.Prelude.{ℕ, ◌+◌, ◌≤◌, ◌==◌, Bool, false, not, ◌&&◌, ◌||◌, List, [], ◌∷◌, ◌++◌, map, filter, length}
-use Rattle.std.specs.Prelude.{◌≢◌, AllPairs, IsPermutation, count_by}
+use Rattle.std.specs.Prelude.{◌≢◌, AllPairs, IsPermutation, count_by, if◌then◌else◌}
 use Rattle.std.specs.List.{list_any}
 use Rattle.std.specs.List.Sorted.{IsSortedBy}
 use Rattle.std.specs.Ordering.{is_lt}
@@ -11,6 +11,8 @@ use Rattle.po_messages.specs.Joined.{InputEntry}
 use Rattle.po_messages.specs.declared.stats.Stats.{Stats}
 use Rattle.po_compile.specs.Collected.{LiveMessage, live_message}
 use Rattle.po_compile.specs.CompiledInputs.{CompiledView}
+use Rattle.po_compile.specs.Internal.Cutting.{first_message}
+use Rattle.po_compile.specs.declared.collecting.Status.{Status}
 use Rattle.po_compile.specs.declared.row.Row.{Row}
 
 -- the message of a live entry of one of several inputs
@@ -26,12 +28,10 @@ input_message use_fuzzy e = in_input_message e.input (live_message use_fuzzy e.e
 
 -- what contracts see of a row
 abbrev pub row_view : Row → InputMessage
-row_view row = in_input_message row.input (record {
-  key = row.key.now;
-  message = record { original = row.original.now; translation = row.translation.now };
-  line = row.line;
-  status = row.status;
-})
+row_view row = in_input_message row.input (first_message row.lengths.now row.message.now)
+
+abbrev pub row_key : Row → List ℕ
+row_key row = (row_view row).message.key
 
 -- the message is that of a header
 abbrev pub has_no_key : LiveMessage → Bool
@@ -72,19 +72,27 @@ view_of_message m = record { input = m.input; line = m.message.line; message = m
 
 -- no row has a key below that of a row before it
 abbrev pub AreSorted : List Row → Type 0
-AreSorted rows = IsSortedBy (λ a b. is_lt (key_cmp a.key.now b.key.now)) rows
+AreSorted rows = IsSortedBy (λ a b. is_lt (key_cmp (row_key a) (row_key b))) rows
 
 -- the rows are those of the joined list, in rising order of their keys
 pub record AreSortedRows (inputs : List (List LiveMessage)) (rows : List Row) : Type 0 where
   pub all : IsPermutation (all_messages inputs) (map row_view rows)
-  pub rising : AreRising (map (λ (r : Row). r.key.now) rows)
+  pub rising : AreRising (map row_key rows)
 
 -- how many of the messages count as translated, fuzzy and untranslated
 abbrev pub counts_of : List Row → Stats
 counts_of rows = record {
-  translated = count_by (λ (r : Row). r.status.translated) rows;
-  fuzzy = count_by (λ (r : Row). r.status.fuzzy) rows;
-  untranslated = count_by (λ (r : Row). r.status.untranslated) rows;
+  translated = count_by (λ (r : Row). r.lengths.now.status.translated) rows;
+  fuzzy = count_by (λ (r : Row). r.lengths.now.status.fuzzy) rows;
+  untranslated = count_by (λ (r : Row). r.lengths.now.status.untranslated) rows;
+}
+
+-- these counts, and one more where a message of this status counts
+abbrev pub with_counted : Stats → Status → Stats
+with_counted stats status = record {
+  translated = stats.translated + (if status.translated then 1 else 0);
+  fuzzy = stats.fuzzy + (if status.fuzzy then 1 else 0);
+  untranslated = stats.untranslated + (if status.untranslated then 1 else 0);
 }
 
 -- an input has one header at most

@@ -1,4 +1,4 @@
-use Rattle.std.proofs.Common.{◌++◌, ◌∷◌, [], ap, sym, ◌∙◌, List, filter, map}
+use Rattle.std.proofs.Common.{◌++◌, ◌∷◌, [], ap, ap₂, sym, ◌∙◌, ℕ, List, filter, map}
 use Rattle.std.proofs.lemmas.List.{map-append, take_all}
 use Rattle.po_compile.specs.CompiledInputs.{compiled_view}
 use Rattle.po_compile.specs.Internal.Rows.{InputMessage, all_messages, row_view, view_of_message}
@@ -19,6 +19,12 @@ loop-row-preserved c =
       | then-row+in_ok-push w ↦
           ap (λ v. map compiled_view v.items) w.messages-is ∙ ap (map compiled_view) w.in_ok-push.ensures.items
           ∙ map-append compiled_view c.loop-row.messages.items _
+          ∙ ap₂ (λ (original translation : List ℕ). map compiled_view c.loop-row.messages.items ++ record {
+            input = row.input;
+            line = row.lengths.now.line;
+            message = record { original = original; translation = translation };
+          } ∷ [])
+          w.original.ensures w.translation.ensures
           ∙ ap (λ l. l ++ view_of_message (row_view row) ∷ []) c.loop-row.invariant
           ∙ sym (one_kept view_of_message rows i row inside here w.if-row.true)
       | else-row w ↦

@@ -1,6 +1,7 @@
 use Rattle.std.proofs.Common.{◌≡◌, sym, ◌∙◌}
 use Rattle.std.specs.declared.cmp.Ordering.TheVariants.{Equal}
 use Rattle.std.proofs.lemmas.Cmp.{ranked}
+use Rattle.po_compile.specs.Internal.Rows.{row_key}
 use Rattle.po_compile.proofs.PrefixLemmas.{prefix_decides, second_decides}
 use Rattle.po_compile.proofs.row.compare.Goals as goal
 
@@ -8,7 +9,7 @@ pub returns-in_default : goal.returns-in_default
 returns-in_default c =
     let a = c.args.a.now in
     let b = c.args.b.now in
-    prefix_decides a.prefix b.prefix a.key.now b.key.now a.first b.first a.bytes b.bytes c.cmp.result c.cmp.ensures
+    prefix_decides a.prefix b.prefix (row_key a) (row_key b) a.first b.first a.bytes b.bytes c.cmp.result c.cmp.ensures
     c.in_default.not-Equal
 
 pub returns-in_default-cmp : goal.returns-in_default-cmp
@@ -16,6 +17,6 @@ returns-in_default-cmp c =
     let a = c.args.a.now in
     let b = c.args.b.now in
     let tie : a.prefix ≡ b.prefix = ranked a.prefix b.prefix Equal c.in-Equal.ensures in
-    second_decides a.second_prefix b.second_prefix a.key.now b.key.now a.next b.next
+    second_decides a.second_prefix b.second_prefix (row_key a) (row_key b) a.next b.next
     (sym a.first ∙ tie ∙ b.first) a.bytes b.bytes c.cmp-in-Equal.result c.cmp-in-Equal.ensures
     c.in_default-cmp.not-Equal

@@ -1,8 +1,8 @@
-use Rattle.std.proofs.Common.{◌++◌, ◌∷◌, [], ◌∙◌, ap, sym}
+use Rattle.std.proofs.Common.{ℕ, List, ◌++◌, ◌∷◌, [], ◌∙◌, ap, ap₂, sym}
 use Rattle.std.proofs.lemmas.List.{map-append}
 use Rattle.mo_file.specs.Pairs.{borrowed_message, messages_of_borrowed}
 use Rattle.po_compile.proofs.CompiledRows.{one_kept, one_omitted}
-use Rattle.po_compile.specs.Internal.Rows.{InputMessage}
+use Rattle.po_compile.specs.Internal.Rows.{InputMessage, row_view}
 use Rattle.po_compile.proofs.rows.compiled_pairs.Goals as goal
 use Rattle.po_compile.proofs.rows.compiled_pairs.Goals.{then-row+in_ok-push, else-row}
 
@@ -17,8 +17,10 @@ loop-row-preserved c =
       | then-row+in_ok-push w ↦
           ap (λ v. messages_of_borrowed v.items) w.pairs-is ∙ ap messages_of_borrowed w.in_ok-push.ensures.items
           ∙ map-append borrowed_message c.loop-row.pairs.items _
-          ∙ ap (λ l. l ++ record { original = row.original.now; translation = row.translation.now } ∷ [])
-          c.loop-row.invariant
+          ∙ ap₂ (λ (original translation : List ℕ). messages_of_borrowed c.loop-row.pairs.items
+          ++ record { original = original; translation = translation } ∷ [])
+          w.original.ensures w.translation.ensures
+          ∙ ap (λ l. l ++ (row_view row).message.message ∷ []) c.loop-row.invariant
           ∙ sym (one_kept (λ (m : InputMessage). m.message.message) rows i row inside here w.if-row.true)
       | else-row w ↦
           ap (λ v. messages_of_borrowed v.items) w.pairs-is ∙ c.loop-row.invariant
