@@ -12,7 +12,7 @@ ghost use Rattle.po_merge.specs.Merged.{IsMergeFault, merged_messages};
 ghost use Rattle.po_merge.specs.MergedEntry.{merged_entry};
 ghost use Rattle.msgcat.specs.Internal.Entries.{AreRows, IsRow};
 ghost use Rattle.msgcat.specs.Internal.Inputs.{HoldInputs};
-ghost use Rattle.msgcat.specs.Internal.MergedText.{AreInOrder, AreReadBack, AreWritten, IsTextOfMerged};
+ghost use Rattle.msgcat.specs.Internal.MergedText.{AreInOrder, AreReadBack, AreWritten, IsGroupOf, IsTextOfMerged};
 
 use crate::entries::EntryRow;
 use crate::inputs::NumberedEntries;
@@ -119,6 +119,27 @@ fn push_definitions(
     Ok(parts.add(merged.entries())?)
 }
 
+/// Adds what the entries of one message are merged to, by their rows, if the message is kept.
+fn push_group(
+    alloc: Global,
+    parts: &mut TextParts,
+    text: &[u8],
+    options: &MergeOptions,
+    group: Vec<EntryRow<'_>>,
+) -> Result<(), PoError>
+    requires { (entries : List merge.NamedEntry) × IsGroupOf text.now entries group }
+    ensures pushed { OnOk result ((entries : List merge.NamedEntry) (before : List TextEntry)
+        → IsGroupOf text.now entries group.entry → AreWritten before parts.old
+        → AreWritten (before ++ merged_messages options.now (definitions entries ∷ [])) parts.new) }
+    ensures fault { IfErr result (λ error. (entries : List merge.NamedEntry) → IsGroupOf text.now entries group.entry
+        → IsMergeFault (merged_messages options.now (definitions entries ∷ [])) error) }
+{
+    match kept_definitions(group, options) {
+        Some(rows) => push_definitions(alloc, parts, text, options, &rows),
+        None => Ok(()),
+    }
+}
+
 /// The text of what inputs are merged to. Refused, without a line, with `ForeignCharset` for a
 /// header whose charset isn't admitted, and where an allocation failed.
 pub(crate) fn merged_text(
@@ -135,10 +156,7 @@ pub(crate) fn merged_text(
     let mut parts = TextParts::with_capacity(alloc, inputs.text.len())?;
     let groups = groups_of(alloc, &inputs.rows, &inputs.numbers, inputs.count)?;
     for group in groups {
-        let Some(rows) = kept_definitions(group, options) else {
-            continue;
-        };
-        push_definitions(alloc, &mut parts, &inputs.text, options, &rows)?;
+        push_group(alloc, &mut parts, &inputs.text, options, group)?;
     }
     Ok(parts.join()?)
 }

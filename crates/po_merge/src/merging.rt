@@ -153,6 +153,25 @@ pub fn merge_definitions(
     }
 }
 
+/// Adds what the entries of one message are merged to, if the message is kept.
+fn merge_group(
+    alloc: Global,
+    options: &MergeOptions,
+    group: Vec<NamedEntry<'_>>,
+    merged: &mut Catalogue,
+) -> Result<(), PoError>
+    requires { IsGroup (named_entries group.items) }
+    ensures merged { OnOk result (merged.new
+        ≡ merged.old ++ merged_messages options.now (definitions (named_entries group.entry.items) ∷ [])) }
+    ensures fault { IfErr result
+        (IsMergeFault (merged_messages options.now (definitions (named_entries group.entry.items) ∷ []))) }
+{
+    match kept_definitions(group, options) {
+        Some(definitions) => merge_definitions(alloc, options, &definitions, merged),
+        None => Ok(()),
+    }
+}
+
 /// What the entries of all messages that are kept are merged to.
 fn merge_groups(
     alloc: Global,
@@ -167,10 +186,7 @@ fn merge_groups(
 {
     let mut merged = Catalogue::new(alloc);
     for group in groups {
-        let Some(definitions) = kept_definitions(group, options) else {
-            continue;
-        };
-        merge_definitions(alloc, options, &definitions, &mut merged)?;
+        merge_group(alloc, options, group, &mut merged)?;
     }
     Ok(merged)
 }

@@ -1,5 +1,4 @@
-use Rattle.std.proofs.Common.{◌≢◌, rules, [], ◌++◌, ◌∷◌, ◌<◌, ◌∙◌, ℕ, List, ap, arith, drop, get_or, length, map, refl, subst, suc, sym, take}
-use Rattle.std.specs.Borrow.{Bor}
+use Rattle.std.proofs.Common.{◌≢◌, rules, [], ◌++◌, ◌∷◌, ◌<◌, ◌∙◌, ap, arith, drop, get_or, length, map, refl, subst, suc, sym, take}
 use Rattle.std.specs.List.{AllZip}
 use Rattle.std.proofs.Math.Seq.{drop-cons}
 use Rattle.std.proofs.lemmas.List.{length-map, take-append-drop}

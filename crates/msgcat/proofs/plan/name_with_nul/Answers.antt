@@ -1,6 +1,5 @@
-use Rattle.std.proofs.Common.{ℕ, List, [], ◌∷◌, ◌==◌, ap, get_or, refl, subst, sym, take, ◌∙◌}
+use Rattle.std.proofs.Common.{[], ◌∷◌, ◌==◌, ap, get_or, refl, subst, sym, take, ◌∙◌}
 use Rattle.std.specs.Prelude.{All}
-use Rattle.std.specs.Borrow.{Bor}
 use Rattle.std.specs.List.{list_any}
 use Rattle.std.proofs.lemmas.List.{map-append, take_all, take_more}
 use Rattle.std.proofs.lemmas.List.Elements.{All-push}
