@@ -54,8 +54,8 @@ pub fn compile(alloc: Global, text: &[u8], options: Options) -> Result<Compiled,
 }
 
 /// Compiles the joined list of inputs whose live entries are collected. Refused as `compile_all`
-/// refuses their texts. The file is written over what `room` holds, where that is long enough: the
-/// bytes of a text that was collected are.
+/// refuses their texts. The file is written over what `room` holds, where that is long enough, as
+/// the bytes of the only text mostly are, and else into new memory.
 pub fn compile_collected(
     alloc: Global,
     inputs: &[Collected],
