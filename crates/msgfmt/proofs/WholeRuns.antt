@@ -1,5 +1,5 @@
 -- What msgfmt does, by the way in which it ends.
-use Rattle.std.proofs.Common.{◌≡◌, ◌≢◌, ◌⊎◌, List, None, Some, Option, Result, Ok, Err, OnOk, option_map, refl, ap, inl, inr, ⊎_elim}
+use Rattle.std.proofs.Common.{◌≡◌, ◌≢◌, ◌⊎◌, List, None, Some, Option, option_map, refl, ap, inl, inr, ⊎_elim}
 use Rattle.runs.specs.declared.program_fault.ProgramFault.{ProgramFault}
 use Rattle.runs.specs.declared.program_fault.ProgramFault.TheVariants.{OutOfMemory, WrongArguments}
 use Rattle.runs.specs.NamedFile.{NamedFile}
@@ -16,11 +16,6 @@ planned inputs o run None whole refused right =
     ((λ wrong. right (⊎_elim (λ none. inl (none.0, refl)) (λ many. inr many) wrong)), whole refl)
 planned inputs o run (Some fault) whole refused right =
     ((λ wrong. right (⊎_elim (λ none. absurd cc) (λ many. inr many) wrong)), refused (λ same. cc))
-
--- what is so whatever is answered is so where a run is
-pub right_where_ok : {T E P : Type 0} (result : Result T E) → P → OnOk result P
-right_where_ok (Ok run) right = right
-right_where_ok (Err fault) right = tt
 
 -- arguments are wrong by what is read alone, and not by what is wrong with the next input
 wrong-texts : (inputs : List NamedFile) (next : Option ProgramFault) → AreWrong inputs next

@@ -1,5 +1,4 @@
 pub mod PreviousOrder
-pub mod Results
 pub mod Splits
 pub mod Loops
 pub mod Misfits

@@ -1,9 +1,8 @@
 use Rattle.std.proofs.Common.{◌++◌, ◌∙◌, ap, append-nil, arith, length, subst, sym}
-use Rattle.std.proofs.lemmas.Result.{on_ok_weaker}
+use Rattle.std.proofs.lemmas.Result.{on_ok_weaker, IfErr-weaker}
 use Rattle.po_merge.proofs.GroupsMerged.{definitions_some, kept_one}
 use Rattle.po_merge.specs.Groups.{definitions}
 use Rattle.po_merge.specs.Merged.{IsMergeFault}
-use Rattle.po_reader.proofs.Results.{err_step}
 use Rattle.msgcat.specs.Internal.Entries.{AreRows}
 use Rattle.msgcat.specs.Internal.MergedText.{AreWritten}
 use Rattle.msgcat.proofs.MergedLemmas.{definitions_in_order, rows_dropped, rows_kept}
@@ -46,7 +45,7 @@ returns-in-Some-clause-pushed c =
 
 pub returns-in-Some-clause-fault : goal.returns-in-Some-clause-fault
 returns-in-Some-clause-fault c =
-    err_step c.push_definitions.result
+    IfErr-weaker c.push_definitions.result _ _
     (λ error fault entries is.
     let o = c.args.options.now in
     let text = c.args.text.now in

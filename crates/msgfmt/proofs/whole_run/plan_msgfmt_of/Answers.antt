@@ -3,7 +3,7 @@ use Rattle.std.proofs.lemmas.List.{length-map}
 use Rattle.runs.specs.Inputs.{named_input}
 use Rattle.runs.specs.Run.{run_view}
 use Rattle.msgfmt.proofs.MsgfmtLemmas.{refused, taken}
-use Rattle.msgfmt.proofs.WholeRuns.{right_where_ok}
+use Rattle.po_syntax.proofs.Results.{ok_always}
 use Rattle.msgfmt.proofs.whole_run.plan_msgfmt_of.Goals as goal
 
 pub returns-then-run-eq0-clause-fault : goal.returns-then-run-eq0-clause-fault
@@ -22,7 +22,7 @@ pub returns-in_default-clause-right : goal.returns-in_default-clause-right
 returns-in_default-clause-right c =
     let inputs = c.args.inputs.texts.items in
     let count = length-map inputs named_input in
-    right_where_ok c.map_err.result (λ wrong. ⊎_elim
+    ok_always c.map_err.result (λ run wrong. ⊎_elim
     (λ none. let no_text : c.args.inputs.texts.len ≡ 0 =
     omega (arith, ap length none.0, count, c.args.inputs.texts.ok.0) in
     absurd (true≢false (sym (ap (λ n. n == 0) no_text) ∙ sym c.is_empty.ensures ∙ c.if-is_empty.false)))

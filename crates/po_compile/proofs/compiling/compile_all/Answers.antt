@@ -1,9 +1,9 @@
 use Rattle.std.proofs.Common.{ap, sym, subst, ℕ, List, length, arith}
 use Rattle.std.specs.Borrow.{Bor}
 use Rattle.std.proofs.lemmas.List.{length-map}
-use Rattle.std.proofs.lemmas.Result.{MatchResult-from_both}
+use Rattle.std.proofs.lemmas.Result.{MatchResult-from_both, IfOk-weaker, IfErr-weaker}
 use Rattle.po_entry.specs.TextEntry.{slice_texts}
-use Rattle.po_reader.proofs.Results.{ok_both, ok_step, err_step}
+use Rattle.po_syntax.proofs.Results.{ok_both}
 use Rattle.po_compile.specs.Accepted.{AreCompiled, IsCompileFault}
 use Rattle.po_compile.specs.CompiledInputs.{AreCollected}
 use Rattle.po_compile.proofs.InputLemmas.{collected_count}
@@ -27,10 +27,10 @@ returns-in-Ok-clause-exact c =
     let options = c.args.options in
     let of = subst (AreCollected options.use_fuzzy texts) (sym c.deref.ensures.value) c.in-Ok.ensures.found in
     MatchResult-from_both c.compile_collected.result (AreCompiled options texts) (IsCompileFault options texts)
-    (ok_step c.compile_collected.result
+    (IfOk-weaker c.compile_collected.result _ _
     (λ compiled found. let h = found texts of in
     record { catalogues = of.catalogues; read = h.0; is_compiled = h.1 }) c.compile_collected.ensures.found)
-    (err_step c.compile_collected.result (λ error fault. fault texts of) c.compile_collected.ensures.fault)
+    (IfErr-weaker c.compile_collected.result _ _ (λ error fault. fault texts of) c.compile_collected.ensures.fault)
 
 pub returns-in-Ok-clause-statistics : goal.returns-in-Ok-clause-statistics
 returns-in-Ok-clause-statistics c =

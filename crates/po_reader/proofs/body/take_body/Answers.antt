@@ -5,7 +5,7 @@ use Rattle.po_entry.specs.Comments.{flags_of, fuzzy_of, is_fuzzy_flag, with_flag
 use Rattle.po_entry.specs.TextEntry.{TextEntry, optional_text, slice_texts, texts}
 use Rattle.po_reader.specs.Internal.Stage.{with_own, with_context, with_text, no_lines}
 use Rattle.po_reader.specs.Internal.Turn.{with_keyword}
-use Rattle.po_reader.proofs.Results.{passed_on}
+use Rattle.po_syntax.proofs.Results.{passed_on}
 use Rattle.po_reader.proofs.SeenFlags.{list_any-slices}
 use Rattle.po_reader.proofs.Turns.{fails_from, id_wanted}
 use Rattle.po_reader.proofs.body.take_body.Goals as goal

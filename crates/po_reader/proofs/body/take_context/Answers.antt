@@ -1,7 +1,7 @@
 use Rattle.std.proofs.Common.{◌∙◌}
 use Rattle.po_syntax.specs.declared.item.Keyword.TheVariants.{MsgCtxt}
 use Rattle.po_reader.specs.Internal.Stage.{with_own, no_lines}
-use Rattle.po_reader.proofs.Results.{passed_on}
+use Rattle.po_syntax.proofs.Results.{passed_on}
 use Rattle.po_reader.proofs.Turns.{fails_from, context_begins, id_begins}
 use Rattle.po_reader.proofs.body.take_context.Goals as goal
 

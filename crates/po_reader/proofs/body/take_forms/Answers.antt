@@ -2,7 +2,7 @@ use Rattle.std.proofs.Common.{sym, ◌∙◌, arith}
 use Rattle.std.proofs.lemmas.List.{map_push}
 use Rattle.po_entry.specs.TextEntry.{texts}
 use Rattle.po_reader.specs.Internal.Stage.{with_forms}
-use Rattle.po_reader.proofs.Results.{passed_on}
+use Rattle.po_syntax.proofs.Results.{passed_on}
 use Rattle.po_reader.proofs.Turns.{fails_from, form_follows, form_wanted, forms_end}
 use Rattle.po_reader.proofs.body.take_forms.Goals as goal
 

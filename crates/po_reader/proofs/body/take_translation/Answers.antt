@@ -1,7 +1,7 @@
 use Rattle.std.proofs.Common.{◌∙◌}
 use Rattle.po_syntax.specs.declared.item.Keyword.TheVariants.{MsgIdPlural}
 use Rattle.po_reader.specs.Internal.Stage.{with_own, with_text}
-use Rattle.po_reader.proofs.Results.{passed_on}
+use Rattle.po_syntax.proofs.Results.{passed_on}
 use Rattle.po_reader.proofs.Turns.{fails_from, single_wanted}
 use Rattle.po_reader.proofs.body.take_translation.Goals as goal
 

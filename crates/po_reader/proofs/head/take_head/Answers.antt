@@ -4,7 +4,7 @@ use Rattle.po_entry.specs.EntryParts.{CommentText, PreviousText}
 use Rattle.po_reader.specs.Internal.Stage.{after_head, Between, In, InHead}
 use Rattle.po_reader.specs.Internal.Reads.{comes}
 use Rattle.po_reader.specs.KeptComments.{kept_comments}
-use Rattle.po_reader.proofs.Results.{passed_on}
+use Rattle.po_syntax.proofs.Results.{passed_on}
 use Rattle.po_reader.proofs.Heads.{holds_previous, kept_nothing}
 use Rattle.po_reader.proofs.Turns.{fails_from, first_refused, out_of_order, previous_closed, taken}
 use Rattle.po_reader.proofs.head.take_head.Goals as goal

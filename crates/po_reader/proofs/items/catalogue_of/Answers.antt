@@ -2,7 +2,7 @@ use Rattle.std.proofs.Common.{inl, inr}
 use Rattle.std.proofs.lemmas.List.Elements.{All-map}
 use Rattle.po_entry.specs.EntryView.{entry_view}
 use Rattle.po_entry.specs.Validity.{HasTexts, IsEntry}
-use Rattle.po_reader.proofs.Results.{passed_on}
+use Rattle.po_syntax.proofs.Results.{passed_on}
 use Rattle.po_reader.proofs.Texts.{texts_reported}
 use Rattle.po_reader.proofs.items.catalogue_of.Goals as goal
 

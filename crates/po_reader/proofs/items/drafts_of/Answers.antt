@@ -4,7 +4,7 @@ use Rattle.po_entry.specs.TextEntry.{TextEntry}
 use Rattle.po_entry.specs.Spelling.{with_head}
 use Rattle.po_reader.specs.KeptComments.{kept_comments, kept_entry}
 use Rattle.po_reader.specs.Internal.Stage.{after_head}
-use Rattle.po_reader.proofs.Results.{passed_on}
+use Rattle.po_syntax.proofs.Results.{passed_on}
 use Rattle.po_reader.proofs.Heads.{kept_from}
 use Rattle.po_reader.proofs.Turns.{fails_from, head_over, own_lines_begin}
 use Rattle.po_reader.proofs.items.drafts_of.Goals as goal

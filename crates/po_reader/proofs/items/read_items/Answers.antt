@@ -8,7 +8,8 @@ use Rattle.po_reader.proofs.Faults.{items_fault}
 use Rattle.po_entry.specs.Faults.ItemsStop.{in_items, in_texts, in_charset}
 use Rattle.po_reader.proofs.SoundCatalogue.{kept_sound, kept_texts, kept_admitted, kept_stop, texts_one, admitted_one, whole_fault, whole_foreign, SoundEntry, entries_sound, drafts_hold, drafts_utf8, drafts_valid}
 use Rattle.po_reader.specs.Internal.Reads.{ChecksStop}
-use Rattle.po_reader.proofs.Results.{ok_both, ok_step, err_step, passed_on}
+use Rattle.std.proofs.lemmas.Result.{IfOk-weaker, IfErr-weaker}
+use Rattle.po_syntax.proofs.Results.{ok_both, passed_on}
 use Rattle.po_reader.proofs.items.read_items.Goals as goal
 
 pub returns-in_err-drafts-clause-fault : goal.returns-in_err-drafts-clause-fault
@@ -42,10 +43,10 @@ catalogue_of-requires-clause-entries c =
 pub returns-clause-found : goal.returns-clause-found
 returns-clause-found c =
     let spelt = rw c.deref.ensures.value at c.in_ok-drafts.ensures.found in
-    let texts = ok_step c.catalogue_of.result
+    let texts = IfOk-weaker c.catalogue_of.result _ _
     (λ _ asked. kept_texts c.args.with_comments spelt.0 (subst (All HasTexts) spelt.2 asked))
     c.catalogue_of.ensures.texts in
-    let admitted = ok_step c.catalogue_of.result
+    let admitted = IfOk-weaker c.catalogue_of.result _ _
     (λ _ charsets. kept_admitted c.args.with_comments spelt.0 (subst (All HasAdmittedCharset) spelt.2 charsets))
     c.catalogue_of.ensures.charsets in
     ok_both c.catalogue_of.result
@@ -60,7 +61,7 @@ returns-clause-fault c =
     let spelt = rw c.deref.ensures.value at c.in_ok-drafts.ensures.found in
     let whole = whole_spelt _ _ _ spelt.1 in
     let kept = c.args.with_comments in
-    err_step c.catalogue_of.result (λ e h other.
+    IfErr-weaker c.catalogue_of.result _ _ (λ e h other.
     elim (subst (λ (es : List TextEntry). ChecksStop es e.kind e.line) spelt.2 (h other)) [
       | inl stops ↦ in_texts whole (kept_stop kept (texts_one kept) (whole_fault kept) spelt.0 stops)
       | inr (texts, stops) ↦ in_charset whole (kept_texts kept spelt.0 texts)

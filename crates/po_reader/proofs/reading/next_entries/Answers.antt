@@ -2,7 +2,8 @@ use Rattle.std.proofs.Common.{arith}
 use Rattle.po_reader.specs.PieceRead.IsLeftFault.{in_items, in_text}
 use Rattle.po_reader.specs.PieceRead.ReadsPiece.{all, piece}
 use Rattle.po_reader.proofs.PieceReading.{faults_over, items_kept, piece_faults}
-use Rattle.po_reader.proofs.Results.{err_both, ok_always, ok_step, passed_on}
+use Rattle.std.proofs.lemmas.Result.{IfOk-weaker}
+use Rattle.po_syntax.proofs.Results.{err_both, ok_always, passed_on}
 use Rattle.po_reader.proofs.reading.next_entries.Goals as goal
 
 pub returns-in_err-items-clause-fault : goal.returns-in_err-items-clause-fault
@@ -43,7 +44,7 @@ pub returns-in_ok-items-in_default-clause-found : goal.returns-in_ok-items-in_de
 returns-in_ok-items-in_default-clause-found c =
     let law = c.pieces_are_cut_off.ensures in
     let piece = rw c.copy-start.ensures at c.in_ok-items-in_default.ensures.piece in
-    ok_step c.read_items-in_default.result
+    IfOk-weaker c.read_items-in_default.result _ _
     (λ kept h. items_kept c.args.with_comments _ _ _ kept (λ more. law.spelt _ _ _ _ more piece)
     (law.ends _ _ _ _ piece) h) c.read_items-in_default.ensures.found
 

@@ -1,7 +1,7 @@
 use Rattle.std.proofs.Common.{subst, sym}
 use Rattle.po_entry.specs.Faults.IsReadFault.{in_text}
 use Rattle.po_reader.specs.PieceRead.{IsReadSoFar}
-use Rattle.po_reader.proofs.Results.{passed_on}
+use Rattle.po_syntax.proofs.Results.{passed_on}
 use Rattle.po_reader.proofs.PieceReading.{read_all, read_more, read_none}
 use Rattle.po_reader.proofs.reading.read.Goals as goal
 

@@ -1,15 +1,11 @@
-use Rattle.std.proofs.Common.{◌≡◌, [], arith, Result, Ok, Err, IfOk}
+use Rattle.std.proofs.Common.{◌≡◌, [], arith, IfOk}
 use Rattle.std.proofs.lemmas.List.{length-map}
 use Rattle.std.proofs.lemmas.Result.{IfOk-weaker, IfErr-weaker, err_from_is_err_and}
 use Rattle.po_syntax.specs.TextItem.{view, views}
 use Rattle.po_syntax.proofs.Lines.{items-few}
 use Rattle.po_syntax.proofs.PieceLemmas.{piece_all}
+use Rattle.po_syntax.proofs.Results.{ok_both}
 use Rattle.po_syntax.proofs.pieces.items.Goals as goal
-
-ok_both : {T E : Type 0} {P Q R : T → Type 0} (r : Result T E) → ((y : T) → P y → Q y → R y) → IfOk r P → IfOk r Q
-    → IfOk r R
-ok_both (Ok y) f p q = f y p q
-ok_both (Err e) f p q = tt
 
 pub returns-in_err-pieces-clause-fault : goal.returns-in_err-pieces-clause-fault
 returns-in_err-pieces-clause-fault c =

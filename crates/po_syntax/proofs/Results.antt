@@ -8,14 +8,6 @@ pub ok_both : {T E : Type 0} {P Q R : T → Type 0} (r : Result T E) → ((y : T
 ok_both (Ok y) f p q = f y p q
 ok_both (Err e) f p q = tt
 
-pub err_step : {T E : Type 0} {P Q : E → Type 0} (r : Result T E) → ((e : E) → P e → Q e) → IfErr r P → IfErr r Q
-err_step (Ok y) f p = tt
-err_step (Err e) f p = f e p
-
-pub ok_step : {T E : Type 0} {P Q : T → Type 0} (r : Result T E) → ((y : T) → P y → Q y) → IfOk r P → IfOk r Q
-ok_step (Ok y) f p = f y p
-ok_step (Err e) f p = tt
-
 pub ok_always : {T E : Type 0} {P : T → Type 0} (r : Result T E) → ((y : T) → P y) → IfOk r P
 ok_always (Ok y) f = f y
 ok_always (Err e) f = tt
