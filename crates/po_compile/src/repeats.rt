@@ -1,11 +1,11 @@
 //! Messages that repeat an earlier one, looked for in the order of the texts.
 
-ghost use Rattle.std.specs.Prelude.{◌≡◌, ◌⊎◌, ◌<◌, ◌^◌, IfErr, IfOk, OnOk, length, map};
+ghost use Rattle.std.specs.Prelude.{◌≡◌, ◌⊎◌, ◌<◌, ◌^◌, IfErr, IfOk, MatchOption, OnOk, length, map};
 ghost use Rattle.po_messages.specs.Duplicate.{join_out_of_memory};
 ghost use Rattle.po_messages.specs.FirstOnes.{group_numbers};
 ghost use Rattle.po_messages.specs.Message.{same_message};
 ghost use Rattle.po_compile.specs.Accepted.{fault_of_input};
-ghost use Rattle.po_compile.specs.Internal.Repeats.{EachApart, IsRepeat, IsRepeatInInput, key_message, repeat_fault};
+ghost use Rattle.po_compile.specs.Internal.Repeats.{AreOwn, EachApart, IsFirstOther, IsRepeat, IsRepeatInInput, key_message, repeat_fault};
 ghost use Rattle.po_compile.specs.Internal.Rows.{AllApart, all_messages, input_keys, row_view};
 
 use crate::collecting::Collected;
@@ -49,6 +49,19 @@ fn row_fault(first: &Row<'_>, later: &Row<'_>) -> JoinError
     }
 }
 
+/// The first index that isn't its own number, behind that number.
+fn first_repeat(numbers: &[usize]) -> Option<(usize, usize)>
+    ensures { MatchOption result (AreOwn numbers.now (length numbers.now))
+        (λ at. IsFirstOther numbers.now at.0 at.1) }
+{
+    for (later, first) in numbers.iter().enumerate() {
+        if *first != later {
+            return Some((*first, later));
+        }
+    }
+    None
+}
+
 /// Whether no message of the joined list of the inputs repeats another. Refused with the fault of
 /// `joined_duplicates`; and where an allocation failed. The first row that has the key of an
 /// earlier one is the first whose number isn't its index.
@@ -60,14 +73,9 @@ pub(crate) fn check_joined(alloc: Global, inputs: &[Collected]) -> Result<(), Jo
     messages_are_numbered_in_order();
     one_number_is_one_message();
     let numbers = key_numbers(alloc, inputs)?;
-    let mut later = 0;
-    while later < numbers.len() && numbers[later] == later {
-        later += 1;
-    }
-    if later == numbers.len() {
+    let Some((first, later)) = first_repeat(&numbers) else {
         return Ok(());
-    }
-    let first = numbers[later];
+    };
     drop(numbers);
     let rows = joined_rows(alloc, inputs)?;
     Err(row_fault(&rows[first], &rows[later]))

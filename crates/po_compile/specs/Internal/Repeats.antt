@@ -1,5 +1,5 @@
 -- Messages that repeat earlier ones (manual, "The Format of PO Files").
-use Rattle.std.specs.Prelude.{◌≡◌, ◌⊎◌, ◌<◌, ℕ, List, [], All, map, length, take, get_or, None}
+use Rattle.std.specs.Prelude.{◌≡◌, ◌≢◌, ◌⊎◌, ◌<◌, ℕ, List, [], All, map, length, take, get_or, None}
 use Rattle.po_messages.specs.Duplicate.{join_out_of_memory}
 use Rattle.po_messages.specs.Message.{Message}
 use Rattle.po_messages.specs.Repeats.{IsFirstRepeat}
@@ -13,6 +13,17 @@ use Rattle.po_compile.specs.Internal.Rows.{message_keys}
 -- a key as that of a message without a context
 abbrev pub key_message : List ℕ → Message
 key_message key = record { context = None; id = key }
+
+-- each index before this one is its own number
+abbrev pub AreOwn : List ℕ → ℕ → Type 0
+AreOwn numbers n = (i : ℕ) → i < n → get_or numbers i 0 ≡ i
+
+-- the first index that isn't its own number
+pub record IsFirstOther (numbers : List ℕ) (number index : ℕ) : Type 0 where
+  pub inside : index < length numbers
+  pub number_is : number ≡ get_or numbers index 0
+  pub other : number ≢ index
+  pub before : AreOwn numbers index
 
 -- two messages have one key
 abbrev pub HaveOneKey : InputMessage → InputMessage → Type 0
