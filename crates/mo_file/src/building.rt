@@ -56,14 +56,13 @@ pub fn build(alloc: Global, order: Order, pairs: &[Pair]) -> Result<Vec<u8>, Bui
     if !are_rising(pairs) {
         return Err(BuildError::NotSorted);
     }
-    Ok(laid_out(alloc, Vec::new(alloc), order, pairs, len)?)
+    Ok(laid_out(Vec::new(alloc), order, pairs, len)?)
 }
 
 /// The MO file of pairs whose keys rise, as [`build`] lays it out. It doesn't check the keys again,
-/// and reads each string once. It is written over what `room` holds, where that is long enough, and
-/// else into new memory.
+/// and reads each string once. It is written over what `room` holds, which gets longer where that
+/// is too short.
 pub fn build_sorted(
-    alloc: Global,
     room: Vec<u8>,
     order: Order,
     pairs: &[BorrowedPair<'_>],
@@ -74,7 +73,7 @@ pub fn build_sorted(
     ensures fault { IfErr result (IsBuildFault order (messages_of_borrowed pairs.now)) }
 {
     let len = file_len(pairs)?;
-    Ok(laid_out(alloc, room, order, pairs, len)?)
+    Ok(laid_out(room, order, pairs, len)?)
 }
 
 /// The length of the file in either byte order. Refused where 32 bits don't reach its end.
@@ -96,10 +95,8 @@ pub fn file_len<P: StringPair>(pairs: &[P]) -> Result<u32, BuildError>
     Ok(len as u32)
 }
 
-/// The file of pairs whose layout has this length, in the memory of `room` where that is long
-/// enough.
+/// The file of pairs whose layout has this length, in the memory of `room`.
 fn laid_out<P: StringPair>(
-    alloc: Global,
     room: Vec<u8>,
     order: Order,
     pairs: &[P],
@@ -108,14 +105,8 @@ fn laid_out<P: StringPair>(
     requires { len ≡ length (layout order (map P.message pairs.now)) }
     ensures { IfOk result (λ bytes. bytes.items ≡ layout order (map P.message pairs.now)) }
 {
-    let len = len as usize;
-    let mut file = if room.len() < len {
-        drop(room);
-        Vec::from_elem(alloc, 0, len)?
-    } else {
-        room
-    };
-    file.truncate(len);
+    let mut file = room;
+    file.resize(len as usize, 0)?;
     lay_out(order, &mut file, pairs);
     Ok(file)
 }

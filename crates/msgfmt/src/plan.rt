@@ -125,7 +125,7 @@ fn collected_run(
 }
 
 /// The run of inputs of which this is gathered. The compiled file is written over what `room`
-/// holds, where that is long enough.
+/// holds.
 pub(crate) fn gathered_run(
     alloc: Global,
     gathered: Gathered<'_>,

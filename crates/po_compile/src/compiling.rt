@@ -54,8 +54,8 @@ pub fn compile(alloc: Global, text: &[u8], options: Options) -> Result<Compiled,
 }
 
 /// Compiles the joined list of inputs whose live entries are collected. Refused as `compile_all`
-/// refuses their texts. The file is written over what `room` holds, where that is long enough, as
-/// the bytes of the only text mostly are, and else into new memory.
+/// refuses their texts. The file is written over what `room` holds, as the bytes of a text, and the
+/// room gets longer where that is too short.
 pub fn compile_collected(
     alloc: Global,
     inputs: &[Collected],
@@ -78,7 +78,7 @@ pub fn compile_collected(
     drop(rows);
     layout_is_mo_file();
     messages_mean_entries();
-    match build_sorted(alloc, room, options.order, &pairs) {
+    match build_sorted(room, options.order, &pairs) {
         Ok(bytes) => Ok(Compiled {
             bytes,
             n: count as u32,
