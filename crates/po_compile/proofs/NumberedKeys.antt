@@ -6,7 +6,7 @@ use Rattle.std.proofs.lemmas.Simd.{map-map}
 use Rattle.po_messages.specs.FirstOnes.{first_ones, group_numbers, with_new}
 use Rattle.po_messages.specs.Message.{Message, same_message}
 use Rattle.po_compile.specs.Collected.{LiveMessage}
-use Rattle.po_compile.specs.Internal.Repeats.{HaveOneKey, key_message}
+use Rattle.po_compile.specs.Internal.Repeats.{AreOwn, HaveOneKey, key_message}
 use Rattle.po_messages.specs.Repeats.{IsFirstRepeat}
 use Rattle.po_messages.specs.Facts.FirstRepeats.{pairs_of_map}
 use Rattle.po_compile.specs.Internal.Rows.{AllApart, InputMessage, all_messages, in_input_message, input_keys, is_joined, message_keys}
@@ -81,11 +81,7 @@ module _ (alike : OneNumber) (in_order : NumberedInOrder) (messages : List Input
             (told.1 (message_at i in_i ∙ ap key_message same ∙ sym (message_at j in_j))),
       )
 
-  -- each key before an index has its index as its number
-  abbrev pub AreOwn : ℕ → Type 0
-  AreOwn n = (i : ℕ) → i < n → get_or numbers i 0 ≡ i
-
-  pub own_apart : (n : ℕ) → n ≤ length keys → AreOwn n → AllApart (take n keys)
+  pub own_apart : (n : ℕ) → n ≤ length keys → AreOwn numbers n → AllApart (take n keys)
   own_apart n most own i j d below inside same =
       let within : j < n = omega (arith, inside, length-take n keys) in
       let at : (k : ℕ) → k < n → get_or (take n keys) k d ≡ get_or keys k [] =
@@ -104,9 +100,9 @@ module _ (alike : OneNumber) (in_order : NumberedInOrder) (messages : List Input
         get_or_default numbers n d 0 (omega (arith, inside, numbers_long)),
       )
 
-  pub repeat_found : (n : ℕ) → n < length keys → get_or numbers n 0 < n → AreOwn n → (first later : InputMessage)
-      → first ≡ get_or messages (get_or numbers n 0) first → later ≡ get_or messages n later
-      → IsFirstRepeat HaveOneKey messages first later
+  pub repeat_found : (n : ℕ) → n < length keys → get_or numbers n 0 < n → AreOwn numbers n
+      → (first later : InputMessage) → first ≡ get_or messages (get_or numbers n 0) first
+      → later ≡ get_or messages n later → IsFirstRepeat HaveOneKey messages first later
   repeat_found n inside below own first later first_is later_is =
       let k = get_or numbers n 0 in
       let key : InputMessage → List ℕ = λ m. m.message.key in
