@@ -95,11 +95,12 @@ fn read_catalogue<S: InputSource>(
     let Ok(name) = str::from_utf8(path) else {
         return Ok(None);
     };
-    let bytes = match source.read_file(alloc, name) {
-        Ok(bytes) => bytes,
+    let mut bytes = Vec::new(alloc);
+    match source.read_file(&mut bytes, name) {
+        Ok(()) => {}
         Err(InputFault::OutOfMemory) => return Err(AllocError),
         Err(InputFault::CannotOpen | InputFault::ReadFault) => return Ok(None),
-    };
+    }
     let path = String::from_str(alloc, name)?;
     Ok(Some(CatalogueFile { path, bytes }))
 }

@@ -14,5 +14,5 @@ mod plan;
 mod whole_run;
 
 pub use options::merge_options_of;
-pub use plan::{plan_msgcat, plan_msgcat_before, plan_msgcat_of};
-pub use whole_run::run;
+pub use plan::{plan_msgcat, plan_msgcat_before};
+pub use whole_run::{plan_msgcat_of, run};

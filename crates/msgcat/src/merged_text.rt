@@ -10,6 +10,7 @@ ghost use Rattle.po_merge.specs.Inputs as merge;
 ghost use Rattle.po_merge.specs.InputsView.{named_entries};
 ghost use Rattle.po_merge.specs.Merged.{IsMergeFault, merged_messages};
 ghost use Rattle.po_merge.specs.MergedEntry.{merged_entry};
+ghost use Rattle.po_writer.specs.TextParts.{AreParts};
 ghost use Rattle.msgcat.specs.Internal.Entries.{AreRows, IsRow};
 ghost use Rattle.msgcat.specs.Internal.Inputs.{HoldInputs};
 ghost use Rattle.msgcat.specs.Internal.MergedText.{AreInOrder, AreReadBack, AreWritten, IsGroupOf, IsTextOfMerged};
@@ -33,6 +34,20 @@ fn part_of(text: &[u8], start: usize, len: usize) -> &[u8]
     let (_, rest) = split_at_most(text, start);
     let (own, _) = split_at_most(rest, len);
     own
+}
+
+/// The parts of no entries, with room for so many bytes of live ones: these are written over what
+/// `room` holds.
+fn parts_over(alloc: Global, room: Vec<u8>, len: usize) -> Result<TextParts, AllocError>
+    ensures { IfOk result (AreParts []) }
+{
+    let mut live = room;
+    live.clear();
+    live.reserve(len)?;
+    Ok(TextParts {
+        live,
+        obsolete: Vec::new(alloc),
+    })
 }
 
 /// Adds the text of an entry, with the empty line before it.
@@ -140,10 +155,11 @@ fn push_group(
     }
 }
 
-/// The text of what inputs are merged to. Refused, without a line, with `ForeignCharset` for a
-/// header whose charset isn't admitted, and where an allocation failed.
+/// The text of what inputs are merged to, written over what `room` holds. Refused, without a line,
+/// with `ForeignCharset` for a header whose charset isn't admitted, and where an allocation failed.
 pub(crate) fn merged_text(
     alloc: Global,
+    room: Vec<u8>,
     inputs: &NumberedEntries<'_>,
     options: &MergeOptions,
 ) -> Result<Vec<u8>, PoError>
@@ -153,7 +169,7 @@ pub(crate) fn merged_text(
         (IsMergeFault (merged_messages options.now (map definitions (groups entries)))) }
 {
     groups_are_numbered();
-    let mut parts = TextParts::with_capacity(alloc, inputs.text.len())?;
+    let mut parts = parts_over(alloc, room, inputs.text.len())?;
     let groups = groups_of(alloc, &inputs.rows, &inputs.numbers, inputs.count)?;
     for group in groups {
         push_group(alloc, &mut parts, &inputs.text, options, group)?;

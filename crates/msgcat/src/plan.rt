@@ -3,18 +3,27 @@
 ghost use Rattle.std.specs.Prelude.{◌≡◌, ◌≢◌, ◌⊎◌, All, Err, IfErr, IfOk, IfSome, List, MatchOption, None, OnErr, Some, []};
 ghost use Rattle.po_entry.specs.Bytes.{Lacks};
 ghost use Rattle.po_merge.specs.Inputs.{Named};
+ghost use Rattle.msgcat.specs.Internal.Gathered.{IsGathered};
 ghost use Rattle.msgcat.specs.Msgcat.{AreReadAs, HasNulName, IsMsgcatRun, IsUnread, first_name};
-ghost use Rattle.runs.specs.NamedFile.{named_files};
+ghost use Rattle.runs.specs.NamedFile.{NamedFile, named_files};
 ghost use Rattle.runs.specs.ProgramFaults.{program_text};
 ghost use Rattle.runs.specs.Run.{run_view};
 
-use crate::inputs::read_inputs;
+use crate::inputs::{FileFault, NumberedEntries, read_inputs};
 use crate::merged_text::merged_text;
 use memchr::memchr;
 use po_merge::MergeOptions;
 use runs::{ProgramFault, Run, ToolFault};
-use std::alloc::Global;
+use std::alloc::{AllocError, Global};
 use text_runs::{refused_text, text_run};
+
+/// The name of the first input, and the entries of all, or why one isn't read. The run of the
+/// inputs needs no more of them.
+#[derive(Drop)]
+pub(crate) struct Gathered<'a> {
+    first: &'a str,
+    entries: Result<NumberedEntries<'a>, FileFault<'a>>,
+}
 
 /// The name of the first file.
 fn first_name<'a>(files: &[(&'a str, &[u8])]) -> &'a str
@@ -23,6 +32,39 @@ fn first_name<'a>(files: &[(&'a str, &[u8])]) -> &'a str
     match files {
         [(name, _), ..] => name,
         [] => "",
+    }
+}
+
+/// Gathers what the run of inputs needs of them.
+pub(crate) fn gather<'a>(alloc: Global, inputs: &[(&'a str, &[u8])]) -> Gathered<'a>
+    requires { All (λ file. Lacks 0 file.name) (named_files inputs.now) }
+    ensures { IsGathered (named_files inputs.now) result }
+{
+    Gathered {
+        first: first_name(inputs),
+        entries: read_inputs(alloc, inputs),
+    }
+}
+
+/// The run of inputs of which this is gathered. The text is written over what `room` holds.
+pub(crate) fn gathered_run(
+    alloc: Global,
+    gathered: Gathered<'_>,
+    room: Vec<u8>,
+    options: &MergeOptions,
+) -> Result<Run, AllocError>
+    requires { (files : List NamedFile) × IsGathered files gathered }
+    ensures { IfOk result (λ run. (files : List NamedFile) → IsGathered files gathered.entry
+        → IsMsgcatRun files options.now (run_view run)) }
+{
+    let Gathered { first, entries } = gathered;
+    let entries = match entries {
+        Ok(entries) => entries,
+        Err(fault) => return refused_text(alloc, "msgcat", fault.name, fault.error),
+    };
+    match merged_text(alloc, room, &entries, options) {
+        Ok(output) => Ok(text_run(alloc, output)),
+        Err(error) => refused_text(alloc, "msgcat", first, error),
     }
 }
 
@@ -39,14 +81,8 @@ pub fn plan_msgcat(
     ensures run { IfOk result (λ run. IsMsgcatRun (named_files inputs.now) options.now (run_view run)) }
     ensures memory { OnErr result (result ≡ Err ToolFault.OutOfMemory) }
 {
-    let read = match read_inputs(alloc, inputs) {
-        Ok(read) => read,
-        Err(fault) => return Ok(refused_text(alloc, "msgcat", fault.name, fault.error)?),
-    };
-    match merged_text(alloc, &read, options) {
-        Ok(output) => Ok(text_run(alloc, output)),
-        Err(error) => Ok(refused_text(alloc, "msgcat", first_name(inputs), error)?),
-    }
+    let gathered = gather(alloc, inputs);
+    Ok(gathered_run(alloc, gathered, Vec::new(alloc), options)?)
 }
 
 /// What `msgcat` comes to where the input after these can't be read: the refusal of these, or,
@@ -75,37 +111,8 @@ pub fn plan_msgcat_before<'a>(
     }
 }
 
-/// What `msgcat` comes to with the inputs that a command line names, each with its name, and the
-/// fault of the one after them that can't be read: the plan of all of them, or, where one can't be
-/// read, what `plan_msgcat_before` says of those before it. A file whose name holds NUL can't be
-/// opened.
-pub fn plan_msgcat_of<'a>(
-    alloc: Global,
-    texts: &[(&'a str, &[u8])],
-    fault: Option<ProgramFault<'a>>,
-    options: &MergeOptions,
-) -> Result<Run, ProgramFault<'a>>
-    ensures whole { fault.entry ≡ None
-        → IfOk result (λ run. IsMsgcatRun (named_files texts.now) options.now (run_view run)) }
-    ensures refused { fault.entry ≢ None → IfOk result (λ run. IsUnread (named_files texts.now) (run_view run)) }
-    ensures fault { IfErr result (λ reported. (reported ≡ ProgramFault.OutOfMemory)
-        ⊎ (HasNulName (named_files texts.now) (program_text reported))
-        ⊎ ((fault.entry ≡ Some reported) × ((read : List Named) × AreReadAs (named_files texts.now) read))) }
-
-    // An input that can't be read is told where there is none before it.
-    ensures first { named_files texts.now ≡ [] → IfSome fault.entry (λ fault. result ≡ Err fault) }
-{
-    if let Some(name) = name_with_nul(texts) {
-        return Err(ProgramFault::CannotOpen(name));
-    }
-    match fault {
-        Some(fault) => plan_msgcat_before(alloc, texts, fault),
-        None => plan_msgcat(alloc, texts, options).map_err(|_| ProgramFault::OutOfMemory),
-    }
-}
-
 /// The first name that holds NUL, so that no file can have it.
-fn name_with_nul<'a>(files: &[(&'a str, &[u8])]) -> Option<&'a str>
+pub(crate) fn name_with_nul<'a>(files: &[(&'a str, &[u8])]) -> Option<&'a str>
     ensures { MatchOption result (All (λ file. Lacks 0 file.name) (named_files files.now))
         (λ name. HasNulName (named_files files.now) (program_text (ProgramFault.CannotOpen name))) }
 {

@@ -12,30 +12,20 @@ use crate::plan::{gather, gathered_run};
 use runs::{ByteOut, InputSource, Inputs, OutputFiles, OutputSystem, ProgramFault, Run};
 use std::alloc::{AllocError, Global};
 
-/// What was read of the last input: memory for what is compiled.
-fn last_bytes(alloc: Global, inputs: Inputs<'_>) -> Vec<u8> {
-    let Inputs { mut texts, .. } = inputs;
-    match texts.pop() {
-        Some(input) => input.bytes,
-        None => Vec::new(alloc),
-    }
-}
-
-/// What `msgfmt` writes and reports of the inputs that were read, as `plan_msgfmt` says it. Their
-/// memory is free again before they are compiled, and the last input's is written over.
+/// What `msgfmt` writes and reports of the inputs that were read, as `plan_msgfmt` says it. The
+/// compiled file is written over their bytes.
 fn plan_inputs(
     alloc: Global,
     inputs: Inputs<'_>,
     options: &MsgfmtOptions,
 ) -> Result<Run, AllocError>
     requires { length inputs.texts.items < 2 ^ 32 }
-    ensures { IfOk result (λ run. IsMsgfmtRun (named_inputs inputs.entry.texts.items) options.now (run_view run)) }
+    ensures { IfOk result (λ run. IsMsgfmtRun (named_inputs inputs.entry) options.now (run_view run)) }
 {
     let borrowed = inputs.borrowed(alloc)?;
     let gathered = gather(alloc, &borrowed, options.use_fuzzy)?;
     drop(borrowed);
-    let room = last_bytes(alloc, inputs);
-    gathered_run(alloc, gathered, room, options)
+    gathered_run(alloc, gathered, inputs.bytes, options)
 }
 
 /// What `msgfmt` comes to with the inputs that a command line names, each with its name, and the
@@ -50,16 +40,16 @@ pub fn plan_msgfmt_of<'a>(
     options: &MsgfmtOptions,
 ) -> Result<Run, ProgramFault<'a>>
     ensures whole { inputs.entry.fault ≡ None
-        → IfOk result (λ run. IsMsgfmtRun (named_inputs inputs.entry.texts.items) options.now (run_view run)) }
+        → IfOk result (λ run. IsMsgfmtRun (named_inputs inputs.entry) options.now (run_view run)) }
     ensures refused { inputs.entry.fault ≢ None
-        → IfOk result (λ run. IsRefused (named_inputs inputs.entry.texts.items) options.now (run_view run)) }
-    ensures right { OnOk result (AreWrong (named_inputs inputs.entry.texts.items) inputs.entry.fault → ⊥) }
+        → IfOk result (λ run. IsRefused (named_inputs inputs.entry) options.now (run_view run)) }
+    ensures right { OnOk result (AreWrong (named_inputs inputs.entry) inputs.entry.fault → ⊥) }
     ensures fault { IfErr result (λ reported. (reported ≡ ProgramFault.OutOfMemory)
-        ⊎ ((reported ≡ ProgramFault.WrongArguments) × AreWrong (named_inputs inputs.entry.texts.items) inputs.entry.fault)
-        ⊎ ((inputs.entry.fault ≡ Some reported) × NoneRefused (named_inputs inputs.entry.texts.items) options.now)) }
+        ⊎ ((reported ≡ ProgramFault.WrongArguments) × AreWrong (named_inputs inputs.entry) inputs.entry.fault)
+        ⊎ ((inputs.entry.fault ≡ Some reported) × NoneRefused (named_inputs inputs.entry) options.now)) }
 
     // An input that can't be read is told where there is none before it.
-    ensures first { named_inputs inputs.entry.texts.items ≡ []
+    ensures first { named_inputs inputs.entry ≡ []
         → IfSome inputs.entry.fault (λ fault. result ≡ Err fault) }
 {
     let fault = inputs.fault;

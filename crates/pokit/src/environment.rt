@@ -51,8 +51,9 @@ impl<'r, R: Env + Files> EntrySource for System<'r, R> {
 
 /// The entries of the environment by the file that has them all, or `None` where it can't be read.
 fn all_entries(alloc: Global, rt: &impl Files) -> Result<Option<Vec<Vec<u8>>>, AllocError> {
-    match read_named(alloc, rt, ENTRIES_FILE) {
-        Ok(bytes) => {
+    let mut bytes = Vec::new(alloc);
+    match read_named(rt, &mut bytes, ENTRIES_FILE) {
+        Ok(()) => {
             let entries = bytes
                 .split(|byte| *byte == 0)
                 .map(|entry| Vec::from_slice(alloc, entry))

@@ -1,4 +1,6 @@
 //! Inputs by their names, and outputs.
+ghost use Rattle.std.specs.Prelude.{◌≡◌, take, vec_len};
+
 use runs::{
     Counted, FileKind, InputFault, InputSource, MakeFault, OutputFault, OutputFiles, Owner, Rights,
     read_whole,
@@ -33,28 +35,26 @@ impl<'r, R: Files + Input> InputSource for System<'r, R> {
 
     ghost refused = { λ _. ⊥ };
 
-    fn read_file(&mut self, alloc: Global, name: &str) -> Result<Vec<u8>, InputFault> {
-        read_named(alloc, self.0, name)
+    fn read_file(&mut self, bytes: &mut Vec<u8>, name: &str) -> Result<(), InputFault> {
+        read_named(self.0, bytes, name)
     }
 
-    fn read_standard(&mut self, alloc: Global) -> Result<Vec<u8>, InputFault> {
-        read_whole(alloc, &mut Counted::new(self.0.reader()), UNKNOWN_LEN)
+    fn read_standard(&mut self, bytes: &mut Vec<u8>) -> Result<(), InputFault> {
+        read_whole(&mut Counted::new(self.0.reader()), bytes, UNKNOWN_LEN)
     }
 }
 
-/// The bytes of the file of this name.
-pub(crate) fn read_named(
-    alloc: Global,
-    rt: &impl Files,
-    name: &str,
-) -> Result<Vec<u8>, InputFault> {
+/// Appends the bytes of the file of this name.
+pub(crate) fn read_named(rt: &impl Files, bytes: &mut Vec<u8>, name: &str) -> Result<(), InputFault>
+    ensures { take (vec_len bytes.old) bytes.new.items ≡ bytes.old.items }
+{
     let Ok(file) = fs::open(rt, name) else {
         return Err(InputFault::CannotOpen);
     };
     let expected_len = file
         .metadata()
         .map_or(UNKNOWN_LEN, |metadata| metadata.len());
-    read_whole(alloc, &mut Counted::new(file), expected_len)
+    read_whole(&mut Counted::new(file), bytes, expected_len)
 }
 
 /// A file that is open to be written, or a standard stream.
@@ -225,7 +225,9 @@ fn append_to(rt: &HostRuntime, number: u32) -> Option<File> {
 /// What the system tells of a descriptor.
 fn info_of(rt: &HostRuntime, number: u32) -> Option<Vec<u8>> {
     let path = format!(in rt.alloc(); "/proc/self/fdinfo/{number}").ok()?;
-    read_named(rt.alloc(), rt, &path).ok()
+    let mut info = Vec::new(rt.alloc());
+    read_named(rt, &mut info, &path).ok()?;
+    Some(info)
 }
 
 /// Whether a descriptor is open to be written, by what the system tells of it: the last digit of

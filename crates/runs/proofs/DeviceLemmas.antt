@@ -1,6 +1,6 @@
 -- Lemmas on what writers and readers do piece by piece.
 use Rattle.std.proofs.Common.{◌≡◌, ℕ, zero, suc, ◌+◌, ◌-◌, ◌<◌, ◌≤◌, List, [], ◌++◌, length, take, drop, Option, Some, None, IfSome, Result, Ok, Err, OnErr, sym, ap, subst, ◌∙◌, refl, ◌∷◌, append-nil, arith, length-take-le}
-use Rattle.std.proofs.lemmas.List.{append_assoc, take_rest, take_all, take_at}
+use Rattle.std.proofs.lemmas.List.{append_assoc, drop-take, take-take, take_rest, take_all, take_at}
 use Rattle.std.proofs.Math.Seq.{take-add}
 use Rattle.std.proofs.KnownBytes.{Appends-trans, Consumes-trans}
 use Rattle.runs.specs.Device.{Gives, GivesFirst}
@@ -36,6 +36,16 @@ pub filled-more : (a b c : Option (List ℕ)) (n k : ℕ) (xs ys : List ℕ) →
 filled-more a b c n k xs ys before front next =
     subst (Consumes a c) (sym (take-add n k ys ∙ ap (λ l. l ++ take k (drop n ys)) front))
     (Consumes-trans a b c _ _ before next)
+
+-- what stands after the first s bytes is as it was, where it is as far as there
+pub front-after : (s n : ℕ) (xs ys : List ℕ) → take (s + n) ys ≡ take (s + n) xs
+    → take n (drop s ys) ≡ take n (drop s xs)
+front-after s n xs ys front = sym (drop-take s n ys) ∙ ap (drop s) front ∙ drop-take s n xs
+
+-- and so is what stands before
+pub front-before : (s n : ℕ) (xs ys : List ℕ) → take (s + n) ys ≡ take (s + n) xs → take s ys ≡ take s xs
+front-before s n xs ys front =
+    sym (take-take s (s + n) ys (omega arith)) ∙ ap (take s) front ∙ take-take s (s + n) xs (omega arith)
 
 -- the first n bytes were filled, and the reader has no more
 pub filled-end : (limit : ℕ) (a b c : Option (List ℕ)) (n k : ℕ) (xs ys : List ℕ) → Consumes a b (take n xs)

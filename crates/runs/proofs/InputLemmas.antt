@@ -1,21 +1,55 @@
 -- The arguments that are left to read, and what they add to the inputs before.
-use Rattle.std.proofs.Common.{◌∙◌, sym, ◌≡◌, ◌≤◌, ◌<◌, ◌+◌, ◌||◌, ℕ, Bool, false, List, [], ◌∷◌, ◌++◌, Option, None, Some, refl, take, drop, take-append-drop, get_or, map, length, ap, subst, append_assoc, append-nil, drop_of_length-le, arith}
-use Rattle.std.proofs.lemmas.List.{drop_more, map-append, take-map, take_more}
+use Rattle.std.proofs.Common.{◌∙◌, sym, ◌≡◌, ◌≤◌, ◌<◌, ◌+◌, ◌||◌, ℕ, Bool, false, List, [], ◌∷◌, ◌++◌, Option, None, Some, refl, take, drop, take-append-drop, get_or, map, length, ap, subst, append_assoc, append-nil, drop_of_length-le, arith, ◌-◌}
+use Rattle.std.proofs.lemmas.List.{drop-append-le, drop_more, length-drop, map-append, take-append-le, take-map, take_more}
+use Rattle.std.proofs.Math.Seq.{take-length}
+use Rattle.std.proofs.lemmas.List.Sums.{sum_by-append}
+use Rattle.std.specs.List.{sum_by}
 use Rattle.std.specs.Borrow.{Bor}
 use Rattle.runs.specs.declared.inputs.Input.{Input}
 use Rattle.runs.specs.declared.inputs.InputFault.{InputFault}
-use Rattle.runs.specs.Inputs.{AreInputs, Asked, Asks, AsksFirst, ReadsAs, Reading, asked_arguments, asked_by, asked_for, gives, refuses, done, read, unread, input_fault_text, named_input, named_inputs}
+use Rattle.runs.specs.Inputs.{AreInputs, Asked, Asks, AsksFirst, ReadsAs, Reading, asked_arguments, asked_by, asked_for, gives, refuses, done, read, unread, input_fault_text, inputs_in}
 use Rattle.runs.specs.NamedFile.{NamedFile}
 use Rattle.runs.specs.Run.{is_standard, shown_name}
 
 abbrev pub arguments_now : List (Bor (List ℕ)) → List (List ℕ)
 arguments_now arguments = map (λ argument. argument.now) arguments
 
--- one more input stands after those before
-pub named-more : (texts : List Input) (input : Input) (name : List ℕ) → input.name.now ≡ name
-    → named_inputs (texts ++ input ∷ []) ≡ named_inputs texts ++ record { name = name; bytes = input.bytes.items } ∷ []
-named-more [] input name is = rw is refl
-named-more (text ∷ texts) input name is = ap (λ list. named_input text ∷ list) (named-more texts input name is)
+-- more inputs stand after those before, with their bytes after those of these
+pub inputs-append : (bytes more : List ℕ) (texts next : List Input)
+    → sum_by (λ input. input.len) texts ≡ length bytes
+    → inputs_in (bytes ++ more) (texts ++ next) ≡ inputs_in bytes texts ++ inputs_in more next
+inputs-append [] more [] next all = refl
+inputs-append (b ∷ bytes) more [] next all = absurd (omega (arith, all))
+inputs-append bytes more (text ∷ texts) next all =
+    let sum = sum_by-append (λ input. input.len) (text ∷ []) texts in
+    let fits : text.len ≤ length bytes = omega (arith, all, sum) in
+    rw (take-append-le text.len bytes more fits, drop-append-le text.len bytes more fits)
+    (ap (λ list. record { name = text.name.now; bytes = take text.len bytes } ∷ list)
+    (inputs-append (drop text.len bytes) more texts next (omega (arith, all, sum, length-drop text.len bytes))))
+
+-- one more input stands after those before: what was read after the first n bytes
+pub inputs-more : (n : ℕ) (before after : List ℕ) (texts : List Input) (input : Input) (name : List ℕ)
+    → n ≡ length before → take n after ≡ before → sum_by (λ input. input.len) texts ≡ n
+    → input.name.now ≡ name → input.len ≡ length after - n
+    → inputs_in after (texts ++ input ∷ []) ≡ inputs_in before texts ++ record { name = name; bytes = drop n after }
+    ∷ []
+inputs-more n before after texts input name count kept all is len =
+    let read = drop n after in
+    let after_is : after ≡ before ++ read = sym (take-append-drop n after) ∙ ap (λ l. l ++ read) kept in
+    ap (λ l. inputs_in l (texts ++ input ∷ [])) after_is
+    ∙ inputs-append before read texts (input ∷ []) (all ∙ count)
+    ∙ ap (λ bytes. inputs_in before texts ++ record { name = input.name.now; bytes = bytes } ∷ [])
+    (ap (λ m. take m read) (len ∙ sym (length-drop n after)) ∙ take-length read)
+    ∙ ap (λ name. inputs_in before texts ++ record { name = name; bytes = read } ∷ []) is
+
+-- the inputs before one that can't be read are what they were
+pub inputs-before : (n : ℕ) (before after : List ℕ) (texts : List Input) → n ≡ length before → take n after ≡ before
+    → sum_by (λ input. input.len) texts ≡ n → inputs_in after texts ≡ inputs_in before texts
+inputs-before n before after texts count kept all =
+    ap (inputs_in after) (sym (append-nil texts))
+    ∙ ap (λ l. inputs_in l (texts ++ [])) (sym (take-append-drop n after) ∙ ap (λ l. l ++ drop n after) kept)
+    ∙ inputs-append before (drop n after) texts [] (all ∙ count)
+    ∙ append-nil (inputs_in before texts)
 
 -- the next argument stands before those that are left
 pub next-argument : (arguments : List (Bor (List ℕ))) (i : ℕ) (d : Bor (List ℕ)) → i < length arguments

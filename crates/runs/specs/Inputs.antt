@@ -1,8 +1,9 @@
 -- What the tools read: the inputs that the command line names, in order, up to the first that can't
 -- be read (manual, "Invoking the msgfmt Program": "If input file is `-`, standard input is read").
-use Rattle.std.specs.Prelude.{◌≡◌, ◌+◌, ◌++◌, ◌∷◌, ◌||◌, ℕ, Bool, true, false, List, [], length, map, take, Option}
+use Rattle.std.specs.Prelude.{◌≡◌, ◌+◌, ◌++◌, ◌∷◌, ◌||◌, ℕ, Bool, true, false, List, [], drop, length, take, Option}
 use Rattle.std.specs.Prelude.{Some, None, codes}
 use Rattle.runs.specs.declared.inputs.Input.{Input}
+use Rattle.runs.specs.declared.inputs.Inputs.{Inputs}
 use Rattle.runs.specs.declared.inputs.InputFault.{InputFault}
 use Rattle.runs.specs.declared.inputs.InputFault.TheVariants.{CannotOpen, ReadFault, OutOfMemory}
 use Rattle.runs.specs.NamedFile.{NamedFile}
@@ -82,9 +83,12 @@ abbrev pub asked_arguments : List (List ℕ) → List NamedFile → Option (List
 asked_arguments arguments inputs None = take (length inputs) arguments
 asked_arguments arguments inputs (Some fault) = take (length inputs + 1) arguments
 
--- what contracts see of an input
-abbrev pub named_input : Input → NamedFile
-named_input input = record { name = input.name.now; bytes = input.bytes.items }
+-- the inputs whose bytes stand one after the other in these
+abbrev pub inputs_in : List ℕ → List Input → List NamedFile
+inputs_in bytes [] = []
+inputs_in bytes (input ∷ inputs) =
+    record { name = input.name.now; bytes = take input.len bytes } ∷ inputs_in (drop input.len bytes) inputs
 
-abbrev pub named_inputs : List Input → List NamedFile
-named_inputs inputs = map named_input inputs
+-- what contracts see of inputs
+abbrev pub named_inputs : Inputs → List NamedFile
+named_inputs inputs = inputs_in inputs.bytes.items inputs.texts.items

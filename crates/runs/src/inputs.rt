@@ -1,5 +1,5 @@
 //! The inputs of a tool, read in the order of the command line.
-ghost use Rattle.std.specs.Prelude.{◌≡◌, ◌≢◌, ◌↔◌, ◌⊎◌, ◌^◌, ◌+◌, ◌<◌, ◌≤◌, ◌∷◌, [], take, Err, IfErr, IfSome, IsErrOf, IsOk, OnErr, OnOk, map, option_map, false, true, None, Some, MatchResult, IfOk};
+ghost use Rattle.std.specs.Prelude.{◌≡◌, ◌≢◌, ◌↔◌, ◌⊎◌, ◌^◌, ◌+◌, ◌<◌, ◌≤◌, ◌∷◌, [], drop, take, vec_len, Err, IfErr, IfSome, IsErrOf, IsOk, OnErr, OnOk, map, option_map, false, true, None, Some, MatchResult, IfOk};
 ghost use Rattle.runs.specs.Inputs.{AreInputs, Asks, AsksFirst, IsInputFault, ReadsAs, asked_arguments, asked_by, asked_for, gives, refuses, named_inputs, input_fault_text};
 ghost use Rattle.runs.specs.NamedFile.{named_files};
 ghost use Rattle.runs.specs.ProgramFaults.{program_text};
@@ -22,7 +22,7 @@ pub enum InputFault {
 
 /// Where inputs are read from: the files of a system, and its standard input.
 pub trait InputSource {
-    ghost use Rattle.std.specs.Prelude.{ℕ, List, Option};
+    ghost use Rattle.std.specs.Prelude.{ℕ, List, Option, drop, take, vec_len};
     ghost use Rattle.runs.specs.Inputs.{Asked, Asks, Reading, gives, refuses, file_of, standard_input};
 
     // What reading the file of a name may come to.
@@ -37,17 +37,22 @@ pub trait InputSource {
     // The input that it was asked for last can't be opened or read.
     ghost refused: { Self → Type 0 };
 
-    /// The bytes of the file of this name.
-    fn read_file(&mut self, alloc: Global, name: &str) -> Result<Vec<u8>, InputFault>
-        ensures reading { MatchResult result (λ bytes. file name.now (gives bytes.items))
+    /// Appends the bytes of the file of this name. Where they can't all be read, some of them may
+    /// be appended.
+    fn read_file(&mut self, bytes: &mut Vec<u8>, name: &str) -> Result<(), InputFault>
+        ensures before { take (vec_len bytes.old) bytes.new.items ≡ bytes.old.items }
+        ensures reading { MatchResult result
+            (λ _. file name.now (gives (drop (vec_len bytes.old) bytes.new.items)))
             (λ why. (why ≡ InputFault.OutOfMemory) ⊎ file name.now (refuses why)) }
         ensures asked { Asks (asked self.old) (asked self.new) (file_of name.now ∷ []) }
         ensures refused { MatchResult result (λ _. refused self.new → ⊥)
             (λ why. why ≡ InputFault.OutOfMemory → refused self.new → ⊥) };
 
-    /// The bytes of standard input.
-    fn read_standard(&mut self, alloc: Global) -> Result<Vec<u8>, InputFault>
-        ensures reading { MatchResult result (λ bytes. standard (gives bytes.items))
+    /// Appends the bytes of standard input, as `read_file` does.
+    fn read_standard(&mut self, bytes: &mut Vec<u8>) -> Result<(), InputFault>
+        ensures before { take (vec_len bytes.old) bytes.new.items ≡ bytes.old.items }
+        ensures reading { MatchResult result
+            (λ _. standard (gives (drop (vec_len bytes.old) bytes.new.items)))
             (λ why. (why ≡ InputFault.OutOfMemory) ⊎ standard (refuses why)) }
         ensures asked { Asks (asked self.old) (asked self.new) (standard_input ∷ []) }
         ensures refused { MatchResult result (λ _. refused self.new → ⊥)
@@ -59,13 +64,15 @@ pub trait InputSource {
 pub struct Input<'a> {
     /// The name: that of a file, or `<stdin>`.
     pub name: &'a str,
-    /// What was read.
-    pub bytes: Vec<u8>,
+    /// How many bytes were read.
+    pub len: usize,
 }
 
 /// The inputs that a command line names, up to the first that can't be read.
 #[derive(Drop)]
 pub struct Inputs<'a> {
+    /// What was read: the bytes of each input after those of the inputs before it.
+    pub bytes: Vec<u8>,
     /// Each input that was read, in order.
     pub texts: Vec<Input<'a>>,
     /// Why the next one can't be read, where one can't.
@@ -82,7 +89,7 @@ impl<'a> Inputs<'a> {
         arguments: &[&'a str],
     ) -> Result<Inputs<'a>, AllocError>
         ensures inputs { IfOk result (λ inputs. AreInputs S.file S.standard false
-            (map (λ argument. argument.now) arguments.now) (named_inputs inputs.texts.items)
+            (map (λ argument. argument.now) arguments.now) (named_inputs inputs)
             (option_map program_text inputs.fault)) }
 
         // Each is asked for in its turn, and standard input once at most.
@@ -92,40 +99,52 @@ impl<'a> Inputs<'a> {
         // One is asked for only after all before it were read.
         ensures asked_read { IfOk result (λ inputs. Asks (S.asked source.old) (S.asked source.new)
             (asked_by false (asked_arguments (map (λ argument. argument.now) arguments.now)
-            (named_inputs inputs.texts.items) (option_map program_text inputs.fault)))) }
+            (named_inputs inputs) (option_map program_text inputs.fault)))) }
 
         // What can't be read isn't told as out of memory.
         ensures fault { IfOk result (λ inputs. inputs.fault ≢ Some ProgramFault.OutOfMemory) }
         ensures memory { OnErr result (S.refused source.new → ⊥) }
     {
+        let mut bytes = Vec::new(alloc);
         let mut texts = Vec::new(alloc);
         let mut is_stdin_read = false;
         for argument in arguments {
             let name = shown_name(argument);
             let is_standard = *argument == STANDARD;
-            match read_argument(alloc, source, argument, is_stdin_read) {
-                Ok(bytes) => texts.push(Input { name, bytes })?,
-                Err(why) => {
-                    if why == InputFault::OutOfMemory {
-                        return Err(AllocError);
-                    }
-                    let fault = Some(fault_of(name, why));
-                    return Ok(Inputs { texts, fault });
+            let start = bytes.len();
+            if let Err(why) = read_argument(source, &mut bytes, argument, is_stdin_read) {
+                if why == InputFault::OutOfMemory {
+                    return Err(AllocError);
                 }
+                let fault = Some(fault_of(name, why));
+                return Ok(Inputs {
+                    bytes,
+                    texts,
+                    fault,
+                });
             }
+            let len = bytes.len() - start;
+            texts.push(Input { name, len })?;
             is_stdin_read = is_stdin_read || is_standard;
         }
-        Ok(Inputs { texts, fault: None })
+        Ok(Inputs {
+            bytes,
+            texts,
+            fault: None,
+        })
     }
 
     /// The inputs that were read, borrowed.
     pub fn borrowed<'s>(&'s self, alloc: Global) -> Result<Vec<(&'a str, &'s [u8])>, AllocError>
-        ensures files { IfOk result (λ borrowed. named_files borrowed.items ≡ named_inputs self.now.texts.items) }
+        ensures files { IfOk result (λ borrowed. named_files borrowed.items ≡ named_inputs self.now) }
         ensures none { self.now.texts.items ≡ [] → IsOk result }
     {
         let mut borrowed = Vec::with_capacity(alloc, self.texts.len())?;
+        let mut left = self.bytes.as_slice();
         for input in &self.texts {
-            borrowed.push((input.name, input.bytes.as_slice()))?;
+            let (bytes, rest) = left.split_at(input.len.min(left.len()));
+            borrowed.push((input.name, bytes))?;
+            left = rest;
         }
         Ok(borrowed)
     }
@@ -149,21 +168,24 @@ pub fn read_one<'a, S: InputSource>(
     ensures read { OnOk result (S.refused source.new → ⊥) }
     ensures memory { IsErrOf result ProgramFault.OutOfMemory → S.refused source.new → ⊥ }
 {
-    match read_argument(alloc, source, argument, false) {
-        Ok(bytes) => Ok(bytes),
+    let mut bytes = Vec::new(alloc);
+    match read_argument(source, &mut bytes, argument, false) {
+        Ok(()) => Ok(bytes),
         Err(why) => Err(fault_of(shown_name(argument), why)),
     }
 }
 
-/// Reads what one argument stands for.
+/// Appends what one argument stands for.
 fn read_argument<S: InputSource>(
-    alloc: Global,
     source: &mut S,
+    bytes: &mut Vec<u8>,
     argument: &str,
     is_stdin_read: bool,
-) -> Result<Vec<u8>, InputFault>
+) -> Result<(), InputFault>
+    ensures before { take (vec_len bytes.old) bytes.new.items ≡ bytes.old.items }
     ensures reading { MatchResult result
-        (λ bytes. ReadsAs S.file S.standard argument.now (is_standard argument.now) is_stdin_read (gives bytes.items))
+        (λ _. ReadsAs S.file S.standard argument.now (is_standard argument.now) is_stdin_read
+        (gives (drop (vec_len bytes.old) bytes.new.items)))
         (λ why. (why ≡ InputFault.OutOfMemory)
         ⊎ ReadsAs S.file S.standard argument.now (is_standard argument.now) is_stdin_read (refuses why)) }
     ensures asked { Asks (S.asked source.old) (S.asked source.new)
@@ -173,11 +195,11 @@ fn read_argument<S: InputSource>(
         (λ why. why ≡ InputFault.OutOfMemory → S.refused source.new → ⊥) }
 {
     if argument != STANDARD {
-        source.read_file(alloc, argument)
+        source.read_file(bytes, argument)
     } else if is_stdin_read {
-        Ok(Vec::new(alloc))
+        Ok(())
     } else {
-        source.read_standard(alloc)
+        source.read_standard(bytes)
     }
 }
 

@@ -37,27 +37,31 @@ pub fn read_input<R: ByteIn>(alloc: Global, reader: &mut R) -> Result<Vec<u8>, T
     // Each call but the last gave a byte at least, so that none comes after the end.
     ensures end { IfOk result (λ v. R.calls reader.new ≤ R.calls reader.old + vec_len v + 1) }
 {
-    match read_whole(alloc, reader, 0) {
-        Ok(input) => Ok(input),
+    let mut input = Vec::new(alloc);
+    match read_whole(reader, &mut input, 0) {
+        Ok(()) => Ok(input),
         Err(InputFault::OutOfMemory) => Err(ToolFault::OutOfMemory),
         Err(_) => Err(ToolFault::ReadFault),
     }
 }
 
-/// The bytes that are left of an open file or of standard input, but no more than `INPUT_LIMIT`.
-/// `expected_len` is how many are expected, 0 where that isn't known: memory for all of them is
-/// taken before the first call of the reader. A `ReadFault` comes where a call of the reader
-/// failed.
+/// Appends the bytes that are left of an open file or of standard input, but no more than
+/// `INPUT_LIMIT`. `expected_len` is how many are expected, 0 where that isn't known: memory for all
+/// of them is taken before the first call of the reader. A `ReadFault` comes where a call of the
+/// reader failed.
 #[inline(never)]
 pub fn read_whole<R: ByteIn>(
-    alloc: Global,
     reader: &mut R,
+    bytes: &mut Vec<u8>,
     expected_len: u64,
-) -> Result<Vec<u8>, InputFault>
+) -> Result<(), InputFault>
     requires calls { R.calls reader.old < 2 ^ 63 }
     requires failures { R.failures reader.old < 2 ^ 63 }
-    ensures bytes { IfOk result (λ bytes. IfSome (R.remaining reader.old) (λ all. bytes.items ≡ take (2 ^ 31) all)) }
-    ensures left { IfOk result (λ bytes. Consumes (R.remaining reader.old) (R.remaining reader.new) bytes.items) }
+    ensures before { take (vec_len bytes.old) bytes.new.items ≡ bytes.old.items }
+    ensures bytes { OnOk result (IfSome (R.remaining reader.old)
+        (λ all. drop (vec_len bytes.old) bytes.new.items ≡ take (2 ^ 31) all)) }
+    ensures left { OnOk result (Consumes (R.remaining reader.old) (R.remaining reader.new)
+        (drop (vec_len bytes.old) bytes.new.items)) }
     ensures no_failure { OnOk result (R.failures reader.new ≡ R.failures reader.old) }
     ensures read_fault { IsErrOf result InputFault.ReadFault → R.failures reader.new ≡ R.failures reader.old + 1 }
     ensures out_of_memory { IsErrOf result InputFault.OutOfMemory → R.failures reader.new ≡ R.failures reader.old }
@@ -65,70 +69,74 @@ pub fn read_whole<R: ByteIn>(
     ensures calls { R.calls reader.new ≤ R.calls reader.old + 2 ^ 32 }
 
     // Each call but the last gave a byte at least, so that none comes after the end.
-    ensures end { IfOk result (λ bytes. R.calls reader.new ≤ R.calls reader.old + vec_len bytes + 1) }
+    ensures end { OnOk result (R.calls reader.new + vec_len bytes.old ≤ R.calls reader.old + vec_len bytes.new + 1) }
 {
+    let start = bytes.len();
     let expected_len = expected_len.min(INPUT_LIMIT as u64) as usize;
-    let mut input = with_memory(alloc, expected_len).or(Err(InputFault::OutOfMemory))?;
-    let mut filled = 0;
-    while filled < INPUT_LIMIT {
-        make_room(&mut input, filled).or(Err(InputFault::OutOfMemory))?;
-        match pull_after(reader, &mut input, filled) {
+    take_memory(bytes, expected_len).or(Err(InputFault::OutOfMemory))?;
+    let mut count = 0;
+    while count < INPUT_LIMIT {
+        let filled = start + count;
+        make_room(bytes, filled, INPUT_LIMIT - count).or(Err(InputFault::OutOfMemory))?;
+        match pull_after(reader, bytes, filled) {
             Ok(0) => {
-                input.truncate(filled);
-                return Ok(input);
+                bytes.truncate(filled);
+                return Ok(());
             }
-            Ok(count) => filled += count,
+            Ok(more) => count += more,
             Err(_) => return Err(InputFault::ReadFault),
         }
     }
-    input.truncate(filled);
-    Ok(input)
+    Ok(())
 }
 
-/// An empty vector with memory for one byte more than are expected, so that the end of the input is
-/// seen without further memory.
-fn with_memory(alloc: Global, expected_len: usize) -> Result<Vec<u8>, AllocError>
-    ensures { IfOk result (λ input. input.items ≡ []) }
+/// Takes memory for one byte more than are expected, so that the end of the input is seen without
+/// further memory.
+fn take_memory(bytes: &mut Vec<u8>, expected_len: usize) -> Result<(), AllocError>
+    ensures { bytes.new.items ≡ bytes.old.items }
 {
     if expected_len == 0 {
-        return Ok(Vec::new(alloc));
-    }
-    Vec::with_capacity(alloc, expected_len.saturating_add(1))
-}
-
-/// Makes `input` longer than `filled`, where it has memory by no more than that.
-fn make_room(input: &mut Vec<u8>, filled: usize) -> Result<(), AllocError>
-    requires filled { filled ≤ vec_len input.old }
-    requires limit { filled < 2 ^ 31 }
-    requires len { vec_len input.old ≤ 2 ^ 31 }
-    ensures within { filled ≤ vec_len input.new }
-    ensures limit { vec_len input.new ≤ 2 ^ 31 }
-    ensures front { take filled input.new.items ≡ take filled input.old.items }
-    ensures room { OnOk result (filled < vec_len input.new) }
-{
-    if filled < input.len() {
         return Ok(());
     }
-    let room = match input.capacity().saturating_sub(filled) {
+    bytes.reserve(expected_len.saturating_add(1))
+}
+
+/// Makes `bytes` longer than `filled`, by `most` at most, where it has memory by no more than that.
+fn make_room(bytes: &mut Vec<u8>, filled: usize, most: usize) -> Result<(), AllocError>
+    requires filled { filled ≤ vec_len bytes.old }
+    requires most { 0 < most }
+    requires len { vec_len bytes.old ≤ filled + most }
+    ensures within { filled ≤ vec_len bytes.new }
+    ensures len { vec_len bytes.new ≤ filled + most }
+    ensures front { take filled bytes.new.items ≡ take filled bytes.old.items }
+    ensures room { OnOk result (filled < vec_len bytes.new) }
+{
+    if filled < bytes.len() {
+        return Ok(());
+    }
+    let room = match bytes.capacity().saturating_sub(filled) {
         0 => ROOM_LEN,
         spare => spare.min(ROOM_LEN),
     };
-    input.resize(filled.saturating_add(room).min(INPUT_LIMIT), 0)
+    let Some(len) = filled.checked_add(room.min(most)) else {
+        return Err(AllocError);
+    };
+    bytes.resize(len, 0)
 }
 
-/// One call of the reader, for what comes after the first `filled` bytes of `input`.
-fn pull_after<R: ByteIn>(reader: &mut R, input: &mut Vec<u8>, filled: usize) -> io::Result<usize>
+/// One call of the reader, for what comes after the first `filled` bytes.
+fn pull_after<R: ByteIn>(reader: &mut R, bytes: &mut Vec<u8>, filled: usize) -> io::Result<usize>
     requires calls { R.calls reader.old < 2 ^ 64 - 1 }
     requires failures { R.failures reader.old < 2 ^ 64 - 1 }
-    requires room { filled < vec_len input.old }
-    ensures len { vec_len input.new ≡ vec_len input.old }
-    ensures front { take filled input.new.items ≡ take filled input.old.items }
-    ensures fits { IfOk result (λ n. filled + n ≤ vec_len input.new) }
+    requires room { filled < vec_len bytes.old }
+    ensures len { vec_len bytes.new ≡ vec_len bytes.old }
+    ensures front { take filled bytes.new.items ≡ take filled bytes.old.items }
+    ensures fits { IfOk result (λ n. filled + n ≤ vec_len bytes.new) }
     ensures bytes { IfOk result (λ n. Consumes (R.remaining reader.old) (R.remaining reader.new)
-        (take n (drop filled input.new.items))) }
+        (take n (drop filled bytes.new.items))) }
     ensures end { IfOk result (λ n. n ≡ 0 → IsAtEnd (R.remaining reader.new)) }
     ensures counts { R.calls reader.new ≡ R.calls reader.old + 1 }
     ensures fails { R.failures reader.new ≡ R.failures reader.old + failure_of_read result }
 {
-    reader.pull(&mut input.as_mut_slice()[filled..])
+    reader.pull(&mut bytes.as_mut_slice()[filled..])
 }

@@ -82,18 +82,18 @@ impl InputSource for FakeSource {
 
     ghost refused = { λ _. ⊥ };
 
-    fn read_file(&mut self, alloc: Global, name: &str) -> Result<Vec<u8>, InputFault> {
+    fn read_file(&mut self, bytes: &mut Vec<u8>, name: &str) -> Result<(), InputFault> {
         if name == "absent" {
             Err(InputFault::CannotOpen)
         } else {
-            self.read_standard(alloc)
+            self.read_standard(bytes)
         }
     }
 
-    fn read_standard(&mut self, alloc: Global) -> Result<Vec<u8>, InputFault> {
+    fn read_standard(&mut self, bytes: &mut Vec<u8>) -> Result<(), InputFault> {
         self.asked = self.asked.wrapping_add(1);
         let mut reader = Counted::new(Failing::new(self.text, self.failing, 1));
-        read_whole(alloc, &mut reader, UNKNOWN_LEN)
+        read_whole(&mut reader, bytes, UNKNOWN_LEN)
     }
 }
 

@@ -1,9 +1,10 @@
 -- What a tool does, by the way in which it ends.
-use Rattle.std.proofs.Common.{◌≡◌, ◌≢◌, ◌⊎◌, ℕ, List, [], ◌∷◌, None, Some, Option, Result, Err, IfSome, option_map, refl, inl, inr}
+use Rattle.std.proofs.Common.{◌≡◌, ◌≢◌, ◌⊎◌, ℕ, List, [], ◌∷◌, None, Some, Option, Result, Err, IfSome, option_map, refl, inl, inr, ap, drop, length, suc}
 use Rattle.runs.specs.declared.inputs.Input.{Input}
+use Rattle.runs.specs.declared.inputs.Inputs.{Inputs}
 use Rattle.runs.specs.declared.program_fault.ProgramFault.{ProgramFault}
 use Rattle.runs.specs.declared.program_fault.ProgramFault.TheVariants.{OutOfMemory}
-use Rattle.runs.specs.Inputs.{IsInputFault, named_inputs}
+use Rattle.runs.specs.Inputs.{IsInputFault, inputs_in, named_inputs}
 use Rattle.runs.specs.NamedFile.{NamedFile}
 use Rattle.runs.specs.Outputs.{SystemView}
 use Rattle.runs.specs.ProgramFaults.{program_text}
@@ -29,10 +30,21 @@ pub inputs_ended : {source : Asking} {plan : Planning} {arguments : List (List �
 inputs_ended reported reads read (inl memory) = rw memory (no_memory_to_plan reads (read memory) refl)
 inputs_ended reported reads read (inr none) = has_none reads none refl
 
+no_input_in : (bytes : List ℕ) (inputs : List Input) → inputs_in bytes inputs ≡ [] → inputs ≡ []
+no_input_in bytes [] none = refl
+no_input_in bytes (input ∷ inputs) none = cc
+
 -- nothing was read where nothing that was read has a name
-pub none_read : (inputs : List Input) → named_inputs inputs ≡ [] → inputs ≡ []
-none_read [] none = refl
-none_read (input ∷ inputs) none = cc
+pub none_read : (inputs : Inputs) → named_inputs inputs ≡ [] → inputs.texts.items ≡ []
+none_read inputs none = no_input_in inputs.bytes.items inputs.texts.items none
+
+inputs_in_count : (bytes : List ℕ) (inputs : List Input) → length (inputs_in bytes inputs) ≡ length inputs
+inputs_in_count bytes [] = refl
+inputs_in_count bytes (input ∷ inputs) = ap suc (inputs_in_count (drop input.len bytes) inputs)
+
+-- each input that was read has a name
+pub named_count : (inputs : Inputs) → length (named_inputs inputs) ≡ length inputs.texts.items
+named_count inputs = inputs_in_count inputs.bytes.items inputs.texts.items
 
 told_is : {T : Type 0} (reported fault : ProgramFault) → ◌≡◌ {A = Result T ProgramFault} (Err reported) (Err fault)
     → reported ≡ OutOfMemory → Some fault ≡ Some OutOfMemory

@@ -1,11 +1,9 @@
-use Rattle.std.proofs.Common.{◌≡◌, ap, refl, ◌∙◌}
-use Rattle.std.proofs.lemmas.Bool.{false≢true}
 use Rattle.std.proofs.lemmas.Result.{err_from_is_err_and}
+use Rattle.std.proofs.Common.{refl}
 use Rattle.runs.specs.Inputs.{named_inputs}
-use Rattle.runs.specs.NamedFile.{named_files}
 use Rattle.runs.specs.Run.{run_view}
-use Rattle.runs.specs.ToolRuns.{no_memory_to_plan, no_memory_to_read, runs}
-use Rattle.runs.specs.Facts.RunEnds.{inputs_ended, none_read, none_unread}
+use Rattle.runs.specs.ToolRuns.{no_memory_to_read, runs}
+use Rattle.runs.specs.Facts.RunEnds.{inputs_ended, none_unread}
 use Rattle.msgcat.proofs.WholeRuns.{no_run, planned}
 use Rattle.msgcat.proofs.whole_run.run.Goals as goal
 
@@ -14,40 +12,26 @@ returns-in_err-inputs-clause-run g c =
     let p = err_from_is_err_and c.from_residual.result c.from_residual.ensures.1 in
     rw (p.1, p.2) (no_memory_to_read c.read.ensures.asked c.in_err-inputs.ensures.memory refl)
 
-pub returns-in_err-texts-clause-run : goal.returns-in_err-texts-clause-run
-returns-in_err-texts-clause-run g c =
-    let p = err_from_is_err_and c.from_residual-in_err-texts.result c.from_residual-in_err-texts.ensures.1 in
-    let read = c.in_ok-inputs.ensures in
-    rw (p.1, p.2) (no_memory_to_plan (record { are = read.inputs; asks = read.asked_read })
-    (λ none. absurd (false≢true (c.in_err-texts.ensures.none (none_read c.in_ok-inputs.inputs.texts.items none)))) refl)
-
 pub returns-in_err-run-clause-run : goal.returns-in_err-run-clause-run
 returns-in_err-run-clause-run g c =
     let p = err_from_is_err_and c.from_residual-in_err-run.result c.from_residual-in_err-run.ensures.1 in
     let read = c.in_ok-inputs.ensures in
     let next = c.in_ok-inputs.inputs.fault in
     let reported = c.in_err-run.field-0.0 in
-    let same : named_files c.deref.result.now ≡ named_inputs c.in_ok-inputs.inputs.texts.items =
-    ap named_files c.deref.ensures.value ∙ c.in_ok-texts.ensures.files in
     rw (p.1, p.2) (inputs_ended reported (record { are = read.inputs; asks = read.asked_read })
-    (none_unread _ next reported read.fault (rw same at c.in_err-run.ensures.first))
-    (no_run next reported (rw same at c.in_err-run.ensures.fault)))
+    (none_unread _ next reported read.fault c.in_err-run.ensures.first)
+    (no_run next reported c.in_err-run.ensures.fault))
 
 pub returns-clause-run : goal.returns-clause-run
 returns-clause-run g c =
     let read = c.in_ok-inputs.ensures in
-    let same : named_files c.deref.result.now ≡ named_inputs c.in_ok-inputs.inputs.texts.items =
-    ap named_files c.deref.ensures.value ∙ c.in_ok-texts.ensures.files in
     runs (record { are = read.inputs; asks = read.asked_read })
-    (planned (named_inputs c.in_ok-inputs.inputs.texts.items) c.args.options.now (run_view c.in_ok-run.run')
-    c.in_ok-inputs.inputs.fault (rw same at c.in_ok-run.ensures.whole) (rw same at c.in_ok-run.ensures.refused))
+    (planned (named_inputs c.in_ok-inputs.inputs) c.args.options.now (run_view c.in_ok-run.run')
+    c.in_ok-inputs.inputs.fault c.in_ok-run.ensures.whole c.in_ok-run.ensures.refused)
     c.write.ensures
 
 pub returns-in_err-inputs-clause-asked : goal.returns-in_err-inputs-clause-asked
 returns-in_err-inputs-clause-asked g c = c.read.ensures.asked
-
-pub returns-in_err-texts-clause-asked : goal.returns-in_err-texts-clause-asked
-returns-in_err-texts-clause-asked g c = c.read.ensures.asked
 
 pub returns-in_err-run-clause-asked : goal.returns-in_err-run-clause-asked
 returns-in_err-run-clause-asked g c = c.read.ensures.asked

@@ -1,10 +1,24 @@
-use Rattle.std.proofs.Common.{◌≡◌, Some, ◌∙◌, ◌==◌, ap, arith, inr, length, refl, sym, true≢false, ⊎_elim}
-use Rattle.std.proofs.lemmas.List.{length-map}
-use Rattle.runs.specs.Inputs.{named_input}
+use Rattle.std.proofs.Common.{◌≡◌, ◌<◌, ◌==◌, ◌∙◌, [], Option, Some, ap, arith, false, inl, inr, length, refl, sym, true≢false, ⊎_elim}
+use Rattle.runs.specs.declared.inputs.Inputs.{Inputs}
+use Rattle.runs.specs.declared.program_fault.ProgramFault.{ProgramFault}
+use Rattle.runs.specs.Facts.RunEnds.{named_count}
+use Rattle.runs.specs.Inputs.{named_inputs}
 use Rattle.runs.specs.Run.{run_view}
+use Rattle.msgfmt.specs.Msgfmt.{AreWrong}
 use Rattle.msgfmt.proofs.MsgfmtLemmas.{refused, taken}
 use Rattle.po_syntax.proofs.Results.{ok_always}
 use Rattle.msgfmt.proofs.whole_run.plan_msgfmt_of.Goals as goal
+
+some_text : (inputs : Inputs) → (inputs.texts.len == 0) ≡ false → named_inputs inputs ≡ [] → ⊥
+some_text inputs some none =
+    let no_text : inputs.texts.len ≡ 0 = omega (arith, ap length none, named_count inputs, inputs.texts.ok.0) in
+    absurd (true≢false (sym (ap (λ n. n == 0) no_text) ∙ some))
+
+not_wrong : (inputs : Inputs) (fault : Option ProgramFault) → (inputs.texts.len == 0) ≡ false
+    → inputs.texts.len < 4294967296 → AreWrong (named_inputs inputs) fault → ⊥
+not_wrong inputs fault some few wrong =
+    ⊎_elim (λ none. some_text inputs some none.0)
+    (λ many. absurd (omega (arith, many, few, named_count inputs, inputs.texts.ok.0))) wrong
 
 pub returns-then-run-eq0-clause-fault : goal.returns-then-run-eq0-clause-fault
 returns-then-run-eq0-clause-fault c =
@@ -20,11 +34,36 @@ returns-else-run-eq0-clause-refused c =
 
 pub returns-in_default-clause-right : goal.returns-in_default-clause-right
 returns-in_default-clause-right c =
-    let inputs = c.args.inputs.texts.items in
-    let count = length-map inputs named_input in
-    ok_always c.map_err.result (λ run wrong. ⊎_elim
-    (λ none. let no_text : c.args.inputs.texts.len ≡ 0 =
-    omega (arith, ap length none.0, count, c.args.inputs.texts.ok.0) in
-    absurd (true≢false (sym (ap (λ n. n == 0) no_text) ∙ sym c.is_empty.ensures ∙ c.if-is_empty.false)))
-    (λ many. absurd (omega (arith, many, count, c.args.inputs.texts.ok.0, c.len.ensures, c.if-len.false)))
-    wrong)
+    ok_always c.map_err.result (λ run. not_wrong c.args.inputs c.args.inputs.fault
+    (sym c.is_empty.ensures ∙ c.if-is_empty.false) (omega (arith, c.len.ensures, c.if-len.false)))
+
+pub returns-then-len-clause-fault : goal.returns-then-len-clause-fault
+returns-then-len-clause-fault c =
+    inr (inl (
+      refl,
+      inr (omega (arith, c.len.ensures, c.if-len.true, named_count c.args.inputs, c.args.inputs.texts.ok.0)),
+    ))
+
+pub returns-then-len-clause-first : goal.returns-then-len-clause-first
+returns-then-len-clause-first c =
+    λ none. absurd (omega (
+      arith,
+      ap length none,
+      c.len.ensures,
+      c.if-len.true,
+      named_count c.args.inputs,
+      c.args.inputs.texts.ok.0,
+    ))
+
+pub returns-in_default-plan_inputs-clause-first : goal.returns-in_default-plan_inputs-clause-first
+returns-in_default-plan_inputs-clause-first c =
+    λ none. absurd (some_text c.args.inputs (sym c.is_empty.ensures ∙ c.if-is_empty.false) none)
+
+pub returns-else-run-eq0-clause-right : goal.returns-else-run-eq0-clause-right
+returns-else-run-eq0-clause-right c =
+    not_wrong c.args.inputs c.args.inputs.fault (sym c.is_empty.ensures ∙ c.if-is_empty.false)
+    (omega (arith, c.len.ensures, c.if-len.false))
+
+pub returns-else-run-eq0-clause-first : goal.returns-else-run-eq0-clause-first
+returns-else-run-eq0-clause-first c =
+    λ none. absurd (some_text c.args.inputs (sym c.is_empty.ensures ∙ c.if-is_empty.false) none)

@@ -26,7 +26,7 @@ pub returns-clause-run : goal.returns-clause-run
 returns-clause-run g c =
     let read = c.in_ok-inputs.ensures in
     runs (record { are = read.inputs; asks = read.asked_read })
-    (planned (named_inputs c.in_ok-inputs.inputs.texts.items) c.args.options.now (run_view c.in_ok-run.run')
+    (planned (named_inputs c.in_ok-inputs.inputs) c.args.options.now (run_view c.in_ok-run.run')
     c.in_ok-inputs.inputs.fault c.in_ok-run.ensures.whole c.in_ok-run.ensures.refused
     c.in_ok-run.ensures.right)
     c.write.ensures

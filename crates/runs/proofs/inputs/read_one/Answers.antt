@@ -2,8 +2,8 @@ use Rattle.std.proofs.Common.{ap, ◌∙◌, inl, inr}
 use Rattle.runs.specs.Inputs.{input_fault_text}
 use Rattle.runs.proofs.inputs.read_one.Goals as goal
 
-pub returns-in-Err-clause-fault : goal.returns-in-Err-clause-fault
-returns-in-Err-clause-fault g c =
+pub returns-clause-fault : goal.returns-clause-fault
+returns-clause-fault g c =
     elim c.in-Err.ensures.reading [
       | inl memory ↦ inl (c.fault_of.ensures.memory.1 memory)
       | inr reads ↦ inr (record {

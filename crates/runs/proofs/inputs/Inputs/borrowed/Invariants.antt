@@ -1,7 +1,8 @@
-use Rattle.std.proofs.Common.{◌≡◌, take}
-use Rattle.runs.specs.Inputs.{named_inputs}
+use Rattle.std.proofs.Common.{◌≡◌, ◌++◌, drop}
+use Rattle.runs.specs.Inputs.{inputs_in, named_inputs}
 use Rattle.runs.specs.NamedFile.{named_files}
 use Rattle.runs.proofs.inputs.Inputs.borrowed.Given as goal
 
 abbrev pub invariant-loop-input : goal.invariant-loop-input
-invariant-loop-input l = named_files l.borrowed.items ≡ named_inputs (take l.input-index l.self.texts.items)
+invariant-loop-input l =
+    named_files l.borrowed.items ++ inputs_in l.left (drop l.input-index l.self.texts.items) ≡ named_inputs l.self

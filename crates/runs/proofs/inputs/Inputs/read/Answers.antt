@@ -1,14 +1,18 @@
-use Rattle.std.proofs.Common.{◌≡◌, ◌||◌, ◌+◌, Bool, List, Some, length, length-append, refl, sym, subst, ◌∙◌, ap, ⊎_elim}
+use Rattle.std.proofs.Common.{◌≡◌, ◌||◌, ◌+◌, Bool, List, Some, length, drop, vec_len, rules, arith, length-append, refl, sym, subst, ◌∙◌, ap, ⊎_elim}
 use Rattle.std.proofs.lemmas.Bool.{false≢true}
-use Rattle.runs.specs.Inputs.{named_inputs}
+use Rattle.runs.specs.Inputs.{inputs_in}
 use Rattle.runs.specs.NamedFile.{NamedFile}
-use Rattle.runs.proofs.InputLemmas.{AsksBefore, AsksBefore-read, AsksBefore-unread, AsksBefore-first, AsksBefore-more, AsksBefore-none, Completes, Completes-none, Completes-read, Completes-unread, Completes-all, named-more}
+use Rattle.std.proofs.lemmas.List.{length-take, places}
+use Rattle.std.proofs.lemmas.List.Sums.{sum_by-append}
+use Rattle.std.specs.List.{sum_by}
+use Rattle.runs.proofs.InputLemmas.{AsksBefore, AsksBefore-read, AsksBefore-unread, AsksBefore-first, AsksBefore-more, AsksBefore-none, Completes, Completes-none, Completes-read, Completes-unread, Completes-all, inputs-before, inputs-more}
 use Rattle.runs.proofs.inputs.Inputs.read.Goals as goal
 use Rattle.runs.proofs.inputs.Inputs.read.Goals.{then-is_stdin_read, else-is_stdin_read}
 
 pub loop-argument-init : goal.loop-argument-init
 loop-argument-init g c = record {
   inputs = rw c.new-texts.ensures.items (Completes-none _ _ _);
+  all = rw (c.new-texts.ensures.items, c.new-bytes.ensures.len) refl;
   asked = AsksBefore-none _ _;
   refused = λ seen. absurd cc;
   count = rw c.new-texts.ensures.items refl;
@@ -32,38 +36,53 @@ loop-argument-preserved g c =
       | else-is_stdin_read w ↦ rw (w.is_stdin_read-is, w.if-is_stdin_read.false) refl
     ] in
     let seen = sym (next ∙ ap (λ s. c.loop-argument.is_stdin_read || s) c.eq-is_standard.ensures) in
-    let ReaderView : Bool → Type 0 =
-    λ seen. Completes g.S.InputSource.file g.S.InputSource.standard c.args.arguments.now
-    (c.loop-argument.argument-index + 1) seen (named_inputs c.push.new.self.items) in
-    let Done : Bool → List NamedFile
-    → Type 0 = λ seen list. Completes g.S.InputSource.file g.S.InputSource.standard c.args.arguments.now
+    let before = c.loop-argument.bytes.items in
+    let after = c.read_argument.new.bytes.items in
+    let so_far = inputs_in before c.loop-argument.texts.items in
+    let Completed : Bool → List NamedFile → Type 0 =
+    λ seen list. Completes g.S.InputSource.file g.S.InputSource.standard c.args.arguments.now
     (c.loop-argument.argument-index + 1) seen list in
     let AskedOnce : Bool → Type 0 =
     λ seen. AsksBefore (g.S.InputSource.asked c.args.source.now)
     (g.S.InputSource.asked c.read_argument.new.source) c.args.arguments.now
     (c.loop-argument.argument-index + 1) seen in
-    let texts = ap named_inputs c.in_ok-push-in-Ok.ensures.items
-    ∙ named-more c.loop-argument.texts.items _ _ c.shown_name-name.ensures in record {
-      inputs = subst ReaderView seen
-          (subst (Done _) (sym texts)
+    let read = drop (vec_len c.loop-argument.bytes) after in
+    let len : vec_len c.loop-argument.bytes ≡ length before = search (rules, places) in
+    let more = ap (inputs_in after) c.in_ok-push.ensures.items
+    ∙ inputs-more _ before after c.loop-argument.texts.items _ _ len c.read_argument.ensures.before
+    c.loop-argument.invariant.all c.shown_name-name.ensures (search (rules, places)) in record {
+      inputs = subst (λ seen. Completed seen (inputs_in after c.push.new.self.items)) seen
+          (subst (Completed _) (sym more)
           (Completes-read _ _ c.args.arguments.now c.loop-argument.argument-index _ c.loop-argument.is_stdin_read
-          (named_inputs c.loop-argument.texts.items) c.in-Ok.bytes.items c.loop-argument-test.true
-          c.in-Ok.ensures.reading c.loop-argument.invariant.inputs));
+          so_far read c.loop-argument-test.true c.in_default.ensures.reading c.loop-argument.invariant.inputs));
+      all = ap (sum_by (λ input. input.len)) c.in_ok-push.ensures.items ∙ sum_by-append _ c.loop-argument.texts.items _
+          ∙ omega (
+            arith,
+            c.loop-argument.invariant.all,
+            ap length c.read_argument.ensures.before,
+            length-take (vec_len c.loop-argument.bytes) after,
+            c.read_argument.new.bytes.ok.0,
+            len,
+          );
       asked = subst AskedOnce seen
           (AsksBefore-more _ _ _ c.args.arguments.now c.loop-argument.argument-index _ c.loop-argument.is_stdin_read
           c.loop-argument-test.true c.loop-argument.invariant.asked
           c.read_argument.ensures.asked);
       refused = λ seen now. let before =
-          c.in-Ok.ensures.refused now in c.loop-argument.invariant.refused before.1 before.0;
-      count = ap length texts ∙ length-append (named_inputs c.loop-argument.texts.items) _
-          ∙ ap (λ n. n + 1) c.loop-argument.invariant.count;
+          c.in_default.ensures.refused now in c.loop-argument.invariant.refused before.1 before.0;
+      count = ap length more ∙ length-append so_far _ ∙ ap (λ n. n + 1) c.loop-argument.invariant.count;
     }
 
 pub returns-in-Err-clause-inputs : goal.returns-in-Err-clause-inputs
 returns-in-Err-clause-inputs g c =
-    rw (c.fault_of.ensures.text, c.shown_name-name.ensures)
+    let len : vec_len c.loop-argument.bytes ≡ length c.loop-argument.bytes.items = search (rules, places) in
+    rw (
+      c.fault_of.ensures.text,
+      c.shown_name-name.ensures,
+      inputs-before _ _ _ c.loop-argument.texts.items len c.read_argument.ensures.before c.loop-argument.invariant.all,
+    )
     (Completes-unread _ _ c.args.arguments.now c.loop-argument.argument-index _ c.loop-argument.is_stdin_read
-    (named_inputs c.loop-argument.texts.items) c.in-Err.why c.loop-argument-test.true
+    (inputs_in c.loop-argument.bytes.items c.loop-argument.texts.items) c.in-Err.why c.loop-argument-test.true
     (⊎_elim (λ memory. absurd (false≢true (rw memory at c.if-eq.ensures))) (λ reads. reads) c.in-Err.ensures.reading)
     c.loop-argument.invariant.inputs)
 
@@ -74,8 +93,8 @@ returns-in-Err-clause-asked g c =
     c.loop-argument-test.true c.loop-argument.invariant.asked
     c.read_argument.ensures.asked)
 
-pub returns-in_err-push-in-Ok-clause-asked : goal.returns-in_err-push-in-Ok-clause-asked
-returns-in_err-push-in-Ok-clause-asked g c =
+pub returns-in_err-push-clause-asked : goal.returns-in_err-push-clause-asked
+returns-in_err-push-clause-asked g c =
     AsksBefore-first _ _ _ _ _
     (AsksBefore-more _ _ _ c.args.arguments.now c.loop-argument.argument-index _ c.loop-argument.is_stdin_read
     c.loop-argument-test.true c.loop-argument.invariant.asked
@@ -90,8 +109,11 @@ returns-then-eq-clause-asked g c =
 
 pub returns-in-Err-clause-asked_read : goal.returns-in-Err-clause-asked_read
 returns-in-Err-clause-asked_read g c =
-    AsksBefore-unread _ _ c.args.arguments.now c.loop-argument.argument-index _ _ _ _
+    let len : vec_len c.loop-argument.bytes ≡ length c.loop-argument.bytes.items = search (rules, places) in
+    rw (inputs-before _ _ _ c.loop-argument.texts.items len c.read_argument.ensures.before
+    c.loop-argument.invariant.all)
+    (AsksBefore-unread _ _ c.args.arguments.now c.loop-argument.argument-index _ _ _ _
     (ap Some c.fault_of.ensures.text) c.loop-argument.invariant.count
     (AsksBefore-more _ _ _ c.args.arguments.now c.loop-argument.argument-index _ c.loop-argument.is_stdin_read
     c.loop-argument-test.true c.loop-argument.invariant.asked
-    c.read_argument.ensures.asked)
+    c.read_argument.ensures.asked))

@@ -1,14 +1,16 @@
-use Rattle.std.proofs.Common.{◌≡◌, length, true}
-use Rattle.runs.specs.Inputs.{named_inputs}
+use Rattle.std.proofs.Common.{◌≡◌, length, true, vec_len}
+use Rattle.runs.specs.Inputs.{inputs_in}
+use Rattle.std.specs.List.{sum_by}
 use Rattle.runs.proofs.InputLemmas.{AsksBefore, Completes}
 use Rattle.runs.proofs.inputs.Inputs.read.Given as goal
 
 abbrev pub invariant-loop-argument : goal.invariant-loop-argument
 invariant-loop-argument g l = record {
   inputs : Completes g.S.InputSource.file g.S.InputSource.standard l.arguments l.argument-index l.is_stdin_read
-      (named_inputs l.texts.items);
+      (inputs_in l.bytes.items l.texts.items);
+  all : sum_by (λ input. input.len) l.texts.items ≡ vec_len l.bytes;
   asked : AsksBefore (g.S.InputSource.asked l.fn.source)
       (g.S.InputSource.asked l.source) l.arguments l.argument-index l.is_stdin_read;
   refused : l.is_stdin_read ≡ true → g.S.InputSource.refused l.source → ⊥;
-  count : length (named_inputs l.texts.items) ≡ l.argument-index;
+  count : length (inputs_in l.bytes.items l.texts.items) ≡ l.argument-index;
 }
