@@ -71,7 +71,8 @@ pub struct Input<'a> {
 /// The inputs that a command line names, up to the first that can't be read.
 #[derive(Drop)]
 pub struct Inputs<'a> {
-    /// What was read: the bytes of each input after those of the inputs before it.
+    /// The bytes of each input after those of the inputs before it. Behind them may stand some of
+    /// the one that can't be read.
     pub bytes: Vec<u8>,
     /// Each input that was read, in order.
     pub texts: Vec<Input<'a>>,
