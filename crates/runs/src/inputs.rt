@@ -4,6 +4,7 @@ ghost use Rattle.runs.specs.Inputs.{AreInputs, Asks, AsksFirst, IsInputFault, Re
 ghost use Rattle.runs.specs.NamedFile.{named_files};
 ghost use Rattle.runs.specs.ProgramFaults.{program_text};
 ghost use Rattle.runs.specs.Run.{is_standard, shown_name};
+ghost use Rattle.runs.specs.declared.inputs.InputFault.TheVariants.{OutOfMemory};
 
 use crate::program_fault::ProgramFault;
 use crate::run::{STANDARD, shown_name};
@@ -18,6 +19,14 @@ pub enum InputFault {
     ReadFault,
     /// An allocation failed.
     OutOfMemory,
+}
+
+impl From<AllocError> for InputFault {
+    ghost from_gives = { λ _ fault. fault ≡ OutOfMemory };
+
+    fn from(_error: AllocError) -> InputFault {
+        InputFault::OutOfMemory
+    }
 }
 
 /// Where inputs are read from: the files of a system, and its standard input.

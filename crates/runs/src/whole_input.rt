@@ -73,11 +73,11 @@ pub fn read_whole<R: ByteIn>(
 {
     let start = bytes.len();
     let expected_len = expected_len.min(INPUT_LIMIT as u64) as usize;
-    take_memory(bytes, expected_len).or(Err(InputFault::OutOfMemory))?;
+    take_memory(bytes, expected_len)?;
     let mut count = 0;
     while count < INPUT_LIMIT {
         let filled = start + count;
-        make_room(bytes, filled, INPUT_LIMIT - count).or(Err(InputFault::OutOfMemory))?;
+        make_room(bytes, filled, INPUT_LIMIT - count)?;
         match pull_after(reader, bytes, filled) {
             Ok(0) => {
                 bytes.truncate(filled);
@@ -118,10 +118,7 @@ fn make_room(bytes: &mut Vec<u8>, filled: usize, most: usize) -> Result<(), Allo
         0 => ROOM_LEN,
         spare => spare.min(ROOM_LEN),
     };
-    let Some(len) = filled.checked_add(room.min(most)) else {
-        return Err(AllocError);
-    };
-    bytes.resize(len, 0)
+    bytes.resize(filled + room.min(most), 0)
 }
 
 /// One call of the reader, for what comes after the first `filled` bytes.

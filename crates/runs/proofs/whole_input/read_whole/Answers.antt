@@ -10,7 +10,7 @@ loop-count-preserved g c =
     let count = c.loop-count.count in
     let xs = c.loop-count.bytes.items in
     let ys = c.pull_after.new.bytes.items in
-    let front : take (start + count) ys ≡ take (start + count) xs = c.in-Ok.ensures.front ∙ c.make_room.ensures.front in
+    let front = c.in-Ok.ensures.front ∙ c.make_room.ensures.front in
     record {
       within = omega (arith, c.in-Ok.ensures.fits);
       limit = omega arith;
@@ -27,12 +27,11 @@ returns-in-Ok-eq0-clause-bytes g c =
     let count = c.loop-count.count in
     let xs = c.loop-count.bytes.items in
     let ys = c.pull_after.new.bytes.items in
-    let front : take (start + count) ys ≡ take (start + count) xs =
-    c.in-Ok-eq0.ensures.front ∙ c.make_room.ensures.front in
     let fits : start + count ≤ length ys = search (rules, places) in
     rw (c.truncate.ensures.items, sym c.len-start.ensures, drop-take)
     (filled-end 2147483648 _ _ _ count _ (drop start xs) (drop start ys) c.loop-count.invariant.read
-    (front-after start count xs ys front) (rw drop-drop c.in-Ok-eq0.ensures.bytes)
+    (front-after start count xs ys (c.in-Ok-eq0.ensures.front ∙ c.make_room.ensures.front))
+    (rw drop-drop c.in-Ok-eq0.ensures.bytes)
     c.in-Ok-eq0.field-0-test (c.in-Ok-eq0.ensures.end c.in-Ok-eq0.field-0-test)
     (omega (arith, fits, length-drop start ys)) (omega arith))
 
@@ -42,23 +41,20 @@ returns-in-Ok-eq0-clause-left g c =
     let count = c.loop-count.count in
     let xs = c.loop-count.bytes.items in
     let ys = c.pull_after.new.bytes.items in
-    let front : take (start + count) ys ≡ take (start + count) xs =
-    c.in-Ok-eq0.ensures.front ∙ c.make_room.ensures.front in
     rw (c.truncate.ensures.items, sym c.len-start.ensures, drop-take)
     (subst (λ n. Consumes (g.R.ByteIn.remaining c.args.reader.now) (g.R.ByteIn.remaining c.pull_after.new.reader)
     (take n (drop start ys))) (omega (arith, c.in-Ok-eq0.field-0-test))
     (filled-more _ _ _ count c.in-Ok-eq0.field-0 (drop start xs) (drop start ys) c.loop-count.invariant.read
-    (front-after start count xs ys front) (rw drop-drop c.in-Ok-eq0.ensures.bytes)))
+    (front-after start count xs ys (c.in-Ok-eq0.ensures.front ∙ c.make_room.ensures.front))
+    (rw drop-drop c.in-Ok-eq0.ensures.bytes)))
 
 pub returns-in-Err-clause-before : goal.returns-in-Err-clause-before
 returns-in-Err-clause-before g c =
     let start = c.len-start.result in
     let count = c.loop-count.count in
-    let front : take (start + count) c.pull_after.new.bytes.items ≡ take (start + count) c.loop-count.bytes.items =
-    c.in-Err.ensures.front ∙ c.make_room.ensures.front in
     rw (sym c.len-start.ensures)
-    (front-before start count c.loop-count.bytes.items c.pull_after.new.bytes.items front
-    ∙ c.loop-count.invariant.before)
+    (front-before start count c.loop-count.bytes.items c.pull_after.new.bytes.items
+    (c.in-Err.ensures.front ∙ c.make_room.ensures.front) ∙ c.loop-count.invariant.before)
 
 pub returns-clause-bytes : goal.returns-clause-bytes
 returns-clause-bytes g c =
