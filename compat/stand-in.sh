@@ -37,7 +37,7 @@ are_ours() {
 case $tool in gettext | ngettext) stops=1 ;; *) stops= ;; esac
 
 # all_ours WORD..: whether pokit's tool takes all words as GNU's does: it has each option, none stands where GNU's takes
-# it for an operand, and the count of ngettext, its last operand, is of digits.
+# it for an operand, msgunfmt has one file at most, and the count of ngettext, its last operand, is of digits.
 all_ours() {
     skipped= operand= only_operands=
     for word; do
@@ -51,7 +51,9 @@ all_ours() {
             --domain | --context) skipped=1 ;;
             --*) is_ours "$word" || return ;;
             -?*) are_ours "${word#-}" || return ;;
-            *) operand=x$word ;;
+            *)
+                [ "$tool" != msgunfmt ] || [ -z "$operand" ] || return 1
+                operand=x$word ;;
         esac
     done
     [ "$tool" != ngettext ] || case ${operand#x} in *[!0-9]*) return 1 ;; esac
