@@ -3,4 +3,5 @@ pub mod NulNames
 pub mod EntryLemmas
 pub mod InputLemmas
 pub mod MergedLemmas
+mod UnreadBefore
 mod WholeRuns

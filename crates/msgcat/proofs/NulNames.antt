@@ -1,17 +1,19 @@
 -- Names that hold NUL, and names that don't.
-use Rattle.std.proofs.Common.{◌≡◌, ℕ, ◌<◌, List, [], ◌∷◌, Option, None, Some, true, false, ◌||◌, ◌==◌, eqb, sym, ap, ◌∙◌, get_or, length, inl, inr, arith}
-use Rattle.std.specs.Prelude.{Contains}
+use Rattle.std.proofs.Common.{◌≡◌, ℕ, zero, suc, ◌<◌, List, [], ◌∷◌, ◌++◌, Option, None, Some, true, false, ◌||◌, ◌==◌, eqb, refl, subst, sym, ap, ◌∙◌, drop, get_or, length, take, inl, inr, arith}
+use Rattle.std.specs.Prelude.{All}
 use Rattle.std.specs.Borrow.{Bor}
 use Rattle.std.specs.List.{list_any}
 use Rattle.std.specs.Option.{is_some}
 use Rattle.std.proofs.lemmas.Bool.{cases_Bool, eqb-true, eqb-false, false_from_ne_true, or_parts}
-use Rattle.std.proofs.lemmas.List.{length-map}
+use Rattle.std.proofs.Math.Seq.{drop-cons}
+use Rattle.std.proofs.lemmas.List.{length-map, map-append, take-append-drop}
 use Rattle.std.proofs.lemmas.List.Elements.{All-nil, All-cons, All-head, All-tail, All-from_get_or}
 use Rattle.std.proofs.lemmas.List.Folds.{list_any_at, list_any_none}
 use Rattle.memchr.specs.Find.{IsFirstByte, is_byte}
 use Rattle.po_entry.specs.Bytes.{Lacks}
 use Rattle.runs.specs.NamedFile.{named_file, named_files}
-use Rattle.msgcat.proofs.MsgcatLemmas.{Files, file_at}
+use Rattle.msgcat.specs.Internal.NulNames.{IsFirstWithNul}
+use Rattle.msgcat.proofs.MsgcatLemmas.{Files}
 
 pub lacks : (name : List ℕ) → list_any (λ b. b == 0) name ≡ false → Lacks 0 name
 lacks [] h = All-nil (λ b. b ≡ 0 → ⊥)
@@ -26,9 +28,25 @@ holds (b ∷ name) h lacks = elim (cases_Bool (eqb b 0)) [
       (All-tail (λ c. c ≡ 0 → ⊥) b name lacks)
 ]
 
-pub among : (files : Files) (i : ℕ) (none : Bor (List ℕ) × Bor (List ℕ)) → i < length files
-    → Contains (named_files files) (named_file (get_or files i none))
-among files i none below = (i, omega (arith, below, length-map files named_file), sym (file_at files i none below))
+pub named_take : (i : ℕ) (files : Files) → take i (named_files files) ≡ named_files (take i files)
+named_take zero files = refl
+named_take (suc i) [] = refl
+named_take (suc i) (file ∷ files) = ap (λ l. named_file file ∷ l) (named_take i files)
+
+-- a file whose name holds NUL, before which no name does
+pub first_nul : (files : Files) (i : ℕ) (none : Bor (List ℕ) × Bor (List ℕ)) → i < length files
+    → All (λ file. Lacks 0 file.name) (named_files (take i files)) → (Lacks 0 (get_or files i none).0.now → ⊥)
+    → IsFirstWithNul (named_files files) i (get_or files i none).0.now
+first_nul files i none inside names nul = record {
+  bytes = (get_or files i none).1.now;
+  after = named_files (drop (suc i) files);
+  inside = omega (arith, inside, length-map files named_file);
+  order = ap named_files (sym (take-append-drop i files) ∙ ap (λ l. take i files ++ l) (drop-cons files i none inside))
+      ∙ map-append named_file (take i files) (get_or files i none ∷ drop (suc i) files)
+      ∙ ap (λ l. l ++ named_file (get_or files i none) ∷ named_files (drop (suc i) files)) (sym (named_take i files));
+  names = subst (All (λ file. Lacks 0 file.name)) (sym (named_take i files)) names;
+  nul = nul;
+}
 
 -- a NUL is found in a name exactly if it holds one
 pub nul_is_found : (name : List ℕ) (nul : Option ℕ) → IsFirstByte (is_byte 0) name nul

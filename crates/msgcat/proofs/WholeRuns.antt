@@ -1,5 +1,7 @@
 -- What msgcat does, by the way in which it ends.
 use Rattle.std.proofs.Common.{◌≡◌, ◌≢◌, ◌⊎◌, List, None, Some, Option, option_map, refl, ap, inl, inr}
+use Rattle.std.specs.Prelude.{All}
+use Rattle.po_entry.specs.Bytes.{Lacks}
 use Rattle.runs.specs.declared.program_fault.ProgramFault.{ProgramFault}
 use Rattle.runs.specs.declared.program_fault.ProgramFault.TheVariants.{OutOfMemory}
 use Rattle.runs.specs.NamedFile.{NamedFile}
@@ -7,20 +9,22 @@ use Rattle.runs.specs.ProgramFaults.{program_text}
 use Rattle.runs.specs.Run.{RunView}
 use Rattle.po_merge.specs.Inputs as merge
 use Rattle.po_merge.specs.declared.input.MergeOptions.{MergeOptions}
-use Rattle.msgcat.specs.Msgcat.{AreReadAs, HasNulName, IsMsgcatRun, IsUnread}
+use Rattle.msgcat.specs.Msgcat.{AreReadAs, HasNulName, IsMsgcatRun, IsUnread, IsUnreadBeforeNul}
 use Rattle.msgcat.specs.WholeRun.{HaveNoRun, IsRunOf}
 
 pub planned : (inputs : List NamedFile) (o : MergeOptions) (run : RunView) (next : Option ProgramFault)
-    → (next ≡ None → IsMsgcatRun inputs o run) → (next ≢ None → IsUnread inputs run)
+    → (next ≡ None → IsMsgcatRun inputs o run) → (next ≢ None → IsUnread inputs run) → IsUnreadBeforeNul inputs run
     → IsRunOf o inputs (option_map program_text next) run
-planned inputs o run None whole refused = whole refl
-planned inputs o run (Some fault) whole refused = refused (λ same. cc)
+planned inputs o run None whole refused names = (whole refl, names)
+planned inputs o run (Some fault) whole refused names = (refused (λ same. cc), names)
 
 -- why inputs have no run, by what planning them answers
 pub no_run : {inputs : List NamedFile} (next : Option ProgramFault) (reported : ProgramFault)
     → (reported ≡ OutOfMemory) ⊎ HasNulName inputs (program_text reported)
-    ⊎ ((next ≡ Some reported) × ((read : List merge.Named) × AreReadAs inputs read))
+    ⊎ ((next ≡ Some reported) × All (λ file. Lacks 0 file.name) inputs
+    × ((read : List merge.Named) × AreReadAs inputs read))
     → (reported ≡ OutOfMemory) ⊎ HaveNoRun inputs (option_map program_text next) (program_text reported)
 no_run next reported (inl memory) = inl memory
 no_run next reported (inr (inl nul)) = inr (inl nul)
-no_run next reported (inr (inr (same, accepted))) = inr (inr (ap (option_map program_text) same, accepted))
+no_run next reported (inr (inr (same, names, accepted))) =
+    inr (inr (ap (option_map program_text) same, names, accepted))

@@ -3,3 +3,4 @@ pub mod Entries
 pub mod Inputs
 pub mod Gathered
 pub mod MergedText
+pub mod NulNames

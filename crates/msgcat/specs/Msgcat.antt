@@ -1,5 +1,5 @@
 -- What msgcat writes and reports (manual, "Invoking the msgcat Program").
-use Rattle.std.specs.Prelude.{◌≡◌, ◌≢◌, ◌⊎◌, ℕ, All, Contains, List, [], ◌∷◌, ◌++◌, codes, refl}
+use Rattle.std.specs.Prelude.{◌≡◌, ◌≢◌, ◌⊎◌, ℕ, All, List, [], ◌∷◌, ◌++◌, codes, refl}
 use Rattle.std.specs.List.{AllZip}
 use Rattle.po_syntax.specs.declared.fault.PoError.{PoError}
 use Rattle.po_syntax.specs.declared.fault.PoFault.TheVariants.{ForeignCharset, OutOfMemory as NoMemory}
@@ -74,9 +74,19 @@ pub record IsMerged (files : List NamedFile) (o : MergeOptions) (run : RunView) 
 abbrev pub IsMsgcatRun : List NamedFile → MergeOptions → RunView → Type 0
 IsMsgcatRun files o run = IsUnread files run ⊎ (IsForeign files o run ⊎ IsMerged files o run)
 
--- one of the files has a name with a NUL, so that it can't be opened
+-- The first file whose name has a NUL can't be opened. That is said of it where all before it are read.
 pub record HasNulName (files : List NamedFile) (text : List ℕ) : Type 0 where
+  pub before : List NamedFile
   pub file : NamedFile
-  pub among : Contains files file
+  pub after : List NamedFile
+  pub order : files ≡ before ++ file ∷ after
+  pub names : All (λ file. Lacks 0 file.name) before
   pub nul : Lacks 0 file.name → ⊥
+  pub inputs : List Named
+  pub read : AreReadAs before inputs
   pub text_is : text ≡ input_fault_text file.name CannotOpen
+
+-- where a name has a NUL, a file before that one isn't read
+abbrev pub IsUnreadBeforeNul : List NamedFile → RunView → Type 0
+IsUnreadBeforeNul files run = (before : List NamedFile) (file : NamedFile) (after : List NamedFile)
+    → files ≡ before ++ file ∷ after → (Lacks 0 file.name → ⊥) → IsUnread before run

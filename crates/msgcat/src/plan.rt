@@ -4,9 +4,9 @@ ghost use Rattle.std.specs.Prelude.{◌≡◌, ◌≢◌, ◌⊎◌, All, Err, I
 ghost use Rattle.po_entry.specs.Bytes.{Lacks};
 ghost use Rattle.po_merge.specs.Inputs.{Named};
 ghost use Rattle.msgcat.specs.Internal.Gathered.{IsGathered};
-ghost use Rattle.msgcat.specs.Msgcat.{AreReadAs, HasNulName, IsMsgcatRun, IsUnread, first_name};
+ghost use Rattle.msgcat.specs.Msgcat.{AreReadAs, IsMsgcatRun, IsUnread, first_name};
+ghost use Rattle.msgcat.specs.Internal.NulNames.{IsFirstWithNul};
 ghost use Rattle.runs.specs.NamedFile.{NamedFile, named_files};
-ghost use Rattle.runs.specs.ProgramFaults.{program_text};
 ghost use Rattle.runs.specs.Run.{run_view};
 
 use crate::inputs::{FileFault, NumberedEntries, read_inputs};
@@ -111,14 +111,14 @@ pub fn plan_msgcat_before<'a>(
     }
 }
 
-/// The first name that holds NUL, so that no file can have it.
-pub(crate) fn name_with_nul<'a>(files: &[(&'a str, &[u8])]) -> Option<&'a str>
+/// The place and the name of the first file whose name holds NUL, so that it can't be opened.
+pub(crate) fn first_with_nul<'a>(files: &[(&'a str, &[u8])]) -> Option<(usize, &'a str)>
     ensures { MatchOption result (All (λ file. Lacks 0 file.name) (named_files files.now))
-        (λ name. HasNulName (named_files files.now) (program_text (ProgramFault.CannotOpen name))) }
+        (λ found. IsFirstWithNul (named_files files.now) found.0 found.1.now) }
 {
-    for file in files {
+    for (place, file) in files.iter().enumerate() {
         if memchr(0, file.0.as_bytes()).is_some() {
-            return Some(file.0);
+            return Some((place, file.0));
         }
     }
     None

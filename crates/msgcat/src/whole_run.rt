@@ -1,22 +1,24 @@
 //! msgcat as a whole: its inputs are read, and their run is written.
-ghost use Rattle.std.specs.Prelude.{◌≡◌, ◌≢◌, ◌⊎◌, ◌^◌, ◌<◌, Err, IfErr, IfOk, IfSome, List, None, Some, [], false, map};
+ghost use Rattle.std.specs.Prelude.{◌≡◌, ◌≢◌, ◌⊎◌, ◌^◌, ◌<◌, All, Err, IfErr, IfOk, IfSome, List, None, Some, [], false, map};
+ghost use Rattle.po_entry.specs.Bytes.{Lacks};
 ghost use Rattle.po_merge.specs.Inputs.{Named};
-ghost use Rattle.msgcat.specs.Msgcat.{AreReadAs, HasNulName, IsMsgcatRun, IsUnread};
+ghost use Rattle.msgcat.specs.Msgcat.{AreReadAs, HasNulName, IsMsgcatRun, IsUnread, IsUnreadBeforeNul};
 ghost use Rattle.msgcat.specs.WholeRun.{RunsMsgcat};
 ghost use Rattle.runs.specs.Inputs.{AsksFirst, asked_by, named_inputs};
 ghost use Rattle.runs.specs.ProgramFaults.{program_text};
 ghost use Rattle.runs.specs.Run.{run_view};
 ghost use Rattle.runs.specs.ToolRuns.{asking};
 
-use crate::plan::{gather, gathered_run, name_with_nul, plan_msgcat_before};
+use crate::plan::{first_with_nul, gather, gathered_run, plan_msgcat_before};
 use po_merge::MergeOptions;
 use runs::{ByteOut, InputSource, Inputs, OutputFiles, OutputSystem, ProgramFault, Run};
 use std::alloc::Global;
 
 /// What `msgcat` comes to with the inputs that a command line names, each with its name, and the
 /// fault of the one after them that can't be read: the plan of all of them, written over their
-/// bytes, or, where one can't be read, what `plan_msgcat_before` says of those before it. A file
-/// whose name holds NUL can't be opened. `OutOfMemory` may come in place of any result.
+/// bytes, or, where one can't be read, what `plan_msgcat_before` says of those before it. So it is
+/// with a file whose name holds NUL, since it can't be opened. `OutOfMemory` may come in place of
+/// any result.
 pub fn plan_msgcat_of<'a>(
     alloc: Global,
     inputs: Inputs<'a>,
@@ -27,15 +29,17 @@ pub fn plan_msgcat_of<'a>(
     ensures refused { inputs.entry.fault ≢ None → IfOk result (λ run. IsUnread (named_inputs inputs.entry) (run_view run)) }
     ensures fault { IfErr result (λ reported. (reported ≡ ProgramFault.OutOfMemory)
         ⊎ (HasNulName (named_inputs inputs.entry) (program_text reported))
-        ⊎ ((inputs.entry.fault ≡ Some reported) × ((read : List Named) × AreReadAs (named_inputs inputs.entry) read))) }
+        ⊎ ((inputs.entry.fault ≡ Some reported) × All (λ file. Lacks 0 file.name) (named_inputs inputs.entry)
+        × ((read : List Named) × AreReadAs (named_inputs inputs.entry) read))) }
+    ensures names { IfOk result (λ run. IsUnreadBeforeNul (named_inputs inputs.entry) (run_view run)) }
 
     // An input that can't be read is told where there is none before it.
     ensures first { named_inputs inputs.entry ≡ [] → IfSome inputs.entry.fault (λ fault. result ≡ Err fault) }
 {
     let fault = inputs.fault;
     let texts = inputs.borrowed(alloc)?;
-    if let Some(name) = name_with_nul(&texts) {
-        return Err(ProgramFault::CannotOpen(name));
+    if let Some((place, name)) = first_with_nul(&texts) {
+        return plan_msgcat_before(alloc, &texts[..place], ProgramFault::CannotOpen(name));
     }
     if let Some(fault) = fault {
         return plan_msgcat_before(alloc, &texts, fault);

@@ -1,6 +1,6 @@
 //! Several catalogues merged into one.
 
-ghost use Rattle.std.specs.Prelude.{◌≡◌, ◌<◌, ◌++◌, ◌∷◌, [], length, All, IfOk, IfErr, OnOk, map};
+ghost use Rattle.std.specs.Prelude.{◌≡◌, ◌<◌, ◌++◌, ◌∷◌, [], length, All, IfOk, IfErr, OnErr, OnOk, map};
 ghost use Rattle.po_entry.specs.Bytes.{Lacks};
 ghost use Rattle.po_entry.specs.EntryView.{entry_view};
 ghost use Rattle.po_entry.specs.TextEntry.{texts};
@@ -142,6 +142,7 @@ pub fn merge_definitions(
     ensures merged { OnOk result (merged.new
         ≡ merged.old ++ merged_entry options.now (named_entries definitions.now) ∷ []) }
     ensures fault { IfErr result (IsMergeFault (merged_entry options.now (named_entries definitions.now) ∷ [])) }
+    ensures unchanged { OnErr result (merged.new ≡ merged.old) }
 {
     let entry = merged_entry(alloc, options, definitions)?;
     match merged.push(entry) {

@@ -1,7 +1,74 @@
+use Rattle.std.proofs.Common.{ap, inl, subst, ◌∙◌}
+use Rattle.std.specs.Prelude.{All}
 use Rattle.std.proofs.lemmas.Bool.{false≢true}
+use Rattle.std.proofs.lemmas.Result.{IfOk-weaker}
+use Rattle.po_entry.specs.Bytes.{Lacks}
 use Rattle.runs.specs.Facts.RunEnds.{none_read}
+use Rattle.runs.specs.Inputs.{named_inputs}
+use Rattle.runs.specs.NamedFile.{named_files}
+use Rattle.runs.specs.Run.{run_view}
+use Rattle.msgcat.specs.Msgcat.{IsMsgcatRun, IsUnread}
+use Rattle.msgcat.proofs.UnreadBefore.{name_told, names_before, none_before, place_is, refused_before, refused_whole, some_file}
 use Rattle.msgcat.proofs.whole_run.plan_msgcat_of.Goals as goal
 
 pub returns-in_err-texts-clause-first : goal.returns-in_err-texts-clause-first
 returns-in_err-texts-clause-first c =
     λ none. absurd (false≢true (c.in_err-texts.ensures.none (none_read c.args.inputs none)))
+
+pub slice_bounds-plan_msgcat_before-end : goal.slice_bounds-plan_msgcat_before-end
+slice_bounds-plan_msgcat_before-end c =
+    place_is (named_inputs c.args.inputs) c.in_ok-texts.texts.items _ _ c.in_ok-texts.ensures.files
+    c.deref.ensures.value
+    c.deref-in-Some.ensures.value c.in-Some.place c.in-Some.name c.in-Some.ensures
+
+pub plan_msgcat_before-requires : goal.plan_msgcat_before-requires
+plan_msgcat_before-requires c =
+    names_before (named_inputs c.args.inputs) c.in_ok-texts.texts.items _ _ c.in_ok-texts.ensures.files
+    c.deref.ensures.value
+    c.deref-in-Some.ensures.value c.in-Some.place c.in-Some.name c.in-Some.ensures
+
+pub returns-in-Some-clause-whole : goal.returns-in-Some-clause-whole
+returns-in-Some-clause-whole c =
+    λ whole. IfOk-weaker c.plan_msgcat_before.result (λ run. IsUnread (named_inputs c.args.inputs) (run_view run))
+    (λ run. IsMsgcatRun (named_inputs c.args.inputs) c.args.options.now (run_view run)) (λ run unread. inl unread)
+    (refused_whole (named_inputs c.args.inputs) c.in_ok-texts.texts.items _ _ c.in_ok-texts.ensures.files
+    c.deref.ensures.value
+    c.deref-in-Some.ensures.value c.in-Some.place c.in-Some.name c.in-Some.ensures _
+    c.plan_msgcat_before.ensures.refused)
+
+pub returns-in-Some-clause-refused : goal.returns-in-Some-clause-refused
+returns-in-Some-clause-refused c =
+    λ fault. refused_whole (named_inputs c.args.inputs) c.in_ok-texts.texts.items _ _ c.in_ok-texts.ensures.files
+    c.deref.ensures.value
+    c.deref-in-Some.ensures.value c.in-Some.place c.in-Some.name c.in-Some.ensures _
+    c.plan_msgcat_before.ensures.refused
+
+pub returns-in-Some-clause-names : goal.returns-in-Some-clause-names
+returns-in-Some-clause-names c =
+    refused_before (named_inputs c.args.inputs) c.in_ok-texts.texts.items _ _ c.in_ok-texts.ensures.files
+    c.deref.ensures.value
+    c.deref-in-Some.ensures.value c.in-Some.place c.in-Some.name c.in-Some.ensures _
+    c.plan_msgcat_before.ensures.refused
+
+pub returns-in-Some-clause-fault : goal.returns-in-Some-clause-fault
+returns-in-Some-clause-fault c =
+    name_told (named_inputs c.args.inputs) c.in_ok-texts.texts.items _ _ c.in_ok-texts.ensures.files
+    c.deref.ensures.value
+    c.deref-in-Some.ensures.value c.in-Some.place c.in-Some.name c.in-Some.ensures _ _
+    c.plan_msgcat_before.ensures.fault
+
+pub returns-in-Some-clause-first : goal.returns-in-Some-clause-first
+returns-in-Some-clause-first c =
+    λ none. absurd (some_file
+    (named_inputs c.args.inputs) c.in_ok-texts.texts.items _ _ c.in_ok-texts.ensures.files c.deref.ensures.value
+    c.deref-in-Some.ensures.value c.in-Some.place c.in-Some.name c.in-Some.ensures none)
+
+pub returns-in-Some-fault-clause-names : goal.returns-in-Some-fault-clause-names
+returns-in-Some-fault-clause-names c =
+    none_before _ (named_inputs c.args.inputs) (subst (All (λ file. Lacks 0 file.name))
+    (ap named_files c.deref.ensures.value ∙ c.in_ok-texts.ensures.files) c.in_default.ensures)
+
+pub returns-clause-names : goal.returns-clause-names
+returns-clause-names c =
+    none_before _ (named_inputs c.args.inputs) (subst (All (λ file. Lacks 0 file.name))
+    (ap named_files c.deref.ensures.value ∙ c.in_ok-texts.ensures.files) c.in_default.ensures)

@@ -27,7 +27,8 @@ returns-clause-run g c =
     let read = c.in_ok-inputs.ensures in
     runs (record { are = read.inputs; asks = read.asked_read })
     (planned (named_inputs c.in_ok-inputs.inputs) c.args.options.now (run_view c.in_ok-run.run')
-    c.in_ok-inputs.inputs.fault c.in_ok-run.ensures.whole c.in_ok-run.ensures.refused)
+    c.in_ok-inputs.inputs.fault c.in_ok-run.ensures.whole c.in_ok-run.ensures.refused
+    c.in_ok-run.ensures.names)
     c.write.ensures
 
 pub returns-in_err-inputs-clause-asked : goal.returns-in_err-inputs-clause-asked

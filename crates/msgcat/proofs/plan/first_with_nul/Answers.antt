@@ -1,4 +1,4 @@
-use Rattle.std.proofs.Common.{[], ◌∷◌, ◌==◌, ap, get_or, refl, subst, sym, take, ◌∙◌}
+use Rattle.std.proofs.Common.{[], ◌∷◌, ◌==◌, ap, get_or, subst, sym, take, ◌∙◌}
 use Rattle.std.specs.Prelude.{All}
 use Rattle.std.specs.List.{list_any}
 use Rattle.std.proofs.lemmas.List.{map-append, take_all, take_more}
@@ -6,37 +6,32 @@ use Rattle.std.proofs.lemmas.List.Elements.{All-push}
 use Rattle.po_entry.specs.Bytes.{Lacks}
 use Rattle.runs.specs.NamedFile.{named_file, named_files}
 use Rattle.msgcat.proofs.MsgcatLemmas.{no_file}
-use Rattle.msgcat.proofs.NulNames.{among, holds, lacks, nul_is_found}
-use Rattle.msgcat.proofs.plan.name_with_nul.Goals as goal
+use Rattle.msgcat.proofs.NulNames.{first_nul, holds, lacks, nul_is_found}
+use Rattle.msgcat.proofs.plan.first_with_nul.Goals as goal
 
 pub returns-then-is_some : goal.returns-then-is_some
 returns-then-is_some c =
     let found = c.is_some.ensures ∙ nul_is_found _ _ c.memchr.ensures
     ∙ ap (list_any (λ b. b == 0)) c.as_bytes.ensures.value in
     let files = c.args.files.now in
-    let i = c.loop-file.file-index in
-    let file = get_or files i no_file in
-    record {
-      file = named_file file;
-      among = among files i no_file c.loop-file-test.true;
-      nul = holds file.0.now (sym found ∙ c.if-is_some.true);
-      text_is = refl;
-    }
+    let i = c.loop-place.place in
+    first_nul files i no_file c.loop-place-test.true c.loop-place.invariant
+    (holds (get_or files i no_file).0.now (sym found ∙ c.if-is_some.true))
 
-pub loop-file-preserved : goal.loop-file-preserved
-loop-file-preserved c =
+pub loop-place-preserved : goal.loop-place-preserved
+loop-place-preserved c =
     let found = c.is_some.ensures ∙ nul_is_found _ _ c.memchr.ensures
     ∙ ap (list_any (λ b. b == 0)) c.as_bytes.ensures.value in
     let files = c.args.files.now in
-    let i = c.loop-file.file-index in
+    let i = c.loop-place.place in
     let file = get_or files i no_file in
     subst (All (λ file. Lacks 0 file.name))
-    (sym (ap named_files (take_more files i no_file c.loop-file-test.true)
+    (sym (ap named_files (take_more files i no_file c.loop-place-test.true)
     ∙ map-append named_file (take i files) (file ∷ [])))
-    (All-push (λ file. Lacks 0 file.name) (named_files (take i files)) (named_file file) c.loop-file.invariant
+    (All-push (λ file. Lacks 0 file.name) (named_files (take i files)) (named_file file) c.loop-place.invariant
     (lacks file.0.now (sym found ∙ c.if-is_some.false)))
 
 pub returns : goal.returns
 returns c =
-    let past = c.loop-file-test.false in
-    rw take_all at c.loop-file.invariant
+    let past = c.loop-place-test.false in
+    rw take_all at c.loop-place.invariant

@@ -1,0 +1,9 @@
+use Rattle.std.proofs.Common.{take}
+use Rattle.std.specs.Prelude.{All}
+use Rattle.po_entry.specs.Bytes.{Lacks}
+use Rattle.runs.specs.NamedFile.{named_files}
+use Rattle.msgcat.proofs.plan.first_with_nul.Given as goal
+
+-- no name so far holds NUL
+abbrev pub invariant-loop-place : goal.invariant-loop-place
+invariant-loop-place l = All (λ file. Lacks 0 file.name) (named_files (take l.place l.files))

@@ -1,9 +1,0 @@
-use Rattle.std.proofs.Common.{take}
-use Rattle.std.specs.Prelude.{All}
-use Rattle.po_entry.specs.Bytes.{Lacks}
-use Rattle.runs.specs.NamedFile.{named_files}
-use Rattle.msgcat.proofs.plan.name_with_nul.Given as goal
-
--- no name so far holds NUL
-abbrev pub invariant-loop-file : goal.invariant-loop-file
-invariant-loop-file l = All (λ file. Lacks 0 file.name) (named_files (take l.file-index l.files))
