@@ -1,20 +1,17 @@
 # pokit: proved, built, shown, tested and installed.
 PREFIX ?= /usr/local
-export DESTDIR PREFIX LIBDIR
+export DESTDIR PREFIX LIBDIR TARGET
 
 # With TARGET=aarch64-linux-gnu: the libraries alone, for that processor, in build/aarch64-linux-gnu. They are proved as
 # those of this one are; the C is compiled by a cross compiler, TARGET-gcc.
 ifdef TARGET
-all:
-	@scripts/needs-rt
-	@scripts/build --target $(TARGET)
-	@CC="$(TARGET)-gcc" scripts/shared build/$(TARGET)/libpokit.a build/$(TARGET)
-	@CC="$(TARGET)-gcc" AR="$(TARGET)-ar" scripts/intl build/$(TARGET)/libpokit.a build/$(TARGET)
-
-# Their tests, where qemu-user is there to run them.
-test: all
-	@tests/cross/run $(TARGET) build/$(TARGET)/libpokit.a build/pokit $(ROOT)
+built = build/$(TARGET)
+compiler = CC="$(TARGET)-gcc" AR="$(TARGET)-ar"
+needed = $(built)/libpokit.a
 else
+built = build
+needed = build/pokit build/libpokit.a
+endif
 
 all: proved
 	@$(MAKE) --no-print-directory libraries
@@ -22,18 +19,24 @@ all: proved
 # Proves what has changed, and builds build/pokit and build/libpokit.a: the program, and the look-up for C.
 proved:
 	@scripts/needs-rt
-	@scripts/build
+	@scripts/build $(if $(TARGET),--target $(TARGET))
 
 # The look-up as a shared library too, with an export for each function of pokit.h, and the drop-in for libintl, shared
 # and as an archive, where there is a C compiler.
-libraries: build/libpokit.so.0 build/libpokit_intl.so.0
+libraries: $(built)/libpokit.so.0 $(built)/libpokit_intl.so.0
+	@:
 
-build/libpokit.so.0: build/libpokit.a include/pokit.c include/pokit.h
-	@scripts/shared $< build
+$(built)/libpokit.so.0: $(built)/libpokit.a include/pokit.c $(wildcard include/*.h)
+	@$(compiler) scripts/shared $< $(built)
 
-build/libpokit_intl.so.0: build/libpokit.a $(wildcard intl/*) include/pokit.h
-	@scripts/intl $< build
+$(built)/libpokit_intl.so.0: $(built)/libpokit.a $(wildcard intl/* include/*.h)
+	@$(compiler) scripts/intl $< $(built)
 
+ifdef TARGET
+# The tests of these libraries, where qemu-user is there to run them.
+test: all
+	@tests/cross/run $(TARGET) $(built)/libpokit.a build/pokit $(ROOT)
+else
 # Compiles the examples, and asks messages of them.
 demo: all
 	@examples/demo build/pokit build/libpokit.a
@@ -64,12 +67,12 @@ bench-lookup: proved
 	bench/lookup
 
 # The program, GNU's names for its tools in a folder of their own, manuals, completions, documents, and the libraries
-# for C in LIBDIR, or PREFIX/lib. What was proved is installed as it is.
-install: $(if $(and $(wildcard build/pokit),$(wildcard build/libpokit.a)),libraries,all)
-	scripts/install install "$$DESTDIR" "$$PREFIX" "$$LIBDIR"
+# for C in LIBDIR, or PREFIX/lib; with TARGET the libraries alone. What was proved is installed as it is.
+install: $(if $(filter-out $(wildcard $(needed)),$(needed)),all,libraries)
+	scripts/install install
 
 uninstall:
-	scripts/install uninstall "$$DESTDIR" "$$PREFIX" "$$LIBDIR"
+	scripts/install uninstall
 
 # Everything that was made: the proofs too, which `make` then makes again from nothing.
 clean:
