@@ -21,6 +21,11 @@ def place(ratio, low, high):
     return LABEL + WIDTH * math.log(ratio / low) / math.log(high / low)
 
 
+def shown(ratio):
+    """A ratio with two digits."""
+    return f"{ratio:.0f}" if ratio >= 10 else f"{ratio:#.2g}"
+
+
 def text(x, y, words, more=""):
     return f'<text x="{x:.1f}" y="{y}"{more}>{escape(words)}</text>'
 
@@ -57,5 +62,5 @@ def chart(title, bars):
         long = f"{right - left:.1f}"
         out.append(text(LABEL - 10, y + 14, label, ' text-anchor="end"'))
         out.append(f'<rect class="bar" x="{left:.1f}" y="{y + 2}" width="{long}" height="16"/>')
-        out.append(text(right + 6, y + 14, f"{ratio:.3g}"))
+        out.append(text(right + 6, y + 14, shown(ratio)))
     return "\n".join(out) + "\n</svg>\n"
