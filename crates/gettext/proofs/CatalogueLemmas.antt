@@ -1,9 +1,9 @@
 -- The catalogues of some paths, and those of the paths after them.
-use Rattle.std.proofs.Common.{◌≡◌, ◌+◌, ◌<◌, ◌≤◌, ℕ, List, [], ◌∷◌, ◌++◌, Option, None, Some, map, drop, get_or, length, drop_of_length-le, append-nil, append_assoc, ap, subst}
+use Rattle.std.proofs.Common.{◌≡◌, ◌+◌, ◌<◌, ◌≤◌, ℕ, List, [], ◌∷◌, ◌++◌, Option, None, Some, inl, inr, map, drop, get_or, length, drop_of_length-le, append-nil, append_assoc, ap, subst}
 use Rattle.std.proofs.lemmas.List.{drop_more}
 use Rattle.std.specs.Global.{Vec}
 use Rattle.gettext.specs.Catalogues.{AreCatalogues, AsksAt, AsksPaths, IsCatalogueAt, done, found, none, next, skipped}
-use Rattle.runs.specs.Inputs.{Asked, Reading}
+use Rattle.runs.specs.Inputs.{Asked, Reading, Stays}
 use Rattle.runs.specs.NamedFile.{NamedFile}
 
 abbrev pub path_texts : List (Vec ℕ) → List (List ℕ)
@@ -63,3 +63,21 @@ module _ (file : List ℕ → Reading → Type 0) where
   completes-all paths i catalogues past before =
       subst (AreCatalogues file (path_texts paths)) (append-nil catalogues)
       (before.completes [] (rw (drop_of_length-le paths past) done))
+
+-- what may be read stays
+pub stays_itself : (file : List ℕ → Reading → Type 0) (standard : Reading → Type 0) → Stays file file standard standard
+stays_itself file standard = record { of_file = λ name reading is. is; of_standard = λ reading is. is }
+
+pub stays_on : {f f' f'' : List ℕ → Reading → Type 0} {s s' s'' : Reading → Type 0} → Stays f f' s s'
+    → Stays f' f'' s' s'' → Stays f f'' s s''
+stays_on first then =
+    record {
+      of_file = λ name reading is. first.of_file name reading (then.of_file name reading is);
+      of_standard = λ reading is. first.of_standard reading (then.of_standard reading is);
+    }
+
+pub catalogue_as_before : {f f' : List ℕ → Reading → Type 0} {s s' : Reading → Type 0} → Stays f f' s s'
+    → (path : List ℕ) (catalogue : Option NamedFile) → IsCatalogueAt f' path catalogue → IsCatalogueAt f path catalogue
+catalogue_as_before stays path None (inl unread) = inl unread
+catalogue_as_before stays path None (inr is) = inr (is.0, is.1, stays.of_file path _ is.2)
+catalogue_as_before stays path (Some catalogue) is = (is.0, stays.of_file path _ is.1)

@@ -3,6 +3,7 @@ ghost use Rattle.std.specs.Prelude.{◌≡◌, ◌-◌, ◌^◌, ◌<◌, IfOk, 
 ghost use Rattle.std.specs.Option.{option_copied};
 ghost use Rattle.gettext.specs.Catalogues.{AreCatalogues, AreFound, AsksAt, AsksPaths, IsCatalogueAt};
 ghost use Rattle.gettext.specs.Catalogues.{catalogue_file, catalogue_files, given_domain, searching};
+ghost use Rattle.runs.specs.Inputs.{Stays};
 ghost use Rattle.runs.specs.NamedFile.{named_files};
 
 use crate::environment::{OwnedEnvironment, VariableSource};
@@ -30,7 +31,7 @@ pub fn find_catalogues<S: InputSource + VariableSource>(
     option: Option<&str>,
 ) -> Result<Vec<CatalogueFile>, AllocError>
     ensures { IfOk result (λ found. AreFound
-        (searching (S.variable source.old) S.file (S.asked source.old) (S.asked source.new))
+        (searching (S.variable source.old) (S.file source.old) (S.asked source.old) (S.asked source.new))
         (given_domain (option_copied argument.entry) (option_copied option.entry)) (catalogue_files found.items)) }
 {
     let searched = {
@@ -63,7 +64,7 @@ pub fn read_catalogues<S: InputSource>(
     source: &mut S,
     paths: &[Vec<u8>],
 ) -> Result<Vec<CatalogueFile>, AllocError>
-    ensures catalogues { IfOk result (λ found. AreCatalogues S.file
+    ensures catalogues { IfOk result (λ found. AreCatalogues (S.file source.old)
         (map (λ path. path.items) paths.now) (catalogue_files found.items)) }
     ensures asked { OnOk result (AsksPaths (S.asked source.old) (map (λ path. path.items) paths.now)
         (S.asked source.new)) }
@@ -87,7 +88,8 @@ fn read_catalogue<S: InputSource>(
     source: &mut S,
     path: &[u8],
 ) -> Result<Option<CatalogueFile>, AllocError>
-    ensures catalogue { IfOk result (λ found. IsCatalogueAt S.file path.now (option_map catalogue_file found)) }
+    ensures catalogue { IfOk result (λ found. IsCatalogueAt (S.file source.old) path.now (option_map catalogue_file found)) }
+    ensures stays { Stays (S.file source.old) (S.file source.new) (S.standard source.old) (S.standard source.new) }
     ensures asked { AsksAt (S.asked source.old) (S.asked source.new) path.now }
     ensures found { IfOk result (λ found. IfSome found (λ _. S.refused source.new → ⊥)) }
     ensures memory { OnErr result (S.refused source.new → ⊥) }

@@ -25,7 +25,7 @@ pub fn run_gettext<S: InputSource + VariableSource, F: OutputFiles, O: ByteOut, 
 ) -> Result<u8, ProgramFault<'static>>
     requires out { system.old.out.failures < 2 ^ 63 }
     requires err { system.old.err.failures < 2 ^ 63 }
-    ensures { RunsLookUp (searching (S.variable source.old) S.file (S.asked source.old) (S.asked source.new))
+    ensures { RunsLookUp (searching (S.variable source.old) (S.file source.old) (S.asked source.old) (S.asked source.new))
         (given_domain (option_copied argument.entry) (option_copied domain.entry))
         (λ files run. IsGettextRun files (gettext_view options.now) run) system.old system.new result }
 {
@@ -51,7 +51,7 @@ pub fn run_ngettext<S: InputSource + VariableSource, F: OutputFiles, O: ByteOut,
 ) -> Result<u8, ProgramFault<'static>>
     requires out { system.old.out.failures < 2 ^ 63 }
     requires err { system.old.err.failures < 2 ^ 63 }
-    ensures { RunsLookUp (searching (S.variable source.old) S.file (S.asked source.old) (S.asked source.new))
+    ensures { RunsLookUp (searching (S.variable source.old) (S.file source.old) (S.asked source.old) (S.asked source.new))
         (given_domain (option_copied argument.entry) (option_copied domain.entry))
         (λ files run. IsNgettextRun files (ngettext_view options.now) run) system.old system.new result }
 {

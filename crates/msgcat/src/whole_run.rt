@@ -66,7 +66,7 @@ pub fn run<'a, S: InputSource, F: OutputFiles, O: ByteOut, E: ByteOut>(
     // Each input is asked for in its turn, and standard input once at most.
     ensures asked { AsksFirst (S.asked source.old) (S.asked source.new)
         (asked_by false (map (λ argument. argument.now) arguments.now)) }
-    ensures run { RunsMsgcat (asking S.file S.standard (S.asked source.old) (S.asked source.new) (S.refused source.new))
+    ensures run { RunsMsgcat (asking (S.file source.old) (S.standard source.old) (S.asked source.old) (S.asked source.new) (S.refused source.new))
         options.now (map (λ argument. argument.now) arguments.now) output.now system.old system.new result }
 {
     let inputs = Inputs::read(alloc, source, arguments)?;

@@ -25,7 +25,7 @@ pub fn run<'a, S: InputSource, F: OutputFiles, O: ByteOut, E: ByteOut>(
     // The input is asked for once, and nothing else.
     ensures asked { Asks (S.asked source.old) (S.asked source.new)
         (asked_for argument.now (is_standard argument.now) false) }
-    ensures run { RunsInput (asking S.file S.standard (S.asked source.old) (S.asked source.new) (S.refused source.new))
+    ensures run { RunsInput (asking (S.file source.old) (S.standard source.old) (S.asked source.old) (S.asked source.new) (S.refused source.new))
         IsMsgunfmtRun argument.now output.now system.old system.new result }
 {
     let bytes = read_one(alloc, source, argument)?;

@@ -40,7 +40,7 @@ where
     requires err { system.old.err.failures < 2 ^ 63 }
     ensures { RunsTool tool
         (line_of (A.flag given.now) (A.text given.now) (A.texts given.now) (A.number given.now))
-        (answers_of S.file S.standard (S.variable source.old) (S.entries source.old)) (S.refused source.new)
+        (answers_of (S.file source.old) (S.standard source.old) (S.variable source.old) (S.entries source.old)) (S.refused source.new)
         (reached (S.asked source.old)
         (reader_of (R.remaining reader.old) (R.calls reader.old) (R.failures reader.old)) system.old)
         (reached (S.asked source.new)
@@ -89,7 +89,7 @@ where
     requires err { system.old.err.failures < 2 ^ 63 }
     ensures { (reader : ReaderView) → RunsGettextLine
         (line_of (A.flag given.now) (A.text given.now) (A.texts given.now) (A.number given.now))
-        (answers_of S.file S.standard (S.variable source.old) (S.entries source.old))
+        (answers_of (S.file source.old) (S.standard source.old) (S.variable source.old) (S.entries source.old))
         (reached (S.asked source.old) reader system.old) (reached (S.asked source.new) reader system.new) result }
 {
     let arguments = GettextArguments::given(given)?;
@@ -111,7 +111,7 @@ where
     requires err { system.old.err.failures < 2 ^ 63 }
     ensures { (reader : ReaderView) → RunsNgettextLine
         (line_of (A.flag given.now) (A.text given.now) (A.texts given.now) (A.number given.now))
-        (answers_of S.file S.standard (S.variable source.old) (S.entries source.old))
+        (answers_of (S.file source.old) (S.standard source.old) (S.variable source.old) (S.entries source.old))
         (reached (S.asked source.old) reader system.old) (reached (S.asked source.new) reader system.new) result }
 {
     let arguments = NgettextArguments::given(given)?;
@@ -135,7 +135,7 @@ where
     requires out { system.old.out.failures < 2 ^ 63 }
     ensures { (asked : Option (List Asked)) → RunsEnvsubstLine
         (line_of (A.flag given.now) (A.text given.now) (A.texts given.now) (A.number given.now))
-        (answers_of S.file S.standard (S.variable source.now) (S.entries source.now))
+        (answers_of (S.file source.now) (S.standard source.now) (S.variable source.now) (S.entries source.now))
         (reached asked (reader_of (R.remaining reader.old) (R.calls reader.old) (R.failures reader.old)) system.old)
         (reached asked (reader_of (R.remaining reader.new) (R.calls reader.new) (R.failures reader.new)) system.new)
         result }

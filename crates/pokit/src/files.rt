@@ -27,9 +27,9 @@ pub(crate) struct System<'r, R>(pub(crate) &'r R);
 impl<'r, R: Files + Input> InputSource for System<'r, R> {
     ghost use Rattle.std.specs.Prelude.{None};
 
-    ghost file = { λ _ _. Unit {0} };
+    ghost file = { λ _ _ _. Unit {0} };
 
-    ghost standard = { λ _. Unit {0} };
+    ghost standard = { λ _ _. Unit {0} };
 
     ghost asked = { λ _. None };
 

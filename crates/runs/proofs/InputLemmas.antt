@@ -1,5 +1,5 @@
 -- The arguments that are left to read, and what they add to the inputs before.
-use Rattle.std.proofs.Common.{◌∙◌, sym, ◌≡◌, ◌≤◌, ◌<◌, ◌+◌, ◌||◌, ℕ, Bool, false, List, [], ◌∷◌, ◌++◌, Option, None, Some, refl, take, drop, take-append-drop, get_or, map, length, ap, subst, append_assoc, append-nil, drop_of_length-le, arith, ◌-◌}
+use Rattle.std.proofs.Common.{◌∙◌, sym, ◌≡◌, ◌≤◌, ◌<◌, ◌+◌, ◌||◌, ℕ, Bool, true, false, List, [], ◌∷◌, ◌++◌, Option, None, Some, refl, take, drop, take-append-drop, get_or, map, length, ap, subst, append_assoc, append-nil, drop_of_length-le, arith, ◌-◌}
 use Rattle.std.proofs.lemmas.List.{drop-append-le, drop_more, length-drop, map-append, take-append-le, take-map, take_more}
 use Rattle.std.proofs.Math.Seq.{take-length}
 use Rattle.std.proofs.lemmas.List.Sums.{sum_by-append}
@@ -7,7 +7,7 @@ use Rattle.std.specs.List.{sum_by}
 use Rattle.std.specs.Borrow.{Bor}
 use Rattle.runs.specs.declared.inputs.Input.{Input}
 use Rattle.runs.specs.declared.inputs.InputFault.{InputFault}
-use Rattle.runs.specs.Inputs.{AreInputs, Asked, Asks, AsksFirst, ReadsAs, Reading, asked_arguments, asked_by, asked_for, gives, refuses, done, read, unread, input_fault_text, inputs_in}
+use Rattle.runs.specs.Inputs.{AreInputs, Asked, Asks, AsksFirst, ReadsAs, Reading, Stays, asked_arguments, asked_by, asked_for, gives, refuses, done, read, unread, input_fault_text, inputs_in}
 use Rattle.runs.specs.NamedFile.{NamedFile}
 use Rattle.runs.specs.Run.{is_standard, shown_name}
 
@@ -181,3 +181,22 @@ module _ (file : List ℕ → Reading → Type 0) (standard : Reading → Type 0
   Completes-all arguments i seen inputs past before =
       let Are : List NamedFile → Type 0 = λ list. AreInputs file standard false (arguments_now arguments) list None in
       subst Are (append-nil inputs) (before.completes [] None (rw (drop_of_length-le arguments past) done))
+
+-- what may be read stays
+pub stays_itself : (file : List ℕ → Reading → Type 0) (standard : Reading → Type 0) → Stays file file standard standard
+stays_itself file standard = record { of_file = λ name reading is. is; of_standard = λ reading is. is }
+
+pub stays_on : {f f' f'' : List ℕ → Reading → Type 0} {s s' s'' : Reading → Type 0} → Stays f f' s s'
+    → Stays f' f'' s' s'' → Stays f f'' s s''
+stays_on first then =
+    record {
+      of_file = λ name reading is. first.of_file name reading (then.of_file name reading is);
+      of_standard = λ reading is. first.of_standard reading (then.of_standard reading is);
+    }
+
+pub reads_as_before : {f f' : List ℕ → Reading → Type 0} {s s' : Reading → Type 0}
+    → Stays f f' s s' → (argument : List ℕ) (standard seen : Bool) (reading : Reading)
+    → ReadsAs f' s' argument standard seen reading → ReadsAs f s argument standard seen reading
+reads_as_before stays argument false seen reading is = stays.of_file argument reading is
+reads_as_before stays argument true false reading is = stays.of_standard reading is
+reads_as_before stays argument true true reading is = is

@@ -20,6 +20,11 @@ ReadsAs file standard argument false seen reading = file argument reading
 ReadsAs file standard argument true false reading = standard reading
 ReadsAs file standard argument true true reading = reading ≡ gives []
 
+-- what each input may be read as now it may also have been before
+pub record Stays (file file' : List ℕ → Reading → Type 0) (standard standard' : Reading → Type 0) : Type 0 where
+  pub of_file : (name : List ℕ) (reading : Reading) → file' name reading → file name reading
+  pub of_standard : (reading : Reading) → standard' reading → standard reading
+
 -- what is wrong with an input that can't be read
 abbrev pub input_fault_text : List ℕ → InputFault → List ℕ
 input_fault_text name CannotOpen = name ++ codes ": cannot open"

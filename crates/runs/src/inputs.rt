@@ -1,6 +1,6 @@
 //! The inputs of a tool, read in the order of the command line.
 ghost use Rattle.std.specs.Prelude.{◌≡◌, ◌≢◌, ◌↔◌, ◌⊎◌, ◌^◌, ◌+◌, ◌<◌, ◌≤◌, ◌∷◌, [], drop, take, vec_len, Err, IfErr, IfSome, IsErrOf, IsOk, OnErr, OnOk, map, option_map, false, true, None, Some, MatchResult, IfOk};
-ghost use Rattle.runs.specs.Inputs.{AreInputs, Asks, AsksFirst, IsInputFault, ReadsAs, asked_arguments, asked_by, asked_for, gives, refuses, named_inputs, input_fault_text};
+ghost use Rattle.runs.specs.Inputs.{AreInputs, Asks, AsksFirst, IsInputFault, ReadsAs, Stays, asked_arguments, asked_by, asked_for, gives, refuses, named_inputs, input_fault_text};
 ghost use Rattle.runs.specs.NamedFile.{named_files};
 ghost use Rattle.runs.specs.ProgramFaults.{program_text};
 ghost use Rattle.runs.specs.Run.{is_standard, shown_name};
@@ -32,13 +32,13 @@ impl From<AllocError> for InputFault {
 /// Where inputs are read from: the files of a system, and its standard input.
 pub trait InputSource {
     ghost use Rattle.std.specs.Prelude.{ℕ, List, Option, drop, take, vec_len};
-    ghost use Rattle.runs.specs.Inputs.{Asked, Asks, Reading, gives, refuses, file_of, standard_input};
+    ghost use Rattle.runs.specs.Inputs.{Asked, Asks, Reading, Stays, gives, refuses, file_of, standard_input};
 
     // What reading the file of a name may come to.
-    ghost file: { List ℕ → Reading → Type 0 };
+    ghost file: { Self → List ℕ → Reading → Type 0 };
 
     // What reading standard input may come to.
-    ghost standard: { Reading → Type 0 };
+    ghost standard: { Self → Reading → Type 0 };
 
     // What it was asked for so far, where that is known.
     ghost asked: { Self → Option (List Asked) };
@@ -51,8 +51,9 @@ pub trait InputSource {
     fn read_file(&mut self, bytes: &mut Vec<u8>, name: &str) -> Result<(), InputFault>
         ensures before { take (vec_len bytes.old) bytes.new.items ≡ bytes.old.items }
         ensures reading { MatchResult result
-            (λ _. file name.now (gives (drop (vec_len bytes.old) bytes.new.items)))
-            (λ why. (why ≡ InputFault.OutOfMemory) ⊎ file name.now (refuses why)) }
+            (λ _. file self.old name.now (gives (drop (vec_len bytes.old) bytes.new.items)))
+            (λ why. (why ≡ InputFault.OutOfMemory) ⊎ file self.old name.now (refuses why)) }
+        ensures stays { Stays (file self.old) (file self.new) (standard self.old) (standard self.new) }
         ensures asked { Asks (asked self.old) (asked self.new) (file_of name.now ∷ []) }
         ensures refused { MatchResult result (λ _. refused self.new → ⊥)
             (λ why. why ≡ InputFault.OutOfMemory → refused self.new → ⊥) };
@@ -61,8 +62,9 @@ pub trait InputSource {
     fn read_standard(&mut self, bytes: &mut Vec<u8>) -> Result<(), InputFault>
         ensures before { take (vec_len bytes.old) bytes.new.items ≡ bytes.old.items }
         ensures reading { MatchResult result
-            (λ _. standard (gives (drop (vec_len bytes.old) bytes.new.items)))
-            (λ why. (why ≡ InputFault.OutOfMemory) ⊎ standard (refuses why)) }
+            (λ _. standard self.old (gives (drop (vec_len bytes.old) bytes.new.items)))
+            (λ why. (why ≡ InputFault.OutOfMemory) ⊎ standard self.old (refuses why)) }
+        ensures stays { Stays (file self.old) (file self.new) (standard self.old) (standard self.new) }
         ensures asked { Asks (asked self.old) (asked self.new) (standard_input ∷ []) }
         ensures refused { MatchResult result (λ _. refused self.new → ⊥)
             (λ why. why ≡ InputFault.OutOfMemory → refused self.new → ⊥) };
@@ -98,9 +100,10 @@ impl<'a> Inputs<'a> {
         source: &mut S,
         arguments: &[&'a str],
     ) -> Result<Inputs<'a>, AllocError>
-        ensures inputs { IfOk result (λ inputs. AreInputs S.file S.standard false
+        ensures inputs { IfOk result (λ inputs. AreInputs (S.file source.old) (S.standard source.old) false
             (map (λ argument. argument.now) arguments.now) (named_inputs inputs)
             (option_map program_text inputs.fault)) }
+        ensures stays { Stays (S.file source.old) (S.file source.new) (S.standard source.old) (S.standard source.new) }
 
         // Each is asked for in its turn, and standard input once at most.
         ensures asked { AsksFirst (S.asked source.old) (S.asked source.new)
@@ -167,10 +170,11 @@ pub fn read_one<'a, S: InputSource>(
     argument: &'a str,
 ) -> Result<Vec<u8>, ProgramFault<'a>>
     ensures bytes { IfOk result (λ bytes.
-        ReadsAs S.file S.standard argument.now (is_standard argument.now) false
+        ReadsAs (S.file source.old) (S.standard source.old) argument.now (is_standard argument.now) false
         (gives bytes.items)) }
     ensures fault { IfErr result (λ reported. (reported ≡ ProgramFault.OutOfMemory)
-        ⊎ IsInputFault S.file S.standard argument.now (program_text reported)) }
+        ⊎ IsInputFault (S.file source.old) (S.standard source.old) argument.now (program_text reported)) }
+    ensures stays { Stays (S.file source.old) (S.file source.new) (S.standard source.old) (S.standard source.new) }
     ensures asked { Asks (S.asked source.old) (S.asked source.new)
         (asked_for argument.now (is_standard argument.now) false) }
 
@@ -194,10 +198,11 @@ fn read_argument<S: InputSource>(
 ) -> Result<(), InputFault>
     ensures before { take (vec_len bytes.old) bytes.new.items ≡ bytes.old.items }
     ensures reading { MatchResult result
-        (λ _. ReadsAs S.file S.standard argument.now (is_standard argument.now) is_stdin_read
+        (λ _. ReadsAs (S.file source.old) (S.standard source.old) argument.now (is_standard argument.now) is_stdin_read
         (gives (drop (vec_len bytes.old) bytes.new.items)))
         (λ why. (why ≡ InputFault.OutOfMemory)
-        ⊎ ReadsAs S.file S.standard argument.now (is_standard argument.now) is_stdin_read (refuses why)) }
+        ⊎ ReadsAs (S.file source.old) (S.standard source.old) argument.now (is_standard argument.now) is_stdin_read (refuses why)) }
+    ensures stays { Stays (S.file source.old) (S.file source.new) (S.standard source.old) (S.standard source.new) }
     ensures asked { Asks (S.asked source.old) (S.asked source.new)
         (asked_for argument.now (is_standard argument.now) is_stdin_read) }
     ensures refused { MatchResult result

@@ -34,9 +34,11 @@ pub fn whole_or_as_it_was()
 /// Arguments have one list of inputs, up to the same that can't be read, where the system reads
 /// each as one thing.
 pub fn inputs_are_one<S: InputSource>()
-    ensures { (arguments : List (List ℕ)) (inputs others : List NamedFile) (fault other : Option (List ℕ))
-        → HasOneReading S.file S.standard → AreInputs S.file S.standard false arguments inputs fault
-        → AreInputs S.file S.standard false arguments others other → (inputs ≡ others) × (fault ≡ other) }
+    ensures { (source : S) (arguments : List (List ℕ)) (inputs others : List NamedFile) (fault other : Option (List ℕ))
+        → HasOneReading (S.file source) (S.standard source)
+        → AreInputs (S.file source) (S.standard source) false arguments inputs fault
+        → AreInputs (S.file source) (S.standard source) false arguments others other
+        → (inputs ≡ others) × (fault ≡ other) }
 {}
 
 /// A run that is written has its status, and all of it is there: its output where the path of its
@@ -86,9 +88,9 @@ pub fn rights_are_kept()
 /// The inputs of arguments are the files of their names but `-`, in their order, and standard input
 /// for the first `-`; each further `-` is an empty text.
 pub fn inputs_stand_in_turn<S: InputSource>()
-    ensures { (arguments : List (List ℕ)) (inputs : List NamedFile) (fault : Option (List ℕ))
-        → AreInputs S.file S.standard false arguments inputs fault
-        ↔ AreInputsInTurn S.file S.standard arguments inputs fault }
+    ensures { (source : S) (arguments : List (List ℕ)) (inputs : List NamedFile) (fault : Option (List ℕ))
+        → AreInputs (S.file source) (S.standard source) false arguments inputs fault
+        ↔ AreInputsInTurn (S.file source) (S.standard source) arguments inputs fault }
 {}
 
 /// Arguments ask for the file of each name but `-`, in their order, and for standard input once, in

@@ -74,9 +74,9 @@ pub(crate) struct FakeSource {
 }
 
 impl InputSource for FakeSource {
-    ghost file = { λ _ _. Unit {0} };
+    ghost file = { λ _ _ _. Unit {0} };
 
-    ghost standard = { λ _. Unit {0} };
+    ghost standard = { λ _ _. Unit {0} };
 
     ghost asked = { λ _. None };
 

@@ -3,5 +3,6 @@ use Rattle.runs.proofs.OneInputs.{one_list}
 use Rattle.runs.proofs.laws.inputs_are_one.Goals as goal
 
 pub returns : goal.returns
-returns g c = λ arguments inputs others fault other one.
-    one_list g.S.InputSource.file g.S.InputSource.standard one false arguments inputs others fault other
+returns g c = λ source arguments inputs others fault other one.
+    one_list (g.S.InputSource.file source)
+    (g.S.InputSource.standard source) one false arguments inputs others fault other

@@ -2,4 +2,4 @@ use Rattle.runs.proofs.InputsInTurn.{inputs_in_turn}
 use Rattle.runs.proofs.laws.inputs_stand_in_turn.Goals as goal
 
 pub returns : goal.returns
-returns g c = inputs_in_turn g.S.InputSource.file g.S.InputSource.standard
+returns g c source = inputs_in_turn (g.S.InputSource.file source) (g.S.InputSource.standard source)

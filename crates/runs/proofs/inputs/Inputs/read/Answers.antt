@@ -5,13 +5,14 @@ use Rattle.runs.specs.NamedFile.{NamedFile}
 use Rattle.std.proofs.lemmas.List.{length-take, places}
 use Rattle.std.proofs.lemmas.List.Sums.{sum_by-append}
 use Rattle.std.specs.List.{sum_by}
-use Rattle.runs.proofs.InputLemmas.{AsksBefore, AsksBefore-read, AsksBefore-unread, AsksBefore-first, AsksBefore-more, AsksBefore-none, Completes, Completes-none, Completes-read, Completes-unread, Completes-all, inputs-before, inputs-more}
+use Rattle.runs.proofs.InputLemmas.{AsksBefore, AsksBefore-read, AsksBefore-unread, AsksBefore-first, AsksBefore-more, AsksBefore-none, Completes, Completes-none, Completes-read, Completes-unread, Completes-all, inputs-before, inputs-more, reads_as_before, stays_itself, stays_on}
 use Rattle.runs.proofs.inputs.Inputs.read.Goals as goal
 use Rattle.runs.proofs.inputs.Inputs.read.Goals.{then-is_stdin_read, else-is_stdin_read}
 
 pub loop-argument-init : goal.loop-argument-init
 loop-argument-init g c = record {
   inputs = rw c.new-texts.ensures.items (Completes-none _ _ _);
+  stays = stays_itself _ _;
   all = rw (c.new-texts.ensures.items, c.new-bytes.ensures.len) refl;
   asked = AsksBefore-none _ _;
   refused = λ seen. absurd cc;
@@ -40,7 +41,8 @@ loop-argument-preserved g c =
     let after = c.read_argument.new.bytes.items in
     let so_far = inputs_in before c.loop-argument.texts.items in
     let Completed : Bool → List NamedFile → Type 0 =
-    λ seen list. Completes g.S.InputSource.file g.S.InputSource.standard c.args.arguments.now
+    λ seen list. Completes (g.S.InputSource.file c.args.source.now) (g.S.InputSource.standard c.args.source.now)
+    c.args.arguments.now
     (c.loop-argument.argument-index + 1) seen list in
     let AskedOnce : Bool → Type 0 =
     λ seen. AsksBefore (g.S.InputSource.asked c.args.source.now)
@@ -54,7 +56,10 @@ loop-argument-preserved g c =
       inputs = subst (λ seen. Completed seen (inputs_in after c.push.new.self.items)) seen
           (subst (Completed _) (sym more)
           (Completes-read _ _ c.args.arguments.now c.loop-argument.argument-index _ c.loop-argument.is_stdin_read
-          so_far read c.loop-argument-test.true c.in_default.ensures.reading c.loop-argument.invariant.inputs));
+          so_far read c.loop-argument-test.true
+          (reads_as_before c.loop-argument.invariant.stays _ _ _ _ c.in_default.ensures.reading)
+          c.loop-argument.invariant.inputs));
+      stays = stays_on c.loop-argument.invariant.stays c.read_argument.ensures.stays;
       all = ap (sum_by (λ input. input.len)) c.in_ok-push.ensures.items ∙ sum_by-append _ c.loop-argument.texts.items _
           ∙ omega (
             arith,
@@ -83,7 +88,8 @@ returns-in-Err-clause-inputs g c =
     )
     (Completes-unread _ _ c.args.arguments.now c.loop-argument.argument-index _ c.loop-argument.is_stdin_read
     (inputs_in c.loop-argument.bytes.items c.loop-argument.texts.items) c.in-Err.why c.loop-argument-test.true
-    (⊎_elim (λ memory. absurd (false≢true (rw memory at c.if-eq.ensures))) (λ reads. reads) c.in-Err.ensures.reading)
+    (⊎_elim (λ memory. absurd (false≢true (rw memory at c.if-eq.ensures)))
+    (λ reads. reads_as_before c.loop-argument.invariant.stays _ _ _ _ reads) c.in-Err.ensures.reading)
     c.loop-argument.invariant.inputs)
 
 pub returns-in-Err-clause-asked : goal.returns-in-Err-clause-asked

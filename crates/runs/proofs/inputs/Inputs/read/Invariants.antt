@@ -1,13 +1,16 @@
 use Rattle.std.proofs.Common.{◌≡◌, length, true, vec_len}
-use Rattle.runs.specs.Inputs.{inputs_in}
+use Rattle.runs.specs.Inputs.{Stays, inputs_in}
 use Rattle.std.specs.List.{sum_by}
 use Rattle.runs.proofs.InputLemmas.{AsksBefore, Completes}
 use Rattle.runs.proofs.inputs.Inputs.read.Given as goal
 
 abbrev pub invariant-loop-argument : goal.invariant-loop-argument
 invariant-loop-argument g l = record {
-  inputs : Completes g.S.InputSource.file g.S.InputSource.standard l.arguments l.argument-index l.is_stdin_read
+  inputs : Completes (g.S.InputSource.file l.fn.source)
+      (g.S.InputSource.standard l.fn.source) l.arguments l.argument-index l.is_stdin_read
       (inputs_in l.bytes.items l.texts.items);
+  stays : Stays (g.S.InputSource.file l.fn.source) (g.S.InputSource.file l.source)
+      (g.S.InputSource.standard l.fn.source) (g.S.InputSource.standard l.source);
   all : sum_by (λ input. input.len) l.texts.items ≡ vec_len l.bytes;
   asked : AsksBefore (g.S.InputSource.asked l.fn.source)
       (g.S.InputSource.asked l.source) l.arguments l.argument-index l.is_stdin_read;
