@@ -1,6 +1,7 @@
 /* The drop-in when calls of the system fail: each mmap, open, mprotect, calloc, realloc, iconv_open and creation of a thread
  * in turn, alone and with all after it. A text is the translation or the msgid then, and the translation when calls work
- * again. It also counts what is called for a message that was loaded: nothing, and the lock isn't taken.
+ * again. Each file is read by parts, and every other read is interrupted. What was read can't be written to. It also
+ * counts what is called for a message that was loaded: nothing, and the lock isn't taken.
  *
  *     faults FOLDER LOCALE
  */
@@ -24,6 +25,16 @@ static bool fails(int error)
     return true;
 }
 
+/* A read that a signal interrupts every other time, and that else has at most 100 bytes. */
+static ssize_t read_a_part(int fd, void *to, size_t len)
+{
+    static bool is_interrupted;
+    is_interrupted = !is_interrupted;
+    errno = EINTR;
+    return is_interrupted ? -1 : read(fd, to, len < 100 ? len : 100);
+}
+
+#define read(...) read_a_part(__VA_ARGS__)
 #define mmap(...) (fails(ENOMEM) ? MAP_FAILED : mmap(__VA_ARGS__))
 #define mprotect(...) (fails(ENOMEM) ? -1 : mprotect(__VA_ARGS__))
 #define open(...) (fails(EMFILE) ? -1 : open(__VA_ARGS__))
@@ -32,6 +43,7 @@ static bool fails(int error)
 #define iconv_open(...) (fails(ENOMEM) ? (iconv_t)-1 : iconv_open(__VA_ARGS__))
 #define pthread_create(...) (fails(EAGAIN) ? EAGAIN : pthread_create(__VA_ARGS__))
 #include "../../intl/intl.c"
+#undef read
 #undef pthread_create
 
 static const struct message german[] = {HEADER("UTF-8", GERMAN), MESSAGE("Open", "Öffnen"), MESSAGE("file\0files", "a\0b")};
@@ -122,6 +134,29 @@ static void count_calls(void)
     check(right && calls == before, "no call and no lock for what was loaded");
 }
 
+/* Whether the system refuses to write the bytes. */
+static bool is_read_only(int zeros, const void *at, size_t len)
+{
+    return read(zeros, (void *)(uintptr_t)at, 1) < 0 && errno == EFAULT &&
+           read(zeros, (char *)(uintptr_t)at + len - 1, 1) < 0 && errno == EFAULT;
+}
+
+/* The catalogues and their bytes are in pages that nobody can write to: also that of a file that was expanded. */
+static void try_to_write(void)
+{
+    int zeros = open("/dev/zero", O_RDONLY), count = 0;
+    bool right = zeros >= 0;
+    for (size_t i = 0; i < BUCKETS; i++)
+        for (const struct file *it = files[i]; it != NULL; it = it->next)
+            if (it->catalog != NULL) {
+                right = right && is_read_only(zeros, it->catalog, sizeof *it->catalog) &&
+                        is_read_only(zeros, it->catalog->bytes.ptr, it->catalog->bytes.len);
+                count++;
+            }
+    close(zeros);
+    check(right && count == 3, "what was read can't be written to");
+}
+
 static void write_system(void)
 {
     struct mo_file file = {.len = sizeof system_words + sizeof system_strings};
@@ -148,5 +183,6 @@ int main(int argc, char **argv)
     for (int i = 0; i < 4; i++)
         try_faults(i % 2 == 1, i / 2 == 1);
     count_calls();
+    try_to_write();
     return counts();
 }

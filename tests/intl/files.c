@@ -5,6 +5,7 @@
  * POKIT_INTL_LOG names FOLDER/log, which has to tell of each refused file by its path. */
 #define _GNU_SOURCE
 #include "catalogues.h"
+#include <dlfcn.h>
 #include <fcntl.h>
 #include <libintl.h>
 #include <locale.h>
@@ -133,6 +134,27 @@ static bool is_enormous(void)
     return is_huge((off_t)2 << 40);
 }
 
+/* A file of some 4 MB, whose messages are "000000", "000001" .. with texts that say so. */
+static bool has_many_messages(void)
+{
+    enum { COUNT = 65536, LEN = 32 };
+    static uint8_t bytes[28 + COUNT * (16 + 8 + LEN)];
+    const uint32_t words[] = {0x950412de, 0, COUNT, 28, 28 + 8 * COUNT, 0, 28};
+    uint32_t at = 28 + 16 * COUNT;
+    memcpy(bytes, words, sizeof words);
+    for (uint32_t i = 0; i < COUNT; i++) {
+        const uint32_t strings[2][2] = {{6, at}, {LEN - 1, at + 7}};
+        memcpy(bytes + 28 + 8 * i, strings[0], 8);
+        memcpy(bytes + 28 + 8 * (COUNT + i), strings[1], 8);
+        at += (uint32_t)sprintf((char *)bytes + at, "%06u", i) + 1;
+        at += (uint32_t)sprintf((char *)bytes + at, "the text of the message %07u", i) + 1;
+    }
+    write_file(path, bytes, at);
+    return strcmp(dgettext("files", "000000"), "the text of the message 0000000") == 0 &&
+           strcmp(dgettext("files", "065535"), "the text of the message 0065535") == 0 &&
+           strcmp(dgettext("files", "065536"), "065536") == 0;
+}
+
 /* Bytes after the last string are no fault. */
 static bool is_longer(void)
 {
@@ -168,6 +190,47 @@ static bool has_long_names(void)
     put(path);
     textdomain("files");
     return right && answers("Öffnen");
+}
+
+/* A line is added to what the log has. */
+static bool is_added_to_the_log(void)
+{
+    char line[5000];
+    write_file(log_path, "before\n", 7);
+    write_file(path, "", 0);
+    bool right = answers("Open");
+    FILE *in = fopen(log_path, "r");
+    right = right && in != NULL && fgets(line, sizeof line, in) != NULL && strcmp(line, "before\n") == 0;
+    right = right && fgets(line, sizeof line, in) != NULL && strncmp(line, path, strlen(path)) == 0;
+    return right && fgets(line, sizeof line, in) == NULL;
+}
+
+/* libc's own function of a setting, which is asked past the drop-in. */
+static void *of_libc(const char *name)
+{
+    void *libc = dlopen("libc.so.6", RTLD_LAZY | RTLD_NOLOAD);
+    return libc != NULL ? dlsym(libc, name) : NULL;
+}
+
+static bool is_told(const char *function, const char *domain, const char *wanted)
+{
+    union {
+        void *found;
+        char *(*of_two)(const char *, const char *);
+        char *(*of_one)(const char *);
+    } of = {of_libc(function)};
+    const char *got = of.found == NULL ? NULL : domain != NULL ? of.of_two(domain, NULL) : of.of_one(NULL);
+    return got != NULL && strcmp(got, wanted) == 0;
+}
+
+/* What is set is passed on to libc, for what asks it from inside. */
+static bool is_passed_on(void)
+{
+    bool right = strcmp(bindtextdomain("passed", folder), folder) == 0;
+    right = right && strcmp(bind_textdomain_codeset("passed", "ISO-8859-15"), "ISO-8859-15") == 0;
+    right = right && strcmp(textdomain("passed"), "passed") == 0;
+    return right && is_told("bindtextdomain", "passed", folder) &&
+           is_told("bind_textdomain_codeset", "passed", "ISO-8859-15") && is_told("textdomain", NULL, "passed");
 }
 
 /* The last line of the log that names the path, without the path. */
@@ -237,8 +300,12 @@ int main(int argc, char **argv)
     try("a link to a file", is_link_to_a_file, "");
     try("300 MB", is_large, ": too large");
     try("2 TB", is_enormous, ": too large");
+    try("4 MB of messages", has_many_messages, "");
     try("1 MB after the last string", is_longer, "");
     try("no descriptor is left", has_no_descriptor, "");
     try("long names", has_long_names, "");
+    try("a log with a line", is_added_to_the_log, ": file too short");
+    if (of_libc("textdomain") != NULL)
+        try("settings that are passed on", is_passed_on, "");
     return counts();
 }

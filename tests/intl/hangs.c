@@ -1,5 +1,5 @@
 /* What must not wait for ever: threads that load a library whose constructor asks for a message, while others ask or bind,
- * and signal handlers and threads that fork while a message is looked for. Each case runs in a child, which has a minute.
+ * signal handlers and threads that fork while a message is looked for, and one that is cancelled then. Each case runs in a child, which has a minute.
  *
  *     hangs FOLDER LIBRARY
  *
@@ -226,6 +226,27 @@ static void *fork_while_converting(void *unused)
     return ask(unused);
 }
 
+/* A thread that is to be cancelled ends after its calls, with the lock given back. */
+static void *ask_cancelled(void *unused)
+{
+    pthread_cancel(pthread_self());
+    ask(NULL);
+    rebind(NULL);
+    at_start = ask; /* tells that the calls have returned */
+    pthread_testcancel();
+    expect(false);
+    return unused;
+}
+
+static void *ask_beside_a_cancelled_thread(void *unused)
+{
+    void *result = NULL;
+    pthread_join(in_thread(ask_cancelled), &result);
+    expect(result == PTHREAD_CANCELED && at_start == ask);
+    rebind(NULL);
+    return ask(unused);
+}
+
 static void *stop(void *unused)
 {
     sem_post(&has_started);
@@ -278,6 +299,7 @@ static void try_all(const char *name, bool is_converted)
     try("a library waits for a thread that binds", load_waiting_for_binding);
     try("a signal handler forks while a message is looked for", fork_while_asking);
     try("a signal handler forks while a folder is bound", fork_while_binding);
+    try("a thread that is to be cancelled asks", ask_beside_a_cancelled_thread);
     if (is_converted) {
         try("a signal handler forks while a message is converted", fork_while_converting);
         try("a thread forks while another one converts", fork_beside_another_converting);

@@ -10,6 +10,7 @@ import gc
 import gettext
 import io
 import pickle
+import struct
 import subprocess
 import sys
 import warnings
@@ -199,7 +200,42 @@ def try_copies(folder):
     check(outcome(copy.deepcopy, room) == outcome(pickle.dumps, room) == ValueError, "no address is copied")
 
 
+def file_of(messages):
+    """The MO file of messages, which are in rising order."""
+    tables, texts, at = b"", b"", 28 + 16 * len(messages)
+    for column in (0, 1):
+        for message in messages:
+            tables += struct.pack("<2I", len(message[column]), at + len(texts))
+            texts += message[column] + b"\0"
+    count = len(messages)
+    return struct.pack("<7I", 0x950412de, 0, count, 28, 28 + 8 * count, 0, 28) + tables + texts
+
+
+def both_of(messages):
+    bytes_ = file_of(messages)
+    return [class_(io.BytesIO(bytes_)) for class_ in (gettext.GNUTranslations, pokit_gettext.Translations)]
+
+
+def try_headers():
+    """Files without a header or Plural-Forms, lines of a header that go on, and a context that has an EOT."""
+    forms = (b"file\0files", b"Datei\0Dateien")
+    for header in ((), ((b"", b"Content-Type: text/plain; charset=UTF-8\n"),)):
+        for translations in both_of([*header, forms]):
+            check([translations.plural(n) for n in COUNTS] == [int(n != 1) for n in COUNTS], "no Plural-Forms")
+            check([translations.ngettext("file", "files", n) for n in (0, 1, 2)] == ["Dateien", "Datei", "Dateien"],
+                  "a count without Plural-Forms")
+    for translations in both_of([(b"", b"Content-Type: text/plain; charset=UTF-8\nX-Note: one\n  two \n\nthree\n")]):
+        check(translations.info()["x-note"] == "one\ntwo\nthree", "a header's line that goes on")
+    for translations in both_of([(b"", b"Content-Type: text/plain; charset=UTF-8\n"), (b"a\4b\4c", b"found"),
+                                 (b"a\4b\4d\0ds", b"one\0more")]):
+        check(translations.pgettext("a\4b", "c") == "found" and translations.pgettext("a", "b\4c") == "found",
+              "a context with an EOT")
+        check(translations.npgettext("a\4b", "d", "ds", 2) == "more", "a context with an EOT, a count")
+        check(translations.pgettext("a\4b", "e") == "e", "a context with an EOT that isn't there")
+
+
 warnings.simplefilter("ignore")
+try_headers()
 try_damaged()
 try_translation(sys.argv[1])
 try_arguments(sys.argv[1])

@@ -28,6 +28,9 @@ static const struct message latin[] = {HEADER("ISO-8859-1", GERMAN), MESSAGE("Op
                                        MESSAGE("file\0files", "St\374ck\0St\374cke")};
 static const struct message template[] = {HEADER("CHARSET", GERMAN), MESSAGE("Open", "Vorlage")};
 static const struct message headless[] = {MESSAGE("Open", "Ohne Kopf"), MESSAGE("file\0files", "eine\0viele")};
+static const struct message euro[] = {HEADER("ISO-8859-15", GERMAN), MESSAGE("Price", "\244 \275uvre")};
+static const struct message half[] = {HEADER("ISO-8859-1", GERMAN), MESSAGE("Half", "\275 \374ber")};
+static const struct message bare[] = {HEADER("UTF-8", GERMAN), MESSAGE("Close", "Schließen"), MESSAGE("Price", "€ œuvre")};
 static const struct message broken[] = {HEADER("UTF-8", GERMAN), MESSAGE("Open", "Schon \326ffnen"),
                                         MESSAGE("Read", "Lesen")};
 static const struct message polish[] = {
@@ -35,6 +38,29 @@ static const struct message polish[] = {
     MESSAGE("file\0files", "plik\0pliki\0plików")};
 
 #define WRITE(name, messages) write_messages(folder, name, FILE_OF(messages))
+
+#define CATEGORY(name) {#name, name}
+static const struct {
+    const char *name;
+    int category;
+} categories[] = {CATEGORY(LC_CTYPE), CATEGORY(LC_NUMERIC), CATEGORY(LC_TIME), CATEGORY(LC_COLLATE), CATEGORY(LC_MONETARY),
+                  CATEGORY(LC_MESSAGES), CATEGORY(LC_PAPER), CATEGORY(LC_NAME), CATEGORY(LC_ADDRESS),
+                  CATEGORY(LC_TELEPHONE), CATEGORY(LC_MEASUREMENT), CATEGORY(LC_IDENTIFICATION)};
+
+/* A catalogue for each category, in which `Which` is the category's name and that of the language. */
+static void write_categories(const char *folder)
+{
+    static const char *const languages[] = {"de", "fr"};
+    for (size_t i = 0; i < 2 * sizeof categories / sizeof categories[0]; i++) {
+        char name[100], text[100];
+        const char *category = categories[i / 2].name, *language = languages[i % 2];
+        struct message messages[] = {HEADER("UTF-8", GERMAN), MESSAGE("Which", "")};
+        snprintf(name, sizeof name, "A/%s/%s/category.mo", language, category);
+        messages[1].translation_len = (uint32_t)snprintf(text, sizeof text, "%s %s", category, language);
+        messages[1].translation = text;
+        write_messages(folder, name, FILE_OF(messages));
+    }
+}
 
 static void write_catalogues(const char *folder)
 {
@@ -48,26 +74,35 @@ static void write_catalogues(const char *folder)
     WRITE("A/pl/LC_MESSAGES/app.mo", polish);
     WRITE("A/de/LC_MESSAGES/messages.mo", standard);
     WRITE("A/de/LC_MESSAGES/latin.mo", latin);
+    WRITE("A/de/LC_MESSAGES/euro.mo", euro);
+    WRITE("A/de/LC_MESSAGES/half.mo", half);
+    WRITE("A/de/LC_MESSAGES/bare.mo", bare);
     WRITE("A/de/LC_MESSAGES/template.mo", template);
     WRITE("A/de/LC_MESSAGES/headless.mo", headless);
     WRITE("A/de/LC_MESSAGES/broken.mo", broken);
     WRITE("B/de/LC_MESSAGES/app.mo", other);
     WRITE("relative/locale/de/LC_MESSAGES/app.mo", other);
+    WRITE("relative/locale/fr/LC_MESSAGES/app.mo", french);
+    write_categories(folder);
 }
 
 static int category_of(const char *name)
 {
-    static const struct {
-        const char *name;
-        int category;
-    } all[] = {{"LC_ALL", LC_ALL}, {"LC_CTYPE", LC_CTYPE}, {"LC_MESSAGES", LC_MESSAGES}, {"LC_TIME", LC_TIME}};
-    for (size_t i = 0; i < sizeof all / sizeof all[0]; i++)
-        if (strcmp(all[i].name, name) == 0)
-            return all[i].category;
-    return 77;
+    for (size_t i = 0; i < sizeof categories / sizeof categories[0]; i++)
+        if (strcmp(categories[i].name, name) == 0)
+            return categories[i].category;
+    return strcmp(name, "LC_ALL") == 0 ? LC_ALL : 77;
 }
 
-/* A word of a line: `-` is NULL, `""` is empty, `@` stands for the folder, `~` for a blank and `^` for EOT. */
+/* The byte that two hexadecimal digits after a backslash stand for. */
+static char byte_of(const char *digits)
+{
+    const char two[] = {digits[0], digits[1], 0};
+    return (char)strtoul(two, NULL, 16);
+}
+
+/* A word of a line: `-` is NULL, `""` is empty, `@` stands for the folder, `~` for a blank, `^` for EOT and `\d6` for
+ * the byte of that number. */
 static char *word_of(const char *folder, const char *word)
 {
     static char rooms[8][4096];
@@ -80,6 +115,8 @@ static char *word_of(const char *folder, const char *word)
     for (; *word != 0; word++)
         if (*word == '@' && at == to)
             at += sprintf(at, "%s", folder);
+        else if (*word == '\\' && word[1] != 0 && word[2] != 0)
+            *at++ = byte_of(word + 1), word += 2;
         else
             *at++ = *word == '~' ? ' ' : *word == '^' ? '\004' : *word;
     *at = 0;
