@@ -32,7 +32,10 @@ int main(int argc, char **argv)
     }
     error = pokit_open(&catalog, bytes, (size_t)status.st_size, &message);
     if (error != POKIT_OK) {
-        fprintf(stderr, "lookup: %s: %s (message %lu)\n", argv[1], pokit_error_text(error), (unsigned long)message);
+        fprintf(stderr, "lookup: %s: %s", argv[1], pokit_error_text(error));
+        if (error >= POKIT_STRING_OUTSIDE)
+            fprintf(stderr, " (message %lu)", (unsigned long)message);
+        fputs("\n", stderr);
         return 1;
     }
     puts(pokit_gettext(&catalog, "Search by author"));

@@ -3,26 +3,44 @@
     import gettext, pokit_gettext
     _ = gettext.translation("bookshelf", "locale", class_=pokit_gettext.Translations).gettext
 
-A Translations is a gettext.GNUTranslations, and answers as one. A file is checked when it is opened, and nothing of it
-is decoded before it is asked for; one that is damaged raises OSError with its fault. As in C, ngettext also finds a
-message without plural forms, and takes the first form where that of the count is missing.
+A Translations is a gettext.GNUTranslations, and answers as one. A file is checked when it is opened: one that is
+damaged raises OSError with its fault, one whose charset Python lacks LookupError, and one with texts that aren't of its
+charset UnicodeDecodeError. As in C, ngettext also finds a message without plural forms, and takes the first form where that of
+the count is missing.
 
 The library is asked where the msgid and the context are texts and the count is an int from 0 to 2**64 - 1. All else is
 answered by GNUTranslations' own methods. These use _catalog, which reads single messages from the file in Python, and
 plural, which is Python's function of the header's rule. Django uses both too; _catalog.copy() reads all messages.
 
-POKIT_LIBRARY names the library where it isn't found as libpokit.so.0.
+POKIT_LIBRARY names the library by its path where the loader doesn't find libpokit.so.0. Without the library the module
+raises ImportError.
 """
+import array
 import bisect
 import codecs
 import collections.abc
 import ctypes
 import functools
 import gettext
+import operator
 import os
 import struct
+import sys
 
-_library = ctypes.CDLL(os.environ.get("POKIT_LIBRARY") or "libpokit.so.0")
+
+def _load():
+    """The library, of which a fault says where it was looked for."""
+    path, folders = os.environ.get("POKIT_LIBRARY"), os.environ.get("LD_LIBRARY_PATH")
+    try:
+        return ctypes.CDLL(path or "libpokit.so.0")
+    except OSError as fault:
+        where = "POKIT_LIBRARY names it" if path else (
+            "it was looked for in the loader's folders%s; POKIT_LIBRARY may name the library by its path"
+            % (" and in LD_LIBRARY_PATH, " + folders if folders else ", and LD_LIBRARY_PATH isn't set"))
+        raise ImportError("%s (%s)" % (fault, where)) from None
+
+
+_library = _load()
 _size = ctypes.c_size_t
 _open = _library.pokit_open
 _open.argtypes = [ctypes.c_void_p, ctypes.c_char_p, _size, ctypes.POINTER(ctypes.c_uint32)]
@@ -39,6 +57,8 @@ _look_up.argtypes = [ctypes.c_void_p, ctypes.c_char_p, _size, ctypes.c_char_p, _
 _look_up.restype = ctypes.c_char_p
 
 _COUNTS = 2 ** 64
+_SINGLE_BYTES = ("ascii", "iso8859-", "cp125", "koi8-")  # how the names of such charsets begin
+_WITHIN = bytes(range(0x80, 0xc0))  # what stands within a letter of UTF-8
 _NONE = gettext.NullTranslations  # whose methods ask the fallback
 
 
@@ -47,6 +67,7 @@ class _Keys(collections.abc.Sequence):
 
     def __init__(self, file):
         order = "<" if file[:4] == b"\xde\x12\x04\x95" else ">"
+        self.is_swapped = (order == "<") != (sys.byteorder == "little")
         self.file = file
         self.len, self.originals, self.translations = struct.unpack_from(order + "3I", file, 8)
         self.entry = struct.Struct(order + "2I")
@@ -57,6 +78,15 @@ class _Keys(collections.abc.Sequence):
     def string(self, table, index):
         len_, at = self.entry.unpack_from(self.file, table + 8 * index)
         return self.file[at:at + len_]
+
+    def starts(self):
+        """Where each string begins."""
+        words = array.array("I")
+        for table in (self.originals, self.translations):
+            words.frombytes(self.file[table:table + 8 * self.len])
+        if self.is_swapped:
+            words.byteswap()
+        return words[1::2].tolist()
 
     def __getitem__(self, index):
         return self.string(self.originals, index).partition(b"\0")[0]
@@ -113,6 +143,28 @@ class _Catalog(collections.abc.Mapping):
             raise KeyError(key)
         return text
 
+    def check_texts(self):
+        """Raises what GNUTranslations does where a text isn't of the charset."""
+        try:
+            is_checked = self._are_decoded_at_once()
+        except UnicodeDecodeError:
+            is_checked = False
+        for index in range(0 if is_checked else len(self._keys)):
+            self._entry(index)
+
+    def _are_decoded_at_once(self):
+        """Whether it is enough that the bytes from the first string on were decoded: in a charset of single bytes, and
+        in UTF-8 where no string begins within a letter. A NUL follows each string."""
+        is_utf_8 = self.charset == "utf-8"
+        if len(self._keys) == 0 or not is_utf_8 and not self.charset.startswith(_SINGLE_BYTES):
+            return False
+        starts = self._keys.starts()
+        self._file[min(starts):].decode(self.charset)
+        if not is_utf_8:
+            return True
+        first_bytes = bytes(operator.itemgetter(*starts)(self._file))
+        return len(first_bytes.translate(None, _WITHIN)) == len(first_bytes)
+
     def items(self):
         for index in range(len(self._keys)):
             key, text = self._entry(index)
@@ -142,8 +194,9 @@ class Translations(gettext.GNUTranslations):
     def _parse(self, fp):
         self._catalog = _Catalog(fp.read(), getattr(fp, "name", ""))
         self._read_header(self._catalog.header())
-        if self._charset is not None:
+        if self._charset:
             self._catalog.charset = codecs.lookup(self._charset).name
+        self._catalog.check_texts()
 
     def _read_header(self, header):
         last = None

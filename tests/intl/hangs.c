@@ -1,5 +1,6 @@
 /* What must not wait for ever: threads that load a library whose constructor asks for a message, while others ask or bind,
- * signal handlers and threads that fork while a message is looked for, and one that is cancelled then. Each case runs in a child, which has a minute.
+ * signal handlers and threads that fork while a message is looked for, and one that is cancelled then. Each case runs in
+ * a child, which has a minute.
  *
  *     hangs FOLDER LIBRARY
  *

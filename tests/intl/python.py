@@ -9,6 +9,7 @@ import fractions
 import gc
 import gettext
 import io
+import os
 import pickle
 import struct
 import subprocess
@@ -234,8 +235,60 @@ def try_headers():
         check(translations.pgettext("a\4b", "e") == "e", "a context with an EOT that isn't there")
 
 
+def header_of(charset):
+    return b"", b"Content-Type: text/plain; charset=%s\nPlural-Forms: nplurals=2; plural=n != 1;\n" % charset
+
+
+def within_a_letter():
+    """A file whose last translation begins within the letter that the one before it is, and one with bytes between its
+    strings that are no text."""
+    texts = [(b"a", "ö".encode()), (b"b", b"")]
+    bytes_ = bytearray(file_of([header_of(b"UTF-8"), *texts]))
+    entry = 28 + 8 * 5
+    bytes_[entry:entry + 8] = struct.pack("<2I", 1, struct.unpack_from("<I", bytes_, entry - 4)[0] + 1)
+    between = file_of([header_of(b"UTF-8"), (b"a\0\xff\xfe", "ö".encode())])
+    return bytes(bytes_), between
+
+
+def try_charsets():
+    """What isn't of its charset, or in a charset that Python lacks, is refused when it is opened."""
+    letters = (b"", b"Open", "Öffnen".encode(), b"\326ffnen", b"\xff", b"\x81", b"\xa4", b"\x83\x65",
+               b"\x1b$B$\"\x1b(B")
+    charsets = (b"UTF-8", b"utf8", b"ASCII", b"", b"ISO-8859-1", b"ISO-8859-3", b"CP1252", b"KOI8-R", b"SHIFT_JIS",
+                b"EUC-JP", b"ISO-2022-JP", b"UTF-16", b"zlib", b"rot13", b"base64", b"CHARSET", b"no-such", b"UTF-8; x=y")
+    files = list(within_a_letter()) + [file_of([(b"a", text)]) for text in letters]
+    for charset in charsets:
+        for text in letters:
+            files.append(file_of([header_of(charset), (b"Open", text), (b"Read", b"Lesen")]))
+            files.append(file_of([header_of(charset), (b"k" + text, b"Lesen")]))
+            files.append(file_of([header_of(charset), (b"k\0" + text, b"one\0" + text)]))
+            files.append(file_of([header_of(charset), (b"k\0" + text, b"one\0two")]))
+    for bytes_ in files:
+        one, other = (outcome(class_, io.BytesIO(bytes_))
+                      for class_ in (gettext.GNUTranslations, pokit_gettext.Translations))
+        if isinstance(one, type):
+            check(other == one, "%r: %r and not %r" % (bytes_[-60:], other, one))
+        else:
+            check(not isinstance(other, type) and is_same(one, other), "%r" % bytes_[-60:])
+
+
+def try_missing_library():
+    """It is told where the library was looked for, and what names it."""
+    asked = [sys.executable, "-c", "import pokit_gettext"]
+    for named, wanted in (("/nowhere/libpokit.so.0", ("/nowhere/libpokit.so.0",)), ("", ("libpokit.so.0", "/empty"))):
+        told = subprocess.run(asked, env={**os.environ, "POKIT_LIBRARY": named, "LD_LIBRARY_PATH": "/empty"},
+                              stderr=subprocess.PIPE).stderr.decode().splitlines()
+        if not named and not told:
+            print("skipped  a library that isn't named (the machine has one)")
+            continue
+        check(told and told[-1].startswith("ImportError")
+              and all(it in told[-1] for it in (*wanted, "POKIT_LIBRARY")), "no library")
+
+
 warnings.simplefilter("ignore")
 try_headers()
+try_charsets()
+try_missing_library()
 try_damaged()
 try_translation(sys.argv[1])
 try_arguments(sys.argv[1])
