@@ -11,3 +11,4 @@ pub mod ReplacedReferences
 pub mod VariableValues
 mod EnvsubstEnds
 mod ArgumentLemmas
+mod NoReference

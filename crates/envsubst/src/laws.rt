@@ -1,6 +1,6 @@
 //! Laws of substitution, each the contract of a function that does nothing: a call brings the law
 //! into a proof.
-ghost use Rattle.std.specs.Prelude.{◌≡◌, ◌↔◌, ℕ, List, Option, Some, Ok, Err};
+ghost use Rattle.std.specs.Prelude.{◌≡◌, ◌↔◌, [], ℕ, List, Option, Some, Ok, Err};
 ghost use Rattle.envsubst.specs.Envsubst.{EndsAs};
 ghost use Rattle.envsubst.specs.EnvsubstLaw.{TookAll, TookAllRead, TookBeginning, TookBeginningOfRead};
 ghost use Rattle.envsubst.specs.References.{names_in};
@@ -52,4 +52,10 @@ pub fn output_is_replaced()
     ensures out_of_memory { (values : Values) (text : List ℕ) (left old new : Option (List ℕ))
         → EndsAs values (Some text) left old new (Err ToolFault.OutOfMemory)
         → TookBeginningOfRead values text left old new }
+{}
+
+/// A text without references stays as it is.
+#[tactic(auto, using(crate::proofs::NoReference::stays))]
+pub fn without_references_it_stays()
+    ensures { (values : Values) (text : List ℕ) → names_in text ≡ [] → substitution values text ≡ text }
 {}

@@ -90,3 +90,8 @@ abbrev pub GroupsByNumber : List NamedEntry → Type 0
 GroupsByNumber entries =
     by_number (length (first_ones one_message (named_messages entries))) (message_numbers entries) entries
     ≡ groups entries
+
+-- what is merged stays as it is when it is merged once more
+abbrev pub MergedAgain : MergeOptions → List Named → Bool → List ℕ → Type 0
+MergedAgain o inputs use_first name =
+    merged (keep_all use_first) (record { name = name; entries = merged o inputs } ∷ []) ≡ merged o inputs

@@ -3,7 +3,7 @@
 ghost use Rattle.std.specs.Prelude.{ℕ, Bool, List, Option};
 ghost use Rattle.po_merge.specs.declared.input.MergeOptions.{MergeOptions};
 ghost use Rattle.po_merge.specs.Inputs.{Named, NamedEntry, all_entries};
-ghost use Rattle.po_merge.specs.MergeLaws.{FormsAreOfOne, GroupsByNumber, KeptMessagesStand, MergedAreEntries, MergedCanStand, MessagesStandOnce, OneDefinitionStays, OneInputStays, StandInTurn, WithItself};
+ghost use Rattle.po_merge.specs.MergeLaws.{FormsAreOfOne, MergedAgain, GroupsByNumber, KeptMessagesStand, MergedAreEntries, MergedCanStand, MessagesStandOnce, OneDefinitionStays, OneInputStays, StandInTurn, WithItself};
 ghost use Rattle.po_merge.specs.EntryLaws.{EndsForm, FormsAreJoined, JoinedIsFuzzy, KeptByCount, LinesAreNotMerged, ObsoleteWhereNoneIsLive, PluralOfFirst, PreviousOfFirst, TextsInOrder, TextsOfAll};
 ghost use Rattle.po_merge.specs.MergedEntry.{ended};
 ghost use Rattle.po_merge.specs.TranslationLaws.{CommentsOfFirst, FormsOfFirst, HeadersAreKept, JoinedAsLongest, JoinedWhereTheyDiffer};
@@ -124,3 +124,12 @@ pub fn lines_are_not_merged()
     ensures { (options : MergeOptions) (definitions others : List NamedEntry)
         → LinesAreNotMerged options definitions others }
 {}
+
+/// What is merged stays as it is when it is merged once more, alone and keeping all.
+pub fn merged_again()
+    ensures { (options : MergeOptions) (inputs : List Named) (use_first : Bool) (name : List ℕ)
+        → MergedAgain options inputs use_first name }
+{
+    messages_stand_once();
+    one_input_stays();
+}

@@ -66,6 +66,10 @@ selected_once s entries h =
     (rw (passing_kept (is_kept s) (filter (is_kept s) entries) (filter_passes (is_kept s) entries))
     (all_unchanged s (filter (is_kept s) entries) h))
 
+pub kept_as_they_are : (s : Selection) (entries : List TextEntry) → ChangesNothing s
+    → selected s entries ≡ filter (is_kept s) entries
+kept_as_they_are s entries h = all_unchanged s (filter (is_kept s) entries) h
+
 IsEntry-marked : (e : TextEntry) (fuzzy obsolete : Bool) → IsEntry e
     → IsEntry (record e { fuzzy = fuzzy; obsolete = obsolete })
 IsEntry-marked e fuzzy obsolete h = record {

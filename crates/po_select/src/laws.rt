@@ -1,6 +1,6 @@
 //! Laws of selecting, each the contract of a function that does nothing: a call brings the law into
 //! a proof.
-ghost use Rattle.std.specs.Prelude.{◌≡◌, List, All, true, false};
+ghost use Rattle.std.specs.Prelude.{◌≡◌, List, All, filter, true, false};
 ghost use Rattle.po_messages.specs.Joined.{is_live_header};
 ghost use Rattle.po_entry.specs.TextEntry.{TextEntry};
 ghost use Rattle.po_entry.specs.Validity.{IsCatalogueEntry};
@@ -17,6 +17,12 @@ pub fn nothing_given_selects_all()
 pub fn conditions_select_once()
     ensures { (selection : Selection) (entries : List TextEntry) → ChangesNothing selection
         → selected selection (selected selection entries) ≡ selected selection entries }
+{}
+
+/// Conditions alone keep entries as they are.
+pub fn conditions_alone_keep()
+    ensures { (selection : Selection) (entries : List TextEntry) → ChangesNothing selection
+        → selected selection entries ≡ filter (is_kept selection) entries }
 {}
 
 /// What is selected of a catalogue's entries can stand in a catalogue.

@@ -1,2 +1,4 @@
 pub mod OneRun
 pub mod OneOtherRun
+pub mod ThereAndBack
+pub mod KeptCompile

@@ -1,3 +1,4 @@
 pub mod RunLaws
 pub mod RunsOver
 pub mod ToolRun
+pub mod ChainLaws

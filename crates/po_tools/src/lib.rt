@@ -36,8 +36,8 @@ pub use po_messages::JoinError;
 pub use po_select::{Selection, select};
 pub use po_unformat::{UnformatError, laws as unformat_laws, unformat};
 pub use run_laws::{
-    one_gettext_run, one_msgattrib_run, one_msgcat_run, one_msgfmt_run, one_msgunfmt_run,
-    one_ngettext_run,
+    kept_entries_compile_alike, one_gettext_run, one_msgattrib_run, one_msgcat_run, one_msgfmt_run,
+    one_msgunfmt_run, one_ngettext_run, there_and_back,
 };
 pub use runs::{
     Arguments, FileKind, Input, InputFault, InputSource, Inputs, MakeFault, OutputFault,

@@ -1,5 +1,6 @@
 //! Laws of the runs of the tools, each the contract of a function that does nothing: a call brings
 //! the law into a proof.
+ghost use Rattle.po_tools.specs.ChainLaws.{CompiledAreKept, KeptCompilesAlike, ThereAndBack};
 ghost use Rattle.po_tools.specs.RunLaws.{OneGettextRun, OneMsgattribRun, OneMsgcatRun, OneMsgfmtRun, OneMsgunfmtRun, OneNgettextRun};
 
 use mo_file::{no_fault_of_mo_file, one_first_fault, one_message_list};
@@ -10,7 +11,10 @@ use po_compile::laws::{
 };
 use po_messages::laws::{no_first_duplicate_where_none, one_first_duplicate};
 use po_reader::laws::one_reading;
-use po_unformat::laws::{no_fault_where_unformatted, one_text, one_unformat_fault};
+use po_select::laws::conditions_alone_keep;
+use po_unformat::laws::{
+    no_fault_where_unformatted, one_text, one_unformat_fault, unformat_then_compile,
+};
 
 /// Inputs and options of `msgfmt` have one run: its output, messages and status are functions of
 /// them.
@@ -72,4 +76,24 @@ pub fn one_msgcat_run()
     one_reading();
     one_text_fault();
     no_fault_where_distinct();
+}
+
+/// What msgfmt wrote comes back by msgunfmt and msgfmt, byte for byte.
+pub fn there_and_back()
+    ensures { ThereAndBack }
+{
+    unformat_then_compile();
+    no_fault_where_unformatted();
+    one_text();
+    no_fault_where_accepted();
+    one_message_list();
+}
+
+/// What conditions of msgattrib keep of a text compiles as what they keep of its compiled entries;
+/// with `--no-fuzzy`, `--no-obsolete` or `--translated` it compiles as the whole text does.
+pub fn kept_entries_compile_alike()
+    ensures kept { KeptCompilesAlike }
+    ensures compiled { CompiledAreKept }
+{
+    conditions_alone_keep();
 }
