@@ -74,8 +74,12 @@ install: $(if $(filter-out $(wildcard $(needed)),$(needed)),all,libraries)
 uninstall:
 	scripts/install uninstall
 
+# The same packed for those who haven't Rattle's kit, in build/dist.
+dist: $(if $(filter-out $(wildcard $(needed)),$(needed)),all,libraries)
+	@scripts/dist $(TARGET)
+
 # Everything that was made: the proofs too, which `make` then makes again from nothing.
 clean:
 	@scripts/clean
 
-.PHONY: all proved libraries demo test mutants c-proof fuzz bench bench-lookup install uninstall clean
+.PHONY: all proved libraries demo test mutants c-proof fuzz bench bench-lookup install uninstall dist clean
