@@ -97,7 +97,7 @@
       predicate pokit_is_open{L}(pokit_catalog *c) reads *c, c->bytes.ptr[0 .. c->bytes.len - 1];
       logic integer pokit_messages{L}(pokit_catalog *c) reads *c, c->bytes.ptr[0 .. c->bytes.len - 1];
 
-      // answered, and what it costs
+      // answered, where the text is, and what it costs
       predicate pokit_translates{L}(pokit_catalog *c, pokit_query q)
         reads *c, c->bytes.ptr[0 .. c->bytes.len - 1], q.id.ptr[0 .. q.id.len - 1],
           q.context.ptr[0 .. q.context.len - 1];
@@ -105,6 +105,12 @@
         reads *c, c->bytes.ptr[0 .. c->bytes.len - 1], q.id.ptr[0 .. q.id.len - 1],
           q.context.ptr[0 .. q.context.len - 1];
       logic integer pokit_steps{L}(pokit_catalog *c, pokit_query q)
+        reads *c, c->bytes.ptr[0 .. c->bytes.len - 1], q.id.ptr[0 .. q.id.len - 1],
+          q.context.ptr[0 .. q.context.len - 1];
+      logic integer pokit_offset{L}(pokit_catalog *c, pokit_query q)
+        reads *c, c->bytes.ptr[0 .. c->bytes.len - 1], q.id.ptr[0 .. q.id.len - 1],
+          q.context.ptr[0 .. q.context.len - 1];
+      logic integer pokit_text_len{L}(pokit_catalog *c, pokit_query q)
         reads *c, c->bytes.ptr[0 .. c->bytes.len - 1], q.id.ptr[0 .. q.id.len - 1],
           q.context.ptr[0 .. q.context.len - 1];
 
@@ -117,12 +123,15 @@
       // IsOpened is about the bytes, nplurals, and the instructions that are counted
       axiom pokit_open_same{L1,L2}: \forall pokit_catalog *c;
         pokit_same_catalog{L1,L2}(c) ==> pokit_is_open{L1}(c) ==> pokit_is_open{L2}(c);
-      // follows from pokit_catalog_look's answered and comparisons: functions of what IsOpened and query_view say
+      // follows from pokit_catalog_look's answered and comparisons: functions of what IsOpened and query_view say; and
+      // where the text is, since the export has no state
       axiom pokit_look_same{L1,L2}: \forall pokit_catalog *c, pokit_query p, q;
         pokit_same_catalog{L1,L2}(c) ==> pokit_same_query{L1,L2}(p, q) ==>
           (pokit_translates{L1}(c, p) <==> pokit_translates{L2}(c, q))
           && pokit_comparisons{L1}(c, p) == pokit_comparisons{L2}(c, q)
-          && pokit_steps{L1}(c, p) == pokit_steps{L2}(c, q);
+          && pokit_steps{L1}(c, p) == pokit_steps{L2}(c, q)
+          && pokit_offset{L1}(c, p) == pokit_offset{L2}(c, q)
+          && pokit_text_len{L1}(c, p) == pokit_text_len{L2}(c, q);
       // follows from its bound: there are less than 2^32 messages
       axiom pokit_look_bound{L}: \forall pokit_catalog *c, pokit_query q; 0 <= pokit_comparisons{L}(c, q) <= 32;
       // follows from its answered: untranslated has 0 steps
@@ -178,7 +187,9 @@
     ensures opened: \result == 0 ==> pokit_is_open(catalog);
     ensures same: \result == 0 ==> catalog->bytes.ptr == bytes && catalog->bytes.len == len;
     ensures unchanged: \result != 0 ==> catalog->bytes == \old(catalog->bytes)
-      && catalog->instruction_count == \old(catalog->instruction_count);
+      && catalog->nplurals == \old(catalog->nplurals)
+      && catalog->instruction_count == \old(catalog->instruction_count)
+      && \forall integer i; 0 <= i < 4096 ==> catalog->instructions[i] == \old(catalog->instructions[i]);
 */
 uint32_t pokit_catalog_open(pokit_catalog *catalog, const uint8_t *bytes, size_t len, uint32_t *message);
 
@@ -195,6 +206,8 @@ uint32_t pokit_catalog_len(const pokit_catalog *catalog);
       && \separated(located, catalog->bytes.ptr + (0 .. catalog->bytes.len - 1));
     assigns *located \from *catalog, catalog->bytes.ptr[0 .. catalog->bytes.len - 1], *query;
     ensures answered: located->place == POKIT_TRANSLATION <==> pokit_translates(catalog, *query);
+    ensures text: located->place == POKIT_TRANSLATION ==>
+      located->offset == pokit_offset(catalog, *query) && located->len == pokit_text_len(catalog, *query);
     ensures terminated: located->place == POKIT_TRANSLATION ==>
       located->offset + located->len < catalog->bytes.len
       && strlen((char *)catalog->bytes.ptr + located->offset) == located->len;
@@ -310,8 +323,13 @@ uint32_t pokit_expanded_file(const uint8_t *bytes, size_t len, const pokit_platf
     logic integer pokit_stepped{L}(pokit_catalog *c, pokit_query q) =
       c != \null && c->instruction_count != 0 ? pokit_steps(c, q) : 0;
 
+    // the text of the translation that the export finds
+    predicate pokit_is_translation{L}(pokit_catalog *c, pokit_query q, char *text, integer len) =
+      text == (char *)c->bytes.ptr + pokit_offset(c, q) && len == pokit_text_len(c, q);
+
     predicate pokit_is_text{L}(pokit_catalog *c, pokit_query q, pokit_bytes text) =
-      (pokit_finds(c, q) ==> pokit_is_part(c, (char *)text.ptr, text.len) && strlen((char *)text.ptr) == text.len)
+      (pokit_finds(c, q) ==> pokit_is_part(c, (char *)text.ptr, text.len) && strlen((char *)text.ptr) == text.len
+        && pokit_is_translation(c, q, (char *)text.ptr, text.len))
       && (!pokit_finds(c, q) ==> pokit_is_untranslated(q, text));
 
     predicate pokit_is_answer{L}(pokit_catalog *c, pokit_query q, pokit_answer a) =
@@ -349,6 +367,8 @@ POKIT_FUNCTION pokit_bytes pokit_bytes_of_string(const char *string);
     assigns *catalog, *message;
     ensures pokit_is_catalog(catalog);
     ensures catalog->instruction_count != 0 <==> \result == POKIT_OK;
+    ensures unopened: \result != POKIT_OK ==> catalog->bytes.len == 0 && catalog->nplurals == 0
+      && \forall integer i; 0 <= i < 4096 ==> catalog->instructions[i] == \old(catalog->instructions[i]);
     ensures \result == POKIT_OK ==> (char *)catalog->bytes.ptr == (char *)bytes && catalog->bytes.len == len;
     ensures \result == (bytes != \null ? \old(pokit_fault((uint8_t *)bytes, len)) : POKIT_TOO_SHORT);
     ensures message != \null ==> *message ==
@@ -449,6 +469,9 @@ POKIT_FUNCTION pokit_chain_answer pokit_look_chain(const pokit_catalog *const *c
         (\result != \null <==> \old(pokit_finds(catalog, q)));
     ensures part: \result != \null ==> valid_read_string(\result)
       && \let text = \result; \old(pokit_is_part(catalog, text, strlen(text)));
+    ensures text: \forall pokit_query q;
+      pokit_asks_bytes(q, context, context_len, msgid, msgid_len, plural, plural_len, count) ==> \result != \null ==>
+        \let text = \result; \let len = strlen(\result); \old(pokit_is_translation(catalog, q, text, len));
     ensures answer_found: answer != \null ==> (answer->found != 0 <==> \result != \null);
     ensures answer_part: answer != \null && \result != \null ==>
       (char *)answer->text.ptr == \result && answer->text.len == strlen(\result);
@@ -469,7 +492,8 @@ POKIT_FUNCTION const char *pokit_lookup(const pokit_catalog *catalog, const char
       msgid == \null ? text == \null :
         valid_read_string(text)
         && \forall pokit_query q; pokit_asks(q, context, msgid, plural, count) ==>
-             (pokit_finds(c, q) ==> pokit_is_part(c, text, strlen(text)))
+             (pokit_finds(c, q) ==>
+               pokit_is_part(c, text, strlen(text)) && pokit_is_translation(c, q, text, strlen(text)))
              && (!pokit_finds(c, q) ==> text == (plural != \null && count != 1 ? plural : msgid));
 */
 
@@ -503,10 +527,57 @@ POKIT_FUNCTION const char *pokit_pgettext(const pokit_catalog *catalog, const ch
 */
 POKIT_FUNCTION const char *pokit_gettext(const pokit_catalog *catalog, const char *msgid);
 
+/*@ // the query for the header entry
+    predicate pokit_asks_header(pokit_query q) =
+      q.id.ptr != \null && q.id.len == 0 && q.has_context == 0 && q.has_plural == 0;
+
+    lemma pokit_header_same{L}: \forall pokit_catalog *c, pokit_query p, q;
+      pokit_asks_header(p) ==> pokit_asks_header(q) ==>
+        (pokit_finds{L}(c, p) <==> pokit_finds{L}(c, q)) && pokit_offset{L}(c, p) == pokit_offset{L}(c, q);
+
+    predicate pokit_is_charset_at{L}(char *s) =
+      s[0] == 'c' && s[1] == 'h' && s[2] == 'a' && s[3] == 'r' && s[4] == 's' && s[5] == 'e' && s[6] == 't'
+      && s[7] == '=';
+
+    predicate pokit_ends_charset(char c) = c == ' ' || c == '\t' || c == '\r' || c == '\n' || c == ';' || c == 0;
+
+    // where the first "charset=" of a text is
+    predicate pokit_is_first_charset{L}(char *s, char *field) =
+      \base_addr(field) == \base_addr(s) && 0 <= field - s && field - s + 8 <= strlen(s) && pokit_is_charset_at(field)
+      && \forall integer i; 0 <= i < field - s ==> !pokit_is_charset_at(s + i);
+
+    predicate pokit_is_up_to_its_end{L}(char *s, integer len) =
+      pokit_ends_charset(s[len]) && \forall integer i; 0 <= i < len ==> !pokit_ends_charset(s[i]);
+
+    // what follows the first "charset=" of a text, up to what ends it; no bytes where there is none
+    predicate pokit_is_charset_of{L}(char *s, pokit_bytes b) =
+      (b.len == 0 && \forall integer i; 0 <= i && i + 8 <= strlen(s) ==> !pokit_is_charset_at(s + i))
+      || (pokit_is_first_charset(s, (char *)b.ptr - 8) && pokit_is_up_to_its_end((char *)b.ptr, b.len));
+*/
+
+/*@ requires valid_read_string(value);
+    assigns \nothing;
+    ensures ends: pokit_is_up_to_its_end(value, \result);
+    ensures short: 0 <= \result <= strlen(value);
+*/
+static inline size_t pokit_charset_len(const char *value);
+
+/*@ requires valid_read_string(text);
+    assigns \nothing;
+    ensures charset: pokit_is_charset_of(text, \result);
+    ensures part: \result.len != 0 ==> \base_addr((char *)\result.ptr) == \base_addr(text)
+      && 0 <= (char *)\result.ptr - text && (char *)\result.ptr - text + \result.len <= strlen(text);
+    ensures pokit_readable(\result);
+*/
+static inline pokit_bytes pokit_named_charset(const char *text);
+
 /*@ requires pokit_is_catalog(catalog);
     assigns \nothing;
     ensures \result.len != 0 ==> pokit_is_part(catalog, (char *)\result.ptr, \result.len);
     ensures pokit_readable(\result);
+    ensures none: \forall pokit_query q; pokit_asks_header(q) ==> !pokit_finds(catalog, q) ==> \result.len == 0;
+    ensures field: \forall pokit_query q; pokit_asks_header(q) ==> pokit_finds(catalog, q) ==>
+      pokit_is_charset_of((char *)catalog->bytes.ptr + pokit_offset(catalog, q), \result);
 */
 POKIT_FUNCTION pokit_bytes pokit_charset(const pokit_catalog *catalog);
 

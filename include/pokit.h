@@ -1,43 +1,14 @@
-/* pokit.h: look up the messages of GNU gettext's MO files.
+/* pokit.h: look up the messages of GNU gettext's MO files. pokit(3) has a table of its functions.
  *
  *     #include <pokit.h>                    link with -lpokit
  *
  *     static pokit_catalog catalog;         33 KB: static or allocated, not on a small stack
- *     uint32_t message;
- *     if (pokit_open(&catalog, bytes, len, &message) != POKIT_OK) { ... }
- *     puts(pokit_gettext(&catalog, "Open"));
+ *     if (pokit_open(&catalog, bytes, len, NULL) != POKIT_OK) { ... }
+ *     puts(pokit_gettext(&catalog, "Bookshelf"));
  *     printf(pokit_ngettext(&catalog, "%d book", "%d books", (uint64_t)n), n);
  *
- * pokit_open checks the bytes of a file of any origin, in either byte order, and reports its first fault by name. After
- * that a look-up makes at most floor(log2 N) + 1 comparisons among N messages and evaluates each node of the plural
- * expression at most once. Nothing is allocated and nothing is to be freed; there is no locale, no errno and no global
- * state. The library is proved to meet its contracts; the inline functions of this header aren't part of that proof,
- * and have one of their own, with Frama-C (pokit.acsl.h).
- *
- * Who owns what. The caller owns the catalogue and the bytes. A catalogue refers to the bytes, so they outlive it and
- * don't change while it is in use. The text of an answer is a part of these bytes, or the msgid or plural of the
- * caller; it is never freed, and lives as long as what it is a part of. A catalogue may be copied and moved.
- *
- * Files. Map a file, or read it into memory. A program that replaces a catalogue which others may have mapped writes a
- * new file beside the old one and renames it over the old one: what is mapped then stays as it was checked. A file
- * that is written in place changes bytes that were checked, and a look-up may then read outside of them.
- *
- * Threads. A look-up changes nothing but the answer, so any number of threads may ask one catalogue at a time, once
- * the call of pokit_open has returned. pokit_open writes the catalogue and is called by one thread.
- *
- * Stack. pokit_open takes less than 1 KB of the stack where the plural expression has at most 240 bytes, and up to
- * 9 KB where it has more. A look-up takes less than 1 KB where the program of the expression has at most 128
- * instructions, which is more than any language needs, and up to 17 KB where it has more.
- *
- * Charsets. A text is the bytes of the file: nothing is converted. pokit_charset answers the charset that the header
- * entry names.
- *
- * Other languages. libpokit.so exports the functions that are marked with POKIT_FUNCTION here, which are inline in C, and
- * those of libpokit.a: pokit_lookup asks with plain arguments, and pokit_catalog_size says how much memory a catalogue
- * takes.
- *
- * Works from C99 and from C++11, where a pointer and a size_t have 64 bits: on x86-64 Linux, where all tests run, and
- * on aarch64 Linux, where they were run under qemu. */
+ * First stand the functions with what they return, then the structs, and then what else there is to know. The bodies of
+ * the functions that are inline in C are in pokit_inline.h. */
 #ifndef POKIT_H
 #define POKIT_H
 
@@ -52,17 +23,13 @@
 #include <stdbool.h>
 #endif
 
-#if UINTPTR_MAX != 0xffffffffffffffff || SIZE_MAX != 0xffffffffffffffff
-#error "libpokit is for machines with pointers of 64 bits"
-#endif
-
 /* What a function of this header is: inline in C, and an export in libpokit.so. */
 #ifndef POKIT_FUNCTION
 #define POKIT_FUNCTION static inline
 #endif
 
 /* The answer is a format where argument `n` is one. */
-#ifdef __GNUC__
+#if defined __GNUC__ && !defined __FRAMAC__
 #define POKIT_FORMAT_ARG(n) __attribute__((format_arg(n)))
 #else
 #define POKIT_FORMAT_ARG(n)
@@ -85,11 +52,86 @@ enum pokit_error {
     POKIT_NOT_SORTED = 7      /* a key isn't above the one before it */
 };
 
+typedef struct pokit_bytes pokit_bytes;
+typedef struct pokit_catalog pokit_catalog;
+typedef struct pokit_query pokit_query;
+typedef struct pokit_answer pokit_answer;
+typedef struct pokit_chain_answer pokit_chain_answer;
+typedef struct pokit_walk pokit_walk;
+
+/* Opens the `len` bytes of a file: POKIT_OK, or its fault. Then `*message` is the index of the message that has it,
+ * counted from 0, for POKIT_STRING_OUTSIDE and those after it, and 0 for the faults before, which no message has; and
+ * the catalogue is one that isn't open: it has no message. `catalog` isn't NULL. `bytes` may be, and is then a file of
+ * no bytes; `message` may be NULL too. */
+POKIT_FUNCTION enum pokit_error pokit_open(pokit_catalog *catalog, const void *bytes, size_t len, uint32_t *message);
+
+/* The text of a fault, as "file too short". */
+POKIT_FUNCTION const char *pokit_error_text(uint32_t error);
+
+/* The translation of a message, as a C string; or the msgid where there is none, or where the catalogue isn't open.
+ * Where `msgid` is NULL the answer is NULL. */
+POKIT_FORMAT_ARG(2)
+POKIT_FUNCTION const char *pokit_gettext(const pokit_catalog *catalog, const char *msgid);
+
+/* The same of a message with a context, which may be NULL: there is none. */
+POKIT_FORMAT_ARG(3)
+POKIT_FUNCTION const char *pokit_pgettext(const pokit_catalog *catalog, const char *context, const char *msgid);
+
+/* The plural form of a count; or the msgid where there is none, and for a count that isn't 1 the plural. The plural may
+ * be NULL: no form is asked for, and the count isn't read. */
+POKIT_FORMAT_ARG(2) POKIT_FORMAT_ARG(3)
+POKIT_FUNCTION const char *pokit_ngettext(const pokit_catalog *catalog, const char *msgid, const char *plural,
+                                          uint64_t count);
+POKIT_FORMAT_ARG(3) POKIT_FORMAT_ARG(4)
+POKIT_FUNCTION const char *pokit_npgettext(const pokit_catalog *catalog, const char *context, const char *msgid,
+                                           const char *plural, uint64_t count);
+
+/* The answer to a query of bytes with lengths: its text, whether that is a translation, and what the look-up cost. Where
+ * there is no translation the text is the msgid, or the plural for a count that isn't 1. A context or a msgid that holds
+ * a byte 0 or 4 has none. Pointers of the query may be NULL, for no bytes. */
+POKIT_FUNCTION pokit_answer pokit_look(const pokit_catalog *catalog, pokit_query query);
+
+/* The query of C strings. The context may be NULL, and so may the plural. */
+POKIT_FUNCTION pokit_query pokit_query_of(const char *context, const char *msgid, const char *plural, uint64_t count);
+
+/* The answer of the first of `count` catalogues that has a translation. For a context or a msgid that holds a byte 0 or
+ * 4 none is asked. A member that is NULL, or that isn't open, has no message. */
+POKIT_FUNCTION pokit_chain_answer pokit_look_chain(const pokit_catalog *const *catalogs, size_t count,
+                                                   pokit_query query);
+
+/* The translation, which a NUL follows and which has none inside, or NULL where there is none: for other languages, with
+ * plain arguments. A context or a plural that is NULL isn't there. `answer` may be NULL; else it is what pokit_look
+ * answers. */
+POKIT_FUNCTION const char *pokit_lookup(const pokit_catalog *catalog, const char *context, size_t context_len,
+                                        const char *msgid, size_t msgid_len, const char *plural, size_t plural_len,
+                                        uint64_t count, pokit_answer *answer);
+
+/* How many messages a catalogue has, its header entry among them: 0 where it isn't open. */
+POKIT_FUNCTION uint32_t pokit_len(const pokit_catalog *catalog);
+
+/* The charset of the texts, as "UTF-8": what follows the first "charset=" of the header entry, up to a blank, a line's
+ * end or a semicolon. It is a part of the file, and no NUL follows it. No bytes where the header entry names none. */
+POKIT_FUNCTION pokit_bytes pokit_charset(const pokit_catalog *catalog);
+
+/* Writes the path of the next catalogue for a locale and LANGUAGE: its length, or 0 after the last one ("Paths"). */
+POKIT_FUNCTION size_t pokit_path(const char *folder, const char *category, const char *domain, const char *locale,
+                                 const char *language, pokit_walk *walk, char *path, size_t size);
+
+/* How many bytes a catalogue has, for those who can't see the struct. They are aligned to 8. */
+POKIT_FUNCTION size_t pokit_catalog_size(void);
+
+/* The version of this header; of libpokit.so, that of the library. */
+POKIT_FUNCTION const char *pokit_version(void);
+
+/* Bytes, and those of a C string; no bytes where the pointer is NULL, and then one that isn't. */
+POKIT_FUNCTION pokit_bytes pokit_bytes_of(const void *ptr, size_t len);
+POKIT_FUNCTION pokit_bytes pokit_bytes_of_string(const char *string);
+
 /* Bytes that belong to somebody else. */
-typedef struct pokit_bytes {
+struct pokit_bytes {
     const uint8_t *ptr;
     size_t len;
-} pokit_bytes;
+};
 
 /* An instruction of the program that computes a plural expression, as plural_rule's Instruction documents it:
  * `operation` is its operator. */
@@ -100,25 +142,94 @@ typedef struct pokit_instruction {
     uint32_t number;
 } pokit_instruction;
 
-/* A catalogue: 32,800 bytes. A program only reads it by the functions below. Each look-up relies on it and on its bytes
- * being as pokit_open left them. */
-typedef struct pokit_catalog {
+/* A catalogue: 32,800 bytes. A program only reads it by the functions of this header. Each look-up relies on it and on
+ * its bytes being as pokit_open left them. It may be copied and moved. */
+struct pokit_catalog {
     pokit_bytes bytes;
     uint64_t nplurals;
     uint32_t instruction_count; /* how many instructions the program has; 0 in a catalogue that isn't open */
     pokit_instruction instructions[4096];
-} pokit_catalog;
+};
 
 /* What is asked. A query of all zeros asks for the empty msgid, which is the header entry. A context, a plural and a
  * count that aren't given are not read. */
-typedef struct pokit_query {
+struct pokit_query {
     pokit_bytes context;
     pokit_bytes id;
     pokit_bytes plural;
     uint64_t count;
     uint8_t has_context; /* whether a context is given: 0 is no, and anything else yes */
     uint8_t has_plural;  /* whether a plural and a count are */
-} pokit_query;
+};
+
+/* What is answered. */
+struct pokit_answer {
+    pokit_bytes text;     /* a NUL follows it where it is a translation */
+    uint32_t comparisons; /* how many keys were compared with the query's */
+    uint32_t steps;       /* how many nodes of the plural expression were evaluated */
+    bool found;           /* whether it is a translation */
+};
+
+/* What a chain of catalogues answers. */
+struct pokit_chain_answer {
+    pokit_bytes text;     /* a NUL follows it where it is a translation */
+    uint64_t comparisons; /* how many keys were compared, in all catalogues that were asked */
+    size_t asked;         /* how many members were asked: where there is a translation, the last of them has it */
+    uint32_t steps;       /* how many nodes of the answering catalogue's plural expression were evaluated */
+    bool found;           /* whether it is a translation */
+};
+
+/* Where a walk over the candidates of a locale and LANGUAGE is. All zeros are its beginning. */
+typedef struct pokit_position {
+    size_t offset;  /* how many bytes of LANGUAGE it has passed */
+    uint32_t given; /* how many candidates of the next language were given */
+} pokit_position;
+
+/* Where a walk over paths is. All zeros are its beginning, and pokit_path sets the rest. */
+struct pokit_walk {
+    pokit_position next;
+    size_t language_len;
+};
+
+/* What there is to know.
+ *
+ * pokit_open checks the bytes of a file of any origin, in either byte order, and reports its first fault by name. After
+ * that a look-up makes at most floor(log2 N) + 1 comparisons among N messages and evaluates each node of the plural
+ * expression at most once. Nothing is allocated and nothing is to be freed; there is no locale, no errno and no global
+ * state. The library is proved to meet its contracts; the inline functions aren't part of that proof, and have one of
+ * their own, with Frama-C (pokit.acsl.h).
+ *
+ * Who owns what. The caller owns the catalogue and the bytes. A catalogue refers to the bytes, so they outlive it and
+ * don't change while it is in use. The text of an answer is a part of these bytes, or the msgid or plural of the
+ * caller; it is never freed, and lives as long as what it is a part of.
+ *
+ * Files. Map a file, or read it into memory. A program that replaces a catalogue which others may have mapped writes a
+ * new file beside the old one and renames it over the old one: what is mapped then stays as it was checked. A file
+ * that is written in place changes bytes that were checked, and a look-up may then read outside of them.
+ *
+ * Threads. A look-up changes nothing but the answer, so any number of threads may ask one catalogue at a time, once
+ * the call of pokit_open has returned. pokit_open writes the catalogue and is called by one thread.
+ *
+ * Stack. pokit_open takes less than 1 KB of the stack where the plural expression has at most 240 bytes, and up to
+ * 9 KB where it has more. A look-up takes less than 1 KB where the program of the expression has at most 128
+ * instructions, which is more than any language needs, and up to 17 KB where it has more.
+ *
+ * Charsets. A text is the bytes of the file: nothing is converted.
+ *
+ * Paths. pokit_path writes the path FOLDER/NAME/CATEGORY/DOMAIN.mo of the next candidate of a locale and LANGUAGE, with
+ * a NUL, and answers its length, or 0 after the last one. `walk` is all zeros before the first call, and the texts are
+ * the same ones in all calls. Where the path doesn't fit into `size` bytes, of which there is at least one, its length
+ * is answered and the path is empty. Passed over are names that are empty, "." or "..", and each that its language has
+ * stood for before; a name that two languages stand for, as "de" in "de_AT:de_CH", comes for each. A walk takes time in
+ * proportion to LANGUAGE, and for each path to the other texts. The locale and LANGUAGE may be NULL: they are unset. A
+ * domain that is empty or has a slash has no path. A common folder is "/usr/share/locale", a common category
+ * "LC_MESSAGES". Neither `path` nor `walk` overlaps the texts or the other; each text has less than 2^60 bytes.
+ *
+ * Other languages. libpokit.so exports the functions that are marked with POKIT_FUNCTION here, which are inline in C, and
+ * those of libpokit.a.
+ *
+ * Works from C99 and from C++11, where a pointer and a size_t have 64 bits: on x86-64 Linux, where all tests run, and
+ * on aarch64 Linux, where they were run under qemu. */
 
 /* Which text an answer is. */
 enum pokit_place {
@@ -135,35 +246,6 @@ typedef struct pokit_located {
     uint32_t steps;       /* how many nodes of the plural expression were evaluated */
     uint32_t place;       /* which text it is, an enum pokit_place */
 } pokit_located;
-
-/* What is answered. */
-typedef struct pokit_answer {
-    pokit_bytes text;     /* a NUL follows it where it is a translation */
-    uint32_t comparisons; /* how many keys were compared with the query's */
-    uint32_t steps;       /* how many nodes of the plural expression were evaluated */
-    bool found;           /* whether it is a translation */
-} pokit_answer;
-
-/* What a chain of catalogues answers. */
-typedef struct pokit_chain_answer {
-    pokit_bytes text;     /* a NUL follows it where it is a translation */
-    uint64_t comparisons; /* how many keys were compared, in all catalogues that were asked */
-    size_t asked;         /* how many members were asked: where there is a translation, the last of them has it */
-    uint32_t steps;       /* how many nodes of the answering catalogue's plural expression were evaluated */
-    bool found;           /* whether it is a translation */
-} pokit_chain_answer;
-
-/* Where a walk over the candidates of a locale and LANGUAGE is. All zeros are its beginning. */
-typedef struct pokit_position {
-    size_t offset;  /* how many bytes of LANGUAGE it has passed */
-    uint32_t given; /* how many candidates of the next language were given */
-} pokit_position;
-
-/* Where a walk over paths is. All zeros are its beginning, and pokit_path sets the rest. */
-typedef struct pokit_walk {
-    pokit_position next;
-    size_t language_len;
-} pokit_walk;
 
 /* What a platform has in place of a name in system-dependent strings: for PRIu64 it may be "lu". */
 typedef struct pokit_platform_text {
@@ -190,19 +272,9 @@ enum pokit_written {
     POKIT_NO_ROOM = 2
 };
 
-/* The structs are those that the library was compiled with. */
-typedef char pokit_platform_text_has_32_bytes[sizeof(pokit_platform_text) == 32 ? 1 : -1];
-typedef char pokit_listed_message_has_32_bytes[sizeof(pokit_listed_message) == 32 ? 1 : -1];
-typedef char pokit_ends_has_16_bytes[sizeof(pokit_ends) == 16 ? 1 : -1];
-typedef char pokit_bytes_has_16_bytes[sizeof(pokit_bytes) == 16 ? 1 : -1];
-typedef char pokit_instruction_has_8_bytes[sizeof(pokit_instruction) == 8 ? 1 : -1];
-typedef char pokit_catalog_has_32800_bytes[sizeof(pokit_catalog) == 32800 ? 1 : -1];
-typedef char pokit_query_has_64_bytes[sizeof(pokit_query) == 64 ? 1 : -1];
-typedef char pokit_located_has_32_bytes[sizeof(pokit_located) == 32 ? 1 : -1];
-typedef char pokit_position_has_16_bytes[sizeof(pokit_position) == 16 ? 1 : -1];
+/* The exports of libpokit.a, which are proved. No pointer is NULL, not even that of no bytes: the functions above see to
+ * that. */
 
-/* The exports of libpokit.a, which are proved. No pointer is NULL, not even that of no bytes: call the functions after
- * them, which see to that. */
 uint32_t pokit_catalog_open(pokit_catalog *catalog, const uint8_t *bytes, size_t len, uint32_t *message);
 uint32_t pokit_catalog_len(const pokit_catalog *catalog);
 void pokit_catalog_look(const pokit_catalog *catalog, const pokit_query *query, pokit_located *located);
@@ -237,351 +309,15 @@ uint32_t pokit_system_message(const uint8_t *bytes, size_t len, const pokit_plat
  * the new file is; where it has no more than `file_size` bytes it stands at the beginning of `file`, and
  * pokit_catalog_open takes it. Else `file` stays as it is, so that a call with no room at all says how much is wanted.
  * The result is 0 where there is no such file: the bytes aren't an MO file; `list` has fewer places than the messages
- * of the file and pokit_system_count together; `room` is too short for the strings that are completed; or the new file
- * would have 2^32 bytes or more. What `list` and `room` have is left open; before the call no pointer in the list is
- * NULL. A call takes time in proportion to both files, and for each system-dependent message to the places. */
+ * of the file and pokit_system_count together; `room` is too short for the strings that are completed, or for those of
+ * a message as far as they are written before it turns out that a text is missing for it; or the new file would have
+ * 2^32 bytes or more. What `list` and `room` have is left open; before the call no pointer in the list is NULL. A call
+ * takes time in proportion to both files, and for each system-dependent message to the places. */
 uint32_t pokit_expanded_file(const uint8_t *bytes, size_t len, const pokit_platform_text *texts, size_t count,
                              pokit_listed_message *list, size_t places, uint8_t *room, size_t size, uint8_t *file,
                              size_t file_size);
 
-/* The contracts of these functions, which Frama-C proves. */
-#ifdef __FRAMAC__
-#include "pokit.acsl.h"
-#endif
-
-/* The version of this header; of libpokit.so, that of the library. */
-POKIT_FUNCTION const char *pokit_version(void)
-{
-    return POKIT_VERSION;
-}
-
-/* How many bytes a catalogue has. They are aligned to 8. */
-POKIT_FUNCTION size_t pokit_catalog_size(void)
-{
-    return sizeof(pokit_catalog);
-}
-
-/* Bytes with a pointer that isn't NULL. */
-POKIT_FUNCTION pokit_bytes pokit_bytes_of(const void *ptr, size_t len)
-{
-    pokit_bytes bytes;
-    bytes.ptr = ptr != NULL ? (const uint8_t *)ptr : (const uint8_t *)"";
-    bytes.len = ptr != NULL ? len : 0;
-    return bytes;
-}
-
-/* The bytes of a C string, which may be NULL, and is then one of no bytes. */
-POKIT_FUNCTION pokit_bytes pokit_bytes_of_string(const char *string)
-{
-    return pokit_bytes_of(string, string != NULL ? strlen(string) : 0);
-}
-
-/* Opens the `len` bytes of a file. On a fault `*message` is the index of the message that has it, counted from 0, and
- * the catalogue is one that isn't open: it has no message. `catalog` isn't NULL. `bytes` may be, and is then a file of
- * no bytes; `message` may be NULL too. */
-POKIT_FUNCTION enum pokit_error pokit_open(pokit_catalog *catalog, const void *bytes, size_t len, uint32_t *message)
-{
-    uint32_t unused;
-    pokit_bytes file = pokit_bytes_of(bytes, len);
-    catalog->bytes = pokit_bytes_of(NULL, 0);
-    catalog->nplurals = 0;
-    catalog->instruction_count = 0;
-    if (message == NULL)
-        message = &unused;
-    *message = 0;
-    return (enum pokit_error)pokit_catalog_open(catalog, file.ptr, file.len, message);
-}
-
-/* How many messages a catalogue has, its header entry among them: 0 where it isn't open. */
-POKIT_FUNCTION uint32_t pokit_len(const pokit_catalog *catalog)
-{
-    return catalog->instruction_count != 0 ? pokit_catalog_len(catalog) : 0;
-}
-
-/* The query with all of its fields set, and pointers that aren't NULL. */
-static inline pokit_query pokit_whole(pokit_query query)
-{
-    query.has_context = query.has_context != 0;
-    query.has_plural = query.has_plural != 0;
-    query.id = pokit_bytes_of(query.id.ptr, query.id.len);
-    query.context = query.has_context ? pokit_bytes_of(query.context.ptr, query.context.len) : pokit_bytes_of(NULL, 0);
-    query.plural = query.has_plural ? pokit_bytes_of(query.plural.ptr, query.plural.len) : pokit_bytes_of(NULL, 0);
-    query.count = query.has_plural ? query.count : 1;
-    return query;
-}
-
-/* The answer where there is no translation. */
-static inline pokit_answer pokit_untranslated(pokit_query query)
-{
-    pokit_answer answer;
-    answer.text = query.has_plural && query.count != 1 ? query.plural : query.id;
-    answer.comparisons = 0;
-    answer.steps = 0;
-    answer.found = false;
-    return answer;
-}
-
-/* The text that a look-up has located: a part of the file, or a text of the query. */
-static inline pokit_bytes pokit_located_text(const pokit_catalog *catalog, const pokit_query *query,
-                                             const pokit_located *located)
-{
-    pokit_bytes text;
-    if (located->place != POKIT_TRANSLATION)
-        return located->place == POKIT_PLURAL ? query->plural : query->id;
-    text.ptr = catalog->bytes.ptr + located->offset;
-    text.len = located->len;
-    return text;
-}
-
-/* Answers a query. Pointers of the query may be NULL, and are then those of no bytes. A context or a msgid that holds a
- * byte 0 or 4 has no translation. A message without a translation is answered by the msgid, or by the plural for a
- * count that isn't 1; and so is every message where the catalogue isn't open. */
-POKIT_FUNCTION pokit_answer pokit_look(const pokit_catalog *catalog, pokit_query query)
-{
-    pokit_query whole = pokit_whole(query);
-    pokit_located located;
-    pokit_answer answer;
-    if (catalog->instruction_count == 0)
-        return pokit_untranslated(whole);
-    pokit_catalog_look(catalog, &whole, &located);
-    answer.text = pokit_located_text(catalog, &whole, &located);
-    answer.comparisons = located.comparisons;
-    answer.steps = located.steps;
-    answer.found = located.place == POKIT_TRANSLATION;
-    return answer;
-}
-
-/* Whether a text contains the byte 0 or 4, which no key has. */
-static inline bool pokit_has_separator(pokit_bytes text)
-{
-    return memchr(text.ptr, 0, text.len) != NULL || memchr(text.ptr, 4, text.len) != NULL;
-}
-
-/* Asks `count` catalogues one after the other, up to the first that has a translation. For a context or a msgid that
- * holds a byte 0 or 4 none is asked. A member that is NULL, or that isn't open, has no message. */
-POKIT_FUNCTION pokit_chain_answer pokit_look_chain(const pokit_catalog *const *catalogs, size_t count,
-                                                   pokit_query query)
-{
-    pokit_query whole = pokit_whole(query);
-    pokit_answer answer = pokit_untranslated(whole);
-    pokit_chain_answer chain;
-    chain.comparisons = 0;
-    chain.asked = 0;
-    if (pokit_has_separator(whole.context) || pokit_has_separator(whole.id))
-        count = 0;
-    /*@ loop invariant chain.asked <= count && pokit_is_last(catalogs, query, chain.asked, answer);
-        loop invariant chain.comparisons == pokit_compared_by(catalogs, query, chain.asked) <= 32 * chain.asked;
-        loop assigns answer, chain.comparisons, chain.asked;
-        loop variant count - chain.asked; */
-    while (chain.asked < count && !answer.found) {
-        const pokit_catalog *member = catalogs[chain.asked++];
-        if (member != NULL) {
-            answer = pokit_look(member, whole);
-            chain.comparisons += answer.comparisons;
-        }
-    }
-    chain.text = answer.text;
-    chain.steps = answer.steps;
-    chain.found = answer.found;
-    return chain;
-}
-
-/* A look-up with plain arguments: the translation, which a NUL follows and which has none inside, or NULL where there
- * is none. The context may be NULL: there is none. The plural may be NULL: no plural form is asked for, and `count`
- * isn't read. `answer` may be NULL; else it is what pokit_look answers. */
-POKIT_FUNCTION const char *pokit_lookup(const pokit_catalog *catalog, const char *context, size_t context_len,
-                                        const char *msgid, size_t msgid_len, const char *plural, size_t plural_len,
-                                        uint64_t count, pokit_answer *answer)
-{
-    pokit_query query;
-    pokit_answer found;
-    query.context = pokit_bytes_of(context, context_len);
-    query.id = pokit_bytes_of(msgid, msgid_len);
-    query.plural = pokit_bytes_of(plural, plural_len);
-    query.count = count;
-    query.has_context = context != NULL;
-    query.has_plural = plural != NULL;
-    found = pokit_look(catalog, query);
-    if (answer != NULL)
-        *answer = found;
-    return found.found ? (const char *)found.text.ptr : NULL;
-}
-
-/* The query of C strings. The context may be NULL: there is none. The plural may be NULL: no plural form is asked
- * for. */
-POKIT_FUNCTION pokit_query pokit_query_of(const char *context, const char *msgid, const char *plural, uint64_t count)
-{
-    pokit_query query;
-    query.context = pokit_bytes_of_string(context);
-    query.id = pokit_bytes_of_string(msgid);
-    query.plural = pokit_bytes_of_string(plural);
-    query.count = count;
-    query.has_context = context != NULL;
-    query.has_plural = plural != NULL;
-    return query;
-}
-
-/* The translation of a message with a context and a plural form, as a C string; or the msgid, or for a count that isn't
- * 1 the plural. Where `msgid` is NULL the answer is NULL. The functions after it are the same without a context,
- * without a plural, or without both. */
-POKIT_FORMAT_ARG(3) POKIT_FORMAT_ARG(4)
-POKIT_FUNCTION const char *pokit_npgettext(const pokit_catalog *catalog, const char *context, const char *msgid,
-                                           const char *plural, uint64_t count)
-{
-    if (msgid == NULL)
-        return NULL;
-    return (const char *)pokit_look(catalog, pokit_query_of(context, msgid, plural, count)).text.ptr;
-}
-
-POKIT_FORMAT_ARG(2) POKIT_FORMAT_ARG(3)
-POKIT_FUNCTION const char *pokit_ngettext(const pokit_catalog *catalog, const char *msgid, const char *plural,
-                                          uint64_t count)
-{
-    return pokit_npgettext(catalog, NULL, msgid, plural, count);
-}
-
-POKIT_FORMAT_ARG(3)
-POKIT_FUNCTION const char *pokit_pgettext(const pokit_catalog *catalog, const char *context, const char *msgid)
-{
-    return pokit_npgettext(catalog, context, msgid, NULL, 1);
-}
-
-POKIT_FORMAT_ARG(2)
-POKIT_FUNCTION const char *pokit_gettext(const pokit_catalog *catalog, const char *msgid)
-{
-    return pokit_npgettext(catalog, NULL, msgid, NULL, 1);
-}
-
-/* The charset of the texts, as "UTF-8": what follows the first "charset=" of the header entry, up to a blank, a line's
- * end or a semicolon. It is a part of the file, and no NUL follows it. No bytes where the header entry names none. */
-POKIT_FUNCTION pokit_bytes pokit_charset(const pokit_catalog *catalog)
-{
-    pokit_answer header = pokit_look(catalog, pokit_query_of(NULL, "", NULL, 0));
-    const char *field = header.found ? strstr((const char *)header.text.ptr, "charset=") : NULL;
-    if (field == NULL)
-        return pokit_bytes_of(NULL, 0);
-    field += sizeof "charset=" - 1;
-    return pokit_bytes_of(field, strcspn(field, " \t\r\n;"));
-}
-
-/* The candidate at a position, as pokit_candidate answers it, with the position after it in its own copy. */
-static inline size_t pokit_candidate_at(pokit_bytes locale, pokit_bytes language, size_t offset, uint32_t given,
-                                        uint8_t *name, size_t size)
-{
-    pokit_position position;
-    position.offset = offset;
-    position.given = given;
-    return pokit_candidate(locale.ptr, locale.len, language.ptr, language.len, &position, name, size);
-}
-
-/* Whether the candidate at a position, of `len` bytes, names no folder in another one: it is empty, "." or "..". */
-static inline bool pokit_leads_out(pokit_bytes locale, pokit_bytes language, size_t offset, uint32_t given, size_t len)
-{
-    uint8_t name[2] = {0, 0};
-    if (len > sizeof name)
-        return false;
-    pokit_candidate_at(locale, language, offset, given, name, sizeof name);
-    return len == 0 || (name[0] == '.' && name[len - 1] == '.');
-}
-
-/* Whether the candidate at a position is one of those of the same language before it; that after its fifth is of the
- * next one. Of L_T.C@M they are L_T.C@M, L_T@M, L@M, L_T and L. Two are equal where the parts are missing in which they
- * differ, and then one is as long as one before it: the second as the first, the third and the fourth as the second,
- * the fifth as the third or the fourth. */
-static inline bool pokit_is_repeated(pokit_bytes locale, pokit_bytes language, size_t offset, uint32_t given,
-                                     size_t len)
-{
-    uint8_t unused;
-    if (given == 0 || given > 4)
-        return false;
-    return pokit_candidate_at(locale, language, offset, given / 2, &unused, 0) == len
-           || (given == 4 && pokit_candidate_at(locale, language, offset, 3, &unused, 0) == len);
-}
-
-/* The next candidate that is a folder's name which its language hasn't had before, as pokit_candidate answers it. */
-static inline size_t pokit_next_name(pokit_bytes locale, pokit_bytes language, pokit_position *next, uint8_t *name,
-                                     size_t size)
-{
-    pokit_position at;
-    size_t len;
-    /*@ loop invariant pokit_are_same{Pre,Here}(locale, language);
-        loop invariant pokit_left_from{Pre,Here}(locale, language, next)
-          <= pokit_left_from{Pre,Pre}(locale, language, next);
-        loop assigns at, len, *next, name[0 .. size - 1];
-        loop variant pokit_left_at{Pre}(locale, language, *next); */
-    do {
-        at = *next;
-        len = pokit_candidate(locale.ptr, locale.len, language.ptr, language.len, next, name, size);
-        if (len == POKIT_END)
-            return POKIT_END;
-    } while (pokit_leads_out(locale, language, at.offset, at.given, len)
-             || pokit_is_repeated(locale, language, at.offset, at.given, len));
-    return len;
-}
-
-/* Writes FOLDER/NAME/CATEGORY/DOMAIN.mo and a NUL, but for the name, which is in its place. */
-static inline void pokit_write_around(char *path, const char *folder, size_t folder_len, size_t name_len,
-                                      const char *category, size_t category_len, const char *domain, size_t domain_len)
-{
-    char *rest = path + folder_len + 1 + name_len;
-    memcpy(path, folder, folder_len);
-    path[folder_len] = '/';
-    *rest++ = '/';
-    memcpy(rest, category, category_len);
-    rest += category_len;
-    *rest++ = '/';
-    memcpy(rest, domain, domain_len);
-    rest += domain_len;
-    memcpy(rest, ".mo", sizeof ".mo" - 1);
-    rest[sizeof ".mo" - 1] = 0;
-}
-
-/* Writes the path FOLDER/NAME/CATEGORY/DOMAIN.mo of the next candidate of a locale and LANGUAGE, with a NUL, and
- * answers its length, or 0 after the last one. `walk` is all zeros before the first call, and the texts are the same
- * ones in all calls. Where the path doesn't fit into `size` bytes, of which there is at least one, its length is
- * answered and the path is empty. Passed over are names that are empty, "." or "..", and each that its language has
- * stood for before; a name that two languages stand for, as "de" in "de_AT:de_CH", comes for each. A walk
- * takes time in proportion to LANGUAGE, and for each path to the other texts. The locale and LANGUAGE may be NULL: they
- * are unset. A domain that is empty or has a slash has no path. A common folder is "/usr/share/locale", a common
- * category "LC_MESSAGES". Neither `path` nor `walk` overlaps the texts or the other; each text has less than 2^60
- * bytes. */
-POKIT_FUNCTION size_t pokit_path(const char *folder, const char *category, const char *domain, const char *locale,
-                                 const char *language, pokit_walk *walk, char *path, size_t size)
-{
-    pokit_bytes locale_bytes = pokit_bytes_of_string(locale), language_bytes;
-    size_t before = strlen(folder) + 1, category_len = strlen(category), domain_len = strlen(domain);
-    size_t around = before + category_len + domain_len + sizeof "//.mo" - 1;
-    char *name = path + (before < size ? before : 0);
-    size_t room = around < size ? size - around - 1 : 0, len = POKIT_END;
-    if (walk->next.offset == 0 && walk->next.given == 0)
-        walk->language_len = language != NULL ? strlen(language) : 0;
-    language_bytes = pokit_bytes_of(language, walk->language_len);
-    if (domain_len != 0 && strchr(domain, '/') == NULL)
-        len = pokit_next_name(locale_bytes, language_bytes, &walk->next, (uint8_t *)name, room);
-    path[0] = 0;
-    if (len == POKIT_END)
-        return 0;
-    if (len > room)
-        return around + len;
-    pokit_write_around(path, folder, before - 1, len, category, category_len, domain, domain_len);
-    return around + len;
-}
-
-/* The text of a fault, as pokit_open answers it. */
-POKIT_FUNCTION const char *pokit_error_text(uint32_t error)
-{
-    switch (error) {
-    case POKIT_OK: return "no fault";
-    case POKIT_TOO_SHORT: return "file too short";
-    case POKIT_BAD_MAGIC: return "bad magic number";
-    case POKIT_BAD_REVISION: return "unknown revision";
-    case POKIT_TABLE_OUTSIDE: return "table outside the file";
-    case POKIT_STRING_OUTSIDE: return "string outside the file";
-    case POKIT_NO_TERMINATOR: return "string without a final NUL";
-    case POKIT_NOT_SORTED: return "string out of order";
-    default: return "unknown fault";
-    }
-}
+#include "pokit_inline.h"
 
 #ifdef __cplusplus
 }

@@ -32,8 +32,20 @@
 
     predicate pokit_literal{L}(char *s) =
       \valid_read(s + (0 .. pokit_literal_len(s))) && s[pokit_literal_len(s)] == 0;
-*/
 
+    // whether a string begins with a literal of 8 letters at most
+    predicate pokit_begins_with{L}(char *s, char *part) =
+      (0 < pokit_literal_len(part) ==> s[0] == part[0]) && (1 < pokit_literal_len(part) ==> s[1] == part[1]) &&
+      (2 < pokit_literal_len(part) ==> s[2] == part[2]) && (3 < pokit_literal_len(part) ==> s[3] == part[3]) &&
+      (4 < pokit_literal_len(part) ==> s[4] == part[4]) && (5 < pokit_literal_len(part) ==> s[5] == part[5]) &&
+      (6 < pokit_literal_len(part) ==> s[6] == part[6]) && (7 < pokit_literal_len(part) ==> s[7] == part[7]);
+
+    // whether a letter is one of those of a literal, of 5 at most
+    predicate pokit_is_among{L}(char c, char *letters) =
+      (0 < pokit_literal_len(letters) && c == letters[0]) || (1 < pokit_literal_len(letters) && c == letters[1]) || (2 <
+      pokit_literal_len(letters) && c == letters[2]) || (3 < pokit_literal_len(letters) && c == letters[3]) || (4 <
+      pokit_literal_len(letters) && c == letters[4]);
+*/
 
 /*@ requires valid_read_string(s);
     assigns \result \from indirect: s[0 ..];
@@ -48,17 +60,22 @@ size_t strlen(const char *s);
 char *strchr(const char *s, int c);
 
 /*@ requires valid_read_string(s);
-    requires pokit_literal(part);
+    requires pokit_literal(part) && pokit_literal_len(part) <= 8;
     assigns \result \from s, indirect: s[0 ..], indirect: part[0 ..];
+    ensures \result == \null ==>
+      \forall integer i; 0 <= i && i + pokit_literal_len(part) <= strlen(s) ==> !pokit_begins_with(s + i, part);
     ensures \result != \null ==>
-      \exists integer i; 0 <= i && i + pokit_literal_len(part) <= strlen(s) && \result == s + i;
+      \exists integer i; 0 <= i && i + pokit_literal_len(part) <= strlen(s) && \result == s + i
+        && pokit_begins_with(s + i, part) && \forall integer j; 0 <= j < i ==> !pokit_begins_with(s + j, part);
 */
 char *strstr(const char *s, const char *part);
 
 /*@ requires valid_read_string(s);
-    requires pokit_literal(reject);
+    requires pokit_literal(reject) && pokit_literal_len(reject) <= 5;
     assigns \result \from indirect: s[0 ..], indirect: reject[0 ..];
     ensures 0 <= \result <= strlen(s);
+    ensures s[\result] == 0 || pokit_is_among(s[\result], reject);
+    ensures \forall integer i; 0 <= i < \result ==> s[i] != 0 && !pokit_is_among(s[i], reject);
 */
 size_t strcspn(const char *s, const char *reject);
 
