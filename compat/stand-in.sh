@@ -3,18 +3,31 @@ pokit='@BINDIR@/pokit'
 
 say() { printf '%s\n' "$tool (pokit): $1" >&2; }
 
-# gnu NAME: sets program to the path of GNU's program of that name, past the stand-ins on PATH; false where there is none.
+# needs PROGRAM..: ends the script where one of these isn't there.
+needs() {
+    for needed; do
+        command -v "$needed" > /dev/null || { say "this needs $needed, which isn't on PATH"; exit 1; }
+    done
+}
+
+# gnu NAME: sets program to the path of GNU's program of that name, past the stand-ins on PATH; false where there is
+# none.
 gnu() {
     folders=$PATH:
     while [ -n "$folders" ]; do
         program=${folders%%:*} folders=${folders#*:}
         program=${program:-.}/$1
         [ -f "$program" ] && [ -x "$program" ] || continue
+        # (a shell reads byte by byte, so what no stand-in can be isn't read)
+        [ -h "$program" ] || [ -e "${program%/*}/stand-in.sh" ] || [ "$program" -ef "$0" ] || return 0
         { read -r first; read -r second; } < "$program" 2> /dev/null
         case $first$second in '#!'*"pokit's stand-in for GNU's"*) ;; *) return 0 ;; esac
     done
     return 1
 }
+
+# (msgfmt reads its arguments itself, and is run so often that what it doesn't need would be felt)
+[ "$tool" != msgfmt ] || return 0
 
 # is_ours OPTION: whether pokit's tool has that option, of more than one letter.
 is_ours() { case " $options " in *" ${1%%=*} "*) ;; *) return 1 ;; esac; }
@@ -66,6 +79,8 @@ is_utf8() {
         *[Uu][Tt][Ff]-8* | *[Uu][Tt][Ff]8*) return 0 ;;
     esac
     [ -z "$OUTPUT_CHARSET" ] || return 1
+    # (without that program GNU's, if it is there, has to tell)
+    command -v locale > /dev/null || return 1
     # (of a locale that isn't there it says that, in words)
     case $(locale charmap 2>&1) in UTF-8 | '' | *' '*) ;; *) return 1 ;; esac
 }
