@@ -86,19 +86,19 @@ static MSGFMT: [Argument; 7] = [
     (
         "output-file",
         Output,
-        "MO file to write; - is standard output [default: messages.mo]",
+        "MO file; - is standard output [default: messages.mo]",
     ),
     ("use-fuzzy", ShortFlag('f'), "Compile fuzzy entries too"),
     ("statistics", Flag, "Count the messages on standard error"),
     (
         "endianness",
         ByteOrder,
-        "Byte order of the MO file [default: little]",
+        "Byte order, little or big [default: little]",
     ),
     (
         "no-hash",
         Flag,
-        "Accepted for compatibility: no hash table is ever written",
+        "Accepted for compatibility: no hash table is made",
     ),
     (
         "profile-check",
@@ -131,7 +131,7 @@ static MSGATTRIB: [Argument; 17] = [
     (
         "empty",
         Flag,
-        "With --clear-fuzzy, empty the translations of fuzzy messages",
+        "With --clear-fuzzy, empty the fuzzy translations",
     ),
     ("fuzzy", Flag, "Stand for --only-fuzzy --clear-fuzzy"),
     (
@@ -184,7 +184,7 @@ static ENVSUBST: [Argument; 2] = [
     (
         "variables",
         ShortFlag('v'),
-        "Print the names of the variables in SHELL-FORMAT, and read nothing",
+        "Print the names of variables in SHELL-FORMAT, read nothing",
     ),
 ];
 
@@ -204,32 +204,38 @@ pub fn program<'a>(alloc: Global, first: Option<Tool>) -> Result<Command<'a>, Al
 fn with_tools<'a>(alloc: Global, tools: &[Tool]) -> Result<Command<'a>, AllocError>
     ensures { IfOk result (OffersTools tools.now) }
 {
-    let mut program = described(alloc, "pokit", help::PROGRAM)
+    let is_alone = tools.len() == 1;
+    let mut program = described(alloc, "pokit", help::PROGRAM, true)
         .disable_version_flag(true)
         .disable_help_subcommand(true)
         .subcommand_required(true);
     for tool in tools {
-        program = with_tool(alloc, program, *tool)?;
+        program = with_tool(alloc, program, *tool, is_alone)?;
     }
     Ok(program)
 }
 
 /// The command of the whole program with the command of one tool more.
-fn with_tool<'a>(alloc: Global, program: Command<'a>, tool: Tool) -> Result<Command<'a>, AllocError>
+fn with_tool<'a>(
+    alloc: Global,
+    program: Command<'a>,
+    tool: Tool,
+    is_alone: bool,
+) -> Result<Command<'a>, AllocError>
     ensures { IfOk result (λ more. (tools : List Tool) → OffersTools tools program.entry
         → OffersTools (tools ++ tool ∷ []) more) }
 {
-    let command = command_of(alloc, tool)?;
+    let command = command_of(alloc, tool, is_alone)?;
     program.subcommand(command)
 }
 
 /// The command of a tool, with its options and arguments.
-fn command_of<'a>(alloc: Global, tool: Tool) -> Result<Command<'a>, AllocError>
+fn command_of<'a>(alloc: Global, tool: Tool, is_alone: bool) -> Result<Command<'a>, AllocError>
     ensures { IfOk result (IsToolCommand tool) }
 {
     let (help, arguments) = parts_of(tool);
     let name: &'a str = tool.name();
-    let mut command = described(alloc, name, help);
+    let mut command = described(alloc, name, help, is_alone);
     for argument in arguments {
         command = command.arg(arg_of(alloc, *argument))?;
     }
@@ -251,13 +257,17 @@ fn parts_of(tool: Tool) -> (Help, &'static [Argument])
     }
 }
 
-/// A command with what its help says besides its arguments.
-fn described<'a>(alloc: Global, name: &'a str, help: Help) -> Command<'a>
+/// A command with what its help says besides its arguments. Beside others it is only listed, by what
+/// it is for.
+fn described<'a>(alloc: Global, name: &'a str, help: Help, is_alone: bool) -> Command<'a>
     ensures app { app_of result ≡ new_app name.entry.now }
     ensures local { (out-Command result).has_globals ≡ false }
 {
     let command = Command::new(alloc, name)
-        .about(help.about)
+        .before_help(help.about)
+        .about(if is_alone { help.example } else { help.about })
+        .subcommand_value_name("TOOL")
+        .subcommand_help_heading("Tools")
         .after_help(help.after);
     match help.usage {
         Some(usage) => command.override_usage(usage),
@@ -288,6 +298,7 @@ fn arg_of<'a>(alloc: Global, argument: Argument) -> Arg<'a>
         ByteOrder => arg
             .long(name)
             .value_name("ORDER")
+            .hide_possible_values(true)
             .value_parser(BYTE_ORDERS.as_slice()),
     }
 }
