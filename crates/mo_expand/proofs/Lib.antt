@@ -4,4 +4,7 @@ pub mod SearchLemmas
 pub mod CompletingLemmas
 pub mod RisingLemmas
 pub mod ExpandedFileLemmas
+pub mod AnyOrderLemmas
+pub mod SortedFileLemmas
+pub mod OrderLemmas
 pub mod Examples

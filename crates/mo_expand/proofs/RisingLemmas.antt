@@ -22,7 +22,7 @@ rising-cons-at key ks below rising (suc i) inside =
 rising-cons : (key : List ℕ) (ks : List (List ℕ)) → IsBelow key ks → AreRising ks → AreRising (key ∷ ks)
 rising-cons key ks below rising = record { next = rising-cons-at key ks below rising }
 
-rising-rest : (key : List ℕ) (ks : List (List ℕ)) → AreRising (key ∷ ks) → AreRising ks
+pub rising-rest : (key : List ℕ) (ks : List (List ℕ)) → AreRising (key ∷ ks) → AreRising ks
 rising-rest key ks rising = record {
   next = λ i inside.
       let e : suc i + 1 ≡ suc (i + 1) = omega arith in

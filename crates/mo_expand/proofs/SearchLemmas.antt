@@ -29,7 +29,7 @@ rising_apart ks rising i (suc gap) inside =
     (rising_apart ks rising i gap (omega arith)) (rising.next (i + 1 + gap) (omega arith))
     )
 
-rising_between : (ks : List (List ℕ)) → AreRising ks → (i j : ℕ) → i < j → j < length ks
+pub rising_between : (ks : List (List ℕ)) → AreRising ks → (i j : ℕ) → i < j → j < length ks
     → key_cmp (key_at ks i) (key_at ks j) ≡ Less
 rising_between ks rising i j before inside =
     let e : i + 1 + (j - (i + 1)) ≡ j = omega arith in

@@ -4,5 +4,8 @@ pub mod Expanded
 pub mod Expanding
 pub mod Merging
 pub mod ExpandedFile
+pub mod AnyOrder
+pub mod SortedFile
 pub mod Laws
+pub mod OrderLaws
 pub mod Internal

@@ -1,6 +1,8 @@
-//! Laws of system-dependent messages, each the contract of a function that does nothing.
+//! Laws of system-dependent messages and of files whose keys are in any order, each the contract of
+//! a function that does nothing.
 
 ghost use Rattle.mo_expand.specs.Laws.{ExampleIsCompleted, ExampleNeedsItsText, ExpandedFileIsMoFile};
+ghost use Rattle.mo_expand.specs.OrderLaws.{MoFileIsInOrder, OneOrder, OrderAloneIsTold, SameMessageUnderKey, SortedFileIsMoFile};
 
 /// A file of one such message, in either byte order: a platform that has the text for its name has
 /// the message.
@@ -17,4 +19,30 @@ pub fn example_needs_its_text()
 /// system-dependent ones whose keys it lacks.
 pub fn expanded_file_is_mo_file()
     ensures { ExpandedFileIsMoFile }
+{}
+
+/// A valid file is one in any order, and its messages are in order.
+pub fn mo_file_is_in_order()
+    ensures { MoFileIsInOrder }
+{}
+
+/// Bytes that aren't a valid file are one in any order where `NotSorted` is told of them, and else
+/// aren't.
+pub fn order_alone_is_told()
+    ensures { OrderAloneIsTold }
+{}
+
+/// Messages have one order at most, and where two keys are equal none.
+pub fn one_order()
+    ensures { OneOrder }
+{}
+
+/// The file of messages in order that 32 bits reach is valid, and its messages are those in order.
+pub fn sorted_file_is_mo_file()
+    ensures { SortedFileIsMoFile }
+{}
+
+/// Under each key the messages in order have the message that they have in any order, or none.
+pub fn same_message_under_key()
+    ensures { SameMessageUnderKey }
 {}

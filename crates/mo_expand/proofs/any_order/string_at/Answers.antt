@@ -1,0 +1,7 @@
+use Rattle.std.proofs.Common.{refl}
+use Rattle.mo_file.specs.StringTable.{string_at}
+use Rattle.mo_expand.proofs.any_order.string_at.Goals as goal
+
+pub returns : goal.returns
+unfolding string_at
+returns c = rw (c.word.ensures, c.word-start.ensures) refl

@@ -1,0 +1,5 @@
+use Rattle.mo_expand.proofs.OrderLemmas.{one_order}
+use Rattle.mo_expand.proofs.laws.one_order.Goals as goal
+
+pub returns : goal.returns
+returns c = one_order

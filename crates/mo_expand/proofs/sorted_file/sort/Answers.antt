@@ -1,0 +1,15 @@
+use Rattle.std.proofs.Common.{rules}
+use Rattle.std.specs.Ordering.{is_lt}
+use Rattle.std.proofs.lemmas.Cmp.{nat_list_cmp_total, on_total}
+use Rattle.std.proofs.lemmas.List.Sorted.{answers_always, ranks_by}
+use Rattle.mo_file.specs.Key.{key_cmp}
+use Rattle.mo_file.specs.declared.pairs.BorrowedPair.{BorrowedPair}
+use Rattle.mo_expand.proofs.SortedFileLemmas.{listed_key}
+use Rattle.mo_expand.proofs.sorted_file.sort.Goals as goal
+
+pub returns-clause-sorted : goal.returns-clause-sorted
+returns-clause-sorted c =
+    let total = on_total listed_key nat_list_cmp_total in
+    c.sort_unstable_by.ensures.sorted (λ a b. is_lt (key_cmp (listed_key a) (listed_key b)))
+    (ranks_by total (λ (m : BorrowedPair). m))
+    (answers_always _ _ _ (λ f a r g h. search rules))
