@@ -304,6 +304,27 @@ uint32_t pokit_expanded_file(const uint8_t *bytes, size_t len, const pokit_platf
                              pokit_listed_message *list, size_t places, uint8_t *room, size_t size, uint8_t *file,
                              size_t file_size);
 
+/*@ requires bytes != \null && \valid_read(bytes + (0 .. len - 1));
+    assigns \result \from bytes, len, bytes[0 .. len - 1];
+    ensures short: len < 28 ==> \result == 0;
+*/
+uint32_t pokit_message_count(const uint8_t *bytes, size_t len);
+
+/*@ requires bytes != \null && \valid_read(bytes + (0 .. len - 1));
+    requires list != \null && \valid(list + (0 .. places - 1));
+    requires \forall integer i; 0 <= i < places ==>
+      pokit_readable(list[i].original) && pokit_readable(list[i].translation);
+    requires file != \null && \valid(file + (0 .. file_size - 1));
+    requires \separated(list + (0 .. places - 1), file + (0 .. file_size - 1), bytes + (0 .. len - 1));
+    assigns list[0 .. places - 1], file[0 .. file_size - 1], \result
+      \from bytes, len, bytes[0 .. len - 1], places, file_size;
+    // follows from file's IsWrittenIfItFits
+    ensures small: file_size < \result ==> \forall integer i; 0 <= i < file_size ==> file[i] == \old(file[i]);
+    ensures unchanged: \result == 0 ==> \forall integer i; 0 <= i < file_size ==> file[i] == \old(file[i]);
+*/
+uint32_t pokit_sorted_file(const uint8_t *bytes, size_t len, pokit_listed_message *list, size_t places, uint8_t *file,
+                           size_t file_size);
+
 /* What is proved of the functions of pokit.h. */
 
 /*@ predicate pokit_is_catalog{L}(pokit_catalog *c) =
@@ -375,6 +396,24 @@ POKIT_FUNCTION pokit_bytes pokit_bytes_of_string(const char *string);
       (bytes != \null && \result != POKIT_OK ? \old(pokit_fault_message((uint8_t *)bytes, len)) : 0);
 */
 POKIT_FUNCTION enum pokit_error pokit_open(pokit_catalog *catalog, const void *bytes, size_t len, uint32_t *message);
+
+/*@ requires \valid(list + (0 .. places - 1));
+    assigns list[0 .. places - 1];
+    ensures \forall integer i; 0 <= i < places ==>
+      pokit_readable(list[i].original) && pokit_readable(list[i].translation);
+*/
+static inline void pokit_empty(pokit_listed_message *list, size_t places);
+
+/*@ requires bytes == \null || \valid_read((char *)bytes + (0 .. len - 1));
+    requires \valid(list + (0 .. places - 1)) && (list == \null ==> places == 0);
+    requires \valid(file + (0 .. file_size - 1)) && (file == \null ==> file_size == 0);
+    requires \separated(list + (0 .. places - 1), file + (0 .. file_size - 1), (char *)bytes + (0 .. len - 1));
+    assigns list[0 .. places - 1], file[0 .. file_size - 1];
+    ensures small: file_size < \result ==> \forall integer i; 0 <= i < file_size ==> file[i] == \old(file[i]);
+    ensures unchanged: \result == 0 ==> \forall integer i; 0 <= i < file_size ==> file[i] == \old(file[i]);
+*/
+POKIT_FUNCTION uint32_t pokit_sort(const void *bytes, size_t len, pokit_listed_message *list, size_t places,
+                                   uint8_t *file, size_t file_size);
 
 /*@ requires pokit_is_catalog(catalog);
     assigns \nothing;

@@ -212,7 +212,8 @@ struct pokit_walk {
  *
  * Stack. pokit_open takes less than 1 KB of the stack where the plural expression has at most 240 bytes, and up to
  * 9 KB where it has more. A look-up takes less than 1 KB where the program of the expression has at most 128
- * instructions, which is more than any language needs, and up to 17 KB where it has more.
+ * instructions, which is more than any language needs, and up to 17 KB where it has more. pokit_sorted_file takes some
+ * 3 KB for 100,000 messages.
  *
  * Charsets. A text is the bytes of the file: nothing is converted.
  *
@@ -316,6 +317,28 @@ uint32_t pokit_system_message(const uint8_t *bytes, size_t len, const pokit_plat
 uint32_t pokit_expanded_file(const uint8_t *bytes, size_t len, const pokit_platform_text *texts, size_t count,
                              pokit_listed_message *list, size_t places, uint8_t *room, size_t size, uint8_t *file,
                              size_t file_size);
+
+/* Puts the messages of a file in rising order of their keys. pokit_open refuses a file with POKIT_NOT_SORTED whose keys
+ * are out of order, as `pybabel compile` writes it of a catalogue with contexts. Where it has no other fault, and no two
+ * of its messages have one key, the file of the same messages in order is made: the result is how long it is; where it
+ * has no more than `file_size` bytes it stands at the beginning of `file`, and pokit_catalog_open takes it. Else `file`
+ * stays as it is, so that a call with no room at all says how much is wanted. Of a valid file too a file in order is
+ * made. The result is 0 where there is none: the bytes have another fault; two messages have one key; `list` has fewer
+ * places than pokit_message_count says; or the new file would have 2^32 bytes or more. The new file is in the byte order
+ * of the old one, and has none of its system-dependent messages. What `list` has is left open; before the call no
+ * pointer in it is NULL. A call takes time in proportion to both files, and n log n comparisons of keys for n messages.
+ *
+ * pokit_message_count says how many messages a file has by its file header, which may be false: it is true where
+ * pokit_open succeeds or says POKIT_NOT_SORTED. It is 0 for bytes that have no file header. */
+uint32_t pokit_message_count(const uint8_t *bytes, size_t len);
+uint32_t pokit_sorted_file(const uint8_t *bytes, size_t len, pokit_listed_message *list, size_t places, uint8_t *file,
+                           size_t file_size);
+
+/* Puts the messages of a file in order as pokit_sorted_file does, in a list whose places may have any values. `bytes` may
+ * be NULL, and is then a file of no bytes; `list` where it has no places, and `file` where it has no bytes: so
+ * pokit_sort(bytes, len, list, places, NULL, 0) says how long the file in order is. */
+POKIT_FUNCTION uint32_t pokit_sort(const void *bytes, size_t len, pokit_listed_message *list, size_t places,
+                                   uint8_t *file, size_t file_size);
 
 #include "pokit_inline.h"
 

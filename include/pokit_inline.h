@@ -58,6 +58,36 @@ POKIT_FUNCTION enum pokit_error pokit_open(pokit_catalog *catalog, const void *b
     return (enum pokit_error)pokit_catalog_open(catalog, file.ptr, file.len, message);
 }
 
+/* Sets the places of a list to messages of no bytes. */
+static inline void pokit_empty(pokit_listed_message *list, size_t places)
+{
+    const uint8_t *none = (const uint8_t *)"";
+    size_t i;
+    /*@ loop invariant 0 <= i <= places;
+        loop invariant \forall integer k; 0 <= k < i ==> list[k].original.ptr == none && list[k].original.len == 0;
+        loop invariant \forall integer k; 0 <= k < i ==> list[k].translation.ptr == none && list[k].translation.len == 0;
+        loop assigns i, list[0 .. places - 1];
+        loop variant places - i; */
+    for (i = 0; i < places; i++) {
+        list[i].original.ptr = none;
+        list[i].original.len = 0;
+        list[i].translation.ptr = none;
+        list[i].translation.len = 0;
+    }
+}
+
+POKIT_FUNCTION uint32_t pokit_sort(const void *bytes, size_t len, pokit_listed_message *list, size_t places,
+                                   uint8_t *file, size_t file_size)
+{
+    pokit_bytes from = pokit_bytes_of(bytes, len);
+    pokit_listed_message none;
+    uint8_t nothing = 0;
+    pokit_empty(&none, 1);
+    pokit_empty(list, places);
+    return pokit_sorted_file(from.ptr, from.len, list != NULL ? list : &none, places, file != NULL ? file : &nothing,
+                             file_size);
+}
+
 POKIT_FUNCTION uint32_t pokit_len(const pokit_catalog *catalog)
 {
     return catalog->instruction_count != 0 ? pokit_catalog_len(catalog) : 0;

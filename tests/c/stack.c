@@ -11,7 +11,7 @@
 enum { ROOM = 256 * 1024, FILLED = 0xa5 };
 
 /* What each call may take, in bytes. */
-enum { TO_OPEN = 1024, TO_OPEN_FAR = 9 * 1024, TO_LOOK = 1024, TO_LOOK_FAR = 17 * 1024, TO_MAKE_A_PATH = 6 * 1024 };
+enum { TO_OPEN = 1024, TO_OPEN_FAR = 9 * 1024, TO_LOOK = 1024, TO_LOOK_FAR = 17 * 1024, TO_MAKE_A_PATH = 6 * 1024, TO_SORT = 4 * 1024 };
 
 static pokit_catalog catalog;
 static struct file file;
@@ -35,6 +35,47 @@ static void *path(void *unused)
     pokit_walk walk = {{0, 0}, 0};
     (void)unused;
     return pokit_path("/d", "LC_MESSAGES", "w", "de_AT.UTF-8", "fr:pl", &walk, name, sizeof name) != 0 ? name : NULL;
+}
+
+/* A file of many messages, in whatever order, whose originals are numbers. */
+enum { MANY = 100000, DIGITS = 6 };
+static uint8_t out_of_order[28 + MANY * (16 + DIGITS + 2)];
+static pokit_listed_message list[MANY];
+
+static void put(size_t at, uint32_t word)
+{
+    memcpy(out_of_order + at, &word, 4);
+}
+
+static void make_out_of_order(void)
+{
+    static const uint32_t words[] = {0x950412de, 0, MANY, 28, 28 + 8 * MANY, 0, 0};
+    static uint32_t order[MANY];
+    uint32_t seed = 1, i, at = 28 + 16 * MANY;
+    for (i = 0; i < 7; i++)
+        put(4 * i, words[i]);
+    for (i = 0; i < MANY; i++) {
+        uint32_t other = (seed = seed * 1664525 + 1013904223) / 256 % (i + 1);
+        order[i] = order[other];
+        order[other] = i;
+    }
+    for (i = 0; i < MANY; i++) {
+        char number[DIGITS + 1];
+        snprintf(number, sizeof number, "%0*u", DIGITS, (unsigned)order[i] % 1000000);
+        put(28 + 8 * i, DIGITS);
+        put(32 + 8 * i, at);
+        put(28 + 8 * (MANY + i), 0);
+        put(32 + 8 * (MANY + i), at + DIGITS);
+        memcpy(out_of_order + at, number, DIGITS + 1);
+        at += DIGITS + 1;
+        list[i].original = list[i].translation = pokit_bytes_of(NULL, 0);
+    }
+}
+
+static void *sort(void *unused)
+{
+    (void)unused;
+    return pokit_sorted_file(out_of_order, sizeof out_of_order, list, MANY, out_of_order, 0) != 0 ? list : NULL;
 }
 
 static void *nothing(void *unused)
@@ -101,5 +142,8 @@ int main(void)
     make("a rule of 4,001 nodes", 2000);
     check_most("pokit_open", open_file, TO_OPEN_FAR);
     check_most("pokit_ngettext", look, TO_LOOK_FAR);
+    rule = "no rule";
+    make_out_of_order();
+    check_most("pokit_sorted_file", sort, TO_SORT);
     return counts();
 }

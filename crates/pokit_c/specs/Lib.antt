@@ -1,2 +1,3 @@
+pub mod Sorted
 pub mod Opened
 pub mod QueryView

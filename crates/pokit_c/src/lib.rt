@@ -8,11 +8,12 @@
 //! for. [`pokit_system_count`](system_message::pokit_system_count) and
 //! [`pokit_system_message`](system_message::pokit_system_message) complete system-dependent
 //! messages, and [`pokit_expanded_file`](expanded_file::pokit_expanded_file) makes a file that has
-//! none. None of them allocates, and there is no state besides the arguments. C calls them by the
-//! inline functions of include/pokit.h.
+//! none. [`pokit_sorted_file`](sorted_file::pokit_sorted_file) makes a file in order of one whose
+//! keys are out of order. None of them allocates, and there is no state besides the arguments. C
+//! calls them by the inline functions of include/pokit.h.
 //!
 //! The modules in reading order: `catalog`, `fault`, `opening`, `query`, `looking`, `candidate`,
-//! `system_message`, `expanded_file`.
+//! `system_message`, `expanded_file`, `sorted_file`.
 
 #![tactic(auto)]
 
@@ -23,4 +24,5 @@ mod fault;
 mod looking;
 mod opening;
 mod query;
+mod sorted_file;
 mod system_message;
