@@ -11,8 +11,8 @@ struct file {
 static struct file *files[BUCKETS];
 static char path[PATH_MAX];
 
-/* Adds a line on the refused file at `path` to the file that POKIT_INTL_LOG names. `message` is -1 where no message has
- * the fault. */
+/* Adds a line on the file at `path`, which was refused or put in order, to the file that POKIT_INTL_LOG names. `message`
+ * is -1 where no message has the fault. */
 static void tell(const char *fault, int64_t message)
 {
     static char line[PATH_MAX + 100];
@@ -56,6 +56,7 @@ static bool has_long_rule(const char *at, size_t len)
 /* A file in the memory behind a catalogue, and what came of opening it. */
 struct opening {
     pokit_catalog *catalog;
+    size_t size; /* of this memory */
     size_t len;
     uint32_t message;
     enum pokit_error error;
@@ -74,6 +75,27 @@ static bool opens(struct opening *it)
     if (is_first_thread() || !has_long_rule((const char *)(it->catalog + 1), it->len))
         return open_catalog(it) != NULL;
     return on_large_stack(open_catalog, it) != NULL;
+}
+
+static void *sort_file(void *argument)
+{
+    struct opening *it = argument, in_order = {.len = 0};
+    bool again = false;
+    in_order.catalog = sorted(pokit_bytes_of(it->catalog + 1, it->len), &in_order.len, &again);
+    if (in_order.catalog != NULL) {
+        in_order.size = sizeof(pokit_catalog) + in_order.len;
+        open_catalog(&in_order);
+        munmap(it->catalog, it->size);
+        *it = in_order;
+    }
+    return again ? NULL : it;
+}
+
+/* Puts a file that was refused for its order in order and opens it, in the place of the other; where there is none in
+ * order, nothing changes. Returns whether there was memory, and stack, enough. */
+static bool is_put_in_order(struct opening *it)
+{
+    return on_large_stack(sort_file, it) != NULL;
 }
 
 /* The catalogue with the system-dependent messages of its file, where it has some; else the catalogue itself.
@@ -108,18 +130,25 @@ static const pokit_catalog *read_catalog(int fd, bool *again)
     if (*again)
         return NULL;
     const pokit_catalog *whole = NULL;
-    struct opening it = {.catalog = catalog, .len = read_all(fd, (char *)(catalog + 1), len)};
-    if (!opens(&it))
-        *again = true;
-    else if (it.error != POKIT_OK)
+    struct opening it = {.catalog = catalog, .size = size, .len = read_all(fd, (char *)(catalog + 1), len)};
+    int64_t out_of_order = -1;
+    *again = !opens(&it);
+    if (!*again && it.error == POKIT_NOT_SORTED) {
+        out_of_order = it.message;
+        *again = !is_put_in_order(&it);
+    }
+    if (!*again && it.error != POKIT_OK)
         tell(pokit_error_text(it.error), it.error >= POKIT_STRING_OUTSIDE ? (int64_t)it.message : -1);
-    else if (mprotect(catalog, size, PROT_READ) != 0)
-        *again = true;
+    else if (!*again && mprotect(it.catalog, it.size, PROT_READ) == 0)
+        whole = with_system_messages(it.catalog, it.size, again);
     else
-        whole = with_system_messages(catalog, size, again);
-    if (whole != NULL && !*again)
+        *again = true;
+    if (whole != NULL && !*again) {
+        if (out_of_order >= 0)
+            tell("string out of order, put in order", out_of_order);
         return whole;
-    munmap(catalog, size);
+    }
+    munmap(it.catalog, it.size);
     return NULL;
 }
 

@@ -5,8 +5,9 @@
 
 A Translations is a gettext.GNUTranslations, and answers as one. A file is checked when it is opened: one that is
 damaged raises OSError with its fault, one whose charset Python lacks LookupError, and one with texts that aren't of its
-charset UnicodeDecodeError. As in C, ngettext also finds a message without plural forms, and takes the first form where that of
-the count is missing.
+charset UnicodeDecodeError. One whose keys are out of order, as `pybabel compile` writes it of a catalogue with contexts,
+is put in order by the library. As in C, ngettext also finds a message without plural forms, and takes the first form
+where that of the count is missing.
 
 The library is asked where the msgid and the context are texts and the count is an int from 0 to 2**64 - 1. All else is
 answered by GNUTranslations' own methods. These use _catalog, which reads single messages from the file in Python, and
@@ -50,16 +51,33 @@ _error_text.argtypes = [ctypes.c_uint32]
 _error_text.restype = ctypes.c_char_p
 _catalog_size = _library.pokit_catalog_size
 _catalog_size.restype = _size
+_message_count = _library.pokit_message_count
+_message_count.argtypes = [ctypes.c_char_p, _size]
+_message_count.restype = ctypes.c_uint32
+_sort = _library.pokit_sort
+_sort.argtypes = [ctypes.c_char_p, _size, ctypes.c_void_p, _size, ctypes.c_char_p, _size]
+_sort.restype = ctypes.c_uint32
 # a look-up takes less time than letting go of the interpreter's lock and taking it again
 _look_up = ctypes.PyDLL(_library._name, handle=_library._handle).pokit_lookup
 _look_up.argtypes = [ctypes.c_void_p, ctypes.c_char_p, _size, ctypes.c_char_p, _size, ctypes.c_char_p, _size,
                      ctypes.c_uint64, ctypes.c_void_p]
 _look_up.restype = ctypes.c_char_p
 
+_NOT_SORTED = 7
+_PLACE = 32  # bytes of the library's list for a message
 _COUNTS = 2 ** 64
 _SINGLE_BYTES = ("ascii", "iso8859-", "cp125", "koi8-")  # how the names of such charsets begin
 _WITHIN = bytes(range(0x80, 0xc0))  # what stands within a letter of UTF-8
 _NONE = gettext.NullTranslations  # whose methods ask the fallback
+
+
+def _in_order(file):
+    """The file of the same messages in rising order of their keys, or None where two keys are equal."""
+    count = _message_count(file, len(file))
+    places = ctypes.create_string_buffer(_PLACE * count)
+    made = ctypes.create_string_buffer(_sort(file, len(file), places, count, None, 0))
+    _sort(file, len(file), places, count, made, len(made))
+    return made.raw or None
 
 
 class _Keys(collections.abc.Sequence):
@@ -98,12 +116,16 @@ class _Catalog(collections.abc.Mapping):
 
     def __init__(self, file, name="", charset="ascii"):
         message = ctypes.c_uint32()
-        self._file = file
         self._memory = (ctypes.c_uint64 * ((_catalog_size() + 7) // 8))()
         self.room = ctypes.c_void_p(ctypes.addressof(self._memory))
         error = _open(self.room, file, len(file), message)
+        in_order = _in_order(file) if error == _NOT_SORTED else None
+        if in_order is not None:
+            file = in_order
+            error = _open(self.room, file, len(file), message)
         if error:
             raise OSError(0, _error_text(error).decode(), name)
+        self._file = file
         self._keys = _Keys(file)
         self.charset = charset
 

@@ -58,7 +58,7 @@ static inline void put_string(struct mo_file *file, size_t entry, const char *te
     file->len += len + 1;
 }
 
-/* The file of some messages, which are in rising order. */
+/* The file of some messages, in the order that they have. */
 static inline struct mo_file file_of(const struct message *messages, uint32_t count)
 {
     struct mo_file file = {.len = 28 + 16 * (size_t)count};

@@ -48,6 +48,7 @@ static ssize_t read_a_part(int fd, void *to, size_t len)
 
 static const struct message german[] = {HEADER("UTF-8", GERMAN), MESSAGE("Open", "Öffnen"), MESSAGE("file\0files", "a\0b")};
 static const struct message latin[] = {HEADER("ISO-8859-1", GERMAN), MESSAGE("Open", "\326ffnen")};
+static const struct message unsorted[] = {HEADER("UTF-8", GERMAN), MESSAGE("menu\004Open", "Auf"), MESSAGE("Open", "Öffnen")};
 /* A file with a system-dependent message, whose strings are "%", PRIu64 and " kB", and "many": the words of the file
  * header, of the name, and where the strings are described; and the strings. */
 static const uint32_t system_words[] = {0x950412de, 1, 0, 28, 28, 0, 28, 1, 48, 1, 56, 60, 7, 96, 64, 84,
@@ -67,7 +68,8 @@ static bool all_right(bool in_any_case)
     errno = 7;
     const char *plural = dngettext("app", "file", "files", 2);
     return is_right("app", "Open", "Öffnen", in_any_case) && is_right("latin", "Open", "Öffnen", in_any_case) &&
-           is_right("system", SYSTEM, "many", in_any_case) && is_right("absent", "Open", "Open", true) && strcmp(plural, in_any_case || *plural == 'b' ? "b" : "files") == 0 &&
+           is_right("system", SYSTEM, "many", in_any_case) && is_right("unsorted", "Open", "Öffnen", in_any_case) &&
+           is_right("absent", "Open", "Open", true) && strcmp(plural, in_any_case || *plural == 'b' ? "b" : "files") == 0 &&
            errno == 7;
 }
 
@@ -76,11 +78,13 @@ static void *ask(void *result)
     bindtextdomain("app", folder);
     bindtextdomain("latin", folder);
     bindtextdomain("system", folder);
+    bindtextdomain("unsorted", folder);
     *(bool *)result = all_right(false);
     first_failing = last_failing = -1;
     bindtextdomain("app", folder);
     bindtextdomain("latin", folder);
     bindtextdomain("system", folder);
+    bindtextdomain("unsorted", folder);
     *(bool *)result = *(bool *)result && all_right(true);
     return NULL;
 }
@@ -141,7 +145,8 @@ static bool is_read_only(int zeros, const void *at, size_t len)
            read(zeros, (char *)(uintptr_t)at + len - 1, 1) < 0 && errno == EFAULT;
 }
 
-/* The catalogues and their bytes are in pages that nobody can write to: also that of a file that was expanded. */
+/* The catalogues and their bytes are in pages that nobody can write to: also those of a file that was expanded, and
+ * of one that was put in order. */
 static void try_to_write(void)
 {
     int zeros = open("/dev/zero", O_RDONLY), count = 0;
@@ -154,7 +159,7 @@ static void try_to_write(void)
                 count++;
             }
     close(zeros);
-    check(right && count == 3, "what was read can't be written to");
+    check(right && count == 4, "what was read can't be written to");
 }
 
 static void write_system(void)
@@ -173,6 +178,7 @@ int main(int argc, char **argv)
     folder = argv[1];
     write_messages(folder, "de/LC_MESSAGES/app.mo", FILE_OF(german));
     write_messages(folder, "de/LC_MESSAGES/latin.mo", FILE_OF(latin));
+    write_messages(folder, "de/LC_MESSAGES/unsorted.mo", FILE_OF(unsorted));
     write_system();
     setenv("LANGUAGE", "de", 1);
     if (setlocale(LC_ALL, argv[2]) == NULL) {

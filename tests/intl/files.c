@@ -2,7 +2,7 @@
  *
  *     files FOLDER
  *
- * POKIT_INTL_LOG names FOLDER/log, which has to tell of each refused file by its path. */
+ * POKIT_INTL_LOG names FOLDER/log, which has to tell of each file that is refused or put in order by its path. */
 #define _GNU_SOURCE
 #include "catalogues.h"
 #include <dlfcn.h>
@@ -14,6 +14,14 @@
 
 static const struct message german[] = {HEADER("UTF-8", GERMAN), MESSAGE("Close", "Schließen"), MESSAGE("Open", "Öffnen")};
 static const struct message changed[] = {HEADER("UTF-8", GERMAN), MESSAGE("Open", "Aufmachen")};
+/* By their msgids, whatever their contexts, as Babel has them; and with one key twice. */
+static const struct message out_of_order[] = {
+    HEADER("UTF-8", GERMAN), MESSAGE("menu\004Close", "Zu"), MESSAGE("Close", "Schließen"), MESSAGE("menu\004Open", "Auf"),
+    MESSAGE("Open", "Öffnen"), MESSAGE("file\0files", "eine\0mehr"),
+};
+static const struct message one_key_twice[] = {
+    HEADER("UTF-8", GERMAN), MESSAGE("menu\004Close", "Zu"), MESSAGE("Open", "Öffnen"), MESSAGE("Open\0Open all", "Auf"),
+};
 static const char *folder, *path, *log_path;
 static struct mo_file sound;
 
@@ -233,6 +241,48 @@ static bool is_passed_on(void)
            is_told("bind_textdomain_codeset", "passed", "ISO-8859-15") && is_told("textdomain", NULL, "passed");
 }
 
+static bool is_out_of_order(void)
+{
+    struct mo_file file = FILE_OF(out_of_order);
+    write_file(path, file.bytes, file.len);
+    const char *text = dgettext("files", "Open");
+    return answers("Öffnen") && dgettext("files", "Open") == text && strcmp(dgettext("files", "menu\004Open"), "Auf") == 0 &&
+           strcmp(dgettext("files", "Close"), "Schließen") == 0 && strcmp(dgettext("files", "menu\004Close"), "Zu") == 0 &&
+           strcmp(dngettext("files", "file", "files", 1), "eine") == 0 && strcmp(dngettext("files", "file", "files", 5), "mehr") == 0 &&
+           strcmp(dgettext("files", "absent"), "absent") == 0 && strncmp(dgettext("files", ""), "Content-Type", 12) == 0;
+}
+
+static bool has_one_key_twice(void)
+{
+    struct mo_file file = FILE_OF(one_key_twice);
+    write_file(path, file.bytes, file.len);
+    return answers("Open");
+}
+
+static bool is_out_of_order_and_cut(void)
+{
+    struct mo_file file = FILE_OF(out_of_order);
+    write_file(path, file.bytes, file.len - 1);
+    return answers("Open");
+}
+
+/* 100,000 messages, the last first. */
+static bool is_large_and_out_of_order(void)
+{
+    enum { MANY = 100000, LEN = 7, STRINGS = 28 + 16 * MANY };
+    static char file[STRINGS + 2 * MANY * (LEN + 1)];
+    const uint32_t words[] = {0x950412de, 0, MANY, 28, 28 + 8 * MANY, 0, STRINGS};
+    memcpy(file, words, sizeof words);
+    for (uint32_t i = 0; i < 2 * MANY; i++) {
+        const uint32_t entry[] = {LEN, STRINGS + i * (LEN + 1)};
+        memcpy(file + 28 + 8 * i, entry, sizeof entry);
+        snprintf(file + entry[1], LEN + 1, "%c%06d", i < MANY ? 'o' : 't', (int)(MANY - 1 - i % MANY));
+    }
+    write_file(path, file, sizeof file);
+    return strcmp(dgettext("files", "o000000"), "t000000") == 0 && strcmp(dgettext("files", "o099999"), "t099999") == 0 &&
+           strcmp(dgettext("files", "o054321"), "t054321") == 0 && answers("Open");
+}
+
 /* The last line of the log that names the path, without the path. */
 static const char *told(void)
 {
@@ -302,6 +352,10 @@ int main(int argc, char **argv)
     try("2 TB", is_enormous, ": too large");
     try("4 MB of messages", has_many_messages, "");
     try("1 MB after the last string", is_longer, "");
+    try("keys out of order", is_out_of_order, ": string out of order, put in order, message 2");
+    try("one key twice", has_one_key_twice, ": string out of order, message 2");
+    try("out of order and cut", is_out_of_order_and_cut, ": string without a final NUL, message 5");
+    try("100,000 messages, the last first", is_large_and_out_of_order, ": string out of order, put in order, message 1");
     try("no descriptor is left", has_no_descriptor, "");
     try("long names", has_long_names, "");
     try("a log with a line", is_added_to_the_log, ": file too short");

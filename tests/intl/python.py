@@ -95,6 +95,43 @@ def try_damaged():
             check(fault.strerror == text, text)
 
 
+def file_of(messages, order="<"):
+    """The file of messages in the order that they have."""
+    strings = [original for original, _ in messages] + [translation for _, translation in messages]
+    count, at, table, texts = len(messages), 28 + 16 * len(messages), b"", b""
+    for text in strings:
+        table += struct.pack(order + "2I", len(text), at + len(texts))
+        texts += text + b"\0"
+    return struct.pack(order + "7I", 0x950412de, 0, count, 28, 28 + 8 * count, 0, at) + table + texts
+
+
+HEADER = (b"", b"Content-Type: text/plain; charset=UTF-8\nPlural-Forms: nplurals=2; plural=n != 1;\n")
+OUT_OF_ORDER = [HEADER, (b"menu\4Close", b"Zu"), (b"Close", "Schließen".encode()), (b"menu\4Open", b"Auf"),
+                (b"Open", "Öffnen".encode()), (b"file\0files", b"eine\0mehr"), (b"abc", b"1"), (b"ab", b"2")]
+
+
+def try_out_of_order():
+    """Files whose keys are out of order, as Babel writes them; with one key twice, and cut."""
+    for order in "<>":
+        for messages in (OUT_OF_ORDER, [HEADER] + OUT_OF_ORDER[:0:-1], OUT_OF_ORDER[:3], OUT_OF_ORDER[:1]):
+            file = file_of(messages, order)
+            one, other = gettext.GNUTranslations(io.BytesIO(file)), pokit_gettext.Translations(io.BytesIO(file))
+            check(is_same(one, other), "out of order")
+            check(answers(copy.deepcopy(other)) == answers(pickle.loads(pickle.dumps(other))) == answers(one), "its copies")
+        other = pokit_gettext.Translations(io.BytesIO(file_of(OUT_OF_ORDER[::-1], order)))
+        check(answers(other) == ["Öffnen", "mehr", "Auf"], "the header last")
+        many = [(b"o%06d" % i, b"t%d" % i) for i in range(20000)]
+        other = pokit_gettext.Translations(io.BytesIO(file_of(many[::-1], order)))
+        check(all(other.gettext("o%06d" % i) == "t%d" % i for i in range(0, 20000, 99)), "the last first")
+        twice = file_of(OUT_OF_ORDER + [(b"Open\0Open all", b"Alle")], order)
+        for file, text in ((twice, "string out of order"), (file_of(OUT_OF_ORDER, order)[:-1], "string without a final NUL")):
+            try:
+                pokit_gettext.Translations(io.BytesIO(file))
+                check(False, text)
+            except OSError as fault:
+                check(fault.strerror == text, text)
+
+
 def try_translation(folder):
     """gettext.translation with the class, several languages as fallbacks, and copies."""
     for languages in (["de_AT"], ["fr", "de"], ["de", "fr"], ["pl"]):
@@ -201,17 +238,6 @@ def try_copies(folder):
     check(outcome(copy.deepcopy, room) == outcome(pickle.dumps, room) == ValueError, "no address is copied")
 
 
-def file_of(messages):
-    """The MO file of messages, which are in rising order."""
-    tables, texts, at = b"", b"", 28 + 16 * len(messages)
-    for column in (0, 1):
-        for message in messages:
-            tables += struct.pack("<2I", len(message[column]), at + len(texts))
-            texts += message[column] + b"\0"
-    count = len(messages)
-    return struct.pack("<7I", 0x950412de, 0, count, 28, 28 + 8 * count, 0, 28) + tables + texts
-
-
 def both_of(messages):
     bytes_ = file_of(messages)
     return [class_(io.BytesIO(bytes_)) for class_ in (gettext.GNUTranslations, pokit_gettext.Translations)]
@@ -290,6 +316,7 @@ try_headers()
 try_charsets()
 try_missing_library()
 try_damaged()
+try_out_of_order()
 try_translation(sys.argv[1])
 try_arguments(sys.argv[1])
 try_catalogue(sys.argv[1])
