@@ -7,4 +7,7 @@ pub mod ExpandedFileLemmas
 pub mod AnyOrderLemmas
 pub mod SortedFileLemmas
 pub mod OrderLemmas
+pub mod AddingLemmas
+pub mod SegmentLemmas
+pub mod SystemMessageLemmas
 pub mod Examples

@@ -1,5 +1,6 @@
 pub mod PlatformText
 pub mod Segments
+pub mod SystemStrings
 pub mod Expanded
 pub mod Expanding
 pub mod Merging

@@ -1,15 +1,16 @@
 -- Laws of files whose keys are in any order, and of the same messages in order.
-use Rattle.std.specs.Prelude.{◌≡◌, ◌↔◌, ℕ, List}
+use Rattle.std.specs.Prelude.{◌≡◌, ◌⊎◌, ◌↔◌, ℕ, List, ◌∷◌, Contains}
 use Rattle.std.specs.List.{find}
 use Rattle.std.specs.Str.{bytes_eq}
 use Rattle.mo_file.specs.declared.byte_order.Order.{Order}
 use Rattle.mo_file.specs.declared.fault.MoError.{MoError}
 use Rattle.mo_file.specs.Fault.{IsFirstFault, kind}
-use Rattle.mo_file.specs.Key.{key_of}
+use Rattle.mo_file.specs.Key.{AreRising, key_of, keys}
 use Rattle.mo_file.specs.Layout.{layout, LayoutFits}
 use Rattle.mo_file.specs.Message.{Message}
 use Rattle.mo_file.specs.MoFile.{IsMoFile}
 use Rattle.mo_expand.specs.AnyOrder.{HaveDistinctKeys, IsFileInAnyOrder, IsInOrder}
+use Rattle.mo_expand.specs.Merging.{with_message}
 
 -- a valid file is one in any order, and its messages are in order
 abbrev pub MoFileIsInOrder : Type 0
@@ -40,3 +41,10 @@ abbrev pub SameMessageUnderKey : Type 0
 SameMessageUnderKey =
     (messages sorted : List Message) (key : List ℕ) → IsInOrder messages sorted
     → find (λ m. bytes_eq (key_of m.original) key) sorted ≡ find (λ m. bytes_eq (key_of m.original) key) messages
+
+-- a message whose key is there isn't added, and the others stay as they are; any other stands among them in order
+abbrev pub MessageIsAddedInOrder : Type 0
+MessageIsAddedInOrder =
+    (m : Message) (messages : List Message) → AreRising (keys messages)
+    → (Contains (keys messages) (key_of m.original) × (with_message m messages ≡ messages))
+    ⊎ ((¬ Contains (keys messages) (key_of m.original)) × IsInOrder (m ∷ messages) (with_message m messages))

@@ -2,10 +2,11 @@
 //! a function that does nothing.
 
 ghost use Rattle.mo_expand.specs.Laws.{ExampleIsCompleted, ExampleNeedsItsText, ExpandedFileIsMoFile};
-ghost use Rattle.mo_expand.specs.OrderLaws.{MoFileIsInOrder, OneOrder, OrderAloneIsTold, SameMessageUnderKey, SortedFileIsMoFile};
+ghost use Rattle.mo_expand.specs.SystemStrings.{FirstTextCounts, MessageIsItsStrings, TextIsItsSegments};
+ghost use Rattle.mo_expand.specs.OrderLaws.{MessageIsAddedInOrder, MoFileIsInOrder, OneOrder, OrderAloneIsTold, SameMessageUnderKey, SortedFileIsMoFile};
 
-/// A file of one such message, in either byte order: a platform that has the text for its name has
-/// the message.
+/// A file of one such message that GNU's msgfmt wrote, in either byte order: a platform that has
+/// the text for its name has the message.
 pub fn example_is_completed()
     ensures { ExampleIsCompleted }
 {}
@@ -45,4 +46,25 @@ pub fn sorted_file_is_mo_file()
 /// Under each key the messages in order have the message that they have in any order, or none.
 pub fn same_message_under_key()
     ensures { SameMessageUnderKey }
+{}
+
+/// A message whose key is there isn't added, and the others stay as they are; any other stands
+/// among them in order.
+pub fn message_is_added_in_order()
+    ensures { MessageIsAddedInOrder }
+{}
+
+/// The text of a string is that of its segments, of which it has 256 at most.
+pub fn text_is_its_segments()
+    ensures { TextIsItsSegments }
+{}
+
+/// Of a platform's texts the first one with a name counts.
+pub fn first_text_counts()
+    ensures { FirstTextCounts }
+{}
+
+/// A system-dependent message is there where the file has its number and both of its strings.
+pub fn message_is_its_strings()
+    ensures { MessageIsItsStrings }
 {}

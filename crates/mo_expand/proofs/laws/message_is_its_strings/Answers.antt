@@ -1,0 +1,5 @@
+use Rattle.mo_expand.proofs.SystemMessageLemmas.{message_is_its_strings}
+use Rattle.mo_expand.proofs.laws.message_is_its_strings.Goals as goal
+
+pub returns : goal.returns
+returns c = message_is_its_strings
