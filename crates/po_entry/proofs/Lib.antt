@@ -11,3 +11,4 @@ pub mod TextsFaults
 pub mod Settled
 pub mod TextListLemmas
 pub mod PlainEntries
+pub mod SeenTextLemmas

@@ -1,5 +1,6 @@
 pub mod TextEntry
 pub mod TextLists
+pub mod SeenTexts
 pub mod EntryView
 pub mod Bytes
 pub mod Header

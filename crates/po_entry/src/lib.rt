@@ -5,7 +5,7 @@
 //! [`check_texts`] admits, and a [`Catalogue`] only headers whose charset is admitted. What a text
 //! means is defined here too, in the specs: which entries its items spell.
 //!
-//! The modules in reading order: `text_list`, `fields`, `texts`, `entry`, `charset`, `catalogue`,
+//! The modules in reading order: `text_list`, `seen_texts`, `fields`, `texts`, `entry`, `charset`, `catalogue`,
 //! `laws`.
 
 #![tactic(auto)]
@@ -15,6 +15,7 @@ mod charset;
 mod entry;
 mod fields;
 pub mod laws;
+mod seen_texts;
 mod text_list;
 mod texts;
 
@@ -22,5 +23,6 @@ pub use crate::catalogue::Catalogue;
 pub use crate::charset::has_admitted_charset;
 pub use crate::entry::Entry;
 pub use crate::fields::{Fields, Previous, copy_optional, copy_texts};
+pub use crate::seen_texts::{Seeded, SeenTexts};
 pub use crate::text_list::{TextList, TextListIter};
 pub use crate::texts::{check_read_texts, check_texts};

@@ -7,8 +7,8 @@ ghost use Rattle.po_messages.specs.Internal.Keys.{lengths_of, message_bytes, mes
 ghost use Rattle.po_messages.specs.Message.{entry_message, same_message};
 ghost use Rattle.po_messages.specs.MessageView.{message_of_key};
 
-use crate::message_index::{MessageKey, Seeded, message_key, numbered};
-use po_entry::Entry;
+use crate::message_index::{MessageKey, message_key, numbered};
+use po_entry::{Entry, Seeded};
 use std::alloc::{AllocError, Global};
 use std::hash::{DefaultHasher, Hasher};
 use std::marker::Model;

@@ -6,9 +6,9 @@ ghost use Rattle.po_messages.specs.Message.{entry_message, same_message};
 ghost use Rattle.po_messages.specs.MessageView.{message_of_key, messages_of_keys};
 
 use indexmap::IndexSet;
-use po_entry::Entry;
+use po_entry::{Entry, Seeded};
 use std::alloc::{AllocError, Global};
-use std::hash::{BuildHasher, DefaultHasher, Hash, Hasher};
+use std::hash::{DefaultHasher, Hash, Hasher};
 
 /// What a message is known by: its context, if it has one, and its msgid (GNU gettext manual, "The
 /// Format of PO Files").
@@ -44,32 +44,6 @@ pub fn message_key(entry: &Entry) -> MessageKey<'_>
     MessageKey {
         context: fields.context.as_deref(),
         id: &fields.id,
-    }
-}
-
-/// Begins each hash with a digest of all keys, so that no choice of msgids makes an index slow: who
-/// changes a msgid changes the digest, and with it all hashes.
-#[derive(Clone, Copy)]
-pub(crate) struct Seeded {
-    start: DefaultHasher,
-}
-
-impl Seeded {
-    /// Begins each hash with this digest.
-    pub(crate) fn of(digest: &DefaultHasher) -> Seeded {
-        let mut start = DefaultHasher::new();
-        start.write_u64(digest.finish());
-        Seeded { start }
-    }
-}
-
-impl BuildHasher for Seeded {
-    type Hasher = DefaultHasher;
-
-    ghost build_hasher = { λ s. s.start };
-
-    fn build_hasher(&self) -> DefaultHasher {
-        self.start
     }
 }
 

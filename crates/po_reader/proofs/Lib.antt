@@ -3,7 +3,6 @@ pub mod Splits
 pub mod Loops
 pub mod Misfits
 pub mod SeenFlags
-pub mod RepeatLemmas
 pub mod SpeltRuns
 pub mod RunsSpelt
 pub mod Texts

@@ -3,5 +3,5 @@ pub mod Stage
 pub mod Turn
 pub mod Reads
 pub mod ReaderView
-pub mod Places
+pub mod Elements
 pub mod Keeping

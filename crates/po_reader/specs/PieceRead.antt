@@ -22,7 +22,7 @@ pub record IsFaultOf (Has : PoFault → ℕ → Type 0) (error : PoError) : Type
 abbrev pub ReadsOn : LinesLeft → LinesLeft → List TextEntry → Type 0
 ReadsOn old new entries = (more : List TextEntry) → ReadsLeft new more → ReadsLeft old (entries ++ more)
 
--- the same of entries that are kept without their comments and references
+-- the same of entries that are kept without their comments, references and flags
 abbrev pub ReadsMessages : LinesLeft → LinesLeft → List TextEntry → Type 0
 ReadsMessages old new messages =
     (entries : List TextEntry) × (messages ≡ map without_comments entries) × ReadsOn old new entries

@@ -10,7 +10,7 @@ ghost use Rattle.po_reader.specs.Internal.Stage as stage;
 ghost use Rattle.po_reader.specs.Internal.Turn.{and_text, begins_form, begins_own, is_wanted, opened, turn_own};
 ghost use Rattle.po_reader.specs.Internal.Reads.{comes, Fails};
 
-use crate::comment_texts::{has_fuzzy, others};
+use crate::comment_texts::distinct_flags;
 use crate::cursor::{Cursor, take_strings};
 use crate::head::Head;
 use po_entry::Fields;
@@ -193,15 +193,15 @@ pub(crate) fn take_body(
     let (context, obsolete) = take_context(alloc, rest)?;
     let id = take_keyword_text(alloc, rest, Wanted::Id, obsolete)?;
     let (plural, forms) = take_translation(alloc, rest, obsolete)?;
-    let fuzzy = has_fuzzy(&head.flags);
-    let others = others(alloc, &head.flags)?;
+    let fuzzy = head.fuzzy;
+    let flags = distinct_flags(alloc, &head.flags)?;
     let (comments, extracted, references, previous) = head.into_texts();
     drafts.push(Fields {
         comments,
         extracted,
         references,
         fuzzy,
-        flags: others,
+        flags,
         previous,
         context,
         id: id.text,

@@ -2,16 +2,17 @@
 //! Format of PO Files").
 
 ghost use Rattle.std.specs.Prelude.{◌≡◌, ◌==◌, ◌<◌, ◌++◌, ◌∷◌, [], ℕ, Bool, fold, length, position, IfOk, IfSome, MatchOption, OnOk};
-ghost use Rattle.std.specs.List.{list_any, slice_split};
+ghost use Rattle.std.specs.List.{flat_map, list_any, slice_split};
 ghost use Rattle.po_syntax.specs.Blanks.{is_blank};
 ghost use Rattle.po_entry.specs.Bytes.{trimmed};
 ghost use Rattle.po_entry.specs.TextEntry.{slice_texts};
 ghost use Rattle.po_entry.specs.Comments.{is_fuzzy_flag, listed_references, listed_flags, with_flag};
+ghost use Rattle.po_reader.specs.Internal.Elements.{with_element};
 
-use crate::repeats::repeats;
-use po_entry::TextList;
+use po_entry::{Seeded, SeenTexts, TextList};
 use po_syntax::{is_blank, skip_blanks};
 use std::alloc::{AllocError, Global};
+use std::hash::{DefaultHasher, Hasher};
 
 /// The text without the blanks at its ends.
 fn trimmed(text: &[u8]) -> &[u8]
@@ -71,22 +72,15 @@ pub(crate) fn add_references(list: &mut TextList, text: &[u8]) -> Result<(), All
     }
 }
 
-/// Adds the flags of a text, `fuzzy` among them, which stand between commas.
-pub(crate) fn add_flags<'i>(flags: &mut Vec<&'i [u8]>, text: &'i [u8]) -> Result<(), AllocError>
-    ensures { OnOk result (slice_texts flags.new.items ≡ slice_texts flags.old.items ++ listed_flags text.now) }
+/// The first flag of a text, which stands before the first comma and may be empty, and the text
+/// after that comma.
+fn first_flag(text: &[u8]) -> (&[u8], Option<&[u8]>)
+    ensures flags { MatchOption result.1 (listed_flags text.now ≡ with_element result.0.now [])
+        (λ rest. listed_flags text.now ≡ with_element result.0.now (listed_flags rest.now)) }
+    ensures less { IfSome result.1 (λ rest. length rest.now < length text.now) }
 {
-    let mut rest = text;
-    loop {
-        let (piece, after) = cut(rest, first_comma(rest));
-        let element = trimmed(piece);
-        if !element.is_empty() {
-            flags.push(element)?;
-        }
-        let Some(after) = after else {
-            return Ok(());
-        };
-        rest = after;
-    }
+    let (element, after) = cut(text, first_comma(text));
+    (trimmed(element), after)
 }
 
 /// Whether the flag is `fuzzy`.
@@ -96,46 +90,74 @@ fn is_fuzzy_flag(flag: &[u8]) -> bool
     flag == b"fuzzy".as_slice()
 }
 
-/// Whether `fuzzy` is among the flags.
-pub(crate) fn has_fuzzy(elements: &[&[u8]]) -> bool
-    ensures { result ≡ list_any (λ flag. is_fuzzy_flag flag.now) elements.now }
+/// Whether `fuzzy` is among the flags of a text.
+pub(crate) fn has_fuzzy(text: &[u8]) -> bool
+    ensures { result ≡ list_any is_fuzzy_flag (listed_flags text.now) }
 {
-    elements.iter().any(|flag| is_fuzzy_flag(flag))
-}
-
-/// How many bytes texts have in all.
-fn total_len(texts: &[&[u8]]) -> usize {
-    let mut total: usize = 0;
-    for text in texts {
-        total = total.saturating_add(text.len());
+    let mut rest = text;
+    loop {
+        let (flag, after) = first_flag(rest);
+        if is_fuzzy_flag(flag) {
+            return true;
+        }
+        let Some(after) = after else {
+            return false;
+        };
+        rest = after;
     }
-    total
 }
 
-/// The flags other than `fuzzy`, each once, where it first stands. Most entries have no flag or
-/// one, and nothing is sorted then.
-pub(crate) fn others(alloc: Global, elements: &[&[u8]]) -> Result<TextList, AllocError>
-    ensures { IfOk result (λ kept. kept ≡ fold with_flag [] (slice_texts elements.now)) }
+/// Adds the flags of a text other than `fuzzy` to those that were seen.
+fn add_flags<'i>(seen: &mut SeenTexts<'i>, text: &'i [u8]) -> Result<(), AllocError>
+    ensures { OnOk result (seen.new ≡ fold with_flag seen.old (listed_flags text.now)) }
 {
-    if elements.is_empty() {
+    let mut rest = text;
+    loop {
+        let (flag, after) = first_flag(rest);
+        if !flag.is_empty() && !is_fuzzy_flag(flag) {
+            seen.add(flag)?;
+        }
+        let Some(after) = after else {
+            return Ok(());
+        };
+        rest = after;
+    }
+}
+
+/// Hashes that begin with a digest of these texts.
+fn seeded_by(texts: &[&[u8]]) -> Seeded {
+    let mut digest = DefaultHasher::new();
+    for text in texts {
+        digest.write(text);
+    }
+    Seeded::of(&digest)
+}
+
+/// The flags of texts other than `fuzzy`, each once, where it first stands.
+pub(crate) fn distinct_flags(alloc: Global, texts: &[&[u8]]) -> Result<TextList, AllocError>
+    ensures { IfOk result (λ kept. kept ≡ fold with_flag [] (flat_map listed_flags (slice_texts texts.now))) }
+{
+    if texts.is_empty() {
         return Ok(TextList::new(alloc));
     }
-    if let [flag] = elements {
-        let mut kept = TextList::new(alloc);
-        if !is_fuzzy_flag(flag) {
-            kept.push(flag)?;
+    if let [text] = texts {
+        if let (flag, None) = first_flag(text) {
+            return only_flag(alloc, flag);
         }
-        return Ok(kept);
     }
-    let repeats = repeats(alloc, elements)?;
-    let mut kept = TextList::with_capacity(alloc, elements.len(), total_len(elements))?;
-    for (place, flag) in elements.iter().enumerate() {
-        if is_fuzzy_flag(flag) {
-            continue;
-        }
-        if repeats[place] {
-            continue;
-        }
+    let mut seen = SeenTexts::new(alloc, seeded_by(texts));
+    for text in texts {
+        add_flags(&mut seen, text)?;
+    }
+    seen.into_list(alloc)
+}
+
+/// The flag, unless it is empty or `fuzzy`. Most entries have no flag or one.
+fn only_flag(alloc: Global, flag: &[u8]) -> Result<TextList, AllocError>
+    ensures { IfOk result (λ kept. kept ≡ fold with_flag [] (with_element flag.now [])) }
+{
+    let mut kept = TextList::new(alloc);
+    if !flag.is_empty() && !is_fuzzy_flag(flag) {
         kept.push(flag)?;
     }
     Ok(kept)

@@ -1,16 +1,15 @@
 //! The first half of an entry: comments, previous texts and context.
 
-ghost use Rattle.std.specs.Prelude.{◌≡◌, ◌<◌, ◌≤◌, ◌++◌, ◌∷◌, [], ℕ, Some, List, length, IfOk, IfErr, OnOk};
+ghost use Rattle.std.specs.Prelude.{◌≡◌, ◌<◌, ◌≤◌, ◌++◌, ◌∷◌, [], ℕ, Bool, Some, List, length, IfOk, IfErr, OnOk};
 ghost use Rattle.po_entry.specs.EntryParts.{CommentText, PreviousText, rank};
 ghost use Rattle.po_entry.specs.Comments.{with_previous};
 ghost use Rattle.po_entry.specs.TextEntry.{TextEntry};
-ghost use Rattle.po_reader.specs.KeptComments.{kept_comments};
 ghost use Rattle.po_reader.specs.Internal.Stage.{Between, InHead, after_head};
 ghost use Rattle.po_reader.specs.Internal.Turn.{begins_body, EndsHead};
 ghost use Rattle.po_reader.specs.Internal.Reads.{comes, start, Fails};
 ghost use Rattle.po_reader.specs.Internal.ReaderView.{HoldsHead, HoldsComments};
 
-use crate::comment_texts::{add_flags, add_references};
+use crate::comment_texts::{add_references, has_fuzzy};
 use crate::cursor::{Cursor, take_strings};
 use po_entry::{Previous, TextList};
 use po_syntax::{CommentKind, Item, Keyword, PoError, PoFault};
@@ -21,8 +20,10 @@ pub(crate) struct Head<'i> {
     pub(crate) comments: TextList,
     pub(crate) extracted: TextList,
     pub(crate) references: TextList,
-    /// The flags with their repeats, `fuzzy` among them.
+    /// The texts of its flag lines.
     pub(crate) flags: Vec<&'i [u8]>,
+    /// Whether one of these lines has `fuzzy`.
+    pub(crate) fuzzy: bool,
     pub(crate) previous: Previous,
 }
 
@@ -34,6 +35,7 @@ impl Drop for Head<'_> {
             extracted: _,
             references: _,
             flags: _,
+            fuzzy: _,
             previous: _,
         } = self;
     }
@@ -43,7 +45,7 @@ impl Head<'_> {
     /// One that holds nothing.
     #[inline(always)]
     pub(crate) fn new(alloc: Global) -> Self
-        ensures { HoldsHead result [] [] }
+        ensures { (all : Bool) → HoldsHead all result [] [] }
     {
         Head {
             comments: TextList::new(alloc),
@@ -51,6 +53,7 @@ impl Head<'_> {
             references: TextList::new(alloc),
             previous: Previous::none(),
             flags: Vec::new(alloc),
+            fuzzy: false,
         }
     }
 
@@ -65,6 +68,7 @@ impl Head<'_> {
             references,
             previous,
             flags: _,
+            fuzzy: _,
         } = self;
         (comments, extracted, references, previous)
     }
@@ -89,6 +93,27 @@ fn begins_body(keyword: Keyword) -> bool
     matches!(keyword, Keyword::MsgCtxt | Keyword::MsgId)
 }
 
+/// Adds a line of flags, where comments are wanted, and otherwise just whether it has `fuzzy`.
+fn add_flag_line<'i>(
+    head: &mut Head<'i>,
+    with_comments: bool,
+    text: &'i [u8],
+) -> Result<(), AllocError>
+    ensures comment_texts { OnOk result ((comment_texts : List CommentText)
+        → HoldsComments with_comments head.old comment_texts
+        → HoldsComments with_comments head.new (comment_texts
+        ++ (record { kind = CommentKind.Flags; text = text.now }) ∷ [])) }
+    ensures previous { OnOk result (head.new.previous ≡ head.old.previous) }
+{
+    if has_fuzzy(text) {
+        head.fuzzy = true;
+    }
+    if with_comments {
+        head.flags.push(text)?;
+    }
+    Ok(())
+}
+
 /// Adds a comment to the fields of its kind, where it is wanted.
 fn add_comment<'i>(
     head: &mut Head<'i>,
@@ -97,13 +122,12 @@ fn add_comment<'i>(
     text: &'i [u8],
 ) -> Result<(), AllocError>
     ensures comment_texts { OnOk result ((comment_texts : List CommentText)
-        → HoldsComments head.old (kept_comments with_comments comment_texts)
-        → HoldsComments head.new (kept_comments with_comments (comment_texts
-        ++ (record { kind = kind; text = text.now }) ∷ []))) }
+        → HoldsComments with_comments head.old comment_texts
+        → HoldsComments with_comments head.new (comment_texts ++ (record { kind = kind; text = text.now }) ∷ [])) }
     ensures previous { OnOk result (head.new.previous ≡ head.old.previous) }
 {
     match kind {
-        CommentKind::Flags => add_flags(&mut head.flags, text)?,
+        CommentKind::Flags => return add_flag_line(head, with_comments, text),
         _ if !with_comments => {}
         CommentKind::Translator => head.comments.push(text)?,
         CommentKind::Extracted => head.extracted.push(text)?,
@@ -126,16 +150,16 @@ fn set_previous(previous: &mut Previous, keyword: Keyword, text: Vec<u8>)
 }
 
 /// Takes what stands before an entry's own lines, or up to the end of the items, into a head that
-/// holds nothing: all of it, or without comments other than flags.
+/// holds nothing: all of it, or without comments but for whether they have the flag `fuzzy`.
 pub(crate) fn take_head<'i>(
     alloc: Global,
     rest: &mut Cursor<'i, '_>,
     with_comments: bool,
     head: &mut Head<'i>,
 ) -> Result<(), PoError>
-    requires { HoldsHead head.old [] [] }
+    requires { HoldsHead with_comments head.old [] [] }
     ensures found { OnOk result ((comment_texts : List CommentText) × (previous : List PreviousText)
-        × (above : ℕ) × HoldsHead head.new (kept_comments with_comments comment_texts) previous
+        × (above : ℕ) × HoldsHead with_comments head.new comment_texts previous
         × ((entries : List TextEntry) → comes (start entries) rest.old
         ≡ comes (Between (InHead (after_head entries comment_texts previous) above)) rest.new)
         × EndsHead above rest.new.items) }

@@ -25,8 +25,8 @@ use std::alloc::{AllocError, Global};
 /// How many items an entry has at least: two keywords and their strings.
 const LEAST_ITEMS: usize = 4;
 
-/// The entries that items spell, with their comments and references or without. If it is known that
-/// the strings are UTF-8, that is not tested.
+/// The entries that items spell, with their comments, references and flags or without. If it is
+/// known that the strings are UTF-8, that is not tested.
 pub(crate) fn read_items(
     alloc: Global,
     items: Vec<Item<'_>>,
@@ -45,8 +45,8 @@ pub(crate) fn read_items(
     catalogue_of(alloc, drafts, are_utf8)
 }
 
-/// The drafts of the entries that the items spell, in order, with their comments and references or
-/// without.
+/// The drafts of the entries that the items spell, in order, with their comments, references and
+/// flags or without.
 fn drafts_of(alloc: Global, items: &[Item<'_>], with_comments: bool) -> Result<Vec<Fields>, PoError>
     requires { length items.now < 2 ^ 32 }
     ensures found { IfOk result (λ drafts. (entries : List TextEntry)

@@ -5,7 +5,7 @@
 //! [`read`] reads a text piece by piece. A caller that keeps no catalogue takes the pieces one by
 //! one: [`next_catalogue`] and [`next_messages`].
 //!
-//! The modules in reading order: `cursor`, `repeats`, `comment_texts`, `head`, `body`, `items`,
+//! The modules in reading order: `cursor`, `comment_texts`, `head`, `body`, `items`,
 //! `reading`, `laws`.
 
 #![tactic(auto)]
@@ -17,6 +17,5 @@ mod head;
 mod items;
 pub mod laws;
 mod reading;
-mod repeats;
 
 pub use crate::reading::{PIECE, next_catalogue, next_messages, read};

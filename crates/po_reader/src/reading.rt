@@ -32,8 +32,8 @@ pub fn next_catalogue(
     next_entries(alloc, pieces, size, true)
 }
 
-/// The entries of the next piece, as `next_catalogue` reads them, but without their comments and
-/// references: for a caller that wants only their messages.
+/// The entries of the next piece, as `next_catalogue` reads them, but without their comments,
+/// references and flags: for a caller that wants only their messages.
 pub fn next_messages(
     alloc: Global,
     pieces: &mut Pieces<'_>,
@@ -48,7 +48,7 @@ pub fn next_messages(
     next_entries(alloc, pieces, size, false)
 }
 
-/// The entries of the next piece, with their comments and references or without.
+/// The entries of the next piece, with their comments, references and flags or without.
 fn next_entries(
     alloc: Global,
     pieces: &mut Pieces<'_>,

@@ -1,34 +1,46 @@
 -- What contracts see of a head while it is read, of the entry that is made of it, and of what is wanted next.
-use Rattle.std.specs.Prelude.{◌≡◌, List}
+use Rattle.std.specs.Prelude.{◌≡◌, Bool, List}
 use Rattle.po_reader.specs.declared.head.Head.{Head}
 use Rattle.po_entry.specs.declared.fields.Fields.{Fields}
 use Rattle.po_entry.specs.EntryView.{entry_view}
-use Rattle.po_entry.specs.Spelling.{with_head}
+use Rattle.po_reader.specs.KeptComments.{kept_texts}
 use Rattle.po_entry.specs.TextEntry.{TextEntry, slice_texts}
 use Rattle.po_entry.specs.EntryParts.{CommentText, PreviousText}
-use Rattle.po_syntax.specs.declared.item.CommentKind.TheVariants.{Translator, Extracted}
-use Rattle.po_entry.specs.Comments.{texts_of, references_of, all_listed_flags, previous_of}
+use Rattle.po_syntax.specs.declared.item.CommentKind.TheVariants.{Translator, Extracted, Flags}
+use Rattle.po_entry.specs.Comments.{flags_of, fuzzy_of, previous_of, references_of, texts_of}
 use Rattle.po_reader.specs.declared.body.Wanted.{Wanted}
 use Rattle.po_reader.specs.declared.body.Wanted.TheVariants as code
 use Rattle.po_reader.specs.Internal.Stage as spec
 
--- the head holds these comments
-pub record HoldsComments (head : Head) (comment_texts : List CommentText) : Type 0 where
-  pub comments : head.comments ≡ texts_of Translator comment_texts
-  pub extracted : head.extracted ≡ texts_of Extracted comment_texts
-  pub references : head.references ≡ references_of comment_texts
-  pub flags : slice_texts head.flags.items ≡ all_listed_flags comment_texts
+-- the head holds these comments, or of them just whether one has `fuzzy`
+pub record HoldsComments (all : Bool) (head : Head) (comment_texts : List CommentText) : Type 0 where
+  pub comments : head.comments ≡ kept_texts all (texts_of Translator comment_texts)
+  pub extracted : head.extracted ≡ kept_texts all (texts_of Extracted comment_texts)
+  pub references : head.references ≡ kept_texts all (references_of comment_texts)
+  pub flags : slice_texts head.flags.items ≡ kept_texts all (texts_of Flags comment_texts)
+  pub fuzzy : head.fuzzy ≡ fuzzy_of comment_texts
 
--- the head holds these comments and previous texts
-pub record HoldsHead (head : Head) (comment_texts : List CommentText) (previous : List PreviousText) : Type 0 where
-  pub head_comments : HoldsComments head comment_texts
+-- the head holds these comments, or none of them, and these previous texts
+pub record HoldsHead (all : Bool) (head : Head) (comment_texts : List CommentText) (previous : List PreviousText) : Type 0 where
+  pub head_comments : HoldsComments all head comment_texts
   pub texts : head.previous ≡ previous_of previous
 
--- the fields are those of the entry with this head and these own lines
+-- the own lines with this head, of which the comments, references and flags are kept or not
+abbrev pub with_kept_head : Bool → List CommentText → List PreviousText → TextEntry → TextEntry
+with_kept_head all comment_texts previous own = record own {
+  comments = kept_texts all (texts_of Translator comment_texts);
+  extracted = kept_texts all (texts_of Extracted comment_texts);
+  references = kept_texts all (references_of comment_texts);
+  fuzzy = fuzzy_of comment_texts;
+  flags = kept_texts all (flags_of comment_texts);
+  previous = previous_of previous;
+}
+
+-- the fields are those of the entry with this head and these own lines, with its comments or without
 abbrev pub MakesEntry : Head → TextEntry → Fields → Type 0
 MakesEntry head own fields =
-    (comment_texts : List CommentText) (previous : List PreviousText) → HoldsHead head comment_texts previous
-    → entry_view fields ≡ with_head comment_texts previous own
+    (all : Bool) (comment_texts : List CommentText) (previous : List PreviousText)
+    → HoldsHead all head comment_texts previous → entry_view fields ≡ with_kept_head all comment_texts previous own
 
 abbrev pub wanted_view : Wanted → spec.Wanted
 wanted_view code.Id = spec.Id

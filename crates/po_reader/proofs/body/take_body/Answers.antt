@@ -1,12 +1,13 @@
 use Rattle.std.proofs.Common.{◌≡◌, [], fold, ap, refl, ◌∙◌}
-use Rattle.std.specs.List.{list_any}
+use Rattle.std.specs.List.{flat_map}
 use Rattle.po_syntax.specs.declared.item.Keyword.TheVariants.{MsgId}
-use Rattle.po_entry.specs.Comments.{flags_of, fuzzy_of, is_fuzzy_flag, with_flag}
+use Rattle.po_entry.specs.Comments.{flags_of, listed_flags, with_flag}
+use Rattle.po_reader.specs.KeptComments.{kept_texts}
 use Rattle.po_entry.specs.TextEntry.{TextEntry, optional_text, slice_texts, texts}
 use Rattle.po_reader.specs.Internal.Stage.{with_own, with_context, with_text, no_lines}
 use Rattle.po_reader.specs.Internal.Turn.{with_keyword}
 use Rattle.po_syntax.proofs.Results.{passed_on}
-use Rattle.po_reader.proofs.SeenFlags.{list_any-slices}
+use Rattle.po_reader.proofs.Heads.{flags_kept}
 use Rattle.po_reader.proofs.Turns.{fails_from, id_wanted}
 use Rattle.po_reader.proofs.body.take_body.Goals as goal
 
@@ -32,18 +33,16 @@ returns-clause-found c =
     let own = with_text MsgId c.in_ok-id.id.text.items (with_keyword MsgId c.in_ok-id.id.line first) in (
       record own { plural = optional_text c.in_ok-plural.plural; forms = texts c.in_ok-plural.forms.items },
       _,
-      λ comment_texts previous h.
-          let fuzzy : c.has_fuzzy-fuzzy.result ≡ fuzzy_of comment_texts =
-          c.has_fuzzy-fuzzy.ensures ∙ list_any-slices is_fuzzy_flag c.deref.result.now
-          ∙ ap (list_any is_fuzzy_flag) (ap slice_texts c.deref.ensures.value ∙ h.head_comments.flags) in
-          let flags : c.in_ok-others.others ≡ flags_of comment_texts = c.in_ok-others.ensures
-          ∙ ap (fold with_flag []) (ap slice_texts c.deref-2.ensures.value ∙ h.head_comments.flags) in
+      λ all comment_texts previous h.
+          let flags : c.in_ok-flags.flags ≡ kept_texts all (flags_of comment_texts) = c.in_ok-flags.ensures
+          ∙ ap (λ ts. fold with_flag [] (flat_map listed_flags ts))
+          (ap slice_texts c.deref.ensures.value ∙ h.head_comments.flags) ∙ flags_kept all comment_texts in
           rw (
             c.into_texts-comments.ensures,
             h.head_comments.comments,
             h.head_comments.extracted,
             h.head_comments.references,
-            fuzzy,
+            h.head_comments.fuzzy,
             flags,
             h.texts,
           ) refl,

@@ -3,15 +3,14 @@ use Rattle.std.proofs.lemmas.Bool.{le-ltb, lt-ltb}
 use Rattle.po_entry.specs.EntryParts.{CommentText, PreviousText}
 use Rattle.po_reader.specs.Internal.Stage.{after_head, Between, In, InHead}
 use Rattle.po_reader.specs.Internal.Reads.{comes}
-use Rattle.po_reader.specs.KeptComments.{kept_comments}
 use Rattle.po_syntax.proofs.Results.{passed_on}
-use Rattle.po_reader.proofs.Heads.{holds_previous, kept_nothing}
+use Rattle.po_reader.proofs.Heads.{holds_previous}
 use Rattle.po_reader.proofs.Turns.{fails_from, first_refused, out_of_order, previous_closed, taken}
 use Rattle.po_reader.proofs.head.take_head.Goals as goal
 
 pub loop-kind-init : goal.loop-kind-init
 loop-kind-init c = record {
-  reads = ([], [], rw (kept_nothing c.args.with_comments) c.requires, λ entries. refl);
+  reads = ([], [], c.requires, λ entries. refl);
   fewer = omega arith;
 }
 
@@ -75,8 +74,8 @@ loop-kind-preserved c =
       reads = (
         reads.0,
         reads.1 ++ text ∷ [],
-        holds_previous c.loop-kind.head c.set_previous.new.previous
-            (kept_comments c.args.with_comments reads.0) reads.1 text reads.2 c.set_previous.ensures,
+        holds_previous c.args.with_comments c.loop-kind.head c.set_previous.new.previous reads.0 reads.1 text
+            reads.2 c.set_previous.ensures,
         λ entries. let read = after_head entries reads.0 reads.1 in
             rw c.rank-above.ensures
             (reads.3 entries ∙ taken _ _ _ _ first (Between (InHead read c.loop-kind.above))

@@ -4,13 +4,12 @@ use Rattle.po_entry.specs.TextEntry.{TextEntry}
 use Rattle.po_reader.specs.Internal.ReaderView.{HoldsHead}
 use Rattle.po_reader.specs.Internal.Stage.{Between, InHead, after_head}
 use Rattle.po_reader.specs.Internal.Reads.{comes, start}
-use Rattle.po_reader.specs.KeptComments.{kept_comments}
 use Rattle.po_reader.proofs.head.take_head.Given as goal
 
 abbrev pub invariant-loop-kind : goal.invariant-loop-kind
 invariant-loop-kind l = record {
   reads : (comment_texts : List CommentText) × (previous : List PreviousText)
-      × HoldsHead l.head (kept_comments l.with_comments comment_texts) previous
+      × HoldsHead l.with_comments l.head comment_texts previous
       × ((entries : List TextEntry)
       → comes (start entries) l.fn.rest
       ≡ comes (Between (InHead (after_head entries comment_texts previous) l.above)) l.rest);

@@ -2,7 +2,7 @@ use Rattle.std.proofs.Common.{[], ◌∷◌, ◌++◌, ◌∙◌, ap, arith}
 use Rattle.std.proofs.lemmas.List.{map_push}
 use Rattle.po_entry.specs.TextEntry.{TextEntry}
 use Rattle.po_entry.specs.Spelling.{with_head}
-use Rattle.po_reader.specs.KeptComments.{kept_comments, kept_entry}
+use Rattle.po_reader.specs.KeptComments.{kept_entry}
 use Rattle.po_reader.specs.Internal.Stage.{after_head}
 use Rattle.po_syntax.proofs.Results.{passed_on}
 use Rattle.po_reader.proofs.Heads.{kept_from}
@@ -25,6 +25,9 @@ returns-then-is_empty-clause-found c =
       reads.2,
     )
 
+pub take_head-requires : goal.take_head-requires
+take_head-requires c = c.new-head.ensures c.args.with_comments
+
 pub take_body-requires-clause-begins : goal.take_body-requires-clause-begins
 take_body-requires-clause-begins c =
     let head = c.in_ok-take_head.ensures.found in
@@ -42,7 +45,7 @@ loop-head-preserved c =
     let reads = c.loop-head.invariant.reads in
     let head = c.in_ok-take_head.ensures.found in
     let body = c.in_ok-take_body.ensures.found in
-    let made = body.2 (kept_comments c.args.with_comments head.0) head.1 head.3
+    let made = body.2 c.args.with_comments head.0 head.1 head.3
     ∙ kept_from c.args.with_comments head.0 head.1 body.0 in
     let first : TextEntry = with_head head.0 head.1 body.0 in
     record {
