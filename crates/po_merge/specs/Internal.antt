@@ -2,4 +2,4 @@
 pub mod Comments
 pub mod FirstParts
 pub mod FormsByIndex
-pub mod SeenTexts
+pub mod SameTexts

@@ -1,12 +1,11 @@
-use Rattle.std.proofs.Common.{◌≡◌, ◌++◌, filter, not}
-use Rattle.std.specs.List.{list_any}
-use Rattle.std.specs.Str.{bytes_eq}
+use Rattle.std.proofs.Common.{◌≡◌, length}
 use Rattle.po_entry.specs.TextLists.{texts_left}
-use Rattle.po_merge.specs.MergedEntry.{with_others}
+use Rattle.po_merge.proofs.Sets.{AreTaken}
 use Rattle.po_merge.proofs.comments.push_others.Given as goal
 
--- what there is, with those of the texts left that aren't among the earlier ones, is all that comes out
+-- the texts up to those that are left were taken
 abbrev pub invariant-loop-text : goal.invariant-loop-text
-invariant-loop-text l =
-    l.done ++ filter (λ t. not (list_any (bytes_eq t) l.initial.done)) (texts_left l.text-iterator)
-    ≡ with_others l.initial.done l.others
+invariant-loop-text l = record {
+  taken : AreTaken l.initial.done l.initial.seen l.others l.done l.seen (texts_left l.text-iterator);
+  earlier : l.earlier ≡ length l.initial.seen;
+}
