@@ -5,7 +5,7 @@ ghost use Rattle.std.specs.Option.{option_map};
 ghost use Rattle.locale_names.specs.Candidate.{text_of};
 ghost use Rattle.gettext.specs.Locales as spec;
 
-use locale_names::{Candidate, Position, candidate_at};
+use locale_names::{Candidate, Position, is_untranslated, translated_candidate_at};
 use runs::ToolFault;
 use std::alloc::{AllocError, Global};
 use std::collections::BTreeSet;
@@ -41,11 +41,14 @@ pub fn locale_candidates(
     let locale = locale_of(environment);
     let language = non_empty(environment.language).unwrap_or(b"");
     let mut names = Vec::new(alloc);
+    if is_untranslated(locale) {
+        return Ok(names);
+    }
     let mut position = Position {
         offset: 0,
         given: 0,
     };
-    while let Some((candidate, next)) = candidate_at(locale, language, position) {
+    while let Some((candidate, next)) = translated_candidate_at(locale, language, position) {
         add_name(alloc, &mut names, candidate)?;
         position = next;
     }

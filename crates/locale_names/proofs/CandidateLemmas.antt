@@ -1,13 +1,13 @@
 -- Lemmas on the names that are still to be given.
-use Rattle.std.proofs.Common.{◌≡◌, ℕ, suc, drop-cons, ◌==◌, ◌+◌, ◌≤◌, ◌||◌, true, false, not, cond, ◌⊎◌, inl, inr, List, [], ◌∷◌, ◌++◌, length, drop, Option, Some, None, MatchOption, slice_get, refl, sym, ap, ◌∙◌, arith}
+use Rattle.std.proofs.Common.{◌≡◌, ℕ, suc, drop-cons, ◌==◌, ◌+◌, ◌≤◌, true, false, cond, List, [], ◌∷◌, ◌++◌, length, drop, Option, Some, None, MatchOption, slice_get, refl, sym, ap, ◌∙◌, arith}
 use Rattle.std.specs.List.{flat_map}
-use Rattle.std.proofs.lemmas.Bool.{cond-true, cond-false, or_left, or_right, or_from}
+use Rattle.std.proofs.lemmas.Bool.{cond-true, cond-false}
 use Rattle.std.proofs.lemmas.List.{drop-drop, drop_all}
 use Rattle.std.proofs.lemmas.Option.{slice_get_within, get_or_from_slice_get}
 use Rattle.locale_names.specs.declared.name.Candidate.{Candidate}
 use Rattle.locale_names.specs.declared.position.Position.{Position}
 use Rattle.locale_names.specs.Candidate.{names_from, names_left, text_of}
-use Rattle.locale_names.specs.Names.{before, candidates, candidates_of_name, from_first, is_path_part, is_c_locale, language_parts, languages}
+use Rattle.locale_names.specs.Names.{before, candidates, candidates_of_name, from_first, is_untranslated, language_parts, languages}
 
 next-of : (names : List (List ℕ)) (n : ℕ) (text : List ℕ) → slice_get names n ≡ Some text
     → drop n names ≡ text ∷ drop (n + 1) names
@@ -84,34 +84,28 @@ matched-left names left same at None none = same at ∙ none
 matched-left names left same at (Some n) is = same at ∙ is ∙ ap (λ later. text_of n.0 ∷ later) (sym (same n.1))
 
 -- the names from a position on
-pub barred-from : (locale language : List ℕ) (at : Position)
-    → (is_c_locale locale ≡ true) ⊎ (is_path_part locale ≡ false) → names_from locale language at ≡ []
+pub barred-from : (locale language : List ℕ) (at : Position) → is_untranslated locale ≡ true
+    → names_from locale language at ≡ []
 unfolding names_from
-barred-from locale language at is =
-    cond-true (is_c_locale locale || not (is_path_part locale)) [] _
-    (elim is [ inl e ↦ or_left _ _ e | inr e ↦ or_right _ _ (ap not e) ])
+barred-from locale language at is = cond-true (is_untranslated locale) [] _ is
 
-not-barred-from : (locale language : List ℕ) (at : Position) → is_c_locale locale ≡ false
-    → is_path_part locale ≡ true
+not-barred-from : (locale language : List ℕ) (at : Position) → is_untranslated locale ≡ false
     → names_from locale language at
     ≡ names_left at.given (cond (length language == 0) (locale ∷ []) (language_parts (drop at.offset language)))
 unfolding names_from
-not-barred-from locale language at fine plain =
-    cond-false (is_c_locale locale || not (is_path_part locale)) [] _ (or_from _ _ fine (ap not plain))
+not-barred-from locale language at fine = cond-false (is_untranslated locale) [] _ fine
 
-pub from-locale : (locale language : List ℕ) → is_c_locale locale ≡ false → is_path_part locale ≡ true
-    → (length language == 0) ≡ true → (at : Position)
+pub from-locale : (locale language : List ℕ) → is_untranslated locale ≡ false → (length language == 0) ≡ true → (at : Position)
     → names_from locale language at ≡ names_left at.given (locale ∷ [])
-from-locale locale language fine plain unset at =
-    not-barred-from locale language at fine plain
+from-locale locale language fine unset at =
+    not-barred-from locale language at fine
     ∙ ap (names_left at.given)
     (cond-true (length language == 0) (locale ∷ []) (language_parts (drop at.offset language)) unset)
 
-pub from-language : (locale language : List ℕ) → is_c_locale locale ≡ false → is_path_part locale ≡ true
-    → (length language == 0) ≡ false → (at : Position)
+pub from-language : (locale language : List ℕ) → is_untranslated locale ≡ false → (length language == 0) ≡ false → (at : Position)
     → names_from locale language at ≡ names_left at.given (language_parts (drop at.offset language))
-from-language locale language fine plain set at =
-    not-barred-from locale language at fine plain
+from-language locale language fine set at =
+    not-barred-from locale language at fine
     ∙ ap (names_left at.given)
     (cond-false (length language == 0) (locale ∷ []) (language_parts (drop at.offset language)) set)
 
@@ -125,7 +119,7 @@ pub from-start : (locale language : List ℕ) (at : Position) → at.offset ≡ 
     → names_from locale language at ≡ candidates locale language
 unfolding names_from
 from-start locale language at offset given =
-    let bar = is_c_locale locale || not (is_path_part locale) in
+    let bar = is_untranslated locale in
     ap (λ (o : ℕ). cond bar []
     (names_left at.given (cond (length language == 0) (locale ∷ []) (language_parts (drop o language))))) offset
     ∙ ap (λ (g : ℕ). cond bar [] (names_left g (languages locale language))) given

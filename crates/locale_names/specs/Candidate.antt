@@ -1,7 +1,7 @@
 -- A name of a locale as two texts, and the names after a position.
-use Rattle.std.specs.Prelude.{ℕ, List, [], ◌∷◌, ◌++◌, ◌==◌, ◌||◌, not, drop, length, if◌then◌else◌}
+use Rattle.std.specs.Prelude.{ℕ, List, [], ◌∷◌, ◌++◌, ◌==◌, drop, length, if◌then◌else◌}
 use Rattle.std.specs.List.{flat_map}
-use Rattle.locale_names.specs.Names.{candidates_of_name, is_path_part, is_c_locale, language_parts}
+use Rattle.locale_names.specs.Names.{candidates_of_name, is_untranslated, language_parts}
 use Rattle.locale_names.specs.declared.name.Candidate.{Candidate}
 use Rattle.locale_names.specs.declared.position.Position.{Position}
 
@@ -17,6 +17,6 @@ names_left given (name ∷ names) = drop given (candidates_of_name name) ++ flat
 -- the candidates from a position on: of the locale, or of the languages after the first bytes of LANGUAGE
 unfoldable pub names_from : List ℕ → List ℕ → Position → List (List ℕ)
 names_from locale language position =
-    if is_c_locale locale || not (is_path_part locale) then []
+    if is_untranslated locale then []
     else names_left position.given
     (if length language == 0 then locale ∷ [] else language_parts (drop position.offset language))

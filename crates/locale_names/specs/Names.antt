@@ -40,9 +40,12 @@ language_parts text =
 abbrev pub languages : List ℕ → List ℕ → List (List ℕ)
 languages locale language = if length language == 0 then locale ∷ [] else language_parts language
 
+-- nothing is translated: there is no locale, its name has a slash, or it is `C` or `POSIX`
+abbrev pub is_untranslated : List ℕ → Bool
+is_untranslated locale = is_c_locale locale || not (is_path_part locale)
+
 -- the candidates of a locale and LANGUAGE, each as often as it comes; none without a locale, in an
 -- untranslated one, and in one whose name has a slash
 abbrev pub candidates : List ℕ → List ℕ → List (List ℕ)
 candidates locale language =
-    if is_c_locale locale || not (is_path_part locale) then []
-    else flat_map candidates_of_name (languages locale language)
+    if is_untranslated locale then [] else flat_map candidates_of_name (languages locale language)

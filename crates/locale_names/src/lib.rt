@@ -12,5 +12,5 @@ mod language;
 mod name;
 mod position;
 
-pub use name::{Candidate, is_path_part, len_before};
-pub use position::{Position, candidate_at};
+pub use name::{Candidate, is_path_part, is_untranslated, len_before};
+pub use position::{Position, candidate_at, translated_candidate_at};

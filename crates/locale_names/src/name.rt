@@ -40,6 +40,14 @@ pub fn is_path_part(name: &[u8]) -> bool
     !name.is_empty() && !name.contains(&b'/')
 }
 
+/// Whether a locale of this name has no translations: there is no name, it has a slash, or it is
+/// `C` or `POSIX`.
+pub fn is_untranslated(locale: &[u8]) -> bool
+    ensures { result ≡ spec.is_untranslated locale.now }
+{
+    is_c_locale(locale) || !is_path_part(locale)
+}
+
 /// What stands before the first `byte`, or all where there is none.
 #[tactic(auto, unfolding(crate::specs::Names::before))]
 fn before(byte: u8, name: &[u8]) -> &[u8]

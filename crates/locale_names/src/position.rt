@@ -1,11 +1,11 @@
 //! The names of the locales whose catalogues are looked for, in order, by their positions.
 
-ghost use Rattle.std.specs.Prelude.{◌≡◌, [], ◌∷◌, drop, MatchOption};
-ghost use Rattle.locale_names.specs.Names.{candidates, language_parts};
+ghost use Rattle.std.specs.Prelude.{◌≡◌, [], ◌∷◌, drop, false, MatchOption};
+ghost use Rattle.locale_names.specs.Names.{candidates, is_untranslated, language_parts};
 ghost use Rattle.locale_names.specs.Candidate.{names_from, names_left, text_of};
 
 use crate::language::next_language;
-use crate::name::{Candidate, candidate_of_name, is_c_locale, is_path_part};
+use crate::name::{Candidate, candidate_of_name, is_untranslated};
 
 /// Where a walk over the candidates of a locale and LANGUAGE is. All zeros are its beginning.
 #[repr(C)]
@@ -57,9 +57,26 @@ pub fn candidate_at<'a>(
         (λ next. names_from locale.now language.now position
         ≡ text_of next.0 ∷ names_from locale.now language.now next.1) }
 {
-    if is_c_locale(locale) || !is_path_part(locale) {
+    if is_untranslated(locale) {
         return None;
     }
+    translated_candidate_at(locale, language, position)
+}
+
+/// The candidate at a position, as `candidate_at` gives it, in a locale that has translations. The
+/// locale isn't looked through for that again.
+pub fn translated_candidate_at<'a>(
+    locale: &'a [u8],
+    language: &'a [u8],
+    position: Position,
+) -> Option<(Candidate<'a>, Position)>
+    requires { is_untranslated locale.now ≡ false }
+    ensures start { position.offset ≡ 0 → position.given ≡ 0
+        → names_from locale.now language.now position ≡ candidates locale.now language.now }
+    ensures next { MatchOption result (names_from locale.now language.now position ≡ [])
+        (λ next. names_from locale.now language.now position
+        ≡ text_of next.0 ∷ names_from locale.now language.now next.1) }
+{
     if !language.is_empty() {
         return of_language(language, position);
     }

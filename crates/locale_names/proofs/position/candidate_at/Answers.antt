@@ -1,43 +1,11 @@
-use Rattle.std.proofs.Common.{[], ◌∷◌, inl, inr, sym, ap, ◌∙◌}
-use Rattle.locale_names.specs.Candidate.{names_left, text_of}
-use Rattle.locale_names.proofs.CandidateLemmas.{barred-from, from-language, from-locale, from-start, matched-left, one-given, past-five}
+use Rattle.std.proofs.Common.{sym, ◌∙◌}
+use Rattle.locale_names.proofs.CandidateLemmas.{barred-from, from-start}
 use Rattle.locale_names.proofs.position.candidate_at.Goals as goal
-use Rattle.locale_names.proofs.position.candidate_at.Goals.{then-is_c_locale-via-then-is_c_locale, then-is_c_locale-via-else-is_c_locale+then-not-is_path_part}
 
-pub returns-then-is_c_locale-clause-start : goal.returns-then-is_c_locale-clause-start
-returns-then-is_c_locale-clause-start c = from-start c.args.locale.now c.args.language.now c.args.position
+pub returns-then-is_untranslated-clause-start : goal.returns-then-is_untranslated-clause-start
+returns-then-is_untranslated-clause-start c = from-start c.args.locale.now c.args.language.now c.args.position
 
-pub returns-then-is_c_locale-clause-next : goal.returns-then-is_c_locale-clause-next
-returns-then-is_c_locale-clause-next c =
-    barred-from c.args.locale.now c.args.language.now c.args.position (elim c.then-is_c_locale.branch [
-      | then-is_c_locale-via-then-is_c_locale w ↦ inl (sym w.if-is_c_locale.ensures)
-      | then-is_c_locale-via-else-is_c_locale+then-not-is_path_part w ↦ inr (sym w.if-not-is_path_part.ensures)
-    ])
-
-pub returns-then-not-is_empty-clause-start : goal.returns-then-not-is_empty-clause-start
-returns-then-not-is_empty-clause-start c = from-start c.args.locale.now c.args.language.now c.args.position
-
-pub returns-then-not-is_empty-clause-next : goal.returns-then-not-is_empty-clause-next
-returns-then-not-is_empty-clause-next c =
-    matched-left _ _ (from-language c.args.locale.now c.args.language.now (sym c.if-is_c_locale.ensures)
-    (sym c.if-not-is_path_part.ensures) (sym c.if-not-is_empty.ensures))
-    c.args.position c.of_language.result c.of_language.ensures
-
-pub returns-then-position-ge5-clause-next : goal.returns-then-position-ge5-clause-next
-unfolding names_left
-returns-then-position-ge5-clause-next c =
-    from-locale c.args.locale.now c.args.language.now (sym c.if-is_c_locale.ensures)
-    (sym c.if-not-is_path_part.ensures) (sym c.if-not-is_empty.ensures) c.args.position
-    ∙ past-five c.args.locale.now c.args.position.given [] c.if-position-ge5.true
-
-pub returns-clause-start : goal.returns-clause-start
-returns-clause-start c = from-start c.args.locale.now c.args.language.now c.args.position
-
-pub returns-clause-next : goal.returns-clause-next
-unfolding names_left
-returns-clause-next c =
-    let left = from-locale c.args.locale.now c.args.language.now (sym c.if-is_c_locale.ensures)
-    (sym c.if-not-is_path_part.ensures) (sym c.if-not-is_empty.ensures) in
-    left c.args.position
-    ∙ one-given c.args.locale.now c.args.position.given _ [] c.candidate_of_name.ensures
-    ∙ ap (λ later. text_of c.candidate_of_name.result ∷ later) (sym (left _))
+pub returns-then-is_untranslated-clause-next : goal.returns-then-is_untranslated-clause-next
+returns-then-is_untranslated-clause-next c =
+    barred-from c.args.locale.now c.args.language.now c.args.position
+    (sym c.is_untranslated.ensures ∙ c.if-is_untranslated.true)
