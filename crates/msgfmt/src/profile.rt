@@ -3,7 +3,6 @@ ghost use Rattle.std.specs.Prelude.{◌≡◌, ◌⊎◌, ◌^◌, ◌<◌, None
 ghost use Rattle.std.specs.List.{list_any};
 ghost use Rattle.mo_lookup.specs.CatalogView.{forms};
 ghost use Rattle.po_compile.specs.OfInputs.{OfAllInputs};
-ghost use Rattle.plural_rule.specs.PluralRule.{IsRuleOf, expression_limit};
 ghost use Rattle.msgfmt.specs.Msgfmt.{AreChecked};
 ghost use Rattle.msgfmt.specs.Profile as Spec;
 
@@ -211,8 +210,8 @@ fn rule_fault(source: Source, plural: Option<&CompiledMessage<'_>>) -> Option<(u
 
 /// The first fault of messages with a header, by its rule.
 #[inline(never)]
-fn first_fault(rule: Rule, messages: &[CompiledMessage<'_>]) -> Option<(u32, CheckFault)>
-    ensures { result ≡ Spec.first_fault (Spec.checked_messages messages.now) rule }
+fn first_fault(rule: &Rule, messages: &[CompiledMessage<'_>]) -> Option<(u32, CheckFault)>
+    ensures { result ≡ Spec.first_fault (Spec.checked_messages messages.now) rule.now }
 {
     let plural = first_plural(messages);
     if let Some(fault) = rule_fault(rule.source(), plural) {
@@ -222,25 +221,17 @@ fn first_fault(rule: Rule, messages: &[CompiledMessage<'_>]) -> Option<(u32, Che
         return Some(fault);
     }
     match plural {
-        Some(_) => first_count_fault(&rule, CHECKED_COUNTS),
+        Some(_) => first_count_fault(rule, CHECKED_COUNTS),
         None => None,
     }
-}
-
-/// The rule of a header text. What reading it takes of the stack is given back before the rule is
-/// used.
-#[inline(never)]
-fn rule_of(header: &[u8]) -> Rule
-    ensures { IsRuleOf expression_limit header.now result }
-{
-    Rule::parse(header)
 }
 
 /// Asks of the messages that are compiled, in text order: that there is a header; that it has a
 /// readable plural rule where an entry has a plural; that each entry but the header has as many
 /// forms as the rule, and newlines at its ends where its msgid has them; and that the rule's values
 /// at the counts from 0 to 1,000 are indices of forms, where an entry has a plural. The first fault
-/// is reported, with the input of its line, or input 0.
+/// is reported, with the input of its line, or input 0. A rule takes 33 KB of the stack, so it is
+/// read in its place.
 #[inline(never)]
 fn check_messages(messages: &[CompiledMessage<'_>]) -> Option<(u32, CheckFault)>
     ensures { Spec.IsChecked (Spec.checked_messages messages.now) result }
@@ -248,7 +239,9 @@ fn check_messages(messages: &[CompiledMessage<'_>]) -> Option<(u32, CheckFault)>
     let Some(header) = header_of(messages) else {
         return Some((0, CheckFault::NoHeader));
     };
-    first_fault(rule_of(first_part(header.translation)), messages)
+    let mut rule = Rule::of_no_header();
+    rule.reparse(first_part(header.translation));
+    first_fault(&rule, messages)
 }
 
 /// Checks the messages that inputs are compiled to, as `profile_check` does.
