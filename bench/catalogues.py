@@ -1,6 +1,7 @@
 """Catalogues and texts of any size, the same for the same seed."""
 
 import random
+import string
 
 PARTS = 5
 
@@ -83,6 +84,29 @@ def shared_hash(number):
 
 # Msgids that somebody chose to make a tool slow.
 CHOSEN = {"shared beginning": shared_beginning, "shared hash": shared_hash}
+
+def random_texts(chance, count, size):
+    """So many texts of so many letters."""
+    return ["".join(chance.choices(string.ascii_letters, k=size)) for _ in range(count)]
+
+
+def write_flags(path, count, size, seed):
+    """An entry with so many flags of so many letters, in any order, on one line."""
+    chance = random.Random(seed)
+    write_entry(path, f"#, {','.join(random_texts(chance, count, size))}\n")
+
+
+def write_comments(path, count, seed):
+    """An entry with so many comments, in any order."""
+    chance = random.Random(seed)
+    write_entry(path, "".join(f"# {text}\n" for text in random_texts(chance, count, 16)))
+
+
+def write_entry(path, head):
+    """The known message, with this before it."""
+    with open(path, "w", encoding="utf-8") as out:
+        out.write(HEADER + f'\n{head}msgid "{KNOWN}"\nmsgstr "{KNOWN_TRANSLATION}"\n')
+
 
 # What makes msgfmt refuse a catalogue that ends with it, and the status of GNU's.
 REFUSED = {

@@ -95,14 +95,16 @@ not-barred-from : (locale language : List ℕ) (at : Position) → is_untranslat
 unfolding names_from
 not-barred-from locale language at fine = cond-false (is_untranslated locale) [] _ fine
 
-pub from-locale : (locale language : List ℕ) → is_untranslated locale ≡ false → (length language == 0) ≡ true → (at : Position)
+pub from-locale : (locale language : List ℕ) → is_untranslated locale ≡ false → (length language == 0) ≡ true
+    → (at : Position)
     → names_from locale language at ≡ names_left at.given (locale ∷ [])
 from-locale locale language fine unset at =
     not-barred-from locale language at fine
     ∙ ap (names_left at.given)
     (cond-true (length language == 0) (locale ∷ []) (language_parts (drop at.offset language)) unset)
 
-pub from-language : (locale language : List ℕ) → is_untranslated locale ≡ false → (length language == 0) ≡ false → (at : Position)
+pub from-language : (locale language : List ℕ) → is_untranslated locale ≡ false → (length language == 0) ≡ false
+    → (at : Position)
     → names_from locale language at ≡ names_left at.given (language_parts (drop at.offset language))
 from-language locale language fine set at =
     not-barred-from locale language at fine

@@ -5,8 +5,8 @@
 //! [`check_texts`] admits, and a [`Catalogue`] only headers whose charset is admitted. What a text
 //! means is defined here too, in the specs: which entries its items spell.
 //!
-//! The modules in reading order: `text_list`, `seen_texts`, `fields`, `texts`, `entry`, `charset`, `catalogue`,
-//! `laws`.
+//! The modules in reading order: `text_list`, `seen_texts`, `fields`, `texts`, `entry`, `charset`,
+//! `catalogue`, `laws`.
 
 #![tactic(auto)]
 

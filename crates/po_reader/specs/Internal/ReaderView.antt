@@ -21,7 +21,8 @@ pub record HoldsComments (all : Bool) (head : Head) (comment_texts : List Commen
   pub fuzzy : head.fuzzy ≡ fuzzy_of comment_texts
 
 -- the head holds these comments, or none of them, and these previous texts
-pub record HoldsHead (all : Bool) (head : Head) (comment_texts : List CommentText) (previous : List PreviousText) : Type 0 where
+pub record HoldsHead (all : Bool) (head : Head) (comment_texts : List CommentText)
+    (previous : List PreviousText) : Type 0 where
   pub head_comments : HoldsComments all head comment_texts
   pub texts : head.previous ≡ previous_of previous
 
