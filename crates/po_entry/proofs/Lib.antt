@@ -12,3 +12,5 @@ pub mod Settled
 pub mod TextListLemmas
 pub mod PlainEntries
 pub mod SeenTextLemmas
+pub mod LaidEntries
+pub mod RowLemmas

@@ -1,6 +1,8 @@
 pub mod TextEntry
 pub mod TextLists
 pub mod SeenTexts
+pub mod Rows
+pub mod FormLists
 pub mod EntryView
 pub mod Bytes
 pub mod Header

@@ -20,7 +20,7 @@ pub fn has_admitted_charset(entry: &Entry) -> bool
 }
 
 /// Whether a charset of this name is admitted: UTF-8, ASCII, the template's `CHARSET`, or none.
-fn is_admitted_name(name: &[u8]) -> bool
+pub(crate) fn is_admitted_name(name: &[u8]) -> bool
     ensures { IsTrue result ↔ IsAdmittedName name.now }
 {
     // `|` and not `||`: without branches, so that the proof takes one operand after another.
@@ -34,7 +34,7 @@ fn is_admitted_name(name: &[u8]) -> bool
 
 /// The charset that a header's text names, up to a space, TAB, CR, LF or semicolon; empty where
 /// it names none.
-fn charset_of(header: &[u8]) -> &[u8]
+pub(crate) fn charset_of(header: &[u8]) -> &[u8]
     ensures { result.now ≡ charset_of header.now }
 {
     let name = after_charset(header);

@@ -1,7 +1,7 @@
 //! Laws of entries, each the contract of a function that does nothing: a call brings the law into a
 //! proof.
 ghost use Rattle.std.specs.Char.{to_ascii_lowercase};
-ghost use Rattle.std.specs.Prelude.{map, ◌≡◌, ◌↔◌, ◌++◌, ℕ, List, Decides};
+ghost use Rattle.std.specs.Prelude.{map, ◌≡◌, ◌↔◌, ◌++◌, ◌∷◌, [], ℕ, List, Decides};
 ghost use Rattle.po_syntax.specs.Piece.{EndsInString};
 ghost use Rattle.po_syntax.specs.TextItem.{TextItem};
 ghost use Rattle.po_entry.specs.TextEntry.{TextEntry, SameButLine};
@@ -12,6 +12,8 @@ ghost use Rattle.po_entry.specs.Header.{charset_of, IsAdmittedName};
 ghost use Rattle.po_entry.specs.CommentLists.{HaveFuzzyFlag, KeepsFlags, ListsFlags, ListsReferences};
 ghost use Rattle.po_entry.specs.Comments.{listed_flags, all_listed_flags, flags_of, fuzzy_of, listed_references};
 ghost use Rattle.po_entry.specs.Spelling.{SpellsEntries};
+ghost use Rattle.po_entry.specs.declared.drafts.Drafts.{Drafts};
+ghost use Rattle.po_entry.specs.Rows.{Adds, AreLaid, CanLie, entries_in};
 
 /// Entries are equal exactly where they are the same but for their lines.
 pub fn equal_but_line()
@@ -69,4 +71,12 @@ pub fn joined_pieces()
     ensures { (prefix rest : List TextItem) (first others : List TextEntry)
         → SpellsEntries prefix first → EndsInString prefix → SpellsEntries rest others
         → SpellsEntries (prefix ++ rest) (first ++ others) }
+{}
+
+/// Where an entry is laid out after the drafts that there are, and its row added, the drafts are
+/// those entries and then this one, if no quoted text of it has a NUL and it has a form.
+#[tactic(auto, using(crate::proofs::RowLemmas::added))]
+pub fn drafts_are_added()
+    ensures { (entry : TextEntry) (old new : Drafts) → Adds entry old new → AreLaid old
+        → AreLaid new × (CanLie entry → entries_in new ≡ entries_in old ++ entry ∷ []) }
 {}

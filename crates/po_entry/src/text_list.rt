@@ -4,7 +4,8 @@ ghost use Rattle.std.specs.Prelude.{◌≡◌, ◌+◌, ◌≤◌, ◌==◌, ◌
 ghost use Rattle.std.specs.Iterator.{YieldsFirstBy, item_count};
 ghost use Rattle.std.specs.Vec.{vec_capacity, vec_len};
 ghost use Rattle.po_entry.specs.Equality.{texts_eq};
-ghost use Rattle.po_entry.specs.TextLists.{length_bytes, text_length, texts_in, texts_left};
+ghost use Rattle.std.specs.List.{flat_map};
+ghost use Rattle.po_entry.specs.TextLists.{length_bytes, measured, text_length, texts_in, texts_left};
 
 use byteorder::{ByteOrder, LittleEndian};
 use std::alloc::{AllocError, Global};
@@ -89,6 +90,20 @@ impl TextList {
         TextListIter { bytes: &self.bytes }
     }
 
+    /// Empties the list, and keeps its room.
+    pub fn clear(&mut self)
+        ensures { self.new ≡ [] }
+    {
+        self.bytes.clear();
+    }
+
+    /// The texts in one buffer, each behind its length.
+    pub(crate) fn bytes(&self) -> &[u8]
+        ensures { result.now ≡ flat_map measured self.now }
+    {
+        &self.bytes
+    }
+
     /// A copy of the list; refused only where an allocation failed.
     pub fn copy(&self, alloc: Global) -> Result<TextList, AllocError>
         ensures { IfOk result (λ copy. copy ≡ self.now) }
@@ -110,6 +125,18 @@ fn make_room(bytes: &mut Vec<u8>, more: usize) -> Result<(), AllocError>
     } else {
         bytes.reserve(more)
     }
+}
+
+/// Adds a length.
+pub(crate) fn add_length(bytes: &mut Vec<u8>, len: usize) -> Result<(), AllocError>
+    ensures { OnOk result (bytes.new.items ≡ bytes.old.items ++ length_bytes len) }
+{
+    if len < LONG as usize {
+        bytes.push(len as u8)?;
+        return Ok(());
+    }
+    bytes.push(LONG)?;
+    bytes.extend_from_slice(&(len as u64).to_le_bytes())
 }
 
 /// Adds the length of a text, with room for the text itself. Where an allocation failed, the buffer
@@ -155,7 +182,7 @@ fn text_length(bytes: &[u8]) -> Option<(usize, &[u8])>
 }
 
 /// The first text of a buffer, and the bytes after it; none where no whole length stands there.
-fn first_text(bytes: &[u8]) -> Option<(&[u8], &[u8])>
+pub(crate) fn first_text(bytes: &[u8]) -> Option<(&[u8], &[u8])>
     ensures { MatchOption result (texts_in bytes.now ≡ [])
         (λ p. texts_in bytes.now ≡ p.0.now ∷ texts_in p.1.now) }
 {
@@ -167,6 +194,15 @@ fn first_text(bytes: &[u8]) -> Option<(&[u8], &[u8])>
 #[derive(Drop)]
 pub struct TextListIter<'a> {
     bytes: &'a [u8],
+}
+
+impl<'a> TextListIter<'a> {
+    /// The texts of these bytes.
+    pub(crate) fn of(bytes: &'a [u8]) -> Self
+        ensures { texts_left result ≡ texts_in bytes.now }
+    {
+        TextListIter { bytes }
+    }
 }
 
 impl<'a> Iterator for TextListIter<'a> {

@@ -14,7 +14,7 @@ use simdutf8::is_utf8;
 
 const NUL: u8 = 0;
 
-const EOT: u8 = 4;
+pub(crate) const EOT: u8 = 4;
 
 /// Whether an entry can have these texts, which hold no NUL, as those of items don't. Refused with
 /// `NotUtf8` where a text of its quoted strings is not UTF-8, then with `ForbiddenByte` for an EOT
@@ -58,7 +58,7 @@ pub(crate) fn check_any_texts(fields: &Fields) -> Result<(), PoFault>
 
 /// What a text is tested for.
 #[derive(Clone, Copy)]
-enum Need {
+pub(crate) enum Need {
     /// That it is UTF-8.
     Utf8,
     /// That it lacks this byte.
@@ -89,7 +89,7 @@ fn quoted_meet(need: Need, fields: &Fields) -> bool
 }
 
 /// Whether the text meets the need, where there is one.
-fn optional_meets(need: Need, text: Option<&[u8]>) -> bool
+pub(crate) fn optional_meets(need: Need, text: Option<&[u8]>) -> bool
     ensures { IsTrue result ↔ All (Meets need) (option_to_list (option_copied text.entry)) }
 {
     match text {
@@ -111,7 +111,7 @@ fn all_meet(need: Need, list: &[Vec<u8>]) -> bool
 }
 
 /// Whether the text meets the need.
-fn meets(need: Need, text: &[u8]) -> bool
+pub(crate) fn meets(need: Need, text: &[u8]) -> bool
     ensures { IsTrue result ↔ Meets need text.now }
 {
     match need {

@@ -1,0 +1,198 @@
+-- The bytes of an entry, read by its row, mean the entry.
+use Rattle.std.proofs.Common.{◌≡◌, ◌≢◌, refl, sym, ap, ap₂, ◌∙◌, subst, ℕ, zero, suc, ◌+◌, ◌-◌, ◌<◌, ◌≤◌, ◌^◌, ◌==◌, ◌&&◌, List, [], ◌∷◌, ◌++◌, append_assoc, append-nil, length, length-append, take, drop, map, Option, None, Some, arith, Bool, true, false, cond}
+use Rattle.std.specs.Prelude.{All, is_some, is_none, option_to_list, slice_index_or, if◌then◌else◌}
+use Rattle.std.specs.List.{flat_map, slice_split}
+use Rattle.std.proofs.Math.Seq.{drop-append_seam, take-append_seam}
+use Rattle.std.proofs.lemmas.Bool.{false≢true, ne_eqb}
+use Rattle.std.proofs.lemmas.List.Elements.{All-head, All-tail, All-append, All-nil, All-cons}
+use Rattle.std.proofs.lemmas.List.Splits.{slice_split_none, slice_split_at, slice_split-cons_yes}
+use Rattle.po_entry.specs.Bytes.{Lacks}
+use Rattle.po_entry.specs.Facts.AllAppend.{All-left, All-right}
+use Rattle.po_entry.specs.TextEntry.{TextEntry, TextPrevious, no_previous, quoted_texts, previous_texts}
+use Rattle.po_entry.specs.TextLists.{length_bytes, measured, texts_in}
+use Rattle.po_entry.specs.Rows.{after_nul, context_in, context_length, entry_of, forms_in, further_texts, has_no_head, head_bytes, head_parts, is_empty_list, key_bytes, optional_bytes, optional_in, own_bytes, part_at, plural_in, previous_in, row_of, texts_after, CanLie}
+use Rattle.po_entry.proofs.TextListLemmas.{no_texts, texts_laid}
+
+abbrev IsShort : List ℕ → Type 0
+IsShort text = length text < 2 ^ 64
+
+-- the key
+pub context_fits : (context : Option (List ℕ)) (id : List ℕ) → context_length context ≤ length (key_bytes context id)
+context_fits None id = omega arith
+context_fits (Some c) id = omega (arith, length-append c (4 ∷ id))
+
+pub key_fits : (entry : TextEntry) → length (key_bytes entry.context entry.id) ≤ length (own_bytes entry)
+key_fits entry =
+    omega (arith, length-append (key_bytes entry.context entry.id) (flat_map after_nul (further_texts entry)))
+
+context_found : (context : Option (List ℕ)) (id rest : List ℕ)
+    → context_in (context_length context) (key_bytes context id ++ rest) ≡ context
+context_found None id rest = refl
+context_found (Some c) id rest =
+    ap Some (ap (take (length c)) (append_assoc c (4 ∷ id) rest) ∙ take-append_seam c (4 ∷ id ++ rest))
+
+id_found : (context : Option (List ℕ)) (id : List ℕ) → drop (context_length context) (key_bytes context id) ≡ id
+id_found None id = refl
+id_found (Some c) id =
+    let longer : suc (length c) ≡ length (c ++ 4 ∷ []) = omega (arith, length-append c (4 ∷ [])) in
+    ap₂ (λ n (l : List ℕ). drop n l) longer (sym (append_assoc c (4 ∷ []) id)) ∙ drop-append_seam (c ++ 4 ∷ []) id
+
+-- the further texts
+abbrev is_nul : ℕ → Bool
+is_nul b = b == 0
+
+no_end : (text : List ℕ) → Lacks 0 text → All (λ b. is_nul b ≡ false) text
+no_end text lacks = λ k d inside. ne_eqb _ 0 (lacks k d inside)
+
+pub first_text : (texts text rest : List ℕ) → texts ≡ text ++ 0 ∷ rest → Lacks 0 text
+    → slice_split is_nul texts ≡ text ∷ slice_split is_nul rest
+first_text texts text rest is lacks = rw is (slice_split_at is_nul text 0 rest (no_end text lacks) refl)
+
+pub only_text : (text : List ℕ) → Lacks 0 text → slice_split is_nul text ≡ text ∷ []
+only_text text lacks = slice_split_none is_nul text (no_end text lacks)
+
+split_texts : (text : List ℕ) (texts : List (List ℕ)) → Lacks 0 text → All (Lacks 0) texts
+    → slice_split is_nul (text ++ flat_map after_nul texts) ≡ text ∷ texts
+split_texts text [] lacks all = rw append-nil (slice_split_none is_nul text (no_end text lacks))
+split_texts text (next ∷ texts) lacks all =
+    slice_split_at is_nul text 0 (next ++ flat_map after_nul texts) (no_end text lacks) refl
+    ∙ ap (λ parts. text ∷ parts)
+    (split_texts next texts (All-head (Lacks 0) next texts all) (All-tail (Lacks 0) next texts all))
+
+texts_found : (key : List ℕ) (texts : List (List ℕ)) → 0 < length texts → All (Lacks 0) texts
+    → texts_after (length key) (key ++ flat_map after_nul texts) ≡ texts
+texts_found key [] some all = absurd (omega (arith, some))
+texts_found key (text ∷ texts) some all =
+    let longer : suc (length key) ≡ length (key ++ 0 ∷ []) = omega (arith, length-append key (0 ∷ [])) in
+    let more = text ++ flat_map after_nul texts in
+    let rest : drop (suc (length key)) (key ++ 0 ∷ more) ≡ more =
+    ap₂ (λ n (l : List ℕ). drop n l) longer (sym (append_assoc key (0 ∷ []) more))
+    ∙ drop-append_seam (key ++ 0 ∷ []) more in
+    ap (slice_split is_nul) rest
+    ∙ split_texts text texts (All-head (Lacks 0) text texts all) (All-tail (Lacks 0) text texts all)
+
+plural_found : (plural : Option (List ℕ)) (forms : List (List ℕ))
+    → plural_in (is_some plural) (option_to_list plural ++ forms) ≡ plural
+plural_found None forms = refl
+plural_found (Some text) forms = refl
+
+forms_found : (plural : Option (List ℕ)) (forms : List (List ℕ))
+    → forms_in (is_some plural) (option_to_list plural ++ forms) ≡ forms
+forms_found None forms = refl
+forms_found (Some text) forms = refl
+
+-- the head
+short_all : (texts : List (List ℕ)) → length (flat_map measured texts) < 2 ^ 64 → All IsShort texts
+short_all [] fits = All-nil IsShort
+short_all (text ∷ texts) fits =
+    let whole = length-append (measured text) (flat_map measured texts) in
+    let first = length-append (length_bytes (length text)) text in
+    All-cons IsShort text texts (omega (arith, fits, whole, first)) (short_all texts (omega (arith, fits, whole)))
+
+laid : (texts : List (List ℕ)) → length (flat_map measured texts) < 2 ^ 64 → texts_in (flat_map measured texts) ≡ texts
+laid texts fits = texts_laid texts (short_all texts fits)
+
+optional_found : (text : Option (List ℕ)) → optional_in (optional_bytes text) ≡ text
+optional_found None = refl
+optional_found (Some text) = refl
+
+-- what is read of a head
+record MeansHead (entry : TextEntry) (head : List ℕ) : Type 0 where
+  pub comments : texts_in (part_at 0 head) ≡ entry.comments
+  pub extracted : texts_in (part_at 1 head) ≡ entry.extracted
+  pub references : texts_in (part_at 2 head) ≡ entry.references
+  pub flags : texts_in (part_at 3 head) ≡ entry.flags
+  pub context : optional_in (part_at 4 head) ≡ entry.previous.context
+  pub id : optional_in (part_at 5 head) ≡ entry.previous.id
+  pub plural : optional_in (part_at 6 head) ≡ entry.previous.plural
+
+both : (a b : Bool) → a && b ≡ true → (a ≡ true) × (b ≡ true)
+both true b h = (refl, h)
+both false b h = absurd (false≢true h)
+
+no_list : (texts : List (List ℕ)) → is_empty_list texts ≡ true → [] ≡ texts
+no_list [] h = refl
+no_list (text ∷ texts) h =
+    absurd (false≢true (sym (ne_eqb (suc (length texts)) 0 (λ e. omega (arith, e))) ∙ h))
+
+no_text : (text : Option (List ℕ)) → is_none text ≡ true → None ≡ text
+no_text None h = refl
+no_text (Some text) h = absurd (false≢true h)
+
+nothing_means : (entry : TextEntry) → has_no_head entry ≡ true → MeansHead entry []
+nothing_means entry none =
+    let plural = both _ _ none in
+    let id = both _ _ plural.0 in
+    let context = both _ _ id.0 in
+    let flags = both _ _ context.0 in
+    let references = both _ _ flags.0 in
+    let extracted = both _ _ references.0 in
+    let empty = no_texts [] refl in
+    let part : (k : ℕ) → texts_in (part_at k []) ≡ [] = λ k. rw (empty, empty) refl in
+    record {
+      comments = rw (empty) (empty ∙ no_list entry.comments extracted.0);
+      extracted = rw (empty) (empty ∙ no_list entry.extracted extracted.1);
+      references = rw (empty) (empty ∙ no_list entry.references references.1);
+      flags = rw (empty) (empty ∙ no_list entry.flags flags.1);
+      context = rw (empty) (no_text entry.previous.context context.1);
+      id = rw (empty) (no_text entry.previous.id id.1);
+      plural = rw (empty) (no_text entry.previous.plural plural.1);
+    }
+
+parts_mean : (entry : TextEntry) → length (flat_map measured (head_parts entry)) < 2 ^ 64
+    → MeansHead entry (flat_map measured (head_parts entry))
+parts_mean entry fits =
+    let parts = head_parts entry in
+    let cut : texts_in (flat_map measured parts) ≡ parts = laid parts fits in
+    let short : All IsShort parts = short_all parts fits in
+    record {
+      comments = rw cut (laid entry.comments (short 0 [] (omega arith)));
+      extracted = rw cut (laid entry.extracted (short 1 [] (omega arith)));
+      references = rw cut (laid entry.references (short 2 [] (omega arith)));
+      flags = rw cut (laid entry.flags (short 3 [] (omega arith)));
+      context = rw cut (optional_found entry.previous.context);
+      id = rw cut (optional_found entry.previous.id);
+      plural = rw cut (optional_found entry.previous.plural);
+    }
+
+head_means : (entry : TextEntry) → length (head_bytes entry) < 2 ^ 64 → MeansHead entry (head_bytes entry)
+head_means entry fits = by_cases (has_no_head entry) refl fits
+  where
+    laid_out : List ℕ
+    laid_out = flat_map measured (head_parts entry)
+
+    by_cases : (none : Bool) → has_no_head entry ≡ none → length (if none then [] else laid_out) < 2 ^ 64
+        → MeansHead entry (if none then [] else laid_out)
+    by_cases true none fits = nothing_means entry none
+    by_cases false some fits = parts_mean entry fits
+
+-- the texts after the key have no NUL
+further_lack : (entry : TextEntry) → All (Lacks 0) (quoted_texts entry) → All (Lacks 0) (further_texts entry)
+further_lack entry all =
+    let unformed = All-left (Lacks 0) _ entry.forms all in
+    All-append (Lacks 0) (option_to_list entry.plural) entry.forms
+    (All-right (Lacks 0) _ (option_to_list entry.plural) unformed) (All-right (Lacks 0) _ entry.forms all)
+
+some_further : (entry : TextEntry) → 0 < length entry.forms → 0 < length (further_texts entry)
+some_further entry some = omega (arith, some, length-append (option_to_list entry.plural) entry.forms)
+
+-- read by its row, what is laid out is the entry
+pub means : (start : ℕ) (entry : TextEntry) → CanLie entry → length (head_bytes entry) < 2 ^ 64
+    → entry_of (row_of start entry) (own_bytes entry) (head_bytes entry) ≡ entry
+means start entry can fits =
+    let key = key_bytes entry.context entry.id in
+    let further = further_texts entry in
+    let head = head_means entry fits in
+    let context : context_in (context_length entry.context) (own_bytes entry) ≡ entry.context =
+    context_found entry.context entry.id (flat_map after_nul further) in
+    let its_key : take (length key) (own_bytes entry) ≡ key = take-append_seam key (flat_map after_nul further) in
+    let id : drop (context_length entry.context) (take (length key) (own_bytes entry)) ≡ entry.id =
+    ap (drop (context_length entry.context)) its_key ∙ id_found entry.context entry.id in
+    let texts : texts_after (length key) (own_bytes entry) ≡ further =
+    texts_found key further (some_further entry can.some_form) (further_lack entry can.no_nul) in
+    let plural : plural_in (is_some entry.plural) (texts_after (length key) (own_bytes entry)) ≡ entry.plural =
+    ap (plural_in (is_some entry.plural)) texts ∙ plural_found entry.plural entry.forms in
+    let forms : forms_in (is_some entry.plural) (texts_after (length key) (own_bytes entry)) ≡ entry.forms =
+    ap (forms_in (is_some entry.plural)) texts ∙ forms_found entry.plural entry.forms in
+    let previous : previous_in (head_bytes entry) ≡ entry.previous = rw (head.context, head.id, head.plural) refl in
+    rw (head.comments, head.extracted, head.references, head.flags, previous, context, id, plural, forms) refl

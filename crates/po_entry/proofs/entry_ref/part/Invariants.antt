@@ -1,0 +1,7 @@
+use Rattle.std.proofs.Common.{◌≡◌, ◌+◌, ℕ, [], slice_index_or}
+use Rattle.po_entry.specs.TextLists.{texts_in}
+use Rattle.po_entry.proofs.entry_ref.part.Given as goal
+
+abbrev pub invariant-loop : goal.invariant-loop
+invariant-loop l =
+    (k : ℕ) → slice_index_or (texts_in l.head) (l.counter + k) [] ≡ slice_index_or (texts_in l.rest) k []

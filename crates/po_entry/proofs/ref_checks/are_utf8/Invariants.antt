@@ -1,0 +1,9 @@
+use Rattle.std.specs.Prelude.{All, IsUtf8}
+use Rattle.po_entry.specs.FormLists.{forms_left}
+use Rattle.po_entry.proofs.ref_checks.are_utf8.Given as goal
+
+abbrev pub invariant-loop-form : goal.invariant-loop-form
+invariant-loop-form l = record {
+  all : All IsUtf8 (forms_left l.form-iterator) → All IsUtf8 (forms_left l.fn.forms);
+  rest : All IsUtf8 (forms_left l.fn.forms) → All IsUtf8 (forms_left l.form-iterator);
+}

@@ -1,0 +1,37 @@
+use Rattle.std.proofs.Common.{◌≡◌, ◌<◌, ◌∙◌, sym, ap, length, map, set, subst, arith}
+use Rattle.std.specs.Prelude.{All}
+use Rattle.std.proofs.lemmas.List.{length-map}
+use Rattle.po_entry.specs.Rows.{LiesIn, changed_at, entry_at, set_fuzzy}
+use Rattle.po_entry.specs.Validity.{IsCatalogueEntry}
+use Rattle.po_entry.specs.declared.row.Row.{Row}
+use Rattle.po_entry.proofs.RowLemmas.{all_changed, all_set, fuzzy_lies, fuzzy_stands, written}
+use Rattle.po_entry.proofs.store.Store.set_fuzzy.Goals as goal
+
+pub invariant_of-self : goal.invariant_of-self
+invariant_of-self c =
+    let bytes = c.self.inside.bytes.items in
+    let rows = c.self.inside.rows.items in
+    let inside : c.args.index < length rows =
+    omega (arith, c.requires, ap length c.self.view_is, length-map rows (entry_at bytes)) in
+    let before = c.index_mut.result.now in
+    record {
+      lie = all_set (LiesIn bytes) rows c.args.index _ c.self.invariant.lie
+          (fuzzy_lies bytes before c.args.fuzzy
+          (subst (LiesIn bytes) (sym c.index_mut.ensures.value) (c.self.invariant.lie c.args.index before inside)));
+      valid = subst (All IsCatalogueEntry)
+          (sym (written bytes (set_fuzzy c.args.fuzzy) rows c.args.index _ inside before
+          (ap (λ (r : Row). set_fuzzy c.args.fuzzy (entry_at bytes r)) c.index_mut.ensures.value)))
+          (all_changed IsCatalogueEntry (set_fuzzy c.args.fuzzy) (fuzzy_stands c.args.fuzzy) c.args.index
+          (map (entry_at bytes) rows) c.self.invariant.valid);
+    }
+
+pub returns : goal.returns
+returns c =
+    let bytes = c.self.inside.bytes.items in
+    let rows = c.self.inside.rows.items in
+    let inside : c.args.index < length rows =
+    omega (arith, c.requires, ap length c.self.view_is, length-map rows (entry_at bytes)) in
+    let before = c.index_mut.result.now in
+    written bytes (set_fuzzy c.args.fuzzy) rows c.args.index _ inside before
+    (ap (λ (r : Row). set_fuzzy c.args.fuzzy (entry_at bytes r)) c.index_mut.ensures.value)
+    ∙ ap (changed_at (set_fuzzy c.args.fuzzy) c.args.index) c.self.view_is

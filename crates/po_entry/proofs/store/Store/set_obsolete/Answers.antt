@@ -1,0 +1,37 @@
+use Rattle.std.proofs.Common.{◌≡◌, ◌<◌, ◌∙◌, sym, ap, length, map, set, subst, arith}
+use Rattle.std.specs.Prelude.{All}
+use Rattle.std.proofs.lemmas.List.{length-map}
+use Rattle.po_entry.specs.Rows.{LiesIn, changed_at, entry_at, set_obsolete}
+use Rattle.po_entry.specs.Validity.{IsCatalogueEntry}
+use Rattle.po_entry.specs.declared.row.Row.{Row}
+use Rattle.po_entry.proofs.RowLemmas.{all_changed, all_set, obsolete_lies, obsolete_stands, written}
+use Rattle.po_entry.proofs.store.Store.set_obsolete.Goals as goal
+
+pub invariant_of-self : goal.invariant_of-self
+invariant_of-self c =
+    let bytes = c.self.inside.bytes.items in
+    let rows = c.self.inside.rows.items in
+    let inside : c.args.index < length rows =
+    omega (arith, c.requires, ap length c.self.view_is, length-map rows (entry_at bytes)) in
+    let before = c.index_mut.result.now in
+    record {
+      lie = all_set (LiesIn bytes) rows c.args.index _ c.self.invariant.lie
+          (obsolete_lies bytes before c.args.obsolete
+          (subst (LiesIn bytes) (sym c.index_mut.ensures.value) (c.self.invariant.lie c.args.index before inside)));
+      valid = subst (All IsCatalogueEntry)
+          (sym (written bytes (set_obsolete c.args.obsolete) rows c.args.index _ inside before
+          (ap (λ (r : Row). set_obsolete c.args.obsolete (entry_at bytes r)) c.index_mut.ensures.value)))
+          (all_changed IsCatalogueEntry (set_obsolete c.args.obsolete) (obsolete_stands c.args.obsolete) c.args.index
+          (map (entry_at bytes) rows) c.self.invariant.valid);
+    }
+
+pub returns : goal.returns
+returns c =
+    let bytes = c.self.inside.bytes.items in
+    let rows = c.self.inside.rows.items in
+    let inside : c.args.index < length rows =
+    omega (arith, c.requires, ap length c.self.view_is, length-map rows (entry_at bytes)) in
+    let before = c.index_mut.result.now in
+    written bytes (set_obsolete c.args.obsolete) rows c.args.index _ inside before
+    (ap (λ (r : Row). set_obsolete c.args.obsolete (entry_at bytes r)) c.index_mut.ensures.value)
+    ∙ ap (changed_at (set_obsolete c.args.obsolete) c.args.index) c.self.view_is

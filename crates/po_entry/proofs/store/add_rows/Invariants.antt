@@ -1,0 +1,10 @@
+use Rattle.std.proofs.Common.{◌≡◌, ◌+◌, ◌≤◌, ◌++◌, map, take, length}
+use Rattle.std.specs.Vec.{vec_capacity, vec_len}
+use Rattle.po_entry.specs.Rows.{moved}
+use Rattle.po_entry.proofs.store.add_rows.Given as goal
+
+abbrev pub invariant-loop-row : goal.invariant-loop-row
+invariant-loop-row l = record {
+  added : l.rows.items ≡ l.initial.rows.items ++ map (moved l.start) (take l.row-index l.more);
+  room : vec_len l.initial.rows + length l.more ≤ vec_capacity l.rows;
+}
