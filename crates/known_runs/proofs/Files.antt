@@ -1,0 +1,89 @@
+-- What a command comes to that writes a file.
+use Rattle.std.proofs.Common.{◌≡◌, ℕ, Bool, true, false, not, ◌&&◌, if◌then◌else◌, List, [], ◌∷◌, ◌++◌, is_some, Option, Some, None, Result, Ok, Err, codes, refl, sym, ap, ◌∙◌, subst, inl, inr}
+use Rattle.std.proofs.lemmas.Bool.{false≢true}
+use Rattle.std.specs.Option.{unwrap_or}
+use Rattle.runs.specs.ArgumentValues.{IsTextOr}
+use Rattle.runs.specs.Inputs.{AreInputs, Reading, gives, refuses, read, unread, done}
+use Rattle.runs.specs.NamedFile.{NamedFile}
+use Rattle.runs.specs.Outputs.{SystemView}
+use Rattle.runs.specs.ProgramFaults.{program_text}
+use Rattle.runs.specs.Run.{RunView, output_file, is_standard}
+use Rattle.runs.specs.ToolRuns as tools
+use Rattle.runs.specs.Inputs.{ReadsAs}
+use Rattle.runs.specs.declared.program_fault.ProgramFault.{ProgramFault}
+use Rattle.runs.specs.declared.program_fault.ProgramFault.TheVariants.{OutOfMemory}
+use Rattle.known_system.specs.Contents.{Contents, Leaves, IsFileFault, filed as filed_there, left, printed as printed_there}
+use Rattle.known_system.specs.Replay.{bytes_at}
+use Rattle.known_runs.specs.Ends.{End, end, EndsInFile, filed, printed, failed}
+
+module _ (IsRun : RunView → Type 0) (path : List ℕ) (named : is_standard path ≡ false)
+    (old new : Contents) (out : old.out ≡ []) (err : old.err ≡ []) where
+  abbrev was : Option (List ℕ)
+  was = bytes_at path old.held
+
+  abbrev now : Result ℕ ProgramFault → End
+  now result = end result (bytes_at path new.held) new.out new.err
+
+  ends : {result : Result ℕ ProgramFault} (file : Option (List ℕ)) (shown told : List ℕ)
+      → bytes_at path new.held ≡ file → new.out ≡ shown → new.err ≡ told
+      → EndsInFile IsRun path was (end result file shown told) → EndsInFile IsRun path was (now result)
+  ends file shown told f o e is = rw (f, o, e) is
+
+  after : {later before more : List ℕ} → before ≡ [] → later ≡ before ++ more → later ≡ more
+  after none same = same ∙ rw none refl
+
+  pub fails : (fault : ProgramFault) → IsFileFault path (program_text fault) → new ≡ old
+      → EndsInFile IsRun path was (now (Err fault))
+  fails fault why same =
+      ends was [] [] (ap (λ (c : Contents). bytes_at path c.held) same) (ap (λ (c : Contents). c.out) same ∙ out)
+      (ap (λ (c : Contents). c.err) same ∙ err) (failed why)
+
+  by_create : (run : RunView) (some : Bool) → run.create ≡ some → IsRun run → {result : Result ℕ ProgramFault}
+      → Leaves run path old new result → EndsInFile IsRun path was (now result)
+  by_create run some makes is (left {fault} names why same) = fails fault why same
+  by_create run false makes is (filed_there names at o e) =
+      let none : output_file run path ≡ None = rw makes refl in
+      absurd (false≢true (ap is_some (sym none ∙ names)))
+  by_create run false makes is (printed_there names same o e) =
+      ends was run.output run.messages (ap (bytes_at path) same) (after out o) (after err e) (printed is makes)
+  by_create run true makes is (filed_there {path = p} names at o e) =
+      let its : output_file run path ≡ Some path = rw (makes, named) refl in
+      let paths : Some p ≡ Some path = sym names ∙ its in
+      let there : p ≡ path = cc in
+      ends (Some run.output) [] run.messages (subst (λ q. bytes_at q new.held ≡ Some run.output) there at) (o ∙ out)
+      (after err e) (filed is makes)
+  by_create run true makes is (printed_there names same o e) =
+      let its : output_file run path ≡ Some path = rw (makes, named) refl in
+      absurd (false≢true (ap is_some (sym names ∙ its)))
+
+  pub run_ends : (run : RunView) → IsRun run → {result : Result ℕ ProgramFault}
+      → Leaves run path old new result → EndsInFile IsRun path was (now result)
+  run_ends run = by_create run run.create refl
+
+-- a tool of one input, whose text is known
+pub one_ends : (IsRun : NamedFile → RunView → Type 0) (text path : List ℕ) → is_standard path ≡ false
+    → (old new : Contents) → old.out ≡ [] → old.err ≡ [] → {before after : SystemView} (source : tools.Asking)
+    → (input : List ℕ) → is_standard input ≡ false
+    → ((reading : Reading) → source.file input reading → reading ≡ gives text)
+    → ((run : RunView) (result : Result ℕ ProgramFault) → tools.Writes run path before after result
+    → Leaves run path old new result)
+    → (after ≡ before → new ≡ old)
+    → {result : Result ℕ ProgramFault} → tools.RunsInput source IsRun input path before after result
+    → EndsInFile (IsRun (record { name = input; bytes = text })) path (bytes_at path old.held)
+    (end result (bytes_at path new.held) new.out new.err)
+one_ends IsRun text path named old new out err source input from_file is leaves same
+    (tools.runs_one {bytes} {run} {result} reads planned writes) =
+    let e : gives bytes ≡ gives text =
+    is _ (subst (λ b. ReadsAs source.file source.standard input b false (gives bytes)) from_file reads) in
+    let these : bytes ≡ text = cc in
+    run_ends (IsRun (record { name = input; bytes = text })) path named old new out err run
+    (subst (λ b. IsRun (record { name = input; bytes = b }) run) these
+    (subst (λ n. IsRun (record { name = n; bytes = bytes }) run) (rw from_file refl) planned))
+    (leaves run result writes)
+one_ends IsRun text path named old new out err source input from_file is leaves same (tools.unread fault unchanged) =
+    let e : refuses fault.why ≡ gives text =
+    is _ (subst (λ b. ReadsAs source.file source.standard input b false (refuses fault.why)) from_file fault.reads) in
+    cc
+one_ends IsRun text path named old new out err source input from_file is leaves same
+    (tools.out_of_memory seen unchanged) =
+    fails _ path named old new out err _ (inl refl) (same unchanged)

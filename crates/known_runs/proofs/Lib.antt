@@ -1,0 +1,5 @@
+pub mod Msgfmts
+pub mod Files
+pub mod Selections
+pub mod Merges
+pub mod AllCommands

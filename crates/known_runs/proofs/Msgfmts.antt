@@ -1,0 +1,172 @@
+-- What `msgfmt a.po -o a.mo` comes to.
+use Rattle.std.proofs.Common.{◌≡◌, ◌≢◌, ℕ, Bool, true, false, List, [], length, is_some, nat_lt, ◌∷◌, ◌++◌, Option, Some, None, Result, Ok, Err, codes, refl, sym, ap, ◌∙◌, subst, inl, inr, arith}
+use Rattle.std.proofs.lemmas.Bool.{false≢true, ltb-false, ltb-true}
+use Rattle.std.specs.Option.{unwrap_or}
+use Rattle.mo_file.specs.declared.byte_order.Order.TheVariants.{Little}
+use Rattle.msgfmt.specs.declared.options.MsgfmtOptions.{MsgfmtOptions}
+use Rattle.msgfmt.specs.Msgfmt.{IsMsgfmtRun, compile_options, compiled_run, join_line}
+use Rattle.msgfmt.specs.Options.{AreMsgfmtOptions, default_output, order_of}
+use Rattle.msgfmt.specs.WholeRun.{HaveNoRun, IsRunOf, RunsMsgfmt}
+use Rattle.po_compile.specs.Accepted.{IsCompileFault}
+use Rattle.po_compile.specs.Compiling.{IsCompilation}
+use Rattle.po_messages.specs.Joined.{joined_entries}
+use Rattle.po_compile.specs.declared.options.Compiled.{Compiled}
+use Rattle.po_compile.specs.declared.options.Options.{Options}
+use Rattle.runs.specs.ArgumentValues.{IsTextOr}
+use Rattle.runs.specs.Inputs.{AreInputs, Reading, gives, refuses, read, unread, done}
+use Rattle.runs.specs.NamedFile.{NamedFile}
+use Rattle.runs.specs.Outputs.{SystemView}
+use Rattle.runs.specs.ProgramFaults.{program_text}
+use Rattle.runs.specs.Run.{RunView, output_file, refusal}
+use Rattle.runs.specs.ToolRuns.{Asking, Writes, runs, has_none, no_memory_to_read, no_memory_to_plan}
+use Rattle.runs.specs.declared.program_fault.ProgramFault.{ProgramFault}
+use Rattle.known_system.specs.Contents.{Contents, contents, Holds, Leaves, IsFileFault, filed, left, printed}
+use Rattle.known_system.specs.Replay.{Place, bytes_at}
+use Rattle.known_system.specs.Source.{bytes_of, reading_of}
+use Rattle.known_runs.specs.Ends.{End, end}
+use Rattle.known_runs.specs.Msgfmt.{EndsMsgfmt, IsCompiledFrom, plain, compiled, empty, refused, failed}
+
+abbrev a_mo : Place → Option (List ℕ)
+a_mo place = bytes_at (codes "a.mo") place
+
+-- the only input is the text
+module _ (text : List ℕ) (file : List ℕ → Reading → Type 0) (standard : Reading → Type 0)
+    (is : (reading : Reading) → file (codes "a.po") reading → reading ≡ gives text) where
+  inputs_are : {inputs : List NamedFile} {fault : Option (List ℕ)}
+      → AreInputs file standard false (codes "a.po" ∷ []) inputs fault
+      → (inputs ≡ record { name = codes "a.po"; bytes = text } ∷ []) × (fault ≡ None)
+  inputs_are (read {bytes} reads done) =
+      let e : gives bytes ≡ gives text = is _ reads in
+      let same : bytes ≡ text = cc in
+      (ap (λ b. record { name = codes "a.po"; bytes = b } ∷ []) same, refl)
+  inputs_are (unread why reads) = let e : refuses why ≡ gives text = is _ reads in cc
+
+both : {x : Bool} → x ≡ true → x ≡ false → ⊥
+both p q = false≢true (sym q ∙ p)
+
+-- an input that was read has a run
+run_there : (o : MsgfmtOptions) (text says : List ℕ)
+    → HaveNoRun o (record { name = codes "a.po"; bytes = text } ∷ []) None says → ⊥
+run_there o text says (inl (wrong, inl none)) = omega (arith, ap length none.0)
+run_there o text says (inl (wrong, inr many)) = omega (arith, many)
+run_there o text says (inr (other, none)) = false≢true (ap is_some other)
+
+-- the options of a command line without any
+pub record ArePlain (o : MsgfmtOptions) : Type 0 where
+  pub options : compile_options o ≡ plain
+  pub check : o.profile_check ≡ false
+  pub statistics : o.statistics ≡ false
+
+-- what the system holds at first, and what it holds at the end
+module _ (text : List ℕ) (old new : Contents) (out : old.out ≡ []) (err : old.err ≡ []) where
+  abbrev now : Result ℕ ProgramFault → End
+  now result = end result (a_mo new.held) new.out new.err
+
+  ends : {result : Result ℕ ProgramFault} (file : Option (List ℕ)) (told : List ℕ) → a_mo new.held ≡ file → new.out ≡ []
+      → new.err ≡ told → EndsMsgfmt text (a_mo old.held) (end result file [] told)
+      → EndsMsgfmt text (a_mo old.held) (now result)
+  ends file told f o e is = rw (f, o, e) is
+
+  same_out : new.out ≡ old.out → new.out ≡ []
+  same_out same = same ∙ out
+
+  told : {messages : List ℕ} → new.err ≡ old.err ++ messages → new.err ≡ messages
+  told same = same ∙ rw err refl
+
+  fails : (fault : ProgramFault) → IsFileFault (codes "a.mo") (program_text fault) → new ≡ old
+      → EndsMsgfmt text (a_mo old.held) (now (Err fault))
+  fails fault why same =
+      ends (a_mo old.held) [] (ap (λ (c : Contents). a_mo c.held) same) (same_out (ap (λ (c : Contents). c.out) same))
+      (ap (λ (c : Contents). c.err) same ∙ err) (failed why)
+
+  -- the text isn't compiled
+  refusal_ends : (messages : List ℕ) {result : Result ℕ ProgramFault}
+      → EndsMsgfmt text (a_mo old.held) (end (Ok 1) (a_mo old.held) [] messages)
+      → Leaves (refusal messages) (codes "a.mo") old new result → EndsMsgfmt text (a_mo old.held) (now result)
+  refusal_ends messages is (filed names at o e) = cc
+  refusal_ends messages is (printed names same o e) =
+      ends (a_mo old.held) messages (ap a_mo same) (o ∙ rw out refl) (told e) is
+  refusal_ends messages is (left {fault} names why same) = fails fault why same
+
+  -- it is
+  compiled_ends : (o : MsgfmtOptions) → o.statistics ≡ false → (c : Compiled) (some : Bool) → nat_lt 0 c.n ≡ some
+      → IsCompiledFrom text c → {result : Result ℕ ProgramFault}
+      → Leaves (compiled_run o c) (codes "a.mo") old new result → EndsMsgfmt text (a_mo old.held) (now result)
+  compiled_ends o quiet c some none is (left {fault} names why same) = fails fault why same
+  compiled_ends o quiet c false none is (filed names at out_is e) =
+      let no_output : output_file (compiled_run o c) (codes "a.mo") ≡ None = rw none refl in
+      absurd (false≢true (ap is_some (sym no_output ∙ names)))
+  compiled_ends o quiet c false none is (printed names same out_is e) =
+      let nothing : (compiled_run o c).output ≡ [] = rw none refl in
+      let silent : (compiled_run o c).messages ≡ [] = rw quiet refl in
+      ends (a_mo old.held) [] (ap a_mo same) (out_is ∙ rw (out, nothing) refl) (told e ∙ silent)
+      (empty is (omega (arith, ltb-false 0 c.n none)))
+  compiled_ends o quiet c true some is (filed {path = p} names at out_is e) =
+      let its_output : output_file (compiled_run o c) (codes "a.mo") ≡ Some (codes "a.mo") = rw some refl in
+      let paths : Some p ≡ Some (codes "a.mo") = sym names ∙ its_output in
+      let there : p ≡ codes "a.mo" = cc in
+      let all : (compiled_run o c).output ≡ c.bytes.items = rw some refl in
+      let silent : (compiled_run o c).messages ≡ [] = rw quiet refl in
+      let held : bytes_at (codes "a.mo") new.held ≡ Some (compiled_run o c).output =
+      subst (λ q. bytes_at q new.held ≡ Some (compiled_run o c).output) there at in
+      ends (Some c.bytes.items) [] (held ∙ ap Some all)
+      (same_out out_is) (told e ∙ silent) (compiled is (omega (arith, ltb-true 0 c.n some)))
+  compiled_ends o quiet c true some is (printed names same out_is e) =
+      let its_output : output_file (compiled_run o c) (codes "a.mo") ≡ Some (codes "a.mo") = rw some refl in
+      absurd (false≢true (ap is_some (sym names ∙ its_output)))
+
+  run_ends : (o : MsgfmtOptions) → ArePlain o → (run : RunView)
+      → IsMsgfmtRun (record { name = codes "a.po"; bytes = text } ∷ []) o run
+      → {result : Result ℕ ProgramFault} → Leaves run (codes "a.mo") old new result
+      → EndsMsgfmt text (a_mo old.held) (now result)
+  run_ends o are run (inl r) {result} leaves =
+      refusal_ends (join_line (codes "a.po" ∷ []) r.error)
+      (refused (subst (λ p. IsCompileFault p (text ∷ []) r.error) are.options r.fault) r.not_memory)
+      (subst (λ (v : RunView). Leaves v (codes "a.mo") old new result) r.run_is leaves)
+  run_ends o are run (inr (inl r)) leaves = absurd (both r.asked are.check)
+  run_ends o are run (inr (inr r)) {result} leaves =
+      compiled_ends o are.statistics r.compiled (nat_lt 0 r.compiled.n) refl
+      (record {
+        catalogues = r.catalogues;
+        read = r.read;
+        is =
+            subst (λ p. IsCompilation p (joined_entries r.catalogues) r.compiled) are.options r.is_compiled;
+      })
+      (subst (λ (v : RunView). Leaves v (codes "a.mo") old new result) r.run_is leaves)
+
+  module _ {before after : SystemView} (source : Asking)
+      (is : (reading : Reading) → source.file (codes "a.po") reading → reading ≡ gives text)
+      (leaves : (run : RunView) (result : Result ℕ ProgramFault) → Writes run (codes "a.mo") before after result
+      → Leaves run (codes "a.mo") old new result)
+      (same : after ≡ before → new ≡ old) where
+    all_end : (o : MsgfmtOptions) → ArePlain o → {result : Result ℕ ProgramFault}
+        → RunsMsgfmt source o (codes "a.po" ∷ []) (codes "a.mo") before after result
+        → EndsMsgfmt text (a_mo old.held) (now result)
+    all_end o are {result} (runs {inputs} {unread} {run} reads planned writes) =
+        let these = inputs_are text source.file source.standard is reads.are in
+        run_ends o are run
+        (subst (λ i. IsMsgfmtRun i o run) these.0 (subst (λ u. IsRunOf o inputs u run) these.1 planned).1)
+        (leaves run result writes)
+    all_end o are (has_none {inputs} {unread} {fault} reads none unchanged) =
+        let these = inputs_are text source.file source.standard is reads.are in
+        absurd (run_there o text (program_text fault)
+        (subst (λ i. HaveNoRun o i None (program_text fault)) these.0
+        (subst (λ u. HaveNoRun o inputs u (program_text fault)) these.1 none)))
+    all_end o are (no_memory_to_read asks possible unchanged) = fails _ (inl refl) (same unchanged)
+    all_end o are (no_memory_to_plan reads nothing_read unchanged) = fails _ (inl refl) (same unchanged)
+
+    -- by the words of the command line
+    pub line_ends : (o : MsgfmtOptions) (given : List ℕ → Option (List ℕ)) → given (codes "endianness") ≡ None
+        → given (codes "output-file") ≡ Some (codes "a.mo")
+        → AreMsgfmtOptions (λ name flag. flag ≡ false) (λ name t. t ≡ given name) o
+        → (arguments : List (List ℕ)) (output : List ℕ) → arguments ≡ codes "a.po" ∷ []
+        → IsTextOr (λ name t. t ≡ given name) (codes "output-file") default_output output
+        → {result : Result ℕ ProgramFault} → RunsMsgfmt source o arguments output before after result
+        → EndsMsgfmt text (a_mo old.held) (now result)
+    line_ends o given no_order to are arguments output files goes {result} ran =
+        let order_is : o.order ≡ Little = are.order.order_is ∙ ap order_of (are.order.name_is ∙ no_order) in
+        let options : compile_options o ≡ plain = rw (are.use_fuzzy, order_is) refl in
+        let there : output ≡ codes "a.mo" = goes.value_is ∙ ap (λ t. unwrap_or t default_output) (goes.given_is ∙ to) in
+        all_end o (record { options = options; check = are.profile_check; statistics = are.statistics })
+        (subst (λ t. RunsMsgfmt source o (codes "a.po" ∷ []) t before after result) there
+        (subst (λ a. RunsMsgfmt source o a output before after result) files ran))

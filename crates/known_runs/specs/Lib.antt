@@ -1,0 +1,5 @@
+pub mod Words
+pub mod InMemory
+pub mod Ends
+pub mod Msgfmt
+pub mod Plain

@@ -1,0 +1,40 @@
+-- What `msgfmt a.po -o a.mo` comes to (manual, "Invoking the msgfmt Program").
+use Rattle.std.specs.Prelude.{◌≡◌, ◌≢◌, ◌<◌, ℕ, List, [], ◌∷◌, Option, Some, Ok, Err, codes, false}
+use Rattle.mo_file.specs.declared.byte_order.Order.TheVariants.{Little}
+use Rattle.msgfmt.specs.Msgfmt.{join_line}
+use Rattle.po_compile.specs.Accepted.{AreRead, IsCompileFault}
+use Rattle.po_compile.specs.Compiling.{IsCompilation}
+use Rattle.po_compile.specs.declared.options.Compiled.{Compiled}
+use Rattle.po_compile.specs.declared.options.Options.{Options}
+use Rattle.po_entry.specs.TextEntry.{TextEntry}
+use Rattle.po_messages.specs.Joined.{joined_entries}
+use Rattle.po_messages.specs.declared.duplicate.JoinError.{JoinError}
+use Rattle.po_syntax.specs.declared.fault.PoFault.TheVariants.{OutOfMemory}
+use Rattle.runs.specs.ProgramFaults.{program_text}
+use Rattle.runs.specs.declared.program_fault.ProgramFault.{ProgramFault}
+use Rattle.known_system.specs.Contents.{IsFileFault}
+use Rattle.known_runs.specs.Ends.{End, end}
+
+-- the options of a command line without any
+abbrev pub plain : Options
+plain = record { use_fuzzy = false; order = Little }
+
+-- the compiled file of a text
+pub record IsCompiledFrom (text : List ℕ) (compiled : Compiled) : Type 0 where
+  pub catalogues : List (List TextEntry)
+  pub read : AreRead (text ∷ []) catalogues
+  pub is : IsCompilation plain (joined_entries catalogues) compiled
+
+-- what it comes to, by the text of `a.po` and what `a.mo` was before
+pub data EndsMsgfmt (text : List ℕ) (old : Option (List ℕ)) : End → Type 0 where
+  -- `a.mo` is the compiled file of the text, and nothing is told
+  compiled : {made : Compiled} → IsCompiledFrom text made → 0 < made.n
+      → EndsMsgfmt text old (end (Ok 0) (Some made.bytes.items) [] [])
+  -- the text has no message to compile: `a.mo` is as it was
+  empty : {made : Compiled} → IsCompiledFrom text made → made.n ≡ 0 → EndsMsgfmt text old (end (Ok 0) old [] [])
+  -- the text isn't compiled: `a.mo` is as it was, and the line of its first fault is told
+  refused : {error : JoinError} → IsCompileFault plain (text ∷ []) error → error.error.kind ≢ OutOfMemory
+      → EndsMsgfmt text old (end (Ok 1) old [] (join_line (codes "a.po" ∷ []) error))
+  -- memory or the folder is too small: `a.mo` is as it was, and nothing is told
+  failed : {fault : ProgramFault} → IsFileFault (codes "a.mo") (program_text fault)
+      → EndsMsgfmt text old (end (Err fault) old [] [])

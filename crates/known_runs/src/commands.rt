@@ -1,0 +1,163 @@
+//! Commands that make a file.
+ghost use Rattle.std.specs.Prelude.{◌≡◌, [], codes, Err, option_map};
+ghost use Rattle.known_runs.specs.Ends.{EndsInFile, end_of};
+ghost use Rattle.known_runs.specs.Msgfmt.{EndsMsgfmt};
+ghost use Rattle.known_runs.specs.Plain.{all_as_they_are, all_messages, two_files};
+ghost use Rattle.msgattrib.specs.Msgattrib.{IsMsgattribRun};
+ghost use Rattle.msgcat.specs.Msgcat.{IsMsgcatRun};
+ghost use Rattle.msgunfmt.specs.Msgunfmt.{IsMsgunfmtRunOf};
+
+use crate::in_memory::{Ended, run_in_memory};
+use crate::words::Words;
+use known_system::laws::{run_leaves_all_or_nothing, same_system_holds_the_same};
+use known_system::{KnownFiles, KnownSource, Named, Told};
+use runs::{ProgramFault, Tool};
+use std::alloc::Global;
+
+/// The words of `msgfmt a.po -o a.mo`.
+static MSGFMT: Words<'static> = Words {
+    operands: &["a.po"],
+    output: Some("a.mo"),
+};
+
+/// Runs `msgfmt a.po -o a.mo`, where `a.po` has this text and `a.mo` holds these bytes, or isn't
+/// there.
+pub fn msgfmt_in_memory(alloc: Global, text: &[u8], held: Option<Vec<u8>>) -> Ended
+    ensures { EndsMsgfmt text.now (option_map (λ bytes. bytes.items) held) (end_of result) }
+{
+    let Ok(path) = String::from_str(alloc, "a.mo") else {
+        return unstarted(alloc, held);
+    };
+    run_leaves_all_or_nothing();
+    same_system_holds_the_same();
+    let files = [Named {
+        name: "a.po",
+        bytes: text,
+    }];
+    let mut source = KnownSource::new(&files);
+    let held = KnownFiles::holding(alloc, path, held);
+    let (result, reached) = run_in_memory(alloc, Tool::Msgfmt, &mut source, held, &MSGFMT);
+    Ended {
+        result,
+        file: reached.files.into_bytes("a.mo"),
+        out: reached.out,
+        err: reached.err,
+    }
+}
+
+/// The words of `msgattrib a.po -o b.po`.
+static MSGATTRIB: Words<'static> = Words {
+    operands: &["a.po"],
+    output: Some("b.po"),
+};
+
+/// Runs `msgattrib a.po -o b.po`, where `a.po` has this text and `b.po` holds these bytes, or isn't
+/// there.
+pub fn msgattrib_in_memory(alloc: Global, text: &[u8], held: Option<Vec<u8>>) -> Ended
+    ensures { EndsInFile (IsMsgattribRun (codes "a.po") all_as_they_are text.now) (codes "b.po")
+        (option_map (λ bytes. bytes.items) held) (end_of result) }
+{
+    let Ok(path) = String::from_str(alloc, "b.po") else {
+        return unstarted(alloc, held);
+    };
+    run_leaves_all_or_nothing();
+    same_system_holds_the_same();
+    let files = [Named {
+        name: "a.po",
+        bytes: text,
+    }];
+    let mut source = KnownSource::new(&files);
+    let held = KnownFiles::holding(alloc, path, held);
+    let (result, reached) = run_in_memory(alloc, Tool::Msgattrib, &mut source, held, &MSGATTRIB);
+    Ended {
+        result,
+        file: reached.files.into_bytes("b.po"),
+        out: reached.out,
+        err: reached.err,
+    }
+}
+
+/// The words of `msgunfmt a.mo -o a.po`.
+static MSGUNFMT: Words<'static> = Words {
+    operands: &["a.mo"],
+    output: Some("a.po"),
+};
+
+/// Runs `msgunfmt a.mo -o a.po`, where `a.mo` has these bytes and `a.po` holds these, or isn't
+/// there.
+pub fn msgunfmt_in_memory(alloc: Global, bytes: &[u8], held: Option<Vec<u8>>) -> Ended
+    ensures { EndsInFile (IsMsgunfmtRunOf (codes "a.mo") bytes.now) (codes "a.po")
+        (option_map (λ bytes. bytes.items) held) (end_of result) }
+{
+    let Ok(path) = String::from_str(alloc, "a.po") else {
+        return unstarted(alloc, held);
+    };
+    run_leaves_all_or_nothing();
+    same_system_holds_the_same();
+    let files = [Named {
+        name: "a.mo",
+        bytes,
+    }];
+    let mut source = KnownSource::new(&files);
+    let held = KnownFiles::holding(alloc, path, held);
+    let (result, reached) = run_in_memory(alloc, Tool::Msgunfmt, &mut source, held, &MSGUNFMT);
+    Ended {
+        result,
+        file: reached.files.into_bytes("a.po"),
+        out: reached.out,
+        err: reached.err,
+    }
+}
+
+/// The words of `msgcat a.po b.po -o c.po`.
+static MSGCAT: Words<'static> = Words {
+    operands: &["a.po", "b.po"],
+    output: Some("c.po"),
+};
+
+/// Runs `msgcat a.po b.po -o c.po`, where `a.po` and `b.po` have these texts and `c.po` holds these
+/// bytes, or isn't there.
+pub fn msgcat_in_memory(alloc: Global, a: &[u8], b: &[u8], held: Option<Vec<u8>>) -> Ended
+    ensures { EndsInFile (IsMsgcatRun (two_files a.now b.now) all_messages) (codes "c.po")
+        (option_map (λ bytes. bytes.items) held) (end_of result) }
+{
+    let Ok(path) = String::from_str(alloc, "c.po") else {
+        return unstarted(alloc, held);
+    };
+    run_leaves_all_or_nothing();
+    same_system_holds_the_same();
+    let files = [
+        Named {
+            name: "a.po",
+            bytes: a,
+        },
+        Named {
+            name: "b.po",
+            bytes: b,
+        },
+    ];
+    let mut source = KnownSource::new(&files);
+    let held = KnownFiles::holding(alloc, path, held);
+    let (result, reached) = run_in_memory(alloc, Tool::Msgcat, &mut source, held, &MSGCAT);
+    Ended {
+        result,
+        file: reached.files.into_bytes("c.po"),
+        out: reached.out,
+        err: reached.err,
+    }
+}
+
+/// The end of a command for which there is no memory at all.
+fn unstarted(alloc: Global, file: Option<Vec<u8>>) -> Ended
+    ensures result { result.result ≡ Err ProgramFault.OutOfMemory }
+    ensures file { result.file ≡ file }
+    ensures out { result.out.said.bytes ≡ [] }
+    ensures err { result.err.said.bytes ≡ [] }
+{
+    Ended {
+        result: Err(ProgramFault::OutOfMemory),
+        file,
+        out: Told::new(alloc),
+        err: Told::new(alloc),
+    }
+}

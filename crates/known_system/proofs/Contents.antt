@@ -1,0 +1,126 @@
+-- What writing a run leaves in a known system.
+use Rattle.std.proofs.Common.{◌≡◌, ℕ, ◌+◌, List, [], ◌++◌, Option, Some, None, Result, Ok, Err, codes, option_and_then, refl, sym, ap, ◌∙◌, subst, inl, inr, arith}
+use Rattle.std.specs.Io.KnownBytes.{Appends}
+use Rattle.runs.specs.FileCalls.{FileCall, calls_of, logged}
+use Rattle.runs.specs.Outputs.{IsCutShort, IsOutputFault, MakesFile, OutputIs, SystemView, Takes, WriterView, WritesRun, cut, delivered, made, output_fault_text, to_file, unmade, unreported, writer}
+use Rattle.runs.specs.ProgramFaults.{program_text}
+use Rattle.runs.specs.Run.{RunView, output_file}
+use Rattle.runs.specs.ToolRuns.{Writes, unwritten, written}
+use Rattle.runs.specs.declared.output_files.OutputFault.{OutputFault}
+use Rattle.runs.specs.declared.output_files.OutputFault.TheVariants.{CannotCreate, WriteFault, OutOfMemory}
+use Rattle.runs.specs.declared.program_fault.ProgramFault.{ProgramFault}
+use Rattle.known_system.specs.Contents.{Contents, contents, Holds, IsFileFault, Leaves, filed, left, printed}
+use Rattle.known_system.specs.Left.{Left, whole, kept}
+use Rattle.known_system.specs.Replay.{Folder, Place, bytes_at, nothing, replay}
+use Rattle.known_system.proofs.Lefts.{left_by}
+use Rattle.known_system.proofs.Replays.{replay_all}
+
+fault_is : (argument : List ℕ) (why : OutputFault) → IsFileFault argument (output_fault_text argument why)
+fault_is argument CannotCreate = inr (inl refl)
+fault_is argument WriteFault = inr (inr refl)
+fault_is argument OutOfMemory = inl refl
+
+never : (n m : ℕ) → n ≡ m + 1 → n ≡ 0 → ⊥
+never n m p q = omega (arith, p, q)
+
+-- a writer took these bytes
+told : (before after : WriterView) (old new bytes : List ℕ) → before ≡ writer (Some old) 0 → after ≡ writer (Some new) 0
+    → Takes before after bytes → new ≡ old ++ bytes
+told before after old new bytes was is takes =
+    let b : before.bytes ≡ Some old = ap (λ (v : WriterView). v.bytes) was in
+    let a : after.bytes ≡ Some new = ap (λ (v : WriterView). v.bytes) is in
+    let e : Appends (Some old) (Some new) bytes =
+    subst (λ x. Appends x (Some new) bytes) b (subst (λ x. Appends before.bytes x bytes) a takes.all) in e
+
+same_writer : (before after : WriterView) (old new : List ℕ) → before ≡ writer (Some old) 0
+    → after ≡ writer (Some new) 0
+    → after ≡ before → new ≡ old
+same_writer before after old new was is same =
+    let e : Some new ≡ Some old = ap (λ (v : WriterView). v.bytes) (sym is ∙ same ∙ was) in cc
+
+alike : {h h' : Place} {o o' e e' : List ℕ} → h ≡ h' → o ≡ o' → e ≡ e' → contents h o e ≡ contents h' o' e'
+alike h o e = rw (h, o, e) refl
+
+module _ {before after : SystemView} {old new : Contents} (was : Holds before old) (is : Holds after new) where
+  same_files : after.files ≡ before.files → new.held ≡ old.held
+  same_files same =
+      let d : Some is.calls ≡ Some was.calls = sym is.files_are ∙ same ∙ was.files_are in
+      let e : is.calls ≡ was.calls = cc in
+      let f : Some (new.held, is.fresh) ≡ Some (old.held, was.fresh) =
+      sym is.held_is ∙ ap (λ c. replay c nothing) e ∙ was.held_is in
+      let g : (new.held, is.fresh) ≡ (old.held, was.fresh) = cc in ap (λ (t : Folder). t.0) g
+
+  same_out : after.out ≡ before.out → new.out ≡ old.out
+  same_out = same_writer before.out after.out old.out new.out was.out_is is.out_is
+
+  same_err : after.err ≡ before.err → new.err ≡ old.err
+  same_err = same_writer before.err after.err old.err new.err was.err_is is.err_is
+
+  all_same : new.held ≡ old.held → new.out ≡ old.out → new.err ≡ old.err → new ≡ old
+  all_same h o e = alike h o e
+
+  pub unchanged : after ≡ before → new ≡ old
+  unchanged same = all_same (same_files (ap (λ (v : SystemView). v.files) same))
+      (same_out (ap (λ (v : SystemView). v.out) same)) (same_err (ap (λ (v : SystemView). v.err) same))
+
+  quiet_out : after.out.failures ≡ 0
+  quiet_out = ap (λ (v : WriterView). v.failures) is.out_is
+
+  quiet_err : after.err.failures ≡ 0
+  quiet_err = ap (λ (v : WriterView). v.failures) is.err_is
+
+  file_left : (run : RunView) (path : List ℕ) {why : Option OutputFault} → OutputIs run path before after why
+      → Left run.output path (old.held, was.fresh) (new.held, is.fresh) why
+  file_left run path output =
+      let more = calls_of output.course in
+      let e : Some is.calls ≡ Some (was.calls ++ more) =
+      sym is.files_are ∙ output.log ∙ ap (logged more) was.files_are in
+      let f : is.calls ≡ was.calls ++ more = cc in
+      let g : option_and_then (replay more) (Some (old.held, was.fresh)) ≡ Some (new.held, is.fresh) =
+      sym (replay_all was.calls more nothing ∙ ap (option_and_then (replay more)) was.held_is)
+      ∙ ap (λ c. replay c nothing) (sym f) ∙ is.held_is in
+      subst (Left run.output path (old.held, was.fresh) (new.held, is.fresh)) (sym output.fault_is)
+      (left_by (old.held, was.fresh) (new.held, is.fresh) output.is g)
+
+  whole_by : {output path : List ℕ} → Left output path (old.held, was.fresh) (new.held, is.fresh) None
+      → bytes_at path new.held ≡ Some output
+  whole_by (whole at) = at
+
+  kept_by : {output path : List ℕ} {why : OutputFault}
+      → Left output path (old.held, was.fresh) (new.held, is.fresh) (Some why) → new.held ≡ old.held
+  kept_by (kept same) = same
+
+  makes : (run : RunView) (argument : List ℕ) {path : List ℕ} → output_file run argument ≡ Some path
+      → new.out ≡ old.out → MakesFile run path before after None → Leaves run argument old new (Ok run.status)
+  makes run argument {path} names out (made output messages) =
+      filed names (whole_by (file_left run path output)) out
+      (told before.err after.err old.err new.err run.messages was.err_is is.err_is messages)
+
+  makes_none : (run : RunView) (path : List ℕ) {why : OutputFault} → new.out ≡ old.out
+      → MakesFile run path before after (Some why) → new ≡ old
+  makes_none run path out (unreported output messages) = absurd (never _ _ messages.failure quiet_err)
+  makes_none run path out (unmade output same) = all_same (kept_by (file_left run path output)) out (same_err same)
+
+  written_leaves : (run : RunView) (argument : List ℕ) (file : Option (List ℕ)) → output_file run argument ≡ file
+      → WritesRun run before after file None → Leaves run argument old new (Ok run.status)
+  written_leaves run argument None names (delivered same output messages) =
+      printed names (same_files same)
+      (told before.out after.out old.out new.out run.output was.out_is is.out_is output)
+      (told before.err after.err old.err new.err run.messages was.err_is is.err_is messages)
+  written_leaves run argument (Some path) names (to_file same file_made) =
+      makes run argument names (same_out same) file_made
+
+  unwritten_leaves : (run : RunView) (argument : List ℕ) (file : Option (List ℕ)) → output_file run argument ≡ file
+      → {why : OutputFault} → WritesRun run before after file (Some why) → {fault : ProgramFault}
+      → IsFileFault argument (program_text fault) → Leaves run argument old new (Err fault)
+  unwritten_leaves run argument None names (cut same part) wrong =
+      absurd (never _ _ part.failure (rw (quiet_out, quiet_err) refl))
+  unwritten_leaves run argument (Some path) names (to_file same file_made) wrong =
+      left names wrong (makes_none run path (same_out same) file_made)
+
+  pub leaves : (run : RunView) (argument : List ℕ) {result : Result ℕ ProgramFault}
+      → Writes run argument before after result → Leaves run argument old new result
+  leaves run argument (written writes) = written_leaves run argument _ refl writes
+  leaves run argument (unwritten fault) =
+      unwritten_leaves run argument _ refl fault.writes
+      (subst (IsFileFault argument) (sym fault.text_is) (fault_is argument fault.why))

@@ -1,0 +1,4 @@
+pub mod Walks
+pub mod Replays
+pub mod Lefts
+pub mod Contents

@@ -1,0 +1,7 @@
+use Rattle.std.proofs.Common.{◌≡◌, map, take}
+use Rattle.known_system.specs.Source.{entry_texts}
+use Rattle.known_system.proofs.source.KnownSourceEntrySource.read_entries.Given as goal
+
+abbrev pub invariant-loop-entry : goal.invariant-loop-entry
+invariant-loop-entry l =
+    map (λ entry. entry.items) l.entries.items ≡ entry_texts (take l.entry-index l.entry-items)

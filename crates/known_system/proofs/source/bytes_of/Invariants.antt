@@ -1,0 +1,7 @@
+use Rattle.std.proofs.Common.{◌≡◌, drop}
+use Rattle.known_system.specs.Source.{bytes_of, texts_by_name}
+use Rattle.known_system.proofs.source.bytes_of.Given as goal
+
+abbrev pub invariant-loop-one : goal.invariant-loop-one
+invariant-loop-one l =
+    bytes_of (texts_by_name (drop l.one-index l.all)) l.name ≡ bytes_of (texts_by_name l.all) l.name

@@ -1,0 +1,9 @@
+pub mod CallCode
+pub mod Noted
+pub mod Replay
+pub mod Stored
+pub mod Left
+pub mod Contents
+pub mod Source
+pub mod AskedCode
+pub mod Questioned

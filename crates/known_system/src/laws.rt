@@ -1,0 +1,32 @@
+//! Laws of a known system. Each function does nothing; calling it gives its clause.
+ghost use Rattle.std.specs.Prelude.{◌≡◌, ℕ, List, Some, Result};
+ghost use Rattle.known_system.specs.Contents.{Contents, Holds, Leaves};
+ghost use Rattle.known_system.specs.Left.{Left};
+ghost use Rattle.known_system.specs.Replay.{Folder, replay};
+ghost use Rattle.runs.specs.FileCalls.{Course, calls_of, fault_of};
+ghost use Rattle.runs.specs.OutputFiles.{WritesFile};
+ghost use Rattle.runs.specs.Outputs.{SystemView};
+ghost use Rattle.runs.specs.Run.{RunView};
+ghost use Rattle.runs.specs.ToolRuns.{Writes};
+ghost use Rattle.runs.specs.declared.program_fault.ProgramFault.{ProgramFault};
+
+/// The calls by which an output is made leave all of it at its path, or the file that was there.
+pub fn output_is_whole_or_as_it_was()
+    ensures { (output path : List ℕ) (links : ℕ) (course : Course) (old new : Folder)
+        → WritesFile output links path course → replay (calls_of course) old ≡ Some new
+        → Left output path old new (fault_of course) }
+{}
+
+/// A run that is written leaves its output and its messages where they belong. One that isn't
+/// leaves everything as it was.
+pub fn run_leaves_all_or_nothing()
+    ensures { (run : RunView) (argument : List ℕ) (before after : SystemView) (old new : Contents)
+        (result : Result ℕ ProgramFault) → Holds before old → Holds after new
+        → Writes run argument before after result → Leaves run argument old new result }
+{}
+
+/// Where a system is as it was, so is what it holds.
+pub fn same_system_holds_the_same()
+    ensures { (before after : SystemView) (old new : Contents) → Holds before old → Holds after new
+        → after ≡ before → new ≡ old }
+{}

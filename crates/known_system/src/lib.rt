@@ -1,0 +1,18 @@
+//! A system in memory whose contents are known: its calls, its files and its inputs, for theorems
+//! about whole commands and for tests.
+
+#![tactic(auto)]
+
+mod files;
+mod history;
+pub mod laws;
+mod questions;
+mod source;
+mod stored;
+mod told;
+
+pub use files::KnownFiles;
+pub use history::{History, Note};
+pub use questions::{Question, Questions};
+pub use source::{KnownSource, Named};
+pub use told::{Piece, Said, Told};

@@ -1,0 +1,66 @@
+//! A file in memory, with its path.
+ghost use Rattle.std.specs.Prelude.{◌≡◌, ◌↔◌, IsTrue};
+ghost use Rattle.std.specs.String.{string_bytes};
+ghost use Rattle.known_system.specs.Replay.{is_at, is_free, unless_at, with_path, with_bytes};
+ghost use Rattle.known_system.specs.Stored.{stored};
+
+/// A file in memory, with its path.
+#[derive(Drop)]
+pub(crate) struct Stored {
+    pub(crate) path: String,
+    pub(crate) bytes: Vec<u8>,
+}
+
+/// Whether a file is there, and at this path.
+pub(crate) fn is_at(file: &Option<Stored>, path: &str) -> bool
+    ensures { result ≡ is_at (stored file.now) path.now }
+{
+    match file {
+        Some(file) => file.path.as_str() == path,
+        None => false,
+    }
+}
+
+/// Whether no file is there, or one at this path.
+pub(crate) fn is_free(file: &Option<Stored>, path: &str) -> bool
+    ensures { result ≡ is_free (stored file.now) path.now }
+{
+    match file {
+        Some(file) => file.path.as_str() == path,
+        None => true,
+    }
+}
+
+/// The file, unless it is at this path.
+pub(crate) fn unless_at(file: Option<Stored>, path: &str) -> Option<Stored>
+    ensures { stored result ≡ unless_at path.now (stored file) }
+{
+    let file = file?;
+    if file.path.as_str() == path {
+        None
+    } else {
+        Some(file)
+    }
+}
+
+/// The file with another path.
+pub(crate) fn with_path(file: Option<Stored>, path: String) -> Option<Stored>
+    ensures { stored result ≡ with_path (string_bytes path) (stored file) }
+{
+    let file = file?;
+    Some(Stored {
+        path,
+        bytes: file.bytes,
+    })
+}
+
+/// The file with other bytes.
+pub(crate) fn with_bytes(file: Option<Stored>, bytes: Vec<u8>) -> Option<Stored>
+    ensures { stored result ≡ with_bytes bytes.items (stored file) }
+{
+    let file = file?;
+    Some(Stored {
+        path: file.path,
+        bytes,
+    })
+}
