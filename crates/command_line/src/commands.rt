@@ -257,8 +257,8 @@ fn parts_of(tool: Tool) -> (Help, &'static [Argument])
     }
 }
 
-/// A command with what its help says besides its arguments. Beside others it is only listed, by what
-/// it is for.
+/// A command with what its help says besides its arguments. Beside others it is only listed, by
+/// what it is for.
 fn described<'a>(alloc: Global, name: &'a str, help: Help, is_alone: bool) -> Command<'a>
     ensures app { app_of result ≡ new_app name.entry.now }
     ensures local { (out-Command result).has_globals ≡ false }

@@ -1,6 +1,7 @@
-//! What the help of the program and of each tool says besides options: what it is for and an example
-//! at the top; the usage of tools that take arguments in several forms; and after the options these
-//! forms, more examples, and what the exit status is. No line is wider than 80 columns.
+//! What the help of the program and of each tool says besides options: what it is for and an
+//! example at the top; the usage of tools that take arguments in several forms; and after the
+//! options these forms, more examples, and what the exit status is. No line is wider than 80
+//! columns.
 
 /// What the help of a command says.
 #[derive(Clone, Copy)]

@@ -9,8 +9,8 @@
 //! then in a [`Store`], each of whose entries can stand in a catalogue. An [`EntryRef`] is one of
 //! them, borrowed.
 //!
-//! The modules in reading order: `text_list`, `seen_texts`, `fields`, `texts`, `entry`, `charset`, `catalogue`,
-//! `row`, `layout`, `entry_ref`, `ref_checks`, `ref_copy`, `drafts`, `store`, `laws`.
+//! The modules in reading order: `text_list`, `seen_texts`, `fields`, `texts`, `entry`, `charset`,
+//! `catalogue`, `row`, `layout`, `entry_ref`, `ref_checks`, `ref_copy`, `drafts`, `store`, `laws`.
 
 #![tactic(auto)]
 
