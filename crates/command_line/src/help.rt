@@ -25,7 +25,9 @@ Examples:
   LANG=de_DE.UTF-8 TEXTDOMAINDIR=locale pokit gettext -s -d bookshelf Bookshelf
 
 Exit status: 0, or 1 after any fault but a damaged catalogue, which gettext and
-ngettext skip.",
+ngettext skip.
+
+More: 'man pokit'; what to do about a fault: 'man pokit-faults'.",
 };
 
 pub(crate) const MSGFMT: Help = Help {
@@ -36,9 +38,11 @@ pub(crate) const MSGFMT: Help = Help {
   pokit msgfmt --statistics --profile-check de.po
   pokit msgfmt -o - a.po b.po > all.mo
 
-Exit status: 0, or 1 after any fault. The output file is there whole, or as it
-was. In a folder in which no file may be made it is written in place: a write
-fault cuts it off.",
+Exit status: 0, or 1 after any fault. The output file is complete, or
+unchanged. In a folder in which no file may be made it is written in place: a
+write fault cuts it off.
+
+More: 'man pokit-msgfmt'; what to do about a fault: 'man pokit-faults'.",
 };
 
 pub(crate) const MSGUNFMT: Help = Help {
@@ -48,9 +52,11 @@ pub(crate) const MSGUNFMT: Help = Help {
     after: "Examples:
   pokit msgunfmt < de.mo
 
-Exit status: 0, or 1 after any fault. The output file is there whole, or as it
-was. In a folder in which no file may be made it is written in place: a write
-fault cuts it off.",
+Exit status: 0, or 1 after any fault. The output file is complete, or
+unchanged. In a folder in which no file may be made it is written in place: a
+write fault cuts it off.
+
+More: 'man pokit-msgunfmt'; what to do about a fault: 'man pokit-faults'.",
 };
 
 pub(crate) const MSGATTRIB: Help = Help {
@@ -60,9 +66,11 @@ pub(crate) const MSGATTRIB: Help = Help {
     after: "Examples:
   pokit msgattrib --no-obsolete --clear-previous -o clean.po de.po
 
-Exit status: 0, or 1 after any fault. The output file is there whole, or as it
-was. In a folder in which no file may be made it is written in place: a write
-fault cuts it off.",
+Exit status: 0, or 1 after any fault. The output file is complete, or
+unchanged. In a folder in which no file may be made it is written in place: a
+write fault cuts it off.
+
+More: 'man pokit-msgattrib'; what to do about a fault: 'man pokit-faults'.",
 };
 
 pub(crate) const MSGCAT: Help = Help {
@@ -73,9 +81,11 @@ pub(crate) const MSGCAT: Help = Help {
   pokit msgcat --use-first -o all.po new.po old.po
   pokit msgcat --more-than 1 a.po b.po
 
-Exit status: 0, or 1 after any fault. The output file is there whole, or as it
-was. In a folder in which no file may be made it is written in place: a write
-fault cuts it off.",
+Exit status: 0, or 1 after any fault. The output file is complete, or
+unchanged. In a folder in which no file may be made it is written in place: a
+write fault cuts it off.
+
+More: 'man pokit-msgcat'; what to do about a fault: 'man pokit-faults'.",
 };
 
 pub(crate) const GETTEXT: Help = Help {
@@ -94,7 +104,9 @@ Examples:
   pokit gettext -s -c button Open
 
 Exit status: 0, also where there is no translation and where a damaged catalogue
-is skipped; 1 after any other fault.",
+is skipped; 1 after any other fault.
+
+More: 'man pokit-gettext'; what to do about a fault: 'man pokit-faults'.",
 };
 
 pub(crate) const NGETTEXT: Help = Help {
@@ -113,7 +125,9 @@ Examples:
   pokit ngettext -- '%d book' '%d books' -1
 
 Exit status: 0, also where there is no translation and where a damaged catalogue
-is skipped; 1 after any other fault.",
+is skipped; 1 after any other fault.
+
+More: 'man pokit-ngettext'; what to do about a fault: 'man pokit-faults'.",
 };
 
 pub(crate) const ENVSUBST: Help = Help {
@@ -127,5 +141,7 @@ Examples:
   pokit envsubst '$USER $HOME' < template > text
   pokit envsubst --variables 'Dear $USER'
 
-Exit status: 0, or 1 after any fault.",
+Exit status: 0, or 1 after any fault.
+
+More: 'man pokit-envsubst'; what to do about a fault: 'man pokit-faults'.",
 };
