@@ -254,7 +254,7 @@ typedef struct pokit_platform_text {
     pokit_bytes text;
 } pokit_platform_text;
 
-/* A message of a file, as pokit_expanded_file lists them. */
+/* A message of a file, as pokit_expanded_file and pokit_sorted_file list them. */
 typedef struct pokit_listed_message {
     pokit_bytes original;
     pokit_bytes translation;
@@ -334,9 +334,9 @@ uint32_t pokit_message_count(const uint8_t *bytes, size_t len);
 uint32_t pokit_sorted_file(const uint8_t *bytes, size_t len, pokit_listed_message *list, size_t places, uint8_t *file,
                            size_t file_size);
 
-/* Puts the messages of a file in order as pokit_sorted_file does, in a list whose places may have any values. `bytes` may
- * be NULL, and is then a file of no bytes; `list` where it has no places, and `file` where it has no bytes: so
- * pokit_sort(bytes, len, list, places, NULL, 0) says how long the file in order is. */
+/* The same in a list whose places may have any values. `bytes` may be NULL, and is then a file of no bytes; `list` where
+ * it has no places, and `file` where it has no bytes: so pokit_sort(bytes, len, list, places, NULL, 0) says how long the
+ * file in order is. */
 POKIT_FUNCTION uint32_t pokit_sort(const void *bytes, size_t len, pokit_listed_message *list, size_t places,
                                    uint8_t *file, size_t file_size);
 
