@@ -3,3 +3,4 @@ pub mod Files
 pub mod Selections
 pub mod Merges
 pub mod AllCommands
+pub mod LookUps

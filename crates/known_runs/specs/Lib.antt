@@ -3,3 +3,4 @@ pub mod InMemory
 pub mod Ends
 pub mod Msgfmt
 pub mod Plain
+pub mod LookUps

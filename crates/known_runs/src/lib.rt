@@ -5,8 +5,10 @@
 
 mod commands;
 mod in_memory;
+mod look_ups;
 mod words;
 
 pub use commands::{msgattrib_in_memory, msgcat_in_memory, msgfmt_in_memory, msgunfmt_in_memory};
 pub use in_memory::{Ended, Reached, run_in_memory};
+pub use look_ups::gettext_in_memory;
 pub use words::Words;

@@ -1,0 +1,251 @@
+-- What a look-up in a catalogue comes to that is compiled from a text.
+use Rattle.std.proofs.Common.{arith, suc, zero, ◌<◌, ◌&&◌, nat_lt, slice_index, if◌then◌else◌, ◌≡◌, ◌^◌, ◌-◌, ℕ, Bool, true, false, List, [], ◌∷◌, ◌++◌, map, take, append-nil, is_some, Option, Some, None, Result, Ok, Err, codes, refl, sym, ap, ◌∙◌, subst, inl, inr}
+use Rattle.std.proofs.lemmas.Bool.{false≢true, ltb-true}
+use Rattle.std.proofs.lemmas.Str.{IsUtf8-from_ascii}
+use Rattle.std.specs.Borrow.{Bor}
+use Rattle.std.specs.Option.{option_copied, option_map_or}
+use Rattle.gettext.specs.Catalogues.{AreCatalogues, AreFound, GivenDomain, IsCatalogueAt, Searching, given_domain, searching, done, found, skipped}
+use Rattle.gettext.specs.Environments.{IsEnvironment, environment_view}
+use Rattle.gettext.specs.Gettext.{Opens, GettextRequest, IsGettextRun, gettext_output, output_run, IsGettextRun, gettext_output, none, opened, refused}
+use Rattle.gettext.specs.Locales.{with_name}
+use Rattle.gettext.specs.Paths.{paths_of}
+use Rattle.gettext.specs.Options.{IsGettextRequest}
+use Rattle.gettext.specs.Usage.{GettextUsage, gettext_usage}
+use Rattle.po_tools.specs.ToolRun.{Answers, CommandLine, Reached, answers_of, line_of, RunsGettextLine, runs_gettext, no_gettext}
+use Rattle.gettext.specs.WholeRun.{RunsLookUp, runs, no_memory}
+use Rattle.gettext.specs.declared.candidates.Environment.{Environment}
+use Rattle.locale_names.specs.Names.{before as part_before, candidates_of_name, from_first, is_c_locale, language_parts}
+use Rattle.mo_file.specs.Fault.{IsFirstFault}
+use Rattle.mo_file.specs.Laws.{NoFaultOfMoFile, OneMessageList}
+use Rattle.mo_file.specs.MoFile.{IsMoFile}
+use Rattle.mo_file.specs.declared.byte_order.Order.{Order}
+use Rattle.mo_lookup.specs.CatalogView.{CatalogView, IsCatalogView, answered as catalog_answered, forms_found}
+use Rattle.mo_lookup.specs.Chain.{chain_answered}
+use Rattle.mo_lookup.specs.Answer.{untranslated}
+use Rattle.mo_lookup.specs.Query.{Query}
+use Rattle.po_compile.specs.CompiledList.{compiled_list}
+use Rattle.po_compile.specs.Meaning.{meant}
+use Rattle.po_compile.specs.declared.options.Compiled.{Compiled}
+use Rattle.po_messages.specs.Joined.{joined_entries}
+use Rattle.runs.specs.Inputs.{Reading, gives, refuses}
+use Rattle.runs.specs.NamedFile.{NamedFile}
+use Rattle.runs.specs.Outputs.{SystemView}
+use Rattle.runs.specs.Run.{RunView, output_file}
+use Rattle.runs.specs.ToolRuns.{Writes}
+use Rattle.runs.specs.declared.program_fault.ProgramFault.{ProgramFault}
+use Rattle.runs.specs.declared.program_fault.ProgramFault.TheVariants.{OutOfMemory}
+use Rattle.known_system.specs.Contents.{Contents, Leaves, filed, left, printed}
+use Rattle.known_runs.specs.Ends.{End, end}
+use Rattle.known_runs.specs.LookUps.{EndsLookUp, hello_mo, message, answered, failed, status_or_memory}
+use Rattle.known_runs.specs.Msgfmt.{IsCompiledFrom, plain}
+
+-- every byte is below 128
+abbrev low : List ℕ → Bool
+low [] = true
+low (b ∷ bs) = nat_lt b 128 && low bs
+
+both : (x y : Bool) → (x && y) ≡ true → (x ≡ true) × (y ≡ true)
+both true y is = (refl, is)
+both false y is = cc
+
+ascii_by : (bs : List ℕ) → low bs ≡ true → (i : ℕ) → slice_index bs i < 128
+ascii_by [] is i = omega arith
+ascii_by (b ∷ bs) is zero = ltb-true b 128 (both (nat_lt b 128) (low bs) is).0
+ascii_by (b ∷ bs) is (suc i) = ascii_by bs (both (nat_lt b 128) (low bs) is).1 i
+
+-- the catalogue's path is the only one
+paths_by : (all messages lang language domain folder : Option (Bor (List ℕ)))
+    → option_copied all ≡ None → option_copied messages ≡ None → option_copied lang ≡ Some (codes "fr")
+    → option_copied language ≡ None → option_copied folder ≡ None
+    → paths_of (Some (codes "hello")) None
+    (record {
+      lc_all = all;
+      lc_messages = messages;
+      lang = lang;
+      language = language;
+      textdomain = domain;
+      textdomaindir = folder;
+    })
+    ≡ hello_mo ∷ []
+unfolding with_name part_before candidates_of_name from_first is_c_locale language_parts
+paths_by (Some v) b c d e f p q r s t = cc
+paths_by None (Some v) c d e f p q r s t = cc
+paths_by None None None d e f p q r s t = cc
+paths_by None None (Some v) (Some w) e f p q r s t = cc
+paths_by None None (Some v) None e (Some w) p q r s t = cc
+paths_by None None (Some v) None e None p q r s t =
+    let is : v.now ≡ codes "fr" = cc in rw is refl
+
+abbrev file_of : List ℕ → List ℕ → NamedFile
+file_of name bytes = record { name = name; bytes = bytes }
+
+alike : {n m b c : List ℕ} → n ≡ m → b ≡ c → file_of n b ≡ file_of m c
+alike p q = rw (p, q) refl
+
+-- a chain of one catalogue answers as that one
+by_found : (catalog : CatalogView) (query : Query) (forms : Option (List (List ℕ)))
+    → forms_found catalog.messages query ≡ forms → chain_answered (catalog ∷ []) query ≡ catalog_answered catalog query
+by_found catalog query None is = rw is refl
+by_found catalog query (Some forms) is =
+    subst (λ f. option_map_or (λ c. catalog_answered c query) (if is_some f then Some catalog else None)
+    (untranslated query)
+    ≡ catalog_answered catalog query) (sym is) refl
+
+chain_of_one : (catalog : CatalogView) (query : Query)
+    → chain_answered (catalog ∷ []) query ≡ catalog_answered catalog query
+chain_of_one catalog query = by_found catalog query _ refl
+
+module _ (tool text bytes : List ℕ) (query : Query) (made : Compiled) (from : IsCompiledFrom text made)
+    (same_bytes : bytes ≡ made.bytes.items) (no_fault : NoFaultOfMoFile) (one_list : OneMessageList) where
+  -- what is printed where the catalogue is opened
+  opens_answers : (chain : List CatalogView) (reported : List ℕ)
+      → Opens tool (record { name = hello_mo; bytes = bytes } ∷ []) chain reported
+      → EndsLookUp text query (end (Ok 0) None (chain_answered chain query).text reported)
+  opens_answers chain reported (opened {catalog} order is view none) =
+      let valid = subst (λ b. IsMoFile plain.order b from.is.laid_out.messages) (sym same_bytes) from.is.valid in
+      let same : catalog.messages ≡ from.is.laid_out.messages = (one_list bytes order _ _ _ is valid).1 in
+      let rule_is = from.is.means.rule catalog.rule (subst (λ m. IsCatalogView m catalog.rule) same view) in
+      let says : (chain_answered (catalog ∷ []) query).text
+      ≡ (meant (compiled_list false (joined_entries from.catalogues)) catalog.rule query).text =
+      ap (λ a. a.text) (chain_of_one catalog query
+      ∙ ap (λ m. catalog_answered (record { messages = m; rule = catalog.rule }) query) same
+      ∙ from.is.means.answers catalog.rule query) in
+      subst (λ o. EndsLookUp text query (end (Ok 0) None o [])) (sym says) (answered catalog.rule from.read rule_is)
+  opens_answers chain reported (refused fault others) =
+      absurd (no_fault bytes _ _ _
+      (subst (λ b. IsMoFile plain.order b from.is.laid_out.messages) (sym same_bytes) from.is.valid) fault)
+
+  module _ (old new : Contents) (out : old.out ≡ []) (err : old.err ≡ []) (before after : SystemView)
+      (system : Searching)
+      (no_all : (v : Option (List ℕ)) → system.variable (codes "LC_ALL") v → v ≡ None)
+      (no_messages : (v : Option (List ℕ)) → system.variable (codes "LC_MESSAGES") v → v ≡ None)
+      (lang : (v : Option (List ℕ)) → system.variable (codes "LANG") v → v ≡ Some (codes "fr"))
+      (no_language : (v : Option (List ℕ)) → system.variable (codes "LANGUAGE") v → v ≡ None)
+      (no_folder : (v : Option (List ℕ)) → system.variable (codes "TEXTDOMAINDIR") v → v ≡ None)
+      (is : (reading : Reading) → system.file hello_mo reading → reading ≡ gives bytes)
+      (leaves : (run : RunView) (result : Result ℕ ProgramFault) → Writes run (codes "-") before after result
+      → Leaves run (codes "-") old new result)
+      (same : after ≡ before → new ≡ old) where
+    abbrev now : Result ℕ ProgramFault → End
+    now result = end (status_or_memory result) None new.out new.err
+
+    paths_are : (env : Environment) → IsEnvironment system.variable (environment_view env)
+        → paths_of (Some (codes "hello")) None env ≡ hello_mo ∷ []
+    paths_are env read =
+        paths_by env.lc_all env.lc_messages env.lang env.language env.textdomain env.textdomaindir
+        (no_all _ read.lc_all) (no_messages _ read.lc_messages) (lang _ read.lang) (no_language _ read.language)
+        (no_folder _ read.textdomaindir)
+
+    catalogues_are : (catalogues : List NamedFile) → AreCatalogues system.file (hello_mo ∷ []) catalogues
+        → catalogues ≡ record { name = hello_mo; bytes = bytes } ∷ []
+    catalogues_are catalogues (found {catalogue} at done) =
+        let e : gives catalogue.bytes ≡ gives bytes = is _ at.1 in
+        let b : catalogue.bytes ≡ bytes = cc in ap (λ c. c ∷ []) (alike at.0 b)
+    catalogues_are catalogues (skipped (inl other) done) =
+        absurd (other (IsUtf8-from_ascii hello_mo (ascii_by hello_mo refl)))
+    catalogues_are catalogues (skipped (inr fault) done) =
+        let e : refuses fault.0 ≡ gives bytes = is _ fault.2 in cc
+
+    ends : (result : Result ℕ ProgramFault) (shown told : List ℕ) → new.out ≡ shown → new.err ≡ told
+        → EndsLookUp text query (end (status_or_memory result) None shown told) → EndsLookUp text query (now result)
+    ends result shown told o e answers = rw (o, e) answers
+
+    after_none : {later was more : List ℕ} → was ≡ [] → later ≡ was ++ more → later ≡ more
+    after_none nothing grew = grew ∙ rw nothing refl
+
+    run_ends : (shown reported : List ℕ) → EndsLookUp text query (end (Ok 0) None shown reported)
+        → {result : Result ℕ ProgramFault} → Leaves (output_run shown reported) (codes "-") old new result
+        → EndsLookUp text query (now result)
+    run_ends shown reported answers (printed names held o e) =
+        ends (Ok 0) shown reported (after_none out o) (after_none err e) answers
+    run_ends shown reported answers (filed names at o e) = cc
+    run_ends shown reported answers (left names why kept) = cc
+
+    -- what the run of the catalogues comes to
+    looked_up : (IsRun : List NamedFile → RunView → Type 0)
+        → ((run : RunView) → IsRun (record { name = hello_mo; bytes = bytes } ∷ []) run
+        → (chain : List CatalogView) × (reported : List ℕ)
+        × Opens tool (record { name = hello_mo; bytes = bytes } ∷ []) chain reported
+        × (run ≡ output_run (chain_answered chain query).text reported))
+        → {result : Result ℕ ProgramFault}
+        → RunsLookUp system (given_domain (Some (codes "hello")) None) IsRun before after result
+        → EndsLookUp text query (now result)
+    looked_up IsRun says {result} (runs {catalogues} {run} at is_run writes) =
+        let there = subst (λ p. AreCatalogues system.file p catalogues)
+        (paths_are at.environment at.is_read) at.are_read in
+        let these = catalogues_are catalogues there in
+        let of_run = says run (subst (λ c. IsRun (take (2 ^ 32 - 1) c) run) these is_run) in
+        run_ends _ _ (opens_answers of_run.0 of_run.1 of_run.2)
+        (subst (λ (v : RunView). Leaves v (codes "-") old new result) of_run.3 (leaves run result writes))
+    looked_up IsRun says (no_memory unchanged) =
+        ends (Err OutOfMemory) [] [] (ap (λ (c : Contents). c.out) (same unchanged) ∙ out)
+        (ap (λ (c : Contents). c.err) (same unchanged) ∙ err) failed
+
+-- what gettext writes for one msgid without options
+output_is : (chain : List CatalogView) (o : GettextRequest) (id : List ℕ) → o.arguments ≡ id ∷ [] → o.context ≡ None
+    → o.expand ≡ false → o.shell ≡ false → gettext_output chain o ≡ (chain_answered chain (message id)).text
+output_is chain o id arguments context expand shell =
+    let e : gettext_output chain o ≡ (chain_answered chain (message id)).text ++ [] =
+    rw (arguments, context, expand, shell) refl in e ∙ append-nil _
+
+-- the words are one msgid in the domain `hello`
+usage_is : (id : List ℕ) (shell : Bool) (arguments : List (List ℕ)) (usage : GettextUsage) → shell ≡ false
+    → arguments ≡ codes "hello" ∷ id ∷ [] → gettext_usage shell arguments ≡ Some usage
+    → usage ≡ record { domain = Some (codes "hello"); messages = id ∷ [] }
+usage_is id shell arguments usage s a is =
+    let e : Some usage ≡ Some (record { domain = Some (codes "hello"); messages = id ∷ [] }) =
+    sym is ∙ rw (s, a) refl in cc
+
+pub gettext_says : (id : List ℕ) (files : List NamedFile) (usage : GettextUsage) (o : GettextRequest)
+    (given : List ℕ → Option (List ℕ)) → given (codes "context") ≡ None
+    → usage ≡ record { domain = Some (codes "hello"); messages = id ∷ [] }
+    → IsGettextRequest (λ name flag. flag ≡ false) (λ name t. t ≡ given name) usage o
+    → (run : RunView) → IsGettextRun files o run
+    → (chain : List CatalogView) × (reported : List ℕ) × Opens (codes "gettext") files chain reported
+    × (run ≡ output_run (chain_answered chain (message id)).text reported)
+gettext_says id files usage o given no_context is request run ran =
+    let arguments : o.arguments ≡ id ∷ [] = request.messages ∙ ap (λ (u : GettextUsage). u.messages) is in
+    let says = output_is ran.chain o id arguments (request.context ∙ no_context) request.expand request.shell in
+    (ran.chain, ran.reported, ran.opens, ran.run_is ∙ ap (λ t. output_run t ran.reported) says)
+
+-- by the words of the command line
+module _ (text bytes id : List ℕ) (made : Compiled) (from : IsCompiledFrom text made)
+    (same_bytes : bytes ≡ made.bytes.items) (no_fault : NoFaultOfMoFile) (one_list : OneMessageList)
+    (old new : Contents) (out : old.out ≡ []) (err : old.err ≡ []) (before after : Reached)
+    (operands : List (List ℕ)) (operands_are : operands ≡ codes "hello" ∷ id ∷ [])
+    (given : List ℕ → Option (List ℕ)) (no_context : given (codes "context") ≡ None)
+    (no_domain : given (codes "domain") ≡ None) (variables : List ℕ → Option (List ℕ))
+    (all : variables (codes "LC_ALL") ≡ None) (messages : variables (codes "LC_MESSAGES") ≡ None)
+    (lang : variables (codes "LANG") ≡ Some (codes "fr")) (language : variables (codes "LANGUAGE") ≡ None)
+    (folder : variables (codes "TEXTDOMAINDIR") ≡ None)
+    (file : List ℕ → Reading → Type 0) (standard : Reading → Type 0) (entries : List (List ℕ) → Type 0)
+    (is : (reading : Reading) → file hello_mo reading → reading ≡ gives bytes)
+    (leaves : (run : RunView) (result : Result ℕ ProgramFault)
+    → Writes run (codes "-") before.written after.written result
+    → Leaves run (codes "-") old new result)
+    (same : after.written ≡ before.written → new ≡ old) where
+  abbrev Line : CommandLine
+  Line = line_of (λ name flag. flag ≡ false) (λ name t. t ≡ given name) (λ name texts. texts ≡ operands)
+      (λ name number. number ≡ None)
+
+  abbrev There : Answers
+  There = answers_of file standard (λ name value. value ≡ variables name) entries
+
+  pub gettext_ends : (result : Result ℕ ProgramFault) → RunsGettextLine Line There before after result
+      → EndsLookUp text (message id) (end (status_or_memory result) None new.out new.err)
+  gettext_ends result (runs_gettext {shell} {arguments} {usage}
+      {request} shell_is arguments_are fits request_is looks) =
+      let u = usage_is id shell arguments usage shell_is (arguments_are ∙ operands_are) fits in
+      let domains : given_domain usage.domain looks.domain ≡ given_domain (Some (codes "hello")) None =
+      rw (u, looks.domain_is ∙ no_domain) refl in
+      looked_up (codes "gettext") text bytes (message id) made from same_bytes no_fault one_list old new out err
+      before.written after.written (searching (λ name value. value ≡ variables name) file before.asked after.asked)
+      (λ v e. e ∙ all) (λ v e. e ∙ messages) (λ v e. e ∙ lang) (λ v e. e ∙ language) (λ v e. e ∙ folder) is leaves same
+      (λ files run. IsGettextRun files request run)
+      (gettext_says id _ usage request given no_context u request_is)
+      (subst (λ d. RunsLookUp (searching (λ name value. value ≡ variables name) file before.asked after.asked) d
+      (λ files run. IsGettextRun files request run) before.written after.written result) domains looks.runs)
+  gettext_ends result (no_gettext {shell} {arguments} shell_is arguments_are fits) =
+      let e : gettext_usage shell arguments ≡ gettext_usage false (codes "hello" ∷ id ∷ []) =
+      rw (shell_is, arguments_are ∙ operands_are) refl in
+      absurd (false≢true (ap is_some (sym fits.none ∙ e)))

@@ -1,0 +1,94 @@
+//! Look-ups in a catalogue that is compiled from a text.
+ghost use Rattle.std.specs.Prelude.{◌≡◌, ◌∷◌, [], None, MatchResult};
+ghost use Rattle.known_runs.specs.Ends.{end_of};
+ghost use Rattle.known_runs.specs.LookUps.{EndsLookUp, message, status_or_memory};
+ghost use Rattle.known_runs.specs.Msgfmt.{plain};
+ghost use Rattle.po_compile.specs.Accepted.{IsCompileFault};
+
+use crate::in_memory::{Ended, run_in_memory};
+use crate::words::Words;
+use known_system::laws::{run_leaves_all_or_nothing, same_system_holds_the_same};
+use known_system::{KnownFiles, KnownSource, Named, Questions};
+use mo_file::{Order, no_fault_of_mo_file, one_message_list};
+use po_compile::{Options, compile_all};
+use po_messages::JoinError;
+use runs::{ProgramFault, Tool};
+use std::alloc::Global;
+
+/// Where the catalogue of `hello` is in French.
+const HELLO_MO: &str = "/usr/share/locale/fr/LC_MESSAGES/hello.mo";
+
+/// The options of msgfmt without any.
+const PLAIN: Options = Options {
+    use_fuzzy: false,
+    order: Order::Little,
+};
+
+/// Compiles this text, and runs `gettext hello MSGID` in French over the catalogue.
+pub fn gettext_in_memory(alloc: Global, text: &[u8], msgid: &str) -> Result<Ended, JoinError>
+    ensures { MatchResult result (λ ended. EndsLookUp text.now (message msgid.now) (end_of ended))
+        (IsCompileFault plain (text.now ∷ [])) }
+{
+    let compiled = compile_all(alloc, &[text], PLAIN)?;
+    run_leaves_all_or_nothing();
+    same_system_holds_the_same();
+    no_fault_of_mo_file();
+    one_message_list();
+    let named = [
+        Named {
+            name: HELLO_MO,
+            bytes: compiled.bytes.as_slice(),
+        },
+        Named {
+            name: "LANG",
+            bytes: b"fr",
+        },
+    ];
+    let mut source = source_of(&named);
+    let operands = ["hello", msgid];
+    let words = words_of(&operands);
+    let none = KnownFiles::new(alloc);
+    let (result, reached) = run_in_memory(alloc, Tool::Gettext, &mut source, none, &words);
+    Ok(Ended {
+        result: status_or_memory(result),
+        file: None,
+        out: reached.out,
+        err: reached.err,
+    })
+}
+
+/// The source whose files and variables are these. No file has the name of a variable that is asked
+/// for, and no variable that of a file, so one list has both.
+fn source_of<'a>(named: &'a [Named<'a>]) -> KnownSource<'a>
+    ensures files { result.files.now ≡ named.now }
+    ensures variables { result.variables.now ≡ named.now }
+{
+    KnownSource {
+        files: named,
+        standard: &[],
+        variables: named,
+        entries: &[],
+        asked: Questions::new(),
+    }
+}
+
+/// The words of a command line with these operands alone.
+fn words_of<'a>(operands: &'a [&'a str]) -> Words<'a>
+    ensures operands { result.operands.now ≡ operands.now }
+    ensures output { result.output ≡ None }
+{
+    Words {
+        operands,
+        output: None,
+    }
+}
+
+/// The status, or out of memory.
+fn status_or_memory(ran: Result<u8, ProgramFault<'_>>) -> Result<u8, ProgramFault<'static>>
+    ensures { result ≡ status_or_memory ran.entry }
+{
+    match ran {
+        Ok(status) => Ok(status),
+        Err(_) => Err(ProgramFault::OutOfMemory),
+    }
+}
