@@ -13,7 +13,7 @@ use Rattle.mo_lookup.specs.declared.place.Located.{Located}
 use Rattle.std.specs.Option.{option_map_or}
 use Rattle.mo_lookup.specs.declared.place.Place.TheVariants.{Id, Plural}
 
--- a part loses its front
+-- a part without its first bytes
 drop-slice_range : (xs : List ℕ) (s e a : ℕ) → drop a (slice_range xs s e) ≡ slice_range xs (s + a) e
 drop-slice_range xs s e a =
     ap (drop a) (between_is xs s e) ∙ drop-drop a s (take e xs) ∙ sym (between_is xs (s + a) e)
