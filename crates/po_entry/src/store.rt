@@ -1,6 +1,6 @@
 //! The entries of a catalogue in one buffer.
 
-ghost use Rattle.std.specs.Prelude.{◌≡◌, ◌+◌, ◌^◌, ◌<◌, ◌≤◌, ◌++◌, [], IfOk, OnOk, OnErr, All, IsPermutation, filter, length, get_or, map};
+ghost use Rattle.std.specs.Prelude.{◌≡◌, ◌+◌, ◌^◌, ◌<◌, ◌≤◌, ◌++◌, [], IfOk, OnOk, OnErr, All, filter, length, get_or, map};
 ghost use Rattle.std.specs.Vec.{vec_capacity, vec_len};
 ghost use Rattle.po_entry.specs.TextEntry.{TextEntry};
 ghost use Rattle.po_entry.specs.Validity.{IsCatalogueEntry};
@@ -110,21 +110,6 @@ impl Store {
     {
         self.rows.retain(|row| !row.obsolete);
     }
-
-    /// Brings the entries into the order of their keys.
-    pub fn sort_by_key(&mut self)
-        ensures { IsPermutation self.old self.new }
-    {
-        let Store { bytes, rows } = self;
-        let bytes = bytes.as_slice();
-        rows.sort_unstable_by(|a, b| key_in(bytes, a).cmp(key_in(bytes, b)));
-    }
-}
-
-/// The key of an entry; of a row that isn't one of the bytes, what there is of it.
-fn key_in<'a>(bytes: &'a [u8], row: &Row) -> &'a [u8] {
-    let own = bytes.split_at(row.start.min(bytes.len())).1;
-    own.split_at(row.key.min(own.len())).0
 }
 
 /// Adds rows of bytes that now begin there, for which there is room.
