@@ -1,7 +1,7 @@
 -- The program of a tree: how it runs, and how many nodes begin in it.
 use Rattle.std.proofs.Common.{◌≡◌, ℕ, zero, suc, ◌+◌, ◌-◌, ◌*◌, ◌/◌, ◌%◌, ◌^◌, ◌<◌, ◌≤◌, true, false, nat_lt, ◌==◌, inl, inr, List, [], ◌∷◌, length, drop, get_or, set, Option, Some, None, option_and_then, option_map, refl, sym, ap, ◌∙◌, drop-cons, add-one, arith}
 use Rattle.std.proofs.Math.Seq.{drop-nil}
-use Rattle.std.proofs.lemmas.Bool.{cases_Bool, lt-ltb, ltb-true}
+use Rattle.std.proofs.lemmas.Bool.{cases_Bool, lt-ltb, ltb-true, eq-eqb, eqb-false}
 use Rattle.std.proofs.lemmas.List.{drop-drop, get_or-set_same, get_or-set_other}
 use Rattle.std.proofs.lemmas.Nat.{div-add-mod'}
 use Rattle.plural_rule.specs.declared.operator.Operator.{Operator}
@@ -38,7 +38,7 @@ module _ (room n : ℕ) where
   -- one instruction
   step : (i : Instruction) (rest : List Instruction) (y x : ℕ) (older : List ℕ) (s : ℕ) → length older + 1 < room
       → run room n (i ∷ rest) 0 (y ∷ x ∷ older) s
-      ≡ go_on (run room n rest) s (act n (action_of i) (low_of rest) (y ∷ x ∷ older))
+      ≡ go_on (run room n rest) (s + begins i) (act n (action_of i) (low_of rest) (y ∷ x ∷ older))
   step i rest y x older s inside =
       rw (lt-ltb (1 + length older) room (omega (arith, inside))) refl
 
@@ -85,11 +85,11 @@ module _ (room n : ℕ) where
   after-binary op rest values x None s inside = refl
   after-binary op rest values x (Some y) s inside =
       step (binary_instruction op) rest y x values s inside
-      ∙ ap (λ o. go_on (run room n rest) s (act n (BinaryAction o) (low_of rest) (y ∷ x ∷ values)))
+      ∙ ap (λ o. go_on (run room n rest) (s + 0) (act n (BinaryAction o) (low_of rest) (y ∷ x ∷ values)))
       (operator_of-code op)
       ∙ ended (combined op x y)
     where
-      ended : (v : Option ℕ) → go_on (run room n rest) s (with_value v values) ≡ resumed rest values v s
+      ended : (v : Option ℕ) → go_on (run room n rest) (s + 0) (with_value v values) ≡ resumed rest values v s
       ended None = ap (λ k. Some (record { value = None; steps = k })) (omega arith)
       ended (Some v) = none-begins rest 0 (v ∷ values) s
 
@@ -115,7 +115,8 @@ module _ (room n : ℕ) where
       elim (cases_Bool (is_lazy op)) [
         | inl lazy ↦
             rw lazy (step branch code x y older s (omega (arith, inside))
-            ∙ ap (λ o. go_on (run room n code) s (act n (BranchAction o (size b + 1)) (low_of code) (x ∷ y ∷ older)))
+            ∙ ap (λ o. go_on (run room n code) (s + 0)
+            (act n (BranchAction o (size b + 1)) (low_of code) (x ∷ y ∷ older)))
             (operator_of-code op)
             ∙ elim (cases_Bool (needs_right op x)) [
               | inl e ↦
@@ -199,15 +200,15 @@ module _ (room n : ℕ) where
       ∙ after-condition b c rest y x older (value a n) first later (run-program b 0 _) (run-program c 0 rest)
       (omega arith) (omega (arith, inside, size-some a))
 
-pub starts : (room n y x : ℕ) (p : List Instruction) (t : Tree) → p ≡ program 0 t → length p + 5 ≤ 2 * room
-    → run room n p 0 (y ∷ x ∷ []) 0 ≡ Some (outcome t n)
-starts room n y x p t is inside =
-    ap (λ q. run room n q 0 (y ∷ x ∷ []) 0) is
-    ∙ run-program room n t 0 [] y x [] 0 (visited t n) (omega arith)
+pub starts : (room n y x s : ℕ) (p : List Instruction) (t : Tree) → p ≡ program 0 t → length p + 5 ≤ 2 * room
+    → run room n p 0 (y ∷ x ∷ []) s ≡ Some (outcome t n s)
+starts room n y x s p t is inside =
+    ap (λ q. run room n q 0 (y ∷ x ∷ []) s) is
+    ∙ run-program room n t 0 [] y x [] s (s + visited t n) (omega arith)
     (omega (arith, inside, ap length is, length-program t 0 [])) ∙ alone (value t n)
   where
-    alone : (v : Option ℕ) → resumed room n [] (y ∷ x ∷ []) v (visited t n)
-        ≡ Some (record { value = v; steps = visited t n })
+    alone : (v : Option ℕ) → resumed room n [] (y ∷ x ∷ []) v (s + visited t n)
+        ≡ Some (record { value = v; steps = s + visited t n })
     alone None = refl
     alone (Some v) = refl
 
@@ -223,12 +224,29 @@ operator-within [] i op e = absurd cc
 operator-within (x ∷ p) zero op e = omega arith
 operator-within (x ∷ p) (suc i) op e = omega (arith, operator-within p i op e)
 
+-- no node begins with an operator of two operands
+pub operator-begins : (i : Instruction) (op : Operator) → action_of i ≡ BinaryAction op → begins i ≡ 0
+operator-begins i op e =
+    elim (cases_Bool (nat_lt i.kind 3)) [
+      | inr late ↦ rw late refl
+      | inl early ↦ absurd (elim (cases_Bool (i.kind == 0)) [
+        | inl none ↦ (let is = rw none at e in cc)
+        | inr some ↦ elim (cases_Bool (i.kind == 1)) [
+          | inl one ↦ (let is = rw (some, one) at e in cc)
+          | inr more ↦
+              let two : (i.kind == 2) ≡ true = eq-eqb i.kind 2
+              (omega (arith, ltb-true i.kind 3 early, eqb-false i.kind 0 some, eqb-false i.kind 1 more)) in
+              (let is = rw (some, more, two) at e in cc)
+        ]
+      ])
+    ]
+
 -- an instruction inside of a program
 pub acts : (room n : ℕ) (p : List Instruction) (i y x : ℕ) (older : List ℕ) (s : ℕ) {o : Outcome} {action : Action}
     {next : Next} → i < length p → run room n (drop i p) 0 (y ∷ x ∷ older) s ≡ Some o
     → action ≡ action_of (get_or p i (count_instruction 0))
     → act n action (low_of (drop (i + 1) p)) (y ∷ x ∷ older) ≡ next
-    → go_on (run room n (drop (i + 1) p)) s next ≡ Some o
+    → go_on (run room n (drop (i + 1) p)) (s + begins (get_or p i (count_instruction 0))) next ≡ Some o
 acts room n p i y x older s inside runs is leads =
     let none = count_instruction 0 in
     let whole = ap (λ q. run room n q 0 (y ∷ x ∷ older) s) (sym (drop-cons p i none inside)) ∙ runs in
@@ -242,14 +260,14 @@ skips room n p i skip values s runs =
     ap (λ q. run room n q 0 values s) (sym (drop-drop skip i p)) ∙ sym (run-drop room n (drop i p) skip values s) ∙ runs
 
 -- an operator right after an operand
-pub fused : (room n : ℕ) (p : List Instruction) (i x s : ℕ) (values : List ℕ) (v : Option ℕ) (begins : ℕ) {o : Outcome}
-    → go_on (run room n (drop (i + 1) p)) (s + begins) (with_value v values) ≡ Some o
-    → go_on (run room n (drop i p)) s (left_by v 1 1 begins (x ∷ values)) ≡ Some o
-fused room n p i x s values None begins runs = ap (λ k. Some (record { value = None; steps = k })) (omega arith) ∙ runs
-fused room n p i x s values (Some v) begins runs =
-    run-drop room n (drop i p) 1 (v ∷ values) (s + begins)
-    ∙ ap (λ q. run room n q 0 (v ∷ values) (s + begins)) (drop-drop 1 i p)
-    ∙ sym (none-begins room n (drop (i + 1) p) 0 (v ∷ values) (s + begins)) ∙ runs
+pub fused : (room n : ℕ) (p : List Instruction) (i x s k : ℕ) (values : List ℕ) (v : Option ℕ) {o : Outcome} → k ≡ 0
+    → go_on (run room n (drop (i + 1) p)) (s + k) (with_value v values) ≡ Some o
+    → go_on (run room n (drop i p)) s (left_by v 1 1 (x ∷ values)) ≡ Some o
+fused room n p i x s k values None none runs =
+    ap (λ k. Some (record { value = None; steps = k })) (omega (arith, none)) ∙ runs
+fused room n p i x s k values (Some v) none runs =
+    run-drop room n (drop i p) 1 (v ∷ values) s ∙ ap (λ q. run room n q 0 (v ∷ values) s) (drop-drop 1 i p)
+    ∙ ap (run room n (drop (i + 1) p) 0 (v ∷ values)) (omega (arith, none)) ∙ runs
 
 length-stored : (stack : List ℕ) (k : ℕ) → length (stored stack k) ≡ k
 length-stored stack zero = refl

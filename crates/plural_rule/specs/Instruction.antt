@@ -86,9 +86,9 @@ begins i = if nat_lt i.kind 3 then i.count else 0
 -- what an instruction does
 abbrev pub action_of : Instruction → Action
 action_of i =
-    if i.kind == 0 then Count i.count
-    else if i.kind == 1 then Number i.count i.number
-    else if i.kind == 2 then Wide i.count i.number
+    if i.kind == 0 then Count
+    else if i.kind == 1 then Number i.number
+    else if i.kind == 2 then Wide i.number
     else if i.kind == 3 then Not
     else if i.kind == 4 then Binary (operator_of i.operator)
     else if i.kind == 5 then Branch (operator_of i.operator) i.count

@@ -7,3 +7,4 @@ pub mod PluralRule
 pub mod Instruction
 pub mod Program
 pub mod Internal
+pub mod Examples

@@ -65,8 +65,8 @@ low_of (i ∷ rest) = i.number
 
 -- the trees read so far, newest first, after one more instruction
 abbrev pub with_action : Action → List Tree → List Tree
-with_action (CountAction begins) trees = Count ∷ trees
-with_action (NumberAction begins v) trees = Number v ∷ trees
+with_action CountAction trees = Count ∷ trees
+with_action (NumberAction v) trees = Number v ∷ trees
 with_action NotAction (a ∷ trees) = Not a ∷ trees
 with_action (BinaryAction op) (b ∷ a ∷ trees) = Binary op a b ∷ trees
 with_action _ trees = trees
@@ -77,7 +77,7 @@ with_third (c ∷ []) (b ∷ a ∷ trees) = Conditional a b c ∷ trees
 with_third third trees = trees
 
 abbrev pub read_by : (ℕ → ℕ → List Tree → List Tree) → Action → ℕ → ℕ → List Tree → List Tree
-read_by go (WideAction begins high) low more trees = go 1 (more - 1) (Number (high * 2 ^ 32 + low) ∷ trees)
+read_by go (WideAction high) low more trees = go 1 (more - 1) (Number (high * 2 ^ 32 + low) ∷ trees)
 read_by go (JumpAction skip) low more trees = go skip (more - skip) (with_third (go 0 skip []) trees)
 read_by go action low more trees = go 0 more (with_action action trees)
 

@@ -1,8 +1,11 @@
 //! The instructions of a program that computes an expression.
-ghost use Rattle.std.specs.Prelude.{◌≡◌};
-ghost use Rattle.plural_rule.specs.Instruction.{binary_instruction, action_of};
+ghost use Rattle.std.specs.Prelude.{◌≡◌, ◌≢◌, ◌+◌, ◌^◌, ◌<◌, MatchOption};
+ghost use Rattle.plural_rule.specs.declared.instruction.Action.TheVariants.{Binary};
+ghost use Rattle.plural_rule.specs.declared.operator.Operator.{Operator};
+ghost use Rattle.plural_rule.specs.Instruction.{binary_instruction, action_of, begins};
 
 use crate::operator::Operator;
+use crate::steps::Steps;
 
 /// An instruction of a program: plain numbers, so that C can hold a program too.
 ///
@@ -28,12 +31,12 @@ pub struct Instruction {
 /// What an instruction does.
 #[derive(Clone, Copy, Drop)]
 pub(crate) enum Action {
-    /// `n`, with which so many nodes begin.
-    Count(u16),
-    /// A numeral, with which so many nodes begin.
-    Number(u16, u32),
-    /// The high half of a numeral, with which so many nodes begin.
-    Wide(u16, u32),
+    /// `n`
+    Count,
+    /// A numeral.
+    Number(u32),
+    /// The high half of a numeral.
+    Wide(u32),
     /// `!`
     Not,
     /// An operator after both operands.
@@ -91,20 +94,38 @@ impl Instruction {
         }
     }
 
-    /// What the instruction does.
+    /// What the instruction does, which counts the nodes that begin with it.
     #[inline(always)]
-    pub(crate) fn action(self) -> Action
-        ensures { result ≡ action_of self }
+    pub(crate) fn action(self, steps: &mut Steps) -> Action
+        requires { steps.old + 2 ^ 16 < 2 ^ 64 }
+        ensures action { result ≡ action_of self }
+        ensures counted { steps.new ≡ steps.old + begins self }
+        ensures few { steps.new < steps.old + 2 ^ 16 }
     {
+        if self.kind < 3 {
+            steps.add(self.count);
+        }
         match self.kind {
-            0 => Action::Count(self.count),
-            1 => Action::Number(self.count, self.number),
-            2 => Action::Wide(self.count, self.number),
+            0 => Action::Count,
+            1 => Action::Number(self.number),
+            2 => Action::Wide(self.number),
             3 => Action::Not,
             4 => Action::Binary(Operator::of_code(self.operator)),
             5 => Action::Branch(Operator::of_code(self.operator), self.count),
             6 => Action::Choose(self.count),
             _ => Action::Jump(self.count),
+        }
+    }
+
+    /// The operator, of an instruction that is one of two operands.
+    #[inline(always)]
+    pub(crate) fn operator(self) -> Option<Operator>
+        ensures { MatchOption result ((op : Operator) → action_of self ≢ Binary op) (λ op. action_of self ≡ Binary op) }
+    {
+        if self.kind == 4 {
+            Some(Operator::of_code(self.operator))
+        } else {
+            None
         }
     }
 }

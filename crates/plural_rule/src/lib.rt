@@ -6,10 +6,10 @@
 //! and neither takes more of the machine's stack for a deeper expression.
 //!
 //! [`Rule::parse`] reads a rule, [`Rule::parse_into`] into memory of the caller, and [`evaluate`]
-//! computes its value at a count.
+//! computes its value at a count, with a counter that each step takes ([`Steps`]).
 //!
-//! The modules in reading order: `operator`, `token`, `lexer`, `instruction`, `pending`, `parts`,
-//! `parser`, `evaluator`, `header`, `rule`, `laws`.
+//! The modules in reading order: `operator`, `token`, `lexer`, `steps`, `instruction`, `pending`,
+//! `parts`, `parser`, `evaluator`, `header`, `rule`, `laws`.
 
 #![tactic(auto)]
 
@@ -23,8 +23,10 @@ mod parser;
 mod parts;
 mod pending;
 mod rule;
+mod steps;
 mod token;
 
 pub use evaluator::evaluate;
 pub use instruction::Instruction;
 pub use rule::{EXPRESSION_LIMIT, ParsedRule, Reason, Rule, Source};
+pub use steps::Steps;

@@ -9,7 +9,9 @@ ghost use Rattle.plural_rule.specs.Internal.ParserState.{HoldsRule};
 use crate::evaluator::evaluate;
 use crate::instruction::Instruction;
 use crate::parts::Room;
+use crate::steps::Steps;
 use crate::{header, lexer, parser};
+use arrayvec::ArrayVec;
 use std::marker::Model;
 
 /// The most bytes that an expression may have, and so the most nodes.
@@ -67,8 +69,9 @@ pub enum Reason {
 /// so pass it by reference. See the GNU gettext manual, "Plural forms".
 #[derive(Drop)]
 pub struct Rule {
-    parsed: ParsedRule,
-    room: [Instruction; EXPRESSION_LIMIT],
+    source: Source,
+    nplurals: u64,
+    program: ArrayVec<Instruction, EXPRESSION_LIMIT>,
 }
 
 /// A plural rule whose program stands in memory of the caller.
@@ -83,17 +86,18 @@ pub struct ParsedRule {
 }
 
 impl Model for Rule {
+    ghost use Rattle.std.specs.Prelude.{◌≡◌};
     ghost use Rattle.std.specs.Coded.{codes};
-    ghost use Rattle.plural_rule.specs.PluralRule.{IsParsed, RuleView, rule_in};
-    ghost use Rattle.plural_rule.specs.Program.{tree_code};
+    ghost use Rattle.plural_rule.specs.PluralRule.{RuleView};
+    ghost use Rattle.plural_rule.specs.Program.{program as program_of, tree_of, tree_code};
 
     ghost Value = { RuleView };
 
     ghost coded = { Prim.hlevel (codes, tree_code (Prim.hlevel codes)) };
 
-    ghost view = { λ r. rule_in r.parsed r.room };
+    ghost view = { λ r. record { source = r.source; nplurals = r.nplurals; tree = tree_of r.program.items } };
 
-    ghost invariant = { λ r. IsParsed r.parsed r.room };
+    ghost invariant = { λ r. r.program.items ≡ program_of 0 (tree_of r.program.items) };
 }
 
 impl Rule {
@@ -106,9 +110,9 @@ impl Rule {
     pub fn parse(header: &[u8]) -> Rule
         ensures { IsRuleOf expression_limit header.now result }
     {
-        let mut room = [Instruction::COUNT; EXPRESSION_LIMIT];
-        let parsed = Rule::parse_into(header, &mut room);
-        Rule { parsed, room }
+        let mut rule = Rule::of_no_header();
+        rule.reparse(header);
+        rule
     }
 
     /// The rule of an empty header text, which is the default one.
@@ -116,26 +120,28 @@ impl Rule {
     pub fn of_no_header() -> Rule
         ensures { IsRuleOf expression_limit [] result }
     {
-        let mut room = [Instruction::default(); EXPRESSION_LIMIT];
-        room[0] = DEFAULT_PROGRAM[0];
-        room[1] = DEFAULT_PROGRAM[1];
-        room[2] = DEFAULT_PROGRAM[2];
+        let mut program = ArrayVec::new();
+        fill(&mut program, &DEFAULT_PROGRAM);
         Rule {
-            parsed: ParsedRule {
-                source: Source::Default(Reason::NoNumber),
-                nplurals: 2,
-                instruction_count: 3,
-            },
-            room,
+            source: Source::Default(Reason::NoNumber),
+            nplurals: 2,
+            program,
         }
     }
 
     /// Reads the rule of a header text, as [`Rule::parse`] does, in the place of this rule.
-    #[inline(always)]
+    #[inline(never)]
     pub fn reparse(&mut self, header: &[u8])
         ensures { IsRuleOf expression_limit header.now self.new }
     {
-        self.parsed = Rule::parse_into(header, &mut self.room);
+        let mut room = [Instruction::default(); EXPRESSION_LIMIT];
+        let parsed = Rule::parse_into(header, &mut room);
+        self.source = parsed.source;
+        self.nplurals = parsed.nplurals;
+        fill(
+            &mut self.program,
+            &room[..parsed.instruction_count as usize],
+        );
     }
 
     /// The same with the program at the beginning of `room`, as [`evaluate`] takes it.
@@ -166,14 +172,14 @@ impl Rule {
     pub fn source(&self) -> Source
         ensures { result ≡ self.now.source }
     {
-        self.parsed.source
+        self.source
     }
 
     /// The number of plural forms.
     pub fn nplurals(&self) -> u64
         ensures { result ≡ self.now.nplurals }
     {
-        self.parsed.nplurals
+        self.nplurals
     }
 
     /// How many nodes the expression has: `n`, numerals and operators.
@@ -199,7 +205,9 @@ impl Rule {
         ensures steps { result.1 ≡ visited self.now.tree count }
         ensures bound { result.1 ≤ nodes self.now.tree }
     {
-        evaluate(self.program(), count)
+        let mut steps = Steps::new();
+        let value = evaluate(self.program(), count, &mut steps);
+        (value, steps.count() as u32)
     }
 
     /// The program of the expression, as [`evaluate`] takes it.
@@ -208,7 +216,19 @@ impl Rule {
         ensures tree { tree_of result.now ≡ self.now.tree }
         ensures limit { length result.now ≤ expression_limit }
     {
-        &self.room[..self.parsed.instruction_count as usize]
+        self.program.as_slice()
+    }
+}
+
+/// Puts these instructions in the place of a program.
+fn fill(program: &mut ArrayVec<Instruction, EXPRESSION_LIMIT>, instructions: &[Instruction])
+    requires { length instructions.now ≤ expression_limit }
+    ensures { program.new.items ≡ instructions.now }
+{
+    program.clear();
+    match program.try_extend_from_slice(instructions) {
+        Ok(()) => {}
+        Err(_) => unreachable!(),
     }
 }
 

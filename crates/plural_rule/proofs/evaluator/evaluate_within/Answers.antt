@@ -1,27 +1,36 @@
-use Rattle.std.proofs.Common.{◌≡◌, ℕ, ◌≤◌, Option, Some, None, ◌+◌, ◌-◌, ◌∷◌, length, drop, ap, ◌∙◌, sym, arith, length-drop, ◌<◌}
+use Rattle.std.proofs.Common.{◌≡◌, ℕ, ◌≤◌, Option, Some, None, ◌+◌, ◌-◌, ◌∷◌, [], List, length, drop, ap, ◌∙◌, sym, arith, length-drop, ◌<◌}
 use Rattle.std.proofs.lemmas.List.{drop_all}
 use Rattle.plural_rule.specs.Expression.{Tree, value, visited, nodes}
-use Rattle.plural_rule.specs.Program.{tree_of}
+use Rattle.plural_rule.specs.declared.instruction.Instruction.{Instruction}
+use Rattle.plural_rule.specs.Program.{program, tree_of, size, length-program}
 use Rattle.plural_rule.proofs.Uniqueness.{visited_le_nodes}
 use Rattle.plural_rule.specs.Internal.Run.{run, stored, Outcome, outcome}
-use Rattle.plural_rule.proofs.Programs.{stored-cons, starts, skips, ready}
+use Rattle.plural_rule.proofs.Programs.{nodes-le-size, stored-cons, starts, skips, ready}
 use Rattle.plural_rule.proofs.evaluator.evaluate_within.Goals as goal
 
-told : (t : Tree) (n : ℕ) (v : Option ℕ) (s : ℕ) → Some (record { value = v; steps = s }) ≡ Some (outcome t n)
-    → record { value : v ≡ value t n; steps : s ≡ visited t n; bound : s ≤ nodes t }
-told t n v s e =
-    let both : record { value = v; steps = s } ≡ outcome t n = cc in
+told : (p : List Instruction) (t : Tree) (n before : ℕ) (v : Option ℕ) (s : ℕ) → p ≡ program 0 t
+    → Some (record { value = v; steps = s }) ≡ Some (outcome t n before)
+    → record {
+      value : v ≡ value t n;
+      steps : s ≡ before + visited t n;
+      bound : s ≤ before + nodes t;
+      few : s ≤ before + length p;
+    }
+told p t n before v s is e =
+    let both : record { value = v; steps = s } ≡ outcome t n before = cc in
     let same = ap (λ (o : Outcome). o.steps) both in
     let value = ap (λ (o : Outcome). o.value) both in
-    record { value = value; steps = same; bound = omega (arith, same, visited_le_nodes t n) }
+    let bound : s ≤ before + nodes t = omega (arith, same, visited_le_nodes t n) in
+    let long : length p ≡ size t = ap length is ∙ length-program t 0 [] ∙ omega arith in
+    record { value = value; steps = same; bound = bound; few = omega (arith, bound, long, nodes-le-size t) }
 
 pub loop-index-init : goal.loop-index-init
 loop-index-init g c = record {
-  runs = starts g.row.N c.args.count _ _ c.args.instructions.now
+  runs = starts g.row.N c.args.count _ _ c.args.steps.now c.args.instructions.now
       (tree_of c.args.instructions.now) c.requires.program c.requires.room;
   some = λ h. omega arith;
   inside = λ h. omega (arith, c.requires.room);
-  bound = omega arith;
+  bound = omega (arith, c.requires.start);
 }
 
 pub returns-in_default : goal.returns-in_default
@@ -31,8 +40,8 @@ returns-in_default g c =
     (loop.newest ∷ vs) loop.steps)
     (sym (stored-cons loop.stack loop.len (loop.invariant.some c.loop-index-test.true)))
     ∙ loop.invariant.runs in
-    let on = c.step-value.ensures.next g.row.N (stored loop.stack (loop.len - 1)) loop.steps _ before in
-    told _ _ None (loop.steps + c.step-value.result.3) (rw c.in_default.is at on)
+    let on = c.step-value.ensures.next g.row.N (stored loop.stack (loop.len - 1)) _ before in
+    told _ _ _ _ None _ c.requires.program (rw c.in_default.is at on)
 
 pub loop-index-preserved : goal.loop-index-preserved
 loop-index-preserved g c =
@@ -44,8 +53,8 @@ loop-index-preserved g c =
     let before = ap (λ vs. run g.row.N c.args.count (drop loop.index code) 0 (loop.newest ∷ vs) loop.steps)
     (sym (stored-cons loop.stack loop.len some)) ∙ loop.invariant.runs in
     let on = rw c.in-Some.is at
-    (c.step-value.ensures.next g.row.N (stored loop.stack (loop.len - 1)) loop.steps _ before) in
-    let runs = ap (λ vs. run g.row.N c.args.count (drop (i + e.2) code) 0 (c.in-Some.value ∷ vs) (loop.steps + e.3))
+    (c.step-value.ensures.next g.row.N (stored loop.stack (loop.len - 1)) _ before) in
+    let runs = ap (λ vs. run g.row.N c.args.count (drop (i + e.2) code) 0 (c.in-Some.value ∷ vs) c.step-value.new.steps)
     (c.keep-len.ensures ∙ ap (λ vs. drop e.1 (loop.newest ∷ vs)) (stored-cons loop.stack loop.len some))
     ∙ skips g.row.N c.args.count code i e.2 _ _ on in
     let after = λ (h : i + e.2 < length code). ready g.row.N c.args.count (drop (i + e.2) code) _ _ _ _
@@ -54,12 +63,12 @@ loop-index-preserved g c =
       runs = runs;
       some = λ h. (after h).some;
       inside = λ h. (after h).inside;
-      bound = omega (arith, loop.invariant.bound);
+      bound = omega (arith, loop.invariant.bound, c.step-value.ensures.few);
     }
 
 pub returns : goal.returns
 returns g c =
     let loop = c.loop-index in
-    told _ _ (Some loop.newest) loop.steps
+    told _ _ _ _ (Some loop.newest) loop.steps c.requires.program
     (ap (λ p. run g.row.N c.args.count p 0 (loop.newest ∷ stored loop.stack loop.len) loop.steps)
     (sym (drop_all loop.index c.args.instructions.now c.loop-index-test.false)) ∙ loop.invariant.runs)

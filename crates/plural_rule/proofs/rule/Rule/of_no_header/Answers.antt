@@ -1,19 +1,23 @@
-use Rattle.std.proofs.Common.{refl, ap, sym, arith}
+use Rattle.std.proofs.Common.{◌≡◌, List, refl, ap, sym, ◌∙◌}
+use Rattle.plural_rule.specs.declared.instruction.Instruction.{Instruction}
 use Rattle.plural_rule.specs.declared.rule.Source.TheVariants.{Default}
 use Rattle.plural_rule.specs.declared.rule.Reason.TheVariants.{NoNumber}
+use Rattle.plural_rule.specs.Expression.{Tree}
 use Rattle.plural_rule.specs.PluralRule.{default_rule}
-use Rattle.plural_rule.specs.Program.{program, tree_of-program}
+use Rattle.plural_rule.specs.Program.{program, tree_of, tree_of-program}
 use Rattle.plural_rule.proofs.rule.Rule.of_no_header.Goals as goal
 
+tree_is : (code : List Instruction) (t : Tree) → code ≡ program 0 t → tree_of code ≡ t
+tree_is code t e = ap tree_of e ∙ tree_of-program t
+
 pub invariant_of-result : goal.invariant_of-result
-invariant_of-result c = record {
-  limit = omega (arith);
-  program_is = ap (program 0) (sym (tree_of-program (default_rule NoNumber).tree));
-}
+invariant_of-result c =
+    let tree = (default_rule NoNumber).tree in
+    c.fill.ensures ∙ ap (program 0) (sym (tree_is c.fill.new.program.items tree c.fill.ensures))
 
 pub returns : goal.returns
 returns c = (
   refl,
   ap (λ t. record { source = Default NoNumber; nplurals = 2; tree = t })
-      (tree_of-program (default_rule NoNumber).tree),
+      (tree_is c.fill.new.program.items (default_rule NoNumber).tree c.fill.ensures),
 )
