@@ -1,16 +1,16 @@
 -- Faults: one byte order is shown, and which fault comes first.
 use Rattle.std.proofs.lemmas.Bool.{cases_lt}
-use Rattle.std.proofs.Common.{◌≡◌, ℕ, ◌+◌, ◌<◌, ◌≤◌, List, Option, None, Some, MatchOption, unwrap_or, refl, sym, ◌∙◌, ap, subst, arith, inl, inr}
+use Rattle.std.proofs.Common.{◌≡◌, ◌⊎◌, ℕ, ◌+◌, ◌*◌, ◌<◌, ◌≤◌, List, length, Option, None, Some, MatchOption, unwrap_or, refl, sym, ◌∙◌, ap, subst, arith, inl, inr}
 use Rattle.mo_file.specs.declared.byte_order.Order.{Order}
 use Rattle.mo_file.specs.declared.byte_order.Order.TheVariants.{Little, Big}
 use Rattle.mo_file.specs.declared.fault.MoError.{MoError}
 use Rattle.mo_file.specs.declared.fault.MoError.TheVariants.{TooShort, BadMagic, BadRevision, TableOutside}
 use Rattle.mo_file.specs.declared.fault.MoError.TheVariants.{StringOutside, NoTerminator, NotSorted}
 use Rattle.mo_file.specs.declared.file_header.FileHeader.{FileHeader}
-use Rattle.mo_file.specs.FileHeader.{HasMagicOf, message_count, originals_table, translations_table}
+use Rattle.mo_file.specs.FileHeader.{HasMagicOf, message_count, originals_table, revision, translations_table}
 use Rattle.mo_file.specs.Message.{Message}
 use Rattle.mo_file.specs.MoFile.{IsMoFile}
-use Rattle.mo_file.specs.Fault.{HasFault, HasFaultIn, IsFirstFault, IsNotRising}
+use Rattle.mo_file.specs.Fault.{HasFault, HasFaultIn, IsBefore, IsFirstFault, IsNotRising}
 use Rattle.mo_file.specs.Internal.Checking.{AreRisingBelow, HasStrings, IsChecked, IsHeader}
 
 pub not_below : (a b : ℕ) → ¬ (a < b) → b ≤ a
@@ -120,3 +120,26 @@ of-valid header bytes (Some o) shows same count originals translations order mes
       checked header bytes messages
           (subst (λ o. IsMoFile o bytes messages) (sym is) valid) count originals translations,
     )
+
+-- a fault of the third kind or of a later one, whatever message it names, isn't before BadRevision
+not_before : (n place : ℕ) → 3 ≤ n → ((n < 3) ⊎ ((n ≡ 3) × (place < 0))) → ⊥
+not_before n place above (inl less) = omega (arith, less, above)
+not_before n place above (inr same) = omega (arith, same.1)
+
+-- only the length and the magic number are asked for before the revision
+before_revision : (order : Order) (bytes : List ℕ) → 28 ≤ length bytes → HasMagicOf order bytes → (f : MoError) →
+    IsBefore f BadRevision → ¬ HasFault bytes f
+before_revision order bytes long shows TooShort before has = omega (arith, long, has)
+before_revision order bytes long shows BadMagic before has = has order shows
+before_revision order bytes long shows BadRevision before has = not_before 3 0 (omega arith) before
+before_revision order bytes long shows TableOutside before has = not_before 4 0 (omega arith) before
+before_revision order bytes long shows (StringOutside i) before has = not_before 5 i (omega arith) before
+before_revision order bytes long shows (NoTerminator i) before has = not_before 6 i (omega arith) before
+before_revision order bytes long shows (NotSorted i) before has = not_before 7 i (omega arith) before
+
+pub other_revision : (order : Order) (bytes : List ℕ) (major minor : ℕ) → 28 ≤ length bytes → HasMagicOf order bytes →
+    revision order bytes ≡ 65536 * major + minor → minor < 65536 → 2 ≤ major → IsFirstFault bytes BadRevision
+other_revision order bytes major minor long shows is below above = record {
+  holds = (order, shows, omega (arith, is, below, above));
+  first = before_revision order bytes long shows;
+}

@@ -1,3 +1,4 @@
 -- What private functions, proofs and laws cite; no clause of a public function does.
 pub mod Checking
 pub mod CommonPrefix
+pub mod Words

@@ -1,10 +1,11 @@
 -- Laws of the format.
-use Rattle.std.specs.Prelude.{◌≡◌, ◌⊎◌, ◌+◌, ◌*◌, ◌<◌, ◌++◌, ◌∷◌, [], ℕ, List, codes}
+use Rattle.std.specs.Prelude.{◌≡◌, ◌⊎◌, ◌+◌, ◌*◌, ◌<◌, ◌≤◌, ◌++◌, ◌∷◌, [], ℕ, List, codes, length}
 use Rattle.mo_file.specs.declared.byte_order.Order.{Order}
 use Rattle.mo_file.specs.declared.fault.MoError.{MoError}
 use Rattle.mo_file.specs.Key.{keys, AreRising}
 use Rattle.mo_file.specs.Layout.{layout, LayoutFits}
-use Rattle.mo_file.specs.FileHeader.{hash_size}
+use Rattle.mo_file.specs.declared.fault.MoError.TheVariants.{BadRevision}
+use Rattle.mo_file.specs.FileHeader.{HasMagicOf, hash_size, revision}
 use Rattle.mo_file.specs.Revision.{IsKnownMajor, layout_of_revision}
 use Rattle.mo_file.specs.MoFile.{IsMoFile}
 use Rattle.mo_file.specs.Fault.{IsFirstFault}
@@ -75,3 +76,9 @@ KnownRevisionsAreValid =
     (order : Order) (major minor : ℕ) (messages : List Message) → IsKnownMajor major → minor < 65536
     → AreRising (keys messages) → LayoutFits order messages
     → IsMoFile order (layout_of_revision order (65536 * major + minor) messages) messages
+
+-- a file of major revision 2 or above is refused for that, whatever stands after its second word
+abbrev pub OtherRevisionsAreRefused : Type 0
+OtherRevisionsAreRefused =
+    (order : Order) (bytes : List ℕ) (major minor : ℕ) → 28 ≤ length bytes → HasMagicOf order bytes
+    → revision order bytes ≡ 65536 * major + minor → minor < 65536 → 2 ≤ major → IsFirstFault bytes BadRevision

@@ -12,3 +12,4 @@ pub mod Pairs
 pub mod Building
 pub mod Laws
 pub mod Internal
+pub mod Examples

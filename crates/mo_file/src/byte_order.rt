@@ -40,15 +40,75 @@ impl Order {
     }
 }
 
+/// A byte order as a type. What is generic over it is compiled for each of the two, and asks for
+/// none.
+pub(crate) trait FileOrder: ByteOrder {
+    ghost use Rattle.std.specs.Prelude.{◌≡◌, ℕ, List, drop};
+    ghost use Rattle.mo_file.specs.declared.byte_order.Order.{Order};
+    ghost use Rattle.mo_file.specs.Word.{word_at, word_bytes};
+
+    ghost order: { Order };
+
+    /// The same as a value.
+    fn order() -> Order
+        ensures { result ≡ order };
+
+    // The words of a file are the numbers that are read in this order.
+    ghost reads: { (bytes : List ℕ) (at : ℕ) → Self.number_of 4 (drop at bytes) ≡ word_at order bytes at };
+
+    // And they are written as these numbers are.
+    ghost writes: { (number : ℕ) → Self.bytes_of 4 number ≡ word_bytes order number };
+}
+
+impl FileOrder for LittleEndian {
+    ghost use Rattle.mo_file.specs.declared.byte_order.Order.TheVariants.{Little};
+    ghost use Rattle.mo_file.specs.Internal.Words.{little_words_are_read, little_words_are_written};
+
+    ghost order = { Little };
+
+    ghost reads = { little_words_are_read };
+
+    ghost writes = { little_words_are_written };
+
+    #[inline(always)]
+    fn order() -> Order {
+        Order::Little
+    }
+}
+
+impl FileOrder for BigEndian {
+    ghost use Rattle.mo_file.specs.declared.byte_order.Order.TheVariants.{Big};
+    ghost use Rattle.mo_file.specs.Internal.Words.{big_words_are_read, big_words_are_written};
+
+    ghost order = { Big };
+
+    ghost reads = { big_words_are_read };
+
+    ghost writes = { big_words_are_written };
+
+    #[inline(always)]
+    fn order() -> Order {
+        Order::Big
+    }
+}
+
+/// The 32-bit word at an offset, in the byte order of the type.
+#[inline(always)]
+pub(crate) fn word_in<O: FileOrder>(bytes: &[u8], at: usize) -> u32
+    requires { at + 4 ≤ length bytes.now }
+    ensures { result ≡ word_at O.order bytes.now at }
+{
+    O::read_u32(&bytes[at..])
+}
+
 /// The 32-bit word at an offset, in this byte order.
-#[tactic(auto, unfolding(crate::specs::Word::word_at))]
 #[inline(always)]
 pub fn word(order: Order, bytes: &[u8], at: usize) -> u32
     requires { at + 4 ≤ length bytes.now }
     ensures { result ≡ word_at order bytes.now at }
 {
     match order {
-        Order::Little => LittleEndian::read_u32(&bytes[at..]),
-        Order::Big => BigEndian::read_u32(&bytes[at..]),
+        Order::Little => word_in::<LittleEndian>(bytes, at),
+        Order::Big => word_in::<BigEndian>(bytes, at),
     }
 }

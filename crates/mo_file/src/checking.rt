@@ -5,18 +5,20 @@ ghost use Rattle.std.specs.Prelude.{◌≡◌, ◌+◌, ◌-◌, ◌^◌, ◌<�
 ghost use Rattle.mo_file.specs.Fault.{IsFirstFault, comparisons_before};
 ghost use Rattle.mo_file.specs.Internal.Checking.{AreRisingBelow, HasStrings, IsHeader};
 
+use crate::byte_order::FileOrder;
 use crate::fault::MoError;
 use crate::file_header::FileHeader;
 use crate::key::compare_originals;
 use crate::meter::Meter;
-use crate::strings::{range_in, rest_at};
+use crate::strings::{range_in, rest_in};
 use std::cmp::Ordering;
 
 /// Checks that each string lies inside the file and that a NUL follows it. A string outside the
 /// file is reported before a missing NUL, whichever message has it.
 #[inline(always)]
-pub(crate) fn check_strings(header: FileHeader, bytes: &[u8]) -> Result<(), MoError>
-    requires { IsHeader header bytes.now }
+pub(crate) fn check_strings<O: FileOrder>(header: FileHeader, bytes: &[u8]) -> Result<(), MoError>
+    requires order { header.order ≡ O.order }
+    requires read { IsHeader header bytes.now }
     ensures exact { MatchResult result
         (λ _. HasStrings header.order bytes.now)
         (IsFirstFault bytes.now) }
@@ -24,8 +26,8 @@ pub(crate) fn check_strings(header: FileHeader, bytes: &[u8]) -> Result<(), MoEr
 {
     let mut unterminated = None;
     for i in 0..header.count {
-        let original_end = range_in(header.order, bytes, header.originals, i).end;
-        let translation_end = range_in(header.order, bytes, header.translations, i).end;
+        let original_end = range_in::<O>(bytes, header.originals, i).end;
+        let translation_end = range_in::<O>(bytes, header.translations, i).end;
         if original_end > bytes.len() || translation_end > bytes.len() {
             return Err(MoError::StringOutside(i));
         }
@@ -49,7 +51,12 @@ fn is_nul(bytes: &[u8], at: usize) -> bool
 
 /// Checks that each key is above the one before it, by one comparison for each two neighbours.
 #[inline(always)]
-pub(crate) fn check_keys(header: FileHeader, bytes: &[u8], meter: &mut Meter) -> Result<(), MoError>
+pub(crate) fn check_keys<O: FileOrder>(
+    header: FileHeader,
+    bytes: &[u8],
+    meter: &mut Meter,
+) -> Result<(), MoError>
+    requires order { header.order ≡ O.order }
     requires read { IsHeader header bytes.now }
     requires strings { HasStrings header.order bytes.now }
     requires room { meter.old < 2 ^ 63 }
@@ -63,9 +70,9 @@ pub(crate) fn check_keys(header: FileHeader, bytes: &[u8], meter: &mut Meter) ->
     if header.count == 0 {
         return Ok(());
     }
-    let mut text = rest_at(header, bytes, 0);
+    let mut text = rest_in::<O>(header, bytes, 0);
     for i in 0..header.count - 1 {
-        let next = rest_at(header, bytes, i + 1);
+        let next = rest_in::<O>(header, bytes, i + 1);
         meter.add_one();
         match compare_originals(text, next) {
             Ordering::Less => text = next,

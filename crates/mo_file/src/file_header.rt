@@ -1,11 +1,11 @@
 //! The seven words that begin an MO file.
 
-ghost use Rattle.std.specs.Prelude.{◌≡◌, ◌≤◌, IfErr, MatchResult, length};
+ghost use Rattle.std.specs.Prelude.{◌≡◌, ◌≤◌, IfErr, IfOk, MatchResult, length};
 ghost use Rattle.mo_file.specs.FileHeader.{HasMagicOf, message_count, originals_table, translations_table};
 ghost use Rattle.mo_file.specs.Fault.{IsFirstFault, comparisons_before};
 ghost use Rattle.mo_file.specs.Internal.Checking.{IsHeader};
 
-use crate::byte_order::{Order, word};
+use crate::byte_order::{FileOrder, Order, word_in};
 use crate::fault::MoError;
 
 /// The length of the file header in bytes: seven words of 4.
@@ -29,34 +29,35 @@ pub(crate) struct FileHeader {
 impl FileHeader {
     /// The words of the file header, read in this byte order.
     #[inline(always)]
-    pub(crate) fn of_words(order: Order, bytes: &[u8]) -> FileHeader
+    pub(crate) fn of_words<O: FileOrder>(bytes: &[u8]) -> FileHeader
         requires { 28 ≤ length bytes.now }
-        ensures order { result.order ≡ order }
+        ensures order { result.order ≡ O.order }
         ensures count { result.count ≡ message_count result.order bytes.now }
         ensures originals { result.originals ≡ originals_table result.order bytes.now }
         ensures translations { result.translations ≡ translations_table result.order bytes.now }
     {
         FileHeader {
-            order,
-            count: word(order, bytes, 8),
-            originals: word(order, bytes, 12),
-            translations: word(order, bytes, 16),
+            order: O::order(),
+            count: word_in::<O>(bytes, 8),
+            originals: word_in::<O>(bytes, 12),
+            translations: word_in::<O>(bytes, 16),
         }
     }
 
     /// Reads the file header in the byte order that the magic number shows, and checks that both
     /// tables lie inside the file.
     #[inline(always)]
-    pub(crate) fn read(order: Order, bytes: &[u8]) -> Result<FileHeader, MoError>
+    pub(crate) fn read<O: FileOrder>(bytes: &[u8]) -> Result<FileHeader, MoError>
         requires long { 28 ≤ length bytes.now }
-        requires shows { HasMagicOf order bytes.now }
+        requires shows { HasMagicOf O.order bytes.now }
         ensures exact { MatchResult result (λ header. IsHeader header bytes.now) (IsFirstFault bytes.now) }
+        ensures order { IfOk result (λ header. header.order ≡ O.order) }
         ensures no_comparison { IfErr result (λ e. comparisons_before e ≡ 0) }
     {
-        if word(order, bytes, 4) >> 16 > 1 {
+        if word_in::<O>(bytes, 4) >> 16 > 1 {
             return Err(MoError::BadRevision);
         }
-        let header = FileHeader::of_words(order, bytes);
+        let header = FileHeader::of_words::<O>(bytes);
         let table_len = DESCRIPTOR_LEN as usize * header.count as usize;
         if header.originals as usize + table_len > bytes.len()
             || header.translations as usize + table_len > bytes.len()

@@ -3,7 +3,7 @@
 
 ghost use Rattle.mo_file.specs.Laws.{OneMessageList, MoFileOrFault, LayoutIsMoFile, NoFaultOfMoFile, OneFirstFault};
 ghost use Rattle.std.specs.Prelude.{◌≡◌};
-ghost use Rattle.mo_file.specs.Laws.{KnownRevisionsAreValid, NoHashTableIsLaidOut};
+ghost use Rattle.mo_file.specs.Laws.{KnownRevisionsAreValid, NoHashTableIsLaidOut, OtherRevisionsAreRefused};
 ghost use Rattle.mo_file.specs.Laws.{big_file_of_one, file_of_two, one_message, two_messages};
 ghost use Rattle.mo_file.specs.Layout.{layout};
 
@@ -30,6 +30,12 @@ pub fn files_are_laid_out()
 /// order of its keys stays a valid file with these very messages.
 pub fn known_revisions_are_valid()
     ensures { KnownRevisionsAreValid }
+{}
+
+/// A file of major revision 2 or above is refused with [`MoError::BadRevision`](crate::MoError),
+/// whatever else is wrong with it after the second word.
+pub fn other_revisions_are_refused()
+    ensures { OtherRevisionsAreRefused }
 {}
 
 /// A file is valid in one byte order at most, and holds one list of messages.

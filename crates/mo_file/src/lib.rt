@@ -32,8 +32,9 @@ pub use common_prefix::find_byte;
 pub use fault::MoError;
 pub use key::{compare_key, compare_originals};
 pub use laws::{
-    known_revisions_are_valid, layout_is_mo_file, mo_file_or_fault, no_fault_of_mo_file,
-    no_hash_table_is_laid_out, one_first_fault, one_message_list,
+    files_are_laid_out, known_revisions_are_valid, layout_is_mo_file, mo_file_or_fault,
+    no_fault_of_mo_file, no_hash_table_is_laid_out, one_first_fault, one_message_list,
+    other_revisions_are_refused,
 };
 pub use meter::Meter;
 pub use pairs::{BorrowedPair, Pair};

@@ -11,13 +11,14 @@ ghost use Rattle.mo_file.specs.Key.{AreRising, key_at, key_cmp, keys, query_key}
 ghost use Rattle.mo_file.specs.Layout.{layout};
 ghost use Rattle.mo_file.specs.Message.{Message, originals, translations};
 
-use crate::byte_order::Order;
+use crate::byte_order::{FileOrder, Order};
 use crate::checking::{check_keys, check_strings};
 use crate::fault::MoError;
 use crate::file_header::{FileHeader, order_of};
 use crate::key::compare_key;
 use crate::meter::Meter;
 use crate::strings::{range_at, rest_at};
+use byteorder::{BigEndian, LittleEndian};
 use std::cmp::Ordering;
 use std::marker::Model;
 use std::ops::Range;
@@ -71,17 +72,16 @@ impl<'a> MoView<'a> {
             (λ e. meter.new ≡ meter.old + comparisons_before e) }
     {
         match order_of(bytes)? {
-            Order::Little => MoView::open_in(Order::Little, bytes, meter),
-            Order::Big => MoView::open_in(Order::Big, bytes, meter),
+            Order::Little => MoView::open_in::<LittleEndian>(bytes, meter),
+            Order::Big => MoView::open_in::<BigEndian>(bytes, meter),
         }
     }
 
-    /// Checks bytes after the magic number, which shows this byte order. It is compiled for each of
-    /// the two, so that no loop asks for it.
+    /// Checks bytes after the magic number, which shows this byte order.
     #[inline(always)]
-    fn open_in(order: Order, bytes: &'a [u8], meter: &mut Meter) -> Result<MoView<'a>, MoError>
+    fn open_in<O: FileOrder>(bytes: &'a [u8], meter: &mut Meter) -> Result<MoView<'a>, MoError>
         requires long { 28 ≤ length bytes.now }
-        requires shows { HasMagicOf order bytes.now }
+        requires shows { HasMagicOf O.order bytes.now }
         requires room { meter.old < 2 ^ 63 }
         ensures exact { MatchResult result
             (λ view. (order : Order) × IsMoFile order bytes.now view.messages)
@@ -91,9 +91,9 @@ impl<'a> MoView<'a> {
             (λ view. meter.new ≡ meter.old + (length view.messages - 1))
             (λ e. meter.new ≡ meter.old + comparisons_before e) }
     {
-        let header = FileHeader::read(order, bytes)?;
-        check_strings(header, bytes)?;
-        check_keys(header, bytes, meter)?;
+        let header = FileHeader::read::<O>(bytes)?;
+        check_strings::<O>(header, bytes)?;
+        check_keys::<O>(header, bytes, meter)?;
         Ok(MoView { bytes, header })
     }
 
@@ -106,8 +106,8 @@ impl<'a> MoView<'a> {
         ensures bytes { result.bytes ≡ bytes.now }
     {
         let header = match Order::of_file(bytes).unwrap_or(Order::Big) {
-            Order::Little => FileHeader::of_words(Order::Little, bytes),
-            Order::Big => FileHeader::of_words(Order::Big, bytes),
+            Order::Little => FileHeader::of_words::<LittleEndian>(bytes),
+            Order::Big => FileHeader::of_words::<BigEndian>(bytes),
         };
         MoView { bytes, header }
     }

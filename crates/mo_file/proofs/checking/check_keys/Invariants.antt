@@ -5,7 +5,7 @@ use Rattle.mo_file.specs.Internal.Checking.{AreRisingBelow}
 use Rattle.mo_file.proofs.checking.check_keys.Given as goal
 
 abbrev pub invariant-loop-i : goal.invariant-loop-i
-invariant-loop-i l = record {
+invariant-loop-i g l = record {
   sorted : AreRisingBelow l.header.order l.bytes (l.i + 1);
   current : key_of l.text ≡ key_of (original_at l.header.order l.bytes l.i);
   cost : l.meter ≡ l.initial.meter + l.i;

@@ -3,7 +3,7 @@ use Rattle.mo_file.proofs.BuildLemmas.{word_bytes-magic}
 use Rattle.mo_file.proofs.writing.put_header.Goals as goal
 
 pub returns-clause-text : goal.returns-clause-text
-returns-clause-text c =
+returns-clause-text g c =
     c.put_word.ensures.text
     ∙ rw (
       c.put_word-at-6.ensures.text,
@@ -12,5 +12,5 @@ returns-clause-text c =
       c.put_word-at-3.ensures.text,
       c.put_word-at-2.ensures.text,
       c.put_word-at.ensures.text,
-      word_bytes-magic c.args.order,
+      word_bytes-magic g.O.FileOrder.order,
     ) refl

@@ -1,43 +1,50 @@
 use Rattle.std.proofs.Common.{arith}
 use Rattle.mo_file.proofs.BuildLemmas.{length-layout-strings, laid-out}
-use Rattle.mo_file.proofs.writing.lay_out.Goals as goal
+use Rattle.mo_file.proofs.writing.lay_out_in.Goals as goal
 
 pub overflow_cast-count : goal.overflow_cast-count
-overflow_cast-count g c = let len =
-    length-layout-strings g.P.StringPair.message c.args.order c.args.pairs.now in omega (arith, len, c.requires.fits)
+overflow_cast-count g c =
+    let len = length-layout-strings g.P.StringPair.message g.O.FileOrder.order c.args.pairs.now in
+    omega (arith, len, c.requires.fits)
 
 pub overflow_mul-originals : goal.overflow_mul-originals
-overflow_mul-originals g c = let len =
-    length-layout-strings g.P.StringPair.message c.args.order c.args.pairs.now in omega (arith, len, c.requires.fits)
+overflow_mul-originals g c =
+    let len = length-layout-strings g.P.StringPair.message g.O.FileOrder.order c.args.pairs.now in
+    omega (arith, len, c.requires.fits)
 
 pub overflow_mul-originals-2 : goal.overflow_mul-originals-2
-overflow_mul-originals-2 g c = let len =
-    length-layout-strings g.P.StringPair.message c.args.order c.args.pairs.now in omega (arith, len, c.requires.fits)
+overflow_mul-originals-2 g c =
+    let len = length-layout-strings g.P.StringPair.message g.O.FileOrder.order c.args.pairs.now in
+    omega (arith, len, c.requires.fits)
 
 pub overflow_add-originals : goal.overflow_add-originals
-overflow_add-originals g c = let len =
-    length-layout-strings g.P.StringPair.message c.args.order c.args.pairs.now in omega (arith, len, c.requires.fits)
+overflow_add-originals g c =
+    let len = length-layout-strings g.P.StringPair.message g.O.FileOrder.order c.args.pairs.now in
+    omega (arith, len, c.requires.fits)
 
 pub put_header-tables-requires-clause-fits : goal.put_header-tables-requires-clause-fits
-put_header-tables-requires-clause-fits g c = let len =
-    length-layout-strings g.P.StringPair.message c.args.order c.args.pairs.now in omega (arith, len, c.requires.fits)
+put_header-tables-requires-clause-fits g c =
+    let len = length-layout-strings g.P.StringPair.message g.O.FileOrder.order c.args.pairs.now in
+    omega (arith, len, c.requires.fits)
 
 pub put_header-tables-requires-clause-room : goal.put_header-tables-requires-clause-room
-put_header-tables-requires-clause-room g c = let len =
-    length-layout-strings g.P.StringPair.message c.args.order c.args.pairs.now in omega (arith, len, c.requires.room)
+put_header-tables-requires-clause-room g c =
+    let len = length-layout-strings g.P.StringPair.message g.O.FileOrder.order c.args.pairs.now in
+    omega (arith, len, c.requires.room)
 
 pub put_table-translations-requires-clause-room : goal.put_table-translations-requires-clause-room
 put_table-translations-requires-clause-room g c =
-    let len = length-layout-strings g.P.StringPair.message c.args.order c.args.pairs.now in
+    let len = length-layout-strings g.P.StringPair.message g.O.FileOrder.order c.args.pairs.now in
     omega (arith, len, c.requires.room, c.put_header-tables.ensures.end, c.put_header-tables.ensures.len)
 
 pub put_table-translations-requires-clause-fits : goal.put_table-translations-requires-clause-fits
-put_table-translations-requires-clause-fits g c = let len =
-    length-layout-strings g.P.StringPair.message c.args.order c.args.pairs.now in omega (arith, len, c.requires.fits)
+put_table-translations-requires-clause-fits g c =
+    let len = length-layout-strings g.P.StringPair.message g.O.FileOrder.order c.args.pairs.now in
+    omega (arith, len, c.requires.fits)
 
 pub put_table-requires-clause-room : goal.put_table-requires-clause-room
 put_table-requires-clause-room g c =
-    let len = length-layout-strings g.P.StringPair.message c.args.order c.args.pairs.now in
+    let len = length-layout-strings g.P.StringPair.message g.O.FileOrder.order c.args.pairs.now in
     omega (
       arith,
       len,
@@ -49,12 +56,12 @@ put_table-requires-clause-room g c =
 
 pub put_table-requires-clause-fits : goal.put_table-requires-clause-fits
 put_table-requires-clause-fits g c =
-    let len = length-layout-strings g.P.StringPair.message c.args.order c.args.pairs.now in
+    let len = length-layout-strings g.P.StringPair.message g.O.FileOrder.order c.args.pairs.now in
     omega (arith, len, c.requires.fits, c.put_table-translations.ensures.end)
 
 pub put_strings-middle-requires : goal.put_strings-middle-requires
 put_strings-middle-requires g c =
-    let len = length-layout-strings g.P.StringPair.message c.args.order c.args.pairs.now in
+    let len = length-layout-strings g.P.StringPair.message g.O.FileOrder.order c.args.pairs.now in
     omega (
       arith,
       len,
@@ -66,7 +73,7 @@ put_strings-middle-requires g c =
 
 pub put_strings-requires : goal.put_strings-requires
 put_strings-requires g c =
-    let len = length-layout-strings g.P.StringPair.message c.args.order c.args.pairs.now in
+    let len = length-layout-strings g.P.StringPair.message g.O.FileOrder.order c.args.pairs.now in
     omega (
       arith,
       len,
@@ -80,7 +87,8 @@ put_strings-requires g c =
 
 pub returns-clause-text : goal.returns-clause-text
 returns-clause-text g c =
-    laid-out g.P.StringPair.message c.args.order c.args.pairs.now _ _ _ _ _ _ _ _ _ c.put_header-tables.ensures.end
+    laid-out g.P.StringPair.message g.O.FileOrder.order c.args.pairs.now _ _ _ _ _ _ _ _ _
+    c.put_header-tables.ensures.end
     c.put_header-tables.ensures.text
     c.put_table-translations.ensures.text c.put_table-translations.ensures.end c.put_table.ensures.text
     c.put_strings-middle.ensures.text c.put_strings-middle.ensures.end c.put_strings.ensures.text
