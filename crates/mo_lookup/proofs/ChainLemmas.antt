@@ -1,5 +1,5 @@
 -- The first catalogue of a chain that translates a query.
-use Rattle.std.proofs.Common.{◌≡◌, ℕ, suc, ◌+◌, ◌*◌, ◌<◌, ◌≤◌, Bool, true, List, ◌∷◌, Option, None, Some, length, take, drop, get_or, slice_get, refl, sym, ◌∙◌, ap, arith}
+use Rattle.std.proofs.Common.{◌≡◌, ℕ, suc, ◌+◌, ◌*◌, ◌<◌, ◌≤◌, Bool, true, false, List, [], ◌∷◌, ◌++◌, Option, None, Some, inl, inr, if◌then◌else◌, min, length, length-append, take, drop, get_or, slice_get, refl, sym, ◌∙◌, ap, arith}
 use Rattle.std.proofs.Math.Seq.{drop-cons}
 use Rattle.std.proofs.lemmas.List.{drop_all}
 use Rattle.std.proofs.lemmas.List.Folds.{find_at}
@@ -8,10 +8,13 @@ use Rattle.std.specs.List.{find, position_or_len}
 use Rattle.std.specs.Option.{is_some, option_map_or}
 use Rattle.plural_rule.specs.Expression.{nodes}
 use Rattle.plural_rule.specs.PluralRule.{RuleView}
-use Rattle.mo_lookup.specs.Query.{Query}
+use Rattle.mo_file.specs.Message.{Message}
+use Rattle.mo_lookup.specs.Laws.{ChainAsksAll, ChainAsksNone, ChainAsksUpToFirst, NoneHas}
+use Rattle.mo_lookup.specs.Query.{Query, can_be_key}
+use Rattle.std.proofs.lemmas.Bool.{cases_Bool}
 use Rattle.mo_lookup.specs.Answer.{AnswerView, answer, translated, untranslated}
-use Rattle.mo_lookup.specs.CatalogView.{CatalogView, answered}
-use Rattle.mo_lookup.specs.Chain.{answering_nodes, chain_answered, chain_bound, chain_comparisons, translates}
+use Rattle.mo_lookup.specs.CatalogView.{CatalogView, answered, forms_found}
+use Rattle.mo_lookup.specs.Chain.{answering_nodes, asked, chain_answered, chain_bound, chain_comparisons, translates}
 
 translated-found : (fs : List (List ℕ)) (rule : RuleView) (plural : Option (List ℕ × ℕ)) →
     (translated fs rule plural).found ≡ true
@@ -79,3 +82,60 @@ chain_answered-is chain query found is =
 pub nodes-answering : (chain : List CatalogView) (query : Query) (catalog : CatalogView) →
     find (translates query) chain ≡ Some catalog → answering_nodes chain query ≡ nodes catalog.rule.tree
 nodes-answering chain query catalog is = ap (λ c. option_map_or (λ catalog. nodes catalog.rule.tree) c 0) is
+
+-- the catalogues before the first that has the message
+first-of : (before after : List CatalogView) (catalog : CatalogView) (query : Query) (forms : List (List ℕ))
+    → NoneHas before query → forms_found catalog.messages query ≡ Some forms
+    → (find (translates query) (before ++ catalog ∷ after) ≡ Some catalog)
+    × (position_or_len (translates query) (before ++ catalog ∷ after) ≡ length before)
+first-of [] after catalog query forms none has = rw has (refl, refl)
+first-of (b ∷ before) after catalog query forms none has =
+    let rest = first-of before after catalog query forms (λ i c is. none (suc i) c is) has in
+    rw (none 0 b refl) (rest.0, omega (arith, rest.1))
+
+none-of : (chain : List CatalogView) (query : Query) → NoneHas chain query
+    → (find (translates query) chain ≡ None) × (position_or_len (translates query) chain ≡ length chain)
+none-of [] query none = (refl, refl)
+none-of (b ∷ chain) query none =
+    let rest = none-of chain query (λ i c is. none (suc i) c is) in
+    rw (none 0 b refl) (rest.0, omega (arith, rest.1))
+
+-- where a catalogue has the message, the query can be a key
+key-of-found : (messages : List Message) (query : Query) (forms : List (List ℕ))
+    → forms_found messages query ≡ Some forms → can_be_key query.context query.id ≡ true
+key-of-found messages query forms has =
+    elim (cases_Bool (can_be_key query.context query.id)) [
+      | inl is ↦ is
+      | inr cannot ↦ absurd (let none = rw cannot at has in cc)
+    ]
+
+asked-where : (chain : List CatalogView) (query : Query) → can_be_key query.context query.id ≡ true
+    → asked chain query ≡ min (length chain) (position_or_len (translates query) chain + 1)
+asked-where chain query key =
+    ap (λ can. if can then min (length chain) (position_or_len (translates query) chain + 1) else 0) key
+
+pub asks-up-to-first : ChainAsksUpToFirst
+asks-up-to-first before after catalog query forms none has =
+    let chain = before ++ catalog ∷ after in
+    let first = first-of before after catalog query forms none has in
+    let key = key-of-found catalog.messages query forms has in
+    let long : length chain ≡ length before + suc (length after) = length-append before (catalog ∷ after) in (
+      asked-where chain query key ∙ omega (arith, first.1, long),
+      ap (λ found. option_map_or (λ catalog. answered catalog query) found (untranslated query)) first.0,
+      ap (λ found. option_map_or (λ catalog. nodes catalog.rule.tree) found 0) first.0,
+    )
+
+pub asks-all : ChainAsksAll
+asks-all chain query key none =
+    let all = none-of chain query none in (
+      asked-where chain query key ∙ omega (arith, all.1),
+      ap (λ found. option_map_or (λ catalog. answered catalog query) found (untranslated query)) all.0,
+      ap (λ found. option_map_or (λ catalog. nodes catalog.rule.tree) found 0) all.0,
+    )
+
+pub asks-none : ChainAsksNone
+asks-none chain query cannot =
+    let all = none-of chain query (λ i catalog is. rw cannot refl) in (
+      rw cannot refl,
+      ap (λ found. option_map_or (λ catalog. answered catalog query) found (untranslated query)) all.0,
+    )

@@ -1,15 +1,15 @@
 -- The forms of a translation, by its NULs.
-use Rattle.std.proofs.Common.{◌≡◌, ℕ, ◌+◌, ◌-◌, ◌<◌, ◌≤◌, ◌==◌, true, false, List, [], ◌∷◌, Some, length, take, drop, slice_get, refl, sym, ◌∙◌, ap, inl, inr, arith, length-drop}
+use Rattle.std.proofs.Common.{◌≡◌, ◌⊎◌, ℕ, zero, suc, ◌+◌, ◌-◌, ◌<◌, ◌≤◌, ◌==◌, true, false, List, [], ◌∷◌, Option, None, Some, min, length, take, drop, get_or, slice_get, refl, sym, ◌∙◌, ap, inl, inr, arith, length-drop}
 use Rattle.std.proofs.lemmas.List.{drop-drop, get_or-drop, take_rest}
-use Rattle.std.proofs.lemmas.Bool.{cases_eq, false_from_ne_true, ne_eqb}
+use Rattle.std.proofs.lemmas.Bool.{cases_eq, false_from_ne_true, ne_eqb, lt-ltb, le-ltb}
 use Rattle.std.specs.List.{position_or_len, slice_range}
 use Rattle.std.proofs.lemmas.List.Sums.{position_or_len_is}
 use Rattle.std.proofs.lemmas.List.Splits.{slice_split_first, slice_split_none, length-slice_split}
 use Rattle.std.proofs.lemmas.List.Elements.{All-from_get_or}
-use Rattle.std.proofs.lemmas.Option.{slice_get-get_or}
+use Rattle.std.proofs.lemmas.Option.{get_or_from_slice_get, slice_get-get_or, slice_get_within}
 use Rattle.memchr.specs.Find.{NoneBefore, Nowhere, Passes, is_byte}
 use Rattle.mo_file.specs.Key.{is_nul}
-use Rattle.mo_lookup.specs.Answer.{form_at}
+use Rattle.mo_lookup.specs.Answer.{form_at, selected_form}
 use Rattle.mo_lookup.specs.CatalogView.{forms}
 use Rattle.mo_lookup.specs.Place.{IsFormAt}
 
@@ -98,3 +98,39 @@ module _ (text : List ℕ) (start : ℕ) (inside : start ≤ length text) where
 -- there is always a first form
 pub form-zero : (text : List ℕ) (index : ℕ) → index ≡ 0 → slice_get (forms text) index ≡ Some (form_at (forms text) 0)
 form-zero text index none = rw none (slice_get-get_or (forms text) 0 [] (omega (arith, length-slice_split is_nul text)))
+
+-- where a list has no element at an index, reading it there gives the default
+pub get_or-none : (fs : List (List ℕ)) (index : ℕ) (d : List ℕ) → slice_get fs index ≡ None → get_or fs index d ≡ d
+get_or-none [] index d none = refl
+get_or-none (f ∷ fs) zero d none = absurd cc
+get_or-none (f ∷ fs) (suc index) d none = get_or-none fs index d none
+
+none-past : (fs : List (List ℕ)) (index : ℕ) → slice_get fs index ≡ None → length fs ≤ index
+none-past [] index none = omega arith
+none-past (f ∷ fs) zero none = absurd cc
+none-past (f ∷ fs) (suc index) none = omega (arith, none-past fs index none)
+
+pub first-there : (fs : List (List ℕ)) (form : List ℕ) → slice_get fs 0 ≡ Some form → form_at fs 0 ≡ form
+first-there fs form there = get_or_from_slice_get fs 0 form [] there
+
+pub selected-there : (fs : List (List ℕ)) (nplurals index : ℕ) (form : List ℕ) → index < nplurals
+    → slice_get fs index ≡ Some form → selected_form fs nplurals (Some index) ≡ form
+selected-there fs nplurals index form counted there =
+    let inside = slice_get_within fs index form there in
+    rw (lt-ltb index (min nplurals (length fs)) (omega (arith, counted, inside)))
+    (get_or_from_slice_get fs index form [] there)
+
+beyond : (fs : List (List ℕ)) (nplurals index : ℕ) (form : List ℕ) → min nplurals (length fs) ≤ index
+    → slice_get fs 0 ≡ Some form → selected_form fs nplurals (Some index) ≡ form
+beyond fs nplurals index form past there =
+    rw (le-ltb index (min nplurals (length fs)) past) (first-there fs form there)
+
+pub selected-first : (fs : List (List ℕ)) (nplurals : ℕ) (v : Option ℕ) (form : List ℕ)
+    → ((index : ℕ) → v ≡ Some index → (nplurals ≤ index) ⊎ (slice_get fs index ≡ None)) → slice_get fs 0 ≡ Some form
+    → selected_form fs nplurals v ≡ form
+selected-first fs nplurals None form past there = first-there fs form there
+selected-first fs nplurals (Some index) form past there =
+    elim (past index refl) [
+      | inl more ↦ beyond fs nplurals index form (omega (arith, more)) there
+      | inr none ↦ beyond fs nplurals index form (omega (arith, none-past fs index none)) there
+    ]

@@ -1,11 +1,15 @@
--- A text has no separator where none is found in it.
-use Rattle.std.proofs.Common.{◌≡◌, ℕ, ◌==◌, ◌||◌, Bool, true, false, not, List, Option, None, Some, get_or, refl, sym, ap, arith}
+-- A text has no separator where none is found in it, and then it lacks NUL and EOT.
+use Rattle.std.proofs.Common.{◌≡◌, ◌≢◌, ℕ, ◌<◌, ◌==◌, ◌||◌, ◌&&◌, Bool, true, false, not, List, [], Option, None, Some, length, get_or, slice_get, refl, sym, ap, inl, inr, ◌∙◌, arith}
+use Rattle.std.specs.Prelude.{◌↔◌}
 use Rattle.std.specs.Option.{is_some}
 use Rattle.std.proofs.lemmas.List.Elements.{All-from_get_or}
 use Rattle.std.proofs.lemmas.List.Folds.{list_any_at, list_any_none}
-use Rattle.std.proofs.lemmas.Bool.{false_from_ne_true}
+use Rattle.std.proofs.lemmas.Bool.{cases_Bool, cases_eq, false_from_ne_true, ne_eqb, not-true}
+use Rattle.std.proofs.lemmas.Option.{get_or_from_slice_get, slice_get-get_or, slice_get_within}
+use Rattle.std.specs.List.{list_any}
+use Rattle.mo_lookup.specs.Laws.{LacksNulAndEot}
 use Rattle.memchr.specs.Find.{IsFirstByte, is_byte}
-use Rattle.mo_lookup.specs.Query.{is_separator, has_no_separator}
+use Rattle.mo_lookup.specs.Query.{is_separator, has_no_separator, can_be_key}
 
 neither : (nul eot : Bool) → nul ≡ false → eot ≡ false → (nul || eot) ≡ false
 neither nul eot no_nul no_eot = rw (no_nul, no_eot) refl
@@ -38,3 +42,53 @@ no_separator_by_eot text None None true true first_nul first_eot is_nul none is_
     )
     )
     )
+
+-- a text without a separator lacks NUL and EOT
+lacks : (text : List ℕ) → has_no_separator text ≡ true → LacksNulAndEot text
+lacks text is i = (λ nul. separated 0 refl nul, λ eot. separated 4 refl eot)
+  where
+    none : list_any is_separator text ≡ false
+    none = not-true (list_any is_separator text) is
+
+    separated : (byte : ℕ) → is_separator byte ≡ true → slice_get text i ≡ Some byte → ⊥
+    separated byte one there =
+        let here : get_or text i 0 ≡ byte = get_or_from_slice_get text i byte 0 there in
+        let some : list_any is_separator text ≡ true =
+        list_any_at is_separator text i 0 (slice_get_within text i byte there) (ap is_separator here ∙ one) in
+        cc
+
+-- and a text that lacks them has none
+has-none : (text : List ℕ) → LacksNulAndEot text → has_no_separator text ≡ true
+has-none text lacking =
+    ap not (list_any_none is_separator text (All-from_get_or (λ byte. is_separator byte ≡ false) text 0 other))
+  where
+    other : (i : ℕ) → i < length text → is_separator (get_or text i 0) ≡ false
+    other i inside =
+        let here = slice_get-get_or text i 0 inside in
+        neither _ _
+        (ne_eqb (get_or text i 0) 0 (λ e. (lacking i).0 (here ∙ ap Some e)))
+        (ne_eqb (get_or text i 0) 4 (λ e. (lacking i).1 (here ∙ ap Some e)))
+
+both : (a b : Bool) → a ≡ true → b ≡ true → (a && b) ≡ true
+both a b one two = rw (one, two) refl
+
+first-of-both : (a b : Bool) → (a && b) ≡ true → a ≡ true
+first-of-both true b is = refl
+first-of-both false b is = absurd cc
+
+second-of-both : (a b : Bool) → (a && b) ≡ true → b ≡ true
+second-of-both true b is = is
+second-of-both false b is = absurd cc
+
+pub key-alone : (id : List ℕ) → can_be_key None id ≡ true ↔ LacksNulAndEot id
+key-alone id = (λ is. lacks id is, λ lacking. has-none id lacking)
+
+pub key-in-context : (context id : List ℕ)
+    → can_be_key (Some context) id ≡ true ↔ (LacksNulAndEot context × LacksNulAndEot id)
+key-in-context context id = (
+  λ is. (
+    lacks context (first-of-both (has_no_separator context) (has_no_separator id) is),
+    lacks id (second-of-both (has_no_separator context) (has_no_separator id) is),
+  ),
+  λ lacking. both _ _ (has-none context lacking.0) (has-none id lacking.1),
+)

@@ -7,5 +7,6 @@ pub mod Place
 pub mod CatalogView
 pub mod Chain
 pub mod Laws
+pub mod Examples
 pub use Rattle.plural_rule.specs.Expression
 pub use Rattle.plural_rule.specs.PluralRule

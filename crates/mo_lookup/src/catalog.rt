@@ -21,7 +21,7 @@ use crate::opening::checked;
 use crate::place::Place;
 use crate::query::untranslated_text;
 use mo_file::{Meter, MoError, MoView};
-use plural_rule::Rule;
+use plural_rule::{Rule, Steps};
 use std::marker::Model;
 
 /// A catalogue of translations in the bytes of an MO file, of whatever origin, in which messages
@@ -141,6 +141,33 @@ impl<'a> Catalog<'a> {
         ensures at_most_32 { result.comparisons ≤ 32 }
         ensures nodes { result.steps ≤ nodes self.now.rule.tree }
     {
+        self.look_counted(context, id, plural, meter, &mut Steps::new())
+    }
+
+    /// What [`Catalog::look`] says. The steps are counted as the comparisons are.
+    #[inline(always)]
+    fn look_counted<'q>(
+        &self,
+        context: Option<&[u8]>,
+        id: &'q [u8],
+        plural: Option<(&'q [u8], u64)>,
+        meter: &mut Meter,
+        steps: &mut Steps,
+    ) -> Answer<'q>
+    where
+        'a: 'q,
+        requires room { meter.old < 2 ^ 63 }
+        requires room_of_steps { steps.old < 2 ^ 63 }
+        ensures answered { answer_view result ≡ answered self.now (query context.entry id.now plural.entry) }
+        ensures counted { meter.new ≡ meter.old + result.comparisons }
+        ensures counted_steps { steps.new ≡ steps.old + result.steps }
+        ensures comparisons { result.comparisons
+            ≡ query_comparisons self.now.messages (query context.entry id.now plural.entry) }
+        ensures bound { result.comparisons ≤ search_bound (length self.now.messages) }
+        ensures no_key { can_be_key (option_copied context.entry) id.now ≡ false → result.comparisons ≡ 0 }
+        ensures at_most_32 { result.comparisons ≤ 32 }
+        ensures nodes { result.steps ≤ nodes self.now.rule.tree }
+    {
         let view = &self.view;
         let located = locate(
             &mut ViewMessages { view, meter },
@@ -149,6 +176,7 @@ impl<'a> Catalog<'a> {
             context,
             id,
             plural,
+            steps,
         );
         let (text, found) = match located.place {
             Place::Translation { start, end } => (&view.bytes()[start..end], true),

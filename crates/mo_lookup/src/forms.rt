@@ -1,6 +1,6 @@
 //! The forms of a translation ("Plural forms"): the parts between its NULs.
 
-ghost use Rattle.std.specs.Prelude.{◌≡◌, ◌≤◌, ℕ, List, None, Some, drop, length, slice_get, MatchOption};
+ghost use Rattle.std.specs.Prelude.{◌≡◌, ◌+◌, ◌^◌, ◌<◌, ◌≤◌, ℕ, List, None, Some, drop, length, slice_get, MatchOption};
 ghost use Rattle.plural_rule.specs.declared.rule.Source.{Source};
 ghost use Rattle.plural_rule.specs.Expression.{nodes};
 ghost use Rattle.plural_rule.specs.PluralRule.{expression_limit};
@@ -11,7 +11,7 @@ ghost use Rattle.mo_lookup.specs.Place.{IsFormAt};
 ghost use Rattle.mo_lookup.specs.Query.{given};
 
 use mo_file::find_byte;
-use plural_rule::{Instruction, evaluate};
+use plural_rule::{Instruction, Steps, evaluate};
 use std::ops::Range;
 
 /// Where the first of the forms from byte `start` of a translation on stands in the translation.
@@ -40,38 +40,41 @@ fn form(translation: &[u8], index: u64) -> Option<Range<usize>>
 }
 
 /// Where the form that is the answer stands in a translation: form 0 where no plural is given, else
-/// the one that a rule with `nplurals` forms selects for the count. And how many nodes of its
-/// expression were evaluated for it. The rule selects form 0 where its value is undefined, isn't
-/// below `nplurals`, or has no form in this translation.
+/// the one that a rule with `nplurals` forms selects for the count. The counter counts the nodes of
+/// its expression that are evaluated for it. The rule selects form 0 where its value is undefined,
+/// isn't below `nplurals`, or has no form in this translation.
 pub(crate) fn answered_form(
     nplurals: u64,
     program: &[Instruction],
     translation: &[u8],
     plural: Option<(&[u8], u64)>,
-) -> (Range<usize>, u32)
+    steps: &mut Steps,
+) -> Range<usize>
     requires program { program.now ≡ program_of 0 (tree_of program.now) }
     requires limit { length program.now ≤ expression_limit }
-    ensures text { (source : Source) → IsFormAt translation.now result.0.start result.0.end
+    requires room { steps.old < 2 ^ 63 }
+    ensures text { (source : Source) → IsFormAt translation.now result.start result.end
         (translated (forms translation.now)
         (record { source = source; nplurals = nplurals; tree = tree_of program.now })
         (given plural.entry)).text }
-    ensures inside { (result.0.start ≤ result.0.end) × (result.0.end ≤ length translation.now) }
-    ensures steps { (source : Source) → result.1
-        ≡ (translated (forms translation.now)
+    ensures inside { (result.start ≤ result.end) × (result.end ≤ length translation.now) }
+    ensures steps { (source : Source) → steps.new
+        ≡ steps.old + (translated (forms translation.now)
         (record { source = source; nplurals = nplurals; tree = tree_of program.now })
         (given plural.entry)).steps }
-    ensures nodes { result.1 ≤ nodes (tree_of program.now) }
+    ensures never_falls { steps.old ≤ steps.new }
+    ensures nodes { steps.new ≤ steps.old + nodes (tree_of program.now) }
+    ensures few { steps.new ≤ steps.old + expression_limit }
 {
     let Some((_, count)) = plural else {
-        return (first_form(translation, 0), 0);
+        return first_form(translation, 0);
     };
-    let (value, steps) = evaluate(program, count);
-    let selected = match value {
+    let selected = match evaluate(program, count, steps) {
         Some(index) if index < nplurals => form(translation, index),
         _ => None,
     };
     match selected {
-        Some(range) => (range, steps),
-        None => (first_form(translation, 0), steps),
+        Some(range) => range,
+        None => first_form(translation, 0),
     }
 }

@@ -30,8 +30,10 @@ pub use answer::Answer;
 pub use catalog::Catalog;
 pub use chain::{Chain, ChainAnswer};
 pub use laws::{
-    bound_halves, bound_is_logarithm, each_key_finds_its_translation, other_keys_find_none,
-    search_halves, search_is_bounded,
+    bound_halves, bound_is_logarithm, chain_asks_up_to_first, chain_costs_add_up,
+    count_selects_form, each_key_finds_its_translation, forms_are_selected,
+    forms_stand_at_their_index, keys_lack_nul_and_eot, other_keys_find_none, search_halves,
+    search_is_bounded, untranslated_texts_are_answered,
 };
 pub use lookup::locate;
 pub use messages::{Messages, ViewMessages};
@@ -40,5 +42,5 @@ pub use place::{Located, Place};
 pub use plural_rule::laws::{
     longer_limit, one_rule, one_tree, value_evaluates, visited_at_most_nodes,
 };
-pub use plural_rule::{EXPRESSION_LIMIT, Instruction, ParsedRule, Reason, Rule, Source};
+pub use plural_rule::{EXPRESSION_LIMIT, Instruction, ParsedRule, Reason, Rule, Source, Steps};
 pub use search::{Keys, find};

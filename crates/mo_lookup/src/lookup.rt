@@ -19,11 +19,11 @@ use crate::messages::Messages;
 use crate::place::{Located, Place};
 use crate::query::{can_be_key, untranslated_place};
 use crate::search::find;
-use plural_rule::Instruction;
+use plural_rule::{Instruction, Steps};
 
 /// Looks up a message as [`Catalog::look`](crate::Catalog::look) does, and answers where the text
 /// is, with a rule of `nplurals` forms whose expression stands in `program`, as `Rule::program`
-/// gives it: at most 4,096 nodes.
+/// gives it: at most 4,096 nodes. The counter counts the nodes that are evaluated.
 pub fn locate<'a, M: Messages<'a>>(
     messages: &mut M,
     nplurals: u64,
@@ -31,9 +31,11 @@ pub fn locate<'a, M: Messages<'a>>(
     context: Option<&[u8]>,
     id: &[u8],
     plural: Option<(&[u8], u64)>,
+    steps: &mut Steps,
 ) -> Located
     requires keys { M.listed messages.old ≡ keys (M.file messages.old).messages }
     requires room { M.counted messages.old < 2 ^ 63 }
+    requires room_of_steps { steps.old < 2 ^ 63 }
     requires program { program.now ≡ program_of 0 (tree_of program.now) }
     requires limit { length program.now ≤ expression_limit }
     ensures answered { (source : Source)
@@ -45,6 +47,7 @@ pub fn locate<'a, M: Messages<'a>>(
         (query context.entry id.now plural.entry) }
     ensures place { IsPlace (M.file messages.old).bytes (given plural.entry) result.place }
     ensures counted { M.counted messages.new ≡ M.counted messages.old + result.comparisons }
+    ensures counted_steps { steps.new ≡ steps.old + result.steps }
     ensures comparisons { result.comparisons
         ≡ query_comparisons (M.file messages.old).messages (query context.entry id.now plural.entry) }
     ensures bound { result.comparisons ≤ search_bound (length (M.file messages.old).messages) }
@@ -60,21 +63,23 @@ pub fn locate<'a, M: Messages<'a>>(
         None
     };
     let comparisons = (messages.count() - before) as u32;
-    let (place, steps) = match index {
-        Some(index) => {
-            let translation = messages.translation(index);
-            let range = messages.translation_range(index);
-            let (form, steps) = answered_form(nplurals, program, translation, plural);
-            let start = range.start + form.start;
-            let end = range.start + form.end;
-            (Place::Translation { start, end }, steps)
-        }
-        None => (untranslated_place(plural), 0),
+    let Some(index) = index else {
+        return Located {
+            place: untranslated_place(plural),
+            comparisons,
+            steps: 0,
+        };
     };
+    let translation = messages.translation(index);
+    let range = messages.translation_range(index);
+    let steps_before = steps.count();
+    let form = answered_form(nplurals, program, translation, plural, steps);
+    let start = range.start + form.start;
+    let end = range.start + form.end;
     Located {
-        place,
+        place: Place::Translation { start, end },
         comparisons,
-        steps,
+        steps: (steps.count() - steps_before) as u32,
     }
 }
 

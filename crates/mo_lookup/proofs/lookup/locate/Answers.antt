@@ -1,11 +1,14 @@
-use Rattle.std.proofs.Common.{◌≡◌, refl, rules, sym}
+use Rattle.std.proofs.Common.{◌≡◌, ℕ, ◌+◌, ◌-◌, arith, refl, rules, sym}
 use Rattle.plural_rule.specs.declared.rule.Source.TheVariants.{Header}
 use Rattle.mo_lookup.proofs.PlaceLemmas.{form-placed}
 use Rattle.mo_lookup.proofs.lookup.locate.Goals as goal
 use Rattle.mo_lookup.proofs.lookup.locate.Goals.{then-can_be_key, else-can_be_key}
 
-pub returns-in-Some-clause-place : goal.returns-in-Some-clause-place
-returns-in-Some-clause-place g c =
+difference : (before after old new spent : ℕ) → before ≡ old → after ≡ new → new ≡ old + spent → after - before ≡ spent
+difference before after old new spent began ended is = omega arith
+
+pub returns-clause-place : goal.returns-clause-place
+returns-clause-place g c =
     let same : g.M.Keys.file c.if-can_be_key.messages ≡ g.M.Keys.file c.args.messages.now =
     elim c.if-can_be_key.branch [
       | then-can_be_key w ↦ rw w.messages-is w.index_of-index.ensures.same_file
@@ -13,14 +16,16 @@ returns-in-Some-clause-place g c =
     ] in
     let form = form-placed (g.M.Keys.file c.if-can_be_key.messages) c.in-Some.index _ _ _ _ _ _
     c.translation_range-range.ensures c.translation-translation.ensures
-    (c.answered_form-steps.ensures.text Header) in
+    (c.answered_form-form.ensures.text Header) in
     let placed = rw same at form in
     (placed.order, placed.terminated)
 
-pub returns-in-Some-clause-answered : goal.returns-in-Some-clause-answered
-returns-in-Some-clause-answered g c source =
+pub returns-clause-answered : goal.returns-clause-answered
+returns-clause-answered g c source =
     let form = form-placed (g.M.Keys.file c.if-can_be_key.messages) c.in-Some.index _ _ _ _ _ _
     c.translation_range-range.ensures c.translation-translation.ensures
-    (c.answered_form-steps.ensures.text source) in
+    (c.answered_form-form.ensures.text source) in
     let text = sym form.text in
+    let spent = difference c.count-steps_before.result c.count-2.result _ _ _
+    c.count-steps_before.ensures c.count-2.ensures (c.answered_form-form.ensures.steps source) in
     search rules

@@ -3,8 +3,8 @@ use Rattle.mo_lookup.specs.Place.{located_view}
 use Rattle.mo_lookup.specs.Answer.{AnswerView}
 use Rattle.mo_lookup.specs.Query.{query}
 use Rattle.mo_lookup.proofs.PlaceLemmas.{untranslated_view}
-use Rattle.mo_lookup.proofs.catalog.Catalog.look.Goals.{in-Translation, in-Id}
-use Rattle.mo_lookup.proofs.catalog.Catalog.look.Goals as goal
+use Rattle.mo_lookup.proofs.catalog.Catalog.look_counted.Goals.{in-Translation, in-Id}
+use Rattle.mo_lookup.proofs.catalog.Catalog.look_counted.Goals as goal
 
 pub returns-clause-answered : goal.returns-clause-answered
 returns-clause-answered c =
