@@ -1,6 +1,5 @@
 -- System-dependent messages that are added to a list in turn.
 use Rattle.std.proofs.Common.{◌≡◌, ℕ, suc, ◌+◌, ◌-◌, ◌<◌, ◌≤◌, List, ◌∷◌, length, map, take, Option, None, Some, refl, sym, ap, ◌∙◌, arith}
-use Rattle.std.specs.Prelude.{IsSome}
 use Rattle.std.specs.List.{range_with_len, sum_by, slice_range}
 use Rattle.std.proofs.lemmas.List.{take-take}
 use Rattle.std.proofs.lemmas.List.Sums.{sum_by-cons}
@@ -65,18 +64,15 @@ pub room-next : (f : ℕ → Option Message) (n i room rest next total : ℕ) �
     sum_by strings_len (map f (range_with_len (i + 1) (n - (i + 1)))) + room ≡ total + next
 room-next f n i room rest next total inside is len = omega (arith, left_len f n i inside, is, len)
 
-too_long : (o : Option Message) (rest : ℕ) → IsSome o
-    → ((m : Message) → o ≡ Some m → rest < length m.original + length m.translation) → rest < strings_len o
-too_long None rest there full = grind arith
-too_long (Some m) rest there full = full m refl
+too_long : (o : Option Message) (rest : ℕ)
+    → ((m : Message) × (o ≡ Some m) × (rest < length m.original + length m.translation)) → rest < strings_len o
+too_long o rest (m, is, long) = rw is long
 
 pub room-full : (f : ℕ → Option Message) (n i room rest total : ℕ) → i < n
     → sum_by strings_len (map f (range_with_len i (n - i))) + room ≡ total + rest
-    → ((m : Message) → f i ≡ Some m → rest < length m.original + length m.translation)
-    → ((j : ℕ) → j < n → IsSome (f j)) →
-    room < total
-room-full f n i room rest total inside is full there =
-    let long : rest < strings_len (f i) = too_long (f i) rest (there i inside) full in
+    → ((m : Message) × (f i ≡ Some m) × (rest < length m.original + length m.translation)) → room < total
+room-full f n i room rest total inside is full =
+    let long : rest < strings_len (f i) = too_long (f i) rest full in
     omega (arith, left_len f n i inside, is, long)
 
 slice_range-front : (xs : List ℕ) (n : ℕ) → slice_range xs 0 n ≡ take n xs

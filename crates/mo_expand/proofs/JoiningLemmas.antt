@@ -1,7 +1,8 @@
 -- Writing the segments of a string.
 use Rattle.std.proofs.Common.{◌≡◌, ℕ, suc, ◌+◌, ◌-◌, ◌<◌, ◌≤◌, List, ◌++◌, length, take, drop, Option, None, Some, [], unwrap_or, append_assoc, refl, sym, ap, ◌∙◌, subst, arith, length-take, length-drop, length-append}
 use Rattle.std.specs.List.{slice_range}
-use Rattle.std.specs.Prelude.{Ok, option_map}
+use Rattle.std.specs.Prelude.{Err, Ok, is_some, option_map, true}
+use Rattle.std.proofs.lemmas.Bool.{false≢true}
 use Rattle.std.specs.Option.{ok_or}
 use Rattle.std.proofs.Math.Seq.{take-add}
 use Rattle.std.proofs.lemmas.Option.{none-some}
@@ -12,7 +13,9 @@ use Rattle.mo_file.specs.declared.byte_order.Order.{Order}
 use Rattle.mo_file.specs.Word.{word_at}
 use Rattle.mo_expand.specs.declared.platform_text.PlatformText.{PlatformText}
 use Rattle.mo_expand.specs.Segments.{joined, from_segment, join}
-use Rattle.mo_expand.specs.Internal.Joining.{HasText, IsJoining, IsPut, IsWritten, with_rest}
+use Rattle.mo_expand.specs.Expanded.{message_from}
+use Rattle.mo_expand.specs.Expanding.{IsExpanded}
+use Rattle.mo_expand.specs.Internal.Joining.{HasText, IsJoining, IsPut, IsTried, IsWritten, with_rest}
 
 pub joined-none : (order : Order) (bytes : List ℕ) (texts : List PlatformText) (at start : ℕ)
     → joined order bytes texts 0 at start ≡ None
@@ -24,6 +27,12 @@ pub joined-step : (order : Order) (bytes : List ℕ) (texts : List PlatformText)
     (joined order bytes texts next (at + 8) (start + word_at order bytes at))
 unfolding joined
 joined-step order bytes texts left next at start e = ap (λ n. joined order bytes texts n at start) e
+
+-- a segment before others has a text where they have one
+pub is_some-before : (literal text : List ℕ) (rest : Option (List ℕ))
+    → is_some (join (Some literal) (Some text) rest) ≡ is_some rest
+is_some-before literal text None = refl
+is_some-before literal text (Some r) = refl
 
 -- a part that begins before what is written goes on with it
 pub slice_range-more : (xs : List ℕ) (a b c : ℕ) → a ≤ b → b ≤ c
@@ -167,3 +176,10 @@ joining-is_full_before old room start at whole literal text (Some r) j full t is
     is_full old room start at (literal ++ text ++ r) t j.order j.inside j.len
     (longer literal text r (length room) at full)
     (sym is ∙ j.is)
+
+-- there is no room for two strings that are both there
+pub full-there : (old new : List ℕ) (o t : Option (List ℕ)) → is_some o ≡ true → is_some t ≡ true
+    → IsTried old new (message_from o t) (Err Full) → IsExpanded old new (message_from o t) (Err Full)
+full-there old new None t first second tried = absurd (false≢true first)
+full-there old new (Some o) None first second tried = absurd (false≢true second)
+full-there old new (Some o) (Some t) first second tried = (_, refl, tried _ refl)

@@ -1,5 +1,5 @@
 -- What has become of a file that was to be expanded.
-use Rattle.std.specs.Prelude.{◌≡◌, ◌⊎◌, ℕ, ◌+◌, ◌^◌, ◌<◌, ◌≤◌, List, length, take, IsSome}
+use Rattle.std.specs.Prelude.{◌≡◌, ◌⊎◌, ℕ, ◌+◌, ◌^◌, ◌<◌, ◌≤◌, List, length, take}
 use Rattle.std.specs.List.{sum_by}
 use Rattle.mo_file.specs.declared.byte_order.Order.{Order}
 use Rattle.mo_file.specs.Layout.{layout}
@@ -7,7 +7,7 @@ use Rattle.mo_file.specs.Message.{Message}
 use Rattle.mo_expand.specs.declared.expanded_file.ExpandedFile.{ExpandedFile}
 use Rattle.mo_expand.specs.declared.expanded_file.ExpandedFile.TheVariants.{Len, NotMoFile, ListTooShort, RoomTooShort, TooLarge}
 use Rattle.mo_expand.specs.declared.platform_text.PlatformText.{PlatformText}
-use Rattle.mo_expand.specs.Expanded.{system_count, system_message}
+use Rattle.mo_expand.specs.Expanded.{system_count}
 use Rattle.mo_expand.specs.Merging.{expanded_messages, strings_len, system_messages}
 
 -- the expanded file of a file with these messages
@@ -19,8 +19,8 @@ abbrev pub IsWrittenIfItFits : List ℕ → List ℕ → List ℕ → Type 0
 IsWrittenIfItFits file old new =
     (length file ≤ length old → take (length file) new ≡ file) × (length old < length file → new ≡ old)
 
--- A list of so many messages, and room of so many bytes, were there for its messages and their strings. That the room
--- is too short is said for files that lack no message.
+-- a list of so many messages, and room of so many bytes, were there for its messages and for the strings of the
+-- system-dependent ones, of which those that the platform lacks need none
 abbrev pub IsExpandedFile : Order → List ℕ → List PlatformText → List Message → ℕ → ℕ → List ℕ → List ℕ → ExpandedFile
     → Type 0
 IsExpandedFile order bytes texts messages many room old new (Len n) =
@@ -31,9 +31,7 @@ IsExpandedFile order bytes texts messages many room old new NotMoFile = ⊥
 IsExpandedFile order bytes texts messages many room old new ListTooShort =
     (many < length messages + system_count order bytes) × (new ≡ old)
 IsExpandedFile order bytes texts messages many room old new RoomTooShort =
-    (((j : ℕ) → j < system_count order bytes → IsSome (system_message order bytes texts j))
-    → room < sum_by strings_len (system_messages order bytes texts))
-    × (new ≡ old)
+    (room < sum_by strings_len (system_messages order bytes texts)) × (new ≡ old)
 IsExpandedFile order bytes texts messages many room old new TooLarge =
     (2 ^ 32 ≤ length (expanded_file order bytes texts messages)) × (new ≡ old)
 
@@ -41,6 +39,5 @@ IsExpandedFile order bytes texts messages many room old new TooLarge =
 abbrev pub IsNotExpanded : Order → List ℕ → List PlatformText → List Message → ℕ → ℕ → Type 0
 IsNotExpanded order bytes texts messages many room =
     (many < length messages + system_count order bytes)
-    ⊎ (((j : ℕ) → j < system_count order bytes → IsSome (system_message order bytes texts j))
-    → room < sum_by strings_len (system_messages order bytes texts))
+    ⊎ (room < sum_by strings_len (system_messages order bytes texts))
     ⊎ (2 ^ 32 ≤ length (expanded_file order bytes texts messages))

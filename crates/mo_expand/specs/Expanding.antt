@@ -12,4 +12,4 @@ IsExpanded old new message (Ok (middle, end)) =
     × (middle ≤ end) × (end ≤ length new)
 IsExpanded old new message (Err Absent) = message ≡ None
 IsExpanded old new message (Err Full) =
-    (m : Message) → message ≡ Some m → length old < length m.original + length m.translation
+    (m : Message) × (message ≡ Some m) × (length old < length m.original + length m.translation)

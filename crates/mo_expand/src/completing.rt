@@ -1,10 +1,10 @@
 //! The system-dependent messages of a file, added to a list of its own.
 
-ghost use Rattle.std.specs.Prelude.{◌≡◌, ◌+◌, ◌<◌, ◌≤◌, ℕ, None, IfSome, length, take, IsSome};
+ghost use Rattle.std.specs.Prelude.{◌≡◌, ◌+◌, ◌<◌, ◌≤◌, None, IfSome, length, take};
 ghost use Rattle.std.specs.List.{sum_by};
 ghost use Rattle.mo_file.specs.Key.{AreRising, keys};
 ghost use Rattle.mo_file.specs.Pairs.{messages_of_borrowed};
-ghost use Rattle.mo_expand.specs.Expanded.{system_count, system_message};
+ghost use Rattle.mo_expand.specs.Expanded.{system_count};
 ghost use Rattle.mo_expand.specs.Merging.{expanded_messages, strings_len, system_messages};
 
 use crate::expanding::{count_in, expand_in};
@@ -31,7 +31,6 @@ pub(crate) fn add_completed<'b>(
         ≡ expanded_messages order bytes.now texts.now (messages_of_borrowed (take own list.old))) }
     ensures many { IfSome result (λ n. n ≤ length list.old) }
     ensures room { result ≡ None
-        → ((j : ℕ) → j < system_count order bytes.now → IsSome (system_message order bytes.now texts.now j))
         → length room.old < sum_by strings_len (system_messages order bytes.now texts.now) }
 {
     let mut count = own;

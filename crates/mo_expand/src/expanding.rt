@@ -4,10 +4,12 @@ ghost use Rattle.std.specs.Prelude.{◌≡◌, ◌<◌, ◌≤◌, Err, length};
 ghost use Rattle.mo_file.specs.declared.byte_order.Order.{Order};
 ghost use Rattle.mo_file.specs.FileHeader.{HasMagicOf};
 ghost use Rattle.mo_expand.specs.declared.joining.Missing.TheVariants.{Absent};
-ghost use Rattle.mo_expand.specs.Expanded.{system_count, system_message};
+ghost use Rattle.mo_expand.specs.Expanded.{message_from, system_count, system_message};
 ghost use Rattle.mo_expand.specs.Expanding.{IsExpanded};
+ghost use Rattle.mo_expand.specs.Internal.Joining.{IsTried};
+ghost use Rattle.mo_expand.specs.Segments.{text_at};
 
-use crate::joining::{Missing, put_text};
+use crate::joining::{Missing, has_text, put_text};
 use crate::platform_text::PlatformText;
 use mo_file::{Order, word};
 
@@ -77,6 +79,37 @@ pub(crate) fn expand_in<'b>(
     let index = 4 * index as usize;
     let original = word(order, bytes, word(order, bytes, 40) as usize + index);
     let translation = word(order, bytes, word(order, bytes, 44) as usize + index);
+    match put_strings(order, bytes, texts, original, translation, room) {
+        Ok(ends) => Ok(ends),
+        Err(Missing::Absent) => Err(Missing::Absent),
+        Err(Missing::Full) => {
+            if !has_text(order, bytes, texts, original) {
+                return Err(Missing::Absent);
+            }
+            if !has_text(order, bytes, texts, translation) {
+                return Err(Missing::Absent);
+            }
+            Err(Missing::Full)
+        }
+    }
+}
+
+/// Writes the two strings that are described at these offsets, one after the other. Where the room
+/// is too short it doesn't say whether both are there.
+fn put_strings<'b>(
+    order: Order,
+    bytes: &'b [u8],
+    texts: &[PlatformText<'b>],
+    original: u32,
+    translation: u32,
+    room: &mut [u8],
+) -> Result<(usize, usize), Missing>
+    requires { 48 ≤ length bytes.now }
+    ensures len { length room.new ≡ length room.old }
+    ensures message { IsTried room.old room.new
+        (message_from (text_at order bytes.now texts.now original) (text_at order bytes.now texts.now translation))
+        result }
+{
     let middle = put_text(order, bytes, texts, original, room, 0)?;
     let end = put_text(order, bytes, texts, translation, room, middle)?;
     Ok((middle, end))

@@ -1,6 +1,6 @@
 //! Joining the segments of a string.
 
-ghost use Rattle.std.specs.Prelude.{◌≡◌, ◌+◌, ◌<◌, ◌≤◌, ◌^◌, ◌++◌, ℕ, List, Option, IfSome, length};
+ghost use Rattle.std.specs.Prelude.{◌≡◌, ◌+◌, ◌<◌, ◌≤◌, ◌^◌, ◌++◌, ℕ, List, Option, IfSome, is_some, length};
 ghost use Rattle.mo_expand.specs.Segments.{from_segment, text_at};
 ghost use Rattle.mo_expand.specs.Internal.Joining.{IsPut, IsWritten, with_rest};
 
@@ -121,4 +121,32 @@ pub(crate) fn put_text<'b>(
         }
     }
     Err(Missing::Absent)
+}
+
+/// Whether a string has a text, of whatever length.
+pub(crate) fn has_text<'b>(
+    order: Order,
+    bytes: &'b [u8],
+    texts: &[PlatformText<'b>],
+    described: u32,
+) -> bool
+    requires { 48 ≤ length bytes.now }
+    ensures { result ≡ is_some (text_at order bytes.now texts.now described) }
+{
+    let mut descriptor = described as usize + 4;
+    if descriptor > bytes.len() {
+        return false;
+    }
+    let mut source = word(order, bytes, described as usize) as usize;
+    for i in 0..SEGMENT_LIMIT {
+        match segment_at(order, bytes, texts, descriptor, source) {
+            None => return false,
+            Some(Segment::Last(_)) => return true,
+            Some(Segment::Before(_, _)) => {
+                source += word(order, bytes, descriptor) as usize;
+                descriptor += 8;
+            }
+        }
+    }
+    false
 }

@@ -3,6 +3,8 @@ use Rattle.std.specs.Prelude.{◌≡◌, ℕ, ◌+◌, ◌<◌, ◌≤◌, List,
 use Rattle.std.specs.List.{slice_range}
 use Rattle.mo_expand.specs.declared.joining.Segment.{Segment}
 use Rattle.mo_expand.specs.declared.joining.Segment.TheVariants.{Last, Before}
+use Rattle.mo_file.specs.Message.{Message}
+use Rattle.mo_expand.specs.Expanding.{IsExpanded}
 use Rattle.mo_expand.specs.Segments.{join}
 use Rattle.mo_expand.specs.declared.joining.Missing.{Missing}
 use Rattle.mo_expand.specs.declared.joining.Missing.TheVariants.{Absent, Full}
@@ -25,6 +27,12 @@ IsWritten old new start text (Ok end) =
     (text ≡ Some (slice_range new start end)) × HasText old new start end (slice_range new start end)
 IsWritten old new start text (Err Absent) = text ≡ None
 IsWritten old new start text (Err Full) = (t : List ℕ) → text ≡ Some t → length old < start + length t
+
+-- what has become of a message that may not be there, where there may be no room for one that isn't
+abbrev pub IsTried : List ℕ → List ℕ → Option Message → Result (ℕ × ℕ) Missing → Type 0
+IsTried old new message (Err Full) =
+    (m : Message) → message ≡ Some m → length old < length m.original + length m.translation
+IsTried old new message result = IsExpanded old new message result
 
 -- the text of a segment that was read, and of those after it
 abbrev pub with_rest : Option Segment → Option (List ℕ) → Option (List ℕ)

@@ -10,11 +10,11 @@ use Rattle.mo_expand.proofs.completing.add_completed.Goals.{in-Ok, in-Err-Absent
 use Rattle.mo_expand.proofs.completing.add_completed.Goals as goal
 
 pub returns-in-Err-Full-clause-room : goal.returns-in-Err-Full-clause-room
-returns-in-Err-Full-clause-room c none there =
+returns-in-Err-Full-clause-room c none =
     let full = rw c.in-Err-Full.field-0-is at c.in-Err-Full.ensures.message in
     room-full _ _ c.loop-index.index _ _ _
     (omega (arith, c.loop-index-test.true, c.count_in-index-end.ensures.count)) c.loop-index.invariant.room
-    full there
+    full
 
 pub loop-index-preserved : goal.loop-index-preserved
 loop-index-preserved c =
