@@ -310,10 +310,9 @@ uint32_t pokit_system_message(const uint8_t *bytes, size_t len, const pokit_plat
  * the new file is; where it has no more than `file_size` bytes it stands at the beginning of `file`, and
  * pokit_catalog_open takes it. Else `file` stays as it is, so that a call with no room at all says how much is wanted.
  * The result is 0 where there is no such file: the bytes aren't an MO file; `list` has fewer places than the messages
- * of the file and pokit_system_count together; `room` is too short for the strings that are completed, or for those of
- * a message as far as they are written before it turns out that a text is missing for it; or the new file would have
- * 2^32 bytes or more. What `list` and `room` have is left open; before the call no pointer in the list is NULL. A call
- * takes time in proportion to both files, and for each system-dependent message to the places. */
+ * of the file and pokit_system_count together; `room` is too short for the strings that are completed; or the new file
+ * would have 2^32 bytes or more. What `list` and `room` have is left open; before the call no pointer in the list is
+ * NULL. A call takes time in proportion to both files, and for each system-dependent message to the places. */
 uint32_t pokit_expanded_file(const uint8_t *bytes, size_t len, const pokit_platform_text *texts, size_t count,
                              pokit_listed_message *list, size_t places, uint8_t *room, size_t size, uint8_t *file,
                              size_t file_size);

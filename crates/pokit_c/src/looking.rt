@@ -12,7 +12,7 @@ ghost use Rattle.pokit_c.specs.Opened.{IsOpened};
 use crate::catalog::PokitCatalog;
 use crate::query::{PokitLocated, PokitQuery};
 use mo_file::{Meter, MoView};
-use mo_lookup::{ViewMessages, locate};
+use mo_lookup::{Steps, ViewMessages, locate};
 
 /// Looks up a message in a catalogue that was opened, as mo_lookup's `locate` does ("Plural
 /// forms"). `located` says where the text of the answer is: in the file's bytes, or that it is the
@@ -37,15 +37,23 @@ pub extern "C" fn pokit_catalog_look(
     ensures nodes { (view : CatalogView) → IsOpened catalog.now view
         → located.new.steps ≤ nodes view.rule.tree }
 {
-    *located = look(catalog, query, &mut Meter::new());
+    *located = look(catalog, query, &mut Meter::new(), &mut Steps::new());
 }
 
-/// What [`pokit_catalog_look`] says. The meter counts the comparisons.
+/// What [`pokit_catalog_look`] says. The meter counts the comparisons, and the other counter the
+/// steps.
 #[inline(always)]
-fn look(catalog: &PokitCatalog<'_>, query: &PokitQuery<'_>, meter: &mut Meter) -> PokitLocated
+fn look(
+    catalog: &PokitCatalog<'_>,
+    query: &PokitQuery<'_>,
+    meter: &mut Meter,
+    steps: &mut Steps,
+) -> PokitLocated
     requires opened { (view : CatalogView) × IsOpened catalog.now view }
     requires room { meter.old < 2 ^ 63 }
+    requires room_of_steps { steps.old < 2 ^ 63 }
     ensures counted { meter.new ≡ meter.old + result.comparisons }
+    ensures counted_steps { steps.new ≡ steps.old + result.steps }
     ensures answered { (view : CatalogView) → IsOpened catalog.now view
         → answer_view catalog.now.bytes.now query.now result ≡ answered view (query_view query.now) }
     ensures terminated { IsTerminated catalog.now.bytes.now result }
@@ -67,6 +75,7 @@ fn look(catalog: &PokitCatalog<'_>, query: &PokitQuery<'_>, meter: &mut Meter) -
         query.context(),
         query.id,
         query.plural(),
+        steps,
     );
     PokitLocated::of(found)
 }
