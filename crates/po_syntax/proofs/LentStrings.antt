@@ -1,17 +1,17 @@
--- Of strings that are borrowed and UTF-8, and others, all are UTF-8 exactly where those others are.
+-- Of strings that are UTF-8 as the text is, and others, all are UTF-8 exactly where those others are.
 use Rattle.std.proofs.Common.{◌≡◌, ◌∙◌, refl, sym, ap, Bool, true, false, ◌&&◌, List, [], ◌∷◌, ◌++◌, append_assoc, ℕ, All, IsUtf8}
 use Rattle.std.specs.Prelude.{◌↔◌, IsTrue}
 use Rattle.std.specs.List.{list_all}
 use Rattle.std.specs.Str.{is_utf8}
-use Rattle.std.specs.Global.{Global, Vec}
-use Rattle.std.specs.declared.borrow.CowSlice.{CowSlice}
-use Rattle.std.specs.declared.borrow.CowSlice.TheVariants.{Borrowed, Owned}
+use Rattle.std.specs.Global.{Vec}
 use Rattle.std.proofs.lemmas.Bool.{false≢true}
 use Rattle.std.proofs.lemmas.List.Elements.{All-nil, All-cons, All-push, All-head, All-tail}
 use Rattle.std.proofs.lemmas.Str.{IsUtf8-from_is_utf8, is_utf8-from_IsUtf8}
 use Rattle.po_syntax.specs.declared.item.Item.{Item}
 use Rattle.po_syntax.specs.declared.item.Item.TheVariants.{Comment, Word, Str}
 use Rattle.po_syntax.specs.declared.item.Marks.{Marks}
+use Rattle.po_syntax.specs.declared.item.SpeltBytes.{SpeltBytes}
+use Rattle.po_syntax.specs.declared.item.SpeltBytes.TheVariants.{Plain, Escaped, Numbered}
 use Rattle.po_syntax.specs.Internal.LineView.{AddsLent}
 use Rattle.po_syntax.specs.ItemContents.{OfString}
 use Rattle.po_syntax.specs.Lent.{LendsUtf8, owns_utf8}
@@ -24,16 +24,17 @@ tested bytes false h = by (is_utf8 bytes) refl where
   by true e = absurd (false≢true (h.1 (IsUtf8-from_is_utf8 bytes e)))
   by false e = refl
 
-pub owned : {item : Item} {string : CowSlice ℕ Global} {marks : Marks} {line : ℕ} {bytes : Vec ℕ} {found : Bool}
-    → item ≡ Str string marks line → string ≡ Owned bytes → (IsTrue found ↔ IsUtf8 bytes.items)
+pub numbered : {item : Item} {string : SpeltBytes} {marks : Marks} {line : ℕ} {bytes : Vec ℕ} {found : Bool}
+    → item ≡ Str string marks line → string ≡ Numbered bytes → (IsTrue found ↔ IsUtf8 bytes.items)
     → found ≡ owns_utf8 item
-owned {bytes = bytes} {found = found} is string_is h = rw (is, string_is) (tested bytes.items found h)
+numbered {bytes = bytes} {found = found} is string_is h = rw (is, string_is) (tested bytes.items found h)
 
 one : (item : Item) → LendsUtf8 item → IsTrue (owns_utf8 item) ↔ OfString IsUtf8 (view item)
 one (Comment kind text line) lent = (λ _. tt, λ _. refl)
 one (Word keyword marks line) lent = (λ _. tt, λ _. refl)
-one (Str (Borrowed bytes) marks line) lent = (λ _. lent, λ _. refl)
-one (Str (Owned bytes) marks line) lent = (IsUtf8-from_is_utf8 bytes.items, is_utf8-from_IsUtf8 bytes.items)
+one (Str (Plain bytes) marks line) lent = (λ _. lent, λ _. refl)
+one (Str (Escaped bytes) marks line) lent = (λ _. lent, λ _. refl)
+one (Str (Numbered bytes) marks line) lent = (IsUtf8-from_is_utf8 bytes.items, is_utf8-from_IsUtf8 bytes.items)
 
 both : (own others : Bool) (item : Item) (items : List Item) → (IsTrue own ↔ OfString IsUtf8 (view item))
     → (IsTrue others ↔ All (OfString IsUtf8) (views items))

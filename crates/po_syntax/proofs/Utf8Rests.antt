@@ -1,18 +1,21 @@
 -- What is left of a UTF-8 line after its marks, a token or a string is UTF-8, and so is what stands
 -- before a quote: a text is cut beside an ASCII byte.
-use Rattle.std.proofs.Common.{◌≡◌, ◌∙◌, refl, sym, ap, subst, ◌==◌, ℕ, ◌+◌, ◌<◌, List, [], ◌∷◌, ◌++◌, append_assoc, length, length-append, get_or, drop, codes, All, IsUtf8, arith}
+use Rattle.std.proofs.Common.{rules, ◌≡◌, ◌∙◌, refl, sym, ap, subst, ◌==◌, Bool, true, false, nat_lt, ℕ, ◌+◌, ◌<◌, ◌≤◌, Some, List, [], ◌∷◌, ◌++◌, append_assoc, length, length-append, get_or, drop, codes, All, IsUtf8, arith}
 use Rattle.std.proofs.Math.Seq.{take-append_seam, drop-append_seam}
-use Rattle.std.proofs.lemmas.Bool.{cond_both}
+use Rattle.std.specs.Char.{digit_value}
+use Rattle.std.specs.Str.Parse.{AllDigits}
+use Rattle.std.proofs.lemmas.Bool.{cond_both, le-ltb, ltb-true, ltb-false}
 use Rattle.std.proofs.lemmas.List.Elements.{All-head, All-tail}
-use Rattle.std.proofs.lemmas.Str.{IsUtf8-drop, IsUtf8-take, IsCharBoundary-after_ascii, IsCharBoundary-before_ascii}
+use Rattle.std.proofs.lemmas.Str.Ascii.{IsAscii-cons, IsAscii-nil}
+use Rattle.std.proofs.lemmas.Str.{IsUtf8-append, IsUtf8-drop, IsUtf8-from_ascii, IsUtf8-take, IsCharBoundary-after_ascii, IsCharBoundary-before_ascii}
 use Rattle.po_syntax.specs.declared.item.Keyword.{Keyword}
 use Rattle.po_syntax.specs.declared.item.Marks.{Marks}
 use Rattle.po_syntax.specs.Blanks.{IsBlank, skip_blanks}
-use Rattle.po_syntax.specs.Escapes.{SpellsEscape, letter, octal, hexadecimal, SpellsString, closed, plain, escape}
+use Rattle.po_syntax.specs.Escapes.{letter_value, SpellsEscape, letter, octal, hexadecimal, SpellsString, closed, plain, escape}
 use Rattle.po_syntax.specs.Internal.Line.{Shape, CommentLine, Tokens, NoShape, comment_shape, obsolete_shape, tilde_shape, hash_shape, first_shape, shape_of}
 use Rattle.po_syntax.specs.Internal.Token.{OpeningQuote, KeywordToken, token_at}
 use Rattle.po_syntax.specs.Spelling.{SpellsKeyword, msgctxt, msgid, msgid_plural, msgstr, form}
-use Rattle.po_syntax.proofs.SpeltEscapes.{by_byte}
+use Rattle.po_syntax.proofs.SpeltEscapes.{by_byte, of_each_letter}
 use Rattle.po_syntax.proofs.SpeltKeywords.{of_blank, skips}
 use Rattle.po_syntax.proofs.SpeltLines.{CommentSays, comment_says}
 use Rattle.po_syntax.proofs.Tokens.{says}
@@ -71,6 +74,49 @@ pub inside-utf8 : (text : List ℕ) {inside : List ℕ} → token_at text ≡ Op
     → IsUtf8 inside
 inside-utf8 text {inside} e utf8 =
     rest-utf8 [] inside 34 (omega arith) (subst IsUtf8 (says text e) (skipped text utf8))
+
+-- a digit is ASCII, as other bytes have no value below 36
+digit_high : (c : ℕ) → 123 ≤ c → digit_value c ≡ 36
+digit_high c past =
+    rw (
+      le-ltb c 48 (omega (arith, past)),
+      le-ltb c 58 (omega (arith, past)),
+      le-ltb c 65 (omega (arith, past)),
+      le-ltb c 91 (omega (arith, past)),
+      le-ltb c 97 (omega (arith, past)),
+      le-ltb c 123 past,
+    ) refl
+
+digit_low : (c : ℕ) → digit_value c < 36 → c < 128
+digit_low c small = by (nat_lt c 123) refl where
+  by : (below : Bool) → nat_lt c 123 ≡ below → c < 128
+  by true is = omega (arith, ltb-true c 123 is)
+  by false is = absurd (omega (arith, digit_high c (ltb-false c 123 is), small))
+
+after_digits : (base : ℕ) (digits text : List ℕ) → base ≤ 36 → AllDigits base digits → IsUtf8 (digits ++ text)
+    → IsUtf8 text
+after_digits base [] text within all utf8 = utf8
+after_digits base (d ∷ digits) text within all utf8 =
+    after_digits base digits text within all.1
+    (rest-utf8 [] (digits ++ text) d (digit_low d (omega (arith, all.0, within))) utf8)
+
+letter_low : (b value : ℕ) → letter_value b ≡ Some value → b < 128
+letter_low b value e = of_each_letter (λ a v. a < 128) b value (search rules) e
+
+-- what stands after an escape, whose text is ASCII
+pub escape_rest-utf8 : {text rest : List ℕ} {b : ℕ} → SpellsEscape text b rest → IsUtf8 text → IsUtf8 rest
+escape_rest-utf8 (letter {b = b} {value = value} {rest = rest} e) utf8 = rest-utf8 [] rest b (letter_low b value e) utf8
+escape_rest-utf8 (octal digits {rest = rest} numeral few ends byte) utf8 =
+    after_digits 8 digits rest (omega arith) numeral.1 utf8
+escape_rest-utf8 (hexadecimal digits {rest = rest} numeral ends byte) utf8 =
+    after_digits 16 digits rest (omega arith) numeral.1 (rest-utf8 [] (digits ++ rest) 120 (omega arith) utf8)
+
+-- bytes that are spelt, plain ones after them, and then an ASCII byte
+pub spelt_more : (spelt own : List ℕ) (b : ℕ) → IsUtf8 spelt → IsUtf8 own → b < 128
+    → IsUtf8 (spelt ++ (own ++ b ∷ []))
+spelt_more spelt own b before here low =
+    IsUtf8-append spelt (own ++ b ∷ []) before
+    (IsUtf8-append own (b ∷ []) here (IsUtf8-from_ascii (b ∷ []) (IsAscii-cons b [] low IsAscii-nil)))
 
 -- the text ends with this rest
 abbrev Ends : List ℕ → List ℕ → Type 0

@@ -13,4 +13,5 @@ pub mod WrittenForm
 pub mod LineNumbers
 pub mod Internal
 pub mod Facts
+pub mod Examples
 pub mod Blanks

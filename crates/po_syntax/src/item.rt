@@ -4,10 +4,9 @@ ghost use Rattle.std.specs.Prelude.{◌≡◌, ◌↔◌, All, IsTrue, IsUtf8};
 ghost use Rattle.po_syntax.specs.ItemContents.{OfString};
 ghost use Rattle.po_syntax.specs.Lent.{LendsUtf8, owns_utf8};
 ghost use Rattle.po_syntax.specs.Spelling.{own_marks, previous_marks};
-ghost use Rattle.po_syntax.specs.TextItem.{views};
+ghost use Rattle.po_syntax.specs.TextItem.{spelt_bytes, views};
 
 use simdutf8::is_utf8;
-use std::borrow::CowSlice;
 
 /// The keyword that a word of a PO text is (manual, "The Format of PO Files").
 #[derive(Clone, Copy, Debug, PartialEq, Eq)]
@@ -68,6 +67,29 @@ impl Marks {
     }
 }
 
+/// The bytes that a quoted string spells.
+#[derive(Drop)]
+pub enum SpeltBytes<'a> {
+    /// Those of the text, where no escape stands among them.
+    Plain(&'a [u8]),
+    /// With escapes, all of them of ASCII bytes.
+    Escaped(Vec<u8>),
+    /// With an escape of a byte above 127, which may be a part of a character.
+    Numbered(Vec<u8>),
+}
+
+impl SpeltBytes<'_> {
+    /// The bytes.
+    pub fn as_slice(&self) -> &[u8]
+        ensures { result.now ≡ spelt_bytes self.now }
+    {
+        match self {
+            SpeltBytes::Plain(bytes) => bytes,
+            SpeltBytes::Escaped(bytes) | SpeltBytes::Numbered(bytes) => bytes,
+        }
+    }
+}
+
 /// An item of a PO text, with its line, counted from 1. It borrows from the text, and owns a
 /// string's bytes only where an escape makes them differ from the text's.
 #[derive(Drop)]
@@ -77,10 +99,10 @@ pub enum Item<'a> {
     /// A keyword, under the marks of its line.
     Word(Keyword, Marks, u32),
     /// The bytes that one quoted string spells, under the marks of its line.
-    Str(CowSlice<'a, u8>, Marks, u32),
+    Str(SpeltBytes<'a>, Marks, u32),
 }
 
-/// Whether the bytes that a string owns are UTF-8.
+/// Whether the bytes of a string are UTF-8 or spelt without an escape of a byte above 127.
 fn owns_utf8(item: &Item<'_>) -> bool
     ensures { result ≡ owns_utf8 item.now }
 {
@@ -88,13 +110,13 @@ fn owns_utf8(item: &Item<'_>) -> bool
         return true;
     };
     match string {
-        CowSlice::Borrowed(_) => true,
-        CowSlice::Owned(bytes) => is_utf8(bytes),
+        SpeltBytes::Plain(_) | SpeltBytes::Escaped(_) => true,
+        SpeltBytes::Numbered(bytes) => is_utf8(bytes),
     }
 }
 
-/// Whether each string is UTF-8 by itself. One that is borrowed from a PO text is, so only those
-/// that own their bytes are tested.
+/// Whether each string is UTF-8 by itself. In a PO text that is UTF-8, only one with an escape of a
+/// byte above 127 may be other than that, so only such strings are tested.
 pub fn strings_are_utf8(items: &[Item<'_>]) -> bool
     requires { All LendsUtf8 items.now }
     ensures { IsTrue result ↔ All (OfString IsUtf8) (views items.now) }

@@ -21,7 +21,7 @@ mod quoting;
 mod token;
 
 pub use crate::fault::{PoError, PoFault};
-pub use crate::item::{CommentKind, Item, Keyword, Marks, strings_are_utf8};
+pub use crate::item::{CommentKind, Item, Keyword, Marks, SpeltBytes, strings_are_utf8};
 pub use crate::pieces::{Pieces, items};
 pub use crate::quoting::quote;
 pub use crate::token::{is_blank, skip_blanks};

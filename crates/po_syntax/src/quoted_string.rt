@@ -1,16 +1,16 @@
 //! The bytes that a quoted string spells.
 
-ghost use Rattle.std.specs.Prelude.{◌≡◌, ◌≢◌, ℕ, ◌⊎◌, List, ◌∷◌, ◌++◌, IfOk, IfErr, IsUtf8};
-ghost use Rattle.std.specs.Cow.{cow_slice_items};
+ghost use Rattle.std.specs.Prelude.{◌≡◌, ◌≢◌, ℕ, ◌⊎◌, List, ◌∷◌, ◌++◌, true, IfOk, IfErr, IsUtf8};
 ghost use Rattle.po_syntax.specs.Escapes.{SpellsString};
 ghost use Rattle.po_syntax.specs.Lent.{LentAreUtf8};
 ghost use Rattle.po_syntax.specs.LineFaults.{StringFault};
+ghost use Rattle.po_syntax.specs.TextItem.{spelt_bytes};
 
 use crate::escape::escape;
 use crate::fault::PoFault;
+use crate::item::SpeltBytes;
 use memchr::memchr2;
 use std::alloc::Global;
-use std::borrow::CowSlice;
 
 /// Splits off the bytes that stand for themselves, up to the first quote or backslash.
 #[tactic(auto, using(crate::proofs::QuotedStrings::plain_parts))]
@@ -26,13 +26,16 @@ fn split_plain(text: &[u8]) -> (&[u8], &[u8])
     text.split_at(end)
 }
 
-/// Appends what the text spells up to the closing quote, and gives the text after that.
-fn add_bytes<'a>(bytes: &mut Vec<u8>, text: &'a [u8]) -> Result<&'a [u8], PoFault>
-    ensures found { IfOk result (λ rest. (spelt : List ℕ)
-        × SpellsString text.now spelt rest.now × (bytes.new.items ≡ bytes.old.items ++ spelt)) }
+/// Appends what the text spells up to the closing quote, and gives the text after that, and whether
+/// each escape is one of an ASCII byte.
+fn add_bytes<'a>(bytes: &mut Vec<u8>, text: &'a [u8]) -> Result<(&'a [u8], bool), PoFault>
+    ensures found { IfOk result (λ p. (spelt : List ℕ)
+        × SpellsString text.now spelt p.0.now × (bytes.new.items ≡ bytes.old.items ++ spelt)
+        × (p.1 ≡ true → IsUtf8 text.now → IsUtf8 spelt)) }
     ensures fault { IfErr result (λ e. e ≢ PoFault.OutOfMemory → StringFault text.now e) }
 {
     let mut rest = text;
+    let mut are_ascii = true;
     loop {
         let (plain, end) = split_plain(rest);
         bytes.extend_from_slice(plain)?;
@@ -40,21 +43,19 @@ fn add_bytes<'a>(bytes: &mut Vec<u8>, text: &'a [u8]) -> Result<&'a [u8], PoFaul
             return Err(PoFault::UnterminatedString);
         };
         if *mark == b'"' {
-            return Ok(after);
+            return Ok((after, are_ascii));
         }
         let (byte, after) = escape(after)?;
         bytes.push(byte)?;
+        are_ascii &= byte < 128;
         rest = after;
     }
 }
 
 /// The bytes that a quoted string spells, read after its opening quote, and the text after its
 /// closing one. They are borrowed where no escape stands among them.
-pub(crate) fn quoted_string(
-    alloc: Global,
-    text: &[u8],
-) -> Result<(CowSlice<'_, u8>, &[u8]), PoFault>
-    ensures found { IfOk result (λ p. SpellsString text.now (cow_slice_items p.0) p.1.now) }
+pub(crate) fn quoted_string(alloc: Global, text: &[u8]) -> Result<(SpeltBytes<'_>, &[u8]), PoFault>
+    ensures found { IfOk result (λ p. SpellsString text.now (spelt_bytes p.0) p.1.now) }
     ensures lent { IfOk result (λ p. IsUtf8 text.now → LentAreUtf8 p.0) }
     ensures fault { IfErr result (λ e. e ≢ PoFault.OutOfMemory → StringFault text.now e) }
 {
@@ -63,9 +64,12 @@ pub(crate) fn quoted_string(
         return Err(PoFault::UnterminatedString);
     };
     if *mark == b'"' {
-        return Ok((CowSlice::Borrowed(plain), after));
+        return Ok((SpeltBytes::Plain(plain), after));
     }
     let mut bytes = Vec::with_capacity(alloc, plain.len() + 1)?;
-    let rest = add_bytes(&mut bytes, text)?;
-    Ok((CowSlice::Owned(bytes), rest))
+    let (rest, are_ascii) = add_bytes(&mut bytes, text)?;
+    if are_ascii {
+        return Ok((SpeltBytes::Escaped(bytes), rest));
+    }
+    Ok((SpeltBytes::Numbered(bytes), rest))
 }

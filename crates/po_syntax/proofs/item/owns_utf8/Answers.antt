@@ -1,5 +1,5 @@
-use Rattle.po_syntax.proofs.LentStrings.{owned}
+use Rattle.po_syntax.proofs.LentStrings.{numbered}
 use Rattle.po_syntax.proofs.item.owns_utf8.Goals as goal
 
-pub returns-in-Owned : goal.returns-in-Owned
-returns-in-Owned c = owned c.in-Str.is c.in-Owned.is (rw c.deref.ensures.value at c.is_utf8.ensures)
+pub returns-in-Numbered : goal.returns-in-Numbered
+returns-in-Numbered c = numbered c.in-Str.is c.in-Numbered.is (rw c.deref.ensures.value at c.is_utf8.ensures)

@@ -1,10 +1,9 @@
 use Rattle.std.proofs.Common.{◌≡◌, ◌∙◌, refl, ap, [], ◌∷◌, ◌++◌, append_assoc, append-nil, Ok, Err, arith}
 use Rattle.std.proofs.lemmas.List.{map_push}
 use Rattle.std.proofs.lemmas.Result.{err_from_is_err_and}
-use Rattle.std.specs.Cow.{cow_slice_items}
 use Rattle.po_syntax.specs.Escapes.{SpellsString}
 use Rattle.po_syntax.proofs.LentStrings.{one_more}
-use Rattle.po_syntax.specs.TextItem.{Word, Str}
+use Rattle.po_syntax.specs.TextItem.{Word, Str, spelt_bytes}
 use Rattle.po_syntax.specs.Internal.Token.{LineEnd, OpeningQuote, KeywordToken, token_at}
 use Rattle.po_syntax.specs.Internal.LineView.{token_view}
 use Rattle.po_syntax.proofs.Escapes.{string_shorter}
@@ -44,7 +43,7 @@ loop-inside-smaller-in-OpeningQuote c =
     let opens : token_at c.loop-inside.rest.now ≡ OpeningQuote c.in-OpeningQuote.inside.now =
     c.in_ok-next_token.ensures ∙ ap token_view c.in-OpeningQuote.is in
     let quoted : SpellsString c.in-OpeningQuote.inside.now
-    (cow_slice_items c.in_ok-bytes-in-OpeningQuote.bytes) c.in_ok-bytes-in-OpeningQuote.after.now =
+    (spelt_bytes c.in_ok-bytes-in-OpeningQuote.bytes) c.in_ok-bytes-in-OpeningQuote.after.now =
     c.in_ok-bytes-in-OpeningQuote.ensures.found in
     omega (arith, quote-shorter c.loop-inside.rest.now opens, string_shorter quoted)
 
@@ -53,9 +52,9 @@ loop-inside-preserved-in-OpeningQuote c =
     let opens : token_at c.loop-inside.rest.now ≡ OpeningQuote c.in-OpeningQuote.inside.now =
     c.in_ok-next_token.ensures ∙ ap token_view c.in-OpeningQuote.is in
     let quoted : SpellsString c.in-OpeningQuote.inside.now
-    (cow_slice_items c.in_ok-bytes-in-OpeningQuote.bytes) c.in_ok-bytes-in-OpeningQuote.after.now =
+    (spelt_bytes c.in_ok-bytes-in-OpeningQuote.bytes) c.in_ok-bytes-in-OpeningQuote.after.now =
     c.in_ok-bytes-in-OpeningQuote.ensures.found in (
-      c.loop-inside.invariant.0 ++ Str (cow_slice_items c.in_ok-bytes-in-OpeningQuote.bytes) c.args.marks c.args.line
+      c.loop-inside.invariant.0 ++ Str (spelt_bytes c.in_ok-bytes-in-OpeningQuote.bytes) c.args.marks c.args.line
           ∷ [],
       rw (c.in_ok-push-in-OpeningQuote.ensures.items, map_push, c.loop-inside.invariant.1, append_assoc),
       λ more h. rw append_assoc

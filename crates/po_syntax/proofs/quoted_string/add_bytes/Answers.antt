@@ -1,8 +1,11 @@
-use Rattle.std.proofs.Common.{ap, subst, [], ◌∷◌, ◌++◌, append_assoc, append-nil, length, length-append, arith}
+use Rattle.std.proofs.Common.{◌∙◌, ap, sym, subst, IsUtf8, [], ◌∷◌, ◌++◌, append_assoc, append-nil, length, length-append, arith}
 use Rattle.std.proofs.lemmas.Result.{err_from_is_err_and}
 use Rattle.po_syntax.specs.Escapes.{SpellsString, escape}
 use Rattle.po_syntax.specs.LineFaults.{StringFault, in_escape, after_escape}
+use Rattle.std.proofs.lemmas.Bool.{and_parts, ltb-true}
+use Rattle.std.proofs.lemmas.Str.{IsUtf8-append}
 use Rattle.po_syntax.proofs.Escapes.{escape_shorter}
+use Rattle.po_syntax.proofs.Utf8Rests.{before-utf8, escape_rest-utf8, rest-utf8, spelt_more}
 use Rattle.po_syntax.proofs.QuotedStrings.{closes, backslash, stops_at_end, escape_is}
 use Rattle.po_syntax.proofs.quoted_string.add_bytes.Goals as goal
 
@@ -17,6 +20,10 @@ returns-then-mark-eq34-clause-found c =
       c.loop-mark.invariant.0 ++ plain,
       c.loop-mark.invariant.2 _ _ (rw append-nil at (c.split_plain.ensures.spelt [] _ ends)),
       rw (c.in_ok-extend_from_slice.ensures.items, c.loop-mark.invariant.1, append_assoc),
+      λ ascii utf8. IsUtf8-append c.loop-mark.invariant.0 plain (c.loop-mark.invariant.5 ascii utf8)
+          (before-utf8 plain c.in-Some.after.now c.in-Some.mark.now (omega (arith, c.if-mark-eq34.true))
+          (subst IsUtf8 (sym c.split_plain.ensures.parts ∙ ap (λ end. plain ++ end) c.in-Some.ensures.cases.0)
+          (c.loop-mark.invariant.4 utf8))),
     )
 
 pub returns-in_err-byte-clause-fault : goal.returns-in_err-byte-clause-fault
@@ -41,7 +48,9 @@ pub loop-mark-preserved : goal.loop-mark-preserved
 loop-mark-preserved c =
     let plain = c.split_plain.result.0.now in
     let byte = c.in_ok-byte.byte ∷ [] in
-    let begins = backslash _ _ _ c.in-Some.ensures.cases.0 c.split_plain.ensures.special c.if-mark-eq34.false in (
+    let begins = backslash _ _ _ c.in-Some.ensures.cases.0 c.split_plain.ensures.special c.if-mark-eq34.false in
+    let whole : IsUtf8 c.loop-mark.rest.now → IsUtf8 (plain ++ 92 ∷ c.in-Some.after.now) =
+    subst IsUtf8 (sym c.split_plain.ensures.parts ∙ ap (λ end. plain ++ end) (sym begins)) in (
       c.loop-mark.invariant.0 ++ (plain ++ byte),
       rw (c.in_ok-push.ensures.items, c.in_ok-extend_from_slice.ensures.items, c.loop-mark.invariant.1)
           (simp append_assoc),
@@ -53,4 +62,10 @@ loop-mark-preserved c =
       λ fault h. c.loop-mark.invariant.3 _
           (c.split_plain.ensures.stops _
           (subst (λ t. StringFault t fault) begins (after_escape (escape_is _ c.in_ok-byte.ensures) h))),
+      λ utf8. escape_rest-utf8 (escape_is _ c.in_ok-byte.ensures)
+          (rest-utf8 plain c.in-Some.after.now 92 (omega arith) (whole (c.loop-mark.invariant.4 utf8))),
+      λ ascii utf8. spelt_more c.loop-mark.invariant.0 plain c.in_ok-byte.byte
+          (c.loop-mark.invariant.5 (and_parts _ _ ascii).0 utf8)
+          (before-utf8 plain c.in-Some.after.now 92 (omega arith) (whole (c.loop-mark.invariant.4 utf8)))
+          (ltb-true c.in_ok-byte.byte 128 (and_parts _ _ ascii).1),
     )

@@ -1,4 +1,4 @@
-use Rattle.std.proofs.Common.{◌≡◌, ℕ, ◌++◌, List, length}
+use Rattle.std.proofs.Common.{◌≡◌, ℕ, ◌++◌, List, length, true, IsUtf8}
 use Rattle.po_syntax.specs.declared.fault.PoFault.{PoFault}
 use Rattle.po_syntax.specs.Escapes.{SpellsString}
 use Rattle.po_syntax.specs.LineFaults.{StringFault}
@@ -10,6 +10,8 @@ invariant-loop-mark l =
     × (l.bytes.items ≡ l.initial.bytes.items ++ spelt)
     × ((more end : List ℕ) → SpellsString l.rest more end → SpellsString l.text (spelt ++ more) end)
     × ((fault : PoFault) → StringFault l.rest fault → StringFault l.text fault)
+    × (IsUtf8 l.text → IsUtf8 l.rest)
+    × (l.are_ascii ≡ true → IsUtf8 l.text → IsUtf8 spelt)
 
 abbrev pub decreases-loop-mark : goal.decreases-loop-mark
 decreases-loop-mark l = length l.rest
