@@ -25,7 +25,7 @@ pub first_text : (forms : List (Vec ℕ)) (v : Vec ℕ) → Some v ≡ slice_get
 first_text [] v e = cc
 first_text (w ∷ forms) v e = let same : w ≡ v = cc in ap (λ (u : Vec ℕ). u.items) same
 
-nonempty : (b : ℕ) (name : List ℕ) → (length (b ∷ name) == 0) ≡ true → ⊥
+pub nonempty : (b : ℕ) (name : List ℕ) → (length (b ∷ name) == 0) ≡ true → ⊥
 nonempty b name t = let h : length (b ∷ name) ≡ 0 = eqb-true _ _ t in omega (arith, h)
 
 -- the empty word, in lowercase

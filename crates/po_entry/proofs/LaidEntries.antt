@@ -10,7 +10,7 @@ use Rattle.po_entry.specs.Bytes.{Lacks}
 use Rattle.po_entry.specs.Facts.AllAppend.{All-left, All-right}
 use Rattle.po_entry.specs.TextEntry.{TextEntry, TextPrevious, no_previous, quoted_texts, previous_texts}
 use Rattle.po_entry.specs.TextLists.{length_bytes, measured, texts_in}
-use Rattle.po_entry.specs.Rows.{after_nul, context_in, context_length, entry_of, forms_in, further_texts, has_no_head, head_bytes, head_parts, is_empty_list, key_bytes, optional_bytes, optional_in, own_bytes, part_at, plural_in, previous_in, row_of, texts_after, CanLie}
+use Rattle.po_entry.specs.Rows.{EndsContext, PluralFollows, after_nul, context_in, context_length, entry_of, forms_in, further_texts, has_no_head, head_bytes, head_parts, is_empty_list, key_bytes, optional_bytes, optional_in, own_bytes, part_at, plural_in, previous_in, row_of, texts_after, CanLie}
 use Rattle.po_entry.proofs.TextListLemmas.{no_texts, texts_laid}
 
 abbrev IsShort : List ℕ → Type 0
@@ -30,6 +30,29 @@ context_found : (context : Option (List ℕ)) (id rest : List ℕ)
 context_found None id rest = refl
 context_found (Some c) id rest =
     ap Some (ap (take (length c)) (append_assoc c (4 ∷ id) rest) ∙ take-append_seam c (4 ∷ id ++ rest))
+
+-- an EOT ends the context
+pub eot_laid : (context : Option (List ℕ)) (id rest : List ℕ)
+    → EndsContext (context_length context) (key_bytes context id ++ rest)
+eot_laid None id rest = tt
+eot_laid (Some c) id rest =
+    let whole : (c ++ 4 ∷ id) ++ rest ≡ c ++ 4 ∷ (id ++ rest) = append_assoc c (4 ∷ id) rest in
+    let again : c ++ 4 ∷ (id ++ rest) ≡ (c ++ 4 ∷ []) ++ (id ++ rest) = sym (append_assoc c (4 ∷ []) (id ++ rest)) in
+    let longer : suc (length c) ≡ length (c ++ 4 ∷ []) = omega (arith, length-append c (4 ∷ [])) in
+    ap₂ (λ n (l : List ℕ). take n l) longer (whole ∙ again) ∙ take-append_seam (c ++ 4 ∷ []) (id ++ rest)
+    ∙ ap (λ l. l ++ 4 ∷ []) (sym (ap (take (length c)) whole ∙ take-append_seam c (4 ∷ (id ++ rest))))
+
+-- a NUL stands before the plural
+pub nul_laid : (key : List ℕ) (plural : Option (List ℕ)) (forms : List (List ℕ))
+    → PluralFollows (is_some plural) (length key) (key ++ flat_map after_nul (option_to_list plural ++ forms))
+nul_laid key None forms = λ never. absurd (false≢true never)
+nul_laid key (Some text) forms = λ _.
+    let more = text ++ flat_map after_nul forms in
+    let longer : suc (length key) ≡ length (key ++ 0 ∷ []) = omega (arith, length-append key (0 ∷ [])) in
+    let rest : drop (suc (length key)) (key ++ 0 ∷ more) ≡ more =
+    ap₂ (λ n (l : List ℕ). drop n l) longer (sym (append_assoc key (0 ∷ []) more))
+    ∙ drop-append_seam (key ++ 0 ∷ []) more in
+    drop-append_seam key (0 ∷ more) ∙ ap (λ l. 0 ∷ l) (sym rest)
 
 id_found : (context : Option (List ℕ)) (id : List ℕ) → drop (context_length context) (key_bytes context id) ≡ id
 id_found None id = refl

@@ -13,4 +13,6 @@ pub mod TextListLemmas
 pub mod PlainEntries
 pub mod SeenTextLemmas
 pub mod LaidEntries
+pub mod OwnTexts
 pub mod RowLemmas
+pub mod HeaderLaws

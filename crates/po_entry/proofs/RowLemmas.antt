@@ -6,12 +6,12 @@ use Rattle.std.proofs.Math.Seq.{drop-append-add, drop-append_seam, take-append_s
 use Rattle.std.proofs.lemmas.List.{take-append-le, drop-append-le, take_all, take-append-drop, take-take, map-append, length-map, get_or-map, take_more}
 use Rattle.std.proofs.lemmas.List.Elements.{All-nil, All-cons, All-head, All-tail, All-push, All-append, All-map}
 use Rattle.po_entry.specs.TextEntry.{TextEntry}
-use Rattle.po_entry.specs.Rows.{Adds, AreLaid, CanLie, Grows, entries_in, changed_at, is_live, set_fuzzy, set_obsolete, LiesIn, entry_at, entry_bytes, head_at, head_bytes, moved, own_at, own_bytes, row_of}
+use Rattle.po_entry.specs.Rows.{Adds, AreLaid, CanLie, EndsContext, Grows, PluralFollows, after_nul, context_length, further_texts, key_bytes, entries_in, changed_at, set_fuzzy, set_obsolete, LiesIn, entry_at, entry_bytes, head_at, head_bytes, moved, own_at, own_bytes, row_of}
 use Rattle.po_entry.specs.declared.row.Row.{Row}
 use Rattle.po_entry.specs.declared.drafts.Drafts.{Drafts}
 use Rattle.po_entry.specs.Validity.{IsCatalogueEntry}
 use Rattle.po_entry.proofs.LaidEntries.{means}
-use Rattle.po_entry.proofs.LaidEntries.{context_fits, key_fits}
+use Rattle.po_entry.proofs.LaidEntries.{context_fits, eot_laid, key_fits, nul_laid}
 
 pub no_shorter : (old new : List ℕ) → Grows old new → length old ≤ length new
 no_shorter old new grows = omega (arith, ap length grows, length-take (length old) new)
@@ -37,10 +37,12 @@ same_part old new grows from len within =
 
 -- a row means the same in a buffer that has grown
 module _ (old new : List ℕ) (grows : Grows old new) where
+  same_own : (row : Row) → LiesIn old row → own_at new row ≡ own_at old row
+  same_own row lies = same_part old new grows row.start row.own (omega (arith, lies.within))
+
   pub same_entry : (row : Row) → LiesIn old row → entry_at new row ≡ entry_at old row
   same_entry row lies =
-      let own : own_at new row ≡ own_at old row =
-      same_part old new grows row.start row.own (omega (arith, lies.within)) in
+      let own : own_at new row ≡ own_at old row = same_own row lies in
       let head : head_at new row ≡ head_at old row =
       same_part old new grows (row.start + row.own) row.head (omega (arith, lies.within)) in
       rw (own, head) refl
@@ -53,21 +55,29 @@ module _ (old new : List ℕ) (grows : Grows old new) where
   pub stay : (rows : List Row) → All (LiesIn old) rows → All (LiesIn new) rows
   stay rows lie = λ k d inside.
       let l = lie k d inside in
+      let same = same_own (get_or rows k d) l in
       record {
         within = omega (arith, l.within, no_shorter old new grows);
         key = l.key;
         context = l.context;
+        eot = subst (EndsContext (get_or rows k d).context) (sym same) l.eot;
+        nul = subst (PluralFollows (get_or rows k d).has_plural (get_or rows k d).key) (sym same) l.nul;
       }
 
 -- the row of an entry that is appended
+own_found : (entry : TextEntry) (before : List ℕ)
+    → own_at (before ++ entry_bytes entry) (row_of (length before) entry) ≡ own_bytes entry
+own_found entry before =
+    let own = own_bytes entry in
+    ap (take (length own)) (drop-append_seam before (own ++ head_bytes entry)) ∙ take-append_seam own (head_bytes entry)
+
 pub found : (entry : TextEntry) (before : List ℕ) → CanLie entry
     → length (before ++ entry_bytes entry) < 2 ^ 64
     → entry_at (before ++ entry_bytes entry) (row_of (length before) entry) ≡ entry
 found entry before can fits =
     let own = own_bytes entry in
     let head = head_bytes entry in
-    let own_is : own_at (before ++ (own ++ head)) (row_of (length before) entry) ≡ own =
-    ap (take (length own)) (drop-append_seam before (own ++ head)) ∙ take-append_seam own head in
+    let own_is : own_at (before ++ (own ++ head)) (row_of (length before) entry) ≡ own = own_found entry before in
     let after_own : drop (length before + length own) (before ++ (own ++ head)) ≡ head =
     ap₂ (λ n (l : List ℕ). drop n l) (sym (length-append before own)) (sym (append_assoc before own head))
     ∙ drop-append_seam (before ++ own) head in
@@ -82,6 +92,10 @@ lies entry before = record {
   within = omega (arith, length-append before (entry_bytes entry), length-append (own_bytes entry) (head_bytes entry));
   key = key_fits entry;
   context = context_fits entry.context entry.id;
+  eot = subst (EndsContext (context_length entry.context)) (sym (own_found entry before))
+      (eot_laid entry.context entry.id (flat_map after_nul (further_texts entry)));
+  nul = subst (PluralFollows (is_some entry.plural) (length (key_bytes entry.context entry.id)))
+      (sym (own_found entry before)) (nul_laid (key_bytes entry.context entry.id) entry.plural entry.forms);
 }
 
 -- one more row
@@ -107,10 +121,12 @@ module _ (old bytes : List ℕ) where
   seam : (n : ℕ) → drop (length old + n) (old ++ bytes) ≡ drop n bytes
   seam n = drop-append-add old bytes n
 
+  moved_own : (row : Row) → own_at (old ++ bytes) (moved (length old) row) ≡ own_at bytes row
+  moved_own row = ap (take row.own) (seam row.start)
+
   moved_entry : (row : Row) → entry_at (old ++ bytes) (moved (length old) row) ≡ entry_at bytes row
   moved_entry row =
-      let own : own_at (old ++ bytes) (moved (length old) row) ≡ own_at bytes row =
-      ap (take row.own) (seam row.start) in
+      let own : own_at (old ++ bytes) (moved (length old) row) ≡ own_at bytes row = moved_own row in
       let further : length old + row.start + row.own ≡ length old + (row.start + row.own) = omega arith in
       let head : head_at (old ++ bytes) (moved (length old) row) ≡ head_at bytes row =
       ap (λ n. take row.head (drop n (old ++ bytes))) further ∙ ap (take row.head) (seam (row.start + row.own)) in
@@ -130,6 +146,9 @@ module _ (old bytes : List ℕ) where
         within = omega (arith, l.within, length-append old bytes);
         key = l.key;
         context = l.context;
+        eot = subst (EndsContext (get_or rows k d).context) (sym (moved_own (get_or rows k d))) l.eot;
+        nul = subst (PluralFollows (get_or rows k d).has_plural (get_or rows k d).key)
+            (sym (moved_own (get_or rows k d))) l.nul;
       })
 
 -- all entries of a buffer and, after them, those of further bytes
@@ -216,17 +235,20 @@ obsolete_stands obsolete e h = record {
   charset = h.charset;
 }
 
+abbrev pub kept_live : TextEntry → Bool
+kept_live entry = not entry.obsolete
+
 -- a filter of the rows is one of the entries
 pub filtered : (bytes : List ℕ) (rows : List Row)
-    → map (entry_at bytes) (filter (λ (r : Row). not r.obsolete) rows) ≡ filter is_live (map (entry_at bytes) rows)
+    → map (entry_at bytes) (filter (λ (r : Row). not r.obsolete) rows) ≡ filter kept_live (map (entry_at bytes) rows)
 filtered bytes [] = refl
 filtered bytes (row ∷ rows) = one (not row.obsolete) (filtered bytes rows) where
   one : (b : Bool) → map (entry_at bytes) (filter (λ (r : Row). not r.obsolete) rows)
-      ≡ filter is_live (map (entry_at bytes) rows)
+      ≡ filter kept_live (map (entry_at bytes) rows)
       → map (entry_at bytes) (cond b (row ∷ filter (λ (r : Row). not r.obsolete) rows)
       (filter (λ (r : Row). not r.obsolete) rows))
-      ≡ cond b (entry_at bytes row ∷ filter is_live (map (entry_at bytes) rows))
-      (filter is_live (map (entry_at bytes) rows))
+      ≡ cond b (entry_at bytes row ∷ filter kept_live (map (entry_at bytes) rows))
+      (filter kept_live (map (entry_at bytes) rows))
   one true later = ap (λ (es : List TextEntry). entry_at bytes row ∷ es) later
   one false later = later
 
@@ -249,8 +271,9 @@ all_set P (first ∷ xs) (suc i) x all here =
 
 pub fuzzy_lies : (bytes : List ℕ) (row : Row) (fuzzy : Bool) → LiesIn bytes row
     → LiesIn bytes (record row { fuzzy = fuzzy })
-fuzzy_lies bytes row fuzzy l = record { within = l.within; key = l.key; context = l.context }
+fuzzy_lies bytes row fuzzy l = record { within = l.within; key = l.key; context = l.context; eot = l.eot; nul = l.nul }
 
 pub obsolete_lies : (bytes : List ℕ) (row : Row) (obsolete : Bool) → LiesIn bytes row
     → LiesIn bytes (record row { obsolete = obsolete })
-obsolete_lies bytes row obsolete l = record { within = l.within; key = l.key; context = l.context }
+obsolete_lies bytes row obsolete l =
+    record { within = l.within; key = l.key; context = l.context; eot = l.eot; nul = l.nul }

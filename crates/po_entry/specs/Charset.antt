@@ -1,7 +1,9 @@
 -- The name of a charset in a header's text, with a case each for a header that names one and one
 -- that doesn't (manual, "Filling in the Header Entry").
-use Rattle.std.specs.Prelude.{◌≡◌, ℕ, ◌≤◌, IsTrue, List, [], ◌∷◌, ◌++◌, All, length, codes}
-use Rattle.po_entry.specs.Header.{ends_name}
+use Rattle.std.specs.Prelude.{◌≡◌, ◌↔◌, ℕ, ◌≤◌, IsTrue, List, [], ◌∷◌, ◌++◌, All, None, length, map, codes}
+use Rattle.std.specs.Char.{to_ascii_lowercase}
+use Rattle.po_entry.specs.Header.{HasAdmittedCharset, ends_name}
+use Rattle.po_entry.specs.TextEntry.{TextEntry}
 
 abbrev pub EndsName : ℕ → Type 0
 EndsName b = IsTrue (ends_name b)
@@ -31,3 +33,16 @@ pub data NamesAdmitted : List ℕ → Type 0 where
   us_ascii : NamesAdmitted (codes "us-ascii")
   ascii : NamesAdmitted (codes "ascii")
   template : NamesAdmitted (codes "charset")
+
+-- an entry without a context and with an empty msgid, live or obsolete
+pub record IsHeaderEntry (entry : TextEntry) : Type 0 where
+  pub no_context : entry.context ≡ None
+  pub empty_id : entry.id ≡ []
+
+-- The charset of a header, live or obsolete, is admitted exactly if the one that its first form names
+-- is; of an entry that is no header any is.
+pub record AdmitsCharset (entry : TextEntry) : Type 0 where
+  pub of_header : {form name : List ℕ} {forms : List (List ℕ)} → IsHeaderEntry entry → entry.forms ≡ form ∷ forms
+      → NamesCharset form name
+      → HasAdmittedCharset entry ↔ NamesAdmitted (map to_ascii_lowercase name)
+  pub of_other : (IsHeaderEntry entry → ⊥) → HasAdmittedCharset entry

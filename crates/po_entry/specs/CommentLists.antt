@@ -2,7 +2,7 @@
 -- "The Format of PO Files").
 use Rattle.std.specs.Prelude.{◌≡◌, ◌≢◌, ℕ, List, [], ◌∷◌, ◌++◌, All, Contains, codes}
 use Rattle.po_syntax.specs.Blanks.{IsBlank}
-use Rattle.po_syntax.specs.declared.item.CommentKind.TheVariants.{Flags}
+use Rattle.po_syntax.specs.declared.item.CommentKind.TheVariants.{Flags, Reference}
 use Rattle.po_entry.specs.Bytes.{Lacks}
 use Rattle.po_entry.specs.EntryParts.{CommentText}
 
@@ -19,6 +19,16 @@ pub data ListsReferences : List ℕ → List (List ℕ) → Type 0 where
   reference : {element rest : List ℕ} {references : List (List ℕ)} → element ≢ [] → All (λ b. IsBlank b → ⊥) element
       → EndsReference rest → ListsReferences rest references
       → ListsReferences (element ++ rest) (element ∷ references)
+
+-- the references of an entry's comments: those of each reference comment, in the order of the lines
+pub data HaveReferences : List CommentText → List (List ℕ) → Type 0 where
+  no_comment : HaveReferences [] []
+  references : {comment : CommentText} {comments : List CommentText} {here later : List (List ℕ)}
+      → comment.kind ≡ Reference → ListsReferences comment.text here → HaveReferences comments later
+      → HaveReferences (comment ∷ comments) (here ++ later)
+  other_kind : {comment : CommentText} {comments : List CommentText} {references : List (List ℕ)}
+      → comment.kind ≢ Reference → HaveReferences comments references
+      → HaveReferences (comment ∷ comments) references
 
 -- the text without the blanks at its ends
 pub record IsWithoutBlanks (text kept : List ℕ) : Type 0 where

@@ -18,3 +18,4 @@ pub mod Faults
 pub mod Equality
 pub mod Facts
 pub mod Internal
+pub mod Examples

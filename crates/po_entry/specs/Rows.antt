@@ -1,7 +1,7 @@
 -- Entries that lie in one buffer: what a row of it means, and how an entry is laid out (manual, "The
 -- Format of PO Files"; for keys and forms "The Format of GNU MO Files").
-use Rattle.std.specs.Prelude.{◌≡◌, ◌+◌, ◌<◌, ◌≤◌, All, ◌==◌, ◌&&◌, ℕ, zero, suc, Bool, not, List, [], ◌∷◌, ◌++◌, map, length, take, drop, Option, None, Some, is_none, is_some, option_map, option_to_list, slice_index_or, if◌then◌else◌}
-use Rattle.std.specs.List.{flat_map, slice_split}
+use Rattle.std.specs.Prelude.{◌≡◌, ◌+◌, ◌<◌, ◌≤◌, All, ◌==◌, ◌&&◌, ℕ, zero, suc, Bool, true, List, [], ◌∷◌, ◌++◌, map, length, take, drop, Option, None, Some, is_none, is_some, option_map, option_to_list, slice_index_or, if◌then◌else◌}
+use Rattle.std.specs.List.{flat_map, join_with_byte, slice_split}
 use Rattle.po_entry.specs.TextEntry.{TextEntry, TextPrevious, plain_entry, quoted_texts}
 use Rattle.po_entry.specs.Bytes.{Lacks}
 use Rattle.po_entry.specs.TextLists.{measured, texts_in}
@@ -17,18 +17,26 @@ key_bytes (Some context) id = context ++ 4 ∷ id
 abbrev pub after_nul : List ℕ → List ℕ
 after_nul text = 0 ∷ text
 
--- the texts that stand after the key: the plural, where there is one, and the forms
-abbrev pub further_texts : TextEntry → List (List ℕ)
-further_texts entry = option_to_list entry.plural ++ entry.forms
-
--- an entry's own texts, as an MO file has them: the key, and after a NUL each further text
-abbrev pub own_bytes : TextEntry → List ℕ
-own_bytes entry = key_bytes entry.context entry.id ++ flat_map after_nul (further_texts entry)
-
 -- a text that may be missing
 abbrev pub optional_bytes : Option (List ℕ) → List ℕ
 optional_bytes None = []
 optional_bytes (Some text) = after_nul text
+
+-- the texts that stand after the key: the plural, where there is one, and the forms
+abbrev pub further_texts : TextEntry → List (List ℕ)
+further_texts entry = option_to_list entry.plural ++ entry.forms
+
+-- an entry's original in an MO file: the key and, with a plural, a NUL and the plural
+abbrev pub original_bytes : TextEntry → List ℕ
+original_bytes entry = key_bytes entry.context entry.id ++ optional_bytes entry.plural
+
+-- its translation there: the forms, with a NUL between them
+abbrev pub translation_bytes : TextEntry → List ℕ
+translation_bytes entry = join_with_byte 0 entry.forms
+
+-- an entry's own texts, as an MO file has them: the key, and after a NUL each further text
+abbrev pub own_bytes : TextEntry → List ℕ
+own_bytes entry = key_bytes entry.context entry.id ++ flat_map after_nul (further_texts entry)
 
 -- the parts of a head: its lists of texts, and its previous texts
 abbrev pub head_parts : TextEntry → List (List ℕ)
@@ -155,11 +163,23 @@ entry_of row own head = record {
 abbrev pub entry_at : List ℕ → Row → TextEntry
 entry_at bytes row = entry_of row (own_at bytes row) (head_at bytes row)
 
--- the row lies inside of the bytes, and its parts inside of it
+-- the bytes of a context of this length end with an EOT, which is counted in it
+abbrev pub EndsContext : ℕ → List ℕ → Type 0
+EndsContext zero own = Unit {0}
+EndsContext (suc len) own = take (suc len) own ≡ take len own ++ 4 ∷ []
+
+-- a NUL stands between a key of this length and a plural
+abbrev pub PluralFollows : Bool → ℕ → List ℕ → Type 0
+PluralFollows has_plural key own = has_plural ≡ true → drop key own ≡ 0 ∷ drop (suc key) own
+
+-- the row lies inside of the bytes, and its parts inside of it, with an EOT after the context and a
+-- NUL before the plural
 pub record LiesIn (bytes : List ℕ) (row : Row) : Type 0 where
   pub within : row.start + row.own + row.head ≤ length bytes
   pub key : row.key ≤ row.own
   pub context : row.context ≤ row.key
+  pub eot : EndsContext row.context (own_at bytes row)
+  pub nul : PluralFollows row.has_plural row.key (own_at bytes row)
 
 -- the bytes begin with those that there were
 abbrev pub Grows : List ℕ → List ℕ → Type 0
@@ -195,6 +215,3 @@ abbrev pub changed_at : (TextEntry → TextEntry) → ℕ → List TextEntry →
 changed_at change at [] = []
 changed_at change zero (entry ∷ entries) = change entry ∷ entries
 changed_at change (suc at) (entry ∷ entries) = entry ∷ changed_at change at entries
-
-abbrev pub is_live : TextEntry → Bool
-is_live entry = not entry.obsolete

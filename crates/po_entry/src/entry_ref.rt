@@ -5,7 +5,7 @@ ghost use Rattle.std.specs.Iterator.{YieldsFirstBy, item_count};
 ghost use Rattle.po_entry.specs.Bytes.{Lacks};
 ghost use Rattle.po_entry.specs.Header.{is_header};
 ghost use Rattle.po_entry.specs.TextLists.{texts_in, texts_left};
-ghost use Rattle.po_entry.specs.Rows.{LiesIn, entry_at, forms_of, head_at, optional_in, own_at, part_at, split_forms};
+ghost use Rattle.po_entry.specs.Rows.{LiesIn, entry_at, forms_of, head_at, key_bytes, optional_in, original_bytes, own_at, part_at, split_forms, translation_bytes};
 ghost use Rattle.po_entry.specs.FormLists.{forms_left};
 
 use crate::row::Row;
@@ -59,6 +59,39 @@ fn after_key<'a>(bytes: &'a [u8], row: &Row) -> &'a [u8]
 {
     let own = own(bytes, row);
     own.split_at((row.key + 1).min(own.len())).1
+}
+
+/// The key, as an MO file has it.
+fn key<'a>(bytes: &'a [u8], row: &Row) -> &'a [u8]
+    requires { LiesIn bytes.now row.now }
+    ensures key { result.now ≡ key_bytes (entry_at bytes.now row.now).context (entry_at bytes.now row.now).id }
+    ensures len { length result.now ≡ row.now.key }
+{
+    own(bytes, row).split_at(row.key).0
+}
+
+/// The key and, where there is a plural, a NUL and the plural.
+fn original<'a>(bytes: &'a [u8], row: &Row) -> &'a [u8]
+    requires { LiesIn bytes.now row.now }
+    ensures { result.now ≡ original_bytes (entry_at bytes.now row.now) }
+{
+    if !row.has_plural {
+        return key(bytes, row);
+    }
+    let len = split_text(after_key(bytes, row)).0.len();
+    own(bytes, row).split_at(row.key + 1 + len).0
+}
+
+/// The forms, with a NUL between them.
+fn translation<'a>(bytes: &'a [u8], row: &Row) -> &'a [u8]
+    requires { LiesIn bytes.now row.now }
+    ensures { result.now ≡ translation_bytes (entry_at bytes.now row.now) }
+{
+    let rest = after_key(bytes, row);
+    if row.has_plural {
+        return split_text(rest).1.unwrap_or(&[]);
+    }
+    rest
 }
 
 /// The part of a head with this index.
@@ -207,6 +240,27 @@ impl<'a> EntryRef<'a> {
             };
         }
         FormIter { rest: Some(rest) }
+    }
+
+    /// The key that an MO file has it by: the msgid, or the context, an EOT and the msgid.
+    pub fn key(&self) -> &'a [u8]
+        ensures { result.now ≡ key_bytes self.now.context self.now.id }
+    {
+        key(self.bytes, self.row)
+    }
+
+    /// Its original in an MO file: the key and, where it has a plural, a NUL and the plural.
+    pub fn original(&self) -> &'a [u8]
+        ensures { result.now ≡ original_bytes self.now }
+    {
+        original(self.bytes, self.row)
+    }
+
+    /// Its translation in an MO file: the forms, with a NUL between them.
+    pub fn translation(&self) -> &'a [u8]
+        ensures { result.now ≡ translation_bytes self.now }
+    {
+        translation(self.bytes, self.row)
     }
 
     /// Whether the entry is a header: without a context, and with an empty msgid.

@@ -5,12 +5,12 @@ ghost use Rattle.std.specs.Prelude.{map, ◌≡◌, ◌↔◌, ◌++◌, ◌∷�
 ghost use Rattle.po_syntax.specs.Piece.{EndsInString};
 ghost use Rattle.po_syntax.specs.TextItem.{TextItem};
 ghost use Rattle.po_entry.specs.TextEntry.{TextEntry, SameButLine};
-ghost use Rattle.po_entry.specs.Charset.{NamesAdmitted, NamesCharset};
+ghost use Rattle.po_entry.specs.Charset.{AdmitsCharset, IsHeaderEntry, NamesAdmitted, NamesCharset};
 ghost use Rattle.po_entry.specs.Equality.{entry_eq};
 ghost use Rattle.po_entry.specs.EntryParts.{CommentText};
-ghost use Rattle.po_entry.specs.Header.{charset_of, IsAdmittedName};
-ghost use Rattle.po_entry.specs.CommentLists.{HaveFuzzyFlag, KeepsFlags, ListsFlags, ListsReferences};
-ghost use Rattle.po_entry.specs.Comments.{listed_flags, all_listed_flags, flags_of, fuzzy_of, listed_references};
+ghost use Rattle.po_entry.specs.Header.{charset_of, is_header, IsAdmittedName};
+ghost use Rattle.po_entry.specs.CommentLists.{HaveFuzzyFlag, HaveReferences, KeepsFlags, ListsFlags, ListsReferences};
+ghost use Rattle.po_entry.specs.Comments.{listed_flags, all_listed_flags, flags_of, fuzzy_of, listed_references, references_of};
 ghost use Rattle.po_entry.specs.Spelling.{SpellsEntries};
 ghost use Rattle.po_entry.specs.declared.drafts.Drafts.{Drafts};
 ghost use Rattle.po_entry.specs.Rows.{Adds, AreLaid, CanLie, entries_in};
@@ -34,6 +34,19 @@ pub fn charsets_are_admitted()
     ensures { (name : List ℕ) → IsAdmittedName name ↔ NamesAdmitted (map to_ascii_lowercase name) }
 {}
 
+/// A header is an entry without a context and with an empty msgid.
+#[tactic(auto, using(crate::proofs::HeaderLaws::header_decided))]
+pub fn header_has_no_context()
+    ensures { (entry : TextEntry) → Decides (is_header entry) (IsHeaderEntry entry) }
+{}
+
+/// The charset of a header, live or obsolete, is admitted exactly if the one that its first form
+/// names is.
+#[tactic(auto, using(crate::proofs::HeaderLaws::admits_charset))]
+pub fn charsets_of_headers()
+    ensures { (entry : TextEntry) → AdmitsCharset entry }
+{}
+
 /// An entry is fuzzy exactly if one of its comments lists the flag `fuzzy`, wherever it stands.
 #[tactic(auto, using(crate::proofs::FuzzyFlags::fuzzy_where_flagged))]
 pub fn fuzzy_where_flagged()
@@ -45,6 +58,12 @@ pub fn fuzzy_where_flagged()
 pub fn references_are_listed()
     ensures { (text : List ℕ) (references : List (List ℕ))
         → (references ≡ listed_references text) ↔ ListsReferences text references }
+{}
+
+/// The references of an entry are those of its reference comments, in the order of the lines.
+#[tactic(auto, using(crate::proofs::HeaderLaws::have_references))]
+pub fn references_of_all_lines()
+    ensures { (comment_texts : List CommentText) → HaveReferences comment_texts (references_of comment_texts) }
 {}
 
 /// The flags that are found in the text of a comment are those that it lists, between commas and

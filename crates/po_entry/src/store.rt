@@ -1,10 +1,10 @@
 //! The entries of a catalogue in one buffer.
 
-ghost use Rattle.std.specs.Prelude.{◌≡◌, ◌+◌, ◌^◌, ◌<◌, ◌≤◌, ◌++◌, [], IfOk, OnOk, OnErr, All, filter, length, get_or, map};
+ghost use Rattle.std.specs.Prelude.{◌≡◌, ◌+◌, ◌^◌, ◌<◌, ◌≤◌, ◌++◌, [], IfOk, OnOk, OnErr, All, filter, length, get_or, map, not};
 ghost use Rattle.std.specs.Vec.{vec_capacity, vec_len};
 ghost use Rattle.po_entry.specs.TextEntry.{TextEntry};
 ghost use Rattle.po_entry.specs.Validity.{IsCatalogueEntry};
-ghost use Rattle.po_entry.specs.Rows.{AreLaid, changed_at, entries_in, is_live, moved, set_fuzzy, set_obsolete};
+ghost use Rattle.po_entry.specs.Rows.{AreLaid, changed_at, entries_in, moved, set_fuzzy, set_obsolete};
 
 use crate::drafts::Drafts;
 use crate::entry_ref::EntryRef;
@@ -106,7 +106,7 @@ impl Store {
 
     /// Keeps the live entries.
     pub fn keep_live(&mut self)
-        ensures { self.new ≡ filter is_live self.old }
+        ensures { self.new ≡ filter (λ entry. not entry.obsolete) self.old }
     {
         self.rows.retain(|row| !row.obsolete);
     }

@@ -1,6 +1,6 @@
 //! Lists of texts, each kept in one buffer.
 
-ghost use Rattle.std.specs.Prelude.{◌≡◌, ◌+◌, ◌≤◌, ◌==◌, ◌++◌, ◌∷◌, [], IfOk, MatchOption, None, OnErr, OnOk, Some, length};
+ghost use Rattle.std.specs.Prelude.{◌≡◌, ◌+◌, ◌≤◌, ◌==◌, ◌++◌, ◌∷◌, [], IfOk, IsOk, MatchOption, None, OnErr, OnOk, Some, length};
 ghost use Rattle.std.specs.Iterator.{YieldsFirstBy, item_count};
 ghost use Rattle.std.specs.Vec.{vec_capacity, vec_len};
 ghost use Rattle.po_entry.specs.Equality.{texts_eq};
@@ -127,9 +127,12 @@ fn make_room(bytes: &mut Vec<u8>, more: usize) -> Result<(), AllocError>
     }
 }
 
-/// Adds a length.
+/// Adds a length. Where there is room for it, nothing is refused.
 pub(crate) fn add_length(bytes: &mut Vec<u8>, len: usize) -> Result<(), AllocError>
-    ensures { OnOk result (bytes.new.items ≡ bytes.old.items ++ length_bytes len) }
+    ensures ok { OnOk result (bytes.new.items ≡ bytes.old.items ++ length_bytes len) }
+    ensures len { OnOk result (vec_len bytes.new ≡ vec_len bytes.old + length (length_bytes len)) }
+    ensures capacity { vec_capacity bytes.old ≤ vec_capacity bytes.new }
+    ensures room { vec_len bytes.old + length (length_bytes len) ≤ vec_capacity bytes.old → IsOk result }
 {
     if len < LONG as usize {
         bytes.push(len as u8)?;
@@ -146,15 +149,14 @@ fn push_length(bytes: &mut Vec<u8>, text: &[u8]) -> Result<(), AllocError>
     ensures room { OnOk result (vec_len bytes.new + length text.now ≤ vec_capacity bytes.new) }
     ensures unchanged { OnErr result (bytes.new.items ≡ bytes.old.items) }
 {
-    if text.len() < LONG as usize {
-        make_room(bytes, 1 + text.len())?;
-        bytes.push(text.len() as u8)?;
-        return Ok(());
-    }
-    make_room(bytes, 1 + LENGTH_BYTES + text.len())?;
-    bytes.push(LONG)?;
-    bytes.extend_from_slice(&(text.len() as u64).to_le_bytes())?;
-    Ok(())
+    let len = text.len();
+    let of_length = if len < LONG as usize {
+        1
+    } else {
+        1 + LENGTH_BYTES
+    };
+    make_room(bytes, of_length + len)?;
+    add_length(bytes, len)
 }
 
 /// Whether two lists have the same texts in the same order.

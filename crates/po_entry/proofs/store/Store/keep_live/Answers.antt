@@ -2,10 +2,10 @@ use Rattle.std.proofs.Common.{◌≡◌, ◌∙◌, sym, ap, subst, map, filter,
 use Rattle.std.specs.Prelude.{All}
 use Rattle.std.proofs.lemmas.Fn.{filter_same}
 use Rattle.std.proofs.lemmas.List.Elements.{All-filter}
-use Rattle.po_entry.specs.Rows.{LiesIn, entry_at, is_live}
+use Rattle.po_entry.specs.Rows.{LiesIn, entry_at}
 use Rattle.po_entry.specs.Validity.{IsCatalogueEntry}
 use Rattle.po_entry.specs.declared.row.Row.{Row}
-use Rattle.po_entry.proofs.RowLemmas.{filtered}
+use Rattle.po_entry.proofs.RowLemmas.{filtered, kept_live}
 use Rattle.po_entry.proofs.store.Store.keep_live.Goals as goal
 
 pub invariant_of-self : goal.invariant_of-self
@@ -18,7 +18,7 @@ invariant_of-self c =
     record {
       lie = subst (All (LiesIn bytes)) (sym kept) (All-filter live (LiesIn bytes) rows c.self.invariant.lie);
       valid = subst (All IsCatalogueEntry) (sym (ap (map (entry_at bytes)) kept ∙ filtered bytes rows))
-          (All-filter is_live IsCatalogueEntry (map (entry_at bytes) rows) c.self.invariant.valid);
+          (All-filter kept_live IsCatalogueEntry (map (entry_at bytes) rows) c.self.invariant.valid);
     }
 
 pub returns : goal.returns
@@ -27,4 +27,4 @@ returns c =
     let kept : c.retain.new.self.items ≡ filter live c.self.inside.rows.items =
     filter_same _ _ _ (λ x b f' k. search rules) _ _ c.retain.ensures.filtered in
     ap (map (entry_at c.self.inside.bytes.items)) kept ∙ filtered c.self.inside.bytes.items c.self.inside.rows.items
-    ∙ ap (filter is_live) c.self.view_is
+    ∙ ap (filter kept_live) c.self.view_is

@@ -1,0 +1,83 @@
+-- What an MO file has of an entry, cut from the bytes of the entry's own texts.
+use Rattle.std.proofs.Common.{◌≡◌, refl, sym, ap, ◌∙◌, ℕ, zero, suc, ◌+◌, ◌≤◌, Bool, true, false, List, [], ◌∷◌, ◌++◌, append_assoc, append-nil, length, length-append, length-take, take, drop, Option, None, Some, arith}
+use Rattle.std.specs.Borrow.{Bor}
+use Rattle.std.specs.List.{join_with_byte}
+use Rattle.std.specs.Prelude.{option_copied, unwrap_or}
+use Rattle.std.proofs.Math.Seq.{take-append_seam}
+use Rattle.std.proofs.lemmas.Bool.{false≢true}
+use Rattle.std.proofs.lemmas.List.{take-append-drop, take-take}
+use Rattle.std.proofs.lemmas.List.Splits.{join_with_byte-slice_split}
+use Rattle.po_entry.specs.Rows.{EndsContext, PluralFollows, context_in, forms_in, forms_of, key_bytes, optional_bytes, plural_in, split_forms, texts_after}
+
+pub key_cut : (context key : ℕ) (own : List ℕ) → context ≤ key → EndsContext context own
+    → take key own ≡ key_bytes (context_in context own) (drop context (take key own))
+key_cut zero key own within eot = refl
+key_cut (suc n) key own within eot =
+    let rest = drop (suc n) (take key own) in
+    sym (take-append-drop (suc n) (take key own))
+    ∙ ap (λ l. l ++ rest) (take-take (suc n) key own within ∙ eot)
+    ∙ append_assoc (take n own) (4 ∷ []) rest
+
+-- an original without a plural
+pub key_alone : (key : List ℕ) (has_plural : Bool) (further : List (List ℕ)) → has_plural ≡ false
+    → key ≡ key ++ optional_bytes (plural_in has_plural further)
+key_alone key false further none = sym (append-nil key)
+key_alone key true further none = absurd (false≢true (sym none))
+
+forms_joined : (bytes : List ℕ) → join_with_byte 0 (split_forms bytes) ≡ bytes
+forms_joined bytes = join_with_byte-slice_split 0 bytes
+
+-- joined texts begin with the first
+begins : (first : List ℕ) (others : List (List ℕ))
+    → (after : List ℕ) × (join_with_byte 0 (first ∷ others) ≡ first ++ after)
+begins first [] = ([], sym (append-nil first))
+begins first (next ∷ others) = (0 ∷ join_with_byte 0 (next ∷ others), refl)
+
+-- an original with a plural, which is the first of the texts after the key
+pub plural_cut : (own : List ℕ) (key : ℕ) (has_plural : Bool) (first : List ℕ) (others : List (List ℕ))
+    → key ≤ length own → has_plural ≡ true → PluralFollows has_plural key own
+    → split_forms (drop (key + 1) own) ≡ first ∷ others
+    → (key + 1 + length first ≤ length own)
+    × (take (key + 1 + length first) own ≡ take key own ++ optional_bytes (plural_in has_plural (texts_after key own)))
+plural_cut own key false first others within some follows split = absurd (false≢true some)
+plural_cut own key true first others within some follows split =
+    let rest = drop (suc key) own in
+    let next : key + 1 ≡ suc key = omega arith in
+    let parts : split_forms rest ≡ first ∷ others = ap (λ n. split_forms (drop n own)) (sym next) ∙ split in
+    let begin = begins first others in
+    let joined : rest ≡ first ++ begin.0 = sym (forms_joined rest) ∙ ap (join_with_byte 0) parts ∙ begin.1 in
+    let front = take key own ++ 0 ∷ first in
+    let whole : own ≡ front ++ begin.0 =
+    sym (take-append-drop key own) ∙ ap (λ l. take key own ++ l) (follows refl ∙ ap (λ l. 0 ∷ l) joined)
+    ∙ sym (append_assoc (take key own) (0 ∷ first) begin.0) in
+    let long : key + 1 + length first ≡ length front =
+    omega (arith, within, length-append (take key own) (0 ∷ first), length-take key own) in (
+      omega (arith, long, ap length whole, length-append front begin.0),
+      ap (λ n. take n own) long ∙ ap (take (length front)) whole ∙ take-append_seam front begin.0
+          ∙ ap (λ texts. take key own ++ optional_bytes (plural_in true texts)) (sym parts),
+    )
+
+-- the forms without a plural
+pub forms_alone : (own : List ℕ) (key : ℕ) (has_plural : Bool) → has_plural ≡ false
+    → drop (key + 1) own ≡ join_with_byte 0 (forms_in has_plural (texts_after key own))
+forms_alone own key false none =
+    let next : key + 1 ≡ suc key = omega arith in
+    ap (λ n. drop n own) next ∙ sym (forms_joined (drop (suc key) own))
+forms_alone own key true none = absurd (false≢true (sym none))
+
+-- those after a plural
+after_plural : (found : Option (Bor (List ℕ))) (none : Bor (List ℕ)) → none.now ≡ []
+    → (unwrap_or found none).now ≡ join_with_byte 0 (forms_of (option_copied found))
+after_plural None none is = is
+after_plural (Some forms) none is = sym (forms_joined forms.now)
+
+pub forms_cut : (own : List ℕ) (key : ℕ) (has_plural : Bool) (first : List ℕ) (found : Option (Bor (List ℕ)))
+    (none : Bor (List ℕ)) → has_plural ≡ true → none.now ≡ []
+    → split_forms (drop (key + 1) own) ≡ first ∷ forms_of (option_copied found)
+    → (unwrap_or found none).now ≡ join_with_byte 0 (forms_in has_plural (texts_after key own))
+forms_cut own key false first found none some is split = absurd (false≢true some)
+forms_cut own key true first found none some is split =
+    let next : key + 1 ≡ suc key = omega arith in
+    let parts : texts_after key own ≡ first ∷ forms_of (option_copied found) =
+    ap (λ n. split_forms (drop n own)) (sym next) ∙ split in
+    after_plural found none is ∙ ap (λ texts. join_with_byte 0 (forms_in true texts)) (sym parts)

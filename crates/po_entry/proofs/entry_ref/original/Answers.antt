@@ -1,0 +1,31 @@
+use Rattle.std.proofs.Common.{◌∙◌, ◌+◌, ◌++◌, sym, ap, length, take, arith}
+use Rattle.po_entry.specs.Rows.{optional_bytes, own_at, plural_in, split_forms, texts_after}
+use Rattle.po_entry.proofs.OwnTexts.{key_alone, key_cut, plural_cut}
+use Rattle.po_entry.proofs.entry_ref.original.Goals as goal
+
+pub split_at-requires : goal.split_at-requires
+split_at-requires c =
+    let row = c.args.row.now in
+    let cut = plural_cut (own_at c.args.bytes.now row) row.key row.has_plural c.split_text.result.0.now _
+    (omega (arith, c.requires.key, c.own.ensures.len, ap length c.own.ensures.own)) c.if-not-row.false c.requires.nul
+    (ap split_forms (sym c.after_key.ensures) ∙ c.split_text.ensures) in
+    omega (arith, cut.0, ap length c.own.ensures.own)
+
+pub returns-then-not-row : goal.returns-then-not-row
+returns-then-not-row c =
+    let row = c.args.row.now in
+    key_alone c.key.result.now row.has_plural (texts_after row.key (own_at c.args.bytes.now row)) c.if-not-row.true
+    ∙ ap (λ key. key ++ optional_bytes (plural_in row.has_plural (texts_after row.key (own_at c.args.bytes.now row))))
+    c.key.ensures.key
+
+pub returns : goal.returns
+returns c =
+    let row = c.args.row.now in
+    let own = own_at c.args.bytes.now row in
+    let first = c.split_text.result.0.now in
+    let cut = plural_cut own row.key row.has_plural first _
+    (omega (arith, c.requires.key, c.own.ensures.len, ap length c.own.ensures.own)) c.if-not-row.false c.requires.nul
+    (ap split_forms (sym c.after_key.ensures) ∙ c.split_text.ensures) in
+    c.split_at.ensures.front ∙ ap (take (row.key + 1 + length first)) c.own.ensures.own ∙ cut.1
+    ∙ ap (λ key. key ++ optional_bytes (plural_in row.has_plural (texts_after row.key own)))
+    (key_cut row.context row.key own c.requires.context c.requires.eot)
