@@ -13,3 +13,5 @@ pub mod KeysApart
 pub mod NumberedKeys
 pub mod CompiledRows
 pub mod SortedRows
+pub mod LimitLemmas
+pub mod OneMore

@@ -179,7 +179,7 @@ context_lacks_eot : (context : Option (List ℕ)) → has_no_separator (unwrap_o
 context_lacks_eot None h = tt
 context_lacks_eot (Some context) h = text_lacks_eot context h
 
-option_decides : (a b : Option (List ℕ)) → Decides (option_eq bytes_eq a b) (a ≡ b)
+pub option_decides : (a b : Option (List ℕ)) → Decides (option_eq bytes_eq a b) (a ≡ b)
 option_decides None None = (λ _. refl, λ _. refl)
 option_decides None (Some y) = (λ h. cc, λ h. cc)
 option_decides (Some x) None = (λ h. cc, λ h. cc)

@@ -10,3 +10,4 @@ pub mod OfInputs
 pub mod CompiledEntries
 pub mod CompiledInputs
 pub mod Internal
+pub mod Examples

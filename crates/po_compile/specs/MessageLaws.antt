@@ -1,15 +1,22 @@
 -- Laws of the messages that entries are compiled to, and of the entries of texts.
-use Rattle.std.specs.Prelude.{◌≡◌, ℕ, List, [], ◌∷◌, All, slice_get}
+use Rattle.std.specs.Prelude.{◌≡◌, ◌↔◌, ◌<◌, ◌≤◌, ℕ, Bool, true, List, [], ◌∷◌, ◌++◌, All, length, slice_get}
 use Rattle.std.specs.List.{slice_split}
 use Rattle.mo_file.specs.Key.{is_nul, key_of, query_key}
+use Rattle.mo_file.specs.Layout.{layout}
 use Rattle.mo_file.specs.Message.{Message}
-use Rattle.mo_lookup.specs.CatalogView.{forms}
+use Rattle.mo_lookup.specs.CatalogView.{answered, forms}
+use Rattle.mo_lookup.specs.Query.{Query, can_be_key}
+use Rattle.plural_rule.specs.PluralRule.{RuleView}
+use Rattle.po_syntax.specs.declared.fault.PoFault.TheVariants.{TooLarge}
 use Rattle.po_entry.specs.TextEntry.{TextEntry}
 use Rattle.po_entry.specs.Validity.{IsEntry, IsCatalogueEntry}
 use Rattle.po_messages.specs.Joined.{joined_entries}
 use Rattle.po_messages.specs.Duplicate.{AllDiffer}
 use Rattle.po_messages.specs.DistinctText.{ReadsDistinct}
-use Rattle.po_compile.specs.Accepted.{AreRead}
+use Rattle.po_messages.specs.declared.duplicate.JoinError.{JoinError}
+use Rattle.po_compile.specs.Accepted.{AreAccepted, AreRead, IsTooLarge}
+use Rattle.po_compile.specs.CompiledList.{compiled_list}
+use Rattle.po_compile.specs.declared.options.Options.{Options}
 use Rattle.po_compile.specs.CompiledMessages.{original_of, translation_of, AreMessagesOf}
 
 -- an original has the key and the plural of its entry, and a translation has its forms
@@ -38,3 +45,40 @@ abbrev pub OneTextIsRead : Type 0
 OneTextIsRead =
     (text : List ℕ) (entries : List TextEntry) → ReadsDistinct text entries
     → AreRead (text ∷ []) (entries ∷ []) × (joined_entries (entries ∷ []) ≡ entries)
+
+-- Each entry that is compiled can be asked for: neither its context nor its msgid has a NUL or an
+-- EOT.
+abbrev pub CompiledCanBeKeys : Type 0
+CompiledCanBeKeys =
+    (use_fuzzy : Bool) (texts : List (List ℕ)) (catalogues : List (List TextEntry)) → AreRead texts catalogues
+    → All (λ e. can_be_key e.context e.id ≡ true) (compiled_list use_fuzzy (joined_entries catalogues))
+
+-- the fault of texts whose file would be too large: of no line, under the name of the first input
+abbrev pub too_large : JoinError
+too_large = record { input = 0; first_input = 0; error = record { kind = TooLarge; line = 0 } }
+
+-- Texts that are read are accepted where the layout of their messages has 4,294,967,295 bytes at
+-- most; where it has more, that is their fault.
+pub record LayoutIsLimited (options : Options) (texts : List (List ℕ)) (catalogues : List (List TextEntry))
+    (messages : List Message) : Type 0 where
+  pub accepted : AreAccepted options texts catalogues ↔ (length (layout options.order messages) ≤ 4294967295)
+  pub refused : IsTooLarge options texts too_large ↔ (4294967295 < length (layout options.order messages))
+  pub no_other : (error : JoinError) → IsTooLarge options texts error → error ≡ too_large
+
+abbrev pub LayoutsAreLimited : Type 0
+LayoutsAreLimited =
+    (options : Options) (texts : List (List ℕ)) (catalogues : List (List TextEntry)) (messages : List Message)
+    → AreRead texts catalogues
+    → AreMessagesOf (compiled_list options.use_fuzzy (joined_entries catalogues)) messages
+    → LayoutIsLimited options texts catalogues messages
+
+-- One entry more changes no answer to a query for another message, under one rule.
+abbrev pub OneMoreChangesNoOther : Type 0
+OneMoreChangesNoOther =
+    (before after : List TextEntry) (entry : TextEntry) (messages more : List Message) (rule : RuleView)
+    (query : Query)
+    → All IsEntry (before ++ entry ∷ after) → AreMessagesOf (before ++ after) messages
+    → AreMessagesOf (before ++ entry ∷ after) more
+    → ¬ ((entry.context ≡ query.context) × (entry.id ≡ query.id))
+    → answered (record { messages = more; rule = rule }) query
+    ≡ answered (record { messages = messages; rule = rule }) query

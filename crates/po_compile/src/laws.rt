@@ -3,7 +3,7 @@
 
 ghost use Rattle.po_compile.specs.CompiledEntries.{CompiledListIsKept};
 ghost use Rattle.po_compile.specs.Headline.{AcceptedOrFault, CataloguesAreOne, LookUpMeansEntries, MessagesAreOne, MessagesMeanEntries, NoFaultWhereAccepted, NoFaultWhereDistinct, OneCompileFault, OneTextFault};
-ghost use Rattle.po_compile.specs.MessageLaws.{JoinedEntriesCanStand, MessagesDiffer, MessagesHaveParts, OneTextIsRead};
+ghost use Rattle.po_compile.specs.MessageLaws.{CompiledCanBeKeys, JoinedEntriesCanStand, LayoutsAreLimited, MessagesDiffer, MessagesHaveParts, OneMoreChangesNoOther, OneTextIsRead};
 
 use mo_file::layout_is_mo_file;
 use po_messages::laws::{
@@ -123,3 +123,27 @@ pub fn joined_entries_can_stand()
 pub fn one_text_is_read()
     ensures { OneTextIsRead }
 {}
+
+/// Each entry that is compiled can be asked for.
+pub fn compiled_can_be_keys()
+    ensures { CompiledCanBeKeys }
+{
+    joined_entries_can_stand();
+}
+
+/// Texts that are read are accepted where the layout of their messages has 4,294,967,295 bytes at
+/// most. Where it has more, their fault is `TooLarge`, of no line, under the name of the first
+/// input.
+pub fn layouts_are_limited()
+    ensures { LayoutsAreLimited }
+{
+    catalogues_are_one();
+    messages_are_one();
+}
+
+/// One entry more changes no answer to a query for another message, under one plural rule.
+pub fn one_more_changes_no_other()
+    ensures { OneMoreChangesNoOther }
+{
+    messages_mean_entries();
+}

@@ -1,0 +1,95 @@
+-- Entries that are compiled can be asked for, and files are below 4 GiB.
+use Rattle.std.proofs.Common.{◌≡◌, ◌≢◌, ℕ, ◌<◌, ◌≤◌, Bool, true, not, ◌&&◌, ◌||◌, List, [], ◌∷◌, Option, None, Some, refl, sym, ap, ap₂, ◌∙◌, subst, length, arith}
+use Rattle.std.specs.Prelude.{All, IfSome}
+use Rattle.std.specs.List.{list_any}
+use Rattle.std.specs.Option.{unwrap_or}
+use Rattle.std.proofs.lemmas.Bool.{ne_eqb}
+use Rattle.std.proofs.lemmas.List.Elements.{All-filter, All-head, All-tail, All-weaker}
+use Rattle.mo_file.specs.Layout.{layout}
+use Rattle.mo_file.specs.Message.{Message}
+use Rattle.mo_lookup.specs.Query.{can_be_key, has_no_separator, is_separator}
+use Rattle.po_entry.specs.Bytes.{Lacks}
+use Rattle.po_entry.specs.TextEntry.{TextEntry}
+use Rattle.po_entry.specs.Validity.{IsCatalogueEntry, IsEntry}
+use Rattle.po_messages.specs.Joined.{joined_entries}
+use Rattle.po_messages.specs.declared.duplicate.JoinError.{JoinError}
+use Rattle.po_compile.specs.Accepted.{AreAccepted, AreRead, IsTooLarge}
+use Rattle.po_compile.specs.CompiledList.{compiled_list, is_compiled}
+use Rattle.po_compile.specs.CompiledMessages.{AreMessagesOf}
+use Rattle.po_compile.specs.Headline.{CataloguesAreOne, MessagesAreOne}
+use Rattle.po_compile.specs.MessageLaws.{CompiledCanBeKeys, JoinedEntriesCanStand, LayoutIsLimited, LayoutsAreLimited, too_large}
+use Rattle.po_compile.specs.declared.options.Options.{Options}
+use Rattle.po_compile.proofs.MeaningLemmas.{entry_lacks_separators}
+
+no_separator : (text : List ℕ) → Lacks 0 text → Lacks 4 text → has_no_separator text ≡ true
+no_separator [] nul eot = refl
+no_separator (b ∷ text) nul eot =
+    ap₂ (λ (x y : Bool). not ((x || y) || list_any is_separator text))
+    (ne_eqb b 0 (All-head (λ c. c ≢ 0) b text nul)) (ne_eqb b 4 (All-head (λ c. c ≢ 4) b text eot))
+    ∙ no_separator text (All-tail (λ c. c ≢ 0) b text nul) (All-tail (λ c. c ≢ 4) b text eot)
+
+none_in_context : (context : Option (List ℕ)) → IfSome context (Lacks 0) → IfSome context (Lacks 4)
+    → has_no_separator (unwrap_or context []) ≡ true
+none_in_context None nul eot = refl
+none_in_context (Some context) nul eot = no_separator context nul eot
+
+entry_can_be_key : (e : TextEntry) → IsCatalogueEntry e → can_be_key e.context e.id ≡ true
+entry_can_be_key e stands =
+    let lacks = entry_lacks_separators e stands.valid in
+    ap₂ (λ (x y : Bool). x && y) (none_in_context e.context lacks.context_nul lacks.context_eot)
+    (no_separator e.id lacks.id_nul lacks.id_eot)
+
+pub compiled_can_be_keys : JoinedEntriesCanStand → CompiledCanBeKeys
+compiled_can_be_keys can_stand use_fuzzy texts catalogues read =
+    let entries = joined_entries catalogues in
+    All-filter (is_compiled use_fuzzy) (λ e. can_be_key e.context e.id ≡ true) entries
+    (All-weaker IsCatalogueEntry (λ e. can_be_key e.context e.id ≡ true) entry_can_be_key entries
+    (can_stand texts catalogues read))
+
+module _ (one_list : CataloguesAreOne) (one_order : MessagesAreOne) where
+  -- the layout of messages that are as long as others of the same entries
+  length_is : (o : Options) (entries : List TextEntry) (messages others : List Message)
+      → AreMessagesOf (compiled_list o.use_fuzzy entries) messages
+      → AreMessagesOf (compiled_list o.use_fuzzy entries) others
+      → length (layout o.order messages) ≡ length (layout o.order others)
+  length_is o entries messages others are also =
+      ap (λ (l : List Message). length (layout o.order l))
+      (one_order (compiled_list o.use_fuzzy entries) messages others are also)
+
+  pub layouts_are_limited : LayoutsAreLimited
+  layouts_are_limited o texts catalogues messages read are = record {
+    accepted = (
+      λ h.
+          let less : length (layout o.order h.layout.messages) < 4294967296 = h.layout.small in
+          let same = length_is o (joined_entries catalogues) messages h.layout.messages are h.layout.are_messages in
+          omega (arith, less, same),
+      λ small. record {
+        read = read;
+        layout = record {
+          messages = messages;
+          are_messages = are;
+          small = let less : length (layout o.order messages) < 4294967296 = omega (arith, small) in less;
+        };
+      },
+    );
+    refused = (
+      λ h.
+          let catalogues_are = one_list texts h.catalogues catalogues h.read read in
+          let also = subst (λ c. AreMessagesOf (compiled_list o.use_fuzzy (joined_entries c)) h.large.messages)
+          catalogues_are h.large.are_messages in
+          let more : 4294967296 ≤ length (layout o.order h.large.messages) = h.large.large in
+          let same = length_is o (joined_entries catalogues) messages h.large.messages are also in
+          omega (arith, more, same),
+      λ large. record {
+        catalogues = catalogues;
+        read = read;
+        large = record {
+          messages = messages;
+          are_messages = are;
+          large = let more : 4294967296 ≤ length (layout o.order messages) = omega (arith, large) in more;
+        };
+        error_is = refl;
+      },
+    );
+    no_other = λ error h. h.error_is;
+  }

@@ -1,0 +1,54 @@
+-- One entry more changes no answer to a query for another message.
+use Rattle.std.proofs.Common.{◌≡◌, ℕ, Bool, true, false, cond, List, [], ◌∷◌, ◌++◌, Option, None, Some, refl, sym, ap, ◌∙◌, All, find}
+use Rattle.std.specs.Prelude.{if◌then◌else◌}
+use Rattle.std.specs.Bool.{Decides}
+use Rattle.std.specs.Option.{option_eq, option_map, option_or}
+use Rattle.std.specs.Str.{bytes_eq}
+use Rattle.std.proofs.lemmas.Bool.Decides.{Decides-and}
+use Rattle.std.proofs.lemmas.List.Elements.{All-append, All-tail}
+use Rattle.std.proofs.lemmas.List.Folds.{find-append}
+use Rattle.std.proofs.lemmas.Slice.Eq.{bytes_eq-Decides}
+use Rattle.mo_file.specs.Message.{Message}
+use Rattle.mo_lookup.specs.Answer.{answer}
+use Rattle.mo_lookup.specs.Query.{Query, can_be_key}
+use Rattle.plural_rule.specs.PluralRule.{RuleView}
+use Rattle.po_entry.specs.Facts.AllAppend.{All-left, All-right}
+use Rattle.po_entry.specs.TextEntry.{TextEntry}
+use Rattle.po_entry.specs.Validity.{IsEntry}
+use Rattle.po_messages.specs.Duplicate.{is_of_message}
+use Rattle.po_compile.specs.Headline.{MessagesMeanEntries}
+use Rattle.po_compile.specs.Meaning.{definition, meant}
+use Rattle.po_compile.specs.MessageLaws.{OneMoreChangesNoOther}
+use Rattle.po_compile.proofs.MeaningLemmas.{option_decides}
+
+of_other : (query : Query) (entry : TextEntry) → ¬ ((entry.context ≡ query.context) × (entry.id ≡ query.id))
+    → is_of_message query.context query.id entry ≡ false
+of_other query entry other = by (is_of_message query.context query.id entry) refl where
+  decided : Decides (is_of_message query.context query.id entry)
+      ((entry.context ≡ query.context) × (entry.id ≡ query.id))
+  decided = Decides-and (option_eq bytes_eq entry.context query.context) (bytes_eq entry.id query.id)
+      (option_decides entry.context query.context) (bytes_eq-Decides entry.id query.id)
+
+  by : (b : Bool) → is_of_message query.context query.id entry ≡ b → b ≡ false
+  by true is = absurd (other (decided.0 is))
+  by false is = refl
+
+find_same : (test : TextEntry → Bool) (before after : List TextEntry) (entry : TextEntry) → test entry ≡ false
+    → find test (before ++ entry ∷ after) ≡ find test (before ++ after)
+find_same test before after entry fails =
+    find-append test before (entry ∷ after)
+    ∙ ap (λ (b : Bool). option_or (find test before) (cond b (Some entry) (find test after))) fails
+    ∙ sym (find-append test before after)
+
+pub one_more : MessagesMeanEntries → OneMoreChangesNoOther
+one_more mean before after entry messages more rule query valid are are_more other =
+    let further = All-right IsEntry before (entry ∷ after) valid in
+    let others = All-append IsEntry before after (All-left IsEntry before (entry ∷ after) valid)
+    (All-tail IsEntry entry after further) in
+    let found = find_same (is_of_message query.context query.id) before after entry (of_other query entry other) in
+    let defined : definition (before ++ entry ∷ after) query.context query.id
+    ≡ definition (before ++ after) query.context query.id =
+    ap (λ (f : Option TextEntry). if can_be_key query.context query.id then f else None) found in
+    (mean (before ++ entry ∷ after) more valid are_more).answers rule query
+    ∙ ap (λ (d : Option TextEntry). answer (option_map (λ (e : TextEntry). e.forms) d) rule query) defined
+    ∙ sym ((mean (before ++ after) messages others are).answers rule query)
