@@ -4,7 +4,7 @@ use Rattle.std.specs.Prelude.{if◌then◌else◌}
 use Rattle.std.specs.List.{list_any, ends_with}
 use Rattle.std.specs.Option.{option_map_or, option_or}
 use Rattle.std.proofs.lemmas.Bool.{and_parts, or_parts, eqb-true, eqb-false, lt-ltb, ltb-true, not-false, not-true, cond_both}
-use Rattle.std.proofs.lemmas.List.Elements.{filter_agree, All-weaker}
+use Rattle.std.proofs.lemmas.List.Elements.{filter_agree, All-contains, All-weaker}
 use Rattle.std.proofs.lemmas.List.Folds.{find-append, list_any-append, list_any_none}
 use Rattle.std.proofs.lemmas.List.Prefix.{end_rest}
 use Rattle.std.proofs.lemmas.List.FromFn.{get_or-map-range_with_len, length-map-range_with_len}
@@ -12,14 +12,17 @@ use Rattle.std.proofs.Math.Bool.{or-false, or_assoc}
 use Rattle.std.proofs.lemmas.List.Sums.{fold_push}
 use Rattle.po_syntax.specs.declared.item.CommentKind.{CommentKind}
 use Rattle.po_syntax.specs.declared.item.CommentKind.TheVariants.{Translator}
+use Rattle.po_syntax.specs.declared.fault.PoError.{PoError}
 use Rattle.po_entry.specs.TextEntry.{TextEntry, TextPrevious, no_previous}
 use Rattle.po_messages.specs.Joined.{is_live}
 use Rattle.po_merge.specs.declared.input.MergeOptions.{MergeOptions}
 use Rattle.po_merge.specs.Inputs.{NamedEntry}
 use Rattle.po_merge.specs.MergedEntry.{collected, comment_of, ended, first_of, first_with, form_count, has_plural, has_previous, joined_form, joined_forms, marked, merged_entry, first_translated, texts_of, translations, with_others}
 use Rattle.po_merge.specs.Merged.{is_below, is_wanted}
-use Rattle.po_merge.specs.EntryLaws.{EndsForm, of_nothing, without_feed, with_feed, FormsAreJoined, JoinedIsFuzzy, KeptByCount, ObsoleteWhereNoneIsLive, PluralOfFirst, PreviousOfFirst, TextsInOrder, TextsOfAll, has_text, input_line}
+use Rattle.po_merge.specs.EntryLaws.{AreLiveOf, no_entry, live, obsolete, DefinedByLive, EndsForm, of_nothing, without_feed, with_feed, FormsAreJoined, IsJoinedForm, no_more, with_form, without_form, JoinedIsFuzzy, KeptByCount, ObsoleteWhereNoneIsLive, PluralOfFirst, PreviousOfFirst, TextsInOrder, TextsOfAll, has_text}
+use Rattle.po_merge.specs.MergeLaws.{FaultIsOfNoLine}
 use Rattle.po_merge.proofs.Sets.{has_others}
+use Rattle.po_entry.proofs.FuzzyFlags.{any_passing}
 
 -- the texts of one kind of a merged entry
 pub texts_merged : (o : MergeOptions) (kind : CommentKind) (ds : List NamedEntry)
@@ -62,28 +65,6 @@ texts_in_order o kind before d off =
 
 pub joined_is_fuzzy : (o : MergeOptions) (ds : List NamedEntry) → JoinedIsFuzzy o ds
 joined_is_fuzzy o ds joined = ap (λ (b : Bool). b || (first_translated ds).fuzzy) joined
-
-joined_append : (before after : List NamedEntry) (i : ℕ)
-    → joined_form (before ++ after) i ≡ joined_form before i ++ joined_form after i
-joined_append [] after i = refl
-joined_append (t ∷ before) after i =
-    let here = option_map_or (marked t.name) (slice_get t.entry.forms i) [] in
-    ap (λ (l : List ℕ). here ++ l) (joined_append before after i)
-    ∙ sym (append_assoc here (joined_form before i) (joined_form after i))
-
-pub forms_are_joined : (o : MergeOptions) (ds : List NamedEntry) → FormsAreJoined o ds
-forms_are_joined o ds before after t i form joined split has inside =
-    let all = translations ds in
-    let forms : (merged_entry o ds).forms ≡ joined_forms all =
-    ap (λ (b : Bool). if b then joined_forms all else (first_translated ds).forms) joined in
-    let below : i < form_count all =
-    omega (arith, inside, ap length forms, length-map-range_with_len (joined_form all) 0 (form_count all)) in
-    ap (λ (l : List (List ℕ)). get_or l i []) forms
-    ∙ get_or-map-range_with_len (joined_form all) 0 (form_count all) i i [] below (omega arith)
-    ∙ ap (λ (l : List NamedEntry). joined_form l i) split ∙ joined_append before (t ∷ after) i
-    ∙ ap (λ (f : Option (List ℕ)). joined_form before i ++ (option_map_or (marked t.name) f [] ++ joined_form after i))
-    has
-    ∙ sym (append_assoc (joined_form before i) (input_line t.name ++ ended form) (joined_form after i))
 
 pub find_none : {X : Type 0} (p : X → Bool) (xs : List X) → list_any p xs ≡ false → find p xs ≡ None
 find_none p [] none = refl
@@ -152,6 +133,26 @@ forms_end form = elim (has_last form) [
   | inr (text, b, is) ↦ subst (λ l. EndsForm l (ended l)) (sym is) (last_ended text b)
 ]
 
+joined_is : (i : ℕ) (ts : List NamedEntry) → IsJoinedForm i ts (joined_form ts i)
+joined_is i [] = no_more
+joined_is i (t ∷ ts) = by (slice_get t.entry.forms i) refl (joined_is i ts) where
+  by : (found : Option (List ℕ)) → slice_get t.entry.forms i ≡ found → IsJoinedForm i ts (joined_form ts i)
+      → IsJoinedForm i (t ∷ ts) (option_map_or (marked t.name) found [] ++ joined_form ts i)
+  by None e rest = without_form e rest
+  by (Some form) e rest = with_form e (forms_end form) rest
+
+pub forms_are_joined : (o : MergeOptions) (ds : List NamedEntry) → FormsAreJoined o ds
+forms_are_joined o ds i joined inside =
+    let all = translations ds in
+    let forms : (merged_entry o ds).forms ≡ joined_forms all =
+    ap (λ (b : Bool). if b then joined_forms all else (first_translated ds).forms) joined in
+    let below : i < form_count all =
+    omega (arith, inside, ap length forms, length-map-range_with_len (joined_form all) 0 (form_count all)) in
+    subst (IsJoinedForm i all)
+    (sym (ap (λ (l : List (List ℕ)). get_or l i []) forms
+    ∙ get_or-map-range_with_len (joined_form all) 0 (form_count all) i i [] below (omega arith)))
+    (joined_is i all)
+
 pub previous_of_first : (o : MergeOptions) (before : List NamedEntry) (d : NamedEntry) (after : List NamedEntry)
     → PreviousOfFirst o before d after
 previous_of_first o before d after none is =
@@ -167,6 +168,29 @@ plural_of_first o before d after none is =
     (first_is has_plural before d after
     (none_has has_plural (λ b. b.entry.plural ≡ None) (λ b e. rw e refl) before none)
     (some_plural d.entry.plural is))
+
+live_of : (es : List NamedEntry) → AreLiveOf es (filter (λ e. is_live e.entry) es)
+live_of [] = no_entry
+live_of (e ∷ es) = by e.entry.obsolete refl (live_of es) where
+  lives : List NamedEntry
+  lives = filter (λ x. is_live x.entry) es
+
+  by : (b : Bool) → e.entry.obsolete ≡ b → AreLiveOf es lives → AreLiveOf (e ∷ es) (cond (not b) (e ∷ lives) lives)
+  by true is rest = obsolete is rest
+  by false is rest = live is rest
+
+pub defined_by_live : (group : List NamedEntry) → DefinedByLive group
+defined_by_live group =
+    let p = λ (e : NamedEntry). is_live e.entry in record {
+      some_live = λ e among is.
+          let any = All-contains (λ x. p x ≡ true → list_any p group ≡ true) group e (any_passing p group) among
+          (ap not is) in
+          subst (λ (b : Bool). AreLiveOf group (if b then filter p group else group)) (sym any) (live_of group);
+      none_live = λ all.
+          ap (λ (b : Bool). if b then filter p group else group)
+          (list_any_none p group (All-weaker (λ x. x.entry.obsolete ≡ true) (λ x. p x ≡ false)
+          (λ x. ap not) group all));
+    }
 
 live_first : (es : List NamedEntry) → list_any (λ e. is_live e.entry) es ≡ true
     → (first_of (filter (λ e. is_live e.entry) es)).obsolete ≡ false
@@ -226,3 +250,7 @@ kept_by_count o ds none = (
       let alone = (one_alone o.unique (length ds) (omega (arith, asked.more_than))).1 asked.unique in
       rw (none, more, less, alone) refl,
 )
+
+pub fault_is_of_no_line : (entries : List TextEntry) (error : PoError) → FaultIsOfNoLine entries error
+fault_is_of_no_line entries error (inl memory) = ap (λ (e : PoError). e.line) memory
+fault_is_of_no_line entries error (inr foreign) = ap (λ (e : PoError). e.line) foreign.1

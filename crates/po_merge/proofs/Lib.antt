@@ -15,3 +15,4 @@ pub mod NumberedGroups
 pub mod Lines
 pub mod EntryLaws
 pub mod TranslationLaws
+pub mod StaysTranslated

@@ -44,10 +44,10 @@ no_bytes : (form : List ℕ) → form ≡ [] → not (length form == 0) ≡ fals
 no_bytes [] is = refl
 no_bytes (b ∷ form) is = absurd (cc)
 
-has_is : (d : NamedEntry) → has d ≡ true → IsTranslated d
+pub has_is : (d : NamedEntry) → has d ≡ true → IsTranslated d
 has_is d h = some_bytes (first_form d.entry.forms) h
 
-is_has : (d : NamedEntry) → IsTranslated d → has d ≡ true
+pub is_has : (d : NamedEntry) → IsTranslated d → has d ≡ true
 is_has d h = bytes_some (first_form d.entry.forms) h
 
 -- definitions with the same forms
@@ -60,11 +60,11 @@ pub forms_laws : IsEquivalence same_forms
 forms_laws = on_equiv (λ (d : NamedEntry). d.entry.forms) (lists_equiv nat_list_eq_equiv)
 
 -- a definition of the message that has a translation
-record IsOne (ds : List NamedEntry) (d : NamedEntry) : Type 0 where
-  among : Contains ds d
-  is : IsTranslated d
+pub record IsOne (ds : List NamedEntry) (d : NamedEntry) : Type 0 where
+  pub among : Contains ds d
+  pub is : IsTranslated d
 
-each_is : (ds : List NamedEntry) → All (IsOne ds) (translations ds)
+pub each_is : (ds : List NamedEntry) → All (IsOne ds) (translations ds)
 each_is ds = all_first_ones same_forms (IsOne ds) (filter has ds) (λ k d below. record {
   among = All-filter has (Contains ds) ds (All-contains_itself ds) k d below;
   is = has_is (get_or (filter has ds) k d) (filter_passes has ds k d below);

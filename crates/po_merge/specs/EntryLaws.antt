@@ -1,7 +1,7 @@
 -- What is promised of the entry that the definitions of one message are merged to, and of which
 -- messages are kept (manual, "Invoking the msgcat Program").
 use Rattle.std.specs.Prelude.{◌≡◌, ◌≢◌, ◌↔◌, ℕ, ◌<◌, Bool, true, false, not, List, [], ◌∷◌, ◌++◌, filter, length, get_or}
-use Rattle.std.specs.Prelude.{slice_get, codes, All, None, Some, bytes_eq}
+use Rattle.std.specs.Prelude.{slice_get, codes, All, Contains, None, Some, bytes_eq}
 use Rattle.std.specs.List.{AllZip, list_any}
 use Rattle.po_syntax.specs.declared.item.CommentKind.{CommentKind}
 use Rattle.po_entry.specs.TextEntry.{TextEntry, SameButLine, no_previous}
@@ -10,7 +10,7 @@ use Rattle.po_messages.specs.Joined.{is_live}
 use Rattle.po_merge.specs.declared.input.MergeOptions.{MergeOptions}
 use Rattle.po_merge.specs.Inputs.{NamedEntry}
 use Rattle.po_merge.specs.Groups.{definitions}
-use Rattle.po_merge.specs.MergedEntry.{ended, is_joined, joined_form, merged_entry, texts_of}
+use Rattle.po_merge.specs.MergedEntry.{is_joined, merged_entry, texts_of}
 use Rattle.po_merge.specs.MergedEntry.{translations}
 use Rattle.po_merge.specs.Merged.{is_kept}
 
@@ -40,20 +40,27 @@ JoinedIsFuzzy o ds = is_joined o ds ≡ true → (merged_entry o ds).fuzzy ≡ t
 abbrev pub input_line : List ℕ → List ℕ
 input_line name = codes "#-#-#-#-#  " ++ name ++ codes "  #-#-#-#-#\n"
 
--- A joined form has the form of each different translation, after the line of its input, in order.
-abbrev pub FormsAreJoined : MergeOptions → List NamedEntry → Type 0
-FormsAreJoined o ds =
-    (before after : List NamedEntry) (t : NamedEntry) (i : ℕ) (form : List ℕ)
-    → is_joined o ds ≡ true → translations ds ≡ before ++ t ∷ after
-    → slice_get t.entry.forms i ≡ Some form → i < length (merged_entry o ds).forms
-    → get_or (merged_entry o ds).forms i []
-    ≡ joined_form before i ++ (input_line t.name ++ ended form) ++ joined_form after i
-
 -- a form of a joined one with its end: a LF is added, if it has none there
 pub data EndsForm : List ℕ → List ℕ → Type 0 where
   of_nothing : EndsForm [] (10 ∷ [])
   without_feed : (text : List ℕ) {b : ℕ} → b ≢ 10 → EndsForm (text ++ b ∷ []) (text ++ b ∷ 10 ∷ [])
   with_feed : (text : List ℕ) → EndsForm (text ++ 10 ∷ []) (text ++ 10 ∷ [])
+
+-- A joined form has the form of this index of each translation, with its end, after the line of its
+-- input, in order; of a translation that lacks that form it has nothing.
+pub data IsJoinedForm (i : ℕ) : List NamedEntry → List ℕ → Type 0 where
+  no_more : IsJoinedForm i [] []
+  with_form : {t : NamedEntry} {form end : List ℕ} {ts : List NamedEntry} {joined : List ℕ}
+      → slice_get t.entry.forms i ≡ Some form → EndsForm form end → IsJoinedForm i ts joined
+      → IsJoinedForm i (t ∷ ts) ((input_line t.name ++ end) ++ joined)
+  without_form : {t : NamedEntry} {ts : List NamedEntry} {joined : List ℕ} → slice_get t.entry.forms i ≡ None
+      → IsJoinedForm i ts joined → IsJoinedForm i (t ∷ ts) joined
+
+-- Each form of a joined entry is joined of the different translations.
+abbrev pub FormsAreJoined : MergeOptions → List NamedEntry → Type 0
+FormsAreJoined o ds =
+    (i : ℕ) → is_joined o ds ≡ true → i < length (merged_entry o ds).forms
+    → IsJoinedForm i (translations ds) (get_or (merged_entry o ds).forms i [])
 
 -- The previous texts are those of the first definition that has some.
 abbrev pub PreviousOfFirst : MergeOptions → List NamedEntry → NamedEntry → List NamedEntry → Type 0
@@ -66,6 +73,20 @@ abbrev pub PluralOfFirst : MergeOptions → List NamedEntry → NamedEntry → L
 PluralOfFirst o before d after =
     All (λ b. b.entry.plural ≡ None) before → d.entry.plural ≢ None
     → (merged_entry o (before ++ d ∷ after)).plural ≡ d.entry.plural
+
+-- the live ones of entries, in order
+pub data AreLiveOf : List NamedEntry → List NamedEntry → Type 0 where
+  no_entry : AreLiveOf [] []
+  live : {e : NamedEntry} {group lives : List NamedEntry} → e.entry.obsolete ≡ false → AreLiveOf group lives
+      → AreLiveOf (e ∷ group) (e ∷ lives)
+  obsolete : {e : NamedEntry} {group lives : List NamedEntry} → e.entry.obsolete ≡ true → AreLiveOf group lives
+      → AreLiveOf (e ∷ group) lives
+
+-- The definitions of a message are all its live entries where one is live, and else all its entries.
+pub record DefinedByLive (group : List NamedEntry) : Type 0 where
+  pub some_live : (e : NamedEntry) → Contains group e → e.entry.obsolete ≡ false
+      → AreLiveOf group (definitions group)
+  pub none_live : All (λ e. e.entry.obsolete ≡ true) group → definitions group ≡ group
 
 -- The entry is obsolete exactly if no entry of the message is live.
 abbrev pub ObsoleteWhereNoneIsLive : MergeOptions → List NamedEntry → Type 0

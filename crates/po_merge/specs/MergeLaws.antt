@@ -2,6 +2,7 @@
 use Rattle.std.specs.Prelude.{◌≡◌, ℕ, ◌<◌, Bool, false, ◌&&◌, List, [], ◌∷◌, map, filter, length}
 use Rattle.std.specs.Prelude.{All, Contains, Option, None}
 use Rattle.std.specs.List.{list_any}
+use Rattle.po_syntax.specs.declared.fault.PoError.{PoError}
 use Rattle.po_entry.specs.TextEntry.{TextEntry}
 use Rattle.po_entry.specs.Header.{HasAdmittedCharset}
 use Rattle.po_syntax.specs.ItemContents.{IsText}
@@ -13,7 +14,7 @@ use Rattle.po_merge.specs.Inputs.{Named, NamedEntry, all_entries}
 use Rattle.po_merge.specs.Grouping.{message_numbers, named_messages}
 use Rattle.po_merge.specs.Groups.{by_number, definitions, first_ones, groups}
 use Rattle.po_merge.specs.MergedEntry.{merged_entry, is_joined}
-use Rattle.po_merge.specs.Merged.{is_kept, merged}
+use Rattle.po_merge.specs.Merged.{IsMergeFault, is_kept, merged}
 
 -- what one definition is merged to is its entry
 abbrev pub OneDefinitionStays : MergeOptions → NamedEntry → Type 0
@@ -95,3 +96,7 @@ GroupsByNumber entries =
 abbrev pub MergedAgain : MergeOptions → List Named → Bool → List ℕ → Type 0
 MergedAgain o inputs use_first name =
     merged (keep_all use_first) (record { name = name; entries = merged o inputs } ∷ []) ≡ merged o inputs
+
+-- the fault of a merge is of no line
+abbrev pub FaultIsOfNoLine : List TextEntry → PoError → Type 0
+FaultIsOfNoLine entries error = IsMergeFault entries error → error.line ≡ 0

@@ -5,6 +5,7 @@ use Rattle.std.specs.Prelude.{length, All, Contains, None}
 use Rattle.po_syntax.specs.declared.item.CommentKind.{CommentKind}
 use Rattle.po_entry.specs.Header.{first_form}
 use Rattle.po_merge.specs.declared.input.MergeOptions.{MergeOptions}
+use Rattle.po_merge.specs.Groups.{definitions}
 use Rattle.po_merge.specs.Inputs.{NamedEntry}
 use Rattle.po_merge.specs.MergedEntry.{is_joined, merged_entry, texts_of}
 use Rattle.po_merge.specs.Merged.{is_kept}
@@ -59,6 +60,13 @@ FormsOfFirst o ds d =
 abbrev pub CommentsOfFirst : MergeOptions → CommentKind → List NamedEntry → NamedEntry → Type 0
 CommentsOfFirst o kind ds d =
     o.use_first ≡ true → IsFirstTranslated ds d → texts_of kind (merged_entry o ds) ≡ texts_of kind d.entry
+
+-- What is translated stays translated: where a live entry of a message has a translation, so has the
+-- entry that they are merged to.
+abbrev pub TranslatedStays : MergeOptions → List NamedEntry → Type 0
+TranslatedStays o group =
+    (d : NamedEntry) → Contains group d → d.entry.obsolete ≡ false → IsTranslated d
+    → first_form (merged_entry o (definitions group)).forms ≢ []
 
 -- A header's message is kept, whatever is asked for.
 abbrev pub HeadersAreKept : MergeOptions → List NamedEntry → Type 0

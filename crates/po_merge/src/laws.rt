@@ -3,11 +3,13 @@
 ghost use Rattle.std.specs.Prelude.{ℕ, Bool, List, Option};
 ghost use Rattle.po_merge.specs.declared.input.MergeOptions.{MergeOptions};
 ghost use Rattle.po_merge.specs.Inputs.{Named, NamedEntry, all_entries};
-ghost use Rattle.po_merge.specs.MergeLaws.{FormsAreOfOne, MergedAgain, GroupsByNumber, KeptMessagesStand, MergedAreEntries, MergedCanStand, MessagesStandOnce, OneDefinitionStays, OneInputStays, StandInTurn, WithItself};
-ghost use Rattle.po_merge.specs.EntryLaws.{EndsForm, FormsAreJoined, JoinedIsFuzzy, KeptByCount, LinesAreNotMerged, ObsoleteWhereNoneIsLive, PluralOfFirst, PreviousOfFirst, TextsInOrder, TextsOfAll};
+ghost use Rattle.po_merge.specs.MergeLaws.{FaultIsOfNoLine, FormsAreOfOne, MergedAgain, GroupsByNumber, KeptMessagesStand, MergedAreEntries, MergedCanStand, MessagesStandOnce, OneDefinitionStays, OneInputStays, StandInTurn, WithItself};
+ghost use Rattle.po_merge.specs.EntryLaws.{DefinedByLive, EndsForm, FormsAreJoined, JoinedIsFuzzy, KeptByCount, LinesAreNotMerged, ObsoleteWhereNoneIsLive, PluralOfFirst, PreviousOfFirst, TextsInOrder, TextsOfAll};
 ghost use Rattle.po_merge.specs.MergedEntry.{ended};
-ghost use Rattle.po_merge.specs.TranslationLaws.{CommentsOfFirst, FormsOfFirst, HeadersAreKept, JoinedAsLongest, JoinedWhereTheyDiffer};
+ghost use Rattle.po_merge.specs.TranslationLaws.{CommentsOfFirst, FormsOfFirst, HeadersAreKept, JoinedAsLongest, JoinedWhereTheyDiffer, TranslatedStays};
 ghost use Rattle.po_syntax.specs.declared.item.CommentKind.{CommentKind};
+ghost use Rattle.po_syntax.specs.declared.fault.PoError.{PoError};
+ghost use Rattle.po_entry.specs.TextEntry.{TextEntry};
 
 /// A message with one definition is merged to the entry of that definition.
 pub fn one_definition_stays()
@@ -61,7 +63,8 @@ pub fn texts_of_all_definitions()
 {}
 
 /// Where different translations are joined, the merged entry is fuzzy, and each of its forms has
-/// those of the translations, each after the line of its input, in order.
+/// those of the translations, each after the line of its input, in order, and nothing of one that
+/// lacks this form.
 pub fn translations_are_joined()
     ensures fuzzy { (options : MergeOptions) (definitions : List NamedEntry) → JoinedIsFuzzy options definitions }
     ensures forms { (options : MergeOptions) (definitions : List NamedEntry) → FormsAreJoined options definitions }
@@ -85,6 +88,13 @@ pub fn first_translated_definition()
         (definition : NamedEntry) → CommentsOfFirst options kind definitions definition }
 {}
 
+/// What is translated stays translated: where a live entry of a message has a translation, so has
+/// the entry that they are merged to.
+#[tactic(auto, using(crate::proofs::StaysTranslated::stays))]
+pub fn translated_stays_translated()
+    ensures { (options : MergeOptions) (group : List NamedEntry) → TranslatedStays options group }
+{}
+
 /// In a joined form each form ends in a LF, which is added where it has none at its end.
 pub fn joined_forms_are_ended()
     ensures { (form : List ℕ) → EndsForm form (ended form) }
@@ -96,6 +106,12 @@ pub fn first_definition_with_a_part()
         (after : List NamedEntry) → PreviousOfFirst options before definition after }
     ensures plural { (options : MergeOptions) (before : List NamedEntry) (definition : NamedEntry)
         (after : List NamedEntry) → PluralOfFirst options before definition after }
+{}
+
+/// A message is defined by all its live entries where one is live, and else by all its entries.
+#[tactic(auto, using(crate::proofs::EntryLaws::defined_by_live))]
+pub fn defined_by_live_entries()
+    ensures { (group : List NamedEntry) → DefinedByLive group }
 {}
 
 /// A merged entry is obsolete exactly if no entry of its message is live.
@@ -133,3 +149,9 @@ pub fn merged_again()
     messages_stand_once();
     one_input_stays();
 }
+
+/// The fault of a merge is of no line.
+#[tactic(auto, using(crate::proofs::EntryLaws::fault_is_of_no_line))]
+pub fn faults_are_of_no_line()
+    ensures { (entries : List TextEntry) (error : PoError) → FaultIsOfNoLine entries error }
+{}
