@@ -9,7 +9,7 @@
 
 pub mod laws;
 
-pub use po_entry::{Catalogue, Entry, Fields, Previous};
+pub use po_entry::{Catalogue, Entry, Fields, Previous, TextList, TextListIter};
 pub use po_messages::{
     InputEntry, JoinError, MessageKey, Stats, duplicates, grouped, has_translation, is_live,
     is_live_header, joined, joined_duplicates, message_key, statistics,

@@ -14,3 +14,4 @@ pub mod MessageView
 pub mod MessageHash
 pub mod StatisticsLaws
 pub mod Internal
+pub mod Examples

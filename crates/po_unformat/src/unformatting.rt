@@ -74,9 +74,10 @@ fn append_entries(alloc: Global, view: &MoView<'_>, text: &mut Vec<u8>) -> Resul
             is_admitted &= has_admitted_charset(&entry);
             append(text, &entry)
         };
-        let Ok(()) = appended else {
-            return Err(UnformatError::OutOfMemory);
-        };
+        match appended {
+            Ok(()) => {}
+            Err(error) => return Err(error_at(i, error.kind)),
+        }
     }
     if is_admitted {
         Ok(())
