@@ -1,12 +1,13 @@
 -- What a tool delivers that reads one input; `IsRun` says which run an input has.
-use Rattle.std.specs.Prelude.{◌≡◌, ◌^◌, ℕ, List, Option, IfSome, take}
+use Rattle.std.specs.Prelude.{◌≡◌, ℕ, List, Option, IfSome, take}
 use Rattle.std.specs.Io.KnownBytes.{Appends}
+use Rattle.runs.specs.Limits.{input_limit}
 use Rattle.runs.specs.Run.{RunView, DeliversPrefix}
 
 -- the run of the input that is read, or of its first 2,147,483,648 bytes
 pub record IsRunOf (IsRun : List ℕ → RunView → Type 0) (remaining : Option (List ℕ)) (run : RunView) : Type 0 where
   pub input : List ℕ
-  pub is_read : IfSome remaining (λ bytes. input ≡ take (2 ^ 31) bytes)
+  pub is_read : IfSome remaining (λ bytes. input ≡ take input_limit bytes)
   pub is_run : IsRun input run
 
 -- all of the run has gone out, and this is its status

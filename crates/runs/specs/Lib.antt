@@ -23,3 +23,4 @@ pub mod ToolRuns
 pub mod WrittenLaw
 pub mod Internal
 pub mod Facts
+pub mod Limits

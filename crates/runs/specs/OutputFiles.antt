@@ -13,6 +13,7 @@ use Rattle.runs.specs.FileCalls.{FileCall, Course, done, fails, ◌▸◌, asks,
 use Rattle.runs.specs.FileCalls.{fails_to_read_link, numbers, makes, fails_to_make, sets_owner, sets_mode}
 use Rattle.runs.specs.FileCalls.{opens, fails_to_open, takes_stream, lacks_stream, closes, renames, removes}
 use Rattle.runs.specs.FileRights.{kept_mode, first_mode}
+use Rattle.runs.specs.Limits.{further_names}
 use Rattle.runs.specs.OutputPaths.{NamesStream, NamesNoStream, link_target, beside}
 
 -- the output was put into a file or stream that had these bytes and is then closed by this call, and
@@ -112,7 +113,7 @@ pub data WritesFile (output : List ℕ) : ℕ → List ℕ → Course → Type 0
   special : {links : ℕ} {path : List ℕ} {rest : Course} → NamesNoStream path → WritesInPlace output path rest
       → WritesFile output links path (asks path Special ▸ rest)
   replaces : {links : ℕ} {path : List ℕ} {old : Option Rights} {rest : Course} → NamesNoStream path
-      → Replaces output path old 999 rest
+      → Replaces output path old further_names rest
       → WritesFile output links path (asks path (Regular old) ▸ reads_link path None ▸ rest)
   follows : {links : ℕ} {path text : List ℕ} {old : Option Rights} {rest : Course} → NamesNoStream path
       → WritesFile output links (link_target path text) rest

@@ -1,16 +1,17 @@
 //! Laws of inputs and outputs, each the contract of a function that does nothing: a call brings the
 //! law into a proof.
-ghost use Rattle.std.specs.Prelude.{◌≡◌, ◌↔◌, ◌⊎◌, ◌<◌, ◌^◌, ◌++◌, ℕ, List, Option, codes, decimal, false, replicate, slice_index};
+ghost use Rattle.std.specs.Prelude.{◌≡◌, ◌↔◌, ◌⊎◌, ◌<◌, ◌^◌, ◌+◌, ◌++◌, ℕ, List, Option, codes, decimal, false, replicate, slice_index};
 ghost use Rattle.runs.specs.AskedLaw.{AsksInTurn};
 ghost use Rattle.runs.specs.FileCalls.{Course};
 ghost use Rattle.runs.specs.FileRights.{kept_mode};
 ghost use Rattle.runs.specs.Inputs.{AreInputs, Asked, asked_by};
 ghost use Rattle.runs.specs.InputsLaw.{AreInputsInTurn};
+ghost use Rattle.runs.specs.Limits.{call_limit, further_names, input_limit};
 ghost use Rattle.runs.specs.NamedFile.{NamedFile};
 ghost use Rattle.runs.specs.OutputFiles.{WritesFile};
 ghost use Rattle.runs.specs.OutputPaths.{NamesStream, beside, link_target};
 ghost use Rattle.runs.specs.OutputLaw.{IsWholeOrAsItWasThroughout};
-ghost use Rattle.runs.specs.Outputs.{SystemView};
+ghost use Rattle.runs.specs.Outputs.{SystemView, link_limit};
 ghost use Rattle.runs.specs.RightsLaw.{GivesNobodyMore, IsWhose, KeepsRights};
 ghost use Rattle.runs.specs.Run.{RunView, output_file};
 ghost use Rattle.runs.specs.ToolRuns.{HasOneReading, Writes};
@@ -98,4 +99,14 @@ pub fn inputs_stand_in_turn<S: InputSource>()
 pub fn inputs_are_asked_in_turn()
     ensures { (arguments : List (List ℕ)) (asked : List Asked)
         → (asked ≡ asked_by false arguments) ↔ AsksInTurn arguments asked }
+{}
+
+/// Of an input 2,147,483,648 bytes are read at most, by 4,294,967,296 calls at most. To the file
+/// that an output replaces 40 links are followed, as many as Linux follows (path_resolution(7)). A
+/// new file has one of 1,000 names.
+pub fn limits_are_held()
+    ensures input { input_limit ≡ 2147483648 }
+    ensures calls { call_limit ≡ 4294967296 }
+    ensures links { link_limit ≡ 40 }
+    ensures names { further_names + 1 ≡ 1000 }
 {}

@@ -2,6 +2,7 @@
 ghost use Rattle.std.specs.Prelude.{◌≡◌, ◌≢◌, ◌+◌, ◌-◌, ◌^◌, ◌<◌, ◌≤◌, [], take, drop, vec_len, IfOk, OnOk, IfSome, IsErrOf, Err};
 ghost use Rattle.std.specs.Io.KnownBytes.{Consumes, IsAtEnd};
 ghost use Rattle.runs.specs.Device.{failure_of_read};
+ghost use Rattle.runs.specs.Limits.{call_limit, input_limit};
 
 use crate::device::ByteIn;
 use crate::inputs::InputFault;
@@ -22,7 +23,7 @@ pub fn read_input<R: ByteIn>(alloc: Global, reader: &mut R) -> Result<Vec<u8>, T
     requires calls { R.calls reader.old < 2 ^ 63 }
     requires failures { R.failures reader.old < 2 ^ 63 }
     ensures input { IfOk result (λ v. IfSome (R.remaining reader.old)
-        (λ xs. v.items ≡ take (2 ^ 31) xs)) }
+        (λ xs. v.items ≡ take input_limit xs)) }
 
     // Just these bytes are gone from the reader.
     ensures left { IfOk result (λ v. Consumes (R.remaining reader.old) (R.remaining reader.new) v.items) }
@@ -32,7 +33,7 @@ pub fn read_input<R: ByteIn>(alloc: Global, reader: &mut R) -> Result<Vec<u8>, T
     ensures out_of_memory { IsErrOf result ToolFault.OutOfMemory
         → R.failures reader.new ≡ R.failures reader.old }
     ensures no_write_fault { result ≢ Err ToolFault.WriteFault }
-    ensures calls { R.calls reader.new ≤ R.calls reader.old + 2 ^ 32 }
+    ensures calls { R.calls reader.new ≤ R.calls reader.old + call_limit }
 
     // Each call but the last gave a byte at least, so that none comes after the end.
     ensures end { IfOk result (λ v. R.calls reader.new ≤ R.calls reader.old + vec_len v + 1) }
@@ -59,14 +60,14 @@ pub fn read_whole<R: ByteIn>(
     requires failures { R.failures reader.old < 2 ^ 63 }
     ensures before { take (vec_len bytes.old) bytes.new.items ≡ bytes.old.items }
     ensures bytes { OnOk result (IfSome (R.remaining reader.old)
-        (λ all. drop (vec_len bytes.old) bytes.new.items ≡ take (2 ^ 31) all)) }
+        (λ all. drop (vec_len bytes.old) bytes.new.items ≡ take input_limit all)) }
     ensures left { OnOk result (Consumes (R.remaining reader.old) (R.remaining reader.new)
         (drop (vec_len bytes.old) bytes.new.items)) }
     ensures no_failure { OnOk result (R.failures reader.new ≡ R.failures reader.old) }
     ensures read_fault { IsErrOf result InputFault.ReadFault → R.failures reader.new ≡ R.failures reader.old + 1 }
     ensures out_of_memory { IsErrOf result InputFault.OutOfMemory → R.failures reader.new ≡ R.failures reader.old }
     ensures opened { result ≢ Err InputFault.CannotOpen }
-    ensures calls { R.calls reader.new ≤ R.calls reader.old + 2 ^ 32 }
+    ensures calls { R.calls reader.new ≤ R.calls reader.old + call_limit }
 
     // Each call but the last gave a byte at least, so that none comes after the end.
     ensures end { OnOk result (R.calls reader.new + vec_len bytes.old ≤ R.calls reader.old + vec_len bytes.new + 1) }
