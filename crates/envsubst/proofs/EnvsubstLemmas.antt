@@ -1,5 +1,5 @@
 -- Lemmas on a whole run of envsubst.
-use Rattle.std.proofs.Common.{◌≡◌, ℕ, ◌+◌, ◌<◌, List, [], ◌++◌, length, take, Option, Some, None, refl, sym, ap, subst, ◌∙◌, append-nil, append_assoc, drop, take-append-drop, ◌≤◌, ◌-◌, arith, inl, inr, Result, Ok, Err, OnOk, OnErr}
+use Rattle.std.proofs.Common.{◌≡◌, ℕ, ◌+◌, ◌<◌, List, [], ◌++◌, length, take, Option, Some, None, refl, sym, ap, subst, ◌∙◌, append-nil, append_assoc, drop, take-append-drop, ◌≤◌, ◌-◌, arith, inl, inr, Result, Ok, Err, OnOk, OnErr, IfSome, length-append}
 use Rattle.std.proofs.KnownBytes.{Appends-nil, Appends-trans, Consumes-nil, Consumes-trans, Consumes-kept}
 use Rattle.std.proofs.Math.Seq.{take-add, take-append-add}
 use Rattle.std.proofs.lemmas.List.{take_all}
@@ -235,3 +235,33 @@ fed-finish values used a b c held count room first second third (Err WriteFault)
     inr (fed-end_fault values used a b c held count room first second third same p q none some prefix)
 fed-finish values used a b c held count room first second third (Err OutOfMemory) same p q none some ok prefix fault =
     let wrong : same_result (Err OutOfMemory) (Err WriteFault) = fault in cc
+
+-- each of so many calls of a reader, which had these bytes at first, gave one
+pub data GaveEach : Option (List ℕ) → Option (List ℕ) → ℕ → Type 0 where
+  unknown : {left : Option (List ℕ)} {calls : ℕ} → GaveEach None left calls
+  known : {text rest : List ℕ} {calls : ℕ} → calls + length rest ≤ length text → GaveEach (Some text) (Some rest) calls
+
+pub gave-none : (input : Option (List ℕ)) → GaveEach input input 0
+gave-none None = unknown
+gave-none (Some text) = known (omega arith)
+
+pub gave-more : (a b c : Option (List ℕ)) (calls : ℕ) (piece : List ℕ) → GaveEach a b calls → Consumes b c piece
+    → 0 < length piece → GaveEach a c (calls + 1)
+gave-more a b c calls piece unknown reads some = unknown
+gave-more a b None calls piece (known h) reads some = absurd reads
+gave-more a b (Some left) calls piece (known h) reads some =
+    let whole = ap length reads ∙ length-append piece left in known (omega (arith, h, whole, some))
+
+pub gave-end : (a b : Option (List ℕ)) (calls before after : ℕ) → GaveEach a b calls → after ≡ before + calls + 1
+    → IfSome a (λ text. after ≤ before + length text + 1)
+gave-end a b calls before after unknown e = tt
+gave-end a b calls before after (known h) e = omega (arith, h, e)
+
+-- a reader that wasn't called
+pub not-called : (input : Option (List ℕ)) (calls : ℕ) → IfSome input (λ text. calls ≤ calls + length text + 1)
+not-called None calls = tt
+not-called (Some text) calls = omega arith
+
+pub on-ok : {T E : Type 0} (r : Result T E) (P : Type 0) → P → OnOk r P
+on-ok (Ok x) P p = p
+on-ok (Err e) P p = tt

@@ -1,5 +1,5 @@
 //! envsubst by its arguments.
-ghost use Rattle.std.specs.Prelude.{◌≡◌, ◌+◌, ◌^◌, ◌<◌, ◌≤◌, IfOk, OnErr, Err, map, option_map};
+ghost use Rattle.std.specs.Prelude.{◌≡◌, ◌+◌, ◌^◌, ◌<◌, ◌≤◌, IfOk, IfSome, OnErr, OnOk, Err, length, map, option_map};
 ghost use Rattle.std.specs.Option.{option_copied};
 ghost use Rattle.envsubst.specs.ByArguments.{RunsEnvsubst, WritesNames};
 ghost use Rattle.envsubst.specs.Failures.{ReadsFail, write_failures};
@@ -44,6 +44,10 @@ pub fn envsubst<S: EntrySource, R: ByteIn, W: ByteOut>(
         (R.failures reader.old) (R.failures reader.new) }
     ensures write_failures { W.failures writer.new ≡ W.failures writer.old + write_failures result }
     ensures calls { R.calls reader.new ≤ R.calls reader.old + 2 ^ 32 }
+
+    // Each call but the last gave a byte at least, so that none comes after the end.
+    ensures end { OnOk result (IfSome (R.remaining reader.old)
+        (λ text. R.calls reader.new ≤ R.calls reader.old + length text + 1)) }
 {
     let format = match given {
         EnvsubstArguments::Names(format) => return write_names(alloc, writer, format),

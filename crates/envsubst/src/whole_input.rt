@@ -46,6 +46,10 @@ pub fn run_envsubst<R: ByteIn, W: ByteOut>(
     ensures write_failures { W.failures writer.new ≡ W.failures writer.old + write_failures result }
     ensures no_memory { result ≢ Err ToolFault.OutOfMemory }
     ensures calls { R.calls reader.new ≤ R.calls reader.old + 2 ^ 32 }
+
+    // Each call but the last gave a byte at least, so that none comes after the end.
+    ensures end { OnOk result (IfSome (R.remaining reader.old)
+        (λ text. R.calls reader.new ≤ R.calls reader.old + length text + 1)) }
 {
     substitute_all(reader, writer, vars, only, None)
 }
@@ -69,6 +73,10 @@ pub fn run_envsubst_in_blocks<R: ByteIn, W: ByteOut>(
         (R.failures reader.old) (R.failures reader.new) }
     ensures write_failures { W.failures writer.new ≡ W.failures writer.old + write_failures result }
     ensures calls { R.calls reader.new ≤ R.calls reader.old + 2 ^ 32 }
+
+    // Each call but the last gave a byte at least, so that none comes after the end.
+    ensures end { OnOk result (IfSome (R.remaining reader.old)
+        (λ text. R.calls reader.new ≤ R.calls reader.old + length text + 1)) }
 {
     let vars = sorted_variables(alloc, vars)?;
     let names = sorted_names(alloc, only)?;
@@ -97,6 +105,10 @@ fn substitute_all<R: ByteIn, W: ByteOut>(
         (R.failures reader.old) (R.failures reader.new) }
     ensures write_failures { W.failures writer.new ≡ W.failures writer.old + write_failures result }
     ensures calls { R.calls reader.new ≤ R.calls reader.old + 2 ^ 32 }
+
+    // Each call but the last gave a byte at least, so that none comes after the end.
+    ensures end { OnOk result (IfSome (R.remaining reader.old)
+        (λ text. R.calls reader.new ≤ R.calls reader.old + length text + 1)) }
     ensures no_memory { block ≡ None → result ≢ Err ToolFault.OutOfMemory }
 {
     let part_len = part_len(vars);

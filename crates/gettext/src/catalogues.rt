@@ -1,14 +1,15 @@
 //! The compiled catalogues of a text domain.
-ghost use Rattle.std.specs.Prelude.{◌≡◌, ◌-◌, ◌^◌, ◌<◌, IfOk, IfSome, OnErr, OnOk, length, map, option_map, take};
+ghost use Rattle.std.specs.Prelude.{◌≡◌, ◌^◌, ◌<◌, IfOk, IfSome, OnErr, OnOk, length, map, option_map, take};
 ghost use Rattle.std.specs.Option.{option_copied};
 ghost use Rattle.gettext.specs.Catalogues.{AreCatalogues, AreFound, AsksAt, AsksPaths, IsCatalogueAt};
 ghost use Rattle.gettext.specs.Catalogues.{catalogue_file, catalogue_files, given_domain, searching};
+ghost use Rattle.gettext.specs.WholeRun.{catalogue_limit};
 ghost use Rattle.runs.specs.Inputs.{Stays};
 ghost use Rattle.runs.specs.NamedFile.{named_files};
 
 use crate::environment::{OwnedEnvironment, VariableSource};
 use crate::paths::catalogue_paths;
-use runs::{InputFault, InputSource};
+use runs::{InputFault, InputSource, ToolFault};
 use std::alloc::{AllocError, Global};
 use std::str;
 
@@ -43,8 +44,10 @@ pub fn find_catalogues<S: InputSource + VariableSource>(
             &environment.borrowed(),
         )
     };
-    let Ok(paths) = searched else {
-        return Err(AllocError);
+    let paths = match searched {
+        Ok(paths) => paths,
+        Err(ToolFault::OutOfMemory) => return Err(AllocError),
+        Err(_) => unreachable!(),
     };
     read_catalogues(alloc, source, paths.as_slice())
 }
@@ -114,7 +117,7 @@ pub fn borrowed_catalogues(
     catalogues: &[CatalogueFile],
 ) -> Result<Vec<(&str, &[u8])>, AllocError>
     ensures borrowed { IfOk result
-        (λ borrowed. named_files borrowed.items ≡ take (2 ^ 32 - 1) (catalogue_files catalogues.now)) }
+        (λ borrowed. named_files borrowed.items ≡ take catalogue_limit (catalogue_files catalogues.now)) }
     ensures bound { IfOk result (λ borrowed. length borrowed.items < 2 ^ 32) }
 {
     let mut borrowed = Vec::with_capacity(alloc, catalogues.len())?;

@@ -1,6 +1,6 @@
-//! Laws of escapes, of COUNT and of where catalogues are looked for, each the contract of a
-//! function that does nothing: a call brings the law into a proof.
-ghost use Rattle.std.specs.Prelude.{◌≡◌, ◌↔◌, ℕ, Bool, List, Option};
+//! Laws of escapes, of COUNT, of limits and of where catalogues are looked for, each the contract
+//! of a function that does nothing: a call brings the law into a proof.
+ghost use Rattle.std.specs.Prelude.{◌≡◌, ◌↔◌, [], ℕ, Bool, List, None, Option, Some, codes, false, true};
 ghost use Rattle.gettext.specs.declared.candidates.Environment.{Environment};
 ghost use Rattle.gettext.specs.Candidates.{AreCandidates};
 ghost use Rattle.gettext.specs.Choosing.{IsDomain, IsFolder, IsLocale};
@@ -9,8 +9,11 @@ ghost use Rattle.gettext.specs.Counting.{GivesCount};
 ghost use Rattle.gettext.specs.Environments.{environment_view};
 ghost use Rattle.gettext.specs.Escapes.{expansion, has_no_newline};
 ghost use Rattle.gettext.specs.Expanding.{Expands};
+ghost use Rattle.gettext.specs.Gettext.{gettext_output, request_of};
 ghost use Rattle.gettext.specs.Locales.{candidates_of, locale_of};
 ghost use Rattle.gettext.specs.Paths.{domain_of, folder_of};
+ghost use Rattle.gettext.specs.Usage.{gettext_usage};
+ghost use Rattle.gettext.specs.WholeRun.{catalogue_limit};
 
 /// The expansion of a text is the text in which each escape stands for its byte, `\c` for none, and
 /// any other byte for itself.
@@ -54,4 +57,16 @@ pub fn counts_are_numbers()
 pub fn candidates_are_asked()
     ensures { (env : Environment) (names : List (List ℕ))
         → (names ≡ candidates_of env) ↔ AreCandidates (environment_view env) names }
+{}
+
+/// With `-s` no MSGID is echoed too: an empty line is written, and nothing with `-n`.
+pub fn no_msgid_is_echoed()
+    ensures usage { gettext_usage true [] ≡ Some (record { domain = None; messages = [] }) }
+    ensures output { gettext_output [] (request_of [] false false true) ≡ codes "\n" }
+    ensures without_newline { gettext_output [] (request_of [] false true true) ≡ [] }
+{}
+
+/// A chain has 4,294,967,295 catalogues at most.
+pub fn chains_are_limited()
+    ensures { catalogue_limit ≡ 4294967295 }
 {}

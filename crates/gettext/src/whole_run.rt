@@ -9,7 +9,7 @@ ghost use Rattle.gettext.specs.WholeRun.{RunsLookUp};
 use crate::catalogues::{borrowed_catalogues, find_catalogues};
 use crate::environment::VariableSource;
 use crate::plan::{GettextOptions, NgettextOptions, plan_gettext, plan_ngettext};
-use runs::{ByteOut, InputSource, OutputFiles, OutputSystem, ProgramFault, STANDARD};
+use runs::{ByteOut, InputSource, OutputFiles, OutputSystem, ProgramFault, STANDARD, ToolFault};
 use std::alloc::Global;
 
 /// Runs `gettext`: reads the catalogues of the text domain that an argument or the option `-d`
@@ -34,8 +34,10 @@ pub fn run_gettext<S: InputSource + VariableSource, F: OutputFiles, O: ByteOut, 
         let borrowed = borrowed_catalogues(alloc, found.as_slice())?;
         plan_gettext(alloc, borrowed.as_slice(), options)
     };
-    let Ok(run) = planned else {
-        return Err(ProgramFault::OutOfMemory);
+    let run = match planned {
+        Ok(run) => run,
+        Err(ToolFault::OutOfMemory) => return Err(ProgramFault::OutOfMemory),
+        Err(_) => unreachable!(),
     };
     system.write(alloc, &run, STANDARD)
 }
@@ -60,8 +62,10 @@ pub fn run_ngettext<S: InputSource + VariableSource, F: OutputFiles, O: ByteOut,
         let borrowed = borrowed_catalogues(alloc, found.as_slice())?;
         plan_ngettext(alloc, borrowed.as_slice(), options)
     };
-    let Ok(run) = planned else {
-        return Err(ProgramFault::OutOfMemory);
+    let run = match planned {
+        Ok(run) => run,
+        Err(ToolFault::OutOfMemory) => return Err(ProgramFault::OutOfMemory),
+        Err(_) => unreachable!(),
     };
     system.write(alloc, &run, STANDARD)
 }

@@ -6,7 +6,9 @@ ghost use Rattle.runs.specs.Run.{is_standard};
 ghost use Rattle.runs.specs.ToolRuns.{RunsInput, asking};
 
 use crate::plan::plan_msgunfmt;
-use runs::{ByteOut, InputSource, OutputFiles, OutputSystem, ProgramFault, read_one, shown_name};
+use runs::{
+    ByteOut, InputSource, OutputFiles, OutputSystem, ProgramFault, ToolFault, read_one, shown_name,
+};
 use std::alloc::Global;
 
 /// Runs `msgunfmt`: reads the input of its argument, plans as `plan_msgunfmt` does, and writes the
@@ -29,8 +31,10 @@ pub fn run<'a, S: InputSource, F: OutputFiles, O: ByteOut, E: ByteOut>(
         IsMsgunfmtRun argument.now output.now system.old system.new result }
 {
     let bytes = read_one(alloc, source, argument)?;
-    let Ok(run) = plan_msgunfmt(alloc, &bytes, shown_name(argument)) else {
-        return Err(ProgramFault::OutOfMemory);
+    let run = match plan_msgunfmt(alloc, &bytes, shown_name(argument)) {
+        Ok(run) => run,
+        Err(ToolFault::OutOfMemory) => return Err(ProgramFault::OutOfMemory),
+        Err(_) => unreachable!(),
     };
     system.write(alloc, &run, output)
 }

@@ -1,7 +1,8 @@
-use Rattle.std.proofs.Common.{◌<◌, length, lit≤, Err, ap, refl, sym, ◌∙◌, arith}
+use Rattle.std.proofs.Common.{◌≡◌, ◌<◌, ◌+◌, length, lit≤, take, Err, ap, refl, sym, ◌∙◌, arith}
+use Rattle.std.proofs.lemmas.Bool.Decides.{nat_tests}
 use Rattle.std.proofs.KnownBytes.{Keeps-refl}
 use Rattle.std.proofs.lemmas.Result.{err_from_is_err_and}
-use Rattle.envsubst.proofs.EnvsubstLemmas.{ends-within, fed-finish, fed-more, fed-none, fed-read_fault, fed-write_fault, same-values}
+use Rattle.envsubst.proofs.EnvsubstLemmas.{ends-within, fed-finish, fed-more, fed-none, fed-read_fault, fed-write_fault, gave-end, gave-more, gave-none, on-ok, same-values}
 use Rattle.envsubst.proofs.whole_input.substitute_all.Goals as goal
 
 pub loop-init : goal.loop-init
@@ -14,6 +15,7 @@ loop-init g c = record {
   empty = c.requires.empty;
   plain = λ is. is;
   calls = omega arith;
+  gave = gave-none _;
   no_read_failure = refl;
   no_write_failure = refl;
 }
@@ -51,9 +53,18 @@ loop-preserved g c = record {
   plain = λ is. c.in_ok-block-in-Ok.ensures.plain (c.loop.invariant.plain is);
   few = c.in_ok-block-in-Ok.ensures.few;
   calls = omega (arith, c.in-Ok.ensures.counts);
+  gave =
+      let whole : c.in-Ok.count ≡ length (take c.in-Ok.count c.pull.new.buf) = c.in-Ok.ensures.bound.1 in
+      gave-more _ _ _ _ _ c.loop.invariant.gave c.in-Ok.ensures.bytes.0
+      (grind (arith, nat_tests, whole, c.in-Ok.count-test.1));
   no_read_failure = omega (arith, c.in-Ok.ensures.fails);
   no_write_failure = omega (arith, c.in_ok-block-in-Ok.ensures.failures, c.loop.invariant.no_write_failure);
 }
 
 pub returns-clause-output : goal.returns-clause-output
 returns-clause-output g c = fed-read_fault _ _ _ _ _ _ _ c.loop.invariant.few c.loop.invariant.fed (Keeps-refl _)
+
+pub returns-in-Ok-eq0-clause-end : goal.returns-in-Ok-eq0-clause-end
+returns-in-Ok-eq0-clause-end g c =
+    on-ok _ _ (gave-end _ _ _ _ _ c.loop.invariant.gave
+    (c.in-Ok-eq0.ensures.counts ∙ ap (λ n. n + 1) c.loop.invariant.calls))

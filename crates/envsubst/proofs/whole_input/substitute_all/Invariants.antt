@@ -1,6 +1,6 @@
 use Rattle.std.proofs.Common.{◌≡◌, ◌≤◌, ◌+◌, length, [], false, None, IfSome}
 use Rattle.envsubst.specs.Substitution.{values_of, pairs_in, names_given}
-use Rattle.envsubst.proofs.EnvsubstLemmas.{HasFed}
+use Rattle.envsubst.proofs.EnvsubstLemmas.{GaveEach, HasFed}
 use Rattle.envsubst.proofs.whole_input.substitute_all.Given as goal
 
 abbrev pub invariant-loop : goal.invariant-loop
@@ -15,6 +15,7 @@ invariant-loop g l = record {
   empty : IfSome l.block (λ b. b.items ≡ []);
   plain : l.fn.block ≡ None → l.block ≡ None;
   calls : g.R.ByteIn.calls l.reader ≡ g.R.ByteIn.calls l.fn.reader + l.counter;
+  gave : GaveEach (g.R.ByteIn.remaining l.fn.reader) (g.R.ByteIn.remaining l.reader) l.counter;
   no_read_failure : g.R.ByteIn.failures l.reader ≡ g.R.ByteIn.failures l.fn.reader;
   no_write_failure : g.W.ByteOut.failures l.writer ≡ g.W.ByteOut.failures l.fn.writer;
 }

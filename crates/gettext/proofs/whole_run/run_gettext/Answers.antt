@@ -15,8 +15,8 @@ returns-in_err-borrowed g c =
     let p = err_from_is_err_and c.from_residual-in_err-borrowed.result c.from_residual-in_err-borrowed.ensures.1 in
     rw (p.1, p.2) (no_memory refl)
 
-pub returns-in_default : goal.returns-in_default
-returns-in_default g c = no_memory refl
+pub returns-in-Err-OutOfMemory : goal.returns-in-Err-OutOfMemory
+returns-in-Err-OutOfMemory g c = no_memory refl
 
 pub returns : goal.returns
 returns g c =

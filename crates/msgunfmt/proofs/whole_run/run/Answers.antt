@@ -10,8 +10,8 @@ returns-in_err-bytes-clause-run g c =
     rw (p.1, p.2) (input_ended c.in_err-bytes.field-0.0 c.in_err-bytes.ensures.fault
     (λ same. c.in_err-bytes.ensures.memory (ap Err same)))
 
-pub returns-in_default-clause-run : goal.returns-in_default-clause-run
-returns-in_default-clause-run g c = out_of_memory c.in_ok-bytes.ensures.read refl
+pub returns-in-Err-OutOfMemory-clause-run : goal.returns-in-Err-OutOfMemory-clause-run
+returns-in-Err-OutOfMemory-clause-run g c = out_of_memory c.in_ok-bytes.ensures.read refl
 
 pub returns-clause-run : goal.returns-clause-run
 returns-clause-run g c =
