@@ -2,7 +2,7 @@
 use Rattle.std.proofs.Common.{◌≡◌, ℕ, ◌+◌, List, [], ◌++◌, Option, Some, None, Result, Ok, Err, codes, option_and_then, refl, sym, ap, ◌∙◌, subst, inl, inr, arith}
 use Rattle.std.specs.Io.KnownBytes.{Appends}
 use Rattle.runs.specs.FileCalls.{FileCall, calls_of, logged}
-use Rattle.runs.specs.Outputs.{IsCutShort, IsOutputFault, MakesFile, OutputIs, SystemView, Takes, WriterView, WritesRun, cut, delivered, made, output_fault_text, to_file, unmade, unreported, writer}
+use Rattle.runs.specs.Outputs.{IsCutShort, IsOutputFault, MakesFile, OutputIs, SystemView, Takes, WriterView, link_limit, WritesRun, cut, delivered, made, output_fault_text, to_file, unmade, unreported, writer}
 use Rattle.runs.specs.ProgramFaults.{program_text}
 use Rattle.runs.specs.Run.{RunView, output_file}
 use Rattle.runs.specs.ToolRuns.{Writes, unwritten, written}
@@ -11,7 +11,7 @@ use Rattle.runs.specs.declared.output_files.OutputFault.TheVariants.{CannotCreat
 use Rattle.runs.specs.declared.program_fault.ProgramFault.{ProgramFault}
 use Rattle.known_system.specs.Contents.{Contents, contents, Holds, IsFileFault, Leaves, filed, left, printed}
 use Rattle.known_system.specs.Left.{Left, whole, kept}
-use Rattle.known_system.specs.Replay.{Folder, Place, bytes_at, nothing, replay}
+use Rattle.known_system.specs.Replay.{Folder, Links, Place, bytes_at, folder, nothing, replay}
 use Rattle.known_system.proofs.Lefts.{left_by}
 use Rattle.known_system.proofs.Replays.{replay_all}
 
@@ -38,17 +38,23 @@ same_writer : (before after : WriterView) (old new : List ℕ) → before ≡ wr
 same_writer before after old new was is same =
     let e : Some new ≡ Some old = ap (λ (v : WriterView). v.bytes) (sym is ∙ same ∙ was) in cc
 
-alike : {h h' : Place} {o o' e e' : List ℕ} → h ≡ h' → o ≡ o' → e ≡ e' → contents h o e ≡ contents h' o' e'
-alike h o e = rw (h, o, e) refl
+alike : {l l' : Links} {h h' : Place} {o o' e e' : List ℕ} → l ≡ l' → h ≡ h' → o ≡ o' → e ≡ e'
+    → contents l h o e ≡ contents l' h' o' e'
+alike l h o e = rw (l, h, o, e) refl
 
 module _ {before after : SystemView} {old new : Contents} (was : Holds before old) (is : Holds after new) where
-  same_files : after.files ≡ before.files → new.held ≡ old.held
-  same_files same =
+  same_folder : after.files ≡ before.files → folder new.links new.held is.fresh ≡ folder old.links old.held was.fresh
+  same_folder same =
       let d : Some is.calls ≡ Some was.calls = sym is.files_are ∙ same ∙ was.files_are in
       let e : is.calls ≡ was.calls = cc in
-      let f : Some (new.held, is.fresh) ≡ Some (old.held, was.fresh) =
-      sym is.held_is ∙ ap (λ c. replay c nothing) e ∙ was.held_is in
-      let g : (new.held, is.fresh) ≡ (old.held, was.fresh) = cc in ap (λ (t : Folder). t.0) g
+      let f : Some (folder new.links new.held is.fresh) ≡ Some (folder old.links old.held was.fresh) =
+      sym is.held_is ∙ ap (λ c. replay c nothing) e ∙ was.held_is in cc
+
+  same_links : after.files ≡ before.files → new.links ≡ old.links
+  same_links same = ap (λ (f : Folder). f.links) (same_folder same)
+
+  same_files : after.files ≡ before.files → new.held ≡ old.held
+  same_files same = ap (λ (f : Folder). f.held) (same_folder same)
 
   same_out : after.out ≡ before.out → new.out ≡ old.out
   same_out = same_writer before.out after.out old.out new.out was.out_is is.out_is
@@ -56,11 +62,12 @@ module _ {before after : SystemView} {old new : Contents} (was : Holds before ol
   same_err : after.err ≡ before.err → new.err ≡ old.err
   same_err = same_writer before.err after.err old.err new.err was.err_is is.err_is
 
-  all_same : new.held ≡ old.held → new.out ≡ old.out → new.err ≡ old.err → new ≡ old
-  all_same h o e = alike h o e
+  all_same : new.links ≡ old.links → new.held ≡ old.held → new.out ≡ old.out → new.err ≡ old.err → new ≡ old
+  all_same l h o e = alike l h o e
 
   pub unchanged : after ≡ before → new ≡ old
-  unchanged same = all_same (same_files (ap (λ (v : SystemView). v.files) same))
+  unchanged same = all_same (same_links (ap (λ (v : SystemView). v.files) same))
+      (same_files (ap (λ (v : SystemView). v.files) same))
       (same_out (ap (λ (v : SystemView). v.out) same)) (same_err (ap (λ (v : SystemView). v.err) same))
 
   quiet_out : after.out.failures ≡ 0
@@ -70,41 +77,44 @@ module _ {before after : SystemView} {old new : Contents} (was : Holds before ol
   quiet_err = ap (λ (v : WriterView). v.failures) is.err_is
 
   file_left : (run : RunView) (path : List ℕ) {why : Option OutputFault} → OutputIs run path before after why
-      → Left run.output path (old.held, was.fresh) (new.held, is.fresh) why
+      → Left run.output link_limit path old.links old.held (folder new.links new.held is.fresh) why
   file_left run path output =
       let more = calls_of output.course in
       let e : Some is.calls ≡ Some (was.calls ++ more) =
       sym is.files_are ∙ output.log ∙ ap (logged more) was.files_are in
       let f : is.calls ≡ was.calls ++ more = cc in
-      let g : option_and_then (replay more) (Some (old.held, was.fresh)) ≡ Some (new.held, is.fresh) =
+      let g : option_and_then (replay more) (Some (folder old.links old.held was.fresh))
+      ≡ Some (folder new.links new.held is.fresh) =
       sym (replay_all was.calls more nothing ∙ ap (option_and_then (replay more)) was.held_is)
       ∙ ap (λ c. replay c nothing) (sym f) ∙ is.held_is in
-      subst (Left run.output path (old.held, was.fresh) (new.held, is.fresh)) (sym output.fault_is)
-      (left_by (old.held, was.fresh) (new.held, is.fresh) output.is g)
+      subst (Left run.output link_limit path old.links old.held (folder new.links new.held is.fresh))
+      (sym output.fault_is) (left_by was.fresh (folder new.links new.held is.fresh) output.is g)
 
-  whole_by : {output path : List ℕ} → Left output path (old.held, was.fresh) (new.held, is.fresh) None
-      → bytes_at path new.held ≡ Some output
-  whole_by (whole at) = at
-
-  kept_by : {output path : List ℕ} {why : OutputFault}
-      → Left output path (old.held, was.fresh) (new.held, is.fresh) (Some why) → new.held ≡ old.held
-  kept_by (kept same) = same
+  makes_by : (run : RunView) (argument : List ℕ) {path : List ℕ} → output_file run argument ≡ Some path
+      → new.out ≡ old.out → new.err ≡ old.err ++ run.messages
+      → Left run.output link_limit path old.links old.held (folder new.links new.held is.fresh) None
+      → Leaves run argument old new (Ok run.status)
+  makes_by run argument names out err (whole leads free at links) = filed names leads free at links out err
 
   makes : (run : RunView) (argument : List ℕ) {path : List ℕ} → output_file run argument ≡ Some path
       → new.out ≡ old.out → MakesFile run path before after None → Leaves run argument old new (Ok run.status)
   makes run argument {path} names out (made output messages) =
-      filed names (whole_by (file_left run path output)) out
-      (told before.err after.err old.err new.err run.messages was.err_is is.err_is messages)
+      makes_by run argument names out
+      (told before.err after.err old.err new.err run.messages was.err_is is.err_is messages) (file_left run path output)
+
+  kept_by : {output path : List ℕ} {why : OutputFault} → new.out ≡ old.out → new.err ≡ old.err
+      → Left output link_limit path old.links old.held (folder new.links new.held is.fresh) (Some why) → new ≡ old
+  kept_by out err (kept same links) = all_same links same out err
 
   makes_none : (run : RunView) (path : List ℕ) {why : OutputFault} → new.out ≡ old.out
       → MakesFile run path before after (Some why) → new ≡ old
   makes_none run path out (unreported output messages) = absurd (never _ _ messages.failure quiet_err)
-  makes_none run path out (unmade output same) = all_same (kept_by (file_left run path output)) out (same_err same)
+  makes_none run path out (unmade output same) = kept_by out (same_err same) (file_left run path output)
 
   written_leaves : (run : RunView) (argument : List ℕ) (file : Option (List ℕ)) → output_file run argument ≡ file
       → WritesRun run before after file None → Leaves run argument old new (Ok run.status)
   written_leaves run argument None names (delivered same output messages) =
-      printed names (same_files same)
+      printed names (same_links same) (same_files same)
       (told before.out after.out old.out new.out run.output was.out_is is.out_is output)
       (told before.err after.err old.err new.err run.messages was.err_is is.err_is messages)
   written_leaves run argument (Some path) names (to_file same file_made) =

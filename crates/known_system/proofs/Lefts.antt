@@ -1,98 +1,166 @@
 -- What the calls leave by which an output is made.
-use Rattle.std.proofs.Common.{◌≡◌, ℕ, Bool, true, false, List, [], ◌∷◌, ◌&&◌, Option, Some, None, option_and_then, refl, sym, ap, ◌∙◌, subst, if◌then◌else◌}
+use Rattle.std.proofs.Common.{arith, ◌+◌, ◌≡◌, ℕ, suc, Bool, true, false, not, List, [], ◌∷◌, ◌&&◌, ◌||◌, is_some, Option, Some, None, option_and_then, refl, sym, ap, ◌∙◌, subst, if◌then◌else◌}
 use Rattle.std.proofs.lemmas.Slice.Eq.{bytes_eq-Decides}
+use Rattle.std.specs.Str.{bytes_eq}
+use Rattle.runs.specs.declared.output_files.OutputFault.{OutputFault}
 use Rattle.runs.specs.declared.output_files.Rights.{Rights}
 use Rattle.runs.specs.FileCalls.{Course, makes, renames, calls_of, fault_of}
 use Rattle.runs.specs.OutputFiles.{whole as all_taken_in, cut, late, unopened, opened, Finishes, replaced, unmoved, unwritten, Fills, replaces_none, with_rights, without_rights, Replaces, unnamed, made as made_new, taken, all_taken, in_place, forbidden, failed, unknown, unread, no_memory, too_long, WritesFile, lacking, taken as stream_taken, stream, stops, special, replaces, follows}
 use Rattle.runs.specs.FileRights.{first_mode}
+use Rattle.runs.specs.OutputPaths.{link_target}
 use Rattle.known_system.proofs.Replays.{ends}
+use Rattle.known_system.specs.Leads.{Leads, there, follows as leads_on}
 use Rattle.known_system.specs.Left.{Left, whole, kept}
-use Rattle.known_system.specs.Replay.{Place, Folder, bytes_at, is_at, is_free, replay, step, unless_at}
+use Rattle.known_system.specs.Replay.{Links, Place, Folder, bytes_at, folder, is_at, is_free, is_link, is_linked, replay, step, unless_at}
+use Rattle.known_system.specs.Source.{bytes_of}
 
-same : (s t : Folder) → Some s ≡ Some t → t.0 ≡ s.0
-same s t is = let e : s ≡ t = cc in ap (λ (f : Folder). f.0) (sym e)
+same : (s t : Folder) → Some s ≡ Some t → s ≡ t
+same s t is = cc
 
-there : (path bytes : List ℕ) → bytes_at path (Some (path, bytes)) ≡ Some bytes
-there path bytes = rw ((bytes_eq-Decides path path).1 refl) refl
+at_its_path : (path bytes : List ℕ) → bytes_at path (Some (path, bytes)) ≡ Some bytes
+at_its_path path bytes = rw ((bytes_eq-Decides path path).1 refl) refl
 
 not_at : (path : List ℕ) (place : Place) → is_at place path ≡ false → unless_at path place ≡ place
 not_at path None other = refl
 not_at path (Some file) other = rw other refl
 
--- the new file gets the path
-moves : (output path target : List ℕ) (held : Place) (new : Folder) (b : Bool)
-    → (if b then Some (Some (target, output), None) else None) ≡ Some new
-    → bytes_at target new.0 ≡ Some output
-moves output path target held new true is =
-    let e : (Some (target, output), None) ≡ new =
-    cc in subst (λ (f : Folder). bytes_at target f.0 ≡ Some output) e (there target output)
-moves output path target held new false is = cc
+neither : (a b c : Bool) → ((a || b) || c) ≡ false → b ≡ false
+neither true b c is = cc
+neither false true c is = cc
+neither false false c is = refl
 
-removed : (path : List ℕ) (held : Place) (new : Folder) → is_at held path ≡ false → (bytes : List ℕ)
-    → Some (unless_at path held, unless_at path (Some (path, bytes))) ≡ Some new → new.0 ≡ held
-removed path held new other bytes is = same _ new is ∙ not_at path held other
+module _ {output : List ℕ} {limit : ℕ} {at : List ℕ} {links : Links} {held : Place} where
+  -- nothing has changed
+  stays : {why : OutputFault} (fresh : Place) (new : Folder) → Some (folder links held fresh) ≡ Some new
+      → Left output limit at links held new (Some why)
+  stays fresh new is =
+      let e = sym (same _ new is) in kept (ap (λ (f : Folder). f.held) e) (ap (λ (f : Folder). f.links) e)
 
-module _ {output path target : List ℕ} (held : Place) (new : Folder) (other : is_at held path ≡ false) where
-  finishes_left : {rest : Course} → Finishes output (record { path = path; target = target; made = Some [] }) rest
-      → replay (calls_of rest) (held, Some (path, [])) ≡ Some new → Left output target (held, None) new (fault_of rest)
-  finishes_left (replaced (all_taken_in {after = None} all)) is = absurd all
-  finishes_left (replaced (all_taken_in {after = Some bytes} all)) is =
-      whole (moves bytes path target held new (is_at (Some (path, bytes)) path && is_free held target)
-      (sym (ends (step (renames path target true) (held, Some (path, bytes)))) ∙ is) ∙ ap Some all)
-  finishes_left (unmoved (all_taken_in {after = None} all)) is = absurd all
-  finishes_left (unmoved (all_taken_in {after = Some bytes} all)) is = kept (removed path held new other bytes is)
-  finishes_left (unwritten (cut {after = None} all)) is = cc
-  finishes_left (unwritten (cut {after = Some bytes} all)) is = kept (removed path held new other bytes is)
-  finishes_left (unwritten (late {after = None} all)) is = absurd all
-  finishes_left (unwritten (late {after = Some bytes} all)) is = kept (removed path held new other bytes is)
+  -- the new file is removed
+  removed : {why : OutputFault} (path bytes : List ℕ) (new : Folder) → is_at held path ≡ false
+      → Some (folder links (unless_at path held) (unless_at path (Some (path, bytes)))) ≡ Some new
+      → Left output limit at links held new (Some why)
+  removed path bytes new other is =
+      let e = sym (same _ new is) in
+      kept (ap (λ (f : Folder). f.held) e ∙ not_at path held other) (ap (λ (f : Folder). f.links) e)
 
-  fills_left : {old : Option Rights} {rest : Course}
-      → Fills output (record { path = path; target = target; made = Some [] }) old rest
-      → replay (calls_of rest) (held, Some (path, [])) ≡ Some new → Left output target (held, None) new (fault_of rest)
-  fills_left (replaces_none finishing) is = finishes_left finishing is
-  fills_left (with_rights finishing) is = finishes_left finishing is
-  fills_left without_rights is = kept (removed path held new other [] is)
+  -- the new file gets the path to which it leads
+  moves : (bytes target : List ℕ) (new : Folder) (a b c : Bool) → is_free held target ≡ b
+      → (if (a && b) && c then Some (folder links (Some (target, bytes)) None) else None) ≡ Some new
+      → Leads links limit at target → bytes ≡ output → Left output limit at links held new None
+  moves bytes target new true true true free is leads all =
+      let e = same _ new is in
+      whole leads free
+      (subst (λ (f : Folder). bytes_at target f.held ≡ Some output) e (at_its_path target bytes ∙ ap Some all))
+      (ap (λ (f : Folder). f.links) (sym e))
+  moves bytes target new false b c free is leads all = cc
+  moves bytes target new true false c free is leads all = cc
+  moves bytes target new true true false free is leads all = cc
 
--- a new file is made, where none is there
-made_left : {output path target : List ℕ} {old : Option Rights} {rest : Course} (held : Place) (new : Folder) (b : Bool)
-    → is_at held path ≡ b
-    → Fills output (record { path = path; target = target; made = Some [] }) old rest
-    → option_and_then (replay (calls_of rest)) (if b then None else Some (held, Some (path, []))) ≡ Some new
-    → Left output target (held, None) new (fault_of rest)
-made_left held new true at fills is = cc
-made_left held new false at fills is = fills_left held new at fills is
+  module _ {path target : List ℕ} (new : Folder) (other : is_at held path ≡ false) (leads : Leads links limit at target)
+    where
+      finishes_left : {rest : Course} → Finishes output (record { path = path; target = target; made = Some [] }) rest
+          → replay (calls_of rest) (folder links held (Some (path, []))) ≡ Some new
+          → Left output limit at links held new (fault_of rest)
+      finishes_left (replaced (all_taken_in {after = None} all)) is = absurd all
+      finishes_left (replaced (all_taken_in {after = Some bytes} all)) is =
+          moves bytes target new (is_at (Some (path, bytes)) path) (is_free held target)
+          (not (is_some (bytes_of links target))) refl
+          (sym (ends (step (renames path target true) (folder links held (Some (path, bytes))))) ∙ is) leads all
+      finishes_left (unmoved (all_taken_in {after = None} all)) is = absurd all
+      finishes_left (unmoved (all_taken_in {after = Some bytes} all)) is = removed path bytes new other is
+      finishes_left (unwritten (cut {after = None} all)) is = cc
+      finishes_left (unwritten (cut {after = Some bytes} all)) is = removed path bytes new other is
+      finishes_left (unwritten (late {after = None} all)) is = absurd all
+      finishes_left (unwritten (late {after = Some bytes} all)) is = removed path bytes new other is
 
-new_left : {output path target : List ℕ} {old : Option Rights} {rest : Course} (mode : ℕ) (before : Option (List ℕ))
-    (s new : Folder)
-    → Fills output (record { path = path; target = target; made = before }) old rest
-    → option_and_then (replay (calls_of rest)) (step (makes path mode before) s) ≡ Some new
-    → Left output target s new (fault_of rest)
-new_left mode None s new fills is = cc
-new_left mode (Some (b ∷ bs)) s new fills is = cc
-new_left mode (Some []) (held, Some file) new fills is = cc
-new_left {path} mode (Some []) (held, None) new fills is = made_left held new (is_at held path) refl fills is
+      fills_left : {old : Option Rights} {rest : Course}
+          → Fills output (record { path = path; target = target; made = Some [] }) old rest
+          → replay (calls_of rest) (folder links held (Some (path, []))) ≡ Some new
+          → Left output limit at links held new (fault_of rest)
+      fills_left (replaces_none finishing) is = finishes_left finishing is
+      fills_left (with_rights finishing) is = finishes_left finishing is
+      fills_left without_rights is = removed path [] new other is
 
-replaces_left : {output target : List ℕ} {old : Option Rights} {tries : ℕ} {course : Course} (s new : Folder)
-    → Replaces output target old tries course → replay (calls_of course) s ≡ Some new
-    → Left output target s new (fault_of course)
-replaces_left s new unnamed is = kept (same s new is)
-replaces_left {old} s new (made_new {before} few fills) is = new_left (first_mode old) before s new fills is
-replaces_left s new (taken rest) is = replaces_left s new rest is
-replaces_left s new all_taken is = kept (same s new is)
-replaces_left s new (in_place unopened) is = kept (same s new is)
-replaces_left s new (in_place (opened puts)) is = cc
-replaces_left s new forbidden is = kept (same s new is)
-replaces_left s new failed is = kept (same s new is)
+  module _ {target : List ℕ} (leads : Leads links limit at target) where
+    -- a new file is made, where none is there
+    made_left : {path : List ℕ} {old : Option Rights} {rest : Course} (a c : Bool) (new : Folder) (b : Bool)
+        → ((a || is_at held path) || c) ≡ b
+        → Fills output (record { path = path; target = target; made = Some [] }) old rest
+        → option_and_then (replay (calls_of rest)) (if b then None else Some (folder links held (Some (path, []))))
+        ≡ Some new
+        → Left output limit at links held new (fault_of rest)
+    made_left a c new true free fills is = cc
+    made_left {path} a c new false free fills is =
+        fills_left new (neither a (is_at held path) c free) leads fills is
 
-pub left_by : {output : List ℕ} {links : ℕ} {path : List ℕ} {course : Course} (s new : Folder)
-    → WritesFile output links path course → replay (calls_of course) s ≡ Some new
-    → Left output path s new (fault_of course)
-left_by s new (stream names lacking) is = kept (same s new is)
-left_by s new (stream names (stream_taken puts)) is = cc
-left_by s new (stops other unknown) is = cc
-left_by s new (stops other unread) is = cc
-left_by s new (stops other no_memory) is = cc
-left_by s new (stops other (too_long none)) is = cc
-left_by s new (special other writes) is = cc
-left_by s new (replaces other rest) is = replaces_left s new rest is
-left_by s new (follows other rest) is = cc
+    new_left : {path : List ℕ} {old : Option Rights} {rest : Course} (mode : ℕ) (before : Option (List ℕ))
+        (fresh : Place) (new : Folder)
+        → Fills output (record { path = path; target = target; made = before }) old rest
+        → option_and_then (replay (calls_of rest)) (step (makes path mode before) (folder links held fresh)) ≡ Some new
+        → Left output limit at links held new (fault_of rest)
+    new_left mode None fresh new fills is = cc
+    new_left mode (Some (b ∷ bs)) fresh new fills is = cc
+    new_left {path} mode (Some []) fresh new fills is =
+        made_left (is_some fresh) (is_some (bytes_of links path)) new _ refl fills is
+
+    replaces_left : {old : Option Rights} {tries : ℕ} {course : Course} (fresh : Place) (new : Folder)
+        → Replaces output target old tries course → replay (calls_of course) (folder links held fresh) ≡ Some new
+        → Left output limit at links held new (fault_of course)
+    replaces_left fresh new unnamed is = stays fresh new is
+    replaces_left {old} fresh new (made_new {before} few fills) is =
+        new_left (first_mode old) before fresh new fills is
+    replaces_left fresh new (taken rest) is = replaces_left fresh new rest is
+    replaces_left fresh new all_taken is = stays fresh new is
+    replaces_left fresh new (in_place unopened) is = stays fresh new is
+    replaces_left fresh new (in_place (opened puts)) is = cc
+    replaces_left fresh new forbidden is = stays fresh new is
+    replaces_left fresh new failed is = stays fresh new is
+
+-- where the link at the path is as it was answered
+answered : (links : Links) (now new : Folder) (path text : List ℕ) (o : Option (List ℕ)) (b : Bool)
+    → bytes_of links path ≡ o → is_link o text ≡ b → (more : Folder → Option Folder)
+    → option_and_then more (if b then Some now else None) ≡ Some new
+    → (bytes_of links path ≡ Some text) × (more now ≡ Some new)
+answered links now new path text None true at so more is = cc
+answered links now new path text (Some link) true at so more is =
+    let e : link ≡ text = (bytes_eq-Decides link text).0 so in (at ∙ ap Some e, is)
+answered links now new path text o false at so more is = cc
+
+by_answer : (links : Links) (now new : Folder) (path text : List ℕ) (more : Folder → Option Folder)
+    → option_and_then more (if is_link (bytes_of links path) text then Some now else None) ≡ Some new
+    → (bytes_of links path ≡ Some text) × (more now ≡ Some new)
+by_answer links now new path text = answered links now new path text (bytes_of links path) _ refl refl
+
+module _ {output : List ℕ} {links : Links} {held : Place} (fresh : Place) (new : Folder) where
+  -- no link is at the path
+  unlinked_left : {limit : ℕ} {path : List ℕ} {old : Option Rights} {tries : ℕ} {rest : Course} (o : Option (List ℕ))
+      → bytes_of links path ≡ o → Replaces output path old tries rest
+      → option_and_then (replay (calls_of rest)) (if is_some o then None else Some (folder links held fresh)) ≡ Some new
+      → Left output limit path links held new (fault_of rest)
+  unlinked_left None at rest is = replaces_left (there at) fresh new rest is
+  unlinked_left (Some text) at rest is = cc
+
+  on : {limit : ℕ} {path text : List ℕ} {why : Option OutputFault} → bytes_of links path ≡ Some text
+      → Left output limit (link_target path text) links held new why → Left output (suc limit) path links held new why
+  on at (whole leads free bytes links_stay) = whole (leads_on at leads) free bytes links_stay
+  on at (kept same links_stay) = kept same links_stay
+
+  pub left_by : {limit : ℕ} {path : List ℕ} {course : Course} → WritesFile output limit path course
+      → replay (calls_of course) (folder links held fresh) ≡ Some new
+      → Left output limit path links held new (fault_of course)
+  left_by (stream names lacking) is = stays fresh new is
+  left_by (stream names (stream_taken puts)) is = cc
+  left_by (stops other unknown) is = cc
+  left_by (stops other unread) is = stays fresh new is
+  left_by {path} (stops other (no_memory {text})) is =
+      stays fresh new (by_answer links (folder links held fresh) new path text (replay []) is).1
+  left_by {path} (stops other (too_long {text} none)) is =
+      stays fresh new (by_answer links (folder links held fresh) new path text (replay []) is).1
+  left_by (special other writes) is = cc
+  left_by {path} (replaces other rest) is = unlinked_left (bytes_of links path) refl rest is
+  left_by {path} (follows {links = n} {text} {rest} other writes) is =
+      let on_its_way = by_answer links (folder links held fresh) new path text (replay (calls_of rest)) is in
+      let one_more : suc n ≡ n + 1 = omega arith in
+      subst (λ limit. Left output limit path links held new (fault_of rest)) one_more
+      (on on_its_way.0 (left_by writes on_its_way.1))

@@ -1,9 +1,11 @@
 pub mod CallCode
 pub mod Noted
+pub mod Source
+pub mod Links
 pub mod Replay
 pub mod Stored
+pub mod Leads
 pub mod Left
 pub mod Contents
-pub mod Source
 pub mod AskedCode
 pub mod Questioned

@@ -1,14 +1,16 @@
 -- The call that a note is of.
 use Rattle.std.specs.Prelude.{[], Some, None}
-use Rattle.runs.specs.FileCalls.{FileCall, asks, reads_link, numbers, makes, fails_to_make, sets_owner, sets_mode}
-use Rattle.runs.specs.FileCalls.{fails_to_open, lacks_stream, closes, renames, removes}
+use Rattle.runs.specs.FileCalls.{FileCall, asks, reads_link, fails_to_read_link, numbers, makes, fails_to_make}
+use Rattle.runs.specs.FileCalls.{sets_owner, sets_mode, fails_to_open, lacks_stream, closes, renames, removes}
 use Rattle.runs.specs.Counted.{counted_failures, counted_inner}
 use Rattle.known_system.specs.declared.history.Note.{Note}
 use Rattle.known_system.specs.declared.history.Note.TheVariants as note
 
 abbrev pub noted : Note → FileCall
 noted (note.Asks path kind) = asks path.now kind
+noted (note.Link path text) = reads_link path.now (Some text.now)
 noted (note.NoLink path) = reads_link path.now None
+noted (note.FailsToReadLink path why) = fails_to_read_link path.now why
 noted (note.Numbers n) = numbers n
 noted (note.Makes path mode) = makes path.now mode (Some [])
 noted (note.FailsToMake path mode why) = fails_to_make path.now mode why

@@ -1,10 +1,12 @@
-//! Files in memory, of one folder: one file, which may be there, and a new file beside it.
-ghost use Rattle.std.specs.Prelude.{◌≡◌, [], Some, None};
-ghost use Rattle.known_system.specs.Replay.{replay, nothing};
+//! Files in memory, of one folder: links, one file, which may be there, and a new file beside it.
+ghost use Rattle.std.specs.Prelude.{◌≡◌, ◌++◌, [], Some, None};
+ghost use Rattle.known_system.specs.Links.{links_by_path, tellings};
+ghost use Rattle.known_system.specs.Replay.{Place, folder, replay, nothing, telling};
+ghost use Rattle.runs.specs.Counted.{counted_inner};
 ghost use Rattle.known_system.specs.Stored.{stored};
 
 use crate::history::{History, Note};
-use crate::stored::{Stored, is_at, is_free, unless_at, with_bytes, with_path};
+use crate::stored::{Link, Stored, is_at, is_free, link_at, unless_at, with_bytes, with_path};
 use runs::{Counted, FileKind, MakeFault, OutputFault, OutputFiles, Owner, Rights};
 use std::alloc::Global;
 
@@ -14,53 +16,69 @@ const RIGHTS: Rights = Rights {
     owner: Owner { user: 0, group: 0 },
 };
 
-/// Files in memory, whose calls are known: one that may be there, and a new one. What they hold
-/// is what the calls left.
+/// Files in memory, whose calls are known: one that may be there, and a new one, beside links that
+/// stay. What they hold is what the calls left. A link has the kind of a path without a file.
 #[derive(Drop)]
-pub struct KnownFiles {
+pub struct KnownFiles<'a> {
     alloc: Global,
     next: u32,
+    links: &'a [Link<'a>],
     held: Option<Stored>,
     fresh: Option<Stored>,
     /// The calls so far.
     pub history: History,
-    pub ghost tied: { replay history.calls nothing ≡ Some (stored held, stored fresh) },
+    pub ghost tied: { replay history.calls nothing
+        ≡ Some (folder (links_by_path links.now) (stored held) (stored fresh)) },
 }
 
-impl KnownFiles {
-    ghost use Rattle.std.specs.Prelude.{IfSome, option_map};
+impl<'a> KnownFiles<'a> {
+    ghost use Rattle.std.specs.Prelude.{IfSome, is_some, option_map};
     ghost use Rattle.std.specs.String.{string_bytes};
     ghost use Rattle.known_system.specs.Replay.{bytes_at};
+    ghost use Rattle.known_system.specs.Source.{bytes_of};
 
-    /// Files of which none is there.
-    pub fn new(alloc: Global) -> KnownFiles
-        ensures { result.history.calls ≡ [] }
+    /// No file, and no link.
+    pub fn new(alloc: Global) -> KnownFiles<'a>
+        ensures { replay result.history.calls nothing ≡ Some (folder [] None None) }
     {
         KnownFiles {
             alloc,
-            next: 0,
+            next: 1,
+            links: &[],
             held: None,
             fresh: None,
-            history: History::new(),
+            history: History::new().then(&Note::Numbers(0)),
         }
     }
 
-    /// Files of which one may be there, at this path and with these bytes.
-    pub fn holding(alloc: Global, path: String, bytes: Option<Vec<u8>>) -> KnownFiles
-        ensures { replay result.history.calls nothing
-            ≡ Some (option_map (λ b. (string_bytes path, b.items)) bytes, None) }
+    /// A file that may be there, at this path and with these bytes, and these links. Where a link
+    /// has the path too, it is the link that is there.
+    pub fn holding(
+        alloc: Global,
+        links: &'a [Link<'a>],
+        path: String,
+        bytes: Option<Vec<u8>>,
+    ) -> KnownFiles<'a>
+        ensures { replay result.history.calls nothing ≡ Some (folder (links_by_path links.now)
+            (option_map (λ b. (string_bytes path, b.items)) bytes) None) }
     {
         let Some(bytes) = bytes else {
-            return KnownFiles::new(alloc);
+            let history = told(History::new(), links);
+            return KnownFiles {
+                alloc,
+                next: 1,
+                links,
+                held: None,
+                fresh: None,
+                history,
+            };
         };
         let file = Counted::new(bytes);
-        let history = History::new();
-        let history = history.then(&Note::Makes(path.as_str(), RIGHTS.mode));
-        let history = history.then(&Note::Closes(&file, true));
-        let history = history.then(&Note::Renames(path.as_str(), path.as_str(), true));
+        let history = told(placed(&path, &file), links);
         KnownFiles {
             alloc,
-            next: 0,
+            next: 1,
+            links,
             held: Some(Stored {
                 path,
                 bytes: file.into_inner(),
@@ -70,10 +88,17 @@ impl KnownFiles {
         }
     }
 
+    /// Whether a link is at a path.
+    fn is_linked(&self, path: &str) -> bool
+        ensures { result ≡ is_some (bytes_of (links_by_path self.now.links.now) path.now) }
+    {
+        link_at(self.links, path).is_some()
+    }
+
     /// The bytes of the file at a path.
     pub fn into_bytes(self, path: &str) -> Option<Vec<u8>>
-        ensures { IfSome (replay self.history.calls nothing)
-            (λ folder. option_map (λ v. v.items) result ≡ bytes_at path.now folder.0) }
+        ensures { IfSome (replay self.entry.history.calls nothing)
+            (λ folder. option_map (λ v. v.items) result ≡ bytes_at path.now folder.held) }
     {
         let KnownFiles { held, .. } = self;
         let file = held?;
@@ -85,9 +110,39 @@ impl KnownFiles {
     }
 }
 
-impl OutputFiles for KnownFiles {
+/// The calls by which a file gets to this path, with these bytes.
+fn placed(path: &str, file: &Counted<Vec<u8>>) -> History
+    ensures { replay result.calls nothing ≡ Some (telling [] (Some (path.now, (counted_inner file.now).items))) }
+{
+    let history = History::new();
+    let history = history.then(&Note::Makes(path, RIGHTS.mode));
+    let history = history.then(&Note::Closes(file, true));
+    history.then(&Note::Renames(path, path, true))
+}
+
+/// The calls, after them those that tell of the links, and one after which links stay.
+fn told(before: History, links: &[Link<'_>]) -> History
+    ensures { (held : Place) → replay before.calls nothing ≡ Some (telling [] held)
+        → replay result.calls nothing ≡ Some (folder (links_by_path links.now) held None) }
+{
+    let history = with_links(before, links);
+    history.then(&Note::Numbers(0))
+}
+
+/// The calls, and after them those that tell of the links.
+fn with_links(before: History, links: &[Link<'_>]) -> History
+    ensures { result.calls ≡ before.calls ++ tellings links.now }
+{
+    let mut history = before;
+    for link in links {
+        history = history.then(&Note::Link(link.path, link.to));
+    }
+    history
+}
+
+impl<'a> OutputFiles for KnownFiles<'a> {
     ghost use Rattle.std.specs.Prelude.{◌∷◌};
-    ghost use Rattle.runs.specs.Counted.{counted_failures, counted_inner};
+    ghost use Rattle.runs.specs.Counted.{counted_failures};
     ghost use Rattle.runs.specs.FileCalls.{closes, logged};
 
     type File = Vec<u8>;
@@ -107,9 +162,18 @@ impl OutputFiles for KnownFiles {
     }
 
     #[tactic(auto, using(crate::proofs::Replays::replay_append))]
-    fn link(&mut self, _alloc: Global, path: &str) -> Result<Option<String>, OutputFault> {
-        self.history = self.history.then(&Note::NoLink(path));
-        Ok(None)
+    fn link(&mut self, alloc: Global, path: &str) -> Result<Option<String>, OutputFault> {
+        let Some(text) = link_at(self.links, path) else {
+            self.history = self.history.then(&Note::NoLink(path));
+            return Ok(None);
+        };
+        let Ok(copy) = String::from_str(alloc, text) else {
+            let why = OutputFault::OutOfMemory;
+            self.history = self.history.then(&Note::FailsToReadLink(path, why));
+            return Err(why);
+        };
+        self.history = self.history.then(&Note::Link(path, text));
+        Ok(Some(copy))
     }
 
     #[tactic(auto, using(crate::proofs::Replays::replay_append))]
@@ -122,7 +186,7 @@ impl OutputFiles for KnownFiles {
 
     #[tactic(auto, using(crate::proofs::Replays::replay_append))]
     fn create_new(&mut self, path: &str, mode: u32) -> Result<Vec<u8>, MakeFault> {
-        if self.fresh.is_some() || is_at(&self.held, path) {
+        if self.fresh.is_some() || is_at(&self.held, path) || self.is_linked(path) {
             self.history = self
                 .history
                 .then(&Note::FailsToMake(path, mode, MakeFault::Exists));
@@ -179,7 +243,7 @@ impl OutputFiles for KnownFiles {
 
     #[tactic(auto, using(crate::proofs::Replays::replay_append))]
     fn rename(&mut self, from: &str, to: &str) -> bool {
-        if !is_at(&self.fresh, from) || !is_free(&self.held, to) {
+        if !is_at(&self.fresh, from) || !is_free(&self.held, to) || self.is_linked(to) {
             self.history = self.history.then(&Note::Renames(from, to, false));
             return false;
         }

@@ -4,7 +4,7 @@ ghost use base.Fml.{ftrue};
 ghost use Rattle.runs.specs.FileCalls.{FileCall};
 ghost use Rattle.known_system.specs.CallCode.{calls_code};
 
-use runs::{Counted, FileKind, MakeFault, Owner};
+use runs::{Counted, FileKind, MakeFault, OutputFault, Owner};
 use std::marker::Model;
 
 /// The calls so far, with their answers: data of proofs alone.
@@ -22,8 +22,12 @@ impl Model for History {
 pub enum Note<'a> {
     /// What the path leads to.
     Asks(&'a str, FileKind),
+    /// A link is at the path, with this text.
+    Link(&'a str, &'a str),
     /// No link is at the path.
     NoLink(&'a str),
+    /// The link at the path isn't read.
+    FailsToReadLink(&'a str, OutputFault),
     /// A number for a name.
     Numbers(u32),
     /// An empty file is made, with this mode.

@@ -2,7 +2,7 @@
 ghost use Rattle.std.specs.Prelude.{◌≡◌, ℕ, List, Some, Result};
 ghost use Rattle.known_system.specs.Contents.{Contents, Holds, Leaves};
 ghost use Rattle.known_system.specs.Left.{Left};
-ghost use Rattle.known_system.specs.Replay.{Folder, replay};
+ghost use Rattle.known_system.specs.Replay.{Folder, Links, Place, folder, replay};
 ghost use Rattle.runs.specs.FileCalls.{Course, calls_of, fault_of};
 ghost use Rattle.runs.specs.OutputFiles.{WritesFile};
 ghost use Rattle.runs.specs.Outputs.{SystemView};
@@ -10,11 +10,13 @@ ghost use Rattle.runs.specs.Run.{RunView};
 ghost use Rattle.runs.specs.ToolRuns.{Writes};
 ghost use Rattle.runs.specs.declared.program_fault.ProgramFault.{ProgramFault};
 
-/// The calls by which an output is made leave all of it at its path, or the file that was there.
+/// The calls by which an output is made leave all of it where its path leads, or the file that was
+/// there.
 pub fn output_is_whole_or_as_it_was()
-    ensures { (output path : List ℕ) (links : ℕ) (course : Course) (old new : Folder)
-        → WritesFile output links path course → replay (calls_of course) old ≡ Some new
-        → Left output path old new (fault_of course) }
+    ensures { (output path : List ℕ) (limit : ℕ) (course : Course) (links : Links) (held fresh : Place)
+        (new : Folder) → WritesFile output limit path course
+        → replay (calls_of course) (folder links held fresh) ≡ Some new
+        → Left output limit path links held new (fault_of course) }
 {}
 
 /// A run that is written leaves its output and its messages where they belong. One that isn't

@@ -15,4 +15,5 @@ pub use files::KnownFiles;
 pub use history::{History, Note};
 pub use questions::{Question, Questions};
 pub use source::{KnownSource, Named};
+pub use stored::Link;
 pub use told::{Piece, Said, Told};

@@ -1,8 +1,20 @@
-//! A file in memory, with its path.
+//! A file in memory, with its path, and links.
+ghost use Rattle.std.specs.Option.{option_copied};
 ghost use Rattle.std.specs.Prelude.{◌≡◌, ◌↔◌, IsTrue};
 ghost use Rattle.std.specs.String.{string_bytes};
+ghost use Rattle.known_system.specs.Links.{links_by_path};
 ghost use Rattle.known_system.specs.Replay.{is_at, is_free, unless_at, with_path, with_bytes};
+ghost use Rattle.known_system.specs.Source.{bytes_of};
 ghost use Rattle.known_system.specs.Stored.{stored};
+
+/// A link.
+#[derive(Clone, Copy, Drop)]
+pub struct Link<'a> {
+    /// Where it is.
+    pub path: &'a str,
+    /// Its text: where it leads, from its folder or from the root.
+    pub to: &'a str,
+}
 
 /// A file in memory, with its path.
 #[derive(Drop)]
@@ -63,4 +75,16 @@ pub(crate) fn with_bytes(file: Option<Stored>, bytes: Vec<u8>) -> Option<Stored>
         path: file.path,
         bytes,
     })
+}
+
+/// The text of the first link at this path.
+pub(crate) fn link_at<'a>(links: &'a [Link<'a>], path: &str) -> Option<&'a str>
+    ensures { option_copied result ≡ bytes_of (links_by_path links.now) path.now }
+{
+    for link in links {
+        if link.path == path {
+            return Some(link.to);
+        }
+    }
+    None
 }

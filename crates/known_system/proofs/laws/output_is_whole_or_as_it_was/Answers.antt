@@ -2,4 +2,4 @@ use Rattle.known_system.proofs.Lefts.{left_by}
 use Rattle.known_system.proofs.laws.output_is_whole_or_as_it_was.Goals as goal
 
 pub returns : goal.returns
-returns c = λ output path links course old new writes is. left_by old new writes is
+returns c = λ output path limit course links held fresh new writes is. left_by fresh new writes is

@@ -1,0 +1,11 @@
+use Rattle.std.proofs.Common.{List, [], ◌∷◌, ◌++◌, ap, ◌∙◌}
+use Rattle.runs.specs.FileCalls.{FileCall, numbers}
+use Rattle.known_system.specs.Replay.{nothing, replay}
+use Rattle.known_system.proofs.Tellings.{told_all}
+use Rattle.known_system.proofs.files.told.Goals as goal
+
+pub returns : goal.returns
+returns c = λ held is.
+    ap (λ (calls : List FileCall). replay calls nothing)
+    (c.then.ensures ∙ ap (λ (calls : List FileCall). calls ++ numbers 0 ∷ []) c.with_links-history.ensures)
+    ∙ told_all c.args.before.calls c.args.links.now held 0 is
