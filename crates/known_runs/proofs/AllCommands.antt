@@ -1,5 +1,5 @@
 -- What is common to all commands: what a known system holds before a run and after it.
-use Rattle.std.proofs.Common.{◌≡◌, ℕ, List, [], Option, Some, None, IfSome, option_map, Result, Ok, Err, codes, refl, sym, ap, subst}
+use Rattle.std.proofs.Common.{◌≡◌, ℕ, List, [], Option, Some, None, IfSome, option_map, Result, Err, refl, sym, subst}
 use Rattle.std.proofs.lemmas.Slice.Eq.{bytes_eq-Decides}
 use Rattle.std.specs.Global.{Vec}
 use Rattle.runs.specs.Outputs.{SystemView, system, writer}
@@ -10,7 +10,8 @@ use Rattle.po_tools.specs.ToolRun.{ReaderView, RunsTool, reached, reader_of}
 use Rattle.known_system.specs.declared.files.KnownFiles.{KnownFiles}
 use Rattle.known_system.specs.declared.source.KnownSource.{KnownSource}
 use Rattle.known_system.specs.Contents.{Contents, Holds, contents}
-use Rattle.known_system.specs.Replay.{Folder, Place, bytes_at, nothing, replay}
+use Rattle.known_system.specs.Links.{links_by_path}
+use Rattle.known_system.specs.Replay.{Links, Place, bytes_at, folder, nothing, replay}
 use Rattle.known_system.specs.Stored.{stored}
 use Rattle.known_runs.specs.Ends.{End, end, end_of}
 use Rattle.known_runs.specs.InMemory.{RunsInMemory, answers_in, line_in, system_after, system_before}
@@ -19,23 +20,25 @@ use Rattle.known_runs.specs.declared.in_memory.Reached.{Reached}
 use Rattle.known_runs.specs.declared.words.Words.{Words}
 
 pub ran : (tool : Tool) (words : Words) (before after : KnownSource) (files : KnownFiles) (r : Reached)
-    (result : Result ℕ ProgramFault) (input left : ReaderView) (out err : List ℕ) (now : SystemView)
+    (result : Result ℕ ProgramFault) (input : ReaderView) (left : List ℕ) (calls failures : ℕ)
+    (out err : List ℕ) (now : SystemView)
     → input ≡ reader_of (Some before.standard.now) 0 0 → out ≡ [] → err ≡ [] → system_after r ≡ now
     → RunsTool tool (line_in words) (answers_in before) ⊥
     (reached (Some before.asked.items) input
     (system (Some files.history.calls) (writer (Some out) 0) (writer (Some err) 0)))
-    (reached (Some after.asked.items) left now) result
+    (reached (Some after.asked.items) (reader_of (Some left) calls failures) now) result
     → RunsInMemory tool words before after files r result
-ran tool words before after files r result input left out err now starts no_out no_err is runs = record {
-  input = input;
+ran tool words before after files r result input left calls failures out err now starts no_out no_err is runs = record {
   left = left;
-  input_is = starts;
+  calls = calls;
+  failures = failures;
   runs =
-      let Ran = λ (o e : List ℕ) (v : SystemView). RunsTool tool (line_in words) (answers_in before) ⊥
-      (reached (Some before.asked.items) input
+      let Ran = λ (i : ReaderView) (o e : List ℕ) (v : SystemView). RunsTool tool (line_in words) (answers_in before) ⊥
+      (reached (Some before.asked.items) i
       (system (Some files.history.calls) (writer (Some o) 0) (writer (Some e) 0)))
-      (reached (Some after.asked.items) left v) result in
-      subst (Ran [] []) (sym is) (subst (λ e. Ran [] e now) no_err (subst (λ o. Ran o err now) no_out runs));
+      (reached (Some after.asked.items) (reader_of (Some left) calls failures) v) result in
+      subst (λ i. Ran i [] [] (system_after r)) starts (subst (Ran input [] []) (sym is)
+      (subst (λ e. Ran input [] e now) no_err (subst (λ o. Ran input o err now) no_out runs)));
 }
 
 -- a command that isn't started leaves all as it was
@@ -45,11 +48,13 @@ pub unstarted_ends : (Ends : End → Type 0) (ended : Ended) (file : Option (Vec
 unstarted_ends Ends ended file r f o e is = rw (r, f, o, e) is
 
 abbrev pub holds_now : Reached → Contents
-holds_now r = contents (stored r.files.held) r.out.said.bytes r.err.said.bytes
+holds_now r =
+    contents (links_by_path r.files.links.now) (stored r.files.held) r.out.said.bytes r.err.said.bytes
 
-pub holds_before : (files : KnownFiles) (held : Place) → replay files.history.calls nothing ≡ Some (held, None)
-    → Holds (system_before files) (contents held [] [])
-holds_before files held is = record {
+pub holds_before : (files : KnownFiles) (links : Links) (held : Place)
+    → replay files.history.calls nothing ≡ Some (folder links held None)
+    → Holds (system_before files) (contents links held [] [])
+holds_before files links held is = record {
   calls = files.history.calls;
   fresh = None;
   files_are = refl;
@@ -81,14 +86,14 @@ was_held view path None at is = refl
 was_held view path (Some b) at is = rw is (there at (view b))
 
 read_back : (r : Reached) (path : List ℕ) (found : Option (List ℕ))
-    → IfSome (replay r.files.history.calls nothing) (λ folder. found ≡ bytes_at path folder.0)
+    → IfSome (replay r.files.history.calls nothing) (λ folder. found ≡ bytes_at path folder.held)
     → found ≡ bytes_at path (stored r.files.held)
 read_back r path found back =
-    subst (λ folder. IfSome folder (λ f. found ≡ bytes_at path f.0)) r.files.tied back
+    subst (λ folder. IfSome folder (λ f. found ≡ bytes_at path f.held)) r.files.tied back
 
 pub arrives : {T : Type 0} (view : T → List ℕ) (Ends : Option (List ℕ) → End → Type 0) (path at : List ℕ)
     (held : Option T) (r : Reached) (result : Result ℕ ProgramFault) (found : Option (List ℕ)) → path ≡ at
-    → IfSome (replay r.files.history.calls nothing) (λ folder. found ≡ bytes_at at folder.0)
+    → IfSome (replay r.files.history.calls nothing) (λ folder. found ≡ bytes_at at folder.held)
     → Ends (bytes_at at (held_at view path held))
     (end result (bytes_at at (holds_now r).held) (holds_now r).out (holds_now r).err)
     → Ends (option_map view held) (end result found r.out.said.bytes r.err.said.bytes)

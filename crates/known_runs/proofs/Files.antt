@@ -1,9 +1,7 @@
 -- What a command comes to that writes a file.
-use Rattle.std.proofs.Common.{◌≡◌, ℕ, Bool, true, false, not, ◌&&◌, if◌then◌else◌, List, [], ◌∷◌, ◌++◌, is_some, Option, Some, None, Result, Ok, Err, codes, refl, sym, ap, ◌∙◌, subst, inl, inr}
+use Rattle.std.proofs.Common.{◌≡◌, ℕ, Bool, true, false, List, [], ◌++◌, is_some, Option, Some, None, Result, Err, refl, sym, ap, ◌∙◌, subst, inl}
 use Rattle.std.proofs.lemmas.Bool.{false≢true}
-use Rattle.std.specs.Option.{unwrap_or}
-use Rattle.runs.specs.ArgumentValues.{IsTextOr}
-use Rattle.runs.specs.Inputs.{AreInputs, Reading, gives, refuses, read, unread, done}
+use Rattle.runs.specs.Inputs.{Reading, gives, refuses, unread}
 use Rattle.runs.specs.NamedFile.{NamedFile}
 use Rattle.runs.specs.Outputs.{SystemView}
 use Rattle.runs.specs.ProgramFaults.{program_text}
@@ -11,13 +9,21 @@ use Rattle.runs.specs.Run.{RunView, output_file, is_standard}
 use Rattle.runs.specs.ToolRuns as tools
 use Rattle.runs.specs.Inputs.{ReadsAs}
 use Rattle.runs.specs.declared.program_fault.ProgramFault.{ProgramFault}
-use Rattle.runs.specs.declared.program_fault.ProgramFault.TheVariants.{OutOfMemory}
 use Rattle.known_system.specs.Contents.{Contents, Leaves, IsFileFault, filed as filed_there, left, printed as printed_there}
-use Rattle.known_system.specs.Replay.{bytes_at}
+use Rattle.known_system.specs.Leads.{Leads, there, follows}
+use Rattle.known_system.specs.Replay.{Links, bytes_at}
+use Rattle.known_system.specs.Source.{bytes_of}
 use Rattle.known_runs.specs.Ends.{End, end, EndsInFile, filed, printed, failed}
 
+-- without links a path leads to itself
+pub leads_there : (links : Links) → links ≡ [] → {limit : ℕ} {path target : List ℕ} → Leads links limit path target
+    → target ≡ path
+leads_there links none (there is) = refl
+leads_there links none {path = path} (follows {text} is leads) =
+    let e : None ≡ Some text = sym (ap (λ l. bytes_of l path) none) ∙ is in cc
+
 module _ (IsRun : RunView → Type 0) (path : List ℕ) (named : is_standard path ≡ false)
-    (old new : Contents) (out : old.out ≡ []) (err : old.err ≡ []) where
+    (old new : Contents) (links : old.links ≡ []) (out : old.out ≡ []) (err : old.err ≡ []) where
   abbrev was : Option (List ℕ)
   was = bytes_at path old.held
 
@@ -41,18 +47,19 @@ module _ (IsRun : RunView → Type 0) (path : List ℕ) (named : is_standard pat
   by_create : (run : RunView) (some : Bool) → run.create ≡ some → IsRun run → {result : Result ℕ ProgramFault}
       → Leaves run path old new result → EndsInFile IsRun path was (now result)
   by_create run some makes is (left {fault} names why same) = fails fault why same
-  by_create run false makes is (filed_there names at o e) =
+  by_create run false makes is (filed_there names leads free at stay o e) =
       let none : output_file run path ≡ None = rw makes refl in
       absurd (false≢true (ap is_some (sym none ∙ names)))
-  by_create run false makes is (printed_there names same o e) =
+  by_create run false makes is (printed_there names stay same o e) =
       ends was run.output run.messages (ap (bytes_at path) same) (after out o) (after err e) (printed is makes)
-  by_create run true makes is (filed_there {path = p} names at o e) =
+  by_create run true makes is (filed_there {path = p} {target} names leads free at stay o e) =
       let its : output_file run path ≡ Some path = rw (makes, named) refl in
       let paths : Some p ≡ Some path = sym names ∙ its in
-      let there : p ≡ path = cc in
+      let its_path : p ≡ path = cc in
+      let there : target ≡ path = leads_there old.links links leads ∙ its_path in
       ends (Some run.output) [] run.messages (subst (λ q. bytes_at q new.held ≡ Some run.output) there at) (o ∙ out)
       (after err e) (filed is makes)
-  by_create run true makes is (printed_there names same o e) =
+  by_create run true makes is (printed_there names stay same o e) =
       let its : output_file run path ≡ Some path = rw (makes, named) refl in
       absurd (false≢true (ap is_some (sym names ∙ its)))
 
@@ -62,7 +69,8 @@ module _ (IsRun : RunView → Type 0) (path : List ℕ) (named : is_standard pat
 
 -- a tool of one input, whose text is known
 pub one_ends : (IsRun : NamedFile → RunView → Type 0) (text path : List ℕ) → is_standard path ≡ false
-    → (old new : Contents) → old.out ≡ [] → old.err ≡ [] → {before after : SystemView} (source : tools.Asking)
+    → (old new : Contents) → old.links ≡ [] → old.out ≡ [] → old.err ≡ []
+    → {before after : SystemView} (source : tools.Asking)
     → (input : List ℕ) → is_standard input ≡ false
     → ((reading : Reading) → source.file input reading → reading ≡ gives text)
     → ((run : RunView) (result : Result ℕ ProgramFault) → tools.Writes run path before after result
@@ -71,19 +79,20 @@ pub one_ends : (IsRun : NamedFile → RunView → Type 0) (text path : List ℕ)
     → {result : Result ℕ ProgramFault} → tools.RunsInput source IsRun input path before after result
     → EndsInFile (IsRun (record { name = input; bytes = text })) path (bytes_at path old.held)
     (end result (bytes_at path new.held) new.out new.err)
-one_ends IsRun text path named old new out err source input from_file is leaves same
+one_ends IsRun text path named old new links out err source input from_file is leaves same
     (tools.runs_one {bytes} {run} {result} reads planned writes) =
     let e : gives bytes ≡ gives text =
     is _ (subst (λ b. ReadsAs source.file source.standard input b false (gives bytes)) from_file reads) in
     let these : bytes ≡ text = cc in
-    run_ends (IsRun (record { name = input; bytes = text })) path named old new out err run
+    run_ends (IsRun (record { name = input; bytes = text })) path named old new links out err run
     (subst (λ b. IsRun (record { name = input; bytes = b }) run) these
     (subst (λ n. IsRun (record { name = n; bytes = bytes }) run) (rw from_file refl) planned))
     (leaves run result writes)
-one_ends IsRun text path named old new out err source input from_file is leaves same (tools.unread fault unchanged) =
+one_ends IsRun text path named old new links out err source input from_file is leaves same
+    (tools.unread fault unchanged) =
     let e : refuses fault.why ≡ gives text =
     is _ (subst (λ b. ReadsAs source.file source.standard input b false (refuses fault.why)) from_file fault.reads) in
     cc
-one_ends IsRun text path named old new out err source input from_file is leaves same
+one_ends IsRun text path named old new links out err source input from_file is leaves same
     (tools.out_of_memory seen unchanged) =
-    fails _ path named old new out err _ (inl refl) (same unchanged)
+    fails _ path named old new links out err _ (inl refl) (same unchanged)

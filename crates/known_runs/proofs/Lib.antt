@@ -4,3 +4,6 @@ pub mod Selections
 pub mod Merges
 pub mod AllCommands
 pub mod LookUps
+pub mod Replacing
+pub mod ThroughLinks
+pub mod OneEnds

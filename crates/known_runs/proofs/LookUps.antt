@@ -1,24 +1,22 @@
 -- What a look-up in a catalogue comes to that is compiled from a text.
-use Rattle.std.proofs.Common.{arith, suc, zero, ◌<◌, ◌&&◌, nat_lt, slice_index, if◌then◌else◌, ◌≡◌, ◌^◌, ◌-◌, ℕ, Bool, true, false, List, [], ◌∷◌, ◌++◌, map, take, append-nil, is_some, Option, Some, None, Result, Ok, Err, codes, refl, sym, ap, ◌∙◌, subst, inl, inr}
+use Rattle.std.proofs.Common.{arith, suc, zero, ◌<◌, ◌&&◌, nat_lt, slice_index, if◌then◌else◌, ◌≡◌, ◌^◌, ◌-◌, ℕ, Bool, true, false, List, [], ◌∷◌, ◌++◌, take, append-nil, is_some, Option, Some, None, Result, Ok, Err, codes, refl, sym, ap, ◌∙◌, subst, inl, inr}
 use Rattle.std.proofs.lemmas.Bool.{false≢true, ltb-true}
 use Rattle.std.proofs.lemmas.Str.{IsUtf8-from_ascii}
 use Rattle.std.specs.Borrow.{Bor}
 use Rattle.std.specs.Option.{option_copied, option_map_or}
-use Rattle.gettext.specs.Catalogues.{AreCatalogues, AreFound, GivenDomain, IsCatalogueAt, Searching, given_domain, searching, done, found, skipped}
+use Rattle.gettext.specs.Catalogues.{AreCatalogues, Searching, given_domain, searching, done, found, skipped}
 use Rattle.gettext.specs.Environments.{IsEnvironment, environment_view}
-use Rattle.gettext.specs.Gettext.{Opens, GettextRequest, IsGettextRun, gettext_output, output_run, IsGettextRun, gettext_output, none, opened, refused}
+use Rattle.gettext.specs.Gettext.{Opens, GettextRequest, NgettextRequest, IsGettextRun, IsNgettextRun, gettext_output, ngettext_output, output_run, none, opened, refused}
 use Rattle.gettext.specs.Locales.{with_name}
 use Rattle.gettext.specs.Paths.{paths_of}
-use Rattle.gettext.specs.Options.{IsGettextRequest}
-use Rattle.gettext.specs.Usage.{GettextUsage, gettext_usage}
-use Rattle.po_tools.specs.ToolRun.{Answers, CommandLine, Reached, answers_of, line_of, RunsGettextLine, runs_gettext, no_gettext}
+use Rattle.gettext.specs.Options.{IsGettextRequest, IsNgettextRequest}
+use Rattle.gettext.specs.Usage.{GettextUsage, NgettextUsage, gettext_usage, ngettext_usage}
+use Rattle.po_tools.specs.ToolRun.{Answers, CommandLine, LooksUp, Reached, answers_of, line_of, RunsGettextLine, RunsNgettextLine, runs_gettext, no_gettext, runs_ngettext, no_ngettext}
 use Rattle.gettext.specs.WholeRun.{RunsLookUp, runs, no_memory}
 use Rattle.gettext.specs.declared.candidates.Environment.{Environment}
 use Rattle.locale_names.specs.Names.{before as part_before, candidates_of_name, from_first, is_c_locale, language_parts}
-use Rattle.mo_file.specs.Fault.{IsFirstFault}
 use Rattle.mo_file.specs.Laws.{NoFaultOfMoFile, OneMessageList}
 use Rattle.mo_file.specs.MoFile.{IsMoFile}
-use Rattle.mo_file.specs.declared.byte_order.Order.{Order}
 use Rattle.mo_lookup.specs.CatalogView.{CatalogView, IsCatalogView, answered as catalog_answered, forms_found}
 use Rattle.mo_lookup.specs.Chain.{chain_answered}
 use Rattle.mo_lookup.specs.Answer.{untranslated}
@@ -30,13 +28,13 @@ use Rattle.po_messages.specs.Joined.{joined_entries}
 use Rattle.runs.specs.Inputs.{Reading, gives, refuses}
 use Rattle.runs.specs.NamedFile.{NamedFile}
 use Rattle.runs.specs.Outputs.{SystemView}
-use Rattle.runs.specs.Run.{RunView, output_file}
+use Rattle.runs.specs.Run.{RunView}
 use Rattle.runs.specs.ToolRuns.{Writes}
 use Rattle.runs.specs.declared.program_fault.ProgramFault.{ProgramFault}
 use Rattle.runs.specs.declared.program_fault.ProgramFault.TheVariants.{OutOfMemory}
 use Rattle.known_system.specs.Contents.{Contents, Leaves, filed, left, printed}
 use Rattle.known_runs.specs.Ends.{End, end}
-use Rattle.known_runs.specs.LookUps.{EndsLookUp, hello_mo, message, answered, failed, status_or_memory}
+use Rattle.known_runs.specs.LookUps.{EndsLookUp, counted, hello_mo, message, answered, failed, status_or_memory}
 use Rattle.known_runs.specs.Msgfmt.{IsCompiledFrom, plain}
 
 -- every byte is below 128
@@ -156,13 +154,13 @@ module _ (tool text bytes : List ℕ) (query : Query) (made : Compiled) (from : 
     run_ends : (shown reported : List ℕ) → EndsLookUp text query (end (Ok 0) None shown reported)
         → {result : Result ℕ ProgramFault} → Leaves (output_run shown reported) (codes "-") old new result
         → EndsLookUp text query (now result)
-    run_ends shown reported answers (printed names held o e) =
+    run_ends shown reported answers (printed names stay held o e) =
         ends (Ok 0) shown reported (after_none out o) (after_none err e) answers
-    run_ends shown reported answers (filed names at o e) = cc
+    run_ends shown reported answers (filed names leads free at stay o e) = cc
     run_ends shown reported answers (left names why kept) = cc
 
     -- what the run of the catalogues comes to
-    looked_up : (IsRun : List NamedFile → RunView → Type 0)
+    pub looked_up : (IsRun : List NamedFile → RunView → Type 0)
         → ((run : RunView) → IsRun (record { name = hello_mo; bytes = bytes } ∷ []) run
         → (chain : List CatalogView) × (reported : List ℕ)
         × Opens tool (record { name = hello_mo; bytes = bytes } ∷ []) chain reported
@@ -208,11 +206,39 @@ gettext_says id files usage o given no_context is request run ran =
     let says = output_is ran.chain o id arguments (request.context ∙ no_context) request.expand request.shell in
     (ran.chain, ran.reported, ran.opens, ran.run_is ∙ ap (λ t. output_run t ran.reported) says)
 
+-- what ngettext writes without options
+plural_output_is : (chain : List CatalogView) (o : NgettextRequest) (id plural count : List ℕ) → o.id ≡ id
+    → o.plural ≡ plural → o.count ≡ count → o.context ≡ None → o.expand ≡ false
+    → ngettext_output chain o ≡ (chain_answered chain (counted id plural count)).text
+plural_output_is chain o id plural count is_id is_plural is_count context expand =
+    rw (is_id, is_plural, is_count, context, expand) refl
+
+-- the words are a msgid, its plural and a count in the domain `hello`
+plural_usage_is : (id plural count : List ℕ) (arguments : List (List ℕ)) (usage : NgettextUsage)
+    → arguments ≡ codes "hello" ∷ id ∷ plural ∷ count ∷ [] → ngettext_usage arguments ≡ Some usage
+    → usage ≡ record { domain = Some (codes "hello"); id = id; plural = plural; count = count }
+plural_usage_is id plural count arguments usage a is =
+    let e : Some usage ≡ Some (record { domain = Some (codes "hello"); id = id; plural = plural; count = count }) =
+    sym is ∙ rw a refl in cc
+
+pub ngettext_says : (id plural count : List ℕ) (files : List NamedFile) (usage : NgettextUsage) (o : NgettextRequest)
+    (given : List ℕ → Option (List ℕ)) → given (codes "context") ≡ None
+    → usage ≡ record { domain = Some (codes "hello"); id = id; plural = plural; count = count }
+    → IsNgettextRequest (λ name flag. flag ≡ false) (λ name t. t ≡ given name) usage o
+    → (run : RunView) → IsNgettextRun files o run
+    → (chain : List CatalogView) × (reported : List ℕ) × Opens (codes "ngettext") files chain reported
+    × (run ≡ output_run (chain_answered chain (counted id plural count)).text reported)
+ngettext_says id plural count files usage o given no_context is request run ran =
+    let says = plural_output_is ran.chain o id plural count (request.id ∙ ap (λ (u : NgettextUsage). u.id) is)
+    (request.plural ∙ ap (λ (u : NgettextUsage). u.plural) is) (request.count ∙ ap (λ (u : NgettextUsage). u.count) is)
+    (request.context ∙ no_context) request.expand in
+    (ran.chain, ran.reported, ran.opens, ran.run_is ∙ ap (λ t. output_run t ran.reported) says)
+
 -- by the words of the command line
-module _ (text bytes id : List ℕ) (made : Compiled) (from : IsCompiledFrom text made)
+module _ (text bytes : List ℕ) (made : Compiled) (from : IsCompiledFrom text made)
     (same_bytes : bytes ≡ made.bytes.items) (no_fault : NoFaultOfMoFile) (one_list : OneMessageList)
     (old new : Contents) (out : old.out ≡ []) (err : old.err ≡ []) (before after : Reached)
-    (operands : List (List ℕ)) (operands_are : operands ≡ codes "hello" ∷ id ∷ [])
+    (operands : List (List ℕ))
     (given : List ℕ → Option (List ℕ)) (no_context : given (codes "context") ≡ None)
     (no_domain : given (codes "domain") ≡ None) (variables : List ℕ → Option (List ℕ))
     (all : variables (codes "LC_ALL") ≡ None) (messages : variables (codes "LC_MESSAGES") ≡ None)
@@ -231,21 +257,49 @@ module _ (text bytes id : List ℕ) (made : Compiled) (from : IsCompiledFrom tex
   abbrev There : Answers
   There = answers_of file standard (λ name value. value ≡ variables name) entries
 
-  pub gettext_ends : (result : Result ℕ ProgramFault) → RunsGettextLine Line There before after result
-      → EndsLookUp text (message id) (end (status_or_memory result) None new.out new.err)
-  gettext_ends result (runs_gettext {shell} {arguments} {usage}
-      {request} shell_is arguments_are fits request_is looks) =
-      let u = usage_is id shell arguments usage shell_is (arguments_are ∙ operands_are) fits in
-      let domains : given_domain usage.domain looks.domain ≡ given_domain (Some (codes "hello")) None =
-      rw (u, looks.domain_is ∙ no_domain) refl in
-      looked_up (codes "gettext") text bytes (message id) made from same_bytes no_fault one_list old new out err
+  -- what the run of the catalogues comes to in the domain `hello`
+  looks_up : (tool : List ℕ) (query : Query) (IsRun : List NamedFile → RunView → Type 0)
+      → ((run : RunView) → IsRun (record { name = hello_mo; bytes = bytes } ∷ []) run
+      → (chain : List CatalogView) × (reported : List ℕ)
+      × Opens tool (record { name = hello_mo; bytes = bytes } ∷ []) chain reported
+      × (run ≡ output_run (chain_answered chain query).text reported))
+      → (argument : Option (List ℕ)) → argument ≡ Some (codes "hello")
+      → {result : Result ℕ ProgramFault} → LooksUp Line There IsRun argument before after result
+      → EndsLookUp text query (end (status_or_memory result) None new.out new.err)
+  looks_up tool query IsRun says argument names {result} looks =
+      let domains : given_domain argument looks.domain ≡ given_domain (Some (codes "hello")) None =
+      rw (names, looks.domain_is ∙ no_domain) refl in
+      looked_up tool text bytes query made from same_bytes no_fault one_list old new out err
       before.written after.written (searching (λ name value. value ≡ variables name) file before.asked after.asked)
       (λ v e. e ∙ all) (λ v e. e ∙ messages) (λ v e. e ∙ lang) (λ v e. e ∙ language) (λ v e. e ∙ folder) is leaves same
-      (λ files run. IsGettextRun files request run)
-      (gettext_says id _ usage request given no_context u request_is)
+      IsRun says
       (subst (λ d. RunsLookUp (searching (λ name value. value ≡ variables name) file before.asked after.asked) d
-      (λ files run. IsGettextRun files request run) before.written after.written result) domains looks.runs)
-  gettext_ends result (no_gettext {shell} {arguments} shell_is arguments_are fits) =
+      IsRun before.written after.written result) domains looks.runs)
+
+  pub gettext_ends : (id : List ℕ) → operands ≡ codes "hello" ∷ id ∷ [] → (result : Result ℕ ProgramFault)
+      → RunsGettextLine Line There before after result
+      → EndsLookUp text (message id) (end (status_or_memory result) None new.out new.err)
+  gettext_ends id operands_are result (runs_gettext {shell} {arguments} {usage}
+      {request} shell_is arguments_are fits request_is looks) =
+      let u = usage_is id shell arguments usage shell_is (arguments_are ∙ operands_are) fits in
+      looks_up (codes "gettext") (message id) (λ files run. IsGettextRun files request run)
+      (gettext_says id _ usage request given no_context u request_is) usage.domain
+      (ap (λ (u : GettextUsage). u.domain) u) looks
+  gettext_ends id operands_are result (no_gettext {shell} {arguments} shell_is arguments_are fits) =
       let e : gettext_usage shell arguments ≡ gettext_usage false (codes "hello" ∷ id ∷ []) =
       rw (shell_is, arguments_are ∙ operands_are) refl in
+      absurd (false≢true (ap is_some (sym fits.none ∙ e)))
+
+  pub ngettext_ends : (id plural count : List ℕ) → operands ≡ codes "hello" ∷ id ∷ plural ∷ count ∷ []
+      → (result : Result ℕ ProgramFault) → RunsNgettextLine Line There before after result
+      → EndsLookUp text (counted id plural count) (end (status_or_memory result) None new.out new.err)
+  ngettext_ends id plural count operands_are result (runs_ngettext {arguments} {usage}
+      {request} arguments_are fits request_is looks) =
+      let u = plural_usage_is id plural count arguments usage (arguments_are ∙ operands_are) fits in
+      looks_up (codes "ngettext") (counted id plural count) (λ files run. IsNgettextRun files request run)
+      (ngettext_says id plural count _ usage request given no_context u request_is) usage.domain
+      (ap (λ (u : NgettextUsage). u.domain) u) looks
+  ngettext_ends id plural count operands_are result (no_ngettext {arguments} arguments_are fits) =
+      let e : ngettext_usage arguments ≡ ngettext_usage (codes "hello" ∷ id ∷ plural ∷ count ∷ []) =
+      rw (arguments_are ∙ operands_are) refl in
       absurd (false≢true (ap is_some (sym fits.none ∙ e)))

@@ -1,8 +1,8 @@
 -- What `msgcat a.po b.po -o c.po` comes to.
-use Rattle.std.proofs.Common.{◌≡◌, ℕ, Bool, false, All, List, [], ◌∷◌, ◌++◌, is_some, suc, zero, arith, Option, Some, None, Result, codes, refl, sym, ap, ◌∙◌, subst, inl, inr}
+use Rattle.std.proofs.Common.{◌≡◌, ℕ, false, List, [], ◌∷◌, ◌++◌, is_some, suc, zero, arith, Option, Some, None, Result, codes, refl, sym, ap, ◌∙◌, subst, inl, inr}
 use Rattle.std.proofs.lemmas.Bool.{false≢true}
 use Rattle.std.specs.Option.{unwrap_or}
-use Rattle.msgcat.specs.Msgcat.{HasNulName, IsMsgcatRun}
+use Rattle.msgcat.specs.Msgcat.{IsMsgcatRun}
 use Rattle.msgcat.specs.Options.{AreMergeOptions, or_zero}
 use Rattle.msgcat.specs.WholeRun.{HaveNoRun, IsRunOf, RunsMsgcat}
 use Rattle.po_entry.specs.Bytes.{Lacks}
@@ -12,7 +12,7 @@ use Rattle.runs.specs.Inputs.{AreInputs, Reading, gives, refuses, read, unread, 
 use Rattle.runs.specs.NamedFile.{NamedFile}
 use Rattle.runs.specs.Outputs.{SystemView}
 use Rattle.runs.specs.ProgramFaults.{program_text}
-use Rattle.runs.specs.Run.{RunView, is_standard}
+use Rattle.runs.specs.Run.{RunView}
 use Rattle.runs.specs.ToolRuns.{Asking, Writes, runs, has_none, no_memory_to_read, no_memory_to_plan}
 use Rattle.runs.specs.declared.program_fault.ProgramFault.{ProgramFault}
 use Rattle.known_system.specs.Contents.{Contents, Leaves}
@@ -76,7 +76,8 @@ options_are : (o : MergeOptions) → AreMergeOptions (λ name flag. flag ≡ fal
 options_are o is =
     rw (is.more_than.value_is ∙ ap or_zero is.more_than.given_is, is.less_than, is.unique, is.use_first) refl
 
-module _ (a b : List ℕ) (old new : Contents) (out : old.out ≡ []) (err : old.err ≡ []) {before after : SystemView}
+module _ (a b : List ℕ) (old new : Contents) (links : old.links ≡ []) (out : old.out ≡ []) (err : old.err ≡ [])
+    {before after : SystemView}
     (source : Asking)
     (is_a : (reading : Reading) → source.file (codes "a.po") reading → reading ≡ gives a)
     (is_b : (reading : Reading) → source.file (codes "b.po") reading → reading ≡ gives b)
@@ -93,7 +94,7 @@ module _ (a b : List ℕ) (old new : Contents) (out : old.out ≡ []) (err : old
       → Ends result
   all_end {result} (runs {inputs} {unread} {run} reads planned writes) =
       let these = inputs_are a b source.file source.standard is_a is_b reads.are in
-      run_ends _ (codes "c.po") refl old new out err run
+      run_ends _ (codes "c.po") refl old new links out err run
       (subst (λ i. IsMsgcatRun i all_messages run) these.0
       (subst (λ u. IsRunOf all_messages inputs u run) these.1 planned).0)
       (leaves run result writes)
@@ -103,9 +104,9 @@ module _ (a b : List ℕ) (old new : Contents) (out : old.out ≡ []) (err : old
       (subst (λ i. HaveNoRun i None (program_text fault)) these.0
       (subst (λ u. HaveNoRun inputs u (program_text fault)) these.1 none)))
   all_end (no_memory_to_read asks possible unchanged) =
-      fails _ (codes "c.po") refl old new out err _ (inl refl) (same unchanged)
+      fails _ (codes "c.po") refl old new links out err _ (inl refl) (same unchanged)
   all_end (no_memory_to_plan reads nothing_read unchanged) =
-      fails _ (codes "c.po") refl old new out err _ (inl refl) (same unchanged)
+      fails _ (codes "c.po") refl old new links out err _ (inl refl) (same unchanged)
 
   -- by the words of the command line
   pub line_ends : (given : List ℕ → Option (List ℕ)) → given (codes "output-file") ≡ Some (codes "c.po")

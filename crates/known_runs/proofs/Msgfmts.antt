@@ -11,23 +11,19 @@ use Rattle.po_compile.specs.Accepted.{IsCompileFault}
 use Rattle.po_compile.specs.Compiling.{IsCompilation}
 use Rattle.po_messages.specs.Joined.{joined_entries}
 use Rattle.po_compile.specs.declared.options.Compiled.{Compiled}
-use Rattle.po_compile.specs.declared.options.Options.{Options}
 use Rattle.runs.specs.ArgumentValues.{IsTextOr}
 use Rattle.runs.specs.Inputs.{AreInputs, Reading, gives, refuses, read, unread, done}
 use Rattle.runs.specs.NamedFile.{NamedFile}
-use Rattle.runs.specs.Outputs.{SystemView}
+use Rattle.runs.specs.Outputs.{SystemView, link_limit}
 use Rattle.runs.specs.ProgramFaults.{program_text}
 use Rattle.runs.specs.Run.{RunView, output_file, refusal}
 use Rattle.runs.specs.ToolRuns.{Asking, Writes, runs, has_none, no_memory_to_read, no_memory_to_plan}
 use Rattle.runs.specs.declared.program_fault.ProgramFault.{ProgramFault}
-use Rattle.known_system.specs.Contents.{Contents, contents, Holds, Leaves, IsFileFault, filed, left, printed}
+use Rattle.known_system.specs.Contents.{Contents, Leaves, IsFileFault, filed, left, printed}
+use Rattle.known_system.specs.Leads.{Leads}
 use Rattle.known_system.specs.Replay.{Place, bytes_at}
-use Rattle.known_system.specs.Source.{bytes_of, reading_of}
 use Rattle.known_runs.specs.Ends.{End, end}
 use Rattle.known_runs.specs.Msgfmt.{EndsMsgfmt, IsCompiledFrom, plain, compiled, empty, refused, failed}
-
-abbrev a_mo : Place → Option (List ℕ)
-a_mo place = bytes_at (codes "a.mo") place
 
 -- the only input is the text
 module _ (text : List ℕ) (file : List ℕ → Reading → Type 0) (standard : Reading → Type 0)
@@ -58,7 +54,12 @@ pub record ArePlain (o : MsgfmtOptions) : Type 0 where
   pub statistics : o.statistics ≡ false
 
 -- what the system holds at first, and what it holds at the end
-module _ (text : List ℕ) (old new : Contents) (out : old.out ≡ []) (err : old.err ≡ []) where
+module _ (text place : List ℕ) (old new : Contents)
+    (leads_to : (target : List ℕ) → Leads old.links link_limit (codes "a.mo") target → target ≡ place)
+    (out : old.out ≡ []) (err : old.err ≡ []) where
+  abbrev a_mo : Place → Option (List ℕ)
+  a_mo held = bytes_at place held
+
   abbrev now : Result ℕ ProgramFault → End
   now result = end result (a_mo new.held) new.out new.err
 
@@ -83,8 +84,8 @@ module _ (text : List ℕ) (old new : Contents) (out : old.out ≡ []) (err : ol
   refusal_ends : (messages : List ℕ) {result : Result ℕ ProgramFault}
       → EndsMsgfmt text (a_mo old.held) (end (Ok 1) (a_mo old.held) [] messages)
       → Leaves (refusal messages) (codes "a.mo") old new result → EndsMsgfmt text (a_mo old.held) (now result)
-  refusal_ends messages is (filed names at o e) = cc
-  refusal_ends messages is (printed names same o e) =
+  refusal_ends messages is (filed names leads free at stay o e) = cc
+  refusal_ends messages is (printed names stay same o e) =
       ends (a_mo old.held) messages (ap a_mo same) (o ∙ rw out refl) (told e) is
   refusal_ends messages is (left {fault} names why same) = fails fault why same
 
@@ -93,25 +94,27 @@ module _ (text : List ℕ) (old new : Contents) (out : old.out ≡ []) (err : ol
       → IsCompiledFrom text c → {result : Result ℕ ProgramFault}
       → Leaves (compiled_run o c) (codes "a.mo") old new result → EndsMsgfmt text (a_mo old.held) (now result)
   compiled_ends o quiet c some none is (left {fault} names why same) = fails fault why same
-  compiled_ends o quiet c false none is (filed names at out_is e) =
+  compiled_ends o quiet c false none is (filed names leads free at stay out_is e) =
       let no_output : output_file (compiled_run o c) (codes "a.mo") ≡ None = rw none refl in
       absurd (false≢true (ap is_some (sym no_output ∙ names)))
-  compiled_ends o quiet c false none is (printed names same out_is e) =
+  compiled_ends o quiet c false none is (printed names stay same out_is e) =
       let nothing : (compiled_run o c).output ≡ [] = rw none refl in
       let silent : (compiled_run o c).messages ≡ [] = rw quiet refl in
       ends (a_mo old.held) [] (ap a_mo same) (out_is ∙ rw (out, nothing) refl) (told e ∙ silent)
       (empty is (omega (arith, ltb-false 0 c.n none)))
-  compiled_ends o quiet c true some is (filed {path = p} names at out_is e) =
+  compiled_ends o quiet c true some is (filed {path = p} {target} names leads free at stay out_is e) =
       let its_output : output_file (compiled_run o c) (codes "a.mo") ≡ Some (codes "a.mo") = rw some refl in
       let paths : Some p ≡ Some (codes "a.mo") = sym names ∙ its_output in
-      let there : p ≡ codes "a.mo" = cc in
+      let its_path : p ≡ codes "a.mo" = cc in
+      let there : target ≡ place =
+      leads_to target (subst (λ q. Leads old.links link_limit q target) its_path leads) in
       let all : (compiled_run o c).output ≡ c.bytes.items = rw some refl in
       let silent : (compiled_run o c).messages ≡ [] = rw quiet refl in
-      let held : bytes_at (codes "a.mo") new.held ≡ Some (compiled_run o c).output =
+      let held : bytes_at place new.held ≡ Some (compiled_run o c).output =
       subst (λ q. bytes_at q new.held ≡ Some (compiled_run o c).output) there at in
       ends (Some c.bytes.items) [] (held ∙ ap Some all)
       (same_out out_is) (told e ∙ silent) (compiled is (omega (arith, ltb-true 0 c.n some)))
-  compiled_ends o quiet c true some is (printed names same out_is e) =
+  compiled_ends o quiet c true some is (printed names stay same out_is e) =
       let its_output : output_file (compiled_run o c) (codes "a.mo") ≡ Some (codes "a.mo") = rw some refl in
       absurd (false≢true (ap is_some (sym names ∙ its_output)))
 

@@ -1,5 +1,5 @@
 -- What `msgattrib a.po -o b.po` and `msgunfmt a.mo -o a.po` come to.
-use Rattle.std.proofs.Common.{◌≡◌, ℕ, Bool, false, ◌||◌, List, [], ◌∷◌, Option, Some, None, Result, codes, refl, sym, ap, ◌∙◌, subst}
+use Rattle.std.proofs.Common.{◌≡◌, ℕ, Bool, false, List, [], Option, Some, Result, codes, refl, ap, ◌∙◌, subst}
 use Rattle.std.specs.Option.{unwrap_or}
 use Rattle.msgattrib.specs.Msgattrib.{IsMsgattribRun}
 use Rattle.msgattrib.specs.Options.{IsEither, IsSelection}
@@ -46,7 +46,8 @@ all_selected s same name text path old is ends =
 
 -- by the words of the command line
 pub line_ends : (IsRun : NamedFile → RunView → Type 0) (text input path : List ℕ) → is_standard path ≡ false
-    → is_standard input ≡ false → (old new : Contents) → old.out ≡ [] → old.err ≡ [] → {before after : SystemView}
+    → is_standard input ≡ false → (old new : Contents) → old.links ≡ [] → old.out ≡ [] → old.err ≡ []
+    → {before after : SystemView}
     (source : Asking)
     → ((reading : Reading) → source.file input reading → reading ≡ gives text)
     → ((run : RunView) (result : Result ℕ ProgramFault) → Writes run path before after result
@@ -58,10 +59,11 @@ pub line_ends : (IsRun : NamedFile → RunView → Type 0) (text input path : Li
     → {result : Result ℕ ProgramFault} → RunsInput source IsRun argument output before after result
     → EndsInFile (IsRun (record { name = input; bytes = text })) path (bytes_at path old.held)
     (end result (bytes_at path new.held) new.out new.err)
-line_ends IsRun text input path named from_file old new out err {before} {after} source is leaves same given from to
+line_ends IsRun text input path named from_file old new links out err {before}
+    {after} source is leaves same given from to
     {argument} {output} comes goes {result} ran =
     let there : output ≡ path = goes.value_is ∙ ap (λ t. unwrap_or t (codes "-")) (goes.given_is ∙ to) in
     let here : argument ≡ input = comes.value_is ∙ ap (λ t. unwrap_or t (codes "-")) (comes.given_is ∙ from) in
-    one_ends IsRun text path named old new out err source input from_file is leaves same
+    one_ends IsRun text path named old new links out err source input from_file is leaves same
     (subst (λ a. RunsInput source IsRun a path before after result) here
     (subst (λ t. RunsInput source IsRun argument t before after result) there ran))

@@ -1,10 +1,10 @@
 -- What a tool does over a known system.
-use Rattle.std.specs.Prelude.{◌≡◌, ℕ, List, [], Option, Some, None, Result, false}
-use Rattle.runs.specs.Inputs.{Reading, gives}
+use Rattle.std.specs.Prelude.{◌≡◌, ℕ, List, [], Some, None, Result, false}
+use Rattle.runs.specs.Inputs.{gives}
 use Rattle.runs.specs.Outputs.{SystemView, system, writer}
 use Rattle.runs.specs.declared.program_fault.ProgramFault.{ProgramFault}
 use Rattle.runs.specs.declared.tool.Tool.{Tool}
-use Rattle.po_tools.specs.ToolRun.{Answers, CommandLine, ReaderView, RunsTool, answers_of, line_of, reached, reader_of}
+use Rattle.po_tools.specs.ToolRun.{Answers, CommandLine, RunsTool, answers_of, line_of, reached, reader_of}
 use Rattle.known_system.specs.declared.files.KnownFiles.{KnownFiles}
 use Rattle.known_system.specs.declared.source.KnownSource.{KnownSource}
 use Rattle.known_system.specs.Source.{bytes_of, entry_texts, reading_of, texts_by_name}
@@ -38,9 +38,10 @@ system_after r =
 -- the tool is run by these words, where standard input is read in blocks too
 pub record RunsInMemory (tool : Tool) (words : Words) (before after : KnownSource) (files : KnownFiles)
     (r : Reached) (result : Result ℕ ProgramFault) : Type 0 where
-  pub input : ReaderView
-  pub left : ReaderView
-  pub input_is : input ≡ reader_of (Some before.standard.now) 0 0
+  -- what is left of standard input, and how often the reader was called and failed
+  pub left : List ℕ
+  pub calls : ℕ
+  pub failures : ℕ
   pub runs : RunsTool tool (line_in words) (answers_in before) ⊥
-      (reached (Some before.asked.items) input (system_before files))
-      (reached (Some after.asked.items) left (system_after r)) result
+      (reached (Some before.asked.items) (reader_of (Some before.standard.now) 0 0) (system_before files))
+      (reached (Some after.asked.items) (reader_of (Some left) calls failures) (system_after r)) result

@@ -4,3 +4,5 @@ pub mod Ends
 pub mod Msgfmt
 pub mod Plain
 pub mod LookUps
+pub mod Substitutions
+pub mod OneEnd

@@ -1,6 +1,8 @@
--- What `gettext hello MSGID` comes to where the locale is `fr` and the catalogue of `hello` is compiled
--- from a text (manual, "Invoking the gettext program").
-use Rattle.std.specs.Prelude.{ℕ, List, [], ◌∷◌, None, Result, Ok, Err, codes, false}
+-- What `gettext hello MSGID` and `ngettext hello MSGID MSGID-PLURAL COUNT` come to where the locale is
+-- `fr` and the catalogue of `hello` is compiled from a text (manual, "Invoking the gettext program" and
+-- "Invoking the ngettext program").
+use Rattle.std.specs.Prelude.{ℕ, List, [], ◌∷◌, Some, None, Result, Ok, Err, codes, false}
+use Rattle.gettext.specs.CountArgument.{count_in}
 use Rattle.mo_lookup.specs.Query.{Query}
 use Rattle.plural_rule.specs.PluralRule.{RuleView, IsRuleOf, expression_limit}
 use Rattle.po_compile.specs.Accepted.{AreRead}
@@ -19,6 +21,10 @@ hello_mo = codes "/usr/share/locale/fr/LC_MESSAGES/hello.mo"
 -- a msgid alone
 abbrev pub message : List ℕ → Query
 message id = record { context = None; id = id; plural = None }
+
+-- a msgid with its plural, at the count that COUNT gives
+abbrev pub counted : (id plural count : List ℕ) → Query
+counted id plural count = record { context = None; id = id; plural = Some (plural, count_in count) }
 
 -- what a look-up comes to, by the text of the catalogue
 pub data EndsLookUp (text : List ℕ) (query : Query) : End → Type 0 where

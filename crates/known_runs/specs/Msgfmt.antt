@@ -13,6 +13,8 @@ use Rattle.po_syntax.specs.declared.fault.PoFault.TheVariants.{OutOfMemory}
 use Rattle.runs.specs.ProgramFaults.{program_text}
 use Rattle.runs.specs.declared.program_fault.ProgramFault.{ProgramFault}
 use Rattle.known_system.specs.Contents.{IsFileFault}
+use Rattle.known_system.specs.Leads.{Leads}
+use Rattle.known_system.specs.Replay.{Links}
 use Rattle.known_runs.specs.Ends.{End, end}
 
 -- the options of a command line without any
@@ -38,3 +40,11 @@ pub data EndsMsgfmt (text : List ℕ) (old : Option (List ℕ)) : End → Type 0
   -- memory or the folder is too small: `a.mo` is as it was, and nothing is told
   failed : {fault : ProgramFault} → IsFileFault (codes "a.mo") (program_text fault)
       → EndsMsgfmt text old (end (Err fault) old [] [])
+
+-- The same in a folder with these links, of which `a.mo` may be one: `old` is what the file at this place
+-- was before.
+pub data EndsThroughLinks (links : Links) (place text : List ℕ) (old : Option (List ℕ)) (is : End) : Type 0 where
+  -- `a.mo` leads to the place, through 40 links at most: it is as if the place were named
+  led : Leads links 40 (codes "a.mo") place → EndsMsgfmt text old is → EndsThroughLinks links place text old is
+  -- it leads elsewhere, or nowhere: what is at the place is as it was
+  elsewhere : ¬ Leads links 40 (codes "a.mo") place → is.file ≡ old → EndsThroughLinks links place text old is

@@ -1,8 +1,9 @@
 //! Commands that make a file.
 ghost use Rattle.std.specs.Prelude.{◌≡◌, [], codes, Err, option_map};
 ghost use Rattle.known_runs.specs.Ends.{EndsInFile, end_of};
-ghost use Rattle.known_runs.specs.Msgfmt.{EndsMsgfmt};
+ghost use Rattle.known_runs.specs.Msgfmt.{EndsMsgfmt, EndsThroughLinks};
 ghost use Rattle.known_runs.specs.Plain.{all_as_they_are, all_messages, two_files};
+ghost use Rattle.known_system.specs.Links.{links_by_path};
 ghost use Rattle.msgattrib.specs.Msgattrib.{IsMsgattribRun};
 ghost use Rattle.msgcat.specs.Msgcat.{IsMsgcatRun};
 ghost use Rattle.msgunfmt.specs.Msgunfmt.{IsMsgunfmtRunOf};
@@ -10,7 +11,7 @@ ghost use Rattle.msgunfmt.specs.Msgunfmt.{IsMsgunfmtRunOf};
 use crate::in_memory::{Ended, run_in_memory};
 use crate::words::Words;
 use known_system::laws::{run_leaves_all_or_nothing, same_system_holds_the_same};
-use known_system::{KnownFiles, KnownSource, Named, Told};
+use known_system::{KnownFiles, KnownSource, Link, Named, Told};
 use runs::{ProgramFault, Tool};
 use std::alloc::Global;
 
@@ -35,11 +36,43 @@ pub fn msgfmt_in_memory(alloc: Global, text: &[u8], held: Option<Vec<u8>>) -> En
         bytes: text,
     }];
     let mut source = KnownSource::new(&files);
-    let held = KnownFiles::holding(alloc, path, held);
+    let held = KnownFiles::holding(alloc, &[], path, held);
     let (result, reached) = run_in_memory(alloc, Tool::Msgfmt, &mut source, held, &MSGFMT);
     Ended {
         result,
         file: reached.files.into_bytes("a.mo"),
+        out: reached.out,
+        err: reached.err,
+    }
+}
+
+/// Runs `msgfmt a.po -o a.mo` in a folder with these links, where `a.po` has this text and the file
+/// at `place` holds these bytes, or isn't there. The file that it returns is the one at `place`.
+pub fn msgfmt_through_links_in_memory(
+    alloc: Global,
+    text: &[u8],
+    links: &[Link<'_>],
+    place: &str,
+    held: Option<Vec<u8>>,
+) -> Ended
+    ensures { EndsThroughLinks (links_by_path links.now) place.now text.now
+        (option_map (λ bytes. bytes.items) held) (end_of result) }
+{
+    let Ok(path) = String::from_str(alloc, place) else {
+        return unstarted(alloc, held);
+    };
+    run_leaves_all_or_nothing();
+    same_system_holds_the_same();
+    let files = [Named {
+        name: "a.po",
+        bytes: text,
+    }];
+    let mut source = KnownSource::new(&files);
+    let folder = KnownFiles::holding(alloc, links, path, held);
+    let (result, reached) = run_in_memory(alloc, Tool::Msgfmt, &mut source, folder, &MSGFMT);
+    Ended {
+        result,
+        file: reached.files.into_bytes(place),
         out: reached.out,
         err: reached.err,
     }
@@ -67,7 +100,7 @@ pub fn msgattrib_in_memory(alloc: Global, text: &[u8], held: Option<Vec<u8>>) ->
         bytes: text,
     }];
     let mut source = KnownSource::new(&files);
-    let held = KnownFiles::holding(alloc, path, held);
+    let held = KnownFiles::holding(alloc, &[], path, held);
     let (result, reached) = run_in_memory(alloc, Tool::Msgattrib, &mut source, held, &MSGATTRIB);
     Ended {
         result,
@@ -99,7 +132,7 @@ pub fn msgunfmt_in_memory(alloc: Global, bytes: &[u8], held: Option<Vec<u8>>) ->
         bytes,
     }];
     let mut source = KnownSource::new(&files);
-    let held = KnownFiles::holding(alloc, path, held);
+    let held = KnownFiles::holding(alloc, &[], path, held);
     let (result, reached) = run_in_memory(alloc, Tool::Msgunfmt, &mut source, held, &MSGUNFMT);
     Ended {
         result,
@@ -137,7 +170,7 @@ pub fn msgcat_in_memory(alloc: Global, a: &[u8], b: &[u8], held: Option<Vec<u8>>
         },
     ];
     let mut source = KnownSource::new(&files);
-    let held = KnownFiles::holding(alloc, path, held);
+    let held = KnownFiles::holding(alloc, &[], path, held);
     let (result, reached) = run_in_memory(alloc, Tool::Msgcat, &mut source, held, &MSGCAT);
     Ended {
         result,

@@ -9,9 +9,9 @@ use std::alloc::Global;
 
 /// What a tool reached: its files, and what it wrote on standard output and standard error.
 #[derive(Drop)]
-pub struct Reached {
+pub struct Reached<'f> {
     /// The files.
-    pub files: KnownFiles,
+    pub files: KnownFiles<'f>,
     /// Standard output.
     pub out: Told,
     /// Standard error.
@@ -33,14 +33,14 @@ pub struct Ended {
 }
 
 /// Runs a tool by these words over a known system, and returns its status and what it reached.
-pub fn run_in_memory<'a>(
+pub fn run_in_memory<'a, 'f>(
     alloc: Global,
     tool: Tool,
     source: &mut KnownSource<'_>,
-    files: KnownFiles,
+    files: KnownFiles<'f>,
     words: &'a Words<'_>,
-) -> (Result<u8, ProgramFault<'a>>, Reached)
-    ensures { RunsInMemory tool words.now source.old source.new files result.1 result.0 }
+) -> (Result<u8, ProgramFault<'a>>, Reached<'f>)
+    ensures { RunsInMemory tool words.now source.old source.new files.entry result.1 result.0 }
 {
     let mut reader = Counted::new(source.standard);
     let mut system = OutputSystem {

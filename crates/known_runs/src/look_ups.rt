@@ -1,7 +1,7 @@
 //! Look-ups in a catalogue that is compiled from a text.
 ghost use Rattle.std.specs.Prelude.{◌≡◌, ◌∷◌, [], None, MatchResult};
 ghost use Rattle.known_runs.specs.Ends.{end_of};
-ghost use Rattle.known_runs.specs.LookUps.{EndsLookUp, message, status_or_memory};
+ghost use Rattle.known_runs.specs.LookUps.{EndsLookUp, counted, message, status_or_memory};
 ghost use Rattle.known_runs.specs.Msgfmt.{plain};
 ghost use Rattle.po_compile.specs.Accepted.{IsCompileFault};
 
@@ -57,6 +57,47 @@ pub fn gettext_in_memory(alloc: Global, text: &[u8], msgid: &str) -> Result<Ende
     })
 }
 
+/// Compiles this text, and runs `ngettext hello MSGID MSGID-PLURAL COUNT` in French over the
+/// catalogue.
+pub fn ngettext_in_memory(
+    alloc: Global,
+    text: &[u8],
+    msgid: &str,
+    plural: &str,
+    count: &str,
+) -> Result<Ended, JoinError>
+    ensures { MatchResult result
+        (λ ended. EndsLookUp text.now (counted msgid.now plural.now count.now) (end_of ended))
+        (IsCompileFault plain (text.now ∷ [])) }
+{
+    let compiled = compile_all(alloc, &[text], PLAIN)?;
+    run_leaves_all_or_nothing();
+    same_system_holds_the_same();
+    no_fault_of_mo_file();
+    one_message_list();
+    let named = [
+        Named {
+            name: HELLO_MO,
+            bytes: compiled.bytes.as_slice(),
+        },
+        Named {
+            name: "LANG",
+            bytes: b"fr",
+        },
+    ];
+    let mut source = source_of(&named);
+    let operands = ["hello", msgid, plural, count];
+    let words = words_of(&operands);
+    let none = KnownFiles::new(alloc);
+    let (result, reached) = run_in_memory(alloc, Tool::Ngettext, &mut source, none, &words);
+    Ok(Ended {
+        result: status_or_memory(result),
+        file: None,
+        out: reached.out,
+        err: reached.err,
+    })
+}
+
 /// The source whose files and variables are these. No file has the name of a variable that is asked
 /// for, and no variable that of a file, so one list has both.
 fn source_of<'a>(named: &'a [Named<'a>]) -> KnownSource<'a>
@@ -73,7 +114,7 @@ fn source_of<'a>(named: &'a [Named<'a>]) -> KnownSource<'a>
 }
 
 /// The words of a command line with these operands alone.
-fn words_of<'a>(operands: &'a [&'a str]) -> Words<'a>
+pub(crate) fn words_of<'a>(operands: &'a [&'a str]) -> Words<'a>
     ensures operands { result.operands.now ≡ operands.now }
     ensures output { result.output ≡ None }
 {

@@ -2,14 +2,11 @@ use Rattle.std.proofs.Common.{ℕ, List, [], Result, option_map, codes, refl, ap
 use Rattle.std.specs.String.{string_bytes}
 use Rattle.runs.specs.Run.{RunView}
 use Rattle.runs.specs.declared.program_fault.ProgramFault.{ProgramFault}
-use Rattle.std.proofs.Common.{subst}
 use Rattle.msgattrib.specs.Msgattrib.{IsMsgattribRun}
 use Rattle.known_runs.specs.Ends.{EndsInFile, failed}
 use Rattle.known_runs.specs.Plain.{all_as_they_are}
 use Rattle.known_system.specs.Contents.{contents}
 use Rattle.known_system.specs.Source.{bytes_of, reading_of, texts_by_name}
-use Rattle.known_runs.specs.InMemory.{answers_in}
-use Rattle.known_runs.specs.Words.{text_of}
 use Rattle.known_runs.proofs.AllCommands.{arrives, held_at, holds_after, holds_before, holds_now, unstarted_ends}
 use Rattle.known_runs.proofs.Selections.{all_selected, line_ends, selection_is}
 use Rattle.known_runs.proofs.commands.msgattrib_in_memory.Goals as goal
@@ -26,9 +23,9 @@ returns c =
     let path = string_bytes c.in-Ok.path in
     let reached = c.run_in_memory-reached.result.1 in
     let held = held_at (λ b. b.items) path c.args.held in
-    let old = contents held [] [] in
+    let old = contents [] held [] [] in
     let new = holds_now reached in
-    let before = holds_before c.holding-held.result held c.holding-held.ensures in
+    let before = holds_before c.holding-held.result [] held c.holding-held.ensures in
     let after = holds_after reached in
     let line = c.run_in_memory-reached.ensures.runs in
     let source = c.new-source.result in
@@ -42,5 +39,5 @@ returns c =
     (all_selected _ (selection_is _ line.selection_is) (codes "a.po") c.args.text.now (codes "b.po") _ _
     (line_ends (λ file run. IsMsgattribRun file.name line.selection file.bytes run) c.args.text.now (codes "a.po")
     (codes "b.po") refl refl
-    old new refl refl _ (λ reading read. read ∙ is (codes "a.po")) leaves same _ refl refl line.runs.argument_is
+    old new refl refl refl _ (λ reading read. read ∙ is (codes "a.po")) leaves same _ refl refl line.runs.argument_is
     line.runs.output_is line.runs.runs))

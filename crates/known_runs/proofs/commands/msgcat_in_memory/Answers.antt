@@ -7,8 +7,6 @@ use Rattle.known_runs.specs.Ends.{EndsInFile, failed}
 use Rattle.known_runs.specs.Plain.{all_messages, two_files}
 use Rattle.known_system.specs.Contents.{contents}
 use Rattle.known_system.specs.Source.{bytes_of, reading_of, texts_by_name}
-use Rattle.known_runs.specs.InMemory.{answers_in}
-use Rattle.known_runs.specs.Words.{text_of}
 use Rattle.known_runs.proofs.AllCommands.{arrives, held_at, holds_after, holds_before, holds_now, unstarted_ends}
 use Rattle.known_runs.proofs.Merges.{line_ends}
 use Rattle.known_runs.proofs.commands.msgcat_in_memory.Goals as goal
@@ -25,9 +23,9 @@ returns c =
     let path = string_bytes c.in-Ok.path in
     let reached = c.run_in_memory-reached.result.1 in
     let held = held_at (λ b. b.items) path c.args.held in
-    let old = contents held [] [] in
+    let old = contents [] held [] [] in
     let new = holds_now reached in
-    let before = holds_before c.holding-held.result held c.holding-held.ensures in
+    let before = holds_before c.holding-held.result [] held c.holding-held.ensures in
     let after = holds_after reached in
     let line = c.run_in_memory-reached.ensures.runs in
     let source = c.new-source.result in
@@ -38,6 +36,6 @@ returns c =
     arrives (λ b. b.items) (EndsInFile (IsMsgcatRun (two_files c.args.a.now c.args.b.now) all_messages) (codes "c.po"))
     path (codes "c.po") c.args.held reached c.run_in_memory-reached.result.0 _
     c.in-Ok.ensures.ok c.into_bytes.ensures
-    (line_ends c.args.a.now c.args.b.now old new refl refl _ (λ reading read. read ∙ is (codes "a.po"))
+    (line_ends c.args.a.now c.args.b.now old new refl refl refl _ (λ reading read. read ∙ is (codes "a.po"))
     (λ reading read. read ∙ is (codes "b.po")) leaves same _ refl line.options_are line.arguments_are line.output_is
     line.runs)

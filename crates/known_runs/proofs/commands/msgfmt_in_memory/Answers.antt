@@ -5,9 +5,8 @@ use Rattle.runs.specs.declared.program_fault.ProgramFault.{ProgramFault}
 use Rattle.known_runs.specs.Msgfmt.{EndsMsgfmt, failed}
 use Rattle.known_system.specs.Contents.{contents}
 use Rattle.known_system.specs.Source.{bytes_of, reading_of, texts_by_name}
-use Rattle.known_runs.specs.InMemory.{answers_in}
-use Rattle.known_runs.specs.Words.{text_of}
 use Rattle.known_runs.proofs.AllCommands.{arrives, held_at, holds_after, holds_before, holds_now, unstarted_ends}
+use Rattle.known_runs.proofs.Files.{leads_there}
 use Rattle.known_runs.proofs.Msgfmts.{line_ends}
 use Rattle.known_runs.proofs.commands.msgfmt_in_memory.Goals as goal
 
@@ -22,9 +21,9 @@ returns c =
     let path = string_bytes c.in-Ok.path in
     let reached = c.run_in_memory-reached.result.1 in
     let held = held_at (λ b. b.items) path c.args.held in
-    let old = contents held [] [] in
+    let old = contents [] held [] [] in
     let new = holds_now reached in
-    let before = holds_before c.holding-held.result held c.holding-held.ensures in
+    let before = holds_before c.holding-held.result [] held c.holding-held.ensures in
     let after = holds_after reached in
     let line = c.run_in_memory-reached.ensures.runs in
     let source = c.new-source.result in
@@ -35,6 +34,6 @@ returns c =
     arrives (λ b. b.items) (EndsMsgfmt c.args.text.now) path
     (codes "a.mo") c.args.held reached c.run_in_memory-reached.result.0 _
     c.in-Ok.ensures.ok c.into_bytes.ensures
-    (line_ends c.args.text.now old new refl refl _
+    (line_ends c.args.text.now (codes "a.mo") old new (λ target leads. leads_there [] refl leads) refl refl _
     (λ reading read. read ∙ is (codes "a.po")) leaves same line.options _ refl refl
     line.options_are line.arguments line.output line.arguments_are line.output_is line.runs)
