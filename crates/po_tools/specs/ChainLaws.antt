@@ -1,12 +1,26 @@
 -- Laws of runs one after the other.
-use Rattle.std.specs.Prelude.{◌≡◌, ℕ, Bool, List, [], ◌∷◌, true, false, filter}
+use Rattle.std.specs.Prelude.{◌≡◌, ℕ, All, Bool, List, [], ◌∷◌, ◌++◌, true, false, filter, map}
 use Rattle.po_entry.specs.TextEntry.{TextEntry}
+use Rattle.mo_lookup.specs.CatalogView.{CatalogView}
+use Rattle.mo_lookup.specs.Chain.{chain_answered}
+use Rattle.mo_lookup.specs.Query.{Query}
+use Rattle.po_entry.specs.ReadsText.{ReadsText}
+use Rattle.po_entry.specs.Validity.{IsCatalogueEntry}
+use Rattle.po_messages.specs.Duplicate.{AllDiffer}
+use Rattle.po_merge.specs.Inputs.{Named}
+use Rattle.po_merge.specs.MergeLaws.{keep_all}
+use Rattle.po_merge.specs.Merged.{merged}
+use Rattle.po_merge.specs.declared.input.MergeOptions.{MergeOptions}
+use Rattle.po_writer.specs.WrittenText.{written_text}
 use Rattle.po_compile.specs.CompiledList.{compiled_list}
+use Rattle.po_compile.specs.CompiledMessages.{message_of}
 use Rattle.po_select.specs.Selected.{ChangesNothing, every_entry, is_kept, selected}
 use Rattle.po_select.specs.declared.selection.Selection.{Selection}
 use Rattle.msgfmt.specs.declared.options.MsgfmtOptions.{MsgfmtOptions}
 use Rattle.msgfmt.specs.Msgfmt.{IsMsgfmtRun}
+use Rattle.msgcat.specs.Msgcat.{IsMsgcatRun}
 use Rattle.msgunfmt.specs.Msgunfmt.{IsMsgunfmtRun}
+use Rattle.po_syntax.specs.ItemContents.{IsText}
 use Rattle.po_syntax.specs.PoText.{IsSmall}
 use Rattle.runs.specs.NamedFile.{NamedFile}
 use Rattle.runs.specs.Run.{RunView}
@@ -37,3 +51,25 @@ pub record CompiledAreKept : Type 0 where
   pub no_fuzzy : CompilesAlike (record every_entry { no_fuzzy = true })
   pub no_obsolete : CompilesAlike (record every_entry { no_obsolete = true })
   pub translated : CompilesAlike (record every_entry { translated = true })
+
+-- what msgcat wrote, msgcat alone writes again, byte for byte
+abbrev pub MsgcatAgain : Type 0
+MsgcatAgain =
+    (files : List NamedFile) (o : MergeOptions) (use_first : Bool) (name : List ℕ) (first again : RunView)
+    → All (λ file. IsText file.name) files → IsMsgcatRun files o first → first.status ≡ 0 → IsSmall first.output
+    → IsMsgcatRun (record { name = name; bytes = first.output } ∷ []) (keep_all use_first) again
+    → (again.output ≡ first.output) × (again.status ≡ 0)
+
+-- what msgcat writes of one text in which no message stands twice, has the same messages for msgfmt
+abbrev pub MsgcatCompilesAlike : Type 0
+MsgcatCompilesAlike =
+    (input : Named) (use_first use_fuzzy : Bool) (read : List TextEntry) → All IsCatalogueEntry input.entries
+    → AllDiffer input.entries → IsSmall (written_text (merged (keep_all use_first) (input ∷ [])))
+    → ReadsText (written_text (merged (keep_all use_first) (input ∷ []))) read
+    → map message_of (compiled_list use_fuzzy read) ≡ map message_of (compiled_list use_fuzzy input.entries)
+
+-- where a chain finds a translation, catalogues after its own change nothing
+abbrev pub LongerChainAnswersAlike : Type 0
+LongerChainAnswersAlike =
+    (chain further : List CatalogView) (query : Query) → (chain_answered chain query).found ≡ true
+    → chain_answered (chain ++ further) query ≡ chain_answered chain query

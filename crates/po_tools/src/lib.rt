@@ -36,8 +36,9 @@ pub use po_messages::JoinError;
 pub use po_select::{Selection, select};
 pub use po_unformat::{UnformatError, laws as unformat_laws, unformat};
 pub use run_laws::{
-    kept_entries_compile_alike, one_gettext_run, one_msgattrib_run, one_msgcat_run, one_msgfmt_run,
-    one_msgunfmt_run, one_ngettext_run, there_and_back,
+    kept_entries_compile_alike, longer_chain_answers_alike, msgcat_again, msgcat_compiles_alike,
+    one_gettext_run, one_msgattrib_run, one_msgcat_run, one_msgfmt_run, one_msgunfmt_run,
+    one_ngettext_run, there_and_back,
 };
 pub use runs::{
     Arguments, FileKind, Input, InputFault, InputSource, Inputs, MakeFault, OutputFault,

@@ -1,6 +1,6 @@
 //! Laws of the runs of the tools, each the contract of a function that does nothing: a call brings
 //! the law into a proof.
-ghost use Rattle.po_tools.specs.ChainLaws.{CompiledAreKept, KeptCompilesAlike, ThereAndBack};
+ghost use Rattle.po_tools.specs.ChainLaws.{CompiledAreKept, KeptCompilesAlike, LongerChainAnswersAlike, MsgcatAgain, MsgcatCompilesAlike, ThereAndBack};
 ghost use Rattle.po_tools.specs.RunLaws.{OneGettextRun, OneMsgattribRun, OneMsgcatRun, OneMsgfmtRun, OneMsgunfmtRun, OneNgettextRun};
 
 use mo_file::{no_fault_of_mo_file, one_first_fault, one_message_list};
@@ -9,12 +9,14 @@ use po_compile::laws::{
     catalogues_are_one, messages_are_one, no_fault_where_accepted, no_fault_where_distinct,
     one_compile_fault, one_text_fault,
 };
+use po_merge::laws::{merged_entries_can_stand, messages_stand_once, one_input_stays};
 use po_messages::laws::{no_first_duplicate_where_none, one_first_duplicate};
-use po_reader::laws::one_reading;
+use po_reader::laws::{entries_can_stand, one_reading};
 use po_select::laws::conditions_alone_keep;
 use po_unformat::laws::{
     no_fault_where_unformatted, one_text, one_unformat_fault, unformat_then_compile,
 };
+use po_writer::laws::{written_text_again, written_text_reads};
 
 /// Inputs and options of `msgfmt` have one run: its output, messages and status are functions of
 /// them.
@@ -97,3 +99,33 @@ pub fn kept_entries_compile_alike()
 {
     conditions_alone_keep();
 }
+
+/// What msgcat wrote, msgcat alone writes again, byte for byte.
+pub fn msgcat_again()
+    ensures { MsgcatAgain }
+{
+    merged_entries_can_stand();
+    messages_stand_once();
+    one_input_stays();
+    written_text_reads();
+    written_text_again();
+    entries_can_stand();
+    one_reading();
+    no_fault_where_distinct();
+}
+
+/// What msgcat writes of one text in which no message stands twice, has the same messages for
+/// msgfmt.
+pub fn msgcat_compiles_alike()
+    ensures { MsgcatCompilesAlike }
+{
+    one_input_stays();
+    written_text_reads();
+    one_reading();
+}
+
+/// Where a chain of catalogues finds a translation, catalogues after its own change nothing.
+#[tactic(auto, using(crate::proofs::LongerChain::longer))]
+pub fn longer_chain_answers_alike()
+    ensures { LongerChainAnswersAlike }
+{}

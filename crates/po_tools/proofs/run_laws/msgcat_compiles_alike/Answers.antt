@@ -1,0 +1,5 @@
+use Rattle.po_tools.proofs.WrittenAgain.{compiles_alike}
+use Rattle.po_tools.proofs.run_laws.msgcat_compiles_alike.Goals as goal
+
+pub returns : goal.returns
+returns c = compiles_alike c.one_input_stays.ensures c.written_text_reads.ensures c.one_reading.ensures
