@@ -1,23 +1,20 @@
 //! Inputs by their names, and outputs.
 ghost use Rattle.std.specs.Prelude.{◌≡◌, take, vec_len};
 
+use process::{Found, is_for_writing, kind_of, make_fault, no_link};
 use runs::{
-    Counted, FileKind, InputFault, InputSource, MakeFault, OutputFault, OutputFiles, Owner, Rights,
+    Counted, FileKind, InputFault, InputSource, MakeFault, OutputFault, OutputFiles, Owner,
     read_whole,
 };
 use std::alloc::Global;
 use std::fs::{self, File, Metadata, OpenFile, OpenOptions, Permissions};
-use std::io::{self, ErrorKind, Input, Write};
+use std::io::{self, Input, Write};
 use std::os::unix::fs::{MetadataExt, OpenOptionsExt, PermissionsExt, fchown};
 use std::random::RandomSource;
 use std::rt::{Files, Stderr, Stdout};
 
 /// The length of an input where it isn't known.
 const UNKNOWN_LEN: u64 = 0;
-
-/// The bits of a mode that say who may do what with a file, set-user-id, set-group-id and sticky
-/// among them.
-const PERMISSION_BITS: u32 = 0o7777;
 
 /// Where the inputs of the program are read from.
 #[derive(Drop)]
@@ -99,23 +96,18 @@ impl<'r> OutputFiles for SystemFiles<'r> {
 
     fn kind(&mut self, path: &str) -> FileKind {
         match fs::metadata(self.rt, path) {
-            Ok(found) if found.is_file() && found.nlink() > 0 => {
-                FileKind::Regular(Some(rights_of(&found)))
-            }
-            Ok(_) => FileKind::Special,
-            Err(error) if error.kind() == ErrorKind::NotFound => FileKind::Regular(None),
-            Err(_) => FileKind::Unknown,
+            Ok(found) => kind_of(Ok(found_in(&found))),
+            Err(error) => kind_of(Err(error.kind())),
         }
     }
 
     fn link(&mut self, alloc: Global, path: &str) -> Result<Option<String>, OutputFault> {
         match self.rt.read_link(alloc, path) {
             Ok(target) => Ok(Some(target.into_string())),
-            Err(error) => match error.kind() {
-                ErrorKind::InvalidInput | ErrorKind::NotFound => Ok(None),
-                ErrorKind::OutOfMemory => Err(OutputFault::OutOfMemory),
-                _ => Err(OutputFault::CannotCreate),
-            },
+            Err(error) => {
+                no_link(error.kind())?;
+                Ok(None)
+            }
         }
     }
 
@@ -133,11 +125,7 @@ impl<'r> OutputFiles for SystemFiles<'r> {
         options.write(true).create_new(true).mode(mode);
         match options.open(self.rt, path) {
             Ok(file) => Ok(Opened::File(file)),
-            Err(error) => Err(match error.kind() {
-                ErrorKind::AlreadyExists => MakeFault::Exists,
-                ErrorKind::PermissionDenied | ErrorKind::ReadOnlyFilesystem => MakeFault::Forbidden,
-                _ => MakeFault::Failed,
-            }),
+            Err(error) => Err(make_fault(error.kind())),
         }
     }
 
@@ -194,10 +182,12 @@ impl<'r> OutputFiles for SystemFiles<'r> {
     }
 }
 
-/// Who may do what with a file.
-fn rights_of(found: &Metadata) -> Rights {
-    Rights {
-        mode: found.mode() & PERMISSION_BITS,
+/// What the system tells of a file.
+fn found_in(found: &Metadata) -> Found {
+    Found {
+        is_regular: found.is_file(),
+        names: found.nlink(),
+        mode: found.mode(),
         owner: Owner {
             user: found.uid(),
             group: found.gid(),
@@ -207,7 +197,7 @@ fn rights_of(found: &Metadata) -> Rights {
 
 /// Whose an open file is, where the system says so.
 fn owner_of(file: &File) -> Option<Owner> {
-    Some(rights_of(&file.metadata().ok()?).owner)
+    Some(found_in(&file.metadata().ok()?).owner)
 }
 
 /// The open stream of a number above those of the standard streams, opened anew to be written at
@@ -228,12 +218,4 @@ fn info_of(rt: &HostRuntime, number: u32) -> Option<Vec<u8>> {
     let mut info = Vec::new(rt.alloc());
     read_named(rt, &mut info, &path).ok()?;
     Some(info)
-}
-
-/// Whether a descriptor is open to be written, by what the system tells of it: the last digit of
-/// its flags, which are octal, is 1 or 2.
-fn is_for_writing(info: &[u8]) -> bool {
-    info.split(|byte| *byte == b'\n')
-        .find(|line| line.starts_with(b"flags:"))
-        .is_some_and(|flags| flags.ends_with(b"1") || flags.ends_with(b"2"))
 }

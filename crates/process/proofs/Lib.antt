@@ -1,0 +1,3 @@
+pub mod Cuts
+pub mod ValueLists
+pub mod Outcomes

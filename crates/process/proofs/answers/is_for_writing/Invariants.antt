@@ -1,0 +1,10 @@
+use Rattle.std.proofs.Common.{◌≡◌, length}
+use Rattle.process.specs.Answers.{is_for_writing}
+use Rattle.process.proofs.answers.is_for_writing.Given as goal
+
+-- no line before the rest begins with `flags:`
+abbrev pub invariant-loop-after : goal.invariant-loop-after
+invariant-loop-after l = is_for_writing l.info ≡ is_for_writing l.rest
+
+abbrev pub decreases-loop-after : goal.decreases-loop-after
+decreases-loop-after l = length l.rest

@@ -1,0 +1,21 @@
+//! The program over a system: its arguments and its environment, what answers of the system mean,
+//! how a command line is run, and how the program ends. Nothing here names the system itself: what
+//! it answers comes through traits, or as values.
+//!
+//! The modules in reading order: `parts`, `answers`, `value`, `environment`, `options`, `endings`,
+//! `program`.
+
+#![tactic(auto)]
+
+mod answers;
+mod endings;
+mod environment;
+mod options;
+mod parts;
+mod program;
+mod value;
+
+pub use answers::{Found, is_for_writing, kind_of, make_fault, no_link, rights_of};
+pub use endings::{give_help, refuse, report};
+pub use environment::{Process, arguments, entries, variable};
+pub use program::{run, run_tool};

@@ -1,0 +1,229 @@
+//! The program: what its command line comes to, and the ending.
+ghost use Rattle.std.specs.Prelude.{◌≡◌, ◌^◌, ◌<◌, ℕ, List, IfErr, IfOk, MatchOption, OnErr, map};
+ghost use Rattle.po_tools.specs.ToolRun.{line_of, answers_of, reached, reader_of};
+ghost use Rattle.runs.specs.Outputs.{writer};
+ghost use Rattle.process.specs.Program.{EndsTool, Explains, IsFirst, IsFoundIn, NamesNone, NamesTool, RunsProgram, RunsWords};
+
+use crate::endings::{give_help, refuse, report};
+use crate::environment::{Process, arguments};
+use crate::options::Options;
+use clap::error::ErrorKind;
+use clap::{ArgMatches, Error};
+use command_line::{program, spelled_out};
+use po_tools::{EntrySource, VariableSource};
+use runs::{
+    Arguments, ByteIn, ByteOut, Ending, InputSource, OutputFiles, OutputSystem, ProgramFault, Tool,
+};
+use std::alloc::Global;
+use std::str::FromStr;
+
+/// Runs the program by the arguments of the process: the inputs are those of `source`, `reader` is
+/// standard input where it is read in blocks, and what a tool writes goes to `system`. Faults for
+/// which a tool has no status are told to `errors`.
+pub fn run<S, R: ByteIn, F: OutputFiles, O: ByteOut, E: ByteOut, P: ByteOut>(
+    alloc: Global,
+    source: &mut S,
+    reader: &mut R,
+    system: &mut OutputSystem<F, O, E>,
+    errors: &mut P,
+) -> Ending
+where
+    S: Process + InputSource + VariableSource + EntrySource,
+    requires calls { R.calls reader.old < 2 ^ 63 }
+    requires failures { R.failures reader.old < 2 ^ 63 }
+    requires out { system.old.out.failures < 2 ^ 63 }
+    requires err { system.old.err.failures < 2 ^ 63 }
+    requires errors { P.failures errors.old < 2 ^ 63 }
+    ensures { RunsProgram ⟦<u32 as FromStr>⟧.from_str_gives (S.argument source.old)
+        (answers_of (S.file source.old) (S.standard source.old) (S.variable source.old) (S.entries source.old)) (S.refused source.new)
+        (reached (S.asked source.old)
+        (reader_of (R.remaining reader.old) (R.calls reader.old) (R.failures reader.old)) system.old)
+        (reached (S.asked source.new)
+        (reader_of (R.remaining reader.new) (R.calls reader.new) (R.failures reader.new)) system.new)
+        (writer (P.contents errors.old) (P.failures errors.old))
+        (writer (P.contents errors.new) (P.failures errors.new)) result }
+{
+    let arguments = match arguments(alloc, &*source) {
+        Ok(arguments) => arguments,
+        Err(fault) => return report(errors, None, fault),
+    };
+    match spelled_out(alloc, arguments.as_slice()) {
+        Ok(words) => run_words(alloc, words.as_slice(), source, reader, system, errors),
+        Err(why) => report(errors, None, ProgramFault::from(why)),
+    }
+}
+
+/// Runs the program by the words of a command line.
+fn run_words<S, R: ByteIn, F: OutputFiles, O: ByteOut, E: ByteOut, P: ByteOut>(
+    alloc: Global,
+    words: &[&str],
+    source: &mut S,
+    reader: &mut R,
+    system: &mut OutputSystem<F, O, E>,
+    errors: &mut P,
+) -> Ending
+where
+    S: InputSource + VariableSource + EntrySource,
+    requires calls { R.calls reader.old < 2 ^ 63 }
+    requires failures { R.failures reader.old < 2 ^ 63 }
+    requires out { system.old.out.failures < 2 ^ 63 }
+    requires err { system.old.err.failures < 2 ^ 63 }
+    requires errors { P.failures errors.old < 2 ^ 63 }
+    ensures { RunsWords ⟦<u32 as FromStr>⟧.from_str_gives
+        (answers_of (S.file source.old) (S.standard source.old) (S.variable source.old) (S.entries source.old)) (S.refused source.new)
+        (map (λ word. word.now) words.now)
+        (reached (S.asked source.old)
+        (reader_of (R.remaining reader.old) (R.calls reader.old) (R.failures reader.old)) system.old)
+        (reached (S.asked source.new)
+        (reader_of (R.remaining reader.new) (R.calls reader.new) (R.failures reader.new)) system.new)
+        (writer (P.contents errors.old) (P.failures errors.old))
+        (writer (P.contents errors.new) (P.failures errors.new)) result }
+{
+    let first = first_tool(words);
+    match found_in(alloc, first, words) {
+        Ok(matches) => run_named(alloc, &matches, source, reader, system, errors),
+        Err(Some(error)) => match explain(alloc, first, &error, system) {
+            Ok(ending) => ending,
+            Err(fault) => report(errors, first, fault),
+        },
+        Err(None) => report(errors, first, ProgramFault::OutOfMemory),
+    }
+}
+
+/// What clap finds in the words, by the commands that are offered to it; its error; or none, where
+/// the commands couldn't be made.
+fn found_in<'w>(
+    alloc: Global,
+    first: Option<Tool>,
+    words: &'w [&'w str],
+) -> Result<ArgMatches<'w>, Option<Error>>
+    requires { IsFirst (map (λ word. word.now) words.now) first }
+    ensures { IfOk result (IsFoundIn (map (λ word. word.now) words.now)) }
+{
+    let Ok(command) = program(alloc, first) else {
+        return Err(None);
+    };
+    match command.try_get_matches_from(words) {
+        Ok(matches) => Ok(matches),
+        Err(error) => Err(Some(error)),
+    }
+}
+
+/// Runs the tool that was found.
+fn run_named<S, R: ByteIn, F: OutputFiles, O: ByteOut, E: ByteOut, P: ByteOut>(
+    alloc: Global,
+    found: &ArgMatches<'_>,
+    source: &mut S,
+    reader: &mut R,
+    system: &mut OutputSystem<F, O, E>,
+    errors: &mut P,
+) -> Ending
+where
+    S: InputSource + VariableSource + EntrySource,
+    requires calls { R.calls reader.old < 2 ^ 63 }
+    requires failures { R.failures reader.old < 2 ^ 63 }
+    requires out { system.old.out.failures < 2 ^ 63 }
+    requires err { system.old.err.failures < 2 ^ 63 }
+    requires errors { P.failures errors.old < 2 ^ 63 }
+    ensures { (words : List (List ℕ)) → IsFoundIn words found.now → RunsWords ⟦<u32 as FromStr>⟧.from_str_gives
+        (answers_of (S.file source.old) (S.standard source.old) (S.variable source.old) (S.entries source.old)) (S.refused source.new)
+        words
+        (reached (S.asked source.old)
+        (reader_of (R.remaining reader.old) (R.calls reader.old) (R.failures reader.old)) system.old)
+        (reached (S.asked source.new)
+        (reader_of (R.remaining reader.new) (R.calls reader.new) (R.failures reader.new)) system.new)
+        (writer (P.contents errors.old) (P.failures errors.old))
+        (writer (P.contents errors.new) (P.failures errors.new)) result }
+{
+    match named_tool(found) {
+        Some((tool, given)) => run_tool(
+            alloc,
+            tool,
+            source,
+            reader,
+            system,
+            errors,
+            &Options(given),
+        ),
+        None => Ending::Refused,
+    }
+}
+
+/// The tool that was found, with its options and arguments, or none where no tool has that name.
+fn named_tool<'m, 'w>(found: &'m ArgMatches<'w>) -> Option<(Tool, &'m ArgMatches<'w>)>
+    ensures { MatchOption result (NamesNone found.now) (λ p. NamesTool found.now p.0 p.1.now) }
+{
+    match found.subcommand() {
+        Some((name, given)) => match Tool::of_name(name) {
+            Some(tool) => Some((tool, given)),
+            None => None,
+        },
+        None => None,
+    }
+}
+
+/// Runs a tool, and reports the fault for which it has no status.
+pub fn run_tool<S, R: ByteIn, F: OutputFiles, O: ByteOut, E: ByteOut, P: ByteOut, A: Arguments>(
+    alloc: Global,
+    tool: Tool,
+    source: &mut S,
+    reader: &mut R,
+    system: &mut OutputSystem<F, O, E>,
+    errors: &mut P,
+    given: &A,
+) -> Ending
+where
+    S: InputSource + VariableSource + EntrySource,
+    requires calls { R.calls reader.old < 2 ^ 63 }
+    requires failures { R.failures reader.old < 2 ^ 63 }
+    requires out { system.old.out.failures < 2 ^ 63 }
+    requires err { system.old.err.failures < 2 ^ 63 }
+    requires errors { P.failures errors.old < 2 ^ 63 }
+    ensures { EndsTool tool
+        (line_of (A.flag given.now) (A.text given.now) (A.texts given.now) (A.number given.now))
+        (answers_of (S.file source.old) (S.standard source.old) (S.variable source.old) (S.entries source.old)) (S.refused source.new)
+        (reached (S.asked source.old)
+        (reader_of (R.remaining reader.old) (R.calls reader.old) (R.failures reader.old)) system.old)
+        (reached (S.asked source.new)
+        (reader_of (R.remaining reader.new) (R.calls reader.new) (R.failures reader.new)) system.new)
+        (writer (P.contents errors.old) (P.failures errors.old))
+        (writer (P.contents errors.new) (P.failures errors.new)) result }
+{
+    match po_tools::run(alloc, tool, source, reader, system, given) {
+        Ok(status) => Ending::Ran(status),
+        Err(fault) => report(errors, Some(tool), fault),
+    }
+}
+
+/// The tool that the first argument names, if it names one.
+pub(crate) fn first_tool(words: &[&str]) -> Option<Tool>
+    ensures { IsFirst (map (λ word. word.now) words.now) result }
+{
+    match words.get(1) {
+        Some(word) => Tool::of_name(word),
+        None => None,
+    }
+}
+
+/// Writes what clap says in place of what it found: help, or what is wrong.
+pub(crate) fn explain<F: OutputFiles, O: ByteOut, E: ByteOut>(
+    alloc: Global,
+    first: Option<Tool>,
+    error: &Error,
+    system: &mut OutputSystem<F, O, E>,
+) -> Result<Ending, ProgramFault<'static>>
+    requires out { system.old.out.failures < 2 ^ 63 }
+    requires err { system.old.err.failures < 2 ^ 63 }
+    ensures text { IfOk result (λ ending. (text : List ℕ) × Explains first text system.old system.new ending) }
+    ensures memory { IfErr result (λ fault. fault ≡ ProgramFault.OutOfMemory) }
+    ensures unwritten { OnErr result (system.new ≡ system.old) }
+{
+    if error.kind() == ErrorKind::OutOfMemory {
+        return Err(ProgramFault::OutOfMemory);
+    }
+    let text = format!(in alloc; "{error}")?;
+    if error.use_stderr() {
+        return Ok(refuse(alloc, &mut system.err, first, text.as_str())?);
+    }
+    Ok(give_help(&mut system.out, text.as_str()))
+}
