@@ -6,10 +6,11 @@
 //! - 4: an allocation failed before the call;
 //! - 1: anything else; 2: there is no such row.
 //!
-//! The modules in reading order: `outcomes`, `texts`, `shell`, `tools`.
+//! The modules in reading order: `outcomes`, `texts`, `shell`, `tools`, `commands`.
 
 #![tactic(auto)]
 
+mod commands;
 mod outcomes;
 mod shell;
 mod texts;
@@ -39,7 +40,10 @@ fn main(rt: HostRuntime) -> ExitCode {
 fn outcome(alloc: Global, row: &str) -> Outcome {
     match texts::outcome(alloc, row) {
         Outcome::NoRow => match shell::outcome(alloc, row) {
-            Outcome::NoRow => tools::outcome(alloc, row),
+            Outcome::NoRow => match tools::outcome(alloc, row) {
+                Outcome::NoRow => commands::outcome(alloc, row),
+                outcome => outcome,
+            },
             outcome => outcome,
         },
         outcome => outcome,

@@ -3,8 +3,8 @@
 //! crate once more together with the tests in it.
 //!
 //! The modules in reading order: `arguments`, `locales`, `substitution`, `answers`,
-//! `readers_and_writers`, `one_input`, `fake_system`, `whole_tools`,
-//! `whole_look_ups`, `damaged_files`.
+//! `readers_and_writers`, `one_input`, `fake_system`, `whole_tools`, `whole_look_ups`,
+//! `known_tools`, `in_memory`, `damaged_files`.
 
 #![tactic(auto)]
 
@@ -16,6 +16,10 @@ mod arguments;
 mod damaged_files;
 #[cfg(test)]
 mod fake_system;
+#[cfg(test)]
+mod in_memory;
+#[cfg(test)]
+mod known_tools;
 #[cfg(test)]
 mod locales;
 #[cfg(test)]

@@ -1,5 +1,5 @@
-//! The calls that read one input, over a reader and two writers: once as they go, and once each
-//! where the reader, the output and the messages fail.
+//! The calls that read one input, over a reader and two writers of which each call fails in turn,
+//! up to a run without a failure.
 
 use mo_file::Order;
 use po_shell::{Counted, Failing, ToolFault};
@@ -14,9 +14,25 @@ struct Row {
     messages: &'static [u8],
 }
 
-/// The call that fails of the reader, of the writer of the output and of that of the messages, 0
-/// for none.
-type Calls = (u64, u64, u64);
+/// The call of a writer that fails, 0 for none, and how many bytes a call takes.
+type Calls = (u64, usize);
+
+/// The call of the reader that fails, 0 for none, and the calls of the writers of the output and of
+/// the messages.
+type Devices = (u64, Calls, Calls);
+
+/// No call fails, and each takes one byte.
+const WELL: Calls = (0, 1);
+
+/// No call fails, and each takes all.
+const ALL: Calls = (0, 1 << 20);
+
+/// Each call takes no byte.
+const NONE: Calls = (0, 0);
+
+const UNREAD: Result<u8, ToolFault> = Err(ToolFault::ReadFault);
+
+const UNWRITTEN: Result<u8, ToolFault> = Err(ToolFault::WriteFault);
 
 const ONE_MESSAGE: &[u8] = b"msgid \"a\"\nmsgstr \"b\"\n";
 
@@ -66,19 +82,20 @@ const SET_FUZZY: Selection = Selection {
     empty: false,
 };
 
-/// Whether a row's call over devices of which these calls fail, each of one byte, returns this and
-/// leaves this output and these messages.
+/// Whether a row's call over such devices, the reader of single bytes, returns this and leaves this
+/// output and these messages.
 fn leaves(
     alloc: Global,
     row: &Row,
-    calls: Calls,
+    devices: Devices,
     outcome: Result<u8, ToolFault>,
     output: &[u8],
     messages: &[u8],
 ) -> bool {
-    let mut reader = Counted::new(Failing::new(row.input, calls.0, 1));
-    let mut out = Counted::new(Failing::new(Vec::new(alloc), calls.1, 1));
-    let mut err = Counted::new(Failing::new(Vec::new(alloc), calls.2, 1));
+    let (failing_read, to_out, to_err) = devices;
+    let mut reader = Counted::new(Failing::new(row.input, failing_read, 1));
+    let mut out = Counted::new(Failing::new(Vec::new(alloc), to_out.0, to_out.1));
+    let mut err = Counted::new(Failing::new(Vec::new(alloc), to_err.0, to_err.1));
     let name = "<stdin>";
     let returned = match row.tool {
         Tool::Msgfmt => run_msgfmt(alloc, &mut reader, &mut out, &mut err, name, &STATISTICS),
@@ -90,24 +107,99 @@ fn leaves(
     returned == outcome && gone_out.as_slice() == output && gone_to_err.as_slice() == messages
 }
 
+/// Whether a row's call over such devices comes to its end.
+fn ends_well(alloc: Global, row: &Row, devices: Devices) -> bool {
+    leaves(alloc, row, devices, Ok(0), row.output, row.messages)
+}
+
+/// Whether a row's call writes nothing where a call of the reader fails: one for each byte, and one
+/// that finds the end.
+fn stops_at_each_read(alloc: Global, row: &Row) -> bool {
+    let calls = row.input.len() as u64 + 1;
+    for call in 1..=calls {
+        if !leaves(alloc, row, (call, WELL, WELL), UNREAD, b"", b"") {
+            return false;
+        }
+    }
+    ends_well(alloc, row, (calls + 1, WELL, WELL))
+}
+
+/// Whether a row's call stops where a call of the writer of its output fails, one for each byte.
+fn stops_at_each_write(alloc: Global, row: &Row) -> bool {
+    for written in 0..row.output.len() {
+        let failing = (written as u64 + 1, 1);
+        let output = &row.output[..written];
+        if !leaves(alloc, row, (0, failing, WELL), UNWRITTEN, output, b"") {
+            return false;
+        }
+    }
+    let after = (row.output.len() as u64 + 1, 1);
+    ends_well(alloc, row, (0, after, WELL))
+}
+
+/// Whether a row's call stops where a call of the writer of its messages fails, one for each byte.
+fn stops_at_each_message(alloc: Global, row: &Row) -> bool {
+    for written in 0..row.messages.len() {
+        let failing = (written as u64 + 1, 1);
+        let messages = &row.messages[..written];
+        if !leaves(
+            alloc,
+            row,
+            (0, WELL, failing),
+            UNWRITTEN,
+            row.output,
+            messages,
+        ) {
+            return false;
+        }
+    }
+    let after = (row.messages.len() as u64 + 1, 1);
+    ends_well(alloc, row, (0, WELL, after))
+}
+
 #[test]
-fn reads_plans_and_delivers(rt: HostRuntime) {
+fn stops_at_each_call_of_the_reader(rt: HostRuntime) {
     for (index, row) in ROWS.iter().enumerate() {
-        let is_right = leaves(rt.alloc(), row, (0, 0, 0), Ok(0), row.output, row.messages);
-        assert!(rt; is_right, "row {index}");
+        assert!(rt; stops_at_each_read(rt.alloc(), row), "row {index}");
     }
 }
 
 #[test]
-fn stops_at_a_device_that_fails(rt: HostRuntime) {
-    let unread = Err(ToolFault::ReadFault);
-    let unwritten = Err(ToolFault::WriteFault);
+fn stops_at_each_call_of_a_writer(rt: HostRuntime) {
     for (index, row) in ROWS.iter().enumerate() {
-        let at_input = leaves(rt.alloc(), row, (2, 0, 0), unread, b"", b"");
-        let at_output = leaves(rt.alloc(), row, (0, 3, 0), unwritten, &row.output[..2], b"");
-        assert!(rt; at_input && at_output, "row {index}");
+        assert!(rt; stops_at_each_write(rt.alloc(), row), "row {index}");
+        assert!(rt;
+            stops_at_each_message(rt.alloc(), row),
+            "messages of row {index}"
+        );
     }
-    let first = &ROWS[0];
-    let at_messages = leaves(rt.alloc(), first, (0, 0, 2), unwritten, first.output, b"1");
-    assert!(rt; at_messages, "messages");
+}
+
+#[test]
+fn writes_to_writers_that_take_all_or_none(rt: HostRuntime) {
+    let first = (1, 1 << 20);
+    for (index, row) in ROWS.iter().enumerate() {
+        let by_all = ends_well(rt.alloc(), row, (0, ALL, ALL));
+        let at_first = leaves(rt.alloc(), row, (0, first, ALL), UNWRITTEN, b"", b"");
+        let by_none = leaves(rt.alloc(), row, (0, NONE, NONE), UNWRITTEN, b"", b"");
+        assert!(rt; by_all && at_first && by_none, "row {index}");
+    }
+    let told = &ROWS[0];
+    let by_none = leaves(
+        rt.alloc(),
+        told,
+        (0, ALL, NONE),
+        UNWRITTEN,
+        told.output,
+        b"",
+    );
+    let at_first = leaves(
+        rt.alloc(),
+        told,
+        (0, ALL, first),
+        UNWRITTEN,
+        told.output,
+        b"",
+    );
+    assert!(rt; by_none && at_first, "messages");
 }

@@ -23,7 +23,7 @@ fn answer(tool: Tool, others: &'static [&'static str]) -> Row {
 }
 
 /// Look-ups in a catalogue of one message.
-fn answers() -> [Row; 2] {
+pub(crate) fn answers() -> [Row; 2] {
     [
         answer(Tool::Gettext, &["d", "a"]),
         answer(Tool::Ngettext, &["d", "a", "c", "1"]),
@@ -46,7 +46,7 @@ fn untranslated() -> [Row; 2] {
 }
 
 /// An input with a variable of the environment.
-const REPLACED: Row = Row {
+pub(crate) const REPLACED: Row = Row {
     tool: Tool::Envsubst,
     line: Line {
         files: &[],
@@ -88,11 +88,8 @@ fn wrong_output(alloc: Global, row: &Row) -> Option<usize> {
 }
 
 #[test]
-fn messages_are_looked_up(rt: HostRuntime) {
+fn the_output_fails(rt: HostRuntime) {
     for (index, row) in answers().iter().enumerate() {
-        let wanted = Outcome::Status(row.status);
-        let is_right = leaves(rt.alloc(), row, WELL, wanted, row.output, row.messages);
-        assert!(rt; is_right, "row {index}");
         let wrong = wrong_output(rt.alloc(), row);
         assert!(rt; wrong.is_none(), "row {index}, after {wrong:?}");
     }
@@ -111,10 +108,7 @@ fn a_catalogue_fails(rt: HostRuntime) {
 }
 
 #[test]
-fn variables_are_replaced(rt: HostRuntime) {
-    let wanted = Outcome::Status(REPLACED.status);
-    let is_right = leaves(rt.alloc(), &REPLACED, WELL, wanted, REPLACED.output, b"");
-    assert!(rt; is_right);
+fn the_output_with_variables_fails(rt: HostRuntime) {
     let wrong = wrong_output(rt.alloc(), &REPLACED);
     assert!(rt; wrong.is_none(), "after {wrong:?}");
 }

@@ -48,7 +48,7 @@ const ONE_MESSAGE: &[u8] = b"msgid \"a\"\nmsgstr \"b\"\n";
 pub(crate) const ONE_FILE: &[u8] =
     b"\xde\x12\x04\x95\0\0\0\0\x01\0\0\0\x1c\0\0\0\x24\0\0\0\0\0\0\0\x2c\0\0\0\x01\0\0\0\x2c\0\0\0\x01\0\0\0\x2e\0\0\0a\0b\0";
 
-const ROWS: &[Row] = &[
+pub(crate) const ROWS: &[Row] = &[
     Row {
         tool: Tool::Msgfmt,
         line: Line {
@@ -237,15 +237,6 @@ fn wrong_messages(alloc: Global, row: &Row) -> Option<usize> {
         }
     }
     None
-}
-
-#[test]
-fn each_tool_runs(rt: HostRuntime) {
-    for (index, row) in ROWS.iter().enumerate() {
-        let wanted = Outcome::Status(row.status);
-        let is_right = leaves(rt.alloc(), row, WELL, wanted, row.output, row.messages);
-        assert!(rt; is_right, "row {index}");
-    }
 }
 
 #[test]
