@@ -1,14 +1,14 @@
 -- The bytes of an entry, read by its row, mean the entry.
-use Rattle.std.proofs.Common.{◌≡◌, ◌≢◌, refl, sym, ap, ap₂, ◌∙◌, subst, ℕ, zero, suc, ◌+◌, ◌-◌, ◌<◌, ◌≤◌, ◌^◌, ◌==◌, ◌&&◌, List, [], ◌∷◌, ◌++◌, append_assoc, append-nil, length, length-append, take, drop, map, Option, None, Some, arith, Bool, true, false, cond}
-use Rattle.std.specs.Prelude.{All, is_some, is_none, option_to_list, slice_index_or, if◌then◌else◌}
+use Rattle.std.proofs.Common.{◌≡◌, refl, sym, ap, ap₂, ◌∙◌, ℕ, suc, ◌<◌, ◌≤◌, ◌^◌, ◌==◌, ◌&&◌, List, [], ◌∷◌, ◌++◌, append_assoc, append-nil, length, length-append, take, drop, Option, None, Some, arith, Bool, true, false}
+use Rattle.std.specs.Prelude.{All, is_some, is_none, option_to_list, if◌then◌else◌}
 use Rattle.std.specs.List.{flat_map, slice_split}
 use Rattle.std.proofs.Math.Seq.{drop-append_seam, take-append_seam}
 use Rattle.std.proofs.lemmas.Bool.{false≢true, ne_eqb}
 use Rattle.std.proofs.lemmas.List.Elements.{All-head, All-tail, All-append, All-nil, All-cons}
-use Rattle.std.proofs.lemmas.List.Splits.{slice_split_none, slice_split_at, slice_split-cons_yes}
+use Rattle.std.proofs.lemmas.List.Splits.{slice_split_none, slice_split_at}
 use Rattle.po_entry.specs.Bytes.{Lacks}
 use Rattle.po_entry.specs.Facts.AllAppend.{All-left, All-right}
-use Rattle.po_entry.specs.TextEntry.{TextEntry, TextPrevious, no_previous, quoted_texts, previous_texts}
+use Rattle.po_entry.specs.TextEntry.{TextEntry, quoted_texts}
 use Rattle.po_entry.specs.TextLists.{length_bytes, measured, texts_in}
 use Rattle.po_entry.specs.Rows.{EndsContext, PluralFollows, after_nul, context_in, context_length, entry_of, forms_in, further_texts, has_no_head, head_bytes, head_parts, is_empty_list, key_bytes, optional_bytes, optional_in, own_bytes, part_at, plural_in, previous_in, row_of, texts_after, CanLie}
 use Rattle.po_entry.proofs.TextListLemmas.{no_texts, texts_laid}

@@ -14,5 +14,6 @@ pub mod PlainEntries
 pub mod SeenTextLemmas
 pub mod LaidEntries
 pub mod OwnTexts
+pub mod Growing
 pub mod RowLemmas
 pub mod HeaderLaws

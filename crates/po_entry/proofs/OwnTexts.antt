@@ -1,13 +1,13 @@
 -- What an MO file has of an entry, cut from the bytes of the entry's own texts.
-use Rattle.std.proofs.Common.{◌≡◌, refl, sym, ap, ◌∙◌, ℕ, zero, suc, ◌+◌, ◌≤◌, Bool, true, false, List, [], ◌∷◌, ◌++◌, append_assoc, append-nil, length, length-append, length-take, take, drop, Option, None, Some, arith}
+use Rattle.std.proofs.Common.{◌≡◌, refl, sym, ap, ◌∙◌, ℕ, zero, suc, ◌+◌, ◌<◌, ◌≤◌, ◌==◌, Bool, true, false, List, [], ◌∷◌, ◌++◌, append_assoc, append-nil, length, length-append, length-take, take, drop, Option, None, Some, arith}
 use Rattle.std.specs.Borrow.{Bor}
-use Rattle.std.specs.List.{join_with_byte}
-use Rattle.std.specs.Prelude.{option_copied, unwrap_or}
+use Rattle.std.specs.List.{flat_map, join_with_byte}
+use Rattle.std.specs.Prelude.{option_copied, option_to_list, unwrap_or}
 use Rattle.std.proofs.Math.Seq.{take-append_seam}
 use Rattle.std.proofs.lemmas.Bool.{false≢true}
 use Rattle.std.proofs.lemmas.List.{take-append-drop, take-take}
-use Rattle.std.proofs.lemmas.List.Splits.{join_with_byte-slice_split}
-use Rattle.po_entry.specs.Rows.{EndsContext, PluralFollows, context_in, forms_in, forms_of, key_bytes, optional_bytes, plural_in, split_forms, texts_after}
+use Rattle.std.proofs.lemmas.List.Splits.{join_with_byte-slice_split, length-slice_split}
+use Rattle.po_entry.specs.Rows.{EndsContext, PluralFollows, after_nul, context_in, forms_in, forms_of, key_bytes, optional_bytes, plural_in, split_forms, texts_after}
 
 pub key_cut : (context key : ℕ) (own : List ℕ) → context ≤ key → EndsContext context own
     → take key own ≡ key_bytes (context_in context own) (drop context (take key own))
@@ -81,3 +81,31 @@ forms_cut own key true first found none some is split =
     let parts : texts_after key own ≡ first ∷ forms_of (option_copied found) =
     ap (λ n. split_forms (drop n own)) (sym next) ∙ split in
     after_plural found none is ∙ ap (λ texts. join_with_byte 0 (forms_in true texts)) (sym parts)
+
+-- an entry's own texts, one part after another
+pub own_laid : (old a b all : List ℕ) (context : Option (List ℕ)) (id : List ℕ) (plural : Option (List ℕ))
+    (forms : List (List ℕ)) → a ≡ old ++ key_bytes context id → b ≡ a ++ optional_bytes plural
+    → all ≡ b ++ flat_map after_nul forms
+    → all ≡ old ++ (key_bytes context id ++ flat_map after_nul (option_to_list plural ++ forms))
+own_laid old a b all context id plural forms first second third =
+    third ∙ ap (λ l. l ++ flat_map after_nul forms) (second ∙ ap (λ l. l ++ optional_bytes plural) first)
+    ∙ append_assoc (old ++ key_bytes context id) (optional_bytes plural) (flat_map after_nul forms)
+    ∙ append_assoc old (key_bytes context id) (optional_bytes plural ++ flat_map after_nul forms)
+    ∙ ap (λ l. old ++ (key_bytes context id ++ l)) (plural_first plural)
+  where
+    plural_first : (text : Option (List ℕ))
+        → optional_bytes text ++ flat_map after_nul forms ≡ flat_map after_nul (option_to_list text ++ forms)
+    plural_first None = refl
+    plural_first (Some text) = refl
+
+each_after_nul : (texts : List (List ℕ)) → 0 < length texts → flat_map after_nul texts ≡ 0 ∷ join_with_byte 0 texts
+each_after_nul [] some = absurd (omega (arith, some))
+each_after_nul (text ∷ []) some = append-nil (0 ∷ text)
+each_after_nul (text ∷ next ∷ texts) some =
+    ap (λ l. 0 ∷ text ++ l) (each_after_nul (next ∷ texts) (omega arith))
+
+-- the forms of a translation, as they are laid out
+pub forms_laid : (translation : List ℕ) → flat_map after_nul (split_forms translation) ≡ 0 ∷ translation
+forms_laid translation =
+    each_after_nul (split_forms translation) (omega (arith, length-slice_split (λ b. b == 0) translation))
+    ∙ ap (λ l. 0 ∷ l) (forms_joined translation)

@@ -1,27 +1,17 @@
 -- Rows of a buffer that grows.
-use Rattle.std.proofs.Common.{◌≡◌, refl, sym, ap, ap₂, ◌∙◌, subst, ℕ, zero, suc, ◌+◌, ◌-◌, ◌<◌, ◌≤◌, ◌^◌, ◌==◌, List, [], ◌∷◌, ◌++◌, append_assoc, append-nil, length, length-append, length-take, length-drop, take, drop, map, filter, not, set, Option, None, Some, arith, Bool, true, false, cond}
-use Rattle.std.specs.Prelude.{All, get_or, is_some, is_none, option_to_list, slice_index_or, if◌then◌else◌}
-use Rattle.std.specs.List.{flat_map, slice_split}
+use Rattle.std.proofs.Common.{◌≡◌, refl, sym, ap, ap₂, ◌∙◌, subst, ℕ, zero, suc, ◌+◌, ◌<◌, ◌≤◌, ◌^◌, List, [], ◌∷◌, ◌++◌, append_assoc, length, length-append, length-drop, take, drop, map, filter, not, set, Result, Ok, Err, OnErr, arith, Bool, true, false, cond}
+use Rattle.std.specs.Prelude.{All, get_or, is_some}
+use Rattle.std.specs.List.{flat_map}
 use Rattle.std.proofs.Math.Seq.{drop-append-add, drop-append_seam, take-append_seam}
-use Rattle.std.proofs.lemmas.List.{take-append-le, drop-append-le, take_all, take-append-drop, take-take, map-append, length-map, get_or-map, take_more}
+use Rattle.std.proofs.lemmas.List.{take-append-le, drop-append-le, take_all, take-append-drop, map-append, length-map, get_or-map, take_more}
 use Rattle.std.proofs.lemmas.List.Elements.{All-nil, All-cons, All-head, All-tail, All-push, All-append, All-map}
 use Rattle.po_entry.specs.TextEntry.{TextEntry}
 use Rattle.po_entry.specs.Rows.{Adds, AreLaid, CanLie, EndsContext, Grows, PluralFollows, after_nul, context_length, further_texts, key_bytes, entries_in, changed_at, set_fuzzy, set_obsolete, LiesIn, entry_at, entry_bytes, head_at, head_bytes, moved, own_at, own_bytes, row_of}
 use Rattle.po_entry.specs.declared.row.Row.{Row}
 use Rattle.po_entry.specs.declared.drafts.Drafts.{Drafts}
 use Rattle.po_entry.specs.Validity.{IsCatalogueEntry}
-use Rattle.po_entry.proofs.LaidEntries.{means}
-use Rattle.po_entry.proofs.LaidEntries.{context_fits, eot_laid, key_fits, nul_laid}
-
-pub no_shorter : (old new : List ℕ) → Grows old new → length old ≤ length new
-no_shorter old new grows = omega (arith, ap length grows, length-take (length old) new)
-
-pub grows_on : (a b c : List ℕ) → Grows a b → Grows b c → Grows a c
-grows_on a b c first second =
-    sym (take-take (length a) (length b) c (no_shorter a b first)) ∙ ap (take (length a)) second ∙ first
-
-pub grows_by : (a more : List ℕ) → Grows a (a ++ more)
-grows_by a more = take-append_seam a more
+use Rattle.po_entry.proofs.Growing.{grows_by, no_shorter}
+use Rattle.po_entry.proofs.LaidEntries.{context_fits, eot_laid, key_fits, means, nul_laid}
 
 split : (old new : List ℕ) → Grows old new → new ≡ old ++ drop (length old) new
 split old new grows = sym (take-append-drop (length old) new) ∙ ap (λ l. l ++ drop (length old) new) grows
@@ -262,6 +252,48 @@ added entry old new h laid = (
       ∙ row_more old.bytes.items new.bytes.items old.rows.items entry laid can
       (omega (arith, new.bytes.ok.0, new.bytes.ok.1, new.bytes.small)) h.bytes,
 )
+
+-- rows of a buffer that has grown
+pub record Keeps (old new : List ℕ) (rows after : List Row) : Type 0 where
+  pub lie : All (LiesIn new) after
+  pub same : map (entry_at new) after ≡ map (entry_at old) rows
+
+pub keeps : (old new : List ℕ) (rows after : List Row) → Grows old new → after ≡ rows → All (LiesIn old) rows
+    → Keeps old new rows after
+keeps old new rows after grows is lie = record {
+  lie = subst (All (LiesIn new)) (sym is) (stay old new grows rows lie);
+  same = ap (map (entry_at new)) is ∙ kept old new grows rows lie;
+}
+
+-- what holds also holds where a result is an error
+pub always : {T E P : Type 0} (r : Result T E) → P → OnErr r P
+always (Ok x) p = record {}
+always (Err e) p = p
+
+pub can_lie : (entry : TextEntry) → IsCatalogueEntry entry → CanLie entry
+can_lie entry h = record {
+  no_nul = λ k d inside. (h.valid.quoted_texts k d inside).no_nul;
+  some_form = h.valid.some_form;
+}
+
+-- one more entry that can stand in a catalogue
+pub record Pushed (old new : List ℕ) (rows after : List Row) (entry : TextEntry) : Type 0 where
+  pub lie : All (LiesIn new) after
+  pub valid : All IsCatalogueEntry (map (entry_at new) after)
+  pub more : map (entry_at new) after ≡ map (entry_at old) rows ++ entry ∷ []
+
+pub pushed : (old new : List ℕ) (rows after : List Row) (entry : TextEntry) → All (LiesIn old) rows
+    → All IsCatalogueEntry (map (entry_at old) rows) → IsCatalogueEntry entry → length new < 2 ^ 64
+    → new ≡ old ++ entry_bytes entry → after ≡ rows ++ row_of (length old) entry ∷ [] → Pushed old new rows after entry
+pushed old new rows after entry lie valid stands fits is rows_are =
+    let more : map (entry_at new) after ≡ map (entry_at old) rows ++ entry ∷ [] =
+    ap (map (entry_at new)) rows_are ∙ row_more old new rows entry lie (can_lie entry stands) fits is in
+    record {
+      lie = subst (All (LiesIn new)) (sym rows_are) (all_lie old new rows entry lie is);
+      valid = subst (All IsCatalogueEntry) (sym more)
+          (All-push IsCatalogueEntry (map (entry_at old) rows) entry valid stands);
+      more = more;
+    }
 
 pub all_set : {X : Type 0} (P : X → Type 0) (xs : List X) (i : ℕ) (x : X) → All P xs → P x → All P (set xs i x)
 all_set P [] i x all here = all

@@ -1,21 +1,27 @@
 -- What the definitions of this crate say of entries that were read by hand (manual, "The Format of PO
 -- Files"). tests/mutants/po_entry/definitions has a wrong form of each, which one of these refuses.
-use Rattle.std.specs.Prelude.{◌≡◌, ◌≢◌, refl, true, false, List, [], ◌∷◌, Some, None, codes, filter, map, IsUtf8}
+use Rattle.std.specs.Prelude.{◌≡◌, ◌≢◌, refl, ℕ, true, false, List, [], ◌∷◌, ◌++◌, Some, None, codes, filter, map, All, IsUtf8}
+use Rattle.std.specs.Borrow.{Bor}
 use Rattle.std.specs.Char.{encode_utf8}
 use Rattle.std.specs.List.{range_with_len}
 use Rattle.std.proofs.Common.{arith}
+use Rattle.std.proofs.lemmas.Bool.{false≢true}
 use Rattle.std.proofs.lemmas.List.Elements.{All-cons, All-nil}
+use Rattle.po_syntax.specs.declared.fault.PoFault.TheVariants.{ForbiddenByte, BadPluralIndex, ForeignCharset, OutOfMemory}
 use Rattle.po_syntax.specs.declared.item.CommentKind.TheVariants.{Translator, Extracted, Reference, Flags}
 use Rattle.po_syntax.specs.declared.item.Keyword.TheVariants.{MsgCtxt, MsgId, MsgIdPlural, MsgStr, MsgStrAt}
+use Rattle.po_syntax.specs.PoText.{TextFault}
 use Rattle.po_syntax.specs.Spelling.{own_marks, previous_marks, end, live}
 use Rattle.po_syntax.specs.TextItem.{TextItem, Comment, Word, Str}
 use Rattle.po_entry.specs.Bytes.{Lacks, trimmed}
 use Rattle.po_entry.specs.EntryParts.{CommentText, PreviousText}
-use Rattle.po_entry.specs.TextEntry.{TextPrevious, no_previous, TextEntry, plain_entry, quoted_texts}
+use Rattle.po_entry.specs.TextEntry.{TextPrevious, no_previous, TextEntry, slice_texts, plain_entry, quoted_texts}
 use Rattle.po_entry.specs.Comments.{same_kind, texts_of, is_not_empty, listed_references, listed_flags, references_of, all_listed_flags, is_fuzzy_flag, fuzzy_of, with_flag, flags_of, with_previous, previous_of}
 use Rattle.po_entry.specs.Header.{is_header, after_charset, ends_name, charset_of, IsAdmittedName, first_form, HasAdmittedCharset}
 use Rattle.po_entry.specs.Spelling.{SpellsStrings, last, more, SpellsKeywordText, keyword_text, SpellsHead, nothing, head_comment, previous_text, AreSome, none, with, without, AreInOrder, SpellsContext, context, no_context, SpellsForms, no_form, more_forms, SpellsTranslation, single, plural, SpellsBody, own_lines, with_head, SpellsEntry, entry, SpellsEntries, comments, entries}
-use Rattle.po_entry.specs.Validity.{IsClean, HasTexts}
+use Rattle.po_entry.specs.Validity.{IsClean, EntryTextFault, forbidden, HasTexts, out_of_memory}
+use Rattle.po_entry.specs.Viable.{IsViable, IsOwn, with_obsolete, IsWrongIndex, IsMixed, index, last_line, at}
+use Rattle.po_entry.specs.Faults.{EntriesStop, here, later, CharsetFault, foreign, ItemsStop, in_items, IsReadFault, in_text}
 use Rattle.po_entry.specs.ReadsText.{ReadsItems, ReadsText}
 
 pub third_byte_lacks : Lacks 4 (97 ∷ 3 ∷ 4 ∷ []) → ⊥
@@ -265,3 +271,91 @@ nothing_is_read = record {
   };
   read = record { reads = comments nothing; texts = All-nil HasTexts; charsets = All-nil HasAdmittedCharset };
 }
+
+pub slices_have_texts : (a b : Bor (List ℕ)) → slice_texts (a ∷ b ∷ []) ≡ a.now ∷ b.now ∷ []
+slices_have_texts a b = refl
+
+pub items_are_told_apart : (out_of_memory ≡ record { kind = OutOfMemory; line = 0 })
+    × (with_obsolete true (Word MsgId (previous_marks false) 2) ≡ Word MsgId (previous_marks true) 2)
+    × (map last_line ([] ∷ items_of_forms ∷ []) ≡ 0 ∷ 7 ∷ [])
+    × IsOwn (Str (codes "a") (own_marks true) 1)
+items_are_told_apart = (refl, refl, refl, refl)
+
+-- `msgid "a"` and `msgid_plural "b"`
+abbrev pub before_forms : List TextItem
+before_forms =
+    Word MsgId (own_marks false) 4 ∷ Str (codes "a") (own_marks false) 4
+    ∷ Word MsgIdPlural (own_marks false) 5 ∷ Str (codes "b") (own_marks false) 5 ∷ []
+
+abbrev pub entry_of_plural : TextEntry
+entry_of_plural =
+    record (plain_entry None (codes "a") (Some (codes "b")) (codes "d" ∷ codes "e" ∷ [])) { line = 4 }
+
+body_of_plural : SpellsBody (before_forms ++ items_of_forms) entry_of_plural
+body_of_plural =
+    own_lines {first = []} {own = Word MsgId (own_marks false) 4 ∷ Str (codes "a") (own_marks false) 4 ∷ []}
+    no_context (keyword_text last) plural_translation
+
+entry_with_forms : SpellsEntries (before_forms ++ items_of_forms) (entry_of_plural ∷ [])
+entry_with_forms =
+    entries {own = before_forms ++ items_of_forms} {items = []}
+    (entry nothing (without (without (without none))) body_of_plural) (comments nothing)
+
+pub beginning_is_viable : IsViable before_forms
+beginning_is_viable = (items_of_forms, entry_of_plural ∷ [], entry_with_forms)
+
+-- `msgstr[1]` where `msgstr[0]` has to stand
+abbrev pub second_form : TextItem
+second_form = Word (MsgStrAt 1) (own_marks false) 6
+
+other_index : IsWrongIndex before_forms second_form
+other_index = (
+  refl,
+  0,
+  false,
+  (λ e. omega (arith, e)),
+  (
+    Str (codes "d") (own_marks false) 6 ∷ Word (MsgStrAt 1) (own_marks false) 7
+        ∷ Str (codes "e") (own_marks false) 7 ∷ [],
+    entry_of_plural ∷ [],
+    entry_with_forms,
+  ),
+)
+
+pub second_index_first : (IsViable (before_forms ++ second_form ∷ []) → ⊥)
+    → ItemsStop (before_forms ++ second_form ∷ []) BadPluralIndex 6
+second_index_first isnt =
+    in_items (at {prefix = before_forms} {item = second_form} [] beginning_is_viable isnt (index other_index))
+
+-- `#~ msgstr` after a live `msgid "a"`
+pub obsolete_after_live : IsMixed (Word MsgId (own_marks false) 2 ∷ Str (codes "a") (own_marks false) 2 ∷ [])
+    (Word MsgStr (own_marks true) 3)
+obsolete_after_live = (
+  refl,
+  (
+    false,
+    (
+      Str (codes "b") (own_marks false) 3 ∷ [],
+      record entry_of_a { line = 2 } ∷ [],
+      entries {own = Word MsgId (own_marks false) 2 ∷ Str (codes "a") (own_marks false) 2
+          ∷ Word MsgStr (own_marks false) 3 ∷ Str (codes "b") (own_marks false) 3 ∷ []} {items = []}
+          (entry nothing (without (without (without none))) body_of_a) (comments nothing),
+    ),
+  ),
+)
+
+abbrev pub entry_with_eot : TextEntry
+entry_with_eot = plain_entry None (97 ∷ 4 ∷ []) None (codes "b" ∷ [])
+
+pub eot_is_forbidden : All IsUtf8 (quoted_texts entry_with_eot) → EntryTextFault entry_with_eot ForbiddenByte
+eot_is_forbidden utf8 = forbidden utf8 eot_is_not_clean
+
+abbrev pub koi8_r_header : TextEntry
+koi8_r_header = record (plain_entry None [] None (codes "Content-Type: text/plain; charset=KOI8-R\n" ∷ [])) { line = 5 }
+
+pub koi8_r_is_foreign : (HasAdmittedCharset koi8_r_header → ⊥)
+    → EntriesStop HasAdmittedCharset CharsetFault (entry_of_a ∷ koi8_r_header ∷ []) ForeignCharset 5
+koi8_r_is_foreign isnt = later (λ is. absurd (false≢true is)) (here (foreign isnt) refl)
+
+pub nul_is_reported : TextFault (10 ∷ 0 ∷ []) ForbiddenByte 2 → IsReadFault (10 ∷ 0 ∷ []) ForbiddenByte 2
+nul_is_reported fault = in_text fault

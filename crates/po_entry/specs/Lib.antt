@@ -1,5 +1,6 @@
 pub mod TextEntry
 pub mod TextLists
+pub mod Seeds
 pub mod SeenTexts
 pub mod Rows
 pub mod FormLists

@@ -1,6 +1,6 @@
 -- Entries that lie in one buffer: what a row of it means, and how an entry is laid out (manual, "The
 -- Format of PO Files"; for keys and forms "The Format of GNU MO Files").
-use Rattle.std.specs.Prelude.{◌≡◌, ◌+◌, ◌<◌, ◌≤◌, All, ◌==◌, ◌&&◌, ℕ, zero, suc, Bool, true, List, [], ◌∷◌, ◌++◌, map, length, take, drop, Option, None, Some, is_none, is_some, option_map, option_to_list, slice_index_or, if◌then◌else◌}
+use Rattle.std.specs.Prelude.{◌≡◌, ◌+◌, ◌<◌, ◌≤◌, All, ◌==◌, ◌&&◌, ℕ, zero, suc, Bool, true, List, [], ◌∷◌, ◌++◌, map, length, take, drop, Option, None, Some, is_none, is_some, option_to_list, slice_index_or, if◌then◌else◌}
 use Rattle.std.specs.List.{flat_map, join_with_byte, slice_split}
 use Rattle.po_entry.specs.TextEntry.{TextEntry, TextPrevious, plain_entry, quoted_texts}
 use Rattle.po_entry.specs.Bytes.{Lacks}
@@ -37,6 +37,14 @@ translation_bytes entry = join_with_byte 0 entry.forms
 -- an entry's own texts, as an MO file has them: the key, and after a NUL each further text
 abbrev pub own_bytes : TextEntry → List ℕ
 own_bytes entry = key_bytes entry.context entry.id ++ flat_map after_nul (further_texts entry)
+
+-- texts with a NUL between them
+abbrev pub split_forms : List ℕ → List (List ℕ)
+split_forms bytes = slice_split (λ b. b == 0) bytes
+
+-- the entry of a message, whose translation has the forms, with a NUL between them
+abbrev pub message_entry : Option (List ℕ) → List ℕ → Option (List ℕ) → List ℕ → TextEntry
+message_entry context id plural translation = plain_entry context id plural (split_forms translation)
 
 -- the parts of a head: its lists of texts, and its previous texts
 abbrev pub head_parts : TextEntry → List (List ℕ)
@@ -107,10 +115,6 @@ head_at bytes row = take row.head (drop (row.start + row.own) bytes)
 abbrev pub context_in : ℕ → List ℕ → Option (List ℕ)
 context_in zero own = None
 context_in (suc len) own = Some (take len own)
-
--- texts with a NUL between them
-abbrev pub split_forms : List ℕ → List (List ℕ)
-split_forms bytes = slice_split (λ b. b == 0) bytes
 
 -- the texts, where there are bytes of them
 abbrev pub forms_of : Option (List ℕ) → List (List ℕ)

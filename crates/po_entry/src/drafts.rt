@@ -1,11 +1,12 @@
 //! Entries in one buffer before their texts are checked.
 
-ghost use Rattle.std.specs.Prelude.{◌≡◌, [], All, IfOk};
-ghost use Rattle.po_entry.specs.Rows.{AreLaid, entries_in};
+ghost use Rattle.std.specs.Prelude.{◌≡◌, [], All, IfOk, OnErr, OnOk, option_copied};
+ghost use Rattle.po_entry.specs.Rows.{Adds, AreLaid, entries_in, message_entry};
 ghost use Rattle.po_entry.specs.Validity.{IsEntry};
 
 use crate::entry::Entry;
 use crate::entry_ref::EntryRef;
+use crate::layout::add_message;
 use crate::row::Row;
 use std::alloc::{AllocError, Global};
 
@@ -27,6 +28,25 @@ impl Drafts {
             bytes: Vec::new(alloc),
             rows: Vec::new(alloc),
         }
+    }
+
+    /// Adds the entry that a message of an MO file makes: live, without comments, at line 0. The
+    /// translation has its forms with a NUL between them. Where an allocation failed, the entries
+    /// are those that were there.
+    pub fn add_message(
+        &mut self,
+        context: Option<&[u8]>,
+        id: &[u8],
+        plural: Option<&[u8]>,
+        translation: &[u8],
+    ) -> Result<(), AllocError>
+        ensures ok { OnOk result (Adds (message_entry (option_copied context.entry) id.now (option_copied plural.entry)
+            translation.now) self.old self.new) }
+        ensures unchanged { OnErr result (AreLaid self.old → AreLaid self.new × (entries_in self.new ≡ entries_in self.old)) }
+    {
+        let row = add_message(&mut self.bytes, context, id, plural, translation)?;
+        self.rows.push(row)?;
+        Ok(())
     }
 
     /// Drops the entries, and keeps their room.

@@ -10,11 +10,9 @@ ghost use Rattle.po_entry.specs.FormLists.{forms_left};
 
 use crate::row::Row;
 use crate::text_list::{TextListIter, first_text};
+use crate::texts::NUL;
 use memchr::memchr;
 use std::marker::Model;
-
-/// The byte between texts.
-const NUL: u8 = 0;
 
 /// An entry that lies in a buffer: of a store, or of drafts.
 #[derive(Drop)]

@@ -1,21 +1,88 @@
 //! How an entry is laid out in a buffer.
 
-ghost use Rattle.std.specs.Prelude.{◌≡◌, ◌++◌, OnOk, option_copied};
+ghost use Rattle.std.specs.Prelude.{◌≡◌, ◌++◌, ◌∷◌, [], IfOk, OnOk, length, option_copied};
 ghost use Rattle.std.specs.List.{flat_map};
 ghost use Rattle.po_entry.specs.TextLists.{measured};
 ghost use Rattle.po_entry.specs.EntryView.{entry_view};
-ghost use Rattle.po_entry.specs.TextEntry.{optional_text, texts};
-ghost use Rattle.po_entry.specs.Rows.{Adds, after_nul, has_no_head, head_bytes, head_parts, headed, key_bytes, optional_bytes, own_bytes};
+ghost use Rattle.po_entry.specs.TextEntry.{texts};
+ghost use Rattle.po_entry.specs.Rows.{Grows, after_nul, context_length, entry_bytes, has_no_head, head_bytes, headed, key_bytes, message_entry, optional_bytes, own_bytes, row_of};
 
-use crate::drafts::Drafts;
 use crate::fields::{Fields, Previous};
 use crate::row::Row;
 use crate::text_list::{TextList, add_length};
+use crate::texts::{EOT, NUL};
 use std::alloc::AllocError;
 
+/// How long a context is with the EOT after it; 0 where there is none.
+fn context_length(context: Option<&[u8]>) -> usize
+    ensures { result ≡ context_length (option_copied context.entry) }
+{
+    match context {
+        Some(text) => text.len() + 1,
+        None => 0,
+    }
+}
+
+/// Appends a key.
+fn add_key(bytes: &mut Vec<u8>, context: Option<&[u8]>, id: &[u8]) -> Result<(), AllocError>
+    ensures added { OnOk result (bytes.new.items ≡ bytes.old.items ++ key_bytes (option_copied context.entry) id.now) }
+    ensures grows { Grows bytes.old.items bytes.new.items }
+{
+    if let Some(context) = context {
+        bytes.extend_from_slice(context)?;
+        bytes.push(EOT)?;
+    }
+    bytes.extend_from_slice(id)
+}
+
+/// Appends a text after a NUL.
+fn add_text(bytes: &mut Vec<u8>, text: &[u8]) -> Result<(), AllocError>
+    ensures added { OnOk result (bytes.new.items ≡ bytes.old.items ++ after_nul text.now) }
+    ensures grows { Grows bytes.old.items bytes.new.items }
+{
+    bytes.push(NUL)?;
+    bytes.extend_from_slice(text)
+}
+
+/// Appends a text after a NUL, where there is one.
+fn add_plural(bytes: &mut Vec<u8>, plural: Option<&[u8]>) -> Result<(), AllocError>
+    ensures added { OnOk result (bytes.new.items ≡ bytes.old.items ++ optional_bytes (option_copied plural.entry)) }
+    ensures grows { Grows bytes.old.items bytes.new.items }
+{
+    match plural {
+        Some(text) => add_text(bytes, text),
+        None => Ok(()),
+    }
+}
+
+/// Appends each text after a NUL.
+fn add_forms(bytes: &mut Vec<u8>, forms: &[Vec<u8>]) -> Result<(), AllocError>
+    ensures added { OnOk result (bytes.new.items ≡ bytes.old.items ++ flat_map after_nul (texts forms.now)) }
+    ensures grows { Grows bytes.old.items bytes.new.items }
+{
+    for form in forms {
+        add_text(bytes, form)?;
+    }
+    Ok(())
+}
+
+/// Appends an entry's own texts, and returns how long the key is.
+fn add_own(bytes: &mut Vec<u8>, fields: &Fields) -> Result<usize, AllocError>
+    ensures key { IfOk result (λ key. key ≡ length (key_bytes (entry_view fields.now).context (entry_view fields.now).id)) }
+    ensures added { OnOk result (bytes.new.items ≡ bytes.old.items ++ own_bytes (entry_view fields.now)) }
+    ensures grows { Grows bytes.old.items bytes.new.items }
+{
+    let start = bytes.len();
+    add_key(bytes, fields.context.as_deref(), &fields.id)?;
+    let key = bytes.len() - start;
+    add_plural(bytes, fields.plural.as_deref())?;
+    add_forms(bytes, &fields.forms)?;
+    Ok(key)
+}
 /// Appends a part of a head: its length, and its bytes.
 fn add_part(bytes: &mut Vec<u8>, part: &[u8]) -> Result<(), AllocError>
-    ensures { OnOk result (bytes.new.items ≡ bytes.old.items ++ measured part.now) }
+    ensures added { OnOk result (bytes.new.items ≡ bytes.old.items ++ measured part.now) }
+    ensures grows { Grows bytes.old.items bytes.new.items }
 {
     add_length(bytes, part.len())?;
     bytes.extend_from_slice(part)
@@ -23,7 +90,8 @@ fn add_part(bytes: &mut Vec<u8>, part: &[u8]) -> Result<(), AllocError>
 
 /// Appends the part of a text that may be missing.
 fn add_optional(bytes: &mut Vec<u8>, text: Option<&[u8]>) -> Result<(), AllocError>
-    ensures { OnOk result (bytes.new.items ≡ bytes.old.items ++ measured (optional_bytes (option_copied text.entry))) }
+    ensures added { OnOk result (bytes.new.items ≡ bytes.old.items ++ measured (optional_bytes (option_copied text.entry))) }
+    ensures grows { Grows bytes.old.items bytes.new.items }
 {
     let Some(text) = text else {
         return add_part(bytes, &[]);
@@ -53,26 +121,34 @@ fn has_no_head(
         & previous.plural.is_none()
 }
 
-/// Appends the parts of a head.
-fn add_parts(
+/// Appends the lists of a head.
+fn add_lists(
     bytes: &mut Vec<u8>,
     comments: &TextList,
     extracted: &TextList,
     references: &TextList,
     flags: &TextList,
-    previous: &Previous,
 ) -> Result<(), AllocError>
-    ensures { OnOk result (bytes.new.items ≡ bytes.old.items
-        ++ flat_map measured (head_parts (headed comments.now extracted.now references.now flags.now previous.now))) }
+    ensures added { OnOk result (bytes.new.items ≡ bytes.old.items ++ flat_map measured (flat_map measured comments.now
+        ∷ flat_map measured extracted.now ∷ flat_map measured references.now ∷ flat_map measured flags.now ∷ [])) }
+    ensures grows { Grows bytes.old.items bytes.new.items }
 {
     add_part(bytes, comments.bytes())?;
     add_part(bytes, extracted.bytes())?;
     add_part(bytes, references.bytes())?;
-    add_part(bytes, flags.bytes())?;
+    add_part(bytes, flags.bytes())
+}
+
+/// Appends the previous texts of a head.
+fn add_previous(bytes: &mut Vec<u8>, previous: &Previous) -> Result<(), AllocError>
+    ensures added { OnOk result (bytes.new.items ≡ bytes.old.items
+        ++ flat_map measured (optional_bytes previous.now.context ∷ optional_bytes previous.now.id
+        ∷ optional_bytes previous.now.plural ∷ [])) }
+    ensures grows { Grows bytes.old.items bytes.new.items }
+{
     add_optional(bytes, previous.context.as_deref())?;
     add_optional(bytes, previous.id.as_deref())?;
-    add_optional(bytes, previous.plural.as_deref())?;
-    Ok(())
+    add_optional(bytes, previous.plural.as_deref())
 }
 
 /// Appends a head, where it has anything.
@@ -84,11 +160,93 @@ pub fn add_head(
     flags: &TextList,
     previous: &Previous,
 ) -> Result<(), AllocError>
-    ensures { OnOk result (bytes.new.items ≡ bytes.old.items
+    ensures added { OnOk result (bytes.new.items ≡ bytes.old.items
         ++ head_bytes (headed comments.now extracted.now references.now flags.now previous.now)) }
+    ensures grows { Grows bytes.old.items bytes.new.items }
 {
     if has_no_head(comments, extracted, references, flags, previous) {
         return Ok(());
     }
-    add_parts(bytes, comments, extracted, references, flags, previous)
+    add_lists(bytes, comments, extracted, references, flags)?;
+    add_previous(bytes, previous)
+}
+
+/// Appends the texts of a message, and returns how long the key is.
+fn add_message_texts(
+    bytes: &mut Vec<u8>,
+    context: Option<&[u8]>,
+    id: &[u8],
+    plural: Option<&[u8]>,
+    translation: &[u8],
+) -> Result<usize, AllocError>
+    ensures key { IfOk result (λ key. key ≡ length (key_bytes (option_copied context.entry) id.now)) }
+    ensures added { OnOk result (bytes.new.items ≡ bytes.old.items ++ own_bytes
+        (message_entry (option_copied context.entry) id.now (option_copied plural.entry) translation.now)) }
+    ensures grows { Grows bytes.old.items bytes.new.items }
+{
+    let start = bytes.len();
+    add_key(bytes, context, id)?;
+    let key = bytes.len() - start;
+    add_plural(bytes, plural)?;
+    add_text(bytes, translation)?;
+    Ok(key)
+}
+
+/// Appends the entry of a message, and returns its row.
+pub(crate) fn add_message(
+    bytes: &mut Vec<u8>,
+    context: Option<&[u8]>,
+    id: &[u8],
+    plural: Option<&[u8]>,
+    translation: &[u8],
+) -> Result<Row, AllocError>
+    ensures row { IfOk result (λ row. row ≡ row_of (length bytes.old.items)
+        (message_entry (option_copied context.entry) id.now (option_copied plural.entry) translation.now)) }
+    ensures added { OnOk result (bytes.new.items ≡ bytes.old.items ++ entry_bytes
+        (message_entry (option_copied context.entry) id.now (option_copied plural.entry) translation.now)) }
+    ensures grows { Grows bytes.old.items bytes.new.items }
+{
+    let start = bytes.len();
+    let key = add_message_texts(bytes, context, id, plural, translation)?;
+    Ok(Row {
+        start,
+        context: context_length(context),
+        key,
+        own: bytes.len() - start,
+        head: 0,
+        line: 0,
+        has_plural: plural.is_some(),
+        fuzzy: false,
+        obsolete: false,
+    })
+}
+
+/// Appends an entry, and returns its row.
+pub(crate) fn add_entry(bytes: &mut Vec<u8>, fields: &Fields) -> Result<Row, AllocError>
+    ensures row { IfOk result (λ row. row ≡ row_of (length bytes.old.items) (entry_view fields.now)) }
+    ensures added { OnOk result (bytes.new.items ≡ bytes.old.items ++ entry_bytes (entry_view fields.now)) }
+    ensures grows { Grows bytes.old.items bytes.new.items }
+{
+    let start = bytes.len();
+    let key = add_own(bytes, fields)?;
+    let own = bytes.len() - start;
+    add_head(
+        bytes,
+        &fields.comments,
+        &fields.extracted,
+        &fields.references,
+        &fields.flags,
+        &fields.previous,
+    )?;
+    Ok(Row {
+        start,
+        context: context_length(fields.context.as_deref()),
+        key,
+        own,
+        head: bytes.len() - start - own,
+        line: fields.line,
+        has_plural: fields.plural.is_some(),
+        fuzzy: fields.fuzzy,
+        obsolete: fields.obsolete,
+    })
 }

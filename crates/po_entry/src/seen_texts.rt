@@ -3,6 +3,7 @@
 ghost use Rattle.std.specs.Prelude.{◌≡◌, [], IfOk, OnOk, length, map};
 ghost use Rattle.std.specs.List.{position_or_len};
 ghost use Rattle.std.specs.Str.{bytes_eq};
+ghost use Rattle.po_entry.specs.Seeds.{seed_of};
 ghost use Rattle.po_entry.specs.SeenTexts.{with_seen};
 
 use crate::text_list::TextList;
@@ -18,10 +19,22 @@ pub struct Seeded {
     start: DefaultHasher,
 }
 
+impl Model for Seeded {
+    ghost use Rattle.std.specs.declared.hash.DefaultHasher.{DefaultHasher};
+
+    ghost Value = { DefaultHasher };
+
+    ghost view = { λ s. s.start };
+
+    ghost inverse = { λ start. record { start = start } };
+}
+
 impl Seeded {
     /// Begins each hash with this digest. It counts as two words, since one of them could be
     /// chosen, by trying texts.
-    pub fn of(digest: &DefaultHasher) -> Seeded {
+    pub fn of(digest: &DefaultHasher) -> Seeded
+        ensures { result ≡ seed_of digest.now }
+    {
         let mut more = *digest;
         more.write_u8(1);
         let mut start = DefaultHasher::new();
@@ -34,7 +47,7 @@ impl Seeded {
 impl BuildHasher for Seeded {
     type Hasher = DefaultHasher;
 
-    ghost build_hasher = { λ s. s.start };
+    ghost build_hasher = { λ s. s };
 
     fn build_hasher(&self) -> DefaultHasher {
         self.start

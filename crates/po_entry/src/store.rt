@@ -1,13 +1,15 @@
 //! The entries of a catalogue in one buffer.
 
-ghost use Rattle.std.specs.Prelude.{◌≡◌, ◌+◌, ◌^◌, ◌<◌, ◌≤◌, ◌++◌, [], IfOk, OnOk, OnErr, All, filter, length, get_or, map, not};
+ghost use Rattle.std.specs.Prelude.{◌≡◌, ◌+◌, ◌^◌, ◌<◌, ◌≤◌, ◌++◌, ◌∷◌, [], IfOk, OnOk, OnErr, All, filter, length, get_or, map, not};
 ghost use Rattle.std.specs.Vec.{vec_capacity, vec_len};
 ghost use Rattle.po_entry.specs.TextEntry.{TextEntry};
 ghost use Rattle.po_entry.specs.Validity.{IsCatalogueEntry};
 ghost use Rattle.po_entry.specs.Rows.{AreLaid, changed_at, entries_in, moved, set_fuzzy, set_obsolete};
 
 use crate::drafts::Drafts;
+use crate::entry::Entry;
 use crate::entry_ref::EntryRef;
+use crate::layout::add_entry;
 use crate::row::Row;
 use std::alloc::{AllocError, Global};
 use std::marker::Model;
@@ -86,6 +88,25 @@ impl Store {
         self.bytes.extend_from_slice(&drafts.bytes)?;
         add_rows(&mut self.rows, &drafts.rows, start);
         Ok(())
+    }
+
+    /// Adds a copy of an entry. Where an allocation failed, the entries are those that were there.
+    pub fn push(&mut self, entry: &Entry) -> Result<(), AllocError>
+        requires { IsCatalogueEntry entry.now }
+        ensures ok { OnOk result (self.new ≡ self.old ++ entry.now ∷ []) }
+        ensures unchanged { OnErr result (self.new ≡ self.old) }
+    {
+        let row = add_entry(&mut self.bytes, entry.fields())?;
+        self.rows.push(row)?;
+        Ok(())
+    }
+
+    /// Drops the entries, and keeps their room.
+    pub fn clear(&mut self)
+        ensures { self.new ≡ [] }
+    {
+        self.bytes.clear();
+        self.rows.clear();
     }
 
     /// Gives an entry the flag `fuzzy`, or takes it away.

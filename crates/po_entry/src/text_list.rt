@@ -5,6 +5,7 @@ ghost use Rattle.std.specs.Iterator.{YieldsFirstBy, item_count};
 ghost use Rattle.std.specs.Vec.{vec_capacity, vec_len};
 ghost use Rattle.po_entry.specs.Equality.{texts_eq};
 ghost use Rattle.std.specs.List.{flat_map};
+ghost use Rattle.po_entry.specs.Rows.{Grows};
 ghost use Rattle.po_entry.specs.TextLists.{length_bytes, measured, text_length, texts_in, texts_left};
 
 use byteorder::{ByteOrder, LittleEndian};
@@ -130,6 +131,7 @@ fn make_room(bytes: &mut Vec<u8>, more: usize) -> Result<(), AllocError>
 /// Adds a length. Where there is room for it, nothing is refused.
 pub(crate) fn add_length(bytes: &mut Vec<u8>, len: usize) -> Result<(), AllocError>
     ensures ok { OnOk result (bytes.new.items ≡ bytes.old.items ++ length_bytes len) }
+    ensures grows { Grows bytes.old.items bytes.new.items }
     ensures len { OnOk result (vec_len bytes.new ≡ vec_len bytes.old + length (length_bytes len)) }
     ensures capacity { vec_capacity bytes.old ≤ vec_capacity bytes.new }
     ensures room { vec_len bytes.old + length (length_bytes len) ≤ vec_capacity bytes.old → IsOk result }

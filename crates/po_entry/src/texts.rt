@@ -12,7 +12,7 @@ use memchr::memchr;
 use po_syntax::PoFault;
 use simdutf8::is_utf8;
 
-const NUL: u8 = 0;
+pub(crate) const NUL: u8 = 0;
 
 pub(crate) const EOT: u8 = 4;
 

@@ -1,0 +1,11 @@
+use Rattle.std.proofs.Common.{◌≡◌, ◌++◌, take}
+use Rattle.std.specs.List.{flat_map}
+use Rattle.po_entry.specs.Rows.{Grows, after_nul}
+use Rattle.po_entry.specs.TextEntry.{texts}
+use Rattle.po_entry.proofs.layout.add_forms.Given as goal
+
+abbrev pub invariant-loop-form : goal.invariant-loop-form
+invariant-loop-form l = record {
+  added : l.bytes.items ≡ l.initial.bytes.items ++ flat_map after_nul (texts (take l.form-index l.forms));
+  grows : Grows l.initial.bytes.items l.bytes.items;
+}

@@ -1,0 +1,16 @@
+use Rattle.std.proofs.Common.{◌≡◌, ◌++◌, rules}
+use Rattle.std.specs.List.{flat_map}
+use Rattle.po_entry.specs.EntryView.{entry_view}
+use Rattle.po_entry.specs.Rows.{after_nul, key_bytes, optional_bytes}
+use Rattle.po_entry.proofs.OwnTexts.{own_laid}
+use Rattle.po_entry.proofs.layout.add_own.Goals as goal
+
+pub returns-clause-added : goal.returns-clause-added
+returns-clause-added c =
+    let entry = entry_view c.args.fields.now in
+    let key : c.add_key.new.bytes.items ≡ c.args.bytes.now.items ++ key_bytes entry.context entry.id = search rules in
+    let plural : c.add_plural.new.bytes.items ≡ c.add_key.new.bytes.items ++ optional_bytes entry.plural =
+    search rules in
+    let forms : c.add_forms.new.bytes.items ≡ c.add_plural.new.bytes.items ++ flat_map after_nul entry.forms =
+    search rules in
+    own_laid _ _ _ _ entry.context entry.id entry.plural entry.forms key plural forms

@@ -1,0 +1,46 @@
+use Rattle.std.proofs.Common.{◌<◌, ◌^◌, ◌++◌, ◌∷◌, [], ◌∙◌, ap, ap₂, refl, sym, subst, List, length, arith}
+use Rattle.std.specs.Prelude.{All}
+use Rattle.po_entry.specs.EntryView.{entry_view}
+use Rattle.po_entry.specs.TextEntry.{TextEntry}
+use Rattle.po_entry.specs.Validity.{IsCatalogueEntry}
+use Rattle.po_entry.specs.declared.row.Row.{Row}
+use Rattle.po_entry.proofs.RowLemmas.{Pushed, always, keeps, pushed}
+use Rattle.po_entry.proofs.store.Store.push.Goals as goal
+
+added : (c : goal.In_ok-push) → Pushed c.self.inside.bytes.items c.add_entry.new.bytes.items
+    c.self.inside.rows.items c.push.new.self.items (entry_view c.fields.result.now)
+added c =
+    let small : length c.add_entry.new.bytes.items < 2 ^ 64 =
+    omega (arith, c.add_entry.new.bytes.ok.0, c.add_entry.new.bytes.ok.1, c.add_entry.new.bytes.small) in
+    pushed _ _ _ _ (entry_view c.fields.result.now) c.self.invariant.lie c.self.invariant.valid
+    (subst IsCatalogueEntry (sym c.fields.ensures.fields) c.requires) small c.in_ok-row.ensures.added
+    (c.in_ok-push.ensures.items
+    ∙ ap (λ (row : Row). c.self.inside.rows.items ++ row ∷ []) c.in_ok-row.ensures.row)
+
+pub invariant_of-self : goal.invariant_of-self
+invariant_of-self c =
+    let k = keeps _ _ _ _ c.add_entry.ensures.grows refl c.self.invariant.lie in
+    record { lie = k.lie; valid = subst (All IsCatalogueEntry) (sym k.same) c.self.invariant.valid }
+
+pub invariant_of-self-in_err-push : goal.invariant_of-self-in_err-push
+invariant_of-self-in_err-push c =
+    let k = keeps _ _ _ _ c.add_entry.ensures.grows c.in_err-push.ensures.items c.self.invariant.lie in
+    record { lie = k.lie; valid = subst (All IsCatalogueEntry) (sym k.same) c.self.invariant.valid }
+
+pub invariant_of-self-2 : goal.invariant_of-self-2
+invariant_of-self-2 c = let p = added c in record { lie = p.lie; valid = p.valid }
+
+pub returns-in_err-row-clause-unchanged : goal.returns-in_err-row-clause-unchanged
+returns-in_err-row-clause-unchanged c =
+    let k = keeps _ _ _ _ c.add_entry.ensures.grows refl c.self.invariant.lie in
+    always c.from_residual.result (k.same ∙ c.self.view_is)
+
+pub returns-in_err-push-clause-unchanged : goal.returns-in_err-push-clause-unchanged
+returns-in_err-push-clause-unchanged c =
+    let k = keeps _ _ _ _ c.add_entry.ensures.grows c.in_err-push.ensures.items c.self.invariant.lie in
+    always c.from_residual-in_err-push.result (k.same ∙ c.self.view_is)
+
+pub returns-clause-ok : goal.returns-clause-ok
+returns-clause-ok c =
+    (added c).more
+    ∙ ap₂ (λ (es : List TextEntry) (e : TextEntry). es ++ e ∷ []) c.self.view_is c.fields.ensures.fields
