@@ -10,6 +10,8 @@ pub mod SoundCatalogue
 pub mod Faults
 pub mod Turns
 pub mod Heads
+pub mod Results
+pub mod Laid
 pub mod PieceReading
 pub mod SoundFields
 pub mod JoinedStrings

@@ -1,30 +1,47 @@
 -- Steps of the loops over drafts, and the last item of a text.
-use Rattle.std.proofs.Common.{◌≡◌, ℕ, ◌+◌, ◌-◌, ◌<◌, ◌≤◌, List, [], ◌∷◌, Some, length, take, drop, get_or, sym, ap, ◌∙◌, subst, arith, zero, suc, add-one, drop-cons}
+use Rattle.std.proofs.Common.{◌≡◌, ℕ, ◌+◌, ◌-◌, ◌<◌, ◌≤◌, false, List, [], ◌∷◌, Some, length, map, take, drop, get_or, sym, ap, subst, arith, zero, suc, add-one, drop-cons}
 use Rattle.std.specs.Prelude.{All, slice_get}
 use Rattle.std.proofs.lemmas.List.{take_all}
-use Rattle.std.proofs.lemmas.List.Elements.{All-more}
+use Rattle.std.proofs.lemmas.List.Elements.{All-push}
 use Rattle.po_syntax.specs.declared.item.Item.{Item}
 use Rattle.po_syntax.specs.TextItem.{line_of, view, views}
+use Rattle.po_entry.specs.TextEntry.{TextEntry}
+use Rattle.po_entry.specs.Rows.{entry_at}
 use Rattle.po_entry.specs.Viable.{last_line}
+use Rattle.po_entry.specs.declared.row.Row.{Row}
+use Rattle.po_entry.proofs.RowLemmas.{taken_here}
 
--- the element at an index stands first after it
-pub drop_here : {X : Type 0} (xs : List X) (i : ℕ) (x : X) → i < length xs → x ≡ get_or xs i x
-    → drop i xs ≡ x ∷ drop (i + 1) xs
-drop_here xs i x below is = rw add-one (drop-cons xs i x below ∙ ap (λ y. y ∷ drop (suc i) xs) (sym is))
+-- what stands where there is no row
+abbrev pub no_row : Row
+no_row = record {
+  start = 0;
+  context = 0;
+  key = 0;
+  own = 0;
+  head = 0;
+  line = 0;
+  has_plural = false;
+  fuzzy = false;
+  obsolete = false;
+}
 
--- one more element that was checked
-pub asked_more : {X : Type 0} (P : X → Type 0) (xs : List X) (i : ℕ) (x : X) → i < length xs → x ≡ get_or xs i x
-    → All P (take i xs) → P x → All P (take (i + 1) xs)
-asked_more P xs i x below is so_far here = All-more P xs i x below so_far (subst P is here)
+module _ (bytes : List ℕ) (rows : List Row) (i : ℕ) where
+  -- the entry at an index stands first after it
+  pub rest_here : i < length rows
+      → map (entry_at bytes) (drop i rows) ≡ entry_at bytes (get_or rows i no_row)
+      ∷ map (entry_at bytes) (drop (i + 1) rows)
+  rest_here below = rw add-one (ap (map (entry_at bytes)) (drop-cons rows i no_row below))
 
--- an element of those of which all hold it
-pub asked_one : {X : Type 0} (P : X → Type 0) (xs : List X) (i : ℕ) (x : X) → i < length xs → x ≡ get_or xs i x
-    → All P xs → P x
-asked_one P xs i x below is all = subst P (sym is) (all i x below)
+  -- one more entry that was checked
+  pub asked_more : (P : TextEntry → Type 0) → i < length rows → All P (map (entry_at bytes) (take i rows))
+      → P (entry_at bytes (get_or rows i no_row)) → All P (map (entry_at bytes) (take (i + 1) rows))
+  asked_more P below so_far here =
+      subst (All P) (sym (taken_here bytes rows i no_row below)) (All-push P _ _ so_far here)
 
--- all elements were checked
-pub asked_all : {X : Type 0} (P : X → Type 0) (xs : List X) (i : ℕ) → length xs ≤ i → All P (take i xs) → All P xs
-asked_all P xs i past so_far = rw take_all at so_far
+  -- all entries were checked
+  pub asked_all : (P : TextEntry → Type 0) → length rows ≤ i → All P (map (entry_at bytes) (take i rows))
+      → All P (map (entry_at bytes) rows)
+  asked_all P past so_far = rw take_all at so_far
 
 pub last_at : (items : List Item) (n : ℕ) (item : Item) → n + 1 ≡ length items → Some item ≡ slice_get items n
     → line_of (view item) ≡ last_line (views items)

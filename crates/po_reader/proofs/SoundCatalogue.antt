@@ -1,5 +1,5 @@
 -- The entries that the items of a text spell are entries, if they can have their texts; kept with their comments or without.
-use Rattle.std.proofs.Common.{◌≡◌, ◌≢◌, ℕ, ◌<◌, Bool, List, Option, None, length, refl, ◌∙◌, arith, [], ◌++◌, get_or, map, true, false, ◌∷◌, subst, sym, IsUtf8}
+use Rattle.std.proofs.Common.{◌≡◌, ◌≢◌, ℕ, ◌<◌, Bool, List, Option, None, length, refl, ◌∙◌, arith, [], ◌++◌, get_or, map, true, false, ◌∷◌, IsUtf8}
 use Rattle.std.specs.Prelude.{All}
 use Rattle.std.proofs.lemmas.List.Elements.{All-nil, All-append, All-cons, All-head, All-tail, All-weaker, All-map}
 use Rattle.std.proofs.lemmas.Str.{IsUtf8-append}
@@ -8,12 +8,11 @@ use Rattle.po_syntax.specs.TextItem.{TextItem, Comment, Str, Word}
 use Rattle.po_entry.specs.EntryParts.{CommentText, PreviousText}
 use Rattle.po_entry.specs.Facts.AllAppend.{All-right, All-left}
 use Rattle.po_syntax.specs.declared.item.CommentKind.TheVariants.{Translator, Extracted, Reference, Flags}
-use Rattle.po_entry.specs.declared.fields.Fields.{Fields}
-use Rattle.po_entry.specs.EntryView.{entry_view}
+use Rattle.po_entry.specs.Rows.{CanLie}
 use Rattle.po_entry.specs.TextEntry.{TextEntry, quoted_texts}
 use Rattle.po_entry.specs.Bytes.{AreDistinct, Lacks}
 use Rattle.po_entry.specs.Comments.{texts_of, references_of, all_listed_flags, flags_of}
-use Rattle.po_entry.specs.Validity.{HasTexts, IsEntry, IsTranslatorComment, IsReference, IsFlag, EntryTextFault}
+use Rattle.po_entry.specs.Validity.{HasTexts, IsCatalogueEntry, IsEntry, IsTranslatorComment, IsReference, IsFlag, EntryTextFault}
 use Rattle.po_entry.specs.Spelling.{with_head, SpellsEntries}
 use Rattle.po_reader.proofs.Heads.{all_unmapped}
 use Rattle.po_reader.proofs.JoinedStrings.{entry_texts, entries_texts}
@@ -119,32 +118,18 @@ entry_valid spelt h t = record {
   one_form = h.one_form;
 }
 
--- the texts of drafts
-pub drafts_hold : (made : List Fields) → All SoundEntry (map entry_view made)
-    → All (λ draft. All (Lacks 0) (quoted_texts (entry_view draft))) made
-drafts_hold made h = λ k d inside. (all_unmapped SoundEntry entry_view made h k d inside).no_nul
-
--- where the strings are UTF-8, the texts of drafts are
+-- where the strings are UTF-8, the texts of what is kept are
 utf8_one : (all : Bool) (entry : TextEntry) → All IsUtf8 (quoted_texts entry)
     → All IsUtf8 (quoted_texts (kept_entry all entry))
 utf8_one true entry h = h
 utf8_one false entry h = h
 
-pub drafts_utf8 : (all : Bool) {items : List TextItem} {entries : List TextEntry} (made : List Fields)
-    → SpellsEntries items entries → map entry_view made ≡ map (kept_entry all) entries → All (OfString IsUtf8) items
-    → All (λ draft. All IsUtf8 (quoted_texts (entry_view draft))) made
-drafts_utf8 all {entries = entries} made spelt same h =
+pub kept_utf8 : (all : Bool) {items : List TextItem} {entries : List TextEntry} → SpellsEntries items entries
+    → All (OfString IsUtf8) items → All (λ entry. All IsUtf8 (quoted_texts entry)) (map (kept_entry all) entries)
+kept_utf8 all {entries = entries} spelt h =
     let texts = entries_texts IsUtf8 IsUtf8-append spelt h in
-    all_unmapped (λ (entry : TextEntry). All IsUtf8 (quoted_texts entry)) entry_view made
-    (subst (All (λ (entry : TextEntry). All IsUtf8 (quoted_texts entry))) (sym same)
-    (All-map (λ (entry : TextEntry). All IsUtf8 (quoted_texts entry)) (kept_entry all) entries
-    (λ k d inside. utf8_one all (get_or entries k d) (texts k d inside))))
-
--- drafts are those of entries, if they can have their texts
-pub drafts_valid : (made : List Fields) → All SoundEntry (map entry_view made)
-    → All (λ draft. HasTexts (entry_view draft) → IsEntry (entry_view draft)) made
-drafts_valid made h = λ k d inside.
-    entry_valid (entry_view (get_or made k d)) (all_unmapped SoundEntry entry_view made h k d inside)
+    All-map (λ (entry : TextEntry). All IsUtf8 (quoted_texts entry)) (kept_entry all) entries
+    (λ k d inside. utf8_one all (get_or entries k d) (texts k d inside))
 
 sound_one : (all : Bool) (entry : TextEntry) → SoundEntry entry → SoundEntry (kept_entry all entry)
 sound_one true entry h = h
@@ -159,10 +144,30 @@ sound_one false entry h = record {
   no_nul = h.no_nul;
 }
 
-pub kept_sound : (all : Bool) (entries : List TextEntry) → All SoundEntry entries
-    → All SoundEntry (map (kept_entry all) entries)
-kept_sound all entries h =
-    All-map SoundEntry (kept_entry all) entries (λ k d inside. sound_one all (get_or entries k d) (h k d inside))
+-- what is kept of entries that sound items spell
+module _ (all : Bool) {items : List TextItem} {entries : List TextEntry} (spelt : SpellsEntries items entries)
+    (hold : All HoldsText items) where
+  abbrev kept : List TextEntry
+  kept = map (kept_entry all) entries
+
+  sound : All SoundEntry kept
+  sound = All-map SoundEntry (kept_entry all) entries
+      (λ k d inside. sound_one all (get_or entries k d) (entries_sound spelt hold k d inside))
+
+  -- it can be laid out, and no text of it has a NUL
+  pub kept_lie : All CanLie kept
+  kept_lie = All-weaker SoundEntry CanLie (λ entry s. record { no_nul = s.no_nul; some_form = s.some_form }) kept sound
+
+  pub kept_no_nul : All (λ entry. All (Lacks 0) (quoted_texts entry)) kept
+  kept_no_nul = All-weaker SoundEntry (λ entry. All (Lacks 0) (quoted_texts entry)) (λ entry s. s.no_nul) kept sound
+
+  -- where they can have their texts, and the charsets are admitted, they can stand in a catalogue
+  pub kept_stand : All HasTexts kept → All HasAdmittedCharset kept → All IsCatalogueEntry kept
+  kept_stand texts charsets = λ k d inside.
+      record {
+        valid = entry_valid (get_or kept k d) (sound k d inside) (texts k d inside);
+        charset = charsets k d inside;
+      }
 
 pub texts_one : (all : Bool) (entry : TextEntry) → HasTexts (kept_entry all entry) → HasTexts entry
 texts_one true entry h = h

@@ -1,6 +1,6 @@
 -- How a text is read piece by piece, and why what is left of it isn't read. Internal but for the functions that read
 -- pieces (manual, "The Format of PO Files").
-use Rattle.std.specs.Prelude.{◌≡◌, ◌≢◌, ◌<◌, ℕ, List, [], ◌++◌, map, length}
+use Rattle.std.specs.Prelude.{◌≡◌, ◌≢◌, ◌<◌, ℕ, Bool, List, [], ◌++◌, map, length}
 use Rattle.po_syntax.specs.declared.fault.PoFault.{PoFault}
 use Rattle.po_syntax.specs.declared.fault.PoError.{PoError}
 use Rattle.po_syntax.specs.declared.fault.PoFault.TheVariants.{OutOfMemory}
@@ -10,7 +10,7 @@ use Rattle.po_syntax.specs.Piece.{IsPiece}
 use Rattle.po_syntax.specs.TextItem.{TextItem}
 use Rattle.po_entry.specs.TextEntry.{TextEntry}
 use Rattle.po_entry.specs.ReadsText.{ReadsLeft, ReadsText}
-use Rattle.po_reader.specs.KeptComments.{without_comments}
+use Rattle.po_reader.specs.KeptComments.{kept_entry}
 
 -- the error is such a fault, or out of memory, without a line
 pub record IsFaultOf (Has : PoFault → ℕ → Type 0) (error : PoError) : Type 0 where
@@ -22,10 +22,11 @@ pub record IsFaultOf (Has : PoFault → ℕ → Type 0) (error : PoError) : Type
 abbrev pub ReadsOn : LinesLeft → LinesLeft → List TextEntry → Type 0
 ReadsOn old new entries = (more : List TextEntry) → ReadsLeft new more → ReadsLeft old (entries ++ more)
 
--- the same of entries that are kept without their comments, references and flags
-abbrev pub ReadsMessages : LinesLeft → LinesLeft → List TextEntry → Type 0
-ReadsMessages old new messages =
-    (entries : List TextEntry) × (messages ≡ map without_comments entries) × ReadsOn old new entries
+-- further entries are added, those that the lines between read as, with their comments, references and flags or
+-- without
+abbrev pub AddsReading : Bool → LinesLeft → LinesLeft → List TextEntry → List TextEntry → Type 0
+AddsReading all old new before after =
+    (entries : List TextEntry) × (after ≡ before ++ map (kept_entry all) entries) × ReadsOn old new entries
 
 -- The fault of what is left to be read, with its line: the first of the text, in its bytes or lines;
 -- or that of the items.

@@ -1,21 +1,27 @@
 //! The own lines of an entry: context, msgid, plural and forms.
 
-ghost use Rattle.std.specs.Prelude.{◌≡◌, ◌≢◌, ◌<◌, ◌≤◌, ◌^◌, ◌++◌, ◌∷◌, [], ℕ, true, length, None, IfOk, IfErr, IfSome, OnOk, MatchOption};
+ghost use Rattle.std.specs.Prelude.{◌≡◌, ◌≢◌, ◌<◌, ◌≤◌, ◌^◌, ◌-◌, ◌++◌, [], ℕ, List, Option, true, length, is_some, option_to_list, None, IfOk, IfErr, IfSome, OnOk, MatchOption};
+ghost use Rattle.std.specs.List.{flat_map};
 ghost use Rattle.po_syntax.specs.TextItem.{Word};
-ghost use Rattle.po_entry.specs.TextEntry.{TextEntry, texts, optional_text};
-ghost use Rattle.po_entry.specs.declared.fields.Fields.{Fields};
-ghost use Rattle.po_reader.specs.Internal.ReaderView.{MakesEntry, wanted_view};
+ghost use Rattle.po_entry.specs.TextEntry.{TextEntry};
+ghost use Rattle.po_entry.specs.Rows.{after_nul, own_bytes};
+ghost use Rattle.po_reader.specs.Internal.ReaderView.{AddsEntry, bare_row, context_bytes, wanted_view};
 ghost use Rattle.po_reader.specs.Internal.Stage.{SoFar, Between, Before, InHead, Stop, no_lines, with_own, with_entry, with_context, with_forms, with_translation};
 ghost use Rattle.po_reader.specs.Internal.Stage as stage;
 ghost use Rattle.po_reader.specs.Internal.Turn.{and_text, begins_form, begins_own, is_wanted, opened, turn_own};
 ghost use Rattle.po_reader.specs.Internal.Reads.{comes, Fails};
 
-use crate::comment_texts::distinct_flags;
 use crate::cursor::{Cursor, take_strings};
 use crate::head::Head;
-use po_entry::Fields;
+use po_entry::{Drafts, Row};
 use po_syntax::{Keyword, Marks, PoError, PoFault};
 use std::alloc::Global;
+
+/// The byte before each text of an entry but the first.
+const NUL: u8 = 0;
+
+/// The byte after a context.
+const EOT: u8 = 4;
 
 /// What is wanted next of an entry.
 #[derive(Clone, Copy)]
@@ -50,25 +56,18 @@ fn keyword_fault(wanted: Wanted, obsolete: bool, keyword: Keyword, marks: Marks)
     }
 }
 
-/// A keyword of an entry's own lines, with its text.
-#[derive(Drop)]
-struct KeywordText {
-    keyword: Keyword,
-    line: u32,
-    text: Vec<u8>,
-}
-
-/// Takes the wanted keyword, which stands first, with its text.
+/// Takes the wanted keyword, which stands first, and appends its text. Gives the keyword and its
+/// line.
 fn take_keyword_text(
-    alloc: Global,
     rest: &mut Cursor<'_, '_>,
     wanted: Wanted,
     obsolete: bool,
-) -> Result<KeywordText, PoError>
-    ensures found { IfOk result (λ w. (read : SoFar) → read.own.obsolete ≡ obsolete
-        → comes (Between (Before read (wanted_view wanted))) rest.old
-        ≡ comes (Between (and_text read w.keyword w.line w.text.items)) rest.new) }
-    ensures wanted { IfOk result (λ w. is_wanted (wanted_view wanted) w.keyword ≡ true) }
+    out: &mut Vec<u8>,
+) -> Result<(Keyword, u32), PoError>
+    ensures found { IfOk result (λ w. (text : List ℕ) × (out.new.items ≡ out.old.items ++ text)
+        × ((read : SoFar) → read.own.obsolete ≡ obsolete → comes (Between (Before read (wanted_view wanted))) rest.old
+        ≡ comes (Between (and_text read w.0 w.1 text)) rest.new)) }
+    ensures wanted { IfOk result (λ w. is_wanted (wanted_view wanted) w.0 ≡ true) }
     ensures fewer { OnOk result (length rest.new.items < length rest.old.items) }
     ensures fault { IfErr result (λ e. (read : SoFar) → read.own.obsolete ≡ obsolete
         → Fails (Between (Before read (wanted_view wanted))) rest.old e) }
@@ -80,12 +79,8 @@ fn take_keyword_text(
         return Err(rest.refusal(fault));
     }
     rest.advance();
-    let text = take_strings(alloc, rest, Marks::own(obsolete))?;
-    Ok(KeywordText {
-        keyword,
-        line,
-        text,
-    })
+    take_strings(rest, Marks::own(obsolete), out)?;
+    Ok((keyword, line))
 }
 
 /// Whether a `msgstr[i]` is the first item, and not one of a previous text.
@@ -98,67 +93,62 @@ fn begins_form(rest: &Cursor<'_, '_>) -> bool
     }
 }
 
-/// Takes the plural forms that stand first, from index 0 on.
-fn take_forms(
-    alloc: Global,
-    rest: &mut Cursor<'_, '_>,
-    obsolete: bool,
-) -> Result<Vec<Vec<u8>>, PoError>
+/// Takes the plural forms that stand first, from index 0 on, and appends each after a NUL.
+fn take_forms(rest: &mut Cursor<'_, '_>, obsolete: bool, out: &mut Vec<u8>) -> Result<(), PoError>
     requires { length rest.old.items < 2 ^ 32 }
-    ensures found { IfOk result (λ forms. (read : SoFar) → read.own.obsolete ≡ obsolete
+    ensures found { OnOk result ((forms : List (List ℕ)) × (out.new.items ≡ out.old.items ++ flat_map after_nul forms)
+        × ((read : SoFar) → read.own.obsolete ≡ obsolete
         → comes (Between (Before (with_forms read []) (stage.Form 0))) rest.old
-        ≡ comes (Between (InHead (with_entry (with_forms read (texts forms.items))) 0)) rest.new) }
+        ≡ comes (Between (InHead (with_entry (with_forms read forms)) 0)) rest.new)) }
     ensures fewer { OnOk result (length rest.new.items < length rest.old.items) }
     ensures fault { IfErr result (λ e. (read : SoFar) → read.own.obsolete ≡ obsolete
         → Fails (Between (Before (with_forms read []) (stage.Form 0))) rest.old e) }
 {
-    let mut forms = Vec::new(alloc);
     let mut index = 0;
     loop {
-        let form = take_keyword_text(alloc, rest, Wanted::Form(index), obsolete)?;
-        forms.push(form.text)?;
+        out.push(NUL)?;
+        take_keyword_text(rest, Wanted::Form(index), obsolete, out)?;
         if !begins_form(rest) {
-            return Ok(forms);
+            return Ok(());
         }
         index += 1;
     }
 }
 
-/// Takes what follows a msgid, which stands first: a `msgstr`, or a plural and its forms. Gives the
-/// plural, if there is one, and the forms.
+/// Takes what follows a msgid, which stands first: a `msgstr`, or a plural and its forms; and
+/// appends each text after a NUL. Gives whether there is a plural.
 fn take_translation(
-    alloc: Global,
     rest: &mut Cursor<'_, '_>,
     obsolete: bool,
-) -> Result<(Option<Vec<u8>>, Vec<Vec<u8>>), PoError>
+    out: &mut Vec<u8>,
+) -> Result<bool, PoError>
     requires { length rest.old.items < 2 ^ 32 }
-    ensures found { IfOk result (λ t. (read : SoFar) → read.own.obsolete ≡ obsolete
-        → comes (Between (Before read stage.Translation)) rest.old
-        ≡ comes (Between (InHead (with_entry (with_translation read (optional_text t.0) (texts t.1.items))) 0))
-        rest.new) }
+    ensures found { IfOk result (λ has_plural. (plural : Option (List ℕ)) × (forms : List (List ℕ))
+        × (has_plural ≡ is_some plural)
+        × (out.new.items ≡ out.old.items ++ flat_map after_nul (option_to_list plural ++ forms))
+        × ((read : SoFar) → read.own.obsolete ≡ obsolete → comes (Between (Before read stage.Translation)) rest.old
+        ≡ comes (Between (InHead (with_entry (with_translation read plural forms)) 0)) rest.new)) }
     ensures fewer { OnOk result (length rest.new.items < length rest.old.items) }
     ensures fault { IfErr result (λ e. (read : SoFar) → read.own.obsolete ≡ obsolete
         → Fails (Between (Before read stage.Translation)) rest.old e) }
 {
-    let first = take_keyword_text(alloc, rest, Wanted::Translation, obsolete)?;
-    if let Keyword::MsgIdPlural = first.keyword {
-        let forms = take_forms(alloc, rest, obsolete)?;
-        return Ok((Some(first.text), forms));
+    out.push(NUL)?;
+    let (keyword, _) = take_keyword_text(rest, Wanted::Translation, obsolete, out)?;
+    if let Keyword::MsgIdPlural = keyword {
+        take_forms(rest, obsolete, out)?;
+        return Ok(true);
     }
-    let mut forms = Vec::with_capacity(alloc, 1)?;
-    forms.push(first.text)?;
-    Ok((None, forms))
+    Ok(false)
 }
 
-/// Takes the context, if there is one, which stands first; and gives whether the entry is obsolete.
-fn take_context(
-    alloc: Global,
-    rest: &mut Cursor<'_, '_>,
-) -> Result<(Option<Vec<u8>>, bool), PoError>
+/// Takes the context, if there is one, which stands first, and appends it with an EOT. Gives
+/// whether the entry is obsolete.
+fn take_context(rest: &mut Cursor<'_, '_>, out: &mut Vec<u8>) -> Result<bool, PoError>
     requires { begins_own rest.old.items ≡ true }
-    ensures found { IfOk result (λ p. (read : SoFar) (above : ℕ) → comes (Between (InHead read above)) rest.old
-        ≡ comes (Between (Before (with_own read (with_context (no_lines p.1) (optional_text p.0))) stage.Id))
-        rest.new) }
+    ensures found { IfOk result (λ obsolete. (context : Option (List ℕ))
+        × (out.new.items ≡ out.old.items ++ context_bytes context)
+        × ((read : SoFar) (above : ℕ) → comes (Between (InHead read above)) rest.old
+        ≡ comes (Between (Before (with_own read (with_context (no_lines obsolete) context)) stage.Id)) rest.new)) }
     ensures fewer { OnOk result (length rest.new.items ≤ length rest.old.items) }
     ensures fault { IfErr result (λ e. (read : SoFar) (above : ℕ) → Fails (Between (InHead read above)) rest.old e) }
 {
@@ -168,10 +158,49 @@ fn take_context(
     let obsolete = marks.obsolete;
     if let Keyword::MsgCtxt = keyword {
         rest.advance();
-        let context = take_strings(alloc, rest, Marks::own(obsolete))?;
-        return Ok((Some(context), obsolete));
+        take_strings(rest, Marks::own(obsolete), out)?;
+        out.push(EOT)?;
     }
-    Ok((None, obsolete))
+    Ok(obsolete)
+}
+
+/// How many bytes stand from there on.
+fn len_from(bytes: &[u8], start: usize) -> usize
+    requires { start ≤ length bytes.now }
+    ensures { result ≡ length bytes.now - start }
+{
+    bytes.len() - start
+}
+
+/// Takes the own lines of an entry, which stand first, and appends their texts. Gives the row of
+/// an entry without a head.
+fn take_own(rest: &mut Cursor<'_, '_>, out: &mut Vec<u8>) -> Result<Row, PoError>
+    requires few { length rest.old.items < 2 ^ 32 }
+    requires begins { begins_own rest.old.items ≡ true }
+    ensures found { IfOk result (λ row. (own : TextEntry) × (out.new.items ≡ out.old.items ++ own_bytes own)
+        × (row ≡ bare_row (length out.old.items) own) × ((read : SoFar) (above : ℕ)
+        → comes (Between (InHead read above)) rest.old
+        ≡ comes (Between (InHead (with_entry (with_own read own)) 0)) rest.new)) }
+    ensures fewer { OnOk result (length rest.new.items < length rest.old.items) }
+    ensures fault { IfErr result (λ e. (read : SoFar) (above : ℕ) → Fails (Between (InHead read above)) rest.old e) }
+{
+    let start = out.as_slice().len();
+    let obsolete = take_context(rest, out)?;
+    let context = len_from(out, start);
+    let (_, line) = take_keyword_text(rest, Wanted::Id, obsolete, out)?;
+    let key = len_from(out, start);
+    let has_plural = take_translation(rest, obsolete, out)?;
+    Ok(Row {
+        start,
+        context,
+        key,
+        own: len_from(out, start),
+        head: 0,
+        line,
+        has_plural,
+        fuzzy: false,
+        obsolete,
+    })
 }
 
 /// Takes the own lines of an entry, which stand first, and adds the draft of the entry that has
@@ -179,36 +208,24 @@ fn take_context(
 pub(crate) fn take_body(
     alloc: Global,
     rest: &mut Cursor<'_, '_>,
-    head: Head<'_>,
-    drafts: &mut Vec<Fields>,
+    head: &Head<'_>,
+    drafts: &mut Drafts,
 ) -> Result<(), PoError>
     requires few { length rest.old.items < 2 ^ 32 }
     requires begins { begins_own rest.old.items ≡ true }
-    ensures found { OnOk result ((own : TextEntry) × (draft : Fields) × MakesEntry head.entry own draft
-        × (drafts.new.items ≡ drafts.old.items ++ draft ∷ []) × ((read : SoFar) (above : ℕ) → comes (Between (InHead read above)) rest.old
+    ensures found { OnOk result ((own : TextEntry) × AddsEntry head.now own drafts.old drafts.new
+        × ((read : SoFar) (above : ℕ) → comes (Between (InHead read above)) rest.old
         ≡ comes (Between (InHead (with_entry (with_own read own)) 0)) rest.new)) }
     ensures fewer { OnOk result (length rest.new.items < length rest.old.items) }
     ensures fault { IfErr result (λ e. (read : SoFar) (above : ℕ) → Fails (Between (InHead read above)) rest.old e) }
 {
-    let (context, obsolete) = take_context(alloc, rest)?;
-    let id = take_keyword_text(alloc, rest, Wanted::Id, obsolete)?;
-    let (plural, forms) = take_translation(alloc, rest, obsolete)?;
-    let fuzzy = head.fuzzy;
-    let flags = distinct_flags(alloc, &head.flags)?;
-    let (comments, extracted, references, previous) = head.into_texts();
-    drafts.push(Fields {
-        comments,
-        extracted,
-        references,
-        fuzzy,
-        flags,
-        previous,
-        context,
-        id: id.text,
-        plural,
-        forms,
-        obsolete,
-        line: id.line,
+    let row = take_own(rest, &mut drafts.bytes)?;
+    let own_end = drafts.bytes.as_slice().len();
+    head.lay_out(alloc, &mut drafts.bytes)?;
+    drafts.rows.push(Row {
+        head: len_from(&drafts.bytes, own_end),
+        fuzzy: head.fuzzy,
+        ..row
     })?;
     Ok(())
 }

@@ -6,6 +6,7 @@ ghost use Rattle.std.specs.List.{flat_map, list_any, slice_split};
 ghost use Rattle.po_syntax.specs.Blanks.{is_blank};
 ghost use Rattle.po_entry.specs.Bytes.{trimmed};
 ghost use Rattle.po_entry.specs.TextEntry.{slice_texts};
+ghost use Rattle.po_entry.specs.Seeds.{digest_of, seed_of};
 ghost use Rattle.po_entry.specs.Comments.{is_fuzzy_flag, listed_references, listed_flags, with_flag};
 ghost use Rattle.po_reader.specs.Internal.Elements.{with_element};
 
@@ -125,7 +126,9 @@ fn add_flags<'i>(seen: &mut SeenTexts<'i>, text: &'i [u8]) -> Result<(), AllocEr
 }
 
 /// Hashes that begin with a digest of these texts.
-fn seeded_by(texts: &[&[u8]]) -> Seeded {
+fn seeded_by(texts: &[&[u8]]) -> Seeded
+    ensures { result ≡ seed_of (digest_of (slice_texts texts.now)) }
+{
     let mut digest = DefaultHasher::new();
     for text in texts {
         digest.write(text);

@@ -1,6 +1,6 @@
 //! The items that haven't been read yet, and the strings that stand first among them.
 
-ghost use Rattle.std.specs.Prelude.{◌≡◌, ◌≢◌, ◌<◌, [], ◌∷◌, ℕ, false, drop, length, IfOk, IfErr, OnOk, MatchBool, MatchOption};
+ghost use Rattle.std.specs.Prelude.{◌≡◌, ◌≢◌, ◌<◌, [], ◌∷◌, ◌++◌, ℕ, List, false, drop, length, IfErr, OnOk, MatchBool, MatchOption};
 ghost use Rattle.po_syntax.specs.declared.item.Keyword.{Keyword};
 ghost use Rattle.po_syntax.specs.TextItem.{Word, Str, line_of, view, views};
 ghost use Rattle.po_entry.specs.Viable.{last_line};
@@ -10,7 +10,6 @@ ghost use Rattle.po_reader.specs.Internal.Turn.{begins_word, begins_string, clos
 ghost use Rattle.po_reader.specs.Internal.Reads.{Rest, comes, line_at, Fails};
 
 use po_syntax::{Item, Keyword, Marks, PoError, PoFault};
-use std::alloc::Global;
 use std::marker::Model;
 
 /// The items that are left to be read.
@@ -88,18 +87,6 @@ impl<'i, 'a> Cursor<'i, 'a> {
         self.items = &items[1..];
     }
 
-    /// How many bytes the strings that stand first have together.
-    pub(crate) fn strings_len(&self) -> usize {
-        let mut len: usize = 0;
-        for item in self.items {
-            let Item::Str(bytes, ..) = item else {
-                return len;
-            };
-            len = len.saturating_add(bytes.as_slice().len());
-        }
-        len
-    }
-
     /// This fault, on the line of the first item, or at the end of the items.
     pub(crate) fn refusal(&self, kind: PoFault) -> PoError
         ensures { result ≡ record { kind = kind; line = line_at self.now } }
@@ -152,19 +139,19 @@ fn same_marks(a: Marks, b: Marks) -> bool
     a.obsolete == b.obsolete && a.previous == b.previous
 }
 
-/// Takes the text of the strings that stand first, under these marks.
+/// Takes the text of the strings that stand first, under these marks, and appends it.
 pub(crate) fn take_strings(
-    alloc: Global,
     rest: &mut Cursor<'_, '_>,
     marks: Marks,
-) -> Result<Vec<u8>, PoError>
-    ensures found { IfOk result (λ text. (read : SoFar) (keyword : Keyword) → comes (In read keyword marks false [])
-        rest.old ≡ comes (Between (closed read keyword marks text.items)) rest.new) }
+    out: &mut Vec<u8>,
+) -> Result<(), PoError>
+    ensures found { OnOk result ((text : List ℕ) × (out.new.items ≡ out.old.items ++ text)
+        × ((read : SoFar) (keyword : Keyword) → comes (In read keyword marks false []) rest.old
+        ≡ comes (Between (closed read keyword marks text)) rest.new)) }
     ensures fewer { OnOk result (length rest.new.items < length rest.old.items) }
     ensures fault { IfErr result (λ e. (read : SoFar) (keyword : Keyword)
         → Fails (In read keyword marks false []) rest.old e) }
 {
-    let mut text = Vec::with_capacity(alloc, rest.strings_len())?;
     loop {
         let Some((bytes, found)) = rest.first_string() else {
             return Err(rest.refusal(PoFault::BadOrder));
@@ -173,9 +160,9 @@ pub(crate) fn take_strings(
             return Err(rest.refusal(stray_string(marks, found)));
         }
         rest.advance();
-        text.extend_from_slice(bytes)?;
+        out.extend_from_slice(bytes)?;
         if rest.first_string().is_none() {
-            return Ok(text);
+            return Ok(());
         }
     }
 }

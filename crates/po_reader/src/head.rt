@@ -1,18 +1,20 @@
 //! The first half of an entry: comments, previous texts and context.
 
-ghost use Rattle.std.specs.Prelude.{◌≡◌, ◌<◌, ◌≤◌, ◌++◌, ◌∷◌, [], ℕ, Bool, Some, List, length, IfOk, IfErr, OnOk};
+ghost use Rattle.std.specs.Prelude.{◌≡◌, ◌<◌, ◌≤◌, ◌++◌, ◌∷◌, [], ℕ, Bool, false, Some, List, length, IfOk, IfErr, OnOk};
 ghost use Rattle.po_entry.specs.EntryParts.{CommentText, PreviousText, rank};
 ghost use Rattle.po_entry.specs.Comments.{with_previous};
 ghost use Rattle.po_entry.specs.TextEntry.{TextEntry};
-ghost use Rattle.po_reader.specs.Internal.Stage.{Between, InHead, after_head};
-ghost use Rattle.po_reader.specs.Internal.Turn.{begins_body, EndsHead};
+ghost use Rattle.po_entry.specs.Rows.{head_bytes};
+ghost use Rattle.po_reader.specs.Internal.Stage.{Between, In, InHead, SoFar, after_head};
+ghost use Rattle.po_syntax.specs.declared.item.Keyword.{Keyword};
+ghost use Rattle.po_reader.specs.Internal.Turn.{begins_body, closed, EndsHead};
 ghost use Rattle.po_reader.specs.Internal.Reads.{comes, start, Fails};
-ghost use Rattle.po_reader.specs.Internal.ReaderView.{HoldsHead, HoldsComments};
+ghost use Rattle.po_reader.specs.Internal.ReaderView.{HoldsHead, HoldsComments, with_kept_head};
 
-use crate::comment_texts::{add_references, has_fuzzy};
+use crate::comment_texts::{add_references, distinct_flags, has_fuzzy};
 use crate::cursor::{Cursor, take_strings};
-use po_entry::{Previous, TextList};
-use po_syntax::{CommentKind, Item, Keyword, PoError, PoFault};
+use po_entry::{Previous, TextList, add_head};
+use po_syntax::{CommentKind, Item, Keyword, Marks, PoError, PoFault};
 use std::alloc::{AllocError, Global};
 
 /// What stands before an entry's own lines.
@@ -57,20 +59,34 @@ impl Head<'_> {
         }
     }
 
-    /// Its comments, extracted comments, references and previous texts.
-    #[inline(always)]
-    pub(crate) fn into_texts(self) -> (TextList, TextList, TextList, Previous)
-        ensures { result ≡ (self.entry.comments, self.entry.extracted, self.entry.references, self.entry.previous) }
+    /// Drops what it holds, and keeps its room.
+    pub(crate) fn clear(&mut self)
+        ensures { (all : Bool) → HoldsHead all self.new [] [] }
     {
-        let Head {
-            comments,
-            extracted,
-            references,
-            previous,
-            flags: _,
-            fuzzy: _,
-        } = self;
-        (comments, extracted, references, previous)
+        self.comments.clear();
+        self.extracted.clear();
+        self.references.clear();
+        self.flags.clear();
+        self.fuzzy = false;
+        self.previous = Previous::none();
+    }
+
+    /// Appends it, with each of its flags once.
+    pub(crate) fn lay_out(&self, alloc: Global, bytes: &mut Vec<u8>) -> Result<(), AllocError>
+        ensures grows { OnOk result (length bytes.old.items ≤ length bytes.new.items) }
+        ensures laid { OnOk result ((all : Bool) (comment_texts : List CommentText) (previous : List PreviousText)
+            (own : TextEntry) → HoldsHead all self.now comment_texts previous
+            → bytes.new.items ≡ bytes.old.items ++ head_bytes (with_kept_head all comment_texts previous own)) }
+    {
+        let flags = distinct_flags(alloc, &self.flags)?;
+        add_head(
+            bytes,
+            &self.comments,
+            &self.extracted,
+            &self.references,
+            &flags,
+            &self.previous,
+        )
     }
 }
 
@@ -149,6 +165,23 @@ fn set_previous(previous: &mut Previous, keyword: Keyword, text: Vec<u8>)
     }
 }
 
+/// Takes the previous text of the strings that stand first, under these marks.
+fn take_previous_text(
+    alloc: Global,
+    rest: &mut Cursor<'_, '_>,
+    marks: Marks,
+) -> Result<Vec<u8>, PoError>
+    ensures found { IfOk result (λ text. (read : SoFar) (keyword : Keyword) → comes (In read keyword marks false [])
+        rest.old ≡ comes (Between (closed read keyword marks text.items)) rest.new) }
+    ensures fewer { OnOk result (length rest.new.items < length rest.old.items) }
+    ensures fault { IfErr result (λ e. (read : SoFar) (keyword : Keyword)
+        → Fails (In read keyword marks false []) rest.old e) }
+{
+    let mut text = Vec::new(alloc);
+    take_strings(rest, marks, &mut text)?;
+    Ok(text)
+}
+
 /// Takes what stands before an entry's own lines, or up to the end of the items, into a head that
 /// holds nothing: all of it, or without comments but for whether they have the flag `fuzzy`.
 pub(crate) fn take_head<'i>(
@@ -184,7 +217,7 @@ pub(crate) fn take_head<'i>(
                     return Err(rest.refusal(PoFault::BadOrder));
                 }
                 rest.advance();
-                let text = take_strings(alloc, rest, *marks)?;
+                let text = take_previous_text(alloc, rest, *marks)?;
                 set_previous(&mut head.previous, *keyword, text);
                 above = rank(*keyword);
             }

@@ -3,7 +3,7 @@
 //! a draft, and becomes an entry once its texts and charset are checked.
 //!
 //! [`read`] reads a text piece by piece. A caller that keeps no catalogue takes the pieces one by
-//! one: [`next_catalogue`] and [`next_messages`].
+//! one, each into a store: [`next_store`].
 //!
 //! The modules in reading order: `cursor`, `comment_texts`, `head`, `body`, `items`,
 //! `reading`, `laws`.
@@ -18,4 +18,4 @@ mod items;
 pub mod laws;
 mod reading;
 
-pub use crate::reading::{PIECE, next_catalogue, next_messages, read};
+pub use crate::reading::{PIECE, next_store, read};

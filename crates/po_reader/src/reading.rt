@@ -1,61 +1,59 @@
 //! The entries of a text, a few at a time or all.
 
-ghost use Rattle.std.specs.Prelude.{◌≡◌, ◌≢◌, IfOk, IfErr, OnOk};
+ghost use Rattle.std.specs.Prelude.{◌≡◌, ◌≢◌, All, IfOk, IfErr, OnErr, OnOk};
 ghost use Rattle.po_entry.specs.ReadsText.{ReadsText};
+ghost use Rattle.po_entry.specs.Rows.{AreLaid, entries_in};
+ghost use Rattle.po_entry.specs.Validity.{IsCatalogueEntry};
 ghost use Rattle.po_entry.specs.Faults.{IsReadFault};
-ghost use Rattle.po_reader.specs.PieceRead.{ReadsOn, ReadsMessages, ReadsPiece, FaultsStay, IsLeftError, IsShorter};
+ghost use Rattle.po_reader.specs.PieceRead.{AddsReading, ReadsPiece, FaultsStay, IsLeftError, IsShorter};
 ghost use Rattle.po_reader.specs.Internal.Keeping.{KeepsReading};
 
 use crate::items::read_items;
-use po_entry::Catalogue;
+use po_entry::{Catalogue, Drafts, Store};
 use po_syntax::laws::pieces_are_cut_off;
 use po_syntax::{Pieces, PoError, PoFault, strings_are_utf8};
-use std::alloc::Global;
+use std::alloc::{AllocError, Global};
 
-/// The entries of the next piece: of at least this many bytes, or of all that is left. Where the
-/// lines that are left read as entries, they read as those of the piece and then those of the rest.
+/// Adds the entries of the next piece to a store, with their comments, references and flags or
+/// without: of at least this many bytes, or of all that is left. Where the lines that are left read
+/// as entries, they read as those of the piece and then those of the rest. The drafts are room for
+/// the entries before they are checked.
 ///
 /// The first fault of a text may be on a line after the piece, as a line's fault comes before those
 /// of entries. So where a piece doesn't read, all that is left is read with it, and the fault is
-/// that of the whole.
-pub fn next_catalogue(
-    alloc: Global,
-    pieces: &mut Pieces<'_>,
-    size: usize,
-) -> Result<Catalogue, PoError>
-    ensures found { IfOk result (ReadsOn pieces.old pieces.new) }
-    ensures piece { OnOk result (ReadsPiece size pieces.old pieces.new) }
-    ensures faults { OnOk result (FaultsStay pieces.old pieces.new) }
-    ensures fewer { OnOk result (IsShorter pieces.old pieces.new) }
-    ensures fault { IfErr result (IsLeftError pieces.old) }
-{
-    next_entries(alloc, pieces, size, true)
-}
-
-/// The entries of the next piece, as `next_catalogue` reads them, but without their comments,
-/// references and flags: for a caller that wants only their messages.
-pub fn next_messages(
-    alloc: Global,
-    pieces: &mut Pieces<'_>,
-    size: usize,
-) -> Result<Catalogue, PoError>
-    ensures found { IfOk result (ReadsMessages pieces.old pieces.new) }
-    ensures piece { OnOk result (ReadsPiece size pieces.old pieces.new) }
-    ensures faults { OnOk result (FaultsStay pieces.old pieces.new) }
-    ensures fewer { OnOk result (IsShorter pieces.old pieces.new) }
-    ensures fault { IfErr result (IsLeftError pieces.old) }
-{
-    next_entries(alloc, pieces, size, false)
-}
-
-/// The entries of the next piece, with their comments, references and flags or without.
-fn next_entries(
+/// that of the whole. Then the store has the entries that it had.
+pub fn next_store(
     alloc: Global,
     pieces: &mut Pieces<'_>,
     size: usize,
     with_comments: bool,
-) -> Result<Catalogue, PoError>
-    ensures found { IfOk result (KeepsReading with_comments pieces.old pieces.new) }
+    drafts: &mut Drafts,
+    store: &mut Store,
+) -> Result<(), PoError>
+    ensures found { OnOk result (AddsReading with_comments pieces.old pieces.new store.old store.new) }
+    ensures piece { OnOk result (ReadsPiece size pieces.old pieces.new) }
+    ensures faults { OnOk result (FaultsStay pieces.old pieces.new) }
+    ensures fewer { OnOk result (IsShorter pieces.old pieces.new) }
+    ensures unchanged { OnErr result (store.new ≡ store.old) }
+    ensures fault { IfErr result (IsLeftError pieces.old) }
+{
+    next_drafts(alloc, pieces, size, with_comments, drafts)?;
+    store.append(drafts)?;
+    Ok(())
+}
+
+/// Puts the entries of the next piece in place of the drafts, with their comments, references and
+/// flags or without. Each of them can stand in a catalogue.
+fn next_drafts(
+    alloc: Global,
+    pieces: &mut Pieces<'_>,
+    size: usize,
+    with_comments: bool,
+    drafts: &mut Drafts,
+) -> Result<(), PoError>
+    ensures found { OnOk result (KeepsReading with_comments pieces.old pieces.new (entries_in drafts.new)) }
+    ensures lie { OnOk result (AreLaid drafts.new) }
+    ensures valid { OnOk result (All IsCatalogueEntry (entries_in drafts.new)) }
     ensures piece { OnOk result (ReadsPiece size pieces.old pieces.new) }
     ensures faults { OnOk result (FaultsStay pieces.old pieces.new) }
     ensures fewer { OnOk result (IsShorter pieces.old pieces.new) }
@@ -65,18 +63,29 @@ fn next_entries(
     let items = pieces.next(alloc, size)?;
     let are_utf8 = strings_are_utf8(&items);
     pieces_are_cut_off();
-    match read_items(alloc, items, are_utf8, with_comments) {
-        Ok(entries) => Ok(entries),
+    match read_items(alloc, items, are_utf8, with_comments, drafts) {
+        Ok(()) => Ok(()),
         Err(error) => match error.kind {
             PoFault::OutOfMemory => Err(error),
             _ => {
                 *pieces = start;
                 let items = pieces.next(alloc, usize::MAX)?;
                 let are_utf8 = strings_are_utf8(&items);
-                read_items(alloc, items, are_utf8, with_comments)
+                read_items(alloc, items, are_utf8, with_comments, drafts)
             }
         },
     }
+}
+
+/// The catalogue of a copy of each entry; refused only where an allocation failed.
+fn catalogue_of(alloc: Global, store: &Store) -> Result<Catalogue, AllocError>
+    ensures { IfOk result (λ catalogue. catalogue ≡ store.now) }
+{
+    let mut entries = Vec::with_capacity(alloc, store.len())?;
+    for index in 0..store.len() {
+        entries.push_reserved(store.get(index).copied(alloc)?);
+    }
+    Ok(Catalogue::of(entries))
 }
 
 /// How many bytes of a text are read at a time, at least: few enough that the items and entries of
@@ -105,10 +114,10 @@ pub fn read(alloc: Global, text: &[u8]) -> Result<Catalogue, PoError>
     ensures memory { IfErr result (λ e. e.kind ≡ PoFault.OutOfMemory → e.line ≡ 0) }
 {
     let mut pieces = Pieces::of(text)?;
-    let mut catalogue = Catalogue::new(alloc);
+    let mut drafts = Drafts::new(alloc);
+    let mut store = Store::new(alloc);
     while !pieces.are_over() {
-        let piece = next_catalogue(alloc, &mut pieces, PIECE)?;
-        catalogue.append(piece)?;
+        next_store(alloc, &mut pieces, PIECE, true, &mut drafts, &mut store)?;
     }
-    Ok(catalogue)
+    Ok(catalogue_of(alloc, &store)?)
 }

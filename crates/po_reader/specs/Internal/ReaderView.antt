@@ -1,8 +1,9 @@
--- What contracts see of a head while it is read, of the entry that is made of it, and of what is wanted next.
-use Rattle.std.specs.Prelude.{◌≡◌, Bool, List}
+-- What contracts see of a head while it is read, of the entry that is laid out with it, and of what is wanted next.
+use Rattle.std.specs.Prelude.{◌≡◌, ℕ, Bool, false, List, [], ◌∷◌, ◌++◌, Option, None, Some}
 use Rattle.po_reader.specs.declared.head.Head.{Head}
-use Rattle.po_entry.specs.declared.fields.Fields.{Fields}
-use Rattle.po_entry.specs.EntryView.{entry_view}
+use Rattle.po_entry.specs.declared.drafts.Drafts.{Drafts}
+use Rattle.po_entry.specs.declared.row.Row.{Row}
+use Rattle.po_entry.specs.Rows.{Adds, row_of}
 use Rattle.po_reader.specs.KeptComments.{kept_texts}
 use Rattle.po_entry.specs.TextEntry.{TextEntry, slice_texts}
 use Rattle.po_entry.specs.EntryParts.{CommentText, PreviousText}
@@ -37,11 +38,20 @@ with_kept_head all comment_texts previous own = record own {
   previous = previous_of previous;
 }
 
--- the fields are those of the entry with this head and these own lines, with its comments or without
-abbrev pub MakesEntry : Head → TextEntry → Fields → Type 0
-MakesEntry head own fields =
+-- a context with the EOT after it; nothing where there is none
+abbrev pub context_bytes : Option (List ℕ) → List ℕ
+context_bytes None = []
+context_bytes (Some context) = context ++ 4 ∷ []
+
+-- the row of an entry whose bytes begin there, without its head
+abbrev pub bare_row : ℕ → TextEntry → Row
+bare_row start own = record (row_of start own) { head = 0; fuzzy = false }
+
+-- the entry with this head and these own lines is laid out after the others, with its comments or without
+abbrev pub AddsEntry : Head → TextEntry → Drafts → Drafts → Type 0
+AddsEntry head own old new =
     (all : Bool) (comment_texts : List CommentText) (previous : List PreviousText)
-    → HoldsHead all head comment_texts previous → entry_view fields ≡ with_kept_head all comment_texts previous own
+    → HoldsHead all head comment_texts previous → Adds (with_kept_head all comment_texts previous own) old new
 
 abbrev pub wanted_view : Wanted → spec.Wanted
 wanted_view code.Id = spec.Id

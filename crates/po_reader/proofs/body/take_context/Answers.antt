@@ -1,22 +1,25 @@
-use Rattle.std.proofs.Common.{◌∙◌}
+use Rattle.std.proofs.Common.{◌∙◌, ◌++◌, ◌∷◌, [], List, ℕ, Some, ap, append_assoc}
 use Rattle.po_syntax.specs.declared.item.Keyword.TheVariants.{MsgCtxt}
 use Rattle.po_reader.specs.Internal.Stage.{with_own, no_lines}
 use Rattle.po_syntax.proofs.Results.{passed_on}
-use Rattle.po_reader.proofs.Turns.{fails_from, context_begins, id_begins}
+use Rattle.po_reader.proofs.Turns.{fails_from, context_begins}
 use Rattle.po_reader.proofs.body.take_context.Goals as goal
 
-pub returns-in-MsgCtxt-clause-found : goal.returns-in-MsgCtxt-clause-found
-returns-in-MsgCtxt-clause-found c = λ read above.
-    context_begins _ _ _ _ _ (rw c.in-MsgCtxt.is at c.in-Some.ensures) c.requires read above
-    ∙ rw (c.own.ensures, c.advance.ensures.rest) at
-    (c.in_ok-context.ensures.found (with_own read (no_lines c.in-Some.marks.obsolete)) MsgCtxt)
-
-pub returns-in_err-context-clause-fault : goal.returns-in_err-context-clause-fault
-returns-in_err-context-clause-fault c = passed_on c.from_residual.result _ c.from_residual.ensures.1 (λ read above.
+pub returns-in_err-take_strings-clause-fault : goal.returns-in_err-take_strings-clause-fault
+returns-in_err-take_strings-clause-fault c =
+    passed_on c.from_residual.result _ c.from_residual.ensures.1 (λ read above.
     fails_from (context_begins _ _ _ _ _ (rw c.in-MsgCtxt.is at c.in-Some.ensures) c.requires read above)
     (rw (c.own.ensures, c.advance.ensures.rest) at
-    (c.in_err-context.ensures.fault (with_own read (no_lines c.in-Some.marks.obsolete)) MsgCtxt)))
+    (c.in_err-take_strings.ensures.fault (with_own read (no_lines c.in-Some.marks.obsolete)) MsgCtxt)))
 
-pub returns-clause-found : goal.returns-clause-found
-returns-clause-found c =
-    λ read above. id_begins _ _ _ _ _ _ c.in-Some.ensures c.in_default-keyword.not-MsgCtxt c.requires read above
+pub returns-in_ok-push-clause-found : goal.returns-in_ok-push-clause-found
+returns-in_ok-push-clause-found c =
+    let found = c.in_ok-take_strings.ensures.found in (
+      Some found.0,
+      c.in_ok-push.ensures.items ∙ ap (λ (l : List ℕ). l ++ 4 ∷ []) found.1
+          ∙ append_assoc c.args.out.now.items found.0 (4 ∷ []),
+      λ read above.
+          context_begins _ _ _ _ _ (rw c.in-MsgCtxt.is at c.in-Some.ensures) c.requires read above
+          ∙ rw (c.own.ensures, c.advance.ensures.rest) at
+          (found.2 (with_own read (no_lines c.in-Some.marks.obsolete)) MsgCtxt),
+    )

@@ -1,16 +1,18 @@
-use Rattle.std.proofs.Common.{◌≡◌, [], ◌+◌, ◌≤◌, length}
-use Rattle.po_entry.specs.TextEntry.{texts}
+use Rattle.std.proofs.Common.{◌≡◌, [], ◌++◌, ◌+◌, ◌≤◌, ℕ, List, length}
+use Rattle.std.specs.List.{flat_map}
+use Rattle.po_entry.specs.Rows.{after_nul}
 use Rattle.po_reader.specs.Internal.Stage.{SoFar, Between, Before, Form, with_forms}
 use Rattle.po_reader.specs.Internal.Reads.{comes}
 use Rattle.po_reader.proofs.body.take_forms.Given as goal
 
-abbrev pub invariant-loop-forms : goal.invariant-loop-forms
-invariant-loop-forms l = record {
-  reads : (read : SoFar) → read.own.obsolete ≡ l.obsolete
+abbrev pub invariant-loop-rest : goal.invariant-loop-rest
+invariant-loop-rest l = record {
+  reads : (forms : List (List ℕ)) × (l.out.items ≡ l.fn.out.items ++ flat_map after_nul forms)
+      × ((read : SoFar) → read.own.obsolete ≡ l.obsolete
       → comes (Between (Before (with_forms read []) (Form 0))) l.fn.rest
-      ≡ comes (Between (Before (with_forms read (texts l.forms.items)) (Form l.index))) l.rest;
+      ≡ comes (Between (Before (with_forms read forms) (Form l.index))) l.rest);
   fewer : length l.rest.items + l.index ≤ length l.fn.rest.items;
 }
 
-abbrev pub decreases-loop-forms : goal.decreases-loop-forms
-decreases-loop-forms l = length l.rest.items
+abbrev pub decreases-loop-rest : goal.decreases-loop-rest
+decreases-loop-rest l = length l.rest.items

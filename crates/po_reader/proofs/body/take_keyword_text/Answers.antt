@@ -19,10 +19,10 @@ returns-in-Some-keyword_fault-clause-fault c = λ read same.
       memory = λ memory. absurd (c.in-Some-keyword_fault.ensures.other memory);
     })
 
-pub returns-in_err-text-clause-fault : goal.returns-in_err-text-clause-fault
-returns-in_err-text-clause-fault c = passed_on c.from_residual.result _ c.from_residual.ensures.1 (λ read same.
+pub returns-in_err-take_strings-clause-fault : goal.returns-in_err-take_strings-clause-fault
+returns-in_err-take_strings-clause-fault c = passed_on c.from_residual.result _ c.from_residual.ensures.1 (λ read same.
     fails_from (taken _ _ _ _ c.in-Some.ensures (Between (Before read (wanted_view c.args.wanted))) _
     (c.in_default-keyword_fault.ensures.step read c.in-Some.line same))
     (rw (c.own.ensures ∙ ap own_marks (sym same), c.advance.ensures.rest) at
-    (c.in_err-text.ensures.fault
+    (c.in_err-take_strings.ensures.fault
     (with_own read (with_keyword c.in-Some.keyword c.in-Some.line read.own)) c.in-Some.keyword)))

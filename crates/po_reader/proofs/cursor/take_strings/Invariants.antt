@@ -1,4 +1,4 @@
-use Rattle.std.proofs.Common.{◌≡◌, Bool, true, false, [], ◌≤◌, length}
+use Rattle.std.proofs.Common.{◌≡◌, Bool, true, false, [], ◌≤◌, ◌++◌, ℕ, List, length}
 use Rattle.po_syntax.specs.declared.item.Keyword.{Keyword}
 use Rattle.po_reader.specs.Internal.Stage.{SoFar, In}
 use Rattle.po_reader.specs.Internal.Turn.{begins_string}
@@ -7,10 +7,11 @@ use Rattle.po_reader.proofs.cursor.take_strings.Given as goal
 
 abbrev pub invariant-loop-bytes : goal.invariant-loop-bytes
 invariant-loop-bytes l = record {
-  reads : (some : Bool) × (some ≡ true → begins_string l.rest.items ≡ true)
+  reads : (some : Bool) × (text : List ℕ) × (l.out.items ≡ l.initial.out.items ++ text)
+      × (some ≡ true → begins_string l.rest.items ≡ true)
       × ((read : SoFar) (keyword : Keyword)
       → comes (In read keyword l.marks false []) l.fn.rest
-      ≡ comes (In read keyword l.marks some l.text.items) l.rest);
+      ≡ comes (In read keyword l.marks some text) l.rest);
   fewer : length l.rest.items ≤ length l.fn.rest.items;
 }
 

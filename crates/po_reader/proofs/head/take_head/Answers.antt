@@ -83,7 +83,7 @@ loop-kind-preserved c =
             (rw (c.if-not-marks.false, lt-ltb _ _ above) refl)
             ∙ rw c.advance-in-Some-Word.ensures.rest at
             (c.in_ok-text-in-Some-Word.ensures.found read c.in-Some-Word.keyword)
-            ∙ ap (λ gap. comes (Between gap) c.take_strings.new.rest)
+            ∙ ap (λ gap. comes (Between gap) c.take_previous_text.new.rest)
             (previous_closed read c.in-Some-Word.keyword c.in-Some-Word.marks
             c.in_ok-text-in-Some-Word.text.items c.if-not-marks.false)),
       );

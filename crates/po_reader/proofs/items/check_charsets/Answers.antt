@@ -1,29 +1,36 @@
-use Rattle.std.proofs.Common.{sym, ◌∙◌}
+use Rattle.std.proofs.Common.{sym, ◌∙◌, refl}
 use Rattle.std.proofs.lemmas.Bool.{false≢true}
 use Rattle.po_entry.specs.Faults.{foreign}
 use Rattle.po_entry.specs.Faults.EntriesStop.{here, later}
 use Rattle.po_entry.specs.Header.{HasAdmittedCharset}
-use Rattle.po_reader.proofs.Loops.{drop_here, asked_more, asked_all}
+use Rattle.po_reader.proofs.Loops.{asked_all, asked_more, rest_here}
 use Rattle.po_reader.proofs.items.check_charsets.Goals as goal
 
 pub returns-then-not-has_admitted_charset-clause-fault : goal.returns-then-not-has_admitted_charset-clause-fault
 returns-then-not-has_admitted_charset-clause-fault c =
-    c.loop-entry.invariant.stops _ _
-    (rw (drop_here _ _ _ c.loop-entry-test.true c.entry-item.is)
-    (here (foreign (λ admitted.
-    absurd (false≢true (sym c.if-not-has_admitted_charset.true ∙ c.has_admitted_charset.ensures.1 admitted))))
-    c.line.ensures))
+    let below = rw c.deref-row-items.ensures.value at c.loop-row-test.true in
+    let same = rw (c.deref.ensures.value, c.deref-row-items.ensures.value) at c.of.ensures in
+    rw c.deref-row-items.ensures.value
+    (c.loop-row.invariant.stops _ _
+    (rw (rest_here c.args.drafts.now.bytes.items c.args.drafts.now.rows.items c.loop-row.row-index below)
+    (here (foreign (λ admitted. absurd (false≢true (sym c.if-not-has_admitted_charset.true
+    ∙ c.has_admitted_charset.ensures.1 (rw same admitted))))) refl)))
+
+pub loop-row-preserved : goal.loop-row-preserved
+loop-row-preserved c =
+    let bytes = c.args.drafts.now.bytes.items in
+    let rows = c.args.drafts.now.rows.items in
+    let below = rw c.deref-row-items.ensures.value at c.loop-row-test.true in
+    let same = rw (c.deref.ensures.value, c.deref-row-items.ensures.value) at c.of.ensures in
+    let admitted = rw same at (c.has_admitted_charset.ensures.0 c.if-not-has_admitted_charset.false) in
+    record {
+      admitted = asked_more bytes rows c.loop-row.row-index HasAdmittedCharset below
+          c.loop-row.invariant.admitted admitted;
+      stops = λ fault line h. c.loop-row.invariant.stops _ _
+          (rw (rest_here bytes rows c.loop-row.row-index below) (later admitted h));
+    }
 
 pub returns-clause-ok : goal.returns-clause-ok
 returns-clause-ok c =
-    asked_all HasAdmittedCharset _ _ c.loop-entry-test.false c.loop-entry.invariant.admitted
-
-pub loop-entry-preserved : goal.loop-entry-preserved
-loop-entry-preserved c =
-    let admitted = c.has_admitted_charset.ensures.0 c.if-not-has_admitted_charset.false in
-    record {
-      admitted = asked_more HasAdmittedCharset _ _ _ c.loop-entry-test.true c.entry-item.is
-          c.loop-entry.invariant.admitted admitted;
-      stops = λ fault line h. c.loop-entry.invariant.stops _ _
-          (rw (drop_here _ _ _ c.loop-entry-test.true c.entry-item.is) (later admitted h));
-    }
+    asked_all c.args.drafts.now.bytes.items c.args.drafts.now.rows.items c.loop-row.row-index HasAdmittedCharset
+    (rw c.deref-row-items.ensures.value at c.loop-row-test.false) c.loop-row.invariant.admitted

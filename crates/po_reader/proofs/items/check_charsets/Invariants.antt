@@ -1,14 +1,16 @@
-use Rattle.std.proofs.Common.{ℕ, drop, take}
+use Rattle.std.proofs.Common.{ℕ, drop, take, map}
 use Rattle.std.specs.Prelude.{All}
 use Rattle.po_syntax.specs.declared.fault.PoFault.{PoFault}
+use Rattle.po_entry.specs.Rows.{entry_at, entries_in}
 use Rattle.po_entry.specs.Faults.{CharsetFault, EntriesStop}
 use Rattle.po_entry.specs.Header.{HasAdmittedCharset}
 use Rattle.po_reader.proofs.items.check_charsets.Given as goal
 
-abbrev pub invariant-loop-entry : goal.invariant-loop-entry
-invariant-loop-entry l = record {
-  admitted : All HasAdmittedCharset (take l.entry-index l.entries);
+abbrev pub invariant-loop-row : goal.invariant-loop-row
+invariant-loop-row l = record {
+  admitted : All HasAdmittedCharset (map (entry_at l.drafts.bytes.items) (take l.row-index l.drafts.rows.items));
   stops : (fault : PoFault) (line : ℕ)
-      → EntriesStop HasAdmittedCharset CharsetFault (drop l.entry-index l.entries) fault line
-      → EntriesStop HasAdmittedCharset CharsetFault l.entries fault line;
+      → EntriesStop HasAdmittedCharset CharsetFault
+      (map (entry_at l.drafts.bytes.items) (drop l.row-index l.drafts.rows.items)) fault line
+      → EntriesStop HasAdmittedCharset CharsetFault (entries_in l.drafts) fault line;
 }

@@ -1,29 +1,22 @@
-use Rattle.po_entry.specs.EntryView.{entry_view}
-use Rattle.po_entry.specs.TextEntry.{quoted_texts}
-use Rattle.po_entry.specs.Validity.{HasTexts}
-use Rattle.std.proofs.Common.{refl, All, IsUtf8}
-use Rattle.po_entry.specs.Faults.EntriesStop.{here, later}
-use Rattle.po_reader.proofs.Loops.{drop_here, asked_more, asked_one, asked_all}
+use Rattle.std.proofs.Common.{inl, inr}
+use Rattle.std.proofs.lemmas.Result.{IfErr-weaker}
+use Rattle.po_syntax.proofs.Results.{passed_on}
+use Rattle.po_reader.proofs.Results.{on_ok_always}
+use Rattle.po_reader.proofs.Texts.{texts_reported}
 use Rattle.po_reader.proofs.items.check_drafts.Goals as goal
 
-pub check_read_texts-requires-clause-utf8 : goal.check_read_texts-requires-clause-utf8
-check_read_texts-requires-clause-utf8 c = λ are.
-    asked_one (λ draft. All IsUtf8 (quoted_texts (entry_view draft))) _ _ _ c.loop-draft-test.true c.draft-item.is
-    (c.requires.utf8 are)
+pub returns-in_err-check_texts-clause-fault : goal.returns-in_err-check_texts-clause-fault
+returns-in_err-check_texts-clause-fault c =
+    passed_on c.from_residual.result _ c.from_residual.ensures.1 (inl c.in_err-check_texts.ensures.fault)
 
-pub returns-in-Err-clause-fault : goal.returns-in-Err-clause-fault
-returns-in-Err-clause-fault c =
-    c.loop-draft.invariant.stops _ _
-    (rw (drop_here _ _ _ c.loop-draft-test.true c.draft-item.is) (here c.in-Err.ensures refl))
+pub returns-in_err-check_texts-clause-other : goal.returns-in_err-check_texts-clause-other
+returns-in_err-check_texts-clause-other c =
+    passed_on c.from_residual.result _ c.from_residual.ensures.1 (texts_reported c.in_err-check_texts.ensures.fault)
 
-pub returns-clause-ok : goal.returns-clause-ok
-returns-clause-ok c = asked_all
-    (λ draft. HasTexts (entry_view draft)) _ _ c.loop-draft-test.false c.loop-draft.invariant.passed
+pub returns-clause-texts : goal.returns-clause-texts
+returns-clause-texts c = on_ok_always c.check_charsets.result c.in_ok-check_texts.ensures.ok
 
-pub loop-draft-preserved : goal.loop-draft-preserved
-loop-draft-preserved c = record {
-  passed = asked_more (λ draft. HasTexts (entry_view draft)) _ _ _ c.loop-draft-test.true c.draft-item.is
-      c.loop-draft.invariant.passed c.in_default.ensures;
-  stops = λ fault line h. c.loop-draft.invariant.stops _ _
-      (rw (drop_here _ _ _ c.loop-draft-test.true c.draft-item.is) (later c.in_default.ensures h));
-}
+pub returns-clause-fault : goal.returns-clause-fault
+returns-clause-fault c =
+    IfErr-weaker c.check_charsets.result _ _ (λ e stops. inr (c.in_ok-check_texts.ensures.ok, stops))
+    c.check_charsets.ensures.fault

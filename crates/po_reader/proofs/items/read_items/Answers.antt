@@ -1,69 +1,89 @@
-use Rattle.std.proofs.Common.{◌∙◌, [], List, inl, inr, subst, sym}
-use Rattle.std.specs.Prelude.{All}
+use Rattle.std.proofs.Common.{[], List, All, IsUtf8, inl, inr, subst, sym}
+use Rattle.po_entry.specs.Bytes.{Lacks}
 use Rattle.po_entry.specs.Header.{HasAdmittedCharset}
-use Rattle.po_entry.specs.Validity.{HasTexts}
-use Rattle.po_entry.specs.TextEntry.{TextEntry}
+use Rattle.po_entry.specs.Validity.{HasTexts, IsCatalogueEntry}
+use Rattle.po_entry.specs.TextEntry.{TextEntry, quoted_texts}
+use Rattle.po_entry.specs.Faults.ItemsStop.{in_items, in_texts, in_charset}
 use Rattle.po_reader.proofs.RunsSpelt.{whole_spelt}
 use Rattle.po_reader.proofs.Faults.{items_fault}
-use Rattle.po_entry.specs.Faults.ItemsStop.{in_items, in_texts, in_charset}
-use Rattle.po_reader.proofs.SoundCatalogue.{kept_sound, kept_texts, kept_admitted, kept_stop, texts_one, admitted_one, whole_fault, whole_foreign, SoundEntry, entries_sound, drafts_hold, drafts_utf8, drafts_valid}
+use Rattle.po_reader.proofs.Results.{on_ok_always, on_ok_both}
+use Rattle.po_reader.proofs.SoundCatalogue.{admitted_one, kept_admitted, kept_lie, kept_no_nul, kept_stand, kept_stop, kept_texts, kept_utf8, texts_one, whole_fault, whole_foreign}
 use Rattle.po_reader.specs.Internal.Reads.{ChecksStop}
-use Rattle.std.proofs.lemmas.Result.{IfOk-weaker, IfErr-weaker}
-use Rattle.po_syntax.proofs.Results.{ok_both, passed_on}
+use Rattle.std.proofs.lemmas.Result.{IfErr-weaker}
+use Rattle.po_syntax.proofs.Results.{passed_on}
 use Rattle.po_reader.proofs.items.read_items.Goals as goal
 
-pub returns-in_err-drafts-clause-fault : goal.returns-in_err-drafts-clause-fault
-returns-in_err-drafts-clause-fault c =
-    let stops = rw c.deref.ensures.value at c.in_err-drafts.ensures.fault in
+pub returns-in_err-lay_out_items-clause-fault : goal.returns-in_err-lay_out_items-clause-fault
+returns-in_err-lay_out_items-clause-fault c =
+    let stops = rw c.deref.ensures.value at c.in_err-lay_out_items.ensures.fault in
     passed_on c.from_residual.result _ c.from_residual.ensures.1
     (λ other. in_items (items_fault [] _ _ _ (stops.fault other)))
 
-pub returns-in_err-drafts-clause-memory : goal.returns-in_err-drafts-clause-memory
-returns-in_err-drafts-clause-memory c =
-    passed_on c.from_residual.result _ c.from_residual.ensures.1 c.in_err-drafts.ensures.fault.memory
+pub returns-in_err-lay_out_items-clause-memory : goal.returns-in_err-lay_out_items-clause-memory
+returns-in_err-lay_out_items-clause-memory c =
+    passed_on c.from_residual.result _ c.from_residual.ensures.1 c.in_err-lay_out_items.ensures.fault.memory
 
-pub catalogue_of-requires-clause-utf8 : goal.catalogue_of-requires-clause-utf8
-catalogue_of-requires-clause-utf8 c = λ are.
-    let spelt = rw c.deref.ensures.value at c.in_ok-drafts.ensures.found in
-    drafts_utf8 c.args.with_comments c.in_ok-drafts.drafts.items (whole_spelt _ _ _ spelt.1) spelt.2
-    (c.requires.utf8 are)
+pub check_drafts-requires-clause-no_nul : goal.check_drafts-requires-clause-no_nul
+check_drafts-requires-clause-no_nul c =
+    let kept = c.args.with_comments in
+    let spelt = rw c.deref.ensures.value at c.in_ok-lay_out_items.ensures.found in
+    let whole = whole_spelt _ _ _ spelt.1 in
+    subst (All (λ entry. All (Lacks 0) (quoted_texts entry)))
+    (sym (spelt.2 (kept_lie kept whole c.requires.hold))) (kept_no_nul kept whole c.requires.hold)
 
-pub catalogue_of-requires-clause-no_nul : goal.catalogue_of-requires-clause-no_nul
-catalogue_of-requires-clause-no_nul c =
-    let spelt = rw c.deref.ensures.value at c.in_ok-drafts.ensures.found in
-    drafts_hold c.in_ok-drafts.drafts.items (subst (All SoundEntry) (sym spelt.2)
-    (kept_sound c.args.with_comments spelt.0 (entries_sound (whole_spelt _ _ _ spelt.1) c.requires.hold)))
-
-pub catalogue_of-requires-clause-entries : goal.catalogue_of-requires-clause-entries
-catalogue_of-requires-clause-entries c =
-    let spelt = rw c.deref.ensures.value at c.in_ok-drafts.ensures.found in
-    drafts_valid c.in_ok-drafts.drafts.items (subst (All SoundEntry) (sym spelt.2)
-    (kept_sound c.args.with_comments spelt.0 (entries_sound (whole_spelt _ _ _ spelt.1) c.requires.hold)))
+pub check_drafts-requires-clause-utf8 : goal.check_drafts-requires-clause-utf8
+check_drafts-requires-clause-utf8 c = λ are.
+    let kept = c.args.with_comments in
+    let spelt = rw c.deref.ensures.value at c.in_ok-lay_out_items.ensures.found in
+    let whole = whole_spelt _ _ _ spelt.1 in
+    subst (All (λ entry. All IsUtf8 (quoted_texts entry)))
+    (sym (spelt.2 (kept_lie kept whole c.requires.hold))) (kept_utf8 kept whole (c.requires.utf8 are))
 
 pub returns-clause-found : goal.returns-clause-found
 returns-clause-found c =
-    let spelt = rw c.deref.ensures.value at c.in_ok-drafts.ensures.found in
-    let texts = IfOk-weaker c.catalogue_of.result _ _
-    (λ _ asked. kept_texts c.args.with_comments spelt.0 (subst (All HasTexts) spelt.2 asked))
-    c.catalogue_of.ensures.texts in
-    let admitted = IfOk-weaker c.catalogue_of.result _ _
-    (λ _ charsets. kept_admitted c.args.with_comments spelt.0 (subst (All HasAdmittedCharset) spelt.2 charsets))
-    c.catalogue_of.ensures.charsets in
-    ok_both c.catalogue_of.result
-    (λ made is (both : All HasTexts spelt.0 × All HasAdmittedCharset spelt.0). (
+    let kept = c.args.with_comments in
+    let spelt = rw c.deref.ensures.value at c.in_ok-lay_out_items.ensures.found in
+    let whole = whole_spelt _ _ _ spelt.1 in
+    let same = spelt.2 (kept_lie kept whole c.requires.hold) in
+    on_ok_both c.check_drafts.result
+    (λ texts charsets. (
       spelt.0,
-      record { reads = whole_spelt _ _ _ spelt.1; texts = both.0; charsets = both.1 },
-      is ∙ spelt.2,
-    )) c.catalogue_of.ensures.entries (ok_both c.catalogue_of.result (λ _ t a. (t, a)) texts admitted)
+      record {
+        reads = whole;
+        texts = kept_texts kept spelt.0 (subst (All HasTexts) same texts);
+        charsets = kept_admitted kept spelt.0 (subst (All HasAdmittedCharset) same charsets);
+      },
+      same,
+    )) c.check_drafts.ensures.texts c.check_drafts.ensures.charsets
+
+pub returns-clause-lie : goal.returns-clause-lie
+returns-clause-lie c = on_ok_always c.check_drafts.result c.in_ok-lay_out_items.ensures.lie
+
+pub returns-clause-valid : goal.returns-clause-valid
+returns-clause-valid c =
+    let kept = c.args.with_comments in
+    let spelt = rw c.deref.ensures.value at c.in_ok-lay_out_items.ensures.found in
+    let whole = whole_spelt _ _ _ spelt.1 in
+    let same = spelt.2 (kept_lie kept whole c.requires.hold) in
+    on_ok_both c.check_drafts.result
+    (λ texts charsets. subst (All IsCatalogueEntry) (sym same)
+    (kept_stand kept whole c.requires.hold (subst (All HasTexts) same texts)
+    (subst (All HasAdmittedCharset) same charsets)))
+    c.check_drafts.ensures.texts c.check_drafts.ensures.charsets
 
 pub returns-clause-fault : goal.returns-clause-fault
 returns-clause-fault c =
-    let spelt = rw c.deref.ensures.value at c.in_ok-drafts.ensures.found in
-    let whole = whole_spelt _ _ _ spelt.1 in
     let kept = c.args.with_comments in
-    IfErr-weaker c.catalogue_of.result _ _ (λ e h other.
-    elim (subst (λ (es : List TextEntry). ChecksStop es e.kind e.line) spelt.2 (h other)) [
+    let spelt = rw c.deref.ensures.value at c.in_ok-lay_out_items.ensures.found in
+    let whole = whole_spelt _ _ _ spelt.1 in
+    let same = spelt.2 (kept_lie kept whole c.requires.hold) in
+    IfErr-weaker c.check_drafts.result _ _ (λ e h other.
+    elim (subst (λ (es : List TextEntry). ChecksStop es e.kind e.line) same h) [
       | inl stops ↦ in_texts whole (kept_stop kept (texts_one kept) (whole_fault kept) spelt.0 stops)
       | inr (texts, stops) ↦ in_charset whole (kept_texts kept spelt.0 texts)
           (kept_stop kept (admitted_one kept) (whole_foreign kept) spelt.0 stops)
-    ]) c.catalogue_of.ensures.fault
+    ]) c.check_drafts.ensures.fault
+
+pub returns-clause-memory : goal.returns-clause-memory
+returns-clause-memory c =
+    IfErr-weaker c.check_drafts.result _ _ (λ e other memory. absurd (other memory)) c.check_drafts.ensures.other

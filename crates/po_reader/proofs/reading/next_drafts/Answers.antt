@@ -2,9 +2,9 @@ use Rattle.std.proofs.Common.{arith}
 use Rattle.po_reader.specs.PieceRead.IsLeftFault.{in_items, in_text}
 use Rattle.po_reader.specs.PieceRead.ReadsPiece.{all, piece}
 use Rattle.po_reader.proofs.PieceReading.{faults_over, items_kept, piece_faults}
-use Rattle.std.proofs.lemmas.Result.{IfOk-weaker}
-use Rattle.po_syntax.proofs.Results.{err_both, ok_always, passed_on}
-use Rattle.po_reader.proofs.reading.next_entries.Goals as goal
+use Rattle.po_syntax.proofs.Results.{err_both, passed_on}
+use Rattle.po_reader.proofs.Results.{on_ok, on_ok_always}
+use Rattle.po_reader.proofs.reading.next_drafts.Goals as goal
 
 pub returns-in_err-items-clause-fault : goal.returns-in_err-items-clause-fault
 returns-in_err-items-clause-fault c =
@@ -44,22 +44,22 @@ pub returns-in_ok-items-in_default-clause-found : goal.returns-in_ok-items-in_de
 returns-in_ok-items-in_default-clause-found c =
     let law = c.pieces_are_cut_off.ensures in
     let piece = rw c.copy-start.ensures at c.in_ok-items-in_default.ensures.piece in
-    IfOk-weaker c.read_items-in_default.result _ _
-    (λ kept h. items_kept c.args.with_comments _ _ _ kept (λ more. law.spelt _ _ _ _ more piece)
+    on_ok c.read_items-in_default.result
+    (λ h. items_kept c.args.with_comments _ _ _ _ (λ more. law.spelt _ _ _ _ more piece)
     (law.ends _ _ _ _ piece) h) c.read_items-in_default.ensures.found
 
 pub returns-in_ok-items-in_default-clause-faults : goal.returns-in_ok-items-in_default-clause-faults
 returns-in_ok-items-in_default-clause-faults c =
     let piece = rw c.copy-start.ensures at c.in_ok-items-in_default.ensures.piece in
-    ok_always c.read_items-in_default.result
-    (λ kept. faults_over c.args.pieces.now c.next-in_default.new.self
+    on_ok_always c.read_items-in_default.result
+    (faults_over c.args.pieces.now c.next-in_default.new.self
     (λ fault line. c.pieces_are_cut_off.ensures.stops _ _ _ _ fault line piece)
     (c.in_ok-items-in_default.ensures.whole (omega arith)))
 
 pub returns-in_ok-items-in_default-clause-fewer : goal.returns-in_ok-items-in_default-clause-fewer
 returns-in_ok-items-in_default-clause-fewer c =
     let piece = rw c.copy-start.ensures at c.in_ok-items-in_default.ensures.piece in
-    ok_always c.read_items-in_default.result (λ kept. c.pieces_are_cut_off.ensures.shorter _ _ _ _ piece)
+    on_ok_always c.read_items-in_default.result (c.pieces_are_cut_off.ensures.shorter _ _ _ _ piece)
 
 pub returns-in_ok-items-in_default-clause-fault : goal.returns-in_ok-items-in_default-clause-fault
 returns-in_ok-items-in_default-clause-fault c =
@@ -72,6 +72,6 @@ returns-in_ok-items-in_default-clause-fault c =
 
 pub returns-in_ok-items-in_default-clause-piece : goal.returns-in_ok-items-in_default-clause-piece
 returns-in_ok-items-in_default-clause-piece c =
-    ok_always c.read_items-in_default.result
-    (λ kept. all c.in_ok-items.ensures.piece (c.in-Err.ensures.fault c.in_default.not-OutOfMemory)
+    on_ok_always c.read_items-in_default.result
+    (all c.in_ok-items.ensures.piece (c.in-Err.ensures.fault c.in_default.not-OutOfMemory)
     (c.in_ok-items-in_default.ensures.whole (omega arith)))

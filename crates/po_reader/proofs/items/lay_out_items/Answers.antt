@@ -1,17 +1,20 @@
-use Rattle.std.proofs.Common.{[], ◌∷◌, ◌++◌, ◌∙◌, ap, arith}
+use Rattle.std.proofs.Common.{[], ◌∷◌, ◌++◌, ◌∙◌, List, All, ap, sym, subst, map, arith}
 use Rattle.std.proofs.lemmas.List.{map_push}
+use Rattle.std.proofs.lemmas.List.Elements.{All-head}
+use Rattle.po_entry.specs.Facts.AllAppend.{All-left, All-right}
 use Rattle.po_entry.specs.TextEntry.{TextEntry}
+use Rattle.po_entry.specs.Rows.{Adds, CanLie}
 use Rattle.po_entry.specs.Spelling.{with_head}
 use Rattle.po_reader.specs.KeptComments.{kept_entry}
 use Rattle.po_reader.specs.Internal.Stage.{after_head}
 use Rattle.po_syntax.proofs.Results.{passed_on}
 use Rattle.po_reader.proofs.Heads.{kept_from}
 use Rattle.po_reader.proofs.Turns.{fails_from, head_over, own_lines_begin}
-use Rattle.po_reader.proofs.items.drafts_of.Goals as goal
+use Rattle.po_reader.proofs.items.lay_out_items.Goals as goal
 
 pub returns-in_err-take_head-clause-fault : goal.returns-in_err-take_head-clause-fault
 returns-in_err-take_head-clause-fault c =
-    passed_on c.from_residual-in_err-take_head.result _ c.from_residual-in_err-take_head.ensures.1
+    passed_on c.from_residual.result _ c.from_residual.ensures.1
     (fails_from c.loop-head.invariant.reads.1 (c.in_err-take_head.ensures.fault c.loop-head.invariant.reads.0))
 
 pub returns-then-is_empty-clause-found : goal.returns-then-is_empty-clause-found
@@ -26,7 +29,7 @@ returns-then-is_empty-clause-found c =
     )
 
 pub take_head-requires : goal.take_head-requires
-take_head-requires c = c.new-head.ensures c.args.with_comments
+take_head-requires c = c.clear-in-loop-head.ensures c.args.with_comments
 
 pub take_body-requires-clause-begins : goal.take_body-requires-clause-begins
 take_body-requires-clause-begins c =
@@ -42,19 +45,30 @@ returns-in_err-take_body-clause-fault c =
 
 pub loop-head-preserved : goal.loop-head-preserved
 loop-head-preserved c =
+    let all = c.args.with_comments in
     let reads = c.loop-head.invariant.reads in
     let head = c.in_ok-take_head.ensures.found in
     let body = c.in_ok-take_body.ensures.found in
-    let made = body.2 c.args.with_comments head.0 head.1 head.3
-    ∙ kept_from c.args.with_comments head.0 head.1 body.0 in
     let first : TextEntry = with_head head.0 head.1 body.0 in
+    let kept : List TextEntry = map (kept_entry all) reads.0 in
+    let adds = subst (λ (e : TextEntry). Adds e c.loop-head.drafts c.take_body.new.drafts)
+    (kept_from all head.0 head.1 body.0) (body.1 all head.0 head.1 head.3) in
+    let added = c.drafts_are_added.ensures (kept_entry all first) c.loop-head.drafts c.take_body.new.drafts adds
+    c.loop-head.invariant.laid in
     record {
       reads = (
         reads.0 ++ first ∷ [],
-        reads.1 ∙ head.4 reads.0 ∙ body.4 (after_head reads.0 head.0 head.1) head.2,
-        rw (body.3, map_push, map_push, made)
-            (ap (λ es. es ++ kept_entry c.args.with_comments first ∷ []) reads.2),
+        reads.1 ∙ head.4 reads.0 ∙ body.2 (after_head reads.0 head.0 head.1) head.2,
+        λ can.
+            let both = subst (All CanLie) (map_push (kept_entry all) reads.0 first) can in
+            let last = All-head CanLie (kept_entry all first) []
+            (All-right CanLie kept (kept_entry all first ∷ []) both) in
+            added.1 last
+            ∙ ap (λ (es : List TextEntry). es ++ kept_entry all first ∷ [])
+            (reads.2 (All-left CanLie kept (kept_entry all first ∷ []) both))
+            ∙ sym (map_push (kept_entry all) reads.0 first),
       );
+      laid = added.0;
       fewer = omega (
         arith,
         c.in_ok-take_head.ensures.fewer,

@@ -1,0 +1,16 @@
+use Rattle.std.proofs.Common.{ℕ, drop, take, map}
+use Rattle.std.specs.Prelude.{All}
+use Rattle.po_syntax.specs.declared.fault.PoFault.{PoFault}
+use Rattle.po_entry.specs.Rows.{entry_at, entries_in}
+use Rattle.po_entry.specs.Validity.{HasTexts, EntryTextFault}
+use Rattle.po_entry.specs.Faults.{EntriesStop}
+use Rattle.po_reader.proofs.items.check_texts.Given as goal
+
+abbrev pub invariant-loop-row : goal.invariant-loop-row
+invariant-loop-row l = record {
+  passed : All HasTexts (map (entry_at l.drafts.bytes.items) (take l.row-index l.drafts.rows.items));
+  stops : (fault : PoFault) (line : ℕ)
+      → EntriesStop HasTexts EntryTextFault
+      (map (entry_at l.drafts.bytes.items) (drop l.row-index l.drafts.rows.items)) fault line
+      → EntriesStop HasTexts EntryTextFault (entries_in l.drafts) fault line;
+}
