@@ -1,3 +1,4 @@
+pub mod Digests
 pub mod RepeatLemmas
 pub mod StatisticsLemmas
 pub mod DuplicateLemmas

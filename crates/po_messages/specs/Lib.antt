@@ -1,5 +1,6 @@
 pub mod Facts
 pub mod Joined
+pub mod Digests
 pub mod Omitted
 pub mod JoinedView
 pub mod Duplicate

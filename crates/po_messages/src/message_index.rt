@@ -1,6 +1,8 @@
 //! An index of entries by context and msgid.
 
 ghost use Rattle.std.specs.Prelude.{◌≡◌, [], IfOk, length};
+ghost use Rattle.po_entry.specs.Seeds.{digest_of};
+ghost use Rattle.po_messages.specs.Digests.{messages_writes};
 ghost use Rattle.po_messages.specs.FirstOnes.{first_ones, group_numbers};
 ghost use Rattle.po_messages.specs.Message.{entry_message, same_message};
 ghost use Rattle.po_messages.specs.MessageView.{message_of_key, messages_of_keys};
@@ -47,22 +49,29 @@ pub fn message_key(entry: &Entry) -> MessageKey<'_>
     }
 }
 
-/// For each key the number of its message, and how many messages there are. They are numbered from
-/// 0, in the order in which they first appear. Refused only where an allocation failed.
-pub fn grouped(alloc: Global, keys: &[MessageKey<'_>]) -> Result<(Vec<usize>, usize), AllocError>
-    ensures numbers { IfOk result (λ r. r.0.items ≡ group_numbers same_message (messages_of_keys keys.now)) }
-    ensures count { IfOk result (λ r. r.1 ≡ length (first_ones same_message (messages_of_keys keys.now))) }
+/// A digest of all messages: of each the length of its msgid, and what it is hashed by.
+fn digest_of(keys: &[MessageKey<'_>]) -> DefaultHasher
+    ensures { result ≡ digest_of (messages_writes (messages_of_keys keys.now)) }
 {
     let mut digest = DefaultHasher::new();
     for key in keys {
         digest.write_usize(key.id.len());
         key.hash(&mut digest);
     }
-    numbered(alloc, keys, Seeded::of(&digest))
+    digest
+}
+
+/// For each key the number of its message, and how many messages there are. They are numbered from
+/// 0, in the order in which they first appear. Refused only where an allocation failed.
+pub fn grouped(alloc: Global, keys: &[MessageKey<'_>]) -> Result<(Vec<usize>, usize), AllocError>
+    ensures numbers { IfOk result (λ r. r.0.items ≡ group_numbers same_message (messages_of_keys keys.now)) }
+    ensures count { IfOk result (λ r. r.1 ≡ length (first_ones same_message (messages_of_keys keys.now))) }
+{
+    numbered(alloc, keys, Seeded::of(&digest_of(keys)))
 }
 
 /// Numbers the messages of keys as `grouped` does, by an index that hashes so.
-pub(crate) fn numbered(
+fn numbered(
     alloc: Global,
     keys: &[MessageKey<'_>],
     hasher: Seeded,

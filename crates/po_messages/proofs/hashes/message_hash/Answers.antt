@@ -7,4 +7,4 @@ pub returns : goal.returns
 unfolding message_hash
 returns c =
     rw (c.finish.ensures, c.hash.ensures, c.new-hasher.ensures)
-    (ap (λ message. finish (fold write initial (message_writes message))) c.message_key.ensures)
+    (ap (λ message. finish (fold write initial (message_writes message))) c.key_of.ensures)
