@@ -1,41 +1,21 @@
 -- A written text in two parts.
-use Rattle.std.proofs.Common.{◌≡◌, ◌∙◌, sym, ap, ◌<◌, ◌==◌, List, [], ◌∷◌, ◌++◌, true, false, not, filter, length, append-nil, append_assoc, arith, vec_len}
+use Rattle.std.proofs.Common.{◌≡◌, ◌∙◌, sym, ap, ◌<◌, ◌==◌, List, [], ◌∷◌, ◌++◌, Bool, true, false, cond, not, filter, length, append-nil, append_assoc, arith, vec_len}
 use Rattle.std.specs.Prelude.{fold}
-use Rattle.std.proofs.lemmas.List.Elements.{filter-append, filter_agree}
+use Rattle.std.proofs.lemmas.List.Elements.{filter-append}
 use Rattle.std.proofs.lemmas.List.Sums.{fold-append}
 use Rattle.std.proofs.lemmas.Bool.{eqb-true, eqb-false}
 use Rattle.po_entry.specs.TextEntry.{TextEntry}
-use Rattle.po_writer.specs.Separated.{with_entry, entries_marked}
-use Rattle.po_writer.specs.TextParts.{AreParts}
+use Rattle.po_writer.specs.Separated.{with_entry}
+use Rattle.po_writer.specs.TextParts.{AreAdded, AreParts}
 use Rattle.po_writer.specs.WrittenText.{in_order, written_text}
 use Rattle.po_writer.specs.declared.parts.TextParts.{TextParts}
-use Rattle.po_writer.proofs.Separated.{further, joined, marked, not_marked, some_text}
+use Rattle.po_writer.proofs.Separated.{further, joined, some_text}
 
 -- further entries after those of a part
 grown : (before entries : List TextEntry) → fold with_entry (in_order before) entries ≡ in_order (before ++ entries)
 grown before entries =
     ap (λ text. fold with_entry text entries) (sym (joined before)) ∙ sym (fold-append with_entry [] before entries)
     ∙ joined (before ++ entries)
-
-pub live_grown : (before entries : List TextEntry)
-    → fold with_entry (in_order (filter (λ e. not e.obsolete) before)) (entries_marked false entries)
-    ≡ in_order (filter (λ e. not e.obsolete) (before ++ entries))
-live_grown before entries =
-    rw (
-      filter_agree _ _ (λ (e : TextEntry). not_marked e.obsolete) entries,
-      filter-append (λ (e : TextEntry). not e.obsolete) before entries,
-    )
-    (grown (filter (λ e. not e.obsolete) before) (filter (λ e. not e.obsolete) entries))
-
-pub obsolete_grown : (before entries : List TextEntry)
-    → fold with_entry (in_order (filter (λ e. e.obsolete) before)) (entries_marked true entries)
-    ≡ in_order (filter (λ e. e.obsolete) (before ++ entries))
-obsolete_grown before entries =
-    rw (
-      filter_agree _ _ (λ (e : TextEntry). marked e.obsolete) entries,
-      filter-append (λ (e : TextEntry). e.obsolete) before entries,
-    )
-    (grown (filter (λ e. e.obsolete) before) (filter (λ e. e.obsolete) entries))
 
 none_after : (prefix after : List TextEntry) → length (in_order after) ≡ 0
     → in_order prefix ≡ in_order (prefix ++ after)
@@ -54,6 +34,35 @@ live_of entries = filter (λ e. not e.obsolete) entries
 
 abbrev pub obsolete_of : List TextEntry → List TextEntry
 obsolete_of entries = filter (λ e. e.obsolete) entries
+
+-- further entries after those of both parts
+pub added_parts : (before entries : List TextEntry) (old new : TextParts) → AreAdded entries old new
+    → AreParts before old → AreParts (before ++ entries) new
+added_parts before entries old new added are = record {
+  live = added.live ∙ ap (λ text. fold with_entry text (live_of entries)) are.live
+      ∙ grown (live_of before) (live_of entries)
+      ∙ ap in_order (sym (filter-append (λ (e : TextEntry). not e.obsolete) before entries));
+  obsolete = added.obsolete ∙ ap (λ text. fold with_entry text (obsolete_of entries)) are.obsolete
+      ∙ grown (obsolete_of before) (obsolete_of entries)
+      ∙ ap in_order (sym (filter-append (λ (e : TextEntry). e.obsolete) before entries));
+}
+
+-- an entry is added to one part
+pub live_added : (entry : TextEntry) (old new : TextParts) → entry.obsolete ≡ false
+    → new.live.items ≡ with_entry old.live.items entry → new.obsolete.items ≡ old.obsolete.items
+    → AreAdded (entry ∷ []) old new
+live_added entry old new is more same = record {
+  live = more ∙ ap (λ (b : Bool). fold with_entry old.live.items (cond (not b) (entry ∷ []) [])) (sym is);
+  obsolete = same ∙ ap (λ (b : Bool). fold with_entry old.obsolete.items (cond b (entry ∷ []) [])) (sym is);
+}
+
+pub obsolete_added : (entry : TextEntry) (old new : TextParts) → entry.obsolete ≡ true
+    → new.live.items ≡ old.live.items → new.obsolete.items ≡ with_entry old.obsolete.items entry
+    → AreAdded (entry ∷ []) old new
+obsolete_added entry old new is same more = record {
+  live = same ∙ ap (λ (b : Bool). fold with_entry old.live.items (cond (not b) (entry ∷ []) [])) (sym is);
+  obsolete = more ∙ ap (λ (b : Bool). fold with_entry old.obsolete.items (cond b (entry ∷ []) [])) (sym is);
+}
 
 -- the text is the live part, where the other is empty
 pub live_alone : (parts : TextParts) (entries : List TextEntry) → AreParts entries parts

@@ -3,3 +3,4 @@ pub mod Separated
 pub mod TextParts
 pub mod TextLines
 pub mod EntryLines
+pub mod Examples

@@ -1,10 +1,9 @@
 -- A written text in two parts, the live entries and the obsolete ones (manual, "The Format of PO
 -- Files").
-use Rattle.std.specs.Prelude.{◌≡◌, ℕ, ◌==◌, List, ◌∷◌, ◌++◌, drop, length, not, filter, fold, if◌then◌else◌}
-use Rattle.std.specs.List.{flat_map}
+use Rattle.std.specs.Prelude.{◌≡◌, ℕ, ◌==◌, List, ◌∷◌, ◌++◌, length, not, filter, fold, if◌then◌else◌}
 use Rattle.po_entry.specs.TextEntry.{TextEntry}
 use Rattle.po_writer.specs.Separated.{with_entry}
-use Rattle.po_writer.specs.WrittenText.{entry_lines, in_order}
+use Rattle.po_writer.specs.WrittenText.{in_order}
 use Rattle.po_writer.specs.declared.parts.TextParts.{TextParts}
 
 -- the live ones of the entries are written in one part, and the obsolete ones in the other
@@ -12,23 +11,10 @@ pub record AreParts (entries : List TextEntry) (parts : TextParts) : Type 0 wher
   pub live : parts.live.items ≡ in_order (filter (λ e. not e.obsolete) entries)
   pub obsolete : parts.obsolete.items ≡ in_order (filter (λ e. e.obsolete) entries)
 
--- entries, each after an empty line
-abbrev pub separated : List TextEntry → List ℕ
-separated entries = flat_map (λ e. 10 ∷ entry_lines e) entries
-
--- the live ones of the entries are in one text, and the obsolete ones in the other, each after an empty line
-pub record AreSeparated (entries : List TextEntry) (live obsolete : List ℕ) : Type 0 where
-  pub live_is : live ≡ separated (filter (λ e. not e.obsolete) entries)
-  pub obsolete_is : obsolete ≡ separated (filter (λ e. e.obsolete) entries)
-
 -- further entries stand after what the parts had: the live ones in one part, the obsolete ones in the other
 pub record AreAdded (entries : List TextEntry) (old new : TextParts) : Type 0 where
   pub live : new.live.items ≡ fold with_entry old.live.items (filter (λ e. not e.obsolete) entries)
   pub obsolete : new.obsolete.items ≡ fold with_entry old.obsolete.items (filter (λ e. e.obsolete) entries)
-
--- a text with what begins with an empty line after it; that line is left out where the text is empty
-abbrev pub with_separated : List ℕ → List ℕ → List ℕ
-with_separated text more = if length text == 0 then drop 1 more else text ++ more
 
 -- two parts as one text, with an empty line between them where neither is empty
 abbrev pub joined_parts : TextParts → List ℕ

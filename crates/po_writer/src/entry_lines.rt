@@ -1,22 +1,25 @@
 //! The lines of an entry.
 
-ghost use Rattle.std.specs.Prelude.{◌≡◌, ◌++◌, OnOk, codes, option_copied};
+ghost use Rattle.std.specs.Prelude.{◌≡◌, ◌++◌, OnOk, codes};
 ghost use Rattle.std.specs.List.{flat_map};
-ghost use Rattle.po_entry.specs.EntryView.{entry_view};
-ghost use Rattle.po_entry.specs.TextEntry.{texts};
+ghost use Rattle.po_entry.specs.FormLists.{forms_left};
 ghost use Rattle.po_entry.specs.TextLists.{texts_left};
 ghost use Rattle.po_writer.specs.WrittenText as written;
 
 use crate::keyword_lines::{push_form, push_keyword, push_optional};
-use po_entry::{Entry, Fields, Previous, TextList, TextListIter};
+use po_entry::{EntryRef, FormIter, TextListIter};
 use std::alloc::AllocError;
 
 /// Appends a line for each comment, after the mark of its kind.
-fn push_comments(out: &mut Vec<u8>, mark: &[u8], comments: &TextList) -> Result<(), AllocError>
+fn push_comments(
+    out: &mut Vec<u8>,
+    mark: &[u8],
+    comments: TextListIter<'_>,
+) -> Result<(), AllocError>
     ensures appended { OnOk result (out.new.items
-        ≡ out.old.items ++ written.comment_lines mark.now comments.now) }
+        ≡ out.old.items ++ written.comment_lines mark.now (texts_left comments.entry)) }
 {
-    for comment in comments.iter() {
+    for comment in comments {
         out.extend_from_slice(mark)?;
         out.extend_from_slice(comment)?;
         out.push(b'\n')?;
@@ -45,12 +48,12 @@ fn push_elements(
     out: &mut Vec<u8>,
     mark: &[u8],
     separator: &[u8],
-    elements: &TextList,
+    elements: TextListIter<'_>,
 ) -> Result<(), AllocError>
     ensures appended { OnOk result (out.new.items
-        ≡ out.old.items ++ written.elements_line mark.now separator.now elements.now) }
+        ≡ out.old.items ++ written.elements_line mark.now separator.now (texts_left elements.entry)) }
 {
-    let mut left = elements.iter();
+    let mut left = elements;
     let Some(first) = left.next() else {
         return Ok(());
     };
@@ -62,36 +65,39 @@ fn push_elements(
 }
 
 /// Appends the line of flags, `fuzzy` first, where there are any.
-fn push_flags(out: &mut Vec<u8>, fuzzy: bool, flags: &TextList) -> Result<(), AllocError>
+fn push_flags(out: &mut Vec<u8>, fuzzy: bool, flags: TextListIter<'_>) -> Result<(), AllocError>
     ensures appended { OnOk result (out.new.items
         ≡ out.old.items
-        ++ written.elements_line (codes "#, ") (codes ", ") (written.all_flags fuzzy flags.now)) }
+        ++ written.elements_line (codes "#, ") (codes ", ") (written.all_flags fuzzy (texts_left flags.entry))) }
 {
     if !fuzzy {
         return push_elements(out, b"#, ", b", ", flags);
     }
     out.extend_from_slice(b"#, fuzzy")?;
-    push_further(out, b", ", flags.iter())?;
+    push_further(out, b", ", flags)?;
     out.push(b'\n')?;
     Ok(())
 }
 
 /// Appends the previous texts that there are.
-fn push_previous(out: &mut Vec<u8>, prefix: &[u8], previous: &Previous) -> Result<(), AllocError>
-    ensures appended { OnOk result (out.new.items ≡ out.old.items ++ written.previous_lines prefix.now previous.now) }
+fn push_previous(out: &mut Vec<u8>, prefix: &[u8], entry: &EntryRef<'_>) -> Result<(), AllocError>
+    ensures appended { OnOk result (out.new.items
+        ≡ out.old.items ++ written.previous_lines prefix.now entry.now.previous) }
 {
-    push_optional(out, prefix, b"msgctxt", previous.context.as_deref())?;
-    push_optional(out, prefix, b"msgid", previous.id.as_deref())?;
-    push_optional(out, prefix, b"msgid_plural", previous.plural.as_deref())
+    push_optional(out, prefix, b"msgctxt", entry.previous_context())?;
+    push_optional(out, prefix, b"msgid", entry.previous_id())?;
+    push_optional(out, prefix, b"msgid_plural", entry.previous_plural())
 }
 
 /// Appends the plural forms, from index 0 on.
-fn push_forms(out: &mut Vec<u8>, prefix: &[u8], forms: &[Vec<u8>]) -> Result<(), AllocError>
+fn push_forms(out: &mut Vec<u8>, prefix: &[u8], forms: FormIter<'_>) -> Result<(), AllocError>
     ensures appended { OnOk result (out.new.items
-        ≡ out.old.items ++ written.form_lines prefix.now 0 (texts forms.now)) }
+        ≡ out.old.items ++ written.form_lines prefix.now 0 (forms_left forms.entry)) }
 {
-    for (index, form) in forms.iter().enumerate() {
+    let mut index = 0;
+    for form in forms {
         push_form(out, prefix, index, form)?;
+        index += 1;
     }
     Ok(())
 }
@@ -100,30 +106,29 @@ fn push_forms(out: &mut Vec<u8>, prefix: &[u8], forms: &[Vec<u8>]) -> Result<(),
 fn push_translation(
     out: &mut Vec<u8>,
     prefix: &[u8],
-    plural: Option<&[u8]>,
-    forms: &[Vec<u8>],
+    entry: &EntryRef<'_>,
 ) -> Result<(), AllocError>
     ensures appended { OnOk result (out.new.items
-        ≡ out.old.items ++ written.translation_lines prefix.now (option_copied plural.entry) (texts forms.now)) }
+        ≡ out.old.items ++ written.translation_lines prefix.now entry.now.plural entry.now.forms) }
 {
-    if let Some(plural) = plural {
+    if let Some(plural) = entry.plural() {
         push_keyword(out, prefix, b"msgid_plural", plural)?;
-        return push_forms(out, prefix, forms);
+        return push_forms(out, prefix, entry.forms());
     }
-    for form in forms {
+    for form in entry.forms() {
         push_keyword(out, prefix, b"msgstr", form)?;
     }
     Ok(())
 }
 
 /// Appends an entry's own lines.
-fn push_own(out: &mut Vec<u8>, prefix: &[u8], fields: &Fields) -> Result<(), AllocError>
+fn push_own(out: &mut Vec<u8>, prefix: &[u8], entry: &EntryRef<'_>) -> Result<(), AllocError>
     ensures appended { OnOk result (out.new.items
-        ≡ out.old.items ++ written.own_lines prefix.now (entry_view fields.now)) }
+        ≡ out.old.items ++ written.own_lines prefix.now entry.now) }
 {
-    push_optional(out, prefix, b"msgctxt", fields.context.as_deref())?;
-    push_keyword(out, prefix, b"msgid", &fields.id)?;
-    push_translation(out, prefix, fields.plural.as_deref(), &fields.forms)
+    push_optional(out, prefix, b"msgctxt", entry.context())?;
+    push_keyword(out, prefix, b"msgid", entry.id())?;
+    push_translation(out, prefix, entry)
 }
 
 /// What a line of an entry's own begins with, and what one of its previous texts.
@@ -139,15 +144,14 @@ fn prefixes(obsolete: bool) -> (&'static [u8], &'static [u8])
 }
 
 /// Appends all lines of an entry.
-pub(crate) fn push_entry(out: &mut Vec<u8>, entry: &Entry) -> Result<(), AllocError>
+pub(crate) fn push_entry(out: &mut Vec<u8>, entry: &EntryRef<'_>) -> Result<(), AllocError>
     ensures appended { OnOk result (out.new.items ≡ out.old.items ++ written.entry_lines entry.now) }
 {
-    let fields = entry.fields();
-    let (own, previous) = prefixes(fields.obsolete);
-    push_comments(out, b"#", &fields.comments)?;
-    push_comments(out, b"#.", &fields.extracted)?;
-    push_elements(out, b"#: ", b" ", &fields.references)?;
-    push_flags(out, fields.fuzzy, &fields.flags)?;
-    push_previous(out, previous, &fields.previous)?;
-    push_own(out, own, fields)
+    let (own, previous) = prefixes(entry.obsolete());
+    push_comments(out, b"#", entry.comments())?;
+    push_comments(out, b"#.", entry.extracted())?;
+    push_elements(out, b"#: ", b" ", entry.references())?;
+    push_flags(out, entry.fuzzy(), entry.flags())?;
+    push_previous(out, previous, entry)?;
+    push_own(out, own, entry)
 }

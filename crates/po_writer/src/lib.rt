@@ -1,8 +1,7 @@
 //! Catalogues as PO texts that read back (GNU gettext manual, "The Format of PO Files").
 //!
-//! [`write`] writes a catalogue, [`append`] one entry after a text, and [`append_separated`] one
-//! after an empty line. [`TextParts`] collects the live and the obsolete entries of a text that is
-//! written piece by piece.
+//! [`write`] writes a catalogue, and [`append`] one entry after a text. [`TextParts`] collects the
+//! live and the obsolete entries of a text that is written entry by entry.
 //!
 //! The modules in reading order: `text`, `entry_lines`, `keyword_lines`, `parts`, `laws`.
 
@@ -15,4 +14,4 @@ mod parts;
 mod text;
 
 pub use crate::parts::TextParts;
-pub use crate::text::{append, append_separated, write};
+pub use crate::text::{append, write};

@@ -6,4 +6,4 @@ use Rattle.po_writer.proofs.entry_lines.push_comments.Given as goal
 abbrev pub invariant-loop-comment : goal.invariant-loop-comment
 invariant-loop-comment l =
     l.out.items ++ comment_lines l.mark (texts_left l.comment-iterator) ≡ l.initial.out.items
-    ++ comment_lines l.mark l.comments
+    ++ comment_lines l.mark (texts_left l.initial.comments)

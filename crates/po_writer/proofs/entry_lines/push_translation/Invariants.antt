@@ -1,10 +1,10 @@
-use Rattle.std.proofs.Common.{◌≡◌, ◌++◌, codes, drop}
+use Rattle.std.proofs.Common.{◌≡◌, ◌++◌, codes}
 use Rattle.std.specs.List.{flat_map}
-use Rattle.po_entry.specs.TextEntry.{texts}
+use Rattle.po_entry.specs.FormLists.{forms_left}
 use Rattle.po_writer.specs.WrittenText.{keyword_lines}
 use Rattle.po_writer.proofs.entry_lines.push_translation.Given as goal
 
 abbrev pub invariant-loop-form : goal.invariant-loop-form
 invariant-loop-form l =
-    l.out.items ++ flat_map (keyword_lines l.prefix (codes "msgstr")) (texts (drop l.form-index l.forms))
-    ≡ l.initial.out.items ++ flat_map (keyword_lines l.prefix (codes "msgstr")) (texts l.forms)
+    l.out.items ++ flat_map (keyword_lines l.prefix (codes "msgstr")) (forms_left l.form-iterator)
+    ≡ l.initial.out.items ++ flat_map (keyword_lines l.prefix (codes "msgstr")) l.entry.forms
