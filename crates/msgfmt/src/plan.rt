@@ -1,6 +1,7 @@
 //! What msgfmt writes and reports: the MO file of PO texts.
 ghost use Rattle.std.specs.Prelude.{◌≡◌, ◌^◌, ◌<◌, List, length, IfOk, OnErr, Err};
 ghost use Rattle.po_entry.specs.TextEntry.{slice_texts};
+ghost use Rattle.po_messages.specs.Statistics.{stats_line};
 ghost use Rattle.runs.specs.NamedFile.{NamedFile, named_files};
 ghost use Rattle.msgfmt.specs.Internal.Gathered.{HoldInputs, IsGathered};
 ghost use Rattle.msgfmt.specs.Msgfmt as Spec;
@@ -10,7 +11,8 @@ use crate::fault_lines::{failed_check_run, refused_run};
 use crate::options::MsgfmtOptions;
 use crate::profile::check_inputs;
 use po_compile::{Collected, Compiled, Options, collect_all, compile_collected};
-use po_messages::JoinError;
+use po_messages::{JoinError, Stats};
+use po_syntax::PoFault;
 use runs::{Run, ToolFault};
 use std::alloc::{AllocError, Global};
 
@@ -61,6 +63,19 @@ pub(crate) fn gather<'a>(
     })
 }
 
+/// The line that reports statistics.
+fn stats_line(alloc: Global, stats: Stats) -> Result<Vec<u8>, AllocError>
+    ensures { IfOk result (λ line. line.items ≡ stats_line stats) }
+{
+    match stats.line(alloc) {
+        Ok(line) => Ok(line),
+        Err(error) => match error.kind {
+            PoFault::OutOfMemory => Err(AllocError),
+            _ => unreachable!(),
+        },
+    }
+}
+
 /// The run of inputs that are compiled.
 fn compiled_run(
     alloc: Global,
@@ -70,7 +85,7 @@ fn compiled_run(
     ensures { IfOk result (λ run. run_view run ≡ Spec.compiled_run options.now compiled) }
 {
     let messages = if options.statistics {
-        compiled.stats.line(alloc).map_err(|_| AllocError)?
+        stats_line(alloc, compiled.stats)?
     } else {
         Vec::new(alloc)
     };

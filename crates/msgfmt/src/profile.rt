@@ -5,13 +5,14 @@ ghost use Rattle.mo_lookup.specs.CatalogView.{forms};
 ghost use Rattle.po_compile.specs.OfInputs.{OfAllInputs};
 ghost use Rattle.msgfmt.specs.Msgfmt.{AreChecked};
 ghost use Rattle.msgfmt.specs.Profile as Spec;
+ghost use Rattle.msgfmt.specs.declared.profile.CheckFault.TheVariants.{OutOfMemory};
 
 use plural_rule::{Reason, Rule, Source};
 use po_compile::{Collected, CompiledMessage, collect_catalogues, compiled_messages};
 use po_entry::Catalogue;
 use po_unformat::laws::texts_come_back;
 use po_unformat::{first_part, key_parts, original_parts, split_form};
-use std::alloc::Global;
+use std::alloc::{AllocError, Global};
 use thiserror::Error;
 
 /// What `--profile-check` finds wrong with the messages that are compiled.
@@ -43,6 +44,14 @@ pub enum CheckFault {
     /// An allocation failed.
     #[error("out of memory")]
     OutOfMemory,
+}
+
+impl From<AllocError> for CheckFault {
+    ghost from_gives = { λ _ fault. fault ≡ OutOfMemory };
+
+    fn from(_error: AllocError) -> CheckFault {
+        CheckFault::OutOfMemory
+    }
 }
 
 /// At how many counts, from 0 on, a rule's values are checked.
@@ -252,8 +261,9 @@ pub(crate) fn check_inputs(alloc: Global, inputs: &[Collected]) -> Result<(), (u
         ⊎ OfAllInputs inputs.now (λ use_fuzzy catalogues. AreChecked use_fuzzy catalogues (Some reported))) }
 {
     texts_come_back();
-    let Ok(messages) = compiled_messages(alloc, inputs) else {
-        return Err((0, CheckFault::OutOfMemory));
+    let messages = match compiled_messages(alloc, inputs) {
+        Ok(messages) => messages,
+        Err(error) => return Err((0, error.into())),
     };
     match check_messages(&messages) {
         None => Ok(()),
@@ -279,6 +289,6 @@ pub fn profile_check(
 {
     match collect_catalogues(alloc, catalogues, use_fuzzy) {
         Ok(inputs) => check_inputs(alloc, &inputs),
-        Err(_) => Err((0, CheckFault::OutOfMemory)),
+        Err(error) => Err((0, error.into())),
     }
 }

@@ -60,15 +60,13 @@ pub fn plan_msgfmt_of<'a>(
         return Err(fault.unwrap_or(ProgramFault::WrongArguments));
     }
     let Some(fault) = fault else {
-        return plan_inputs(alloc, inputs, options).map_err(|_| ProgramFault::OutOfMemory);
+        return Ok(plan_inputs(alloc, inputs, options)?);
     };
     let unchecked = MsgfmtOptions {
         profile_check: false,
         ..*options
     };
-    let Ok(run) = plan_inputs(alloc, inputs, &unchecked) else {
-        return Err(ProgramFault::OutOfMemory);
-    };
+    let run = plan_inputs(alloc, inputs, &unchecked)?;
     if run.status == 0 { Err(fault) } else { Ok(run) }
 }
 

@@ -23,12 +23,12 @@ module _ {X : Type 0} (f : InputMessage → X) (rows : List Row) (i : ℕ) (row 
       ∙ map-append f (compiled (map row_view (take i rows))) (compiled (row_view row ∷ []))
 
   -- a row that is compiled
-  pub one_kept : row.lengths.now.status.compiled ≡ true
+  pub one_kept : row.status.compiled ≡ true
       → map f (compiled (map row_view (take (i + 1) rows))) ≡ so_far ++ f (row_view row) ∷ []
   one_kept kept = one_more ∙ ap (λ (b : Bool). so_far ++ map f (cond b (row_view row ∷ []) [])) kept
 
   -- and one that isn't
-  pub one_omitted : row.lengths.now.status.compiled ≡ false
+  pub one_omitted : row.status.compiled ≡ false
       → map f (compiled (map row_view (take (i + 1) rows))) ≡ so_far
   one_omitted omitted =
       one_more ∙ ap (λ (b : Bool). so_far ++ map f (cond b (row_view row ∷ []) [])) omitted ∙ append-nil so_far

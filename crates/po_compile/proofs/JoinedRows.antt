@@ -1,9 +1,9 @@
 -- The rows of the joined list, input by input.
-use Rattle.std.proofs.Common.{◌≡◌, ℕ, ◌+◌, ◌<◌, ◌==◌, Bool, true, false, not, ◌&&◌, ◌||◌, cond, List, [], ◌∷◌, ◌++◌, Option, None, Some, refl, sym, ap, ap₂, subst, ◌∙◌, append_assoc, length, get_or, drop, filter, map, arith, All}
+use Rattle.std.proofs.Common.{◌≡◌, ℕ, ◌+◌, ◌==◌, Bool, true, false, not, ◌&&◌, ◌||◌, cond, List, [], ◌∷◌, ◌++◌, Option, None, Some, refl, sym, ap, ap₂, subst, ◌∙◌, append_assoc, length, filter, map, arith, All}
 use Rattle.std.specs.Prelude.{is_none}
 use Rattle.std.specs.List.{list_any}
 use Rattle.std.proofs.lemmas.Bool.{ne_eqb}
-use Rattle.std.proofs.lemmas.List.{at_drop_more, map-append}
+use Rattle.std.proofs.lemmas.List.{map-append}
 use Rattle.std.proofs.lemmas.List.Elements.{All-append, All-head, All-nil, All-tail, filter-append, filter_agree}
 use Rattle.std.proofs.lemmas.Simd.{map-map}
 use Rattle.mo_file.specs.Key.{query_key}
@@ -15,16 +15,9 @@ use Rattle.po_messages.specs.Duplicate.{live_entries}
 use Rattle.po_messages.proofs.JoiningLemmas.{kept_valid}
 use Rattle.po_messages.proofs.DuplicateLemmas.{entries_of_input}
 use Rattle.po_compile.specs.Collected.{LiveMessage, live_message, live_messages}
-use Rattle.po_compile.specs.Internal.Cutting.{Fit}
-use Rattle.po_compile.specs.declared.collecting.Lengths.{Lengths}
 use Rattle.po_compile.specs.Internal.Rows.{InputMessage, all_messages, has_no_key, in_input_message, input_message, is_joined, joined_messages}
 use Rattle.po_messages.specs.Facts.Mapped.{filter_map, filter_twice}
 use Rattle.po_compile.proofs.Filters.{filter_all}
-
--- lengths that are left fit the bytes that are left
-pub fit_here : (all : List Lengths) (i : ℕ) (d : Lengths) (rest : List ℕ) → i < length all → Fit (drop i all) rest
-    → Fit (get_or all i d ∷ drop (i + 1) all) rest
-fit_here all i d rest inside fit = subst (λ ls. Fit ls rest) (at_drop_more (λ ls. ls) all i d inside) fit
 
 -- one more row, or none, before those that are left
 pub rows_more : (input : ℕ) (headed : Bool) (old new : List InputMessage) (row : InputMessage) (m : LiveMessage)
@@ -56,7 +49,7 @@ header_key : (context : Option (List ℕ)) (id : List ℕ)
 header_key None id = refl
 header_key (Some context) id = no_key context id
 
-header_seen : (use_fuzzy : Bool) (entry : TextEntry) → has_no_key (live_message use_fuzzy entry) ≡ is_header entry
+pub header_seen : (use_fuzzy : Bool) (entry : TextEntry) → has_no_key (live_message use_fuzzy entry) ≡ is_header entry
 header_seen use_fuzzy entry = header_key entry.context entry.id
 
 exchanged : (live header : Bool) → (live && not header) ≡ (not (header && live) && live)

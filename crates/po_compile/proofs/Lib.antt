@@ -1,6 +1,6 @@
 pub mod TextLemmas
 pub mod Filters
-pub mod Cuts
+pub mod LiveMessages
 pub mod ReadingLemmas
 pub mod MessageOrder
 pub mod FaultLemmas

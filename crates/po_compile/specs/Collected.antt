@@ -9,7 +9,7 @@ use Rattle.po_messages.specs.Joined.{is_live}
 use Rattle.po_messages.specs.Statistics.{is_translated, is_fuzzy, is_untranslated}
 use Rattle.po_compile.specs.CompiledList.{is_compiled}
 use Rattle.po_compile.specs.CompiledMessages.{message_of}
-use Rattle.po_compile.specs.declared.collecting.Status.{Status}
+use Rattle.po_compile.specs.declared.status.Status.{Status}
 
 -- whether the entry is compiled, and what it counts as
 abbrev pub status_of : Bool → TextEntry → Status

@@ -1,8 +1,8 @@
 -- What the definitions of this crate say of entries that were compiled by hand (manual, "Invoking the
 -- msgfmt Program" and "The Format of GNU MO Files"). tests/mutants/po_compile/definitions has a wrong form
 -- of each definition, which one of these refuses.
-use Rattle.std.specs.Prelude.{◌≡◌, refl, ℕ, ◌<◌, true, false, List, [], ◌∷◌, Some, None, map, length, codes}
-use Rattle.std.proofs.Common.{arith, ap}
+use Rattle.std.specs.Prelude.{◌≡◌, ◌≢◌, refl, ℕ, ◌^◌, ◌<◌, ◌≤◌, true, false, List, [], ◌∷◌, Some, None, map, length, codes}
+use Rattle.std.proofs.Common.{◌∙◌, arith, ap, inl, inr}
 use Rattle.plural_rule.specs.declared.rule.Source.TheVariants.{Header}
 use Rattle.plural_rule.specs.Expression.{Number}
 use Rattle.plural_rule.specs.PluralRule.{RuleView}
@@ -13,13 +13,20 @@ use Rattle.mo_file.specs.Message.{Message}
 use Rattle.mo_lookup.specs.CatalogView.{answered}
 use Rattle.mo_lookup.specs.Query.{Query}
 use Rattle.po_entry.specs.TextEntry.{TextEntry, plain_entry}
-use Rattle.po_messages.specs.Joined.{joined_entries}
+use Rattle.po_syntax.specs.declared.fault.PoError.{PoError}
+use Rattle.po_syntax.specs.declared.fault.PoFault.TheVariants.{BadToken, Duplicate, TooLarge}
+use Rattle.po_messages.specs.declared.duplicate.JoinError.{JoinError}
+use Rattle.po_messages.specs.DistinctText.{ReadsDistinct, IsTextFault}
+use Rattle.po_messages.specs.Duplicate.{join_out_of_memory}
+use Rattle.po_messages.specs.Examples.{of_a_on, obsolete_of_a, first_duplicate}
+use Rattle.po_messages.specs.Joined.{in_input, joined_entries}
+use Rattle.po_messages.specs.Statistics.{stats_of}
 use Rattle.po_compile.specs.CompiledList.{is_compiled, compiled_list}
 use Rattle.po_compile.specs.CompiledMessages.{plural_part, original_of, translation_of, message_of, AreMessagesOf}
 use Rattle.po_compile.specs.Meaning.{definition, header_of, meant, MeansEntries}
-use Rattle.po_compile.specs.Compiling.{HasSmallLayout, IsCompilation}
-use Rattle.po_compile.specs.Accepted.{AreRead, AreAccepted, AreCompiled}
-use Rattle.po_compile.specs.Headline.{LookUpMeansEntries}
+use Rattle.po_compile.specs.Compiling.{HasSmallLayout, IsCompilation, HasLargeLayout}
+use Rattle.po_compile.specs.Accepted.{AreRead, AreAccepted, AreCompiled, HasStatistics, HasJoinedDuplicate, IsReadingFault, IsCompileFault}
+use Rattle.po_compile.specs.Headline.{LookUpMeansEntries, NoFaultWhereAccepted, AcceptedOrFault, OneCompileFault}
 use Rattle.po_compile.specs.declared.options.Options.{Options}
 use Rattle.po_compile.specs.declared.options.Compiled.{Compiled}
 
@@ -117,3 +124,75 @@ pub fuzzy_is_not_meant : (law : LookUpMeansEntries) (texts : List (List ℕ)) (m
 fuzzy_is_not_meant law texts messages rule accepted are =
     ap (λ answer. answer.found)
     ((law without_fuzzy texts ((fuzzy_of_a ∷ []) ∷ []) messages accepted are).1.answers rule query_of_a)
+
+pub layout_of_4_gib : (options : Options) (large : HasLargeLayout options (of_a ∷ []))
+    → 4294967296 ≤ length (layout options.order large.messages)
+layout_of_4_gib options large = large.large
+
+-- what is fuzzy counts, though it isn't compiled
+pub all_are_counted : (texts : List (List ℕ)) (compiled : Compiled) (has : HasStatistics texts compiled)
+    → has.catalogues ≡ (header ∷ of_a ∷ []) ∷ (header ∷ record of_plural { fuzzy = true } ∷ []) ∷ []
+    → compiled.stats ≡ record { translated = 1; fuzzy = 1; untranslated = 0 }
+all_are_counted texts compiled has are =
+    has.stats ∙ ap (λ (catalogues : List (List TextEntry)). stats_of (joined_entries catalogues)) are
+
+-- the second of three inputs has a fault; what the third has makes no difference
+abbrev pub fault_on : ℕ → ℕ → JoinError
+fault_on input line = record { input = input; first_input = input; error = record { kind = BadToken; line = line } }
+
+pub second_is_reported : (a b c : List ℕ) → ReadsDistinct a (of_a ∷ []) → IsTextFault b (fault_on 1 3).error
+    → IsReadingFault (a ∷ b ∷ c ∷ []) (fault_on 1 3)
+second_is_reported a b c reads fault = inr (inl record {
+  before = a ∷ [];
+  text = b;
+  after = c ∷ [];
+  order = refl;
+  catalogues = (of_a ∷ []) ∷ [];
+  faultless = (reads, tt);
+  input = refl;
+  first_input = refl;
+  fault = fault;
+})
+
+pub message_of_both : (a b : List ℕ) → ReadsDistinct a (of_a_on 2 ∷ obsolete_of_a ∷ [])
+    → ReadsDistinct b (of_a_on 7 ∷ header ∷ [])
+    → HasJoinedDuplicate (a ∷ b ∷ [])
+    (record { input = 1; first_input = 0; error = record { kind = Duplicate 2; line = 7 } })
+message_of_both a b reads others = record {
+  catalogues = (of_a_on 2 ∷ obsolete_of_a ∷ []) ∷ (of_a_on 7 ∷ header ∷ []) ∷ [];
+  each = (reads, (others, tt));
+  first = in_input 0 (of_a_on 2);
+  later = in_input 1 (of_a_on 7);
+  duplicate = first_duplicate 0 1;
+  error_is = refl;
+}
+
+pub large_is_reported : (options : Options) (texts : List (List ℕ)) (catalogues : List (List TextEntry))
+    → AreRead texts catalogues → HasLargeLayout options (joined_entries catalogues)
+    → IsCompileFault options texts
+    (record { input = 0; first_input = 0; error = record { kind = TooLarge; line = 0 } })
+large_is_reported options texts catalogues read large =
+    inr record { catalogues = catalogues; read = read; large = large; error_is = refl }
+
+-- what follows from the laws: texts that are accepted have no fault on line 3; those that have none are
+-- accepted; two faults of an input are on one line
+pub accepted_has_no_fault : (law : NoFaultWhereAccepted) (options : Options) (texts : List (List ℕ))
+    (catalogues : List (List TextEntry)) → AreAccepted options texts catalogues
+    → IsCompileFault options texts (fault_on 0 3) → ⊥
+accepted_has_no_fault law options texts catalogues accepted fault =
+    absurd (omega (
+      arith,
+      ap (λ (e : JoinError). e.error.line) (law options texts catalogues (fault_on 0 3) accepted fault),
+    ))
+
+pub faultless_is_accepted : (law : AcceptedOrFault) (options : Options) (texts : List (List ℕ))
+    → ((error : JoinError) → IsCompileFault options texts error → error ≡ join_out_of_memory)
+    → (catalogues : List (List TextEntry)) × AreAccepted options texts catalogues
+faultless_is_accepted law options texts only =
+    elim (law options texts) [ inl accepted ↦ accepted | inr fault ↦ absurd (fault.2 (only fault.0 fault.1)) ]
+
+pub one_line_is_reported : (law : OneCompileFault) (options : Options) (texts : List (List ℕ)) (line other : ℕ)
+    → IsCompileFault options texts (fault_on 1 line) → IsCompileFault options texts (fault_on 1 other) → line ≡ other
+one_line_is_reported law options texts line other is is' =
+    ap (λ (e : JoinError). e.error.line) (law options texts (fault_on 1 line) (fault_on 1 other) is is'
+    (λ e. omega (arith, ap (λ (e : JoinError). e.input) e)) (λ e. omega (arith, ap (λ (e : JoinError). e.input) e)))

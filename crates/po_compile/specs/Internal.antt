@@ -1,5 +1,4 @@
 -- What private functions, proofs and laws cite; no clause of a public function does.
-pub mod Cutting
 pub mod Prefix
 pub mod Rows
 pub mod Repeats

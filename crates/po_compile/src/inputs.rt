@@ -1,14 +1,15 @@
 //! Several inputs collected.
 
-ghost use Rattle.std.specs.Prelude.{◌<◌, ◌^◌, IfErr, IfOk, length};
+ghost use Rattle.std.specs.Prelude.{◌≡◌, ◌<◌, ◌^◌, All, IfErr, IfOk, length};
 ghost use Rattle.po_entry.specs.TextEntry.{slice_texts};
+ghost use Rattle.po_entry.specs.Validity.{IsCatalogueEntry};
 ghost use Rattle.po_compile.specs.Accepted.{IsReadingFault};
 ghost use Rattle.po_compile.specs.Collected.{HoldCatalogues};
 ghost use Rattle.po_compile.specs.CompiledInputs.{AreCollected};
 
-use crate::collecting::{Collected, collect, with_entries};
+use crate::collecting::{Collected, collect};
 use crate::repeats::{check_each, fault_of_input};
-use po_entry::Catalogue;
+use po_entry::{Catalogue, Entry, Store};
 use po_messages::JoinError;
 use po_reader::laws::entries_can_stand;
 use std::alloc::{AllocError, Global};
@@ -39,6 +40,18 @@ pub fn collect_all(
     Ok(inputs)
 }
 
+/// A copy of each entry.
+fn copied(alloc: Global, entries: &[Entry]) -> Result<Store, AllocError>
+    requires { All IsCatalogueEntry entries.now }
+    ensures { IfOk result (λ copies. copies ≡ entries.now) }
+{
+    let mut copies = Store::new(alloc);
+    for entry in entries {
+        copies.push(entry)?;
+    }
+    Ok(copies)
+}
+
 /// Collects the messages of the live entries of catalogues.
 pub fn collect_catalogues(
     alloc: Global,
@@ -49,11 +62,7 @@ pub fn collect_catalogues(
 {
     let mut inputs = Vec::with_capacity(alloc, catalogues.len())?;
     for catalogue in catalogues {
-        let none = Collected {
-            bytes: Vec::new(alloc),
-            lengths: Vec::new(alloc),
-        };
-        inputs.push(with_entries(none, catalogue.entries(), use_fuzzy)?)?;
+        inputs.push(Collected::of(copied(alloc, catalogue.entries())?, use_fuzzy))?;
     }
     Ok(inputs)
 }

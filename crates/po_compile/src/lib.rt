@@ -1,11 +1,11 @@
 //! Compiling PO catalogues to MO files (GNU gettext manual, "Invoking the msgfmt Program").
 //!
-//! [`compile`] compiles one text, [`compile_all`] several. No catalogue is made of them: the
-//! messages of each text are collected in a buffer of its own, and their rows are sorted.
-//! [`compiled_messages`] are those that are compiled, before they are sorted.
+//! [`compile`] compiles one text, [`compile_all`] several. Each text is read into a store, and the
+//! rows of the live entries of all are sorted. [`compiled_messages`] are those that are compiled,
+//! before they are sorted.
 //!
-//! The modules in reading order: `options`, `compiling`, `inputs`, `collecting`, `row`, `rows`,
-//! `sorting`, `repeats`, `messages`; then `laws`.
+//! The modules in reading order: `options`, `compiling`, `inputs`, `collecting`, `status`, `row`,
+//! `rows`, `sorting`, `repeats`, `messages`; then `laws`.
 
 #![tactic(auto)]
 
@@ -19,6 +19,7 @@ mod repeats;
 mod row;
 mod rows;
 mod sorting;
+mod status;
 
 pub use crate::collecting::Collected;
 pub use crate::compiling::{compile, compile_all, compile_collected};

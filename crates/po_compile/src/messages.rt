@@ -36,12 +36,12 @@ pub fn compiled_messages<'b>(
     let rows = joined_rows(alloc, inputs)?;
     let mut messages = Vec::with_capacity(alloc, rows.len())?;
     for row in &rows {
-        if row.lengths.status.compiled {
+        if row.status.compiled {
             messages.push(CompiledMessage {
                 input: row.input,
-                line: row.lengths.line,
-                original: row.original(),
-                translation: row.translation(),
+                line: row.live.line(),
+                original: row.live.original(),
+                translation: row.live.translation(),
             })?;
         }
     }

@@ -30,7 +30,7 @@ fn key_numbers(alloc: Global, inputs: &[Collected]) -> Result<Vec<usize>, AllocE
     for row in &rows {
         keys.push(MessageKey {
             context: None,
-            id: row.key(),
+            id: row.live.key(),
         })?;
     }
     drop(rows);
@@ -45,7 +45,7 @@ fn row_fault(first: &Row<'_>, later: &Row<'_>) -> JoinError
     JoinError {
         input: later.input,
         first_input: first.input,
-        error: duplicate_at(first.lengths.line, later.lengths.line),
+        error: duplicate_at(first.live.line(), later.live.line()),
     }
 }
 

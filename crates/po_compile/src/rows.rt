@@ -2,32 +2,32 @@
 
 ghost use Rattle.std.specs.Prelude.{◌≡◌, ◌+◌, ◌<◌, ◌≤◌, ◌^◌, ◌++◌, ◌∷◌, [], IfOk, OnOk, filter, length, map};
 ghost use Rattle.mo_file.specs.Pairs.{messages_of_borrowed};
-ghost use Rattle.po_compile.specs.Internal.Cutting.{after_message, first_message};
+ghost use Rattle.po_entry.specs.Validity.{IsEntry};
+ghost use Rattle.po_compile.specs.Collected.{live_message};
 ghost use Rattle.po_compile.specs.Internal.Rows.{all_messages, compiled_of, in_input_message, is_joined, row_view};
 
-use crate::collecting::{Collected, Lengths};
+use crate::collecting::Collected;
 use crate::row::{PREFIX_LEN, Row, prefix_of};
+use crate::status::status_of;
 use mo_file::BorrowedPair;
+use po_entry::EntryRef;
 use std::alloc::{AllocError, Global};
 
-/// Cuts off the row of the message of these lengths, with the prefix of its key.
-fn split_row<'b>(input: u32, bytes: &'b [u8], lengths: &'b Lengths) -> (Row<'b>, &'b [u8])
-    requires key { lengths.now.key ≤ lengths.now.original }
-    requires inside { lengths.now.original + lengths.now.translation ≤ length bytes.now }
-    ensures row { row_view result.0 ≡ in_input_message input (first_message lengths.now bytes.now) }
-    ensures rest { result.1.now ≡ after_message lengths.now bytes.now }
+/// The row of a live entry of this input.
+fn row_of(input: u32, live: EntryRef<'_>, use_fuzzy: bool) -> Row<'_>
+    requires { IsEntry live }
+    ensures { row_view result ≡ in_input_message input (live_message use_fuzzy live.entry) }
 {
-    let (message, rest) = bytes.split_at(lengths.original + lengths.translation);
-    let key = &message[..lengths.key];
+    let status = status_of(&live, use_fuzzy);
+    let key = live.key();
     let (_, after_prefix) = key.split_at(PREFIX_LEN.min(key.len()));
-    let row = Row {
+    Row {
         prefix: prefix_of(key),
         second_prefix: prefix_of(after_prefix),
-        message,
-        lengths,
+        live,
         input,
-    };
-    (row, rest)
+        status,
+    }
 }
 
 /// Adds a row, unless it is that of a header where an earlier input has one.
@@ -35,7 +35,7 @@ fn add_row<'b>(rows: &mut Vec<Row<'b>>, row: Row<'b>, headed: bool) -> Result<()
     ensures { OnOk result (map row_view rows.new.items
         ≡ map row_view rows.old.items ++ filter (λ m. is_joined headed m.message) (row_view row.entry ∷ [])) }
 {
-    if !headed || row.lengths.key > 0 {
+    if !headed || !row.live.is_header() {
         rows.push(row)?;
     }
     Ok(())
@@ -51,21 +51,16 @@ fn add_rows<'b>(
     ensures { OnOk result (map row_view rows.new.items
         ≡ map row_view rows.old.items ++ map (in_input_message input) (filter (is_joined headed) collected.now)) }
 {
-    let mut rest = collected.bytes.as_slice();
-    for lengths in &collected.lengths {
-        let (row, after) = split_row(input, rest, lengths);
+    for index in 0..collected.live.len() {
+        let row = row_of(input, collected.live.get(index), collected.use_fuzzy);
         add_row(rows, row, headed)?;
-        rest = after;
     }
     Ok(())
 }
 
 /// How many rows the inputs have at most: a capacity.
 pub(crate) fn room_for(inputs: &[Collected]) -> usize {
-    inputs.iter().fold(
-        0,
-        |sum: usize, input| sum.saturating_add(input.lengths.len()),
-    )
+    inputs.iter().fold(0, |sum: usize, input| sum.saturating_add(input.live.len()))
 }
 
 /// The rows of the joined list of the inputs, in its order.
@@ -94,10 +89,10 @@ pub(crate) fn compiled_pairs<'b>(
 {
     let mut pairs = Vec::with_capacity(alloc, rows.len())?;
     for row in rows {
-        if row.lengths.status.compiled {
+        if row.status.compiled {
             pairs.push(BorrowedPair {
-                original: row.original(),
-                translation: row.translation(),
+                original: row.live.original(),
+                translation: row.live.translation(),
             })?;
         }
     }

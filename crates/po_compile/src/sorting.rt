@@ -5,10 +5,11 @@ ghost use Rattle.mo_file.specs.Key.{AreRising};
 ghost use Rattle.po_compile.specs.Internal.Repeats.{EachApart, IsRepeatFault};
 ghost use Rattle.po_compile.specs.Internal.Rows.{AreSorted, AreSortedRows, HasOneHeader, counts_of, row_key, with_counted};
 
-use crate::collecting::{Collected, Status};
+use crate::collecting::Collected;
 use crate::repeats::{check_each, check_joined};
 use crate::row::{Row, compare};
 use crate::rows::joined_rows;
+use crate::status::Status;
 use po_messages::{JoinError, Stats};
 use std::alloc::Global;
 
@@ -80,7 +81,7 @@ pub(crate) fn statistics_of(rows: &[Row<'_>]) -> Stats
         untranslated: 0,
     };
     for row in rows {
-        count(&mut stats, row.lengths.status);
+        count(&mut stats, row.status);
     }
     stats
 }

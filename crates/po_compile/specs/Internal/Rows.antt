@@ -5,14 +5,14 @@ use Rattle.std.specs.Prelude.{◌≢◌, AllPairs, IsPermutation, count_by, if�
 use Rattle.std.specs.List.{list_any}
 use Rattle.std.specs.List.Sorted.{IsSortedBy}
 use Rattle.std.specs.Ordering.{is_lt}
-use Rattle.mo_file.specs.Key.{AreRising, key_cmp}
+use Rattle.mo_file.specs.Key.{AreRising, key_cmp, query_key}
 use Rattle.mo_file.specs.Message.{Message}
 use Rattle.po_messages.specs.Joined.{InputEntry}
 use Rattle.po_messages.specs.declared.stats.Stats.{Stats}
 use Rattle.po_compile.specs.Collected.{LiveMessage, live_message}
 use Rattle.po_compile.specs.CompiledInputs.{CompiledView}
-use Rattle.po_compile.specs.Internal.Cutting.{first_message}
-use Rattle.po_compile.specs.declared.collecting.Status.{Status}
+use Rattle.po_compile.specs.CompiledMessages.{message_of}
+use Rattle.po_compile.specs.declared.status.Status.{Status}
 use Rattle.po_compile.specs.declared.row.Row.{Row}
 
 -- the message of a live entry of one of several inputs
@@ -28,7 +28,12 @@ input_message use_fuzzy e = in_input_message e.input (live_message use_fuzzy e.e
 
 -- what contracts see of a row
 abbrev pub row_view : Row → InputMessage
-row_view row = in_input_message row.input (first_message row.lengths.now row.message.now)
+row_view row = in_input_message row.input (record {
+  key = query_key row.live.context row.live.id;
+  message = message_of row.live;
+  line = row.live.line;
+  status = row.status;
+})
 
 abbrev pub row_key : Row → List ℕ
 row_key row = (row_view row).message.key
@@ -82,9 +87,9 @@ pub record AreSortedRows (inputs : List (List LiveMessage)) (rows : List Row) : 
 -- how many of the messages count as translated, fuzzy and untranslated
 abbrev pub counts_of : List Row → Stats
 counts_of rows = record {
-  translated = count_by (λ (r : Row). r.lengths.now.status.translated) rows;
-  fuzzy = count_by (λ (r : Row). r.lengths.now.status.fuzzy) rows;
-  untranslated = count_by (λ (r : Row). r.lengths.now.status.untranslated) rows;
+  translated = count_by (λ (r : Row). r.status.translated) rows;
+  fuzzy = count_by (λ (r : Row). r.status.fuzzy) rows;
+  untranslated = count_by (λ (r : Row). r.status.untranslated) rows;
 }
 
 -- these counts, and one more where a message of this status counts

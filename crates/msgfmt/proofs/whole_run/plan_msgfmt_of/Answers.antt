@@ -6,7 +6,6 @@ use Rattle.runs.specs.Inputs.{named_inputs}
 use Rattle.runs.specs.Run.{run_view}
 use Rattle.msgfmt.specs.Msgfmt.{AreWrong}
 use Rattle.msgfmt.proofs.MsgfmtLemmas.{refused, taken}
-use Rattle.po_syntax.proofs.Results.{ok_always}
 use Rattle.msgfmt.proofs.whole_run.plan_msgfmt_of.Goals as goal
 
 some_text : (inputs : Inputs) → (inputs.texts.len == 0) ≡ false → named_inputs inputs ≡ [] → ⊥
@@ -25,17 +24,18 @@ returns-then-run-eq0-clause-fault c =
     let given : c.args.inputs.fault ≡ Some c.in-Some.fault = cc in
     inr (inr (
       given,
-      taken _ c.args.options.now _ (run_view c.in-Ok.run') refl refl c.in-Ok.ensures c.if-run-eq0.true,
+      taken _ c.args.options.now _ (run_view c.in_ok-run.run') refl refl c.in_ok-run.ensures c.if-run-eq0.true,
     ))
 
 pub returns-else-run-eq0-clause-refused : goal.returns-else-run-eq0-clause-refused
 returns-else-run-eq0-clause-refused c =
-    λ unread. refused _ c.args.options.now _ (run_view c.in-Ok.run') refl refl c.in-Ok.ensures c.if-run-eq0.false
+    λ unread. refused _ c.args.options.now _
+    (run_view c.in_ok-run.run') refl refl c.in_ok-run.ensures c.if-run-eq0.false
 
 pub returns-in_default-clause-right : goal.returns-in_default-clause-right
 returns-in_default-clause-right c =
-    ok_always c.map_err.result (λ run. not_wrong c.args.inputs c.args.inputs.fault
-    (sym c.is_empty.ensures ∙ c.if-is_empty.false) (omega (arith, c.len.ensures, c.if-len.false)))
+    not_wrong c.args.inputs c.args.inputs.fault (sym c.is_empty.ensures ∙ c.if-is_empty.false)
+    (omega (arith, c.len.ensures, c.if-len.false))
 
 pub returns-then-len-clause-fault : goal.returns-then-len-clause-fault
 returns-then-len-clause-fault c =
@@ -55,8 +55,8 @@ returns-then-len-clause-first c =
       c.args.inputs.texts.ok.0,
     ))
 
-pub returns-in_default-plan_inputs-clause-first : goal.returns-in_default-plan_inputs-clause-first
-returns-in_default-plan_inputs-clause-first c =
+pub returns-in_err-run-clause-first : goal.returns-in_err-run-clause-first
+returns-in_err-run-clause-first c =
     λ none. absurd (some_text c.args.inputs (sym c.is_empty.ensures ∙ c.if-is_empty.false) none)
 
 pub returns-else-run-eq0-clause-right : goal.returns-else-run-eq0-clause-right

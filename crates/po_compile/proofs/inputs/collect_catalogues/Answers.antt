@@ -2,7 +2,6 @@ use Rattle.std.proofs.Common.{refl, arith, ap, sym, subst, ◌∙◌, ◌+◌, �
 use Rattle.std.proofs.lemmas.List.{take_more}
 use Rattle.po_entry.specs.Validity.{IsCatalogueEntry}
 use Rattle.po_compile.specs.Collected.{HoldCatalogues, live_messages}
-use Rattle.po_compile.specs.Internal.Cutting.{cut}
 use Rattle.po_compile.proofs.InputLemmas.{held_more}
 use Rattle.po_compile.proofs.inputs.collect_catalogues.Goals as goal
 
@@ -16,10 +15,9 @@ loop-catalogue-preserved c =
     let catalogues = c.args.catalogues.now in
     let i = c.loop-catalogue.catalogue-index in
     let catalogue = c.catalogue-item.result in
-    let collected = c.in_ok-with_entries.field-0 in
-    let messages = c.in_ok-with_entries.ensures
-    ∙ ap (λ lengths. cut lengths c.new.result.items ++ live_messages use_fuzzy c.entries.result.now)
-    c.new-in-loop-catalogue.ensures.items ∙ ap (live_messages use_fuzzy) c.entries.ensures.entries in
+    let collected = c.of.result in
+    let messages = c.of.ensures
+    ∙ ap (live_messages use_fuzzy) (c.in_ok-copied.ensures ∙ c.entries.ensures.entries) in
     let more = held_more use_fuzzy
     (take i catalogues) c.loop-catalogue.inputs.items catalogue collected c.loop-catalogue.invariant
     (subst (All IsCatalogueEntry) c.entries.ensures.entries c.entries.ensures.valid) messages in

@@ -1,6 +1,6 @@
 use Rattle.std.proofs.Common.{◌++◌, ◌∷◌, [], ap, ap₂, sym, ◌∙◌, ℕ, List, filter, map}
 use Rattle.std.proofs.lemmas.List.{map-append, take_all}
-use Rattle.po_compile.specs.CompiledInputs.{compiled_view}
+use Rattle.po_compile.specs.CompiledInputs.{CompiledView, compiled_view}
 use Rattle.po_compile.specs.Internal.Rows.{InputMessage, all_messages, row_view, view_of_message}
 use Rattle.po_compile.proofs.CompiledRows.{one_kept, one_omitted}
 use Rattle.po_compile.proofs.JoinedRows.{joined_valid}
@@ -15,16 +15,18 @@ loop-row-preserved c =
     let row = c.row-item.result in
     let inside = c.loop-row-test.true in
     let here = c.row-item.is in
+    let with : ℕ → List ℕ → List ℕ → List CompiledView = λ line original translation.
+    map compiled_view c.loop-row.messages.items ++ record {
+      input = row.input;
+      line = line;
+      message = record { original = original; translation = translation };
+    } ∷ [] in
     elim c.if-row.branch [
       | then-row+in_ok-push w ↦
           ap (λ v. map compiled_view v.items) w.messages-is ∙ ap (map compiled_view) w.in_ok-push.ensures.items
           ∙ map-append compiled_view c.loop-row.messages.items _
-          ∙ ap₂ (λ (original translation : List ℕ). map compiled_view c.loop-row.messages.items ++ record {
-            input = row.input;
-            line = row.lengths.now.line;
-            message = record { original = original; translation = translation };
-          } ∷ [])
-          w.original.ensures w.translation.ensures
+          ∙ ap (λ line. with line w.original.result.now w.translation.result.now) w.line.ensures
+          ∙ ap₂ (with row.live.line) w.original.ensures w.translation.ensures
           ∙ ap (λ l. l ++ view_of_message (row_view row) ∷ []) c.loop-row.invariant
           ∙ sym (one_kept view_of_message rows i row inside here w.if-row.true)
       | else-row w ↦
