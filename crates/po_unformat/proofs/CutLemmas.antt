@@ -5,7 +5,7 @@ use Rattle.std.specs.Borrow.{Bor}
 use Rattle.std.proofs.Math.Seq.{take-append_seam}
 use Rattle.std.proofs.lemmas.Bool.{false_from_ne_true}
 use Rattle.std.proofs.lemmas.Bool.Decides.{Decides-eqb}
-use Rattle.std.proofs.lemmas.List.{drop_at, map_push, get_or_append_left, get_or_at, take_all}
+use Rattle.std.proofs.lemmas.List.{drop_at, get_or_append_left, get_or_at, take_all}
 use Rattle.std.proofs.lemmas.List.Elements.{All-weaker}
 use Rattle.std.proofs.lemmas.List.Folds.{list_any_at, list_any_none}
 use Rattle.std.proofs.lemmas.List.Splits.{slice_split_none, slice_split_at}
@@ -13,7 +13,6 @@ use Rattle.std.proofs.lemmas.List.Sums.{position_or_len_is}
 use Rattle.mo_lookup.specs.CatalogView.{forms}
 use Rattle.po_entry.specs.Bytes.{Lacks}
 use Rattle.po_entry.specs.Header.{first_form}
-use Rattle.po_entry.specs.TextEntry.{slice_texts}
 use Rattle.po_unformat.specs.Unformatted.{context_of, id_of, is_eot, plural_of}
 
 module _ (byte : ℕ) where
@@ -109,23 +108,6 @@ module _ (text : List ℕ) (lacks : Lacks 0 text) where
 pub first_taken : (texts : List (List ℕ)) (first : List ℕ) → take 1 texts ≡ first ∷ [] → first ≡ first_form texts
 first_taken [] first is = absurd (cc)
 first_taken (text ∷ texts) first is = ap (λ l. get_or l 0 []) (sym is)
-
-module _ (done : List (Bor (List ℕ))) (piece : Bor (List ℕ)) (all : List (List ℕ)) where
-  pushed : slice_texts (done ++ piece ∷ []) ≡ slice_texts done ++ piece.now ∷ []
-  pushed = map_push (λ (s : Bor (List ℕ)). s.now) done piece
-
-  -- a piece that is taken from the rest
-  pub more_pieces : (rest next : List ℕ) → rest ≡ piece.now ++ 0 ∷ next → Lacks 0 piece.now
-      → slice_texts done ++ forms rest ≡ all
-      → slice_texts (done ++ piece ∷ []) ++ forms next ≡ all
-  more_pieces rest next is lacks so_far =
-      ap (λ l. l ++ forms next) pushed ∙ append_assoc (slice_texts done) (piece.now ∷ []) (forms next)
-      ∙ ap (λ l. slice_texts done ++ l) (sym (ap forms is ∙ split_cut 0 piece.now next lacks)) ∙ so_far
-
-  -- the rest is the last piece
-  pub last_piece : Lacks 0 piece.now → slice_texts done ++ forms piece.now ≡ all
-      → slice_texts (done ++ piece ∷ []) ≡ all
-  last_piece lacks so_far = pushed ∙ ap (λ l. slice_texts done ++ l) (sym (split_none 0 piece.now lacks)) ∙ so_far
 
 -- what is before the first NUL of a translation, and what is after it
 abbrev IsCut : List ℕ → Option (Bor (List ℕ) × Bor (List ℕ)) → Type 0

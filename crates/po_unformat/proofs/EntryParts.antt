@@ -75,16 +75,16 @@ key_is original (at before after lacks) =
     (before_plural first.after lacks first.lacks first.ends))
 
 -- a text has a first part, and no part contains a NUL
-record Parts (text : List ℕ) : Type 0 where
-  first : List ℕ
-  others : List (List ℕ)
-  are : forms text ≡ first ∷ others
-  lack : All (Lacks 0) (first ∷ others)
+pub record Parts (text : List ℕ) : Type 0 where
+  pub first : List ℕ
+  pub others : List (List ℕ)
+  pub are : forms text ≡ first ∷ others
+  pub lack : All (Lacks 0) (first ∷ others)
 
 empty : Lacks 0 []
 empty = All-nil (λ c. c ≢ 0)
 
-parts_of : (text : List ℕ) → Parts text
+pub parts_of : (text : List ℕ) → Parts text
 parts_of [] = record { first = []; others = []; are = refl; lack = All-cons (Lacks 0) [] [] empty (All-nil (Lacks 0)) }
 parts_of (b ∷ text) =
     let inner = parts_of text in

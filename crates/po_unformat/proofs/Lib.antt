@@ -4,4 +4,5 @@ pub mod FaultLemmas
 pub mod ReturnLemmas
 pub mod SettledMessages
 pub mod OneFault
-mod EntryParts
+pub mod EntryParts
+pub mod LaidMessages

@@ -1,12 +1,14 @@
 -- The entries of messages, one after another, and what is wrong with one.
-use Rattle.std.proofs.Common.{◌≡◌, ◌⊎◌, ℕ, ◌+◌, ◌<◌, Bool, true, false, List, [], ◌∷◌, ◌++◌, ◌&&◌, ◌↔◌, zero, suc, Option, None, Some, IfSome, refl, sym, ap, ◌∙◌, subst, length, get_or, take, slice_get, arith, All, inl, inr}
+use Rattle.std.proofs.Common.{◌≡◌, ℕ, ◌+◌, ◌<◌, Bool, true, false, List, [], ◌∷◌, ◌++◌, ◌&&◌, ◌↔◌, zero, suc, Option, None, Some, IfSome, refl, sym, ap, ◌∙◌, subst, length, get_or, take, slice_get, arith, All}
 use Rattle.std.proofs.lemmas.List.{length-map, take_more, take_all}
 use Rattle.std.proofs.lemmas.List.Elements.{All-nil, All-more, All-map, All-take, All-weaker}
 use Rattle.std.proofs.lemmas.Option.{get_or_from_slice_get, slice_get_within}
 use Rattle.std.specs.Prelude.{IsUtf8}
+use Rattle.std.proofs.lemmas.List.Splits.{length-slice_split}
+use Rattle.mo_file.specs.Key.{is_nul, key_of}
 use Rattle.mo_file.specs.Message.{Message, originals, translations}
+use Rattle.mo_lookup.specs.CatalogView.{forms}
 use Rattle.po_syntax.specs.declared.fault.PoFault.{PoFault}
-use Rattle.po_syntax.specs.declared.fault.PoFault.TheVariants.{OutOfMemory as NoMemory}
 use Rattle.po_entry.specs.TextEntry.{TextEntry, plain_entry, quoted_texts}
 use Rattle.po_entry.specs.Bytes.{Lacks}
 use Rattle.po_entry.specs.Header.{HasAdmittedCharset}
@@ -17,7 +19,7 @@ use Rattle.po_unformat.specs.declared.fault.UnformatError.{UnformatError}
 use Rattle.po_unformat.specs.declared.fault.UnformatError.TheVariants.{Mo, NotUtf8, ForbiddenByte, ForeignCharset, OutOfMemory}
 use Rattle.po_unformat.specs.Internal.Refused.{RefusesEntry, RefusesMessages, error_at}
 use Rattle.po_writer.specs.WrittenText.{written_text}
-use Rattle.po_unformat.specs.Unformatted.{entry_of_message, unformatted}
+use Rattle.po_unformat.specs.Unformatted.{context_of, entry_of_message, id_of, plural_of, taken_forms, unformatted}
 use Rattle.po_unformat.specs.UnformattedText.{AreWrittenAs, HasForeignCharset}
 
 -- the texts of an entry can stand in it
@@ -49,16 +51,28 @@ plain_valid context id plural forms texts no_eot also some one = record {
   one_form = one;
 }
 
-by_fault : (entry : TextEntry) (i : ℕ) (fault : PoFault) → EntryTextFault entry fault
+some_taken : (plural : Option (List ℕ)) (pieces : List (List ℕ)) → 0 < length pieces
+    → (0 < length (taken_forms plural pieces)) × (plural ≡ None → length (taken_forms plural pieces) ≡ 1)
+some_taken plural [] some = absurd (omega arith)
+some_taken None (piece ∷ pieces) some = (omega arith, λ e. refl)
+some_taken (Some plural) (piece ∷ pieces) some = (omega arith, λ e. cc)
+
+-- the entry of a message is one where its texts can stand in it
+pub message_valid : (m : Message) → HasTexts (entry_of_message m) → IsEntry (entry_of_message m)
+message_valid m texts =
+    let taken = some_taken (plural_of m.original) (forms m.translation)
+    (omega (arith, length-slice_split is_nul m.translation)) in
+    let each : All IsText (quoted_texts (entry_of_message m)) =
+    λ i d inside. record { utf8 = texts.utf8 i d inside; no_nul = texts.clean.no_nul i d inside } in
+    plain_valid (context_of (key_of m.original)) (id_of (key_of m.original)) (plural_of m.original)
+    (taken_forms (plural_of m.original) (forms m.translation)) each texts.clean.context texts.clean.id taken.0
+    taken.1
+
+-- what is wrong with an entry's texts is reported by its error
+pub by_fault : (entry : TextEntry) (i : ℕ) (fault : PoFault) → EntryTextFault entry fault
     → RefusesEntry entry i (error_at i fault)
 by_fault entry i _ (not_utf8 h) = (refl, not_utf8 h)
 by_fault entry i _ (forbidden u h) = (refl, forbidden u h)
-
--- what is wrong with an entry's texts is reported by its error
-pub refused_entry : (entry : TextEntry) (i : ℕ) (fault : PoFault) → (fault ≡ NoMemory) ⊎ EntryTextFault entry fault
-    → RefusesEntry entry i (error_at i fault)
-refused_entry entry i fault (inl memory) = subst (λ f. RefusesEntry entry i (error_at i f)) (sym memory) tt
-refused_entry entry i fault (inr why) = by_fault entry i fault why
 
 -- the first entry that is refused
 pub refused_messages : (messages : List Message) (entry : TextEntry) (i : ℕ)

@@ -22,7 +22,7 @@ use Rattle.po_unformat.specs.Internal.Refused.{RefusesMessages}
 use Rattle.po_unformat.specs.Unformatted.{context_of, entry_of_message, id_of, plural_of, taken_forms, unformatted}
 use Rattle.po_unformat.specs.UnformattedText.{AreWrittenAs, IsUnformatFault}
 use Rattle.po_entry.proofs.Settled.{all_settled, texts_or_fault, charset_settled}
-use Rattle.po_unformat.proofs.MessageLemmas.{catalogue_entries, plain_valid}
+use Rattle.po_unformat.proofs.MessageLemmas.{catalogue_entries, message_valid}
 
 -- the first entry with a fault in its texts
 record FirstFault (entries : List TextEntry) : Type 0 where
@@ -61,28 +61,11 @@ refused messages i entry _ is before (not_utf8 fault) =
 refused messages i entry _ is before (forbidden utf8 fault) =
     (ForbiddenByte i, record { entry = entry; is_entry = is; fault = forbidden utf8 fault; before = before }, λ e. cc)
 
-some_taken : (plural : Option (List ℕ)) (pieces : List (List ℕ)) → 0 < length pieces
-    → (0 < length (taken_forms plural pieces)) × (plural ≡ None → length (taken_forms plural pieces) ≡ 1)
-some_taken plural [] some = absurd (omega arith)
-some_taken None (piece ∷ pieces) some = (omega arith, λ e. refl)
-some_taken (Some plural) (piece ∷ pieces) some = (omega arith, λ e. cc)
-
--- the entry of a message is one where its texts can stand in it
-message_entry : (m : Message) → HasTexts (entry_of_message m) → IsEntry (entry_of_message m)
-message_entry m texts =
-    let taken = some_taken (plural_of m.original) (forms m.translation)
-    (omega (arith, length-slice_split is_nul m.translation)) in
-    let each : All IsText (quoted_texts (entry_of_message m)) =
-    λ i d inside. record { utf8 = texts.utf8 i d inside; no_nul = texts.clean.no_nul i d inside } in
-    plain_valid (context_of (key_of m.original)) (id_of (key_of m.original)) (plural_of m.original)
-    (taken_forms (plural_of m.original) (forms m.translation)) each texts.clean.context texts.clean.id taken.0
-    taken.1
-
 message_entries : (messages : List Message) → All HasTexts (unformatted messages) → All IsEntry (unformatted messages)
 message_entries [] all = All-nil IsEntry
 message_entries (m ∷ messages) all =
     All-cons IsEntry (entry_of_message m) (unformatted messages)
-    (message_entry m (All-head HasTexts (entry_of_message m) (unformatted messages) all))
+    (message_valid m (All-head HasTexts (entry_of_message m) (unformatted messages) all))
     (message_entries messages (All-tail HasTexts (entry_of_message m) (unformatted messages) all))
 
 -- messages are written or refused

@@ -1,2 +1,3 @@
 -- What private functions, proofs and laws cite; no clause of a public function does.
 pub mod Refused
+pub mod Laid

@@ -1,16 +1,14 @@
 //! The parts of originals and translations (GNU gettext manual, "The Format of GNU MO Files").
 
-ghost use Rattle.std.specs.Prelude.{◌≡◌, ◌<◌, ◌++◌, [], ◌∷◌, IfOk, IfSome, MatchOption, length, take};
+ghost use Rattle.std.specs.Prelude.{◌≡◌, ◌<◌, ◌++◌, [], ◌∷◌, IfSome, MatchOption, length, take};
 ghost use Rattle.std.specs.Option.{option_copied};
 ghost use Rattle.mo_file.specs.Key.{key_of};
 ghost use Rattle.mo_lookup.specs.CatalogView.{forms};
 ghost use Rattle.po_entry.specs.Bytes.{Lacks};
 ghost use Rattle.po_entry.specs.Header.{first_form};
-ghost use Rattle.po_entry.specs.TextEntry.{slice_texts};
 ghost use Rattle.po_unformat.specs.Unformatted.{context_of, id_of, plural_of};
 
 use memchr::memchr;
-use std::alloc::{AllocError, Global};
 
 /// The byte between a context and a msgid.
 const EOT: u8 = 4;
@@ -67,18 +65,4 @@ pub fn split_form(translation: &[u8]) -> Option<(&[u8], &[u8])>
     ensures shorter { IfSome result (λ parts. length parts.1.now < length translation.now) }
 {
     split_once_at(NUL, translation)
-}
-
-/// The parts of a translation between its NULs.
-pub(crate) fn forms_of(alloc: Global, translation: &[u8]) -> Result<Vec<&[u8]>, AllocError>
-    ensures { IfOk result (λ pieces. slice_texts pieces.items ≡ forms translation.now) }
-{
-    let mut pieces = Vec::new(alloc);
-    let mut rest = translation;
-    while let Some((piece, next)) = split_once_at(NUL, rest) {
-        pieces.push(piece)?;
-        rest = next;
-    }
-    pieces.push(rest)?;
-    Ok(pieces)
 }

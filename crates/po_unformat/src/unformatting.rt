@@ -1,36 +1,42 @@
 //! The entries of messages, and the PO text of an MO file.
 
-ghost use Rattle.std.specs.Prelude.{◌≡◌, ◌<◌, [], Some, IfErr, IfOk, MatchResult, OnOk, length, slice_get};
-ghost use Rattle.po_entry.specs.TextEntry.{TextEntry};
-ghost use Rattle.po_entry.specs.Validity.{IsEntry, RefusesMessage};
-ghost use Rattle.po_unformat.specs.Internal.Refused.{RefusesEntry, RefusesMessages, error_at};
-ghost use Rattle.po_unformat.specs.Unformatted.{entry_of_message, unformatted};
+ghost use Rattle.std.specs.Prelude.{◌≡◌, ◌<◌, [], All, IfErr, IfOk, MatchResult, OnOk, false, length, option_copied};
+ghost use Rattle.mo_lookup.specs.CatalogView.{forms};
+ghost use Rattle.po_entry.specs.Bytes.{Lacks};
+ghost use Rattle.po_entry.specs.TextEntry.{quoted_texts};
+ghost use Rattle.po_unformat.specs.Internal.Laid.{AppendsEntry, AppendsMessage, HoldsMessage};
+ghost use Rattle.po_unformat.specs.Internal.Refused.{RefusesEntry, RefusesMessage, RefusesMessages, error_at};
+ghost use Rattle.po_unformat.specs.Unformatted.{taken_forms};
 ghost use Rattle.po_unformat.specs.UnformattedText.{AreWrittenAs, IsUnformatted, IsUnformatFault};
 
 use crate::fault::UnformatError;
-use crate::parts::{first_part, forms_of, key_parts, original_parts};
+use crate::parts::{first_part, key_parts, original_parts};
 use mo_file::{Meter, MoView};
-use po_entry::{Entry, has_admitted_charset};
-use po_syntax::{PoError, PoFault};
+use po_entry::laws::drafts_are_added;
+use po_entry::{Drafts, EntryRef};
+use po_syntax::PoFault;
 use po_writer::append;
-use std::alloc::Global;
+use std::alloc::{AllocError, Global};
 
-/// The entry of a message.
-fn entry_of_message(alloc: Global, original: &[u8], translation: &[u8]) -> Result<Entry, PoError>
-    ensures entry { IfOk result (λ entry. entry
-        ≡ entry_of_message (record { original = original.now; translation = translation.now })) }
-    ensures valid { IfOk result IsEntry }
-    ensures fault { IfErr result (λ error. RefusesMessage
-        (entry_of_message (record { original = original.now; translation = translation.now })) error) }
+/// What of a translation has forms: with a plural all of it, without one its first part.
+fn taken_part<'a>(plural: Option<&[u8]>, translation: &'a [u8]) -> &'a [u8]
+    ensures { forms result.now ≡ taken_forms (option_copied plural.entry) (forms translation.now) }
+{
+    match plural {
+        Some(_) => translation,
+        None => first_part(translation),
+    }
+}
+
+/// Lays out the entry of a message, in place of what the drafts had.
+fn lay_out(drafts: &mut Drafts, original: &[u8], translation: &[u8]) -> Result<(), AllocError>
+    ensures { OnOk result (HoldsMessage (record { original = original.now; translation = translation.now }) drafts.new) }
 {
     let (key, plural) = original_parts(original);
     let (context, id) = key_parts(key);
-    if plural.is_none() {
-        Entry::message(alloc, context, id, None, &[first_part(translation)])
-    } else {
-        let forms = forms_of(alloc, translation)?;
-        Entry::message(alloc, context, id, plural, &forms)
-    }
+    drafts_are_added();
+    drafts.clear();
+    drafts.add_message(context, id, plural, taken_part(plural, translation))
 }
 
 /// The error for a fault of the texts of message i.
@@ -39,26 +45,42 @@ fn error_at(i: u32, fault: PoFault) -> UnformatError
 {
     match fault {
         PoFault::NotUtf8 => UnformatError::NotUtf8(i),
-        PoFault::ForbiddenByte => UnformatError::ForbiddenByte(i),
-        _ => UnformatError::OutOfMemory,
+        _ => UnformatError::ForbiddenByte(i),
     }
 }
 
-/// The entry of message i.
-fn entry_at(alloc: Global, view: &MoView<'_>, i: u32) -> Result<Entry, UnformatError>
+/// Appends the entry of message i to the text, and returns whether its charset is admitted.
+fn append_entry(text: &mut Vec<u8>, entry: &EntryRef<'_>, i: u32) -> Result<bool, UnformatError>
+    requires no_nul { All (Lacks 0) (quoted_texts entry.now) }
+    requires live { entry.now.obsolete ≡ false }
+    ensures appended { IfOk result (AppendsEntry entry.now text.old.items text.new.items) }
+    ensures fault { IfErr result (RefusesEntry entry.now i) }
+{
+    if let Err(fault) = entry.check_texts(false) {
+        return Err(error_at(i, fault));
+    }
+    append(text, entry)?;
+    Ok(entry.has_admitted_charset())
+}
+
+/// Appends the entry of message i to the text, laid out in place of what the drafts had, and
+/// returns whether its charset is admitted.
+fn append_message(
+    text: &mut Vec<u8>,
+    drafts: &mut Drafts,
+    view: &MoView<'_>,
+    i: u32,
+) -> Result<bool, UnformatError>
     requires { i < length view.now.messages }
-    ensures entry { IfOk result (λ entry. slice_get (unformatted view.now.messages) i ≡ Some entry) }
-    ensures valid { IfOk result IsEntry }
-    ensures fault { IfErr result (λ error. (entry : TextEntry)
-        × (slice_get (unformatted view.now.messages) i ≡ Some entry) × RefusesEntry entry i error) }
+    ensures appended { IfOk result (AppendsMessage view.now.messages i text.old.items text.new.items) }
+    ensures fault { IfErr result (RefusesMessage view.now.messages i) }
 {
     let mut meter = Meter::new();
     let original = view.original(i, &mut meter);
     let translation = view.translation(i);
-    match entry_of_message(alloc, original, translation) {
-        Ok(entry) => Ok(entry),
-        Err(error) => Err(error_at(i, error.kind)),
-    }
+    lay_out(drafts, original, translation)?;
+    let entry = EntryRef::of(&drafts.bytes, &drafts.rows[0]);
+    append_entry(text, &entry, i)
 }
 
 /// Appends the entries of a file to an empty text. One entry is held at a time.
@@ -67,17 +89,10 @@ fn append_entries(alloc: Global, view: &MoView<'_>, text: &mut Vec<u8>) -> Resul
     ensures written { OnOk result (AreWrittenAs text.new.items view.now.messages) }
     ensures fault { IfErr result (RefusesMessages view.now.messages) }
 {
+    let mut drafts = Drafts::new(alloc);
     let mut is_admitted = true;
     for i in 0..view.len() {
-        let appended = {
-            let entry = entry_at(alloc, view, i)?;
-            is_admitted &= has_admitted_charset(&entry);
-            append(text, &entry)
-        };
-        match appended {
-            Ok(()) => {}
-            Err(error) => return Err(error_at(i, error.kind)),
-        }
+        is_admitted &= append_message(text, &mut drafts, view, i)?;
     }
     if is_admitted {
         Ok(())

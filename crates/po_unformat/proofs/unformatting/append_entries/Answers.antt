@@ -3,34 +3,28 @@ use Rattle.std.proofs.lemmas.Result.{err_from_is_err_and}
 use Rattle.po_entry.specs.Validity.{IsEntry}
 use Rattle.po_writer.specs.WrittenText.{written_text}
 use Rattle.po_unformat.specs.Unformatted.{unformatted}
-use Rattle.po_unformat.proofs.MessageLemmas.{admitted_more, all_more, all_written, foreign_more, live_at, live_messages, one_more, refused_messages, some_foreign}
+use Rattle.po_unformat.proofs.MessageLemmas.{admitted_more, all_more, all_written, foreign_more, live_messages, one_more, refused_messages, some_foreign}
 use Rattle.po_unformat.proofs.unformatting.append_entries.Goals as goal
 
-pub returns-in_err-entry-clause-fault : goal.returns-in_err-entry-clause-fault
-returns-in_err-entry-clause-fault c =
+pub returns-in_err-is_admitted-clause-fault : goal.returns-in_err-is_admitted-clause-fault
+returns-in_err-is_admitted-clause-fault c =
     let p = err_from_is_err_and c.from_residual.result c.from_residual.ensures.1 in
-    let why = c.in_err-entry.ensures.fault in
+    let why = c.in_err-is_admitted.ensures.fault in
     rw (p.1, p.2) (refused_messages c.args.view.now.messages why.0 c.loop-i.i why.1 c.loop-i.invariant.valid _ why.2)
-
-pub append-appended-requires : goal.append-appended-requires
-append-appended-requires c = live_at c.args.view.now.messages c.loop-i.i c.in_ok-entry.entry c.in_ok-entry.ensures.entry
 
 pub loop-i-preserved : goal.loop-i-preserved
 loop-i-preserved c =
     let messages = c.args.view.now.messages in
     let i = c.loop-i.i in
-    let entry = c.in_ok-entry.entry in
-    let at = c.in_ok-entry.ensures.entry in
+    let more = c.in_ok-is_admitted.ensures.appended in
+    let at = more.is_entry in
     let before = c.loop-i.invariant in
     record {
-      written = (rw c.in-Ok.is at c.append-appended.ensures.appended) (take i (unformatted messages))
-          (live_messages i messages) before.written
-          ∙ ap written_text (sym (one_more messages i entry at));
-      valid = all_more messages i entry at IsEntry before.valid c.in_ok-entry.ensures.valid;
-      admitted = admitted_more messages i entry at c.loop-i.is_admitted c.has_admitted_charset-is_admitted.result
-          c.has_admitted_charset-is_admitted.ensures before.admitted;
-      foreign = foreign_more messages i entry at c.loop-i.is_admitted c.has_admitted_charset-is_admitted.result
-          c.has_admitted_charset-is_admitted.ensures before.foreign;
+      written = more.text (take i (unformatted messages)) (live_messages i messages) before.written
+          ∙ ap written_text (sym (one_more messages i more.entry at));
+      valid = all_more messages i more.entry at IsEntry before.valid more.valid;
+      admitted = admitted_more messages i more.entry at c.loop-i.is_admitted _ more.admitted before.admitted;
+      foreign = foreign_more messages i more.entry at c.loop-i.is_admitted _ more.admitted before.foreign;
     }
 
 pub returns-then-is_admitted-clause-written : goal.returns-then-is_admitted-clause-written
@@ -41,8 +35,8 @@ returns-then-is_admitted-clause-written c =
     all_written c.args.view.now.messages c.loop-i.i end done.valid c.loop-i.text.items done.written
     (done.admitted c.if-is_admitted.true)
 
-pub returns-else-is_admitted-clause-fault : goal.returns-else-is_admitted-clause-fault
-returns-else-is_admitted-clause-fault c =
+pub returns-clause-fault : goal.returns-clause-fault
+returns-clause-fault c =
     let end : c.loop-i.i ≡ length c.args.view.now.messages =
     omega (arith, c.loop-i.auto, c.loop-i-test.false, c.len-i-end.ensures.count) in
     let done = c.loop-i.invariant in
