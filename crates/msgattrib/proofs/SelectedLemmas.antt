@@ -1,6 +1,6 @@
 -- What is selected of the entries of a text.
-use Rattle.std.proofs.Common.{◌≡◌, ◌≢◌, refl, sym, ap, ap₂, subst, ◌∙◌, ℕ, Bool, true, false, ◌&&◌, ◌||◌, List, ◌++◌, AllPairs, map, filter, inl, inr}
-use Rattle.std.proofs.lemmas.List.{map-append}
+use Rattle.std.proofs.Common.{◌≡◌, ◌≢◌, refl, sym, ap, ap₂, subst, ◌∙◌, ℕ, ◌+◌, ◌<◌, Bool, true, false, ◌&&◌, ◌||◌, List, [], ◌∷◌, ◌++◌, AllPairs, map, filter, inl, inr, get_or, length, take, append_assoc}
+use Rattle.std.proofs.lemmas.List.{map-append, take_more}
 use Rattle.std.proofs.lemmas.List.Elements.{filter-append, filter_agree}
 use Rattle.std.proofs.lemmas.List.Kept.{AllPairs-filter}
 use Rattle.po_syntax.specs.declared.fault.PoError.{PoError}
@@ -17,7 +17,9 @@ use Rattle.po_reader.proofs.Texts.{text_once}
 use Rattle.po_select.specs.declared.selection.Selection.{Selection}
 use Rattle.po_select.specs.Selected.{changed, is_kept, selected}
 use Rattle.msgattrib.specs.Msgattrib.{IsMsgattribRun, error_line}
-use Rattle.msgattrib.specs.Internal.SelectedText.{HaveNoDuplicate, IsSelectionFault, hashes_of, may_repeat, stays_live}
+use Rattle.msgattrib.specs.Internal.SelectedText.{AddsParts, AreSelected, HaveNoDuplicate, IsSelectionFault, hashes_of, may_repeat, stays_live}
+use Rattle.po_writer.specs.TextParts.{AreParts}
+use Rattle.po_writer.specs.declared.parts.TextParts.{TextParts}
 use Rattle.runs.specs.Run.{refusal, run_view}
 use Rattle.runs.specs.declared.run.Run.{Run}
 
@@ -53,6 +55,46 @@ pub hashes_joined : (s : Selection) (before entries : List TextEntry)
 hashes_joined s before entries =
     sym (ap (map hash_of) (filter-append (may_repeat s) before entries)
     ∙ map-append hash_of (filter (may_repeat s) before) (filter (may_repeat s) entries))
+
+-- the entries up to the next one
+next_taken : (entries : List TextEntry) (i : ℕ) (entry : TextEntry) → i < length entries
+    → entry ≡ get_or entries i entry → take i entries ++ entry ∷ [] ≡ take (i + 1) entries
+next_taken entries i entry inside is =
+    ap (λ (e : TextEntry). take i entries ++ e ∷ []) is ∙ sym (take_more entries i entry inside)
+
+-- the next entry is added where it is selected
+pub parts_go_on : (s : Selection) (entries : List TextEntry) (i : ℕ) (entry : TextEntry) (old now new : TextParts)
+    → i < length entries → entry ≡ get_or entries i entry → AddsParts (selected s (take i entries)) old now
+    → AddsParts (selected s (entry ∷ [])) now new → AddsParts (selected s (take (i + 1) entries)) old new
+parts_go_on s entries i entry old now new inside is so_far more before parts =
+    subst (λ list. AreParts list new)
+    (append_assoc before (selected s (take i entries)) (selected s (entry ∷ []))
+    ∙ ap (λ (list : List TextEntry). before ++ list)
+    (selected_joined s (take i entries) (entry ∷ []) ∙ ap (selected s) (next_taken entries i entry inside is)))
+    (more (before ++ selected s (take i entries)) (so_far before parts))
+
+-- and so is its hash
+pub hashes_go_on : (s : Selection) (entries : List TextEntry) (i : ℕ) (entry : TextEntry) (before : List ℕ)
+    → i < length entries → entry ≡ get_or entries i entry
+    → (before ++ hashes_of s (take i entries)) ++ hashes_of s (entry ∷ [])
+    ≡ before ++ hashes_of s (take (i + 1) entries)
+hashes_go_on s entries i entry before inside is =
+    append_assoc before (hashes_of s (take i entries)) (hashes_of s (entry ∷ []))
+    ∙ ap (λ (list : List ℕ). before ++ list)
+    (hashes_joined s (take i entries) (entry ∷ []) ∙ ap (hashes_of s) (next_taken entries i entry inside is))
+
+-- the entries of a piece are selected after those before it
+pub piece_selected : (s : Selection) (before entries read : List TextEntry) (old new : TextParts) (had have : List ℕ)
+    → read ≡ entries → AreSelected s before old had → AddsParts (selected s read) old new
+    → have ≡ had ++ hashes_of s read → AreSelected s (before ++ entries) new have
+piece_selected s before entries read old new had have is so_far parts hashes = record {
+  parts_are = subst (λ list. AreParts list new)
+      (ap (λ list. selected s before ++ selected s list) is ∙ selected_joined s before entries)
+      (parts (selected s before) so_far.parts_are);
+  hashes_are = hashes
+      ∙ ap₂ (λ (list : List ℕ) entries. list ++ hashes_of s entries) so_far.hashes_are is
+      ∙ hashes_joined s before entries;
+}
 
 -- those that are live, one way or another, are among those that may repeat
 among_live : (s : Selection) (entries : List TextEntry)

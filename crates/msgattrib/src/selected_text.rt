@@ -1,34 +1,76 @@
-//! Selecting the entries of a text in one pass: a piece is read, its entries are selected, changed
-//! and written, and the piece is dropped before the next one is read. What is kept of each entry is
-//! the hash of its message. Only where two of these are the same is the text read once more, whole.
+//! Selecting the entries of a text in one pass: a piece is read into a store, its entries are
+//! selected, changed and written, and the store is emptied before the next one is read. Of each
+//! entry the hash of its message is kept. Only where two of these are the same is the text read
+//! once more, whole.
 
-ghost use Rattle.std.specs.Prelude.{◌≡◌, ◌++◌, IfErr, IfOk, List, MatchResult, OnOk};
+ghost use Rattle.std.specs.Prelude.{◌≡◌, ◌<◌, ◌++◌, ◌∷◌, [], IfErr, IfOk, List, MatchResult, OnOk, get_or, length};
 ghost use Rattle.po_entry.specs.ReadsText.{ReadsText};
 ghost use Rattle.po_entry.specs.TextEntry.{TextEntry};
 ghost use Rattle.po_reader.specs.Internal.Keeping.{IsTextError};
-ghost use Rattle.msgattrib.specs.Internal.SelectedText.{HaveNoDuplicate, IsSelectedText, IsSelectedWhole, IsSelectionFault, hashes_of};
+ghost use Rattle.po_select.specs.ChangedAt.{OthersStay};
+ghost use Rattle.po_select.specs.Selected.{selected};
+ghost use Rattle.po_writer.specs.TextParts.{AreParts};
+ghost use Rattle.msgattrib.specs.Internal.SelectedText.{AddsParts, HaveNoDuplicate, IsSelectedText, IsSelectedWhole, IsSelectionFault, hashes_of};
 
-use po_entry::Entry;
-use po_messages::{all_differ, duplicates, is_live, message_hash};
-use po_reader::{PIECE, next_catalogue, read};
+use po_entry::{Drafts, EntryRef, Store};
+use po_messages::{all_differ, duplicates, message_hash};
+use po_reader::{PIECE, next_store, read};
 use po_select::{Selection, select};
 use po_syntax::{Pieces, PoError};
 use po_writer::TextParts;
 use std::alloc::{AllocError, Global};
 
-/// Adds the hashes of the messages of those entries that are live, or that are kept and live once
-/// they are changed.
-fn add_hashes(
+/// Adds the hash of an entry's message, where the entry is live, or is kept and live once it is
+/// changed.
+fn add_hash(
     hashes: &mut Vec<u64>,
-    entries: &[Entry],
+    entry: &EntryRef<'_>,
     selection: &Selection,
 ) -> Result<(), AllocError>
-    ensures { OnOk result (hashes.new.items ≡ hashes.old.items ++ hashes_of selection.now entries.now) }
+    ensures { OnOk result (hashes.new.items ≡ hashes.old.items ++ hashes_of selection.now (entry.now ∷ [])) }
 {
-    for entry in entries {
-        if is_live(entry) || (selection.keeps(entry) && !selection.obsolete_after(entry)) {
-            hashes.push(message_hash(entry))?;
-        }
+    if !entry.obsolete() || (selection.keeps(entry) && !selection.obsolete_after(entry)) {
+        hashes.push(message_hash(entry))?;
+    }
+    Ok(())
+}
+
+/// Adds an entry of a store to the parts of a text, changed, where it is kept.
+fn add_selected(
+    alloc: Global,
+    parts: &mut TextParts,
+    store: &mut Store,
+    index: usize,
+    selection: &Selection,
+) -> Result<(), AllocError>
+    requires { index < length store.old }
+    ensures added { OnOk result ((other : TextEntry)
+        → AddsParts (selected selection.now (get_or store.old index other ∷ [])) parts.old parts.new) }
+    ensures rest { OnOk result (OthersStay index store.old store.new) }
+{
+    let entry = store.get(index);
+    if !selection.keeps(&entry) {
+        return Ok(());
+    }
+    let changed = selection.change_at(alloc, store, index)?;
+    parts.add(&store.get(changed))
+}
+
+/// Adds the selected entries of a store to the parts of a text, and the hashes of the messages that
+/// may stand twice.
+fn add_entries(
+    alloc: Global,
+    parts: &mut TextParts,
+    hashes: &mut Vec<u64>,
+    store: &mut Store,
+    selection: &Selection,
+) -> Result<(), AllocError>
+    ensures parts { OnOk result (AddsParts (selected selection.now store.old) parts.old parts.new) }
+    ensures hashes { OnOk result (hashes.new.items ≡ hashes.old.items ++ hashes_of selection.now store.old) }
+{
+    for index in 0..store.len() {
+        add_hash(hashes, &store.get(index), selection)?;
+        add_selected(alloc, parts, store, index, selection)?;
     }
     Ok(())
 }
@@ -46,11 +88,12 @@ fn select_pieces(
     let mut pieces = Pieces::of(text)?;
     let mut parts = TextParts::with_capacity(alloc, text.len())?;
     let mut hashes = Vec::new(alloc);
+    let mut drafts = Drafts::new(alloc);
+    let mut store = Store::new(alloc);
     while !pieces.are_over() {
-        let piece = next_catalogue(alloc, &mut pieces, PIECE)?;
-        add_hashes(&mut hashes, piece.entries(), selection)?;
-        let selected = select(piece, selection).unwrap();
-        parts.add(selected.entries())?;
+        next_store(alloc, &mut pieces, PIECE, true, &mut drafts, &mut store)?;
+        add_entries(alloc, &mut parts, &mut hashes, &mut store, selection)?;
+        store.clear();
     }
     Ok((parts, hashes))
 }

@@ -7,7 +7,9 @@ ghost use Rattle.runs.specs.ToolRuns.{RunsInput, asking};
 
 use crate::plan::plan_msgattrib;
 use po_select::Selection;
-use runs::{ByteOut, InputSource, OutputFiles, OutputSystem, ProgramFault, read_one, shown_name};
+use runs::{
+    ByteOut, InputSource, OutputFiles, OutputSystem, ProgramFault, ToolFault, read_one, shown_name,
+};
 use std::alloc::Global;
 
 /// Runs `msgattrib`: reads the input of its argument, plans as `plan_msgattrib` does, and writes
@@ -32,8 +34,10 @@ pub fn run<'a, S: InputSource, F: OutputFiles, O: ByteOut, E: ByteOut>(
         system.old system.new result }
 {
     let text = read_one(alloc, source, argument)?;
-    let Ok(run) = plan_msgattrib(alloc, &text, shown_name(argument), selection) else {
-        return Err(ProgramFault::OutOfMemory);
+    let run = match plan_msgattrib(alloc, &text, shown_name(argument), selection) {
+        Ok(run) => run,
+        Err(ToolFault::OutOfMemory) => return Err(ProgramFault::OutOfMemory),
+        Err(_) => unreachable!(),
     };
     system.write(alloc, &run, output)
 }

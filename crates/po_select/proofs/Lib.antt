@@ -1,2 +1,3 @@
 pub mod SelectionLaws
 pub mod OptionLaws
+pub mod ChangedEntries

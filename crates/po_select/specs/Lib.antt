@@ -1,2 +1,4 @@
 pub mod Selected
+pub mod ChangedAt
 pub mod SelectionLaws
+pub mod Examples

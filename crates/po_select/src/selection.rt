@@ -1,13 +1,17 @@
 //! Which entries are kept, and what becomes of them.
 
-ghost use Rattle.std.specs.Prelude.{◌≡◌, All, IfOk, IsOk, map};
+ghost use Rattle.std.specs.Prelude.{◌≡◌, ◌<◌, All, IfOk, IsOk, OnErr, false, length, map};
 ghost use Rattle.po_messages.specs.Joined.{is_live_header};
+ghost use Rattle.po_entry.specs.Rows.{set_fuzzy, set_obsolete};
+ghost use Rattle.po_entry.specs.TextEntry.{no_previous};
 ghost use Rattle.po_entry.specs.Validity.{IsCatalogueEntry};
+ghost use Rattle.po_select.specs.ChangedAt.{IsChangedAt};
 ghost use Rattle.po_select.specs.Selected.{changed, fuzzy_after, is_emptied, is_kept, obsolete_after, selected};
 
-use po_entry::{Catalogue, Entry};
-use po_messages::{has_translation, is_live_header};
+use crate::attributes::Attributes;
+use po_entry::{Catalogue, Entry, EntryRef, Store};
 use po_syntax::PoError;
+use std::alloc::{AllocError, Global};
 
 /// Which entries of a catalogue are kept, and how those that are kept are changed: the options of
 /// msgattrib (GNU gettext manual, "Invoking the msgattrib Program"). `--fuzzy` stands for
@@ -43,21 +47,45 @@ pub struct Selection {
 
 impl Selection {
     /// Whether an entry is kept: as a live header, or since it meets each given condition.
-    pub fn keeps(&self, entry: &Entry) -> bool
-        ensures { result ≡ is_kept self.now entry.now }
+    pub fn keeps<E: Attributes>(&self, entry: &E) -> bool
+        ensures { result ≡ is_kept self.now (E.entry entry.now) }
     {
-        let is_translated = has_translation(entry);
         is_live_header(entry)
-            || (!self.translated || is_translated)
-                && (!self.untranslated || !is_translated)
-                && (!self.no_fuzzy || !entry.fuzzy())
-                && (!self.only_fuzzy || entry.fuzzy())
-                && (!self.no_obsolete || !entry.obsolete())
-                && (!self.only_obsolete || entry.obsolete())
+            || (!self.translated || entry.is_translated())
+                && (!self.untranslated || !entry.is_translated())
+                && (!self.no_fuzzy || !entry.is_fuzzy())
+                && (!self.only_fuzzy || entry.is_fuzzy())
+                && (!self.no_obsolete || !entry.is_obsolete())
+                && (!self.only_obsolete || entry.is_obsolete())
+    }
+
+    /// Whether an entry has the flag `fuzzy` once it is changed.
+    fn fuzzy_after<E: Attributes>(&self, entry: &E) -> bool
+        ensures { result ≡ fuzzy_after self.now (E.entry entry.now) }
+    {
+        self.set_fuzzy || (entry.is_fuzzy() && !self.clear_fuzzy)
+    }
+
+    /// Whether the forms of an entry become empty.
+    fn empties<E: Attributes>(&self, entry: &E) -> bool
+        ensures { result ≡ is_emptied self.now (E.entry entry.now) }
+    {
+        self.empty && entry.is_fuzzy() && !self.fuzzy_after(entry) && !entry.is_header()
+    }
+
+    /// Whether an entry is obsolete once it is changed.
+    pub fn obsolete_after<E: Attributes>(&self, entry: &E) -> bool
+        ensures { result ≡ obsolete_after self.now (E.entry entry.now) }
+    {
+        if self.set_obsolete {
+            !is_live_header(entry)
+        } else {
+            entry.is_obsolete() && !self.clear_obsolete
+        }
     }
 
     /// Changes an entry that is kept.
-    pub(crate) fn change(&self, entry: &mut Entry)
+    fn change(&self, entry: &mut Entry)
         requires { IsCatalogueEntry entry.old }
         ensures changed { entry.new ≡ changed self.now entry.old }
         ensures valid { IsCatalogueEntry entry.new }
@@ -75,30 +103,71 @@ impl Selection {
         entry.invariant();
     }
 
-    /// Whether an entry has the flag `fuzzy` once it is changed.
-    fn fuzzy_after(&self, entry: &Entry) -> bool
-        ensures { result ≡ fuzzy_after self.now entry.now }
+    /// Changes an entry of a store that is kept, and returns its index: as before or, where its
+    /// texts change too, that of its copy at the end. Refused only where an allocation failed; then
+    /// the entries stay.
+    pub fn change_at(
+        &self,
+        alloc: Global,
+        store: &mut Store,
+        index: usize,
+    ) -> Result<usize, AllocError>
+        requires { index < length store.old }
+        ensures changed { IfOk result (IsChangedAt self.now index store.old store.new) }
+        ensures unchanged { OnErr result (store.new ≡ store.old) }
     {
-        self.set_fuzzy || (entry.fuzzy() && !self.clear_fuzzy)
-    }
-
-    /// Whether the forms of an entry become empty.
-    fn empties(&self, entry: &Entry) -> bool
-        ensures { result ≡ is_emptied self.now entry.now }
-    {
-        self.empty && entry.fuzzy() && !self.fuzzy_after(entry) && !entry.is_header()
-    }
-
-    /// Whether an entry is obsolete once it is changed.
-    pub fn obsolete_after(&self, entry: &Entry) -> bool
-        ensures { result ≡ obsolete_after self.now entry.now }
-    {
-        if self.set_obsolete {
-            !is_live_header(entry)
-        } else {
-            entry.obsolete() && !self.clear_obsolete
+        let entry = store.get(index);
+        if self.changes_texts(&entry) {
+            return self.push_changed(alloc, store, index);
         }
+        let fuzzy = self.fuzzy_after(&entry);
+        let obsolete = self.obsolete_after(&entry);
+        store.set_fuzzy(index, fuzzy);
+        store.set_obsolete(index, obsolete);
+        Ok(index)
     }
+
+    /// Whether more changes of an entry than its marks.
+    fn changes_texts(&self, entry: &EntryRef<'_>) -> bool
+        ensures { result ≡ false → changed self.now entry.now
+            ≡ set_obsolete (obsolete_after self.now entry.now) (set_fuzzy (fuzzy_after self.now entry.now) entry.now) }
+    {
+        self.empties(entry) || (self.clear_previous && has_previous(entry))
+    }
+
+    /// Adds a changed copy of an entry to its store, and returns the index of the copy.
+    fn push_changed(
+        &self,
+        alloc: Global,
+        store: &mut Store,
+        index: usize,
+    ) -> Result<usize, AllocError>
+        requires { index < length store.old }
+        ensures changed { IfOk result (IsChangedAt self.now index store.old store.new) }
+        ensures unchanged { OnErr result (store.new ≡ store.old) }
+    {
+        let mut changed = store.get(index).copied(alloc)?;
+        self.change(&mut changed);
+        let last = store.len();
+        store.push(&changed)?;
+        Ok(last)
+    }
+}
+
+/// Whether an entry is a header that isn't obsolete.
+fn is_live_header<E: Attributes>(entry: &E) -> bool
+    ensures { result ≡ is_live_header (E.entry entry.now) }
+{
+    entry.is_header() && !entry.is_obsolete()
+}
+
+/// Whether an entry has a previous text.
+fn has_previous(entry: &EntryRef<'_>) -> bool
+    ensures { result ≡ false → entry.now.previous ≡ no_previous }
+{
+    entry.previous_context().is_some()
+        || entry.previous_id().is_some()
+        || entry.previous_plural().is_some()
 }
 
 /// The entries of a catalogue that are selected, each changed as the selection says (GNU gettext

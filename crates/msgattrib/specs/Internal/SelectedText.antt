@@ -1,5 +1,5 @@
 -- A text whose entries are selected piece by piece. Internal to this crate.
-use Rattle.std.specs.Prelude.{◌≡◌, ◌⊎◌, ◌&&◌, ◌||◌, ℕ, Bool, List, filter, map, not}
+use Rattle.std.specs.Prelude.{◌≡◌, ◌⊎◌, ◌&&◌, ◌||◌, ℕ, Bool, List, ◌++◌, filter, map, not}
 use Rattle.po_syntax.specs.declared.fault.PoError.{PoError}
 use Rattle.po_syntax.specs.declared.fault.PoFault.TheVariants.{Duplicate, OutOfMemory}
 use Rattle.po_entry.specs.ReadsText.{ReadsText}
@@ -26,6 +26,10 @@ may_repeat s entry = is_live entry || stays_live s entry
 -- the hashes of the messages of such entries
 abbrev pub hashes_of : Selection → List TextEntry → List ℕ
 hashes_of s entries = map (λ entry. message_hash (entry_message entry)) (filter (may_repeat s) entries)
+
+-- the parts have these entries too, after those that they had
+abbrev pub AddsParts : List TextEntry → TextParts → TextParts → Type 0
+AddsParts more old new = (before : List TextEntry) → AreParts before old → AreParts (before ++ more) new
 
 -- those of these entries that are selected are written, and these are the hashes
 pub record AreSelected (s : Selection) (entries : List TextEntry) (parts : TextParts) (hashes : List ℕ) : Type 0 where

@@ -1,12 +1,11 @@
-use Rattle.std.proofs.Common.{◌≡◌, ◌∙◌, ℕ, List, [], ◌++◌, ap, ap₂, subst}
-use Rattle.std.specs.Prelude.{IfOk}
+use Rattle.std.proofs.Common.{◌≡◌, ◌∙◌, true, List, [], ◌++◌, ap, map}
 use Rattle.std.proofs.lemmas.Result.{err_from_is_err_and}
 use Rattle.po_entry.specs.Faults.IsReadFault.{in_text}
+use Rattle.po_entry.specs.TextEntry.{TextEntry}
+use Rattle.po_reader.proofs.Heads.{all_kept}
 use Rattle.po_reader.proofs.PieceReading.{read_all, read_more, read_none}
-use Rattle.po_select.specs.Selected.{selected}
-use Rattle.po_writer.specs.TextParts.{AreParts}
-use Rattle.msgattrib.specs.Internal.SelectedText.{hashes_of}
-use Rattle.msgattrib.proofs.SelectedLemmas.{hashes_joined, selected_joined}
+use Rattle.po_reader.specs.KeptComments.{kept_entry}
+use Rattle.msgattrib.proofs.SelectedLemmas.{piece_selected}
 use Rattle.msgattrib.proofs.selected_text.select_pieces.Goals as goal
 
 pub returns-in_err-pieces-clause-fault : goal.returns-in_err-pieces-clause-fault
@@ -25,28 +24,23 @@ loop-pieces-init c = record {
     parts_are = c.in_ok-parts.ensures;
     hashes_are = c.new-hashes.ensures.items;
   };
+  emptied = c.new-store.ensures;
 }
 
 pub loop-pieces-preserved : goal.loop-pieces-preserved
 loop-pieces-preserved c =
     let done = c.loop-pieces.invariant in
-    let piece = c.in_ok-piece.piece in
-    let chosen = c.args.selection.now in
-    let entries = c.entries.ensures.entries in
-    let list = subst (λ answer. IfOk answer (λ entries. entries ≡ selected chosen piece))
-    c.unwrap-selected.ensures c.select.ensures.list in
+    let found = c.in_ok-next_store.ensures.found in
+    let read : c.next_store.new.store ≡ found.0 =
+    found.1 ∙ ap (λ (before : List TextEntry). before ++ map (kept_entry true) found.0) done.emptied
+    ∙ all_kept found.0 in
     record {
-      before = done.before ++ piece;
-      read = read_more piece done.read c.in_ok-piece.ensures.found c.in_ok-piece.ensures.faults;
-      selected = record {
-        parts_are = subst (λ entries. AreParts entries c.add.new.self)
-            (ap (λ entries. selected chosen done.before ++ entries) (c.entries-in-loop-pieces.ensures.entries ∙ list)
-            ∙ selected_joined chosen done.before piece)
-            (c.in_ok-add.ensures.parts (selected chosen done.before) done.selected.parts_are);
-        hashes_are = c.in_ok-add_hashes.ensures
-            ∙ ap₂ (λ (before : List ℕ) entries. before ++ hashes_of chosen entries) done.selected.hashes_are entries
-            ∙ hashes_joined chosen done.before piece;
-      };
+      before = done.before ++ found.0;
+      read = read_more found.0 done.read found.2 c.in_ok-next_store.ensures.faults;
+      selected = piece_selected c.args.selection.now done.before found.0 c.next_store.new.store c.loop-pieces.parts
+          c.add_entries.new.parts c.loop-pieces.hashes.items c.add_entries.new.hashes.items read done.selected
+          c.in_ok-add_entries.ensures.parts c.in_ok-add_entries.ensures.hashes;
+      emptied = c.clear.ensures;
     }
 
 pub returns-clause-found : goal.returns-clause-found

@@ -1,4 +1,4 @@
-use Rattle.std.proofs.Common.{List, length}
+use Rattle.std.proofs.Common.{◌≡◌, List, [], length}
 use Rattle.po_entry.specs.TextEntry.{TextEntry}
 use Rattle.po_reader.specs.PieceRead.{IsReadSoFar}
 use Rattle.msgattrib.specs.Internal.SelectedText.{AreSelected}
@@ -9,6 +9,7 @@ invariant-loop-pieces l = record {
   before : List TextEntry;
   read : IsReadSoFar l.text l.pieces before;
   selected : AreSelected l.selection before l.parts l.hashes.items;
+  emptied : l.store ≡ [];
 }
 
 abbrev pub decreases-loop-pieces : goal.decreases-loop-pieces

@@ -10,8 +10,8 @@ returns-in_err-text-clause-run g c =
     rw (p.1, p.2) (input_ended c.in_err-text.field-0.0 c.in_err-text.ensures.fault
     (λ same. c.in_err-text.ensures.memory (ap Err same)))
 
-pub returns-in_default-clause-run : goal.returns-in_default-clause-run
-returns-in_default-clause-run g c = out_of_memory c.in_ok-text.ensures.read refl
+pub returns-in-Err-OutOfMemory-clause-run : goal.returns-in-Err-OutOfMemory-clause-run
+returns-in-Err-OutOfMemory-clause-run g c = out_of_memory c.in_ok-text.ensures.read refl
 
 pub returns-clause-run : goal.returns-clause-run
 returns-clause-run g c =
@@ -21,8 +21,8 @@ returns-clause-run g c =
 pub returns-in_err-text-clause-asked : goal.returns-in_err-text-clause-asked
 returns-in_err-text-clause-asked g c = c.read_one.ensures.asked
 
-pub returns-in_default-clause-asked : goal.returns-in_default-clause-asked
-returns-in_default-clause-asked g c = c.read_one.ensures.asked
+pub returns-in-Err-OutOfMemory-clause-asked : goal.returns-in-Err-OutOfMemory-clause-asked
+returns-in-Err-OutOfMemory-clause-asked g c = c.read_one.ensures.asked
 
 pub returns-clause-asked : goal.returns-clause-asked
 returns-clause-asked g c = c.read_one.ensures.asked

@@ -1,0 +1,14 @@
+use Rattle.std.proofs.Common.{[], ◌∷◌, ◌++◌, ◌∙◌, ap}
+use Rattle.po_entry.specs.TextEntry.{TextEntry}
+use Rattle.po_select.specs.Selected.{changed}
+use Rattle.po_select.proofs.ChangedEntries.{changed_in_copy}
+use Rattle.po_select.proofs.selection.Selection.push_changed.Goals as goal
+
+pub returns-clause-changed : goal.returns-clause-changed
+returns-clause-changed c =
+    changed_in_copy c.args.self.now c.args.index c.args.store.now c.push.new.self c.len-last.result c.get.result
+    c.len-last.ensures
+    (λ other. c.in_ok-push.ensures.ok
+    ∙ ap (λ (entry : TextEntry). c.args.store.now ++ entry ∷ [])
+    (c.change.ensures.changed
+    ∙ ap (changed c.args.self.now) (c.in_ok-changed.ensures ∙ c.get.ensures.entry other)))
