@@ -1,5 +1,5 @@
 -- Inputs that are read, and the first duplicate in one of them.
-use Rattle.std.proofs.Common.{◌≡◌, refl, sym, ap, ◌∙◌, subst, ℕ, ◌+◌, ◌<◌, ◌≤◌, filter, List, [], ◌∷◌, ◌++◌, append-nil, append_assoc, arith, length, get_or, take, drop, map, inl, inr}
+use Rattle.std.proofs.Common.{◌≡◌, true, refl, sym, ap, ◌∙◌, subst, ℕ, ◌+◌, ◌<◌, ◌≤◌, filter, List, [], ◌∷◌, ◌++◌, append-nil, append_assoc, arith, length, get_or, take, drop, map, inl, inr}
 use Rattle.std.specs.Prelude.{All}
 use Rattle.std.specs.List.{AllZip}
 use Rattle.std.proofs.Math.Seq.{take-append_seam, drop-append_seam}
@@ -14,51 +14,49 @@ use Rattle.po_entry.specs.TextEntry.{TextEntry}
 use Rattle.po_messages.specs.Duplicate.{AllDiffer, HasNoDuplicate}
 use Rattle.po_messages.specs.FirstOnes.{group_numbers}
 use Rattle.po_messages.specs.Joined.{is_live}
-use Rattle.po_messages.specs.Message.{entry_message, same_message}
-use Rattle.po_merge.specs.Grouping.{message_numbers, named_messages}
+use Rattle.po_messages.specs.Message.{entry_message, entry_messages, same_message}
+use Rattle.po_merge.specs.Grouping.{named_messages}
 use Rattle.po_merge.specs.Inputs.{Named, NamedEntry, all_entries, named}
 use Rattle.po_messages.specs.Facts.Zips.{zip_at, zip_length, zip_more, zip_split}
-use Rattle.msgcat.specs.Internal.Entries.{HoldEntries, unnamed}
-use Rattle.msgcat.specs.Internal.Inputs.{AddsEntries, AreReadUpTo, IsFaultOfFirst, IsFirstRepeating, IsReadInput, IsTextOf}
+use Rattle.po_reader.specs.KeptComments.{kept_entry}
+use Rattle.msgcat.specs.Internal.Entries.{IsReadInput, unnamed}
+use Rattle.msgcat.specs.Internal.Inputs.{AreReadUpTo, IsFaultOfFirst, IsFirstRepeating, IsTextOf, with_part}
 use Rattle.msgcat.specs.Msgcat.{AreReadAs, IsFileFault}
 use Rattle.po_messages.specs.Places.{AreNumbered, IsNumbered, RepeatsOnLines, are_placed, number_in, place_of}
-use Rattle.msgcat.specs.declared.entries.Entries.{Entries}
+use Rattle.po_messages.specs.declared.repeats.EntryPlace.{EntryPlace}
+use Rattle.msgcat.specs.declared.entries.ReadInput.{ReadInput}
 use Rattle.msgcat.specs.declared.inputs.FileFault.{FileFault}
-use Rattle.msgcat.specs.declared.inputs.ReadInput.{ReadInput}
 use Rattle.msgcat.specs.declared.inputs.ReadInputs.{ReadInputs}
 use Rattle.po_messages.proofs.NumberLemmas.{are_numbered, repeats_of}
+use Rattle.msgcat.proofs.EntryLemmas.{entries_first, unnamed_named}
 use Rattle.runs.specs.NamedFile.{NamedFile}
 
-pub unnamed_named : (name : List ℕ) (entries : List TextEntry) → unnamed (map (named name) entries) ≡ entries
-unnamed_named name [] = refl
-unnamed_named name (e ∷ entries) = ap (λ l. e ∷ l) (unnamed_named name entries)
+pub all_kept : (entries : List TextEntry) → map (kept_entry true) entries ≡ entries
+all_kept [] = refl
+all_kept (e ∷ entries) = ap (λ l. e ∷ l) (all_kept entries)
 
 -- the entries of an input, and those after them
-entries_first : (input : Named) (rest : List Named) (partial : List NamedEntry)
-    → unnamed (all_entries (input ∷ rest) ++ partial) ≡ input.entries ++ unnamed (all_entries rest ++ partial)
-entries_first input rest partial =
-    let own = map (named input.name) input.entries in
-    ap unnamed (append_assoc own (all_entries rest) partial)
-    ∙ map-append (λ (e : NamedEntry). e.entry) own (all_entries rest ++ partial)
-    ∙ ap (λ l. l ++ unnamed (all_entries rest ++ partial)) (unnamed_named input.name input.entries)
+with_first : (input : Named) (rest : List Named) (part : List TextEntry)
+    → with_part (input ∷ rest) part ≡ input.entries ++ with_part rest part
+with_first input rest part =
+    ap (λ l. l ++ part) (entries_first input rest) ∙ append_assoc input.entries (unnamed (all_entries rest)) part
 
 -- what is left of the inputs, the first of which have no duplicate
-pub record AreLeft (read : List Named) (partial : List NamedEntry) (i : ℕ) (rest : List ℕ) : Type 0 where
+pub record AreLeft (read : List Named) (part : List TextEntry) (i : ℕ) (places : List EntryPlace)
+    (numbers : List ℕ) : Type 0 where
   pub distinct : All (λ input. HasNoDuplicate input.entries) (take i read)
-  pub numbered : AreNumbered (unnamed (all_entries read ++ partial))
-      (unnamed (all_entries (drop i read) ++ partial)) rest
+  pub placed : places ≡ are_placed is_live (with_part (drop i read) part)
+  pub numbered : AreNumbered (with_part read part) (with_part (drop i read) part) numbers
 
-messages_of : (entries : List NamedEntry) → map entry_message (unnamed entries) ≡ named_messages entries
-messages_of entries = map-map entry_message (λ (e : NamedEntry). e.entry) entries
-
-pub all_left : (read : List Named) (partial : List NamedEntry) (numbers : List ℕ)
-    → numbers ≡ message_numbers (all_entries read ++ partial) → AreLeft read partial 0 numbers
-all_left read partial numbers is =
-    let all = all_entries read ++ partial in
-    record {
-      distinct = All-nil (λ input. HasNoDuplicate input.entries);
-      numbered = are_numbered (unnamed all) numbers (is ∙ ap (group_numbers same_message) (sym (messages_of all)));
-    }
+pub all_left : (read : List Named) (part : List TextEntry) (places : List EntryPlace) (numbers : List ℕ)
+    → places ≡ are_placed is_live (with_part read part)
+    → numbers ≡ group_numbers same_message (entry_messages (with_part read part))
+    → AreLeft read part 0 places numbers
+all_left read part places numbers placed is = record {
+  distinct = All-nil (λ input. HasNoDuplicate input.entries);
+  placed = placed;
+  numbered = are_numbered (with_part read part) numbers is;
+}
 
 -- the numbers of the first of some entries, and of the others
 module _ (all own others : List TextEntry) (numbers : List ℕ) (are : AreNumbered all (own ++ others) numbers) where
@@ -76,18 +74,19 @@ module _ (all own others : List TextEntry) (numbers : List ℕ) (are : AreNumber
         ∙ ap (map (number_in all)) (drop-append_seam own others);
   }
 
-pub none_left : (read : List Named) (partial : List NamedEntry) (inputs : List ReadInput) (i : ℕ) (rest : List ℕ)
-    → AllZip IsReadInput read inputs → length inputs ≤ i → AreLeft read partial i rest
+pub none_left : (read : List Named) (part : List TextEntry) (inputs : List ReadInput) (i : ℕ)
+    (places : List EntryPlace) (numbers : List ℕ)
+    → AllZip IsReadInput read inputs → length inputs ≤ i → AreLeft read part i places numbers
     → All (λ input. HasNoDuplicate input.entries) read
-none_left read partial inputs i rest known past left =
+none_left read part inputs i places numbers known past left =
     subst (All (λ input. HasNoDuplicate input.entries))
     (take_all i read (omega (arith, past, zip_length IsReadInput read inputs known))) left.distinct
 
-module _ (read : List Named) (partial : List NamedEntry) (inputs : List ReadInput) (i : ℕ) (input : ReadInput)
-    (rest : List ℕ) (known : AllZip IsReadInput read inputs) (inside : i < length inputs)
-    (here : input ≡ get_or inputs i input) (left : AreLeft read partial i rest) where
+module _ (read : List Named) (part : List TextEntry) (inputs : List ReadInput) (i : ℕ) (input : ReadInput)
+    (places : List EntryPlace) (numbers : List ℕ) (known : AllZip IsReadInput read inputs) (inside : i < length inputs)
+    (here : input ≡ get_or inputs i input) (left : AreLeft read part i places numbers) where
   abbrev all : List TextEntry
-  all = unnamed (all_entries read ++ partial)
+  all = with_part read part
 
   abbrev at : (r : Named) × IsReadInput r input × (take (i + 1) read ≡ take i read ++ r ∷ [])
       × (drop i read ≡ r ∷ drop (i + 1) read)
@@ -97,34 +96,47 @@ module _ (read : List Named) (partial : List NamedEntry) (inputs : List ReadInpu
   own = at.0.entries
 
   abbrev others : List TextEntry
-  others = unnamed (all_entries (drop (i + 1) read) ++ partial)
+  others = with_part (drop (i + 1) read) part
 
-  split : unnamed (all_entries (drop i read) ++ partial) ≡ own ++ others
-  split = ap (λ l. unnamed (all_entries l ++ partial)) at.3 ∙ entries_first at.0 (drop (i + 1) read) partial
+  split : with_part (drop i read) part ≡ own ++ others
+  split = ap (λ l. with_part l part) at.3 ∙ with_first at.0 (drop (i + 1) read) part
 
-  pub places_are : input.places.items ≡ are_placed is_live own
-  places_are = at.1.places
+  placed : places ≡ are_placed is_live own ++ are_placed is_live others
+  placed = left.placed ∙ ap (are_placed is_live) split ∙ map-append (place_of is_live) own others
 
-  count : length input.places.items ≡ length own
-  count = ap length places_are ∙ length-map own (place_of is_live)
+  long : length (are_placed is_live own) ≡ input.count
+  long = length-map own (place_of is_live) ∙ sym at.1.count
 
-  numbered : AreNumbered all (own ++ others) rest
-  numbered = subst (λ l. AreNumbered all l rest) split left.numbered
+  pub own_places : take input.count places ≡ are_placed is_live own
+  own_places = ap (take input.count) placed
+      ∙ ap (λ n. take n (are_placed is_live own ++ are_placed is_live others)) (sym long)
+      ∙ take-append_seam (are_placed is_live own) (are_placed is_live others)
 
-  pub own_numbered : AreNumbered all own (take (length input.places.items) rest)
-  own_numbered = subst (λ n. AreNumbered all own (take n rest)) (sym count)
-      (numbered_first all own others rest numbered)
+  later_places : drop input.count places ≡ are_placed is_live others
+  later_places = ap (drop input.count) placed
+      ∙ ap (λ n. drop n (are_placed is_live own ++ are_placed is_live others)) (sym long)
+      ∙ drop-append_seam (are_placed is_live own) (are_placed is_live others)
 
-  pub own_count : length (take (length input.places.items) rest) ≡ length input.places.items
-  own_count = ap length own_numbered.numbers_are ∙ length-map own (number_in all) ∙ sym count
+  numbered : AreNumbered all (own ++ others) numbers
+  numbered = subst (λ l. AreNumbered all l numbers) split left.numbered
+
+  pub own_numbered : AreNumbered all own (take input.count numbers)
+  own_numbered = subst (λ n. AreNumbered all own (take n numbers)) (sym at.1.count)
+      (numbered_first all own others numbers numbered)
+
+  pub own_count : length (take input.count numbers) ≡ length (take input.count places)
+  own_count = ap length own_numbered.numbers_are ∙ length-map own (number_in all)
+      ∙ sym (ap length own_places ∙ length-map own (place_of is_live))
 
   -- an input without a duplicate
-  pub left_after : AllDiffer (filter is_live own) → AreLeft read partial (i + 1) (drop (length input.places.items) rest)
+  pub left_after : AllDiffer (filter is_live own)
+      → AreLeft read part (i + 1) (drop input.count places) (drop input.count numbers)
   left_after differ = record {
     distinct = subst (All (λ input. HasNoDuplicate input.entries)) (sym at.2)
         (All-push (λ input. HasNoDuplicate input.entries) (take i read) at.0 left.distinct differ);
-    numbered = subst (λ n. AreNumbered all others (drop n rest)) (sym count)
-        (numbered_rest all own others rest numbered);
+    placed = later_places;
+    numbered = subst (λ n. AreNumbered all others (drop n numbers)) (sym at.1.count)
+        (numbered_rest all own others numbers numbered);
   }
 
   -- one with a duplicate
@@ -204,21 +216,14 @@ all_read files read up_to distinct none =
     (sym (up_to.order ∙ ap (λ l. up_to.before ++ l) none ∙ append-nil up_to.before))
     (read_as up_to.before up_to.inputs up_to.texts distinct)
 
-pub no_partial : (inputs : List Named) (partial : List NamedEntry) → partial ≡ []
-    → all_entries inputs ++ partial ≡ all_entries inputs
-no_partial inputs partial none = ap (λ l. all_entries inputs ++ l) none ∙ append-nil (all_entries inputs)
+pub no_part : (inputs : List Named) (part : List TextEntry) → part ≡ []
+    → with_part inputs part ≡ unnamed (all_entries inputs)
+no_part inputs part none =
+    ap (with_part inputs) none ∙ append-nil (unnamed (all_entries inputs))
 
--- further entries of an input
-pub adds_more : (name : List ℕ) (read more : List TextEntry) (old mid new : Entries) → AddsEntries name read old mid
-    → AddsEntries name more mid new → AddsEntries name (read ++ more) old new
-adds_more name read more old mid new first later before have =
-    subst (λ l. HoldEntries l new)
-    (append_assoc before (map (named name) read) (map (named name) more)
-    ∙ ap (λ l. before ++ l) (sym (map-append (named name) read more)))
-    (later (before ++ map (named name) read) (first before have))
-
-pub adds_none : (name : List ℕ) (entries : Entries) → AddsEntries name [] entries entries
-adds_none name entries before have = subst (λ l. HoldEntries l entries) (sym (append-nil before)) have
+-- the messages of the entries of inputs
+pub messages_of : (entries : List NamedEntry) → entry_messages (unnamed entries) ≡ named_messages entries
+messages_of entries = map-map entry_message (λ (e : NamedEntry). e.entry) entries
 
 -- one more input
 pub text_more : (files : List NamedFile) (i : ℕ) (d : NamedFile) (inputs : List Named) (name : List ℕ)
@@ -232,17 +237,11 @@ text_more files i d inputs name entries inside texts name_is reads =
     (record { name = sym name_is; reads = reads }))
 
 pub entries_more : (inputs : List Named) (name : List ℕ) (entries : List TextEntry)
-    → all_entries inputs ++ map (named name) entries
-    ≡ all_entries (inputs ++ record { name = name; entries = entries } ∷ [])
+    → unnamed (all_entries inputs) ++ entries
+    ≡ unnamed (all_entries (inputs ++ record { name = name; entries = entries } ∷ []))
 entries_more inputs name entries =
     let one : Named = record { name = name; entries = entries } in
-    sym (flat_map-append (λ (n : Named). map (named n.name) n.entries) inputs (one ∷ [])
+    sym (ap unnamed (flat_map-append (λ (n : Named). map (named n.name) n.entries) inputs (one ∷ [])
     ∙ ap (λ l. all_entries inputs ++ l) (append-nil (map (named name) entries)))
-
-pub known_more : (inputs : List Named) (read : List ReadInput) (name : List ℕ) (entries : List TextEntry)
-    (input : ReadInput) → AllZip IsReadInput inputs read → input.name.now ≡ name
-    → input.places.items ≡ are_placed is_live entries
-    → AllZip IsReadInput (inputs ++ record { name = name; entries = entries } ∷ []) (read ++ input ∷ [])
-known_more inputs read name entries input known name_is places =
-    zip_more IsReadInput inputs read (record { name = name; entries = entries }) input known
-    (record { name = name_is; places = places })
+    ∙ map-append (λ (e : NamedEntry). e.entry) (all_entries inputs) (map (named name) entries)
+    ∙ ap (λ l. unnamed (all_entries inputs) ++ l) (unnamed_named name entries))

@@ -1,363 +1,248 @@
--- Groups of rows, and what is written of them.
-use Rattle.std.proofs.Common.{◌≡◌, refl, sym, ap, ap₂, ◌∙◌, subst, ℕ, suc, ◌+◌, ◌<◌, ◌==◌, Bool, true, false, cond, not, ◌||◌, filter, List, [], ◌∷◌, ◌++◌, append-nil, arith, length, get_or, take, map, inl, inr}
-use Rattle.std.specs.Prelude.{All, IsUtf8, if◌then◌else◌}
-use Rattle.std.specs.Global.{Vec}
-use Rattle.std.specs.List.{AllZip, list_any, range_with_len}
-use Rattle.std.proofs.lemmas.List.{map-append, take_more}
-use Rattle.std.proofs.lemmas.List.Elements.{All-cons, All-map, All-nil, All-push, filter_passes}
-use Rattle.std.proofs.lemmas.Bool.{not-false, not-true}
-use Rattle.po_syntax.specs.declared.fault.PoError.{PoError}
-use Rattle.po_syntax.specs.PoText.{IsSmall}
-use Rattle.po_entry.specs.Bytes.{Lacks}
+-- Groups of entries by their indexes, and what is written of them.
+use Rattle.std.proofs.Common.{◌≡◌, sym, ap, ap₂, ◌∙◌, subst, ℕ, ◌<◌, ◌==◌, Bool, true, false, cond, ◌||◌, filter, List, [], ◌∷◌, ◌++◌, ◌+◌, arith, length, get_or, map, take}
+use Rattle.std.specs.Prelude.{All, if◌then◌else◌}
+use Rattle.std.specs.List.{list_any, position_or_len, range_with_len}
+use Rattle.std.proofs.lemmas.List.{get_or-map, length-map, map-append, take_more}
+use Rattle.std.proofs.lemmas.List.Elements.{All-cons, All-head, All-map, All-nil, All-push, All-tail}
+use Rattle.std.proofs.lemmas.List.FromFn.{get_or-range_with_len, length-map-range_with_len, length-range_with_len}
+use Rattle.std.proofs.lemmas.Simd.{map-map}
 use Rattle.po_entry.specs.Header.{HasAdmittedCharset, is_header}
-use Rattle.po_entry.specs.ReadsText.{ReadsText}
-use Rattle.po_entry.specs.TextEntry.{TextEntry, SameButLine, with_line}
-use Rattle.po_entry.specs.Validity.{IsCatalogueEntry}
+use Rattle.po_entry.specs.TextEntry.{TextEntry}
+use Rattle.po_messages.specs.Facts.Mapped.{any_map, cond_ap, filter_map}
+use Rattle.po_messages.specs.FirstOnes.{first_ones}
 use Rattle.po_messages.specs.Joined.{is_live}
-use Rattle.po_merge.specs.declared.definition.NamedEntry.{NamedEntry as BorrowedEntry}
+use Rattle.po_messages.specs.Message.{entry_message, same_message}
 use Rattle.po_merge.specs.declared.input.MergeOptions.{MergeOptions}
-use Rattle.po_merge.specs.EntryLaws.{IsSameButLine, LinesAreNotMerged}
-use Rattle.po_merge.specs.Grouping.{IsDefinition, IsGroup}
+use Rattle.po_merge.specs.Grouping.{named_messages}
 use Rattle.po_merge.specs.Groups.{by_number, definitions, definitions_by, groups, with_number}
-use Rattle.po_merge.specs.Inputs.{NamedEntry}
+use Rattle.po_merge.specs.declared.definition.NamedEntry.{NamedEntry as BorrowedEntry}
+use Rattle.po_merge.specs.Inputs.{Named, NamedEntry, all_entries, named}
 use Rattle.po_merge.specs.InputsView.{named_entries, named_entry}
-use Rattle.po_merge.specs.Merged.{IsMergeFault, is_kept, is_kept_by, is_wanted, merged_messages}
+use Rattle.po_merge.specs.Merged.{is_kept, is_kept_by, is_wanted, merged_messages}
 use Rattle.po_merge.specs.MergeLaws.{GroupsByNumber}
 use Rattle.po_merge.specs.MergedEntry.{merged_entry}
-use Rattle.po_entry.specs.Facts.Filters.{all_pass, none_pass}
-use Rattle.po_merge.proofs.FirstOnes.{none_all}
-use Rattle.po_merge.proofs.GroupsMerged.{dropped_one, groups_valid}
-use Rattle.po_writer.proofs.Rewritten.{join_same, kept, kept_same}
-use Rattle.po_writer.specs.TextParts.{AreParts, AreSeparated, separated}
-use Rattle.po_writer.specs.WrittenText.{arranged, in_order, written_text}
+use Rattle.po_merge.proofs.GroupsMerged.{definitions_some, dropped_one, groups_valid, kept_one}
+use Rattle.po_merge.proofs.NumberedGroups.{by_number-mapped}
+use Rattle.po_writer.specs.TextParts.{AreParts}
 use Rattle.po_writer.specs.declared.parts.TextParts.{TextParts}
-use Rattle.msgcat.specs.Internal.Entries.{AreRows, IsRow, unnamed}
+use Rattle.msgcat.specs.Internal.Entries.{CanBeMerged, definition_view, definition_views, entries_at, no_entry, unnamed}
 use Rattle.msgcat.specs.Internal.Inputs.{HoldInputs}
-use Rattle.msgcat.specs.Internal.MergedText.{AreGroups, AreInOrder, AreReadBack, AreWritten, IsGroupOf, IsOnly}
-use Rattle.msgcat.specs.declared.entries.EntryRow.{EntryRow}
+use Rattle.msgcat.specs.Internal.Links.{AreLinked, indexes_by}
+use Rattle.msgcat.specs.Internal.MergedText.{AreWritten, IsGroupOf}
+use Rattle.msgcat.specs.declared.entries.Definition.{Definition}
 use Rattle.msgcat.specs.declared.inputs.NumberedEntries.{NumberedEntries}
-use Rattle.po_messages.specs.Facts.Zips.{zip_all, zip_get, zip_length, zip_more}
+use Rattle.msgcat.specs.declared.links.Links.{Links}
+use Rattle.msgcat.proofs.EntryLemmas.{all_at}
 
--- rows and their entries pass the same tests
-module _ (text : List ℕ) (p : NamedEntry → Bool) (q : EntryRow → Bool)
-    (same : (e : NamedEntry) (r : EntryRow) → IsRow text e r → q r ≡ p e) where
-  pub any_row : (entries : List NamedEntry) (rows : List EntryRow) → AreRows text entries rows
-      → list_any q rows ≡ list_any p entries
-  any_row [] [] h = refl
-  any_row [] (r ∷ rows) h = absurd h
-  any_row (e ∷ entries) [] h = absurd h
-  any_row (e ∷ entries) (r ∷ rows) h = ap₂ (λ (a b : Bool). a || b) (same e r h.0) (any_row entries rows h.1)
+-- what defines a message, and whether it is kept, by the entries that the code borrows
+definitions_viewed : (ds : List Definition)
+    → definition_views (definitions_by (λ d. is_live d.entry) ds) ≡ definitions (definition_views ds)
+definitions_viewed ds =
+    sym (cond_ap definition_views (list_any (λ d. is_live d.entry) ds) (filter (λ d. is_live d.entry) ds) ds)
+    ∙ ap₂ (λ (b : Bool) (l : List NamedEntry). if b then l else definition_views ds)
+    (sym (any_map (λ (d : NamedEntry). is_live d.entry) definition_view ds))
+    (sym (filter_map (λ (d : NamedEntry). is_live d.entry) definition_view ds))
 
-  pub filter_rows : (entries : List NamedEntry) (rows : List EntryRow) → AreRows text entries rows
-      → AreRows text (filter p entries) (filter q rows)
-  filter_rows [] [] h = tt
-  filter_rows [] (r ∷ rows) h = absurd h
-  filter_rows (e ∷ entries) [] h = absurd h
-  filter_rows (e ∷ entries) (r ∷ rows) h =
-      subst (λ b. AreRows text (filter p (e ∷ entries)) (cond b (r ∷ filter q rows) (filter q rows)))
-      (sym (same e r h.0)) (found (p e) h.0 (filter_rows entries rows h.1)) where
-        found : (b : Bool) → IsRow text e r → AreRows text (filter p entries) (filter q rows)
-            → AreRows text (cond b (e ∷ filter p entries) (filter p entries))
-            (cond b (r ∷ filter q rows) (filter q rows))
-        found true one more = (one, more)
-        found false one more = more
+kept_viewed : (o : MergeOptions) (ds : List Definition)
+    → is_kept_by (λ d. is_header d.entry) o ds ≡ is_kept o (definition_views ds)
+kept_viewed o ds = ap₂ (λ (b : Bool) (n : ℕ). b || is_wanted o n)
+    (sym (any_map (λ (d : NamedEntry). is_header d.entry) definition_view ds)) (sym (length-map ds definition_view))
 
-any_live : (text : List ℕ) (entries : List NamedEntry) (rows : List EntryRow) → AreRows text entries rows
-    → list_any (λ r. r.is_live) rows ≡ list_any (λ e. is_live e.entry) entries
-any_live text = any_row text (λ e. is_live e.entry) (λ r. r.is_live) (λ e r h. h.live)
+module _ (group ds : List Definition) (are : ds ≡ definitions_by (λ d. is_live d.entry) group) where
+  pub of_group : definition_views ds ≡ definitions (definition_views group)
+  of_group = ap definition_views are ∙ definitions_viewed group
 
-any_header : (text : List ℕ) (entries : List NamedEntry) (rows : List EntryRow) → AreRows text entries rows
-    → list_any (λ r. r.is_header) rows ≡ list_any (λ e. is_header e.entry) entries
-any_header text = any_row text (λ e. is_header e.entry) (λ r. r.is_header) (λ e r h. h.header)
+  pub kept_group : (o : MergeOptions) → is_kept_by (λ d. is_header d.entry) o ds ≡ true
+      → merged_messages o (definitions (definition_views group) ∷ []) ≡ merged_entry o (definition_views ds) ∷ []
+  kept_group o some = ap (λ (l : List NamedEntry). merged_messages o (l ∷ [])) (sym of_group)
+      ∙ kept_one o (definition_views ds) (sym (kept_viewed o ds) ∙ some)
 
-live_rows : (text : List ℕ) (entries : List NamedEntry) (rows : List EntryRow) → AreRows text entries rows
-    → AreRows text (filter (λ e. is_live e.entry) entries) (filter (λ r. r.is_live) rows)
-live_rows text = filter_rows text (λ e. is_live e.entry) (λ r. r.is_live) (λ e r h. h.live)
+pub dropped_group : (o : MergeOptions) (group : List Definition)
+    → is_kept_by (λ d. is_header d.entry) o (definitions_by (λ d. is_live d.entry) group) ≡ false
+    → merged_messages o (definitions (definition_views group) ∷ []) ≡ []
+dropped_group o group none =
+    dropped_one o (definitions (definition_views group))
+    (ap (is_kept o) (sym (definitions_viewed group))
+    ∙ sym (kept_viewed o (definitions_by (λ d. is_live d.entry) group)) ∙ none)
 
-pub kept_rows : (o : MergeOptions) (text : List ℕ) (entries : List NamedEntry) (rows : List EntryRow)
-    → AreRows text entries rows → is_kept_by (λ r. r.is_header) o rows ≡ is_kept o entries
-kept_rows o text entries rows h =
-    ap₂ (λ (b : Bool) (n : ℕ). b || is_wanted o n) (any_header text entries rows h)
-    (sym (zip_length (IsRow text) entries rows h))
+-- what holds of a group holds of what defines its message
+filter_all : {X : Type 0} (p : X → Bool) (P : X → Type 0) (xs : List X) → All P xs → All P (filter p xs)
+filter_all p P [] h = h
+filter_all p P (x ∷ xs) h = found (p x) (filter_all p P xs (All-tail P x xs h)) where
+  found : (b : Bool) → All P (filter p xs) → All P (cond b (x ∷ filter p xs) (filter p xs))
+  found true rest = All-cons P x (filter p xs) (All-head P x xs h) rest
+  found false rest = rest
 
--- the rows of what defines a message
-pub definitions_rows : (text : List ℕ) (entries : List NamedEntry) (rows : List EntryRow) → AreRows text entries rows
-    → AreRows text (definitions entries) (definitions_by (λ r. r.is_live) rows)
-definitions_rows text entries rows h =
-    subst (λ b. AreRows text (definitions entries) (if b then filter (λ r. r.is_live) rows else rows))
-    (sym (any_live text entries rows h)) (found (list_any (λ e. is_live e.entry) entries)) where
-      found : (b : Bool) → AreRows text (if b then filter (λ e. is_live e.entry) entries else entries)
-          (if b then filter (λ r. r.is_live) rows else rows)
-      found true = live_rows text entries rows h
-      found false = h
-
--- the rows of a message that is kept, and one that isn't
-pub rows_kept : (o : MergeOptions) (text : List ℕ) (entries : List NamedEntry) (group rows : List EntryRow)
-    → AreRows text entries group → rows ≡ definitions_by (λ r. r.is_live) group
-    → is_kept_by (λ r. r.is_header) o rows ≡ true
-    → AreRows text (definitions entries) rows × (is_kept o (definitions entries) ≡ true)
-rows_kept o text entries group rows h are keeps =
-    let held = subst (AreRows text (definitions entries)) (sym are) (definitions_rows text entries group h) in
-    (held, sym (kept_rows o text (definitions entries) rows held) ∙ keeps)
-
-pub rows_dropped : (o : MergeOptions) (text : List ℕ) (entries : List NamedEntry) (group : List EntryRow)
-    → AreRows text entries group → is_kept_by (λ r. r.is_header) o (definitions_by (λ r. r.is_live) group) ≡ false
-    → merged_messages o (definitions entries ∷ []) ≡ []
-rows_dropped o text entries group h none =
-    dropped_one o (definitions entries)
-    (sym (kept_rows o text (definitions entries) (definitions_by (λ r. r.is_live) group)
-    (definitions_rows text entries group h)) ∙ none)
-
--- an entry that is read back is that entry, but for its line
-abbrev pub ReadsBack : Type 0
-ReadsBack = (entries read : List TextEntry) → All IsCatalogueEntry entries → IsSmall (written_text entries)
-    → ReadsText (written_text entries) read → map (with_line 0) read ≡ map (with_line 0) (arranged entries)
-
-unlined : (entries : List NamedEntry) (read : List TextEntry)
-    → map (with_line 0) (unnamed entries) ≡ map (with_line 0) read → AreReadBack entries read
-unlined [] [] is = tt
-unlined [] (r ∷ read) is = absurd (cc)
-unlined (e ∷ entries) [] is = absurd (cc)
-unlined (e ∷ entries) (r ∷ read) is = (cc, unlined entries read (cc))
-
-pub read_back : ReadsBack
-    → (text own : List ℕ) (entries : List NamedEntry) (rows : List EntryRow) (read : List TextEntry)
-    → AreRows text entries rows → AreInOrder entries → own ≡ written_text (unnamed entries) → ReadsText own read
-    → AreReadBack entries read
-read_back law text own entries rows read h order own_is reads =
-    let again = subst (λ l. ReadsText l read) own_is reads in
-    let all = All-map IsCatalogueEntry (λ (e : NamedEntry). e.entry) entries
-    (zip_all (IsRow text) (λ e. IsCatalogueEntry e.entry)
-    (λ e r row. record { valid = row.can.valid.valid; charset = row.can.charset }) entries rows h) in
-    unlined entries read (sym (law (unnamed entries) read all again.spelt.small again ∙ ap (map (with_line 0)) order))
-
-abbrev live : NamedEntry → Bool
-live e = is_live e.entry
-
--- what defines a message is all live or all obsolete, so it is written in its order
-pub definitions_in_order : (es : List NamedEntry) → AreInOrder (definitions es)
-definitions_in_order es = found (list_any live es) refl where
-  found : (b : Bool) → list_any live es ≡ b → AreInOrder (if b then filter live es else es)
-  found true some =
-      let xs = unnamed (filter live es) in
-      let all : All (λ x. is_live x ≡ true) xs =
-      All-map (λ x. is_live x ≡ true) (λ (e : NamedEntry). e.entry) (filter live es) (filter_passes live es) in
-      ap₂ (λ (a b : List TextEntry). a ++ b) (all_pass is_live xs all)
-      (none_pass (λ x. x.obsolete) xs (λ k d below. not-true (get_or xs k d).obsolete (all k d below)))
-      ∙ append-nil xs
-  found false none =
-      let xs = unnamed es in
-      let all : All (λ x. is_live x ≡ false) xs =
-      All-map (λ x. is_live x ≡ false) (λ (e : NamedEntry). e.entry) es (none_all live es none) in
-      ap₂ (λ (a b : List TextEntry). a ++ b) (none_pass is_live xs all)
-      (all_pass (λ x. x.obsolete) xs (λ k d below. not-false (get_or xs k d).obsolete (all k d below)))
-
--- the text of one entry, in two parts
-pub live_text : (e : TextEntry) (own : List ℕ) → is_live e ≡ true → own ≡ separated (e ∷ [])
-    → AreSeparated (e ∷ []) own []
-live_text e own live is = found e.obsolete refl live where
-  found : (b : Bool) → e.obsolete ≡ b → not b ≡ true → AreSeparated (e ∷ []) own []
-  found true obsolete h = absurd (cc)
-  found false obsolete h = record {
-    live_is = is ∙ ap (λ (b : Bool). separated (cond (not b) (e ∷ []) [])) (sym obsolete);
-    obsolete_is = ap (λ (b : Bool). separated (cond b (e ∷ []) [])) (sym obsolete);
-  }
-
-pub obsolete_text : (e : TextEntry) (own : List ℕ) → is_live e ≡ false → own ≡ separated (e ∷ [])
-    → AreSeparated (e ∷ []) [] own
-obsolete_text e own dead is = found e.obsolete refl dead where
-  found : (b : Bool) → e.obsolete ≡ b → not b ≡ false → AreSeparated (e ∷ []) [] own
-  found false obsolete h = absurd (cc)
-  found true obsolete h = record {
-    live_is = ap (λ (b : Bool). separated (cond (not b) (e ∷ []) [])) (sym obsolete);
-    obsolete_is = is ∙ ap (λ (b : Bool). separated (cond b (e ∷ []) [])) (sym obsolete);
-  }
-
--- the lines of entries aren't written
-module _ (p : Bool → Bool) where
-  part_unlined : (es fs : List TextEntry) → map (with_line 0) es ≡ map (with_line 0) fs
-      → in_order (filter (λ e. p e.obsolete) es) ≡ in_order (filter (λ e. p e.obsolete) fs)
-  part_unlined es fs same =
-      sym (join_same (kept p es)) ∙ ap in_order (sym (kept_same p es)) ∙ ap (λ l. in_order (kept p l)) same
-      ∙ ap in_order (kept_same p fs) ∙ join_same (kept p fs)
-
--- the last entry, but for its line
-pub last_unlined : (before : List TextEntry) (a b : TextEntry) (parts : TextParts) → SameButLine a b
-    → AreParts (before ++ a ∷ []) parts → AreParts (before ++ b ∷ []) parts
-last_unlined before a b parts same are =
-    let all : map (with_line 0) (before ++ a ∷ []) ≡ map (with_line 0) (before ++ b ∷ []) =
-    map-append (with_line 0) before (a ∷ []) ∙ ap (λ e. map (with_line 0) before ++ e ∷ []) same
-    ∙ sym (map-append (with_line 0) before (b ∷ [])) in
-    record {
-      live = are.live ∙ part_unlined not (before ++ a ∷ []) (before ++ b ∷ []) all;
-      obsolete = are.obsolete ∙ part_unlined (λ o. o) (before ++ a ∷ []) (before ++ b ∷ []) all;
-    }
-
-pub charset_unlined : (a b : TextEntry) → SameButLine a b → HasAdmittedCharset a → HasAdmittedCharset b
-charset_unlined a b same h = subst HasAdmittedCharset same h
+pub definitions_all : (P : NamedEntry → Type 0) (group : List NamedEntry) → All P group → All P (definitions group)
+definitions_all P group h = found (list_any (λ d. is_live d.entry) group) where
+  found : (b : Bool) → All P (if b then filter (λ d. is_live d.entry) group else group)
+  found true = filter_all (λ d. is_live d.entry) P group h
+  found false = h
 
 -- what is written, with one more entry
-pub written_more : (before : List TextEntry) (a b : TextEntry) (parts : TextParts) → SameButLine a b
-    → AreParts (before ++ a ∷ []) parts → All HasAdmittedCharset before → HasAdmittedCharset a
-    → AreWritten (before ++ b ∷ []) parts
-written_more before a b parts same are admitted one =
-    record {
-      parts_are = last_unlined before a b parts same are;
-      admitted =
-          All-push HasAdmittedCharset before b admitted (charset_unlined a b same one);
-    }
-
-pub fault_unlined : (a b : TextEntry) (error : PoError) → SameButLine a b → IsMergeFault (a ∷ []) error
-    → IsMergeFault (b ∷ []) error
-fault_unlined a b error same (inl memory) = inl memory
-fault_unlined a b error same (inr foreign) =
-    inr (
-      (λ all. foreign.0 (All-cons HasAdmittedCharset a [] (charset_unlined b a (sym same) (all 0 b (omega arith)))
-          (All-nil HasAdmittedCharset))),
-      foreign.1,
-    )
-
--- definitions that are read again are merged to the same entry, but for its line
-pub merged_again : (o : MergeOptions) (ds named : List NamedEntry) (merged : List TextEntry)
-    → LinesAreNotMerged o ds named → AllZip IsSameButLine ds named → merged ≡ merged_entry o named ∷ []
-    → IsOnly (merged_entry o ds) merged
-merged_again o ds named merged law same is =
-    record { only = merged_entry o named; entries_are = is; same = sym (law same) }
-
-pub only_row : (text : List ℕ) (ds : List NamedEntry) (row : EntryRow) → AreRows text ds (row ∷ [])
-    → (d : NamedEntry) × (ds ≡ d ∷ []) × IsRow text d row
-only_row text [] row h = absurd h
-only_row text (d ∷ []) row h = (d, refl, h.0)
-only_row text (d ∷ e ∷ ds) row h = absurd h.1
-
--- groups by numbers
-module _ (text : List ℕ) where
-  numbered_rows : (n : ℕ) (ns : List ℕ) (entries : List NamedEntry) (rows : List EntryRow) → AreRows text entries rows
-      → AreRows text (with_number n ns entries) (with_number n ns rows)
-  numbered_rows n [] entries rows h = tt
-  numbered_rows n (k ∷ ns) [] [] h = tt
-  numbered_rows n (k ∷ ns) [] (r ∷ rows) h = absurd h
-  numbered_rows n (k ∷ ns) (e ∷ entries) [] h = absurd h
-  numbered_rows n (k ∷ ns) (e ∷ entries) (r ∷ rows) h = found (k == n) (numbered_rows n ns entries rows h.1) where
-    found : (b : Bool) → AreRows text (with_number n ns entries) (with_number n ns rows)
-        → AreRows text (if b then e ∷ with_number n ns entries else with_number n ns entries)
-        (if b then r ∷ with_number n ns rows else with_number n ns rows)
-    found true more = (h.0, more)
-    found false more = more
-
-  rows_from : (ns : List ℕ) (entries : List NamedEntry) (rows : List EntryRow) (indices : List ℕ)
-      → AreRows text entries rows
-      → AllZip (AreRows text) (map (λ n. with_number n ns entries) indices)
-      (map (λ n. with_number n ns rows) indices)
-  rows_from ns entries rows [] h = tt
-  rows_from ns entries rows (n ∷ indices) h = (numbered_rows n ns entries rows h, rows_from ns entries rows indices h)
-
-  in_vectors : (all : List (List NamedEntry)) (groups : List (Vec EntryRow))
-      → AllZip (AreRows text) all (map (λ g. g.items) groups) → All IsGroup all → AreGroups text all groups
-  in_vectors [] [] h valid = tt
-  in_vectors [] (g ∷ groups) h valid = absurd h
-  in_vectors (es ∷ all) [] h valid = absurd h
-  in_vectors (es ∷ all) (g ∷ groups) h valid =
-      let some = (valid 0 es (omega arith)).some in
-      let long = zip_length (IsRow text) es g.items h.0 in (
-        record { some = omega (arith, some, long); rows = h.0 },
-        in_vectors all groups h.1 (λ k d below. valid (suc k) d (omega (arith, below))),
-      )
-
-  groups_are : (count : ℕ) (ns : List ℕ) (entries : List NamedEntry) (rows : List EntryRow)
-      (groups : List (Vec EntryRow)) (all : List (List NamedEntry)) → AreRows text entries rows
-      → map (λ g. g.items) groups ≡ by_number count ns rows
-      → by_number count ns entries ≡ all → All IsGroup all → AreGroups text all groups
-  groups_are count ns entries rows groups all have of_rows of_entries valid =
-      in_vectors all groups
-      (subst (λ l. AllZip (AreRows text) l (map (λ (g : Vec EntryRow). g.items) groups)) of_entries
-      (subst (AllZip (AreRows text) (by_number count ns entries)) (sym of_rows)
-      (rows_from ns entries rows (range_with_len 0 count) have))) valid
-
-all_valid : (text : List ℕ) (entries : List NamedEntry) (rows : List EntryRow) → AreRows text entries rows
-    → All IsDefinition entries
-all_valid text = zip_all (IsRow text) IsDefinition (λ e r h. h.can.valid)
-
--- one more definition that is read again
-pub definition_more : (text : List ℕ) (definitions : List NamedEntry) (rows : List EntryRow) (es : List TextEntry)
-    (i : ℕ) (r : TextEntry) (row : EntryRow) (found new : List BorrowedEntry) (x : BorrowedEntry) → i < length rows
-    → AreRows text definitions rows
-    → AreReadBack definitions es → All IsCatalogueEntry es → r ≡ get_or es i r → new ≡ found ++ x ∷ []
-    → x.name.now ≡ (get_or rows i row).name.now → x.entry.now ≡ r
-    → AllZip IsSameButLine (take i definitions) (named_entries found) × All IsDefinition (named_entries found)
-    → AllZip IsSameButLine (take (i + 1) definitions) (named_entries new) × All IsDefinition (named_entries new)
-definition_more text definitions rows es i r row found new x below h back valid here pushed name entry so_far =
-    let none : NamedEntry = record { name = []; entry = r } in
-    let d = get_or definitions i none in
-    let at : IsRow text d (get_or rows i row) = zip_get (IsRow text) definitions rows i none row h below in
-    let long : length definitions ≡ length rows = zip_length (IsRow text) definitions rows h in
-    let count : length definitions ≡ length es =
-    zip_length (λ (e : NamedEntry) (y : TextEntry). SameButLine e.entry y) definitions es back in
-    let inside : i < length definitions = omega (arith, below, long) in
-    let read : i < length es = omega (arith, inside, count) in
-    let same : SameButLine d.entry x.entry.now =
-    subst (SameButLine d.entry) (sym (entry ∙ here))
-    (zip_get (λ (e : NamedEntry) (y : TextEntry). SameButLine e.entry y) definitions es i none r back read) in
-    let good : IsCatalogueEntry x.entry.now = subst IsCatalogueEntry (sym (entry ∙ here)) (valid i r read) in
-    let name_is : x.name.now ≡ d.name = name ∙ at.name in
-    let more : named_entries new ≡ named_entries found ++ named_entry x ∷ [] =
-    ap named_entries pushed ∙ map-append named_entry found (x ∷ []) in (
-      subst (AllZip IsSameButLine (take (i + 1) definitions)) (sym more)
-          (subst (λ l. AllZip IsSameButLine l (named_entries found ++ named_entry x ∷ []))
-          (sym (take_more definitions i none inside))
-          (zip_more IsSameButLine (take i definitions) (named_entries found) d (named_entry x) so_far.0
-          (record { name = sym name_is; entry = same }))),
-      subst (All IsDefinition) (sym more)
-          (All-push IsDefinition (named_entries found) (named_entry x) so_far.1
-          (record {
-            valid = good.valid;
-            utf8 = subst IsUtf8 (sym name_is) at.can.valid.utf8;
-            no_nul =
-                subst (λ l. Lacks 0 l) (sym name_is) at.can.valid.no_nul;
-          })),
-    )
-
--- the group at an index
-pub group_at : (text : List ℕ) (all : List (List NamedEntry)) (groups : List (Vec EntryRow)) (i : ℕ)
-    (group : Vec EntryRow) → AreGroups text all groups → i < length groups → group ≡ get_or groups i group
-    → IsGroupOf text (get_or all i []) group
-group_at text all groups i group h below here =
-    subst (IsGroupOf text (get_or all i [])) (sym here) (zip_get (IsGroupOf text) all groups i [] group h below)
-
--- one more message
-pub message_copied : (o : MergeOptions) (text : List ℕ) (ds : List NamedEntry) (row : EntryRow)
-    (before : List TextEntry) (parts : TextParts) → ((d : NamedEntry) → merged_entry o (d ∷ []) ≡ d.entry)
-    → AreRows text ds (row ∷ [])
-    → ((d : NamedEntry) → IsRow text d row → AreWritten (before ++ d.entry ∷ []) parts)
-    → AreWritten (before ++ merged_entry o ds ∷ []) parts
-message_copied o text ds row before parts law h copied =
-    let only = only_row text ds row h in
-    subst (λ e. AreWritten (before ++ e ∷ []) parts) (sym (ap (merged_entry o) only.1 ∙ law only.0))
-    (copied only.0 only.2)
-
-pub message_merged : (o : MergeOptions) (ds : List NamedEntry) (before merged : List TextEntry) (parts : TextParts)
-    → IsOnly (merged_entry o ds) merged → All IsCatalogueEntry merged → AreParts (before ++ merged) parts
-    → All HasAdmittedCharset before → AreWritten (before ++ merged_entry o ds ∷ []) parts
-message_merged o ds before merged parts only valid are admitted =
-    let one : IsCatalogueEntry only.only =
-    (subst (All IsCatalogueEntry) only.entries_are valid) 0 only.only (omega arith) in
-    written_more before only.only (merged_entry o ds) parts only.same
-    (subst (λ l. AreParts (before ++ l) parts) only.entries_are are) admitted one.charset
+pub written_more : (before : List TextEntry) (entry : TextEntry) (parts : TextParts)
+    → AreParts (before ++ entry ∷ []) parts → All HasAdmittedCharset before → HasAdmittedCharset entry
+    → AreWritten (before ++ entry ∷ []) parts
+written_more before entry parts are admitted one =
+    record { parts_are = are; admitted = All-push HasAdmittedCharset before entry admitted one }
 
 -- a list of one
-pub one_of : (rows : List EntryRow) (d : EntryRow) → 0 < length rows → length rows < 2 → rows ≡ get_or rows 0 d ∷ []
-one_of [] d some few = absurd (omega (arith, some))
-one_of (r ∷ []) d some few = refl
-one_of (r ∷ s ∷ rows) d some few = absurd (omega (arith, few))
+pub one_of : {X : Type 0} (list : List X) (x : X) → 0 < length list → length list < 2 → x ≡ get_or list 0 x
+    → list ≡ x ∷ []
+one_of [] x some few here = absurd (omega (arith, some))
+one_of (y ∷ []) x some few here = ap (λ (z : _). z ∷ []) (sym here)
+one_of (y ∷ z ∷ list) x some few here = absurd (omega (arith, few))
 
--- the groups of rows by the numbers of their messages
-pub groups_hold : (inputs : NumberedEntries) (es : List NamedEntry) (list : List EntryRow) (ns : List ℕ)
-    (found : List (Vec EntryRow)) → HoldInputs es inputs → list ≡ inputs.rows.items → ns ≡ inputs.numbers.items
-    → map (λ g. g.items) found ≡ by_number inputs.count ns list → GroupsByNumber es
-    → AreGroups inputs.text.items (groups es) found
-groups_hold inputs es list ns found h list_is numbers of_rows law =
-    let text = inputs.text.items in
-    let held : AreRows text es list = subst (AreRows text es) (sym list_is) h.rows in
-    groups_are text inputs.count ns es list found (groups es) held of_rows
-    (ap₂ (λ (n : ℕ) (l : List ℕ). by_number n l es) h.count (numbers ∙ h.numbers) ∙ law)
-    (groups_valid es (all_valid text es list held))
+numbered_all : {X : Type 0} (P : X → Type 0) (n : ℕ) (ns : List ℕ) (xs : List X) → All P xs
+    → All P (with_number n ns xs)
+numbered_all P n [] xs h = All-nil P
+numbered_all P n (k ∷ ns) [] h = All-nil P
+numbered_all P n (k ∷ ns) (x ∷ xs) h = found (k == n) (numbered_all P n ns xs (All-tail P x xs h)) where
+  found : (b : Bool) → All P (with_number n ns xs)
+      → All P (if b then x ∷ with_number n ns xs else with_number n ns xs)
+  found true rest = All-cons P x (with_number n ns xs) (All-head P x xs h) rest
+  found false rest = rest
+
+-- the groups of entries by their indexes
+pub record AreGroups (all : List NamedEntry) (found : List (List ℕ)) : Type 0 where
+  pub entries : map (entries_at all) found ≡ groups all
+  pub inside : All (All (λ k. k < length all)) found
+
+pub as_many : (read : List Named) (inputs : NumberedEntries) → HoldInputs read inputs
+    → length inputs.numbers.items ≡ length (all_entries read)
+as_many read inputs h =
+    let all = all_entries read in
+    ap length h.numbers
+    ∙ length-map (named_messages all) (λ m. position_or_len (same_message m)
+    (first_ones same_message (named_messages all)))
+    ∙ length-map all (λ (e : NamedEntry). entry_message e.entry)
+
+indexes_below : (count n k d : ℕ) → count ≡ n → k < length (range_with_len 0 count)
+    → get_or (range_with_len 0 count) k d < n
+indexes_below count n k d same inside =
+    let within : k < count = omega (arith, inside, length-range_with_len 0 count) in
+    omega (arith, get_or-range_with_len 0 count k d within, within, same)
+
+pub groups_hold : (read : List Named) (inputs : NumberedEntries) → HoldInputs read inputs
+    → GroupsByNumber (all_entries read)
+    → AreGroups (all_entries read) (indexes_by inputs.count inputs.numbers.items)
+groups_hold read inputs h law =
+    let all = all_entries read in
+    let ns = inputs.numbers.items in
+    let list = range_with_len 0 (length ns) in
+    let long : length ns ≡ length all = as_many read inputs h in
+    record {
+      entries =
+          by_number-mapped (λ k. get_or all k no_entry) inputs.count ns list
+          ∙ ap (by_number inputs.count ns) (all_at all (length ns) (sym long))
+          ∙ ap₂ (λ (n : ℕ) (l : List ℕ). by_number n l all) h.count h.numbers ∙ law;
+      inside = All-map (All (λ n. n < length all)) (λ n. with_number n ns list) (range_with_len 0 inputs.count)
+          (λ j e less. numbered_all (λ n. n < length all) (get_or (range_with_len 0 inputs.count) j e) ns list
+          (λ k d inside. indexes_below (length ns) (length all) k d long inside));
+    }
+
+pub groups_counted : (all : List NamedEntry) (found : List (List ℕ)) → AreGroups all found
+    → length (groups all) ≡ length found
+groups_counted all found are = sym (ap length are.entries) ∙ length-map found (entries_at all)
+
+pub messages_counted : (count : ℕ) (numbers : List ℕ) → length (indexes_by count numbers) ≡ count
+messages_counted count numbers =
+    length-map-range_with_len (λ n. with_number n numbers (range_with_len 0 (length numbers))) 0 count
+
+-- the indexes are those of the group at an index
+pub record IsGroupAt (all : List NamedEntry) (i : ℕ) (group : List ℕ) : Type 0 where
+  pub below : i < length (groups all)
+  pub entries : entries_at all group ≡ get_or (groups all) i []
+  pub held : IsGroupOf all group
+
+-- the indexes of a group that are listed by their links
+pub group_at : (read : List Named) (inputs : NumberedEntries) (links : Links) (ns : List ℕ) (i : ℕ)
+    (list group : List ℕ)
+    → HoldInputs read inputs → GroupsByNumber (all_entries read) → i < inputs.count → ns ≡ inputs.numbers.items
+    → AreLinked (indexes_by inputs.count ns) links
+    → ((found : List (List ℕ)) → AreLinked found links → i < length found → list ≡ get_or found i [])
+    → group ≡ list → IsGroupAt (all_entries read) i group
+group_at read inputs links ns i list group h law counted numbers linked listed same =
+    let all = all_entries read in
+    let found = indexes_by inputs.count ns in
+    let below : i < length found = omega (arith, counted, messages_counted inputs.count ns) in
+    let here : group ≡ get_or found i [] = same ∙ listed found linked below in
+    let are : AreGroups all found =
+    subst (λ l. AreGroups all (indexes_by inputs.count l)) (sym numbers) (groups_hold read inputs h law) in
+    let within : i < length (groups all) = omega (arith, below, groups_counted all found are) in
+    let entries : entries_at all group ≡ get_or (groups all) i [] =
+    ap (entries_at all) here ∙ sym (get_or-map (entries_at all) found i [] [] below)
+    ∙ ap (λ l. get_or l i []) are.entries in
+    let valid = groups_valid all (λ k d less. (h.can k d less).valid) in
+    let some : 0 < length (get_or (groups all) i []) = (valid i [] within).some in
+    record {
+      below = within;
+      entries = entries;
+      held = record {
+        some = omega (arith, some, ap length entries, length-map group (λ k. get_or all k no_entry));
+        inside = subst (All (λ k. k < length all)) (sym here) (are.inside i [] below);
+      };
+    }
+
+-- the definitions of a message that is kept, by the indexes of its entries
+module _ (all : List NamedEntry) (indexes : List ℕ) (group ds list : List Definition)
+    (viewed : definition_views group ≡ entries_at all indexes)
+    (are : ds ≡ definitions_by (λ d. is_live d.entry) group) (same : list ≡ ds) where
+  pub kept_at : (o : MergeOptions) → is_kept_by (λ d. is_header d.entry) o ds ≡ true
+      → merged_messages o (definitions (entries_at all indexes) ∷ []) ≡ merged_entry o (definition_views list) ∷ []
+  kept_at o some =
+      ap (λ l. merged_messages o (definitions l ∷ [])) (sym viewed) ∙ kept_group group ds are o some
+      ∙ ap (λ l. merged_entry o (definition_views l) ∷ []) (sym same)
+
+  pub can_kept : All CanBeMerged (entries_at all indexes) → All CanBeMerged (definition_views list)
+  can_kept can =
+      subst (λ l. All CanBeMerged (definition_views l)) (sym same)
+      (subst (All CanBeMerged) (sym (of_group group ds are ∙ ap definitions viewed))
+      (definitions_all CanBeMerged (entries_at all indexes) can))
+
+  pub some_kept : 0 < length indexes → 0 < length list
+  some_kept some =
+      let many : 0 < length group =
+      omega (
+        arith,
+        some,
+        ap length viewed,
+        length-map group definition_view,
+        length-map indexes (λ k. get_or all k no_entry),
+      ) in
+      omega (arith, definitions_some (λ (d : Definition). is_live d.entry) group many, ap length are, ap length same)
+
+-- the definition at an index
+pub can_be : (ds : List Definition) (i : ℕ) (d : Definition) → All CanBeMerged (definition_views ds) → i < length ds
+    → d ≡ get_or ds i d → CanBeMerged (definition_view d)
+can_be ds i d can inside here =
+    let within : i < length (definition_views ds) = omega (arith, inside, length-map ds definition_view) in
+    subst CanBeMerged (get_or-map definition_view ds i d (definition_view d) inside ∙ ap definition_view (sym here))
+    (can i (definition_view d) within)
+
+-- the definitions so far, with one more
+views_more : (ds : List Definition) (i : ℕ) (d : Definition) → i < length ds → d ≡ get_or ds i d
+    → definition_views (take (i + 1) ds) ≡ definition_views (take i ds) ++ definition_view d ∷ []
+views_more ds i d inside here =
+    ap definition_views (take_more ds i d inside) ∙ map-append definition_view (take i ds) (get_or ds i d ∷ [])
+    ∙ ap (λ (e : Definition). definition_views (take i ds) ++ definition_view e ∷ []) (sym here)
+
+pub copies_more : (ds : List Definition) (i : ℕ) (d : Definition) → i < length ds → d ≡ get_or ds i d
+    → unnamed (definition_views (take i ds)) ++ d.entry ∷ [] ≡ unnamed (definition_views (take (i + 1) ds))
+copies_more ds i d inside here =
+    sym (ap unnamed (views_more ds i d inside here)
+    ∙ map-append (λ (e : NamedEntry). e.entry) (definition_views (take i ds)) (definition_view d ∷ []))
+
+pub named_more : (ds : List Definition) (copies : List TextEntry) (i : ℕ) (d : Definition)
+    (found new : List BorrowedEntry)
+    (x : BorrowedEntry) → copies ≡ unnamed (definition_views ds) → i < length ds → d ≡ get_or ds i d
+    → new ≡ found ++ x ∷ [] → x.name.now ≡ d.name.now → x.entry.now ≡ get_or copies i x.entry.now
+    → named_entries found ≡ definition_views (take i ds) → named_entries new ≡ definition_views (take (i + 1) ds)
+named_more ds copies i d found new x are inside here pushed name entry so_far =
+    let copy : x.entry.now ≡ d.entry =
+    entry ∙ ap (λ l. get_or l i x.entry.now) (are ∙ map-map (λ (e : NamedEntry). e.entry) definition_view ds)
+    ∙ get_or-map (λ (e : Definition). e.entry) ds i d x.entry.now inside
+    ∙ ap (λ (e : Definition). e.entry) (sym here) in
+    ap named_entries pushed ∙ map-append named_entry found (x ∷ [])
+    ∙ ap₂ (λ (l : List NamedEntry) (e : NamedEntry). l ++ e ∷ []) so_far (ap₂ named name copy)
+    ∙ sym (views_more ds i d inside here)

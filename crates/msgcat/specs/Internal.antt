@@ -1,4 +1,5 @@
 -- What private functions, proofs and laws cite; no clause of a public function does.
+pub mod Links
 pub mod Entries
 pub mod Inputs
 pub mod Gathered

@@ -1,104 +1,101 @@
-//! The entries of inputs, kept by their texts, which are written one behind the other, and by their
-//! messages.
-ghost use Rattle.std.specs.Prelude.{◌≡◌, ◌++◌, ◌∷◌, [], IfOk, List, OnOk};
+//! Entries of inputs that lie in one store, by their indexes: the name of the input that each is
+//! of.
+ghost use Rattle.std.specs.Prelude.{◌≡◌, ◌<◌, ◌++◌, All, List, OnOk, length};
 ghost use Rattle.po_entry.specs.Bytes.{Lacks};
-ghost use Rattle.po_entry.specs.Validity.{IsCatalogueEntry};
-ghost use Rattle.po_merge.specs.Inputs.{NamedEntry, named};
-ghost use Rattle.msgcat.specs.Internal.Entries.{HoldEntries};
+ghost use Rattle.po_merge.specs.Inputs as merge;
+ghost use Rattle.msgcat.specs.Internal.Entries.{AreReadInputs, IsReadInput, definition_views, entries_at, name_of, unnamed};
 
-use po_entry::Entry;
+use po_entry::{EntryRef, Store};
 use po_merge::Member;
-use po_messages::KeyBuffer;
-use po_writer::append_separated;
-use std::alloc::{AllocError, Global};
+use std::alloc::AllocError;
 
-/// Where the text of an entry stands, and what is known of the entry.
+/// An input that is read.
 #[derive(Clone, Copy)]
-pub(crate) struct EntryRow<'a> {
-    /// The name of its input.
+pub(crate) struct ReadInput<'a> {
+    /// Its name.
     pub(crate) name: &'a str,
-    /// Where its text begins, with the empty line before it.
+    /// How many entries the inputs before it have.
     pub(crate) start: usize,
-    /// How long its text is, with that line.
-    pub(crate) len: usize,
-    /// Whether it is live.
-    pub(crate) is_live: bool,
-    /// Whether it is a header.
-    pub(crate) is_header: bool,
+    /// How many entries it has.
+    pub(crate) count: usize,
 }
 
-impl Member for EntryRow<'_> {
-    ghost live = { λ row. row.is_live };
+impl<'a> ReadInput<'a> {
+    /// The input of this name, with so many entries after those of others.
+    pub(crate) fn of(name: &'a str, start: usize, count: usize) -> ReadInput<'a>
+        ensures known { (read : merge.Named) → name.now ≡ read.name → Lacks 0 name.now → count ≡ length read.entries
+            → IsReadInput read result }
+        ensures start { result.start ≡ start }
+    {
+        ReadInput { name, start, count }
+    }
+}
 
-    ghost header = { λ row. row.is_header };
+/// An entry of a store, with the name of its input.
+#[derive(Drop)]
+pub(crate) struct Definition<'a> {
+    /// The name of the input.
+    pub(crate) name: &'a str,
+    /// The entry.
+    pub(crate) entry: EntryRef<'a>,
+}
+
+impl Member for Definition<'_> {
+    ghost use Rattle.po_entry.specs.Header.{is_header};
+    ghost use Rattle.po_messages.specs.Joined.{is_live};
+
+    ghost live = { λ d. is_live d.entry };
+
+    ghost header = { λ d. is_header d.entry };
 
     fn is_live(&self) -> bool {
-        self.is_live
+        !self.entry.obsolete()
     }
 
     fn is_header(&self) -> bool {
-        self.is_header
+        self.entry.is_header()
     }
 }
 
-/// Entries of inputs, in their order.
-pub(crate) struct Entries<'a> {
-    /// Their texts, each after an empty line.
-    pub(crate) text: Vec<u8>,
-    /// A row for each.
-    pub(crate) rows: Vec<EntryRow<'a>>,
-    /// Their messages.
-    pub(crate) keys: KeyBuffer,
+/// The name of the input that has the entry with this index among those of all inputs.
+fn name_at<'a>(inputs: &[ReadInput<'a>], index: usize) -> &'a str
+    ensures { (read : List merge.Named) → AreReadInputs read inputs.now
+        → index < length (merge.all_entries read) → result.now ≡ name_of read index }
+{
+    // No input from `end` on begins at the entry or before it.
+    let (mut first, mut end) = (0, inputs.len());
+    while end - first > 1 {
+        let middle = first + (end - first) / 2;
+        if inputs[middle].start <= index {
+            first = middle;
+        } else {
+            end = middle;
+        }
+    }
+    if first < inputs.len() {
+        return inputs[first].name;
+    }
+    ""
 }
 
-impl Drop for Entries<'_> {
-    fn drop(self) {
-        let Entries {
-            text: _,
-            rows: _,
-            keys: _,
-        } = self;
-    }
-}
-
-impl<'a> Entries<'a> {
-    /// No entries, with room for so many bytes of text.
-    pub(crate) fn with_capacity(alloc: Global, room: usize) -> Result<Entries<'a>, AllocError>
-        ensures { IfOk result (HoldEntries []) }
-    {
-        Ok(Entries {
-            text: Vec::with_capacity(alloc, room)?,
-            rows: Vec::new(alloc),
-            keys: KeyBuffer::new(alloc),
-        })
-    }
-
-    /// Adds an entry of an input of this name.
-    pub(crate) fn add(&mut self, name: &'a str, entry: &Entry) -> Result<(), AllocError>
-        ensures { OnOk result ((before : List NamedEntry) → Lacks 0 name.now → IsCatalogueEntry entry.now
-            → HoldEntries before self.old → HoldEntries (before ++ named name.now entry.now ∷ []) self.new) }
-    {
-        let start = self.text.len();
-        append_separated(&mut self.text, entry)?;
-        self.rows.push(EntryRow {
-            name,
-            start,
-            len: self.text.len() - start,
-            is_live: !entry.fields().obsolete,
-            is_header: entry.is_header(),
+/// Adds the entries with these indexes, each with the name of its input.
+pub(crate) fn add_definitions<'a, 'b: 'a>(
+    definitions: &mut Vec<Definition<'a>>,
+    store: &'a Store,
+    inputs: &[ReadInput<'b>],
+    indexes: &[usize],
+) -> Result<(), AllocError>
+    requires { All (λ index. index < length store.now) indexes.now }
+    ensures { OnOk result ((read : List merge.Named) → AreReadInputs read inputs.now
+        → store.now ≡ unnamed (merge.all_entries read)
+        → definition_views definitions.new.items
+        ≡ definition_views definitions.old.items ++ entries_at (merge.all_entries read) indexes.now) }
+{
+    for &index in indexes {
+        definitions.push(Definition {
+            name: name_at(inputs, index),
+            entry: store.get(index),
         })?;
-        self.keys.add(entry)
     }
-
-    /// Their texts and rows.
-    pub(crate) fn into_texts(self) -> (Vec<u8>, Vec<EntryRow<'a>>)
-        ensures { result ≡ (self.entry.text, self.entry.rows) }
-    {
-        let Entries {
-            text,
-            rows,
-            keys: _,
-        } = self;
-        (text, rows)
-    }
+    Ok(())
 }

@@ -1,156 +1,127 @@
-//! Merging the entries of inputs, message by message: the text of a message's only definition is
-//! copied, and several are read again from their texts.
-ghost use Rattle.std.specs.Prelude.{◌≡◌, ◌<◌, ◌++◌, ◌∷◌, ℕ, [], All, IfErr, IfOk, List, MatchResult, OnOk, drop, length, map, take};
-ghost use Rattle.std.specs.List.{AllZip};
+//! Merging the entries of inputs, message by message: a message's only definition is written from
+//! the store, and several are copied to be merged.
+ghost use Rattle.std.specs.Prelude.{◌≡◌, ◌<◌, ◌++◌, ◌∷◌, [], All, IfErr, IfOk, List, MatchResult, OnOk, length, map};
 ghost use Rattle.po_entry.specs.TextEntry.{TextEntry};
-ghost use Rattle.po_merge.specs.EntryLaws.{IsSameButLine};
-ghost use Rattle.po_merge.specs.Grouping.{IsDefinition};
 ghost use Rattle.po_merge.specs.Groups.{definitions, groups};
 ghost use Rattle.po_merge.specs.Inputs as merge;
 ghost use Rattle.po_merge.specs.InputsView.{named_entries};
 ghost use Rattle.po_merge.specs.Merged.{IsMergeFault, merged_messages};
 ghost use Rattle.po_merge.specs.MergedEntry.{merged_entry};
 ghost use Rattle.po_writer.specs.TextParts.{AreParts};
-ghost use Rattle.msgcat.specs.Internal.Entries.{AreRows, IsRow};
+ghost use Rattle.msgcat.specs.Internal.Entries.{CanBeMerged, definition_views, entries_at, unnamed};
 ghost use Rattle.msgcat.specs.Internal.Inputs.{HoldInputs};
-ghost use Rattle.msgcat.specs.Internal.MergedText.{AreInOrder, AreReadBack, AreWritten, IsGroupOf, IsTextOfMerged};
+ghost use Rattle.msgcat.specs.Internal.MergedText.{AreWritten, IsGroupOf, IsTextOfMerged};
 
-use crate::entries::EntryRow;
+use crate::entries::{Definition, add_definitions};
 use crate::inputs::NumberedEntries;
-use po_catalog::laws::what_is_written_reads_back;
-use po_entry::Catalogue;
-use po_merge::laws::{groups_are_numbered, lines_are_not_merged, one_definition_stays};
-use po_merge::{MergeOptions, NamedEntry, groups_of, kept_definitions, merge_definitions};
-use po_messages::split_at_most;
-use po_reader::read;
+use crate::links::Links;
+use po_entry::{Catalogue, Entry, Store};
+use po_merge::laws::{groups_are_numbered, one_definition_stays};
+use po_merge::{MergeOptions, NamedEntry, kept_definitions, merge_definitions};
 use po_syntax::PoError;
 use po_writer::TextParts;
 use std::alloc::{AllocError, Global};
 
-/// So many bytes of a text from an index, or fewer where the text ends before.
-fn part_of(text: &[u8], start: usize, len: usize) -> &[u8]
-    ensures { result.now ≡ take len (drop start text.now) }
-{
-    let (_, rest) = split_at_most(text, start);
-    let (own, _) = split_at_most(rest, len);
-    own
-}
-
-/// The parts of no entries, with room for so many bytes of live ones: these are written over what
-/// `room` holds.
-fn parts_over(alloc: Global, room: Vec<u8>, len: usize) -> Result<TextParts, AllocError>
-    ensures { IfOk result (AreParts []) }
+/// The parts of no entries. The live ones are written over what `room` holds.
+fn parts_over(alloc: Global, room: Vec<u8>) -> TextParts
+    ensures { AreParts [] result }
 {
     let mut live = room;
     live.clear();
-    live.reserve(len)?;
-    Ok(TextParts {
+    TextParts {
         live,
         obsolete: Vec::new(alloc),
-    })
+    }
 }
 
-/// Adds the text of an entry, with the empty line before it.
-fn push_copy(parts: &mut TextParts, text: &[u8], row: &EntryRow<'_>) -> Result<(), AllocError>
-    ensures { OnOk result ((entry : merge.NamedEntry) (before : List TextEntry) → IsRow text.now entry row.now
-        → AreWritten before parts.old → AreWritten (before ++ entry.entry ∷ []) parts.new) }
+/// Copies of definitions, to be merged.
+fn copies_of(alloc: Global, definitions: &[Definition<'_>]) -> Result<Vec<Entry>, AllocError>
+    requires { All CanBeMerged (definition_views definitions.now) }
+    ensures { IfOk result (λ copies. copies.items ≡ unnamed (definition_views definitions.now)) }
 {
-    let own = part_of(text, row.start, row.len);
-    if row.is_live {
-        parts.add_texts(own, b"")
-    } else {
-        parts.add_texts(b"", own)
+    let mut copies = Vec::with_capacity(alloc, definitions.len())?;
+    for definition in definitions {
+        copies.push(definition.entry.copied(alloc)?)?;
     }
+    Ok(copies)
 }
 
-/// Entries that are read again from their texts, which stand in the order of a written text.
-/// Refused where these are larger than a text can be, and where an allocation failed.
-fn read_again(alloc: Global, text: &[u8], rows: &[EntryRow<'_>]) -> Result<Catalogue, AllocError>
-    ensures { IfOk result (λ read. (entries : List merge.NamedEntry) → AreRows text.now entries rows.now
-        → AreInOrder entries → AreReadBack entries read) }
-{
-    what_is_written_reads_back();
-    let mut parts = TextParts::with_capacity(alloc, 0)?;
-    for row in rows {
-        push_copy(&mut parts, text, row)?;
-    }
-    let own = parts.join()?;
-    match read(alloc, &own) {
-        Ok(catalogue) => Ok(catalogue),
-        Err(_) => Err(AllocError),
-    }
-}
-
-/// The entries of these rows, as they are read again, with the names of their inputs.
-fn definitions_of<'a, 'b: 'a>(
+/// The copies of definitions, with the names of their inputs.
+fn named_copies<'a, 'b: 'a>(
     alloc: Global,
-    rows: &[EntryRow<'b>],
-    entries: &'a Catalogue,
+    definitions: &[Definition<'b>],
+    copies: &'a [Entry],
 ) -> Result<Vec<NamedEntry<'a>>, AllocError>
-    requires { length rows.now ≡ length entries.now }
-    ensures { IfOk result (λ found. (text : List ℕ) (definitions : List merge.NamedEntry)
-        → AreRows text definitions rows.now → AreReadBack definitions entries.now
-        → AllZip IsSameButLine definitions (named_entries found.items)
-        × All IsDefinition (named_entries found.items)) }
+    requires { copies.now ≡ unnamed (definition_views definitions.now) }
+    ensures { IfOk result (λ named. named_entries named.items ≡ definition_views definitions.now) }
 {
-    let mut found = Vec::with_capacity(alloc, rows.len())?;
-    let entries = entries.entries();
-    for (index, row) in rows.iter().enumerate() {
-        found.push(NamedEntry {
-            name: row.name,
-            entry: &entries[index],
+    let mut named = Vec::with_capacity(alloc, definitions.len())?;
+    for (index, definition) in definitions.iter().enumerate() {
+        named.push(NamedEntry {
+            name: definition.name,
+            entry: &copies[index],
         })?;
     }
-    Ok(found)
+    Ok(named)
 }
 
-/// Adds what the definitions of one message are merged to, by the rows of these.
+/// Adds what is merged of the definitions of one message.
+fn push_merged(alloc: Global, parts: &mut TextParts, merged: &Catalogue) -> Result<(), AllocError>
+    requires { 0 < length merged.now }
+    ensures { OnOk result ((entry : TextEntry) (before : List TextEntry) → merged.now ≡ entry ∷ []
+        → AreWritten before parts.old → AreWritten (before ++ entry ∷ []) parts.new) }
+{
+    let mut store = Store::new(alloc);
+    store.push(&merged.entries()[0])?;
+    parts.add(&store.get(0))
+}
+
+/// Adds what the definitions of one message are merged to.
 fn push_definitions(
     alloc: Global,
     parts: &mut TextParts,
-    text: &[u8],
     options: &MergeOptions,
-    rows: &[EntryRow<'_>],
+    definitions: &[Definition<'_>],
 ) -> Result<(), PoError>
-    requires some { 0 < length rows.now }
-    requires rows { (definitions : List merge.NamedEntry) × AreRows text.now definitions rows.now
-        × AreInOrder definitions }
-    ensures pushed { OnOk result ((definitions : List merge.NamedEntry) (before : List TextEntry)
-        → AreRows text.now definitions rows.now → AreInOrder definitions → AreWritten before parts.old
-        → AreWritten (before ++ merged_entry options.now definitions ∷ []) parts.new) }
-    ensures fault { IfErr result (λ error. (definitions : List merge.NamedEntry)
-        → AreRows text.now definitions rows.now → AreInOrder definitions
-        → IsMergeFault (merged_entry options.now definitions ∷ []) error) }
+    requires some { 0 < length definitions.now }
+    requires can { All CanBeMerged (definition_views definitions.now) }
+    ensures pushed { OnOk result ((before : List TextEntry) → AreWritten before parts.old
+        → AreWritten (before ++ merged_entry options.now (definition_views definitions.now) ∷ []) parts.new) }
+    ensures fault { IfErr result (IsMergeFault (merged_entry options.now (definition_views definitions.now) ∷ [])) }
 {
     one_definition_stays();
-    lines_are_not_merged();
-    if let [row] = rows {
-        return Ok(push_copy(parts, text, row)?);
+    if let [definition] = definitions {
+        return Ok(parts.add(&definition.entry)?);
     }
-    let entries = read_again(alloc, text, rows)?;
-    let definitions = definitions_of(alloc, rows, &entries)?;
+    let copies = copies_of(alloc, definitions)?;
+    let named = named_copies(alloc, definitions, &copies)?;
     let mut merged = Catalogue::new(alloc);
-    merge_definitions(alloc, options, &definitions, &mut merged)?;
-    Ok(parts.add(merged.entries())?)
+    merge_definitions(alloc, options, &named, &mut merged)?;
+    Ok(push_merged(alloc, parts, &merged)?)
 }
 
-/// Adds what the entries of one message are merged to, by their rows, if the message is kept.
+/// Adds what the entries of one message are merged to, by their indexes, if the message is kept.
 fn push_group(
     alloc: Global,
     parts: &mut TextParts,
-    text: &[u8],
+    inputs: &NumberedEntries<'_>,
     options: &MergeOptions,
-    group: Vec<EntryRow<'_>>,
+    group: &[usize],
 ) -> Result<(), PoError>
-    requires { (entries : List merge.NamedEntry) × IsGroupOf text.now entries group }
-    ensures pushed { OnOk result ((entries : List merge.NamedEntry) (before : List TextEntry)
-        → IsGroupOf text.now entries group.entry → AreWritten before parts.old
-        → AreWritten (before ++ merged_messages options.now (definitions entries ∷ [])) parts.new) }
-    ensures fault { IfErr result (λ error. (entries : List merge.NamedEntry) → IsGroupOf text.now entries group.entry
-        → IsMergeFault (merged_messages options.now (definitions entries ∷ [])) error) }
+    requires { (read : List merge.Named) × HoldInputs read inputs.now × IsGroupOf (merge.all_entries read) group.now }
+    ensures pushed { OnOk result ((read : List merge.Named) (before : List TextEntry) → HoldInputs read inputs.now
+        → IsGroupOf (merge.all_entries read) group.now → AreWritten before parts.old
+        → AreWritten (before ++ merged_messages options.now
+        (definitions (entries_at (merge.all_entries read) group.now) ∷ [])) parts.new) }
+    ensures fault { IfErr result (λ error. (read : List merge.Named) → HoldInputs read inputs.now
+        → IsGroupOf (merge.all_entries read) group.now
+        → IsMergeFault (merged_messages options.now
+        (definitions (entries_at (merge.all_entries read) group.now) ∷ [])) error) }
 {
-    match kept_definitions(group, options) {
-        Some(rows) => push_definitions(alloc, parts, text, options, &rows),
+    let mut members = Vec::new(alloc);
+    add_definitions(&mut members, &inputs.store, &inputs.inputs, group)?;
+    match kept_definitions(members, options) {
+        Some(definitions) => push_definitions(alloc, parts, options, &definitions),
         None => Ok(()),
     }
 }
@@ -163,16 +134,19 @@ pub(crate) fn merged_text(
     inputs: &NumberedEntries<'_>,
     options: &MergeOptions,
 ) -> Result<Vec<u8>, PoError>
-    requires { (entries : List merge.NamedEntry) × HoldInputs entries inputs.now }
-    ensures { (entries : List merge.NamedEntry) → HoldInputs entries inputs.now
-        → MatchResult result (λ text. IsTextOfMerged (merged_messages options.now (map definitions (groups entries))) text.items)
-        (IsMergeFault (merged_messages options.now (map definitions (groups entries)))) }
+    requires { (read : List merge.Named) × HoldInputs read inputs.now }
+    ensures { (read : List merge.Named) → HoldInputs read inputs.now
+        → MatchResult result
+        (λ text. IsTextOfMerged (merged_messages options.now (map definitions (groups (merge.all_entries read)))) text.items)
+        (IsMergeFault (merged_messages options.now (map definitions (groups (merge.all_entries read))))) }
 {
     groups_are_numbered();
-    let mut parts = parts_over(alloc, room, inputs.text.len())?;
-    let groups = groups_of(alloc, &inputs.rows, &inputs.numbers, inputs.count)?;
-    for group in groups {
-        push_group(alloc, &mut parts, &inputs.text, options, group)?;
+    let mut parts = parts_over(alloc, room);
+    let links = Links::of(alloc, &inputs.numbers, inputs.count)?;
+    let mut group = Vec::new(alloc);
+    for number in 0..inputs.count {
+        links.list(number, &mut group)?;
+        push_group(alloc, &mut parts, inputs, options, &group)?;
     }
     Ok(parts.join()?)
 }

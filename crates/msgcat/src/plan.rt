@@ -105,9 +105,7 @@ pub fn plan_msgcat_before<'a>(
     }
     match read_inputs(alloc, inputs) {
         Ok(_) => Err(fault),
-        Err(unread) => refused_text(alloc, "msgcat", unread.name, unread.error).map_err(
-            |_| ProgramFault::OutOfMemory,
-        ),
+        Err(unread) => Ok(refused_text(alloc, "msgcat", unread.name, unread.error)?),
     }
 }
 

@@ -46,7 +46,8 @@ pub fn plan_msgcat_of<'a>(
     }
     let gathered = gather(alloc, &texts);
     drop(texts);
-    gathered_run(alloc, gathered, inputs.bytes, options).map_err(|_| ProgramFault::OutOfMemory)
+    let run = gathered_run(alloc, gathered, inputs.bytes, options)?;
+    Ok(run)
 }
 
 /// Runs `msgcat`: reads the inputs of its arguments in their order, plans as `plan_msgcat_of` does,

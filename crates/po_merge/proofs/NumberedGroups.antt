@@ -60,7 +60,7 @@ with_number-mapped f n (k ∷ ns) (x ∷ xs) =
     sym (cond_ap (map f) (k == n) (x ∷ with_number n ns xs) (with_number n ns xs))
     ∙ ap (λ l. cond (k == n) (f x ∷ l) l) (with_number-mapped f n ns xs)
 
-by_number-mapped : {X Y : Type 0} (f : X → Y) (count : ℕ) (ns : List ℕ) (xs : List X)
+pub by_number-mapped : {X Y : Type 0} (f : X → Y) (count : ℕ) (ns : List ℕ) (xs : List X)
     → map (map f) (by_number count ns xs) ≡ by_number count ns (map f xs)
 by_number-mapped f count ns xs = map-map (map f) (λ n. with_number n ns xs) (range_with_len 0 count)
     ∙ (λ i. map (λ n. with_number-mapped f n ns xs i) (range_with_len 0 count))

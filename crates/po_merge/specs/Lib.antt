@@ -8,3 +8,4 @@ pub mod MergeLaws
 pub mod EntryLaws
 pub mod TranslationLaws
 pub mod Internal
+pub mod Examples

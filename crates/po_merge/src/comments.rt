@@ -1,7 +1,9 @@
 //! The comments, references and flags of a merged entry.
 
-ghost use Rattle.std.specs.Prelude.{◌≡◌, ◌<◌, length, IfOk, OnOk};
-ghost use Rattle.std.specs.List.{list_any};
+ghost use Rattle.std.specs.Prelude.{◌≡◌, ◌<◌, fold, length, IfOk, OnOk};
+ghost use Rattle.std.specs.Hash.DefaultHasher.{write};
+ghost use Rattle.std.specs.List.{flat_map, list_any};
+ghost use Rattle.po_entry.specs.Seeds.{digest_of, seed_of};
 ghost use Rattle.std.specs.Str.{bytes_eq};
 ghost use Rattle.po_merge.specs.Internal.SameTexts.{HaveSameTexts};
 ghost use Rattle.po_merge.specs.InputsView.{named_entries};
@@ -50,13 +52,22 @@ fn push_others<'a>(
     Ok(())
 }
 
+/// Digests texts after what was digested before.
+fn digest_texts(digest: &mut DefaultHasher, texts: &TextList)
+    ensures { digest.new ≡ fold write digest.old texts.now }
+{
+    for text in texts.iter() {
+        digest.write(text);
+    }
+}
+
 /// Hashes that begin with a digest of the texts of one kind of the definitions.
-fn seeded_by(definitions: &[NamedEntry<'_>], kind: CommentKind) -> Seeded {
+fn seeded_by(definitions: &[NamedEntry<'_>], kind: CommentKind) -> Seeded
+    ensures { result ≡ seed_of (digest_of (flat_map (λ d. texts_of kind d.entry) (named_entries definitions.now))) }
+{
     let mut digest = DefaultHasher::new();
     for definition in definitions {
-        for text in texts_of(definition.entry, kind).iter() {
-            digest.write(text);
-        }
+        digest_texts(&mut digest, texts_of(definition.entry, kind));
     }
     Seeded::of(&digest)
 }

@@ -22,7 +22,7 @@ pub struct NamedEntry<'a> {
 }
 
 /// An entry that is grouped with others of its message, however its texts are kept.
-pub trait Member: Copy {
+pub trait Member: Drop {
     ghost live: { Self → Bool };
 
     ghost header: { Self → Bool };

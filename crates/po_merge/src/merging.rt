@@ -4,6 +4,7 @@ ghost use Rattle.std.specs.Prelude.{◌≡◌, ◌<◌, ◌++◌, ◌∷◌, [],
 ghost use Rattle.po_entry.specs.Bytes.{Lacks};
 ghost use Rattle.po_entry.specs.EntryView.{entry_view};
 ghost use Rattle.po_entry.specs.TextEntry.{texts};
+ghost use Rattle.po_entry.specs.Validity.{out_of_memory};
 ghost use Rattle.po_merge.specs.Grouping.{IsDefinition, IsGroup, group_entries};
 ghost use Rattle.po_merge.specs.InputsView.{inputs_view, named_entries};
 ghost use Rattle.po_merge.specs.MergedEntry.{merged_entry, first_translated};
@@ -108,21 +109,19 @@ fn fill_texts(
     Ok(())
 }
 
-/// What the definitions of one message are merged to.
+/// What the definitions of one message are merged to; refused only where an allocation failed.
 fn merged_entry(
     alloc: Global,
     options: &MergeOptions,
     definitions: &[NamedEntry<'_>],
-) -> Result<Entry, AllocError>
+) -> Result<Entry, PoError>
     requires some { 0 < length definitions.now }
     requires valid { All IsDefinition (named_entries definitions.now) }
-    ensures { IfOk result (λ entry. entry ≡ merged_entry options.now (named_entries definitions.now)) }
+    ensures merged { IfOk result (λ entry. entry ≡ merged_entry options.now (named_entries definitions.now)) }
+    ensures memory { IfErr result (λ error. error ≡ out_of_memory) }
 {
     if definitions.len() < 2 {
-        return match definitions[0].entry.copy(alloc) {
-            Ok(entry) => Ok(entry),
-            Err(_) => Err(AllocError),
-        };
+        return definitions[0].entry.copy(alloc);
     }
     let mut fields = merged_comments(alloc, options, definitions)?;
     fill_texts(alloc, options, definitions, &mut fields)?;

@@ -1,7 +1,7 @@
 -- What is gathered of inputs before they are merged. Internal to this crate.
 use Rattle.std.specs.Prelude.{◌≡◌, ◌⊎◌, List, MatchResult}
 use Rattle.po_entry.specs.Validity.{out_of_memory}
-use Rattle.po_merge.specs.Inputs.{Named, all_entries}
+use Rattle.po_merge.specs.Inputs.{Named}
 use Rattle.runs.specs.NamedFile.{NamedFile}
 use Rattle.msgcat.specs.declared.plan.Gathered.{Gathered}
 use Rattle.msgcat.specs.Internal.Inputs.{HoldInputs}
@@ -11,5 +11,5 @@ use Rattle.msgcat.specs.Msgcat.{AreReadAs, IsFileFault, first_name}
 pub record IsGathered (files : List NamedFile) (gathered : Gathered) : Type 0 where
   pub first_is : gathered.first.now ≡ first_name files
   pub reads : MatchResult gathered.entries
-      (λ kept. (read : List Named) × AreReadAs files read × HoldInputs (all_entries read) kept)
+      (λ kept. (read : List Named) × AreReadAs files read × HoldInputs read kept)
       (λ fault. (fault.error ≡ out_of_memory) ⊎ IsFileFault files fault.name.now fault.error)

@@ -1,38 +1,32 @@
 -- Inputs that are read piece by piece. Internal to this crate.
-use Rattle.std.specs.Prelude.{◌≡◌, ℕ, All, List, [], ◌∷◌, ◌++◌, MatchOption, length, map}
+use Rattle.std.specs.Prelude.{◌≡◌, ℕ, All, List, [], ◌∷◌, ◌++◌, MatchOption, length}
 use Rattle.std.specs.List.{AllZip}
 use Rattle.po_entry.specs.ReadsText.{ReadsText}
-use Rattle.po_entry.specs.TextEntry.{TextEntry}
 use Rattle.po_entry.specs.Faults.{IsReadFault}
+use Rattle.po_entry.specs.TextEntry.{TextEntry}
 use Rattle.po_messages.specs.Duplicate.{HasNoDuplicate}
-use Rattle.po_messages.specs.FirstOnes.{first_ones}
+use Rattle.po_messages.specs.FirstOnes.{first_ones, group_numbers}
 use Rattle.po_messages.specs.Joined.{is_live}
-use Rattle.po_messages.specs.Message.{same_message}
+use Rattle.po_messages.specs.Message.{entry_messages, same_message}
 use Rattle.po_merge.specs.Grouping.{message_numbers, named_messages}
-use Rattle.po_merge.specs.Inputs.{Named, NamedEntry, all_entries, named}
-use Rattle.msgcat.specs.Internal.Entries.{AreRows, HoldEntries}
+use Rattle.po_merge.specs.Inputs.{Named, all_entries}
 use Rattle.po_messages.specs.Places.{Repeats, are_placed}
-use Rattle.msgcat.specs.declared.entries.Entries.{Entries}
+use Rattle.po_messages.specs.declared.repeats.EntryPlace.{EntryPlace}
+use Rattle.msgcat.specs.Internal.Entries.{AreReadInputs, CanBeMerged, IsReadInput, unnamed}
+use Rattle.msgcat.specs.declared.entries.ReadInput.{ReadInput}
 use Rattle.msgcat.specs.declared.inputs.FileFault.{FileFault}
 use Rattle.msgcat.specs.declared.inputs.NumberedEntries.{NumberedEntries}
-use Rattle.msgcat.specs.declared.inputs.ReadInput.{ReadInput}
 use Rattle.msgcat.specs.declared.inputs.ReadInputs.{ReadInputs}
 use Rattle.runs.specs.NamedFile.{NamedFile}
 
--- these entries of an input of this name were added
-abbrev pub AddsEntries : List ℕ → List TextEntry → Entries → Entries → Type 0
-AddsEntries name read old new =
-    (before : List NamedEntry) → HoldEntries before old → HoldEntries (before ++ map (named name) read) new
+-- the entries of these inputs, and then those of a part of another
+abbrev pub with_part : List Named → List TextEntry → List TextEntry
+with_part read part = unnamed (all_entries read) ++ part
 
 -- the input has the name of the file and the entries that its text reads as
 pub record IsTextOf (file : NamedFile) (input : Named) : Type 0 where
   pub name : input.name ≡ file.name
   pub reads : ReadsText file.bytes input.entries
-
--- what is known of an input that is read
-pub record IsReadInput (input : Named) (read : ReadInput) : Type 0 where
-  pub name : read.name.now ≡ input.name
-  pub places : read.places.items ≡ are_placed is_live input.entries
 
 -- the first of the files isn't read
 pub record IsFaultOfFirst (files : List NamedFile) (fault : FileFault) : Type 0 where
@@ -49,16 +43,18 @@ pub record AreReadUpTo (files : List NamedFile) (read : ReadInputs) : Type 0 whe
   pub order : files ≡ before ++ rest
   pub inputs : List Named
   pub texts : AllZip IsTextOf before inputs
-  pub partial : List NamedEntry
-  pub holds : HoldEntries (all_entries inputs ++ partial) read.entries
-  pub known : AllZip IsReadInput inputs read.inputs.items
-  pub end : MatchOption read.fault ((rest ≡ []) × (partial ≡ [])) (IsFaultOfFirst rest)
+  pub part : List TextEntry
+  pub holds : read.store ≡ with_part inputs part
+  pub known : AreReadInputs inputs read.inputs.items
+  pub end : MatchOption read.fault ((rest ≡ []) × (part ≡ [])) (IsFaultOfFirst rest)
 
--- these are the inputs that are read, before the partial entries of another, and the numbers of their messages
-pub record AreNumberedInputs (read : List Named) (partial : List NamedEntry) (inputs : List ReadInput)
-    (numbers : List ℕ) : Type 0 where
+-- these are the inputs that are read, where their entries stand and those of a part of another, and the
+-- numbers of the messages of these
+pub record AreNumberedInputs (read : List Named) (part : List TextEntry) (inputs : List ReadInput)
+    (places : List EntryPlace) (numbers : List ℕ) : Type 0 where
   pub known : AllZip IsReadInput read inputs
-  pub numbers_are : numbers ≡ message_numbers (all_entries read ++ partial)
+  pub places_are : places ≡ are_placed is_live (with_part read part)
+  pub numbers_are : numbers ≡ group_numbers same_message (entry_messages (with_part read part))
 
 -- the first input with a duplicate
 pub record IsFirstRepeating (inputs : List Named) (fault : FileFault) : Type 0 where
@@ -70,8 +66,10 @@ pub record IsFirstRepeating (inputs : List Named) (fault : FileFault) : Type 0 w
   pub name : fault.name.now ≡ input.name
   pub repeats : Repeats input.entries fault.error
 
--- these are the entries that are kept, each with the number of its message, and how many messages they have
-pub record HoldInputs (entries : List NamedEntry) (kept : NumberedEntries) : Type 0 where
-  pub rows : AreRows kept.text.items entries kept.rows.items
-  pub numbers : kept.numbers.items ≡ message_numbers entries
-  pub count : kept.count ≡ length (first_ones same_message (named_messages entries))
+-- the entries of these inputs are kept, each with the number of its message, and how many messages they have
+pub record HoldInputs (read : List Named) (kept : NumberedEntries) : Type 0 where
+  pub store : kept.store ≡ unnamed (all_entries read)
+  pub known : AreReadInputs read kept.inputs.items
+  pub can : All CanBeMerged (all_entries read)
+  pub numbers : kept.numbers.items ≡ message_numbers (all_entries read)
+  pub count : kept.count ≡ length (first_ones same_message (named_messages (all_entries read)))

@@ -1,8 +1,8 @@
-use Rattle.std.proofs.Common.{List, take}
+use Rattle.std.proofs.Common.{◌≡◌, List, take}
 use Rattle.std.specs.List.{AllZip}
 use Rattle.po_merge.specs.Inputs.{Named, all_entries}
-use Rattle.msgcat.specs.Internal.Entries.{HoldEntries}
-use Rattle.msgcat.specs.Internal.Inputs.{IsReadInput, IsTextOf}
+use Rattle.msgcat.specs.Internal.Entries.{AreReadInputs, unnamed}
+use Rattle.msgcat.specs.Internal.Inputs.{IsTextOf}
 use Rattle.runs.specs.NamedFile.{named_files}
 use Rattle.msgcat.proofs.inputs.read_each.Given as goal
 
@@ -11,6 +11,6 @@ abbrev pub invariant-loop-name : goal.invariant-loop-name
 invariant-loop-name l = record {
   inputs : List Named;
   texts : AllZip IsTextOf (take l.name-index (named_files l.inputs)) inputs;
-  holds : HoldEntries (all_entries inputs) l.entries;
-  known : AllZip IsReadInput inputs l.read.items;
+  holds : l.store ≡ unnamed (all_entries inputs);
+  known : AreReadInputs inputs l.read.items;
 }

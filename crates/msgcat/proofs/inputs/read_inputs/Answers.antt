@@ -1,17 +1,22 @@
-use Rattle.std.proofs.Common.{◌≡◌, ◌⊎◌, ◌∙◌, [], List, ap, inl, inr, length, subst, sym}
-use Rattle.std.specs.Prelude.{MatchOption}
+use Rattle.std.proofs.Common.{ℕ, ◌≡◌, ◌⊎◌, ◌∙◌, [], List, ap, inl, inr, length, subst, sym}
+use Rattle.std.specs.Prelude.{All, MatchOption}
 use Rattle.std.specs.List.{AllZip}
 use Rattle.std.proofs.lemmas.Result.{err_from_is_err_and}
-use Rattle.po_entry.specs.Validity.{out_of_memory}
+use Rattle.po_entry.specs.Validity.{IsCatalogueEntry, out_of_memory}
 use Rattle.po_messages.specs.FirstOnes.{first_ones, group_numbers}
-use Rattle.po_messages.specs.Message.{same_message}
-use Rattle.po_merge.specs.Grouping.{message_numbers, named_messages}
-use Rattle.msgcat.specs.Internal.Entries.{AreRows}
-use Rattle.msgcat.specs.Internal.Inputs.{AreNumberedInputs, AreReadUpTo, IsFaultOfFirst, IsFirstRepeating, IsReadInput}
+use Rattle.po_messages.specs.Joined.{is_live}
+use Rattle.po_messages.specs.Message.{entry_messages, same_message}
+use Rattle.po_messages.specs.Places.{are_placed}
+use Rattle.po_merge.specs.Inputs.{all_entries}
+use Rattle.msgcat.specs.Internal.Entries.{IsReadInput, unnamed}
+use Rattle.msgcat.specs.Internal.Inputs.{AreNumberedInputs, AreReadUpTo, IsFaultOfFirst, IsFirstRepeating}
 use Rattle.msgcat.specs.Msgcat.{IsFileFault}
+use Rattle.po_messages.specs.declared.repeats.EntryPlace.{EntryPlace}
+use Rattle.msgcat.specs.declared.entries.ReadInput.{ReadInput}
 use Rattle.msgcat.specs.declared.inputs.FileFault.{FileFault}
 use Rattle.msgcat.specs.declared.inputs.ReadInputs.{ReadInputs}
-use Rattle.msgcat.proofs.InputLemmas.{all_read, no_partial, repeating_fault, text_fault}
+use Rattle.msgcat.proofs.EntryLemmas.{all_can}
+use Rattle.msgcat.proofs.InputLemmas.{all_read, messages_of, no_part, repeating_fault, text_fault}
 use Rattle.runs.specs.NamedFile.{NamedFile, named_files}
 use Rattle.msgcat.proofs.inputs.read_inputs.Goals as goal
 
@@ -21,63 +26,66 @@ either : (files : List NamedFile) (read : ReadInputs) (up_to : AreReadUpTo files
 either files read up_to fault (inl memory) = inl memory
 either files read up_to fault (inr found) = inr (repeating_fault files read up_to fault found)
 
+numbered : (files : List NamedFile) (read : ReadInputs) (up_to : AreReadUpTo files read) (inputs : List ReadInput)
+    (places : List EntryPlace) (numbers : List ℕ) → inputs ≡ read.inputs.items → places ≡ are_placed is_live read.store
+    → numbers ≡ group_numbers same_message (entry_messages read.store)
+    → AreNumberedInputs up_to.inputs up_to.part inputs places numbers
+numbered files read up_to inputs places numbers inputs_are placed are = record {
+  known = subst (AllZip IsReadInput up_to.inputs) (sym inputs_are) up_to.known.known;
+  places_are = placed ∙ ap (are_placed is_live) up_to.holds;
+  numbers_are = are ∙ ap (λ l. group_numbers same_message (entry_messages l)) up_to.holds;
+}
+
 pub check_inputs-requires : goal.check_inputs-requires
 check_inputs-requires c =
-    let up_to = c.in_ok-read.ensures in
-    let numbers = c.in_ok-numbers.ensures.numbers ∙ ap (group_numbers same_message) up_to.holds.keys in
-    let are : AreNumberedInputs up_to.inputs up_to.partial c.deref.result.now c.deref-2.result.now = record {
-      known = subst (AllZip IsReadInput up_to.inputs) (sym c.deref.ensures.value) up_to.known;
-      numbers_are = c.deref-2.ensures.value ∙ numbers;
-    } in
-    (up_to.inputs, up_to.partial, are)
+    let up_to = c.in_ok-read.ensures.read in
+    let are = numbered (named_files c.args.inputs.now) c.in_ok-read.read up_to c.deref.result.now c.deref-2.result.now
+    c.deref-3.result.now c.deref.ensures.value (c.deref-2.ensures.value ∙ c.in_ok-places.ensures.places)
+    (c.deref-3.ensures.value ∙ c.in_ok-numbers.ensures.numbers) in
+    (up_to.inputs, up_to.part, are)
 
 pub returns-in_err-check_inputs-clause-fault : goal.returns-in_err-check_inputs-clause-fault
 returns-in_err-check_inputs-clause-fault c =
     let p = err_from_is_err_and c.from_residual-in_err-check_inputs.result
     c.from_residual-in_err-check_inputs.ensures.1 in
-    let up_to = c.in_ok-read.ensures in
-    let numbers = c.in_ok-numbers.ensures.numbers ∙ ap (group_numbers same_message) up_to.holds.keys in
-    let are : AreNumberedInputs up_to.inputs up_to.partial c.deref.result.now c.deref-2.result.now = record {
-      known = subst (AllZip IsReadInput up_to.inputs) (sym c.deref.ensures.value) up_to.known;
-      numbers_are = c.deref-2.ensures.value ∙ numbers;
-    } in
+    let up_to = c.in_ok-read.ensures.read in
+    let are = numbered (named_files c.args.inputs.now) c.in_ok-read.read up_to c.deref.result.now c.deref-2.result.now
+    c.deref-3.result.now c.deref.ensures.value (c.deref-2.ensures.value ∙ c.in_ok-places.ensures.places)
+    (c.deref-3.ensures.value ∙ c.in_ok-numbers.ensures.numbers) in
     rw (p.1, p.2) (either (named_files c.args.inputs.now) c.in_ok-read.read up_to c.in_err-check_inputs.field-0.0
-    (c.in_err-check_inputs.ensures.fault up_to.inputs up_to.partial are))
+    (c.in_err-check_inputs.ensures.fault up_to.inputs up_to.part are))
 
 pub returns-in-Some-clause-fault : goal.returns-in-Some-clause-fault
 returns-in-Some-clause-fault c =
-    let up_to = c.in_ok-read.ensures in
-    let numbers = c.in_ok-numbers.ensures.numbers ∙ ap (group_numbers same_message) up_to.holds.keys in
-    let are : AreNumberedInputs up_to.inputs up_to.partial c.deref.result.now c.deref-2.result.now = record {
-      known = subst (AllZip IsReadInput up_to.inputs) (sym c.deref.ensures.value) up_to.known;
-      numbers_are = c.deref-2.ensures.value ∙ numbers;
-    } in
-    let distinct = c.in_ok-check_inputs.ensures.distinct up_to.inputs up_to.partial are in
-    let first = subst (λ o. MatchOption o ((up_to.rest ≡ []) × (up_to.partial ≡ [])) (IsFaultOfFirst up_to.rest))
+    let up_to = c.in_ok-read.ensures.read in
+    let are = numbered (named_files c.args.inputs.now) c.in_ok-read.read up_to c.deref.result.now c.deref-2.result.now
+    c.deref-3.result.now c.deref.ensures.value (c.deref-2.ensures.value ∙ c.in_ok-places.ensures.places)
+    (c.deref-3.ensures.value ∙ c.in_ok-numbers.ensures.numbers) in
+    let distinct = c.in_ok-check_inputs.ensures.distinct up_to.inputs up_to.part are in
+    let first = subst (λ o. MatchOption o ((up_to.rest ≡ []) × (up_to.part ≡ [])) (IsFaultOfFirst up_to.rest))
     c.in-Some.is up_to.end in
     inr (text_fault (named_files c.args.inputs.now) c.in_ok-read.read up_to c.in-Some.fault distinct first)
 
 pub returns-clause-read : goal.returns-clause-read
 returns-clause-read c =
-    let up_to = c.in_ok-read.ensures in
-    let numbers = c.in_ok-numbers.ensures.numbers ∙ ap (group_numbers same_message) up_to.holds.keys in
-    let are : AreNumberedInputs up_to.inputs up_to.partial c.deref.result.now c.deref-2.result.now = record {
-      known = subst (AllZip IsReadInput up_to.inputs) (sym c.deref.ensures.value) up_to.known;
-      numbers_are = c.deref-2.ensures.value ∙ numbers;
-    } in
-    let distinct = c.in_ok-check_inputs.ensures.distinct up_to.inputs up_to.partial are in
-    let none = subst (λ o. MatchOption o ((up_to.rest ≡ []) × (up_to.partial ≡ [])) (IsFaultOfFirst up_to.rest))
+    let up_to = c.in_ok-read.ensures.read in
+    let are = numbered (named_files c.args.inputs.now) c.in_ok-read.read up_to c.deref.result.now c.deref-2.result.now
+    c.deref-3.result.now c.deref.ensures.value (c.deref-2.ensures.value ∙ c.in_ok-places.ensures.places)
+    (c.deref-3.ensures.value ∙ c.in_ok-numbers.ensures.numbers) in
+    let distinct = c.in_ok-check_inputs.ensures.distinct up_to.inputs up_to.part are in
+    let none = subst (λ o. MatchOption o ((up_to.rest ≡ []) × (up_to.part ≡ [])) (IsFaultOfFirst up_to.rest))
     c.in_default.is up_to.end in
-    let whole = no_partial up_to.inputs up_to.partial none.1 in (
+    let store : c.in_ok-read.read.store ≡ unnamed (all_entries up_to.inputs) =
+    up_to.holds ∙ no_part up_to.inputs up_to.part none.1 in
+    let messages = ap entry_messages store ∙ messages_of (all_entries up_to.inputs) in (
       up_to.inputs,
       all_read (named_files c.args.inputs.now) c.in_ok-read.read up_to distinct none.0,
       record {
-        rows = rw (c.into_texts-text.ensures) (subst
-            (λ l. AreRows c.in_ok-read.read.entries.text.items l c.in_ok-read.read.entries.rows.items) whole
-            up_to.holds.rows);
-        numbers = numbers ∙ ap message_numbers whole;
-        count = c.in_ok-numbers.ensures.count
-            ∙ ap (λ l. length (first_ones same_message l))
-            (up_to.holds.keys ∙ ap named_messages whole);
+        store = store;
+        known = up_to.known;
+        can = all_can up_to.inputs c.in_ok-read.read.inputs.items up_to.known.known
+            (subst (All IsCatalogueEntry) store c.in_ok-places.ensures.valid);
+        numbers = c.in_ok-numbers.ensures.numbers ∙ ap (group_numbers same_message) messages;
+        count = c.in_ok-numbers.ensures.count ∙ ap (λ l. length (first_ones same_message l)) messages;
       },
     )

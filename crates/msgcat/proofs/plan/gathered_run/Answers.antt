@@ -1,6 +1,5 @@
 use Rattle.std.proofs.Common.{◌∙◌, ap, inl, inr}
 use Rattle.std.proofs.lemmas.Result.{IfOk-weaker}
-use Rattle.po_merge.specs.Inputs.{all_entries}
 use Rattle.runs.specs.Run.{refusal}
 use Rattle.msgcat.specs.Msgcat.{first_name, msgcat_line}
 use Rattle.msgcat.proofs.plan.gathered_run.Goals as goal
@@ -10,7 +9,7 @@ returns c =
     IfOk-weaker c.refused_text-in-Err-merged_text.result _ _
     (λ run reported files held.
     let read = rw c.in-Ok.is at held.reads in
-    elim (c.in-Err-merged_text.ensures (all_entries read.0) read.2) [
+    elim (c.in-Err-merged_text.ensures read.0 read.2) [
       | inl memory ↦ absurd (reported.0 (ap (λ e. e.kind) memory))
       | inr foreign ↦ inr (inl (record {
         inputs = read.0;

@@ -1,4 +1,4 @@
-use Rattle.std.proofs.Common.{ap, inl, subst, ◌∙◌}
+use Rattle.std.proofs.Common.{Ok, ap, inl, subst, ◌∙◌}
 use Rattle.std.specs.Prelude.{All}
 use Rattle.std.proofs.lemmas.Bool.{false≢true}
 use Rattle.std.proofs.lemmas.Result.{IfOk-weaker}
@@ -70,5 +70,5 @@ returns-in-Some-fault-clause-names c =
 
 pub returns-clause-names : goal.returns-clause-names
 returns-clause-names c =
-    none_before _ (named_inputs c.args.inputs) (subst (All (λ file. Lacks 0 file.name))
+    none_before (Ok c.in_ok-run.run') (named_inputs c.args.inputs) (subst (All (λ file. Lacks 0 file.name))
     (ap named_files c.deref.ensures.value ∙ c.in_ok-texts.ensures.files) c.in_default.ensures)

@@ -4,4 +4,4 @@ use Rattle.po_merge.proofs.merging.merge_definitions.Goals as goal
 
 pub returns-in-Err-clause-fault : goal.returns-in-Err-clause-fault
 returns-in-Err-clause-fault c =
-    rw (sym c.in_ok-entry.ensures) (refused_fault c.in_ok-entry.entry _ c.in-Err.ensures.fault)
+    rw (sym c.in_ok-entry.ensures.merged) (refused_fault c.in_ok-entry.entry _ c.in-Err.ensures.fault)

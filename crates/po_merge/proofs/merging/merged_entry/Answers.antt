@@ -1,5 +1,6 @@
 use Rattle.std.proofs.Common.{◌≡◌, ◌<◌, ap, sym, ◌∙◌, arith, length}
 use Rattle.std.proofs.lemmas.List.{length-map}
+use Rattle.std.proofs.lemmas.Result.{IfOk-weaker}
 use Rattle.po_merge.proofs.OneDefinition.{one_of}
 use Rattle.po_merge.proofs.Valid.{merged_is_entry}
 use Rattle.po_merge.specs.InputsView.{named_entry, named_entries}
@@ -12,8 +13,11 @@ of-requires c =
     rw (c.in_ok-fill_texts.ensures c.in_ok-fields.ensures)
     (merged_is_entry c.args.options.now (named_entries ds) some c.requires.valid)
 
-pub returns-in-Ok : goal.returns-in-Ok
-returns-in-Ok c =
+pub returns-then-definitions-lt2-clause-merged : goal.returns-then-definitions-lt2-clause-merged
+returns-then-definitions-lt2-clause-merged c =
     let single : length c.args.definitions.now ≡ 1 = omega (arith, c.requires.some, c.if-definitions-lt2.true) in
-    c.in-Ok.ensures.copy ∙ ap (λ d. d.entry.now) (sym c.index-definitions-0.is)
-    ∙ one_of c.args.options.now c.args.definitions.now c.index-definitions-0.result single c.index-definitions-0.is
+    IfOk-weaker c.copy.result _ _
+    (λ entry is.
+    is ∙ ap (λ d. d.entry.now) (sym c.index-definitions-0.is)
+    ∙ one_of c.args.options.now c.args.definitions.now c.index-definitions-0.result single c.index-definitions-0.is)
+    c.copy.ensures.copy
