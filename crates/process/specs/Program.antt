@@ -1,7 +1,8 @@
 -- What the program does by its arguments.
-use Rattle.std.specs.Prelude.{◌≡◌, ℕ, List, Option, None, Some, Result, option_map, slice_get}
+use Rattle.std.specs.Prelude.{◌≡◌, ◌≢◌, true, ℕ, List, Option, None, Some, Result, option_map, slice_get}
 use Rattle.clap.specs.Matches.{found_of, subcommand_name_of}
 use Rattle.clap.specs.Simple.{HasMatchesOf, app_of, subcommand_rows}
+use Rattle.clap.specs.Takes.{takes}
 use Rattle.clap.specs.Walk.{rows_of}
 use Rattle.clap.specs.declared.builder.command.Command.{Command}
 use Rattle.clap.specs.declared.parser.matches.ArgMatches.{ArgMatches}
@@ -48,6 +49,12 @@ pub record IsFoundIn (words : List (List ℕ)) (found : ArgMatches) : Type 0 whe
   pub offers : OffersTools (offered_tools first) program
   pub matches : HasMatchesOf (app_of program) words found
 
+-- clap doesn't take the words of a command line, by the commands that are offered to it
+pub record AreRefused (first : Option Tool) (words : List (List ℕ)) : Type 0 where
+  pub program : Command
+  pub offers : OffersTools (offered_tools first) program
+  pub refused : takes (app_of program) words ≢ true
+
 -- what was found names this tool, and these are its options and arguments
 pub record NamesTool (found : ArgMatches) (tool : Tool) (given : ArgMatches) : Type 0 where
   pub name : subcommand_name_of found ≡ Some (tool_name tool)
@@ -58,15 +65,15 @@ pub record NamesTool (found : ArgMatches) (tool : Tool) (given : ArgMatches) : T
 abbrev pub NamesNone : ArgMatches → Type 0
 NamesNone found = (tool : Tool) → subcommand_name_of found ≡ Some (tool_name tool) → ⊥
 
--- What the words of a command line come to: the tool that they name runs; or clap's text is told; or memory is
--- out, before a tool ran; or clap found words that name no tool, and nothing is told.
+-- What the words of a command line come to: the tool that they name runs; or clap doesn't take them, and its text is
+-- told; or memory is out, before a tool ran; or clap found words that name no tool, and nothing is told.
 pub data RunsWords {E : Type 0} (gives : List ℕ → Result ℕ E → Type 0) (answers : Answers) (refused : Type 0)
     (words : List (List ℕ)) (before after : Reached) (errors told : WriterView) : Ending → Type 0 where
   runs : {found given : ArgMatches} {tool : Tool} {ending : Ending} → IsFoundIn words found → NamesTool found tool given
       → EndsTool tool (line_in gives (found_of given)) answers refused before after errors told ending
       → RunsWords gives answers refused words before after errors told ending
   explains : (first : Option Tool) (text : List ℕ) {ending : Ending} → IsFirst words first
-      → Explains first text before.written after.written ending → after.asked ≡ before.asked
+      → AreRefused first words → Explains first text before.written after.written ending → after.asked ≡ before.asked
       → after.reader ≡ before.reader
       → told ≡ errors → RunsWords gives answers refused words before after errors told ending
   lacks_memory : (first : Option Tool) → IsFirst words first → Reports first OutOfMemory errors told → after ≡ before

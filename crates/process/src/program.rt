@@ -1,8 +1,9 @@
 //! The program: what its command line comes to, and the ending.
-ghost use Rattle.std.specs.Prelude.{◌≡◌, ◌^◌, ◌<◌, ℕ, List, IfErr, IfOk, MatchOption, OnErr, map};
+ghost use Rattle.std.specs.Prelude.{◌≡◌, ◌≢◌, ◌^◌, ◌<◌, ℕ, List, IfErr, IfOk, IfSome, MatchOption, OnErr, OnOk, map};
+ghost use Rattle.clap.specs.Values.{kind_of};
 ghost use Rattle.po_tools.specs.ToolRun.{line_of, answers_of, reached, reader_of};
 ghost use Rattle.runs.specs.Outputs.{writer};
-ghost use Rattle.process.specs.Program.{EndsTool, Explains, IsFirst, IsFoundIn, NamesNone, NamesTool, RunsProgram, RunsWords};
+ghost use Rattle.process.specs.Program.{AreRefused, EndsTool, Explains, IsFirst, IsFoundIn, NamesNone, NamesTool, RunsProgram, RunsWords};
 
 use crate::endings::{give_help, refuse, report};
 use crate::environment::{Process, arguments};
@@ -98,7 +99,9 @@ fn found_in<'w>(
     words: &'w [&'w str],
 ) -> Result<ArgMatches<'w>, Option<Error>>
     requires { IsFirst (map (λ word. word.now) words.now) first }
-    ensures { IfOk result (IsFoundIn (map (λ word. word.now) words.now)) }
+    ensures found { IfOk result (IsFoundIn (map (λ word. word.now) words.now)) }
+    ensures refused { IfErr result (λ error. IfSome error (λ e. kind_of e ≢ ErrorKind.OutOfMemory
+        → AreRefused first (map (λ word. word.now) words.now))) }
 {
     let Ok(command) = program(alloc, first) else {
         return Err(None);
@@ -215,6 +218,7 @@ pub(crate) fn explain<F: OutputFiles, O: ByteOut, E: ByteOut>(
     requires out { system.old.out.failures < 2 ^ 63 }
     requires err { system.old.err.failures < 2 ^ 63 }
     ensures text { IfOk result (λ ending. (text : List ℕ) × Explains first text system.old system.new ending) }
+    ensures refused { OnOk result (kind_of error.now ≢ ErrorKind.OutOfMemory) }
     ensures memory { IfErr result (λ fault. fault ≡ ProgramFault.OutOfMemory) }
     ensures unwritten { OnErr result (system.new ≡ system.old) }
 {

@@ -5,7 +5,10 @@ use Rattle.process.proofs.program.run_words.Goals as goal
 pub returns-in-Ok-explain : goal.returns-in-Ok-explain
 returns-in-Ok-explain g c =
     let told = c.in-Ok-explain.ensures.text in
-    explains c.first_tool-first.result told.0 c.first_tool-first.ensures told.1 refl refl refl
+    let refused = rw (c.in-Err-Some.field-0-is) at c.in-Err-Some.ensures.refused in
+    explains c.first_tool-first.result told.0 c.first_tool-first.ensures
+    (refused c.in-Ok-explain.ensures.refused) told.1
+    refl refl refl
 
 pub returns-in-Err-Some : goal.returns-in-Err-Some
 returns-in-Err-Some g c =
