@@ -1,11 +1,11 @@
 -- A text with its references replaced ("Invoking the envsubst program" of the GNU gettext manual).
-use Rattle.std.specs.Prelude.{ℕ, zero, suc, Bool, true, ◌==◌, if◌then◌else◌, List, [], ◌∷◌, ◌++◌, map, Option, Some}
+use Rattle.std.specs.Prelude.{◌≡◌, refl, codes, ℕ, zero, suc, Bool, true, ◌==◌, if◌then◌else◌, List, [], ◌∷◌, ◌++◌, map, Option, Some}
 use Rattle.std.specs.Prelude.{None}
 use Rattle.std.specs.Borrow.{Bor}
 use Rattle.std.specs.List.{list_any}
 use Rattle.std.specs.Option.{option_map}
 use Rattle.std.specs.Str.{bytes_eq}
-use Rattle.envsubst.specs.References.{Reference, reference_after}
+use Rattle.envsubst.specs.References.{Reference, reference_after, bare_reference, braced_reference, is_name, is_letter, is_name_byte}
 
 -- what the references to a name become; at `None` they are copied
 abbrev pub Values : Type 0
@@ -53,6 +53,14 @@ substitution_after values zero (b ∷ bs) =
 -- the text with its references replaced
 abbrev pub substitution : Values → List ℕ → List ℕ
 substitution values text = substitution_after values 0 text
+
+-- A is set and B isn't, and a SHELL-FORMAT has both, but no C
+pub text_is_substituted :
+    substitution (values_of ((codes "A", codes "1") ∷ []) (Some (codes "A" ∷ codes "B" ∷ []))) (codes "$A-${B}$C")
+    ≡ codes "1-$C"
+unfolding substitution_after replacement_of values_of is_replaced value_of reference_after bare_reference
+    braced_reference is_name is_letter is_name_byte
+text_is_substituted = refl
 
 -- the pairs of name and value that slices of slices hold
 abbrev pub pairs_in : List (Bor (List ℕ) × Bor (List ℕ)) → List (List ℕ × List ℕ)

@@ -1,6 +1,6 @@
 -- The names of the locales whose catalogues are looked for ("Locale Environment Variables" and
 -- "Specifying a Priority List of Languages" of the GNU gettext manual).
-use Rattle.std.specs.Prelude.{ℕ, Bool, not, ◌&&◌, ◌||◌, ◌==◌, if◌then◌else◌, List, [], ◌∷◌, ◌++◌, length, take, drop}
+use Rattle.std.specs.Prelude.{◌≡◌, refl, ℕ, Bool, not, ◌&&◌, ◌||◌, ◌==◌, if◌then◌else◌, List, [], ◌∷◌, ◌++◌, length, take, drop}
 use Rattle.std.specs.Prelude.{filter, take_while, codes}
 use Rattle.std.specs.List.{list_any, flat_map, slice_split, position_or_len}
 use Rattle.std.specs.Str.{bytes_eq}
@@ -49,3 +49,10 @@ is_untranslated locale = is_c_locale locale || not (is_path_part locale)
 abbrev pub candidates : List ℕ → List ℕ → List (List ℕ)
 candidates locale language =
     if is_untranslated locale then [] else flat_map candidates_of_name (languages locale language)
+
+-- of LANGUAGE what stands before `C` counts, but for names with a slash; in a locale with one nothing is translated
+pub candidates_are : (candidates (codes "de") (codes "a/b:fr_CA.UTF-8@x:C:it")
+    ≡ codes "fr_CA.UTF-8@x" ∷ codes "fr_CA@x" ∷ codes "fr@x" ∷ codes "fr_CA" ∷ codes "fr" ∷ [])
+    × (candidates (codes "a/b") (codes "it") ≡ [])
+unfolding language_parts candidates_of_name from_first before is_c_locale
+candidates_are = (refl, refl)

@@ -22,7 +22,8 @@ pub enum ExpandedFile {
     NotMoFile,
     /// The list is too short for the messages.
     ListTooShort,
-    /// The room is too short for the strings of the system-dependent messages.
+    /// The room is too short for the strings of the system-dependent messages that the platform
+    /// has.
     RoomTooShort,
     /// The expanded file would have more than 4,294,967,295 bytes.
     TooLarge,

@@ -4,19 +4,22 @@
 use Rattle.std.specs.Prelude.{◌≡◌, ◌≢◌, refl, ℕ, zero, suc, ◌+◌, ◌<◌, true, false, List, [], ◌∷◌, ◌++◌, Option, Some, None, map, take, set, codes, unwrap_or}
 use Rattle.std.specs.Ordering.{ordering_index}
 use Rattle.std.specs.declared.cmp.Ordering.TheVariants.{Less, Equal}
-use Rattle.std.proofs.Common.{arith, ap, inr}
+use Rattle.std.proofs.Common.{arith, ap, inl, inr}
 use Rattle.mo_file.specs.declared.byte_order.Order.TheVariants.{Little, Big}
-use Rattle.mo_file.specs.declared.fault.MoError.TheVariants.{TooShort, BadRevision}
-use Rattle.mo_file.specs.declared.fault.MoError.TheVariants.{NotSorted}
+use Rattle.mo_file.specs.declared.byte_order.Order.{Order}
+use Rattle.mo_file.specs.declared.fault.MoError.{MoError}
+use Rattle.mo_file.specs.declared.fault.MoError.TheVariants.{TooShort, BadMagic, BadRevision, TableOutside}
+use Rattle.mo_file.specs.declared.fault.MoError.TheVariants.{StringOutside, NoTerminator, NotSorted}
 use Rattle.mo_file.specs.Message.{Message, originals, translations}
 use Rattle.mo_file.specs.Word.{word_at, word_bytes}
 use Rattle.mo_file.specs.FileHeader.{magic, HasMagicOf, revision, message_count, originals_table, translations_table}
 use Rattle.mo_file.specs.Key.{is_nul, key_of, query_key, key_cmp, keys, key_at, AreRising}
 use Rattle.mo_file.specs.Layout.{terminated, table, header, originals_offset, translations_offset, layout}
 use Rattle.mo_file.specs.StringTable.{offset_at, end_at, string_at, original_at, translation_at, message_at, messages_of}
-use Rattle.mo_file.specs.Fault.{IsOutside, IsUnterminated, IsNotRising, HasFaultIn, HasFault}
+use Rattle.mo_file.specs.Fault.{IsOutside, IsUnterminated, IsNotRising, HasFaultIn, HasFault, kind, index, IsBefore, IsFirstFault, comparisons_before}
+use Rattle.mo_file.specs.FileView.{FileView}
 use Rattle.mo_file.specs.MoFile.{IsMoFile}
-use Rattle.mo_file.specs.Laws.{two_messages, one_message, file_of_two, big_file_of_one}
+use Rattle.mo_file.specs.Laws.{two_messages, one_message, file_of_two, big_file_of_one, OneMessageList, MoFileOrFault, OneFirstFault, NoFaultOfMoFile}
 
 abbrev pub message_with_plural : Message
 message_with_plural = record { original = codes "a" ++ 0 ∷ codes "as"; translation = codes "b" }
@@ -119,3 +122,42 @@ no_file_of_27_bytes = omega arith
 pub file_holds_two : (messages : List Message) → IsMoFile Little file_of_two messages → messages ≡ two_messages
 unfolding word_at string_at messages_of
 file_holds_two messages file = file.lists
+
+abbrev pub view_of_two : FileView
+view_of_two = record { bytes = file_of_two; messages = two_messages }
+
+abbrev pub faults : List MoError
+faults =
+    TooShort ∷ BadMagic ∷ BadRevision ∷ TableOutside ∷ StringOutside 8 ∷ NoTerminator 8 ∷ NotSorted 8 ∷ []
+
+pub faults_have_an_order : (map kind faults ≡ 1 ∷ 2 ∷ 3 ∷ 4 ∷ 5 ∷ 6 ∷ 7 ∷ [])
+    × (map index faults ≡ 0 ∷ 0 ∷ 0 ∷ 0 ∷ 8 ∷ 8 ∷ 8 ∷ [])
+    × (map comparisons_before faults ≡ 0 ∷ 0 ∷ 0 ∷ 0 ∷ 0 ∷ 0 ∷ 8 ∷ [])
+faults_have_an_order = (refl, refl, refl)
+
+-- the kind decides, and of one kind the message
+pub outside_before_unterminated : IsBefore (StringOutside 9) (NoTerminator 3)
+    × IsBefore (NoTerminator 3) (NoTerminator 4)
+outside_before_unterminated = (inl (omega arith), inr (refl, omega arith))
+
+pub revision_goes_first : (bytes : List ℕ) → IsFirstFault bytes (NotSorted 1) → HasFault bytes BadRevision → ⊥
+revision_goes_first bytes is revised = is.first BadRevision (inl (omega arith)) revised
+
+-- what follows from the laws: the one list of a file; that it is valid, where no fault is its first; the
+-- one message that is named
+pub one_list_of_file : (law : OneMessageList) (bytes : List ℕ) (messages others : List Message)
+    → IsMoFile Little bytes messages → IsMoFile Big bytes others → messages ≡ others
+one_list_of_file law bytes messages others little big = (law bytes Little Big messages others little big).1
+
+pub valid_without_fault : (law : MoFileOrFault) (bytes : List ℕ) → ((fault : MoError) → IsFirstFault bytes fault → ⊥)
+    → (order : Order) × (messages : List Message) × IsMoFile order bytes messages
+valid_without_fault law bytes faultless =
+    elim (law bytes) [ inl valid ↦ valid | inr first ↦ absurd (faultless first.0 first.1) ]
+
+pub one_message_is_named : (law : OneFirstFault) (bytes : List ℕ) (i j : ℕ) → IsFirstFault bytes (NotSorted i)
+    → IsFirstFault bytes (NotSorted j) → i ≡ j
+one_message_is_named law bytes i j is other = ap index (law bytes (NotSorted i) (NotSorted j) is other)
+
+pub file_of_two_has_no_fault : (law : NoFaultOfMoFile) (fault : MoError) → IsMoFile Little file_of_two two_messages
+    → IsFirstFault file_of_two fault → ⊥
+file_of_two_has_no_fault law fault file is = law file_of_two Little two_messages fault file is

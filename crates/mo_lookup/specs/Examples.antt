@@ -1,16 +1,19 @@
 -- What the definitions of this crate say of look-ups that were worked out by hand (GNU gettext manual,
 -- "Plural forms" and "The Format of GNU MO Files"). tests/mutants/mo_lookup/definitions has a wrong form
 -- of each definition, which one of these refuses.
-use Rattle.std.specs.Prelude.{◌≡◌, refl, ℕ, true, false, List, [], ◌∷◌, ◌++◌, Some, None, map, filter, codes}
+use Rattle.std.specs.Prelude.{◌≡◌, refl, ℕ, ◌+◌, ◌^◌, ◌<◌, true, false, List, [], ◌∷◌, ◌++◌, Some, None, map, filter, codes}
+use Rattle.std.specs.Borrow.{Bor}
 use Rattle.std.specs.List.{range_with_len}
 use Rattle.std.specs.declared.cmp.Ordering.TheVariants.{Less, Equal, Greater}
+use Rattle.std.proofs.Common.{arith}
 use Rattle.plural_rule.specs.declared.rule.Source.TheVariants.{Header}
 use Rattle.plural_rule.specs.Expression.{Count, Not}
 use Rattle.plural_rule.specs.PluralRule.{RuleView, IsRuleOf}
 use Rattle.mo_file.specs.Message.{Message}
-use Rattle.mo_lookup.specs.Bound.{halvings_within, search_bound}
-use Rattle.mo_lookup.specs.Query.{Query, is_separator, has_no_separator, can_be_key}
-use Rattle.mo_lookup.specs.Answer.{AnswerView, form_at, selected_form, untranslated_text, untranslated, translated, answer}
+use Rattle.mo_lookup.specs.Bound.{halvings_within, search_bound, BoundHalves, BoundIsLogarithm}
+use Rattle.mo_lookup.specs.Query.{Query, query, is_separator, has_no_separator, can_be_key}
+use Rattle.mo_lookup.specs.declared.answer.Answer.{Answer}
+use Rattle.mo_lookup.specs.Answer.{AnswerView, answer_view, form_at, selected_form, untranslated_text, untranslated, translated, answer}
 use Rattle.mo_lookup.specs.Comparisons.{half, keys_left, comparisons_within, comparisons, query_comparisons}
 use Rattle.mo_lookup.specs.CatalogView.{CatalogView, translation_under, forms, header_text, IsCatalogView, forms_found, answered}
 
@@ -100,3 +103,19 @@ catalogue = record { messages = two_messages; rule = none_apart }
 pub answers_of_catalogue : answered catalogue (of_count 0) ∷ answered catalogue unclean ∷ []
     ≡ answer_of_two_steps (codes "y") ∷ record { text = codes "a"; found = false; steps = 0 } ∷ []
 answers_of_catalogue = refl
+
+-- what the laws say of 1,000 and of a million keys
+pub thousand_halves_ten_times : BoundHalves → search_bound 1000 ≡ 1 + search_bound 500
+thousand_halves_ten_times law = law.1 1000 (omega arith)
+
+pub bound_of_a_million : BoundIsLogarithm → 1000000 < 2 ^ search_bound 1000000
+bound_of_a_million law = (law 1000000 (omega arith)).1
+
+pub arguments_make_a_query : (context id plural : Bor (List ℕ))
+    → query (Some context) id.now (Some (plural, 3))
+    ≡ record { context = Some context.now; id = id.now; plural = Some (plural.now, 3) }
+arguments_make_a_query context id plural = refl
+
+pub answers_are_seen : (answer : Answer)
+    → answer_view answer ≡ record { text = answer.text.now; found = answer.found; steps = answer.steps }
+answers_are_seen answer = refl

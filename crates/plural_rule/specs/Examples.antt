@@ -8,12 +8,18 @@ use Rattle.plural_rule.specs.declared.operator.Operator.{Operator}
 use Rattle.plural_rule.specs.declared.operator.Operator.TheVariants.{Or, And, Equal, NotEqual, Less, Greater, Remainder}
 use Rattle.plural_rule.specs.declared.operator.Operator.TheVariants.{AtMost, AtLeast, Add, Subtract, Multiply, Divide}
 use Rattle.plural_rule.specs.declared.token.Token.TheVariants.{Count as CountToken, Number as NumberToken, Binary as BinaryToken}
+use Rattle.plural_rule.specs.declared.instruction.Instruction.{Instruction}
+use Rattle.plural_rule.specs.declared.instruction.Action.TheVariants.{Count as CountAction, Number as NumberAction, Wide, Not as NotAction}
+use Rattle.plural_rule.specs.declared.instruction.Action.TheVariants.{Binary as BinaryAction, Branch, Choose, Jump}
 use Rattle.plural_rule.specs.declared.rule.Source.TheVariants.{Header, Default}
 use Rattle.plural_rule.specs.declared.rule.Reason.TheVariants.{NoNumber, NoExpression, TooLong}
 use Rattle.plural_rule.specs.Expression.{Tree, Count, Number, Not, Binary, Conditional, nodes, truth, needs_right, short_circuit_value, combined, binary_value, chosen, value, visited_right, visited}
 use Rattle.plural_rule.specs.Tokens.{is_blank, operator_bytes, IsSpelling, IsLongest, Lexes, end, blank, token}
 use Rattle.plural_rule.specs.Grammar.{level, Spells, tighter, binary, count, numeral, Spelt}
 use Rattle.plural_rule.specs.Header.{after_first, without_blanks, digits_number, leading_number, nplurals_of, is_end, expression_of}
+use Rattle.plural_rule.specs.Instruction.{operator_code, operator_of, begins, action_of}
+use Rattle.plural_rule.specs.Program.{program, tree_of}
+use Rattle.plural_rule.specs.Evaluates.{Evaluates, count as of_count, numeral as of_numeral, difference}
 use Rattle.plural_rule.specs.PluralRule.{RuleView, expression_limit, default_rule, IsReadable, IsReason, Gives, IsRuleOf}
 
 abbrev pub operators : List Operator
@@ -145,3 +151,37 @@ nothing_gives_default = (refl, refl)
 
 pub rule_of_nothing : IsRuleOf 4096 [] (default_rule NoNumber)
 rule_of_nothing = (refl, refl)
+
+pub operators_have_numbers : (map operator_code operators ≡ range_with_len 0 13)
+    × (map operator_of (range_with_len 0 13) ≡ operators)
+operators_have_numbers = (refl, refl)
+
+abbrev pub instruction : ℕ → ℕ → ℕ → ℕ → Instruction
+instruction kind operator skip number = record { kind = kind; operator = operator; count = skip; number = number }
+
+-- `!n ? 4294967298 : n && 3`, which has each kind of node, and a number of 2^32 + 2
+abbrev pub of_all : Tree
+of_all = Conditional (Not Count) (Number 4294967298) (Binary And Count (Number 3))
+
+-- `n`, `!`, `?`, the two halves of the number, `:`, `n`, `&&` before its second operand, 3, `&&`: three
+-- nodes begin with the first one; `?` skips the number and `:`, `:` the four after it, and `&&` two
+abbrev pub instructions_of_all : List Instruction
+instructions_of_all =
+    instruction 0 0 3 0 ∷ instruction 3 0 0 0 ∷ instruction 6 0 3 0 ∷ instruction 2 0 1 1 ∷ instruction 7 0 0 2
+    ∷ instruction 7 0 4 0 ∷ instruction 0 0 2 0 ∷ instruction 5 1 2 0 ∷ instruction 1 0 1 3 ∷ instruction 4 1 0 0 ∷ []
+
+pub program_of_all : program 0 of_all ++ program 4 Count ≡ instructions_of_all ++ instruction 0 0 5 0 ∷ []
+program_of_all = refl
+
+pub tree_of_all : tree_of instructions_of_all ≡ of_all
+unfolding tree_of
+tree_of_all = refl
+
+pub instructions_are_read : (map begins instructions_of_all ≡ 3 ∷ 0 ∷ 0 ∷ 1 ∷ 0 ∷ 0 ∷ 2 ∷ 0 ∷ 1 ∷ 0 ∷ [])
+    × (map action_of instructions_of_all ≡ CountAction ∷ NotAction ∷ Choose 3 ∷ Wide 1 ∷ Jump 0 ∷ Jump 4 ∷ CountAction
+    ∷ Branch And 2 ∷ NumberAction 3 ∷ BinaryAction And ∷ [])
+instructions_are_read = (refl, refl)
+
+-- `n - 6` at 5 is 2^64 - 1
+pub difference_wraps : Evaluates 5 (Binary Subtract Count (Number 6)) 18446744073709551615
+difference_wraps = difference 5 6 of_count (of_numeral 6)

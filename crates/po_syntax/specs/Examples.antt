@@ -1,18 +1,21 @@
 -- What the definitions of this crate say of texts that were read by hand (manual, "The Format of PO
 -- Files"). tests/mutants/po_syntax/definitions has a wrong form of each, which one of these refuses.
-use Rattle.std.specs.Prelude.{◌≡◌, ◌≢◌, refl, ℕ, true, false, List, [], ◌∷◌, All, Some, codes, filter, map, length, IsUtf8}
+use Rattle.std.specs.Prelude.{◌≡◌, ◌≢◌, refl, ℕ, true, false, List, [], ◌∷◌, ◌++◌, All, Some, codes, filter, map, length, IsUtf8}
 use Rattle.std.specs.Char.{encode_utf8}
 use Rattle.std.specs.List.{range_with_len}
-use Rattle.std.proofs.Common.{arith, inl}
+use Rattle.std.proofs.Common.{arith, inl, inr, true≢false}
 use Rattle.std.proofs.lemmas.List.Elements.{All-cons, All-nil}
+use Rattle.po_syntax.specs.declared.fault.PoFault.TheVariants.{BadEscape, BadPluralIndex, ForbiddenByte}
 use Rattle.po_syntax.specs.declared.item.CommentKind.TheVariants.{Translator, Extracted}
 use Rattle.po_syntax.specs.declared.item.Keyword.TheVariants.{MsgId, MsgStrAt}
 use Rattle.po_syntax.specs.Blanks.{is_blank, IsBlank, skip_blanks, FailsFirst, without_end}
-use Rattle.po_syntax.specs.TextItem.{TextItem, Comment, Word, Str}
+use Rattle.po_syntax.specs.TextItem.{TextItem, Comment, Word, Str, line_of}
 use Rattle.po_syntax.specs.Escapes.{NoDigitFirst, IsByteNumber, escape_letters, letter_value, SpellsEscape, letter, octal, SpellsString, closed, plain, escape}
 use Rattle.po_syntax.specs.ItemContents.{trim_returns}
 use Rattle.po_syntax.specs.Spelling.{is_word_byte, SpellsKeyword, msgid, form, HoldsTokens, end, blank, keyword, string, is_mark, SpellsComment, extracted, translator, own_marks, previous_marks, HoldsItems, indented, comment, live, obsolete}
-use Rattle.po_syntax.specs.PoText.{IsSmall, without_byte_order_mark, lines_of, SpellsLines, SpellsText}
+use Rattle.po_syntax.specs.LineFaults.{large, octal as octal_fault, in_escape, IsNoKeyword, large_index, KeywordFault, in_index, blank as blank_first, in_string, after_keyword, BeginsTokens, live as live_fault}
+use Rattle.po_syntax.specs.QuotedForm.{quoted, written_byte}
+use Rattle.po_syntax.specs.PoText.{IsSmall, line_number, without_byte_order_mark, lines_of, SpellsLines, LinesStop, SpellsText, TextFault, nul}
 
 pub space_is_blank : IsBlank 32
 space_is_blank = refl
@@ -40,7 +43,7 @@ octal_escape_of_three = octal (codes "101") (omega arith, (omega arith, (omega a
 pub string_with_escape : SpellsString (codes "a\\n\" b") (97 ∷ 10 ∷ []) (codes " b")
 string_with_escape = plain (λ e. omega (arith, e)) (λ e. omega (arith, e)) (escape (letter refl) closed)
 
-pub items_have_lines : List TextItem
+abbrev pub items_have_lines : List TextItem
 items_have_lines =
     Comment Extracted (codes " for a menu") 1 ∷ Word MsgId (own_marks false) 2 ∷ Str (codes "a") (own_marks false) 2
     ∷ []
@@ -113,3 +116,59 @@ one_comment = record {
       All-cons (λ b. b ≢ 0) 10 [] (λ e. omega (arith, e)) (All-nil (λ b. b ≢ 0))));
   lines = (Comment Extracted [] 1 ∷ [], [], comment extracted, ([], [], live end, refl, refl), refl);
 }
+
+pub lines_of_items : map line_of items_have_lines ≡ 1 ∷ 2 ∷ 2 ∷ []
+lines_of_items = refl
+
+-- after an empty line `msgid "\400"`, whose octal escape is the number 256
+pub escape_above_255 : LinesStop 1 ([] ∷ codes "msgid \"\\400\"" ∷ []) BadEscape 2
+escape_above_255 =
+    inr (
+      [],
+      live end,
+      inl (
+        live_fault refl (after_keyword (msgid refl) (blank_first refl (in_string (in_escape (
+            octal_fault (codes "400") (codes "\"") (omega arith, (omega arith, (omega arith, (omega arith, tt))))
+            (omega arith)
+            (inl refl) (large (omega arith))))))),
+        refl,
+      ),
+    )
+
+-- `#` begins a comment, or is followed by a mark
+pub comment_begins_no_tokens : BeginsTokens (codes "# a") → ⊥
+comment_begins_no_tokens begins = true≢false begins
+
+pub keywords_are : (IsNoKeyword (codes "msgctxt") → ⊥) × (IsNoKeyword (codes "msgid") → ⊥)
+    × (IsNoKeyword (codes "msgid_plural") → ⊥) × (IsNoKeyword (codes "msgstr") → ⊥)
+keywords_are = ((λ no. no.context refl), (λ no. no.id refl), (λ no. no.plural refl), (λ no. no.translation refl))
+
+-- the lowest index that is refused, with blanks before it
+pub index_above_2_32 : KeywordFault (codes "msgstr [ 4294967296]") BadPluralIndex
+index_above_2_32 =
+    in_index (32 ∷ []) (32 ∷ []) (codes "4294967296]") one_blank one_blank (
+    large_index (codes "4294967296") (codes "]") (
+      omega arith,
+      (
+        omega arith,
+        (
+          omega arith,
+          (
+            omega arith,
+            (
+              omega arith,
+              (omega arith, (omega arith, (omega arith, (omega arith, (omega arith, (omega arith, tt)))))),
+            ),
+          ),
+        ),
+      ),
+    ) refl
+    (omega arith))
+
+pub nul_on_line_2 : IsUtf8 (10 ∷ 0 ∷ []) → TextFault (10 ∷ 0 ∷ []) ForbiddenByte 2
+nul_on_line_2 utf8 = nul (omega arith) utf8 refl refl
+
+pub bytes_are_quoted : quoted (codes "a\"\n" ++ 1 ∷ 127 ∷ 195 ∷ [])
+    ≡ codes "\"a\\\"\\n\\001\\177" ++ 195 ∷ 34 ∷ []
+unfolding written_byte
+bytes_are_quoted = refl

@@ -1,6 +1,7 @@
 -- The texts of faults, and the one line on standard error that reports a fault: this project's own
 -- words, since the manual leaves them open.
-use Rattle.std.specs.Prelude.{ℕ, List, [], ◌∷◌, ◌++◌, codes, decimal, ◌==◌, if◌then◌else◌}
+use Rattle.std.specs.Prelude.{◌≡◌, refl, ℕ, List, [], ◌∷◌, ◌++◌, codes, decimal, ◌==◌, if◌then◌else◌}
+use Rattle.std.specs.Fmt.{digits}
 use Rattle.mo_file.specs.declared.fault.MoError.{MoError}
 use Rattle.mo_file.specs.declared.fault.MoError.TheVariants.{TooShort, BadMagic, BadRevision, TableOutside}
 use Rattle.mo_file.specs.declared.fault.MoError.TheVariants.{StringOutside, NoTerminator, NotSorted}
@@ -54,3 +55,11 @@ fault_line tool file line text = location tool file line ++ text ++ 10 ∷ []
 -- the line of a fault of a PO text
 abbrev pub text_line : List ℕ → List ℕ → PoError → List ℕ
 text_line tool file error = fault_line tool file error.line (po_text error.kind)
+
+pub fault_lines_are : (text_line (codes "msgfmt") (codes "a.po") (record { kind = Duplicate 2; line = 13 })
+    ≡ codes "pokit msgfmt: a.po:13: duplicate of the message at line 2\n")
+    × (fault_line (codes "msgunfmt") (codes "a.mo") 0 (mo_text (NotSorted 7))
+    ≡ codes "pokit msgunfmt: a.mo: string 7 out of order\n")
+    × (duplicate_text (codes "a.po") 5 ≡ codes "duplicate of the message at a.po:5")
+unfolding digits
+fault_lines_are = (refl, refl, refl)

@@ -1,5 +1,5 @@
 -- Who may do what with a file, and what of that is kept by a new file that takes its place.
-use Rattle.std.specs.Prelude.{◌*◌, ◌/◌, ◌^◌, ◌==◌, ℕ, Bool, true, false, Option, Some, None}
+use Rattle.std.specs.Prelude.{◌≡◌, refl, List, [], ◌∷◌, ◌*◌, ◌/◌, ◌^◌, ◌==◌, ℕ, Bool, true, false, Option, Some, None}
 use Rattle.std.specs.Prelude.{bit_and, bit_or}
 use Rattle.runs.specs.declared.output_files.Owner.{Owner}
 use Rattle.runs.specs.declared.output_files.Rights.{Rights}
@@ -24,3 +24,10 @@ kept_mode old (Some owner) = kept_bits old.mode (owner.user == old.owner.user) (
 abbrev pub first_mode : Option Rights → ℕ
 first_mode None = 0o666
 first_mode (Some old) = 0o600
+
+-- of all rights; of rw-r-x--- where nothing is known of the new owner
+pub rights_are_kept : (old : Rights)
+    → (kept_bits 0o7777 true true ∷ kept_bits 0o777 false true ∷ kept_bits 0o777 true false ∷ kept_bits 0o650 true false
+    ∷ [] ≡ 0o777 ∷ 0o775 ∷ 0o755 ∷ 0o600 ∷ [])
+    × (kept_mode (record old { mode = 0o777 }) None ≡ 0o755) × (first_mode (Some old) ≡ 0o600)
+rights_are_kept old = (refl, refl, refl)

@@ -1,6 +1,6 @@
 -- What a run of a tool writes and reports, and its exit status: this project's own, as far as the
 -- manual's chapters on the tools leave it open.
-use Rattle.std.specs.Prelude.{ℕ, Bool, not, ◌&&◌, if◌then◌else◌, List, [], false, Option, Some, None, codes, ◌⊎◌}
+use Rattle.std.specs.Prelude.{◌≡◌, refl, ℕ, Bool, not, ◌&&◌, if◌then◌else◌, List, [], ◌∷◌, map, false, Option, Some, None, codes, ◌⊎◌}
 use Rattle.std.specs.Io.KnownBytes.{Appends, Keeps}
 use Rattle.std.specs.Str.{bytes_eq}
 use Rattle.runs.specs.Device.{AppendsPrefix}
@@ -41,3 +41,8 @@ shown_name argument = if is_standard argument then codes "<stdin>" else argument
 -- the file that is made for the output
 abbrev pub output_file : RunView → List ℕ → Option (List ℕ)
 output_file run argument = if run.create && not (is_standard argument) then Some argument else None
+
+pub nothing_is_made : ((refusal (codes "a")).status ≡ 1)
+    × (map (output_file (refusal [])) (codes "-" ∷ codes "a" ∷ []) ≡ None ∷ None ∷ [])
+    × (map shown_name (codes "-" ∷ codes "a" ∷ []) ≡ codes "<stdin>" ∷ codes "a" ∷ [])
+nothing_is_made = (refl, refl, refl)
