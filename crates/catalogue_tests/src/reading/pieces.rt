@@ -2,8 +2,8 @@
 
 use crate::assertions::{Refused, assert_refused};
 use crate::summary::summaries;
-use po_entry::Catalogue;
-use po_reader::next_catalogue;
+use po_entry::{Drafts, Store};
+use po_reader::next_store;
 use po_syntax::{Pieces, PoError, PoFault};
 use std::alloc::Global;
 use std::test::Fail;
@@ -94,21 +94,25 @@ const REFUSED: &[Refused] = &[
     ),
 ];
 
-/// The catalogue of a text that is read in pieces of this size.
-fn read_in_pieces(alloc: Global, text: &[u8], size: usize) -> Result<Catalogue, PoError> {
+/// The entries of a text that is read in pieces of this size.
+fn read_in_pieces(alloc: Global, text: &[u8], size: usize) -> Result<Store, PoError> {
     let mut pieces = Pieces::of(text)?;
-    let mut catalogue = Catalogue::new(alloc);
+    let mut drafts = Drafts::new(alloc);
+    let mut store = Store::new(alloc);
     while !pieces.are_over() {
-        let piece = next_catalogue(alloc, &mut pieces, size)?;
-        catalogue.append(piece)?;
+        next_store(alloc, &mut pieces, size, true, &mut drafts, &mut store)?;
     }
-    Ok(catalogue)
+    Ok(store)
 }
 
 /// The summaries of the entries of a text that is read in pieces of this size.
 fn summaries_of_pieces(alloc: Global, text: &[u8], size: usize) -> Result<Vec<u8>, Fail> {
-    let catalogue = read_in_pieces(alloc, text, size)?;
-    summaries(alloc, catalogue.entries())
+    let store = read_in_pieces(alloc, text, size)?;
+    let mut entries = Vec::new(alloc);
+    for index in 0..store.len() {
+        entries.push(store.get(index).copied(alloc)?)?;
+    }
+    summaries(alloc, &entries)
 }
 
 #[test]
