@@ -1,15 +1,14 @@
 -- Which entries are headers, whose charsets are admitted, and the references of several lines.
-use Rattle.std.proofs.Common.{◌≡◌, ◌≢◌, ◌↔◌, ℕ, Bool, true, false, cond, ◌==◌, ◌&&◌, List, [], ◌∷◌, ◌++◌, Option, Some, None, refl, sym, ap, ◌∙◌, subst, map, filter, length, is_none}
+use Rattle.std.proofs.Common.{◌≡◌, ℕ, true, cond, ◌==◌, List, [], ◌∷◌, Option, Some, None, refl, sym, ap, ◌∙◌, subst, map, filter, length, is_none}
 use Rattle.std.specs.Prelude.{Decides, flat_map}
-use Rattle.std.specs.Char.{to_ascii_lowercase}
 use Rattle.std.proofs.lemmas.Bool.{and_parts, false≢true}
 use Rattle.po_syntax.specs.declared.item.CommentKind.{CommentKind}
 use Rattle.po_syntax.specs.declared.item.CommentKind.TheVariants.{Translator, Extracted, Reference, Flags}
-use Rattle.po_entry.specs.Charset.{AdmitsCharset, IsHeaderEntry, NamesAdmitted, NamesCharset}
+use Rattle.po_entry.specs.Charset.{AdmitsCharset, IsHeaderEntry, NamesCharset}
 use Rattle.po_entry.specs.CommentLists.{HaveReferences, no_comment, references, other_kind}
 use Rattle.po_entry.specs.Comments.{listed_references, references_of, same_kind}
 use Rattle.po_entry.specs.EntryParts.{CommentText}
-use Rattle.po_entry.specs.Header.{HasAdmittedCharset, IsAdmittedName, charset_of, first_form, is_header}
+use Rattle.po_entry.specs.Header.{IsAdmittedName, charset_of, first_form, is_header}
 use Rattle.po_entry.specs.TextEntry.{TextEntry}
 use Rattle.po_entry.proofs.CharsetNames.{charset_named}
 use Rattle.po_entry.proofs.FuzzyFlags.{admitted}

@@ -2,7 +2,6 @@ pub mod Lists
 pub mod Changes
 pub mod Checks
 pub mod Headers
-pub mod SameTexts
 pub mod CharsetNames
 pub mod ListedElements
 pub mod FuzzyFlags
@@ -10,7 +9,6 @@ pub mod JoinedPieces
 pub mod TextsFaults
 pub mod Settled
 pub mod TextListLemmas
-pub mod PlainEntries
 pub mod SeenTextLemmas
 pub mod LaidEntries
 pub mod OwnTexts

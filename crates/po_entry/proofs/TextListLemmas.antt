@@ -1,16 +1,12 @@
 -- Texts in one buffer, each behind its length.
 use Rattle.std.proofs.Common.{◌≡◌, ◌∙◌, refl, sym, ap, ap₂, ℕ, zero, suc, ◌≤◌, ◌<◌, ◌^◌, inl, inr, List, [], ◌∷◌, ◌++◌, Some, length, length-append, length-drop, take, drop, append-nil, All, arith}
-use Rattle.std.specs.Prelude.{bytes_eq}
 use Rattle.std.specs.List.{flat_map}
 use Rattle.std.proofs.lemmas.Bool.{cases_lt, le-ltb, lt-ltb}
 use Rattle.std.proofs.lemmas.List.{drop_at, take_at}
 use Rattle.std.proofs.lemmas.List.Concat.{flat_map-append}
 use Rattle.std.proofs.lemmas.List.Elements.{All-nil, All-head, All-tail, All-push}
-use Rattle.std.proofs.lemmas.Slice.Eq.{bytes_eq-Decides}
 use Rattle.byteorder.specs.Endian.{little_bytes, little_number}
 use Rattle.byteorder.specs.Numbers.{little_number-reads_back, length-bytes_low_first}
-use Rattle.po_entry.specs.Equality.{texts_eq}
-use Rattle.po_entry.specs.Facts.EqualityLaws.{answer, texts_decide}
 use Rattle.po_entry.specs.TextLists.{AreTexts, cut_texts, measured, text_before, text_length, texts_in}
 
 abbrev IsShort : List ℕ → Type 0
@@ -114,12 +110,3 @@ pub more_AreTexts : (bytes text : List ℕ) → AreTexts bytes → IsShort text
     → AreTexts (bytes ++ measured text)
 more_AreTexts bytes text h small =
     rw (texts_more bytes text h small) (more_laid bytes text h, more_small bytes text h small)
-
--- two lists are the same exactly if their bytes are
-pub same_texts : (xs ys : List ℕ) → AreTexts xs → AreTexts ys
-    → bytes_eq xs ys ≡ texts_eq (texts_in xs) (texts_in ys)
-same_texts xs ys whole wholes =
-    let bytes = bytes_eq-Decides xs ys in
-    let texts = texts_decide (texts_in xs) (texts_in ys) in
-    answer _ _ (λ t. texts.1 (ap texts_in (bytes.0 t)))
-    (λ t. bytes.1 (sym whole.0 ∙ ap (flat_map measured) (texts.0 t) ∙ wholes.0))

@@ -18,5 +18,6 @@ pub mod Viable
 pub mod Faults
 pub mod Equality
 pub mod Facts
+pub mod Needs
 pub mod Internal
 pub mod Examples

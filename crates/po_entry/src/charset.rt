@@ -1,26 +1,36 @@
 //! The charset that a header names, and those that are admitted.
 
 ghost use Rattle.std.specs.Prelude.{◌≡◌, IsTrue, ◌↔◌, position};
+ghost use Rattle.po_entry.specs.EntryView.{entry_view};
 ghost use Rattle.po_entry.specs.Header.{HasAdmittedCharset, IsAdmittedName, charset_of, after_charset, ends_name};
 
-use crate::entry::Entry;
+use crate::fields::Fields;
 
-/// Whether the charset of an entry is admitted, if the entry is a header (GNU gettext manual,
-/// "Filling in the Header Entry").
-pub fn has_admitted_charset(entry: &Entry) -> bool
-    ensures { IsTrue result ↔ HasAdmittedCharset entry.now }
-{
-    if !entry.is_header() {
-        return true;
-    }
-    match entry.forms().first() {
-        Some(form) => is_admitted_name(charset_of(form)),
-        None => true,
+impl Fields {
+    /// Whether the charset of their entry is admitted, if it is a header (GNU gettext manual,
+    /// "Filling in the Header Entry").
+    pub fn has_admitted_charset(&self) -> bool
+        ensures { IsTrue result ↔ HasAdmittedCharset (entry_view self.now) }
+    {
+        if !self.is_header() {
+            return true;
+        }
+        match self.forms.first() {
+            Some(form) => admits_charset(form),
+            None => true,
+        }
     }
 }
 
+/// Whether the charset that a header's text names is admitted, if it names one.
+pub fn admits_charset(text: &[u8]) -> bool
+    ensures { IsTrue result ↔ IsAdmittedName (charset_of text.now) }
+{
+    is_admitted_name(charset_of(text))
+}
+
 /// Whether a charset of this name is admitted: UTF-8, ASCII, the template's `CHARSET`, or none.
-pub(crate) fn is_admitted_name(name: &[u8]) -> bool
+fn is_admitted_name(name: &[u8]) -> bool
     ensures { IsTrue result ↔ IsAdmittedName name.now }
 {
     // `|` and not `||`: without branches, so that the proof takes one operand after another.
@@ -34,7 +44,7 @@ pub(crate) fn is_admitted_name(name: &[u8]) -> bool
 
 /// The charset that a header's text names, up to a space, TAB, CR, LF or semicolon; empty where
 /// it names none.
-pub(crate) fn charset_of(header: &[u8]) -> &[u8]
+fn charset_of(header: &[u8]) -> &[u8]
     ensures { result.now ≡ charset_of header.now }
 {
     let name = after_charset(header);

@@ -1,11 +1,8 @@
 //! Entries in one buffer before their texts are checked.
 
-ghost use Rattle.std.specs.Prelude.{◌≡◌, [], All, IfOk, OnErr, OnOk, option_copied};
+ghost use Rattle.std.specs.Prelude.{◌≡◌, [], OnErr, OnOk, option_copied};
 ghost use Rattle.po_entry.specs.Rows.{Adds, AreLaid, entries_in, message_entry};
-ghost use Rattle.po_entry.specs.Validity.{IsEntry};
 
-use crate::entry::Entry;
-use crate::entry_ref::EntryRef;
 use crate::layout::add_message;
 use crate::row::Row;
 use std::alloc::{AllocError, Global};
@@ -55,18 +52,5 @@ impl Drafts {
     {
         self.bytes.clear();
         self.rows.clear();
-    }
-
-    /// A copy of each entry; refused only where an allocation failed.
-    pub fn copied(&self, alloc: Global) -> Result<Vec<Entry>, AllocError>
-        requires lie { AreLaid self.now }
-        requires valid { All IsEntry (entries_in self.now) }
-        ensures { IfOk result (λ entries. entries.items ≡ entries_in self.now) }
-    {
-        let mut entries = Vec::with_capacity(alloc, self.rows.len())?;
-        for row in &self.rows {
-            entries.push(EntryRef::of(&self.bytes, row).copied(alloc)?)?;
-        }
-        Ok(entries)
     }
 }

@@ -1,8 +1,9 @@
-//! The fields of an entry, before they are checked, and copies of them, where memory can fail.
+//! The fields of an entry that is made, and copies of them, where memory can fail.
 
 ghost use Rattle.std.specs.Prelude.{◌≡◌, IfOk, OnOk, None, option_copied, map, []};
 ghost use Rattle.po_entry.specs.EntryView.{entry_view};
-ghost use Rattle.po_entry.specs.TextEntry.{no_previous, optional_text, plain_entry, slice_texts, texts};
+ghost use Rattle.po_entry.specs.Header.{is_header};
+ghost use Rattle.po_entry.specs.TextEntry.{no_previous, optional_text, plain_entry, texts};
 
 use crate::text_list::TextList;
 use std::alloc::{AllocError, Global};
@@ -56,7 +57,7 @@ impl Previous {
     }
 }
 
-/// The fields of an entry. Before their texts are checked they are a draft.
+/// The fields of an entry, each in a buffer of its own, so that it can be changed.
 #[derive(Debug, Drop)]
 pub struct Fields {
     /// The translator's comments, each without its `#`.
@@ -87,7 +88,7 @@ pub struct Fields {
 
 impl Fields {
     /// Fields without a text, at line 0. Nothing is allocated.
-    pub(crate) fn empty(alloc: Global) -> Fields
+    pub fn empty(alloc: Global) -> Fields
         ensures { entry_view result ≡ plain_entry None [] None [] }
     {
         Fields {
@@ -106,23 +107,18 @@ impl Fields {
         }
     }
 
-    /// Copies each of the other fields; refused only where an allocation failed.
-    pub(crate) fn copy_from(&mut self, other: &Fields, alloc: Global) -> Result<(), AllocError>
-        ensures { OnOk result (entry_view self.new ≡ entry_view other.now) }
+    /// Whether their entry is a header: without a context, and with an empty msgid.
+    pub fn is_header(&self) -> bool
+        ensures { result ≡ is_header (entry_view self.now) }
     {
-        self.comments = other.comments.copy(alloc)?;
-        self.extracted = other.extracted.copy(alloc)?;
-        self.references = other.references.copy(alloc)?;
-        self.fuzzy = other.fuzzy;
-        self.flags = other.flags.copy(alloc)?;
-        self.previous = other.previous.copy(alloc)?;
-        self.context = copy_optional(alloc, other.context.as_deref())?;
-        self.id = other.id.as_slice().to_vec(alloc)?;
-        self.plural = copy_optional(alloc, other.plural.as_deref())?;
-        self.forms = copy_texts(alloc, &other.forms)?;
-        self.obsolete = other.obsolete;
-        self.line = other.line;
-        Ok(())
+        self.context.is_none() && self.id.is_empty()
+    }
+
+    /// Makes each form empty, and keeps how many there are.
+    pub fn empty_forms(&mut self)
+        ensures { entry_view self.new ≡ record (entry_view self.old) { forms = map (λ _. []) (entry_view self.old).forms } }
+    {
+        empty_texts(&mut self.forms);
     }
 }
 
@@ -136,30 +132,8 @@ pub fn copy_optional(alloc: Global, text: Option<&[u8]>) -> Result<Option<Vec<u8
     }
 }
 
-/// Copies of the texts, in order; refused only where an allocation failed.
-pub fn copy_texts(alloc: Global, list: &[Vec<u8>]) -> Result<Vec<Vec<u8>>, AllocError>
-    ensures { IfOk result (λ copy. texts copy.items ≡ texts list.now) }
-{
-    let mut copy = Vec::with_capacity(alloc, list.len())?;
-    for text in list {
-        copy.push(text.as_slice().to_vec(alloc)?)?;
-    }
-    Ok(copy)
-}
-
-/// A copy of a list of slices as owned texts.
-pub(crate) fn copy_slices(alloc: Global, list: &[&[u8]]) -> Result<Vec<Vec<u8>>, AllocError>
-    ensures { IfOk result (λ copy. texts copy.items ≡ slice_texts list.now) }
-{
-    let mut copy = Vec::with_capacity(alloc, list.len())?;
-    for text in list {
-        copy.push(text.to_vec(alloc)?)?;
-    }
-    Ok(copy)
-}
-
 /// Empties each text; the list keeps its length.
-pub(crate) fn empty_texts(list: &mut [Vec<u8>])
+fn empty_texts(list: &mut [Vec<u8>])
     ensures { texts list.new ≡ map (λ _. []) (texts list.old) }
 {
     for text in list.iter_mut() {

@@ -79,6 +79,7 @@ fn add_own(bytes: &mut Vec<u8>, fields: &Fields) -> Result<usize, AllocError>
     add_forms(bytes, &fields.forms)?;
     Ok(key)
 }
+
 /// Appends a part of a head: its length, and its bytes.
 fn add_part(bytes: &mut Vec<u8>, part: &[u8]) -> Result<(), AllocError>
     ensures added { OnOk result (bytes.new.items ≡ bytes.old.items ++ measured part.now) }

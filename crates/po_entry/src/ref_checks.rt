@@ -7,7 +7,7 @@ ghost use Rattle.po_entry.specs.Header.{HasAdmittedCharset};
 ghost use Rattle.po_entry.specs.TextEntry.{quoted_texts};
 ghost use Rattle.po_entry.specs.Validity.{EntryTextFault, HasTexts};
 
-use crate::charset::{charset_of, is_admitted_name};
+use crate::charset::admits_charset;
 use crate::entry_ref::{EntryRef, FormIter};
 use crate::texts::{EOT, Need, meets, optional_meets};
 use po_syntax::PoFault;
@@ -74,7 +74,7 @@ impl EntryRef<'_> {
             return true;
         }
         match self.forms().next() {
-            Some(form) => is_admitted_name(charset_of(form)),
+            Some(form) => admits_charset(form),
             None => true,
         }
     }

@@ -5,9 +5,7 @@ ghost use Rattle.po_entry.specs.EntryView.{entry_view};
 ghost use Rattle.po_entry.specs.FormLists.{forms_left};
 ghost use Rattle.po_entry.specs.TextEntry.{texts};
 ghost use Rattle.po_entry.specs.TextLists.{texts_left};
-ghost use Rattle.po_entry.specs.Validity.{IsEntry};
 
-use crate::entry::Entry;
 use crate::entry_ref::{EntryRef, FormIter};
 use crate::fields::{Fields, Previous, copy_optional};
 use crate::text_list::{TextList, TextListIter};
@@ -59,13 +57,12 @@ fn fill(alloc: Global, fields: &mut Fields, entry: &EntryRef<'_>) -> Result<(), 
 }
 
 impl EntryRef<'_> {
-    /// A copy of the entry, in buffers of its own; refused only where an allocation failed.
-    pub fn copied(&self, alloc: Global) -> Result<Entry, AllocError>
-        requires { IsEntry self.now }
-        ensures { IfOk result (λ entry. entry ≡ self.now) }
+    /// A copy of each part of the entry; refused only where an allocation failed.
+    pub fn copied(&self, alloc: Global) -> Result<Fields, AllocError>
+        ensures { IfOk result (λ fields. entry_view fields ≡ self.now) }
     {
         let mut fields = Fields::empty(alloc);
         fill(alloc, &mut fields, self)?;
-        Ok(Entry::of(fields))
+        Ok(fields)
     }
 }

@@ -2,13 +2,14 @@
 
 ghost use Rattle.std.specs.Prelude.{◌≡◌, ◌+◌, ◌^◌, ◌<◌, ◌≤◌, ◌++◌, ◌∷◌, [], IfOk, OnOk, OnErr, All, filter, length, get_or, map, not};
 ghost use Rattle.std.specs.Vec.{vec_capacity, vec_len};
+ghost use Rattle.po_entry.specs.EntryView.{entry_view};
 ghost use Rattle.po_entry.specs.TextEntry.{TextEntry};
 ghost use Rattle.po_entry.specs.Validity.{IsCatalogueEntry};
 ghost use Rattle.po_entry.specs.Rows.{AreLaid, changed_at, entries_in, moved, set_fuzzy, set_obsolete};
 
 use crate::drafts::Drafts;
-use crate::entry::Entry;
 use crate::entry_ref::EntryRef;
+use crate::fields::Fields;
 use crate::layout::add_entry;
 use crate::row::Row;
 use std::alloc::{AllocError, Global};
@@ -90,13 +91,14 @@ impl Store {
         Ok(())
     }
 
-    /// Adds a copy of an entry. Where an allocation failed, the entries are those that were there.
-    pub fn push(&mut self, entry: &Entry) -> Result<(), AllocError>
-        requires { IsCatalogueEntry entry.now }
-        ensures ok { OnOk result (self.new ≡ self.old ++ entry.now ∷ []) }
+    /// Adds the entry of these fields. Where an allocation failed, the entries are those that were
+    /// there.
+    pub fn push(&mut self, fields: &Fields) -> Result<(), AllocError>
+        requires { IsCatalogueEntry (entry_view fields.now) }
+        ensures ok { OnOk result (self.new ≡ self.old ++ entry_view fields.now ∷ []) }
         ensures unchanged { OnErr result (self.new ≡ self.old) }
     {
-        let row = add_entry(&mut self.bytes, entry.fields())?;
+        let row = add_entry(&mut self.bytes, fields)?;
         self.rows.push(row)?;
         Ok(())
     }

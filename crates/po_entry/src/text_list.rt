@@ -3,7 +3,6 @@
 ghost use Rattle.std.specs.Prelude.{◌≡◌, ◌+◌, ◌≤◌, ◌==◌, ◌++◌, ◌∷◌, [], IfOk, IsOk, MatchOption, None, OnErr, OnOk, Some, length};
 ghost use Rattle.std.specs.Iterator.{YieldsFirstBy, item_count};
 ghost use Rattle.std.specs.Vec.{vec_capacity, vec_len};
-ghost use Rattle.po_entry.specs.Equality.{texts_eq};
 ghost use Rattle.std.specs.List.{flat_map};
 ghost use Rattle.po_entry.specs.Rows.{Grows};
 ghost use Rattle.po_entry.specs.TextLists.{length_bytes, measured, text_length, texts_in, texts_left};
@@ -104,15 +103,6 @@ impl TextList {
     {
         &self.bytes
     }
-
-    /// A copy of the list; refused only where an allocation failed.
-    pub fn copy(&self, alloc: Global) -> Result<TextList, AllocError>
-        ensures { IfOk result (λ copy. copy ≡ self.now) }
-    {
-        Ok(TextList {
-            bytes: self.bytes.as_slice().to_vec(alloc)?,
-        })
-    }
 }
 
 /// Makes room for so many bytes more, and in an empty buffer for three references at least, but for
@@ -159,13 +149,6 @@ fn push_length(bytes: &mut Vec<u8>, text: &[u8]) -> Result<(), AllocError>
     };
     make_room(bytes, of_length + len)?;
     add_length(bytes, len)
-}
-
-/// Whether two lists have the same texts in the same order.
-pub(crate) fn same_lists(a: &TextList, b: &TextList) -> bool
-    ensures { result ≡ texts_eq a.now b.now }
-{
-    a.bytes == b.bytes
 }
 
 /// The length with which a buffer begins, and the bytes after it; none where no whole length stands

@@ -1,4 +1,4 @@
-use Rattle.std.proofs.Common.{◌≡◌, ◌+◌, ◌-◌, ℕ, suc, [], ◌∷◌, List, slice_index_or, sym, ap, refl, ◌∙◌, arith}
+use Rattle.std.proofs.Common.{◌≡◌, ◌+◌, ◌-◌, ℕ, suc, [], List, slice_index_or, sym, ap, ◌∙◌, arith}
 use Rattle.po_entry.specs.TextLists.{texts_in}
 use Rattle.po_entry.proofs.entry_ref.part.Goals as goal
 

@@ -1,4 +1,4 @@
-use Rattle.std.proofs.Common.{◌≡◌, ◌<◌, ap, length, map, arith, subst, sym, ◌∙◌, rules}
+use Rattle.std.proofs.Common.{◌≡◌, ◌<◌, ap, length, map, arith, subst}
 use Rattle.po_entry.specs.Rows.{entry_at}
 use Rattle.po_entry.specs.Validity.{IsCatalogueEntry}
 use Rattle.std.specs.Prelude.{get_or}

@@ -1,4 +1,4 @@
-use Rattle.std.proofs.Common.{◌<◌, ◌^◌, ◌++◌, ◌∷◌, [], ◌∙◌, ap, ap₂, refl, sym, subst, List, length, arith}
+use Rattle.std.proofs.Common.{◌<◌, ◌^◌, ◌++◌, ◌∷◌, [], ◌∙◌, ap, refl, sym, subst, List, length, arith}
 use Rattle.std.specs.Prelude.{All}
 use Rattle.po_entry.specs.EntryView.{entry_view}
 use Rattle.po_entry.specs.TextEntry.{TextEntry}
@@ -8,12 +8,12 @@ use Rattle.po_entry.proofs.RowLemmas.{Pushed, always, keeps, pushed}
 use Rattle.po_entry.proofs.store.Store.push.Goals as goal
 
 added : (c : goal.In_ok-push) → Pushed c.self.inside.bytes.items c.add_entry.new.bytes.items
-    c.self.inside.rows.items c.push.new.self.items (entry_view c.fields.result.now)
+    c.self.inside.rows.items c.push.new.self.items (entry_view c.args.fields.now)
 added c =
     let small : length c.add_entry.new.bytes.items < 2 ^ 64 =
     omega (arith, c.add_entry.new.bytes.ok.0, c.add_entry.new.bytes.ok.1, c.add_entry.new.bytes.small) in
-    pushed _ _ _ _ (entry_view c.fields.result.now) c.self.invariant.lie c.self.invariant.valid
-    (subst IsCatalogueEntry (sym c.fields.ensures.fields) c.requires) small c.in_ok-row.ensures.added
+    pushed _ _ _ _ (entry_view c.args.fields.now) c.self.invariant.lie c.self.invariant.valid c.requires small
+    c.in_ok-row.ensures.added
     (c.in_ok-push.ensures.items
     ∙ ap (λ (row : Row). c.self.inside.rows.items ++ row ∷ []) c.in_ok-row.ensures.row)
 
@@ -42,5 +42,4 @@ returns-in_err-push-clause-unchanged c =
 
 pub returns-clause-ok : goal.returns-clause-ok
 returns-clause-ok c =
-    (added c).more
-    ∙ ap₂ (λ (es : List TextEntry) (e : TextEntry). es ++ e ∷ []) c.self.view_is c.fields.ensures.fields
+    (added c).more ∙ ap (λ (es : List TextEntry). es ++ entry_view c.args.fields.now ∷ []) c.self.view_is

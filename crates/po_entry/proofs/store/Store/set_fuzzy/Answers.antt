@@ -1,4 +1,4 @@
-use Rattle.std.proofs.Common.{◌≡◌, ◌<◌, ◌∙◌, sym, ap, length, map, set, subst, arith}
+use Rattle.std.proofs.Common.{◌<◌, ◌∙◌, sym, ap, length, map, subst, arith}
 use Rattle.std.specs.Prelude.{All}
 use Rattle.std.proofs.lemmas.List.{length-map}
 use Rattle.po_entry.specs.Rows.{LiesIn, changed_at, entry_at, set_fuzzy}

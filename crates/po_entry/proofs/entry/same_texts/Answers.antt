@@ -1,6 +1,0 @@
-use Rattle.std.proofs.Common.{◌∙◌}
-use Rattle.po_entry.proofs.SameTexts.{same_vectors}
-use Rattle.po_entry.proofs.entry.same_texts.Goals as goal
-
-pub returns : goal.returns
-returns c = c.eq.ensures ∙ same_vectors c.args.a.now c.args.b.now

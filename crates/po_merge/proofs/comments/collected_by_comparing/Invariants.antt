@@ -1,9 +1,0 @@
-use Rattle.std.proofs.Common.{◌≡◌, take}
-use Rattle.po_merge.specs.InputsView.{named_entries}
-use Rattle.po_merge.specs.MergedEntry.{collected, texts_of}
-use Rattle.po_merge.proofs.comments.collected_by_comparing.Given as goal
-
--- the texts of the definitions so far are collected
-abbrev pub invariant-loop-definition : goal.invariant-loop-definition
-invariant-loop-definition l =
-    l.all ≡ collected (texts_of l.kind) (named_entries (take l.definition-index l.definitions))

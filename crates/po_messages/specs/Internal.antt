@@ -1,2 +1,0 @@
--- What private functions, proofs and laws cite; no clause of a public function does.
-pub mod Hashing
