@@ -1,14 +1,11 @@
 -- The first duplicate is the first live entry whose number an earlier live one has.
-use Rattle.std.proofs.Common.{◌≡◌, ◌∙◌, ◌<◌, ◌+◌, ◌++◌, ℕ, List, [], ◌∷◌, refl, sym, ap, subst, map, filter, get_or, length, take, AllPairs, ⊎_elim, Result, Ok, Err, MatchResult, IsOkUnless}
-use Rattle.std.proofs.lemmas.List.{map_more, map_push}
+use Rattle.std.proofs.Common.{◌≡◌, List, [], ◌∷◌, ℕ, refl, sym, ap, subst, map, filter, AllPairs, ⊎_elim, Result, Ok, Err, MatchResult, IsOkUnless}
 use Rattle.po_entry.specs.TextEntry.{TextEntry}
 use Rattle.po_messages.specs.Joined.{InputEntry, is_live, in_input, entries_of}
-use Rattle.po_messages.specs.JoinedView.{input_entries, input_entry}
 use Rattle.po_messages.specs.Duplicate.{IsSameMessage, AllDiffer, HasNoDuplicate, live_entries, IsFirstDuplicate, IsDuplicateFault, join_out_of_memory}
 use Rattle.po_messages.specs.Facts.FirstRepeats.{none_repeats, pairs_map, pairs_of_map}
 use Rattle.po_messages.specs.Facts.Mapped.{filter_map}
 use Rattle.po_messages.specs.declared.duplicate.JoinError.{JoinError}
-use Rattle.po_messages.specs.declared.joining.InputEntry.{InputEntry as BorrowedEntry}
 
 pub live_of_entries : (xs : List InputEntry) → filter is_live (entries_of xs) ≡ entries_of (live_entries xs)
 live_of_entries xs = filter_map is_live (λ (e : InputEntry). e.entry) xs
@@ -42,15 +39,3 @@ pub only_memory : (xs : List InputEntry) (r : Result (Unit {0}) JoinError)
     → HasNoDuplicate (entries_of xs) → IsOkUnless r join_out_of_memory
 only_memory xs (Ok done) exact none = tt
 only_memory xs (Err error) exact none = distinct_needs_memory xs error none exact
-
--- the first of some borrowed entries, and one more
-abbrev pub borrowed_so_far : List BorrowedEntry → ℕ → List TextEntry
-borrowed_so_far entries i = entries_of (input_entries (take i entries))
-
-pub borrowed_more : (entries : List BorrowedEntry) (i : ℕ) (x : BorrowedEntry) → i < length entries
-    → x ≡ get_or entries i x
-    → borrowed_so_far entries (i + 1) ≡ borrowed_so_far entries i ++ x.entry.now ∷ []
-borrowed_more entries i x inside is =
-    ap entries_of (map_more input_entry entries i x inside)
-    ∙ map_push (λ (e : InputEntry). e.entry) (input_entries (take i entries)) (input_entry (get_or entries i x))
-    ∙ ap (λ (e : BorrowedEntry). borrowed_so_far entries i ++ e.entry.now ∷ []) (sym is)

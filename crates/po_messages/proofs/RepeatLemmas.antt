@@ -1,19 +1,10 @@
 -- The first of things that has the number of an earlier one.
-use Rattle.std.proofs.Common.{◌≡◌, ◌≢◌, inl, inr, sym, ap, ap₂, ◌∙◌, subst, ℕ, ◌+◌, ◌<◌, ◌≤◌, Bool, false, true, cond, filter, List, [], ◌∷◌, ◌++◌, Option, Some, None, length, length-take, get_or, get_or-take, suc, take, drop, arith, AllPairs, map}
+use Rattle.std.proofs.Common.{◌≡◌, ◌≢◌, sym, ap, ap₂, ◌∙◌, subst, ℕ, ◌<◌, ◌≤◌, Bool, true, cond, filter, List, ◌∷◌, ◌++◌, length, length-take, get_or, get_or-take, suc, take, drop, arith, AllPairs, map}
 use Rattle.std.proofs.Math.Seq.{drop-cons}
-use borrow.Author.Count.{below_more}
-use Rattle.std.proofs.lemmas.Bool.{cases_eq, false≢true, ne_eqb}
 use Rattle.std.proofs.lemmas.List.{get_or-map, take-append-drop, take_all}
 use Rattle.std.proofs.lemmas.List.Elements.{filter-append, filter_passes}
 use Rattle.std.proofs.lemmas.List.Kept.{AllPairs-filter}
-use Rattle.po_messages.specs.Repeats.{DifferUpTo, IsFirstRepeat, IsUnseen, RepeatsAt, index_seen}
-use Rattle.po_messages.specs.declared.repeats.Seen.{Seen}
-
--- no index was kept in an empty table
-pub none_kept : (seen : List Seen) → seen ≡ [] → (round : ℕ) → 0 < round → IsUnseen round seen
-none_kept seen empty round after number =
-    ap (λ l. index_seen round l number) empty
-    ∙ ap (λ b. cond b (Some 0) None) (ne_eqb 0 round (λ same. omega (arith, same, after)))
+use Rattle.po_messages.specs.Repeats.{DifferUpTo, IsFirstRepeat, RepeatsAt}
 
 -- an element that passes a test, among those that do
 passing_at : {X : Type 0} (p : X → Bool) (xs : List X) (i : ℕ) (d : X) → i < length xs → p (get_or xs i d) ≡ true
@@ -75,70 +66,3 @@ module _ {X T : Type 0} (number_of : X → ℕ) (p : X → Bool) (live : T → B
         differ = subst (AllPairs (λ x y. number_of x ≢ number_of y)) front
             (differ_of j (omega (arith, inside)) found.differ);
       }
-
--- the live things so far are seen by their numbers, each with its index
-pub record AreSeen {T : Type 0} (live : T → Bool) (numbers : List ℕ) (things : List T) (at : ℕ → Option ℕ)
-    (n : ℕ) : Type 0 where
-  pub kept : (number index : ℕ) → at number ≡ Some index
-      → (index < n) × (get_or numbers index 0 ≡ number) × ((d : T) → live (get_or things index d) ≡ true)
-  pub met : (index : ℕ) → index < n → (d : T) → live (get_or things index d) ≡ true → at (get_or numbers index 0) ≢ None
-  pub differ : DifferUpTo live numbers things n
-
-module _ {T : Type 0} (live : T → Bool) (numbers : List ℕ) (things : List T) where
-  module _ (i : ℕ) where
-    pub seen_skipped : (at : ℕ → Option ℕ) → AreSeen live numbers things at i
-        → ((d : T) → live (get_or things i d) ≡ false) → AreSeen live numbers things at (i + 1)
-    seen_skipped at seen dead = record {
-      kept = λ number index is. let old = seen.kept number index is in (omega (arith, old.0), old.1, old.2);
-      met = below_more (λ k. (d : T) → live (get_or things k d) ≡ true → at (get_or numbers k 0) ≢ None) i seen.met
-          (λ d is. absurd (false≢true (sym (dead d) ∙ is)));
-      differ = λ a b d first below.
-          below_more (λ k. (a : ℕ) → a < k → live (get_or things a d) ≡ true → live (get_or things k d) ≡ true
-          → get_or numbers a 0 ≢ get_or numbers k 0) i
-          (λ k less a before. seen.differ a k d before less)
-          (λ a before one is. absurd (false≢true (sym (dead d) ∙ is))) b below a first;
-    }
-
-    module _ (alive : (d : T) → live (get_or things i d) ≡ true) (old : ℕ → Option ℕ)
-        (seen : AreSeen live numbers things old i) where
-      pub seen_more : (new : ℕ → Option ℕ) → old (get_or numbers i 0) ≡ None → new (get_or numbers i 0) ≡ Some i
-          → ((q : ℕ) → q ≢ get_or numbers i 0 → new q ≡ old q) → AreSeen live numbers things new (i + 1)
-      seen_more new none kept others = record {
-        kept = λ q k is. elim (cases_eq q n) [
-          | inl same ↦ let both : Some i ≡ Some k = sym kept ∙ ap new (sym same) ∙ is in let at : i ≡ k = cc in (
-            omega (arith, at),
-            ap (λ m. get_or numbers m 0) (sym at)
-                ∙ sym same,
-            λ d. ap (λ m. live (get_or things m d)) (sym at) ∙ alive d,
-          )
-          | inr other ↦ let before =
-              seen.kept q k (sym (others q other) ∙ is) in (omega (arith, before.0), before.1, before.2)
-        ];
-        met = below_more (λ k. (d : T) → live (get_or things k d) ≡ true → new (get_or numbers k 0) ≢ None) i
-            (λ k less d is gone. elim (cases_eq (get_or numbers k 0) n) [
-              | inl same ↦ (let at = ap new same ∙ kept in cc (at, gone))
-              | inr other ↦ seen.met k less d is (sym (others (get_or numbers k 0) other) ∙ gone)
-            ])
-            (λ d is gone. cc (kept, gone));
-        differ = λ a b d first below.
-            below_more (λ k. (a : ℕ) → a < k → live (get_or things a d) ≡ true → live (get_or things k d) ≡ true
-            → get_or numbers a 0 ≢ get_or numbers k 0) i
-            (λ k less a before. seen.differ a k d before less)
-            (λ a before one is same. seen.met a before d one (ap old same ∙ none)) b below a first;
-      } where
-        n : ℕ
-        n = get_or numbers i 0
-
-      pub seen_repeats : (first : ℕ) → old (get_or numbers i 0) ≡ Some first → i < length things
-          → RepeatsAt live numbers things first i
-      seen_repeats first is inside =
-          let at = seen.kept (get_or numbers i 0) first is in
-          record {
-            earlier = at.0;
-            within = inside;
-            first_live = at.2;
-            later_live = alive;
-            same = at.1;
-            differ =
-                seen.differ;
-          }

@@ -7,8 +7,6 @@ use Rattle.std.proofs.Common.{refl}
 use Rattle.po_entry.specs.Rows.{key_bytes}
 use Rattle.po_entry.specs.Seeds.{digest_of}
 use Rattle.po_entry.specs.TextEntry.{TextEntry, plain_entry}
-use Rattle.po_messages.specs.Message.{Message}
-use Rattle.po_messages.specs.MessageHash.{message_writes}
 
 -- the length of a key, and its bytes
 abbrev pub key_writes : List ℕ → HashWrites
@@ -17,10 +15,6 @@ key_writes key = usize (length key) ++ key ∷ []
 -- the keys of all entries, one after another
 abbrev pub keys_writes : List TextEntry → HashWrites
 keys_writes entries = flat_map (λ entry. key_writes (key_bytes entry.context entry.id)) entries
-
--- all messages: of each the length of its msgid, and what it is hashed by
-abbrev pub messages_writes : List Message → HashWrites
-messages_writes messages = flat_map (λ message. usize (length message.id) ++ message_writes message) messages
 
 -- what the msgids `Open` and `ab` are digested to, as Rust's own `DefaultHasher` gives it
 pub two_keys : finish (digest_of (keys_writes

@@ -2,7 +2,6 @@ pub mod Facts
 pub mod Joined
 pub mod Digests
 pub mod Omitted
-pub mod JoinedView
 pub mod Duplicate
 pub mod DuplicateLaws
 pub mod DistinctText
@@ -11,8 +10,6 @@ pub mod Places
 pub mod Statistics
 pub mod FirstOnes
 pub mod Message
-pub mod MessageView
 pub mod MessageHash
 pub mod StatisticsLaws
-pub mod Internal
 pub mod Examples

@@ -1,7 +1,6 @@
 -- What stands twice in a list, and what a table keeps of numbers: of lists of any kind, and from no
 -- section of the manual.
-use Rattle.std.specs.Prelude.{◌≡◌, ◌≢◌, ◌<◌, ◌==◌, ℕ, Bool, true, List, ◌∷◌, ◌++◌, AllPairs, Option, None, Some, get_or, length, if◌then◌else◌}
-use Rattle.po_messages.specs.declared.repeats.Seen.{Seen}
+use Rattle.std.specs.Prelude.{◌≡◌, ◌≢◌, ◌<◌, ◌≤◌, ℕ, Bool, true, List, ◌∷◌, ◌++◌, AllPairs, get_or, length}
 
 -- `later` is the earliest element that is like one before it, and `first` is that one: no two of those
 -- before `later` are alike
@@ -13,16 +12,9 @@ pub record IsFirstRepeat {X : Type 0} (Alike : X → X → Type 0) (list : List 
   pub same : Alike first later
   pub differ : AllPairs (λ a b. ¬ Alike a b) (before ++ first ∷ between)
 
--- the index that was kept of a number in this round
-abbrev pub index_of_round : ℕ → Seen → Option ℕ
-index_of_round round seen = if seen.round == round then Some seen.index else None
-
-abbrev pub index_seen : ℕ → List Seen → ℕ → Option ℕ
-index_seen round seen number = index_of_round round (get_or seen number (record { round = 0; index = 0 }))
-
--- no index was kept in this round
-abbrev pub IsUnseen : ℕ → List Seen → Type 0
-IsUnseen round seen = (number : ℕ) → index_seen round seen number ≡ None
+-- each of the indexes is at most this
+abbrev pub AreUpTo : ℕ → List ℕ → Type 0
+AreUpTo most indexes = (number : ℕ) → get_or indexes number 0 ≤ most
 
 -- of the first `n` of the things, which have these numbers, no two live ones have the same number
 abbrev pub DifferUpTo : {X : Type 0} → (X → Bool) → List ℕ → List X → ℕ → Type 0

@@ -36,13 +36,17 @@ stats_of entries = record {
   untranslated = length (filter is_untranslated entries);
 }
 
+-- the counts, with one more entry, of which these are known
+abbrev pub counted_stats : Stats → Bool → Bool → Bool → Stats
+counted_stats stats is_counted has_translation fuzzy = record {
+  translated = stats.translated + one_if (is_counted && has_translation && not fuzzy);
+  fuzzy = stats.fuzzy + one_if (is_counted && has_translation && fuzzy);
+  untranslated = stats.untranslated + one_if (is_counted && not has_translation);
+}
+
 -- the counts, with one more entry
 abbrev pub added_stats : Stats → TextEntry → Stats
-added_stats stats entry = record {
-  translated = stats.translated + one_if (is_translated entry);
-  fuzzy = stats.fuzzy + one_if (is_fuzzy entry);
-  untranslated = stats.untranslated + one_if (is_untranslated entry);
-}
+added_stats stats entry = counted_stats stats (is_counted entry) (has_translation entry) entry.fuzzy
 
 -- a count with its noun, which is in the singular for 1 alone
 abbrev pub counted : ℕ → List ℕ → List ℕ

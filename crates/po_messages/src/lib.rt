@@ -2,30 +2,29 @@
 //! one, the list that several inputs join to, and what the statistics count (GNU gettext manual,
 //! "The Format of PO Files" and "Invoking the msgfmt Program").
 //!
-//! [`joined`] lists the entries of several inputs, [`duplicates`] finds the first message that
-//! stands twice, [`grouped`] numbers the messages of keys, and [`statistics`] counts what is
-//! translated. By the numbers of the messages of a store ([`message_numbers`]) [`repeated_lines`]
-//! finds the live entries that repeat an earlier one. Where no more than that is asked, their
-//! [`message_hash`]es show that none does, if [`all_differ`].
+//! By the numbers of the messages of a store ([`message_numbers`]) and by where its entries stand
+//! ([`places_of`]), [`repeated_lines`] finds the live entries that repeat an earlier one, and
+//! [`check_duplicates`] tells whether one does. Where no more than that is asked, their
+//! [`message_hash`]es show that none does, if [`all_differ`]. [`Stats`] count what is translated.
 //!
-//! The modules in reading order: `joining`, `message_index`, `keys`, `hashes`, `repeats`,
-//! `duplicate`, `stats`, `laws`.
+//! The modules in reading order: `entries`, `keys`, `hashes`, `repeats`, `places`, `duplicate`,
+//! `stats`, `laws`.
 
 #![tactic(auto)]
 
 mod duplicate;
+mod entries;
 mod hashes;
-mod joining;
 mod keys;
 pub mod laws;
-mod message_index;
+mod places;
 mod repeats;
 mod stats;
 
-pub use crate::duplicate::{JoinError, duplicates, joined_duplicates};
+pub use crate::duplicate::{JoinError, check_duplicates};
+pub use crate::entries::{has_translation, is_live_header};
 pub use crate::hashes::{all_differ, message_hash};
-pub use crate::joining::{InputEntry, is_live, is_live_header, joined};
 pub use crate::keys::{message_numbers, split_at_most};
-pub use crate::message_index::{MessageKey, grouped, message_key};
-pub use crate::repeats::{EntryPlace, Seen, duplicate_at, repeated_lines};
-pub use crate::stats::{Stats, has_translation, statistics};
+pub use crate::places::places_of;
+pub use crate::repeats::{EntryPlace, duplicate_at, first_repeat, repeated_lines};
+pub use crate::stats::Stats;

@@ -2,10 +2,9 @@
 
 ghost use Rattle.std.specs.Prelude.{◌≡◌, ◌+◌, ◌-◌, ◌<◌, ◌^◌, ◌++◌, IfOk, IfErr, OnOk};
 ghost use Rattle.po_entry.specs.Validity.{out_of_memory};
-ghost use Rattle.po_messages.specs.Statistics.{stats_of, counted, further, has_translation};
+ghost use Rattle.po_messages.specs.Statistics.{counted, further};
 
 use itoa::Buffer;
-use po_entry::{Catalogue, Entry};
 use po_syntax::PoError;
 use std::alloc::{AllocError, Global};
 
@@ -22,7 +21,7 @@ pub struct Stats {
 }
 
 impl Stats {
-    ghost use Rattle.po_messages.specs.Statistics.{stats_line, added_stats};
+    ghost use Rattle.po_messages.specs.Statistics.{stats_line, counted_stats};
 
     /// The line that `--statistics` prints, with its LF. Refused only where an allocation failed.
     pub fn line(&self, alloc: Global) -> Result<Vec<u8>, PoError>
@@ -37,49 +36,23 @@ impl Stats {
         Ok(line)
     }
 
-    /// Counts an entry, unless it is obsolete or a header.
-    fn add(&mut self, entry: &Entry)
+    /// Counts an entry, where it counts: as translated, fuzzy or untranslated.
+    pub fn count(&mut self, is_counted: bool, has_translation: bool, fuzzy: bool)
         requires translated { self.old.translated < 2 ^ 64 - 1 }
         requires fuzzy { self.old.fuzzy < 2 ^ 64 - 1 }
         requires untranslated { self.old.untranslated < 2 ^ 64 - 1 }
-        ensures { self.new ≡ added_stats self.old entry.now }
+        ensures { self.new ≡ counted_stats self.old is_counted has_translation fuzzy }
     {
-        if entry.obsolete() || entry.is_header() {
+        if !is_counted {
             return;
         }
-        if !has_translation(entry) {
+        if !has_translation {
             self.untranslated += 1;
-        } else if entry.fuzzy() {
+        } else if fuzzy {
             self.fuzzy += 1;
         } else {
             self.translated += 1;
         }
-    }
-}
-
-/// How many live messages of a catalogue are translated, fuzzy and untranslated. The header isn't
-/// counted.
-pub fn statistics(catalogue: &Catalogue) -> Stats
-    ensures { result ≡ stats_of catalogue.now }
-{
-    let mut stats = Stats {
-        translated: 0,
-        fuzzy: 0,
-        untranslated: 0,
-    };
-    for entry in catalogue.entries() {
-        stats.add(entry);
-    }
-    stats
-}
-
-/// Whether the entry has a translation, be it fuzzy or not: its first form isn't empty.
-pub fn has_translation(entry: &Entry) -> bool
-    ensures { result ≡ has_translation entry.now }
-{
-    match entry.fields().forms.first() {
-        Some(form) => !form.is_empty(),
-        None => false,
     }
 }
 
