@@ -17,6 +17,10 @@ pub record IsFaultOf (Has : PoFault → ℕ → Type 0) (error : PoError) : Type
   pub fault : IsStop Has error
   pub memory : error.kind ≡ OutOfMemory → error.line ≡ 0
 
+-- the error is the fault of the text, or out of memory, without a line
+abbrev pub IsTextError : List ℕ → PoError → Type 0
+IsTextError text error = IsFaultOf (IsReadFault text) error
+
 -- if the lines left in `new` read as some entries, the lines left in `old` read as `entries` and
 -- then those
 abbrev pub ReadsOn : LinesLeft → LinesLeft → List TextEntry → Type 0

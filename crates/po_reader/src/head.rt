@@ -1,4 +1,4 @@
-//! The first half of an entry: comments, previous texts and context.
+//! What stands before an entry's own lines: comments, references, flags and previous texts.
 
 ghost use Rattle.std.specs.Prelude.{◌≡◌, ◌<◌, ◌≤◌, ◌++◌, ◌∷◌, [], ℕ, Bool, false, Some, List, length, IfOk, IfErr, OnOk};
 ghost use Rattle.po_entry.specs.EntryParts.{CommentText, PreviousText, rank};
@@ -130,7 +130,7 @@ fn add_flag_line<'i>(
     Ok(())
 }
 
-/// Adds a comment to the fields of its kind, where it is wanted.
+/// Adds a comment to those of its kind, where it is wanted.
 fn add_comment<'i>(
     head: &mut Head<'i>,
     with_comments: bool,

@@ -1,9 +1,9 @@
-//! The reader of PO catalogues (GNU gettext manual, "The Format of PO Files"): it goes through the
-//! items of a text, with a function for each part of an entry. What it makes of an entry's items is
-//! a draft, and becomes an entry once its texts and charset are checked.
+//! The reader of PO texts (GNU gettext manual, "The Format of PO Files"): it goes through the items
+//! of a text, with a function for each part of an entry. What it makes of an entry's items is a
+//! draft, and becomes an entry once its texts and charset are checked.
 //!
-//! [`read`] reads a text piece by piece. A caller that keeps no catalogue takes the pieces one by
-//! one, each into a store: [`next_store`].
+//! [`read_into`] reads a text piece by piece into a store. A caller that doesn't keep all entries
+//! takes the pieces one by one: [`next_store`].
 //!
 //! The modules in reading order: `cursor`, `comment_texts`, `head`, `body`, `items`,
 //! `reading`, `laws`.
@@ -18,4 +18,4 @@ mod items;
 pub mod laws;
 mod reading;
 
-pub use crate::reading::{PIECE, next_store, read};
+pub use crate::reading::{PIECE, next_store, read_into};

@@ -2,14 +2,13 @@
 use Rattle.std.proofs.Common.{◌≡◌, ◌∙◌, refl, sym, ap, ℕ, ◌<◌, List, [], ◌∷◌, ◌++◌, Bool, true, false, cond, not, filter, length, length-append, append_assoc, codes, arith, All}
 use Rattle.std.specs.Prelude.{fold}
 use Rattle.std.specs.List.{flat_map, join_by}
-use Rattle.std.specs.Bool.{beq}
 use Rattle.std.proofs.lemmas.List.{append-nil}
-use Rattle.std.proofs.lemmas.List.Elements.{All-push, filter_agree}
-use Rattle.std.proofs.lemmas.List.Sums.{fold-append, fold_push}
+use Rattle.std.proofs.lemmas.List.Elements.{All-push}
+use Rattle.std.proofs.lemmas.List.Sums.{fold_push}
 use Rattle.std.proofs.lemmas.Bool.{ne_eqb}
 use Rattle.po_entry.specs.Facts.Filters.{all_pass, none_pass}
 use Rattle.po_entry.specs.TextEntry.{TextEntry}
-use Rattle.po_writer.specs.Separated.{with_entry, entries_marked}
+use Rattle.po_writer.specs.Separated.{with_entry}
 use Rattle.po_writer.specs.WrittenText.{own_prefix, optional_lines, keyword_lines, text_lines, translation_lines, own_lines, entry_lines, arranged, written_text}
 
 some_after : (xs ys : List ℕ) → 0 < length ys → 0 < length (xs ++ ys)
@@ -48,27 +47,6 @@ further text (entry ∷ entries) some =
 pub joined : (entries : List TextEntry) → fold with_entry [] entries ≡ join_by entry_lines (10 ∷ []) entries
 joined [] = refl
 joined (entry ∷ entries) = further (entry_lines entry) entries (entry_some entry)
-
-pub not_marked : (obsolete : Bool) → beq obsolete false ≡ not obsolete
-not_marked true = refl
-not_marked false = refl
-
-pub marked : (obsolete : Bool) → beq obsolete true ≡ obsolete
-marked true = refl
-marked false = refl
-
--- the live entries, and then the obsolete ones after them
-pub separated : (entries : List TextEntry)
-    → fold with_entry (fold with_entry [] (entries_marked false entries)) (entries_marked true entries)
-    ≡ written_text entries
-separated entries =
-    let live : entries_marked false entries ≡ filter (λ e. not e.obsolete) entries =
-    filter_agree _ _ (λ e. not_marked e.obsolete) entries in
-    let obsolete : entries_marked true entries ≡ filter (λ e. e.obsolete) entries =
-    filter_agree _ _ (λ e. marked e.obsolete) entries in
-    rw (live, obsolete) (sym
-    (fold-append with_entry [] (filter (λ e. not e.obsolete) entries) (filter (λ e. e.obsolete) entries))
-    ∙ joined (arranged entries))
 
 abbrev pub IsLive : TextEntry → Type 0
 IsLive entry = entry.obsolete ≡ false

@@ -1,7 +1,7 @@
-//! Catalogues as PO texts that read back (GNU gettext manual, "The Format of PO Files").
+//! Entries as PO texts that read back (GNU gettext manual, "The Format of PO Files").
 //!
-//! [`write`] writes a catalogue, and [`append`] one entry after a text. [`TextParts`] collects the
-//! live and the obsolete entries of a text that is written entry by entry.
+//! A text is written entry by entry: [`append`] writes a live one after those before it, and
+//! [`TextParts`] collects the live ones and the obsolete ones, which stand after them.
 //!
 //! The modules in reading order: `text`, `entry_lines`, `keyword_lines`, `parts`, `laws`.
 
@@ -14,4 +14,4 @@ mod parts;
 mod text;
 
 pub use crate::parts::TextParts;
-pub use crate::text::{append, write};
+pub use crate::text::append;

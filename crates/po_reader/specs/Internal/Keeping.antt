@@ -1,14 +1,12 @@
 -- Internal to this crate: what stays while the pieces of a text are read.
 use Rattle.std.specs.Prelude.{◌≡◌, ℕ, Bool, List, ◌++◌, map}
 use Rattle.po_syntax.specs.declared.fault.PoFault.{PoFault}
-use Rattle.po_syntax.specs.declared.fault.PoError.{PoError}
-use Rattle.po_entry.specs.Faults.{IsReadFault}
 use Rattle.po_syntax.specs.LinesLeft.{LinesLeft, SpellsLeft, LeftStops}
 use Rattle.po_syntax.specs.TextItem.{TextItem}
 use Rattle.po_entry.specs.TextEntry.{TextEntry}
 use Rattle.po_reader.specs.KeptComments.{kept_entry}
 use Rattle.po_entry.specs.ReadsText.{ReadsItems}
-use Rattle.po_reader.specs.PieceRead.{IsFaultOf, ReadsOn}
+use Rattle.po_reader.specs.PieceRead.{ReadsOn}
 
 -- if the lines left in `new` spell some items, the lines left in `old` spell `items` and then those
 abbrev pub SpellsOn : LinesLeft → LinesLeft → List TextItem → Type 0
@@ -27,7 +25,3 @@ KeepsItems all items kept =
 -- the text's first fault is the same as before
 abbrev pub StopsStay : LinesLeft → LinesLeft → Type 0
 StopsStay old new = (fault : PoFault) (line : ℕ) → LeftStops new fault line → LeftStops old fault line
-
--- the error is the fault of the text, or out of memory, without a line
-abbrev pub IsTextError : List ℕ → PoError → Type 0
-IsTextError text error = IsFaultOf (IsReadFault text) error
