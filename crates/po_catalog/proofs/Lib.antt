@@ -1,0 +1,4 @@
+pub mod Borrowed
+pub mod PlainEntries
+pub mod SameTexts
+pub mod TestedSlices

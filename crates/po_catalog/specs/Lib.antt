@@ -1,0 +1,2 @@
+pub mod EntryView
+pub mod JoinedView

@@ -1,18 +1,36 @@
-//! Catalogues of PO entries under one name: the types, the reader, the writer, duplicates, the
-//! joined list and statistics, each re-exported from the crate that has it (GNU gettext manual,
-//! "The Format of PO Files" and "Invoking the msgfmt Program").
+//! Catalogues of PO entries, as lists of entries each of which has buffers of its own (GNU gettext
+//! manual, "The Format of PO Files" and "Invoking the msgfmt Program").
 //!
-//! The crates below the tools name what they need, and none waits for this one. What is its own is
-//! in `laws`: what is written reads back.
+//! The crates below the tools work on entries in one buffer, [`po_entry::Store`], and no tool waits
+//! for this crate. A call here copies its catalogue to a store ([`store_of`]), and then does what
+//! the tools do; a catalogue that is read is a copy of a store's entries ([`catalogue_of`]).
+//!
+//! The modules in reading order: `text_list`, `texts`, `entry`, `copies`, `catalogue`, `stores`,
+//! `reading`, `writing`, `joining`, `duplicate`, `stats`, `laws`.
 
 #![tactic(auto)]
 
+mod catalogue;
+mod copies;
+mod duplicate;
+mod entry;
+mod joining;
 pub mod laws;
+mod reading;
+mod stats;
+mod stores;
+mod text_list;
+mod texts;
+mod writing;
 
-pub use po_entry::{Catalogue, Entry, Fields, Previous, TextList, TextListIter};
-pub use po_messages::{
-    InputEntry, JoinError, MessageKey, Stats, duplicates, grouped, has_translation, is_live,
-    is_live_header, joined, joined_duplicates, message_key, statistics,
-};
-pub use po_reader::read;
-pub use po_writer::write;
+pub use crate::catalogue::Catalogue;
+pub use crate::duplicate::{duplicates, joined_duplicates};
+pub use crate::entry::Entry;
+pub use crate::joining::{InputEntry, is_live, is_live_header, joined};
+pub use crate::reading::read;
+pub use crate::stats::{has_translation, statistics};
+pub use crate::stores::{catalogue_of, push_entry, store_of};
+pub use crate::text_list::TextList;
+pub use crate::writing::write;
+pub use po_entry::Previous;
+pub use po_messages::{JoinError, Stats};

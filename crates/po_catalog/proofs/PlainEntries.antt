@@ -1,0 +1,37 @@
+-- An entry without comments and flags is valid where its texts are.
+use Rattle.std.proofs.Common.{◌≡◌, ℕ, ◌<◌, List, [], ◌∷◌, Option, Some, None, IsUtf8, length, refl}
+use Rattle.std.specs.Borrow.{Bor}
+use Rattle.std.specs.Prelude.{All, option_copied}
+use Rattle.std.proofs.lemmas.List.{length-map}
+use Rattle.std.proofs.lemmas.List.Elements.{All-nil, All-cons, All-head, All-tail}
+use Rattle.po_entry.specs.Bytes.{Lacks}
+use Rattle.po_entry.specs.EntryView.{borrowed_entry}
+use Rattle.po_entry.specs.TextEntry.{quoted_texts}
+use Rattle.po_entry.specs.Validity.{HasTexts, IsEntry}
+use Rattle.po_syntax.specs.ItemContents.{IsText}
+
+all_texts : (texts : List (List ℕ)) → All IsUtf8 texts → All (Lacks 0) texts → All IsText texts
+all_texts [] utf8 no_nul = All-nil IsText
+all_texts (text ∷ texts) utf8 no_nul = All-cons IsText text texts
+    (record { utf8 = All-head IsUtf8 text texts utf8; no_nul = All-head (Lacks 0) text texts no_nul })
+    (all_texts texts (All-tail IsUtf8 text texts utf8) (All-tail (Lacks 0) text texts no_nul))
+
+none_copied : (text : Option (Bor (List ℕ))) → option_copied text ≡ None → text ≡ None
+none_copied None e = refl
+none_copied (Some text) e = cc
+
+pub plain_entry_valid : (context : Option (Bor (List ℕ))) (id : List ℕ) (plural : Option (Bor (List ℕ)))
+    (forms : List (Bor (List ℕ))) → HasTexts (borrowed_entry context id plural forms) → 0 < length forms
+    → (plural ≡ None → length forms ≡ 1) → IsEntry (borrowed_entry context id plural forms)
+plain_entry_valid context id plural forms h some_form one_form = record {
+  quoted_texts = all_texts (quoted_texts (borrowed_entry context id plural forms)) h.utf8 h.clean.no_nul;
+  comments = All-nil _;
+  extracted = All-nil _;
+  references = All-nil _;
+  flags = All-nil _;
+  distinct_flags = tt;
+  context = h.clean.context;
+  id = h.clean.id;
+  some_form = rw length-map some_form;
+  one_form = λ none. rw length-map (one_form (none_copied plural none));
+}

@@ -1,0 +1,14 @@
+-- Vectors are the same where their texts are.
+use Rattle.std.proofs.Common.{◌≡◌, ℕ, List, [], ◌∷◌, refl}
+use Rattle.std.specs.Prelude.{bytes_eq}
+use Rattle.std.specs.Global.{Vec}
+use lib.Pointwise.{pointwise}
+use Rattle.po_entry.specs.TextEntry.{texts}
+use Rattle.po_entry.specs.Equality.{texts_eq}
+
+pub same_vectors : (xs ys : List (Vec ℕ))
+    → pointwise (λ (x y : Vec ℕ). bytes_eq x.items y.items) xs ys ≡ texts_eq (texts xs) (texts ys)
+same_vectors [] [] = refl
+same_vectors [] (y ∷ ys) = refl
+same_vectors (x ∷ xs) [] = refl
+same_vectors (x ∷ xs) (y ∷ ys) = rw (same_vectors xs ys) refl

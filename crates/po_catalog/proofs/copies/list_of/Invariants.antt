@@ -1,0 +1,7 @@
+use Rattle.std.proofs.Common.{◌≡◌, ◌++◌}
+use Rattle.po_entry.specs.TextEntry.{texts}
+use Rattle.po_entry.specs.TextLists.{texts_left}
+use Rattle.po_catalog.proofs.copies.list_of.Given as goal
+
+abbrev pub invariant-loop-text : goal.invariant-loop-text
+invariant-loop-text l = texts l.copy.items ++ texts_left l.text-iterator ≡ texts_left l.fn.list

@@ -1,0 +1,18 @@
+use Rattle.std.proofs.Common.{All, subst, sym, ap, ◌∙◌}
+use Rattle.po_entry.specs.Validity.{IsCatalogueEntry}
+use Rattle.po_messages.specs.Joined.{entries_of}
+use Rattle.po_catalog.specs.JoinedView.{input_entries}
+use Rattle.po_messages.specs.Duplicate.{HasNoDuplicate}
+use Rattle.po_messages.proofs.DuplicateLemmas.{only_memory}
+use Rattle.po_catalog.proofs.duplicate.joined_duplicates.Goals as goal
+
+pub first_duplicate-requires : goal.first_duplicate-requires
+first_duplicate-requires c =
+    let same = ap input_entries c.deref.ensures.value ∙ c.in_ok-entries.ensures.list in
+    subst (λ l. All IsCatalogueEntry (entries_of l)) (sym same) c.in_ok-entries.ensures.valid
+
+pub returns-clause-only : goal.returns-clause-only
+returns-clause-only c =
+    let same = ap input_entries c.deref.ensures.value ∙ c.in_ok-entries.ensures.list in
+    λ none. only_memory (input_entries c.deref.result.now) c.first_duplicate.result c.first_duplicate.ensures.exact
+    (subst (λ l. HasNoDuplicate (entries_of l)) (sym same) none)

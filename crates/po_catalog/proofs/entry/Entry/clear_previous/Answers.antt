@@ -1,0 +1,5 @@
+use Rattle.po_entry.proofs.Changes.{IsEntry-without_previous}
+use Rattle.po_catalog.proofs.entry.Entry.clear_previous.Goals as goal
+
+pub invariant_of-self : goal.invariant_of-self
+invariant_of-self c = rw c.none.ensures (IsEntry-without_previous _ c.self.invariant)

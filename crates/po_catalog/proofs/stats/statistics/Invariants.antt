@@ -1,0 +1,6 @@
+use Rattle.std.proofs.Common.{◌≡◌, take}
+use Rattle.po_messages.specs.Statistics.{stats_of}
+use Rattle.po_catalog.proofs.stats.statistics.Given as goal
+
+abbrev pub invariant-loop-entry : goal.invariant-loop-entry
+invariant-loop-entry l = l.stats ≡ stats_of (take l.entry-index l.entry-items)

@@ -1,0 +1,12 @@
+use Rattle.std.proofs.Common.{◌≡◌, ◌≤◌, take, length}
+use Rattle.std.specs.Prelude.{All}
+use Rattle.std.specs.Vec.{vec_capacity}
+use Rattle.po_entry.specs.Validity.{IsCatalogueEntry}
+use Rattle.po_catalog.proofs.stores.catalogue_of.Given as goal
+
+abbrev pub invariant-loop-index : goal.invariant-loop-index
+invariant-loop-index l = record {
+  copied : l.entries.items ≡ take l.index l.store;
+  valid : All IsCatalogueEntry l.entries.items;
+  room : length l.store ≤ vec_capacity l.entries;
+}

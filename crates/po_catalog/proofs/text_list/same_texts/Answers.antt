@@ -1,0 +1,6 @@
+use Rattle.std.proofs.Common.{◌∙◌}
+use Rattle.po_catalog.proofs.SameTexts.{same_vectors}
+use Rattle.po_catalog.proofs.text_list.same_texts.Goals as goal
+
+pub returns : goal.returns
+returns c = c.eq.ensures ∙ same_vectors c.args.a.now c.args.b.now

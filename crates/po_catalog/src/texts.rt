@@ -1,0 +1,71 @@
+//! Whether texts that are given can stand in an entry.
+
+ghost use Rattle.std.specs.Prelude.{MatchResult, All, IfSome, IsTrue, ◌↔◌, option_copied};
+ghost use Rattle.po_entry.specs.Bytes.{Lacks};
+ghost use Rattle.po_entry.specs.EntryView.{borrowed_entry};
+ghost use Rattle.po_entry.specs.TextEntry.{quoted_texts, slice_texts};
+ghost use Rattle.po_entry.specs.Needs.{Meets};
+ghost use Rattle.po_entry.specs.Validity.{EntryTextFault, HasTexts};
+
+use po_entry::{EOT, NUL, Need, meets, optional_meets};
+use po_syntax::PoFault;
+
+/// Whether an entry can have these texts. Refused with `NotUtf8` where a text is not UTF-8, then
+/// with `ForbiddenByte` for a NUL, or for an EOT (byte 4) in its context or msgid.
+pub(crate) fn check_texts(
+    context: Option<&[u8]>,
+    id: &[u8],
+    plural: Option<&[u8]>,
+    forms: &[&[u8]],
+) -> Result<(), PoFault>
+    ensures { MatchResult result (λ _. HasTexts (borrowed_entry context.entry id.now plural.entry forms.now))
+        (EntryTextFault (borrowed_entry context.entry id.now plural.entry forms.now)) }
+{
+    if !all_meet(Need::Utf8, context, id, plural, forms) {
+        return Err(PoFault::NotUtf8);
+    }
+    if !all_meet(Need::Without(NUL), context, id, plural, forms) {
+        return Err(PoFault::ForbiddenByte);
+    }
+    if !lacks_eot(context, id) {
+        return Err(PoFault::ForbiddenByte);
+    }
+    Ok(())
+}
+
+/// Whether neither context nor msgid has an EOT.
+fn lacks_eot(context: Option<&[u8]>, id: &[u8]) -> bool
+    ensures { IsTrue result ↔ (IfSome (option_copied context.entry) (Lacks 4) × Lacks 4 id.now) }
+{
+    optional_meets(Need::Without(EOT), context) & meets(Need::Without(EOT), id)
+}
+
+/// Whether all texts meet the need.
+fn all_meet(
+    need: Need,
+    context: Option<&[u8]>,
+    id: &[u8],
+    plural: Option<&[u8]>,
+    forms: &[&[u8]],
+) -> bool
+    ensures { IsTrue result
+        ↔ All (Meets need) (quoted_texts (borrowed_entry context.entry id.now plural.entry forms.now)) }
+{
+    // `&` and not `&&`: without branches, so that the proof takes one operand after another.
+    optional_meets(need, context)
+        & meets(need, id)
+        & optional_meets(need, plural)
+        & forms_meet(need, forms)
+}
+
+/// Whether each form meets the need.
+fn forms_meet(need: Need, forms: &[&[u8]]) -> bool
+    ensures { IsTrue result ↔ All (Meets need) (slice_texts forms.now) }
+{
+    for form in forms {
+        if !meets(need, form) {
+            return false;
+        }
+    }
+    true
+}
