@@ -62,6 +62,17 @@ next_taken : (entries : List TextEntry) (i : ℕ) (entry : TextEntry) → i < le
 next_taken entries i entry inside is =
     ap (λ (e : TextEntry). take i entries ++ e ∷ []) is ∙ sym (take_more entries i entry inside)
 
+-- the selected ones of the entries up to the next one
+pub selected_goes_on : (s : Selection) (entries : List TextEntry) (i : ℕ) (entry : TextEntry) → i < length entries
+    → entry ≡ get_or entries i entry
+    → selected s (take i entries) ++ selected s (entry ∷ []) ≡ selected s (take (i + 1) entries)
+selected_goes_on s entries i entry inside is =
+    selected_joined s (take i entries) (entry ∷ []) ∙ ap (selected s) (next_taken entries i entry inside is)
+
+-- an entry that isn't kept isn't selected
+pub one_left_out : (s : Selection) (entry : TextEntry) → is_kept s entry ≡ false → selected s (entry ∷ []) ≡ []
+one_left_out s entry left = rw left refl
+
 -- the next entry is added where it is selected
 pub parts_go_on : (s : Selection) (entries : List TextEntry) (i : ℕ) (entry : TextEntry) (old now new : TextParts)
     → i < length entries → entry ≡ get_or entries i entry → AddsParts (selected s (take i entries)) old now
@@ -69,8 +80,7 @@ pub parts_go_on : (s : Selection) (entries : List TextEntry) (i : ℕ) (entry : 
 parts_go_on s entries i entry old now new inside is so_far more before parts =
     subst (λ list. AreParts list new)
     (append_assoc before (selected s (take i entries)) (selected s (entry ∷ []))
-    ∙ ap (λ (list : List TextEntry). before ++ list)
-    (selected_joined s (take i entries) (entry ∷ []) ∙ ap (selected s) (next_taken entries i entry inside is)))
+    ∙ ap (λ (list : List TextEntry). before ++ list) (selected_goes_on s entries i entry inside is))
     (more (before ++ selected s (take i entries)) (so_far before parts))
 
 -- and so is its hash

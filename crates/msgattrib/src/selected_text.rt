@@ -6,16 +6,17 @@
 ghost use Rattle.std.specs.Prelude.{◌≡◌, ◌<◌, ◌++◌, ◌∷◌, [], IfErr, IfOk, List, MatchResult, OnOk, get_or, length};
 ghost use Rattle.po_entry.specs.ReadsText.{ReadsText};
 ghost use Rattle.po_entry.specs.TextEntry.{TextEntry};
-ghost use Rattle.po_reader.specs.Internal.Keeping.{IsTextError};
+ghost use Rattle.po_entry.specs.Validity.{IsCatalogueEntry};
+ghost use Rattle.po_reader.specs.PieceRead.{IsTextError};
 ghost use Rattle.po_select.specs.ChangedAt.{OthersStay};
 ghost use Rattle.po_select.specs.Selected.{selected};
 ghost use Rattle.po_writer.specs.TextParts.{AreParts};
 ghost use Rattle.msgattrib.specs.Internal.SelectedText.{AddsParts, HaveNoDuplicate, IsSelectedText, IsSelectedWhole, IsSelectionFault, hashes_of};
 
 use po_entry::{Drafts, EntryRef, Store};
-use po_messages::{all_differ, duplicates, message_hash};
-use po_reader::{PIECE, next_store, read};
-use po_select::{Selection, select};
+use po_messages::{all_differ, message_hash};
+use po_reader::{PIECE, next_store, read_into};
+use po_select::Selection;
 use po_syntax::{Pieces, PoError};
 use po_writer::TextParts;
 use std::alloc::{AllocError, Global};
@@ -98,6 +99,46 @@ fn select_pieces(
     Ok((parts, hashes))
 }
 
+/// The entries of a text, in one store.
+fn read_text(alloc: Global, text: &[u8]) -> Result<Store, PoError>
+    ensures read { IfOk result (ReadsText text.now) }
+    ensures fault { IfErr result (IsTextError text.now) }
+{
+    let mut drafts = Drafts::new(alloc);
+    let mut entries = Store::new(alloc);
+    read_into(alloc, text, &mut drafts, &mut entries)?;
+    Ok(entries)
+}
+
+/// The entries of a store that are selected, in a store of their own, changed.
+fn select_entries(alloc: Global, store: &Store, selection: &Selection) -> Result<Store, AllocError>
+    ensures { IfOk result (λ entries. entries ≡ selected selection.now store.now) }
+{
+    let mut entries = Store::new(alloc);
+    for index in 0..store.len() {
+        add_entry(alloc, &mut entries, &store.get(index), selection)?;
+    }
+    Ok(entries)
+}
+
+/// Adds an entry to a store, changed, where it is kept.
+fn add_entry(
+    alloc: Global,
+    entries: &mut Store,
+    entry: &EntryRef<'_>,
+    selection: &Selection,
+) -> Result<(), AllocError>
+    requires { IsCatalogueEntry entry.now }
+    ensures { OnOk result (entries.new ≡ entries.old ++ selected selection.now (entry.now ∷ [])) }
+{
+    if !selection.keeps(entry) {
+        return Ok(());
+    }
+    let mut fields = entry.copied(alloc)?;
+    selection.change(&mut fields);
+    entries.push(&fields)
+}
+
 /// Looks for duplicates, first among the entries of a text, and then among those that are selected,
 /// whose fault has no line.
 fn check_duplicates(alloc: Global, text: &[u8], selection: &Selection) -> Result<(), PoError>
@@ -105,10 +146,10 @@ fn check_duplicates(alloc: Global, text: &[u8], selection: &Selection) -> Result
         → HaveNoDuplicate selection.now entries) }
     ensures fault { IfErr result (IsSelectionFault selection.now text.now) }
 {
-    let catalogue = read(alloc, text)?;
-    duplicates(alloc, &catalogue)?;
-    let selected = select(catalogue, selection).unwrap();
-    match duplicates(alloc, &selected) {
+    let store = read_text(alloc, text)?;
+    po_messages::check_duplicates(alloc, &store)?;
+    let entries = select_entries(alloc, &store, selection)?;
+    match po_messages::check_duplicates(alloc, &entries) {
         Ok(()) => Ok(()),
         Err(error) => Err(PoError { line: 0, ..error }),
     }

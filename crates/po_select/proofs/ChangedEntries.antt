@@ -1,5 +1,5 @@
 -- Entries of which one is changed in its place, or in a copy behind them.
-use Rattle.std.proofs.Common.{◌≡◌, ◌≢◌, ◌∙◌, sym, ℕ, ◌+◌, zero, suc, ◌<◌, Bool, List, [], ◌∷◌, ◌++◌, length, get_or, refl, ap, arith}
+use Rattle.std.proofs.Common.{◌≡◌, ◌≢◌, ◌∙◌, sym, ℕ, ◌+◌, zero, suc, ◌<◌, Bool, List, [], ◌∷◌, ◌++◌, length, get_or, refl, ap, arith, inl, inr}
 use Rattle.std.proofs.lemmas.List.{get_or_append_left, get_or_push, length_push}
 use Rattle.po_entry.specs.TextEntry.{TextEntry}
 use Rattle.po_entry.specs.Rows.{changed_at, set_fuzzy, set_obsolete}
@@ -39,6 +39,7 @@ changed_in_place s index old fuzzy obsolete inside marks =
     let both : length (changed_at (set_obsolete obsolete) index flagged) ≡ length old =
     same_length (set_obsolete obsolete) index flagged ∙ first in
     record {
+      place = inl (refl, both);
       inside = omega arith;
       entry = λ other. changed_there (set_obsolete obsolete) index flagged other (omega arith)
           ∙ ap (set_obsolete obsolete) (changed_there (set_fuzzy fuzzy) index old other inside) ∙ sym (marks other);
@@ -57,6 +58,7 @@ changed_in_copy s index old new at entry last added =
     let longer : length new ≡ length old + 1 =
     ap length (added entry) ∙ length_push old (changed s (get_or old index entry)) in
     record {
+      place = inr (last, longer);
       inside = omega arith;
       entry = λ other. ap (λ (entries : List TextEntry). get_or entries at other) (added other)
           ∙ get_or_push old (changed s (get_or old index other)) other at (sym last);

@@ -98,7 +98,7 @@ IsEntry-cleared_if e false h = h
 header_kept : (emptied header : Bool) → header ≡ true → (emptied && not header) ≡ false
 header_kept emptied header is = rw is (and-false emptied)
 
-changed_can_stand : (s : Selection) (e : TextEntry) → IsCatalogueEntry e → IsCatalogueEntry (changed s e)
+pub changed_can_stand : (s : Selection) (e : TextEntry) → IsCatalogueEntry e → IsCatalogueEntry (changed s e)
 changed_can_stand s e h =
     let emptied : TextEntry = record e { forms = if is_emptied s e then map (λ _. []) e.forms else e.forms } in
     let cleared : TextEntry = record emptied { previous = if s.clear_previous then no_previous else e.previous } in

@@ -5,7 +5,7 @@ ghost use Rattle.po_entry.specs.Header.{is_header};
 ghost use Rattle.po_entry.specs.TextEntry.{TextEntry};
 ghost use Rattle.po_messages.specs.Statistics.{has_translation};
 
-use po_entry::{Entry, EntryRef};
+use po_entry::{EntryRef, Fields};
 use po_messages::has_translation;
 
 /// An entry by what a selection asks of it, however its texts are kept.
@@ -30,23 +30,28 @@ pub trait Attributes {
         ensures { result ≡ (entry self.now).obsolete };
 }
 
-impl Attributes for Entry {
-    ghost entry = { λ e. e };
+impl Attributes for Fields {
+    ghost use Rattle.po_entry.specs.EntryView.{entry_view};
+
+    ghost entry = { entry_view };
 
     fn is_header(&self) -> bool {
-        Entry::is_header(self)
+        Fields::is_header(self)
     }
 
     fn is_translated(&self) -> bool {
-        has_translation(self)
+        match self.forms.first() {
+            Some(form) => !form.is_empty(),
+            None => false,
+        }
     }
 
     fn is_fuzzy(&self) -> bool {
-        self.fuzzy()
+        self.fuzzy
     }
 
     fn is_obsolete(&self) -> bool {
-        self.obsolete()
+        self.obsolete
     }
 }
 
@@ -58,10 +63,7 @@ impl Attributes for EntryRef<'_> {
     }
 
     fn is_translated(&self) -> bool {
-        match self.forms().next() {
-            Some(form) => !form.is_empty(),
-            None => false,
-        }
+        has_translation(self)
     }
 
     fn is_fuzzy(&self) -> bool {

@@ -2,8 +2,7 @@
 //! msgattrib Program").
 //!
 //! A [`Selection`] says which entries are kept and how they are changed, by their [`Attributes`].
-//! [`select`] applies it to a catalogue; of a store, each entry by itself is kept or not, and
-//! changed.
+//! Of a store each entry by itself is kept or not, and changed there; or its fields are changed.
 //!
 //! The modules in reading order: `attributes`, `selection`, `laws`.
 
@@ -14,4 +13,4 @@ pub mod laws;
 mod selection;
 
 pub use crate::attributes::Attributes;
-pub use crate::selection::{Selection, select};
+pub use crate::selection::Selection;

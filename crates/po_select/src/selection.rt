@@ -1,16 +1,15 @@
 //! Which entries are kept, and what becomes of them.
 
-ghost use Rattle.std.specs.Prelude.{◌≡◌, ◌<◌, All, IfOk, IsOk, OnErr, false, length, map};
+ghost use Rattle.std.specs.Prelude.{◌≡◌, ◌<◌, IfOk, OnErr, false, length};
 ghost use Rattle.po_messages.specs.Joined.{is_live_header};
+ghost use Rattle.po_entry.specs.EntryView.{entry_view};
 ghost use Rattle.po_entry.specs.Rows.{set_fuzzy, set_obsolete};
 ghost use Rattle.po_entry.specs.TextEntry.{no_previous};
-ghost use Rattle.po_entry.specs.Validity.{IsCatalogueEntry};
 ghost use Rattle.po_select.specs.ChangedAt.{IsChangedAt};
-ghost use Rattle.po_select.specs.Selected.{changed, fuzzy_after, is_emptied, is_kept, obsolete_after, selected};
+ghost use Rattle.po_select.specs.Selected.{changed, fuzzy_after, is_emptied, is_kept, obsolete_after};
 
 use crate::attributes::Attributes;
-use po_entry::{Catalogue, Entry, EntryRef, Store};
-use po_syntax::PoError;
+use po_entry::{EntryRef, Fields, Previous, Store};
 use std::alloc::{AllocError, Global};
 
 /// Which entries of a catalogue are kept, and how those that are kept are changed: the options of
@@ -60,14 +59,14 @@ impl Selection {
     }
 
     /// Whether an entry has the flag `fuzzy` once it is changed.
-    fn fuzzy_after<E: Attributes>(&self, entry: &E) -> bool
+    pub fn fuzzy_after<E: Attributes>(&self, entry: &E) -> bool
         ensures { result ≡ fuzzy_after self.now (E.entry entry.now) }
     {
         self.set_fuzzy || (entry.is_fuzzy() && !self.clear_fuzzy)
     }
 
     /// Whether the forms of an entry become empty.
-    fn empties<E: Attributes>(&self, entry: &E) -> bool
+    pub fn empties<E: Attributes>(&self, entry: &E) -> bool
         ensures { result ≡ is_emptied self.now (E.entry entry.now) }
     {
         self.empty && entry.is_fuzzy() && !self.fuzzy_after(entry) && !entry.is_header()
@@ -84,23 +83,20 @@ impl Selection {
         }
     }
 
-    /// Changes an entry that is kept.
-    fn change(&self, entry: &mut Entry)
-        requires { IsCatalogueEntry entry.old }
-        ensures changed { entry.new ≡ changed self.now entry.old }
-        ensures valid { IsCatalogueEntry entry.new }
+    /// Changes the fields of an entry that is kept.
+    pub fn change(&self, fields: &mut Fields)
+        ensures { entry_view fields.new ≡ changed self.now (entry_view fields.old) }
     {
-        let fuzzy = self.fuzzy_after(entry);
-        let obsolete = self.obsolete_after(entry);
-        if self.empties(entry) {
-            entry.empty_forms();
+        let fuzzy = self.fuzzy_after(fields);
+        let obsolete = self.obsolete_after(fields);
+        if self.empties(fields) {
+            fields.empty_forms();
         }
-        entry.set_fuzzy(fuzzy);
-        entry.set_obsolete(obsolete);
+        fields.fuzzy = fuzzy;
+        fields.obsolete = obsolete;
         if self.clear_previous {
-            entry.clear_previous();
+            fields.previous = Previous::none();
         }
-        entry.invariant();
     }
 
     /// Changes an entry of a store that is kept, and returns its index: as before or, where its
@@ -168,28 +164,4 @@ fn has_previous(entry: &EntryRef<'_>) -> bool
     entry.previous_context().is_some()
         || entry.previous_id().is_some()
         || entry.previous_plural().is_some()
-}
-
-/// The entries of a catalogue that are selected, each changed as the selection says (GNU gettext
-/// manual, "Invoking the msgattrib Program"). A live header is always kept, stays live and keeps
-/// its forms. The entries are moved and none is copied: no memory is taken, so nothing is refused.
-pub fn select(catalogue: Catalogue, selection: &Selection) -> Result<Catalogue, PoError>
-    ensures list { IfOk result (λ entries. entries ≡ selected selection.now catalogue) }
-    ensures never_refused { IsOk result }
-{
-    let mut entries = catalogue.into_entries();
-    entries.retain(|entry| selection.keeps(entry));
-    change_all(&mut entries, selection);
-    Ok(Catalogue::of(entries))
-}
-
-/// Changes each entry in its place.
-fn change_all(entries: &mut [Entry], selection: &Selection)
-    requires { All IsCatalogueEntry entries.old }
-    ensures changed { entries.new ≡ map (changed selection.now) entries.old }
-    ensures valid { All IsCatalogueEntry entries.new }
-{
-    for entry in entries.iter_mut() {
-        selection.change(entry);
-    }
 }

@@ -1,8 +1,16 @@
-use Rattle.std.proofs.Common.{[], ◌∷◌, ◌++◌, ◌∙◌, ap}
+use Rattle.std.proofs.Common.{[], ◌∷◌, ◌++◌, ◌∙◌, ap, subst, sym}
 use Rattle.po_entry.specs.TextEntry.{TextEntry}
+use Rattle.po_entry.specs.Validity.{IsCatalogueEntry}
 use Rattle.po_select.specs.Selected.{changed}
 use Rattle.po_select.proofs.ChangedEntries.{changed_in_copy}
+use Rattle.po_select.proofs.SelectionLaws.{changed_can_stand}
 use Rattle.po_select.proofs.selection.Selection.push_changed.Goals as goal
+
+pub push-requires : goal.push-requires
+push-requires c =
+    subst IsCatalogueEntry
+    (sym (c.change.ensures ∙ ap (changed c.args.self.now) c.in_ok-changed.ensures))
+    (changed_can_stand c.args.self.now c.get.result c.get.ensures.valid)
 
 pub returns-clause-changed : goal.returns-clause-changed
 returns-clause-changed c =
@@ -10,5 +18,5 @@ returns-clause-changed c =
     c.len-last.ensures
     (λ other. c.in_ok-push.ensures.ok
     ∙ ap (λ (entry : TextEntry). c.args.store.now ++ entry ∷ [])
-    (c.change.ensures.changed
+    (c.change.ensures
     ∙ ap (changed c.args.self.now) (c.in_ok-changed.ensures ∙ c.get.ensures.entry other)))

@@ -1,0 +1,18 @@
+use Rattle.std.proofs.Common.{◌++◌, ◌∙◌, List, ap, append-nil, subst, sym}
+use Rattle.po_entry.specs.TextEntry.{TextEntry}
+use Rattle.po_entry.specs.Validity.{IsCatalogueEntry}
+use Rattle.po_select.proofs.SelectionLaws.{changed_can_stand}
+use Rattle.po_select.specs.Selected.{changed}
+use Rattle.msgattrib.proofs.SelectedLemmas.{one_left_out}
+use Rattle.msgattrib.proofs.selected_text.add_entry.Goals as goal
+
+pub returns-then-not-keeps : goal.returns-then-not-keeps
+returns-then-not-keeps c =
+    let none = one_left_out c.args.selection.now c.args.entry.now (sym c.keeps.ensures ∙ c.if-not-keeps.true) in
+    sym (append-nil c.args.entries.now)
+    ∙ ap (λ (list : List TextEntry). c.args.entries.now ++ list) (sym none)
+
+pub push-requires : goal.push-requires
+push-requires c =
+    subst IsCatalogueEntry (sym (c.change.ensures ∙ ap (changed c.args.selection.now) c.in_ok-fields.ensures))
+    (changed_can_stand c.args.selection.now c.args.entry.now c.requires)

@@ -1,0 +1,7 @@
+use Rattle.std.proofs.Common.{◌≡◌, take}
+use Rattle.po_select.specs.Selected.{selected}
+use Rattle.msgattrib.proofs.selected_text.select_entries.Given as goal
+
+-- those of the entries so far that are selected
+abbrev pub invariant-loop-index : goal.invariant-loop-index
+invariant-loop-index l = l.entries ≡ selected l.selection (take l.index l.store)
