@@ -1,12 +1,10 @@
 -- Inputs that are read, and the first duplicate in one of them.
-use Rattle.std.proofs.Common.{◌≡◌, true, refl, sym, ap, ◌∙◌, subst, ℕ, ◌+◌, ◌<◌, ◌≤◌, filter, List, [], ◌∷◌, ◌++◌, append-nil, append_assoc, arith, length, get_or, take, drop, map, inl, inr}
+use Rattle.std.proofs.Common.{◌≡◌, sym, ap, ◌∙◌, subst, ℕ, ◌+◌, ◌<◌, ◌≤◌, filter, List, [], ◌∷◌, ◌++◌, append-nil, append_assoc, arith, length, get_or, take, drop, map, inl, inr}
 use Rattle.std.specs.Prelude.{All}
 use Rattle.std.specs.List.{AllZip}
 use Rattle.std.proofs.Math.Seq.{take-append_seam, drop-append_seam}
-use Rattle.std.proofs.lemmas.Grind.{flat_map-append}
 use Rattle.std.proofs.lemmas.List.{drop-map, length-map, map-append, take-append-drop, take-map, take_all, take_more}
 use Rattle.std.proofs.lemmas.List.Elements.{All-head, All-nil, All-push, All-tail}
-use Rattle.std.proofs.lemmas.Simd.{map-map}
 use Rattle.po_syntax.specs.declared.fault.PoFault.TheVariants.{Duplicate}
 use Rattle.po_entry.specs.Facts.AllAppend.{All-left, All-right}
 use Rattle.po_entry.specs.ReadsText.{ReadsText}
@@ -14,26 +12,20 @@ use Rattle.po_entry.specs.TextEntry.{TextEntry}
 use Rattle.po_messages.specs.Duplicate.{AllDiffer, HasNoDuplicate}
 use Rattle.po_messages.specs.FirstOnes.{group_numbers}
 use Rattle.po_messages.specs.Joined.{is_live}
-use Rattle.po_messages.specs.Message.{entry_message, entry_messages, same_message}
-use Rattle.po_merge.specs.Grouping.{named_messages}
-use Rattle.po_merge.specs.Inputs.{Named, NamedEntry, all_entries, named}
+use Rattle.po_messages.specs.Message.{entry_messages, same_message}
+use Rattle.po_merge.specs.Inputs.{Named, all_entries}
 use Rattle.po_messages.specs.Facts.Zips.{zip_at, zip_length, zip_more, zip_split}
-use Rattle.po_reader.specs.KeptComments.{kept_entry}
-use Rattle.msgcat.specs.Internal.Entries.{IsReadInput, unnamed}
+use Rattle.po_merge.specs.MergeInputs.{IsReadInput, unnamed}
 use Rattle.msgcat.specs.Internal.Inputs.{AreReadUpTo, IsFaultOfFirst, IsFirstRepeating, IsTextOf, with_part}
 use Rattle.msgcat.specs.Msgcat.{AreReadAs, IsFileFault}
 use Rattle.po_messages.specs.Places.{AreNumbered, IsNumbered, RepeatsOnLines, are_placed, number_in, place_of}
 use Rattle.po_messages.specs.declared.repeats.EntryPlace.{EntryPlace}
-use Rattle.msgcat.specs.declared.entries.ReadInput.{ReadInput}
+use Rattle.po_merge.specs.declared.input.ReadInput.{ReadInput}
 use Rattle.msgcat.specs.declared.inputs.FileFault.{FileFault}
 use Rattle.msgcat.specs.declared.inputs.ReadInputs.{ReadInputs}
 use Rattle.po_messages.proofs.NumberLemmas.{are_numbered, repeats_of}
-use Rattle.msgcat.proofs.EntryLemmas.{entries_first, unnamed_named}
+use Rattle.po_merge.proofs.ReadInputs.{entries_first}
 use Rattle.runs.specs.NamedFile.{NamedFile}
-
-pub all_kept : (entries : List TextEntry) → map (kept_entry true) entries ≡ entries
-all_kept [] = refl
-all_kept (e ∷ entries) = ap (λ l. e ∷ l) (all_kept entries)
 
 -- the entries of an input, and those after them
 with_first : (input : Named) (rest : List Named) (part : List TextEntry)
@@ -221,10 +213,6 @@ pub no_part : (inputs : List Named) (part : List TextEntry) → part ≡ []
 no_part inputs part none =
     ap (with_part inputs) none ∙ append-nil (unnamed (all_entries inputs))
 
--- the messages of the entries of inputs
-pub messages_of : (entries : List NamedEntry) → entry_messages (unnamed entries) ≡ named_messages entries
-messages_of entries = map-map entry_message (λ (e : NamedEntry). e.entry) entries
-
 -- one more input
 pub text_more : (files : List NamedFile) (i : ℕ) (d : NamedFile) (inputs : List Named) (name : List ℕ)
     (entries : List TextEntry) → i < length files → AllZip IsTextOf (take i files) inputs
@@ -235,13 +223,3 @@ text_more files i d inputs name entries inside texts name_is reads =
     (sym (take_more files i d inside))
     (zip_more IsTextOf (take i files) inputs (get_or files i d) (record { name = name; entries = entries }) texts
     (record { name = sym name_is; reads = reads }))
-
-pub entries_more : (inputs : List Named) (name : List ℕ) (entries : List TextEntry)
-    → unnamed (all_entries inputs) ++ entries
-    ≡ unnamed (all_entries (inputs ++ record { name = name; entries = entries } ∷ []))
-entries_more inputs name entries =
-    let one : Named = record { name = name; entries = entries } in
-    sym (ap unnamed (flat_map-append (λ (n : Named). map (named n.name) n.entries) inputs (one ∷ [])
-    ∙ ap (λ l. all_entries inputs ++ l) (append-nil (map (named name) entries)))
-    ∙ map-append (λ (e : NamedEntry). e.entry) (all_entries inputs) (map (named name) entries)
-    ∙ ap (λ l. unnamed (all_entries inputs) ++ l) (unnamed_named name entries))

@@ -1,6 +1,4 @@
 -- What private functions, proofs and laws cite; no clause of a public function does.
-pub mod Links
-pub mod Entries
 pub mod Inputs
 pub mod Gathered
 pub mod MergedText

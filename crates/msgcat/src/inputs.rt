@@ -1,24 +1,23 @@
 //! Reading inputs: the pieces of each are read into one store. After the last input an index of all
 //! messages tells which entries are of one message.
-ghost use Rattle.std.specs.Prelude.{◌≡◌, ◌⊎◌, ◌++◌, All, IfErr, IfOk, List, OnErr, OnOk};
-ghost use Rattle.po_messages.specs.Joined.{is_live};
+ghost use Rattle.std.specs.Prelude.{◌≡◌, ◌⊎◌, All, IfErr, IfOk, List, OnOk};
 ghost use Rattle.po_entry.specs.Bytes.{Lacks};
-ghost use Rattle.po_entry.specs.ReadsText.{ReadsText};
 ghost use Rattle.po_entry.specs.TextEntry.{TextEntry};
-ghost use Rattle.po_entry.specs.Validity.{IsCatalogueEntry, out_of_memory};
+ghost use Rattle.po_entry.specs.Validity.{out_of_memory};
 ghost use Rattle.po_merge.specs.Inputs as merge;
-ghost use Rattle.po_reader.specs.Internal.Keeping.{IsTextError};
 ghost use Rattle.po_messages.specs.Duplicate.{HasNoDuplicate};
-ghost use Rattle.msgcat.specs.Internal.Inputs.{AreNumberedInputs, AreReadUpTo, HoldInputs, IsFirstRepeating};
+ghost use Rattle.po_merge.specs.MergeInputs.{HoldInputs};
+ghost use Rattle.msgcat.specs.Internal.Inputs.{AreNumberedInputs, AreReadUpTo, IsFirstRepeating};
 ghost use Rattle.msgcat.specs.Msgcat.{AreReadAs, IsFileFault};
-ghost use Rattle.po_messages.specs.Places.{are_placed};
 ghost use Rattle.runs.specs.NamedFile.{named_files};
 
-use crate::entries::ReadInput;
 use po_entry::{Drafts, Store};
-use po_messages::{EntryPlace, duplicate_at, message_numbers, repeated_lines, split_at_most};
-use po_reader::{PIECE, next_store};
-use po_syntax::{Pieces, PoError, PoFault};
+use po_merge::{MergeInputs, ReadInput};
+use po_messages::{
+    EntryPlace, duplicate_at, message_numbers, places_of, repeated_lines, split_at_most,
+};
+use po_reader::read_into;
+use po_syntax::{PoError, PoFault};
 use std::alloc::{AllocError, AllocFailed, Global};
 
 /// Why an input isn't read.
@@ -63,47 +62,6 @@ pub(crate) struct ReadInputs<'a> {
     pub(crate) fault: Option<FileFault<'a>>,
 }
 
-/// The entries of inputs in none of which a live entry repeats an earlier one.
-pub(crate) struct NumberedEntries<'a> {
-    /// The entries.
-    pub(crate) store: Store,
-    /// The inputs, in the order of their entries.
-    pub(crate) inputs: Vec<ReadInput<'a>>,
-    /// For each entry the number of its message.
-    pub(crate) numbers: Vec<usize>,
-    /// How many messages there are.
-    pub(crate) count: usize,
-}
-
-impl Drop for NumberedEntries<'_> {
-    fn drop(self) {
-        let NumberedEntries {
-            store: _,
-            inputs: _,
-            numbers: _,
-            count: _,
-        } = self;
-    }
-}
-
-/// Adds the entries of a text to a store, or those of its pieces before the one with its fault.
-fn add_text(
-    alloc: Global,
-    store: &mut Store,
-    drafts: &mut Drafts,
-    text: &[u8],
-) -> Result<(), PoError>
-    ensures read { OnOk result ((read : List TextEntry) × ReadsText text.now read × (store.new ≡ store.old ++ read)) }
-    ensures fault { IfErr result (IsTextError text.now) }
-    ensures part { OnErr result ((part : List TextEntry) × (store.new ≡ store.old ++ part)) }
-{
-    let mut pieces = Pieces::of(text)?;
-    while !pieces.are_over() {
-        next_store(alloc, &mut pieces, PIECE, true, drafts, store)?;
-    }
-    Ok(())
-}
-
 /// Reads inputs, up to the first that has a fault. Refused only where an allocation failed.
 fn read_each<'a>(
     alloc: Global,
@@ -120,7 +78,7 @@ fn read_each<'a>(
     let mut read = Vec::new(alloc);
     for (name, text) in inputs {
         let before = store.len();
-        if let Err(error) = add_text(alloc, &mut store, &mut drafts, text) {
+        if let Err(error) = read_into(alloc, text, &mut drafts, &mut store) {
             let fault = FileFault { name, error };
             if error.kind == PoFault::OutOfMemory {
                 return Err(fault);
@@ -138,22 +96,6 @@ fn read_each<'a>(
         inputs: read,
         fault: None,
     })
-}
-
-/// Where the entries of a store stand, and which of them are live.
-fn places_of(alloc: Global, store: &Store) -> Result<Vec<EntryPlace>, AllocError>
-    ensures places { IfOk result (λ places. places.items ≡ are_placed is_live store.now) }
-    ensures valid { OnOk result (All IsCatalogueEntry store.now) }
-{
-    let mut places = Vec::with_capacity(alloc, store.len())?;
-    for index in 0..store.len() {
-        let entry = store.get(index);
-        places.push(EntryPlace {
-            line: entry.line(),
-            is_live: !entry.obsolete(),
-        })?;
-    }
-    Ok(places)
 }
 
 /// Looks for the first input in which a live entry repeats an earlier one, by where the entries of
@@ -177,10 +119,11 @@ fn check_inputs<'a>(
     let mut seen = Vec::new(alloc);
     let mut places_left = places;
     let mut numbers_left = numbers;
-    for (index, input) in inputs.iter().enumerate() {
+    for input in inputs {
+        let start = places.len() - places_left.len();
         let (own_places, later_places) = split_at_most(places_left, input.count);
         let (own, later) = split_at_most(numbers_left, input.count);
-        if let Some((first, line)) = repeated_lines(&mut seen, index + 1, own, own_places)? {
+        if let Some((first, line)) = repeated_lines(&mut seen, start, own, own_places)? {
             return Err(FileFault {
                 name: input.name,
                 error: duplicate_at(first, line),
@@ -197,7 +140,7 @@ fn check_inputs<'a>(
 pub(crate) fn read_inputs<'a>(
     alloc: Global,
     inputs: &[(&'a str, &[u8])],
-) -> Result<NumberedEntries<'a>, FileFault<'a>>
+) -> Result<MergeInputs<'a>, FileFault<'a>>
     requires { All (λ file. Lacks 0 file.name) (named_files inputs.now) }
     ensures read { IfOk result (λ kept. (read : List merge.Named) × AreReadAs (named_files inputs.now) read
         × HoldInputs read kept) }
@@ -211,10 +154,5 @@ pub(crate) fn read_inputs<'a>(
     if let Some(fault) = read.fault {
         return Err(fault);
     }
-    Ok(NumberedEntries {
-        store: read.store,
-        inputs: read.inputs,
-        numbers,
-        count,
-    })
+    Ok(MergeInputs::of(alloc, read.store, read.inputs, &numbers, count)?)
 }

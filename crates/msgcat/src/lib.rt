@@ -1,14 +1,11 @@
 //! msgcat as a function of its inputs and options: what it writes and reports, and its exit status;
 //! and as a whole, from reading its inputs to its status.
 //!
-//! The modules in reading order: `options`, `entries`, `inputs`, `links`, `merged_text`, `plan`,
-//! `whole_run`.
+//! The modules in reading order: `options`, `inputs`, `merged_text`, `plan`, `whole_run`.
 
 #![tactic(auto)]
 
-mod entries;
 mod inputs;
-mod links;
 mod merged_text;
 mod options;
 mod plan;

@@ -9,10 +9,10 @@ ghost use Rattle.msgcat.specs.Internal.NulNames.{IsFirstWithNul};
 ghost use Rattle.runs.specs.NamedFile.{NamedFile, named_files};
 ghost use Rattle.runs.specs.Run.{run_view};
 
-use crate::inputs::{FileFault, NumberedEntries, read_inputs};
+use crate::inputs::{FileFault, read_inputs};
 use crate::merged_text::merged_text;
 use memchr::memchr;
-use po_merge::MergeOptions;
+use po_merge::{MergeInputs, MergeOptions};
 use runs::{ProgramFault, Run, ToolFault};
 use std::alloc::{AllocError, Global};
 use text_runs::{refused_text, text_run};
@@ -22,7 +22,7 @@ use text_runs::{refused_text, text_run};
 #[derive(Drop)]
 pub(crate) struct Gathered<'a> {
     first: &'a str,
-    entries: Result<NumberedEntries<'a>, FileFault<'a>>,
+    entries: Result<MergeInputs<'a>, FileFault<'a>>,
 }
 
 /// The name of the first file.

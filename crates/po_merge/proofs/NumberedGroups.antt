@@ -1,6 +1,5 @@
 -- The groups of entries, by the numbers of their messages.
 use Rattle.std.proofs.Common.{◌≡◌, ℕ, ◌+◌, ◌<◌, Bool, true, false, cond, not, ◌==◌, List, [], ◌∷◌, ◌++◌, refl, sym, ap, ap₂, ◌∙◌, length, map, filter, get_or, zero, suc, arith, append_assoc, length-append, inl, inr}
-use Rattle.std.specs.Global.{Vec}
 use Rattle.std.specs.List.{position_or_len, range_with_len}
 use Rattle.std.proofs.lemmas.Bool.{ne_eqb, eq-eqb}
 use Rattle.std.proofs.lemmas.Bool.Decides.{eqb_tells}
@@ -10,12 +9,10 @@ use Rattle.std.proofs.lemmas.List.Elements.{filter_agree}
 use Rattle.std.specs.Cmp.{IsEquivalence}
 use Rattle.po_merge.specs.Inputs.{NamedEntry}
 use Rattle.po_messages.specs.Facts.Mapped.{cond_ap}
-use Rattle.po_messages.specs.FirstOnes.{first_ones as firsts_of, group_numbers}
+use Rattle.po_messages.specs.FirstOnes.{first_ones as firsts_of}
 use Rattle.po_messages.specs.Message.{Message, entry_message, same_message as one_message}
-use Rattle.po_merge.specs.declared.definition.NamedEntry.{NamedEntry as BorrowedEntry}
-use Rattle.po_merge.specs.InputsView.{named_entries, named_entry}
-use Rattle.po_merge.specs.Grouping.{group_entries, message_numbers, named_messages}
-use Rattle.po_merge.specs.Groups.{by_number, first_ones, groups, same_message, with_number}
+use Rattle.po_merge.specs.Grouping.{message_numbers, named_messages}
+use Rattle.po_merge.specs.Groups.{by_number, first_ones, same_message, with_number}
 use Rattle.po_merge.specs.MergeLaws.{GroupsByNumber}
 use Rattle.po_merge.proofs.FirstOnes.{Apart, group_of, apart_first_ones, first_ones-map, place-map, none_all}
 use Rattle.po_merge.proofs.Messages.{same_message_laws}
@@ -114,16 +111,3 @@ module _ (es : List NamedEntry) where
       ap length (first_ones-map message one_message es) ∙ length-map F message in
       ap (λ n. by_number n (message_numbers es) es) count
       ∙ groups_from (message_numbers es) numbers_are [] F (length F) refl refl
-
--- the groups of definitions are those of their entries
-pub groups_made : (ds : List BorrowedEntry) (messages : List Message) (ns : List ℕ) (count : ℕ)
-    (all : List (Vec BorrowedEntry)) → messages ≡ named_messages (named_entries ds)
-    → ns ≡ group_numbers one_message messages → count ≡ length (firsts_of one_message messages)
-    → map (λ g. g.items) all ≡ by_number count ns ds → group_entries all ≡ groups (named_entries ds)
-groups_made ds messages ns count all of_entries numbers counted are =
-    let es = named_entries ds in
-    sym (map-map named_entries (λ (g : Vec BorrowedEntry). g.items) all) ∙ ap (map named_entries) are
-    ∙ by_number-mapped named_entry count ns ds
-    ∙ ap₂ (λ (n : ℕ) (l : List ℕ). by_number n l es)
-    (counted ∙ ap (λ l. length (firsts_of one_message l)) of_entries)
-    (numbers ∙ ap (group_numbers one_message) of_entries) ∙ groups_by_number es

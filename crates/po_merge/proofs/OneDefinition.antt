@@ -95,12 +95,12 @@ one_definition o d = merged_to_it d.entry o (d ∷ []) (omega arith)
     (All-cons (λ x. x.entry ≡ d.entry) d [] refl (All-nil (λ x. x.entry ≡ d.entry)))
 
 pub one_of : (o : MergeOptions) (ds : List BorrowedEntry) (d : BorrowedEntry) → length ds ≡ 1 → d ≡ get_or ds 0 d
-    → d.entry.now ≡ merged_entry o (named_entries ds)
+    → d.entry ≡ merged_entry o (named_entries ds)
 one_of o [] d one at = absurd (omega (arith, one))
-one_of o (x ∷ []) d one at = ap (λ (y : BorrowedEntry). y.entry.now) at ∙ sym (one_definition o (named_entry x))
+one_of o (x ∷ []) d one at = ap (λ (y : BorrowedEntry). y.entry) at ∙ sym (one_definition o (named_entry x))
 one_of o (x ∷ y ∷ ds) d one at = absurd (omega (arith, one))
 
 pub first_is : (ds : List BorrowedEntry) (d : BorrowedEntry) → 0 < length ds → d ≡ get_or ds 0 d
-    → d.entry.now ≡ first_of (named_entries ds)
+    → d.entry ≡ first_of (named_entries ds)
 first_is [] d some at = absurd (omega (arith, some))
-first_is (x ∷ ds) d some at = ap (λ (y : BorrowedEntry). y.entry.now) at
+first_is (x ∷ ds) d some at = ap (λ (y : BorrowedEntry). y.entry) at

@@ -25,7 +25,7 @@ use Rattle.po_merge.proofs.OneDefinition.{merged_to_it}
 
 -- lists whose elements differ
 
-firsts_of_apart : (done xs : List NamedEntry) → All (λ x. list_any (same_message x) done ≡ false) xs
+pub firsts_of_apart : (done xs : List NamedEntry) → All (λ x. list_any (same_message x) done ≡ false) xs
     → Apart same_message xs → fold (with_new same_message) done xs ≡ done ++ xs
 firsts_of_apart done [] h apart = sym (append-nil done)
 firsts_of_apart done (x ∷ xs) h apart =
@@ -51,13 +51,13 @@ firsts_known done (x ∷ xs) h =
 
 -- the entries of an input
 
-differ_head : (e : TextEntry) (es : List TextEntry) → AllDiffer (e ∷ es) → All (λ x. ¬ IsSameMessage e x) es
+pub differ_head : (e : TextEntry) (es : List TextEntry) → AllDiffer (e ∷ es) → All (λ x. ¬ IsSameMessage e x) es
 differ_head e es h k d below = h zero (suc k) d (omega arith) (omega (arith, below))
 
-differ_tail : (e : TextEntry) (es : List TextEntry) → AllDiffer (e ∷ es) → AllDiffer es
+pub differ_tail : (e : TextEntry) (es : List TextEntry) → AllDiffer (e ∷ es) → AllDiffer es
 differ_tail e es h i j d lt within = h (suc i) (suc j) d (omega (arith, lt)) (omega (arith, within))
 
-differs : (a b : NamedEntry) → ¬ IsSameMessage a.entry b.entry → same_message a b ≡ false
+pub differs : (a b : NamedEntry) → ¬ IsSameMessage a.entry b.entry → same_message a b ≡ false
 differs a b h = false_from_ne_true (same_message a b) (λ e. h (same_is a b e))
 
 others_differ : (n m : List ℕ) (e : TextEntry) (es : List TextEntry) → AllDiffer (e ∷ es)
@@ -91,9 +91,9 @@ alone n m (x ∷ xs) h =
     ∙ alone n m xs (differ_tail x xs h) k d below)
 
 -- where each entry is kept and merged to itself, all are merged to themselves
-record Stays (o : MergeOptions) (ds : List NamedEntry) (e : TextEntry) : Type 0 where
-  kept : is_kept o ds ≡ true
-  same : merged_entry o ds ≡ e
+pub record Stays (o : MergeOptions) (ds : List NamedEntry) (e : TextEntry) : Type 0 where
+  pub kept : is_kept o ds ≡ true
+  pub same : merged_entry o ds ≡ e
 
 all_stay : (o : MergeOptions) (all : List NamedEntry) (n : List ℕ) (es : List TextEntry)
     → All (λ e. Stays o (definitions (group_of same_message all (named n e))) e) es
@@ -122,7 +122,7 @@ definitions_same e ds h =
           (All-weaker (λ d. d.entry ≡ e) (λ d. live d ≡ false) (λ d same. ap is_live same ∙ is) ds h)) ∙ some))
 
 -- and are merged to it
-entry_stays : (use_first : Bool) (e : TextEntry) (d : NamedEntry) (ds : List NamedEntry)
+pub entry_stays : (use_first : Bool) (e : TextEntry) (d : NamedEntry) (ds : List NamedEntry)
     → All (λ x. x.entry ≡ e) (d ∷ ds) → Stays (keep_all use_first) (definitions (d ∷ ds)) e
 entry_stays use_first e d ds h =
     let o = keep_all use_first in

@@ -112,14 +112,14 @@ flags_distinct o ds some h =
 
 -- the quoted texts of an entry, part by part
 
-record QuotedParts (e : TextEntry) : Type 0 where
-  previous : All IsText (previous_texts e.previous)
-  context : All IsText (option_to_list e.context)
-  id : All IsText (e.id ∷ [])
-  plural : All IsText (option_to_list e.plural)
-  forms : All IsText e.forms
+pub record QuotedParts (e : TextEntry) : Type 0 where
+  pub previous : All IsText (previous_texts e.previous)
+  pub context : All IsText (option_to_list e.context)
+  pub id : All IsText (e.id ∷ [])
+  pub plural : All IsText (option_to_list e.plural)
+  pub forms : All IsText e.forms
 
-quoted_parts : (e : TextEntry) → IsEntry e → QuotedParts e
+pub quoted_parts : (e : TextEntry) → IsEntry e → QuotedParts e
 quoted_parts e h =
     let P = previous_texts e.previous in
     let C = option_to_list e.context in

@@ -1,13 +1,10 @@
 -- Entries that are grouped by their messages.
 use Rattle.std.specs.Prelude.{ℕ, ◌<◌, All, length, List, map, IsUtf8}
-use Rattle.std.specs.Global.{Vec}
 use Rattle.po_messages.specs.FirstOnes.{group_numbers}
 use Rattle.po_messages.specs.Message.{Message, entry_message, same_message}
 use Rattle.po_entry.specs.Bytes.{Lacks}
 use Rattle.po_entry.specs.Validity.{IsEntry}
-use Rattle.po_merge.specs.declared.definition.NamedEntry.{NamedEntry as BorrowedEntry}
 use Rattle.po_merge.specs.Inputs.{NamedEntry}
-use Rattle.po_merge.specs.InputsView.{named_entries}
 
 -- an entry that can be merged with others of its message
 pub record IsDefinition (definition : NamedEntry) : Type 0 where
@@ -27,6 +24,3 @@ named_messages entries = map (λ e. entry_message e.entry) entries
 -- the number of the message of each entry
 abbrev pub message_numbers : List NamedEntry → List ℕ
 message_numbers entries = group_numbers same_message (named_messages entries)
-
-abbrev pub group_entries : List (Vec BorrowedEntry) → List (List NamedEntry)
-group_entries all = map (λ group. named_entries group.items) all

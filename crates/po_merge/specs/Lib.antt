@@ -4,6 +4,8 @@ pub mod Groups
 pub mod MergedEntry
 pub mod Merged
 pub mod Grouping
+pub mod Links
+pub mod MergeInputs
 pub mod MergeLaws
 pub mod EntryLaws
 pub mod TranslationLaws

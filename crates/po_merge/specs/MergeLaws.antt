@@ -71,6 +71,12 @@ keep_all use_first = record { more_than = 0; less_than = None; unique = false; u
 abbrev pub OneInputStays : Bool → Named → Type 0
 OneInputStays use_first input = AllDiffer input.entries → merged (keep_all use_first) (input ∷ []) ≡ input.entries
 
+-- inputs among whose entries no message stands twice are merged to all of them, in order
+abbrev pub DistinctInputsStay : Bool → List Named → Type 0
+DistinctInputsStay use_first inputs =
+    AllDiffer (map (λ d. d.entry) (all_entries inputs))
+    → merged (keep_all use_first) inputs ≡ map (λ d. d.entry) (all_entries inputs)
+
 -- the same entries under another name
 abbrev pub renamed : List ℕ → Named → Named
 renamed name input = record { name = name; entries = input.entries }

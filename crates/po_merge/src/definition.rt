@@ -1,56 +1,22 @@
 //! The definitions of one message: which members of a group they are, and which of them is taken.
 
-ghost use Rattle.std.specs.Prelude.{◌≡◌, ◌<◌, ◌||◌, Bool, IfNone, IfSome, false, filter, is_some, length, true};
-ghost use Rattle.std.specs.List.{list_any};
-ghost use Rattle.po_merge.specs.Groups.{definitions_by};
+ghost use Rattle.std.specs.Prelude.{◌≡◌, ◌<◌, IfNone, IfSome, false, length, true};
+ghost use Rattle.po_merge.specs.Groups.{definitions};
 ghost use Rattle.po_merge.specs.InputsView.{named_entries};
-ghost use Rattle.po_merge.specs.Merged.{is_kept_by, is_wanted};
+ghost use Rattle.po_merge.specs.Merged.{is_kept, is_wanted};
 ghost use Rattle.po_merge.specs.MergedEntry.{first_with};
 ghost use Rattle.po_merge.specs.Internal.FirstParts.{has_part};
 
 use crate::input::MergeOptions;
-use po_entry::Entry;
-use po_messages::is_live;
+use po_entry::EntryRef;
 
 /// An entry of one of several inputs, with that input's name.
-#[derive(Clone, Copy)]
+#[derive(Drop)]
 pub struct NamedEntry<'a> {
     /// The name of the input.
     pub name: &'a str,
-    /// The entry, in the catalogue of that input.
-    pub entry: &'a Entry,
-}
-
-/// An entry that is grouped with others of its message, however its texts are kept.
-pub trait Member: Drop {
-    ghost live: { Self → Bool };
-
-    ghost header: { Self → Bool };
-
-    /// Whether it isn't obsolete.
-    fn is_live(&self) -> bool
-        ensures { result ≡ live self.now };
-
-    /// Whether it is a header.
-    fn is_header(&self) -> bool
-        ensures { result ≡ header self.now };
-}
-
-impl Member for NamedEntry<'_> {
-    ghost use Rattle.po_entry.specs.Header.{is_header};
-    ghost use Rattle.po_messages.specs.Joined.{is_live};
-
-    ghost live = { λ d. is_live d.entry.now };
-
-    ghost header = { λ d. is_header d.entry.now };
-
-    fn is_live(&self) -> bool {
-        is_live(self.entry)
-    }
-
-    fn is_header(&self) -> bool {
-        self.entry.is_header()
-    }
+    /// The entry.
+    pub entry: EntryRef<'a>,
 }
 
 /// Whether messages with this many definitions are asked for.
@@ -65,23 +31,28 @@ fn is_wanted(options: &MergeOptions, count: usize) -> bool
 }
 
 /// Leaves the definitions of a group's message: its live members, or all where none is live.
-fn keep_definitions<T: Member>(group: &mut Vec<T>)
-    ensures { group.new.items ≡ definitions_by T.live group.old.items }
+fn keep_definitions(group: &mut Vec<NamedEntry<'_>>)
+    ensures { named_entries group.new.items ≡ definitions (named_entries group.old.items) }
 {
-    if group.iter().any(|member| member.is_live()) {
-        group.retain(|member| member.is_live());
+    if group.iter().any(|member| !member.entry.obsolete()) {
+        group.retain(|member| !member.entry.obsolete());
     }
 }
 
 /// The definitions of a group's message, where the message is kept.
-pub fn kept_definitions<T: Member>(group: Vec<T>, options: &MergeOptions) -> Option<Vec<T>>
-    ensures none { IfNone result (is_kept_by T.header options.now (definitions_by T.live group.items) ≡ false) }
-    ensures some { IfSome result (λ definitions. (definitions.items ≡ definitions_by T.live group.items)
-        × (is_kept_by T.header options.now definitions.items ≡ true)) }
+pub(crate) fn kept_definitions<'a>(
+    group: Vec<NamedEntry<'a>>,
+    options: &MergeOptions,
+) -> Option<Vec<NamedEntry<'a>>>
+    ensures none { IfNone result (is_kept options.now (definitions (named_entries group.entry.items)) ≡ false) }
+    ensures some { IfSome result (λ kept. (named_entries kept.items ≡ definitions (named_entries group.entry.items))
+        × (is_kept options.now (named_entries kept.items) ≡ true)) }
 {
     let mut definitions = group;
     keep_definitions(&mut definitions);
-    let has_header = definitions.iter().any(|definition| definition.is_header());
+    let has_header = definitions
+        .iter()
+        .any(|definition| definition.entry.is_header());
     if has_header || is_wanted(options, definitions.len()) {
         return Some(definitions);
     }
@@ -100,30 +71,29 @@ pub(crate) enum Part {
 }
 
 /// Whether the entry has the part.
-pub(crate) fn has_part(entry: &Entry, part: Part) -> bool
+pub(crate) fn has_part(entry: &EntryRef<'_>, part: Part) -> bool
     ensures { result ≡ has_part part entry.now }
 {
-    let fields = entry.fields();
     match part {
-        Part::Translation => fields.forms.first().is_some_and(|form| !form.is_empty()),
+        Part::Translation => entry.forms().next().is_some_and(|form| !form.is_empty()),
         Part::Previous => {
-            let previous = &fields.previous;
-            previous.context.is_some() || previous.id.is_some() || previous.plural.is_some()
+            entry.previous_context().is_some()
+                || entry.previous_id().is_some()
+                || entry.previous_plural().is_some()
         }
-        Part::Plural => fields.plural.is_some(),
+        Part::Plural => entry.plural().is_some(),
     }
 }
 
 /// The first definition that has the part, or else the first.
-pub(crate) fn first_with<'a>(definitions: &[NamedEntry<'a>], part: Part) -> &'a Entry
+pub(crate) fn first_with<'d, 'a>(definitions: &'d [NamedEntry<'a>], part: Part) -> &'d EntryRef<'a>
     requires { 0 < length definitions.now }
     ensures { result.now ≡ first_with (has_part part) (named_entries definitions.now) }
 {
-    match definitions
-        .iter()
-        .find(|definition| has_part(definition.entry, part))
-    {
-        Some(definition) => definition.entry,
-        None => definitions[0].entry,
+    for definition in definitions {
+        if has_part(&definition.entry, part) {
+            return &definition.entry;
+        }
     }
+    &definitions[0].entry
 }

@@ -1,14 +1,30 @@
 //! The inputs and options of a merge.
 
-use po_entry::Catalogue;
+ghost use Rattle.std.specs.Prelude.{◌≡◌, length};
+ghost use Rattle.po_entry.specs.Bytes.{Lacks};
+ghost use Rattle.po_merge.specs.Inputs.{Named};
+ghost use Rattle.po_merge.specs.MergeInputs.{IsReadInput};
 
-/// A catalogue that is merged with others.
-#[derive(Debug, Drop)]
-pub struct Named<'a> {
-    /// The name of the input, under which its forms stand where different translations are joined.
+/// An input whose entries lie in a store, after those of the inputs before it.
+#[derive(Clone, Copy)]
+pub struct ReadInput<'a> {
+    /// Its name, under which its forms stand where different translations are joined.
     pub name: &'a str,
-    /// The entries that are merged.
-    pub catalogue: Catalogue,
+    /// How many entries the inputs before it have.
+    pub start: usize,
+    /// How many entries it has.
+    pub count: usize,
+}
+
+impl<'a> ReadInput<'a> {
+    /// The input of this name, with so many entries after those of others.
+    pub fn of(name: &'a str, start: usize, count: usize) -> ReadInput<'a>
+        ensures known { (read : Named) → name.now ≡ read.name → Lacks 0 name.now → count ≡ length read.entries
+            → IsReadInput read result }
+        ensures start { result.start ≡ start }
+    {
+        ReadInput { name, start, count }
+    }
 }
 
 /// Which messages are kept, and how their definitions are merged. A definition of a message is a

@@ -1,44 +1,49 @@
 //! Translations that differ, joined in one with the names of their files between.
 
-ghost use Rattle.std.specs.Prelude.{◌≡◌, ◌<◌, ◌++◌, IfOk, OnOk, length, nat_lt};
+ghost use Rattle.std.specs.Prelude.{◌≡◌, ◌++◌, All, IfOk, OnOk, map};
 ghost use Rattle.po_entry.specs.TextEntry.{texts};
+ghost use Rattle.po_merge.specs.Grouping.{IsDefinition};
 ghost use Rattle.po_merge.specs.InputsView.{named_entries};
-ghost use Rattle.po_merge.specs.MergedEntry.{form_count, joined_form, joined_forms, marked, translations};
+ghost use Rattle.po_merge.specs.Internal.FormsLeft.{form_lists, joined_at, joined_lists, named_forms, rests};
+ghost use Rattle.po_merge.specs.MergedEntry.{marked, translations};
 
 use crate::definition::{NamedEntry, Part, has_part};
+use po_entry::FormIter;
 use std::alloc::{AllocError, Global};
 use std::collections::BTreeSet;
 
-/// The distinct translations, each in the definition that has it first.
+/// The forms of a translation that are left to join, with the name of its input.
+#[derive(Drop)]
+pub(crate) struct FormsLeft<'a> {
+    /// The name.
+    name: &'a str,
+    /// The forms.
+    forms: FormIter<'a>,
+}
+
+/// The forms of the distinct translations, each of the definition that has it first.
 pub(crate) fn translations<'a>(
     alloc: Global,
     definitions: &[NamedEntry<'a>],
-) -> Result<Vec<NamedEntry<'a>>, AllocError>
-    ensures { IfOk result (λ found. named_entries found.items ≡ translations (named_entries definitions.now)) }
+) -> Result<Vec<FormsLeft<'a>>, AllocError>
+    requires { All IsDefinition (named_entries definitions.now) }
+    ensures { IfOk result (λ found. form_lists found.items ≡ map named_forms (translations (named_entries definitions.now))) }
 {
     let mut seen = BTreeSet::new(alloc);
     let mut found = Vec::new(alloc);
     for definition in definitions {
-        if !has_part(definition.entry, Part::Translation) {
+        if !has_part(&definition.entry, Part::Translation) {
             continue;
         }
-        if !seen.insert(definition.entry.fields().forms.as_slice())? {
+        if !seen.insert(definition.entry.translation())? {
             continue;
         }
-        found.push(*definition)?;
+        found.push(FormsLeft {
+            name: definition.name,
+            forms: definition.entry.forms(),
+        })?;
     }
     Ok(found)
-}
-
-/// The largest count of forms of a translation.
-fn form_count(translations: &[NamedEntry<'_>]) -> usize
-    ensures { result ≡ form_count (named_entries translations.now) }
-{
-    let mut count = 0_usize;
-    for translation in translations {
-        count = count.max(translation.entry.forms().len());
-    }
-    count
 }
 
 /// Appends a line that names the input of a form, then the form, and a LF if it doesn't end with
@@ -56,44 +61,41 @@ fn push_marked(joined: &mut Vec<u8>, name: &str, form: &[u8]) -> Result<(), Allo
     Ok(joined.extend_from_slice(b"\n")?)
 }
 
-/// The forms of this index, joined, of the translations that have such a form.
-fn joined_form(
+/// The next forms of translations, joined, and those that had one, with what is left of them.
+fn joined_form<'a>(
     alloc: Global,
-    translations: &[NamedEntry<'_>],
-    index: usize,
-) -> Result<Vec<u8>, AllocError>
-    ensures { IfOk result (λ form. form.items ≡ joined_form (named_entries translations.now) index) }
+    translations: Vec<FormsLeft<'a>>,
+) -> Result<(Vec<u8>, Vec<FormsLeft<'a>>), AllocError>
+    ensures form { IfOk result (λ r. r.0.items ≡ joined_at 0 (form_lists translations.entry.items)) }
+    ensures rest { IfOk result (λ r. form_lists r.1.items ≡ rests (form_lists translations.entry.items)) }
 {
     let mut joined = Vec::new(alloc);
+    let mut rest = Vec::new(alloc);
     for translation in translations {
-        let forms = translation.entry.forms();
-        if index >= forms.len() {
-            continue;
+        let FormsLeft { name, mut forms } = translation;
+        if let Some(form) = forms.next() {
+            push_marked(&mut joined, name, form)?;
+            rest.push(FormsLeft { name, forms })?;
         }
-        push_marked(&mut joined, translation.name, &forms[index])?;
     }
-    Ok(joined)
+    Ok((joined, rest))
 }
 
-/// The forms of the translations, joined index by index. Those that have no more forms are dropped
-/// on the way.
+/// The forms of the translations, joined index by index.
 pub(crate) fn joined_forms(
     alloc: Global,
-    translations: Vec<NamedEntry<'_>>,
+    translations: Vec<FormsLeft<'_>>,
 ) -> Result<Vec<Vec<u8>>, AllocError>
-    ensures { IfOk result (λ forms. texts forms.items ≡ joined_forms (named_entries translations.entry.items)) }
+    ensures { IfOk result (λ forms. texts forms.items ≡ joined_lists (form_lists translations.entry.items)) }
 {
-    let count = form_count(&translations);
-    let mut translations = translations;
-    let mut forms = Vec::with_capacity(alloc, count)?;
-    for index in 0..count {
-        forms.push(joined_form(alloc, &translations, index)?)?;
-        let next = index + 1;
-        translations.retain(
-            |translation|
-                ensures { result ≡ nat_lt next (length translation.now.entry.now.forms) }
-            { next < translation.entry.forms().len() },
-        );
+    let mut left = translations;
+    let mut forms = Vec::new(alloc);
+    loop {
+        let (form, rest) = joined_form(alloc, left)?;
+        if rest.is_empty() {
+            return Ok(forms);
+        }
+        forms.push(form)?;
+        left = rest;
     }
-    Ok(forms)
 }

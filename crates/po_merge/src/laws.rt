@@ -3,7 +3,7 @@
 ghost use Rattle.std.specs.Prelude.{ℕ, Bool, List, Option};
 ghost use Rattle.po_merge.specs.declared.input.MergeOptions.{MergeOptions};
 ghost use Rattle.po_merge.specs.Inputs.{Named, NamedEntry, all_entries};
-ghost use Rattle.po_merge.specs.MergeLaws.{FaultIsOfNoLine, FormsAreOfOne, MergedAgain, GroupsByNumber, KeptMessagesStand, MergedAreEntries, MergedCanStand, MessagesStandOnce, OneDefinitionStays, OneInputStays, StandInTurn, WithItself};
+ghost use Rattle.po_merge.specs.MergeLaws.{DistinctInputsStay, FaultIsOfNoLine, FormsAreOfOne, MergedAgain, GroupsByNumber, KeptMessagesStand, MergedAreEntries, MergedCanStand, MessagesStandOnce, OneDefinitionStays, OneInputStays, StandInTurn, WithItself};
 ghost use Rattle.po_merge.specs.EntryLaws.{DefinedByLive, EndsForm, FormsAreJoined, JoinedIsFuzzy, KeptByCount, LinesAreNotMerged, ObsoleteWhereNoneIsLive, PluralOfFirst, PreviousOfFirst, TextsInOrder, TextsOfAll};
 ghost use Rattle.po_merge.specs.MergedEntry.{ended};
 ghost use Rattle.po_merge.specs.TranslationLaws.{CommentsOfFirst, FormsOfFirst, HeadersAreKept, JoinedAsLongest, JoinedWhereTheyDiffer, TranslatedStays};
@@ -40,6 +40,13 @@ pub fn entries_stand_by_input()
 /// entries, where all messages are kept.
 pub fn one_input_stays()
     ensures { (use_first : Bool) (input : Named) → OneInputStays use_first input }
+{}
+
+/// Inputs are merged to their entries, in order, if no message stands in two of these, and all
+/// messages are kept.
+#[tactic(auto, using(crate::proofs::DistinctInputs::distinct_inputs))]
+pub fn distinct_inputs_stay()
+    ensures { (use_first : Bool) (inputs : List Named) → DistinctInputsStay use_first inputs }
 {}
 
 /// So is that input together with a second one that has the same entries, under whatever name.

@@ -1,26 +1,35 @@
-//! Several catalogues merged into one.
+//! What several definitions of one message are merged to.
 
-ghost use Rattle.std.specs.Prelude.{◌≡◌, ◌<◌, ◌++◌, ◌∷◌, [], length, All, IfOk, IfErr, OnErr, OnOk, map};
-ghost use Rattle.po_entry.specs.Bytes.{Lacks};
+ghost use Rattle.std.specs.Prelude.{◌≡◌, ◌<◌, ◌++◌, ◌∷◌, [], length, All, IfOk, IfErr, OnErr, OnOk};
 ghost use Rattle.po_entry.specs.EntryView.{entry_view};
+ghost use Rattle.po_entry.specs.FormLists.{forms_left};
 ghost use Rattle.po_entry.specs.TextEntry.{texts};
-ghost use Rattle.po_entry.specs.Validity.{out_of_memory};
-ghost use Rattle.po_merge.specs.Grouping.{IsDefinition, IsGroup, group_entries};
-ghost use Rattle.po_merge.specs.InputsView.{inputs_view, named_entries};
+ghost use Rattle.po_entry.specs.Validity.{IsCatalogueEntry};
+ghost use Rattle.po_merge.specs.Grouping.{IsDefinition};
+ghost use Rattle.po_merge.specs.InputsView.{named_entries};
 ghost use Rattle.po_merge.specs.MergedEntry.{merged_entry, first_translated};
-ghost use Rattle.po_merge.specs.Groups.{definitions};
-ghost use Rattle.po_merge.specs.Merged.{IsMergeFault, merged, merged_messages};
+ghost use Rattle.po_merge.specs.MergeInputs.{CanBeMerged};
+ghost use Rattle.po_merge.specs.Merged.{IsMergeFault};
 ghost use Rattle.po_merge.specs.Internal.Comments.{comments_alone};
 
 use crate::comments::comment_of;
-use crate::definition::{NamedEntry, Part, first_with, kept_definitions};
-use crate::grouping::{all_entries, groups_of, keys_of};
-use crate::input::{MergeOptions, Named};
+use crate::definition::{NamedEntry, Part, first_with};
+use crate::input::MergeOptions;
 use crate::joined_translations::{joined_forms, translations};
-use po_entry::{Catalogue, Entry, Fields, Previous, copy_optional, copy_texts};
-use po_messages::grouped;
-use po_syntax::{CommentKind, PoError};
+use po_entry::{EntryRef, Fields, FormIter, Previous, Store, copy_optional};
+use po_syntax::{CommentKind, PoError, PoFault};
 use std::alloc::{AllocError, Global};
+
+/// Copies of forms.
+fn copied_forms(alloc: Global, forms: FormIter<'_>) -> Result<Vec<Vec<u8>>, AllocError>
+    ensures { IfOk result (λ copies. texts copies.items ≡ forms_left forms.entry) }
+{
+    let mut copies = Vec::new(alloc);
+    for form in forms {
+        copies.push(form.to_vec(alloc)?)?;
+    }
+    Ok(copies)
+}
 
 /// The forms of the first translation, or else of the first definition, and whether that definition
 /// is fuzzy.
@@ -32,8 +41,8 @@ fn taken_forms(
     ensures forms { IfOk result (λ r. texts r.0.items ≡ (first_translated (named_entries definitions.now)).forms) }
     ensures fuzzy { IfOk result (λ r. r.1 ≡ (first_translated (named_entries definitions.now)).fuzzy) }
 {
-    let taken = first_with(definitions, Part::Translation).fields();
-    Ok((copy_texts(alloc, &taken.forms)?, taken.fuzzy))
+    let taken = first_with(definitions, Part::Translation);
+    Ok((copied_forms(alloc, taken.forms())?, taken.fuzzy()))
 }
 
 /// The forms that the definitions are merged to, and whether these are fuzzy.
@@ -42,7 +51,8 @@ fn merged_forms(
     options: &MergeOptions,
     definitions: &[NamedEntry<'_>],
 ) -> Result<(Vec<Vec<u8>>, bool), AllocError>
-    requires { 0 < length definitions.now }
+    requires some { 0 < length definitions.now }
+    requires valid { All IsDefinition (named_entries definitions.now) }
     ensures forms { IfOk result (λ r. texts r.0.items
         ≡ (merged_entry options.now (named_entries definitions.now)).forms) }
     ensures fuzzy { IfOk result (λ r. r.1 ≡ (merged_entry options.now (named_entries definitions.now)).fuzzy) }
@@ -67,20 +77,12 @@ fn merged_comments(
     ensures { IfOk result (λ fields. entry_view fields
         ≡ comments_alone (merged_entry options.now (named_entries definitions.now))) }
 {
-    Ok(Fields {
-        comments: comment_of(alloc, options, CommentKind::Translator, definitions)?,
-        extracted: comment_of(alloc, options, CommentKind::Extracted, definitions)?,
-        references: comment_of(alloc, options, CommentKind::Reference, definitions)?,
-        fuzzy: false,
-        flags: comment_of(alloc, options, CommentKind::Flags, definitions)?,
-        previous: Previous::none(),
-        context: None,
-        id: Vec::new(alloc),
-        plural: None,
-        forms: Vec::new(alloc),
-        obsolete: false,
-        line: 0,
-    })
+    let mut fields = Fields::empty(alloc);
+    fields.comments = comment_of(alloc, options, CommentKind::Translator, definitions)?;
+    fields.extracted = comment_of(alloc, options, CommentKind::Extracted, definitions)?;
+    fields.references = comment_of(alloc, options, CommentKind::Reference, definitions)?;
+    fields.flags = comment_of(alloc, options, CommentKind::Flags, definitions)?;
+    Ok(fields)
 }
 
 /// Fills in the texts that the definitions are merged to.
@@ -90,51 +92,36 @@ fn fill_texts(
     definitions: &[NamedEntry<'_>],
     fields: &mut Fields,
 ) -> Result<(), AllocError>
-    requires { 0 < length definitions.now }
+    requires some { 0 < length definitions.now }
+    requires valid { All IsDefinition (named_entries definitions.now) }
     ensures { OnOk result (entry_view fields.old ≡ comments_alone (merged_entry options.now (named_entries definitions.now))
         → entry_view fields.new ≡ merged_entry options.now (named_entries definitions.now)) }
 {
-    let first = definitions[0].entry.fields();
-    let earliest = first_with(definitions, Part::Previous).fields();
-    let plural = first_with(definitions, Part::Plural).fields();
+    let first = &definitions[0].entry;
+    let earliest = first_with(definitions, Part::Previous);
     let (forms, fuzzy) = merged_forms(alloc, options, definitions)?;
     fields.forms = forms;
     fields.fuzzy = fuzzy;
-    fields.previous = earliest.previous.copy(alloc)?;
-    fields.context = copy_optional(alloc, first.context.as_deref())?;
-    fields.id = first.id.as_slice().to_vec(alloc)?;
-    fields.plural = copy_optional(alloc, plural.plural.as_deref())?;
-    fields.obsolete = first.obsolete;
-    fields.line = first.line;
+    fields.previous = Previous {
+        context: copy_optional(alloc, earliest.previous_context())?,
+        id: copy_optional(alloc, earliest.previous_id())?,
+        plural: copy_optional(alloc, earliest.previous_plural())?,
+    };
+    fields.context = copy_optional(alloc, first.context())?;
+    fields.id = first.id().to_vec(alloc)?;
+    fields.plural = copy_optional(alloc, first_with(definitions, Part::Plural).plural())?;
+    fields.obsolete = first.obsolete();
+    fields.line = first.line();
     Ok(())
-}
-
-/// What the definitions of one message are merged to; refused only where an allocation failed.
-fn merged_entry(
-    alloc: Global,
-    options: &MergeOptions,
-    definitions: &[NamedEntry<'_>],
-) -> Result<Entry, PoError>
-    requires some { 0 < length definitions.now }
-    requires valid { All IsDefinition (named_entries definitions.now) }
-    ensures merged { IfOk result (λ entry. entry ≡ merged_entry options.now (named_entries definitions.now)) }
-    ensures memory { IfErr result (λ error. error ≡ out_of_memory) }
-{
-    if definitions.len() < 2 {
-        return definitions[0].entry.copy(alloc);
-    }
-    let mut fields = merged_comments(alloc, options, definitions)?;
-    fill_texts(alloc, options, definitions, &mut fields)?;
-    Ok(Entry::of(fields))
 }
 
 /// Adds what the definitions of one message are merged to. Refused, without a line, with
 /// `ForeignCharset` for a header whose charset isn't admitted, or with `OutOfMemory`.
-pub fn merge_definitions(
+fn merge_definitions(
     alloc: Global,
     options: &MergeOptions,
     definitions: &[NamedEntry<'_>],
-    merged: &mut Catalogue,
+    merged: &mut Store,
 ) -> Result<(), PoError>
     requires some { 0 < length definitions.now }
     requires valid { All IsDefinition (named_entries definitions.now) }
@@ -143,72 +130,35 @@ pub fn merge_definitions(
     ensures fault { IfErr result (IsMergeFault (merged_entry options.now (named_entries definitions.now) ∷ [])) }
     ensures unchanged { OnErr result (merged.new ≡ merged.old) }
 {
-    let entry = merged_entry(alloc, options, definitions)?;
-    match merged.push(entry) {
-        Ok(()) => Ok(()),
-        Err(refused) => Err(PoError {
-            kind: refused.1.kind,
+    let mut fields = merged_comments(alloc, options, definitions)?;
+    fill_texts(alloc, options, definitions, &mut fields)?;
+    if !fields.has_admitted_charset() {
+        return Err(PoError {
+            kind: PoFault::ForeignCharset,
             line: 0,
-        }),
+        });
     }
+    Ok(merged.push(&fields)?)
 }
 
-/// Adds what the entries of one message are merged to, if the message is kept.
-fn merge_group(
+/// What the definitions of one message are merged to: the only one itself, or what several are
+/// merged to, which is added to `merged`. Refused as `merge_definitions` is.
+pub(crate) fn merged_entry<'m>(
     alloc: Global,
     options: &MergeOptions,
-    group: Vec<NamedEntry<'_>>,
-    merged: &mut Catalogue,
-) -> Result<(), PoError>
-    requires { IsGroup (named_entries group.items) }
-    ensures merged { OnOk result (merged.new
-        ≡ merged.old ++ merged_messages options.now (definitions (named_entries group.entry.items) ∷ [])) }
-    ensures fault { IfErr result
-        (IsMergeFault (merged_messages options.now (definitions (named_entries group.entry.items) ∷ []))) }
+    definitions: Vec<NamedEntry<'m>>,
+    merged: &'m mut Store,
+) -> Result<EntryRef<'m>, PoError>
+    requires some { 0 < length definitions.items }
+    requires can { All CanBeMerged (named_entries definitions.items) }
+    ensures merged { IfOk result (λ entry. entry ≡ merged_entry options.now (named_entries definitions.entry.items)) }
+    ensures valid { IfOk result IsCatalogueEntry }
+    ensures fault { IfErr result (IsMergeFault (merged_entry options.now (named_entries definitions.entry.items) ∷ [])) }
 {
-    match kept_definitions(group, options) {
-        Some(definitions) => merge_definitions(alloc, options, &definitions, merged),
-        None => Ok(()),
+    let mut definitions = definitions;
+    if definitions.len() < 2 {
+        return Ok(definitions.swap_remove(0).entry);
     }
-}
-
-/// What the entries of all messages that are kept are merged to.
-fn merge_groups(
-    alloc: Global,
-    groups: Vec<Vec<NamedEntry<'_>>>,
-    options: &MergeOptions,
-) -> Result<Catalogue, PoError>
-    requires { All IsGroup (group_entries groups.items) }
-    ensures merged { IfOk result (λ catalogue. catalogue
-        ≡ merged_messages options.now (map definitions (group_entries groups.entry.items))) }
-    ensures fault { IfErr result (IsMergeFault
-        (merged_messages options.now (map definitions (group_entries groups.entry.items)))) }
-{
-    let mut merged = Catalogue::new(alloc);
-    for group in groups {
-        merge_group(alloc, options, group, &mut merged)?;
-    }
-    Ok(merged)
-}
-
-/// Merges catalogues, message by message: the definitions of each message become one entry, with
-/// the comments, references and flags of all. Translations that differ are joined, each under the
-/// name of its input; with `use_first` the first one is taken, with its comments, references and
-/// flags. The messages stand in the order in which they first appear. Refused with
-/// `ForeignCharset`, without a line, where a merged header names a charset that isn't admitted; and
-/// with `OutOfMemory`. (GNU gettext manual, "Invoking the msgcat Program".)
-pub fn merge<'a>(
-    alloc: Global,
-    inputs: &'a [Named<'a>],
-    options: &MergeOptions,
-) -> Result<Catalogue, PoError>
-    requires { All (λ input. Lacks 0 input.name.now) inputs.now }
-    ensures merged { IfOk result (λ catalogue. catalogue ≡ merged options.now (inputs_view inputs.now)) }
-    ensures fault { IfErr result (IsMergeFault (merged options.now (inputs_view inputs.now))) }
-{
-    let entries = all_entries(alloc, inputs)?;
-    let keys = keys_of(alloc, &entries)?;
-    let (numbers, count) = grouped(alloc, &keys)?;
-    let groups = groups_of(alloc, &entries, &numbers, count)?;
-    merge_groups(alloc, groups, options)
+    merge_definitions(alloc, options, &definitions, merged)?;
+    Ok(merged.get(merged.len() - 1))
 }

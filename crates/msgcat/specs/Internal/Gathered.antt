@@ -2,9 +2,9 @@
 use Rattle.std.specs.Prelude.{◌≡◌, ◌⊎◌, List, MatchResult}
 use Rattle.po_entry.specs.Validity.{out_of_memory}
 use Rattle.po_merge.specs.Inputs.{Named}
+use Rattle.po_merge.specs.MergeInputs.{HoldInputs}
 use Rattle.runs.specs.NamedFile.{NamedFile}
 use Rattle.msgcat.specs.declared.plan.Gathered.{Gathered}
-use Rattle.msgcat.specs.Internal.Inputs.{HoldInputs}
 use Rattle.msgcat.specs.Msgcat.{AreReadAs, IsFileFault, first_name}
 
 -- the name of the first file, and the entries of all, or why one isn't read

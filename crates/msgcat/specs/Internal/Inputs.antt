@@ -1,21 +1,19 @@
 -- Inputs that are read piece by piece. Internal to this crate.
-use Rattle.std.specs.Prelude.{◌≡◌, ℕ, All, List, [], ◌∷◌, ◌++◌, MatchOption, length}
+use Rattle.std.specs.Prelude.{◌≡◌, ℕ, All, List, [], ◌∷◌, ◌++◌, MatchOption}
 use Rattle.std.specs.List.{AllZip}
 use Rattle.po_entry.specs.ReadsText.{ReadsText}
 use Rattle.po_entry.specs.Faults.{IsReadFault}
 use Rattle.po_entry.specs.TextEntry.{TextEntry}
 use Rattle.po_messages.specs.Duplicate.{HasNoDuplicate}
-use Rattle.po_messages.specs.FirstOnes.{first_ones, group_numbers}
+use Rattle.po_messages.specs.FirstOnes.{group_numbers}
 use Rattle.po_messages.specs.Joined.{is_live}
 use Rattle.po_messages.specs.Message.{entry_messages, same_message}
-use Rattle.po_merge.specs.Grouping.{message_numbers, named_messages}
 use Rattle.po_merge.specs.Inputs.{Named, all_entries}
 use Rattle.po_messages.specs.Places.{Repeats, are_placed}
 use Rattle.po_messages.specs.declared.repeats.EntryPlace.{EntryPlace}
-use Rattle.msgcat.specs.Internal.Entries.{AreReadInputs, CanBeMerged, IsReadInput, unnamed}
-use Rattle.msgcat.specs.declared.entries.ReadInput.{ReadInput}
+use Rattle.po_merge.specs.MergeInputs.{AreReadInputs, IsReadInput, unnamed}
+use Rattle.po_merge.specs.declared.input.ReadInput.{ReadInput}
 use Rattle.msgcat.specs.declared.inputs.FileFault.{FileFault}
-use Rattle.msgcat.specs.declared.inputs.NumberedEntries.{NumberedEntries}
 use Rattle.msgcat.specs.declared.inputs.ReadInputs.{ReadInputs}
 use Rattle.runs.specs.NamedFile.{NamedFile}
 
@@ -65,11 +63,3 @@ pub record IsFirstRepeating (inputs : List Named) (fault : FileFault) : Type 0 w
   pub distinct : All (λ i. HasNoDuplicate i.entries) before
   pub name : fault.name.now ≡ input.name
   pub repeats : Repeats input.entries fault.error
-
--- the entries of these inputs are kept, each with the number of its message, and how many messages they have
-pub record HoldInputs (read : List Named) (kept : NumberedEntries) : Type 0 where
-  pub store : kept.store ≡ unnamed (all_entries read)
-  pub known : AreReadInputs read kept.inputs.items
-  pub can : All CanBeMerged (all_entries read)
-  pub numbers : kept.numbers.items ≡ message_numbers (all_entries read)
-  pub count : kept.count ≡ length (first_ones same_message (named_messages (all_entries read)))

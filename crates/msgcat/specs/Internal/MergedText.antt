@@ -1,8 +1,7 @@
 -- What inputs are merged to, by the entries in their store. Internal to this crate.
-use Rattle.std.specs.Prelude.{◌≡◌, ◌<◌, ℕ, All, List, length}
+use Rattle.std.specs.Prelude.{◌≡◌, ℕ, All, List}
 use Rattle.po_entry.specs.Header.{HasAdmittedCharset}
 use Rattle.po_entry.specs.TextEntry.{TextEntry}
-use Rattle.po_merge.specs.Inputs.{NamedEntry}
 use Rattle.po_writer.specs.TextParts.{AreParts}
 use Rattle.po_writer.specs.WrittenText.{written_text}
 use Rattle.po_writer.specs.declared.parts.TextParts.{TextParts}
@@ -11,11 +10,6 @@ use Rattle.po_writer.specs.declared.parts.TextParts.{TextParts}
 pub record AreWritten (entries : List TextEntry) (parts : TextParts) : Type 0 where
   pub parts_are : AreParts entries parts
   pub admitted : All HasAdmittedCharset entries
-
--- the indexes are those of some of the entries
-pub record IsGroupOf (entries : List NamedEntry) (group : List ℕ) : Type 0 where
-  pub some : 0 < length group
-  pub inside : All (λ index. index < length entries) group
 
 -- the text of merged entries, each of which can stand in a catalogue
 pub record IsTextOfMerged (merged : List TextEntry) (written : List ℕ) : Type 0 where

@@ -1,15 +1,16 @@
-use Rattle.std.proofs.Common.{◌<◌, ℕ, List}
+use Rattle.std.proofs.Common.{◌-◌, ◌≤◌, List, length}
 use Rattle.po_entry.specs.TextEntry.{TextEntry}
 use Rattle.po_merge.specs.Inputs.{Named}
 use Rattle.msgcat.specs.Internal.Inputs.{AreNumberedInputs}
-use Rattle.po_messages.specs.Repeats.{IsUnseen}
+use Rattle.po_messages.specs.Repeats.{AreUpTo}
 use Rattle.msgcat.proofs.InputLemmas.{AreLeft}
 use Rattle.msgcat.proofs.inputs.check_inputs.Given as goal
 
 -- the inputs so far have no duplicate, and the places and numbers of the others are left
-abbrev pub invariant-loop-index : goal.invariant-loop-index
-invariant-loop-index l = record {
-  unseen : (round : ℕ) → l.index < round → IsUnseen round l.seen.items;
+abbrev pub invariant-loop-input : goal.invariant-loop-input
+invariant-loop-input l = record {
+  most : length l.places_left ≤ length l.places;
+  unseen : AreUpTo (length l.places - length l.places_left) l.seen.items;
   left : (read : List Named) (part : List TextEntry) → AreNumberedInputs read part l.inputs l.places l.numbers
-      → AreLeft read part l.index l.places_left l.numbers_left;
+      → AreLeft read part l.input-index l.places_left l.numbers_left;
 }

@@ -5,10 +5,10 @@ use Rattle.std.proofs.lemmas.List.{length-map, take-append-drop, take_all}
 use Rattle.po_syntax.specs.declared.fault.PoFault.TheVariants.{OutOfMemory}
 use Rattle.po_entry.specs.ReadsText.{ReadsText}
 use Rattle.po_merge.specs.Inputs.{Named, NamedEntry, all_entries}
-use Rattle.msgcat.specs.Internal.Entries.{unnamed}
+use Rattle.po_merge.specs.MergeInputs.{unnamed}
 use Rattle.msgcat.specs.Internal.Inputs.{IsTextOf}
-use Rattle.msgcat.proofs.EntryLemmas.{inputs_more}
-use Rattle.msgcat.proofs.InputLemmas.{entries_more, text_more}
+use Rattle.po_merge.proofs.ReadInputs.{entries_more, inputs_more}
+use Rattle.msgcat.proofs.InputLemmas.{text_more}
 use Rattle.msgcat.proofs.MsgcatLemmas.{file_at, name_lacks, no_file}
 use Rattle.runs.specs.NamedFile.{NamedFile, named_file, named_files}
 use Rattle.msgcat.proofs.inputs.read_each.Goals as goal
@@ -50,7 +50,7 @@ loop-name-preserved c =
     let file = get_or files i no_file in
     let at = file_at files i no_file c.loop-name-test.true in
     let inside : i < length (named_files files) = omega (arith, c.loop-name-test.true, length-map files named_file) in
-    let read = (rw c.in_default.is at c.add_text.ensures.read) in
+    let read = (rw c.in_default.is at c.read_into.ensures.found) in
     let input : Named = record { name = file.0.now; entries = read.0 } in
     let count : c.len.result - c.len-before.result ≡ length read.0 =
     omega (arith, c.len.ensures, c.len-before.ensures, ap length read.2, length-append c.loop-name.store read.0) in

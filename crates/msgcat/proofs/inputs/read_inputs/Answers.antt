@@ -1,22 +1,21 @@
-use Rattle.std.proofs.Common.{ℕ, ◌≡◌, ◌⊎◌, ◌∙◌, [], List, ap, inl, inr, length, subst, sym}
-use Rattle.std.specs.Prelude.{All, MatchOption}
+use Rattle.std.proofs.Common.{ℕ, ◌≡◌, ◌⊎◌, ◌∙◌, [], List, ap, inl, inr, subst, sym}
+use Rattle.std.specs.Prelude.{MatchOption}
 use Rattle.std.specs.List.{AllZip}
 use Rattle.std.proofs.lemmas.Result.{err_from_is_err_and}
-use Rattle.po_entry.specs.Validity.{IsCatalogueEntry, out_of_memory}
-use Rattle.po_messages.specs.FirstOnes.{first_ones, group_numbers}
+use Rattle.po_entry.specs.Validity.{out_of_memory}
+use Rattle.po_messages.specs.FirstOnes.{group_numbers}
 use Rattle.po_messages.specs.Joined.{is_live}
 use Rattle.po_messages.specs.Message.{entry_messages, same_message}
 use Rattle.po_messages.specs.Places.{are_placed}
 use Rattle.po_merge.specs.Inputs.{all_entries}
-use Rattle.msgcat.specs.Internal.Entries.{IsReadInput, unnamed}
+use Rattle.po_merge.specs.MergeInputs.{IsReadInput, unnamed}
 use Rattle.msgcat.specs.Internal.Inputs.{AreNumberedInputs, AreReadUpTo, IsFaultOfFirst, IsFirstRepeating}
 use Rattle.msgcat.specs.Msgcat.{IsFileFault}
 use Rattle.po_messages.specs.declared.repeats.EntryPlace.{EntryPlace}
-use Rattle.msgcat.specs.declared.entries.ReadInput.{ReadInput}
+use Rattle.po_merge.specs.declared.input.ReadInput.{ReadInput}
 use Rattle.msgcat.specs.declared.inputs.FileFault.{FileFault}
 use Rattle.msgcat.specs.declared.inputs.ReadInputs.{ReadInputs}
-use Rattle.msgcat.proofs.EntryLemmas.{all_can}
-use Rattle.msgcat.proofs.InputLemmas.{all_read, messages_of, no_part, repeating_fault, text_fault}
+use Rattle.msgcat.proofs.InputLemmas.{all_read, no_part, repeating_fault, text_fault}
 use Rattle.runs.specs.NamedFile.{NamedFile, named_files}
 use Rattle.msgcat.proofs.inputs.read_inputs.Goals as goal
 
@@ -76,16 +75,8 @@ returns-clause-read c =
     let none = subst (λ o. MatchOption o ((up_to.rest ≡ []) × (up_to.part ≡ [])) (IsFaultOfFirst up_to.rest))
     c.in_default.is up_to.end in
     let store : c.in_ok-read.read.store ≡ unnamed (all_entries up_to.inputs) =
-    up_to.holds ∙ no_part up_to.inputs up_to.part none.1 in
-    let messages = ap entry_messages store ∙ messages_of (all_entries up_to.inputs) in (
+    up_to.holds ∙ no_part up_to.inputs up_to.part none.1 in (
       up_to.inputs,
       all_read (named_files c.args.inputs.now) c.in_ok-read.read up_to distinct none.0,
-      record {
-        store = store;
-        known = up_to.known;
-        can = all_can up_to.inputs c.in_ok-read.read.inputs.items up_to.known.known
-            (subst (All IsCatalogueEntry) store c.in_ok-places.ensures.valid);
-        numbers = c.in_ok-numbers.ensures.numbers ∙ ap (group_numbers same_message) messages;
-        count = c.in_ok-numbers.ensures.count ∙ ap (λ l. length (first_ones same_message l)) messages;
-      },
+      c.in_ok-of.ensures up_to.inputs up_to.known store,
     )

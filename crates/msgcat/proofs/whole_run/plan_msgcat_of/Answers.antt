@@ -7,6 +7,7 @@ use Rattle.runs.specs.Facts.RunEnds.{none_read}
 use Rattle.runs.specs.Inputs.{named_inputs}
 use Rattle.runs.specs.NamedFile.{named_files}
 use Rattle.runs.specs.Run.{run_view}
+use Rattle.msgcat.specs.Internal.Gathered.{IsGathered}
 use Rattle.msgcat.specs.Msgcat.{IsMsgcatRun, IsUnread}
 use Rattle.msgcat.proofs.UnreadBefore.{name_told, names_before, none_before, place_is, refused_before, refused_whole, some_file}
 use Rattle.msgcat.proofs.whole_run.plan_msgcat_of.Goals as goal
@@ -72,3 +73,9 @@ pub returns-clause-names : goal.returns-clause-names
 returns-clause-names c =
     none_before (Ok c.in_ok-run.run') (named_inputs c.args.inputs) (subst (All (λ file. Lacks 0 file.name))
     (ap named_files c.deref.ensures.value ∙ c.in_ok-texts.ensures.files) c.in_default.ensures)
+
+pub returns-clause-whole : goal.returns-clause-whole
+returns-clause-whole c = λ none.
+    c.in_ok-run.ensures (named_inputs c.args.inputs)
+    (subst (λ files. IsGathered files c.gather-gathered.result)
+    (ap named_files c.deref-2.ensures.value ∙ c.in_ok-texts.ensures.files) c.gather-gathered.ensures)

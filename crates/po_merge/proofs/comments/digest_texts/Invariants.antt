@@ -5,4 +5,5 @@ use Rattle.po_merge.proofs.comments.digest_texts.Given as goal
 
 -- the texts that are left are what is to be digested
 abbrev pub invariant-loop-text : goal.invariant-loop-text
-invariant-loop-text l = fold write l.digest (texts_left l.text-iterator) ≡ fold write l.initial.digest l.texts
+invariant-loop-text l =
+    fold write l.digest (texts_left l.text-iterator) ≡ fold write l.initial.digest (texts_left l.fn.texts)

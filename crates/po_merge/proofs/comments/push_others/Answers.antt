@@ -1,12 +1,12 @@
-use Rattle.std.proofs.Common.{ap, ◌∙◌, arith}
+use Rattle.std.proofs.Common.{ap, arith}
 use Rattle.po_entry.specs.TextLists.{texts_left}
 use Rattle.po_merge.proofs.Sets.{all_taken, new_taken, none_taken, old_passed}
 use Rattle.po_merge.proofs.comments.push_others.Goals as goal
 
 pub loop-text-init : goal.loop-text-init
 loop-text-init c = record {
-  taken = none_taken c.args.done.now c.args.seen.now c.args.others.now _ c.requires
-      (ap texts_left c.into_iter-text-iterator.ensures.into_iter_gives ∙ c.iter-text-items.ensures);
+  taken = none_taken c.args.done.now c.args.seen.now (texts_left c.args.others) _ c.requires
+      (ap texts_left c.into_iter-text-iterator.ensures.into_iter_gives);
   earlier = c.len-earlier.ensures;
 }
 
@@ -15,7 +15,7 @@ loop-text-preserved-in_ok-push c =
     let inv = c.loop-text.invariant in
     record {
       taken = rw (c.in_ok-push.ensures.ok, c.in_ok-add.ensures.seen)
-          (new_taken c.args.done.now c.args.seen.now c.args.others.now c.loop-text.done c.loop-text.seen
+          (new_taken c.args.done.now c.args.seen.now (texts_left c.args.others) c.loop-text.done c.loop-text.seen
           (texts_left c.loop-text.text-iterator) (texts_left c.next.new.self) c.in-Some.text.now c.in_ok-add.field-0
           c.requires inv.taken c.in-Some.ensures.steps c.in_ok-add.ensures.index
           (omega (arith, inv.earlier, c.if-branch-earlier.true)));
@@ -27,7 +27,7 @@ loop-text-preserved c =
     let inv = c.loop-text.invariant in
     record {
       taken = rw (c.in_ok-add.ensures.seen)
-          (old_passed c.args.done.now c.args.seen.now c.args.others.now c.loop-text.done c.loop-text.seen
+          (old_passed c.args.done.now c.args.seen.now (texts_left c.args.others) c.loop-text.done c.loop-text.seen
           (texts_left c.loop-text.text-iterator) (texts_left c.next.new.self) c.in-Some.text.now c.in_ok-add.field-0
           c.requires inv.taken c.in-Some.ensures.steps c.in_ok-add.ensures.index
           (omega (arith, inv.earlier, c.if-branch-earlier.false)));
@@ -36,10 +36,10 @@ loop-text-preserved c =
 
 pub returns-clause-others : goal.returns-clause-others
 returns-clause-others c =
-    (all_taken c.args.done.now c.args.seen.now c.args.others.now c.loop-text.done c.loop-text.seen _
+    (all_taken c.args.done.now c.args.seen.now (texts_left c.args.others) c.loop-text.done c.loop-text.seen _
     c.loop-text.invariant.taken c.in-None.ensures.steps.0).0
 
 pub returns-clause-seen : goal.returns-clause-seen
 returns-clause-seen c =
-    (all_taken c.args.done.now c.args.seen.now c.args.others.now c.loop-text.done c.loop-text.seen _
+    (all_taken c.args.done.now c.args.seen.now (texts_left c.args.others) c.loop-text.done c.loop-text.seen _
     c.loop-text.invariant.taken c.in-None.ensures.steps.0).1

@@ -1,9 +1,10 @@
-use Rattle.std.proofs.Common.{◌≡◌, take}
-use Rattle.po_merge.specs.InputsView.{named_entries}
-use Rattle.po_merge.specs.MergedEntry.{joined_form}
+use Rattle.std.proofs.Common.{◌≡◌, length, take}
+use Rattle.po_merge.specs.Internal.FormsLeft.{form_lists, joined_at, rests}
 use Rattle.po_merge.proofs.joined_translations.joined_form.Given as goal
 
--- the forms of the translations so far are joined
+-- the next forms of the translations so far are joined, and what is left of them stands there
 abbrev pub invariant-loop-translation : goal.invariant-loop-translation
-invariant-loop-translation l =
-    l.joined.items ≡ joined_form (named_entries (take l.translation-index l.translations)) l.index
+invariant-loop-translation l = record {
+  are_joined : l.joined.items ≡ joined_at 0 (form_lists (take (length l.yielded) l.fn.translations.items));
+  left : form_lists l.rest.items ≡ rests (form_lists (take (length l.yielded) l.fn.translations.items));
+}

@@ -1,12 +1,14 @@
-use Rattle.std.proofs.Common.{◌≡◌, take}
+use Rattle.std.proofs.Common.{◌≡◌, map, take}
 use Rattle.po_merge.specs.InputsView.{named_entries}
+use Rattle.po_merge.specs.Internal.FormsLeft.{form_lists, named_forms}
+use Rattle.po_merge.specs.Internal.SeenForms.{HasTranslations}
 use Rattle.po_merge.specs.MergedEntry.{translations}
-use Rattle.po_merge.specs.Internal.FormsByIndex.{HasForms}
 use Rattle.po_merge.proofs.joined_translations.translations.Given as goal
 
--- the distinct translations so far are found, and the set has their forms
+-- the distinct translations so far are found, and the set has them
 abbrev pub invariant-loop-definition : goal.invariant-loop-definition
 invariant-loop-definition l = record {
-  are_found : named_entries l.found.items ≡ translations (named_entries (take l.definition-index l.definitions));
-  met : HasForms l.seen (named_entries l.found.items);
+  are_found : form_lists l.found.items
+      ≡ map named_forms (translations (named_entries (take l.definition-index l.definitions)));
+  met : HasTranslations l.seen (translations (named_entries (take l.definition-index l.definitions)));
 }
