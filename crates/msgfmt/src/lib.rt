@@ -15,5 +15,5 @@ mod whole_run;
 pub use laws::first_profile_fault;
 pub use options::{MsgfmtOptions, msgfmt_options_of};
 pub use plan::plan_msgfmt;
-pub use profile::{CheckFault, profile_check};
+pub use profile::{CheckFault, check_collected};
 pub use whole_run::{plan_msgfmt_of, run};

@@ -9,7 +9,7 @@ ghost use Rattle.runs.specs.Run.{run_view};
 
 use crate::fault_lines::{failed_check_run, refused_run};
 use crate::options::MsgfmtOptions;
-use crate::profile::check_inputs;
+use crate::profile::check_collected;
 use po_compile::{Collected, Compiled, Options, collect_all, compile_collected};
 use po_messages::{JoinError, Stats};
 use po_syntax::PoFault;
@@ -121,7 +121,7 @@ fn collected_run(
         → Spec.IsMsgfmtRun inputs options.now (run_view run)) }
 {
     let checked = if options.profile_check {
-        check_inputs(alloc, collected)
+        check_collected(alloc, collected)
     } else {
         Ok(())
     };

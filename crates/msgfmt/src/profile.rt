@@ -1,5 +1,5 @@
-//! What `--profile-check` finds wrong with the messages that inputs or catalogues are compiled to.
-ghost use Rattle.std.specs.Prelude.{◌≡◌, ◌⊎◌, ◌^◌, ◌<◌, None, Some, MatchResult, IfErr, OnOk, find, length, option_map};
+//! What `--profile-check` finds wrong with the messages that inputs are compiled to.
+ghost use Rattle.std.specs.Prelude.{◌≡◌, ◌⊎◌, ◌^◌, ◌<◌, None, Some, IfErr, OnOk, find, length, option_map};
 ghost use Rattle.std.specs.List.{list_any};
 ghost use Rattle.mo_lookup.specs.CatalogView.{forms};
 ghost use Rattle.po_compile.specs.OfInputs.{OfAllInputs};
@@ -8,8 +8,7 @@ ghost use Rattle.msgfmt.specs.Profile as Spec;
 ghost use Rattle.msgfmt.specs.declared.profile.CheckFault.TheVariants.{OutOfMemory};
 
 use plural_rule::{Reason, Rule, Source};
-use po_compile::{Collected, CompiledMessage, collect_catalogues, compiled_messages};
-use po_entry::Catalogue;
+use po_compile::{Collected, CompiledMessage, compiled_messages};
 use po_unformat::laws::texts_come_back;
 use po_unformat::{first_part, key_parts, original_parts, split_form};
 use std::alloc::{AllocError, Global};
@@ -235,12 +234,8 @@ fn first_fault(rule: &Rule, messages: &[CompiledMessage<'_>]) -> Option<(u32, Ch
     }
 }
 
-/// Asks of the messages that are compiled, in text order: that there is a header; that it has a
-/// readable plural rule where an entry has a plural; that each entry but the header has as many
-/// forms as the rule, and newlines at its ends where its msgid has them; and that the rule's values
-/// at the counts from 0 to 1,000 are indices of forms, where an entry has a plural. The first fault
-/// is reported, with the input of its line, or input 0. A rule takes 33 KB of the stack, so it is
-/// read in its place.
+/// The first fault of the messages that are compiled, in text order. A rule takes 33 KB of the
+/// stack, so it is read in its place.
 #[inline(never)]
 fn check_messages(messages: &[CompiledMessage<'_>]) -> Option<(u32, CheckFault)>
     ensures { Spec.IsChecked (Spec.checked_messages messages.now) result }
@@ -253,8 +248,13 @@ fn check_messages(messages: &[CompiledMessage<'_>]) -> Option<(u32, CheckFault)>
     first_fault(&rule, messages)
 }
 
-/// Checks the messages that inputs are compiled to, as `profile_check` does.
-pub(crate) fn check_inputs(alloc: Global, inputs: &[Collected]) -> Result<(), (u32, CheckFault)>
+/// Checks the messages that inputs are compiled to, in the order of their joined list: that there
+/// is a header; that it has a readable plural rule where an entry has a plural; that each entry but
+/// the header has as many forms as the rule, and newlines at its ends where its msgid has them; and
+/// that the rule's values at the counts from 0 to 1,000 are indices of forms, where an entry has a
+/// plural. The first fault is reported with the input of its line, or input 0 where it has none.
+/// `OutOfMemory`, with input 0, may come in place of any result.
+pub fn check_collected(alloc: Global, inputs: &[Collected]) -> Result<(), (u32, CheckFault)>
     requires { length inputs.now < 2 ^ 32 }
     ensures fit { OnOk result (OfAllInputs inputs.now (λ use_fuzzy catalogues. AreChecked use_fuzzy catalogues None)) }
     ensures unfit { IfErr result (λ reported. (reported ≡ (0, CheckFault.OutOfMemory))
@@ -268,27 +268,5 @@ pub(crate) fn check_inputs(alloc: Global, inputs: &[Collected]) -> Result<(), (u
     match check_messages(&messages) {
         None => Ok(()),
         Some(reported) => Err(reported),
-    }
-}
-
-/// Checks the messages that catalogues are compiled to, in the order of their joined list: that
-/// there is a header; that it has a readable plural rule where an entry has a plural; that each
-/// entry but the header has as many forms as the rule, and newlines at its ends where its msgid has
-/// them; and that the rule's values at the counts from 0 to 1,000 are indices of forms, where an
-/// entry has a plural. The first fault is reported with the input of its line, or input 0 where it
-/// has none. `OutOfMemory`, with input 0, may come in place of any result.
-pub fn profile_check(
-    alloc: Global,
-    catalogues: &[Catalogue],
-    use_fuzzy: bool,
-) -> Result<(), (u32, CheckFault)>
-    requires { length catalogues.now < 2 ^ 32 }
-    ensures { MatchResult result (λ _. AreChecked use_fuzzy catalogues.now None)
-        (λ reported. (reported ≡ (0, CheckFault.OutOfMemory))
-        ⊎ AreChecked use_fuzzy catalogues.now (Some reported)) }
-{
-    match collect_catalogues(alloc, catalogues, use_fuzzy) {
-        Ok(inputs) => check_inputs(alloc, &inputs),
-        Err(error) => Err((0, error.into())),
     }
 }

@@ -10,7 +10,7 @@ pub mod CompiledLemmas
 pub mod InputLemmas
 pub mod JoinedRows
 pub mod KeysApart
-pub mod NumberedKeys
+pub mod RepeatedKeys
 pub mod CompiledRows
 pub mod SortedRows
 pub mod LimitLemmas

@@ -1,6 +1,6 @@
 -- Entries that are compiled can be asked for, and files are below 4 GiB.
-use Rattle.std.proofs.Common.{◌≡◌, ◌≢◌, ℕ, ◌<◌, ◌≤◌, Bool, true, not, ◌&&◌, ◌||◌, List, [], ◌∷◌, Option, None, Some, refl, sym, ap, ap₂, ◌∙◌, subst, length, arith}
-use Rattle.std.specs.Prelude.{All, IfSome}
+use Rattle.std.proofs.Common.{◌≡◌, ◌≢◌, ℕ, ◌<◌, ◌≤◌, Bool, true, not, ◌&&◌, ◌||◌, List, [], ◌∷◌, Option, None, Some, refl, ap, ap₂, ◌∙◌, subst, length, arith}
+use Rattle.std.specs.Prelude.{IfSome}
 use Rattle.std.specs.List.{list_any}
 use Rattle.std.specs.Option.{unwrap_or}
 use Rattle.std.proofs.lemmas.Bool.{ne_eqb}
@@ -10,14 +10,12 @@ use Rattle.mo_file.specs.Message.{Message}
 use Rattle.mo_lookup.specs.Query.{can_be_key, has_no_separator, is_separator}
 use Rattle.po_entry.specs.Bytes.{Lacks}
 use Rattle.po_entry.specs.TextEntry.{TextEntry}
-use Rattle.po_entry.specs.Validity.{IsCatalogueEntry, IsEntry}
+use Rattle.po_entry.specs.Validity.{IsCatalogueEntry}
 use Rattle.po_messages.specs.Joined.{joined_entries}
-use Rattle.po_messages.specs.declared.duplicate.JoinError.{JoinError}
-use Rattle.po_compile.specs.Accepted.{AreAccepted, AreRead, IsTooLarge}
 use Rattle.po_compile.specs.CompiledList.{compiled_list, is_compiled}
 use Rattle.po_compile.specs.CompiledMessages.{AreMessagesOf}
 use Rattle.po_compile.specs.Headline.{CataloguesAreOne, MessagesAreOne}
-use Rattle.po_compile.specs.MessageLaws.{CompiledCanBeKeys, JoinedEntriesCanStand, LayoutIsLimited, LayoutsAreLimited, too_large}
+use Rattle.po_compile.specs.MessageLaws.{CompiledCanBeKeys, JoinedEntriesCanStand, LayoutsAreLimited}
 use Rattle.po_compile.specs.declared.options.Options.{Options}
 use Rattle.po_compile.proofs.MeaningLemmas.{entry_lacks_separators}
 

@@ -1,5 +1,5 @@
 -- One entry more changes no answer to a query for another message.
-use Rattle.std.proofs.Common.{◌≡◌, ℕ, Bool, true, false, cond, List, [], ◌∷◌, ◌++◌, Option, None, Some, refl, sym, ap, ◌∙◌, All, find}
+use Rattle.std.proofs.Common.{◌≡◌, Bool, true, false, cond, List, ◌∷◌, ◌++◌, Option, None, Some, refl, sym, ap, ◌∙◌, find}
 use Rattle.std.specs.Prelude.{if◌then◌else◌}
 use Rattle.std.specs.Bool.{Decides}
 use Rattle.std.specs.Option.{option_eq, option_map, option_or}
@@ -8,16 +8,14 @@ use Rattle.std.proofs.lemmas.Bool.Decides.{Decides-and}
 use Rattle.std.proofs.lemmas.List.Elements.{All-append, All-tail}
 use Rattle.std.proofs.lemmas.List.Folds.{find-append}
 use Rattle.std.proofs.lemmas.Slice.Eq.{bytes_eq-Decides}
-use Rattle.mo_file.specs.Message.{Message}
 use Rattle.mo_lookup.specs.Answer.{answer}
 use Rattle.mo_lookup.specs.Query.{Query, can_be_key}
-use Rattle.plural_rule.specs.PluralRule.{RuleView}
 use Rattle.po_entry.specs.Facts.AllAppend.{All-left, All-right}
 use Rattle.po_entry.specs.TextEntry.{TextEntry}
 use Rattle.po_entry.specs.Validity.{IsEntry}
 use Rattle.po_messages.specs.Duplicate.{is_of_message}
 use Rattle.po_compile.specs.Headline.{MessagesMeanEntries}
-use Rattle.po_compile.specs.Meaning.{definition, meant}
+use Rattle.po_compile.specs.Meaning.{definition}
 use Rattle.po_compile.specs.MessageLaws.{OneMoreChangesNoOther}
 use Rattle.po_compile.proofs.MeaningLemmas.{option_decides}
 

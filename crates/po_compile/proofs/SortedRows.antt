@@ -16,7 +16,7 @@ use Rattle.po_compile.specs.Collected.{HoldCatalogues, LiveMessage, live_message
 use Rattle.po_compile.specs.CompiledInputs.{compiled_inputs, compiled_message}
 use Rattle.po_compile.specs.CompiledList.{is_compiled, compiled_list}
 use Rattle.po_compile.specs.CompiledMessages.{AreMessagesOf, message_of}
-use Rattle.po_compile.specs.Internal.Rows.{AreSortedRows, InputMessage, all_messages, compiled_of, counts_of, input_message, row_view, view_of_message}
+use Rattle.po_compile.specs.Internal.Rows.{AreSortedRows, InputMessage, all_messages, compiled_of, counts_fuzzy, counts_of, counts_translated, counts_untranslated, input_message, row_view, view_of_message}
 use Rattle.po_compile.specs.declared.row.Row.{Row}
 use Rattle.po_messages.specs.Facts.Mapped.{filter_map}
 use Rattle.po_compile.proofs.Filters.{IsPermutation-filter, filter_within}
@@ -142,7 +142,9 @@ module _ (use_fuzzy : Bool) where
     -- the statistics of the entries
     pub counts_mean : counts_of rows ≡ stats_of (joined_entries catalogues)
     counts_mean =
-        let translated = count_of is_translated (λ m. m.status.translated) (λ e. refl) (λ e dead. rw dead refl) in
-        let fuzzy = count_of is_fuzzy (λ m. m.status.fuzzy) (λ e. refl) (λ e dead. rw dead refl) in
-        let untranslated = count_of is_untranslated (λ m. m.status.untranslated) (λ e. refl) (λ e dead. rw dead refl) in
+        let translated = count_of is_translated (λ m. counts_translated m.status) (λ e. refl)
+        (λ e dead. rw dead refl) in
+        let fuzzy = count_of is_fuzzy (λ m. counts_fuzzy m.status) (λ e. refl) (λ e dead. rw dead refl) in
+        let untranslated = count_of is_untranslated (λ m. counts_untranslated m.status) (λ e. refl)
+        (λ e dead. rw dead refl) in
         cc

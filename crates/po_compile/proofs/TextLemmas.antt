@@ -1,18 +1,15 @@
 -- Keys, originals and translations take apart again what they are made of.
-use Rattle.std.proofs.Common.{◌≡◌, ◌≢◌, ℕ, ◌+◌, ◌<◌, ◌==◌, not, true, false, List, [], ◌∷◌, ◌++◌, Option, None, Some, refl, sym, ap, ◌∙◌, length, get_or, take, arith, length-append, All, IfSome}
+use Rattle.std.proofs.Common.{◌≡◌, ◌≢◌, ℕ, ◌+◌, ◌<◌, true, false, List, [], ◌∷◌, ◌++◌, Option, None, Some, refl, sym, ap, ◌∙◌, length, get_or, take, arith, length-append, All, IfSome}
 use Rattle.std.proofs.Math.Seq.{take-append_seam}
 use Rattle.std.proofs.lemmas.List.{get_or-append-add, get_or_append_left}
 use Rattle.std.proofs.lemmas.List.Elements.{All-head, All-tail, All-cons, All-append, All-weaker}
 use Rattle.std.proofs.lemmas.List.Sums.{position_or_len_is}
 use Rattle.std.proofs.lemmas.List.Splits.{slice_split_none, slice_split_at}
-use Rattle.std.proofs.lemmas.Bool.{false_from_ne_true, ne_eqb}
+use Rattle.std.proofs.lemmas.Bool.{false_from_ne_true}
 use Rattle.std.proofs.lemmas.Bool.Decides.{Decides-eqb}
 use Rattle.std.specs.List.{slice_split, join_with_byte, position_or_len}
-use Rattle.std.specs.Option.{option_map_or}
-use Rattle.std.specs.Prelude.{slice_get}
 use Rattle.mo_file.specs.Key.{is_nul, key_of, query_key}
 use Rattle.po_entry.specs.Bytes.{Lacks}
-use Rattle.po_entry.specs.Header.{first_form}
 use Rattle.po_compile.specs.CompiledMessages.{plural_part}
 
 no_nul : (b : ℕ) → b ≢ 0 → is_nul b ≡ false
@@ -83,19 +80,3 @@ slice_split-join form (next ∷ forms) lacks =
     slice_split_at is_nul form 0 (join_with_byte 0 (next ∷ forms))
     (lacks_nul form (All-head (Lacks 0) form (next ∷ forms) lacks)) refl
     ∙ ap (λ l. form ∷ l) (slice_split-join next forms (All-tail (Lacks 0) form (next ∷ forms) lacks))
-
-first : (byte : ℕ) (bytes : List ℕ) → Lacks 0 (byte ∷ bytes) → not (byte == 0) ≡ not (length (byte ∷ bytes) == 0)
-first byte bytes lacks =
-    ap not (ne_eqb byte 0 (All-head (λ b. b ≢ 0) byte bytes lacks)
-    ∙ sym (ne_eqb (length (byte ∷ bytes)) 0 (λ e. omega (arith, e))))
-
--- a byte other than a NUL comes first where the first form has one
-pub translated : (forms : List (List ℕ)) → 0 < length forms → All (Lacks 0) forms
-    → option_map_or (λ byte. not (byte == 0)) (slice_get (join_with_byte 0 forms) 0) false
-    ≡ not (length (first_form forms) == 0)
-translated [] some lack = absurd (omega arith)
-translated ([] ∷ []) some lack = refl
-translated ([] ∷ form ∷ forms) some lack = refl
-translated ((byte ∷ bytes) ∷ []) some lack = first byte bytes (All-head (Lacks 0) (byte ∷ bytes) [] lack)
-translated ((byte ∷ bytes) ∷ form ∷ forms) some lack =
-    first byte bytes (All-head (Lacks 0) (byte ∷ bytes) (form ∷ forms) lack)

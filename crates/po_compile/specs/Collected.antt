@@ -6,18 +6,18 @@ use Rattle.mo_file.specs.Message.{Message}
 use Rattle.po_entry.specs.TextEntry.{TextEntry}
 use Rattle.po_entry.specs.Validity.{IsCatalogueEntry}
 use Rattle.po_messages.specs.Joined.{is_live}
-use Rattle.po_messages.specs.Statistics.{is_translated, is_fuzzy, is_untranslated}
+use Rattle.po_messages.specs.Statistics.{is_counted, has_translation}
 use Rattle.po_compile.specs.CompiledList.{is_compiled}
 use Rattle.po_compile.specs.CompiledMessages.{message_of}
 use Rattle.po_compile.specs.declared.status.Status.{Status}
 
--- whether the entry is compiled, and what it counts as
+-- whether the entry is compiled, and what the statistics ask of it
 abbrev pub status_of : Bool → TextEntry → Status
 status_of use_fuzzy entry = record {
   compiled = is_compiled use_fuzzy entry;
-  translated = is_translated entry;
-  fuzzy = is_fuzzy entry;
-  untranslated = is_untranslated entry;
+  counted = is_counted entry;
+  translated = has_translation entry;
+  fuzzy = entry.fuzzy;
 }
 
 -- the message of a live entry, with its key, line and status

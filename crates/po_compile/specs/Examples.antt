@@ -1,7 +1,7 @@
 -- What the definitions of this crate say of entries that were compiled by hand (manual, "Invoking the
 -- msgfmt Program" and "The Format of GNU MO Files"). tests/mutants/po_compile/definitions has a wrong form
 -- of each definition, which one of these refuses.
-use Rattle.std.specs.Prelude.{◌≡◌, ◌≢◌, refl, ℕ, ◌^◌, ◌<◌, ◌≤◌, true, false, List, [], ◌∷◌, Some, None, map, length, codes}
+use Rattle.std.specs.Prelude.{◌≡◌, refl, ℕ, ◌<◌, ◌≤◌, true, false, List, [], ◌∷◌, Some, None, map, length, codes}
 use Rattle.std.proofs.Common.{◌∙◌, arith, ap, inl, inr}
 use Rattle.plural_rule.specs.declared.rule.Source.TheVariants.{Header}
 use Rattle.plural_rule.specs.Expression.{Number}
@@ -13,7 +13,6 @@ use Rattle.mo_file.specs.Message.{Message}
 use Rattle.mo_lookup.specs.CatalogView.{answered}
 use Rattle.mo_lookup.specs.Query.{Query}
 use Rattle.po_entry.specs.TextEntry.{TextEntry, plain_entry}
-use Rattle.po_syntax.specs.declared.fault.PoError.{PoError}
 use Rattle.po_syntax.specs.declared.fault.PoFault.TheVariants.{BadToken, Duplicate, TooLarge}
 use Rattle.po_messages.specs.declared.duplicate.JoinError.{JoinError}
 use Rattle.po_messages.specs.DistinctText.{ReadsDistinct, IsTextFault}

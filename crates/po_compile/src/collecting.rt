@@ -3,7 +3,7 @@
 ghost use Rattle.std.specs.Prelude.{◌≡◌, IfOk, IfErr, List, filter, length};
 ghost use Rattle.po_entry.specs.ReadsText.{ReadsText};
 ghost use Rattle.po_entry.specs.TextEntry.{TextEntry};
-ghost use Rattle.po_reader.specs.Internal.Keeping.{IsTextError};
+ghost use Rattle.po_reader.specs.PieceRead.{IsTextError};
 ghost use Rattle.po_compile.specs.Collected.{live_messages};
 ghost use Rattle.po_compile.specs.Internal.Rows.{has_no_key};
 
@@ -33,8 +33,8 @@ impl Model for Collected {
 }
 
 impl Collected {
-    /// The live ones of entries.
-    pub(crate) fn of(mut entries: Store, use_fuzzy: bool) -> Collected
+    /// The live ones of entries. Nothing is allocated.
+    pub fn of(mut entries: Store, use_fuzzy: bool) -> Collected
         ensures { result ≡ live_messages use_fuzzy entries }
     {
         entries.keep_live();

@@ -23,9 +23,10 @@ use std::alloc::Global;
 
 /// Compiles PO texts to one MO file. An empty list of texts is compiled as one empty text is.
 ///
-/// Refused, input by input, with the fault of `read`, then of `duplicates`; then with that of
-/// `joined_duplicates`; then with `TooLarge`, at line 0 of input 0, where the file would have more
-/// than 4,294,967,295 bytes. `OutOfMemory`, at line 0 of input 0, may come in place of any result.
+/// Refused, input by input, with why its text isn't read, then with its first duplicate; then with
+/// the first duplicate across inputs; then with `TooLarge`, at line 0 of input 0, where the file
+/// would have more than 4,294,967,295 bytes. `OutOfMemory`, at line 0 of input 0, may come in place
+/// of any result.
 pub fn compile_all(alloc: Global, texts: &[&[u8]], options: Options) -> Result<Compiled, JoinError>
     requires { length texts.now < 2 ^ 32 }
     ensures exact { MatchResult result (AreCompiled options (slice_texts texts.now))
@@ -39,8 +40,9 @@ pub fn compile_all(alloc: Global, texts: &[&[u8]], options: Options) -> Result<C
 }
 
 /// Compiles a PO text to an MO file, as `compile_all` does where it is the only one. Refused with
-/// the fault of `read`, then of `duplicates`; then with `TooLarge`, at line 0, where the file would
-/// have more than 4,294,967,295 bytes. `OutOfMemory`, at line 0, may come in place of any result.
+/// why the text isn't read, then with its first duplicate; then with `TooLarge`, at line 0, where
+/// the file would have more than 4,294,967,295 bytes. `OutOfMemory`, at line 0, may come in place
+/// of any result.
 pub fn compile(alloc: Global, text: &[u8], options: Options) -> Result<Compiled, PoError>
     ensures exact { MatchResult result (AreCompiled options (text.now ∷ []))
         (λ e. IsCompileFault options (text.now ∷ []) (fault_of_only_input e)) }

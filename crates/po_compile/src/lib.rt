@@ -23,6 +23,6 @@ mod status;
 
 pub use crate::collecting::Collected;
 pub use crate::compiling::{compile, compile_all, compile_collected};
-pub use crate::inputs::{collect_all, collect_catalogues};
+pub use crate::inputs::collect_all;
 pub use crate::messages::{CompiledMessage, compiled_messages};
 pub use crate::options::{Compiled, Options};

@@ -23,7 +23,7 @@ pub(crate) struct Row<'b> {
     pub(crate) live: EntryRef<'b>,
     /// The input of the entry, counted from 0.
     pub(crate) input: u32,
-    /// Whether the entry is compiled, and what it counts as.
+    /// Whether the entry is compiled, and what the statistics ask of it.
     pub(crate) status: Status,
     ghost bytes: { All (λ byte. byte < 256) (query_key live.context live.id) },
     ghost first: { prefix ≡ prefix_of (query_key live.context live.id) },

@@ -2,7 +2,6 @@
 
 ghost use Rattle.std.specs.Prelude.{◌≡◌, ◌+◌, ◌<◌, ◌≤◌, ◌^◌, ◌++◌, ◌∷◌, [], IfOk, OnOk, filter, length, map};
 ghost use Rattle.mo_file.specs.Pairs.{messages_of_borrowed};
-ghost use Rattle.po_entry.specs.Validity.{IsEntry};
 ghost use Rattle.po_compile.specs.Collected.{live_message};
 ghost use Rattle.po_compile.specs.Internal.Rows.{all_messages, compiled_of, in_input_message, is_joined, row_view};
 
@@ -15,7 +14,6 @@ use std::alloc::{AllocError, Global};
 
 /// The row of a live entry of this input.
 fn row_of(input: u32, live: EntryRef<'_>, use_fuzzy: bool) -> Row<'_>
-    requires { IsEntry live }
     ensures { row_view result ≡ in_input_message input (live_message use_fuzzy live.entry) }
 {
     let status = status_of(&live, use_fuzzy);

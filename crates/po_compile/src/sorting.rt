@@ -1,9 +1,9 @@
 //! Rows in the order of their keys, and their statistics.
 
-ghost use Rattle.std.specs.Prelude.{◌≡◌, ◌-◌, ◌<◌, ◌^◌, ◌↔◌, All, IfErr, IfOk, IsPermutation, IsTrue, OnOk, count_by, length, map};
+ghost use Rattle.std.specs.Prelude.{◌≡◌, ◌<◌, ◌^◌, ◌↔◌, All, IfErr, IfOk, IsPermutation, IsTrue, OnOk, count_by, length, map};
 ghost use Rattle.mo_file.specs.Key.{AreRising};
 ghost use Rattle.po_compile.specs.Internal.Repeats.{EachApart, IsRepeatFault};
-ghost use Rattle.po_compile.specs.Internal.Rows.{AreSorted, AreSortedRows, HasOneHeader, counts_of, row_key, with_counted};
+ghost use Rattle.po_compile.specs.Internal.Rows.{AreSorted, AreSortedRows, HasOneHeader, counts_of, row_key};
 
 use crate::collecting::Collected;
 use crate::repeats::{check_each, check_joined};
@@ -40,8 +40,8 @@ fn have_one_header(inputs: &[Collected]) -> bool
 /// two headers, of which the joined list has one at most, the first repeat is looked for, without
 /// the rows.
 ///
-/// Refused with the fault of `duplicates`, of the first input that has one; then with that of
-/// `joined_duplicates`; and where an allocation failed.
+/// Refused with the first duplicate of the first input that has one; then with the first across
+/// inputs; and where an allocation failed.
 pub(crate) fn sorted_rows(alloc: Global, inputs: &[Collected]) -> Result<Vec<Row<'_>>, JoinError>
     requires { length inputs.now < 2 ^ 32 }
     ensures rows { IfOk result (λ rows. AreSortedRows inputs.now rows.items) }
@@ -59,18 +59,6 @@ pub(crate) fn sorted_rows(alloc: Global, inputs: &[Collected]) -> Result<Vec<Row
     unreachable!()
 }
 
-/// Counts a message.
-fn count(stats: &mut Stats, status: Status)
-    requires translated { stats.old.translated < 2 ^ 64 - 1 }
-    requires fuzzy { stats.old.fuzzy < 2 ^ 64 - 1 }
-    requires untranslated { stats.old.untranslated < 2 ^ 64 - 1 }
-    ensures { stats.new ≡ with_counted stats.old status }
-{
-    stats.translated += u64::from(status.translated);
-    stats.fuzzy += u64::from(status.fuzzy);
-    stats.untranslated += u64::from(status.untranslated);
-}
-
 /// How many messages are translated, fuzzy and untranslated.
 pub(crate) fn statistics_of(rows: &[Row<'_>]) -> Stats
     ensures { result ≡ counts_of rows.now }
@@ -81,7 +69,13 @@ pub(crate) fn statistics_of(rows: &[Row<'_>]) -> Stats
         untranslated: 0,
     };
     for row in rows {
-        count(&mut stats, row.status);
+        let Status {
+            counted,
+            translated,
+            fuzzy,
+            ..
+        } = row.status;
+        stats.count(counted, translated, fuzzy);
     }
     stats
 }

@@ -1,7 +1,6 @@
 -- Messages that repeat earlier ones (manual, "The Format of PO Files").
-use Rattle.std.specs.Prelude.{◌≡◌, ◌≢◌, ◌⊎◌, ◌<◌, ℕ, List, [], All, map, length, take, get_or, None}
+use Rattle.std.specs.Prelude.{◌≡◌, ◌⊎◌, ◌<◌, ℕ, List, [], All, map, length, take, get_or}
 use Rattle.po_messages.specs.Duplicate.{join_out_of_memory}
-use Rattle.po_messages.specs.Message.{Message}
 use Rattle.po_messages.specs.Repeats.{IsFirstRepeat}
 use Rattle.po_messages.specs.declared.duplicate.JoinError.{JoinError}
 use Rattle.po_syntax.specs.declared.fault.PoFault.TheVariants.{Duplicate}
@@ -10,20 +9,12 @@ use Rattle.po_compile.specs.Collected.{LiveMessage}
 use Rattle.po_compile.specs.Internal.Rows.{AllApart, InputMessage, all_messages, in_input_message}
 use Rattle.po_compile.specs.Internal.Rows.{message_keys}
 
--- a key as that of a message without a context
-abbrev pub key_message : List ℕ → Message
-key_message key = record { context = None; id = key }
-
--- each index before this one is its own number
-abbrev pub AreOwn : List ℕ → ℕ → Type 0
-AreOwn numbers n = (i : ℕ) → i < n → get_or numbers i 0 ≡ i
-
--- the first index that isn't its own number
-pub record IsFirstOther (numbers : List ℕ) (number index : ℕ) : Type 0 where
-  pub inside : index < length numbers
-  pub number_is : number ≡ get_or numbers index 0
-  pub other : number ≢ index
-  pub before : AreOwn numbers index
+-- the first key that stands among those before it, with the index of the first of these that it is
+pub record IsRepeatAt (keys : List (List ℕ)) (first later : ℕ) : Type 0 where
+  pub inside : later < length keys
+  pub earlier : first < later
+  pub same : get_or keys first [] ≡ get_or keys later []
+  pub before : AllApart (take later keys)
 
 -- two messages have one key
 abbrev pub HaveOneKey : InputMessage → InputMessage → Type 0

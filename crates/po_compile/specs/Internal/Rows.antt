@@ -1,7 +1,7 @@
 -- The rows of several inputs that are compiled, in the order of their joined list and sorted (manual,
 -- "Invoking the msgfmt Program": several input files).
 use Rattle.std.specs.Prelude.{ℕ, ◌+◌, ◌≤◌, ◌==◌, Bool, false, not, ◌&&◌, ◌||◌, List, [], ◌∷◌, ◌++◌, map, filter, length}
-use Rattle.std.specs.Prelude.{◌≢◌, AllPairs, IsPermutation, count_by, if◌then◌else◌}
+use Rattle.std.specs.Prelude.{◌≢◌, AllPairs, IsPermutation, count_by}
 use Rattle.std.specs.List.{list_any}
 use Rattle.std.specs.List.Sorted.{IsSortedBy}
 use Rattle.std.specs.Ordering.{is_lt}
@@ -84,20 +84,22 @@ pub record AreSortedRows (inputs : List (List LiveMessage)) (rows : List Row) : 
   pub all : IsPermutation (all_messages inputs) (map row_view rows)
   pub rising : AreRising (map row_key rows)
 
--- how many of the messages count as translated, fuzzy and untranslated
+-- of the messages that the statistics count, those that are translated, fuzzy and untranslated
+abbrev pub counts_translated : Status → Bool
+counts_translated status = status.counted && status.translated && not status.fuzzy
+
+abbrev pub counts_fuzzy : Status → Bool
+counts_fuzzy status = status.counted && status.translated && status.fuzzy
+
+abbrev pub counts_untranslated : Status → Bool
+counts_untranslated status = status.counted && not status.translated
+
+-- how many of the rows are of each
 abbrev pub counts_of : List Row → Stats
 counts_of rows = record {
-  translated = count_by (λ (r : Row). r.status.translated) rows;
-  fuzzy = count_by (λ (r : Row). r.status.fuzzy) rows;
-  untranslated = count_by (λ (r : Row). r.status.untranslated) rows;
-}
-
--- these counts, and one more where a message of this status counts
-abbrev pub with_counted : Stats → Status → Stats
-with_counted stats status = record {
-  translated = stats.translated + (if status.translated then 1 else 0);
-  fuzzy = stats.fuzzy + (if status.fuzzy then 1 else 0);
-  untranslated = stats.untranslated + (if status.untranslated then 1 else 0);
+  translated = count_by (λ (r : Row). counts_translated r.status) rows;
+  fuzzy = count_by (λ (r : Row). counts_fuzzy r.status) rows;
+  untranslated = count_by (λ (r : Row). counts_untranslated r.status) rows;
 }
 
 -- an input has one header at most

@@ -28,7 +28,7 @@ returns-in-Ok-checked c =
     let read = held.collects in
     let compiled = c.in-Ok.ensures.found texts read in
     let checked : c.args.options.now.profile_check ≡ true → _ = λ asked. elim c.if-options.branch [
-      | then-options w ↦ (rw (sym w.checked-is ∙ c.in-Ok-checked.is) at w.check_inputs-checked.ensures.fit)
+      | then-options w ↦ (rw (sym w.checked-is ∙ c.in-Ok-checked.is) at w.check_collected-checked.ensures.fit)
           c.args.options.now.use_fuzzy read.catalogues read.held
       | else-options w ↦ let wrong : true ≡ false = sym asked ∙ w.if-options.false in absurd (true≢false wrong)
     ] in
@@ -62,7 +62,7 @@ returns-in-Err-checked c =
             run_is = reported.1
                 ∙ ap (λ names. refusal (check_line names (c.in-Err-checked.input, c.in-Err-checked.fault))) held.named;
           })))
-          (rw (sym w.checked-is ∙ c.in-Err-checked.is) at w.check_inputs-checked.ensures.unfit)
+          (rw (sym w.checked-is ∙ c.in-Err-checked.is) at w.check_collected-checked.ensures.unfit)
       | else-options w ↦ let wrong : true ≡ false = ap is_ok (sym w.checked-is ∙ c.in-Err-checked.is) in absurd
           (true≢false wrong)
     ])

@@ -5,7 +5,7 @@ use Rattle.po_messages.specs.declared.duplicate.JoinError.{JoinError}
 use Rattle.po_compile.specs.Accepted.{fault_of_input}
 use Rattle.po_compile.specs.Internal.Repeats.{EachApart, IsRepeat}
 use Rattle.po_compile.specs.Internal.Rows.{AllApart, all_messages, in_input_message, input_keys, message_keys}
-use Rattle.po_compile.proofs.NumberedKeys.{only_keys, only_messages}
+use Rattle.po_compile.proofs.RepeatedKeys.{only_keys, only_messages}
 use Rattle.po_compile.proofs.repeats.check_each.Goals as goal
 
 pub loop-input-preserved : goal.loop-input-preserved

@@ -1,5 +1,6 @@
-use Rattle.po_compile.specs.Internal.Repeats.{AreOwn}
+use Rattle.po_entry.specs.TextEntry.{slice_texts}
+use Rattle.po_compile.proofs.RepeatedKeys.{AreSeen}
 use Rattle.po_compile.proofs.repeats.first_repeat.Given as goal
 
 abbrev pub invariant-loop-later : goal.invariant-loop-later
-invariant-loop-later l = AreOwn l.numbers l.later
+invariant-loop-later l = AreSeen (slice_texts l.keys) l.later l.seen

@@ -1,0 +1,115 @@
+-- The first key that stands twice.
+use Rattle.std.proofs.Common.{◌≡◌, ◌≢◌, sym, ap, ap₂, ◌∙◌, AllPairs, drop, subst, ℕ, ◌+◌, ◌<◌, suc, Bool, true, false, not, List, [], ◌∷◌, ◌++◌, length, length-take, filter, get_or, get_or-take, take, map, arith, append-nil, refl}
+use Rattle.std.specs.Borrow.{Bor}
+use Rattle.std.specs.Prelude.{if◌then◌else◌}
+use Rattle.std.specs.List.{list_any, position_or_len}
+use Rattle.std.specs.Str.{bytes_eq}
+use Rattle.std.proofs.lemmas.List.{get_or_default, get_or-map, length-map, map-append, take-map, take_more}
+use Rattle.std.proofs.lemmas.List.Quantifiers.{all_pairs_push}
+use Rattle.std.proofs.lemmas.List.Sums.{passes_at_first, prefix_len-le-length, prefix_len_passes}
+use Rattle.std.proofs.lemmas.Simd.{map-map}
+use Rattle.std.proofs.lemmas.Slice.Eq.{bytes_eq-Decides}
+use Rattle.po_entry.specs.SeenTexts.{with_seen}
+use Rattle.po_entry.specs.TextEntry.{slice_texts}
+use Rattle.po_messages.specs.Repeats.{IsFirstRepeat}
+use Rattle.po_messages.specs.Facts.FirstRepeats.{pairs_of_map}
+use Rattle.po_messages.proofs.FirstOnes.{found_within}
+use Rattle.po_compile.specs.Collected.{LiveMessage}
+use Rattle.po_compile.specs.Internal.Repeats.{HaveOneKey, IsRepeatAt}
+use Rattle.po_compile.specs.Internal.Rows.{AllApart, InputMessage, all_messages, in_input_message, input_keys, is_joined, message_keys}
+use Rattle.po_compile.proofs.Filters.{filter_all, split_at}
+
+abbrev pub no_key : Bor (List ℕ)
+no_key = record { ref_ptr = (0, 0); now = [] }
+
+abbrev pub key_of : Bor (List ℕ) → List ℕ
+key_of key = key.now
+
+pub is_key : (keys : List (Bor (List ℕ))) (i : ℕ) → i < length keys
+    → (get_or keys i no_key).now ≡ get_or (slice_texts keys) i (get_or keys i no_key).now
+is_key keys i inside = sym (get_or-map key_of keys i no_key (get_or keys i no_key).now inside)
+
+pub keys_more : (keys : List (Bor (List ℕ))) (i : ℕ) → i < length keys
+    → slice_texts (take (i + 1) keys) ≡ slice_texts (take i keys) ++ (get_or keys i no_key).now ∷ []
+keys_more keys i inside =
+    ap slice_texts (take_more keys i no_key inside) ∙ map-append key_of (take i keys) (get_or keys i no_key ∷ [])
+
+-- the keys before this index were seen, and no two of them are the same
+pub record AreSeen (keys : List (List ℕ)) (n : ℕ) (seen : List (List ℕ)) : Type 0 where
+  pub seen_are : seen ≡ take n keys
+  pub apart : AllApart (take n keys)
+
+module _ (keys : List (List ℕ)) (n : ℕ) (key : List ℕ) (seen new : List (List ℕ)) (first : ℕ)
+    (inside : n < length keys) (here : key ≡ get_or keys n key) (so_far : AreSeen keys n seen)
+    (new_is : new ≡ with_seen seen key) (first_is : first ≡ position_or_len (bytes_eq key) seen) where
+  many : length seen ≡ n
+  many = let long = ap length so_far.seen_are in omega (arith, long, length-take n keys, inside)
+
+  taken : take (n + 1) keys ≡ seen ++ key ∷ []
+  taken = take_more keys n key inside ∙ ap₂ (λ l k. l ++ k ∷ []) (sym so_far.seen_are) (sym here)
+
+  unseen : first ≡ n → list_any (bytes_eq key) seen ≡ false
+  unseen none = by (list_any (bytes_eq key) seen) refl where
+    by : (b : Bool) → list_any (bytes_eq key) seen ≡ b → b ≡ false
+    by true any = absurd (omega (arith, found_within (bytes_eq key) seen any, none, first_is, many))
+    by false any = refl
+
+  pub one_more : first ≡ n → AreSeen keys (n + 1) new
+  one_more none = record {
+    seen_are = new_is ∙ ap (λ (b : Bool). if b then seen else seen ++ key ∷ []) (unseen none) ∙ sym taken;
+    apart = subst AllApart (sym taken)
+        (all_pairs_push (λ k l. k ≢ l) seen key (subst AllApart (sym so_far.seen_are) so_far.apart) other);
+  } where
+    other : (k : ℕ) (d : List ℕ) → k < length seen → get_or seen k d ≢ key
+    other k d below same =
+        let passes = prefix_len_passes (λ x. not (bytes_eq key x)) seen k d
+        (omega (arith, below, many, none, first_is)) in
+        let equal = (bytes_eq-Decides key (get_or seen k d)).1 (sym same) in
+        cc (passes, equal)
+
+  pub repeated : first ≢ n → IsRepeatAt keys first n
+  repeated other =
+      let before : first < n =
+      omega (arith, other, first_is, many, prefix_len-le-length (λ x. not (bytes_eq key x)) seen) in
+      let equal = passes_at_first (bytes_eq key) seen [] (omega (arith, before, first_is, many)) in
+      let seen_at : get_or seen first [] ≡ get_or keys first [] =
+      ap (λ l. get_or l first []) so_far.seen_are ∙ get_or-take n keys first [] before in
+      record {
+        inside = inside;
+        earlier = before;
+        same = sym seen_at ∙ ap (λ k. get_or seen k []) first_is
+            ∙ sym ((bytes_eq-Decides key (get_or seen (position_or_len (bytes_eq key) seen) [])).0 equal)
+            ∙ here ∙ get_or_default keys n key [] inside;
+        before = so_far.apart;
+      }
+
+pub repeat_found : (messages : List InputMessage) (n k : ℕ) → IsRepeatAt (input_keys messages) k n
+    → (first later : InputMessage) → first ≡ get_or messages k first → later ≡ get_or messages n later
+    → IsFirstRepeat HaveOneKey messages first later
+repeat_found messages n k repeat first later first_is later_is =
+    let key : InputMessage → List ℕ = λ m. m.message.key in
+    let prefix = take n messages in
+    let within : n < length messages = omega (arith, repeat.inside, length-map messages key) in
+    let split : prefix ≡ take k prefix ++ first ∷ drop (suc k) prefix =
+    split_at prefix k first (omega (arith, repeat.earlier, within, length-take n messages))
+    ∙ ap (λ m. take k prefix ++ m ∷ drop (suc k) prefix) (get_or-take n messages k first repeat.earlier
+    ∙ sym first_is) in
+    record {
+      before = take k prefix;
+      between = drop (suc k) prefix;
+      after = drop (suc n) messages;
+      order = split_at messages n later within ∙ ap₂ (λ ms m. ms ++ m ∷ drop (suc n) messages) split (sym later_is);
+      same = ap key first_is ∙ sym (get_or-map key messages k first [] (omega (arith, repeat.earlier, within)))
+          ∙ repeat.same ∙ get_or-map key messages n later [] within ∙ ap key (sym later_is);
+      differ = subst (AllPairs (λ a b. ¬ HaveOneKey a b)) split
+          (pairs_of_map (λ a b. a ≢ b) key prefix (subst AllApart (take-map key n messages) repeat.before));
+    }
+
+-- one input alone
+pub only_messages : (messages : List LiveMessage) → all_messages (messages ∷ []) ≡ map (in_input_message 0) messages
+only_messages messages = append-nil (map (in_input_message 0) (filter (is_joined false) messages))
+    ∙ ap (map (in_input_message 0)) (filter_all (is_joined false) (λ m. refl) messages)
+
+pub only_keys : (messages : List LiveMessage) → input_keys (all_messages (messages ∷ [])) ≡ message_keys messages
+only_keys messages = let key : InputMessage → List ℕ =
+    λ m. m.message.key in ap input_keys (only_messages messages) ∙ map-map key (in_input_message 0) messages

@@ -1,0 +1,15 @@
+use Rattle.std.proofs.Common.{◌+◌, get_or, sym, take}
+use Rattle.po_entry.specs.TextEntry.{slice_texts}
+use Rattle.po_messages.specs.Digests.{key_writes}
+use Rattle.po_messages.proofs.Digests.{digest_more}
+use Rattle.po_compile.proofs.RepeatedKeys.{keys_more, no_key}
+use Rattle.po_compile.proofs.repeats.digest_of.Goals as goal
+
+pub loop-key-preserved : goal.loop-key-preserved
+loop-key-preserved c =
+    let keys = c.args.keys.now in
+    let i = c.loop-key.key-index in
+    rw (c.write.ensures, c.write_usize.ensures, c.loop-key.invariant)
+    (sym (digest_more key_writes (slice_texts (take i keys)) (slice_texts (take (i + 1) keys))
+    (get_or keys i no_key).now
+    (keys_more keys i c.loop-key-test.true)))

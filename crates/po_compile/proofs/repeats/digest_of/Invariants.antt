@@ -1,0 +1,10 @@
+use Rattle.std.proofs.Common.{◌≡◌, take}
+use Rattle.std.specs.List.{flat_map}
+use Rattle.po_entry.specs.Seeds.{digest_of}
+use Rattle.po_entry.specs.TextEntry.{slice_texts}
+use Rattle.po_messages.specs.Digests.{key_writes}
+use Rattle.po_compile.proofs.repeats.digest_of.Given as goal
+
+-- the keys so far are digested
+abbrev pub invariant-loop-key : goal.invariant-loop-key
+invariant-loop-key l = l.digest ≡ digest_of (flat_map key_writes (slice_texts (take l.key-index l.keys)))
