@@ -13,7 +13,7 @@ use crate::words::Words;
 use known_system::laws::{run_leaves_all_or_nothing, same_system_holds_the_same};
 use known_system::{KnownFiles, KnownSource, Link, Named, Told};
 use runs::{ProgramFault, Tool};
-use std::alloc::Global;
+use std::alloc::{AllocError, Global};
 
 /// The words of `msgfmt a.po -o a.mo`.
 static MSGFMT: Words<'static> = Words {
@@ -26,8 +26,9 @@ static MSGFMT: Words<'static> = Words {
 pub fn msgfmt_in_memory(alloc: Global, text: &[u8], held: Option<Vec<u8>>) -> Ended
     ensures { EndsMsgfmt text.now (option_map (λ bytes. bytes.items) held) (end_of result) }
 {
-    let Ok(path) = String::from_str(alloc, "a.mo") else {
-        return unstarted(alloc, held);
+    let path = match String::from_str(alloc, "a.mo") {
+        Ok(path) => path,
+        Err(why) => return unstarted(alloc, held, why),
     };
     run_leaves_all_or_nothing();
     same_system_holds_the_same();
@@ -58,8 +59,9 @@ pub fn msgfmt_through_links_in_memory(
     ensures { EndsThroughLinks (links_by_path links.now) place.now text.now
         (option_map (λ bytes. bytes.items) held) (end_of result) }
 {
-    let Ok(path) = String::from_str(alloc, place) else {
-        return unstarted(alloc, held);
+    let path = match String::from_str(alloc, place) {
+        Ok(path) => path,
+        Err(why) => return unstarted(alloc, held, why),
     };
     run_leaves_all_or_nothing();
     same_system_holds_the_same();
@@ -90,8 +92,9 @@ pub fn msgattrib_in_memory(alloc: Global, text: &[u8], held: Option<Vec<u8>>) ->
     ensures { EndsInFile (IsMsgattribRun (codes "a.po") all_as_they_are text.now) (codes "b.po")
         (option_map (λ bytes. bytes.items) held) (end_of result) }
 {
-    let Ok(path) = String::from_str(alloc, "b.po") else {
-        return unstarted(alloc, held);
+    let path = match String::from_str(alloc, "b.po") {
+        Ok(path) => path,
+        Err(why) => return unstarted(alloc, held, why),
     };
     run_leaves_all_or_nothing();
     same_system_holds_the_same();
@@ -122,8 +125,9 @@ pub fn msgunfmt_in_memory(alloc: Global, bytes: &[u8], held: Option<Vec<u8>>) ->
     ensures { EndsInFile (IsMsgunfmtRunOf (codes "a.mo") bytes.now) (codes "a.po")
         (option_map (λ bytes. bytes.items) held) (end_of result) }
 {
-    let Ok(path) = String::from_str(alloc, "a.po") else {
-        return unstarted(alloc, held);
+    let path = match String::from_str(alloc, "a.po") {
+        Ok(path) => path,
+        Err(why) => return unstarted(alloc, held, why),
     };
     run_leaves_all_or_nothing();
     same_system_holds_the_same();
@@ -154,8 +158,9 @@ pub fn msgcat_in_memory(alloc: Global, a: &[u8], b: &[u8], held: Option<Vec<u8>>
     ensures { EndsInFile (IsMsgcatRun (two_files a.now b.now) all_messages) (codes "c.po")
         (option_map (λ bytes. bytes.items) held) (end_of result) }
 {
-    let Ok(path) = String::from_str(alloc, "c.po") else {
-        return unstarted(alloc, held);
+    let path = match String::from_str(alloc, "c.po") {
+        Ok(path) => path,
+        Err(why) => return unstarted(alloc, held, why),
     };
     run_leaves_all_or_nothing();
     same_system_holds_the_same();
@@ -181,14 +186,14 @@ pub fn msgcat_in_memory(alloc: Global, a: &[u8], b: &[u8], held: Option<Vec<u8>>
 }
 
 /// The end of a command for which there is no memory at all.
-fn unstarted(alloc: Global, file: Option<Vec<u8>>) -> Ended
+fn unstarted(alloc: Global, file: Option<Vec<u8>>, why: AllocError) -> Ended
     ensures result { result.result ≡ Err ProgramFault.OutOfMemory }
     ensures file { result.file ≡ file }
     ensures out { result.out.said.bytes ≡ [] }
     ensures err { result.err.said.bytes ≡ [] }
 {
     Ended {
-        result: Err(ProgramFault::OutOfMemory),
+        result: Err(ProgramFault::from(why)),
         file,
         out: Told::new(alloc),
         err: Told::new(alloc),

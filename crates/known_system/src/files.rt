@@ -167,13 +167,17 @@ impl<'a> OutputFiles for KnownFiles<'a> {
             self.history = self.history.then(&Note::NoLink(path));
             return Ok(None);
         };
-        let Ok(copy) = String::from_str(alloc, text) else {
-            let why = OutputFault::OutOfMemory;
-            self.history = self.history.then(&Note::FailsToReadLink(path, why));
-            return Err(why);
-        };
-        self.history = self.history.then(&Note::Link(path, text));
-        Ok(Some(copy))
+        match String::from_str(alloc, text) {
+            Ok(copy) => {
+                self.history = self.history.then(&Note::Link(path, text));
+                Ok(Some(copy))
+            }
+            Err(error) => {
+                let why = OutputFault::from(error);
+                self.history = self.history.then(&Note::FailsToReadLink(path, why));
+                Err(why)
+            }
+        }
     }
 
     #[tactic(auto, using(crate::proofs::Replays::replay_append))]

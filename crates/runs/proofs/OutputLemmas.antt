@@ -1,15 +1,17 @@
 -- How the calls of a function join to those of its caller.
 use Rattle.std.proofs.Common.{◌≡◌, ◌+◌, ◌<◌, ◌^◌, ◌&&◌, true, false, ℕ, Bool, List, [], ◌∷◌, ◌++◌, Option, Some, None, Result, Ok, Err, OnOk, OnErr, is_ok, refl, sym, ap, ◌∙◌, subst, append_assoc, append-nil}
 use Rattle.std.specs.Io.KnownBytes.{Appends}
+use Rattle.std.specs.Result.{IsErrAnd}
 use Rattle.runs.specs.Device.{AppendsPrefix}
 use Rattle.runs.specs.declared.tool_fault.ToolFault.{ToolFault}
 use Rattle.runs.specs.declared.output_files.OutputFault.{OutputFault}
+use Rattle.runs.specs.declared.output_files.OutputFault.TheVariants.{OutOfMemory}
 use Rattle.runs.specs.declared.output_files.FileKind.TheVariants.{Regular}
 use Rattle.runs.specs.declared.output_files.MakeFault.{MakeFault}
 use Rattle.runs.specs.declared.output_files.MakeFault.TheVariants.{Exists}
 use Rattle.runs.specs.declared.output_files.Owner.{Owner}
 use Rattle.runs.specs.declared.output_files.Rights.{Rights}
-use Rattle.runs.specs.FileCalls.{FileCall, FileLog, Course, done, fails, ◌▸◌, calls_of, logged, Runs, asks, reads_link, numbers, makes, fails_to_make, closes, sets_mode, sets_owner}
+use Rattle.runs.specs.FileCalls.{FileCall, FileLog, Course, done, fails, ◌▸◌, calls_of, fault_in, logged, Runs, asks, reads_link, numbers, makes, fails_to_make, closes, sets_mode, sets_owner}
 use Rattle.runs.specs.FileRights.{first_mode, kept_mode}
 use Rattle.runs.specs.OutputFiles.{Closes, whole, cut, late, Fills, Finishes, NewFile, Replaces, made, taken, with_rights, WritesFile, follows}
 use Rattle.runs.specs.OutputPaths.{NamesNoStream, link_target, beside}
@@ -29,6 +31,12 @@ is-done {log} is = record { course = done; log = logged-none log; fault_is = ref
 
 pub is-fault : {log : FileLog} {why : OutputFault} {Is : Course → Type 0} → Is (fails why) → Runs log log (Some why) Is
 is-fault {log} {why} is = record { course = fails why; log = logged-none log; fault_is = refl; is = is }
+
+-- the same where an allocation failed
+pub is-no-memory : {T : Type 0} {log : FileLog} {Is : Course → Type 0} (result : Result T OutputFault)
+    → IsErrAnd result (λ fault. fault ≡ OutOfMemory) → Is (fails OutOfMemory) → Runs log log (fault_in result) Is
+is-no-memory (Ok _) is so = absurd is
+is-no-memory (Err fault) is so = rw (is) (is-fault so)
 
 -- after one call comes the rest
 pub after-call : {before mid end : FileLog} {fault : Option OutputFault} {Is : Course → Type 0} (call : FileCall)

@@ -3,9 +3,10 @@
 ghost use Rattle.std.specs.Prelude.{◌≡◌, []};
 ghost use Rattle.runs.specs.FileCalls.{logged};
 ghost use Rattle.runs.specs.FileRights.{first_mode, kept_bits, kept_mode};
+ghost use Rattle.runs.specs.declared.output_files.OutputFault.TheVariants.{OutOfMemory};
 
 use crate::device::Counted;
-use std::alloc::Global;
+use std::alloc::{AllocError, Global};
 use std::io::Write;
 
 /// The mode of a file that replaces none, of which the system takes the umask.
@@ -65,6 +66,14 @@ pub enum OutputFault {
     WriteFault,
     /// An allocation failed.
     OutOfMemory,
+}
+
+impl From<AllocError> for OutputFault {
+    ghost from_gives = { λ _ fault. fault ≡ OutOfMemory };
+
+    fn from(_error: AllocError) -> OutputFault {
+        OutputFault::OutOfMemory
+    }
 }
 
 /// The files of a system, as outputs are made, and the streams that are open: what is asked of the

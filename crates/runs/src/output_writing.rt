@@ -46,10 +46,8 @@ pub(crate) fn write_file<T: OutputFiles>(
             if links == 0 {
                 return Err(OutputFault::CannotCreate);
             }
-            match link_target(alloc, path, &text) {
-                Ok(target) => write_file(alloc, files, &target, output, links - 1),
-                Err(_) => Err(OutputFault::OutOfMemory),
-            }
+            let target = link_target(alloc, path, &text)?;
+            write_file(alloc, files, &target, output, links - 1)
         }
     }
 }
@@ -68,9 +66,7 @@ fn replace<T: OutputFiles>(
     ensures { Runs (T.log files.old) (T.log files.new) (fault_in result)
         (λ course. Replaces output.now path.now old tries (numbers number ▸ course)) }
 {
-    let Ok(new) = beside(alloc, path, number) else {
-        return Err(OutputFault::OutOfMemory);
-    };
+    let new = beside(alloc, path, number)?;
     match files.create_new(&new, first_mode(old)) {
         Ok(file) => fill(files, file, path, &new, old, output),
         Err(MakeFault::Exists) => {

@@ -11,8 +11,8 @@ use Rattle.known_runs.proofs.AllCommands.{arrives, held_at, holds_after, holds_b
 use Rattle.known_runs.proofs.Selections.{all_selected, line_ends, selection_is}
 use Rattle.known_runs.proofs.commands.msgattrib_in_memory.Goals as goal
 
-pub returns-in_default : goal.returns-in_default
-returns-in_default c =
+pub returns-in-Err : goal.returns-in-Err
+returns-in-Err c =
     let is = c.unstarted.ensures in
     unstarted_ends (EndsInFile (IsMsgattribRun (codes "a.po") all_as_they_are c.args.text.now) (codes "b.po")
     (option_map (λ b. b.items) c.args.held)) c.unstarted.result c.args.held is.result is.file is.out is.err

@@ -11,8 +11,8 @@ use Rattle.known_runs.proofs.AllCommands.{arrives, held_at, holds_after, holds_b
 use Rattle.known_runs.proofs.Merges.{line_ends}
 use Rattle.known_runs.proofs.commands.msgcat_in_memory.Goals as goal
 
-pub returns-in_default : goal.returns-in_default
-returns-in_default c =
+pub returns-in-Err : goal.returns-in-Err
+returns-in-Err c =
     let is = c.unstarted.ensures in
     unstarted_ends (EndsInFile (IsMsgcatRun (two_files c.args.a.now c.args.b.now) all_messages) (codes "c.po")
     (option_map (λ b. b.items) c.args.held)) c.unstarted.result c.args.held is.result is.file is.out is.err

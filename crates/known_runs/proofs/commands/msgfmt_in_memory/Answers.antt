@@ -10,8 +10,8 @@ use Rattle.known_runs.proofs.Files.{leads_there}
 use Rattle.known_runs.proofs.Msgfmts.{line_ends}
 use Rattle.known_runs.proofs.commands.msgfmt_in_memory.Goals as goal
 
-pub returns-in_default : goal.returns-in_default
-returns-in_default c =
+pub returns-in-Err : goal.returns-in-Err
+returns-in-Err c =
     let is = c.unstarted.ensures in
     unstarted_ends (EndsMsgfmt c.args.text.now (option_map (λ b. b.items) c.args.held)) c.unstarted.result c.args.held
     is.result is.file is.out is.err (failed (inl refl))

@@ -10,8 +10,8 @@ use Rattle.known_runs.proofs.AllCommands.{arrives, held_at, holds_after, holds_b
 use Rattle.known_runs.proofs.ThroughLinks.{through_links, unstarted_so}
 use Rattle.known_runs.proofs.commands.msgfmt_through_links_in_memory.Goals as goal
 
-pub returns-in_default : goal.returns-in_default
-returns-in_default c =
+pub returns-in-Err : goal.returns-in-Err
+returns-in-Err c =
     let is = c.unstarted.ensures in
     let links = links_by_path c.args.links.now in
     unstarted_ends (EndsThroughLinks links c.args.place.now c.args.text.now (option_map (λ b. b.items) c.args.held))

@@ -1,6 +1,6 @@
 use Rattle.std.proofs.Common.{◌≡◌, ◌∙◌, ◌+◌, ◌-◌, arith}
 use Rattle.runs.specs.OutputFiles.{lacking, taken, stream, stops, special, replaces, unknown, unread, no_memory, too_long}
-use Rattle.runs.proofs.OutputLemmas.{after-call, after-link, done-for, is-fault}
+use Rattle.runs.proofs.OutputLemmas.{after-call, after-link, done-for, is-fault, is-no-memory}
 use Rattle.runs.proofs.output_writing.+write_file.Goals as goal
 
 pub returns-in-Some-stream : goal.returns-in-Some-stream
@@ -37,14 +37,17 @@ returns-then-links-eq0 g t c =
     after-call _ c.in-Regular.ensures
     (after-call _ read (is-fault (stops c.in_default.ensures (too_long c.if-links-eq0.true))))
 
-pub returns-in-Ok : goal.returns-in-Ok
-returns-in-Ok g t c =
+pub returns-in_ok-target-in-Ok-Some : goal.returns-in_ok-target-in-Ok-Some
+returns-in_ok-target-in-Ok-Some g t c =
     let read = rw c.in-Ok-Some.field-0-is at c.in-Ok-Some.ensures in
     let more : (c.args.links - 1) + 1 ≡ c.args.links = omega (arith, c.if-links-eq0.false) in
-    after-link c.in-Regular.old c.in_default.ensures more c.deref.ensures (c.deref-in-Ok.ensures ∙ c.in-Ok.ensures)
+    after-link c.in-Regular.old c.in_default.ensures more c.deref.ensures
+    (c.deref-in-Ok-Some.ensures ∙ c.in_ok-target-in-Ok-Some.ensures)
     c.in-Regular.ensures read c.write_file.ensures
 
-pub returns : goal.returns
-returns g t c =
+pub returns-in_err-target-in-Ok-Some : goal.returns-in_err-target-in-Ok-Some
+returns-in_err-target-in-Ok-Some g t c =
     let read = rw c.in-Ok-Some.field-0-is at c.in-Ok-Some.ensures in
-    after-call _ c.in-Regular.ensures (after-call _ read (is-fault (stops c.in_default.ensures no_memory)))
+    after-call _ c.in-Regular.ensures
+    (after-call _ read (is-no-memory c.from_residual.result c.from_residual.ensures.1
+    (stops c.in_default.ensures no_memory)))

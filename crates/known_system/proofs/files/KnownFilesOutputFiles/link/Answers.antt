@@ -7,12 +7,12 @@ use Rattle.known_system.specs.Stored.{stored}
 use Rattle.known_system.proofs.Tellings.{answers_link}
 use Rattle.known_system.proofs.files.KnownFilesOutputFiles.link.Goals as goal
 
-pub invariant_of-self-2 : goal.invariant_of-self-2
-invariant_of-self-2 c =
+pub invariant_of-self-in-Ok : goal.invariant_of-self-in-Ok
+invariant_of-self-in-Ok c =
     let files = c.args.self.now in
     record {
       tied =
-          ap (λ (calls : List FileCall). replay calls nothing) c.then-self-2.ensures
+          ap (λ (calls : List FileCall). replay calls nothing) c.then-self-in-Ok.ensures
           ∙ answers_link files.history.calls (links_by_path files.links.now) (stored files.held) (stored files.fresh)
           c.args.path.now c.in-Some.text.now files.tied (sym c.link_at.ensures ∙ ap option_copied c.in-Some.is);
     }
