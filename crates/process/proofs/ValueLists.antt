@@ -26,14 +26,15 @@ values_pushed text_of may_be before after x index at are is more =
 
 -- the same after a head that is no value, from the index 1 on
 pub values_pushed_after : {X : Type 0} (text_of : X → List ℕ) (may_be : ℕ → Option (List ℕ) → Type 0) (head : List ℕ)
-    (before after : List X) (x : X) (index : ℕ)
-    → (rest : List (List ℕ)) × (map text_of before ≡ head ∷ rest) × (index ≡ 1 + length rest) × AreValues may_be 1 rest
-    → may_be index (Some (text_of x)) → after ≡ before ++ x ∷ []
-    → (rest : List (List ℕ)) × (map text_of after ≡ head ∷ rest) × (index + 1 ≡ 1 + length rest)
+    (before after : List X) (x : X)
+    → (rest : List (List ℕ)) × (map text_of before ≡ head ∷ rest) × (length before ≡ 1 + length rest)
     × AreValues may_be 1 rest
-values_pushed_after text_of may_be head before after x index (rest, are, at, values) is more = (
+    → may_be (length before) (Some (text_of x)) → after ≡ before ++ x ∷ []
+    → (rest : List (List ℕ)) × (map text_of after ≡ head ∷ rest) × (length after ≡ 1 + length rest)
+    × AreValues may_be 1 rest
+values_pushed_after text_of may_be head before after x (rest, are, at, values) is more = (
   rest ++ text_of x ∷ [],
   ap (map text_of) more ∙ map-append text_of before (x ∷ []) ∙ ap (λ texts. texts ++ text_of x ∷ []) are,
-  omega (arith, at, length-append rest (text_of x ∷ [])),
+  omega (arith, at, ap length more, length-append before (x ∷ []), length-append rest (text_of x ∷ [])),
   values_then may_be 1 rest (text_of x) values (subst (λ n. may_be n (Some (text_of x))) at is),
 )

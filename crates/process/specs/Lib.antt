@@ -1,5 +1,9 @@
 pub mod Answers
+pub mod SystemCalls
+pub mod FileReadings
+pub mod OutputCalls
 pub mod Values
 pub mod Matched
 pub mod Endings
 pub mod Program
+pub mod Starts

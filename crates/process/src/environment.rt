@@ -1,6 +1,6 @@
 //! The arguments, which are text, and the environment's variables, whose values are bytes and
 //! needn't be text.
-ghost use Rattle.std.specs.Prelude.{◌≡◌, ◌==◌, ◌⊎◌, ◌+◌, ◌++◌, ◌∷◌, [], ℕ, None, codes, length, map, string_bytes, true, vec_len, IfErr, IfOk, option_map};
+ghost use Rattle.std.specs.Prelude.{◌≡◌, ◌==◌, ◌⊎◌, ◌+◌, ◌++◌, ◌∷◌, [], ℕ, None, codes, length, map, string_bytes, true, vec_len, IfErr, IfOk, OnOk, option_map};
 ghost use Rattle.std.specs.List.{slice_split};
 ghost use Rattle.process.specs.Values.{AreArguments, AreEntries, AreValues, HasNoText};
 
@@ -95,8 +95,8 @@ pub fn arguments<P: Process>(
 {
     let mut arguments = Vec::new(alloc);
     arguments.push(String::from_str(alloc, PROGRAM)?)?;
-    for index in 1..usize::MAX {
-        let Some(argument) = ask(alloc, &ArgumentAt(process, index))? else {
+    loop {
+        let Some(argument) = ask(alloc, &ArgumentAt(process, arguments.len()))? else {
             return Ok(arguments);
         };
         match String::from_utf8(argument) {
@@ -104,7 +104,6 @@ pub fn arguments<P: Process>(
             Err(_) => return Err(ProgramFault::NotText),
         }
     }
-    Err(ProgramFault::OutOfMemory)
 }
 
 /// The value of the variable of this name, where it is set.
@@ -133,10 +132,8 @@ pub fn entries<P: Process>(alloc: Global, process: &P) -> Result<Vec<Vec<u8>>, A
         Err(InputFault::OutOfMemory) => return Err(AllocError),
         Err(InputFault::CannotOpen | InputFault::ReadFault) => {}
     }
-    if push_entries(alloc, process, &mut entries, usize::MAX)? {
-        return Ok(entries);
-    }
-    Err(AllocError)
+    push_rest(alloc, process, &mut entries)?;
+    Ok(entries)
 }
 
 /// Appends the entries that follow, until there are `most`. Returns whether the last one is there.
@@ -158,6 +155,25 @@ fn push_entries<P: Process>(
         }
     }
     Ok(false)
+}
+
+/// Appends all entries that follow.
+fn push_rest<P: Process>(
+    alloc: Global,
+    process: &P,
+    entries: &mut Vec<Vec<u8>>,
+) -> Result<(), AllocError>
+    requires { AreValues (P.entry process.now) 0 (map (λ entry. entry.items) entries.old.items) }
+    ensures entries { OnOk result (AreValues (P.entry process.now) 0 (map (λ entry. entry.items) entries.new.items)) }
+    ensures end { OnOk result
+        (P.entry process.now (length (map (λ entry. entry.items) entries.new.items)) None) }
+{
+    loop {
+        match ask(alloc, &EntryAt(process, entries.len()))? {
+            Some(entry) => entries.push(entry)?,
+            None => return Ok(()),
+        }
+    }
 }
 
 /// The entries of a text that has a NUL after each.

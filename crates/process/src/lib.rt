@@ -2,20 +2,34 @@
 //! how a command line is run, and how the program ends. Nothing here names the system itself: what
 //! it answers comes through traits, or as values.
 //!
-//! The modules in reading order: `parts`, `answers`, `value`, `environment`, `options`, `endings`,
-//! `program`.
+//! The modules in reading order: `parts`, `answers`, `system_calls`, `reading`, `value`,
+//! `environment`, `source`, `opened`, `files`, `streams`, `options`, `endings`, `program`,
+//! `starting`.
 
 #![tactic(auto)]
 
 mod answers;
 mod endings;
 mod environment;
+mod files;
+mod opened;
 mod options;
 mod parts;
 mod program;
+mod reading;
+mod source;
+mod starting;
+mod streams;
+mod system_calls;
 mod value;
 
 pub use answers::{Found, is_for_writing, kind_of, make_fault, no_link, rights_of};
 pub use endings::{give_help, refuse, report};
 pub use environment::{Process, arguments, entries, variable};
+pub use files::SystemFiles;
+pub use opened::Opened;
 pub use program::{run, run_tool};
+pub use source::Source;
+pub use starting::start;
+pub use streams::replace_closed;
+pub use system_calls::SystemCalls;

@@ -1,5 +1,5 @@
 //! The program: what its command line comes to, and the ending.
-ghost use Rattle.std.specs.Prelude.{◌≡◌, ◌≢◌, ◌^◌, ◌<◌, ℕ, List, IfErr, IfOk, IfSome, MatchOption, OnErr, OnOk, map};
+ghost use Rattle.std.specs.Prelude.{◌≡◌, ◌≢◌, ◌^◌, ◌<◌, ℕ, List, IfErr, IfOk, MatchOption, MatchResult, OnErr, OnOk, map};
 ghost use Rattle.clap.specs.Values.{kind_of};
 ghost use Rattle.po_tools.specs.ToolRun.{line_of, answers_of, reached, reader_of};
 ghost use Rattle.runs.specs.Outputs.{writer};
@@ -15,7 +15,7 @@ use po_tools::{EntrySource, VariableSource};
 use runs::{
     Arguments, ByteIn, ByteOut, Ending, InputSource, OutputFiles, OutputSystem, ProgramFault, Tool,
 };
-use std::alloc::Global;
+use std::alloc::{AllocError, Global};
 use std::str::FromStr;
 
 /// Runs the program by the arguments of the process: the inputs are those of `source`, `reader` is
@@ -82,33 +82,29 @@ where
 {
     let first = first_tool(words);
     match found_in(alloc, first, words) {
-        Ok(matches) => run_named(alloc, &matches, source, reader, system, errors),
-        Err(Some(error)) => match explain(alloc, first, &error, system) {
+        Ok(Ok(matches)) => run_named(alloc, &matches, source, reader, system, errors),
+        Ok(Err(error)) => match explain(alloc, first, &error, system) {
             Ok(ending) => ending,
             Err(fault) => report(errors, first, fault),
         },
-        Err(None) => report(errors, first, ProgramFault::OutOfMemory),
+        Err(why) => report(errors, first, ProgramFault::from(why)),
     }
 }
 
-/// What clap finds in the words, by the commands that are offered to it; its error; or none, where
-/// the commands couldn't be made.
+/// What clap finds in the words, by the commands that are offered to it, or its error.
 fn found_in<'w>(
     alloc: Global,
     first: Option<Tool>,
     words: &'w [&'w str],
-) -> Result<ArgMatches<'w>, Option<Error>>
+) -> Result<Result<ArgMatches<'w>, Error>, AllocError>
     requires { IsFirst (map (λ word. word.now) words.now) first }
-    ensures found { IfOk result (IsFoundIn (map (λ word. word.now) words.now)) }
-    ensures refused { IfErr result (λ error. IfSome error (λ e. kind_of e ≢ ErrorKind.OutOfMemory
-        → AreRefused first (map (λ word. word.now) words.now))) }
+    ensures { IfOk result (λ found. MatchResult found (IsFoundIn (map (λ word. word.now) words.now))
+        (λ error. kind_of error ≢ ErrorKind.OutOfMemory → AreRefused first (map (λ word. word.now) words.now))) }
 {
-    let Ok(command) = program(alloc, first) else {
-        return Err(None);
-    };
+    let command = program(alloc, first)?;
     match command.try_get_matches_from(words) {
-        Ok(matches) => Ok(matches),
-        Err(error) => Err(Some(error)),
+        Ok(matches) => Ok(Ok(matches)),
+        Err(error) => Ok(Err(error)),
     }
 }
 

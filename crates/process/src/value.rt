@@ -27,7 +27,7 @@ pub(crate) fn ask<V: Value>(alloc: Global, value: &V) -> Result<Option<Vec<u8>>,
     ensures { IfOk result (λ answer. V.value value.now (option_map (λ v. v.items) answer)) }
 {
     let mut capacity = FIRST_CAPACITY;
-    for _ in 0..usize::BITS {
+    loop {
         let mut room = vec![in alloc; 0; capacity]?;
         match value.fill(room.as_mut_slice()) {
             Ok(length) => {
@@ -38,5 +38,4 @@ pub(crate) fn ask<V: Value>(alloc: Global, value: &V) -> Result<Option<Vec<u8>>,
             Err(FillError::TooLong) => capacity = capacity.saturating_mul(2),
         }
     }
-    Err(AllocError)
 }

@@ -1,0 +1,6 @@
+use Rattle.process.specs.OutputCalls.{told}
+use Rattle.process.proofs.SystemCallLemmas.{once}
+use Rattle.process.proofs.files.SystemFilesOutputFiles.kind.Goals as goal
+
+pub returns : goal.returns
+returns g c = once _ c.found.ensures (told c.kind_of.ensures)

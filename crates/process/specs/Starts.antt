@@ -1,0 +1,23 @@
+-- What the program over a system comes to.
+use Rattle.std.specs.Prelude.{◌≡◌, ℕ, List, Option, None, Result, codes, false}
+use Rattle.po_tools.specs.ToolRun.{Answers, Reached}
+use Rattle.runs.specs.Outputs.{WriterView}
+use Rattle.runs.specs.ProgramFaults.{program_text}
+use Rattle.runs.specs.declared.program_fault.ProgramFault.{ProgramFault}
+use Rattle.runs.specs.declared.run.Ending.{Ending}
+use Rattle.runs.specs.declared.run.Ending.TheVariants.{Refused}
+use Rattle.process.specs.Endings.{Reports}
+use Rattle.process.specs.OutputCalls.{ReplacesClosed}
+use Rattle.process.specs.Program.{RunsProgram}
+use Rattle.process.specs.SystemCalls.{CallLog, Does}
+
+-- A standard stream is closed and nothing can take its place, which is reported; or the program runs, with
+-- what the system answers.
+pub data Starts {E : Type 0} (gives : List ℕ → Result ℕ E → Type 0) (argument : ℕ → Option (List ℕ) → Type 0)
+    (answers : Answers) : Ending → Type 0 where
+  is_closed : {before after : CallLog} (fault : ProgramFault) {errors told : WriterView}
+      → Does before after (ReplacesClosed false) → program_text fault ≡ codes "/: cannot open"
+      → Reports None fault errors told → Starts gives argument answers Refused
+  runs : {before after : Reached} {errors told : WriterView} {ending : Ending}
+      → RunsProgram gives argument answers ⊥ before after errors told ending
+      → Starts gives argument answers ending
