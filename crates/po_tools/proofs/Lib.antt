@@ -4,3 +4,4 @@ pub mod ThereAndBack
 pub mod KeptCompile
 pub mod WrittenAgain
 mod LongerChain
+pub mod SeveralTexts

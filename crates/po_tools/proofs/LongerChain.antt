@@ -1,5 +1,5 @@
 -- What a chain finds, a longer one finds too.
-use Rattle.std.proofs.Common.{◌≡◌, true, List, ◌++◌, Option, Some, None, refl, ap, ◌∙◌, find}
+use Rattle.std.proofs.Common.{◌≡◌, true, Option, Some, None, refl, ap, ◌∙◌, find}
 use Rattle.std.specs.Option.{option_map_or, option_or}
 use Rattle.std.proofs.lemmas.Bool.{false≢true}
 use Rattle.std.proofs.lemmas.List.Folds.{find-append}

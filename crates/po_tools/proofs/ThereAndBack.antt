@@ -1,15 +1,12 @@
 -- What msgfmt wrote comes back by msgunfmt and msgfmt.
-use Rattle.std.proofs.Common.{◌≡◌, ℕ, Bool, true, false, cond, nat_lt, inl, inr, List, [], ◌∷◌, length, refl, sym, ap, ◌∙◌, subst}
+use Rattle.std.proofs.Common.{◌≡◌, ℕ, true, false, cond, nat_lt, inl, inr, List, [], ◌∷◌, length, sym, ap, ◌∙◌, subst}
 use Rattle.std.proofs.lemmas.Bool.{false≢true}
 use Rattle.mo_file.specs.Laws.{OneMessageList}
 use Rattle.mo_file.specs.Message.{Message}
 use Rattle.mo_file.specs.declared.byte_order.Order.{Order}
 use Rattle.mo_file.specs.MoFile.{IsMoFile}
 use Rattle.po_syntax.specs.PoText.{IsSmall}
-use Rattle.po_compile.specs.Accepted.{AreCompiled}
 use Rattle.po_compile.specs.Headline.{NoFaultWhereAccepted}
-use Rattle.po_compile.specs.declared.options.Compiled.{Compiled}
-use Rattle.po_compile.specs.declared.options.Options.{Options}
 use Rattle.po_messages.specs.declared.duplicate.JoinError.{JoinError}
 use Rattle.po_unformat.specs.RoundTrip.{CompilesTo, NoFaultWhereUnformatted, OneText, UnformatThenCompile}
 use Rattle.po_unformat.specs.UnformattedText.{IsUnformatted, IsUnformatFault}

@@ -1,7 +1,6 @@
 -- What msgcat wrote is written again by msgcat, and compiled as the text that it was written of.
-use Rattle.std.proofs.Common.{◌≡◌, ◌≢◌, ◌⊎◌, inl, inr, ℕ, ◌<◌, zero, suc, Bool, true, false, cond, not, ◌&&◌, List, [], ◌∷◌, ◌++◌, refl, sym, ap, ap₂, ◌∙◌, subst, map, filter, length, get_or, arith}
-use Rattle.std.specs.Prelude.{All, AllPairs, Contains}
-use Rattle.std.specs.List.{AllZip}
+use Rattle.std.proofs.Common.{◌≡◌, ◌≢◌, inl, inr, ℕ, ◌<◌, zero, suc, Bool, true, false, cond, not, List, [], ◌∷◌, ◌++◌, refl, sym, ap, ap₂, ◌∙◌, subst, map, filter, length, get_or, arith}
+use Rattle.std.specs.Prelude.{All, Contains}
 use Rattle.std.proofs.lemmas.Bool.{cases_lt, not-true, false≢true}
 use Rattle.std.proofs.lemmas.List.{get_or_default, append-nil}
 use Rattle.std.proofs.lemmas.List.Elements.{All-nil, All-cons, All-head, All-tail, All-append, All-weaker, All-filter, All-contains_itself, filter-append, filter_passes}
@@ -9,16 +8,14 @@ use Rattle.std.proofs.lemmas.List.Kept.{AllPairs-cons, AllPairs-filter}
 use Rattle.std.proofs.lemmas.Simd.{map-map}
 use Rattle.po_syntax.specs.ItemContents.{IsText}
 use Rattle.po_syntax.specs.PoText.{IsSmall}
-use Rattle.po_syntax.specs.declared.fault.PoError.{PoError}
 use Rattle.po_entry.specs.TextEntry.{TextEntry, with_line}
 use Rattle.po_entry.specs.Header.{HasAdmittedCharset}
 use Rattle.po_entry.specs.ReadsText.{ReadsText}
 use Rattle.po_entry.specs.Validity.{IsCatalogueEntry}
-use Rattle.po_messages.specs.DistinctText.{IsTextFault, ReadsDistinct}
-use Rattle.po_messages.specs.Duplicate.{AllDiffer, HasNoDuplicate, IsSameMessage}
+use Rattle.po_messages.specs.DistinctText.{IsTextFault}
+use Rattle.po_messages.specs.Duplicate.{AllDiffer, IsSameMessage}
 use Rattle.po_messages.specs.Facts.FirstRepeats.{pairs_map, pairs_of_map}
 use Rattle.po_messages.specs.Joined.{is_live}
-use Rattle.po_messages.specs.Statistics.{has_translation}
 use Rattle.po_merge.specs.Inputs.{Named}
 use Rattle.po_merge.specs.Merged.{merged}
 use Rattle.po_merge.specs.MergeLaws.{IsInput, MergedCanStand, MessagesStandOnce, OneInputStays, keep_all}
@@ -27,19 +24,19 @@ use Rattle.po_writer.specs.WrittenText.{arranged, written_text}
 use Rattle.po_compile.specs.CompiledList.{compiled_list, is_compiled}
 use Rattle.po_compile.specs.CompiledMessages.{message_of}
 use Rattle.po_compile.specs.Headline.{NoFaultWhereDistinct}
-use Rattle.msgcat.specs.Msgcat.{AreReadAs, IsMerged, IsMsgcatRun, IsReadAs, msgcat_line}
+use Rattle.msgcat.specs.Msgcat.{AreReadAs, IsMerged, IsMsgcatRun, IsReadAs}
 use Rattle.runs.specs.NamedFile.{NamedFile}
 use Rattle.runs.specs.Run.{RunView}
 use Rattle.po_tools.specs.ChainLaws.{MsgcatAgain, MsgcatCompilesAlike}
 
-abbrev OneReading : Type 0
+abbrev pub OneReading : Type 0
 OneReading = (text : List ℕ) (entries others : List TextEntry) → ReadsText text entries → ReadsText text others
     → entries ≡ others
 
 abbrev EntriesCanStand : Type 0
 EntriesCanStand = (text : List ℕ) (entries : List TextEntry) → ReadsText text entries → All IsCatalogueEntry entries
 
-abbrev WrittenReads : Type 0
+abbrev pub WrittenReads : Type 0
 WrittenReads =
     (entries : List TextEntry) → All IsCatalogueEntry entries → IsSmall (written_text entries)
     → (read : List TextEntry) × ReadsText (written_text entries) read
@@ -239,14 +236,21 @@ module _ (one_input : (use_first : Bool) (input : Named) → OneInputStays use_f
       ∙ ap₂ (λ (a b : List TextEntry). a ++ b) (compiled_live use_fuzzy entries) (compiled_obsolete use_fuzzy entries)
       ∙ append-nil (compiled_list use_fuzzy entries)
 
-  pub compiles_alike : MsgcatCompilesAlike
-  compiles_alike input use_first use_fuzzy read valid differ small reads =
-      let stays = one_input use_first input differ in
-      let written = written_reads input.entries valid (subst (λ l. IsSmall (written_text l)) stays small) in
-      let same = one_reading (written_text input.entries) read written.0
-      (subst (λ l. ReadsText (written_text l) read) stays reads) written.1 in
+  -- what is read of a text that was written of entries compiles as they do
+  pub read_alike : (use_fuzzy : Bool) (entries read : List TextEntry) → All IsCatalogueEntry entries
+      → IsSmall (written_text entries) → ReadsText (written_text entries) read
+      → map message_of (compiled_list use_fuzzy read) ≡ map message_of (compiled_list use_fuzzy entries)
+  read_alike use_fuzzy entries read valid small reads =
+      let written = written_reads entries valid small in
+      let same = one_reading (written_text entries) read written.0 reads written.1 in
       sym (messages_unnumbered use_fuzzy read)
       ∙ ap (λ (l : List TextEntry). map message_of (compiled_list use_fuzzy l))
       (ap (map (with_line 0)) same ∙ written.2)
-      ∙ messages_unnumbered use_fuzzy (arranged input.entries)
-      ∙ ap (map message_of) (compiled_arranged use_fuzzy input.entries)
+      ∙ messages_unnumbered use_fuzzy (arranged entries)
+      ∙ ap (map message_of) (compiled_arranged use_fuzzy entries)
+
+  pub compiles_alike : MsgcatCompilesAlike
+  compiles_alike input use_first use_fuzzy read valid differ small reads =
+      let stays = one_input use_first input differ in
+      read_alike use_fuzzy input.entries read valid (subst (λ l. IsSmall (written_text l)) stays small)
+      (subst (λ l. ReadsText (written_text l) read) stays reads)

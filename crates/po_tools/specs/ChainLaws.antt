@@ -7,7 +7,8 @@ use Rattle.mo_lookup.specs.Query.{Query}
 use Rattle.po_entry.specs.ReadsText.{ReadsText}
 use Rattle.po_entry.specs.Validity.{IsCatalogueEntry}
 use Rattle.po_messages.specs.Duplicate.{AllDiffer}
-use Rattle.po_merge.specs.Inputs.{Named}
+use Rattle.po_messages.specs.Joined.{joined_entries}
+use Rattle.po_merge.specs.Inputs.{Named, all_entries}
 use Rattle.po_merge.specs.MergeLaws.{keep_all}
 use Rattle.po_merge.specs.Merged.{merged}
 use Rattle.po_merge.specs.declared.input.MergeOptions.{MergeOptions}
@@ -67,6 +68,18 @@ MsgcatCompilesAlike =
     → AllDiffer input.entries → IsSmall (written_text (merged (keep_all use_first) (input ∷ [])))
     → ReadsText (written_text (merged (keep_all use_first) (input ∷ []))) read
     → map message_of (compiled_list use_fuzzy read) ≡ map message_of (compiled_list use_fuzzy input.entries)
+
+-- what msgcat writes of several texts, among whose entries no message stands twice, has the messages that msgfmt has
+-- of all of them
+abbrev pub MsgcatOfSeveral : Type 0
+MsgcatOfSeveral =
+    (inputs : List Named) (use_first use_fuzzy : Bool) (read : List TextEntry)
+    → All IsCatalogueEntry (map (λ d. d.entry) (all_entries inputs))
+    → AllDiffer (map (λ d. d.entry) (all_entries inputs))
+    → IsSmall (written_text (merged (keep_all use_first) inputs))
+    → ReadsText (written_text (merged (keep_all use_first) inputs)) read
+    → map message_of (compiled_list use_fuzzy read)
+    ≡ map message_of (compiled_list use_fuzzy (joined_entries (map (λ input. input.entries) inputs)))
 
 -- where a chain finds a translation, catalogues after its own change nothing
 abbrev pub LongerChainAnswersAlike : Type 0

@@ -1,3 +1,4 @@
+pub mod NamedInputs
 pub mod RunLaws
 pub mod RunsOver
 pub mod ToolRun

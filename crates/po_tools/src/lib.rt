@@ -8,14 +8,17 @@
 //! Each tool is in a crate of its own, over `runs`: `msgfmt`, `msgunfmt`, `msgattrib`, `msgcat`,
 //! `gettext` (with ngettext) and `envsubst`. Here are all of them under one name, with [`run`],
 //! which runs the tool that is asked for by what its command line gives (`tool_run`), the calls
-//! that read one input (`one_input`) and the laws of their runs (`run_laws`).
+//! that read one input (`one_input`), those on catalogues (`catalogues`) and the laws of their runs
+//! (`run_laws`).
 
 #![tactic(auto)]
 
+mod catalogues;
 mod one_input;
 mod run_laws;
 mod tool_run;
 
+pub use catalogues::{Named, merge, profile_check, select};
 pub use envsubst::{EntrySource, EnvsubstArguments, envsubst};
 pub use gettext::{
     CatalogueFile, GettextArguments, GettextOptions, NgettextArguments, NgettextOptions,
@@ -26,19 +29,18 @@ pub use msgattrib::{plan_msgattrib, selection_of};
 pub use msgcat::{merge_options_of, plan_msgcat, plan_msgcat_before, plan_msgcat_of};
 pub use msgfmt::{
     CheckFault, MsgfmtOptions, first_profile_fault, msgfmt_options_of, plan_msgfmt, plan_msgfmt_of,
-    profile_check,
 };
 pub use msgunfmt::plan_msgunfmt;
 pub use one_input::{run_msgattrib, run_msgfmt, run_msgunfmt};
 pub use po_compile::{Compiled, Options, compile, compile_all, laws};
-pub use po_merge::{MergeOptions, Named, merge};
+pub use po_merge::MergeOptions;
 pub use po_messages::JoinError;
-pub use po_select::{Selection, select};
+pub use po_select::Selection;
 pub use po_unformat::{UnformatError, laws as unformat_laws, unformat};
 pub use run_laws::{
     kept_entries_compile_alike, longer_chain_answers_alike, msgcat_again, msgcat_compiles_alike,
-    one_gettext_run, one_msgattrib_run, one_msgcat_run, one_msgfmt_run, one_msgunfmt_run,
-    one_ngettext_run, there_and_back,
+    msgcat_of_several, one_gettext_run, one_msgattrib_run, one_msgcat_run, one_msgfmt_run,
+    one_msgunfmt_run, one_ngettext_run, there_and_back,
 };
 pub use runs::{
     Arguments, FileKind, Input, InputFault, InputSource, Inputs, MakeFault, OutputFault,

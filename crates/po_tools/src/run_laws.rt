@@ -1,6 +1,6 @@
 //! Laws of the runs of the tools, each the contract of a function that does nothing: a call brings
 //! the law into a proof.
-ghost use Rattle.po_tools.specs.ChainLaws.{CompiledAreKept, KeptCompilesAlike, LongerChainAnswersAlike, MsgcatAgain, MsgcatCompilesAlike, ThereAndBack};
+ghost use Rattle.po_tools.specs.ChainLaws.{CompiledAreKept, KeptCompilesAlike, LongerChainAnswersAlike, MsgcatAgain, MsgcatCompilesAlike, MsgcatOfSeveral, ThereAndBack};
 ghost use Rattle.po_tools.specs.RunLaws.{OneGettextRun, OneMsgattribRun, OneMsgcatRun, OneMsgfmtRun, OneMsgunfmtRun, OneNgettextRun};
 
 use mo_file::{no_fault_of_mo_file, one_first_fault, one_message_list};
@@ -9,7 +9,9 @@ use po_compile::laws::{
     catalogues_are_one, messages_are_one, no_fault_where_accepted, no_fault_where_distinct,
     one_compile_fault, one_text_fault,
 };
-use po_merge::laws::{merged_entries_can_stand, messages_stand_once, one_input_stays};
+use po_merge::laws::{
+    distinct_inputs_stay, merged_entries_can_stand, messages_stand_once, one_input_stays,
+};
 use po_messages::laws::{no_first_duplicate_where_none, one_first_duplicate};
 use po_reader::laws::{entries_can_stand, one_reading};
 use po_select::laws::conditions_alone_keep;
@@ -119,6 +121,17 @@ pub fn msgcat_again()
 pub fn msgcat_compiles_alike()
     ensures { MsgcatCompilesAlike }
 {
+    one_input_stays();
+    written_text_reads();
+    one_reading();
+}
+
+/// What msgcat writes of several texts, among whose entries no message stands twice, has the same
+/// messages for msgfmt as all of them have.
+pub fn msgcat_of_several()
+    ensures { MsgcatOfSeveral }
+{
+    distinct_inputs_stay();
     one_input_stays();
     written_text_reads();
     one_reading();

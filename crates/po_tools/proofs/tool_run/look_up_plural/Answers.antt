@@ -1,4 +1,4 @@
-use Rattle.std.proofs.Common.{ap, Err, refl, rules}
+use Rattle.std.proofs.Common.{ap, Err, refl}
 use Rattle.std.proofs.lemmas.Result.{err_from_is_err_and}
 use Rattle.po_tools.specs.ToolRun.{no_ngettext, runs_ngettext}
 use Rattle.po_tools.proofs.tool_run.look_up_plural.Goals as goal

@@ -1,0 +1,12 @@
+use Rattle.std.proofs.Common.{◌≡◌, ◌++◌, map, take, drop}
+use Rattle.std.specs.Prelude.{All}
+use Rattle.po_entry.specs.Validity.{IsCatalogueEntry}
+use Rattle.po_select.specs.Selected.{changed}
+use Rattle.po_tools.proofs.catalogues.change_all.Given as goal
+
+abbrev pub invariant-loop-entry : goal.invariant-loop-entry
+invariant-loop-entry l = record {
+  changed : l.entries ≡ map (changed l.selection) (take l.entry-index l.initial.entries)
+      ++ drop l.entry-index l.initial.entries;
+  valid : All IsCatalogueEntry l.entries;
+}

@@ -1,0 +1,46 @@
+use Rattle.std.proofs.Common.{◌≡◌, ◌+◌, ◌∙◌, ◌∷◌, ◌++◌, [], ap, ap₂, arith, length, List, refl, subst, sym, take}
+use Rattle.std.proofs.lemmas.List.{length-map, map-append, take_all, take_more}
+use Rattle.po_entry.specs.Bytes.{Lacks}
+use Rattle.po_entry.specs.TextEntry.{TextEntry}
+use Rattle.po_merge.specs.Inputs.{NamedEntry, all_entries}
+use Rattle.po_merge.proofs.ReadInputs.{entries_more, inputs_more}
+use Rattle.po_tools.specs.NamedInputs.{AreStored, input_view, inputs_view}
+use Rattle.po_tools.specs.declared.catalogues.Named.{Named as NamedCatalogue}
+use Rattle.po_tools.proofs.catalogues.stored.Goals as goal
+
+pub loop-input-init : goal.loop-input-init
+loop-input-init c = rw (c.in_ok-read.ensures.items, c.new-store.ensures) (record {
+  known = record { known = tt; starts = λ i inside. absurd (omega (arith, inside)) };
+  all = refl;
+})
+
+pub loop-input-preserved : goal.loop-input-preserved
+loop-input-preserved c =
+    let inputs = c.args.inputs.now in
+    let i = c.loop-input.input-index in
+    let input = c.input-item.result in
+    let one = input_view input in
+    let so_far = c.loop-input.invariant in
+    let before = inputs_view (take i inputs) in
+    let more : inputs_view (take (i + 1) inputs) ≡ before ++ one ∷ [] =
+    ap inputs_view (take_more inputs i input c.loop-input-test.true
+    ∙ ap (λ (n : NamedCatalogue). take i inputs ++ n ∷ []) (sym c.input-item.is))
+    ∙ map-append input_view (take i inputs) (input ∷ []) in
+    let lacks : Lacks 0 input.name.now =
+    subst (λ (n : NamedCatalogue). Lacks 0 n.name.now) (sym c.input-item.is)
+    (c.requires i input c.loop-input-test.true) in
+    let entries = c.entries-entries.ensures.entries in
+    let known = c.of.ensures.known one refl lacks (ap length entries) in
+    let start = c.of.ensures.start ∙ c.len-start.ensures ∙ ap length so_far.all
+    ∙ length-map (all_entries before) (λ (e : NamedEntry). e.entry) in
+    subst (λ l. AreStored l c.add_all.new.store c.push.new.self.items) (sym more) (record {
+      known = inputs_more before c.loop-input.read.items c.push.new.self.items one c.of.result so_far.known known start
+          c.in_ok-push.ensures.items;
+      all = c.in_ok-add_all.ensures ∙ ap₂ (λ (a b : List TextEntry). a ++ b) so_far.all entries
+          ∙ entries_more before one.name one.entries;
+    })
+
+pub returns : goal.returns
+returns c =
+    subst (λ l. AreStored (inputs_view l) c.loop-input.store c.loop-input.read.items)
+    (take_all c.loop-input.input-index c.args.inputs.now c.loop-input-test.false) c.loop-input.invariant

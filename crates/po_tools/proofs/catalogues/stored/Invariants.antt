@@ -1,0 +1,7 @@
+use Rattle.std.proofs.Common.{take}
+use Rattle.po_tools.specs.NamedInputs.{AreStored, inputs_view}
+use Rattle.po_tools.proofs.catalogues.stored.Given as goal
+
+-- the inputs so far are stored
+abbrev pub invariant-loop-input : goal.invariant-loop-input
+invariant-loop-input l = AreStored (inputs_view (take l.input-index l.inputs)) l.store l.read.items
