@@ -2,12 +2,10 @@
 
 use crate::outcomes::{Outcome, is_memory, of_bytes};
 use mo_file::{BuildError, Order, Pair, build};
-use po_catalog::{Stats, duplicates, joined_duplicates, read, write};
+use po_catalog::{Catalogue, Entry, Stats, duplicates, joined_duplicates, read, write};
 use po_compile::{Options, compile, compile_all};
-use po_entry::{Catalogue, Entry};
-use po_merge::{MergeOptions, Named, merge};
-use po_select::{Selection, select};
 use po_syntax::{PoError, PoFault, items, quote};
+use po_tools::{MergeOptions, Named, Selection, merge, select};
 use po_unformat::{UnformatError, unformat};
 use std::alloc::Global;
 

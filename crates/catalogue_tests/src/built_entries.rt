@@ -1,7 +1,7 @@
 //! Entries that are built, and whether a catalogue takes them.
 
 use crate::summary::push_summary;
-use po_entry::{Catalogue, Entry, Fields};
+use po_catalog::{Catalogue, Entry, TextList};
 use po_syntax::{PoError, PoFault};
 use std::alloc::Global;
 use std::test::Fail;
@@ -78,18 +78,18 @@ fn copied_entry(rt: HostRuntime) -> Result<(), Fail> {
     Ok(())
 }
 
-/// Whether fields are those of the marked message.
-fn are_marked(fields: &Fields) -> bool {
-    fields.id.as_slice() == b"a".as_slice()
-        && fields.forms.len() == 2
-        && fields.obsolete
-        && fields.context.is_none()
+/// Whether a list of one text gives it back.
+fn gives_back(alloc: Global, text: &[u8]) -> Result<bool, Fail> {
+    let mut texts = Vec::new(alloc);
+    texts.push(text.to_vec(alloc)?)?;
+    let texts = TextList::of(texts).into_texts();
+    Ok(texts.len() == 1 && texts.first().is_some_and(|first| first.as_slice() == text))
 }
 
 #[test]
-fn fields_of_an_entry(rt: HostRuntime) -> Result<(), Fail> {
-    let fields = marked_entry(rt.alloc())?.into_fields();
-    assert!(rt; are_marked(&fields));
+fn lists_of_texts(rt: HostRuntime) -> Result<(), Fail> {
+    assert!(rt; TextList::new(rt.alloc()).texts().is_empty());
+    assert!(rt; gives_back(rt.alloc(), b"a")?);
     Ok(())
 }
 

@@ -3,12 +3,9 @@
 use crate::assertions::assert_text;
 use mo_file::{Meter, MoError, Order};
 use mo_lookup::Catalog;
-use po_catalog::duplicates;
+use po_catalog::{Entry, duplicates, read, write};
 use po_compile::{Options, compile};
-use po_entry::Entry;
-use po_reader::read;
 use po_syntax::PoError;
-use po_writer::write;
 use std::alloc::Global;
 use std::test::Fail;
 

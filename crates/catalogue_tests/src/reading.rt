@@ -6,8 +6,7 @@ mod refused;
 use crate::assertions::assert_at;
 use crate::summary::summaries;
 use crate::texts::{EVERY_FIELD, EVERY_FIELD_WRITTEN, EVERY_LINE, FUZZY_AND_OBSOLETE};
-use po_entry::Entry;
-use po_reader::read;
+use po_catalog::{Entry, read};
 use std::alloc::Global;
 use std::test::Fail;
 

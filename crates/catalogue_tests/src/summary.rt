@@ -1,6 +1,6 @@
 //! An entry on a line, so that a whole catalogue is compared at once.
 
-use po_entry::{Entry, TextList};
+use po_catalog::Entry;
 use std::alloc::Global;
 use std::test::Fail;
 
@@ -12,19 +12,10 @@ fn push_pieces(line: &mut Vec<u8>, pieces: &[&[u8]]) -> Result<(), Fail> {
     Ok(())
 }
 
-/// Appends the texts of a list, each with a semicolon after it, and then an end.
-fn push_list(line: &mut Vec<u8>, list: &TextList, end: &[u8]) -> Result<(), Fail> {
-    for text in list.iter() {
+/// Appends texts, each with a semicolon after it, and then an end.
+fn push_texts(line: &mut Vec<u8>, texts: &[Vec<u8>], end: &[u8]) -> Result<(), Fail> {
+    for text in texts {
         push_pieces(line, &[text, b";"])?;
-    }
-    line.extend_from_slice(end)?;
-    Ok(())
-}
-
-/// Appends forms, each with a semicolon after it, and then an end.
-fn push_forms(line: &mut Vec<u8>, forms: &[Vec<u8>], end: &[u8]) -> Result<(), Fail> {
-    for form in forms {
-        push_pieces(line, &[form, b";"])?;
     }
     line.extend_from_slice(end)?;
     Ok(())
@@ -41,11 +32,11 @@ pub(crate) fn summaries(alloc: Global, entries: &[Entry]) -> Result<Vec<u8>, Fai
 
 /// Appends a line for an entry: its marks and its texts, in the order of its fields.
 pub(crate) fn push_summary(line: &mut Vec<u8>, entry: &Entry) -> Result<(), Fail> {
-    push_list(line, entry.comments(), b"|")?;
-    push_list(line, entry.extracted(), b"|")?;
+    push_texts(line, entry.comments().texts(), b"|")?;
+    push_texts(line, entry.extracted().texts(), b"|")?;
     let mark: &[u8] = if entry.fuzzy() { b"|fuzzy!" } else { b"|" };
-    push_list(line, entry.references(), mark)?;
-    push_list(line, entry.flags(), b"|")?;
+    push_texts(line, entry.references().texts(), mark)?;
+    push_texts(line, entry.flags().texts(), b"|")?;
     let previous = entry.previous();
     push_pieces(
         line,
@@ -65,5 +56,5 @@ pub(crate) fn push_summary(line: &mut Vec<u8>, entry: &Entry) -> Result<(), Fail
         ],
     )?;
     let end: &[u8] = if entry.obsolete() { b"~\n" } else { b".\n" };
-    push_forms(line, entry.forms(), end)
+    push_texts(line, entry.forms(), end)
 }

@@ -1,11 +1,9 @@
 //! What is written of selected and of merged entries, beside texts that are spelled out by hand.
 
 use crate::assertions::assert_text;
-use po_merge::{MergeOptions, Named, merge};
-use po_reader::read;
-use po_select::{Selection, select};
+use po_catalog::{read, write};
 use po_syntax::PoError;
-use po_writer::write;
+use po_tools::{MergeOptions, Named, Selection, merge, select};
 use std::alloc::Global;
 
 /// A header, a fuzzy, an untranslated, a translated and an obsolete entry.

@@ -2,10 +2,8 @@
 
 use crate::assertions::assert_text;
 use crate::texts::{EVERY_FIELD, EVERY_FIELD_WRITTEN};
-use po_entry::{Catalogue, Entry};
-use po_reader::read;
+use po_catalog::{Catalogue, Entry, read, write};
 use po_writer::laws::{written_text_again, written_text_reads};
-use po_writer::write;
 use std::alloc::Global;
 use std::test::Fail;
 

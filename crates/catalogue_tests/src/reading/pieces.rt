@@ -2,6 +2,7 @@
 
 use crate::assertions::{Refused, assert_refused};
 use crate::summary::summaries;
+use po_catalog::catalogue_of;
 use po_entry::{Drafts, Store};
 use po_reader::next_store;
 use po_syntax::{Pieces, PoError, PoFault};
@@ -108,11 +109,8 @@ fn read_in_pieces(alloc: Global, text: &[u8], size: usize) -> Result<Store, PoEr
 /// The summaries of the entries of a text that is read in pieces of this size.
 fn summaries_of_pieces(alloc: Global, text: &[u8], size: usize) -> Result<Vec<u8>, Fail> {
     let store = read_in_pieces(alloc, text, size)?;
-    let mut entries = Vec::new(alloc);
-    for index in 0..store.len() {
-        entries.push(store.get(index).copied(alloc)?)?;
-    }
-    summaries(alloc, &entries)
+    let catalogue = catalogue_of(alloc, &store)?;
+    summaries(alloc, catalogue.entries())
 }
 
 #[test]

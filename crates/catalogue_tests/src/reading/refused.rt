@@ -2,7 +2,7 @@
 //! in `tests/cli/refused.cases`.
 
 use crate::assertions::{Refused, assert_refused};
-use po_reader::read;
+use po_catalog::read;
 use po_syntax::{PoError, PoFault};
 use std::test::Fail;
 
