@@ -37,15 +37,15 @@
 
 #define EXPORT __attribute__((visibility("default")))
 
-#include "memory.h"
+#include "memory.inc"
 
-#include "expanded.h"
+#include "expanded.inc"
 
-#include "files.h"
+#include "files.inc"
 
-#include "charsets.h"
+#include "charsets.inc"
 
-#include "views.h"
+#include "views.inc"
 
 enum {
     SMALL_RULE = 128, /* instructions of a plural expression that libpokit evaluates on 1 KB of stack */
