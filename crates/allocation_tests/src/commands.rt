@@ -7,7 +7,7 @@ use known_runs::{
     msgfmt_through_links_in_memory, ngettext_in_memory,
 };
 use known_system::Link;
-use po_messages::JoinError;
+use po_entry::JoinError;
 use po_syntax::PoFault;
 use std::alloc::Global;
 

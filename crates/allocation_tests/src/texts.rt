@@ -6,7 +6,7 @@ use po_catalog::{Catalogue, Entry, Stats, duplicates, joined_duplicates, read, w
 use po_compile::{Options, compile, compile_all};
 use po_syntax::{PoError, PoFault, items, quote};
 use po_tools::{MergeOptions, Named, Selection, merge, select};
-use po_unformat::{UnformatError, unformat};
+use msgunfmt::{UnformatError, unformat};
 use std::alloc::Global;
 
 pub(crate) const ONE_MESSAGE: &[u8] = b"msgid \"a\"\nmsgstr \"b\"\n";

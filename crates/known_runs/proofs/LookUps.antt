@@ -24,7 +24,7 @@ use Rattle.mo_lookup.specs.Query.{Query}
 use Rattle.po_compile.specs.CompiledList.{compiled_list}
 use Rattle.po_compile.specs.Meaning.{meant}
 use Rattle.po_compile.specs.declared.options.Compiled.{Compiled}
-use Rattle.po_messages.specs.Joined.{joined_entries}
+use Rattle.po_entry.specs.Joined.{joined_entries}
 use Rattle.runs.specs.Inputs.{Reading, gives, refuses}
 use Rattle.runs.specs.NamedFile.{NamedFile}
 use Rattle.runs.specs.Outputs.{SystemView}

@@ -6,7 +6,7 @@ use Rattle.msgcat.specs.Msgcat.{IsMsgcatRun}
 use Rattle.msgcat.specs.Options.{AreMergeOptions, or_zero}
 use Rattle.msgcat.specs.WholeRun.{HaveNoRun, IsRunOf, RunsMsgcat}
 use Rattle.po_entry.specs.Bytes.{Lacks}
-use Rattle.po_merge.specs.declared.input.MergeOptions.{MergeOptions}
+use Rattle.msgcat.specs.declared.input.MergeOptions.{MergeOptions}
 use Rattle.runs.specs.ArgumentValues.{IsTextOr}
 use Rattle.runs.specs.Inputs.{AreInputs, Reading, gives, refuses, read, unread, done}
 use Rattle.runs.specs.NamedFile.{NamedFile}

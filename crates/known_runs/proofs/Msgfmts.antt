@@ -9,7 +9,7 @@ use Rattle.msgfmt.specs.Options.{AreMsgfmtOptions, default_output, order_of}
 use Rattle.msgfmt.specs.WholeRun.{HaveNoRun, IsRunOf, RunsMsgfmt}
 use Rattle.po_compile.specs.Accepted.{IsCompileFault}
 use Rattle.po_compile.specs.Compiling.{IsCompilation}
-use Rattle.po_messages.specs.Joined.{joined_entries}
+use Rattle.po_entry.specs.Joined.{joined_entries}
 use Rattle.po_compile.specs.declared.options.Compiled.{Compiled}
 use Rattle.runs.specs.ArgumentValues.{IsTextOr}
 use Rattle.runs.specs.Inputs.{AreInputs, Reading, gives, refuses, read, unread, done}

@@ -11,8 +11,8 @@ use Rattle.po_compile.specs.Headline.{CataloguesAreOne}
 use Rattle.po_compile.specs.Meaning.{header_of, meant}
 use Rattle.po_compile.specs.declared.options.Compiled.{Compiled}
 use Rattle.po_entry.specs.TextEntry.{TextEntry}
-use Rattle.po_messages.specs.Joined.{joined_entries}
-use Rattle.po_messages.specs.Statistics.{stats_of}
+use Rattle.po_entry.specs.Joined.{joined_entries}
+use Rattle.po_entry.specs.Statistics.{stats_of}
 use Rattle.po_tools.specs.RunLaws.{OneMsgfmtRun}
 use Rattle.runs.specs.NamedFile.{NamedFile}
 use Rattle.runs.specs.Run.{RunView, refusal}

@@ -3,7 +3,7 @@ use Rattle.std.proofs.Common.{◌≡◌, ℕ, Bool, false, List, [], Option, Som
 use Rattle.std.specs.Option.{unwrap_or}
 use Rattle.msgattrib.specs.Msgattrib.{IsMsgattribRun}
 use Rattle.msgattrib.specs.Options.{IsEither, IsSelection}
-use Rattle.po_select.specs.declared.selection.Selection.{Selection}
+use Rattle.msgattrib.specs.declared.selection.Selection.{Selection}
 use Rattle.runs.specs.ArgumentValues.{IsTextOr}
 use Rattle.runs.specs.Inputs.{Reading, gives}
 use Rattle.runs.specs.NamedFile.{NamedFile}

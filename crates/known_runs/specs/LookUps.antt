@@ -9,7 +9,7 @@ use Rattle.po_compile.specs.Accepted.{AreRead}
 use Rattle.po_compile.specs.CompiledList.{compiled_list}
 use Rattle.po_compile.specs.Meaning.{header_of, meant}
 use Rattle.po_entry.specs.TextEntry.{TextEntry}
-use Rattle.po_messages.specs.Joined.{joined_entries}
+use Rattle.po_entry.specs.Joined.{joined_entries}
 use Rattle.runs.specs.declared.program_fault.ProgramFault.{ProgramFault}
 use Rattle.runs.specs.declared.program_fault.ProgramFault.TheVariants.{OutOfMemory}
 use Rattle.known_runs.specs.Ends.{End, end}

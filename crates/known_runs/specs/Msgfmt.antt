@@ -7,8 +7,8 @@ use Rattle.po_compile.specs.Compiling.{IsCompilation}
 use Rattle.po_compile.specs.declared.options.Compiled.{Compiled}
 use Rattle.po_compile.specs.declared.options.Options.{Options}
 use Rattle.po_entry.specs.TextEntry.{TextEntry}
-use Rattle.po_messages.specs.Joined.{joined_entries}
-use Rattle.po_messages.specs.declared.duplicate.JoinError.{JoinError}
+use Rattle.po_entry.specs.Joined.{joined_entries}
+use Rattle.po_entry.specs.declared.duplicate.JoinError.{JoinError}
 use Rattle.po_syntax.specs.declared.fault.PoFault.TheVariants.{OutOfMemory}
 use Rattle.runs.specs.ProgramFaults.{program_text}
 use Rattle.runs.specs.declared.program_fault.ProgramFault.{ProgramFault}

@@ -1,7 +1,7 @@
 -- What commands without options ask for.
 use Rattle.std.specs.Prelude.{ℕ, List, [], ◌∷◌, None, false, codes}
-use Rattle.po_merge.specs.declared.input.MergeOptions.{MergeOptions}
-use Rattle.po_select.specs.declared.selection.Selection.{Selection}
+use Rattle.msgcat.specs.declared.input.MergeOptions.{MergeOptions}
+use Rattle.msgattrib.specs.declared.selection.Selection.{Selection}
 use Rattle.runs.specs.NamedFile.{NamedFile}
 
 abbrev pub named : List ℕ → List ℕ → NamedFile

@@ -11,7 +11,7 @@ use known_system::laws::{run_leaves_all_or_nothing, same_system_holds_the_same};
 use known_system::{KnownFiles, KnownSource, Named, Questions};
 use mo_file::{Order, no_fault_of_mo_file, one_message_list};
 use po_compile::{Options, compile_all};
-use po_messages::JoinError;
+use po_entry::JoinError;
 use runs::{ProgramFault, Tool};
 use std::alloc::Global;
 

@@ -1,1 +1,4 @@
 pub mod SelectedLemmas
+pub mod SelectionLaws
+pub mod OptionLaws
+pub mod ChangedEntries

@@ -7,15 +7,15 @@ use Rattle.po_syntax.specs.declared.fault.PoError.{PoError}
 use Rattle.po_syntax.specs.declared.fault.PoFault.TheVariants.{OutOfMemory}
 use Rattle.po_entry.specs.ReadsText.{ReadsText}
 use Rattle.po_entry.specs.TextEntry.{TextEntry}
-use Rattle.po_messages.specs.Duplicate.{AllDiffer, HasNoDuplicate, IsDuplicateFaultOf, IsSameMessage}
-use Rattle.po_messages.specs.Facts.FirstRepeats.{pairs_map, pairs_of_map}
-use Rattle.po_messages.specs.Facts.Mapped.{filter_map, filter_twice}
-use Rattle.po_messages.specs.Joined.{is_live}
-use Rattle.po_messages.specs.Message.{entry_message}
-use Rattle.po_messages.specs.MessageHash.{message_hash}
+use Rattle.po_entry.specs.Duplicate.{AllDiffer, HasNoDuplicate, IsDuplicateFaultOf, IsSameMessage}
+use Rattle.po_entry.specs.Facts.FirstRepeats.{pairs_map, pairs_of_map}
+use Rattle.po_entry.specs.Facts.Mapped.{filter_map, filter_twice}
+use Rattle.po_entry.specs.Joined.{is_live}
+use Rattle.po_entry.specs.Message.{entry_message}
+use Rattle.po_entry.specs.MessageHash.{message_hash}
 use Rattle.po_reader.proofs.Texts.{text_once}
-use Rattle.po_select.specs.declared.selection.Selection.{Selection}
-use Rattle.po_select.specs.Selected.{changed, is_kept, selected}
+use Rattle.msgattrib.specs.declared.selection.Selection.{Selection}
+use Rattle.msgattrib.specs.Selected.{changed, is_kept, selected}
 use Rattle.msgattrib.specs.Msgattrib.{IsMsgattribRun, error_line}
 use Rattle.msgattrib.specs.Internal.SelectedText.{AddsParts, AreSelected, HaveNoDuplicate, IsSelectionFault, hashes_of, may_repeat, stays_live}
 use Rattle.po_writer.specs.TextParts.{AreParts}

@@ -1,6 +1,6 @@
 -- What the options of a command line mean (manual, "Invoking the msgattrib Program").
 use Rattle.std.specs.Prelude.{◌≡◌, ◌||◌, ℕ, Bool, List, codes}
-use Rattle.po_select.specs.declared.selection.Selection.{Selection}
+use Rattle.msgattrib.specs.declared.selection.Selection.{Selection}
 
 -- one of two options is given
 pub record IsEither (flag : List ℕ → Bool → Type 0) (name other : List ℕ) (value : Bool) : Type 0 where

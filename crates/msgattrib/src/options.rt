@@ -1,7 +1,7 @@
 //! What the options of a command line mean for msgattrib.
 ghost use Rattle.msgattrib.specs.Options.{IsSelection};
 
-use po_select::Selection;
+use crate::selection::Selection;
 use runs::Arguments;
 
 /// What `msgattrib` is asked for.

@@ -4,10 +4,9 @@ ghost use Rattle.msgattrib.specs.Msgattrib.{IsMsgattribRun};
 ghost use Rattle.runs.specs.Run.{run_view};
 
 use crate::selected_text::selected_text;
-use po_select::Selection;
-use runs::{Run, ToolFault};
+use crate::selection::Selection;
+use runs::{Run, ToolFault, refused_text, text_run};
 use std::alloc::Global;
-use text_runs::{refused_text, text_run};
 
 /// What `msgattrib` writes and reports of a text with its name: the selected entries, changed as
 /// the selection says. A file is made where an entry is selected. A text that is refused is

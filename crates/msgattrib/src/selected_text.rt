@@ -8,15 +8,14 @@ ghost use Rattle.po_entry.specs.ReadsText.{ReadsText};
 ghost use Rattle.po_entry.specs.TextEntry.{TextEntry};
 ghost use Rattle.po_entry.specs.Validity.{IsCatalogueEntry};
 ghost use Rattle.po_reader.specs.PieceRead.{IsTextError};
-ghost use Rattle.po_select.specs.ChangedAt.{OthersStay};
-ghost use Rattle.po_select.specs.Selected.{selected};
+ghost use Rattle.msgattrib.specs.ChangedAt.{OthersStay};
+ghost use Rattle.msgattrib.specs.Selected.{selected};
 ghost use Rattle.po_writer.specs.TextParts.{AreParts};
 ghost use Rattle.msgattrib.specs.Internal.SelectedText.{AddsParts, HaveNoDuplicate, IsSelectedText, IsSelectedWhole, IsSelectionFault, hashes_of};
 
-use po_entry::{Drafts, EntryRef, Store};
-use po_messages::{all_differ, message_hash};
+use po_entry::{Drafts, EntryRef, Store, all_differ, message_hash};
 use po_reader::{PIECE, next_store, read_into};
-use po_select::Selection;
+use crate::selection::Selection;
 use po_syntax::{Pieces, PoError};
 use po_writer::TextParts;
 use std::alloc::{AllocError, Global};
@@ -147,9 +146,9 @@ fn check_duplicates(alloc: Global, text: &[u8], selection: &Selection) -> Result
     ensures fault { IfErr result (IsSelectionFault selection.now text.now) }
 {
     let store = read_text(alloc, text)?;
-    po_messages::check_duplicates(alloc, &store)?;
+    po_entry::check_duplicates(alloc, &store)?;
     let entries = select_entries(alloc, &store, selection)?;
-    match po_messages::check_duplicates(alloc, &entries) {
+    match po_entry::check_duplicates(alloc, &entries) {
         Ok(()) => Ok(()),
         Err(error) => Err(PoError { line: 0, ..error }),
     }

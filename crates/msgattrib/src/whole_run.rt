@@ -6,7 +6,7 @@ ghost use Rattle.runs.specs.Run.{is_standard};
 ghost use Rattle.runs.specs.ToolRuns.{RunsInput, asking};
 
 use crate::plan::plan_msgattrib;
-use po_select::Selection;
+use crate::selection::Selection;
 use runs::{
     ByteOut, InputSource, OutputFiles, OutputSystem, ProgramFault, ToolFault, read_one, shown_name,
 };

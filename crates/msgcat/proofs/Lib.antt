@@ -4,3 +4,28 @@ pub mod InputLemmas
 pub mod MergedLemmas
 mod UnreadBefore
 mod WholeRuns
+pub mod FirstOnes
+pub mod Messages
+pub mod Sets
+pub mod SeenForms
+pub mod FormsLeft
+pub mod Inputs
+pub mod Views
+pub mod Steps
+pub mod Valid
+pub mod OneDefinition
+pub mod FirstParts
+pub mod GroupsMerged
+pub mod MergedMessages
+pub mod MessagesOnce
+pub mod SameInput
+pub mod NumberedGroups
+pub mod ReadInputs
+pub mod LinkLemmas
+pub mod HeldGroups
+pub mod MergedOnes
+pub mod Lines
+pub mod EntryLaws
+pub mod TranslationLaws
+pub mod StaysTranslated
+pub mod DistinctInputs

@@ -5,7 +5,7 @@ use Rattle.std.specs.Borrow.{Bor}
 use Rattle.std.proofs.lemmas.List.{length-map, length-take-le}
 use Rattle.std.proofs.lemmas.List.Elements.{All-head, All-tail}
 use Rattle.po_entry.specs.Bytes.{Lacks}
-use Rattle.po_merge.specs.Inputs as merge
+use Rattle.msgcat.specs.Inputs as merge
 use Rattle.runs.specs.declared.program_fault.ProgramFault.{ProgramFault}
 use Rattle.runs.specs.declared.program_fault.ProgramFault.TheVariants.{CannotOpen, OutOfMemory}
 use Rattle.runs.specs.declared.run.Run.{Run}

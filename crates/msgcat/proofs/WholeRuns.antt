@@ -7,8 +7,8 @@ use Rattle.runs.specs.declared.program_fault.ProgramFault.TheVariants.{OutOfMemo
 use Rattle.runs.specs.NamedFile.{NamedFile}
 use Rattle.runs.specs.ProgramFaults.{program_text}
 use Rattle.runs.specs.Run.{RunView}
-use Rattle.po_merge.specs.Inputs as merge
-use Rattle.po_merge.specs.declared.input.MergeOptions.{MergeOptions}
+use Rattle.msgcat.specs.Inputs as merge
+use Rattle.msgcat.specs.declared.input.MergeOptions.{MergeOptions}
 use Rattle.msgcat.specs.Msgcat.{AreReadAs, HasNulName, IsMsgcatRun, IsUnread, IsUnreadBeforeNul}
 use Rattle.msgcat.specs.WholeRun.{HaveNoRun, IsRunOf}
 

@@ -3,3 +3,9 @@ pub mod Inputs
 pub mod Gathered
 pub mod MergedText
 pub mod NulNames
+pub mod Comments
+pub mod EntriesAt
+pub mod FirstParts
+pub mod FormsLeft
+pub mod SeenForms
+pub mod SameTexts

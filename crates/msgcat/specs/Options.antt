@@ -1,6 +1,6 @@
 -- What the options of a command line mean (manual, "Invoking the msgcat Program").
 use Rattle.std.specs.Prelude.{◌≡◌, ℕ, Bool, List, Option, None, Some, codes}
-use Rattle.po_merge.specs.declared.input.MergeOptions.{MergeOptions}
+use Rattle.msgcat.specs.declared.input.MergeOptions.{MergeOptions}
 
 -- a number that isn't given is 0
 abbrev pub or_zero : Option ℕ → ℕ

@@ -1,8 +1,8 @@
 -- What msgcat does as a whole (manual, "Invoking the msgcat Program").
 use Rattle.std.specs.Prelude.{◌≡◌, ◌⊎◌, ℕ, All, List, Option, None, Some, Result}
 use Rattle.po_entry.specs.Bytes.{Lacks}
-use Rattle.po_merge.specs.Inputs as merge
-use Rattle.po_merge.specs.declared.input.MergeOptions.{MergeOptions}
+use Rattle.msgcat.specs.Inputs as merge
+use Rattle.msgcat.specs.declared.input.MergeOptions.{MergeOptions}
 use Rattle.msgcat.specs.Msgcat.{AreReadAs, HasNulName, IsMsgcatRun, IsUnread, IsUnreadBeforeNul}
 use Rattle.runs.specs.declared.program_fault.ProgramFault.{ProgramFault}
 use Rattle.runs.specs.NamedFile.{NamedFile}

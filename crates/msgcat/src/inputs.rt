@@ -4,18 +4,16 @@ ghost use Rattle.std.specs.Prelude.{◌≡◌, ◌⊎◌, All, IfErr, IfOk, List
 ghost use Rattle.po_entry.specs.Bytes.{Lacks};
 ghost use Rattle.po_entry.specs.TextEntry.{TextEntry};
 ghost use Rattle.po_entry.specs.Validity.{out_of_memory};
-ghost use Rattle.po_merge.specs.Inputs as merge;
-ghost use Rattle.po_messages.specs.Duplicate.{HasNoDuplicate};
-ghost use Rattle.po_merge.specs.MergeInputs.{HoldInputs};
+ghost use Rattle.msgcat.specs.Inputs as merge;
+ghost use Rattle.po_entry.specs.Duplicate.{HasNoDuplicate};
+ghost use Rattle.msgcat.specs.MergeInputs.{HoldInputs};
 ghost use Rattle.msgcat.specs.Internal.Inputs.{AreNumberedInputs, AreReadUpTo, IsFirstRepeating};
 ghost use Rattle.msgcat.specs.Msgcat.{AreReadAs, IsFileFault};
 ghost use Rattle.runs.specs.NamedFile.{named_files};
 
-use po_entry::{Drafts, Store};
-use po_merge::{MergeInputs, ReadInput};
-use po_messages::{
-    EntryPlace, duplicate_at, message_numbers, places_of, repeated_lines, split_at_most,
-};
+use po_entry::{Drafts, EntryPlace, Store, duplicate_at, message_numbers, places_of, repeated_lines, split_at_most};
+use crate::input::ReadInput;
+use crate::merge_inputs::MergeInputs;
 use po_reader::read_into;
 use po_syntax::{PoError, PoFault};
 use std::alloc::{AllocError, AllocFailed, Global};

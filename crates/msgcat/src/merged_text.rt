@@ -1,14 +1,15 @@
 //! The text of what inputs are merged to, message by message.
 ghost use Rattle.std.specs.Prelude.{◌<◌, ◌++◌, ◌∷◌, [], IfErr, List, MatchResult, OnOk, get_or, length};
 ghost use Rattle.po_entry.specs.TextEntry.{TextEntry};
-ghost use Rattle.po_merge.specs.Inputs as merge;
-ghost use Rattle.po_merge.specs.MergeInputs.{HoldInputs};
-ghost use Rattle.po_merge.specs.Merged.{IsMergeFault, merged, merged_messages, messages};
+ghost use Rattle.msgcat.specs.Inputs as merge;
+ghost use Rattle.msgcat.specs.MergeInputs.{HoldInputs};
+ghost use Rattle.msgcat.specs.Merged.{IsMergeFault, merged, merged_messages, messages};
 ghost use Rattle.po_writer.specs.TextParts.{AreParts};
 ghost use Rattle.msgcat.specs.Internal.MergedText.{AreWritten, IsTextOfMerged};
 
 use po_entry::Store;
-use po_merge::{MergeInputs, MergeOptions};
+use crate::input::MergeOptions;
+use crate::merge_inputs::MergeInputs;
 use po_syntax::PoError;
 use po_writer::TextParts;
 use std::alloc::Global;

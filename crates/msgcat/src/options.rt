@@ -1,7 +1,7 @@
 //! What the options of a command line mean for msgcat.
 ghost use Rattle.msgcat.specs.Options.{AreMergeOptions};
 
-use po_merge::MergeOptions;
+use crate::input::MergeOptions;
 use runs::Arguments;
 
 /// What `msgcat` is asked for.

@@ -2,7 +2,7 @@
 //! it comes to where an input can't be read.
 ghost use Rattle.std.specs.Prelude.{◌≡◌, ◌≢◌, ◌⊎◌, All, Err, IfErr, IfOk, IfSome, List, MatchOption, None, OnErr, Some, []};
 ghost use Rattle.po_entry.specs.Bytes.{Lacks};
-ghost use Rattle.po_merge.specs.Inputs.{Named};
+ghost use Rattle.msgcat.specs.Inputs.{Named};
 ghost use Rattle.msgcat.specs.Internal.Gathered.{IsGathered};
 ghost use Rattle.msgcat.specs.Msgcat.{AreReadAs, IsMsgcatRun, IsUnread, first_name};
 ghost use Rattle.msgcat.specs.Internal.NulNames.{IsFirstWithNul};
@@ -12,10 +12,10 @@ ghost use Rattle.runs.specs.Run.{run_view};
 use crate::inputs::{FileFault, read_inputs};
 use crate::merged_text::merged_text;
 use memchr::memchr;
-use po_merge::{MergeInputs, MergeOptions};
-use runs::{ProgramFault, Run, ToolFault};
+use crate::input::MergeOptions;
+use crate::merge_inputs::MergeInputs;
+use runs::{ProgramFault, Run, ToolFault, refused_text, text_run};
 use std::alloc::{AllocError, Global};
-use text_runs::{refused_text, text_run};
 
 /// The name of the first input, and the entries of all, or why one isn't read. The run of the
 /// inputs needs no more of them.

@@ -1,7 +1,7 @@
 //! msgcat as a whole: its inputs are read, and their run is written.
 ghost use Rattle.std.specs.Prelude.{◌≡◌, ◌≢◌, ◌⊎◌, ◌^◌, ◌<◌, All, Err, IfErr, IfOk, IfSome, List, None, Some, [], false, map};
 ghost use Rattle.po_entry.specs.Bytes.{Lacks};
-ghost use Rattle.po_merge.specs.Inputs.{Named};
+ghost use Rattle.msgcat.specs.Inputs.{Named};
 ghost use Rattle.msgcat.specs.Msgcat.{AreReadAs, HasNulName, IsMsgcatRun, IsUnread, IsUnreadBeforeNul};
 ghost use Rattle.msgcat.specs.WholeRun.{RunsMsgcat};
 ghost use Rattle.runs.specs.Inputs.{AsksFirst, asked_by, named_inputs};
@@ -10,7 +10,7 @@ ghost use Rattle.runs.specs.Run.{run_view};
 ghost use Rattle.runs.specs.ToolRuns.{asking};
 
 use crate::plan::{first_with_nul, gather, gathered_run, plan_msgcat_before};
-use po_merge::MergeOptions;
+use crate::input::MergeOptions;
 use runs::{ByteOut, InputSource, Inputs, OutputFiles, OutputSystem, ProgramFault, Run};
 use std::alloc::Global;
 

@@ -11,14 +11,14 @@ use Rattle.plural_rule.specs.declared.rule.Source.TheVariants.{Header, Default}
 use Rattle.po_entry.specs.TextEntry.{TextEntry, plain_entry, with_line}
 use Rattle.po_entry.specs.Header.{first_form}
 use Rattle.po_entry.specs.Validity.{IsCatalogueEntry, IsEntry}
-use Rattle.po_messages.specs.Facts.Mapped.{find_map}
-use Rattle.po_messages.specs.Joined.{InputEntry, entries_of, joined, joined_entries}
+use Rattle.po_entry.specs.Facts.Mapped.{find_map}
+use Rattle.po_entry.specs.Joined.{InputEntry, entries_of, joined, joined_entries}
 use Rattle.po_compile.specs.CompiledInputs.{compiled_inputs, compiled_message, compiled_view}
 use Rattle.po_compile.specs.CompiledList.{is_compiled}
 use Rattle.po_compile.specs.CompiledMessages.{original_of, translation_of}
 use Rattle.po_compile.specs.declared.messages.CompiledMessage.{CompiledMessage}
-use Rattle.po_unformat.specs.MessageParts.{TextsComeBack}
-use Rattle.po_unformat.specs.Unformatted.{id_of, plural_of}
+use Rattle.msgunfmt.specs.MessageParts.{TextsComeBack}
+use Rattle.msgunfmt.specs.Unformatted.{id_of, plural_of}
 use Rattle.msgfmt.specs.Msgfmt.{AreChecked}
 use Rattle.msgfmt.specs.declared.profile.CheckFault.TheVariants.{NoHeader}
 use Rattle.msgfmt.specs.Profile.{IsChecked, Reported, checked_message, checked_messages, count_fault, counts_below, entry_fault, first_fault, first_some, is_header_entry, is_plural, rule_fault, taken_entry}

@@ -3,7 +3,7 @@ use Rattle.std.proofs.Common.{◌≡◌, ◌≢◌, Bool, true, false, List, len
 use Rattle.std.proofs.lemmas.List.{length-map}
 use Rattle.std.proofs.lemmas.Slice.Zip.{AllZip-long}
 use Rattle.po_entry.specs.ReadsText.{ReadsText}
-use Rattle.po_messages.specs.Joined.{joined_entries}
+use Rattle.po_entry.specs.Joined.{joined_entries}
 use Rattle.po_compile.specs.Accepted.{IsCompileFault}
 use Rattle.po_compile.specs.Collected.{LiveMessage, live_messages}
 use Rattle.po_compile.specs.CompiledInputs.{AreCollected}

@@ -5,9 +5,9 @@ use Rattle.std.specs.Option.{option_map_or}
 use Rattle.po_syntax.specs.declared.fault.PoFault.{PoFault}
 use Rattle.po_syntax.specs.declared.fault.PoFault.TheVariants.{Duplicate, OutOfMemory as NoMemory}
 use Rattle.po_entry.specs.TextEntry.{TextEntry}
-use Rattle.po_messages.specs.Joined.{joined, joined_entries}
-use Rattle.po_messages.specs.Statistics.{stats_line, stats_of}
-use Rattle.po_messages.specs.declared.duplicate.JoinError.{JoinError}
+use Rattle.po_entry.specs.Joined.{joined, joined_entries}
+use Rattle.po_entry.specs.Statistics.{stats_line, stats_of}
+use Rattle.po_entry.specs.declared.duplicate.JoinError.{JoinError}
 use Rattle.po_compile.specs.Accepted.{AreCompiled, AreRead, IsCompileFault}
 use Rattle.po_compile.specs.CompiledInputs.{compiled_inputs}
 use Rattle.po_compile.specs.Compiling.{IsCompilation}

@@ -8,10 +8,10 @@ use Rattle.mo_file.specs.Key.{key_of}
 use Rattle.mo_lookup.specs.CatalogView.{forms}
 use Rattle.po_entry.specs.TextEntry.{TextEntry, plain_entry, with_line}
 use Rattle.po_entry.specs.Header.{is_header, first_form}
-use Rattle.po_messages.specs.Joined.{InputEntry}
+use Rattle.po_entry.specs.Joined.{InputEntry}
 use Rattle.po_compile.specs.CompiledInputs.{CompiledView, compiled_view}
 use Rattle.po_compile.specs.declared.messages.CompiledMessage.{CompiledMessage}
-use Rattle.po_unformat.specs.Unformatted.{context_of, id_of, plural_of}
+use Rattle.msgunfmt.specs.Unformatted.{context_of, id_of, plural_of}
 use Rattle.plural_rule.specs.Expression.{value}
 use Rattle.plural_rule.specs.PluralRule.{RuleView, IsRuleOf, expression_limit}
 use Rattle.plural_rule.specs.declared.rule.Source.{Source}

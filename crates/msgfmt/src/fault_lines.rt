@@ -7,7 +7,7 @@ ghost use Rattle.runs.specs.Run.{refusal, run_view};
 ghost use Rattle.msgfmt.specs.Msgfmt as Spec;
 
 use crate::profile::CheckFault;
-use po_messages::JoinError;
+use po_entry::JoinError;
 use po_syntax::PoFault;
 use runs::{Run, push_location, push_numbered, push_po_text, refused};
 use std::alloc::{AllocError, Global};

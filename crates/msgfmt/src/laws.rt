@@ -2,7 +2,7 @@
 //! the law into a proof.
 ghost use Rattle.std.specs.Prelude.{◌≡◌, ◌↔◌, List, Some};
 ghost use Rattle.plural_rule.specs.PluralRule.{RuleView};
-ghost use Rattle.po_messages.specs.Joined.{InputEntry};
+ghost use Rattle.po_entry.specs.Joined.{InputEntry};
 ghost use Rattle.msgfmt.specs.Profile.{Reported, first_fault};
 ghost use Rattle.msgfmt.specs.ProfileFaults.{FirstFault};
 

@@ -1,7 +1,7 @@
 //! What msgfmt writes and reports: the MO file of PO texts.
 ghost use Rattle.std.specs.Prelude.{◌≡◌, ◌^◌, ◌<◌, List, length, IfOk, OnErr, Err};
 ghost use Rattle.po_entry.specs.TextEntry.{slice_texts};
-ghost use Rattle.po_messages.specs.Statistics.{stats_line};
+ghost use Rattle.po_entry.specs.Statistics.{stats_line};
 ghost use Rattle.runs.specs.NamedFile.{NamedFile, named_files};
 ghost use Rattle.msgfmt.specs.Internal.Gathered.{HoldInputs, IsGathered};
 ghost use Rattle.msgfmt.specs.Msgfmt as Spec;
@@ -11,7 +11,7 @@ use crate::fault_lines::{failed_check_run, refused_run};
 use crate::options::MsgfmtOptions;
 use crate::profile::check_collected;
 use po_compile::{Collected, Compiled, Options, collect_all, compile_collected};
-use po_messages::{JoinError, Stats};
+use po_entry::{JoinError, Stats};
 use po_syntax::PoFault;
 use runs::{Run, ToolFault};
 use std::alloc::{AllocError, Global};

@@ -9,8 +9,8 @@ ghost use Rattle.msgfmt.specs.declared.profile.CheckFault.TheVariants.{OutOfMemo
 
 use plural_rule::{Reason, Rule, Source};
 use po_compile::{Collected, CompiledMessage, compiled_messages};
-use po_unformat::laws::texts_come_back;
-use po_unformat::{first_part, key_parts, original_parts, split_form};
+use msgunfmt::laws::texts_come_back;
+use msgunfmt::{first_part, key_parts, original_parts, split_form};
 use std::alloc::{AllocError, Global};
 use thiserror::Error;
 

@@ -1,0 +1,8 @@
+pub mod CutLemmas
+pub mod MessageLemmas
+pub mod FaultLemmas
+pub mod ReturnLemmas
+pub mod SettledMessages
+pub mod OneFault
+pub mod EntryParts
+pub mod LaidMessages

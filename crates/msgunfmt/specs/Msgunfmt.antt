@@ -1,10 +1,10 @@
 -- What msgunfmt writes and reports (manual, "Invoking the msgunfmt Program").
 use Rattle.std.specs.Prelude.{◌≡◌, ◌≢◌, ◌⊎◌, nat_lt, ℕ, List, [], length, codes, decimal, ◌++◌, refl}
 use Rattle.mo_file.specs.Message.{Message}
-use Rattle.po_unformat.specs.UnformattedText.{IsUnformatted, IsUnformatFault}
-use Rattle.po_unformat.specs.declared.fault.UnformatError.{UnformatError}
-use Rattle.po_unformat.specs.declared.fault.UnformatError.TheVariants.{Mo, NotUtf8, ForbiddenByte, ForeignCharset}
-use Rattle.po_unformat.specs.declared.fault.UnformatError.TheVariants.{OutOfMemory}
+use Rattle.msgunfmt.specs.UnformattedText.{IsUnformatted, IsUnformatFault}
+use Rattle.msgunfmt.specs.declared.fault.UnformatError.{UnformatError}
+use Rattle.msgunfmt.specs.declared.fault.UnformatError.TheVariants.{Mo, NotUtf8, ForbiddenByte, ForeignCharset}
+use Rattle.msgunfmt.specs.declared.fault.UnformatError.TheVariants.{OutOfMemory}
 use Rattle.runs.specs.FaultText.{fault_line, mo_text}
 use Rattle.runs.specs.NamedFile.{NamedFile}
 use Rattle.runs.specs.Run.{RunView, refusal}

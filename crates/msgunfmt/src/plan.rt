@@ -3,8 +3,9 @@ ghost use Rattle.std.specs.Prelude.{◌≡◌, ◌++◌, IfOk, OnOk, OnErr, Err}
 ghost use Rattle.msgunfmt.specs.Msgunfmt.{IsMsgunfmtRun, unformat_text};
 ghost use Rattle.runs.specs.Run.{run_view};
 
-use po_unformat::laws::empty_text;
-use po_unformat::{UnformatError, unformat};
+use crate::laws::empty_text;
+use crate::fault::UnformatError;
+use crate::unformatting::unformat;
 use runs::{Run, ToolFault, push_location, push_mo_text, push_numbered, refused};
 use std::alloc::{AllocError, Global};
 

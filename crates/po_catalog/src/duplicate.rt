@@ -2,14 +2,14 @@
 
 ghost use Rattle.std.specs.Prelude.{◌<◌, ◌^◌, All, IfOk, MatchOption, MatchResult, IsOkUnless, length};
 ghost use Rattle.po_entry.specs.Validity.{IsCatalogueEntry, out_of_memory};
-ghost use Rattle.po_messages.specs.Joined.{joined, joined_entries, entries_of};
-ghost use Rattle.po_messages.specs.Duplicate.{HasNoDuplicate, IsDuplicateFault, IsDuplicateFaultOf, IsFirstDuplicate, join_out_of_memory};
+ghost use Rattle.po_entry.specs.Joined.{joined, joined_entries, entries_of};
+ghost use Rattle.po_entry.specs.Duplicate.{HasNoDuplicate, IsDuplicateFault, IsDuplicateFaultOf, IsFirstDuplicate, join_out_of_memory};
 ghost use Rattle.po_catalog.specs.JoinedView.{input_entries, input_entry};
 
 use crate::catalogue::Catalogue;
 use crate::joining::{InputEntry, joined, joined_store};
 use crate::stores::store_of;
-use po_messages::{
+use po_entry::{
     JoinError, check_duplicates, duplicate_at, first_repeat, message_numbers, places_of,
 };
 use po_syntax::PoError;

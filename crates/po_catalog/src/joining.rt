@@ -2,7 +2,7 @@
 
 ghost use Rattle.std.specs.Prelude.{◌≡◌, ◌++◌, ◌<◌, ◌^◌, length, map, All, OnOk, IfOk};
 ghost use Rattle.po_entry.specs.Validity.{IsCatalogueEntry};
-ghost use Rattle.po_messages.specs.Joined.{entries_of, in_input, is_live, is_live_header, kept_entries, joined, joined_entries};
+ghost use Rattle.po_entry.specs.Joined.{entries_of, in_input, is_live, is_live_header, kept_entries, joined, joined_entries};
 ghost use Rattle.po_catalog.specs.JoinedView.{input_entries};
 
 use crate::catalogue::Catalogue;

@@ -8,7 +8,7 @@ ghost use Rattle.po_entry.specs.ReadsText.{ReadsText};
 ghost use Rattle.po_writer.specs.WrittenText.{arranged, written_text};
 
 pub use po_entry::laws::equal_but_line;
-pub use po_messages::laws::{
+pub use po_entry::laws::{
     later_headers_are_omitted, messages_are_numbered_in_order, no_duplicate_or_first,
     no_first_duplicate_where_none, one_first_duplicate, one_number_is_one_message,
     statistics_count_each_once,

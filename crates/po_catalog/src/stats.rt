@@ -1,12 +1,12 @@
 //! The statistics of a catalogue.
 
 ghost use Rattle.std.specs.Prelude.{◌≡◌};
-ghost use Rattle.po_messages.specs.Statistics.{has_translation, stats_of};
+ghost use Rattle.po_entry.specs.Statistics.{has_translation, stats_of};
 
 use crate::catalogue::Catalogue;
 use crate::entry::Entry;
 use crate::joining::is_live;
-use po_messages::Stats;
+use po_entry::Stats;
 
 /// How many live messages of a catalogue are translated, fuzzy and untranslated. The header isn't
 /// counted.

@@ -6,7 +6,7 @@ use Rattle.std.proofs.lemmas.Bool.Decides.{Decides-and, Decides-like, not_from_D
 use Rattle.std.proofs.lemmas.Bool.{and_parts, or_cases, or_left, or_right, cond_both, eqb-true, false≢true, ne_eqb, not-true, not_from_false}
 use Rattle.po_entry.specs.TextEntry.{TextEntry}
 use Rattle.po_entry.specs.Header.{first_form, is_header}
-use Rattle.po_messages.specs.Statistics.{has_translation}
+use Rattle.po_entry.specs.Statistics.{has_translation}
 use Rattle.po_compile.specs.CompiledEntries.{IsTranslated, MayBeUsed, not_fuzzy, asked_for, header, IsToBeCompiled, KeepsCompiled, none, compiled, omitted}
 use Rattle.po_compile.specs.CompiledList.{compiled_list, is_compiled}
 

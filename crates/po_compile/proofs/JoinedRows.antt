@@ -10,13 +10,13 @@ use Rattle.mo_file.specs.Key.{query_key}
 use Rattle.po_entry.specs.TextEntry.{TextEntry}
 use Rattle.po_entry.specs.Header.{is_header}
 use Rattle.po_entry.specs.Validity.{IsCatalogueEntry}
-use Rattle.po_messages.specs.Joined.{InputEntry, entries_of, in_input, is_live, is_live_header, joined, joined_entries, joined_from, kept_entries}
-use Rattle.po_messages.specs.Duplicate.{live_entries}
-use Rattle.po_messages.proofs.JoiningLemmas.{kept_valid}
-use Rattle.po_messages.proofs.DuplicateLemmas.{entries_of_input}
+use Rattle.po_entry.specs.Joined.{InputEntry, entries_of, in_input, is_live, is_live_header, joined, joined_entries, joined_from, kept_entries}
+use Rattle.po_entry.specs.Duplicate.{live_entries}
+use Rattle.po_entry.proofs.JoiningLemmas.{kept_valid}
+use Rattle.po_entry.proofs.DuplicateLemmas.{entries_of_input}
 use Rattle.po_compile.specs.Collected.{LiveMessage, live_message, live_messages}
 use Rattle.po_compile.specs.Internal.Rows.{InputMessage, all_messages, has_no_key, in_input_message, input_message, is_joined, joined_messages}
-use Rattle.po_messages.specs.Facts.Mapped.{filter_map, filter_twice}
+use Rattle.po_entry.specs.Facts.Mapped.{filter_map, filter_twice}
 use Rattle.po_compile.proofs.Filters.{filter_all}
 
 -- one more row, or none, before those that are left

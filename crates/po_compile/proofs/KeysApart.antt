@@ -5,7 +5,7 @@ use Rattle.std.specs.List.Sorted.{IsSortedBy}
 use Rattle.std.specs.Bool.{MatchBool}
 use Rattle.std.specs.List.{AllWithin, HoldsAt, IsAllAdjacentAnswer}
 use Rattle.std.specs.Prelude.{◌↔◌, IsTrue}
-use Rattle.po_messages.specs.Facts.FirstRepeats.{pairs_of_map}
+use Rattle.po_entry.specs.Facts.FirstRepeats.{pairs_of_map}
 use Rattle.std.specs.declared.cmp.Ordering.{Ordering}
 use Rattle.std.specs.declared.cmp.Ordering.TheVariants.{Less, Equal, Greater}
 use Rattle.std.proofs.lemmas.Bool.{eqb-true, not-true}
@@ -27,15 +27,15 @@ use Rattle.std.proofs.lemmas.Simd.{map-map}
 use Rattle.std.proofs.lemmas.Slice.Eq.{bytes_eq-Decides}
 use Rattle.po_entry.specs.ReadsText.{ReadsText}
 use Rattle.po_entry.specs.TextEntry.{TextEntry}
-use Rattle.po_messages.specs.DistinctText.{ReadsDistinct}
-use Rattle.po_messages.specs.Duplicate.{AllDiffer, HasNoDuplicate, live_entries}
-use Rattle.po_messages.specs.Joined.{InputEntry, entries_of, is_live, joined, joined_entries}
+use Rattle.po_entry.specs.DistinctText.{ReadsDistinct}
+use Rattle.po_entry.specs.Duplicate.{AllDiffer, HasNoDuplicate, live_entries}
+use Rattle.po_entry.specs.Joined.{InputEntry, entries_of, is_live, joined, joined_entries}
 use Rattle.po_compile.specs.Collected.{LiveMessage, live_message, live_messages}
 use Rattle.po_compile.specs.Internal.Repeats.{EachApart}
 use Rattle.po_compile.specs.declared.row.Row.{Row}
 use Rattle.po_compile.proofs.Filters.{filter_all, first_of}
 use Rattle.po_compile.proofs.JoinedRows.{all_are}
-use Rattle.po_messages.proofs.DuplicateLemmas.{live_of_entries}
+use Rattle.po_entry.proofs.DuplicateLemmas.{live_of_entries}
 
 -- keys that rise are different
 pub rising_apart : (ks : List (List ℕ)) → AreRising ks → AllApart ks

@@ -11,7 +11,7 @@ use Rattle.mo_lookup.specs.Query.{can_be_key, has_no_separator, is_separator}
 use Rattle.po_entry.specs.Bytes.{Lacks}
 use Rattle.po_entry.specs.TextEntry.{TextEntry}
 use Rattle.po_entry.specs.Validity.{IsCatalogueEntry}
-use Rattle.po_messages.specs.Joined.{joined_entries}
+use Rattle.po_entry.specs.Joined.{joined_entries}
 use Rattle.po_compile.specs.CompiledList.{compiled_list, is_compiled}
 use Rattle.po_compile.specs.CompiledMessages.{AreMessagesOf}
 use Rattle.po_compile.specs.Headline.{CataloguesAreOne, MessagesAreOne}

@@ -27,7 +27,7 @@ use Rattle.po_entry.specs.Bytes.{Lacks}
 use Rattle.po_entry.specs.Facts.AllAppend.{All-left, All-right}
 use Rattle.po_entry.specs.Header.{first_form}
 use Rattle.po_entry.specs.Validity.{IsEntry}
-use Rattle.po_messages.specs.Duplicate.{is_of_message}
+use Rattle.po_entry.specs.Duplicate.{is_of_message}
 use Rattle.po_syntax.specs.ItemContents.{IsText}
 use Rattle.po_compile.specs.CompiledMessages.{original_of, translation_of, message_of, AreMessagesOf, plural_part}
 use Rattle.po_compile.specs.Meaning.{header_of}
@@ -36,7 +36,7 @@ use Rattle.po_compile.proofs.TextLemmas.{key_of-plural_part, lacks_nul, query_ke
 use Rattle.std.proofs.Math.ListN.{get_or-map}
 use Rattle.std.proofs.lemmas.List.Splits.{slice_split_none, slice_split_at}
 use Rattle.po_compile.specs.MessageLaws.{MessagesHaveParts, MessagesDiffer}
-use Rattle.po_messages.specs.Facts.Mapped.{find_map}
+use Rattle.po_entry.specs.Facts.Mapped.{find_map}
 
 -- what a search finds is in the list and passes the test
 pub record IsFound {X : Type 0} (test : X → Bool) (xs : List X) (x : X) : Type 0 where

@@ -11,12 +11,12 @@ use Rattle.mo_file.specs.Layout.{layout, header, table, terminated, originals_of
 use Rattle.mo_file.specs.declared.byte_order.Order.{Order}
 use Rattle.po_entry.specs.Header.{is_header}
 use Rattle.po_entry.specs.Validity.{IsEntry, IsCatalogueEntry}
-use Rattle.po_messages.specs.Statistics.{has_translation}
-use Rattle.po_messages.specs.Joined.{is_live}
-use Rattle.po_messages.specs.Duplicate.{IsSameMessage, AllDiffer, HasNoDuplicate}
+use Rattle.po_entry.specs.Statistics.{has_translation}
+use Rattle.po_entry.specs.Joined.{is_live}
+use Rattle.po_entry.specs.Duplicate.{IsSameMessage, AllDiffer, HasNoDuplicate}
 use Rattle.po_compile.specs.CompiledList.{is_compiled, compiled_list}
 use Rattle.po_compile.specs.CompiledMessages.{original_of, message_of, AreMessagesOf}
-use Rattle.po_messages.specs.Facts.Mapped.{filter_twice}
+use Rattle.po_entry.specs.Facts.Mapped.{filter_twice}
 use Rattle.po_compile.proofs.TextLemmas.{query_key_is_one}
 use Rattle.po_compile.proofs.MeaningLemmas.{LacksSeparators, key_of-original}
 use Rattle.std.specs.declared.cmp.Ordering.TheVariants.{Less, Equal, Greater}

@@ -13,7 +13,7 @@ use Rattle.mo_lookup.specs.Query.{Query, can_be_key}
 use Rattle.po_entry.specs.Facts.AllAppend.{All-left, All-right}
 use Rattle.po_entry.specs.TextEntry.{TextEntry}
 use Rattle.po_entry.specs.Validity.{IsEntry}
-use Rattle.po_messages.specs.Duplicate.{is_of_message}
+use Rattle.po_entry.specs.Duplicate.{is_of_message}
 use Rattle.po_compile.specs.Headline.{MessagesMeanEntries}
 use Rattle.po_compile.specs.Meaning.{definition}
 use Rattle.po_compile.specs.MessageLaws.{OneMoreChangesNoOther}

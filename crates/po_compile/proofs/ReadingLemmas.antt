@@ -8,11 +8,11 @@ use Rattle.po_syntax.specs.declared.fault.PoError.{PoError}
 use Rattle.po_syntax.specs.declared.fault.PoFault.{PoFault}
 use Rattle.po_syntax.specs.declared.fault.PoFault.TheVariants.{OutOfMemory}
 use Rattle.po_entry.specs.TextEntry.{TextEntry, slice_texts}
-use Rattle.po_messages.specs.Joined.{joined_entries, entries_of, in_input}
-use Rattle.po_messages.specs.Duplicate.{HasNoDuplicate}
+use Rattle.po_entry.specs.Joined.{joined_entries, entries_of, in_input}
+use Rattle.po_entry.specs.Duplicate.{HasNoDuplicate}
 use Rattle.po_entry.specs.Validity.{out_of_memory, IsCatalogueEntry}
-use Rattle.po_messages.proofs.DuplicateLemmas.{entries_of_input}
-use Rattle.po_messages.specs.DistinctText.{ReadsDistinct, IsTextFault}
+use Rattle.po_entry.proofs.DuplicateLemmas.{entries_of_input}
+use Rattle.po_entry.specs.DistinctText.{ReadsDistinct, IsTextFault}
 use Rattle.po_compile.specs.Accepted.{AreRead, IsReadingFault, fault_input, fault_of_input}
 use Rattle.std.proofs.lemmas.List.Elements.{All-nil, All-cons}
 use Rattle.mo_file.specs.Layout.{layout}

@@ -11,9 +11,9 @@ use Rattle.std.proofs.lemmas.Simd.{map-map}
 use Rattle.std.proofs.lemmas.Slice.Eq.{bytes_eq-Decides}
 use Rattle.po_entry.specs.SeenTexts.{with_seen}
 use Rattle.po_entry.specs.TextEntry.{slice_texts}
-use Rattle.po_messages.specs.Repeats.{IsFirstRepeat}
-use Rattle.po_messages.specs.Facts.FirstRepeats.{pairs_of_map}
-use Rattle.po_messages.proofs.FirstOnes.{found_within}
+use Rattle.po_entry.specs.Repeats.{IsFirstRepeat}
+use Rattle.po_entry.specs.Facts.FirstRepeats.{pairs_of_map}
+use Rattle.po_entry.proofs.FirstOnes.{found_within}
 use Rattle.po_compile.specs.Collected.{LiveMessage}
 use Rattle.po_compile.specs.Internal.Repeats.{HaveOneKey, IsRepeatAt}
 use Rattle.po_compile.specs.Internal.Rows.{AllApart, InputMessage, all_messages, in_input_message, input_keys, is_joined, message_keys}

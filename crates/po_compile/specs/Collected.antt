@@ -5,8 +5,8 @@ use Rattle.mo_file.specs.Key.{query_key}
 use Rattle.mo_file.specs.Message.{Message}
 use Rattle.po_entry.specs.TextEntry.{TextEntry}
 use Rattle.po_entry.specs.Validity.{IsCatalogueEntry}
-use Rattle.po_messages.specs.Joined.{is_live}
-use Rattle.po_messages.specs.Statistics.{is_counted, has_translation}
+use Rattle.po_entry.specs.Joined.{is_live}
+use Rattle.po_entry.specs.Statistics.{is_counted, has_translation}
 use Rattle.po_compile.specs.CompiledList.{is_compiled}
 use Rattle.po_compile.specs.CompiledMessages.{message_of}
 use Rattle.po_compile.specs.declared.status.Status.{Status}

@@ -5,7 +5,7 @@ use Rattle.std.specs.List.{AllZip}
 use Rattle.mo_file.specs.Message.{Message}
 use Rattle.po_entry.specs.TextEntry.{TextEntry}
 use Rattle.po_entry.specs.ReadsText.{ReadsText}
-use Rattle.po_messages.specs.Joined.{InputEntry}
+use Rattle.po_entry.specs.Joined.{InputEntry}
 use Rattle.po_compile.specs.Collected.{HoldCatalogues, LiveMessage}
 use Rattle.po_compile.specs.CompiledList.{is_compiled}
 use Rattle.po_compile.specs.CompiledMessages.{message_of}

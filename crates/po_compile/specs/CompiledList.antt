@@ -3,8 +3,8 @@
 use Rattle.std.specs.Prelude.{Bool, not, ◌&&◌, ◌||◌, List, filter}
 use Rattle.po_entry.specs.TextEntry.{TextEntry}
 use Rattle.po_entry.specs.Header.{is_header}
-use Rattle.po_messages.specs.Joined.{is_live}
-use Rattle.po_messages.specs.Statistics.{has_translation}
+use Rattle.po_entry.specs.Joined.{is_live}
+use Rattle.po_entry.specs.Statistics.{has_translation}
 
 -- A live entry whose first form isn't empty, and that isn't fuzzy, unless fuzzy entries are asked
 -- for (`--use-fuzzy`). A header's flag `fuzzy` is ignored. Forms after the first may be empty.

@@ -9,8 +9,8 @@ use Rattle.mo_file.specs.declared.building.BuildError.TheVariants.{TooLarge as L
 use Rattle.mo_file.specs.declared.building.BuildError.TheVariants.{OutOfMemory as NoMemory}
 use Rattle.po_entry.specs.TextEntry.{TextEntry}
 use Rattle.po_syntax.specs.declared.fault.PoFault.TheVariants.{TooLarge}
-use Rattle.po_messages.specs.Duplicate.{join_out_of_memory}
-use Rattle.po_messages.specs.declared.duplicate.JoinError.{JoinError}
+use Rattle.po_entry.specs.Duplicate.{join_out_of_memory}
+use Rattle.po_entry.specs.declared.duplicate.JoinError.{JoinError}
 use Rattle.po_compile.specs.CompiledList.{compiled_list}
 use Rattle.po_compile.specs.CompiledMessages.{AreMessagesOf}
 use Rattle.po_compile.specs.Meaning.{MeansEntries}

@@ -14,12 +14,12 @@ use Rattle.mo_lookup.specs.CatalogView.{answered}
 use Rattle.mo_lookup.specs.Query.{Query}
 use Rattle.po_entry.specs.TextEntry.{TextEntry, plain_entry}
 use Rattle.po_syntax.specs.declared.fault.PoFault.TheVariants.{BadToken, Duplicate, TooLarge}
-use Rattle.po_messages.specs.declared.duplicate.JoinError.{JoinError}
-use Rattle.po_messages.specs.DistinctText.{ReadsDistinct, IsTextFault}
-use Rattle.po_messages.specs.Duplicate.{join_out_of_memory}
-use Rattle.po_messages.specs.Examples.{of_a_on, obsolete_of_a, first_duplicate}
-use Rattle.po_messages.specs.Joined.{in_input, joined_entries}
-use Rattle.po_messages.specs.Statistics.{stats_of}
+use Rattle.po_entry.specs.declared.duplicate.JoinError.{JoinError}
+use Rattle.po_entry.specs.DistinctText.{ReadsDistinct, IsTextFault}
+use Rattle.po_entry.specs.Duplicate.{join_out_of_memory}
+use Rattle.po_entry.specs.MessageExamples.{of_a_on, obsolete_of_a, first_duplicate}
+use Rattle.po_entry.specs.Joined.{in_input, joined_entries}
+use Rattle.po_entry.specs.Statistics.{stats_of}
 use Rattle.po_compile.specs.CompiledList.{is_compiled, compiled_list}
 use Rattle.po_compile.specs.CompiledMessages.{plural_part, original_of, translation_of, message_of, AreMessagesOf}
 use Rattle.po_compile.specs.Meaning.{definition, header_of, meant, MeansEntries}

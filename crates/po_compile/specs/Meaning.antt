@@ -8,7 +8,7 @@ use Rattle.mo_lookup.specs.CatalogView.{IsCatalogView, answered}
 use Rattle.mo_lookup.specs.Query.{Query, can_be_key}
 use Rattle.po_entry.specs.TextEntry.{TextEntry}
 use Rattle.po_entry.specs.Header.{first_form}
-use Rattle.po_messages.specs.Duplicate.{is_of_message}
+use Rattle.po_entry.specs.Duplicate.{is_of_message}
 
 -- the entry that defines a context and msgid: the first that has them, and none where they can't be
 -- a key

@@ -10,10 +10,10 @@ use Rattle.plural_rule.specs.PluralRule.{RuleView}
 use Rattle.po_syntax.specs.declared.fault.PoFault.TheVariants.{TooLarge}
 use Rattle.po_entry.specs.TextEntry.{TextEntry}
 use Rattle.po_entry.specs.Validity.{IsEntry, IsCatalogueEntry}
-use Rattle.po_messages.specs.Joined.{joined_entries}
-use Rattle.po_messages.specs.Duplicate.{AllDiffer}
-use Rattle.po_messages.specs.DistinctText.{ReadsDistinct}
-use Rattle.po_messages.specs.declared.duplicate.JoinError.{JoinError}
+use Rattle.po_entry.specs.Joined.{joined_entries}
+use Rattle.po_entry.specs.Duplicate.{AllDiffer}
+use Rattle.po_entry.specs.DistinctText.{ReadsDistinct}
+use Rattle.po_entry.specs.declared.duplicate.JoinError.{JoinError}
 use Rattle.po_compile.specs.Accepted.{AreAccepted, AreRead, IsTooLarge}
 use Rattle.po_compile.specs.CompiledList.{compiled_list}
 use Rattle.po_compile.specs.declared.options.Options.{Options}

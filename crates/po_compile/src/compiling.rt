@@ -2,8 +2,8 @@
 
 ghost use Rattle.std.specs.Prelude.{◌≡◌, ◌≢◌, ◌<◌, ◌^◌, ℕ, [], ◌∷◌, List, length, IfOk, IfErr, MatchResult};
 ghost use Rattle.po_entry.specs.TextEntry.{slice_texts};
-ghost use Rattle.po_messages.specs.Joined.{joined_entries};
-ghost use Rattle.po_messages.specs.Statistics.{stats_of};
+ghost use Rattle.po_entry.specs.Joined.{joined_entries};
+ghost use Rattle.po_entry.specs.Statistics.{stats_of};
 ghost use Rattle.po_compile.specs.Accepted.{AreCompiled, AreRead, HasStatistics, IsCompileFault, fault_of_only_input};
 ghost use Rattle.po_compile.specs.CompiledInputs.{AreCollected};
 ghost use Rattle.po_compile.specs.Compiling.{IsCompilation, IsReportedFault};
@@ -16,8 +16,8 @@ use crate::repeats::fault_of_input;
 use crate::rows::compiled_pairs;
 use crate::sorting::{sorted_rows, statistics_of};
 use mo_file::{BuildError, build_sorted, layout_is_mo_file};
-use po_messages::JoinError;
-use po_messages::laws::no_first_duplicate_where_none;
+use po_entry::JoinError;
+use po_entry::laws::no_first_duplicate_where_none;
 use po_syntax::{PoError, PoFault};
 use std::alloc::Global;
 

@@ -7,7 +7,7 @@ ghost use Rattle.po_compile.specs.CompiledInputs.{AreCollected};
 
 use crate::collecting::{Collected, collect};
 use crate::repeats::{check_each, fault_of_input};
-use po_messages::JoinError;
+use po_entry::JoinError;
 use po_reader::laws::entries_can_stand;
 use std::alloc::Global;
 

@@ -6,7 +6,7 @@ ghost use Rattle.po_compile.specs.Headline.{AcceptedOrFault, CataloguesAreOne, L
 ghost use Rattle.po_compile.specs.MessageLaws.{CompiledCanBeKeys, JoinedEntriesCanStand, LayoutsAreLimited, MessagesDiffer, MessagesHaveParts, OneMoreChangesNoOther, OneTextIsRead};
 
 use mo_file::layout_is_mo_file;
-use po_messages::laws::{
+use po_entry::laws::{
     no_duplicate_or_first, no_first_duplicate_where_none, one_first_duplicate,
 };
 use po_reader::laws::{

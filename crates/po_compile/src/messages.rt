@@ -1,7 +1,7 @@
 //! The messages of an MO file before they are written, as the profile's check reads them.
 
 ghost use Rattle.std.specs.Prelude.{◌≡◌, ◌<◌, ◌^◌, All, IfOk, OnOk, length, map};
-ghost use Rattle.po_messages.specs.Joined.{joined, joined_entries};
+ghost use Rattle.po_entry.specs.Joined.{joined, joined_entries};
 ghost use Rattle.po_entry.specs.Validity.{IsCatalogueEntry};
 ghost use Rattle.po_compile.specs.CompiledInputs.{compiled_inputs, compiled_message, compiled_view};
 ghost use Rattle.po_compile.specs.OfInputs.{OfAllInputs};

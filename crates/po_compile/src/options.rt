@@ -1,7 +1,7 @@
 //! The options of compiling, and its result.
 
 use mo_file::Order;
-use po_messages::Stats;
+use po_entry::Stats;
 
 /// How catalogues are compiled.
 #[derive(Clone, Copy, Debug)]

@@ -4,8 +4,8 @@ ghost use Rattle.std.specs.Prelude.{◌≡◌, ◌⊎◌, ◌<◌, ◌^◌, IfEr
 ghost use Rattle.std.specs.List.{flat_map};
 ghost use Rattle.po_entry.specs.Seeds.{digest_of};
 ghost use Rattle.po_entry.specs.TextEntry.{slice_texts};
-ghost use Rattle.po_messages.specs.Digests.{key_writes};
-ghost use Rattle.po_messages.specs.Duplicate.{join_out_of_memory};
+ghost use Rattle.po_entry.specs.Digests.{key_writes};
+ghost use Rattle.po_entry.specs.Duplicate.{join_out_of_memory};
 ghost use Rattle.po_compile.specs.Accepted.{fault_of_input};
 ghost use Rattle.po_compile.specs.Internal.Repeats.{EachApart, IsRepeat, IsRepeatAt, IsRepeatInInput, repeat_fault};
 ghost use Rattle.po_compile.specs.Internal.Rows.{AllApart, all_messages, input_keys, row_view};
@@ -13,8 +13,7 @@ ghost use Rattle.po_compile.specs.Internal.Rows.{AllApart, all_messages, input_k
 use crate::collecting::Collected;
 use crate::row::Row;
 use crate::rows::{joined_rows, room_for};
-use po_entry::{Seeded, SeenTexts};
-use po_messages::{JoinError, duplicate_at};
+use po_entry::{JoinError, Seeded, SeenTexts, duplicate_at};
 use po_syntax::{PoError, PoFault};
 use std::alloc::{AllocError, Global};
 use std::hash::{DefaultHasher, Hasher};

@@ -10,7 +10,7 @@ use crate::repeats::{check_each, check_joined};
 use crate::row::{Row, compare};
 use crate::rows::joined_rows;
 use crate::status::Status;
-use po_messages::{JoinError, Stats};
+use po_entry::{JoinError, Stats};
 use std::alloc::Global;
 
 /// Sorts rows by their keys.

@@ -3,8 +3,7 @@
 ghost use Rattle.std.specs.Prelude.{◌≡◌};
 ghost use Rattle.po_compile.specs.Collected.{status_of};
 
-use po_entry::EntryRef;
-use po_messages::has_translation;
+use po_entry::{EntryRef, has_translation};
 
 /// Whether a live entry is compiled, and what the statistics ask of it.
 #[derive(Clone, Copy)]

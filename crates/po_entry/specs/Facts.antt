@@ -2,3 +2,7 @@
 pub mod EqualityLaws
 pub mod AllAppend
 pub mod Filters
+-- Facts of lists that every crate may cite, over any relation.
+pub mod FirstRepeats
+pub mod Mapped
+pub mod Zips

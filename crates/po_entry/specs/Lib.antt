@@ -21,3 +21,17 @@ pub mod Facts
 pub mod Needs
 pub mod Internal
 pub mod Examples
+pub mod Joined
+pub mod Digests
+pub mod Omitted
+pub mod Duplicate
+pub mod DuplicateLaws
+pub mod DistinctText
+pub mod Repeats
+pub mod Places
+pub mod Statistics
+pub mod FirstOnes
+pub mod Message
+pub mod MessageHash
+pub mod StatisticsLaws
+pub mod MessageExamples

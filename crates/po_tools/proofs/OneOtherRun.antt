@@ -8,23 +8,23 @@ use Rattle.po_syntax.specs.declared.fault.PoFault.TheVariants.{Duplicate}
 use Rattle.po_entry.specs.TextEntry.{TextEntry}
 use Rattle.po_entry.specs.ReadsText.{ReadsText}
 use Rattle.po_entry.specs.Header.{HasAdmittedCharset}
-use Rattle.po_messages.specs.Joined.{InputEntry, in_input, entries_of}
-use Rattle.po_messages.specs.Duplicate.{HasNoDuplicate, IsFirstDuplicate}
-use Rattle.po_messages.specs.DistinctText.{IsTextFault}
+use Rattle.po_entry.specs.Joined.{InputEntry, in_input, entries_of}
+use Rattle.po_entry.specs.Duplicate.{HasNoDuplicate, IsFirstDuplicate}
+use Rattle.po_entry.specs.DistinctText.{IsTextFault}
 use Rattle.po_compile.specs.Headline.{OneTextFault, NoFaultWhereDistinct}
-use Rattle.po_merge.specs.Inputs.{Named}
-use Rattle.po_merge.specs.Merged.{merged}
-use Rattle.po_select.specs.Selected.{selected}
-use Rattle.po_unformat.specs.declared.fault.UnformatError.{UnformatError}
-use Rattle.po_unformat.specs.RoundTrip.{NoFaultWhereUnformatted, OneText, OneUnformatFault}
+use Rattle.msgcat.specs.Inputs.{Named}
+use Rattle.msgcat.specs.Merged.{merged}
+use Rattle.msgattrib.specs.Selected.{selected}
+use Rattle.msgunfmt.specs.declared.fault.UnformatError.{UnformatError}
+use Rattle.msgunfmt.specs.RoundTrip.{NoFaultWhereUnformatted, OneText, OneUnformatFault}
 use Rattle.msgattrib.specs.Msgattrib.{error_line}
 use Rattle.msgcat.specs.Msgcat.{AreReadAs, IsFileFault, msgcat_line}
 use Rattle.msgunfmt.specs.Msgunfmt.{unformat_line, unformatted_run}
 use Rattle.runs.specs.NamedFile.{NamedFile}
-use Rattle.po_messages.proofs.DuplicateLemmas.{entries_of_input}
+use Rattle.po_entry.proofs.DuplicateLemmas.{entries_of_input}
 use Rattle.po_tools.specs.RunLaws.{OneMsgattribRun, OneMsgcatRun, OneMsgunfmtRun}
 use Rattle.runs.specs.Run.{refusal}
-use Rattle.text_runs.specs.TextRuns.{written_run}
+use Rattle.runs.specs.TextRuns.{written_run}
 
 abbrev OneReading : Type 0
 OneReading = (text : List ℕ) (entries others : List TextEntry) → ReadsText text entries → ReadsText text others

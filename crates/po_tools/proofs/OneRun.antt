@@ -8,9 +8,9 @@ use Rattle.plural_rule.specs.PluralRule.{RuleView, IsRuleOf, expression_limit}
 use Rattle.mo_lookup.specs.CatalogView.{IsCatalogView, CatalogView, header_text}
 use Rattle.po_entry.specs.TextEntry.{TextEntry}
 use Rattle.po_entry.specs.Header.{first_form}
-use Rattle.po_messages.specs.Joined.{InputEntry, joined, joined_entries}
-use Rattle.po_messages.specs.Statistics.{stats_of}
-use Rattle.po_messages.specs.declared.duplicate.JoinError.{JoinError}
+use Rattle.po_entry.specs.Joined.{InputEntry, joined, joined_entries}
+use Rattle.po_entry.specs.Statistics.{stats_of}
+use Rattle.po_entry.specs.declared.duplicate.JoinError.{JoinError}
 use Rattle.po_compile.specs.Accepted.{AreAccepted, AreRead}
 use Rattle.po_compile.specs.CompiledList.{compiled_list}
 use Rattle.po_compile.specs.Compiling.{IsCompilation}

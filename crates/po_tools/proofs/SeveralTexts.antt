@@ -10,11 +10,11 @@ use Rattle.po_entry.specs.ReadsText.{ReadsText}
 use Rattle.po_entry.specs.Facts.Filters.{all_pass}
 use Rattle.po_entry.specs.Header.{is_header}
 use Rattle.po_entry.proofs.HeaderLaws.{header_decided}
-use Rattle.po_messages.specs.Duplicate.{AllDiffer, IsSameMessage}
-use Rattle.po_messages.specs.Joined.{InputEntry, entries_of, in_input, is_live, is_live_header, joined_from}
-use Rattle.po_merge.specs.Inputs.{Named, NamedEntry, all_entries, named}
-use Rattle.po_merge.specs.MergeLaws.{DistinctInputsStay, OneInputStays}
-use Rattle.po_merge.proofs.SameInput.{differ_head, differ_tail}
+use Rattle.po_entry.specs.Duplicate.{AllDiffer, IsSameMessage}
+use Rattle.po_entry.specs.Joined.{InputEntry, entries_of, in_input, is_live, is_live_header, joined_from}
+use Rattle.msgcat.specs.Inputs.{Named, NamedEntry, all_entries, named}
+use Rattle.msgcat.specs.MergeLaws.{DistinctInputsStay, OneInputStays}
+use Rattle.msgcat.proofs.SameInput.{differ_head, differ_tail}
 use Rattle.po_writer.specs.WrittenText.{written_text}
 use Rattle.po_compile.specs.CompiledList.{compiled_list}
 use Rattle.po_compile.specs.CompiledMessages.{message_of}

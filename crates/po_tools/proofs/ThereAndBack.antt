@@ -7,9 +7,9 @@ use Rattle.mo_file.specs.declared.byte_order.Order.{Order}
 use Rattle.mo_file.specs.MoFile.{IsMoFile}
 use Rattle.po_syntax.specs.PoText.{IsSmall}
 use Rattle.po_compile.specs.Headline.{NoFaultWhereAccepted}
-use Rattle.po_messages.specs.declared.duplicate.JoinError.{JoinError}
-use Rattle.po_unformat.specs.RoundTrip.{CompilesTo, NoFaultWhereUnformatted, OneText, UnformatThenCompile}
-use Rattle.po_unformat.specs.UnformattedText.{IsUnformatted, IsUnformatFault}
+use Rattle.po_entry.specs.declared.duplicate.JoinError.{JoinError}
+use Rattle.msgunfmt.specs.RoundTrip.{CompilesTo, NoFaultWhereUnformatted, OneText, UnformatThenCompile}
+use Rattle.msgunfmt.specs.UnformattedText.{IsUnformatted, IsUnformatFault}
 use Rattle.msgfmt.specs.declared.options.MsgfmtOptions.{MsgfmtOptions}
 use Rattle.msgfmt.specs.Msgfmt.{IsDone, IsMsgfmtRun, compile_options, input_texts}
 use Rattle.msgunfmt.specs.Msgunfmt.{IsMsgunfmtRun}

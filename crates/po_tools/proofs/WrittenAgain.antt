@@ -12,14 +12,14 @@ use Rattle.po_entry.specs.TextEntry.{TextEntry, with_line}
 use Rattle.po_entry.specs.Header.{HasAdmittedCharset}
 use Rattle.po_entry.specs.ReadsText.{ReadsText}
 use Rattle.po_entry.specs.Validity.{IsCatalogueEntry}
-use Rattle.po_messages.specs.DistinctText.{IsTextFault}
-use Rattle.po_messages.specs.Duplicate.{AllDiffer, IsSameMessage}
-use Rattle.po_messages.specs.Facts.FirstRepeats.{pairs_map, pairs_of_map}
-use Rattle.po_messages.specs.Joined.{is_live}
-use Rattle.po_merge.specs.Inputs.{Named}
-use Rattle.po_merge.specs.Merged.{merged}
-use Rattle.po_merge.specs.MergeLaws.{IsInput, MergedCanStand, MessagesStandOnce, OneInputStays, keep_all}
-use Rattle.po_merge.specs.declared.input.MergeOptions.{MergeOptions}
+use Rattle.po_entry.specs.DistinctText.{IsTextFault}
+use Rattle.po_entry.specs.Duplicate.{AllDiffer, IsSameMessage}
+use Rattle.po_entry.specs.Facts.FirstRepeats.{pairs_map, pairs_of_map}
+use Rattle.po_entry.specs.Joined.{is_live}
+use Rattle.msgcat.specs.Inputs.{Named}
+use Rattle.msgcat.specs.Merged.{merged}
+use Rattle.msgcat.specs.MergeLaws.{IsInput, MergedCanStand, MessagesStandOnce, OneInputStays, keep_all}
+use Rattle.msgcat.specs.declared.input.MergeOptions.{MergeOptions}
 use Rattle.po_writer.specs.WrittenText.{arranged, written_text}
 use Rattle.po_compile.specs.CompiledList.{compiled_list, is_compiled}
 use Rattle.po_compile.specs.CompiledMessages.{message_of}

@@ -6,17 +6,17 @@ use Rattle.mo_lookup.specs.Chain.{chain_answered}
 use Rattle.mo_lookup.specs.Query.{Query}
 use Rattle.po_entry.specs.ReadsText.{ReadsText}
 use Rattle.po_entry.specs.Validity.{IsCatalogueEntry}
-use Rattle.po_messages.specs.Duplicate.{AllDiffer}
-use Rattle.po_messages.specs.Joined.{joined_entries}
-use Rattle.po_merge.specs.Inputs.{Named, all_entries}
-use Rattle.po_merge.specs.MergeLaws.{keep_all}
-use Rattle.po_merge.specs.Merged.{merged}
-use Rattle.po_merge.specs.declared.input.MergeOptions.{MergeOptions}
+use Rattle.po_entry.specs.Duplicate.{AllDiffer}
+use Rattle.po_entry.specs.Joined.{joined_entries}
+use Rattle.msgcat.specs.Inputs.{Named, all_entries}
+use Rattle.msgcat.specs.MergeLaws.{keep_all}
+use Rattle.msgcat.specs.Merged.{merged}
+use Rattle.msgcat.specs.declared.input.MergeOptions.{MergeOptions}
 use Rattle.po_writer.specs.WrittenText.{written_text}
 use Rattle.po_compile.specs.CompiledList.{compiled_list}
 use Rattle.po_compile.specs.CompiledMessages.{message_of}
-use Rattle.po_select.specs.Selected.{ChangesNothing, every_entry, is_kept, selected}
-use Rattle.po_select.specs.declared.selection.Selection.{Selection}
+use Rattle.msgattrib.specs.Selected.{ChangesNothing, every_entry, is_kept, selected}
+use Rattle.msgattrib.specs.declared.selection.Selection.{Selection}
 use Rattle.msgfmt.specs.declared.options.MsgfmtOptions.{MsgfmtOptions}
 use Rattle.msgfmt.specs.Msgfmt.{IsMsgfmtRun}
 use Rattle.msgcat.specs.Msgcat.{IsMsgcatRun}

@@ -1,9 +1,9 @@
 -- Catalogues that are merged, each under its name (manual, "Invoking the msgcat Program").
 use Rattle.std.specs.Prelude.{◌≡◌, List, map}
 use Rattle.po_entry.specs.TextEntry.{TextEntry}
-use Rattle.po_merge.specs.Inputs.{Named, all_entries}
-use Rattle.po_merge.specs.MergeInputs.{AreReadInputs, unnamed}
-use Rattle.po_merge.specs.declared.input.ReadInput.{ReadInput}
+use Rattle.msgcat.specs.Inputs.{Named, all_entries}
+use Rattle.msgcat.specs.MergeInputs.{AreReadInputs, unnamed}
+use Rattle.msgcat.specs.declared.input.ReadInput.{ReadInput}
 use Rattle.po_tools.specs.declared.catalogues.Named.{Named as NamedCatalogue}
 
 -- what contracts see of an input

@@ -2,8 +2,8 @@
 use Rattle.std.specs.Prelude.{◌≡◌, ℕ, List}
 use Rattle.msgfmt.specs.declared.options.MsgfmtOptions.{MsgfmtOptions}
 use Rattle.gettext.specs.Gettext.{GettextRequest, NgettextRequest, IsGettextRun, IsNgettextRun}
-use Rattle.po_merge.specs.declared.input.MergeOptions.{MergeOptions}
-use Rattle.po_select.specs.declared.selection.Selection.{Selection}
+use Rattle.msgcat.specs.declared.input.MergeOptions.{MergeOptions}
+use Rattle.msgattrib.specs.declared.selection.Selection.{Selection}
 use Rattle.msgattrib.specs.Msgattrib.{IsMsgattribRun}
 use Rattle.msgcat.specs.Msgcat.{IsMsgcatRun}
 use Rattle.msgfmt.specs.Msgfmt.{IsMsgfmtRun}

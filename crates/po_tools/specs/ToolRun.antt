@@ -8,8 +8,8 @@ use Rattle.msgfmt.specs.declared.options.MsgfmtOptions.{MsgfmtOptions}
 use Rattle.msgfmt.specs.WholeRun.{RunsMsgfmt}
 use Rattle.msgunfmt.specs.Msgunfmt.{IsMsgunfmtRun}
 use Rattle.msgfmt.specs.Options.{AreMsgfmtOptions, default_output}
-use Rattle.po_merge.specs.declared.input.MergeOptions.{MergeOptions}
-use Rattle.po_select.specs.declared.selection.Selection.{Selection}
+use Rattle.msgcat.specs.declared.input.MergeOptions.{MergeOptions}
+use Rattle.msgattrib.specs.declared.selection.Selection.{Selection}
 use Rattle.runs.specs.declared.tool_fault.ToolFault.{ToolFault}
 use Rattle.msgattrib.specs.Msgattrib.{IsMsgattribRun}
 use Rattle.msgcat.specs.WholeRun.{RunsMsgcat}

@@ -3,9 +3,9 @@
 ghost use Rattle.std.specs.Prelude.{◌≡◌, ◌⊎◌, ◌<◌, ◌^◌, ◌++◌, All, IfErr, IfOk, IsOk, MatchResult, None, OnOk, Some, length, map};
 ghost use Rattle.po_entry.specs.Bytes.{Lacks};
 ghost use Rattle.po_entry.specs.Validity.{IsCatalogueEntry};
-ghost use Rattle.po_select.specs.Selected.{changed, selected};
-ghost use Rattle.po_merge.specs.Merged.{IsMergeFault, merged};
-ghost use Rattle.po_merge.specs.MergeInputs.{HoldInputs};
+ghost use Rattle.msgattrib.specs.Selected.{changed, selected};
+ghost use Rattle.msgcat.specs.Merged.{IsMergeFault, merged};
+ghost use Rattle.msgcat.specs.MergeInputs.{HoldInputs};
 ghost use Rattle.po_compile.specs.Collected.{HoldCatalogues};
 ghost use Rattle.msgfmt.specs.Msgfmt.{AreChecked};
 ghost use Rattle.po_tools.specs.NamedInputs.{AreStored, inputs_view};
@@ -13,10 +13,9 @@ ghost use Rattle.po_tools.specs.NamedInputs.{AreStored, inputs_view};
 use msgfmt::{CheckFault, check_collected};
 use po_catalog::{Catalogue, Entry, has_translation, push_entry, store_of};
 use po_compile::Collected;
-use po_entry::Store;
-use po_merge::{MergeInputs, MergeOptions, ReadInput};
-use po_messages::message_numbers;
-use po_select::{Attributes, Selection};
+use po_entry::{Store, message_numbers};
+use msgcat::{MergeInputs, MergeOptions, ReadInput};
+use msgattrib::{Attributes, Selection};
 use po_syntax::PoError;
 use std::alloc::{AllocError, Global};
 

@@ -33,10 +33,10 @@ pub use msgfmt::{
 pub use msgunfmt::plan_msgunfmt;
 pub use one_input::{run_msgattrib, run_msgfmt, run_msgunfmt};
 pub use po_compile::{Compiled, Options, compile, compile_all, laws};
-pub use po_merge::MergeOptions;
-pub use po_messages::JoinError;
-pub use po_select::Selection;
-pub use po_unformat::{UnformatError, laws as unformat_laws, unformat};
+pub use msgcat::MergeOptions;
+pub use po_entry::JoinError;
+pub use msgattrib::Selection;
+pub use msgunfmt::{UnformatError, laws as unformat_laws, unformat};
 pub use run_laws::{
     kept_entries_compile_alike, longer_chain_answers_alike, msgcat_again, msgcat_compiles_alike,
     msgcat_of_several, one_gettext_run, one_msgattrib_run, one_msgcat_run, one_msgfmt_run,

@@ -7,10 +7,9 @@ ghost use Rattle.po_tools.specs.RunsOver.{RunsOver};
 ghost use Rattle.po_tools.specs.ToolRun.{reader_of};
 ghost use Rattle.runs.specs.Outputs.{writer};
 
-use msgattrib::plan_msgattrib;
+use msgattrib::{Selection, plan_msgattrib};
 use msgfmt::{MsgfmtOptions, plan_msgfmt};
 use msgunfmt::plan_msgunfmt;
-use po_select::Selection;
 use runs::{ByteIn, ByteOut, ToolFault, deliver, read_input};
 use std::alloc::Global;
 

@@ -9,13 +9,13 @@ use po_compile::laws::{
     catalogues_are_one, messages_are_one, no_fault_where_accepted, no_fault_where_distinct,
     one_compile_fault, one_text_fault,
 };
-use po_merge::laws::{
+use msgcat::laws::{
     distinct_inputs_stay, merged_entries_can_stand, messages_stand_once, one_input_stays,
 };
-use po_messages::laws::{no_first_duplicate_where_none, one_first_duplicate};
+use po_entry::laws::{no_first_duplicate_where_none, one_first_duplicate};
 use po_reader::laws::{entries_can_stand, one_reading};
-use po_select::laws::conditions_alone_keep;
-use po_unformat::laws::{
+use msgattrib::laws::conditions_alone_keep;
+use msgunfmt::laws::{
     no_fault_where_unformatted, one_text, one_unformat_fault, unformat_then_compile,
 };
 use po_writer::laws::{written_text_again, written_text_reads};

@@ -24,3 +24,4 @@ pub mod WrittenLaw
 pub mod Internal
 pub mod Facts
 pub mod Limits
+pub mod TextRuns

@@ -4,7 +4,7 @@
 //!
 //! The modules in reading order: `tool`, `tool_fault`, `device`, `failing` for tests,
 //! `whole_input`, `run`, `program_fault`, `fault_text`, `arguments`, `inputs`, `output_files`,
-//! `output_paths`, `output_writing`, `output_system`, `laws`.
+//! `output_paths`, `output_writing`, `output_system`, `run_of_text` for msgattrib and msgcat, `laws`.
 
 #![tactic(auto)]
 
@@ -20,6 +20,7 @@ mod output_system;
 mod output_writing;
 mod program_fault;
 mod run;
+mod run_of_text;
 mod tool;
 mod tool_fault;
 mod whole_input;
@@ -33,6 +34,7 @@ pub use output_files::{FileKind, MakeFault, OutputFault, OutputFiles, Owner, Rig
 pub use output_system::OutputSystem;
 pub use program_fault::{ProgramFault, report_fault};
 pub use run::{Ending, Run, STANDARD, STDIN_NAME, deliver, refused, shown_name};
+pub use run_of_text::{refused_text, text_run};
 pub use tool::{TOOLS, Tool};
 pub use tool_fault::ToolFault;
 pub use whole_input::{INPUT_LIMIT, read_input, read_whole};

@@ -5,7 +5,7 @@ use known_runs::{
     msgfmt_through_links_in_memory, ngettext_in_memory,
 };
 use known_system::{Link, Told};
-use po_messages::JoinError;
+use po_entry::JoinError;
 use std::alloc::Global;
 
 /// What a command comes to: its status, or `None`, its file, and what it writes and tells.

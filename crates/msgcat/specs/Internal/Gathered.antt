@@ -1,8 +1,8 @@
 -- What is gathered of inputs before they are merged. Internal to this crate.
 use Rattle.std.specs.Prelude.{◌≡◌, ◌⊎◌, List, MatchResult}
 use Rattle.po_entry.specs.Validity.{out_of_memory}
-use Rattle.po_merge.specs.Inputs.{Named}
-use Rattle.po_merge.specs.MergeInputs.{HoldInputs}
+use Rattle.msgcat.specs.Inputs.{Named}
+use Rattle.msgcat.specs.MergeInputs.{HoldInputs}
 use Rattle.runs.specs.NamedFile.{NamedFile}
 use Rattle.msgcat.specs.declared.plan.Gathered.{Gathered}
 use Rattle.msgcat.specs.Msgcat.{AreReadAs, IsFileFault, first_name}

@@ -7,8 +7,8 @@ use Rattle.std.specs.List.Sorted.{IsSortedBy}
 use Rattle.std.specs.Ordering.{is_lt}
 use Rattle.mo_file.specs.Key.{AreRising, key_cmp, query_key}
 use Rattle.mo_file.specs.Message.{Message}
-use Rattle.po_messages.specs.Joined.{InputEntry}
-use Rattle.po_messages.specs.declared.stats.Stats.{Stats}
+use Rattle.po_entry.specs.Joined.{InputEntry}
+use Rattle.po_entry.specs.declared.stats.Stats.{Stats}
 use Rattle.po_compile.specs.Collected.{LiveMessage, live_message}
 use Rattle.po_compile.specs.CompiledInputs.{CompiledView}
 use Rattle.po_compile.specs.CompiledMessages.{message_of}

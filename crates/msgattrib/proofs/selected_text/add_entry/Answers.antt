@@ -1,8 +1,8 @@
 use Rattle.std.proofs.Common.{◌++◌, ◌∙◌, List, ap, append-nil, subst, sym}
 use Rattle.po_entry.specs.TextEntry.{TextEntry}
 use Rattle.po_entry.specs.Validity.{IsCatalogueEntry}
-use Rattle.po_select.proofs.SelectionLaws.{changed_can_stand}
-use Rattle.po_select.specs.Selected.{changed}
+use Rattle.msgattrib.proofs.SelectionLaws.{changed_can_stand}
+use Rattle.msgattrib.specs.Selected.{changed}
 use Rattle.msgattrib.proofs.SelectedLemmas.{one_left_out}
 use Rattle.msgattrib.proofs.selected_text.add_entry.Goals as goal
 

@@ -4,10 +4,10 @@ use Rattle.std.proofs.Math.Seq.{drop-cons}
 use Rattle.std.proofs.lemmas.List.{length-map, take-append-drop, take_all}
 use Rattle.po_syntax.specs.declared.fault.PoFault.TheVariants.{OutOfMemory}
 use Rattle.po_entry.specs.ReadsText.{ReadsText}
-use Rattle.po_merge.specs.Inputs.{Named, NamedEntry, all_entries}
-use Rattle.po_merge.specs.MergeInputs.{unnamed}
+use Rattle.msgcat.specs.Inputs.{Named, NamedEntry, all_entries}
+use Rattle.msgcat.specs.MergeInputs.{unnamed}
 use Rattle.msgcat.specs.Internal.Inputs.{IsTextOf}
-use Rattle.po_merge.proofs.ReadInputs.{entries_more, inputs_more}
+use Rattle.msgcat.proofs.ReadInputs.{entries_more, inputs_more}
 use Rattle.msgcat.proofs.InputLemmas.{text_more}
 use Rattle.msgcat.proofs.MsgcatLemmas.{file_at, name_lacks, no_file}
 use Rattle.runs.specs.NamedFile.{NamedFile, named_file, named_files}

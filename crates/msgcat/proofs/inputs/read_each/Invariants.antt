@@ -1,7 +1,7 @@
 use Rattle.std.proofs.Common.{◌≡◌, List, take}
 use Rattle.std.specs.List.{AllZip}
-use Rattle.po_merge.specs.Inputs.{Named, all_entries}
-use Rattle.po_merge.specs.MergeInputs.{AreReadInputs, unnamed}
+use Rattle.msgcat.specs.Inputs.{Named, all_entries}
+use Rattle.msgcat.specs.MergeInputs.{AreReadInputs, unnamed}
 use Rattle.msgcat.specs.Internal.Inputs.{IsTextOf}
 use Rattle.runs.specs.NamedFile.{named_files}
 use Rattle.msgcat.proofs.inputs.read_each.Given as goal

@@ -3,16 +3,16 @@ use Rattle.std.specs.Prelude.{MatchOption}
 use Rattle.std.specs.List.{AllZip}
 use Rattle.std.proofs.lemmas.Result.{err_from_is_err_and}
 use Rattle.po_entry.specs.Validity.{out_of_memory}
-use Rattle.po_messages.specs.FirstOnes.{group_numbers}
-use Rattle.po_messages.specs.Joined.{is_live}
-use Rattle.po_messages.specs.Message.{entry_messages, same_message}
-use Rattle.po_messages.specs.Places.{are_placed}
-use Rattle.po_merge.specs.Inputs.{all_entries}
-use Rattle.po_merge.specs.MergeInputs.{IsReadInput, unnamed}
+use Rattle.po_entry.specs.FirstOnes.{group_numbers}
+use Rattle.po_entry.specs.Joined.{is_live}
+use Rattle.po_entry.specs.Message.{entry_messages, same_message}
+use Rattle.po_entry.specs.Places.{are_placed}
+use Rattle.msgcat.specs.Inputs.{all_entries}
+use Rattle.msgcat.specs.MergeInputs.{IsReadInput, unnamed}
 use Rattle.msgcat.specs.Internal.Inputs.{AreNumberedInputs, AreReadUpTo, IsFaultOfFirst, IsFirstRepeating}
 use Rattle.msgcat.specs.Msgcat.{IsFileFault}
-use Rattle.po_messages.specs.declared.repeats.EntryPlace.{EntryPlace}
-use Rattle.po_merge.specs.declared.input.ReadInput.{ReadInput}
+use Rattle.po_entry.specs.declared.repeats.EntryPlace.{EntryPlace}
+use Rattle.msgcat.specs.declared.input.ReadInput.{ReadInput}
 use Rattle.msgcat.specs.declared.inputs.FileFault.{FileFault}
 use Rattle.msgcat.specs.declared.inputs.ReadInputs.{ReadInputs}
 use Rattle.msgcat.proofs.InputLemmas.{all_read, no_part, repeating_fault, text_fault}

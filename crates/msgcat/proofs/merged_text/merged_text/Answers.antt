@@ -3,8 +3,8 @@ use Rattle.std.proofs.lemmas.List.{take_all}
 use Rattle.std.proofs.lemmas.List.Elements.{All-nil}
 use Rattle.std.proofs.lemmas.Result.{err_from_is_err_and}
 use Rattle.po_entry.specs.Header.{HasAdmittedCharset}
-use Rattle.po_merge.proofs.GroupsMerged.{fault_of_one, messages_more}
-use Rattle.po_merge.specs.Merged.{merged_messages, messages}
+use Rattle.msgcat.proofs.GroupsMerged.{fault_of_one, messages_more}
+use Rattle.msgcat.specs.Merged.{merged_messages, messages}
 use Rattle.msgcat.specs.Internal.MergedText.{AreWritten}
 use Rattle.msgcat.proofs.merged_text.merged_text.Goals as goal
 

@@ -1,7 +1,7 @@
 use Rattle.std.proofs.Common.{List, take}
-use Rattle.po_merge.specs.Inputs.{Named}
-use Rattle.po_merge.specs.MergeInputs.{HoldInputs}
-use Rattle.po_merge.specs.Merged.{merged_messages, messages}
+use Rattle.msgcat.specs.Inputs.{Named}
+use Rattle.msgcat.specs.MergeInputs.{HoldInputs}
+use Rattle.msgcat.specs.Merged.{merged_messages, messages}
 use Rattle.msgcat.specs.Internal.MergedText.{AreWritten}
 use Rattle.msgcat.proofs.merged_text.merged_text.Given as goal
 

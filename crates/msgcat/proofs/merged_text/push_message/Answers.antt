@@ -1,7 +1,7 @@
 use Rattle.std.proofs.Common.{◌∷◌, [], ◌∙◌, ap, get_or, subst, sym}
 use Rattle.std.specs.Prelude.{IfSome, option_to_list}
 use Rattle.po_entry.specs.Validity.{IsCatalogueEntry}
-use Rattle.po_merge.specs.Merged.{merged_messages, messages}
+use Rattle.msgcat.specs.Merged.{merged_messages, messages}
 use Rattle.msgcat.proofs.MergedLemmas.{written_more, written_still}
 use Rattle.msgcat.proofs.merged_text.push_message.Goals as goal
 

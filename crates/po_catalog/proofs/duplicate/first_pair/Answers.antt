@@ -2,13 +2,13 @@ use Rattle.std.proofs.Common.{◌≡◌, ◌∙◌, ◌<◌, ℕ, ap, arith, get
 use Rattle.std.specs.Prelude.{MatchOption}
 use Rattle.std.proofs.lemmas.List.{get_or-map, length-map}
 use Rattle.po_entry.specs.TextEntry.{TextEntry}
-use Rattle.po_messages.specs.Joined.{InputEntry, is_live}
+use Rattle.po_entry.specs.Joined.{InputEntry, is_live}
 use Rattle.po_catalog.specs.JoinedView.{input_entries, input_entry}
-use Rattle.po_messages.specs.Places.{is_looked_at, number_in}
-use Rattle.po_messages.specs.Repeats.{DifferUpTo, RepeatsAt}
+use Rattle.po_entry.specs.Places.{is_looked_at, number_in}
+use Rattle.po_entry.specs.Repeats.{DifferUpTo, RepeatsAt}
 use Rattle.po_catalog.specs.declared.joining.InputEntry.{InputEntry as BorrowedEntry}
-use Rattle.po_messages.proofs.DuplicateLemmas.{live_differ}
-use Rattle.po_messages.proofs.NumberLemmas.{are_numbered, as_many, first_twice, none_twice}
+use Rattle.po_entry.proofs.DuplicateLemmas.{live_differ}
+use Rattle.po_entry.proofs.NumberLemmas.{are_numbered, as_many, first_twice, none_twice}
 use Rattle.po_catalog.proofs.duplicate.first_pair.Goals as goal
 
 pub first_repeat-requires-clause-lengths : goal.first_repeat-requires-clause-lengths

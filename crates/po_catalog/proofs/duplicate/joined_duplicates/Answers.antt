@@ -1,9 +1,9 @@
 use Rattle.std.proofs.Common.{All, subst, sym, ap, ◌∙◌}
 use Rattle.po_entry.specs.Validity.{IsCatalogueEntry}
-use Rattle.po_messages.specs.Joined.{entries_of}
+use Rattle.po_entry.specs.Joined.{entries_of}
 use Rattle.po_catalog.specs.JoinedView.{input_entries}
-use Rattle.po_messages.specs.Duplicate.{HasNoDuplicate}
-use Rattle.po_messages.proofs.DuplicateLemmas.{only_memory}
+use Rattle.po_entry.specs.Duplicate.{HasNoDuplicate}
+use Rattle.po_entry.proofs.DuplicateLemmas.{only_memory}
 use Rattle.po_catalog.proofs.duplicate.joined_duplicates.Goals as goal
 
 pub first_duplicate-requires : goal.first_duplicate-requires

@@ -1,5 +1,5 @@
 use Rattle.std.proofs.Common.{◌≡◌, ◌++◌, map, take}
-use Rattle.po_messages.specs.Joined.{in_input, kept_entries}
+use Rattle.po_entry.specs.Joined.{in_input, kept_entries}
 use Rattle.po_catalog.specs.JoinedView.{input_entries}
 use Rattle.po_catalog.proofs.joining.add_entries.Given as goal
 

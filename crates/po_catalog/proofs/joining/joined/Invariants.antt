@@ -1,6 +1,6 @@
 use Rattle.std.proofs.Common.{◌≡◌, ◌++◌, drop, All}
 use Rattle.po_entry.specs.Validity.{IsCatalogueEntry}
-use Rattle.po_messages.specs.Joined.{joined, joined_from, entries_of}
+use Rattle.po_entry.specs.Joined.{joined, joined_from, entries_of}
 use Rattle.po_catalog.specs.JoinedView.{input_entries}
 use Rattle.po_catalog.proofs.joining.joined.Given as goal
 

@@ -1,5 +1,5 @@
 use Rattle.std.proofs.Common.{◌≡◌, take}
-use Rattle.po_messages.specs.Joined.{entries_of}
+use Rattle.po_entry.specs.Joined.{entries_of}
 use Rattle.po_catalog.specs.JoinedView.{input_entries}
 use Rattle.po_catalog.proofs.joining.joined_store.Given as goal
 

@@ -1,5 +1,5 @@
 use Rattle.std.proofs.Common.{arith}
-use Rattle.po_messages.proofs.StatisticsLemmas.{counts_of_first}
+use Rattle.po_entry.proofs.StatisticsLemmas.{counts_of_first}
 use Rattle.po_catalog.proofs.stats.statistics.Goals as goal
 
 pub count-requires-clause-translated : goal.count-requires-clause-translated

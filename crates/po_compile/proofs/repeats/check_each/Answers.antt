@@ -1,7 +1,7 @@
 use Rattle.std.proofs.Common.{[], refl, ap, subst, inl, inr, ⊎_elim, ◌∙◌, map}
 use Rattle.std.proofs.lemmas.List.{get_or_default, take_all}
 use Rattle.std.proofs.lemmas.List.Elements.{All-more}
-use Rattle.po_messages.specs.declared.duplicate.JoinError.{JoinError}
+use Rattle.po_entry.specs.declared.duplicate.JoinError.{JoinError}
 use Rattle.po_compile.specs.Accepted.{fault_of_input}
 use Rattle.po_compile.specs.Internal.Repeats.{EachApart, IsRepeat}
 use Rattle.po_compile.specs.Internal.Rows.{AllApart, all_messages, in_input_message, input_keys, message_keys}

@@ -2,7 +2,7 @@ use Rattle.std.proofs.Common.{arith}
 use Rattle.std.proofs.lemmas.List.Edits.{map_over_more}
 use Rattle.std.proofs.lemmas.List.Elements.{All-set}
 use Rattle.po_entry.specs.Validity.{IsCatalogueEntry}
-use Rattle.po_select.specs.Selected.{changed}
+use Rattle.msgattrib.specs.Selected.{changed}
 use Rattle.po_tools.proofs.catalogues.change_all.Goals as goal
 
 pub loop-entry-preserved : goal.loop-entry-preserved

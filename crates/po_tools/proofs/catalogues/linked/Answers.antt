@@ -1,6 +1,6 @@
 use Rattle.std.proofs.Common.{◌∙◌}
 use Rattle.std.proofs.lemmas.Result.{IfOk-weaker}
-use Rattle.po_merge.specs.MergeInputs.{HoldInputs}
+use Rattle.msgcat.specs.MergeInputs.{HoldInputs}
 use Rattle.po_tools.specs.NamedInputs.{inputs_view}
 use Rattle.po_tools.proofs.catalogues.linked.Goals as goal
 

@@ -4,8 +4,8 @@ use Rattle.std.proofs.lemmas.List.Elements.{All-nil, All-push}
 use Rattle.std.proofs.lemmas.Result.{err_from_is_err_and}
 use Rattle.po_entry.specs.TextEntry.{TextEntry}
 use Rattle.po_entry.specs.Validity.{IsCatalogueEntry}
-use Rattle.po_merge.specs.Merged.{merged_messages, messages}
-use Rattle.po_merge.proofs.GroupsMerged.{fault_of_one, messages_more}
+use Rattle.msgcat.specs.Merged.{merged_messages, messages}
+use Rattle.msgcat.proofs.GroupsMerged.{fault_of_one, messages_more}
 use Rattle.po_tools.specs.NamedInputs.{inputs_view}
 use Rattle.po_tools.proofs.catalogues.merge.Goals.{in-Some+in_ok-copy+in_ok-push, in_default}
 use Rattle.po_tools.proofs.catalogues.merge.Goals as goal

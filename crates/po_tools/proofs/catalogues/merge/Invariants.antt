@@ -1,7 +1,7 @@
 use Rattle.std.proofs.Common.{◌≡◌, take}
 use Rattle.std.specs.Prelude.{All}
 use Rattle.po_entry.specs.Validity.{IsCatalogueEntry}
-use Rattle.po_merge.specs.Merged.{merged_messages, messages}
+use Rattle.msgcat.specs.Merged.{merged_messages, messages}
 use Rattle.po_tools.specs.NamedInputs.{inputs_view}
 use Rattle.po_tools.proofs.catalogues.merge.Given as goal
 

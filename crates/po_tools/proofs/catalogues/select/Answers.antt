@@ -3,7 +3,7 @@ use Rattle.std.proofs.lemmas.Fn.{filter_same}
 use Rattle.std.proofs.lemmas.Grind.{common_steps}
 use Rattle.std.proofs.lemmas.List.Elements.{All-filter}
 use Rattle.po_entry.specs.Validity.{IsCatalogueEntry}
-use Rattle.po_select.specs.Selected.{is_kept}
+use Rattle.msgattrib.specs.Selected.{is_kept}
 use Rattle.po_tools.proofs.catalogues.select.Goals as goal
 
 pub change_all-requires : goal.change_all-requires

@@ -1,0 +1,5 @@
+use Rattle.msgattrib.proofs.SelectionLaws.{selected_once}
+use Rattle.msgattrib.proofs.laws.conditions_select_once.Goals as goal
+
+pub returns : goal.returns
+returns c = selected_once

@@ -1,0 +1,5 @@
+use Rattle.msgattrib.proofs.SelectionLaws.{nothing_given}
+use Rattle.msgattrib.proofs.laws.nothing_given_selects_all.Goals as goal
+
+pub returns : goal.returns
+returns c = nothing_given

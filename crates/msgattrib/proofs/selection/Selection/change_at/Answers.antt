@@ -1,0 +1,22 @@
+use Rattle.std.proofs.Common.{◌≡◌, subst}
+use Rattle.po_entry.specs.Rows.{set_fuzzy, set_obsolete}
+use Rattle.msgattrib.specs.Selected.{changed}
+use Rattle.msgattrib.proofs.ChangedEntries.{changed_in_place, same_length}
+use Rattle.msgattrib.proofs.selection.Selection.change_at.Goals as goal
+
+pub set_obsolete-requires : goal.set_obsolete-requires
+set_obsolete-requires c = rw (c.set_fuzzy.ensures, same_length) c.requires
+
+pub returns-clause-changed : goal.returns-clause-changed
+returns-clause-changed c =
+    let s = c.args.self.now in
+    let fuzzy = c.fuzzy_after-fuzzy.result in
+    let obsolete = c.obsolete_after-obsolete.result in
+    let entry = c.get-entry.result in
+    let marks : changed s entry ≡ set_obsolete obsolete (set_fuzzy fuzzy entry) =
+    rw (c.fuzzy_after-fuzzy.ensures, c.obsolete_after-obsolete.ensures)
+    (c.changes_texts.ensures c.if-changes_texts.false) in
+    rw (c.set_obsolete.ensures, c.set_fuzzy.ensures)
+    (changed_in_place s c.args.index c.args.store.now fuzzy obsolete c.requires
+    (λ other. subst (λ entry. changed s entry ≡ set_obsolete obsolete (set_fuzzy fuzzy entry))
+    (c.get-entry.ensures.entry other) marks))

@@ -1,0 +1,256 @@
+-- The parts of a merged entry, and which messages are kept.
+use Rattle.std.proofs.Common.{◌≡◌, ◌≢◌, ◌⊎◌, inl, inr, ◌↔◌, ℕ, ◌<◌, Bool, true, false, cond, not, ◌&&◌, ◌||◌, nat_lt, List, [], ◌∷◌, ◌++◌, Option, Some, None, refl, sym, ap, ap₂, ◌∙◌, filter, find, fold, length, get_or, slice_get, arith, append_assoc, bytes_eq, subst, is_some, nat_eq, All}
+use Rattle.std.specs.Prelude.{if◌then◌else◌}
+use Rattle.std.specs.List.{list_any, ends_with}
+use Rattle.std.specs.Option.{option_map_or, option_or}
+use Rattle.std.proofs.lemmas.Bool.{and_parts, or_parts, eqb-true, eqb-false, lt-ltb, ltb-true, not-false, not-true, cond_both}
+use Rattle.std.proofs.lemmas.List.Elements.{filter_agree, All-contains, All-weaker}
+use Rattle.std.proofs.lemmas.List.Folds.{find-append, list_any-append, list_any_none}
+use Rattle.std.proofs.lemmas.List.Prefix.{end_rest}
+use Rattle.std.proofs.lemmas.List.FromFn.{get_or-map-range_with_len, length-map-range_with_len}
+use Rattle.std.proofs.Math.Bool.{or-false, or_assoc}
+use Rattle.std.proofs.lemmas.List.Sums.{fold_push}
+use Rattle.po_syntax.specs.declared.item.CommentKind.{CommentKind}
+use Rattle.po_syntax.specs.declared.item.CommentKind.TheVariants.{Translator}
+use Rattle.po_syntax.specs.declared.fault.PoError.{PoError}
+use Rattle.po_entry.specs.TextEntry.{TextEntry, TextPrevious, no_previous}
+use Rattle.po_entry.specs.Joined.{is_live}
+use Rattle.msgcat.specs.declared.input.MergeOptions.{MergeOptions}
+use Rattle.msgcat.specs.Inputs.{NamedEntry}
+use Rattle.msgcat.specs.MergedEntry.{collected, comment_of, ended, first_of, first_with, form_count, has_plural, has_previous, joined_form, joined_forms, marked, merged_entry, first_translated, texts_of, translations, with_others}
+use Rattle.msgcat.specs.Merged.{is_below, is_wanted}
+use Rattle.msgcat.specs.EntryLaws.{AreLiveOf, no_entry, live, obsolete, DefinedByLive, EndsForm, of_nothing, without_feed, with_feed, FormsAreJoined, IsJoinedForm, no_more, with_form, without_form, JoinedIsFuzzy, KeptByCount, ObsoleteWhereNoneIsLive, PluralOfFirst, PreviousOfFirst, TextsInOrder, TextsOfAll, has_text}
+use Rattle.msgcat.specs.MergeLaws.{FaultIsOfNoLine}
+use Rattle.msgcat.proofs.Sets.{has_others}
+use Rattle.po_entry.proofs.FuzzyFlags.{any_passing}
+
+-- the texts of one kind of a merged entry
+pub texts_merged : (o : MergeOptions) (kind : CommentKind) (ds : List NamedEntry)
+    → texts_of kind (merged_entry o ds) ≡ comment_of o kind ds
+texts_merged o Translator ds = refl
+texts_merged o kind ds = refl
+
+texts_collected : (o : MergeOptions) (kind : CommentKind) (ds : List NamedEntry) → o.use_first ≡ false
+    → texts_of kind (merged_entry o ds) ≡ collected (texts_of kind) ds
+texts_collected o kind ds off = texts_merged o kind ds
+    ∙ ap (λ (b : Bool). if b then texts_of kind (first_translated ds) else collected (texts_of kind) ds) off
+
+-- a text is collected exactly if a definition has it
+any_collected : (kind : CommentKind) (text : List ℕ) (done : List (List ℕ)) (ds : List NamedEntry)
+    → list_any (bytes_eq text) (fold (λ l d. with_others l (texts_of kind d.entry)) done ds)
+    ≡ (list_any (bytes_eq text) done || list_any (λ d. has_text kind text d.entry) ds)
+any_collected kind text done [] = sym (or-false (list_any (bytes_eq text) done))
+any_collected kind text done (d ∷ ds) =
+    any_collected kind text (with_others done (texts_of kind d.entry)) ds
+    ∙ ap (λ (b : Bool). b || list_any (λ x. has_text kind text x.entry) ds)
+    (list_any-append (bytes_eq text) done (filter (λ t. not (list_any (bytes_eq t) done)) (texts_of kind d.entry))
+    ∙ has_others text done (texts_of kind d.entry))
+    ∙ or_assoc (list_any (bytes_eq text) done) (has_text kind text d.entry)
+    (list_any (λ x. has_text kind text x.entry) ds)
+
+pub texts_of_all : (o : MergeOptions) (kind : CommentKind) (text : List ℕ) (ds : List NamedEntry)
+    → TextsOfAll o kind text ds
+texts_of_all o kind text ds off =
+    ap (list_any (bytes_eq text)) (texts_collected o kind ds off) ∙ any_collected kind text [] ds
+
+pub texts_in_order : (o : MergeOptions) (kind : CommentKind) (before : List NamedEntry) (d : NamedEntry)
+    → TextsInOrder o kind before d
+texts_in_order o kind before d off =
+    texts_collected o kind (before ++ d ∷ []) off
+    ∙ fold_push (λ (done : List (List ℕ)) (x : NamedEntry). with_others done (texts_of kind x.entry)) [] before d
+    ∙ ap₂ (λ (l m : List (List ℕ)). l ++ m) (sym (texts_collected o kind before off))
+    (filter_agree (λ t. not (list_any (bytes_eq t) (collected (texts_of kind) before)))
+    (λ t. not (list_any (λ b. has_text kind t b.entry) before)) (λ t. ap not (any_collected kind t [] before))
+    (texts_of kind d.entry))
+
+pub joined_is_fuzzy : (o : MergeOptions) (ds : List NamedEntry) → JoinedIsFuzzy o ds
+joined_is_fuzzy o ds joined = ap (λ (b : Bool). b || (first_translated ds).fuzzy) joined
+
+pub find_none : {X : Type 0} (p : X → Bool) (xs : List X) → list_any p xs ≡ false → find p xs ≡ None
+find_none p [] none = refl
+find_none p (x ∷ xs) none =
+    let parts = or_parts (p x) (list_any p xs) none in ap (λ (b : Bool). cond b (Some x) (find p xs)) parts.0
+    ∙ find_none p xs parts.1
+
+-- what the first definition has that has something
+first_found : (has : TextEntry → Bool) (before : List NamedEntry) (d : NamedEntry) (after : List NamedEntry)
+    → list_any (λ b. has b.entry) before ≡ false → has d.entry ≡ true
+    → find (λ x. has x.entry) (before ++ d ∷ after) ≡ Some d
+first_found has before d after none is =
+    let p = λ (x : NamedEntry). has x.entry in
+    find-append p before (d ∷ after)
+    ∙ ap₂ (λ (o : Option NamedEntry) (b : Bool). option_or o (cond b (Some d) (find p after)))
+    (find_none p before none) is
+
+pub first_is : (has : TextEntry → Bool) (before : List NamedEntry) (d : NamedEntry) (after : List NamedEntry)
+    → list_any (λ b. has b.entry) before ≡ false → has d.entry ≡ true → first_with has (before ++ d ∷ after) ≡ d.entry
+first_is has before d after none is =
+    ap (λ (r : Option NamedEntry). option_map_or (λ (x : NamedEntry). x.entry) r (first_of (before ++ d ∷ after)))
+    (first_found has before d after none is)
+
+none_has : (has : TextEntry → Bool) (P : NamedEntry → Type 0) → ((b : NamedEntry) → P b → has b.entry ≡ false)
+    → (before : List NamedEntry) → All P before
+    → list_any (λ b. has b.entry) before ≡ false
+none_has has P lacks before all =
+    list_any_none (λ b. has b.entry) before (All-weaker P (λ b. has b.entry ≡ false) lacks before all)
+
+some_plural : (plural : Option (List ℕ)) → plural ≢ None → is_some plural ≡ true
+some_plural None is = absurd (is refl)
+some_plural (Some text) is = refl
+
+some_previous : (previous : TextPrevious) → previous ≢ no_previous
+    → (is_some previous.context || is_some previous.id || is_some previous.plural) ≡ true
+some_previous previous is = of previous.context previous.id previous.plural is where
+  of : (context id plural : Option (List ℕ)) → record { context = context; id = id; plural = plural } ≢ no_previous
+      → (is_some context || is_some id || is_some plural) ≡ true
+  of (Some text) id plural is = refl
+  of None (Some text) plural is = refl
+  of None None (Some text) is = refl
+  of None None None is = absurd (is refl)
+
+-- a text is empty or has a last byte
+has_last : (text : List ℕ) → (text ≡ []) ⊎ ((before : List ℕ) × (b : ℕ) × (text ≡ before ++ b ∷ []))
+has_last [] = inl refl
+has_last (b ∷ text) = elim (has_last text) [
+  | inl none ↦ inr ([], b, ap (λ (l : List ℕ). b ∷ l) none)
+  | inr (before, last, is) ↦ inr (b ∷ before, last, ap (λ (l : List ℕ). b ∷ l) is)
+]
+
+last_ended : (text : List ℕ) (b : ℕ) → EndsForm (text ++ b ∷ []) (ended (text ++ b ∷ []))
+last_ended text b =
+    let form = text ++ b ∷ [] in
+    let last : ends_with nat_eq form (10 ∷ []) ≡ (nat_eq 10 b && true) = rw (end_rest form (b ∷ []) text refl) refl in
+    subst (λ (t : Bool). EndsForm form (if t then form else form ++ 10 ∷ [])) (sym last) (by (nat_eq 10 b) refl) where
+      by : (t : Bool) → nat_eq 10 b ≡ t
+          → EndsForm (text ++ b ∷ []) (if t && true then text ++ b ∷ [] else (text ++ b ∷ []) ++ 10 ∷ [])
+      by true e = subst (λ c. EndsForm (text ++ c ∷ []) (text ++ c ∷ [])) (eqb-true 10 b e) (with_feed text)
+      by false e = subst (EndsForm (text ++ b ∷ [])) (sym (append_assoc text (b ∷ []) (10 ∷ [])))
+          (without_feed text (λ same. eqb-false 10 b e (sym same)))
+
+pub forms_end : (form : List ℕ) → EndsForm form (ended form)
+forms_end form = elim (has_last form) [
+  | inl none ↦ subst (λ l. EndsForm l (ended l)) (sym none) of_nothing
+  | inr (text, b, is) ↦ subst (λ l. EndsForm l (ended l)) (sym is) (last_ended text b)
+]
+
+joined_is : (i : ℕ) (ts : List NamedEntry) → IsJoinedForm i ts (joined_form ts i)
+joined_is i [] = no_more
+joined_is i (t ∷ ts) = by (slice_get t.entry.forms i) refl (joined_is i ts) where
+  by : (found : Option (List ℕ)) → slice_get t.entry.forms i ≡ found → IsJoinedForm i ts (joined_form ts i)
+      → IsJoinedForm i (t ∷ ts) (option_map_or (marked t.name) found [] ++ joined_form ts i)
+  by None e rest = without_form e rest
+  by (Some form) e rest = with_form e (forms_end form) rest
+
+pub forms_are_joined : (o : MergeOptions) (ds : List NamedEntry) → FormsAreJoined o ds
+forms_are_joined o ds i joined inside =
+    let all = translations ds in
+    let forms : (merged_entry o ds).forms ≡ joined_forms all =
+    ap (λ (b : Bool). if b then joined_forms all else (first_translated ds).forms) joined in
+    let below : i < form_count all =
+    omega (arith, inside, ap length forms, length-map-range_with_len (joined_form all) 0 (form_count all)) in
+    subst (IsJoinedForm i all)
+    (sym (ap (λ (l : List (List ℕ)). get_or l i []) forms
+    ∙ get_or-map-range_with_len (joined_form all) 0 (form_count all) i i [] below (omega arith)))
+    (joined_is i all)
+
+pub previous_of_first : (o : MergeOptions) (before : List NamedEntry) (d : NamedEntry) (after : List NamedEntry)
+    → PreviousOfFirst o before d after
+previous_of_first o before d after none is =
+    ap (λ (e : TextEntry). e.previous)
+    (first_is has_previous before d after
+    (none_has has_previous (λ b. b.entry.previous ≡ no_previous) (λ b e. rw e refl) before none)
+    (some_previous d.entry.previous is))
+
+pub plural_of_first : (o : MergeOptions) (before : List NamedEntry) (d : NamedEntry) (after : List NamedEntry)
+    → PluralOfFirst o before d after
+plural_of_first o before d after none is =
+    ap (λ (e : TextEntry). e.plural)
+    (first_is has_plural before d after
+    (none_has has_plural (λ b. b.entry.plural ≡ None) (λ b e. rw e refl) before none)
+    (some_plural d.entry.plural is))
+
+live_of : (es : List NamedEntry) → AreLiveOf es (filter (λ e. is_live e.entry) es)
+live_of [] = no_entry
+live_of (e ∷ es) = by e.entry.obsolete refl (live_of es) where
+  lives : List NamedEntry
+  lives = filter (λ x. is_live x.entry) es
+
+  by : (b : Bool) → e.entry.obsolete ≡ b → AreLiveOf es lives → AreLiveOf (e ∷ es) (cond (not b) (e ∷ lives) lives)
+  by true is rest = obsolete is rest
+  by false is rest = live is rest
+
+pub defined_by_live : (group : List NamedEntry) → DefinedByLive group
+defined_by_live group =
+    let p = λ (e : NamedEntry). is_live e.entry in record {
+      some_live = λ e among is.
+          let any = All-contains (λ x. p x ≡ true → list_any p group ≡ true) group e (any_passing p group) among
+          (ap not is) in
+          subst (λ (b : Bool). AreLiveOf group (if b then filter p group else group)) (sym any) (live_of group);
+      none_live = λ all.
+          ap (λ (b : Bool). if b then filter p group else group)
+          (list_any_none p group (All-weaker (λ x. x.entry.obsolete ≡ true) (λ x. p x ≡ false)
+          (λ x. ap not) group all));
+    }
+
+live_first : (es : List NamedEntry) → list_any (λ e. is_live e.entry) es ≡ true
+    → (first_of (filter (λ e. is_live e.entry) es)).obsolete ≡ false
+live_first [] h = cc
+live_first (e ∷ es) h =
+    let live = filter (λ x. is_live x.entry) es in
+    cond_both (is_live e.entry) (e ∷ live) live (λ l. (first_of l).obsolete ≡ false) (not-true e.entry.obsolete)
+    (λ none. live_first es (ap (λ (b : Bool). b || list_any (λ x. is_live x.entry) es) (sym none) ∙ h))
+
+obsolete_first : (es : List NamedEntry) → 0 < length es → list_any (λ e. is_live e.entry) es ≡ false
+    → (first_of es).obsolete ≡ true
+obsolete_first [] some h = absurd (omega (arith, some))
+obsolete_first (e ∷ es) some h =
+    not-false e.entry.obsolete (or_parts (is_live e.entry) (list_any (λ x. is_live x.entry) es) h).0
+
+pub obsolete_where_none_is_live : (o : MergeOptions) (group : List NamedEntry) → ObsoleteWhereNoneIsLive o group
+obsolete_where_none_is_live o group some = found (list_any (λ e. is_live e.entry) group) refl where
+  found : (b : Bool) → list_any (λ e. is_live e.entry) group ≡ b
+      → (first_of (if b then filter (λ e. is_live e.entry) group else group)).obsolete ≡ not b
+  found true e = live_first group e
+  found false e = obsolete_first group some e
+
+below_limit : (given : Option ℕ) (count : ℕ)
+    → (is_below given count ≡ true) ↔ ((limit : ℕ) → given ≡ Some limit → count < limit)
+below_limit None count = (λ h limit is. cc, λ h. refl)
+below_limit (Some n) count = (
+  λ h limit is. let same : n ≡ limit = cc in let less : count < n = ltb-true count n h in omega (arith, less, same),
+  λ h. lt-ltb count n (h n refl),
+)
+
+one_alone : (unique : Bool) (count : ℕ) → 0 < count
+    → ((not unique || nat_lt count 2) ≡ true) ↔ (unique ≡ true → count ≡ 1)
+one_alone true count some = (
+  λ h on. let less : count < 2 = ltb-true count 2 h in
+      omega (arith, less, some),
+  λ h. lt-ltb count 2 (omega (arith, h refl)),
+)
+one_alone false count some = (λ h on. cc, λ h. refl)
+
+pub kept_by_count : (o : MergeOptions) (ds : List NamedEntry) → KeptByCount o ds
+kept_by_count o ds none = (
+  λ kept.
+      let wanted : is_wanted o (length ds) ≡ true = sym (ap (λ (b : Bool). b || is_wanted o (length ds)) none) ∙ kept in
+      let a = and_parts (nat_lt o.more_than (length ds) && is_below o.less_than (length ds))
+      (not o.unique || nat_lt (length ds) 2) wanted in
+      let b = and_parts (nat_lt o.more_than (length ds)) (is_below o.less_than (length ds)) a.0 in
+      let more : o.more_than < length ds = ltb-true o.more_than (length ds) b.0 in
+      record {
+        more_than = more;
+        less_than = (below_limit o.less_than (length ds)).0 b.1;
+        unique =
+            (one_alone o.unique (length ds) (omega (arith, more))).0 a.1;
+      },
+  λ asked.
+      let more = lt-ltb o.more_than (length ds) asked.more_than in
+      let less = (below_limit o.less_than (length ds)).1 asked.less_than in
+      let alone = (one_alone o.unique (length ds) (omega (arith, asked.more_than))).1 asked.unique in
+      rw (none, more, less, alone) refl,
+)
+
+pub fault_is_of_no_line : (entries : List TextEntry) (error : PoError) → FaultIsOfNoLine entries error
+fault_is_of_no_line entries error (inl memory) = ap (λ (e : PoError). e.line) memory
+fault_is_of_no_line entries error (inr foreign) = ap (λ (e : PoError). e.line) foreign.1

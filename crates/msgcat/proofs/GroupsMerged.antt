@@ -1,0 +1,112 @@
+-- The groups of valid entries, and what is merged of them.
+use Rattle.std.proofs.Common.{◌≡◌, ℕ, ◌+◌, ◌<◌, Bool, true, false, cond, ◌||◌, List, [], ◌∷◌, ◌++◌, refl, sym, ap, ap₂, ◌∙◌, subst, map, filter, take, get_or, length, arith, zero, suc, inl, inr}
+use Rattle.std.specs.Prelude.{All}
+use Rattle.std.specs.List.{list_any}
+use Rattle.std.proofs.lemmas.Bool.{cond_both, false≢true}
+use Rattle.std.proofs.lemmas.List.{take_more, map-append}
+use Rattle.std.proofs.lemmas.List.Folds.{list_any_at}
+use Rattle.std.proofs.lemmas.List.Elements.{All-head, All-filter, All-map, filter-append}
+use Rattle.po_syntax.specs.declared.fault.PoError.{PoError}
+use Rattle.po_syntax.specs.declared.fault.PoFault.TheVariants.{ForeignCharset}
+use Rattle.po_entry.specs.Facts.AllAppend.{All-left, All-right}
+use Rattle.po_entry.specs.Header.{HasAdmittedCharset}
+use Rattle.po_entry.specs.TextEntry.{TextEntry}
+use Rattle.po_entry.specs.Joined.{is_live}
+use Rattle.po_entry.proofs.FirstOnes.{any_first_ones}
+use Rattle.msgcat.specs.declared.input.MergeOptions.{MergeOptions}
+use Rattle.msgcat.specs.Inputs.{NamedEntry}
+use Rattle.msgcat.specs.Groups.{same_message, first_ones, groups, definitions, definitions_by}
+use Rattle.msgcat.specs.Grouping.{IsDefinition, IsGroup}
+use Rattle.msgcat.specs.MergedEntry.{merged_entry}
+use Rattle.msgcat.specs.Merged.{is_kept, merged_messages, IsMergeFault}
+use Rattle.msgcat.proofs.FirstOnes.{group_of}
+use Rattle.msgcat.proofs.Messages.{same_message_laws}
+
+pub some_passes : {X : Type 0} (p : X → Bool) (xs : List X) → list_any p xs ≡ true → 0 < length (filter p xs)
+some_passes p [] h = absurd (false≢true h)
+some_passes p (x ∷ xs) h =
+    cond_both (p x) (x ∷ filter p xs) (filter p xs) (λ l. 0 < length l) (λ _. omega arith)
+    (λ e. some_passes p xs (ap (λ (b : Bool). b || list_any p xs) (sym e) ∙ h))
+
+pub any_same : {X : Type 0} (p q : X → Bool) → ((x : X) → p x ≡ q x) → (xs : List X) → list_any p xs ≡ list_any q xs
+any_same p q h [] = refl
+any_same p q h (x ∷ xs) = ap₂ (λ (a b : Bool). a || b) (h x) (any_same p q h xs)
+
+pub groups_valid : (es : List NamedEntry) → All IsDefinition es → All IsGroup (groups es)
+groups_valid es h = All-map IsGroup (group_of same_message es) F
+    (λ k d below. valid_group (get_or F k d)
+    (list_any_at (same_message (get_or F k d)) F k d below (same_message_laws.refl (get_or F k d)))) where
+      F : List NamedEntry
+      F = first_ones same_message es
+
+      valid_group : (f : NamedEntry) → list_any (same_message f) (first_ones same_message es) ≡ true
+          → IsGroup (group_of same_message es f)
+      valid_group f met = record {
+        some = some_passes (λ (e : NamedEntry). same_message e f) es
+            (any_same (λ (e : NamedEntry). same_message e f) (same_message f) (λ e. same_message_laws.symm e f) es
+            ∙ sym (any_first_ones same_message same_message_laws f es) ∙ met);
+        valid = All-filter (λ e. same_message e f) IsDefinition es h;
+      }
+
+pub live_valid : (group : List NamedEntry) → IsGroup group → list_any (λ d. is_live d.entry) group ≡ true
+    → IsGroup (filter (λ d. is_live d.entry) group)
+live_valid group h live =
+    record {
+      some = some_passes (λ (d : NamedEntry). is_live d.entry) group live;
+      valid =
+          All-filter (λ d. is_live d.entry) IsDefinition group h.valid;
+    }
+
+pub definitions_some : {X : Type 0} (live : X → Bool) (group : List X) → 0 < length group
+    → 0 < length (definitions_by live group)
+definitions_some live group some =
+    cond_both (list_any live group) (filter live group) group (λ l. 0 < length l) (some_passes live group) (λ _. some)
+
+pub definitions_valid : (group : List NamedEntry) → IsGroup group → IsGroup (definitions group)
+definitions_valid group h =
+    cond_both (list_any (λ d. is_live d.entry) group) (filter (λ d. is_live d.entry) group) group IsGroup
+    (live_valid group h) (λ _. h)
+
+-- what is merged of one message
+pub kept_one : (o : MergeOptions) (ds : List NamedEntry) → is_kept o ds ≡ true
+    → merged_messages o (ds ∷ []) ≡ merged_entry o ds ∷ []
+kept_one o ds some = ap (λ (b : Bool). map (merged_entry o) (cond b (ds ∷ []) [])) some
+
+pub dropped_one : (o : MergeOptions) (ds : List NamedEntry) → is_kept o ds ≡ false → merged_messages o (ds ∷ []) ≡ []
+dropped_one o ds none = ap (λ (b : Bool). map (merged_entry o) (cond b (ds ∷ []) [])) none
+
+pub messages_append : (o : MergeOptions) (xs ys : List (List NamedEntry))
+    → merged_messages o (xs ++ ys) ≡ merged_messages o xs ++ merged_messages o ys
+messages_append o xs ys = ap (map (merged_entry o)) (filter-append (is_kept o) xs ys)
+    ∙ map-append (merged_entry o) (filter (is_kept o) xs) (filter (is_kept o) ys)
+
+-- what is merged of the messages up to one, and of that one
+pub messages_more : (o : MergeOptions) (all : List (List NamedEntry)) (i : ℕ) → i < length all
+    → merged_messages o (take i all) ++ merged_messages o (get_or all i [] ∷ []) ≡ merged_messages o (take (i + 1) all)
+messages_more o all i inside =
+    sym (ap (merged_messages o) (take_more all i [] inside) ∙ messages_append o (take i all) (get_or all i [] ∷ []))
+
+-- entries among others that can't stand in a catalogue
+within : (o : MergeOptions) (all : List (List NamedEntry)) (i : ℕ) → i < length all
+    → All HasAdmittedCharset (merged_messages o all)
+    → All HasAdmittedCharset (merged_messages o (get_or all i [] ∷ []))
+within o [] i inside admitted = absurd (omega (arith, inside))
+within o (g ∷ all) zero inside admitted =
+    All-left HasAdmittedCharset (merged_messages o (g ∷ [])) (merged_messages o all)
+    (subst (All HasAdmittedCharset) (messages_append o (g ∷ []) all) admitted)
+within o (g ∷ all) (suc i) inside admitted =
+    let less : i < length all = omega (arith, inside) in
+    within o all i less (All-right HasAdmittedCharset (merged_messages o (g ∷ [])) (merged_messages o all)
+    (subst (All HasAdmittedCharset) (messages_append o (g ∷ []) all) admitted))
+
+pub fault_of_one : (o : MergeOptions) (all : List (List NamedEntry)) (i : ℕ) (error : PoError)
+    → i < length all → IsMergeFault (merged_messages o (get_or all i [] ∷ [])) error
+    → IsMergeFault (merged_messages o all) error
+fault_of_one o all i error inside (inl memory) = inl memory
+fault_of_one o all i error inside (inr foreign) =
+    inr (λ admitted. foreign.0 (within o all i inside admitted), foreign.1)
+
+-- an entry whose charset isn't admitted can't stand in a catalogue
+pub foreign_one : (entry : TextEntry) → (HasAdmittedCharset entry → ⊥)
+    → IsMergeFault (entry ∷ []) (record { kind = ForeignCharset; line = 0 })
+foreign_one entry foreign = inr (λ all. foreign (All-head HasAdmittedCharset entry [] all), refl)

@@ -1,0 +1,106 @@
+-- A message with one definition is merged to that entry.
+use Rattle.std.proofs.Common.{◌≡◌, ℕ, ◌<◌, Bool, false, not, ◌||◌, List, [], ◌∷◌, ◌++◌, append-nil, fold, refl, sym, ap, ap₂, ◌∙◌, get_or, length, arith}
+use Rattle.std.specs.Prelude.{All, Contains, bytes_eq, if◌then◌else◌}
+use Rattle.std.specs.List.{list_any}
+use Rattle.std.proofs.lemmas.Bool.{cond_both, false_from_ne_true}
+use Rattle.std.proofs.lemmas.List.Elements.{All-cons, All-contains, All-head, All-nil, All-tail}
+use Rattle.std.proofs.lemmas.List.Folds.{list_any_at}
+use Rattle.std.proofs.lemmas.Slice.Eq.{bytes_eq-Decides}
+use Rattle.po_syntax.specs.declared.item.CommentKind.{CommentKind}
+use Rattle.po_syntax.specs.declared.item.CommentKind.TheVariants.{Translator, Extracted, Reference, Flags}
+use Rattle.po_entry.specs.TextEntry.{TextEntry}
+use Rattle.po_entry.specs.Statistics.{has_translation}
+use Rattle.msgcat.specs.declared.definition.NamedEntry.{NamedEntry as BorrowedEntry}
+use Rattle.msgcat.specs.declared.input.MergeOptions.{MergeOptions}
+use Rattle.msgcat.specs.Inputs.{NamedEntry}
+use Rattle.msgcat.specs.InputsView.{named_entry, named_entries}
+use Rattle.msgcat.specs.MergedEntry.{first_of, first_with, has_previous, has_plural, first_translated, texts_of, with_others, collected, comment_of, translations, is_joined, joined_forms, merged_entry}
+use Rattle.po_entry.specs.Facts.Filters.{all_pass, none_pass}
+use Rattle.msgcat.proofs.TranslationLaws.{joined_where_they_differ}
+use Rattle.msgcat.proofs.Valid.{first_keeps, first_with_keeps}
+
+-- definitions of one entry
+abbrev AreOf : TextEntry → List NamedEntry → Type 0
+AreOf e ds = All (λ d. d.entry ≡ e) ds
+
+nothing_new : (ts : List (List ℕ)) → with_others ts ts ≡ ts
+nothing_new ts =
+    ap (λ (l : List (List ℕ)). ts ++ l)
+    (none_pass (λ t. not (list_any (bytes_eq t) ts)) ts
+    (λ k d below. ap (λ (b : Bool). not b)
+    (list_any_at (bytes_eq (get_or ts k d)) ts k d below
+    ((bytes_eq-Decides (get_or ts k d) (get_or ts k d)).1 refl))))
+    ∙ append-nil ts
+
+module _ (e : TextEntry) where
+  none_collected : (kind : CommentKind) (ds : List NamedEntry) → AreOf e ds
+      → fold (λ l d. with_others l (texts_of kind d.entry)) (texts_of kind e) ds ≡ texts_of kind e
+  none_collected kind [] h = refl
+  none_collected kind (d ∷ ds) h =
+      ap (λ x. fold (λ l y. with_others l (texts_of kind y.entry)) (with_others (texts_of kind e) (texts_of kind x)) ds)
+      (All-head (λ x. x.entry ≡ e) d ds h)
+      ∙ ap (λ l. fold (λ l y. with_others l (texts_of kind y.entry)) l ds) (nothing_new (texts_of kind e))
+      ∙ none_collected kind ds (All-tail (λ x. x.entry ≡ e) d ds h)
+
+  collected_once : (kind : CommentKind) (ds : List NamedEntry) → 0 < length ds → AreOf e ds
+      → collected (texts_of kind) ds ≡ texts_of kind e
+  collected_once kind [] some h = absurd (omega (arith, some))
+  collected_once kind (d ∷ ds) some h =
+      ap (λ l. fold (λ l y. with_others l (texts_of kind y.entry)) l ds)
+      (all_pass (λ t. not (list_any (bytes_eq t) [])) (texts_of kind d.entry) (λ k x below. refl)
+      ∙ ap (texts_of kind) (All-head (λ x. x.entry ≡ e) d ds h))
+      ∙ none_collected kind ds (All-tail (λ x. x.entry ≡ e) d ds h)
+
+  module _ (o : MergeOptions) (ds : List NamedEntry) (some : 0 < length ds) (h : AreOf e ds) where
+    first : (has : TextEntry → Bool) → first_with has ds ≡ e
+    first has = first_with_keeps (λ x. x ≡ e) has ds some h
+
+    comment : (kind : CommentKind) → comment_of o kind ds ≡ texts_of kind e
+    comment kind =
+        cond_both o.use_first (texts_of kind (first_translated ds)) (collected (texts_of kind) ds)
+        (λ l. l ≡ texts_of kind e) (λ _. ap (texts_of kind) (first has_translation))
+        (λ _. collected_once kind ds some h)
+
+    not_joined : is_joined o ds ≡ false
+    not_joined = false_from_ne_true (is_joined o ds) (λ joined.
+        let two = ((joined_where_they_differ o ds).0 joined).1 in
+        let are = λ (d : NamedEntry) (among : Contains ds d). All-contains (λ x. x.entry ≡ e) ds d h among in
+        two.differ (ap (λ (x : TextEntry). x.forms) (are two.one two.among_one ∙ sym (are two.other two.among_other))))
+
+    -- definitions of one entry are merged to it
+    pub merged_to_it : merged_entry o ds ≡ e
+    merged_to_it =
+        let translated = first has_translation in
+        let fuzzy = ap₂ (λ (a b : Bool). a || b) not_joined (ap (λ (x : TextEntry). x.fuzzy) translated) in
+        let forms = ap₂ (λ (b : Bool) (fs : List (List ℕ)). if b then joined_forms (translations ds) else fs) not_joined
+        (ap (λ (x : TextEntry). x.forms) translated) in
+        let own = first_keeps (λ x. x ≡ e) ds some h in
+        λ i. record {
+          comments = comment Translator i;
+          extracted = comment Extracted i;
+          references = comment Reference i;
+          fuzzy = fuzzy i;
+          flags = comment Flags i;
+          previous = (first has_previous i).previous;
+          context = (own i).context;
+          id = (own i).id;
+          plural = (first has_plural i).plural;
+          forms = forms i;
+          obsolete = (own i).obsolete;
+          line = (own i).line;
+        }
+
+pub one_definition : (o : MergeOptions) (d : NamedEntry) → merged_entry o (d ∷ []) ≡ d.entry
+one_definition o d = merged_to_it d.entry o (d ∷ []) (omega arith)
+    (All-cons (λ x. x.entry ≡ d.entry) d [] refl (All-nil (λ x. x.entry ≡ d.entry)))
+
+pub one_of : (o : MergeOptions) (ds : List BorrowedEntry) (d : BorrowedEntry) → length ds ≡ 1 → d ≡ get_or ds 0 d
+    → d.entry ≡ merged_entry o (named_entries ds)
+one_of o [] d one at = absurd (omega (arith, one))
+one_of o (x ∷ []) d one at = ap (λ (y : BorrowedEntry). y.entry) at ∙ sym (one_definition o (named_entry x))
+one_of o (x ∷ y ∷ ds) d one at = absurd (omega (arith, one))
+
+pub first_is : (ds : List BorrowedEntry) (d : BorrowedEntry) → 0 < length ds → d ≡ get_or ds 0 d
+    → d.entry ≡ first_of (named_entries ds)
+first_is [] d some at = absurd (omega (arith, some))
+first_is (x ∷ ds) d some at = ap (λ (y : BorrowedEntry). y.entry) at

@@ -1,0 +1,106 @@
+-- Sets of translations, which tell whether a definition has forms that were seen.
+use Rattle.std.proofs.Common.{◌≡◌, Bool, true, false, cond, ◌||◌, List, [], ◌∷◌, ◌++◌, ℕ, refl, sym, ap, ap₂, inl, inr, ◌∙◌, ◌==◌, ◌<◌, arith, get_or, subst, take}
+use Rattle.std.specs.Prelude.{All, bytes_eq, length}
+use Rattle.std.specs.Borrow.{Bor}
+use Rattle.std.specs.BTreeMap.{is_at}
+use Rattle.std.specs.BTreeSet.{BTreeSet, contains}
+use Rattle.std.specs.Cmp.Lexicographic.{nat_list_eq_equiv, slice_cmp, texts_ties}
+use Rattle.std.specs.List.{join_with_byte, list_any}
+use Rattle.std.specs.Ordering.{nat_cmp}
+use Rattle.std.proofs.Math.Bool.{or-false, or-true}
+use Rattle.std.proofs.lemmas.Bool.{cases_Bool, false_from_ne_true, false≢true, ne_eqb}
+use Rattle.std.proofs.lemmas.List.{get_or-map, length-map, take-map}
+use Rattle.std.proofs.lemmas.List.Elements.{All-head, All-tail, All-take, All-weaker}
+use Rattle.std.proofs.lemmas.List.Folds.{list_any-append}
+use Rattle.std.proofs.lemmas.List.Splits.{slice_split_at, slice_split_none}
+use Rattle.std.proofs.lemmas.Slice.Eq.{bytes_eq-Decides}
+use Rattle.po_syntax.specs.ItemContents.{IsText}
+use Rattle.po_entry.specs.Bytes.{Lacks}
+use Rattle.po_entry.specs.Equality.{texts_eq}
+use Rattle.po_entry.specs.Facts.EqualityLaws.{texts_decide}
+use Rattle.po_entry.specs.Rows.{split_forms, translation_bytes}
+use Rattle.msgcat.specs.Grouping.{IsDefinition}
+use Rattle.msgcat.specs.Inputs.{NamedEntry}
+use Rattle.msgcat.specs.InputsView.{named_entries, named_entry}
+use Rattle.msgcat.specs.declared.definition.NamedEntry.{NamedEntry as BorrowedEntry}
+use Rattle.msgcat.specs.Internal.SeenForms.{HasTranslations}
+use Rattle.msgcat.specs.MergedEntry.{same_forms, translations}
+use Rattle.msgcat.proofs.Valid.{quoted_parts, translations_all}
+
+without : (text : List ℕ) → Lacks 0 text → All (λ b. (b == 0) ≡ false) text
+without text h = All-weaker (λ b. b ≡ 0 → ⊥) (λ b. (b == 0) ≡ false) (λ b none. ne_eqb b 0 none) text h
+
+-- forms without a NUL are split from where they are joined by NULs
+forms_split : (form : List ℕ) (forms : List (List ℕ)) → All IsText (form ∷ forms)
+    → split_forms (join_with_byte 0 (form ∷ forms)) ≡ form ∷ forms
+forms_split form [] h = slice_split_none (λ b. b == 0) form (without form (All-head IsText form [] h).no_nul)
+forms_split form (next ∷ forms) h =
+    slice_split_at (λ b. b == 0) form 0 (join_with_byte 0 (next ∷ forms))
+    (without form (All-head IsText form (next ∷ forms) h).no_nul) refl
+    ∙ ap (λ l. form ∷ l) (forms_split next forms (All-tail IsText form (next ∷ forms) h))
+
+split_back : (forms : List (List ℕ)) → 0 < length forms → All IsText forms
+    → split_forms (join_with_byte 0 forms) ≡ forms
+split_back [] some h = absurd (omega (arith, some))
+split_back (form ∷ forms) some h = forms_split form forms h
+
+-- definitions have the same forms exactly if they have the same translation
+alike : (a b : NamedEntry) → IsDefinition a → IsDefinition b
+    → bytes_eq (translation_bytes a.entry) (translation_bytes b.entry) ≡ same_forms a b
+alike a b h g =
+    let one = a.entry.forms in
+    let other = b.entry.forms in
+    let first = split_back one h.valid.some_form (quoted_parts a.entry h.valid).forms in
+    let second = split_back other g.valid.some_form (quoted_parts b.entry g.valid).forms in
+    let same = bytes_eq-Decides (join_with_byte 0 one) (join_with_byte 0 other) in
+    let equal = texts_decide one other in
+    elim (cases_Bool (bytes_eq (join_with_byte 0 one) (join_with_byte 0 other))) [
+      | inl e ↦ e ∙ sym (equal.1 (sym first ∙ ap split_forms (same.0 e) ∙ second))
+      | inr e ↦ e ∙ sym (false_from_ne_true (texts_eq one other)
+          (λ f. false≢true (sym e ∙ same.1 (ap (join_with_byte 0) (equal.0 f)))))
+    ]
+
+-- whether a definition's forms are among those that were seen
+pub seen_alike : (d : NamedEntry) (ds : List NamedEntry) → IsDefinition d → All IsDefinition ds
+    → list_any (λ e. bytes_eq (translation_bytes d.entry) (translation_bytes e.entry)) ds ≡ list_any (same_forms d) ds
+seen_alike d [] h g = refl
+seen_alike d (e ∷ ds) h g = ap₂ (λ (a b : Bool). a || b) (alike d e h (All-head IsDefinition e ds g))
+    (seen_alike d ds h (All-tail IsDefinition e ds g))
+
+cond_or : (a b c : Bool) → a ≡ b → cond a true c ≡ (c || b)
+cond_or true true c e = sym (or-true c)
+cond_or true false c e = cc
+cond_or false true c e = cc
+cond_or false false c e = sym (or-false c)
+
+pub one_translation_more : (old new : BTreeSet (Bor (List ℕ))) (k : Bor (List ℕ)) (d : NamedEntry)
+    (found : List NamedEntry) → HasTranslations old found → k.now ≡ translation_bytes d.entry
+    → ((q : Bor (List ℕ))
+    → contains (λ x y. slice_cmp nat_cmp x.now y.now) new q
+    ≡ cond (is_at (λ y. slice_cmp nat_cmp k.now y.now) q) true
+    (contains (λ x y. slice_cmp nat_cmp x.now y.now) old q))
+    → HasTranslations new (found ++ d ∷ [])
+one_translation_more old new k d found h is updated q =
+    let tests : Bool = bytes_eq q.now (translation_bytes d.entry) in
+    updated q ∙ cond_or (is_at (λ y. slice_cmp nat_cmp k.now y.now) q) tests
+    (contains (λ x y. slice_cmp nat_cmp x.now y.now) old q)
+    (sym (texts_ties k.now q.now) ∙ nat_list_eq_equiv.symm k.now q.now ∙ ap (bytes_eq q.now) is)
+    ∙ ap₂ (λ (s t : Bool). s || t) (h q) (sym (or-false tests))
+    ∙ sym (list_any-append (λ e. bytes_eq q.now (translation_bytes e.entry)) found (d ∷ []))
+
+-- whether the forms of a definition are among those of the definitions before it
+pub seen_here : (seen : BTreeSet (Bor (List ℕ))) (ds : List BorrowedEntry) (i : ℕ) (d : BorrowedEntry)
+    (k : Bor (List ℕ)) → All IsDefinition (named_entries ds) → i < length ds → d ≡ get_or ds i d
+    → k.now ≡ translation_bytes d.entry → HasTranslations seen (translations (named_entries (take i ds)))
+    → contains (λ x y. slice_cmp nat_cmp x.now y.now) seen k
+    ≡ list_any (same_forms (named_entry d)) (translations (named_entries (take i ds)))
+seen_here seen ds i d k valid inside here is met =
+    let T = translations (named_entries (take i ds)) in
+    let within : i < length (named_entries ds) = omega (arith, inside, length-map ds named_entry) in
+    let own : IsDefinition (named_entry d) =
+    subst IsDefinition (get_or-map named_entry ds i d (named_entry d) inside ∙ ap named_entry (sym here))
+    (valid i (named_entry d) within) in
+    let earlier : All IsDefinition (named_entries (take i ds)) =
+    subst (All IsDefinition) (take-map named_entry i ds) (All-take IsDefinition i (named_entries ds) valid) in
+    met k ∙ ap (λ t. list_any (λ e. bytes_eq t (translation_bytes e.entry)) T) is
+    ∙ seen_alike (named_entry d) T own (translations_all IsDefinition (named_entries (take i ds)) earlier)

@@ -1,0 +1,174 @@
+-- Texts that were seen, and those that come out.
+use Rattle.std.proofs.Common.{◌≡◌, ℕ, ◌+◌, ◌<◌, ◌≤◌, Bool, true, false, cond, not, ◌||◌, List, [], ◌∷◌, ◌++◌, append_assoc, append-nil, refl, sym, ap, ap₂, inl, inr, ◌∙◌, filter, length, arith}
+use Rattle.std.specs.List.{list_any, position_or_len}
+use Rattle.std.proofs.lemmas.Bool.{cases_Bool}
+use Rattle.std.specs.Str.{bytes_eq}
+use Rattle.std.proofs.lemmas.List.Folds.{list_any-append}
+use Rattle.std.proofs.lemmas.Slice.Eq.{bytes_eq-Decides}
+use Rattle.std.proofs.Math.Bool.{or_assoc, or-false, or-true}
+use Rattle.po_entry.specs.SeenTexts.{with_seen}
+use Rattle.msgcat.specs.Internal.SameTexts.{HaveSameTexts}
+use Rattle.msgcat.specs.MergedEntry.{with_others}
+
+-- what both have, the one has whatever is omitted of the other
+pub has_others : (q : List ℕ) (done ts : List (List ℕ))
+    → (list_any (bytes_eq q) done || list_any (bytes_eq q) (filter (λ t. not (list_any (bytes_eq t) done)) ts))
+    ≡ (list_any (bytes_eq q) done || list_any (bytes_eq q) ts)
+has_others q done [] = refl
+has_others q done (t ∷ ts) =
+    found (list_any (bytes_eq t) done) refl (bytes_eq q t) refl (list_any (bytes_eq q) done) refl
+    (has_others q done ts) where
+      found : (b : Bool) → list_any (bytes_eq t) done ≡ b → (c : Bool) → bytes_eq q t ≡ c → (a : Bool)
+          → list_any (bytes_eq q) done ≡ a
+          → (list_any (bytes_eq q) done || list_any (bytes_eq q) (filter (λ u. not (list_any (bytes_eq u) done)) ts))
+          ≡ (list_any (bytes_eq q) done || list_any (bytes_eq q) ts)
+          → (a || list_any (bytes_eq q)
+          (cond (not b) (t ∷ filter (λ u. not (list_any (bytes_eq u) done)) ts)
+          (filter (λ u. not (list_any (bytes_eq u) done)) ts))) ≡ (a || (c || list_any (bytes_eq q) ts))
+      found b e c f true g more = refl
+      found true e true f false g more = let same : q ≡ t = (bytes_eq-Decides q t).0 f in
+          let here : list_any (bytes_eq q) done ≡ true = ap (λ (u : List ℕ). list_any (bytes_eq u) done) same ∙ e in cc
+      found true e false f false g more = rw g at more
+      found false e true f false g more =
+          ap (λ (x : Bool). x || list_any (bytes_eq q) (filter (λ u. not (list_any (bytes_eq u) done)) ts)) f
+      found false e false f false g more =
+          ap (λ (x : Bool). x || list_any (bytes_eq q) (filter (λ u. not (list_any (bytes_eq u) done)) ts)) f
+          ∙ rw g at more
+
+same_texts_met : (seen done ts : List (List ℕ)) → HaveSameTexts seen (done ++ ts)
+    → HaveSameTexts seen (with_others done ts)
+same_texts_met seen done ts h q =
+    h q ∙ list_any-append (bytes_eq q) done ts ∙ sym (has_others q done ts)
+    ∙ sym (list_any-append (bytes_eq q) done (filter (λ t. not (list_any (bytes_eq t) done)) ts))
+
+-- a text that was seen, and one more
+one_more_seen : (q text : List ℕ) (seen : List (List ℕ))
+    → list_any (bytes_eq q) (with_seen seen text) ≡ (list_any (bytes_eq q) seen || bytes_eq q text)
+one_more_seen q text seen = found (list_any (bytes_eq text) seen) refl (bytes_eq q text) refl where
+  found : (b : Bool) → list_any (bytes_eq text) seen ≡ b → (c : Bool) → bytes_eq q text ≡ c
+      → list_any (bytes_eq q) (cond b seen (seen ++ text ∷ [])) ≡ (list_any (bytes_eq q) seen || c)
+  found true h true g =
+      let same : q ≡ text = (bytes_eq-Decides q text).0 g in
+      let here : list_any (bytes_eq q) seen ≡ true = ap (λ (u : List ℕ). list_any (bytes_eq u) seen) same ∙ h in
+      here ∙ sym (or-true (list_any (bytes_eq q) seen))
+  found true h false g = sym (or-false (list_any (bytes_eq q) seen))
+  found false h c g = list_any-append (bytes_eq q) seen (text ∷ [])
+      ∙ ap (λ (b : Bool). list_any (bytes_eq q) seen || b) (or-false (bytes_eq q text) ∙ g)
+
+-- a text that was seen early has an early index
+module _ (p : List ℕ → Bool) (more : List (List ℕ)) where
+  early_index : (seen : List (List ℕ)) → list_any p seen ≡ true → position_or_len p (seen ++ more) < length seen
+  early_index [] h = cc
+  early_index (x ∷ xs) h = by (p x) (early_index xs) h where
+    by : (b : Bool) → (list_any p xs ≡ true → position_or_len p (xs ++ more) < length xs)
+        → (b || list_any p xs) ≡ true → cond (not b) (1 + position_or_len p (xs ++ more)) 0 < length (x ∷ xs)
+    by true rest e = omega arith
+    by false rest e = let less = rest e in omega (arith, less)
+
+  late_index : (seen : List (List ℕ)) → list_any p seen ≡ false → length seen ≤ position_or_len p (seen ++ more)
+  late_index [] h = omega arith
+  late_index (x ∷ xs) h = by (p x) (late_index xs) h where
+    by : (b : Bool) → (list_any p xs ≡ false → length xs ≤ position_or_len p (xs ++ more))
+        → (b || list_any p xs) ≡ false → length (x ∷ xs) ≤ cond (not b) (1 + position_or_len p (xs ++ more)) 0
+    by true rest e = cc
+    by false rest e = let least = rest e in omega (arith, least)
+
+-- the texts that were seen, as some more are added
+abbrev SeesMore : List (List ℕ) → List (List ℕ) → Type 0
+SeesMore old new = (more : List (List ℕ)) × (new ≡ old ++ more)
+
+sees_one_more : (old new : List (List ℕ)) (text : List ℕ) → SeesMore old new → SeesMore old (with_seen new text)
+sees_one_more old new text (more, is) = by (list_any (bytes_eq text) new) where
+  by : (b : Bool) → SeesMore old (cond b new (new ++ text ∷ []))
+  by true = (more, is)
+  by false = (more ++ text ∷ [], ap (λ ts. ts ++ text ∷ []) is ∙ append_assoc old more (text ∷ []))
+
+-- whether the text of an index was among the first
+seen_early : (old new : List (List ℕ)) (text : List ℕ) (index : ℕ) → SeesMore old new
+    → index ≡ position_or_len (bytes_eq text) new → index < length old → list_any (bytes_eq text) old ≡ true
+seen_early old new text index (more, is) at early = elim (cases_Bool (list_any (bytes_eq text) old)) [
+  | inl e ↦ e
+  | inr e ↦
+      let late = late_index (bytes_eq text) more old e in
+      let same = at ∙ ap (position_or_len (bytes_eq text)) is in
+      absurd (omega (arith, late, same, early))
+]
+
+seen_late : (old new : List (List ℕ)) (text : List ℕ) (index : ℕ) → SeesMore old new
+    → index ≡ position_or_len (bytes_eq text) new → length old ≤ index → list_any (bytes_eq text) old ≡ false
+seen_late old new text index (more, is) at late = elim (cases_Bool (list_any (bytes_eq text) old)) [
+  | inl e ↦
+      let early = early_index (bytes_eq text) more old e in
+      let same = at ∙ ap (position_or_len (bytes_eq text)) is in
+      absurd (omega (arith, early, same, late))
+  | inr e ↦ e
+]
+
+-- of the texts of one more definition those up to the ones that are left were taken: `done` are those that come out,
+-- and `seen` those that were seen
+pub record AreTaken (first_done first_seen others done seen left : List (List ℕ)) : Type 0 where
+  pub out : done ++ filter (λ t. not (list_any (bytes_eq t) first_done)) left ≡ with_others first_done others
+  pub more : (more : List (List ℕ)) × (seen ≡ first_seen ++ more)
+  pub same : (q : List ℕ) → (list_any (bytes_eq q) seen || list_any (bytes_eq q) left)
+      ≡ list_any (bytes_eq q) (first_done ++ others)
+
+pub none_taken : (done seen others left : List (List ℕ)) → HaveSameTexts seen done → left ≡ others
+    → AreTaken done seen others done seen left
+none_taken done seen others left h all = record {
+  out = ap (λ ts. done ++ filter (λ t. not (list_any (bytes_eq t) done)) ts) all;
+  more = ([], sym (append-nil seen));
+  same = λ q. ap₂ (λ (a b : Bool). a || b) (h q) (ap (list_any (bytes_eq q)) all)
+      ∙ sym (list_any-append (bytes_eq q) done others);
+}
+
+pub all_taken : (first_done first_seen others done seen left : List (List ℕ))
+    → AreTaken first_done first_seen others done seen left → left ≡ []
+    → (done ≡ with_others first_done others) × HaveSameTexts seen done
+all_taken first_done first_seen others done seen left h none =
+    let out : done ≡ with_others first_done others = sym (append-nil done)
+    ∙ ap (λ ts. done ++ filter (λ t. not (list_any (bytes_eq t) first_done)) ts) (sym none) ∙ h.out in (
+      out,
+      λ q. same_texts_met seen first_done others
+          (λ u. sym (or-false (list_any (bytes_eq u) seen))
+          ∙ ap (λ ts. list_any (bytes_eq u) seen || list_any (bytes_eq u) ts) (sym none) ∙ h.same u) q
+          ∙ ap (list_any (bytes_eq q)) (sym out),
+    )
+
+module _ (first_done first_seen others done seen left rest : List (List ℕ)) (text : List ℕ) (index : ℕ)
+    (before : HaveSameTexts first_seen first_done) (h : AreTaken first_done first_seen others done seen left)
+    (next : left ≡ text ∷ rest) (at : index ≡ position_or_len (bytes_eq text) seen) where
+  abbrev is_new : List ℕ → Bool
+  is_new t = not (list_any (bytes_eq t) first_done)
+
+  same_left : (q : List ℕ) → (list_any (bytes_eq q) (with_seen seen text) || list_any (bytes_eq q) rest)
+      ≡ list_any (bytes_eq q) (first_done ++ others)
+  same_left q =
+      ap (λ (b : Bool). b || list_any (bytes_eq q) rest) (one_more_seen q text seen)
+      ∙ or_assoc (list_any (bytes_eq q) seen) (bytes_eq q text) (list_any (bytes_eq q) rest)
+      ∙ ap (λ ts. list_any (bytes_eq q) seen || list_any (bytes_eq q) ts) (sym next) ∙ h.same q
+
+  out_of : (kept : Bool) → is_new text ≡ kept
+      → done ++ cond kept (text ∷ filter is_new rest) (filter is_new rest) ≡ with_others first_done others
+  out_of kept is =
+      ap (λ (b : Bool). done ++ cond b (text ∷ filter is_new rest) (filter is_new rest)) (sym is)
+      ∙ ap (λ ts. done ++ filter is_new ts) (sym next) ∙ h.out
+
+  pub new_taken : length first_seen ≤ index
+      → AreTaken first_done first_seen others (done ++ text ∷ []) (with_seen seen text) rest
+  new_taken late =
+      let fresh = sym (before text) ∙ seen_late first_seen seen text index h.more at late in
+      record {
+        out = append_assoc done (text ∷ []) (filter is_new rest) ∙ out_of true (ap not fresh);
+        more = sees_one_more first_seen seen text h.more;
+        same = same_left;
+      }
+
+  pub old_passed : index < length first_seen
+      → AreTaken first_done first_seen others done (with_seen seen text) rest
+  old_passed early =
+      let known = sym (before text) ∙ seen_early first_seen seen text index h.more at early in
+      record {
+        out = out_of false (ap not known);
+        more = sees_one_more first_seen seen text h.more;
+        same = same_left;
+      }

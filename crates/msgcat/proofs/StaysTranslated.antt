@@ -1,0 +1,125 @@
+-- What is translated stays translated.
+use Rattle.std.proofs.Common.{◌≡◌, ◌≢◌, ℕ, ◌<◌, Bool, true, false, cond, not, ◌&&◌, ◌||◌, nat_lt, List, [], ◌∷◌, ◌++◌, Option, Some, None, refl, sym, ap, ◌∙◌, subst, filter, find, get_or, length, slice_get, arith, All}
+use Rattle.std.specs.Prelude.{Contains, if◌then◌else◌}
+use Rattle.std.specs.List.{list_any}
+use Rattle.std.specs.Option.{option_map_or}
+use Rattle.std.proofs.lemmas.Bool.{and_parts, false≢true, ltb-true, not-false, or_left, or_right}
+use Rattle.std.proofs.lemmas.List.Elements.{All-nil, All-cons, All-contains, All-head, All-tail, All-weaker}
+use Rattle.std.proofs.lemmas.List.FromFn.{get_or-map-range_with_len, length-map-range_with_len}
+use Rattle.po_entry.specs.TextEntry.{TextEntry}
+use Rattle.po_entry.specs.Header.{first_form}
+use Rattle.po_entry.specs.Joined.{is_live}
+use Rattle.po_entry.specs.Statistics.{has_translation}
+use Rattle.msgcat.specs.declared.input.MergeOptions.{MergeOptions}
+use Rattle.msgcat.specs.Inputs.{NamedEntry}
+use Rattle.msgcat.specs.Groups.{definitions}
+use Rattle.msgcat.specs.MergedEntry.{first_of, first_translated, form_count, is_joined, joined_form, joined_forms, marked, merged_entry, translations}
+use Rattle.msgcat.specs.TranslationLaws.{HasLongest, IsTranslated, TranslatedStays}
+use Rattle.msgcat.proofs.TranslationLaws.{IsOne, each_is, has, has_is, is_has, joined_as_longest}
+
+-- the live translated ones of a group are among its definitions
+live_translated : (es : List NamedEntry)
+    → All (λ d. is_live d.entry ≡ true → has d ≡ true → list_any has (filter (λ x. is_live x.entry) es) ≡ true) es
+live_translated [] = All-nil (λ d. is_live d.entry ≡ true → has d ≡ true → list_any has [] ≡ true)
+live_translated (e ∷ es) =
+    let P : NamedEntry → Type 0 = λ d. is_live d.entry ≡ true → has d ≡ true
+    → list_any has (cond (is_live e.entry) (e ∷ lives) lives) ≡ true in
+    All-cons P e es
+    (λ live h. ap (λ (b : Bool). list_any has (cond b (e ∷ lives) lives)) live ∙ or_left (has e) (list_any has lives) h)
+    (All-weaker (λ d. is_live d.entry ≡ true → has d ≡ true → list_any has lives ≡ true) P
+    (λ d there live h. more (is_live e.entry) (there live h)) es (live_translated es)) where
+      lives : List NamedEntry
+      lives = filter (λ x. is_live x.entry) es
+
+      more : (b : Bool) → list_any has lives ≡ true → list_any has (cond b (e ∷ lives) lives) ≡ true
+      more true h = or_right (has e) (list_any has lives) h
+      more false h = h
+
+passing : (es : List NamedEntry) → All (λ d. has d ≡ true → list_any has es ≡ true) es
+passing [] = All-nil (λ d. has d ≡ true → false ≡ true)
+passing (e ∷ es) = All-cons (λ d. has d ≡ true → (has e || list_any has es) ≡ true) e es
+    (λ h. or_left (has e) (list_any has es) h)
+    (All-weaker (λ d. has d ≡ true → list_any has es ≡ true) (λ d. has d ≡ true → (has e || list_any has es) ≡ true)
+    (λ d c h. or_right (has e) (list_any has es) (c h)) es (passing es))
+
+-- a definition of the group's message has a translation
+any_defined : (group : List NamedEntry) (d : NamedEntry) → Contains group d → d.entry.obsolete ≡ false
+    → IsTranslated d → list_any has (definitions group) ≡ true
+any_defined group d among live is = by (list_any (λ e. is_live e.entry) group) where
+  P : NamedEntry → Type 0
+  P x = is_live x.entry ≡ true → has x ≡ true → list_any has (filter (λ y. is_live y.entry) group) ≡ true
+
+  Q : NamedEntry → Type 0
+  Q x = has x ≡ true → list_any has group ≡ true
+
+  by : (b : Bool) → list_any has (if b then filter (λ y. is_live y.entry) group else group) ≡ true
+  by true = All-contains P group d (live_translated group) among (ap not live) (is_has d is)
+  by false = All-contains Q group d (passing group) among (is_has d is)
+
+found_has : (ds : List NamedEntry) (none : TextEntry) → list_any has ds ≡ true
+    → has_translation (option_map_or (λ (d : NamedEntry). d.entry) (find has ds) none) ≡ true
+found_has [] none h = absurd (false≢true h)
+found_has (d ∷ ds) none h = by (has d) refl h (found_has ds none) where
+  by : (b : Bool) → has d ≡ b → (b || list_any has ds) ≡ true
+      → (list_any has ds ≡ true
+      → has_translation (option_map_or (λ (x : NamedEntry). x.entry) (find has ds) none) ≡ true)
+      → has_translation (option_map_or (λ (x : NamedEntry). x.entry) (cond b (Some d) (find has ds)) none) ≡ true
+  by true is g more = is
+  by false is g more = more g
+
+-- a joined form of a translation has the line of its input
+marked_some : (name form rest : List ℕ) → marked name form ++ rest ≢ []
+marked_some name form rest e = cc
+
+some_joined : (t : NamedEntry) (ts : List NamedEntry) → IsTranslated t → joined_form (t ∷ ts) 0 ≢ []
+some_joined t ts is = by t.entry.forms refl where
+  by : (forms : List (List ℕ)) → t.entry.forms ≡ forms
+      → option_map_or (marked t.name) (slice_get forms 0) [] ++ joined_form ts 0 ≢ []
+  by [] e = absurd (is (ap first_form e))
+  by (form ∷ forms) e = marked_some t.name form (joined_form ts 0)
+
+first_joined : (ds ts : List NamedEntry) → 1 < length ts → All (IsOne ds) ts → joined_form ts 0 ≢ []
+first_joined ds [] more all = absurd (omega (arith, more))
+first_joined ds (t ∷ ts) more all = some_joined t ts (All-head (IsOne ds) t ts all).is
+
+some_form : (forms : List (List ℕ)) → first_form forms ≢ [] → 0 < length forms
+some_form [] some = absurd (some refl)
+some_form (form ∷ forms) some = omega arith
+
+first_is : (forms : List (List ℕ)) → first_form forms ≡ get_or forms 0 []
+first_is [] = refl
+first_is (form ∷ forms) = refl
+
+joined_some : (o : MergeOptions) (ds : List NamedEntry) → is_joined o ds ≡ true
+    → first_form (merged_entry o ds).forms ≢ []
+joined_some o ds joined =
+    let ts = translations ds in
+    let more = ltb-true 1 (length ts) (and_parts (not o.use_first) (nat_lt 1 (length ts)) joined).1 in
+    let forms : (merged_entry o ds).forms ≡ joined_forms ts =
+    ap (λ (b : Bool). if b then joined_forms ts else (first_translated ds).forms) joined in
+    let longest = joined_as_longest o ds joined in
+    let some = some_form longest.longest.entry.forms longest.translated in
+    let count : length (joined_forms ts) ≡ length longest.longest.entry.forms =
+    ap length (sym forms) ∙ sym longest.as_many in
+    let below : 0 < form_count ts = omega (arith, some, count, joined_count ts) in
+    let form : first_form (merged_entry o ds).forms ≡ joined_form ts 0 =
+    ap first_form forms ∙ first_is (joined_forms ts)
+    ∙ get_or-map-range_with_len (joined_form ts) 0 (form_count ts) 0 0 [] below (omega arith) in
+    λ e. first_joined ds ts more (each_is ds) (sym form ∙ e)
+  where
+    joined_count : (ts : List NamedEntry) → length (joined_forms ts) ≡ form_count ts
+    joined_count ts = length-map-range_with_len (joined_form ts) 0 (form_count ts)
+
+translated_some : (o : MergeOptions) (ds : List NamedEntry) → list_any has ds ≡ true
+    → first_form (merged_entry o ds).forms ≢ []
+translated_some o ds any = by (is_joined o ds) refl where
+  by : (b : Bool) → is_joined o ds ≡ b → first_form (merged_entry o ds).forms ≢ []
+  by true e = joined_some o ds e
+  by false e =
+      let forms : (merged_entry o ds).forms ≡ (first_translated ds).forms =
+      ap (λ (b : Bool). if b then joined_forms (translations ds) else (first_translated ds).forms) e in
+      let is = has_is (record { name = []; entry = first_translated ds }) (found_has ds (first_of ds) any) in
+      λ h. is (ap first_form (sym forms) ∙ h)
+
+pub stays : (o : MergeOptions) (group : List NamedEntry) → TranslatedStays o group
+stays o group d among live is = translated_some o (definitions group) (any_defined group d among live is)

@@ -1,0 +1,58 @@
+-- What one more text or definition adds.
+use Rattle.std.proofs.Common.{◌≡◌, ℕ, ◌+◌, ◌<◌, Bool, true, false, cond, List, [], ◌∷◌, ◌++◌, sym, ap, ◌∙◌, filter, take, get_or, length, append-nil}
+use Rattle.std.specs.Prelude.{if◌then◌else◌}
+use Rattle.std.specs.List.{list_any}
+use Rattle.std.proofs.lemmas.List.{take_more, map-append}
+use Rattle.std.proofs.lemmas.List.Elements.{filter-append}
+use Rattle.std.proofs.lemmas.List.Sums.{fold_push}
+use Rattle.po_entry.specs.TextEntry.{TextEntry}
+use Rattle.po_entry.specs.Statistics.{has_translation}
+use Rattle.msgcat.specs.declared.definition.NamedEntry.{NamedEntry as BorrowedEntry}
+use Rattle.msgcat.specs.Inputs.{NamedEntry}
+use Rattle.msgcat.specs.InputsView.{named_entry, named_entries}
+use Rattle.msgcat.specs.Groups.{with_new, first_ones}
+use Rattle.msgcat.specs.MergedEntry.{with_others, collected, same_forms, translations}
+
+pub named_more : (ds : List BorrowedEntry) (i : ℕ) (d : BorrowedEntry) → i < length ds → d ≡ get_or ds i d
+    → named_entries (take (i + 1) ds) ≡ named_entries (take i ds) ++ named_entry d ∷ []
+named_more ds i d below at =
+    ap named_entries (take_more ds i d below ∙ ap (λ (x : BorrowedEntry). take i ds ++ x ∷ []) (sym at))
+    ∙ map-append named_entry (take i ds) (d ∷ [])
+
+pub collected_more : (texts_of : TextEntry → List (List ℕ)) (ds : List BorrowedEntry) (i : ℕ) (d : BorrowedEntry)
+    → i < length ds → d ≡ get_or ds i d
+    → collected texts_of (named_entries (take (i + 1) ds))
+    ≡ with_others (collected texts_of (named_entries (take i ds))) (texts_of d.entry)
+collected_more texts_of ds i d below at =
+    ap (collected texts_of) (named_more ds i d below at)
+    ∙ fold_push (λ (done : List (List ℕ)) (x : NamedEntry). with_others done (texts_of x.entry)) []
+    (named_entries (take i ds)) (named_entry d)
+
+pub translations_more : (ds : List BorrowedEntry) (i : ℕ) (d : BorrowedEntry) (b c : Bool) → i < length ds
+    → d ≡ get_or ds i d → has_translation d.entry ≡ b
+    → list_any (same_forms (named_entry d)) (translations (named_entries (take i ds))) ≡ c
+    → translations (named_entries (take (i + 1) ds))
+    ≡ cond b (cond c (translations (named_entries (take i ds)))
+    (translations (named_entries (take i ds)) ++ named_entry d ∷ [])) (translations (named_entries (take i ds)))
+translations_more ds i d b c below at translated met =
+    ap translations (named_more ds i d below at)
+    ∙ ap (first_ones same_forms)
+    (filter-append (λ (x : NamedEntry). has_translation x.entry) (named_entries (take i ds))
+    (named_entry d ∷ [])) ∙ found b translated where
+      found : (t : Bool) → has_translation d.entry ≡ t
+          → first_ones same_forms (filter (λ x. has_translation x.entry) (named_entries (take i ds))
+          ++ filter (λ x. has_translation x.entry) (named_entry d ∷ []))
+          ≡ cond t (cond c (translations (named_entries (take i ds)))
+          (translations (named_entries (take i ds)) ++ named_entry d ∷ []))
+          (translations (named_entries (take i ds)))
+      found true e =
+          ap (λ (t : Bool). first_ones same_forms
+          (filter (λ x. has_translation x.entry) (named_entries (take i ds)) ++ cond t (named_entry d ∷ []) [])) e
+          ∙ fold_push (with_new same_forms) [] (filter (λ x. has_translation x.entry) (named_entries (take i ds)))
+          (named_entry d)
+          ∙ ap (λ (t : Bool). if t then translations (named_entries (take i ds))
+          else translations (named_entries (take i ds)) ++ named_entry d ∷ []) met
+      found false e =
+          ap (λ (t : Bool). first_ones same_forms
+          (filter (λ x. has_translation x.entry) (named_entries (take i ds)) ++ cond t (named_entry d ∷ []) [])) e
+          ∙ ap (first_ones same_forms) (append-nil (filter (λ x. has_translation x.entry) (named_entries (take i ds))))

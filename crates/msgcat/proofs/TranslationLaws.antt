@@ -1,0 +1,229 @@
+-- When translations are joined, and which definition's forms a merged entry has.
+use Rattle.std.proofs.Common.{◌≡◌, ◌≢◌, ◌==◌, ℕ, ◌<◌, ◌≤◌, Bool, true, false, not, ◌&&◌, ◌||◌, nat_lt, max, List, [], ◌∷◌, Option, None, refl, sym, ap, ap₂, ◌∙◌, filter, fold, get_or, length, arith, is_none, ◌⊎◌, inl, inr}
+use Rattle.std.specs.Prelude.{All, Contains, if◌then◌else◌}
+use Rattle.std.specs.List.{list_any}
+use Rattle.std.specs.Option.{option_map_or}
+use Rattle.std.specs.Cmp.{IsEquivalence, on_equiv}
+use Rattle.std.specs.Cmp.Lexicographic.{lists_equiv, nat_list_eq_equiv}
+use Rattle.std.proofs.lemmas.Bool.{and_parts, lt-ltb, ltb-true, ltb-false, ne_eqb, not-true, or_parts, false≢true}
+use Rattle.std.proofs.lemmas.List.Elements.{All-nil, All-cons, All-head, All-tail, All-contains, All-contains_itself, All-filter, All-weaker, filter_passes}
+use Rattle.std.proofs.lemmas.List.Folds.{list_any_none}
+use Rattle.std.proofs.lemmas.Map.Views.{any-filter_same, list_any-from_Contains}
+use Rattle.std.proofs.Math.Bool.{or-false}
+use Rattle.std.proofs.lemmas.List.FromFn.{length-map-range_with_len}
+use Rattle.std.proofs.lemmas.Slice.Eq.{bytes_eq-Decides, slice_eq-Decides}
+use Rattle.po_syntax.specs.declared.item.CommentKind.{CommentKind}
+use Rattle.po_entry.specs.TextEntry.{TextEntry}
+use Rattle.po_entry.specs.Equality.{texts_eq}
+use Rattle.po_entry.proofs.FuzzyFlags.{any_passing}
+use Rattle.po_entry.specs.Header.{is_header, first_form}
+use Rattle.po_entry.specs.Statistics.{has_translation}
+use Rattle.po_entry.proofs.FirstOnes.{any_first_ones}
+use Rattle.msgcat.specs.declared.input.MergeOptions.{MergeOptions}
+use Rattle.msgcat.specs.Inputs.{NamedEntry}
+use Rattle.msgcat.specs.MergedEntry.{collected, form_count, joined_form, joined_forms, merged_entry, first_translated, same_forms, texts_of, translations}
+use Rattle.msgcat.specs.Merged.{is_wanted}
+use Rattle.msgcat.specs.TranslationLaws.{IsTranslated, IsUntranslated, TranslationsDiffer, JoinedWhereTheyDiffer, JoinedAsLongest, IsFirstTranslated, translated, none, FormsOfFirst, CommentsOfFirst, HeadersAreKept}
+use Rattle.msgcat.proofs.EntryLaws.{find_none, first_is, texts_merged}
+use Rattle.msgcat.proofs.Valid.{at_least}
+use Rattle.msgcat.proofs.FirstOnes.{all_first_ones, Apart, apart_first_ones}
+
+-- the test of a definition with a translation, and what it decides
+abbrev pub has : NamedEntry → Bool
+has d = has_translation d.entry
+
+some_bytes : (form : List ℕ) → not (length form == 0) ≡ true → form ≢ []
+some_bytes [] h is = false≢true h
+some_bytes (b ∷ form) h is = absurd (cc)
+
+bytes_some : (form : List ℕ) → form ≢ [] → not (length form == 0) ≡ true
+bytes_some [] some = absurd (some refl)
+bytes_some (b ∷ form) some = ap not (ne_eqb (length (b ∷ form)) 0 (λ e. omega (arith, e)))
+
+no_bytes : (form : List ℕ) → form ≡ [] → not (length form == 0) ≡ false
+no_bytes [] is = refl
+no_bytes (b ∷ form) is = absurd (cc)
+
+pub has_is : (d : NamedEntry) → has d ≡ true → IsTranslated d
+has_is d h = some_bytes (first_form d.entry.forms) h
+
+pub is_has : (d : NamedEntry) → IsTranslated d → has d ≡ true
+is_has d h = bytes_some (first_form d.entry.forms) h
+
+-- definitions with the same forms
+forms_decide : (a b : NamedEntry)
+    → (same_forms a b ≡ true → a.entry.forms ≡ b.entry.forms) × (a.entry.forms ≡ b.entry.forms → same_forms a b ≡ true)
+forms_decide a b = slice_eq-Decides bytes_eq-Decides a.entry.forms b.entry.forms
+    (texts_eq a.entry.forms b.entry.forms) refl
+
+pub forms_laws : IsEquivalence same_forms
+forms_laws = on_equiv (λ (d : NamedEntry). d.entry.forms) (lists_equiv nat_list_eq_equiv)
+
+-- a definition of the message that has a translation
+pub record IsOne (ds : List NamedEntry) (d : NamedEntry) : Type 0 where
+  pub among : Contains ds d
+  pub is : IsTranslated d
+
+pub each_is : (ds : List NamedEntry) → All (IsOne ds) (translations ds)
+each_is ds = all_first_ones same_forms (IsOne ds) (filter has ds) (λ k d below. record {
+  among = All-filter has (Contains ds) ds (All-contains_itself ds) k d below;
+  is = has_is (get_or (filter has ds) k d) (filter_passes has ds k d below);
+})
+
+any_of : (ds : List NamedEntry) (d : NamedEntry) → Contains ds d → IsTranslated d
+    → list_any (same_forms d) (translations ds) ≡ true
+any_of ds d h is =
+    any_first_ones same_forms forms_laws d (filter has ds)
+    ∙ any-filter_same (same_forms d) has true
+    (λ k same. ap (λ forms. not (length (first_form forms) == 0)) (sym ((forms_decide d k).0 same)) ∙ is_has d is)
+    ds
+    ∙ list_any-from_Contains forms_laws d ds h
+
+two_differ : (ds ts : List NamedEntry) → 1 < length ts → All (IsOne ds) ts → Apart same_forms ts → TranslationsDiffer ds
+two_differ ds [] more all apart = absurd (omega (arith, more))
+two_differ ds (t ∷ []) more all apart = absurd (omega (arith, more))
+two_differ ds (a ∷ b ∷ ts) more all apart =
+    let one = All-head (IsOne ds) a (b ∷ ts) all in
+    let other = All-head (IsOne ds) b ts (All-tail (IsOne ds) a (b ∷ ts) all) in
+    let unlike = (or_parts (same_forms a b) (list_any (same_forms a) ts) apart.0).0 in
+    record {
+      one = a;
+      other = b;
+      among_one = one.among;
+      among_other = other.among;
+      one_translated = one.is;
+      other_translated = other.is;
+      differ = λ same. false≢true (sym unlike ∙ (forms_decide a b).1 same);
+    }
+
+more_than_one : (a b : NamedEntry) (ts : List NamedEntry) → list_any (same_forms a) ts ≡ true
+    → list_any (same_forms b) ts ≡ true → a.entry.forms ≢ b.entry.forms → 1 < length ts
+more_than_one a b [] p q differ = absurd (false≢true p)
+more_than_one a b (t ∷ []) p q differ =
+    absurd (differ ((forms_decide a t).0 (sym (or-false (same_forms a t)) ∙ p)
+    ∙ sym ((forms_decide b t).0 (sym (or-false (same_forms b t)) ∙ q))))
+more_than_one a b (t ∷ u ∷ ts) p q differ = omega arith
+
+pub joined_where_they_differ : (o : MergeOptions) (ds : List NamedEntry) → JoinedWhereTheyDiffer o ds
+joined_where_they_differ o ds = (
+  λ joined.
+      let parts = and_parts (not o.use_first) (nat_lt 1 (length (translations ds))) joined in (
+        not-true o.use_first parts.0,
+        two_differ ds (translations ds) (ltb-true 1 (length (translations ds)) parts.1)
+            (each_is ds) (apart_first_ones same_forms forms_laws (filter has ds)),
+      ),
+  λ h.
+      let t = h.1 in
+      let more = more_than_one t.one t.other (translations ds) (any_of ds t.one t.among_one t.one_translated)
+      (any_of ds t.other t.among_other t.other_translated) t.differ in
+      let off = h.0 in
+      let less = lt-ltb 1 (length (translations ds)) more in
+      rw (off, less) refl,
+)
+
+-- the largest count of forms, from a count on
+abbrev largest : ℕ → List NamedEntry → ℕ
+largest n ts = fold (λ count t. max count (length t.entry.forms)) n ts
+
+bounded : (n : ℕ) (ts : List NamedEntry) → All (λ t. length t.entry.forms ≤ largest n ts) ts
+bounded n [] = All-nil (λ t. length t.entry.forms ≤ n)
+bounded n (t ∷ ts) =
+    let m = max n (length t.entry.forms) in
+    let least = at_least m ts in
+    All-cons (λ x. length x.entry.forms ≤ largest m ts) t ts (omega (arith, least)) (bounded m ts)
+
+reached : (P : NamedEntry → Type 0) (n : ℕ) (ts : List NamedEntry) → All P ts
+    → (largest n ts ≡ n) ⊎ ((t : NamedEntry) × P t × (length t.entry.forms ≡ largest n ts))
+reached P n [] all = inl refl
+reached P n (t ∷ ts) all = by (reached P m ts (All-tail P t ts all)) (nat_lt n (length t.entry.forms)) refl where
+  m : ℕ
+  m = max n (length t.entry.forms)
+
+  by : (largest m ts ≡ m) ⊎ ((x : NamedEntry) × P x × (length x.entry.forms ≡ largest m ts)) → (b : Bool)
+      → nat_lt n (length t.entry.forms) ≡ b
+      → (largest m ts ≡ n) ⊎ ((x : NamedEntry) × P x × (length x.entry.forms ≡ largest m ts))
+  by (inr later) b e = inr later
+  by (inl same) true e = let less =
+      ltb-true n (length t.entry.forms) e in inr (t, All-head P t ts all, omega (arith, same, less))
+  by (inl same) false e = let not_less = ltb-false n (length t.entry.forms) e in inl (omega (arith, same, not_less))
+
+some_longest : (P : NamedEntry → Type 0) (ts : List NamedEntry) → 0 < length ts → All P ts
+    → (t : NamedEntry) × P t × (length t.entry.forms ≡ form_count ts)
+some_longest P [] some all = absurd (omega (arith, some))
+some_longest P (t ∷ ts) some all = by (reached P 0 (t ∷ ts) all) where
+  by : (form_count (t ∷ ts) ≡ 0) ⊎ ((x : NamedEntry) × P x × (length x.entry.forms ≡ form_count (t ∷ ts)))
+      → (x : NamedEntry) × P x × (length x.entry.forms ≡ form_count (t ∷ ts))
+  by (inr found) = found
+  by (inl same) =
+      let least : length t.entry.forms ≤ form_count (t ∷ ts) =
+      All-head (λ x. length x.entry.forms ≤ form_count (t ∷ ts)) t ts (bounded 0 (t ∷ ts)) in
+      (t, All-head P t ts all, omega (arith, same, least))
+
+no_longer : (d : NamedEntry) (count : ℕ) (ts : List NamedEntry) → list_any (same_forms d) ts ≡ true
+    → All (λ t. length t.entry.forms ≤ count) ts → length d.entry.forms ≤ count
+no_longer d count [] h all = absurd (false≢true h)
+no_longer d count (t ∷ ts) h all =
+    found (same_forms d t) refl h
+    (λ g. no_longer d count ts g (All-tail (λ x. length x.entry.forms ≤ count) t ts all)) where
+      found : (b : Bool) → same_forms d t ≡ b → (b || list_any (same_forms d) ts) ≡ true
+          → (list_any (same_forms d) ts ≡ true → length d.entry.forms ≤ count) → length d.entry.forms ≤ count
+      found true e g more =
+          let same = ap length ((forms_decide d t).0 e) in
+          let here = All-head (λ x. length x.entry.forms ≤ count) t ts all in
+          omega (arith, same, here)
+      found false e g more = more g
+
+pub joined_as_longest : (o : MergeOptions) (ds : List NamedEntry) → JoinedAsLongest o ds
+joined_as_longest o ds joined =
+    let ts = translations ds in
+    let parts = and_parts (not o.use_first) (nat_lt 1 (length ts)) joined in
+    let more = ltb-true 1 (length ts) parts.1 in
+    let forms : (merged_entry o ds).forms ≡ joined_forms ts =
+    ap (λ (b : Bool). if b then joined_forms ts else (first_translated ds).forms) joined in
+    let count : length (merged_entry o ds).forms ≡ form_count ts =
+    ap length forms ∙ length-map-range_with_len (joined_form ts) 0 (form_count ts) in
+    let found = some_longest (IsOne ds) ts (omega (arith, more)) (each_is ds) in
+    record {
+      longest = found.0;
+      among = found.1.among;
+      translated = found.1.is;
+      as_many = found.2 ∙ sym count;
+      none_longer = λ d among is. let most =
+          no_longer d (form_count ts) ts (any_of ds d among is) (bounded 0 ts) in omega (arith, count, most);
+    }
+
+-- where no definition before it has a translation, none is found there
+none_has : (ds : List NamedEntry) → All IsUntranslated ds → list_any has ds ≡ false
+none_has ds h = list_any_none has ds
+    (All-weaker IsUntranslated (λ d. has d ≡ false) (λ d. no_bytes (first_form d.entry.forms)) ds h)
+
+first_translated_is : {ds : List NamedEntry} {d : NamedEntry} → IsFirstTranslated ds d → first_translated ds ≡ d.entry
+first_translated_is (translated before after {d = d} before_has_none is) =
+    first_is has_translation before d after (none_has before before_has_none) (is_has d is)
+first_translated_is (none {d = d} {after = after} h) =
+    ap (λ (r : Option NamedEntry). option_map_or (λ (x : NamedEntry). x.entry) r d.entry)
+    (find_none has (d ∷ after) (none_has (d ∷ after) h))
+
+pub forms_of_first : (o : MergeOptions) (ds : List NamedEntry) (d : NamedEntry) → FormsOfFirst o ds d
+forms_of_first o ds d apart first =
+    let same = first_translated_is first in (
+      ap (λ (b : Bool). if b then joined_forms (translations ds) else (first_translated ds).forms) apart
+          ∙ ap (λ (e : TextEntry). e.forms) same,
+      ap (λ (b : Bool). b || (first_translated ds).fuzzy) apart ∙ ap (λ (e : TextEntry). e.fuzzy) same,
+    )
+
+pub comments_of_first : (o : MergeOptions) (kind : CommentKind) (ds : List NamedEntry) (d : NamedEntry)
+    → CommentsOfFirst o kind ds d
+comments_of_first o kind ds d on first =
+    texts_merged o kind ds ∙ ap
+    (λ (b : Bool). if b then texts_of kind (first_translated ds) else collected (texts_of kind) ds) on
+    ∙ ap (texts_of kind) (first_translated_is first)
+
+header_is : (e : TextEntry) → e.context ≡ None → e.id ≡ [] → is_header e ≡ true
+header_is e no_context no_id = ap₂ (λ (c : Option (List ℕ)) (i : List ℕ). is_none c && length i == 0) no_context no_id
+
+pub headers_are_kept : (o : MergeOptions) (ds : List NamedEntry) → HeadersAreKept o ds
+headers_are_kept o ds d among no_context no_id =
+    let some = All-contains (λ y. is_header y.entry ≡ true → list_any (λ x. is_header x.entry) ds ≡ true) ds d
+    (any_passing (λ x. is_header x.entry) ds) among (header_is d.entry no_context no_id) in
+    ap (λ (b : Bool). b || is_wanted o (length ds)) some

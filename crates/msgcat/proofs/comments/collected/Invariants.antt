@@ -1,0 +1,12 @@
+use Rattle.std.proofs.Common.{◌≡◌, take}
+use Rattle.msgcat.specs.InputsView.{named_entries}
+use Rattle.msgcat.specs.MergedEntry.{collected, texts_of}
+use Rattle.msgcat.specs.Internal.SameTexts.{HaveSameTexts}
+use Rattle.msgcat.proofs.comments.collected.Given as goal
+
+-- the texts of the definitions so far are collected, and they were seen
+abbrev pub invariant-loop-definition : goal.invariant-loop-definition
+invariant-loop-definition l = record {
+  are_collected : l.all ≡ collected (texts_of l.kind) (named_entries (take l.definition-index l.definitions));
+  met : HaveSameTexts l.seen l.all;
+}

@@ -1,0 +1,14 @@
+use Rattle.std.proofs.Common.{◌≡◌, map, take}
+use Rattle.msgcat.specs.InputsView.{named_entries}
+use Rattle.msgcat.specs.Internal.FormsLeft.{form_lists, named_forms}
+use Rattle.msgcat.specs.Internal.SeenForms.{HasTranslations}
+use Rattle.msgcat.specs.MergedEntry.{translations}
+use Rattle.msgcat.proofs.joined_translations.translations.Given as goal
+
+-- the distinct translations so far are found, and the set has them
+abbrev pub invariant-loop-definition : goal.invariant-loop-definition
+invariant-loop-definition l = record {
+  are_found : form_lists l.found.items
+      ≡ map named_forms (translations (named_entries (take l.definition-index l.definitions)));
+  met : HasTranslations l.seen (translations (named_entries (take l.definition-index l.definitions)));
+}

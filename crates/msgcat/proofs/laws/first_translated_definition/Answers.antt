@@ -1,0 +1,5 @@
+use Rattle.msgcat.proofs.TranslationLaws.{forms_of_first, comments_of_first}
+use Rattle.msgcat.proofs.laws.first_translated_definition.Goals as goal
+
+pub returns : goal.returns
+returns c = record { forms = forms_of_first; comments = comments_of_first }

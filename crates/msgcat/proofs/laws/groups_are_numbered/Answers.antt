@@ -1,0 +1,5 @@
+use Rattle.msgcat.proofs.NumberedGroups.{groups_by_number}
+use Rattle.msgcat.proofs.laws.groups_are_numbered.Goals as goal
+
+pub returns : goal.returns
+returns c = groups_by_number

@@ -1,0 +1,34 @@
+use Rattle.std.proofs.Common.{◌≡◌, ◌∙◌, ap, length, subst}
+use Rattle.std.specs.Prelude.{All}
+use Rattle.po_entry.specs.Validity.{IsCatalogueEntry}
+use Rattle.po_entry.specs.FirstOnes.{first_ones, group_numbers}
+use Rattle.po_entry.specs.Message.{entry_messages, same_message}
+use Rattle.po_entry.proofs.FirstOnes.{numbers_below}
+use Rattle.po_entry.proofs.MessageIndex.{same_message_laws}
+use Rattle.msgcat.specs.Grouping.{named_messages}
+use Rattle.msgcat.specs.Inputs.{all_entries}
+use Rattle.msgcat.specs.Links.{AreLinked, indexes_by}
+use Rattle.msgcat.specs.MergeInputs.{count_messages}
+use Rattle.msgcat.proofs.HeldGroups.{messages_of}
+use Rattle.msgcat.proofs.ReadInputs.{all_can}
+use Rattle.msgcat.proofs.merge_inputs.MergeInputs.of.Goals as goal
+
+pub of-requires : goal.of-requires
+of-requires c = rw (c.requires.numbers, c.requires.count)
+    (numbers_below same_message same_message_laws (entry_messages c.args.store))
+
+pub returns : goal.returns
+returns c = λ read known are.
+    let all = all_entries read in
+    let links = c.in_ok-links.links in
+    let same : entry_messages c.args.store ≡ named_messages all = ap entry_messages are ∙ messages_of all in
+    record {
+      store = are;
+      known = known;
+      can = all_can read c.args.inputs.items known.known
+          (subst (All IsCatalogueEntry) (c.store.view_is ∙ are) c.store.invariant.valid);
+      links = subst (λ n. AreLinked (indexes_by (count_messages all) n) links)
+          (c.requires.numbers ∙ ap (group_numbers same_message) same)
+          (subst (λ n. AreLinked (indexes_by n c.args.numbers.now) links)
+          (c.requires.count ∙ ap (λ l. length (first_ones same_message l)) same) c.in_ok-links.ensures);
+    }

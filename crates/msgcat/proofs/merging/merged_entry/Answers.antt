@@ -1,0 +1,39 @@
+use Rattle.std.proofs.Common.{◌≡◌, ◌<◌, ◌-◌, ◌++◌, ◌∷◌, [], ◌∙◌, ap, arith, get_or, length, subst, sym}
+use Rattle.std.proofs.Math.Seq.{get_or-append_seam}
+use Rattle.std.proofs.lemmas.List.{get_or-map, length-map, length_push}
+use Rattle.msgcat.specs.InputsView.{named_entries, named_entry}
+use Rattle.msgcat.specs.MergedEntry.{merged_entry}
+use Rattle.msgcat.specs.MergeInputs.{CanBeMerged}
+use Rattle.msgcat.proofs.OneDefinition.{one_of}
+use Rattle.msgcat.proofs.merging.merged_entry.Goals as goal
+
+pub returns-then-len-lt2-clause-merged : goal.returns-then-len-lt2-clause-merged
+returns-then-len-lt2-clause-merged c =
+    let ds = c.args.definitions.items in
+    let single : length ds ≡ 1 =
+    omega (arith, c.requires.some, c.len.ensures, c.if-len-lt2.true, c.args.definitions.ok.0) in
+    one_of c.args.options.now ds c.swap_remove.result single c.swap_remove.ensures.value
+
+pub returns-then-len-lt2-clause-valid : goal.returns-then-len-lt2-clause-valid
+returns-then-len-lt2-clause-valid c =
+    let ds = c.args.definitions.items in
+    let d = c.swap_remove.result in
+    let within : 0 < length (named_entries ds) = omega (arith, c.requires.some, length-map ds named_entry) in
+    let can : CanBeMerged (named_entry d) =
+    subst CanBeMerged (get_or-map named_entry ds 0 d (named_entry d) c.requires.some
+    ∙ ap named_entry (sym c.swap_remove.ensures.value)) (c.requires.can 0 (named_entry d) within) in
+    record { valid = can.valid.valid; charset = can.charset }
+
+pub returns-clause-merged : goal.returns-clause-merged
+returns-clause-merged c =
+    let merged = c.args.merged.now in
+    let e = merged_entry c.args.options.now (named_entries c.args.definitions.items) in
+    let are : c.merge_definitions.new.merged ≡ merged ++ e ∷ [] =
+    c.in_ok-merge_definitions.ensures.merged
+    ∙ ap (λ l. merged ++ merged_entry c.args.options.now (named_entries l) ∷ []) c.deref.ensures.value in
+    let last : c.len-2.result - 1 ≡ length merged =
+    omega (arith, c.len-2.ensures, ap length are, length_push merged e) in
+    c.get.ensures.entry e
+    ∙ ap (λ l. get_or l (c.len-2.result - 1) e) are
+    ∙ ap (λ k. get_or (merged ++ e ∷ []) k e) last
+    ∙ get_or-append_seam merged e [] e

@@ -1,0 +1,29 @@
+use Rattle.std.proofs.Common.{◌≡◌, ◌∙◌, ◌<◌, ◌&&◌, Bool, ap, ap₂, arith, length, not, sym, true}
+use Rattle.std.specs.Prelude.{if◌then◌else◌}
+use Rattle.std.proofs.lemmas.Bool.{lt-ltb}
+use Rattle.std.proofs.lemmas.List.{length-map}
+use Rattle.msgcat.specs.InputsView.{named_entries}
+use Rattle.msgcat.specs.Internal.FormsLeft.{form_list, joined_lists, named_forms}
+use Rattle.msgcat.specs.MergedEntry.{first_translated, is_joined, joined_forms, translations}
+use Rattle.msgcat.proofs.FormsLeft.{joined_lists_named}
+use Rattle.msgcat.proofs.merging.merged_forms.Goals as goal
+
+pub returns-clause-forms : goal.returns-clause-forms
+returns-clause-forms c =
+    let ds = named_entries c.args.definitions.now in
+    let T = translations ds in
+    let found = c.in_ok-found.found in
+    let more : 1 < length T =
+    omega (
+      arith,
+      c.if-len-lt2.false,
+      c.len.ensures,
+      found.ok.0,
+      ap length c.in_ok-found.ensures,
+      length-map found.items form_list,
+      length-map T named_forms,
+    ) in
+    let joined : is_joined c.args.options.now ds ≡ true =
+    ap₂ (λ (a b : Bool). not a && b) c.if-options.false (lt-ltb 1 (length T) more) in
+    c.in_ok-joined_forms.ensures ∙ ap joined_lists c.in_ok-found.ensures ∙ joined_lists_named T
+    ∙ sym (ap (λ (b : Bool). if b then joined_forms T else (first_translated ds).forms) joined)

@@ -1,0 +1,33 @@
+-- Entries grouped by their messages (manual, "Invoking the msgcat Program").
+pub use Rattle.po_entry.specs.FirstOnes.{with_new, first_ones}
+use Rattle.std.specs.Prelude.{Bool, ℕ, ◌==◌, List, [], ◌∷◌, map, filter, if◌then◌else◌}
+use Rattle.std.specs.List.{list_any, range_with_len}
+use Rattle.po_entry.specs.Joined.{is_live}
+use Rattle.po_entry.specs.Message.{entry_message, same_message as one_message}
+use Rattle.msgcat.specs.Inputs.{NamedEntry}
+
+-- entries of one message have the same context, or both none, and the same msgid
+abbrev pub same_message : NamedEntry → NamedEntry → Bool
+same_message a b = one_message (entry_message a.entry) (entry_message b.entry)
+
+-- the entries of each message, in the order in which the messages first appear
+abbrev pub groups : List NamedEntry → List (List NamedEntry)
+groups entries = map (λ first. filter (λ e. same_message e first) entries) (first_ones same_message entries)
+
+-- of things that have numbers those with this number, in order
+abbrev pub with_number : {X : Type 0} → ℕ → List ℕ → List X → List X
+with_number n [] things = []
+with_number n (number ∷ numbers) [] = []
+with_number n (number ∷ numbers) (thing ∷ things) =
+    if number == n then thing ∷ with_number n numbers things else with_number n numbers things
+
+-- the things of each number from 0 on, below a count
+abbrev pub by_number : {X : Type 0} → ℕ → List ℕ → List X → List (List X)
+by_number count numbers things = map (λ n. with_number n numbers things) (range_with_len 0 count)
+
+-- What defines the message of a group: its live members, or all where none is live.
+abbrev pub definitions_by : {X : Type 0} → (X → Bool) → List X → List X
+definitions_by live group = if list_any live group then filter live group else group
+
+abbrev pub definitions : List NamedEntry → List NamedEntry
+definitions group = definitions_by (λ d. is_live d.entry) group

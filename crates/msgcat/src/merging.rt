@@ -1,0 +1,164 @@
+//! What several definitions of one message are merged to.
+
+ghost use Rattle.std.specs.Prelude.{◌≡◌, ◌<◌, ◌++◌, ◌∷◌, [], length, All, IfOk, IfErr, OnErr, OnOk};
+ghost use Rattle.po_entry.specs.EntryView.{entry_view};
+ghost use Rattle.po_entry.specs.FormLists.{forms_left};
+ghost use Rattle.po_entry.specs.TextEntry.{texts};
+ghost use Rattle.po_entry.specs.Validity.{IsCatalogueEntry};
+ghost use Rattle.msgcat.specs.Grouping.{IsDefinition};
+ghost use Rattle.msgcat.specs.InputsView.{named_entries};
+ghost use Rattle.msgcat.specs.MergedEntry.{merged_entry, first_translated};
+ghost use Rattle.msgcat.specs.MergeInputs.{CanBeMerged};
+ghost use Rattle.msgcat.specs.Merged.{IsMergeFault};
+ghost use Rattle.msgcat.specs.Internal.Comments.{comments_alone};
+
+use crate::comments::comment_of;
+use crate::definition::{NamedEntry, Part, first_with};
+use crate::input::MergeOptions;
+use crate::joined_translations::{joined_forms, translations};
+use po_entry::{EntryRef, Fields, FormIter, Previous, Store, copy_optional};
+use po_syntax::{CommentKind, PoError, PoFault};
+use std::alloc::{AllocError, Global};
+
+/// Copies of forms.
+fn copied_forms(alloc: Global, forms: FormIter<'_>) -> Result<Vec<Vec<u8>>, AllocError>
+    ensures { IfOk result (λ copies. texts copies.items ≡ forms_left forms.entry) }
+{
+    let mut copies = Vec::new(alloc);
+    for form in forms {
+        copies.push(form.to_vec(alloc)?)?;
+    }
+    Ok(copies)
+}
+
+/// The forms of the first translation, or else of the first definition, and whether that definition
+/// is fuzzy.
+fn taken_forms(
+    alloc: Global,
+    definitions: &[NamedEntry<'_>],
+) -> Result<(Vec<Vec<u8>>, bool), AllocError>
+    requires { 0 < length definitions.now }
+    ensures forms { IfOk result (λ r. texts r.0.items ≡ (first_translated (named_entries definitions.now)).forms) }
+    ensures fuzzy { IfOk result (λ r. r.1 ≡ (first_translated (named_entries definitions.now)).fuzzy) }
+{
+    let taken = first_with(definitions, Part::Translation);
+    Ok((copied_forms(alloc, taken.forms())?, taken.fuzzy()))
+}
+
+/// The forms that the definitions are merged to, and whether these are fuzzy.
+fn merged_forms(
+    alloc: Global,
+    options: &MergeOptions,
+    definitions: &[NamedEntry<'_>],
+) -> Result<(Vec<Vec<u8>>, bool), AllocError>
+    requires some { 0 < length definitions.now }
+    requires valid { All IsDefinition (named_entries definitions.now) }
+    ensures forms { IfOk result (λ r. texts r.0.items
+        ≡ (merged_entry options.now (named_entries definitions.now)).forms) }
+    ensures fuzzy { IfOk result (λ r. r.1 ≡ (merged_entry options.now (named_entries definitions.now)).fuzzy) }
+{
+    if options.use_first {
+        return taken_forms(alloc, definitions);
+    }
+    let found = translations(alloc, definitions)?;
+    if found.len() < 2 {
+        return taken_forms(alloc, definitions);
+    }
+    Ok((joined_forms(alloc, found)?, true))
+}
+
+/// The comments, references and flags that the definitions are merged to, in fields without texts.
+fn merged_comments(
+    alloc: Global,
+    options: &MergeOptions,
+    definitions: &[NamedEntry<'_>],
+) -> Result<Fields, AllocError>
+    requires { 0 < length definitions.now }
+    ensures { IfOk result (λ fields. entry_view fields
+        ≡ comments_alone (merged_entry options.now (named_entries definitions.now))) }
+{
+    let mut fields = Fields::empty(alloc);
+    fields.comments = comment_of(alloc, options, CommentKind::Translator, definitions)?;
+    fields.extracted = comment_of(alloc, options, CommentKind::Extracted, definitions)?;
+    fields.references = comment_of(alloc, options, CommentKind::Reference, definitions)?;
+    fields.flags = comment_of(alloc, options, CommentKind::Flags, definitions)?;
+    Ok(fields)
+}
+
+/// Fills in the texts that the definitions are merged to.
+fn fill_texts(
+    alloc: Global,
+    options: &MergeOptions,
+    definitions: &[NamedEntry<'_>],
+    fields: &mut Fields,
+) -> Result<(), AllocError>
+    requires some { 0 < length definitions.now }
+    requires valid { All IsDefinition (named_entries definitions.now) }
+    ensures { OnOk result (entry_view fields.old ≡ comments_alone (merged_entry options.now (named_entries definitions.now))
+        → entry_view fields.new ≡ merged_entry options.now (named_entries definitions.now)) }
+{
+    let first = &definitions[0].entry;
+    let earliest = first_with(definitions, Part::Previous);
+    let (forms, fuzzy) = merged_forms(alloc, options, definitions)?;
+    fields.forms = forms;
+    fields.fuzzy = fuzzy;
+    fields.previous = Previous {
+        context: copy_optional(alloc, earliest.previous_context())?,
+        id: copy_optional(alloc, earliest.previous_id())?,
+        plural: copy_optional(alloc, earliest.previous_plural())?,
+    };
+    fields.context = copy_optional(alloc, first.context())?;
+    fields.id = first.id().to_vec(alloc)?;
+    fields.plural = copy_optional(alloc, first_with(definitions, Part::Plural).plural())?;
+    fields.obsolete = first.obsolete();
+    fields.line = first.line();
+    Ok(())
+}
+
+/// Adds what the definitions of one message are merged to. Refused, without a line, with
+/// `ForeignCharset` for a header whose charset isn't admitted, or with `OutOfMemory`.
+fn merge_definitions(
+    alloc: Global,
+    options: &MergeOptions,
+    definitions: &[NamedEntry<'_>],
+    merged: &mut Store,
+) -> Result<(), PoError>
+    requires some { 0 < length definitions.now }
+    requires valid { All IsDefinition (named_entries definitions.now) }
+    ensures merged { OnOk result (merged.new
+        ≡ merged.old ++ merged_entry options.now (named_entries definitions.now) ∷ []) }
+    ensures fault { IfErr result (IsMergeFault (merged_entry options.now (named_entries definitions.now) ∷ [])) }
+    ensures unchanged { OnErr result (merged.new ≡ merged.old) }
+{
+    let mut fields = merged_comments(alloc, options, definitions)?;
+    fill_texts(alloc, options, definitions, &mut fields)?;
+    if !fields.has_admitted_charset() {
+        return Err(PoError {
+            kind: PoFault::ForeignCharset,
+            line: 0,
+        });
+    }
+    Ok(merged.push(&fields)?)
+}
+
+/// What the definitions of one message are merged to: the only one itself, or what several are
+/// merged to, which is added to `merged`. Refused as `merge_definitions` is.
+pub(crate) fn merged_entry<'m>(
+    alloc: Global,
+    options: &MergeOptions,
+    definitions: Vec<NamedEntry<'m>>,
+    merged: &'m mut Store,
+) -> Result<EntryRef<'m>, PoError>
+    requires some { 0 < length definitions.items }
+    requires can { All CanBeMerged (named_entries definitions.items) }
+    ensures merged { IfOk result (λ entry. entry ≡ merged_entry options.now (named_entries definitions.entry.items)) }
+    ensures valid { IfOk result IsCatalogueEntry }
+    ensures fault { IfErr result (IsMergeFault (merged_entry options.now (named_entries definitions.entry.items) ∷ [])) }
+{
+    let mut definitions = definitions;
+    if definitions.len() < 2 {
+        return Ok(definitions.swap_remove(0).entry);
+    }
+    merge_definitions(alloc, options, &definitions, merged)?;
+    Ok(merged.get(merged.len() - 1))
+}

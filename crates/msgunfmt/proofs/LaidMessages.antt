@@ -1,0 +1,127 @@
+-- The entry of a message, as it is laid out.
+use Rattle.std.proofs.Common.{◌≡◌, ◌≢◌, ◌↔◌, ◌∙◌, ℕ, ◌<◌, Bool, true, List, [], ◌∷◌, ◌++◌, Option, Some, sym, ap, ap₂, subst, get_or, length, map, take, slice_get, arith, All}
+use Rattle.std.specs.Prelude.{option_to_list}
+use Rattle.std.proofs.lemmas.List.Elements.{All-append, All-cons, All-head, All-nil, All-tail}
+use Rattle.mo_file.specs.Key.{key_of}
+use Rattle.mo_file.specs.Message.{Message}
+use Rattle.mo_lookup.specs.CatalogView.{forms}
+use Rattle.po_entry.specs.Bytes.{Lacks}
+use Rattle.po_entry.specs.Facts.AllAppend.{All-left, All-right}
+use Rattle.po_entry.specs.Header.{HasAdmittedCharset}
+use Rattle.po_entry.specs.Rows.{Adds, AreLaid, CanLie, LiesIn, entries_in, entry_at, message_entry, row_of}
+use Rattle.po_entry.specs.TextEntry.{TextEntry, plain_entry, quoted_texts}
+use Rattle.po_entry.specs.Validity.{HasTexts}
+use Rattle.po_entry.specs.declared.drafts.Drafts.{Drafts}
+use Rattle.po_entry.specs.declared.row.Row.{Row}
+use Rattle.msgunfmt.specs.declared.fault.UnformatError.{UnformatError}
+use Rattle.msgunfmt.specs.Internal.Laid.{AppendsEntry, AppendsMessage, HasOneMore, HoldsMessage}
+use Rattle.msgunfmt.specs.Internal.Refused.{RefusesEntry, RefusesMessage}
+use Rattle.msgunfmt.specs.MessageParts.{ContainsForms, ContainsKey, ContainsMsgid, after_context, before_plural, each_part, first_part, key_alone, msgid_alone}
+use Rattle.msgunfmt.specs.Unformatted.{context_of, entry_of_message, id_of, plural_of, taken_forms, unformatted}
+use Rattle.msgunfmt.proofs.CutLemmas.{split_none}
+use Rattle.msgunfmt.proofs.EntryParts.{entries_are, parts_of}
+use Rattle.msgunfmt.proofs.MessageLemmas.{message_valid}
+
+-- the first part of a text has one part, itself
+pub first_alone : (text first : List ℕ) → take 1 (forms text) ≡ first ∷ [] → forms first ≡ take 1 (forms text)
+first_alone text first is =
+    let parts = parts_of text in
+    let both : parts.first ∷ [] ≡ first ∷ [] = ap (take 1) (sym parts.are) ∙ is in
+    let same : parts.first ≡ first = cc in
+    split_none 0 first (subst (Lacks 0) same (All-head (Lacks 0) parts.first parts.others parts.lack)) ∙ sym is
+
+-- no part of a message has a NUL
+key_lacks : {original key : List ℕ} {plural : Option (List ℕ)} → ContainsKey original key plural
+    → Lacks 0 key × All (Lacks 0) (option_to_list plural)
+key_lacks (key_alone lacks) = (lacks, All-nil (Lacks 0))
+key_lacks (before_plural {key} {plural} after lacks also ends) =
+    (lacks, All-cons (Lacks 0) plural [] also (All-nil (Lacks 0)))
+
+msgid_lacks : {key id : List ℕ} {context : Option (List ℕ)} → ContainsMsgid key context id → Lacks 0 key
+    → All (Lacks 0) (option_to_list context) × Lacks 0 id
+msgid_lacks (msgid_alone no_eot) lacks = (All-nil (Lacks 0), lacks)
+msgid_lacks (after_context {context} {id} no_eot) lacks = (
+  All-cons (Lacks 0) context [] (All-left (λ b. b ≢ 0) context (4 ∷ id) lacks) (All-nil (Lacks 0)),
+  All-tail (λ b. b ≢ 0) 4 id (All-right (λ b. b ≢ 0) context (4 ∷ id) lacks),
+)
+
+forms_lack : {translation : List ℕ} {plural : Option (List ℕ)} {texts : List (List ℕ)}
+    → ContainsForms translation plural texts → All (Lacks 0) texts × (0 < length texts)
+forms_lack (first_part {form} after lacks ends) =
+    (All-cons (Lacks 0) form [] lacks (All-nil (Lacks 0)), omega arith)
+forms_lack (each_part all) = (all, omega arith)
+
+pub can_lie : (m : Message) → CanLie (entry_of_message m)
+can_lie m =
+    let parts = (entries_are (m ∷ [])).0 in
+    let key = key_lacks parts.original in
+    let msgid = msgid_lacks parts.msgid key.0 in
+    let texts = forms_lack parts.translation in
+    let context = option_to_list (context_of (key_of m.original)) in
+    let id = id_of (key_of m.original) in
+    let own = All-append (Lacks 0) context (id ∷ []) msgid.0 (All-cons (Lacks 0) id [] msgid.1 (All-nil (Lacks 0))) in
+    let both = All-append (Lacks 0) (context ++ (id ∷ [])) (option_to_list (plural_of m.original)) own key.1 in
+    record {
+      no_nul = All-append (Lacks 0) _ (taken_forms (plural_of m.original) (forms m.translation)) both texts.0;
+      some_form = texts.1;
+    }
+
+-- the entry of the parts of a message
+pub of_parts : (original translation key id taken : List ℕ) (context plural : Option (List ℕ))
+    → key ≡ key_of original → context ≡ context_of key → id ≡ id_of key → plural ≡ plural_of original
+    → forms taken ≡ taken_forms plural (forms translation)
+    → message_entry context id plural taken
+    ≡ entry_of_message (record { original = original; translation = translation })
+of_parts original translation key id taken context plural is_key is_context is_id is_plural are =
+    ap (λ c. plain_entry c id plural (forms taken)) (is_context ∙ ap context_of is_key)
+    ∙ ap (λ i. plain_entry (context_of (key_of original)) i plural (forms taken)) (is_id ∙ ap id_of is_key)
+    ∙ ap (λ p. plain_entry (context_of (key_of original)) (id_of (key_of original)) p (forms taken)) is_plural
+    ∙ ap (λ fs. plain_entry (context_of (key_of original)) (id_of (key_of original)) (plural_of original) fs)
+    (are ∙ ap (λ p. taken_forms p (forms translation)) is_plural)
+
+-- an entry that is laid out where there were no rows
+pub held : (m : Message) (old new : Drafts) → old.rows.items ≡ [] → Adds (entry_of_message m) old new
+    → (AreLaid old → AreLaid new × (CanLie (entry_of_message m)
+    → entries_in new ≡ entries_in old ++ entry_of_message m ∷ [])) → HoldsMessage m new
+held m old new none adds law =
+    let row = row_of (length old.bytes.items) (entry_of_message m) in
+    let rows : new.rows.items ≡ row ∷ [] = adds.row ∙ ap (λ l. l ++ row ∷ []) none in
+    let after = law (subst (All (LiesIn old.bytes.items)) (sym none) (All-nil (LiesIn old.bytes.items))) in
+    let lie : All (LiesIn new.bytes.items) (row ∷ []) = subst (All (LiesIn new.bytes.items)) rows after.0 in
+    let entries : entry_at new.bytes.items row ∷ [] ≡ entry_of_message m ∷ [] =
+    sym (ap (λ l. map (entry_at new.bytes.items) l) rows) ∙ after.1 (can_lie m)
+    ∙ ap (λ l. map (entry_at old.bytes.items) l ++ entry_of_message m ∷ []) none in
+    record {
+      row = row;
+      rows = rows;
+      lies = All-head (LiesIn new.bytes.items) row [] lie;
+      entry = cc;
+    }
+
+-- the entry that is read where it is laid out
+pub laid_entry : (m : Message) (drafts : Drafts) (bytes : List ℕ) (row : Row) (entry : TextEntry)
+    → HoldsMessage m drafts → bytes ≡ drafts.bytes.items → row ≡ get_or drafts.rows.items 0 row
+    → entry ≡ entry_at bytes row → entry ≡ entry_of_message m
+laid_entry m drafts bytes row entry holds is at reads =
+    let first : row ≡ holds.row = at ∙ ap (λ rows. get_or rows 0 row) holds.rows in
+    reads ∙ ap₂ (λ (b : List ℕ) (r : Row). entry_at b r) is first ∙ holds.entry
+
+pub no_nul : (m : Message) (entry : TextEntry) → entry ≡ entry_of_message m → All (Lacks 0) (quoted_texts entry)
+no_nul m entry is = subst (λ (e : TextEntry). All (Lacks 0) (quoted_texts e)) (sym is) (can_lie m).no_nul
+
+pub appended : (messages : List Message) (i : ℕ) (m : Message) (entry : TextEntry) (old new : List ℕ)
+    → slice_get (unformatted messages) i ≡ Some (entry_of_message m) → entry ≡ entry_of_message m
+    → (is_admitted : Bool) → AppendsEntry entry old new is_admitted → AppendsMessage messages i old new is_admitted
+appended messages i m entry old new at is is_admitted a = record {
+  entry = entry_of_message m;
+  is_entry = at;
+  valid = message_valid m (subst HasTexts is a.texts);
+  admitted = subst (λ (e : TextEntry). (is_admitted ≡ true) ↔ HasAdmittedCharset e) is a.admitted;
+  text = subst (λ (e : TextEntry). HasOneMore e old new) is a.text;
+}
+
+pub refused : (messages : List Message) (i : ℕ) (m : Message) (entry : TextEntry)
+    → slice_get (unformatted messages) i ≡ Some (entry_of_message m) → entry ≡ entry_of_message m
+    → (error : UnformatError) → RefusesEntry entry i error → RefusesMessage messages i error
+refused messages i m entry at is error why =
+    (entry_of_message m, at, subst (λ (e : TextEntry). RefusesEntry e i error) is why)

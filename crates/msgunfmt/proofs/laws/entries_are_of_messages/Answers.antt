@@ -1,0 +1,5 @@
+use Rattle.msgunfmt.proofs.EntryParts.{entries_are}
+use Rattle.msgunfmt.proofs.laws.entries_are_of_messages.Goals as goal
+
+pub returns : goal.returns
+returns c = entries_are

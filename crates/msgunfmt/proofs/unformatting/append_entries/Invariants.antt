@@ -1,0 +1,15 @@
+use Rattle.std.proofs.Common.{◌≡◌, true, false, take, All}
+use Rattle.po_entry.specs.Header.{HasAdmittedCharset}
+use Rattle.po_entry.specs.Validity.{IsEntry}
+use Rattle.po_writer.specs.WrittenText.{written_text}
+use Rattle.msgunfmt.specs.Unformatted.{unformatted}
+use Rattle.msgunfmt.proofs.unformatting.append_entries.Given as goal
+
+-- the entries so far are written, and it is known whether each charset is admitted
+abbrev pub invariant-loop-i : goal.invariant-loop-i
+invariant-loop-i l = record {
+  written : l.text.items ≡ written_text (take l.i (unformatted l.view.messages));
+  valid : All IsEntry (take l.i (unformatted l.view.messages));
+  admitted : l.is_admitted ≡ true → All HasAdmittedCharset (take l.i (unformatted l.view.messages));
+  foreign : l.is_admitted ≡ false → All HasAdmittedCharset (unformatted l.view.messages) → ⊥;
+}

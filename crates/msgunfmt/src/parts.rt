@@ -1,0 +1,68 @@
+//! The parts of originals and translations (GNU gettext manual, "The Format of GNU MO Files").
+
+ghost use Rattle.std.specs.Prelude.{◌≡◌, ◌<◌, ◌++◌, [], ◌∷◌, IfSome, MatchOption, length, take};
+ghost use Rattle.std.specs.Option.{option_copied};
+ghost use Rattle.mo_file.specs.Key.{key_of};
+ghost use Rattle.mo_lookup.specs.CatalogView.{forms};
+ghost use Rattle.po_entry.specs.Bytes.{Lacks};
+ghost use Rattle.po_entry.specs.Header.{first_form};
+ghost use Rattle.msgunfmt.specs.Unformatted.{context_of, id_of, plural_of};
+
+use memchr::memchr;
+
+/// The byte between a context and a msgid.
+const EOT: u8 = 4;
+
+/// The byte between a key and a plural, and between the parts of a translation.
+const NUL: u8 = 0;
+
+/// What stands before the first of these bytes and what after it, where there is one.
+fn split_once_at(byte: u8, text: &[u8]) -> Option<(&[u8], &[u8])>
+    ensures { MatchOption result (Lacks byte text.now) (λ parts. (text.now ≡ parts.0.now ++ byte ∷ parts.1.now)
+        × Lacks byte parts.0.now) }
+{
+    let place = memchr(byte, text)?;
+    Some((&text[..place], &text[place + 1..]))
+}
+
+/// The context of a key, where it has one, and its msgid.
+pub fn key_parts(key: &[u8]) -> (Option<&[u8]>, &[u8])
+    ensures context { option_copied result.0 ≡ context_of key.now }
+    ensures id { result.1.now ≡ id_of key.now }
+{
+    match split_once_at(EOT, key) {
+        Some((context, id)) => (Some(context), id),
+        None => (None, key),
+    }
+}
+
+/// The key of an original and the plural, where it has one.
+pub fn original_parts(original: &[u8]) -> (&[u8], Option<&[u8]>)
+    ensures key { result.0.now ≡ key_of original.now }
+    ensures plural { option_copied result.1 ≡ plural_of original.now }
+{
+    match split_once_at(NUL, original) {
+        Some((key, rest)) => (key, Some(first_part(rest))),
+        None => (original, None),
+    }
+}
+
+/// What stands before the first NUL, or all: the first form of a translation.
+pub fn first_part(text: &[u8]) -> &[u8]
+    ensures part { take 1 (forms text.now) ≡ result.now ∷ [] }
+    ensures first { result.now ≡ first_form (forms text.now) }
+{
+    match split_once_at(NUL, text) {
+        Some((piece, _)) => piece,
+        None => text,
+    }
+}
+
+/// The first form of a translation and what is after its NUL, where it has further forms.
+pub fn split_form(translation: &[u8]) -> Option<(&[u8], &[u8])>
+    ensures forms { MatchOption result (forms translation.now ≡ translation.now ∷ [])
+        (λ parts. forms translation.now ≡ parts.0.now ∷ forms parts.1.now) }
+    ensures shorter { IfSome result (λ parts. length parts.1.now < length translation.now) }
+{
+    split_once_at(NUL, translation)
+}

@@ -1,0 +1,46 @@
+use Rattle.std.proofs.Common.{◌∙◌, ap, inr, length, map, subst, sym}
+use Rattle.std.specs.Prelude.{MatchOption, filter}
+use Rattle.std.proofs.lemmas.List.{length-map}
+use Rattle.po_entry.specs.Duplicate.{AllDiffer, HasNoDuplicate}
+use Rattle.po_entry.specs.Joined.{in_input, is_live}
+use Rattle.po_entry.specs.Places.{RepeatsOnLines, number_in, place_of}
+use Rattle.po_entry.proofs.DuplicateLemmas.{distinct_has_no_first, entries_of_input}
+use Rattle.po_entry.proofs.NumberLemmas.{are_numbered, repeats_of}
+use Rattle.po_entry.proofs.duplicate.check_duplicates.Goals as goal
+
+pub repeated_lines-requires-clause-lengths : goal.repeated_lines-requires-clause-lengths
+repeated_lines-requires-clause-lengths c =
+    let store = c.args.store.now in
+    let are = are_numbered store c.deref.result.now (c.deref.ensures.value ∙ c.in_ok-numbers.ensures.numbers) in
+    let placed = c.deref-2.ensures.value ∙ c.in_ok-places.ensures.places in
+    ap length are.numbers_are ∙ length-map store (number_in store)
+    ∙ sym (ap length placed ∙ length-map store (place_of is_live))
+
+pub returns-in-Some-clause-exact : goal.returns-in-Some-clause-exact
+returns-in-Some-clause-exact c =
+    let store = c.args.store.now in
+    let are = are_numbered store c.deref.result.now (c.deref.ensures.value ∙ c.in_ok-numbers.ensures.numbers) in
+    let placed = c.deref-2.ensures.value ∙ c.in_ok-places.ensures.places in
+    let found = subst (λ o. MatchOption o (AllDiffer (filter is_live store)) (RepeatsOnLines (filter is_live store)))
+    c.in-Some.is (c.in_ok-first.ensures.found store store is_live are placed) in
+    inr (repeats_of store (c.in-Some.first, c.in-Some.line) c.duplicate_at.result found c.duplicate_at.ensures)
+
+pub returns-in-Some-clause-only : goal.returns-in-Some-clause-only
+returns-in-Some-clause-only c =
+    let store = c.args.store.now in
+    let are = are_numbered store c.deref.result.now (c.deref.ensures.value ∙ c.in_ok-numbers.ensures.numbers) in
+    let placed = c.deref-2.ensures.value ∙ c.in_ok-places.ensures.places in
+    let found = subst (λ o. MatchOption o (AllDiffer (filter is_live store)) (RepeatsOnLines (filter is_live store)))
+    c.in-Some.is (c.in_ok-first.ensures.found store store is_live are placed) in
+    let repeats = repeats_of store (c.in-Some.first, c.in-Some.line) c.duplicate_at.result found
+    c.duplicate_at.ensures in
+    λ none. absurd (distinct_has_no_first (map (in_input 0) store) repeats.0 repeats.1
+    (subst HasNoDuplicate (sym (entries_of_input 0 store)) none) repeats.2)
+
+pub returns-clause-exact : goal.returns-clause-exact
+returns-clause-exact c =
+    let store = c.args.store.now in
+    let are = are_numbered store c.deref.result.now (c.deref.ensures.value ∙ c.in_ok-numbers.ensures.numbers) in
+    let placed = c.deref-2.ensures.value ∙ c.in_ok-places.ensures.places in
+    subst (λ o. MatchOption o (AllDiffer (filter is_live store)) (RepeatsOnLines (filter is_live store)))
+    c.in-None.is (c.in_ok-first.ensures.found store store is_live are placed)

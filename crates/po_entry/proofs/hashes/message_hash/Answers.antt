@@ -1,0 +1,10 @@
+use Rattle.std.proofs.Common.{ap}
+use Rattle.std.specs.Hash.DefaultHasher.{finish, initial, write}
+use Rattle.po_entry.specs.MessageHash.{message_hash}
+use Rattle.po_entry.proofs.hashes.message_hash.Goals as goal
+
+pub returns : goal.returns
+unfolding message_hash
+returns c =
+    rw (c.finish.ensures, c.write.ensures, c.new-hasher.ensures)
+    (ap (λ key. finish (write initial key)) c.key.ensures)

@@ -1,0 +1,7 @@
+use Rattle.std.proofs.Common.{take}
+use Rattle.po_entry.proofs.KeyLemmas.{AreSeen}
+use Rattle.po_entry.proofs.keys.message_numbers.Given as goal
+
+-- the entries so far are numbered
+abbrev pub invariant-loop-index : goal.invariant-loop-index
+invariant-loop-index l = AreSeen (take l.index l.store) l.seen l.numbers.items

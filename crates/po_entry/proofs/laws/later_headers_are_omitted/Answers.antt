@@ -1,0 +1,5 @@
+use Rattle.po_entry.proofs.OmittedHeaders.{later_headers_omitted}
+use Rattle.po_entry.proofs.laws.later_headers_are_omitted.Goals as goal
+
+pub returns : goal.returns
+returns c = later_headers_omitted

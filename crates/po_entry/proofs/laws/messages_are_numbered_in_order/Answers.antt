@@ -1,0 +1,7 @@
+use Rattle.po_entry.specs.Message.{same_message}
+use Rattle.po_entry.proofs.FirstOnes.{number_at}
+use Rattle.po_entry.proofs.MessageIndex.{same_message_laws}
+use Rattle.po_entry.proofs.laws.messages_are_numbered_in_order.Goals as goal
+
+pub returns : goal.returns
+returns c = number_at same_message same_message_laws

@@ -1,0 +1,5 @@
+use Rattle.po_entry.proofs.FirstDuplicates.{first_once}
+use Rattle.po_entry.proofs.laws.one_first_duplicate.Goals as goal
+
+pub returns : goal.returns
+returns c = first_once

@@ -1,0 +1,43 @@
+use Rattle.std.proofs.Common.{◌≡◌, ℕ, ◌+◌, ◌<◌, ◌≤◌, ◌++◌, ◌∷◌, [], ◌∙◌, ap, ap₂, arith, length, not, subst, sym, take, Bool}
+use Rattle.std.specs.Prelude.{All}
+use Rattle.std.proofs.lemmas.List.{map-append, take_all, take_more}
+use Rattle.std.proofs.lemmas.List.Elements.{All-push}
+use Rattle.po_entry.specs.TextEntry.{TextEntry}
+use Rattle.po_entry.specs.Validity.{IsCatalogueEntry}
+use Rattle.po_entry.specs.Joined.{is_live}
+use Rattle.po_entry.specs.Places.{are_placed, place_of}
+use Rattle.po_entry.specs.declared.repeats.EntryPlace.{EntryPlace}
+use Rattle.po_entry.proofs.places.places_of.Goals as goal
+
+abbrev place : ℕ → Bool → EntryPlace
+place line is_live = record { line = line; is_live = is_live }
+
+pub loop-index-preserved : goal.loop-index-preserved
+loop-index-preserved c =
+    let so_far = c.loop-index.invariant in
+    let i = c.loop-index.index in
+    let store = c.args.store.now in
+    let entry = c.get-entry.result in
+    let inside : i < length store = omega (arith, c.loop-index-test.true, c.len-index-end.ensures) in
+    let more : take (i + 1) store ≡ take i store ++ entry ∷ [] =
+    take_more store i entry inside ∙ ap (λ (e : TextEntry). take i store ++ e ∷ [])
+    (sym (c.get-entry.ensures.entry entry)) in
+    record {
+      places = c.in_ok-push.ensures.items
+          ∙ ap (λ p. c.loop-index.places.items ++ p ∷ [])
+          (ap₂ place c.line.ensures (ap not c.obsolete.ensures))
+          ∙ ap (λ l. l ++ place_of is_live entry ∷ []) so_far.places
+          ∙ sym (ap (are_placed is_live) more ∙ map-append (place_of is_live) (take i store) (entry ∷ []));
+      valid = subst (All IsCatalogueEntry) (sym more)
+          (All-push IsCatalogueEntry (take i store) entry so_far.valid c.get-entry.ensures.valid);
+    }
+
+pub returns : goal.returns
+returns c =
+    let past : length c.args.store.now ≤ c.loop-index.index =
+    omega (arith, c.loop-index-test.false, c.len-index-end.ensures) in
+    let whole = take_all c.loop-index.index c.args.store.now past in
+    record {
+      places = c.loop-index.invariant.places ∙ ap (are_placed is_live) whole;
+      valid = subst (All IsCatalogueEntry) whole c.loop-index.invariant.valid;
+    }

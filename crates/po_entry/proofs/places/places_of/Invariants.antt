@@ -1,0 +1,13 @@
+use Rattle.std.proofs.Common.{◌≡◌, take}
+use Rattle.std.specs.Prelude.{All}
+use Rattle.po_entry.specs.Validity.{IsCatalogueEntry}
+use Rattle.po_entry.specs.Joined.{is_live}
+use Rattle.po_entry.specs.Places.{are_placed}
+use Rattle.po_entry.proofs.places.places_of.Given as goal
+
+-- where the entries so far stand
+abbrev pub invariant-loop-index : goal.invariant-loop-index
+invariant-loop-index l = record {
+  places : l.places.items ≡ are_placed is_live (take l.index l.store);
+  valid : All IsCatalogueEntry (take l.index l.store);
+}

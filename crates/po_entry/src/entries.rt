@@ -1,0 +1,24 @@
+//! What is asked of one entry.
+
+ghost use Rattle.std.specs.Prelude.{◌≡◌};
+ghost use Rattle.po_entry.specs.Joined.{is_live_header};
+ghost use Rattle.po_entry.specs.Statistics.{has_translation};
+
+use crate::entry_ref::EntryRef;
+
+/// Whether the entry has a translation, be it fuzzy or not: its first form isn't empty.
+pub fn has_translation(entry: &EntryRef<'_>) -> bool
+    ensures { result ≡ has_translation entry.now }
+{
+    match entry.forms().next() {
+        Some(form) => !form.is_empty(),
+        None => false,
+    }
+}
+
+/// Whether the entry is a header that isn't obsolete.
+pub fn is_live_header(entry: &EntryRef<'_>) -> bool
+    ensures { result ≡ is_live_header entry.now }
+{
+    entry.is_header() && !entry.obsolete()
+}

@@ -1,5 +1,0 @@
-use Rattle.po_merge.proofs.Lines.{lines_not_merged}
-use Rattle.po_merge.proofs.laws.lines_are_not_merged.Goals as goal
-
-pub returns : goal.returns
-returns c = lines_not_merged

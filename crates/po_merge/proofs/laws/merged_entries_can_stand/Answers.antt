@@ -1,5 +1,0 @@
-use Rattle.po_merge.proofs.MergedMessages.{merged_entries, merged_can_stand}
-use Rattle.po_merge.proofs.laws.merged_entries_can_stand.Goals as goal
-
-pub returns : goal.returns
-returns c = record { entries = merged_entries; can_stand = merged_can_stand }

@@ -1,5 +1,0 @@
-use Rattle.po_merge.proofs.EntryLaws.{obsolete_where_none_is_live}
-use Rattle.po_merge.proofs.laws.obsolete_where_none_is_live.Goals as goal
-
-pub returns : goal.returns
-returns c = obsolete_where_none_is_live

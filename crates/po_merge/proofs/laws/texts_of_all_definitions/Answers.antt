@@ -1,5 +1,0 @@
-use Rattle.po_merge.proofs.EntryLaws.{texts_of_all, texts_in_order}
-use Rattle.po_merge.proofs.laws.texts_of_all_definitions.Goals as goal
-
-pub returns : goal.returns
-returns c = record { all = texts_of_all; order = texts_in_order }

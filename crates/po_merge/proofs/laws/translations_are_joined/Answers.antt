@@ -1,5 +1,0 @@
-use Rattle.po_merge.proofs.EntryLaws.{joined_is_fuzzy, forms_are_joined}
-use Rattle.po_merge.proofs.laws.translations_are_joined.Goals as goal
-
-pub returns : goal.returns
-returns c = record { fuzzy = joined_is_fuzzy; forms = forms_are_joined }

@@ -1,8 +1,0 @@
-use Rattle.std.proofs.Common.{◌-◌, length}
-use Rattle.po_merge.proofs.LinkLemmas.{AreLinkedFrom}
-use Rattle.po_merge.proofs.links.Links.of.Given as goal
-
--- the last entries are linked
-abbrev pub invariant-loop-done : goal.invariant-loop-done
-invariant-loop-done l =
-    AreLinkedFrom l.numbers l.count (length l.numbers - l.done) l.firsts.items l.next.items

@@ -1,8 +1,0 @@
-use Rattle.std.proofs.Common.{◌≡◌, ◌++◌}
-use Rattle.po_entry.specs.FormLists.{forms_left}
-use Rattle.po_entry.specs.TextEntry.{texts}
-use Rattle.po_merge.proofs.merging.copied_forms.Given as goal
-
--- the copies so far, and the forms that are left
-abbrev pub invariant-loop-form : goal.invariant-loop-form
-invariant-loop-form l = texts l.copies.items ++ forms_left l.form-iterator ≡ forms_left l.fn.forms

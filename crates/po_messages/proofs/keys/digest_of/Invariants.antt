@@ -1,8 +1,0 @@
-use Rattle.std.proofs.Common.{◌≡◌, take}
-use Rattle.po_entry.specs.Seeds.{digest_of}
-use Rattle.po_messages.specs.Digests.{keys_writes}
-use Rattle.po_messages.proofs.keys.digest_of.Given as goal
-
--- the keys so far are digested
-abbrev pub invariant-loop-index : goal.invariant-loop-index
-invariant-loop-index l = l.digest ≡ digest_of (keys_writes (take l.index l.store))

@@ -1,7 +1,0 @@
-use Rattle.std.proofs.Common.{take}
-use Rattle.po_messages.proofs.KeyLemmas.{AreSeen}
-use Rattle.po_messages.proofs.keys.message_numbers.Given as goal
-
--- the entries so far are numbered
-abbrev pub invariant-loop-index : goal.invariant-loop-index
-invariant-loop-index l = AreSeen (take l.index l.store) l.seen l.numbers.items

@@ -1,5 +1,0 @@
-use Rattle.po_messages.proofs.EarlierNamed.{fault_names_earlier}
-use Rattle.po_messages.proofs.laws.duplicate_names_the_earlier.Goals as goal
-
-pub returns : goal.returns
-returns c = fault_names_earlier

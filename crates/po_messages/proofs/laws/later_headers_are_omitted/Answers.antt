@@ -1,5 +1,0 @@
-use Rattle.po_messages.proofs.OmittedHeaders.{later_headers_omitted}
-use Rattle.po_messages.proofs.laws.later_headers_are_omitted.Goals as goal
-
-pub returns : goal.returns
-returns c = later_headers_omitted

@@ -1,7 +1,0 @@
-use Rattle.po_messages.specs.Message.{same_message}
-use Rattle.po_messages.proofs.FirstOnes.{number_at}
-use Rattle.po_messages.proofs.MessageIndex.{same_message_laws}
-use Rattle.po_messages.proofs.laws.messages_are_numbered_in_order.Goals as goal
-
-pub returns : goal.returns
-returns c = number_at same_message same_message_laws

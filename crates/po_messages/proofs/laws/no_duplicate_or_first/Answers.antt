@@ -1,5 +1,0 @@
-use Rattle.po_messages.proofs.FirstDuplicates.{none_or_first}
-use Rattle.po_messages.proofs.laws.no_duplicate_or_first.Goals as goal
-
-pub returns : goal.returns
-returns c = none_or_first

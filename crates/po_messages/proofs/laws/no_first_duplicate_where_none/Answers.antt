@@ -1,5 +1,0 @@
-use Rattle.po_messages.proofs.DuplicateLemmas.{distinct_has_no_first}
-use Rattle.po_messages.proofs.laws.no_first_duplicate_where_none.Goals as goal
-
-pub returns : goal.returns
-returns c = distinct_has_no_first

@@ -1,5 +1,0 @@
-use Rattle.po_messages.proofs.MessageIndex.{numbers_tell}
-use Rattle.po_messages.proofs.laws.one_number_is_one_message.Goals as goal
-
-pub returns : goal.returns
-returns c = numbers_tell

@@ -1,5 +1,0 @@
-use Rattle.po_messages.proofs.WrittenCounts.{statistics_written}
-use Rattle.po_messages.proofs.laws.statistics_are_written.Goals as goal
-
-pub returns : goal.returns
-returns c = statistics_written

@@ -1,4 +1,0 @@
--- Facts of lists that every crate may cite, over any relation.
-pub mod FirstRepeats
-pub mod Mapped
-pub mod Zips

@@ -1,3 +1,0 @@
-pub mod SelectionLaws
-pub mod OptionLaws
-pub mod ChangedEntries

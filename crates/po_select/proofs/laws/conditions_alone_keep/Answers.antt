@@ -1,5 +1,0 @@
-use Rattle.po_select.proofs.SelectionLaws.{kept_as_they_are}
-use Rattle.po_select.proofs.laws.conditions_alone_keep.Goals as goal
-
-pub returns : goal.returns
-returns c = kept_as_they_are

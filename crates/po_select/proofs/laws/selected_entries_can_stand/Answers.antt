@@ -1,5 +1,0 @@
-use Rattle.po_select.proofs.SelectionLaws.{selected_can_stand}
-use Rattle.po_select.proofs.laws.selected_entries_can_stand.Goals as goal
-
-pub returns : goal.returns
-returns c = selected_can_stand

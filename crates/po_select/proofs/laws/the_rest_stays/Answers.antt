@@ -1,5 +1,0 @@
-use Rattle.po_select.proofs.OptionLaws.{marks_stay, forms_stay, rest_stays}
-use Rattle.po_select.proofs.laws.the_rest_stays.Goals as goal
-
-pub returns : goal.returns
-returns c = record { marks = marks_stay; forms = forms_stay; rest = rest_stays }

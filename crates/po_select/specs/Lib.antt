@@ -1,4 +1,0 @@
-pub mod Selected
-pub mod ChangedAt
-pub mod SelectionLaws
-pub mod Examples

@@ -1,5 +1,0 @@
-use Rattle.po_unformat.proofs.FaultLemmas.{empty_text}
-use Rattle.po_unformat.proofs.laws.empty_text.Goals as goal
-
-pub returns : goal.returns
-returns c = empty_text c.some_entry_is_written.ensures

@@ -1,5 +1,0 @@
-use Rattle.po_unformat.proofs.FaultLemmas.{no_fault}
-use Rattle.po_unformat.proofs.laws.no_fault_where_unformatted.Goals as goal
-
-pub returns : goal.returns
-returns c = no_fault c.one_message_list.ensures

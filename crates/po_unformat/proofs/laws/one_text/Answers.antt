@@ -1,5 +1,0 @@
-use Rattle.po_unformat.proofs.FaultLemmas.{one_text}
-use Rattle.po_unformat.proofs.laws.one_text.Goals as goal
-
-pub returns : goal.returns
-returns c = one_text c.one_message_list.ensures

@@ -1,5 +1,0 @@
-use Rattle.po_unformat.proofs.SettledMessages.{text_or_fault}
-use Rattle.po_unformat.proofs.laws.text_or_fault.Goals as goal
-
-pub returns : goal.returns
-returns c = text_or_fault c.mo_file_or_fault.ensures

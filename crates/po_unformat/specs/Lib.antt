@@ -1,5 +1,0 @@
-pub mod Unformatted
-pub mod UnformattedText
-pub mod RoundTrip
-pub mod MessageParts
-pub mod Internal
