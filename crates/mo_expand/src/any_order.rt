@@ -10,6 +10,12 @@ ghost use Rattle.mo_expand.specs.AnyOrder.{IsFileInAnyOrder};
 
 use mo_file::{BorrowedPair, Meter, MoError, MoView, Order, word};
 
+/// The length of a file header of revision 0.
+const HEADER_LEN: usize = 28;
+
+/// Where the file header has how many messages there are.
+const MESSAGE_COUNT: usize = 8;
+
 /// The byte order of bytes that are an MO file but for the order of their keys.
 pub(crate) fn order_of(bytes: &[u8]) -> Option<Order>
     ensures { MatchOption result
@@ -35,10 +41,10 @@ pub fn message_count(bytes: &[u8]) -> u32
     let Some(order) = Order::of_file(bytes) else {
         return 0;
     };
-    if bytes.len() < 28 {
+    if bytes.len() < HEADER_LEN {
         return 0;
     }
-    word(order, bytes, 8)
+    word(order, bytes, MESSAGE_COUNT)
 }
 
 /// A string of a table, without its NUL.

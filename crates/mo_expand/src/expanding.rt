@@ -13,6 +13,22 @@ use crate::joining::{Missing, has_text, put_text};
 use crate::platform_text::PlatformText;
 use mo_file::{Order, word};
 
+/// The length of a file header that tells of system-dependent strings: that of revision 1 (GNU
+/// gettext manual, "The Format of GNU MO Files").
+const LONG_HEADER_LEN: usize = 48;
+
+/// Where the file header has the revision.
+const REVISION: usize = 4;
+
+/// Where it has how many system-dependent messages there are.
+const SYSTEM_COUNT: usize = 36;
+
+/// Where it has the offset of the table of their originals.
+const SYSTEM_ORIGINALS: usize = 40;
+
+/// Where it has the offset of the table of their translations.
+const SYSTEM_TRANSLATIONS: usize = 44;
+
 /// How many system-dependent messages a file has, of which the platform may lack some.
 pub fn system_count(bytes: &[u8]) -> u32
     ensures count { (order : Order) → HasMagicOf order bytes.now → result ≡ system_count order bytes.now }
@@ -24,18 +40,18 @@ pub fn system_count(bytes: &[u8]) -> u32
     }
 }
 
-/// The same in a byte order that is known.
+/// How many system-dependent messages a file of this byte order has.
 pub(crate) fn count_in(order: Order, bytes: &[u8]) -> u32
     ensures count { result ≡ system_count order bytes.now }
     ensures long { 0 < result → 48 ≤ length bytes.now }
 {
-    if bytes.len() < 48 || word(order, bytes, 4) & 0xffff == 0 {
+    if bytes.len() < LONG_HEADER_LEN || word(order, bytes, REVISION) & 0xffff == 0 {
         return 0;
     }
-    let count = word(order, bytes, 36);
+    let count = word(order, bytes, SYSTEM_COUNT);
     let table_len = 4 * count as usize;
-    if word(order, bytes, 40) as usize + table_len > bytes.len()
-        || word(order, bytes, 44) as usize + table_len > bytes.len()
+    if word(order, bytes, SYSTEM_ORIGINALS) as usize + table_len > bytes.len()
+        || word(order, bytes, SYSTEM_TRANSLATIONS) as usize + table_len > bytes.len()
     {
         return 0;
     }
@@ -62,7 +78,7 @@ pub fn expand<'b>(
     }
 }
 
-/// The same in a byte order that is known.
+/// Completes a system-dependent message of a file of this byte order, as `expand` does.
 pub(crate) fn expand_in<'b>(
     order: Order,
     bytes: &'b [u8],
@@ -77,8 +93,10 @@ pub(crate) fn expand_in<'b>(
         return Err(Missing::Absent);
     }
     let index = 4 * index as usize;
-    let original = word(order, bytes, word(order, bytes, 40) as usize + index);
-    let translation = word(order, bytes, word(order, bytes, 44) as usize + index);
+    let originals = word(order, bytes, SYSTEM_ORIGINALS) as usize;
+    let translations = word(order, bytes, SYSTEM_TRANSLATIONS) as usize;
+    let original = word(order, bytes, originals + index);
+    let translation = word(order, bytes, translations + index);
     match put_strings(order, bytes, texts, original, translation, room) {
         Ok(ends) => Ok(ends),
         Err(Missing::Absent) => Err(Missing::Absent),

@@ -7,6 +7,12 @@ ghost use Rattle.mo_expand.specs.Segments.{terminated_part, part, inserted};
 use crate::platform_text::{PlatformText, text_of};
 use mo_file::{Order, word};
 
+/// Where the file header has how many segments of system-dependent strings there are.
+const SEGMENT_COUNT: usize = 28;
+
+/// Where it has the offset of their table.
+const SEGMENTS: usize = 32;
+
 /// The bytes from an offset on without the NUL that is the last of them, where the file has them.
 pub(crate) fn terminated_part(bytes: &[u8], start: usize, len: u32) -> Option<&[u8]>
     requires { start < 2 ^ 63 }
@@ -46,8 +52,8 @@ pub(crate) fn inserted<'t>(
     requires { 48 ≤ length bytes.now }
     ensures { option_copied result ≡ inserted order bytes.now texts.now reference }
 {
-    let at = word(order, bytes, 32) as usize + 8 * reference as usize;
-    if reference >= word(order, bytes, 28) || at + 8 > bytes.len() {
+    let at = word(order, bytes, SEGMENTS) as usize + 8 * reference as usize;
+    if reference >= word(order, bytes, SEGMENT_COUNT) || at + 8 > bytes.len() {
         return None;
     }
     let start = word(order, bytes, at + 4) as usize;

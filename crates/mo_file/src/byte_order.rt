@@ -49,7 +49,7 @@ pub(crate) trait FileOrder: ByteOrder {
 
     ghost order: { Order };
 
-    /// The same as a value.
+    /// This byte order as a value.
     fn order() -> Order
         ensures { result ≡ order };
 

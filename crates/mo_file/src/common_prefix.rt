@@ -25,7 +25,7 @@ pub(crate) fn common_prefix_len(stop: u8, first: &[u8], second: &[u8]) -> usize
     }
 }
 
-/// The same for texts whose common prefix may be long, such as two rests of a file: texts of 32
+/// The length of that common prefix where it may be long, as of two rests of a file: texts of 32
 /// bytes and more are compared 32 bytes at a time.
 #[inline(always)]
 pub(crate) fn long_common_prefix_len(stop: u8, first: &[u8], second: &[u8]) -> usize
@@ -39,7 +39,7 @@ pub(crate) fn long_common_prefix_len(stop: u8, first: &[u8], second: &[u8]) -> u
     }
 }
 
-/// The same within the first `len` bytes, compared `LANES` at a time. The last group ends at `len`,
+/// The length of that common prefix within the first `len` bytes, compared `LANES` at a time. The last group ends at `len`,
 /// so it may begin with bytes of the group before it.
 #[inline(always)]
 fn common_prefix_within<const LANES: usize>(

@@ -23,7 +23,7 @@ pub(crate) fn range_in<O: FileOrder>(bytes: &[u8], table: u32, i: u32) -> Range<
     start..start + len
 }
 
-/// The same in the byte order of a file, which is asked for once.
+/// Where the string that entry `i` of a table describes stands, in a file of this byte order.
 #[inline(always)]
 pub(crate) fn range_at(order: Order, bytes: &[u8], table: u32, i: u32) -> Range<usize>
     requires { table + 8 * i + 8 ≤ length bytes.now }
@@ -50,7 +50,7 @@ pub(crate) fn rest_in<O: FileOrder>(header: FileHeader, bytes: &[u8], i: u32) ->
     &bytes[range_in::<O>(bytes, header.originals, i).start..]
 }
 
-/// The same in the byte order of the file.
+/// The rest of the file from the original of message `i` on, in the byte order of its header.
 #[inline(always)]
 pub(crate) fn rest_at(header: FileHeader, bytes: &[u8], i: u32) -> &[u8]
     requires read { IsHeader header bytes.now }

@@ -112,7 +112,7 @@ pub fn lay_out<P: StringPair>(order: Order, file: &mut [u8], pairs: &[P])
     }
 }
 
-/// The same in the byte order of the type.
+/// Lays out the file of these pairs in the byte order of the type.
 fn lay_out_in<O: FileOrder, P: StringPair>(file: &mut [u8], pairs: &[P])
     requires fits { length (layout O.order (map P.message pairs.now)) < 2 ^ 32 }
     requires room { length (layout O.order (map P.message pairs.now)) ≤ length file.old }

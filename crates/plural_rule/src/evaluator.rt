@@ -14,7 +14,7 @@ use crate::steps::Steps;
 /// to set up.
 const TINY: usize = 16;
 
-/// The same for the next larger one.
+/// The most instructions of a program that runs with the next larger stack.
 const SHORT: usize = 48;
 
 /// The most instructions of a program that runs with little more of the machine's stack.
@@ -46,7 +46,7 @@ pub fn evaluate(instructions: &[Instruction], count: u64, steps: &mut Steps) -> 
 /// values it takes, and how many instructions it skips.
 type Effect = (Option<u64>, usize, u16);
 
-/// The same with room for `N` values: half of the instructions suffice, since an operator takes
+/// The value of the expression at `count`, with room for `N` values: half of the instructions suffice, since an operator takes
 /// two.
 ///
 /// The newest value stands beside the array, whose first value is none of the program's.

@@ -162,7 +162,7 @@ pub(crate) fn parse(text: &[u8], room: &mut Room) -> Option<usize>
     }
 }
 
-/// The same with room for `N` operators that wait.
+/// Parses an expression with room for `N` operators that wait.
 #[inline(never)]
 fn parse_within<const N: usize>(text: &[u8], room: &mut Room) -> Option<usize>
     requires room { length text.now ≤ N }

@@ -144,7 +144,7 @@ impl Rule {
         );
     }
 
-    /// The same with the program at the beginning of `room`, as [`evaluate`] takes it.
+    /// The rule of a header, with its program at the beginning of `room`, as [`evaluate`] takes it.
     #[inline(never)]
     pub fn parse_into(header: &[u8], room: &mut [Instruction; EXPRESSION_LIMIT]) -> ParsedRule
         ensures rule { IsRuleOf expression_limit header.now (rule_in result room.new) }

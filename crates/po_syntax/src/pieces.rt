@@ -189,7 +189,7 @@ impl<'a> Pieces<'a> {
         })
     }
 
-    /// The same lines once more.
+    /// The lines that are left once more.
     pub fn copy(&self) -> Pieces<'a>
         ensures { result ≡ self.now }
     {
