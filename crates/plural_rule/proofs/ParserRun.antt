@@ -19,7 +19,7 @@ use Rattle.plural_rule.specs.Internal.ShiftReduce.{State, Want, Have, step, fini
 use Rattle.plural_rule.specs.PluralRule.{expression_limit}
 use Rattle.plural_rule.specs.Internal.ParserState.{Held, held, Represents, Answers, HoldsTree, HoldsExpression, most_added}
 use Rattle.plural_rule.specs.declared.instruction.Instruction.{Instruction}
-use Rattle.plural_rule.specs.declared.parts.Parser.{Parser}
+use Rattle.plural_rule.specs.declared.parser_state.Parser.{Parser}
 use Rattle.plural_rule.proofs.Complete.{complete}
 use Rattle.plural_rule.proofs.Sound.{sound}
 use Rattle.plural_rule.proofs.Lexing.{first_byte, Lexes-token, Lexes-blank, Lexes-nothing}

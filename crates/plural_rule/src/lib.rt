@@ -9,7 +9,7 @@
 //! computes its value at a count, with a counter that each step takes ([`Steps`]).
 //!
 //! The modules in reading order: `operator`, `token`, `lexer`, `steps`, `instruction`, `pending`,
-//! `parts`, `parser`, `evaluator`, `header`, `rule`, `laws`.
+//! `parser_state`, `parser`, `evaluator`, `header`, `rule`, `laws`.
 
 #![tactic(auto)]
 
@@ -20,7 +20,7 @@ pub mod laws;
 mod lexer;
 mod operator;
 mod parser;
-mod parts;
+mod parser_state;
 mod pending;
 mod rule;
 mod steps;

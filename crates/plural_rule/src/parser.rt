@@ -25,7 +25,7 @@ ghost use Rattle.plural_rule.specs.PluralRule.{expression_limit};
 
 use crate::instruction::Instruction;
 use crate::lexer;
-use crate::parts::{Parser, Room, begin, complete, push, push_branch, push_numeral, skip_operand};
+use crate::parser_state::{Parser, Room, begin, complete, push, push_branch, push_numeral, skip_operand};
 use crate::pending::{Pending, newest, wait};
 use crate::token::Token;
 

@@ -4,7 +4,7 @@ ghost use Rattle.plural_rule.specs.Internal.Pending.{binds, pending_of, within, 
 
 use crate::instruction::Instruction;
 use crate::operator::Operator;
-use crate::parts::Parser;
+use crate::parser_state::Parser;
 
 /// What waits for its last operand, with the index at which its instructions begin.
 #[derive(Clone, Copy, Drop)]

@@ -8,7 +8,7 @@ ghost use Rattle.plural_rule.specs.Internal.ParserState.{HoldsRule};
 
 use crate::evaluator::evaluate;
 use crate::instruction::Instruction;
-use crate::parts::Room;
+use crate::parser_state::Room;
 use crate::steps::Steps;
 use crate::{header, lexer, parser};
 use arrayvec::ArrayVec;

@@ -2,7 +2,7 @@
 ghost use Rattle.std.specs.Prelude.{◌≡◌};
 ghost use Rattle.process.specs.Answers.{is_for_writing, kind_of, make_fault, no_link, rights_of};
 
-use crate::parts::cut;
+use crate::cutting::cut;
 use runs::{FileKind, MakeFault, OutputFault, Owner, Rights};
 use std::io::ErrorKind;
 

@@ -4,7 +4,7 @@ ghost use Rattle.std.specs.Prelude.{◌≡◌, ◌==◌, ◌⊎◌, ◌+◌, ◌
 ghost use Rattle.std.specs.List.{slice_split};
 ghost use Rattle.process.specs.Values.{AreArguments, AreEntries, AreValues, HasNoText};
 
-use crate::parts::cut;
+use crate::cutting::cut;
 use crate::value::{Value, ask};
 use runs::{InputFault, ProgramFault};
 use std::alloc::{AllocError, Global};

@@ -2,19 +2,19 @@
 //! how a command line is run, and how the program ends. Nothing here names the system itself: what
 //! it answers comes through traits, or as values.
 //!
-//! The modules in reading order: `parts`, `answers`, `system_calls`, `reading`, `value`,
+//! The modules in reading order: `cutting`, `answers`, `system_calls`, `reading`, `value`,
 //! `environment`, `source`, `opened`, `files`, `streams`, `options`, `endings`, `program`,
 //! `starting`.
 
 #![tactic(auto)]
 
 mod answers;
+mod cutting;
 mod endings;
 mod environment;
 mod files;
 mod opened;
 mod options;
-mod parts;
 mod program;
 mod reading;
 mod source;

@@ -2,7 +2,7 @@
 use Rattle.std.specs.Prelude.{◌≡◌, ℕ, ◌+◌, ◌-◌, ◌%◌, ◌^◌, nat_lt, Bool, true, false, List, [], ◌∷◌, ◌++◌, length, take, ◌≤◌, Option, Some}
 use Rattle.std.specs.Prelude.{None, if◌then◌else◌, slice_set, slice_index_or}
 use Rattle.plural_rule.specs.declared.instruction.Instruction.{Instruction}
-use Rattle.plural_rule.specs.declared.parts.Parser.{Parser}
+use Rattle.plural_rule.specs.declared.parser_state.Parser.{Parser}
 use Rattle.plural_rule.specs.declared.pending.Pending.{Pending}
 use Rattle.plural_rule.specs.declared.pending.Pending.TheVariants.{Not as NotPending, Open as OpenPending}
 use Rattle.plural_rule.specs.declared.pending.Pending.TheVariants.{Binary as BinaryPending, Question as QuestionPending}

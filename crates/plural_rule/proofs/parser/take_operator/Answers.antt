@@ -6,7 +6,7 @@ use Rattle.plural_rule.specs.Instruction.{choose_instruction, jump_instruction}
 use Rattle.plural_rule.specs.Program.{branch_then, is_lazy}
 use Rattle.plural_rule.specs.Internal.ShiftReduce.{WaitBinary, WaitQuestion}
 use Rattle.plural_rule.specs.declared.pending.Pending.TheVariants.{Colon}
-use Rattle.plural_rule.specs.declared.parts.Parser.{Parser}
+use Rattle.plural_rule.specs.declared.parser_state.Parser.{Parser}
 use Rattle.plural_rule.specs.Internal.Pending.{entries_in, weight}
 use Rattle.plural_rule.specs.Internal.ParserState.{held, most_added}
 use Rattle.plural_rule.proofs.ParserSteps.{short, waits, answers-colon, answers-close}

@@ -1,7 +1,7 @@
 use Rattle.std.proofs.Common.{refl, arith}
 use Rattle.plural_rule.specs.Internal.ParserState.{counted}
 use Rattle.plural_rule.proofs.ParserSteps.{edited-within}
-use Rattle.plural_rule.proofs.parts.begin.Goals as goal
+use Rattle.plural_rule.proofs.parser_state.begin.Goals as goal
 
 pub returns-then-index-len : goal.returns-then-index-len
 returns-then-index-len c =

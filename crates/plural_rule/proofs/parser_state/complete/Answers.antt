@@ -1,8 +1,8 @@
 use Rattle.std.proofs.Common.{◌≡◌, ◌+◌, ◌-◌, length, take, if◌then◌else◌, refl, sym, ◌∙◌, arith}
 use Rattle.plural_rule.specs.Program.{is_lazy}
 use Rattle.plural_rule.specs.Internal.ParserState.{skipping}
-use Rattle.plural_rule.proofs.parts.complete.Goals as goal
-use Rattle.plural_rule.proofs.parts.complete.Goals.{then-is_lazy, else-is_lazy}
+use Rattle.plural_rule.proofs.parser_state.complete.Goals as goal
+use Rattle.plural_rule.proofs.parser_state.complete.Goals.{then-is_lazy, else-is_lazy}
 
 pub push-requires : goal.push-requires
 push-requires c = omega (arith, rw c.in-Not.is at c.requires)

@@ -2,7 +2,7 @@ use Rattle.std.proofs.Common.{◌≡◌, ◌∙◌, ◌+◌, ◌-◌, ap₂, ref
 use Rattle.std.proofs.lemmas.List.{length-take-le}
 use Rattle.plural_rule.specs.Internal.ParserState.{skipping, with_skip}
 use Rattle.plural_rule.proofs.ParserSteps.{edited-within}
-use Rattle.plural_rule.proofs.parts.skip_operand.Goals as goal
+use Rattle.plural_rule.proofs.parser_state.skip_operand.Goals as goal
 
 pub returns-then-index-len : goal.returns-then-index-len
 returns-then-index-len c =
