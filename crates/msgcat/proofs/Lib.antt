@@ -9,7 +9,7 @@ pub mod Messages
 pub mod Sets
 pub mod SeenForms
 pub mod FormsLeft
-pub mod Inputs
+pub mod ListedInputs
 pub mod Views
 pub mod Steps
 pub mod Valid

@@ -12,7 +12,7 @@ use Rattle.msgcat.specs.Grouping.{IsDefinition, IsGroup}
 use Rattle.msgcat.specs.MergedEntry.{merged_entry, joined_forms, translations, first_translated}
 use Rattle.msgcat.specs.Merged.{is_kept, messages}
 use Rattle.msgcat.specs.MergeLaws.{IsInput, OneDefinitionStays, MergedAreEntries, MergedCanStand, FormsAreOfOne}
-use Rattle.msgcat.proofs.Inputs.{definitions_more}
+use Rattle.msgcat.proofs.ListedInputs.{definitions_more}
 use Rattle.msgcat.proofs.Valid.{merged_is_entry, first_with_keeps}
 use Rattle.msgcat.proofs.GroupsMerged.{definitions_valid, groups_valid}
 use Rattle.msgcat.proofs.OneDefinition.{one_definition}
