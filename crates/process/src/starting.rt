@@ -18,7 +18,7 @@ use std::str::FromStr;
 
 /// Runs the program over a system.
 pub fn start<S: SystemCalls + Copy>(alloc: Global, system: S) -> Ending
-    ensures { Starts ⟦<u32 as FromStr>⟧.from_str_gives (S.argument system)
+    ensures { Starts (S.calls system) ⟦<u32 as FromStr>⟧.from_str_gives (S.argument system)
         (answers_of (λ name reading. ReadsFile (S.opens system name) reading)
         (λ reading. ReadsInput (S.input system) reading) (λ name value. S.value system name value)
         (λ entries. AreEntries (S.entry system)
