@@ -145,12 +145,12 @@ key-pair pairs i d lt = rw (keys-pairs pairs) (get_or-map (λ q. key_of q.origin
 length-keys : (pairs : List Pair) → length (keys (messages_of_pairs pairs)) ≡ length pairs
 length-keys pairs = simp length-map
 
-is_less : (o : Ordering) → true ≡ is_lt o → o ≡ Less
+pub is_less : (o : Ordering) → true ≡ is_lt o → o ≡ Less
 is_less Less is = refl
 is_less Equal is = cc
 is_less Greater is = cc
 
-isnt_less : (o : Ordering) → false ≡ is_lt o → o ≢ Less
+pub isnt_less : (o : Ordering) → false ≡ is_lt o → o ≢ Less
 isnt_less Less is = cc
 isnt_less Equal is = λ less. cc
 isnt_less Greater is = λ less. cc

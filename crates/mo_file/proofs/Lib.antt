@@ -1,4 +1,5 @@
 pub mod CommonPrefixLemmas
+pub mod CutLemmas
 pub mod KeyComparison
 pub mod FaultLemmas
 pub mod FaultTotality

@@ -14,6 +14,7 @@ use Rattle.mo_file.specs.Message.{Message, originals, translations}
 use Rattle.mo_file.specs.Word.{word_at, word_bytes}
 use Rattle.mo_file.specs.FileHeader.{magic, HasMagicOf, revision, message_count, originals_table, translations_table}
 use Rattle.mo_file.specs.Key.{is_nul, key_of, query_key, key_cmp, keys, key_at, AreRising}
+use Rattle.mo_file.specs.MessageParts.{is_eot, context_of, id_of, forms, plural_of}
 use Rattle.mo_file.specs.Layout.{terminated, table, header, originals_offset, translations_offset, layout}
 use Rattle.mo_file.specs.StringTable.{offset_at, end_at, string_at, original_at, translation_at, message_at, messages_of}
 use Rattle.mo_file.specs.Fault.{IsOutside, IsUnterminated, IsNotRising, HasFaultIn, HasFault, kind, index, IsBefore, IsFirstFault, comparisons_before}
@@ -45,6 +46,14 @@ pub keys_of_messages : (map is_nul (0 ∷ 4 ∷ 48 ∷ []) ≡ true ∷ false �
     × (keys (message_with_plural ∷ two_messages) ≡ codes "a" ∷ codes "a" ∷ codes "b" ∷ [])
     × (key_at (codes "a" ∷ codes "b" ∷ []) 1 ≡ codes "b")
 keys_of_messages = (refl, refl, refl, refl, refl, refl)
+
+-- an EOT ends a context, and a NUL each other part
+pub parts_of_strings : (map is_eot (0 ∷ 4 ∷ 48 ∷ []) ≡ false ∷ true ∷ false ∷ [])
+    × (map context_of ((99 ∷ 4 ∷ 97 ∷ 4 ∷ []) ∷ (4 ∷ []) ∷ codes "a" ∷ []) ≡ Some (codes "c") ∷ Some [] ∷ None ∷ [])
+    × (map id_of ((99 ∷ 4 ∷ 97 ∷ 4 ∷ []) ∷ (4 ∷ []) ∷ codes "a" ∷ []) ≡ (97 ∷ 4 ∷ []) ∷ [] ∷ codes "a" ∷ [])
+    × (forms (120 ∷ 4 ∷ 0 ∷ 0 ∷ 121 ∷ []) ≡ (120 ∷ 4 ∷ []) ∷ [] ∷ (121 ∷ []) ∷ [])
+    × (map plural_of ((97 ∷ 0 ∷ 98 ∷ 0 ∷ 99 ∷ []) ∷ codes "a" ∷ []) ≡ Some (codes "b") ∷ None ∷ [])
+parts_of_strings = (refl, refl, refl, refl, refl)
 
 next_rises : (i : ℕ) → i + 1 < 2
     → key_cmp (key_at (codes "a" ∷ codes "b" ∷ []) i) (key_at (codes "a" ∷ codes "b" ∷ []) (i + 1)) ≡ Less

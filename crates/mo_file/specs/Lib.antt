@@ -1,5 +1,6 @@
 pub mod Message
 pub mod Key
+pub mod MessageParts
 pub mod Word
 pub mod FileHeader
 pub mod StringTable

@@ -5,10 +5,8 @@ ghost use Rattle.std.specs.Option.{option_copied};
 ghost use Rattle.mo_file.specs.Key.{key_cmp, key_of, query_key};
 
 use crate::common_prefix::{byte_at, common_prefix_len, long_common_prefix_len};
+use crate::message_parts::EOT;
 use std::cmp::Ordering;
-
-/// The byte that stands between a context and a msgid.
-const EOT: u8 = 4;
 
 /// Compares the key of an original with the key that a query asks for, by unsigned bytes; a prefix
 /// comes before what is longer. The query's key is `id` alone, or the context, a byte 4 (EOT) and

@@ -5,10 +5,12 @@
 //! [`build`] lays out a file, [`build_sorted`] one of borrowed strings whose keys are known to
 //! rise, and [`lay_out`] the same in memory of the caller. [`MoView::open`] checks a file, and the
 //! view then reads its messages, which stand in rising order of their keys. A [`Meter`] counts the
-//! looks at originals, so that a search can promise how few it needs.
+//! looks at originals, so that a search can promise how few it needs. [`original_parts`],
+//! [`key_parts`] and [`split_form`] take originals and translations apart.
 //!
 //! To read a file: `fault`, `byte_order`, `file_header`, `strings`, `common_prefix`, `key`,
-//! `meter`, `checking`, `view`. To build one: `pairs`, `writing`, `building`. Then `laws`.
+//! `meter`, `checking`, `view`, `message_parts`. To build one: `pairs`, `writing`, `building`. Then
+//! `laws`.
 
 #![tactic(auto)]
 
@@ -20,6 +22,7 @@ mod fault;
 mod file_header;
 mod key;
 mod laws;
+mod message_parts;
 mod meter;
 mod pairs;
 mod strings;
@@ -36,6 +39,7 @@ pub use laws::{
     no_fault_of_mo_file, no_hash_table_is_laid_out, one_first_fault, one_message_list,
     other_revisions_are_refused,
 };
+pub use message_parts::{EOT, NUL, first_part, key_parts, original_parts, split_form};
 pub use meter::Meter;
 pub use pairs::{BorrowedPair, Pair};
 pub use view::MoView;
