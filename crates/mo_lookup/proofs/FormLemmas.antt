@@ -10,7 +10,7 @@ use Rattle.std.proofs.lemmas.Option.{get_or_from_slice_get, slice_get-get_or, sl
 use Rattle.memchr.specs.Find.{NoneBefore, Nowhere, Passes, is_byte}
 use Rattle.mo_file.specs.Key.{is_nul}
 use Rattle.mo_lookup.specs.Answer.{form_at, selected_form}
-use Rattle.mo_lookup.specs.CatalogView.{forms}
+use Rattle.mo_file.specs.MessageParts.{forms}
 use Rattle.mo_lookup.specs.Place.{IsFormAt}
 
 -- a translation with a NUL: its first form stands before it, the others are the forms of what

@@ -15,7 +15,8 @@ use Rattle.mo_file.specs.Message.{Message, translations}
 use Rattle.mo_file.specs.Key.{AreRising, key_of, keys, key_at, key_cmp}
 use Rattle.mo_lookup.specs.Index.{IsIndexOf}
 use Rattle.mo_lookup.specs.Answer.{form_at}
-use Rattle.mo_lookup.specs.CatalogView.{forms, header_text, translation_under}
+use Rattle.mo_file.specs.MessageParts.{forms}
+use Rattle.mo_lookup.specs.CatalogView.{header_text, translation_under}
 use Rattle.mo_lookup.proofs.RisingLemmas.{equal_is_same, less_is_other, rising_between}
 
 -- what is read after the end of a list of messages

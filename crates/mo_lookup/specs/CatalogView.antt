@@ -1,12 +1,13 @@
 -- What the messages of an MO file answer (GNU gettext manual, "The Format of GNU MO Files" and
 -- "Plural forms").
 use Rattle.std.specs.Prelude.{ℕ, List, [], Option, None, option_map, if◌then◌else◌}
-use Rattle.std.specs.List.{find, slice_split}
+use Rattle.std.specs.List.{find}
 use Rattle.std.specs.Option.{option_map_or}
 use Rattle.std.specs.Str.{bytes_eq}
 use Rattle.plural_rule.specs.PluralRule.{RuleView, IsRuleOf, expression_limit}
-use Rattle.mo_file.specs.Key.{AreRising, is_nul, key_of, keys, query_key}
+use Rattle.mo_file.specs.Key.{AreRising, key_of, keys, query_key}
 use Rattle.mo_file.specs.Message.{Message}
+use Rattle.mo_file.specs.MessageParts.{forms}
 use Rattle.mo_lookup.specs.Query.{Query, can_be_key}
 use Rattle.mo_lookup.specs.Answer.{AnswerView, form_at, answer}
 
@@ -18,10 +19,6 @@ pub record CatalogView : Type 0 where
 -- the translation that stands under a key: of the first message with that key, or none
 abbrev pub translation_under : List ℕ → List Message → Option (List ℕ)
 translation_under key messages = option_map (λ m. m.translation) (find (λ m. bytes_eq (key_of m.original) key) messages)
-
--- the forms of a translation: the parts between its NULs, one at least, which may be empty
-abbrev pub forms : List ℕ → List (List ℕ)
-forms translation = slice_split is_nul translation
 
 -- the header text: the first form under the empty key, or the empty text
 abbrev pub header_text : List Message → List ℕ

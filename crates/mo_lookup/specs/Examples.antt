@@ -15,7 +15,7 @@ use Rattle.mo_lookup.specs.Query.{Query, query, is_separator, has_no_separator, 
 use Rattle.mo_lookup.specs.declared.answer.Answer.{Answer}
 use Rattle.mo_lookup.specs.Answer.{AnswerView, answer_view, form_at, selected_form, untranslated_text, untranslated, translated, answer}
 use Rattle.mo_lookup.specs.Comparisons.{half, keys_left, comparisons_within, comparisons, query_comparisons}
-use Rattle.mo_lookup.specs.CatalogView.{CatalogView, translation_under, forms, header_text, IsCatalogView, forms_found, answered}
+use Rattle.mo_lookup.specs.CatalogView.{CatalogView, translation_under, header_text, IsCatalogView, forms_found, answered}
 
 pub halvings_are : (halvings_within 10 8 ∷ halvings_within 2 8 ∷ [] ≡ 4 ∷ 2 ∷ [])
     × (map search_bound (0 ∷ 1 ∷ 2 ∷ 3 ∷ 4 ∷ 1000 ∷ []) ≡ 0 ∷ 1 ∷ 2 ∷ 2 ∷ 3 ∷ 10 ∷ [])
@@ -90,12 +90,11 @@ pub messages_are_found :
     (query_comparisons two_messages (of_count 2) ∷ query_comparisons two_messages unclean ∷ [] ≡ 1 ∷ 0 ∷ [])
     × (map (λ key. translation_under key two_messages) (codes "a" ∷ [] ∷ codes "b" ∷ []) ≡ Some (120 ∷ 0 ∷ 121 ∷ [])
     ∷ Some (codes "Language: de\n") ∷ None ∷ [])
-    × (forms (120 ∷ 4 ∷ 0 ∷ 0 ∷ 121 ∷ []) ≡ (120 ∷ 4 ∷ []) ∷ [] ∷ (121 ∷ []) ∷ [])
     × (header_text two_messages ∷ header_text [] ∷ [] ≡ codes "Language: de\n" ∷ [] ∷ [])
     × (forms_found two_messages (of_count 1) ∷ forms_found two_messages unclean ∷ []
     ≡ Some ((120 ∷ []) ∷ (121 ∷ []) ∷ []) ∷ None ∷ [])
 unfolding comparisons
-messages_are_found = (refl, refl, refl, refl, refl)
+messages_are_found = (refl, refl, refl, refl)
 
 abbrev pub catalogue : CatalogView
 catalogue = record { messages = two_messages; rule = none_apart }

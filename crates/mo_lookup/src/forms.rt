@@ -6,11 +6,11 @@ ghost use Rattle.plural_rule.specs.Expression.{nodes};
 ghost use Rattle.plural_rule.specs.PluralRule.{expression_limit};
 ghost use Rattle.plural_rule.specs.Program.{program as program_of, tree_of};
 ghost use Rattle.mo_lookup.specs.Answer.{form_at, translated};
-ghost use Rattle.mo_lookup.specs.CatalogView.{forms};
+ghost use Rattle.mo_file.specs.MessageParts.{forms};
 ghost use Rattle.mo_lookup.specs.Place.{IsFormAt};
 ghost use Rattle.mo_lookup.specs.Query.{given};
 
-use mo_file::find_byte;
+use mo_file::{NUL, find_byte};
 use plural_rule::{Instruction, Steps, evaluate};
 use std::ops::Range;
 
@@ -19,7 +19,7 @@ pub(crate) fn first_form(translation: &[u8], start: usize) -> Range<usize>
     requires { start ≤ length translation.now }
     ensures { IsFormAt translation.now result.start result.end (form_at (forms (drop start translation.now)) 0) }
 {
-    match find_byte(0, &translation[start..]) {
+    match find_byte(NUL, &translation[start..]) {
         Some(len) => start..start + len,
         None => start..translation.len(),
     }
@@ -34,7 +34,7 @@ fn form(translation: &[u8], index: u64) -> Option<Range<usize>>
 {
     let mut start = 0;
     for _ in 0..index {
-        start += find_byte(0, &translation[start..])? + 1;
+        start += find_byte(NUL, &translation[start..])? + 1;
     }
     Some(first_form(translation, start))
 }

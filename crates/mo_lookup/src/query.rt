@@ -7,14 +7,14 @@ ghost use Rattle.mo_lookup.specs.Answer.{untranslated_text};
 ghost use Rattle.mo_lookup.specs.Place.{untranslated_place};
 
 use crate::place::Place;
-use mo_file::find_byte;
+use mo_file::{EOT, NUL, find_byte};
 
 /// Whether a text contains neither a NUL, which ends a string of an MO file, nor an EOT (4), which
 /// ends a context.
 fn has_no_separator(text: &[u8]) -> bool
     ensures { result ≡ has_no_separator text.now }
 {
-    find_byte(0, text).is_none() && find_byte(4, text).is_none()
+    find_byte(NUL, text).is_none() && find_byte(EOT, text).is_none()
 }
 
 /// Whether neither the context nor the msgid contains a NUL or an EOT; where one does, the query

@@ -6,7 +6,7 @@ use Rattle.mo_file.specs.Layout.{layout}
 use Rattle.mo_file.specs.Message.{Message}
 use Rattle.mo_file.specs.MoFile.{IsMoFile}
 use Rattle.mo_lookup.specs.Answer.{form_at}
-use Rattle.mo_lookup.specs.CatalogView.{forms}
+use Rattle.mo_file.specs.MessageParts.{forms}
 use Rattle.mo_lookup.specs.Query.{can_be_key}
 use Rattle.pokit_c.specs.Sorted.{AnswersAlike}
 use Rattle.pokit_c.proofs.sorted_file.pokit_sorted_file.Goals as goal
