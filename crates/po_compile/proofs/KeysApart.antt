@@ -14,6 +14,7 @@ use Rattle.std.proofs.lemmas.List.{get_or-map, get_or_default, length-map, get_o
 use Rattle.std.proofs.lemmas.List.Kept.{AllPairs-filter, AllPairs-cons}
 use Rattle.std.proofs.lemmas.Map.Lookups.{exact_bytes}
 use Rattle.mo_file.specs.Key.{AreRising, key_cmp, query_key}
+use Rattle.mo_file.proofs.BuildLemmas.{is_less, isnt_less}
 use Rattle.mo_lookup.proofs.RisingLemmas.{less_is_other, rising_between}
 use Rattle.po_compile.specs.Internal.Rows.{AllApart, HasOneHeader, InputMessage, all_messages, has_no_key, in_input_message, input_keys, input_message, is_joined, joined_messages, message_keys, row_view, row_key}
 use Rattle.std.specs.List.{AllZip, list_any}
@@ -48,16 +49,6 @@ not_above : (o : Ordering) → is_lt (ordering_reverse o) ≡ false → o ≢ Eq
 not_above Less h other = refl
 not_above Equal h other = absurd (other refl)
 not_above Greater h other = cc
-
-is_less : (o : Ordering) → true ≡ is_lt o → o ≡ Less
-is_less Less is = refl
-is_less Equal is = cc
-is_less Greater is = cc
-
-isnt_less : (o : Ordering) → false ≡ is_lt o → o ≢ Less
-isnt_less Less is = λ less. cc
-isnt_less Equal is = λ less. cc
-isnt_less Greater is = λ less. cc
 
 module _ {X : Type 0} (key : X → List ℕ) where
   -- the key of the first is below that of the second

@@ -1,6 +1,6 @@
 -- The messages of entries mean these entries: the one message under a key is found in whatever order the
 -- messages stand, and is taken apart again.
-use Rattle.std.proofs.Common.{◌≡◌, ◌≢◌, ◌⊎◌, ℕ, ◌<◌, ◌≤◌, Bool, true, false, cond, List, [], ◌∷◌, Option, None, Some, refl, sym, ap, ap₂, ◌∙◌, inl, inr, length, get_or, arith, All, Contains, find, map, IsPermutation, ◌==◌, ◌++◌, subst, IfSome, append_assoc, option_to_list, slice_get, append-nil}
+use Rattle.std.proofs.Common.{◌≡◌, ◌≢◌, ◌⊎◌, ℕ, ◌<◌, ◌≤◌, Bool, true, false, cond, List, [], ◌∷◌, Option, None, Some, refl, sym, ap, ap₂, ◌∙◌, inl, inr, length, get_or, arith, All, Contains, find, map, IsPermutation, ◌==◌, ◌++◌, subst, IfSome, append_assoc, option_to_list, append-nil}
 use Rattle.std.specs.Str.{bytes_eq}
 use Rattle.std.proofs.lemmas.Bool.{cases_lt, and_parts, not-true, or_parts}
 use Rattle.std.proofs.lemmas.List.{get_or_default, length-map}
@@ -11,16 +11,18 @@ use Rattle.std.proofs.lemmas.Option.{get_or_from_slice_get, none-some, slice_get
 use Rattle.std.proofs.lemmas.List.Sorted.{All-permutation, Contains-permutation, IsPermutation-map, IsPermutation-sym}
 use Rattle.std.proofs.lemmas.Slice.Eq.{bytes_eq-Decides}
 use Rattle.mo_file.specs.Message.{Message}
-use Rattle.mo_file.specs.Key.{AreRising, key_cmp, key_of, keys, query_key, is_nul}
+use Rattle.mo_file.specs.Key.{AreRising, key_cmp, key_of, keys, query_key}
 use Rattle.mo_lookup.proofs.RisingLemmas.{less_is_other}
 use Rattle.po_compile.proofs.KeysApart.{below_from_rising, apart_permuted, rising_apart}
 use Rattle.std.specs.Bool.{Decides, one_answer}
-use Rattle.std.specs.List.{list_any, join_with_byte, position_or_len, slice_split}
+use Rattle.std.specs.List.{list_any, join_with_byte, position_or_len}
 use Rattle.std.specs.Option.{option_map, option_map_or, option_eq, unwrap_or}
 use Rattle.std.proofs.lemmas.Bool.Decides.{Decides-eqb, Decides-and, Decides-like}
 use Rattle.mo_lookup.specs.Answer.{form_at, answer}
 use Rattle.mo_lookup.specs.Query.{Query, can_be_key, has_no_separator, is_separator}
-use Rattle.mo_lookup.specs.CatalogView.{translation_under, forms, header_text}
+use Rattle.mo_file.specs.MessageParts.{context_of, forms, id_of, plural_of}
+use Rattle.mo_file.proofs.CutLemmas.{first_all, plural_cut, plural_none}
+use Rattle.mo_lookup.specs.CatalogView.{translation_under, header_text}
 use Rattle.plural_rule.specs.PluralRule.{IsRuleOf, expression_limit}
 use Rattle.po_entry.specs.TextEntry.{TextEntry, quoted_texts, previous_texts}
 use Rattle.po_entry.specs.Bytes.{Lacks}
@@ -32,10 +34,9 @@ use Rattle.po_syntax.specs.ItemContents.{IsText}
 use Rattle.po_compile.specs.CompiledMessages.{original_of, translation_of, message_of, AreMessagesOf, plural_part}
 use Rattle.po_compile.specs.Meaning.{header_of}
 use Rattle.po_compile.specs.Headline.{MessagesMeanEntries}
-use Rattle.po_compile.proofs.TextLemmas.{key_of-plural_part, lacks_nul, query_key_lacks, query_key_is_one, slice_split-join}
+use Rattle.po_compile.proofs.TextLemmas.{context_back, id_back, key_of-plural_part, query_key_lacks, query_key_is_one, slice_split-join}
 use Rattle.std.proofs.Math.ListN.{get_or-map}
-use Rattle.std.proofs.lemmas.List.Splits.{slice_split_none, slice_split_at}
-use Rattle.po_compile.specs.MessageLaws.{MessagesHaveParts, MessagesDiffer}
+use Rattle.po_compile.specs.MessageLaws.{MessagesHaveParts, MessagesDiffer, TextsComeBack}
 use Rattle.po_entry.specs.Facts.Mapped.{find_map}
 
 -- what a search finds is in the list and passes the test
@@ -288,13 +289,9 @@ mean_entries entries messages valid are =
     }
 
 second_piece : (key : List ℕ) (plural : Option (List ℕ)) → Lacks 0 key → IfSome plural (Lacks 0)
-    → slice_get (slice_split is_nul (key ++ plural_part plural)) 1 ≡ plural
-second_piece key None lacks none = rw (append-nil key, slice_split_none is_nul key (lacks_nul key lacks)) refl
-second_piece key (Some plural) lacks some =
-    rw (
-      slice_split_at is_nul key 0 plural (lacks_nul key lacks) refl,
-      slice_split_none is_nul plural (lacks_nul plural some),
-    ) refl
+    → plural_of (key ++ plural_part plural) ≡ plural
+second_piece key None lacks none = ap plural_of (append-nil key) ∙ plural_none key lacks
+second_piece key (Some plural) lacks some = plural_cut key plural lacks plural (first_all plural some)
 
 pub messages_have_parts : MessagesHaveParts
 messages_have_parts entry valid =
@@ -304,6 +301,16 @@ messages_have_parts entry valid =
       plural = second_piece (query_key entry.context entry.id) entry.plural
           (query_key_lacks entry.context entry.id clean.context_nul clean.id_nul) clean.plural_nul;
       forms_are = forms-translation entry clean;
+    }
+
+pub texts_come_back : MessagesHaveParts → TextsComeBack
+texts_come_back have_parts entry valid =
+    let parts = have_parts entry valid in
+    record {
+      context = ap context_of parts.key ∙ context_back entry.context entry.id valid.context valid.id;
+      id = ap id_of parts.key ∙ id_back entry.context entry.id valid.context valid.id;
+      plural = parts.plural;
+      forms_are = parts.forms_are;
     }
 
 pub messages_differ : MessagesDiffer

@@ -1,42 +1,18 @@
 -- Keys, originals and translations take apart again what they are made of.
-use Rattle.std.proofs.Common.{◌≡◌, ◌≢◌, ℕ, ◌+◌, ◌<◌, true, false, List, [], ◌∷◌, ◌++◌, Option, None, Some, refl, sym, ap, ◌∙◌, length, get_or, take, arith, length-append, All, IfSome}
-use Rattle.std.proofs.Math.Seq.{take-append_seam}
-use Rattle.std.proofs.lemmas.List.{get_or-append-add, get_or_append_left}
-use Rattle.std.proofs.lemmas.List.Elements.{All-head, All-tail, All-cons, All-append, All-weaker}
-use Rattle.std.proofs.lemmas.List.Sums.{position_or_len_is}
-use Rattle.std.proofs.lemmas.List.Splits.{slice_split_none, slice_split_at}
-use Rattle.std.proofs.lemmas.Bool.{false_from_ne_true}
-use Rattle.std.proofs.lemmas.Bool.Decides.{Decides-eqb}
-use Rattle.std.specs.List.{slice_split, join_with_byte, position_or_len}
+use Rattle.std.proofs.Common.{◌≡◌, ◌≢◌, ℕ, ◌+◌, List, [], ◌∷◌, ◌++◌, Option, None, Some, append-nil, refl, sym, ap, ◌∙◌, length, get_or, arith, length-append, All, IfSome}
+use Rattle.std.proofs.lemmas.List.{get_or-append-add}
+use Rattle.std.proofs.lemmas.List.Elements.{All-head, All-tail, All-cons, All-append}
+use Rattle.std.specs.List.{slice_split, join_with_byte}
 use Rattle.mo_file.specs.Key.{is_nul, key_of, query_key}
+use Rattle.mo_file.specs.MessageParts.{context_of, id_of}
+use Rattle.mo_file.proofs.CutLemmas.{before_all, before_is, context_cut, context_none, id_all, id_cut, split_cut, split_none}
 use Rattle.po_entry.specs.Bytes.{Lacks}
 use Rattle.po_compile.specs.CompiledMessages.{plural_part}
 
-no_nul : (b : ℕ) → b ≢ 0 → is_nul b ≡ false
-no_nul b h = false_from_ne_true (is_nul b) (λ e. h ((Decides-eqb b 0).0 e))
-
-pub lacks_nul : (text : List ℕ) → Lacks 0 text → All (λ b. is_nul b ≡ false) text
-lacks_nul text lacks = All-weaker (λ b. b ≢ 0) (λ b. is_nul b ≡ false) no_nul text lacks
-
--- a key without a NUL, and nothing or a NUL and more after it
-prefix_of_key : (key rest : List ℕ) → Lacks 0 key
-    → ((length key < length (key ++ rest)) → is_nul (get_or (key ++ rest) (length key) 0) ≡ true)
-    → key_of (key ++ rest) ≡ key
-prefix_of_key key rest lacks ends =
-    let at : position_or_len is_nul (key ++ rest) ≡ length key =
-    position_or_len_is is_nul (key ++ rest) (length key) 0 (omega (arith, length-append key rest))
-    (λ k inside. ap is_nul (get_or_append_left key rest 0 k inside) ∙ no_nul (get_or key k 0) (lacks k 0 inside))
-    ends in
-    ap (λ n. take n (key ++ rest)) at ∙ take-append_seam key rest
-
 pub key_of-plural_part : (key : List ℕ) (plural : Option (List ℕ)) → Lacks 0 key
     → key_of (key ++ plural_part plural) ≡ key
-key_of-plural_part key None lacks = let nil : List ℕ =
-    [] in prefix_of_key key [] lacks (λ inside. absurd (omega (arith, length-append key nil)))
-key_of-plural_part key (Some plural) lacks =
-    prefix_of_key key (0 ∷ plural) lacks
-    (λ inside. ap is_nul (let e : length key ≡ length key + 0 = omega arith in
-    ap (λ n. get_or (key ++ 0 ∷ plural) n 0) e ∙ get_or-append-add key (0 ∷ plural) 0 0))
+key_of-plural_part key None lacks = ap key_of (append-nil key) ∙ before_all 0 key lacks
+key_of-plural_part key (Some plural) lacks = before_is 0 key plural lacks
 
 -- a key holds no NUL where its context and msgid hold none
 pub query_key_lacks : (context : Option (List ℕ)) (id : List ℕ) → IfSome context (Lacks 0) → Lacks 0 id
@@ -74,9 +50,18 @@ query_key_is_one (Some c) (Some d) i j lc ld li lj e = let s = split_at_eot c d 
 -- the pieces between the NULs of a translation are the forms
 pub slice_split-join : (form : List ℕ) (forms : List (List ℕ)) → All (Lacks 0) (form ∷ forms)
     → slice_split is_nul (join_with_byte 0 (form ∷ forms)) ≡ form ∷ forms
-slice_split-join form [] lacks =
-    slice_split_none is_nul form (lacks_nul form (All-head (Lacks 0) form [] lacks))
+slice_split-join form [] lacks = split_none 0 form (All-head (Lacks 0) form [] lacks)
 slice_split-join form (next ∷ forms) lacks =
-    slice_split_at is_nul form 0 (join_with_byte 0 (next ∷ forms))
-    (lacks_nul form (All-head (Lacks 0) form (next ∷ forms) lacks)) refl
+    split_cut 0 form (join_with_byte 0 (next ∷ forms)) (All-head (Lacks 0) form (next ∷ forms) lacks)
     ∙ ap (λ l. form ∷ l) (slice_split-join next forms (All-tail (Lacks 0) form (next ∷ forms) lacks))
+
+-- the context and the msgid of a key are those that it was made of
+pub context_back : (context : Option (List ℕ)) (id : List ℕ) → IfSome context (Lacks 4) → Lacks 4 id
+    → context_of (query_key context id) ≡ context
+context_back None id lacks lacks' = context_none id lacks'
+context_back (Some context) id lacks lacks' = context_cut context id lacks
+
+pub id_back : (context : Option (List ℕ)) (id : List ℕ) → IfSome context (Lacks 4) → Lacks 4 id
+    → id_of (query_key context id) ≡ id
+id_back None id lacks lacks' = id_all id lacks'
+id_back (Some context) id lacks lacks' = id_cut context id lacks

@@ -1,10 +1,10 @@
 -- Laws of the messages that entries are compiled to, and of the entries of texts.
-use Rattle.std.specs.Prelude.{◌≡◌, ◌↔◌, ◌<◌, ◌≤◌, ℕ, Bool, true, List, [], ◌∷◌, ◌++◌, All, length, slice_get}
-use Rattle.std.specs.List.{slice_split}
-use Rattle.mo_file.specs.Key.{is_nul, key_of, query_key}
+use Rattle.std.specs.Prelude.{◌≡◌, ◌↔◌, ◌<◌, ◌≤◌, ℕ, Bool, true, List, [], ◌∷◌, ◌++◌, All, length}
+use Rattle.mo_file.specs.Key.{key_of, query_key}
 use Rattle.mo_file.specs.Layout.{layout}
 use Rattle.mo_file.specs.Message.{Message}
-use Rattle.mo_lookup.specs.CatalogView.{answered, forms}
+use Rattle.mo_file.specs.MessageParts.{context_of, forms, id_of, plural_of}
+use Rattle.mo_lookup.specs.CatalogView.{answered}
 use Rattle.mo_lookup.specs.Query.{Query, can_be_key}
 use Rattle.plural_rule.specs.PluralRule.{RuleView}
 use Rattle.po_syntax.specs.declared.fault.PoFault.TheVariants.{TooLarge}
@@ -22,11 +22,21 @@ use Rattle.po_compile.specs.CompiledMessages.{original_of, translation_of, AreMe
 -- an original has the key and the plural of its entry, and a translation has its forms
 pub record HasParts (entry : TextEntry) : Type 0 where
   pub key : key_of (original_of entry) ≡ query_key entry.context entry.id
-  pub plural : slice_get (slice_split is_nul (original_of entry)) 1 ≡ entry.plural
+  pub plural : plural_of (original_of entry) ≡ entry.plural
   pub forms_are : forms (translation_of entry) ≡ entry.forms
 
 abbrev pub MessagesHaveParts : Type 0
 MessagesHaveParts = (entry : TextEntry) → IsEntry entry → HasParts entry
+
+-- an entry's texts are taken from the message that it is compiled to
+pub record ComesBack (entry : TextEntry) : Type 0 where
+  pub context : context_of (key_of (original_of entry)) ≡ entry.context
+  pub id : id_of (key_of (original_of entry)) ≡ entry.id
+  pub plural : plural_of (original_of entry) ≡ entry.plural
+  pub forms_are : forms (translation_of entry) ≡ entry.forms
+
+abbrev pub TextsComeBack : Type 0
+TextsComeBack = (entry : TextEntry) → IsEntry entry → ComesBack entry
 
 -- entries whose messages stand in rising order of keys have different contexts and msgids
 abbrev pub MessagesDiffer : Type 0

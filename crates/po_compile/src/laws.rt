@@ -3,12 +3,10 @@
 
 ghost use Rattle.po_compile.specs.CompiledEntries.{CompiledListIsKept};
 ghost use Rattle.po_compile.specs.Headline.{AcceptedOrFault, CataloguesAreOne, LookUpMeansEntries, MessagesAreOne, MessagesMeanEntries, NoFaultWhereAccepted, NoFaultWhereDistinct, OneCompileFault, OneTextFault};
-ghost use Rattle.po_compile.specs.MessageLaws.{CompiledCanBeKeys, JoinedEntriesCanStand, LayoutsAreLimited, MessagesDiffer, MessagesHaveParts, OneMoreChangesNoOther, OneTextIsRead};
+ghost use Rattle.po_compile.specs.MessageLaws.{CompiledCanBeKeys, JoinedEntriesCanStand, LayoutsAreLimited, MessagesDiffer, MessagesHaveParts, OneMoreChangesNoOther, OneTextIsRead, TextsComeBack};
 
 use mo_file::layout_is_mo_file;
-use po_entry::laws::{
-    no_duplicate_or_first, no_first_duplicate_where_none, one_first_duplicate,
-};
+use po_entry::laws::{no_duplicate_or_first, no_first_duplicate_where_none, one_first_duplicate};
 use po_reader::laws::{
     entries_can_stand, entries_or_fault, no_fault_is_memory, no_fault_where_entries, one_fault,
     one_reading,
@@ -106,6 +104,13 @@ pub fn catalogues_are_one()
 pub fn messages_have_parts()
     ensures { MessagesHaveParts }
 {}
+
+/// From the message that an entry is compiled to its context, msgid, plural and forms are taken.
+pub fn texts_come_back()
+    ensures { TextsComeBack }
+{
+    messages_have_parts();
+}
 
 /// Entries whose messages stand in rising order of keys are of different messages.
 pub fn messages_differ()
