@@ -1,6 +1,6 @@
 -- What a run of a tool writes and reports, and its exit status: this project's own, as far as the
 -- manual's chapters on the tools leave it open.
-use Rattle.std.specs.Prelude.{◌≡◌, refl, ℕ, Bool, not, ◌&&◌, if◌then◌else◌, List, [], ◌∷◌, map, false, Option, Some, None, codes, ◌⊎◌}
+use Rattle.std.specs.Prelude.{◌≡◌, refl, ℕ, Bool, not, ◌&&◌, nat_lt, if◌then◌else◌, List, [], ◌∷◌, length, map, true, false, Option, Some, None, codes, ◌⊎◌}
 use Rattle.std.specs.Io.KnownBytes.{Appends, Keeps}
 use Rattle.std.specs.Str.{bytes_eq}
 use Rattle.runs.specs.Device.{AppendsPrefix}
@@ -22,6 +22,10 @@ run_view run =
 -- status is 1
 abbrev pub refusal : List ℕ → RunView
 refusal messages = record { output = []; create = false; messages = messages; status = 1 }
+
+-- this output is written, to a file where it has a byte; the status is 0
+abbrev pub output_run : List ℕ → RunView
+output_run output = record { output = output; create = nat_lt 0 (length output); messages = []; status = 0 }
 
 -- From old to new, what went out is a prefix of the output and no message, or all of the output and
 -- a prefix of the messages.
@@ -46,3 +50,7 @@ pub nothing_is_made : ((refusal (codes "a")).status ≡ 1)
     × (map (output_file (refusal [])) (codes "-" ∷ codes "a" ∷ []) ≡ None ∷ None ∷ [])
     × (map shown_name (codes "-" ∷ codes "a" ∷ []) ≡ codes "<stdin>" ∷ codes "a" ∷ [])
 nothing_is_made = (refl, refl, refl)
+
+pub outputs_are_made : (map (λ output. (output_run output).create) ([] ∷ codes "a" ∷ []) ≡ false ∷ true ∷ [])
+    × ((output_run (codes "a")).status ≡ 0)
+outputs_are_made = (refl, refl)

@@ -1,11 +1,13 @@
-//! The texts of faults, and the place in a file that a fault line begins with.
-ghost use Rattle.std.specs.Prelude.{◌≡◌, ◌++◌, decimal, OnOk};
-ghost use Rattle.runs.specs.FaultText.{location, mo_text, po_text};
+//! The texts of faults, the line that reports one, and the run of it.
+ghost use Rattle.std.specs.Prelude.{◌≡◌, ◌++◌, decimal, IfOk, OnOk};
+ghost use Rattle.runs.specs.FaultText.{fault_line, location, mo_text, po_text};
+ghost use Rattle.runs.specs.Run.{refusal, run_view};
 
+use crate::run::{Run, refused};
 use itoa::Buffer;
 use mo_file::MoError;
 use po_syntax::PoFault;
-use std::alloc::AllocError;
+use std::alloc::{AllocError, Global};
 
 /// Appends a text with a number in it.
 pub fn push_numbered(
@@ -75,4 +77,21 @@ pub fn push_location(out: &mut Vec<u8>, tool: &str, file: &str, line: u32) -> Re
         push_numbered(out, ":", line.into(), "")?;
     }
     out.extend_from_slice(b": ")
+}
+
+/// The run of a tool that refuses an input: one line that reports the fault of this text.
+pub fn reported(
+    alloc: Global,
+    tool: &str,
+    name: &str,
+    line: u32,
+    text: &[u8],
+) -> Result<Run, AllocError>
+    ensures { IfOk result (λ run. run_view run ≡ refusal (fault_line tool.now name.now line text.now)) }
+{
+    let mut messages = Vec::new(alloc);
+    push_location(&mut messages, tool, name, line)?;
+    messages.extend_from_slice(text)?;
+    messages.extend_from_slice(b"\n")?;
+    Ok(refused(alloc, messages))
 }

@@ -3,7 +3,7 @@ ghost use Rattle.std.specs.Prelude.{◌≡◌, ◌+◌, ◌^◌, ◌<◌, Err, O
 ghost use Rattle.std.specs.Io.KnownBytes.{Appends};
 ghost use Rattle.std.specs.Option.{option_copied};
 ghost use Rattle.runs.specs.Ending.{exit_status};
-ghost use Rattle.runs.specs.Run.{run_view, output_file, refusal, shown_name, DeliversPrefix};
+ghost use Rattle.runs.specs.Run.{run_view, output_file, output_run, refusal, shown_name, DeliversPrefix};
 
 use crate::device::{ByteOut, put_all};
 use crate::tool_fault::ToolFault;
@@ -47,6 +47,18 @@ impl Run {
         ensures { option_copied result ≡ output_file (run_view self.now) argument.now }
     {
         (self.create && argument != STANDARD).then_some(argument)
+    }
+}
+
+/// The run of a tool that writes this output, to a file where it has a byte, and reports nothing.
+pub fn written(alloc: Global, output: Vec<u8>) -> Run
+    ensures { run_view result ≡ output_run output.items }
+{
+    Run {
+        create: output.len() > 0,
+        output,
+        messages: Vec::new(alloc),
+        status: 0,
     }
 }
 

@@ -6,10 +6,10 @@ ghost use Rattle.runs.specs.Run.{refusal, run_view};
 ghost use Rattle.runs.specs.TextRuns.{written_run};
 ghost use Rattle.po_writer.specs.WrittenText.{written_text};
 
+use crate::fault_text::{push_po_text, reported};
+use crate::run::{Run, written};
 use po_syntax::{PoError, PoFault};
 use po_writer::laws::some_entry_is_written;
-use crate::fault_text::{push_location, push_po_text};
-use crate::run::{Run, refused};
 use std::alloc::{AllocError, Global};
 
 /// The run of a tool that refuses a text: one line that reports the fault.
@@ -25,11 +25,9 @@ pub fn refused_text(
     if error.kind == PoFault::OutOfMemory {
         return Err(AllocError);
     }
-    let mut messages = Vec::new(alloc);
-    push_location(&mut messages, tool, name, error.line)?;
-    push_po_text(&mut messages, error.kind)?;
-    messages.extend_from_slice(b"\n")?;
-    Ok(refused(alloc, messages))
+    let mut text = Vec::new(alloc);
+    push_po_text(&mut text, error.kind)?;
+    reported(alloc, tool, name, error.line, &text)
 }
 
 /// The run of a tool that writes this text of a catalogue.
@@ -37,11 +35,5 @@ pub fn text_run(alloc: Global, output: Vec<u8>) -> Run
     ensures { (entries : List TextEntry) → output.items ≡ written_text entries → run_view result ≡ written_run entries }
 {
     some_entry_is_written();
-    let create = output.len() > 0;
-    Run {
-        output,
-        create,
-        messages: Vec::new(alloc),
-        status: 0,
-    }
+    written(alloc, output)
 }
