@@ -60,17 +60,6 @@ ends_line o = o.shell && (not o.no_newline && not (list_any (omits_newline o) o.
 abbrev pub gettext_output : List CatalogView → GettextRequest → List ℕ
 gettext_output chain o = answers chain o ++ (if ends_line o then 10 ∷ [] else [])
 
--- this output, and these lines about catalogues that were refused, which don't count as a failure
-abbrev pub output_run : List ℕ → List ℕ → RunView
-output_run output reported = record { output = output; create = false; messages = reported; status = 0 }
-
--- what a run of gettext comes to
-pub record IsGettextRun (files : List NamedFile) (o : GettextRequest) (run : RunView) : Type 0 where
-  pub chain : List CatalogView
-  pub reported : List ℕ
-  pub opens : Opens (codes "gettext") files chain reported
-  pub run_is : run ≡ output_run (gettext_output chain o) reported
-
 -- what ngettext is asked for, besides the catalogues
 pub record NgettextRequest : Type 0 where
   pub context : Option (List ℕ)
@@ -88,12 +77,31 @@ ngettext_output chain o =
       plural = Some (argument_text o.expand o.plural, count_in o.count);
     })).text
 
--- what a run of ngettext comes to
-pub record IsNgettextRun (files : List NamedFile) (o : NgettextRequest) (run : RunView) : Type 0 where
+-- this output, and these lines about catalogues that were refused, which don't count as a failure
+abbrev pub output_run : List ℕ → List ℕ → RunView
+output_run output reported = record { output = output; create = false; messages = reported; status = 0 }
+
+-- what is looked up: the messages of gettext, or the plural form of ngettext for a count
+pub data Request : Type 0 where
+  for_messages : GettextRequest → Request
+  for_count : NgettextRequest → Request
+
+-- the tool that looks it up
+abbrev pub tool_of : Request → List ℕ
+tool_of (for_messages o) = codes "gettext"
+tool_of (for_count o) = codes "ngettext"
+
+-- what that tool writes
+abbrev pub output_of : List CatalogView → Request → List ℕ
+output_of chain (for_messages o) = gettext_output chain o
+output_of chain (for_count o) = ngettext_output chain o
+
+-- what a run of gettext or ngettext comes to
+pub record IsLookUpRun (files : List NamedFile) (request : Request) (run : RunView) : Type 0 where
   pub chain : List CatalogView
   pub reported : List ℕ
-  pub opens : Opens (codes "ngettext") files chain reported
-  pub run_is : run ≡ output_run (ngettext_output chain o) reported
+  pub opens : Opens (tool_of request) files chain reported
+  pub run_is : run ≡ output_run (output_of chain request) reported
 
 -- a request for these MSGIDs, without a context
 abbrev pub request_of : List (List ℕ) → Bool → Bool → Bool → GettextRequest
@@ -131,6 +139,11 @@ no_files = refl
 pub many_files : ngettext_output [] (request_at (codes "many")) ≡ codes "files"
 unfolding count_in
 many_files = refl
+
+-- each tool by its name
+pub tools_are : (o : GettextRequest) (p : NgettextRequest)
+    → (tool_of (for_messages o) ≡ codes "gettext") × (tool_of (for_count p) ≡ codes "ngettext")
+tools_are o p = (refl, refl)
 
 -- a catalogue that is refused doesn't count as a failure
 pub status_is : (output reported : List ℕ) → (output_run output reported).status ≡ 0

@@ -7,19 +7,21 @@ use Rattle.runs.specs.NamedFile.{NamedFile}
 use Rattle.runs.specs.Outputs.{SystemView}
 use Rattle.runs.specs.Run.{RunView}
 use Rattle.runs.specs.ToolRuns.{Writes}
-use Rattle.gettext.specs.Catalogues.{AreFound, GivenDomain, Searching}
+use Rattle.gettext.specs.Catalogues.{AreFound, Searching}
+use Rattle.gettext.specs.Gettext.{IsLookUpRun}
+use Rattle.gettext.specs.Options.{CommandView}
 
 -- how many catalogues a chain counts at most
 abbrev pub catalogue_limit : ℕ
 catalogue_limit = 2 ^ 32 - 1
 
--- What a tool does that looks messages up in a text domain. `IsRun` says which run catalogues have; a
--- chain counts at most 4,294,967,295 of them.
-pub data RunsLookUp (system : Searching) (domain : GivenDomain) (IsRun : List NamedFile → RunView → Type 0)
-    (before after : SystemView) : Result ℕ ProgramFault → Type 0 where
+-- What a tool does that looks messages up in a text domain; a chain counts at most 4,294,967,295
+-- catalogues.
+pub data RunsLookUp (system : Searching) (command : CommandView) (before after : SystemView)
+    : Result ℕ ProgramFault → Type 0 where
   -- the run is written to standard output, or isn't
   runs : {catalogues : List NamedFile} {run : RunView} {result : Result ℕ ProgramFault}
-      → AreFound system domain catalogues → IsRun (take catalogue_limit catalogues) run
-      → Writes run (codes "-") before after result → RunsLookUp system domain IsRun before after result
+      → AreFound system command.domain catalogues → IsLookUpRun (take catalogue_limit catalogues) command.request run
+      → Writes run (codes "-") before after result → RunsLookUp system command before after result
   -- reading or planning takes more memory than there is, and nothing is written
-  no_memory : after ≡ before → RunsLookUp system domain IsRun before after (Err OutOfMemory)
+  no_memory : after ≡ before → RunsLookUp system command before after (Err OutOfMemory)

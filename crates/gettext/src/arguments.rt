@@ -1,84 +1,94 @@
-//! The arguments of gettext and ngettext after their options.
+//! What a command line of gettext or ngettext asks for, by its arguments and options.
 ghost use Rattle.std.specs.Prelude.{◌≡◌, map, option_map};
-ghost use Rattle.gettext.specs.ArgumentValues.{AreGettextArguments, AreNgettextArguments};
+ghost use Rattle.gettext.specs.ArgumentValues.{IsTakenAs};
+ghost use Rattle.gettext.specs.Options.{AsksGettext, AsksNgettext};
 ghost use Rattle.gettext.specs.Usage.{gettext_usage, ngettext_usage};
-ghost use Rattle.gettext.specs.UsageView.{gettext_arguments, ngettext_arguments};
+ghost use Rattle.gettext.specs.UsageView.{messages_given, plural_form_given};
 
+use crate::plan::{GettextOptions, LookUp, NgettextOptions};
 use runs::{Arguments, ProgramFault};
 
-/// The arguments of `gettext`.
+/// What a command line asks for.
 #[derive(Clone, Copy)]
-pub struct GettextArguments<'w, 'a> {
+pub struct LookUpCommand<'a> {
     /// TEXTDOMAIN, where it is given.
-    pub domain: Option<&'a str>,
-    /// The MSGIDs.
-    pub messages: &'w [&'a str],
+    pub argument: Option<&'a str>,
+    /// `-d`: the text domain, where TEXTDOMAIN isn't given.
+    pub option: Option<&'a str>,
+    /// What is looked up there.
+    pub look_up: LookUp<'a>,
 }
 
-impl<'a> GettextArguments<'a, 'a> {
-    /// Takes the arguments of a command line, where they fit.
-    pub fn given<A: Arguments>(
-        arguments: &'a A,
-    ) -> Result<GettextArguments<'a, 'a>, ProgramFault<'a>>
-        ensures { AreGettextArguments (A.flag arguments.now) (A.texts arguments.now) result }
+impl<'a> LookUpCommand<'a> {
+    /// Takes a command line of `gettext`, where its arguments fit a usage of the tool.
+    pub fn of_gettext<A: Arguments>(line: &'a A) -> Result<LookUpCommand<'a>, ProgramFault<'a>>
+        ensures { IsTakenAs (AsksGettext (A.flag line.now) (A.text line.now) (A.texts line.now)) result }
     {
-        let shell = arguments.is_given("shell");
-        GettextArguments::of(shell, arguments.texts_of("MSGID")).ok_or(ProgramFault::WrongArguments)
-    }
-}
-
-impl<'w, 'a> GettextArguments<'w, 'a> {
-    /// Takes `[TEXTDOMAIN] MSGID`, or with `shell` `MSGID..`. Other arguments fit no usage of the
-    /// tool.
-    pub fn of(shell: bool, arguments: &'w [&'a str]) -> Option<GettextArguments<'w, 'a>>
-        ensures { option_map gettext_arguments result
-            ≡ gettext_usage shell (map (λ argument. argument.now) arguments.now) }
-    {
-        let (domain, messages) = match arguments {
-            _ if shell => (None, arguments),
-            [_] => (None, arguments),
-            [domain, _] => (Some(*domain), &arguments[1..]),
-            _ => return None,
+        let shell = line.is_given("shell");
+        let Some((argument, messages)) = messages_of(shell, line.texts_of("MSGID")) else {
+            return Err(ProgramFault::WrongArguments);
         };
-        Some(GettextArguments { domain, messages })
-    }
-}
-
-/// The arguments of `ngettext`.
-#[derive(Clone, Copy)]
-pub struct NgettextArguments<'a> {
-    /// TEXTDOMAIN, where it is given.
-    pub domain: Option<&'a str>,
-    /// MSGID.
-    pub id: &'a str,
-    /// MSGID-PLURAL.
-    pub plural: &'a str,
-    /// COUNT.
-    pub count: &'a str,
-}
-
-impl<'a> NgettextArguments<'a> {
-    /// Takes the arguments of a command line, where they fit.
-    pub fn given<A: Arguments>(arguments: &'a A) -> Result<NgettextArguments<'a>, ProgramFault<'a>>
-        ensures { AreNgettextArguments (A.texts arguments.now) result }
-    {
-        NgettextArguments::of(arguments.texts_of("MSGID")).ok_or(ProgramFault::WrongArguments)
-    }
-
-    /// Takes `[TEXTDOMAIN] MSGID MSGID-PLURAL COUNT`. Other arguments fit no usage of the tool.
-    pub fn of(arguments: &[&'a str]) -> Option<NgettextArguments<'a>>
-        ensures { option_map ngettext_arguments result ≡ ngettext_usage (map (λ argument. argument.now) arguments.now) }
-    {
-        let (domain, id, plural, count) = match arguments {
-            [id, plural, count] => (None, *id, *plural, *count),
-            [domain, id, plural, count] => (Some(*domain), *id, *plural, *count),
-            _ => return None,
+        let options = GettextOptions {
+            messages,
+            context: line.text_of("context"),
+            expand: line.is_given("expand"),
+            no_newline: line.is_given("no-newline"),
+            shell,
         };
-        Some(NgettextArguments {
-            domain,
+        Ok(LookUpCommand {
+            argument,
+            option: line.text_of("domain"),
+            look_up: LookUp::Messages(options),
+        })
+    }
+
+    /// Takes a command line of `ngettext`, where its arguments fit a usage of the tool.
+    pub fn of_ngettext<A: Arguments>(line: &'a A) -> Result<LookUpCommand<'a>, ProgramFault<'a>>
+        ensures { IsTakenAs (AsksNgettext (A.flag line.now) (A.text line.now) (A.texts line.now)) result }
+    {
+        let Some((argument, id, plural, count)) = plural_form_of(line.texts_of("MSGID")) else {
+            return Err(ProgramFault::WrongArguments);
+        };
+        let options = NgettextOptions {
+            context: line.text_of("context"),
+            expand: line.is_given("expand"),
             id,
             plural,
             count,
+        };
+        Ok(LookUpCommand {
+            argument,
+            option: line.text_of("domain"),
+            look_up: LookUp::PluralForm(options),
         })
+    }
+}
+
+/// TEXTDOMAIN and the MSGIDs of `[TEXTDOMAIN] MSGID`, or with `shell` of `MSGID..`. Other arguments
+/// fit no usage of `gettext`.
+fn messages_of<'w, 'a>(
+    shell: bool,
+    arguments: &'w [&'a str],
+) -> Option<(Option<&'a str>, &'w [&'a str])>
+    ensures { option_map messages_given result
+        ≡ gettext_usage shell (map (λ argument. argument.now) arguments.now) }
+{
+    match arguments {
+        _ if shell => Some((None, arguments)),
+        [_] => Some((None, arguments)),
+        [domain, _] => Some((Some(*domain), &arguments[1..])),
+        _ => None,
+    }
+}
+
+/// TEXTDOMAIN, MSGID, MSGID-PLURAL and COUNT of `[TEXTDOMAIN] MSGID MSGID-PLURAL COUNT`. Other
+/// arguments fit no usage of `ngettext`.
+fn plural_form_of<'a>(arguments: &[&'a str]) -> Option<(Option<&'a str>, &'a str, &'a str, &'a str)>
+    ensures { option_map plural_form_given result ≡ ngettext_usage (map (λ argument. argument.now) arguments.now) }
+{
+    match arguments {
+        [id, plural, count] => Some((None, *id, *plural, *count)),
+        [domain, id, plural, count] => Some((Some(*domain), *id, *plural, *count)),
+        _ => None,
     }
 }

@@ -7,7 +7,8 @@ ghost use Rattle.mo_lookup.specs.Chain.{chain_answered};
 ghost use Rattle.mo_lookup.specs.Query.{given};
 ghost use Rattle.runs.specs.Run.{run_view};
 ghost use Rattle.gettext.specs.Gettext as Spec;
-ghost use Rattle.gettext.specs.GettextView.{gettext_view, ngettext_view};
+ghost use Rattle.gettext.specs.Gettext.{for_count, for_messages};
+ghost use Rattle.gettext.specs.GettextView.{gettext_view, ngettext_view, request_view};
 ghost use Rattle.runs.specs.NamedFile.{named_files};
 ghost use Rattle.gettext.specs.Internal.OpensFile.{Joins, OpensFile};
 
@@ -47,6 +48,15 @@ pub struct NgettextOptions<'a> {
     pub plural: &'a str,
     /// COUNT: decimal digits below 2^64; any other text is taken as 99.
     pub count: &'a str,
+}
+
+/// What is looked up in catalogues.
+#[derive(Clone, Copy)]
+pub enum LookUp<'a> {
+    /// By `gettext`: messages.
+    Messages(GettextOptions<'a>),
+    /// By `ngettext`: the plural form of a message for a count.
+    PluralForm(NgettextOptions<'a>),
 }
 
 /// The catalogues of a chain, and the lines that report those that were refused.
@@ -184,34 +194,6 @@ fn push_answers(
     Ok(omitted)
 }
 
-/// What `gettext` writes over the catalogues that could be read, in the order in which they are
-/// asked: the answers, each a translation or the MSGID itself; on standard error a line for each
-/// catalogue that is refused and so omitted. Refused only where an allocation failed.
-pub fn plan_gettext(
-    alloc: Global,
-    catalogues: &[(&str, &[u8])],
-    options: &GettextOptions<'_>,
-) -> Result<Run, ToolFault>
-    requires { length catalogues.now < 2 ^ 32 }
-    ensures run { IfOk result (λ run. Spec.IsGettextRun (named_files catalogues.now) (gettext_view options.now)
-        (run_view run)) }
-    ensures memory { OnErr result (result ≡ Err ToolFault.OutOfMemory) }
-{
-    let opened = open_all(alloc, "gettext", catalogues)?;
-    let chain = Chain::new(&opened.catalogs);
-    let mut output = Vec::new(alloc);
-    let omitted = push_answers(alloc, &mut output, &chain, options)?;
-    if options.shell && !options.no_newline && !omitted {
-        output.push(b'\n')?;
-    }
-    Ok(Run {
-        output,
-        create: false,
-        messages: opened.messages,
-        status: 0,
-    })
-}
-
 /// Appends the answer to MSGID, MSGID-PLURAL and COUNT.
 fn push_plural_answer(
     alloc: Global,
@@ -241,28 +223,89 @@ fn push_plural_answer(
     Ok(())
 }
 
-/// What `ngettext` writes over the catalogues that could be read, in the order in which they are
-/// asked: the form of the translation for the count, or MSGID for a count of 1 and MSGID-PLURAL for
-/// any other; on standard error a line for each catalogue that is refused and so omitted. Refused
-/// only where an allocation failed.
-pub fn plan_ngettext(
+/// Appends the answers to a request, and the newline where one ends them.
+fn push_output(
+    alloc: Global,
+    output: &mut Vec<u8>,
+    chain: &Chain<'_, '_>,
+    request: &LookUp<'_>,
+) -> Result<(), ToolFault>
+    ensures output { OnOk result (output.new.items ≡ output.old.items
+        ++ Spec.output_of chain.now (request_view request.now)) }
+    ensures memory { OnErr result (result ≡ Err ToolFault.OutOfMemory) }
+{
+    match request {
+        LookUp::Messages(options) => {
+            let omitted = push_answers(alloc, output, chain, options)?;
+            if options.shell && !options.no_newline && !omitted {
+                output.push(b'\n')?;
+            }
+            Ok(())
+        }
+        LookUp::PluralForm(options) => push_plural_answer(alloc, output, chain, options),
+    }
+}
+
+/// The tool that a request is one of.
+fn tool_of(request: &LookUp<'_>) -> &'static str
+    ensures { result.now ≡ Spec.tool_of (request_view request.now) }
+{
+    match request {
+        LookUp::Messages(_) => "gettext",
+        LookUp::PluralForm(_) => "ngettext",
+    }
+}
+
+/// What `gettext` or `ngettext` writes over the catalogues that could be read, in the order in
+/// which they are asked: the answers, each a translation or what was given (for a count of 1 MSGID,
+/// and MSGID-PLURAL for any other); on standard error a line for each catalogue that is refused and
+/// so omitted. Refused only where an allocation failed.
+pub fn plan_look_up(
     alloc: Global,
     catalogues: &[(&str, &[u8])],
-    options: &NgettextOptions<'_>,
+    request: &LookUp<'_>,
 ) -> Result<Run, ToolFault>
     requires { length catalogues.now < 2 ^ 32 }
-    ensures run { IfOk result (λ run. Spec.IsNgettextRun (named_files catalogues.now) (ngettext_view options.now)
+    ensures run { IfOk result (λ run. Spec.IsLookUpRun (named_files catalogues.now) (request_view request.now)
         (run_view run)) }
     ensures memory { OnErr result (result ≡ Err ToolFault.OutOfMemory) }
 {
-    let opened = open_all(alloc, "ngettext", catalogues)?;
+    let opened = open_all(alloc, tool_of(request), catalogues)?;
     let chain = Chain::new(&opened.catalogs);
     let mut output = Vec::new(alloc);
-    push_plural_answer(alloc, &mut output, &chain, options)?;
+    push_output(alloc, &mut output, &chain, request)?;
     Ok(Run {
         output,
         create: false,
         messages: opened.messages,
         status: 0,
     })
+}
+
+/// What `gettext` writes, by `plan_look_up`.
+pub fn plan_gettext(
+    alloc: Global,
+    catalogues: &[(&str, &[u8])],
+    options: &GettextOptions<'_>,
+) -> Result<Run, ToolFault>
+    requires { length catalogues.now < 2 ^ 32 }
+    ensures run { IfOk result (λ run. Spec.IsLookUpRun (named_files catalogues.now)
+        (for_messages (gettext_view options.now)) (run_view run)) }
+    ensures memory { OnErr result (result ≡ Err ToolFault.OutOfMemory) }
+{
+    plan_look_up(alloc, catalogues, &LookUp::Messages(*options))
+}
+
+/// What `ngettext` writes, by `plan_look_up`.
+pub fn plan_ngettext(
+    alloc: Global,
+    catalogues: &[(&str, &[u8])],
+    options: &NgettextOptions<'_>,
+) -> Result<Run, ToolFault>
+    requires { length catalogues.now < 2 ^ 32 }
+    ensures run { IfOk result (λ run. Spec.IsLookUpRun (named_files catalogues.now)
+        (for_count (ngettext_view options.now)) (run_view run)) }
+    ensures memory { OnErr result (result ≡ Err ToolFault.OutOfMemory) }
+{
+    plan_look_up(alloc, catalogues, &LookUp::PluralForm(*options))
 }

@@ -1,10 +1,8 @@
-use Rattle.std.proofs.Common.{refl, ◌-◌, ◌^◌}
+use Rattle.std.proofs.Common.{refl}
 use Rattle.std.proofs.lemmas.Result.{err_from_is_err_and}
-use Rattle.gettext.specs.Gettext.{IsNgettextRun}
-use Rattle.gettext.specs.GettextView.{ngettext_view}
 use Rattle.gettext.specs.WholeRun.{no_memory, runs}
 use Rattle.gettext.proofs.WholeRuns.{of_found}
-use Rattle.gettext.proofs.whole_run.run_ngettext.Goals as goal
+use Rattle.gettext.proofs.whole_run.run_look_up.Goals as goal
 
 pub returns-in_err-found : goal.returns-in_err-found
 returns-in_err-found g c =
@@ -20,6 +18,6 @@ returns-in-Err-OutOfMemory g c = no_memory refl
 
 pub returns : goal.returns
 returns g c =
-    let run = of_found (2 ^ 32 - 1) (λ files run. IsNgettextRun files (ngettext_view c.args.options.now) run) _ _ _ _ _
+    let run = of_found _ _ _ _ _ _
     c.as_slice-2.ensures.value c.in_ok-borrowed.ensures.borrowed c.as_slice.ensures.value c.in-Ok.ensures.run in
     runs c.in_ok-found.ensures run c.write.ensures

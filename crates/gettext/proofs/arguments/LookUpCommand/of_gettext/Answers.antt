@@ -1,0 +1,23 @@
+use Rattle.std.proofs.Common.{ap, refl, sym, ◌∙◌}
+use Rattle.std.specs.Option.{option_map}
+use Rattle.gettext.specs.Options.{asks_messages, fits_no_gettext}
+use Rattle.gettext.specs.UsageView.{messages_given}
+use Rattle.gettext.proofs.arguments.LookUpCommand.of_gettext.Goals as goal
+
+pub returns-in_default : goal.returns-in_default
+returns-in_default g c = (
+  fits_no_gettext c.is_given-shell.ensures c.texts_of.ensures
+      (sym c.messages_of.ensures ∙ ap (option_map messages_given) c.in_default.is),
+  refl,
+)
+
+pub returns : goal.returns
+returns g c =
+    asks_messages c.texts_of.ensures (sym c.messages_of.ensures ∙ ap (option_map messages_given) c.in-Some.is)
+    c.text_of-2.ensures (record {
+      messages = refl;
+      context = c.text_of.ensures;
+      expand = c.is_given.ensures;
+      no_newline = c.is_given-2.ensures;
+      shell = c.is_given-shell.ensures;
+    })

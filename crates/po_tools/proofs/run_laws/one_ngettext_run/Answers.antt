@@ -1,6 +1,0 @@
-use Rattle.po_tools.proofs.OneRun.{ngettext_once}
-use Rattle.po_tools.proofs.run_laws.one_ngettext_run.Goals as goal
-
-pub returns : goal.returns
-returns c = ngettext_once c.one_message_list.ensures c.no_fault_of_mo_file.ensures c.one_first_fault.ensures
-    c.one_rule.ensures
