@@ -10,10 +10,7 @@ use crate::entry_ref::EntryRef;
 pub fn has_translation(entry: &EntryRef<'_>) -> bool
     ensures { result ≡ has_translation entry.now }
 {
-    match entry.forms().next() {
-        Some(form) => !form.is_empty(),
-        None => false,
-    }
+    !entry.forms().first_is_empty()
 }
 
 /// Whether the entry is a header that isn't obsolete.

@@ -1,10 +1,10 @@
 //! An entry that lies in a buffer.
 
-ghost use Rattle.std.specs.Prelude.{◌≡◌, ◌+◌, ◌++◌, ◌∷◌, MatchOption, drop, length, option_copied};
+ghost use Rattle.std.specs.Prelude.{◌≡◌, ◌+◌, ◌++◌, ◌∷◌, ◌==◌, MatchOption, drop, length, option_copied};
 ghost use Rattle.std.specs.Iterator.{YieldsFirstBy, item_count};
 ghost use Rattle.po_entry.specs.Bytes.{Lacks};
-ghost use Rattle.po_entry.specs.Header.{is_header};
-ghost use Rattle.po_entry.specs.TextLists.{texts_in, texts_left};
+ghost use Rattle.po_entry.specs.Header.{first_form, is_header};
+ghost use Rattle.po_entry.specs.TextLists.{texts_left};
 ghost use Rattle.po_entry.specs.Rows.{LiesIn, entry_at, forms_of, head_at, key_bytes, optional_in, original_bytes, own_at, part_at, split_forms, translation_bytes};
 ghost use Rattle.po_entry.specs.FormLists.{forms_left};
 
@@ -292,6 +292,18 @@ fn split_text(texts: &[u8]) -> (&[u8], Option<&[u8]>)
 #[derive(Drop)]
 pub struct FormIter<'a> {
     rest: Option<&'a [u8]>,
+}
+
+impl FormIter<'_> {
+    /// Whether the first text is empty, or there is none.
+    pub(crate) fn first_is_empty(&self) -> bool
+        ensures { result ≡ (length (first_form (forms_left self.now)) == 0) }
+    {
+        match self.rest {
+            Some([first, ..]) => *first == NUL,
+            _ => true,
+        }
+    }
 }
 
 impl<'a> Iterator for FormIter<'a> {

@@ -1,6 +1,6 @@
 //! The fields of an entry that is made, and copies of them, where memory can fail.
 
-ghost use Rattle.std.specs.Prelude.{◌≡◌, IfOk, OnOk, None, option_copied, map, []};
+ghost use Rattle.std.specs.Prelude.{◌≡◌, IfOk, None, option_copied, map, []};
 ghost use Rattle.po_entry.specs.EntryView.{entry_view};
 ghost use Rattle.po_entry.specs.Header.{is_header};
 ghost use Rattle.po_entry.specs.TextEntry.{no_previous, optional_text, plain_entry, texts};

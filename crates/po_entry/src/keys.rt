@@ -39,7 +39,8 @@ pub fn message_numbers(alloc: Global, store: &Store) -> Result<(Vec<usize>, usiz
     ensures numbers { IfOk result (λ r. r.0.items ≡ group_numbers same_message (entry_messages store.now)) }
     ensures count { IfOk result (λ r. r.1 ≡ length (first_ones same_message (entry_messages store.now))) }
 {
-    let mut seen = SeenTexts::new(alloc, Seeded::of(&digest_of(store)));
+    let seeded = Seeded::of(&digest_of(store));
+    let mut seen = SeenTexts::with_capacity(alloc, store.len(), seeded)?;
     let mut numbers = Vec::with_capacity(alloc, store.len())?;
     for index in 0..store.len() {
         let number = seen.add(store.get(index).key())?;

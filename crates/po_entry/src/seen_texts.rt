@@ -102,6 +102,19 @@ impl<'a> SeenTexts<'a> {
         }
     }
 
+    /// None, with room for so many. Refused only where an allocation failed.
+    pub fn with_capacity(
+        alloc: Global,
+        count: usize,
+        hasher: Seeded,
+    ) -> Result<SeenTexts<'a>, AllocError>
+        ensures { IfOk result (λ seen. seen ≡ []) }
+    {
+        Ok(SeenTexts {
+            index: IndexSet::with_capacity_and_hasher(alloc, count, hasher)?,
+        })
+    }
+
     /// How many they are.
     pub fn len(&self) -> usize
         ensures { result ≡ length self.now }

@@ -105,13 +105,13 @@ impl TextList {
     }
 }
 
-/// Makes room for so many bytes more, and in an empty buffer for three references at least, but for
-/// no others: most lists have few texts.
+/// Makes room for so many bytes more, and in a buffer without room for three references at least,
+/// but for no others: most lists have few texts.
 fn make_room(bytes: &mut Vec<u8>, more: usize) -> Result<(), AllocError>
     ensures items { bytes.new.items ≡ bytes.old.items }
     ensures room { OnOk result (vec_len bytes.new + more ≤ vec_capacity bytes.new) }
 {
-    if bytes.is_empty() {
+    if bytes.capacity() == 0 {
         bytes.reserve_exact(more.max(FIRST_BYTES))
     } else {
         bytes.reserve(more)
@@ -189,6 +189,17 @@ impl<'a> TextListIter<'a> {
         ensures { texts_left result ≡ texts_in bytes.now }
     {
         TextListIter { bytes }
+    }
+
+    /// A list of the texts that are left; refused only where an allocation failed.
+    pub fn copy(self, alloc: Global) -> Result<TextList, AllocError>
+        ensures { IfOk result (λ copy. copy ≡ texts_left self.entry) }
+    {
+        let mut copy = TextList::with_capacity(alloc, 0, self.bytes.len())?;
+        for text in self {
+            copy.push(text)?;
+        }
+        Ok(copy)
     }
 }
 

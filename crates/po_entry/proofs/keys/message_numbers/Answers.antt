@@ -21,5 +21,5 @@ returns c =
     (take_all c.loop-index.index c.args.store.now past) c.loop-index.invariant in
     record {
       numbers = all_numbered c.args.store.now c.loop-index.seen c.loop-index.numbers.items whole;
-      count = c.len-2.ensures ∙ all_counted c.args.store.now c.loop-index.seen c.loop-index.numbers.items whole;
+      count = c.len-3.ensures ∙ all_counted c.args.store.now c.loop-index.seen c.loop-index.numbers.items whole;
     }

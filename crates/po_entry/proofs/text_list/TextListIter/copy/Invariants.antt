@@ -1,6 +1,6 @@
 use Rattle.std.proofs.Common.{◌≡◌, ◌++◌}
 use Rattle.po_entry.specs.TextLists.{texts_left}
-use Rattle.po_entry.proofs.ref_copy.list_of.Given as goal
+use Rattle.po_entry.proofs.text_list.TextListIter.copy.Given as goal
 
 abbrev pub invariant-loop-text : goal.invariant-loop-text
-invariant-loop-text l = l.list ++ texts_left l.text-iterator ≡ texts_left l.fn.texts
+invariant-loop-text l = l.copy ++ texts_left l.text-iterator ≡ texts_left l.fn.self
