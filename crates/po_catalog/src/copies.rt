@@ -2,14 +2,12 @@
 
 ghost use Rattle.std.specs.Prelude.{◌≡◌, IfOk};
 ghost use Rattle.po_entry.specs.EntryView.{entry_view};
-ghost use Rattle.po_entry.specs.FormLists.{forms_left};
-ghost use Rattle.po_entry.specs.TextEntry.{texts};
 ghost use Rattle.po_entry.specs.TextLists.{texts_left};
 ghost use Rattle.po_entry.specs.Validity.{IsEntry};
 
 use crate::entry::Entry;
 use crate::text_list::{TextList, copy_texts};
-use po_entry::{EntryRef, Fields, FormIter, Previous, TextListIter, copy_optional};
+use po_entry::{EntryRef, Fields, TextListIter, copy_optional};
 use std::alloc::{AllocError, Global};
 
 /// A copy of texts that lie in a buffer.
@@ -23,28 +21,6 @@ fn list_of(alloc: Global, list: TextListIter<'_>) -> Result<TextList, AllocError
     Ok(TextList::of(copy))
 }
 
-/// A copy of forms that lie in a buffer.
-fn forms_of(alloc: Global, forms: FormIter<'_>) -> Result<Vec<Vec<u8>>, AllocError>
-    ensures { IfOk result (λ copy. texts copy.items ≡ forms_left forms.entry) }
-{
-    let mut copy = Vec::new(alloc);
-    for form in forms {
-        copy.push(form.to_vec(alloc)?)?;
-    }
-    Ok(copy)
-}
-
-/// A copy of the previous texts of an entry.
-fn previous_of(alloc: Global, entry: &EntryRef<'_>) -> Result<Previous, AllocError>
-    ensures { IfOk result (λ copy. copy ≡ entry.now.previous) }
-{
-    Ok(Previous {
-        context: copy_optional(alloc, entry.previous_context())?,
-        id: copy_optional(alloc, entry.previous_id())?,
-        plural: copy_optional(alloc, entry.previous_plural())?,
-    })
-}
-
 impl Entry {
     /// A copy of an entry that lies in a buffer; refused only where an allocation failed.
     pub fn copied(alloc: Global, entry: &EntryRef<'_>) -> Result<Entry, AllocError>
@@ -55,11 +31,11 @@ impl Entry {
         let extracted = list_of(alloc, entry.extracted())?;
         let references = list_of(alloc, entry.references())?;
         let flags = list_of(alloc, entry.flags())?;
-        let previous = previous_of(alloc, entry)?;
+        let previous = entry.copy_previous(alloc)?;
         let context = copy_optional(alloc, entry.context())?;
         let id = entry.id().to_vec(alloc)?;
         let plural = copy_optional(alloc, entry.plural())?;
-        let forms = forms_of(alloc, entry.forms())?;
+        let forms = entry.forms().copy(alloc)?;
         Ok(Entry::of_fields(
             comments,
             extracted,
