@@ -13,9 +13,9 @@ ghost use Rattle.msgattrib.specs.Selected.{selected};
 ghost use Rattle.po_writer.specs.TextParts.{AreParts};
 ghost use Rattle.msgattrib.specs.Internal.SelectedText.{AddsParts, HaveNoDuplicate, IsSelectedText, IsSelectedWhole, IsSelectionFault, hashes_of};
 
+use crate::selection::Selection;
 use po_entry::{Drafts, EntryRef, Store, all_differ, message_hash};
 use po_reader::{PIECE, next_store, read_into};
-use crate::selection::Selection;
 use po_syntax::{Pieces, PoError};
 use po_writer::TextParts;
 use std::alloc::{AllocError, Global};
@@ -133,9 +133,8 @@ fn add_entry(
     if !selection.keeps(entry) {
         return Ok(());
     }
-    let mut fields = entry.copied(alloc)?;
-    selection.change(&mut fields);
-    entries.push(&fields)
+    let changed = selection.changed(alloc, entry)?;
+    entries.push(&changed)
 }
 
 /// Looks for duplicates, first among the entries of a text, and then among those that are selected,

@@ -99,6 +99,15 @@ impl Selection {
         }
     }
 
+    /// A copy of an entry, changed; refused only where an allocation failed.
+    pub fn changed(&self, alloc: Global, entry: &EntryRef<'_>) -> Result<Fields, AllocError>
+        ensures { IfOk result (λ fields. entry_view fields ≡ changed self.now entry.now) }
+    {
+        let mut fields = entry.copy(alloc)?;
+        self.change(&mut fields);
+        Ok(fields)
+    }
+
     /// Changes an entry of a store that is kept, and returns its index: as before or, where its
     /// texts change too, that of its copy at the end. Refused only where an allocation failed; then
     /// the entries stay.
@@ -142,8 +151,7 @@ impl Selection {
         ensures changed { IfOk result (IsChangedAt self.now index store.old store.new) }
         ensures unchanged { OnErr result (store.new ≡ store.old) }
     {
-        let mut changed = store.get(index).copied(alloc)?;
-        self.change(&mut changed);
+        let changed = self.changed(alloc, &store.get(index))?;
         let last = store.len();
         store.push(&changed)?;
         Ok(last)

@@ -2,7 +2,6 @@ use Rattle.std.proofs.Common.{◌++◌, ◌∙◌, List, ap, append-nil, subst, 
 use Rattle.po_entry.specs.TextEntry.{TextEntry}
 use Rattle.po_entry.specs.Validity.{IsCatalogueEntry}
 use Rattle.msgattrib.proofs.SelectionLaws.{changed_can_stand}
-use Rattle.msgattrib.specs.Selected.{changed}
 use Rattle.msgattrib.proofs.SelectedLemmas.{one_left_out}
 use Rattle.msgattrib.proofs.selected_text.add_entry.Goals as goal
 
@@ -14,5 +13,5 @@ returns-then-not-keeps c =
 
 pub push-requires : goal.push-requires
 push-requires c =
-    subst IsCatalogueEntry (sym (c.change.ensures ∙ ap (changed c.args.selection.now) c.in_ok-fields.ensures))
+    subst IsCatalogueEntry (sym c.in_ok-changed.ensures)
     (changed_can_stand c.args.selection.now c.args.entry.now c.requires)

@@ -8,8 +8,7 @@ use Rattle.msgattrib.proofs.selection.Selection.push_changed.Goals as goal
 
 pub push-requires : goal.push-requires
 push-requires c =
-    subst IsCatalogueEntry
-    (sym (c.change.ensures ∙ ap (changed c.args.self.now) c.in_ok-changed.ensures))
+    subst IsCatalogueEntry (sym c.in_ok-changed.ensures)
     (changed_can_stand c.args.self.now c.get.result c.get.ensures.valid)
 
 pub returns-clause-changed : goal.returns-clause-changed
@@ -18,5 +17,4 @@ returns-clause-changed c =
     c.len-last.ensures
     (λ other. c.in_ok-push.ensures.ok
     ∙ ap (λ (entry : TextEntry). c.args.store.now ++ entry ∷ [])
-    (c.change.ensures
-    ∙ ap (changed c.args.self.now) (c.in_ok-changed.ensures ∙ c.get.ensures.entry other)))
+    (c.in_ok-changed.ensures ∙ ap (changed c.args.self.now) (c.get.ensures.entry other)))
