@@ -4,7 +4,7 @@ use Rattle.std.specs.Prelude.{option_to_list}
 use Rattle.std.proofs.lemmas.List.Elements.{All-append, All-cons, All-head, All-nil, All-tail}
 use Rattle.mo_file.specs.Key.{key_of}
 use Rattle.mo_file.specs.Message.{Message}
-use Rattle.mo_lookup.specs.CatalogView.{forms}
+use Rattle.mo_file.specs.MessageParts.{context_of, forms, id_of, plural_of}
 use Rattle.po_entry.specs.Bytes.{Lacks}
 use Rattle.po_entry.specs.Facts.AllAppend.{All-left, All-right}
 use Rattle.po_entry.specs.Header.{HasAdmittedCharset}
@@ -17,8 +17,8 @@ use Rattle.msgunfmt.specs.declared.fault.UnformatError.{UnformatError}
 use Rattle.msgunfmt.specs.Internal.Laid.{AppendsEntry, AppendsMessage, HasOneMore, HoldsMessage}
 use Rattle.msgunfmt.specs.Internal.Refused.{RefusesEntry, RefusesMessage}
 use Rattle.msgunfmt.specs.MessageParts.{ContainsForms, ContainsKey, ContainsMsgid, after_context, before_plural, each_part, first_part, key_alone, msgid_alone}
-use Rattle.msgunfmt.specs.Unformatted.{context_of, entry_of_message, id_of, plural_of, taken_forms, unformatted}
-use Rattle.msgunfmt.proofs.CutLemmas.{split_none}
+use Rattle.msgunfmt.specs.Unformatted.{entry_of_message, taken_forms, unformatted}
+use Rattle.mo_file.proofs.CutLemmas.{split_none}
 use Rattle.msgunfmt.proofs.EntryParts.{entries_are, parts_of}
 use Rattle.msgunfmt.proofs.MessageLemmas.{message_valid}
 

@@ -1,4 +1,3 @@
-pub mod CutLemmas
 pub mod MessageLemmas
 pub mod FaultLemmas
 pub mod ReturnLemmas

@@ -7,7 +7,7 @@ use Rattle.std.specs.Prelude.{IsUtf8}
 use Rattle.std.proofs.lemmas.List.Splits.{length-slice_split}
 use Rattle.mo_file.specs.Key.{is_nul, key_of}
 use Rattle.mo_file.specs.Message.{Message, originals, translations}
-use Rattle.mo_lookup.specs.CatalogView.{forms}
+use Rattle.mo_file.specs.MessageParts.{context_of, forms, id_of, plural_of}
 use Rattle.po_syntax.specs.declared.fault.PoFault.{PoFault}
 use Rattle.po_entry.specs.TextEntry.{TextEntry, plain_entry, quoted_texts}
 use Rattle.po_entry.specs.Bytes.{Lacks}
@@ -19,7 +19,7 @@ use Rattle.msgunfmt.specs.declared.fault.UnformatError.{UnformatError}
 use Rattle.msgunfmt.specs.declared.fault.UnformatError.TheVariants.{Mo, NotUtf8, ForbiddenByte, ForeignCharset, OutOfMemory}
 use Rattle.msgunfmt.specs.Internal.Refused.{RefusesEntry, RefusesMessages, error_at}
 use Rattle.po_writer.specs.WrittenText.{written_text}
-use Rattle.msgunfmt.specs.Unformatted.{context_of, entry_of_message, id_of, plural_of, taken_forms, unformatted}
+use Rattle.msgunfmt.specs.Unformatted.{entry_of_message, taken_forms, unformatted}
 use Rattle.msgunfmt.specs.UnformattedText.{AreWrittenAs, HasForeignCharset}
 
 -- the texts of an entry can stand in it

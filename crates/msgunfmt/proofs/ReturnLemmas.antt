@@ -1,5 +1,5 @@
 -- A compiled file comes back from its PO text.
-use Rattle.std.proofs.Common.{◌≡◌, append_assoc, ℕ, Bool, true, false, ◌&&◌, ◌||◌, not, cond, List, [], ◌∷◌, ◌++◌, Option, None, Some, refl, sym, ap, ◌∙◌, subst, length, get_or, map, filter, arith, All, IfSome, IsPermutation, option_to_list}
+use Rattle.std.proofs.Common.{◌≡◌, append_assoc, ℕ, Bool, true, false, ◌&&◌, ◌||◌, not, cond, List, [], ◌∷◌, ◌++◌, Option, None, Some, refl, sym, ap, ◌∙◌, subst, length, get_or, map, filter, arith, All, IsPermutation, option_to_list}
 use Rattle.std.specs.List.{AllZip}
 use Rattle.std.proofs.Math.ListN.{get_or-map}
 use Rattle.std.proofs.lemmas.Bool.{and_parts}
@@ -8,13 +8,12 @@ use Rattle.std.proofs.lemmas.List.Elements.{All-filter, All-head, All-map, All-t
 use Rattle.std.proofs.lemmas.List.Folds.{map_fixed}
 use Rattle.std.proofs.lemmas.List.Sorted.{All-permutation, IsPermutation-refl}
 use Rattle.std.proofs.lemmas.Simd.{map-map}
-use Rattle.mo_file.specs.Key.{query_key}
+use Rattle.mo_file.specs.Key.{key_of}
 use Rattle.mo_file.specs.Layout.{layout}
 use Rattle.mo_file.specs.Message.{Message}
-use Rattle.mo_lookup.specs.CatalogView.{forms}
+use Rattle.mo_file.specs.MessageParts.{forms, id_of, plural_of}
 use Rattle.po_syntax.specs.PoText.{IsSmall}
 use Rattle.po_entry.specs.TextEntry.{TextEntry, previous_texts, quoted_texts, with_line, plain_entry as bare_entry}
-use Rattle.po_entry.specs.Bytes.{Lacks}
 use Rattle.po_entry.specs.Facts.AllAppend.{All-right}
 use Rattle.po_entry.specs.Header.{is_header}
 use Rattle.po_entry.specs.ReadsText.{ReadsText}
@@ -30,38 +29,16 @@ use Rattle.po_compile.specs.CompiledMessages.{AreMessagesOf, message_of, origina
 use Rattle.po_compile.specs.Compiling.{HasSmallLayout, IsCompilation}
 use Rattle.po_compile.specs.Accepted.{AreAccepted}
 use Rattle.po_compile.specs.Headline.{LookUpMeansEntries, MessagesAreOne}
-use Rattle.po_compile.specs.MessageLaws.{HasParts, JoinedEntriesCanStand, MessagesDiffer, MessagesHaveParts, OneTextIsRead}
+use Rattle.po_compile.specs.MessageLaws.{ComesBack, JoinedEntriesCanStand, MessagesDiffer, OneTextIsRead, TextsComeBack}
 use Rattle.po_compile.specs.declared.options.Compiled.{Compiled}
 use Rattle.po_compile.specs.declared.options.Options.{Options}
-use Rattle.msgunfmt.specs.MessageParts.{TextsComeBack}
 use Rattle.msgunfmt.specs.RoundTrip.{CompilesTo, UnformatThenCompile}
-use Rattle.msgunfmt.specs.Unformatted.{context_of, entry_of_message, id_of, plural_of, taken_forms, unformatted}
+use Rattle.msgunfmt.specs.Unformatted.{entry_of_message, taken_forms, unformatted}
 use Rattle.msgunfmt.proofs.MessageLemmas.{plain_valid}
-use Rattle.msgunfmt.proofs.CutLemmas.{context_cut, context_none, id_all, id_cut}
 
 -- the texts of an entry alone
 abbrev bare : TextEntry → TextEntry
 bare entry = bare_entry entry.context entry.id entry.plural entry.forms
-
-context_back : (context : Option (List ℕ)) (id : List ℕ) → IfSome context (Lacks 4) → Lacks 4 id
-    → context_of (query_key context id) ≡ context
-context_back None id lacks lacks' = context_none id lacks'
-context_back (Some context) id lacks lacks' = context_cut context id lacks
-
-id_back : (context : Option (List ℕ)) (id : List ℕ) → IfSome context (Lacks 4) → Lacks 4 id
-    → id_of (query_key context id) ≡ id
-id_back None id lacks lacks' = id_all id lacks'
-id_back (Some context) id lacks lacks' = id_cut context id lacks
-
-pub texts_come_back : MessagesHaveParts → TextsComeBack
-texts_come_back have_parts entry valid =
-    let parts = have_parts entry valid in
-    record {
-      context = ap context_of parts.key ∙ context_back entry.context entry.id valid.context valid.id;
-      id = ap id_of parts.key ∙ id_back entry.context entry.id valid.context valid.id;
-      plural = parts.plural;
-      forms_are = parts.forms_are;
-    }
 
 forms_back : (plural : Option (List ℕ)) (all : List (List ℕ)) → (plural ≡ None → length all ≡ 1)
     → taken_forms plural all ≡ all
@@ -69,17 +46,15 @@ forms_back None all one = take_all 1 all (omega (arith, one refl))
 forms_back (Some plural) all one = refl
 
 -- the entry of an entry's message has its texts
-entry_back : (entry : TextEntry) → IsEntry entry → HasParts entry → entry_of_message (message_of entry) ≡ bare entry
-entry_back entry valid parts =
+entry_back : (entry : TextEntry) → IsEntry entry → ComesBack entry → entry_of_message (message_of entry) ≡ bare entry
+entry_back entry valid back =
     let translated = forms (translation_of entry) in
-    let plural = plural_of (original_of entry) in
-    ap (λ key. bare_entry (context_of key) (id_of key) plural (taken_forms plural translated)) parts.key
-    ∙ ap (λ context. bare_entry context (id_of (query_key entry.context entry.id)) plural
-    (taken_forms plural translated)) (context_back entry.context entry.id valid.context valid.id)
-    ∙ ap (λ id. bare_entry entry.context id plural (taken_forms plural translated))
-    (id_back entry.context entry.id valid.context valid.id)
-    ∙ ap (λ p. bare_entry entry.context entry.id p (taken_forms p translated)) parts.plural
-    ∙ ap (λ all. bare_entry entry.context entry.id entry.plural (taken_forms entry.plural all)) parts.forms_are
+    let original = original_of entry in
+    ap (λ context. bare_entry context (id_of (key_of original)) (plural_of original)
+    (taken_forms (plural_of original) translated)) back.context
+    ∙ ap (λ id. bare_entry entry.context id (plural_of original) (taken_forms (plural_of original) translated)) back.id
+    ∙ ap (λ p. bare_entry entry.context entry.id p (taken_forms p translated)) back.plural
+    ∙ ap (λ all. bare_entry entry.context entry.id entry.plural (taken_forms entry.plural all)) back.forms_are
     ∙ ap (bare_entry entry.context entry.id entry.plural) (forms_back entry.plural entry.forms valid.one_form)
 
 bare_valid : (entry : TextEntry) → IsEntry entry → IsEntry (bare entry)
@@ -101,10 +76,10 @@ record IsAgain (entry : TextEntry) (m : Message) : Type 0 where
 abbrev IsReturned : Message → Type 0
 IsReturned m = IsAgain (entry_of_message m) m
 
-returned : MessagesHaveParts → (entry : TextEntry) → IsCatalogueEntry entry → has_translation entry ≡ true
+returned : TextsComeBack → (entry : TextEntry) → IsCatalogueEntry entry → has_translation entry ≡ true
     → IsReturned (message_of entry)
-returned parts entry can_stand translated =
-    subst (λ e. IsAgain e (message_of entry)) (sym (entry_back entry can_stand.valid (parts entry can_stand.valid)))
+returned come_back entry can_stand translated =
+    subst (λ e. IsAgain e (message_of entry)) (sym (entry_back entry can_stand.valid (come_back entry can_stand.valid)))
     (record {
       valid = record { valid = bare_valid entry can_stand.valid; charset = can_stand.charset };
       translated =
@@ -112,10 +87,10 @@ returned parts entry can_stand translated =
       again = refl;
     })
 
-all_returned : MessagesHaveParts → (use_fuzzy : Bool) (entries : List TextEntry) (messages : List Message)
+all_returned : TextsComeBack → (use_fuzzy : Bool) (entries : List TextEntry) (messages : List Message)
     → All IsCatalogueEntry entries
     → AreMessagesOf (compiled_list use_fuzzy entries) messages → All IsReturned messages
-all_returned parts use_fuzzy entries messages valid are =
+all_returned come_back use_fuzzy entries messages valid are =
     let list = compiled_list use_fuzzy entries in
     let can_stand = All-filter (is_compiled use_fuzzy) IsCatalogueEntry entries valid in
     let passes = filter_passes (is_compiled use_fuzzy) entries in
@@ -123,7 +98,7 @@ all_returned parts use_fuzzy entries messages valid are =
     λ i d inside. let e = get_or list i d in
     let wanted = and_parts (is_live e) (has_translation e && (use_fuzzy || not e.fuzzy || is_header e))
     (passes i d inside) in
-    returned parts e (can_stand i d inside)
+    returned come_back e (can_stand i d inside)
     (and_parts (has_translation e) (use_fuzzy || not e.fuzzy || is_header e) wanted.1).0 in
     All-permutation IsReturned (map message_of list) messages are.all (All-map IsReturned message_of list each)
 
@@ -225,7 +200,7 @@ one_catalogue one text read (c ∷ []) reads each =
     ap (λ (e : List TextEntry). e ∷ []) (one text c read each.0.reads reads)
 one_catalogue one text read (c ∷ d ∷ catalogues) reads each = absurd each.1
 
-module _ (parts : MessagesHaveParts) (differ : MessagesDiffer) (joined_stand : JoinedEntriesCanStand)
+module _ (come_back : TextsComeBack) (differ : MessagesDiffer) (joined_stand : JoinedEntriesCanStand)
     (one_text : OneTextIsRead) (one_list : MessagesAreOne) (means : LookUpMeansEntries)
     (one_reading : OneReading) (stand : EntriesCanStand) (reads : WrittenTextReads) (stay : LiveEntriesStay) where
   module _ (options : Options) (list : List TextEntry) (compiled' : Compiled)
@@ -286,7 +261,7 @@ module _ (parts : MessagesHaveParts) (differ : MessagesDiffer) (joined_stand : J
   unformat_then_compile options texts compiled' is =
       let list = joined_entries is.catalogues in
       let messages = is.is_compiled.laid_out.messages in
-      let all = all_returned parts options.use_fuzzy list messages
+      let all = all_returned come_back options.use_fuzzy list messages
       (joined_stand texts is.catalogues is.read) is.is_compiled.laid_out.are_messages in (
         written_text (unformatted messages),
         record {

@@ -7,7 +7,7 @@ use Rattle.mo_file.specs.declared.byte_order.Order.{Order}
 use Rattle.mo_file.specs.MoFile.{IsMoFile}
 use Rattle.mo_file.specs.Laws.{MoFileOrFault}
 use Rattle.mo_file.specs.Message.{Message}
-use Rattle.mo_lookup.specs.CatalogView.{forms}
+use Rattle.mo_file.specs.MessageParts.{context_of, forms, id_of, plural_of}
 use Rattle.po_syntax.specs.declared.fault.PoFault.{PoFault}
 use Rattle.po_entry.specs.TextEntry.{TextEntry, quoted_texts}
 use Rattle.po_entry.specs.Header.{HasAdmittedCharset}
@@ -19,7 +19,7 @@ use Rattle.msgunfmt.specs.declared.fault.UnformatError.{UnformatError}
 use Rattle.msgunfmt.specs.declared.fault.UnformatError.TheVariants.{Mo, NotUtf8, ForbiddenByte, ForeignCharset, OutOfMemory}
 use Rattle.msgunfmt.specs.RoundTrip.{TextOrFault}
 use Rattle.msgunfmt.specs.Internal.Refused.{RefusesMessages}
-use Rattle.msgunfmt.specs.Unformatted.{context_of, entry_of_message, id_of, plural_of, taken_forms, unformatted}
+use Rattle.msgunfmt.specs.Unformatted.{entry_of_message, taken_forms, unformatted}
 use Rattle.msgunfmt.specs.UnformattedText.{AreWrittenAs, IsUnformatFault}
 use Rattle.po_entry.proofs.Settled.{all_settled, texts_or_fault, charset_settled}
 use Rattle.msgunfmt.proofs.MessageLemmas.{catalogue_entries, message_valid}

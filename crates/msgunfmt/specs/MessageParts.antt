@@ -2,14 +2,10 @@
 -- MO Files").
 use Rattle.std.specs.Prelude.{◌≡◌, ℕ, All, List, [], ◌∷◌, ◌++◌, Option, None, Some}
 use Rattle.std.specs.List.{AllZip, join_with_byte}
-use Rattle.mo_file.specs.Key.{key_of}
 use Rattle.mo_file.specs.Message.{Message}
-use Rattle.mo_lookup.specs.CatalogView.{forms}
 use Rattle.po_entry.specs.Bytes.{Lacks}
 use Rattle.po_entry.specs.TextEntry.{TextEntry, plain_entry}
-use Rattle.po_entry.specs.Validity.{IsEntry}
-use Rattle.po_compile.specs.CompiledMessages.{original_of, translation_of}
-use Rattle.msgunfmt.specs.Unformatted.{context_of, id_of, plural_of, unformatted}
+use Rattle.msgunfmt.specs.Unformatted.{unformatted}
 
 -- a key: a msgid alone, or a context, the first EOT and a msgid
 pub data ContainsMsgid : List ℕ → Option (List ℕ) → List ℕ → Type 0 where
@@ -45,13 +41,3 @@ pub record IsEntryOf (m : Message) (entry : TextEntry) : Type 0 where
 -- each entry is that of its message, in the order of the file
 abbrev pub EntriesAreOfMessages : Type 0
 EntriesAreOfMessages = (messages : List Message) → AllZip IsEntryOf messages (unformatted messages)
-
--- an entry's texts are taken from the message that it is compiled to
-pub record ComesBack (entry : TextEntry) : Type 0 where
-  pub context : context_of (key_of (original_of entry)) ≡ entry.context
-  pub id : id_of (key_of (original_of entry)) ≡ entry.id
-  pub plural : plural_of (original_of entry) ≡ entry.plural
-  pub forms_are : forms (translation_of entry) ≡ entry.forms
-
-abbrev pub TextsComeBack : Type 0
-TextsComeBack = (entry : TextEntry) → IsEntry entry → ComesBack entry

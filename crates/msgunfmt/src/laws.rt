@@ -1,13 +1,13 @@
 //! Laws of msgunfmt, each the contract of a function that does nothing: a call brings the law into
 //! a proof.
 
-ghost use Rattle.msgunfmt.specs.MessageParts.{EntriesAreOfMessages, TextsComeBack};
+ghost use Rattle.msgunfmt.specs.MessageParts.{EntriesAreOfMessages};
 ghost use Rattle.msgunfmt.specs.RoundTrip.{EmptyText, NoFaultWhereUnformatted, OneText, OneUnformatFault, TextOrFault, UnformatThenCompile};
 
 use mo_file::{mo_file_or_fault, one_first_fault, one_message_list};
 use po_compile::laws::{
     joined_entries_can_stand, look_up_means_entries, messages_are_one, messages_differ,
-    messages_have_parts, one_text_is_read,
+    one_text_is_read, texts_come_back,
 };
 use po_reader::laws::{entries_can_stand, one_reading};
 use po_writer::laws::{live_entries_stay, some_entry_is_written, written_text_reads};
@@ -17,7 +17,7 @@ use po_writer::laws::{live_entries_stay, some_entry_is_written, written_text_rea
 pub fn unformat_then_compile()
     ensures { UnformatThenCompile }
 {
-    messages_have_parts();
+    texts_come_back();
     messages_differ();
     joined_entries_can_stand();
     one_text_is_read();
@@ -70,10 +70,3 @@ pub fn text_or_fault()
 pub fn entries_are_of_messages()
     ensures { EntriesAreOfMessages }
 {}
-
-/// From the message that an entry is compiled to its context, msgid, plural and forms are taken.
-pub fn texts_come_back()
-    ensures { TextsComeBack }
-{
-    messages_have_parts();
-}

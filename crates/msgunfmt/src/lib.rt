@@ -11,7 +11,6 @@
 
 mod fault;
 pub mod laws;
-mod parts;
 mod plan;
 mod unformatting;
 mod whole_run;

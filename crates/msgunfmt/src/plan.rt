@@ -3,10 +3,10 @@ ghost use Rattle.std.specs.Prelude.{◌≡◌, ◌++◌, IfOk, OnOk, OnErr, Err}
 ghost use Rattle.msgunfmt.specs.Msgunfmt.{IsMsgunfmtRun, unformat_text};
 ghost use Rattle.runs.specs.Run.{run_view};
 
-use crate::laws::empty_text;
 use crate::fault::UnformatError;
+use crate::laws::empty_text;
 use crate::unformatting::unformat;
-use runs::{Run, ToolFault, push_location, push_mo_text, push_numbered, refused};
+use runs::{Run, ToolFault, push_mo_text, push_numbered, reported, written};
 use std::alloc::{AllocError, Global};
 
 /// Appends why a file has no PO text.
@@ -37,22 +37,15 @@ pub fn plan_msgunfmt(alloc: Global, bytes: &[u8], name: &str) -> Result<Run, Too
     match unformat(alloc, bytes) {
         Ok(text) => {
             empty_text();
-            Ok(Run {
-                create: text.len() > 0,
-                output: text,
-                messages: Vec::new(alloc),
-                status: 0,
-            })
+            Ok(written(alloc, text))
         }
         Err(error) => {
             if error == UnformatError::OutOfMemory {
                 return Err(ToolFault::OutOfMemory);
             }
-            let mut messages = Vec::new(alloc);
-            push_location(&mut messages, "msgunfmt", name, 0)?;
-            push_unformat_text(&mut messages, error)?;
-            messages.extend_from_slice(b"\n")?;
-            Ok(refused(alloc, messages))
+            let mut text = Vec::new(alloc);
+            push_unformat_text(&mut text, error)?;
+            Ok(reported(alloc, "msgunfmt", name, 0, &text)?)
         }
     }
 }

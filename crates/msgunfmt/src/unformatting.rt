@@ -1,7 +1,7 @@
 //! The entries of messages, and the PO text of an MO file.
 
 ghost use Rattle.std.specs.Prelude.{◌≡◌, ◌<◌, [], All, IfErr, IfOk, MatchResult, OnOk, false, length, option_copied};
-ghost use Rattle.mo_lookup.specs.CatalogView.{forms};
+ghost use Rattle.mo_file.specs.MessageParts.{forms};
 ghost use Rattle.po_entry.specs.Bytes.{Lacks};
 ghost use Rattle.po_entry.specs.TextEntry.{quoted_texts};
 ghost use Rattle.msgunfmt.specs.Internal.Laid.{AppendsEntry, AppendsMessage, HoldsMessage};
@@ -10,8 +10,7 @@ ghost use Rattle.msgunfmt.specs.Unformatted.{taken_forms};
 ghost use Rattle.msgunfmt.specs.UnformattedText.{AreWrittenAs, IsUnformatted, IsUnformatFault};
 
 use crate::fault::UnformatError;
-use crate::parts::{first_part, key_parts, original_parts};
-use mo_file::{Meter, MoView};
+use mo_file::{Meter, MoView, first_part, key_parts, original_parts};
 use po_entry::laws::drafts_are_added;
 use po_entry::{Drafts, EntryRef};
 use po_syntax::PoFault;

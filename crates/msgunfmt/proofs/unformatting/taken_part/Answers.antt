@@ -1,5 +1,5 @@
 use Rattle.std.proofs.Common.{ap, sym, ◌∙◌, option_copied}
-use Rattle.mo_lookup.specs.CatalogView.{forms}
+use Rattle.mo_file.specs.MessageParts.{forms}
 use Rattle.msgunfmt.specs.Unformatted.{taken_forms}
 use Rattle.msgunfmt.proofs.LaidMessages.{first_alone}
 use Rattle.msgunfmt.proofs.unformatting.taken_part.Goals as goal

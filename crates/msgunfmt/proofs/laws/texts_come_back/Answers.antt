@@ -1,5 +1,0 @@
-use Rattle.msgunfmt.proofs.ReturnLemmas.{texts_come_back}
-use Rattle.msgunfmt.proofs.laws.texts_come_back.Goals as goal
-
-pub returns : goal.returns
-returns c = texts_come_back c.messages_have_parts.ensures
