@@ -4,7 +4,7 @@ use Rattle.std.specs.Borrow.{Bor}
 use Rattle.std.specs.Option.{is_some, option_map, option_or}
 use Rattle.std.proofs.lemmas.List.Elements.{All-cons, All-filter, All-head, All-nil, All-tail}
 use Rattle.mo_file.specs.Key.{key_of}
-use Rattle.mo_lookup.specs.CatalogView.{forms}
+use Rattle.mo_file.specs.MessageParts.{forms, id_of, plural_of}
 use Rattle.plural_rule.specs.PluralRule.{IsRuleOf, RuleView, expression_limit}
 use Rattle.plural_rule.specs.declared.rule.Source.{Source}
 use Rattle.plural_rule.specs.declared.rule.Source.TheVariants.{Header, Default}
@@ -17,8 +17,7 @@ use Rattle.po_compile.specs.CompiledInputs.{compiled_inputs, compiled_message, c
 use Rattle.po_compile.specs.CompiledList.{is_compiled}
 use Rattle.po_compile.specs.CompiledMessages.{original_of, translation_of}
 use Rattle.po_compile.specs.declared.messages.CompiledMessage.{CompiledMessage}
-use Rattle.msgunfmt.specs.MessageParts.{TextsComeBack}
-use Rattle.msgunfmt.specs.Unformatted.{id_of, plural_of}
+use Rattle.po_compile.specs.MessageLaws.{TextsComeBack}
 use Rattle.msgfmt.specs.Msgfmt.{AreChecked}
 use Rattle.msgfmt.specs.declared.profile.CheckFault.TheVariants.{NoHeader}
 use Rattle.msgfmt.specs.Profile.{IsChecked, Reported, checked_message, checked_messages, count_fault, counts_below, entry_fault, first_fault, first_some, is_header_entry, is_plural, rule_fault, taken_entry}

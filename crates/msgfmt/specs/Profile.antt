@@ -5,13 +5,12 @@ use Rattle.std.specs.Prelude.{◌∷◌, ◌++◌, length, find, map, Option, No
 use Rattle.std.specs.List.{list_any, range_with_len}
 use Rattle.std.specs.Option.{is_some, option_or, option_to_list, option_map_or}
 use Rattle.mo_file.specs.Key.{key_of}
-use Rattle.mo_lookup.specs.CatalogView.{forms}
+use Rattle.mo_file.specs.MessageParts.{context_of, forms, id_of, plural_of}
 use Rattle.po_entry.specs.TextEntry.{TextEntry, plain_entry, with_line}
 use Rattle.po_entry.specs.Header.{is_header, first_form}
 use Rattle.po_entry.specs.Joined.{InputEntry}
 use Rattle.po_compile.specs.CompiledInputs.{CompiledView, compiled_view}
 use Rattle.po_compile.specs.declared.messages.CompiledMessage.{CompiledMessage}
-use Rattle.msgunfmt.specs.Unformatted.{context_of, id_of, plural_of}
 use Rattle.plural_rule.specs.Expression.{value}
 use Rattle.plural_rule.specs.PluralRule.{RuleView, IsRuleOf, expression_limit}
 use Rattle.plural_rule.specs.declared.rule.Source.{Source}

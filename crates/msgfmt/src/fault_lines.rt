@@ -9,7 +9,7 @@ ghost use Rattle.msgfmt.specs.Msgfmt as Spec;
 use crate::profile::CheckFault;
 use po_entry::JoinError;
 use po_syntax::PoFault;
-use runs::{Run, push_location, push_numbered, push_po_text, refused};
+use runs::{Run, push_numbered, push_po_text, reported};
 use std::alloc::{AllocError, Global};
 
 /// The name of an input, of those of all.
@@ -86,16 +86,10 @@ pub(crate) fn refused_run(
     if error.error.kind == PoFault::OutOfMemory {
         return Err(AllocError);
     }
-    let mut messages = Vec::new(alloc);
-    push_location(
-        &mut messages,
-        "msgfmt",
-        input_name(names, error.input),
-        error.error.line,
-    )?;
-    push_join_text(&mut messages, names, error)?;
-    messages.extend_from_slice(b"\n")?;
-    Ok(refused(alloc, messages))
+    let mut text = Vec::new(alloc);
+    push_join_text(&mut text, names, error)?;
+    let name = input_name(names, error.input);
+    reported(alloc, "msgfmt", name, error.error.line, &text)
 }
 
 /// The run of inputs that the check refuses.
@@ -111,14 +105,8 @@ pub(crate) fn failed_check_run(
     if fault == CheckFault::OutOfMemory {
         return Err(AllocError);
     }
-    let mut messages = Vec::new(alloc);
-    push_location(
-        &mut messages,
-        "msgfmt",
-        input_name(names, input),
-        line_of_fault(fault),
-    )?;
-    push_check_text(&mut messages, fault)?;
-    messages.extend_from_slice(b"\n")?;
-    Ok(refused(alloc, messages))
+    let mut text = Vec::new(alloc);
+    push_check_text(&mut text, fault)?;
+    let name = input_name(names, input);
+    reported(alloc, "msgfmt", name, line_of_fault(fault), &text)
 }

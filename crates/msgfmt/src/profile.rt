@@ -1,16 +1,16 @@
 //! What `--profile-check` finds wrong with the messages that inputs are compiled to.
 ghost use Rattle.std.specs.Prelude.{◌≡◌, ◌⊎◌, ◌^◌, ◌<◌, None, Some, IfErr, OnOk, find, length, option_map};
 ghost use Rattle.std.specs.List.{list_any};
-ghost use Rattle.mo_lookup.specs.CatalogView.{forms};
+ghost use Rattle.mo_file.specs.MessageParts.{forms};
 ghost use Rattle.po_compile.specs.OfInputs.{OfAllInputs};
 ghost use Rattle.msgfmt.specs.Msgfmt.{AreChecked};
 ghost use Rattle.msgfmt.specs.Profile as Spec;
 ghost use Rattle.msgfmt.specs.declared.profile.CheckFault.TheVariants.{OutOfMemory};
 
+use mo_file::{first_part, key_parts, original_parts, split_form};
 use plural_rule::{Reason, Rule, Source};
+use po_compile::laws::texts_come_back;
 use po_compile::{Collected, CompiledMessage, compiled_messages};
-use msgunfmt::laws::texts_come_back;
-use msgunfmt::{first_part, key_parts, original_parts, split_form};
 use std::alloc::{AllocError, Global};
 use thiserror::Error;
 

@@ -1,6 +1,6 @@
 use Rattle.std.proofs.Common.{◌≡◌, length}
 use Rattle.std.specs.List.{list_any}
-use Rattle.mo_lookup.specs.CatalogView.{forms}
+use Rattle.mo_file.specs.MessageParts.{forms}
 use Rattle.msgfmt.specs.Profile.{differ, has_newline}
 use Rattle.msgfmt.proofs.profile.any_differs.Given as goal
 
