@@ -4,14 +4,14 @@ use Rattle.std.proofs.lemmas.Bool.{false≢true, ltb-true}
 use Rattle.std.proofs.lemmas.Str.{IsUtf8-from_ascii}
 use Rattle.std.specs.Borrow.{Bor}
 use Rattle.std.specs.Option.{option_copied, option_map_or}
-use Rattle.gettext.specs.Catalogues.{AreCatalogues, Searching, given_domain, searching, done, found, skipped}
+use Rattle.gettext.specs.Catalogues.{AreCatalogues, GivenDomain, Searching, given_domain, searching, done, found, skipped}
 use Rattle.gettext.specs.Environments.{IsEnvironment, environment_view}
-use Rattle.gettext.specs.Gettext.{Opens, GettextRequest, NgettextRequest, IsGettextRun, IsNgettextRun, gettext_output, ngettext_output, output_run, none, opened, refused}
+use Rattle.gettext.specs.Gettext.{Opens, GettextRequest, NgettextRequest, IsLookUpRun, gettext_output, ngettext_output, output_of, output_run, none, opened, refused}
 use Rattle.gettext.specs.Locales.{with_name}
 use Rattle.gettext.specs.Paths.{paths_of}
-use Rattle.gettext.specs.Options.{IsGettextRequest, IsNgettextRequest}
+use Rattle.gettext.specs.Options.{AsksGettext, AsksNgettext, CommandView, IsGettextRequest, IsNgettextRequest, asks_messages, asks_plural_form, fits_no_gettext, fits_no_ngettext}
 use Rattle.gettext.specs.Usage.{GettextUsage, NgettextUsage, gettext_usage, ngettext_usage}
-use Rattle.po_tools.specs.ToolRun.{Answers, CommandLine, LooksUp, Reached, answers_of, line_of, RunsGettextLine, RunsNgettextLine, runs_gettext, no_gettext, runs_ngettext, no_ngettext}
+use Rattle.po_tools.specs.ToolRun.{Answers, CommandLine, Reached, RunsLookUpLine, answers_of, fits_none, line_of, looks_up}
 use Rattle.gettext.specs.WholeRun.{RunsLookUp, runs, no_memory}
 use Rattle.gettext.specs.declared.candidates.Environment.{Environment}
 use Rattle.locale_names.specs.Names.{before as part_before, candidates_of_name, from_first, is_c_locale, language_parts}
@@ -93,10 +93,10 @@ chain_of_one : (catalog : CatalogView) (query : Query)
     → chain_answered (catalog ∷ []) query ≡ catalog_answered catalog query
 chain_of_one catalog query = by_found catalog query _ refl
 
-module _ (tool text bytes : List ℕ) (query : Query) (made : Compiled) (from : IsCompiledFrom text made)
+module _ (text bytes : List ℕ) (query : Query) (made : Compiled) (from : IsCompiledFrom text made)
     (same_bytes : bytes ≡ made.bytes.items) (no_fault : NoFaultOfMoFile) (one_list : OneMessageList) where
   -- what is printed where the catalogue is opened
-  opens_answers : (chain : List CatalogView) (reported : List ℕ)
+  opens_answers : {tool : List ℕ} (chain : List CatalogView) (reported : List ℕ)
       → Opens tool (record { name = hello_mo; bytes = bytes } ∷ []) chain reported
       → EndsLookUp text query (end (Ok 0) None (chain_answered chain query).text reported)
   opens_answers chain reported (opened {catalog} order is view none) =
@@ -160,22 +160,21 @@ module _ (tool text bytes : List ℕ) (query : Query) (made : Compiled) (from : 
     run_ends shown reported answers (left names why kept) = cc
 
     -- what the run of the catalogues comes to
-    pub looked_up : (IsRun : List NamedFile → RunView → Type 0)
-        → ((run : RunView) → IsRun (record { name = hello_mo; bytes = bytes } ∷ []) run
-        → (chain : List CatalogView) × (reported : List ℕ)
-        × Opens tool (record { name = hello_mo; bytes = bytes } ∷ []) chain reported
-        × (run ≡ output_run (chain_answered chain query).text reported))
-        → {result : Result ℕ ProgramFault}
-        → RunsLookUp system (given_domain (Some (codes "hello")) None) IsRun before after result
+    pub looked_up : (command : CommandView) → command.domain ≡ given_domain (Some (codes "hello")) None
+        → ((chain : List CatalogView) → output_of chain command.request ≡ (chain_answered chain query).text)
+        → {result : Result ℕ ProgramFault} → RunsLookUp system command before after result
         → EndsLookUp text query (now result)
-    looked_up IsRun says {result} (runs {catalogues} {run} at is_run writes) =
-        let there = subst (λ p. AreCatalogues system.file p catalogues)
-        (paths_are at.environment at.is_read) at.are_read in
-        let these = catalogues_are catalogues there in
-        let of_run = says run (subst (λ c. IsRun (take (2 ^ 32 - 1) c) run) these is_run) in
-        run_ends _ _ (opens_answers of_run.0 of_run.1 of_run.2)
-        (subst (λ (v : RunView). Leaves v (codes "-") old new result) of_run.3 (leaves run result writes))
-    looked_up IsRun says (no_memory unchanged) =
+    looked_up command domain says {result} (runs {catalogues} {run} at is_run writes) =
+        let paths : paths_of command.domain.argument command.domain.option at.environment ≡ hello_mo ∷ [] =
+        ap (λ (d : GivenDomain). paths_of d.argument d.option at.environment) domain
+        ∙ paths_are at.environment at.is_read in
+        let these = catalogues_are catalogues (subst (λ p. AreCatalogues system.file p catalogues) paths at.are_read) in
+        let ran : IsLookUpRun (record { name = hello_mo; bytes = bytes } ∷ []) command.request run =
+        subst (λ c. IsLookUpRun (take (2 ^ 32 - 1) c) command.request run) these is_run in
+        run_ends _ _ (opens_answers ran.chain ran.reported ran.opens)
+        (subst (λ (v : RunView). Leaves v (codes "-") old new result)
+        (ran.run_is ∙ ap (λ t. output_run t ran.reported) (says ran.chain)) (leaves run result writes))
+    looked_up command domain says (no_memory unchanged) =
         ends (Err OutOfMemory) [] [] (ap (λ (c : Contents). c.out) (same unchanged) ∙ out)
         (ap (λ (c : Contents). c.err) (same unchanged) ∙ err) failed
 
@@ -194,17 +193,14 @@ usage_is id shell arguments usage s a is =
     let e : Some usage ≡ Some (record { domain = Some (codes "hello"); messages = id ∷ [] }) =
     sym is ∙ rw (s, a) refl in cc
 
-pub gettext_says : (id : List ℕ) (files : List NamedFile) (usage : GettextUsage) (o : GettextRequest)
-    (given : List ℕ → Option (List ℕ)) → given (codes "context") ≡ None
+gettext_says : (id : List ℕ) (usage : GettextUsage) (o : GettextRequest) (given : List ℕ → Option (List ℕ))
+    → given (codes "context") ≡ None
     → usage ≡ record { domain = Some (codes "hello"); messages = id ∷ [] }
     → IsGettextRequest (λ name flag. flag ≡ false) (λ name t. t ≡ given name) usage o
-    → (run : RunView) → IsGettextRun files o run
-    → (chain : List CatalogView) × (reported : List ℕ) × Opens (codes "gettext") files chain reported
-    × (run ≡ output_run (chain_answered chain (message id)).text reported)
-gettext_says id files usage o given no_context is request run ran =
-    let arguments : o.arguments ≡ id ∷ [] = request.messages ∙ ap (λ (u : GettextUsage). u.messages) is in
-    let says = output_is ran.chain o id arguments (request.context ∙ no_context) request.expand request.shell in
-    (ran.chain, ran.reported, ran.opens, ran.run_is ∙ ap (λ t. output_run t ran.reported) says)
+    → (chain : List CatalogView) → gettext_output chain o ≡ (chain_answered chain (message id)).text
+gettext_says id usage o given no_context is request chain =
+    output_is chain o id (request.messages ∙ ap (λ (u : GettextUsage). u.messages) is) (request.context ∙ no_context)
+    request.expand request.shell
 
 -- what ngettext writes without options
 plural_output_is : (chain : List CatalogView) (o : NgettextRequest) (id plural count : List ℕ) → o.id ≡ id
@@ -221,18 +217,15 @@ plural_usage_is id plural count arguments usage a is =
     let e : Some usage ≡ Some (record { domain = Some (codes "hello"); id = id; plural = plural; count = count }) =
     sym is ∙ rw a refl in cc
 
-pub ngettext_says : (id plural count : List ℕ) (files : List NamedFile) (usage : NgettextUsage) (o : NgettextRequest)
+ngettext_says : (id plural count : List ℕ) (usage : NgettextUsage) (o : NgettextRequest)
     (given : List ℕ → Option (List ℕ)) → given (codes "context") ≡ None
     → usage ≡ record { domain = Some (codes "hello"); id = id; plural = plural; count = count }
     → IsNgettextRequest (λ name flag. flag ≡ false) (λ name t. t ≡ given name) usage o
-    → (run : RunView) → IsNgettextRun files o run
-    → (chain : List CatalogView) × (reported : List ℕ) × Opens (codes "ngettext") files chain reported
-    × (run ≡ output_run (chain_answered chain (counted id plural count)).text reported)
-ngettext_says id plural count files usage o given no_context is request run ran =
-    let says = plural_output_is ran.chain o id plural count (request.id ∙ ap (λ (u : NgettextUsage). u.id) is)
+    → (chain : List CatalogView) → ngettext_output chain o ≡ (chain_answered chain (counted id plural count)).text
+ngettext_says id plural count usage o given no_context is request chain =
+    plural_output_is chain o id plural count (request.id ∙ ap (λ (u : NgettextUsage). u.id) is)
     (request.plural ∙ ap (λ (u : NgettextUsage). u.plural) is) (request.count ∙ ap (λ (u : NgettextUsage). u.count) is)
-    (request.context ∙ no_context) request.expand in
-    (ran.chain, ran.reported, ran.opens, ran.run_is ∙ ap (λ t. output_run t ran.reported) says)
+    (request.context ∙ no_context) request.expand
 
 -- by the words of the command line
 module _ (text bytes : List ℕ) (made : Compiled) (from : IsCompiledFrom text made)
@@ -258,48 +251,46 @@ module _ (text bytes : List ℕ) (made : Compiled) (from : IsCompiledFrom text m
   There = answers_of file standard (λ name value. value ≡ variables name) entries
 
   -- what the run of the catalogues comes to in the domain `hello`
-  looks_up : (tool : List ℕ) (query : Query) (IsRun : List NamedFile → RunView → Type 0)
-      → ((run : RunView) → IsRun (record { name = hello_mo; bytes = bytes } ∷ []) run
-      → (chain : List CatalogView) × (reported : List ℕ)
-      × Opens tool (record { name = hello_mo; bytes = bytes } ∷ []) chain reported
-      × (run ≡ output_run (chain_answered chain query).text reported))
-      → (argument : Option (List ℕ)) → argument ≡ Some (codes "hello")
-      → {result : Result ℕ ProgramFault} → LooksUp Line There IsRun argument before after result
+  in_hello : (query : Query) (command : CommandView) → command.domain ≡ given_domain (Some (codes "hello")) None
+      → ((chain : List CatalogView) → output_of chain command.request ≡ (chain_answered chain query).text)
+      → (result : Result ℕ ProgramFault)
+      → RunsLookUp (searching (λ name value. value ≡ variables name) file before.asked after.asked) command
+      before.written after.written result
       → EndsLookUp text query (end (status_or_memory result) None new.out new.err)
-  looks_up tool query IsRun says argument names {result} looks =
-      let domains : given_domain argument looks.domain ≡ given_domain (Some (codes "hello")) None =
-      rw (names, looks.domain_is ∙ no_domain) refl in
-      looked_up tool text bytes query made from same_bytes no_fault one_list old new out err
+  in_hello query command domain says result looks =
+      looked_up text bytes query made from same_bytes no_fault one_list old new out err
       before.written after.written (searching (λ name value. value ≡ variables name) file before.asked after.asked)
       (λ v e. e ∙ all) (λ v e. e ∙ messages) (λ v e. e ∙ lang) (λ v e. e ∙ language) (λ v e. e ∙ folder) is leaves same
-      IsRun says
-      (subst (λ d. RunsLookUp (searching (λ name value. value ≡ variables name) file before.asked after.asked) d
-      IsRun before.written after.written result) domains looks.runs)
+      command domain says {result} looks
+
+  domain_is : (argument option : Option (List ℕ)) → argument ≡ Some (codes "hello") → option ≡ given (codes "domain")
+      → given_domain argument option ≡ given_domain (Some (codes "hello")) None
+  domain_is argument option names is = rw (names, is ∙ no_domain) refl
 
   pub gettext_ends : (id : List ℕ) → operands ≡ codes "hello" ∷ id ∷ [] → (result : Result ℕ ProgramFault)
-      → RunsGettextLine Line There before after result
+      → RunsLookUpLine (AsksGettext Line.flag Line.text Line.texts) There before after result
       → EndsLookUp text (message id) (end (status_or_memory result) None new.out new.err)
-  gettext_ends id operands_are result (runs_gettext {shell} {arguments} {usage}
-      {request} shell_is arguments_are fits request_is looks) =
-      let u = usage_is id shell arguments usage shell_is (arguments_are ∙ operands_are) fits in
-      looks_up (codes "gettext") (message id) (λ files run. IsGettextRun files request run)
-      (gettext_says id _ usage request given no_context u request_is) usage.domain
-      (ap (λ (u : GettextUsage). u.domain) u) looks
-  gettext_ends id operands_are result (no_gettext {shell} {arguments} shell_is arguments_are fits) =
+  gettext_ends id operands_are result (looks_up (asks_messages {arguments} {option} {usage} {o} arguments_are fits
+      option_is request) looks unread) =
+      let u = usage_is id o.shell arguments usage request.shell (arguments_are ∙ operands_are) fits in
+      in_hello (message id) _ (domain_is usage.domain option (ap (λ (u : GettextUsage). u.domain) u) option_is)
+      (gettext_says id usage o given no_context u request) result looks
+  gettext_ends id operands_are _ (fits_none (fits_no_gettext {shell} {arguments} shell_is arguments_are fits) same) =
       let e : gettext_usage shell arguments ≡ gettext_usage false (codes "hello" ∷ id ∷ []) =
       rw (shell_is, arguments_are ∙ operands_are) refl in
-      absurd (false≢true (ap is_some (sym fits.none ∙ e)))
+      absurd (false≢true (ap is_some (sym fits ∙ e)))
 
   pub ngettext_ends : (id plural count : List ℕ) → operands ≡ codes "hello" ∷ id ∷ plural ∷ count ∷ []
-      → (result : Result ℕ ProgramFault) → RunsNgettextLine Line There before after result
+      → (result : Result ℕ ProgramFault)
+      → RunsLookUpLine (AsksNgettext Line.flag Line.text Line.texts) There before after result
       → EndsLookUp text (counted id plural count) (end (status_or_memory result) None new.out new.err)
-  ngettext_ends id plural count operands_are result (runs_ngettext {arguments} {usage}
-      {request} arguments_are fits request_is looks) =
+  ngettext_ends id plural count operands_are result (looks_up (asks_plural_form {arguments} {option} {usage} {o}
+      arguments_are fits option_is request) looks unread) =
       let u = plural_usage_is id plural count arguments usage (arguments_are ∙ operands_are) fits in
-      looks_up (codes "ngettext") (counted id plural count) (λ files run. IsNgettextRun files request run)
-      (ngettext_says id plural count _ usage request given no_context u request_is) usage.domain
-      (ap (λ (u : NgettextUsage). u.domain) u) looks
-  ngettext_ends id plural count operands_are result (no_ngettext {arguments} arguments_are fits) =
+      in_hello (counted id plural count) _
+      (domain_is usage.domain option (ap (λ (u : NgettextUsage). u.domain) u) option_is)
+      (ngettext_says id plural count usage o given no_context u request) result looks
+  ngettext_ends id plural count operands_are _ (fits_none (fits_no_ngettext {arguments} arguments_are fits) same) =
       let e : ngettext_usage arguments ≡ ngettext_usage (codes "hello" ∷ id ∷ plural ∷ count ∷ []) =
       rw (arguments_are ∙ operands_are) refl in
-      absurd (false≢true (ap is_some (sym fits.none ∙ e)))
+      absurd (false≢true (ap is_some (sym fits ∙ e)))

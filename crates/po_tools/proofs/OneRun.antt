@@ -19,7 +19,7 @@ use Rattle.po_compile.specs.declared.options.Compiled.{Compiled}
 use Rattle.msgfmt.specs.declared.options.MsgfmtOptions.{MsgfmtOptions}
 use Rattle.msgfmt.specs.declared.profile.CheckFault.TheVariants.{NoHeader}
 use Rattle.runs.specs.FaultText.{fault_line, mo_text}
-use Rattle.gettext.specs.Gettext.{GettextRequest, NgettextRequest, IsGettextRun, IsNgettextRun, Opens, output_run, gettext_output, ngettext_output}
+use Rattle.gettext.specs.Gettext.{IsLookUpRun, Opens, Request, output_of, output_run, tool_of}
 use Rattle.gettext.specs.Gettext.Opens.{none, opened, refused}
 use Rattle.po_compile.specs.CompiledInputs.{compiled_inputs}
 use Rattle.msgfmt.specs.Msgfmt.{AreChecked, IsRefused, check_line, compile_options, compiled_run, input_names, input_texts, join_line}
@@ -75,19 +75,12 @@ module _ (unique : OneMessageList) (no_fault : NoFaultOfMoFile) (one_fault : One
             ∙ ap (λ (t : List ℕ). fault_line tool file.name 0 (mo_text fault') ++ t) rest.1,
       )
 
-  pub gettext_once : (files : List NamedFile) (o : GettextRequest) (run other : RunView) → IsGettextRun files o run
-      → IsGettextRun files o other → run ≡ other
-  gettext_once files o run other is also =
-      let same = one_chain (codes "gettext") files is.chain also.chain is.reported also.reported is.opens also.opens in
-      is.run_is ∙ ap (λ (chain : List CatalogView). output_run (gettext_output chain o) is.reported) same.0
-      ∙ ap (λ (reported : List ℕ). output_run (gettext_output also.chain o) reported) same.1 ∙ sym also.run_is
-
-  pub ngettext_once : (files : List NamedFile) (o : NgettextRequest) (run other : RunView) → IsNgettextRun files o run
-      → IsNgettextRun files o other → run ≡ other
-  ngettext_once files o run other is also =
-      let same = one_chain (codes "ngettext") files is.chain also.chain is.reported also.reported is.opens also.opens in
-      is.run_is ∙ ap (λ (chain : List CatalogView). output_run (ngettext_output chain o) is.reported) same.0
-      ∙ ap (λ (reported : List ℕ). output_run (ngettext_output also.chain o) reported) same.1 ∙ sym also.run_is
+  pub look_up_once : (files : List NamedFile) (request : Request) (run other : RunView) → IsLookUpRun files request run
+      → IsLookUpRun files request other → run ≡ other
+  look_up_once files request run other is also =
+      let same = one_chain (tool_of request) files is.chain also.chain is.reported also.reported is.opens also.opens in
+      is.run_is ∙ ap (λ (chain : List CatalogView). output_run (output_of chain request) is.reported) same.0
+      ∙ ap (λ (reported : List ℕ). output_run (output_of also.chain request) reported) same.1 ∙ sym also.run_is
 
 -- what a header found or not found says of the check's fault
 abbrev CheckedBy : List InputEntry → Option Reported → Option InputEntry → Type 0

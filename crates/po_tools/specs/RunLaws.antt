@@ -1,7 +1,7 @@
 -- What a tool writes and reports, and its exit status, are functions of its inputs: it has one run.
 use Rattle.std.specs.Prelude.{◌≡◌, ℕ, List}
 use Rattle.msgfmt.specs.declared.options.MsgfmtOptions.{MsgfmtOptions}
-use Rattle.gettext.specs.Gettext.{GettextRequest, NgettextRequest, IsGettextRun, IsNgettextRun}
+use Rattle.gettext.specs.Gettext.{IsLookUpRun, Request}
 use Rattle.msgcat.specs.declared.input.MergeOptions.{MergeOptions}
 use Rattle.msgattrib.specs.declared.selection.Selection.{Selection}
 use Rattle.msgattrib.specs.Msgattrib.{IsMsgattribRun}
@@ -17,15 +17,10 @@ OneMsgfmtRun =
     (inputs : List NamedFile) (options : MsgfmtOptions) (run other : RunView) → IsMsgfmtRun inputs options run
     → IsMsgfmtRun inputs options other → run ≡ other
 
--- gettext has one run over its catalogues
-abbrev pub OneGettextRun : Type 0
-OneGettextRun = (files : List NamedFile) (o : GettextRequest) (run other : RunView) → IsGettextRun files o run
-    → IsGettextRun files o other → run ≡ other
-
--- ngettext has one run over its catalogues
-abbrev pub OneNgettextRun : Type 0
-OneNgettextRun = (files : List NamedFile) (o : NgettextRequest) (run other : RunView) → IsNgettextRun files o run
-    → IsNgettextRun files o other → run ≡ other
+-- gettext and ngettext have one run of a request over its catalogues
+abbrev pub OneLookUpRun : Type 0
+OneLookUpRun = (files : List NamedFile) (request : Request) (run other : RunView) → IsLookUpRun files request run
+    → IsLookUpRun files request other → run ≡ other
 
 -- msgunfmt has one run of its file
 abbrev pub OneMsgunfmtRun : Type 0

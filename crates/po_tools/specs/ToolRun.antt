@@ -1,9 +1,8 @@
 -- What each tool does as a whole, by what its command line gives.
 use Rattle.std.specs.Prelude.{◌≡◌, ◌+◌, ℕ, Bool, List, Option, None, Some, Result, Ok, Err, codes, false}
-use Rattle.gettext.specs.Catalogues.{given_domain, searching}
-use Rattle.gettext.specs.Gettext.{GettextRequest, NgettextRequest, IsGettextRun, IsNgettextRun}
+use Rattle.gettext.specs.Catalogues.{searching}
 use Rattle.gettext.specs.WholeRun.{RunsLookUp}
-use Rattle.gettext.specs.Options.{IsGettextRequest, IsNgettextRequest}
+use Rattle.gettext.specs.Options.{AsksGettext, AsksNgettext, CommandView}
 use Rattle.msgfmt.specs.declared.options.MsgfmtOptions.{MsgfmtOptions}
 use Rattle.msgfmt.specs.WholeRun.{RunsMsgfmt}
 use Rattle.msgunfmt.specs.Msgunfmt.{IsMsgunfmtRun}
@@ -24,7 +23,6 @@ use Rattle.runs.specs.Inputs.{Asked, Asks, Reading, asked_for}
 use Rattle.runs.specs.NamedFile.{NamedFile}
 use Rattle.runs.specs.Outputs.{SystemView}
 use Rattle.envsubst.specs.Usage.{EnvsubstUsage, envsubst_usage}
-use Rattle.gettext.specs.Usage.{GettextUsage, NgettextUsage, gettext_usage, ngettext_usage}
 use Rattle.runs.specs.ProgramFaults.{program_text, stdin_text}
 use Rattle.runs.specs.Run.{RunView, is_standard}
 use Rattle.runs.specs.ToolRuns.{Asking, RunsInput, asking}
@@ -130,37 +128,15 @@ pub record FitsNone {U : Type 0} (usage : Option U) (before after : Reached) (re
   pub nothing : after ≡ before
   pub fault : result ≡ Err WrongArguments
 
--- gettext or ngettext is run, by arguments that have one of its usages
-pub record LooksUp (line : CommandLine) (answers : Answers) (IsRun : List NamedFile → RunView → Type 0)
-    (argument : Option (List ℕ)) (before after : Reached) (result : Result ℕ ProgramFault) : Type 0 where
-  pub domain : Option (List ℕ)
-  pub domain_is : line.text (codes "domain") domain
-  pub runs : RunsLookUp (searching answers.variable answers.file before.asked after.asked)
-      (given_domain argument domain) IsRun before.written after.written result
-  pub unread : after.reader ≡ before.reader
-
--- gettext is run, by its arguments and options, or these fit no usage
-pub data RunsGettextLine (line : CommandLine) (answers : Answers) (before after : Reached)
-    (result : Result ℕ ProgramFault) : Type 0 where
-  runs_gettext : {shell : Bool} {arguments : List (List ℕ)} {usage : GettextUsage} {request : GettextRequest}
-      → line.flag (codes "shell") shell → line.texts (codes "MSGID") arguments
-      → gettext_usage shell arguments ≡ Some usage → IsGettextRequest line.flag line.text usage request
-      → LooksUp line answers (λ files run. IsGettextRun files request run) usage.domain before after result
-      → RunsGettextLine line answers before after result
-  no_gettext : {shell : Bool} {arguments : List (List ℕ)} → line.flag (codes "shell") shell
-      → line.texts (codes "MSGID") arguments → FitsNone (gettext_usage shell arguments) before after result
-      → RunsGettextLine line answers before after result
-
--- the same of ngettext
-pub data RunsNgettextLine (line : CommandLine) (answers : Answers) (before after : Reached)
-    (result : Result ℕ ProgramFault) : Type 0 where
-  runs_ngettext : {arguments : List (List ℕ)} {usage : NgettextUsage} {request : NgettextRequest}
-      → line.texts (codes "MSGID") arguments
-      → ngettext_usage arguments ≡ Some usage → IsNgettextRequest line.flag line.text usage request
-      → LooksUp line answers (λ files run. IsNgettextRun files request run) usage.domain before after result
-      → RunsNgettextLine line answers before after result
-  no_ngettext : {arguments : List (List ℕ)} → line.texts (codes "MSGID") arguments
-      → FitsNone (ngettext_usage arguments) before after result → RunsNgettextLine line answers before after result
+-- gettext or ngettext is run, by what its command line asks for; or its arguments fit no usage of the
+-- tool, and nothing is done
+pub data RunsLookUpLine (Asks : Option CommandView → Type 0) (answers : Answers) (before after : Reached)
+    : Result ℕ ProgramFault → Type 0 where
+  looks_up : {command : CommandView} {result : Result ℕ ProgramFault} → Asks (Some command)
+      → RunsLookUp (searching answers.variable answers.file before.asked after.asked) command
+      before.written after.written result
+      → after.reader ≡ before.reader → RunsLookUpLine Asks answers before after result
+  fits_none : Asks None → after ≡ before → RunsLookUpLine Asks answers before after (Err WrongArguments)
 
 -- what envsubst answers: the status 0, or the fault of a device
 abbrev pub AnswersStatus : Result (Unit {0}) ToolFault → Result ℕ ProgramFault → Type 0
@@ -200,6 +176,8 @@ RunsTool Msgunfmt line answers refused before after result =
     RunsOne line answers refused IsMsgunfmtRun before after result
 RunsTool Msgattrib line answers refused before after result = RunsMsgattribLine line answers refused before after result
 RunsTool Msgcat line answers refused before after result = RunsMsgcatLine line answers refused before after result
-RunsTool Gettext line answers refused before after result = RunsGettextLine line answers before after result
-RunsTool Ngettext line answers refused before after result = RunsNgettextLine line answers before after result
+RunsTool Gettext line answers refused before after result =
+    RunsLookUpLine (AsksGettext line.flag line.text line.texts) answers before after result
+RunsTool Ngettext line answers refused before after result =
+    RunsLookUpLine (AsksNgettext line.flag line.text line.texts) answers before after result
 RunsTool Envsubst line answers refused before after result = RunsEnvsubstLine line answers before after result

@@ -21,9 +21,9 @@ mod tool_run;
 pub use catalogues::{Named, merge, profile_check, select};
 pub use envsubst::{EntrySource, EnvsubstArguments, envsubst};
 pub use gettext::{
-    CatalogueFile, GettextArguments, GettextOptions, NgettextArguments, NgettextOptions,
-    VariableSource, borrowed_catalogues, find_catalogues, gettext_options_of, ngettext_options_of,
-    plan_gettext, plan_ngettext, read_catalogues,
+    CatalogueFile, GettextOptions, LookUp, LookUpCommand, NgettextOptions, VariableSource,
+    borrowed_catalogues, find_catalogues, plan_gettext, plan_look_up, plan_ngettext,
+    read_catalogues,
 };
 pub use msgattrib::{plan_msgattrib, selection_of};
 pub use msgcat::{merge_options_of, plan_msgcat, plan_msgcat_before, plan_msgcat_of};
@@ -39,8 +39,8 @@ pub use msgattrib::Selection;
 pub use msgunfmt::{UnformatError, laws as unformat_laws, unformat};
 pub use run_laws::{
     kept_entries_compile_alike, longer_chain_answers_alike, msgcat_again, msgcat_compiles_alike,
-    msgcat_of_several, one_gettext_run, one_msgattrib_run, one_msgcat_run, one_msgfmt_run,
-    one_msgunfmt_run, one_ngettext_run, there_and_back,
+    msgcat_of_several, one_look_up_run, one_msgattrib_run, one_msgcat_run, one_msgfmt_run,
+    one_msgunfmt_run, there_and_back,
 };
 pub use runs::{
     Arguments, FileKind, Input, InputFault, InputSource, Inputs, MakeFault, OutputFault,

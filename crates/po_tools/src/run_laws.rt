@@ -1,7 +1,7 @@
 //! Laws of the runs of the tools, each the contract of a function that does nothing: a call brings
 //! the law into a proof.
 ghost use Rattle.po_tools.specs.ChainLaws.{CompiledAreKept, KeptCompilesAlike, LongerChainAnswersAlike, MsgcatAgain, MsgcatCompilesAlike, MsgcatOfSeveral, ThereAndBack};
-ghost use Rattle.po_tools.specs.RunLaws.{OneGettextRun, OneMsgattribRun, OneMsgcatRun, OneMsgfmtRun, OneMsgunfmtRun, OneNgettextRun};
+ghost use Rattle.po_tools.specs.RunLaws.{OneLookUpRun, OneMsgattribRun, OneMsgcatRun, OneMsgfmtRun, OneMsgunfmtRun};
 
 use mo_file::{no_fault_of_mo_file, one_first_fault, one_message_list};
 use mo_lookup::one_rule;
@@ -32,19 +32,9 @@ pub fn one_msgfmt_run()
     one_rule();
 }
 
-/// Catalogues and arguments of `gettext` have one run.
-pub fn one_gettext_run()
-    ensures { OneGettextRun }
-{
-    one_message_list();
-    no_fault_of_mo_file();
-    one_first_fault();
-    one_rule();
-}
-
-/// Catalogues and arguments of `ngettext` have one run.
-pub fn one_ngettext_run()
-    ensures { OneNgettextRun }
+/// Catalogues and arguments of `gettext`, and of `ngettext`, have one run.
+pub fn one_look_up_run()
+    ensures { OneLookUpRun }
 {
     one_message_list();
     no_fault_of_mo_file();

@@ -1,14 +1,10 @@
 //! Each tool as a whole, by what its command line gives.
 ghost use Rattle.std.specs.Prelude.{◌^◌, ◌<◌, Option, List};
-ghost use Rattle.po_tools.specs.ToolRun.{ReaderView, RunsEnvsubstLine, RunsGettextLine, RunsNgettextLine};
-ghost use Rattle.po_tools.specs.ToolRun.{RunsTool, answers_of, line_of, reached, reader_of};
+ghost use Rattle.po_tools.specs.ToolRun.{RunsEnvsubstLine, RunsTool, answers_of, line_of, reached, reader_of};
 ghost use Rattle.runs.specs.Inputs.{Asked};
 
 use envsubst::{EntrySource, EnvsubstArguments, envsubst};
-use gettext::{
-    GettextArguments, NgettextArguments, VariableSource, gettext_options_of, ngettext_options_of,
-    run_gettext, run_ngettext,
-};
+use gettext::{LookUpCommand, VariableSource, run_look_up};
 use msgattrib::selection_of;
 use msgcat::merge_options_of;
 use msgfmt::msgfmt_options_of;
@@ -70,54 +66,16 @@ where
             let output = given.text_of("output-file").unwrap_or(STANDARD);
             msgcat::run(alloc, source, system, inputs, output, &options)
         }
-        Tool::Gettext => look_up(alloc, source, system, given),
-        Tool::Ngettext => look_up_plural(alloc, source, system, given),
+        Tool::Gettext => {
+            let command = LookUpCommand::of_gettext(given)?;
+            run_look_up(alloc, source, system, &command)
+        }
+        Tool::Ngettext => {
+            let command = LookUpCommand::of_ngettext(given)?;
+            run_look_up(alloc, source, system, &command)
+        }
         Tool::Envsubst => substitute(alloc, &*source, reader, system, given),
     }
-}
-
-/// Runs gettext by its command line, or refuses one that fits none of its usages.
-fn look_up<'a, S, F: OutputFiles, O: ByteOut, E: ByteOut, A: Arguments>(
-    alloc: Global,
-    source: &mut S,
-    system: &mut OutputSystem<F, O, E>,
-    given: &'a A,
-) -> Result<u8, ProgramFault<'a>>
-where
-    S: InputSource + VariableSource + EntrySource,
-    requires out { system.old.out.failures < 2 ^ 63 }
-    requires err { system.old.err.failures < 2 ^ 63 }
-    ensures { (reader : ReaderView) → RunsGettextLine
-        (line_of (A.flag given.now) (A.text given.now) (A.texts given.now) (A.number given.now))
-        (answers_of (S.file source.old) (S.standard source.old) (S.variable source.old) (S.entries source.old))
-        (reached (S.asked source.old) reader system.old) (reached (S.asked source.new) reader system.new) result }
-{
-    let arguments = GettextArguments::given(given)?;
-    let options = gettext_options_of(given, arguments);
-    let domain = given.text_of("domain");
-    run_gettext(alloc, source, system, arguments.domain, domain, &options)
-}
-
-/// The same of ngettext.
-fn look_up_plural<'a, S, F: OutputFiles, O: ByteOut, E: ByteOut, A: Arguments>(
-    alloc: Global,
-    source: &mut S,
-    system: &mut OutputSystem<F, O, E>,
-    given: &'a A,
-) -> Result<u8, ProgramFault<'a>>
-where
-    S: InputSource + VariableSource + EntrySource,
-    requires out { system.old.out.failures < 2 ^ 63 }
-    requires err { system.old.err.failures < 2 ^ 63 }
-    ensures { (reader : ReaderView) → RunsNgettextLine
-        (line_of (A.flag given.now) (A.text given.now) (A.texts given.now) (A.number given.now))
-        (answers_of (S.file source.old) (S.standard source.old) (S.variable source.old) (S.entries source.old))
-        (reached (S.asked source.old) reader system.old) (reached (S.asked source.new) reader system.new) result }
-{
-    let arguments = NgettextArguments::given(given)?;
-    let options = ngettext_options_of(given, arguments);
-    let domain = given.text_of("domain");
-    run_ngettext(alloc, source, system, arguments.domain, domain, &options)
 }
 
 /// Runs envsubst by its command line, or refuses one that fits none of its usages.

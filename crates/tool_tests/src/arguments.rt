@@ -1,9 +1,9 @@
 //! The arguments of the tools, the lines of the program's faults, and the files that it makes.
 
+use crate::fake_system::Line;
 use po_shell::{Counted, Failing, ToolFault};
 use po_tools::{
-    EnvsubstArguments, GettextArguments, NgettextArguments, ProgramFault, Run, report_fault,
-    shown_name,
+    EnvsubstArguments, LookUp, LookUpCommand, ProgramFault, Run, report_fault, shown_name,
 };
 use std::alloc::Global;
 
@@ -54,22 +54,43 @@ fn is_reported(alloc: Global, tool: Option<&str>, fault: ProgramFault<'_>, line:
     reported.is_ok() && gone_out.as_slice() == line
 }
 
+/// A command line with these arguments alone.
+fn line_of(others: &'static [&'static str]) -> Line {
+    Line {
+        files: &[],
+        others,
+        output: None,
+        flags: &[],
+    }
+}
+
 #[test]
 fn takes_the_arguments_of_gettext(rt: HostRuntime) {
-    let is_taken = match GettextArguments::of(false, &["t", "a"]) {
-        Some(taken) => taken.domain == Some("t") && taken.messages == ["a"].as_slice(),
-        None => false,
+    let line = line_of(&["t", "a"]);
+    let is_taken = match LookUpCommand::of_gettext(&line) {
+        Ok(command) => match command.look_up {
+            LookUp::Messages(options) => {
+                command.argument == Some("t") && options.messages == ["a"].as_slice()
+            }
+            LookUp::PluralForm(_) => false,
+        },
+        Err(_) => false,
     };
     assert!(rt; is_taken);
 }
 
 #[test]
 fn takes_the_arguments_of_ngettext(rt: HostRuntime) {
-    let is_taken = match NgettextArguments::of(&["t", "f", "fs", "1"]) {
-        Some(taken) => {
-            taken.domain == Some("t") && [taken.id, taken.plural, taken.count] == ["f", "fs", "1"]
-        }
-        None => false,
+    let line = line_of(&["t", "f", "fs", "1"]);
+    let is_taken = match LookUpCommand::of_ngettext(&line) {
+        Ok(command) => match command.look_up {
+            LookUp::Messages(_) => false,
+            LookUp::PluralForm(options) => {
+                command.argument == Some("t")
+                    && [options.id, options.plural, options.count] == ["f", "fs", "1"]
+            }
+        },
+        Err(_) => false,
     };
     assert!(rt; is_taken);
 }

@@ -1,8 +1,10 @@
-use Rattle.std.proofs.Common.{◌≡◌, ℕ, List, None, Some, Option, ap, codes, rules}
+use Rattle.std.proofs.Common.{◌≡◌, ℕ, List, None, Some, Option, ap, codes, refl, rules}
+use Rattle.std.proofs.lemmas.Result.{err_from_is_err_and}
 use Rattle.std.specs.Borrow.{Bor}
 use Rattle.std.specs.Option.{option_copied, unwrap_or}
 use Rattle.msgfmt.specs.Options.{default_output}
 use Rattle.runs.specs.ArgumentValues.{IsTextOr}
+use Rattle.po_tools.specs.ToolRun.{fits_none, looks_up}
 use Rattle.po_tools.proofs.tool_run.run.Goals as goal
 
 -- the text that is given, or another
@@ -50,11 +52,26 @@ returns-in-Msgcat g c =
     text_is _ _ c.text_of-in-Msgcat.result c.text_of-in-Msgcat.ensures c.unwrap_or-output-in-Msgcat.ensures in
     search (rules, output)
 
-pub returns-in-Gettext : goal.returns-in-Gettext
-returns-in-Gettext g c = rw c.in-Gettext.is (c.look_up.ensures _)
+pub returns-in_err-command-in-Gettext : goal.returns-in_err-command-in-Gettext
+returns-in_err-command-in-Gettext g c =
+    let p = err_from_is_err_and c.from_residual.result c.from_residual.ensures.1 in
+    let none = c.in_err-command-in-Gettext.ensures in
+    rw (c.in-Gettext.is, p.1, p.2, none.1) (fits_none none.0 refl)
 
-pub returns-in-Ngettext : goal.returns-in-Ngettext
-returns-in-Ngettext g c = rw c.in-Ngettext.is (c.look_up_plural.ensures _)
+pub returns-in_err-command-in-Ngettext : goal.returns-in_err-command-in-Ngettext
+returns-in_err-command-in-Ngettext g c =
+    let from = c.from_residual-in_err-command-in-Ngettext in
+    let p = err_from_is_err_and from.result from.ensures.1 in
+    let none = c.in_err-command-in-Ngettext.ensures in
+    rw (c.in-Ngettext.is, p.1, p.2, none.1) (fits_none none.0 refl)
+
+pub returns-in_ok-command-in-Gettext : goal.returns-in_ok-command-in-Gettext
+returns-in_ok-command-in-Gettext g c =
+    rw c.in-Gettext.is (looks_up c.in_ok-command-in-Gettext.ensures c.run_look_up.ensures refl)
+
+pub returns-in_ok-command-in-Ngettext : goal.returns-in_ok-command-in-Ngettext
+returns-in_ok-command-in-Ngettext g c =
+    rw c.in-Ngettext.is (looks_up c.in_ok-command-in-Ngettext.ensures c.run_look_up-in-Ngettext.ensures refl)
 
 pub returns-in-Envsubst : goal.returns-in-Envsubst
 returns-in-Envsubst g c = rw c.in-Envsubst.is (c.substitute.ensures _)
