@@ -9,8 +9,9 @@ use crate::entry_lines::push_entry;
 use po_entry::EntryRef;
 use std::alloc::AllocError;
 
-/// Appends an entry, after an empty line if it isn't the first.
-pub(crate) fn push_separated(out: &mut Vec<u8>, entry: &EntryRef<'_>) -> Result<(), AllocError>
+/// Appends an entry, after an empty line if it isn't the first. Refused only where an allocation
+/// failed; then the text may end within the entry.
+pub fn push_separated(out: &mut Vec<u8>, entry: &EntryRef<'_>) -> Result<(), AllocError>
     ensures appended { OnOk result (out.new.items ≡ with_entry out.old.items entry.now) }
 {
     if !out.is_empty() {
