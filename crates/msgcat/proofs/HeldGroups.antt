@@ -98,10 +98,12 @@ module _ (read : List Named) (i : ℕ) (group : List NamedEntry) (inside : i < l
   pub message_at : definitions group ≡ get_or (messages read) i []
   message_at = ap definitions is ∙ sym (get_or-map definitions (groups (all_entries read)) i [] [] within)
 
+  pub group_valid : All CanBeMerged (all_entries read) → IsGroup group
+  group_valid can =
+      subst IsGroup (sym is) (groups_valid (all_entries read) (λ k d less. (can k d less).valid) i [] within)
+
   pub message_valid : All CanBeMerged (all_entries read) → IsGroup (definitions group)
-  message_valid can =
-      definitions_valid group (subst IsGroup (sym is)
-      (groups_valid (all_entries read) (λ k d less. (can k d less).valid) i [] within))
+  message_valid can = definitions_valid group (group_valid can)
 
   pub message_can : All CanBeMerged (all_entries read) → All CanBeMerged (definitions group)
   message_can can =

@@ -23,6 +23,7 @@ pub mod NumberedGroups
 pub mod ReadInputs
 pub mod LinkLemmas
 pub mod HeldGroups
+pub mod Walks
 pub mod MergedOnes
 pub mod Lines
 pub mod EntryLaws

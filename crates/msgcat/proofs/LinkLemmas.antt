@@ -134,6 +134,11 @@ pub chain_on : (next : List ℕ) (at : ℕ) (list : List ℕ) → IsChain next a
 chain_on next at [] h inside = absurd (omega (arith, h, inside))
 chain_on next at (i ∷ list) h inside = (list, ap (λ k. k ∷ list) (sym h.0), h.2, h.3)
 
+pub chain_some : (next : List ℕ) (at : ℕ) (list : List ℕ) → IsChain next at list → 0 < length list
+    → at < length next
+chain_some next at [] h some = absurd (omega (arith, some))
+chain_some next at (i ∷ list) h some = h.1
+
 pub chain_over : (next : List ℕ) (at : ℕ) (list : List ℕ) → IsChain next at list → length next ≤ at → list ≡ []
 chain_over next at [] h past = refl
 chain_over next at (i ∷ list) h past = absurd (omega (arith, h.1, past))

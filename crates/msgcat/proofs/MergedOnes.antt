@@ -1,15 +1,41 @@
 -- What one message is merged to, by its number.
-use Rattle.std.proofs.Common.{◌≡◌, ℕ, ◌<◌, true, false, List, [], ◌∷◌, sym, ap, ◌∙◌, get_or, length, subst}
-use Rattle.std.specs.Prelude.{All}
+use Rattle.std.proofs.Common.{◌≡◌, ℕ, ◌<◌, not, true, false, List, [], ◌∷◌, sym, ap, ◌∙◌, get_or, length, subst}
+use Rattle.std.specs.Prelude.{All, IfNone, IfSome, None, Option, Some, option_to_list}
+use Rattle.std.specs.List.{list_any}
+use Rattle.po_entry.specs.Joined.{is_live}
+use Rattle.po_entry.specs.TextEntry.{TextEntry}
 use Rattle.msgcat.specs.declared.input.MergeOptions.{MergeOptions}
 use Rattle.msgcat.specs.Grouping.{IsGroup}
 use Rattle.msgcat.specs.Groups.{definitions, groups}
-use Rattle.msgcat.specs.Inputs.{Named, NamedEntry, all_entries}
+use Rattle.msgcat.specs.Inputs.{Named, NamedEntry, all_entries, named}
 use Rattle.msgcat.specs.MergedEntry.{merged_entry}
 use Rattle.msgcat.specs.MergeInputs.{CanBeMerged}
 use Rattle.msgcat.specs.Merged.{is_kept, merged_messages, messages}
+use Rattle.msgcat.proofs.EntryLaws.{obsolete_where_none_is_live}
 use Rattle.msgcat.proofs.GroupsMerged.{dropped_one, kept_one}
-use Rattle.msgcat.proofs.HeldGroups.{message_at, message_can, message_valid}
+use Rattle.msgcat.proofs.HeldGroups.{group_valid, message_at, message_can, message_valid}
+use Rattle.msgcat.proofs.OneDefinition.{one_definition}
+
+-- a message with one definition
+module _ (o : MergeOptions) (message : List NamedEntry) (name : List ℕ) (entry : TextEntry)
+    (is : message ≡ named name entry ∷ []) where
+  pub only_dropped : is_kept o (named name entry ∷ []) ≡ false → [] ≡ merged_messages o (message ∷ [])
+  only_dropped none =
+      sym (ap (λ l. merged_messages o (l ∷ [])) is ∙ dropped_one o (named name entry ∷ []) none)
+
+  pub only_kept : is_kept o (named name entry ∷ []) ≡ true → entry ∷ [] ≡ merged_messages o (message ∷ [])
+  only_kept some =
+      sym (ap (λ l. merged_messages o (l ∷ [])) is ∙ kept_one o (named name entry ∷ []) some
+      ∙ ap (λ e. e ∷ []) (one_definition o (named name entry)))
+
+pub alone_merged : (o : MergeOptions) (message : List NamedEntry) (name : List ℕ) (entry : TextEntry)
+    (kept : Option TextEntry) → message ≡ named name entry ∷ []
+    → IfNone kept ((n : List ℕ) → is_kept o (named n entry ∷ []) ≡ false)
+    → IfSome kept (λ k. (k ≡ entry) × ((n : List ℕ) → is_kept o (named n entry ∷ []) ≡ true))
+    → option_to_list kept ≡ merged_messages o (message ∷ [])
+alone_merged o message name entry None is none some = only_dropped o message name entry is (none name)
+alone_merged o message name entry (Some k) is none some =
+    ap (λ e. e ∷ []) some.0 ∙ only_kept o message name entry is (some.1 name)
 
 module _ (read : List Named) (i : ℕ) (group : List NamedEntry) (inside : i < length (messages read))
     (is : group ≡ get_or (groups (all_entries read)) i []) where
@@ -18,6 +44,13 @@ module _ (read : List Named) (i : ℕ) (group : List NamedEntry) (inside : i < l
   dropped_message o none =
       sym (ap (λ l. merged_messages o (l ∷ [])) (sym (message_at read i group inside is))
       ∙ dropped_one o (definitions group) none)
+
+  -- whether the entry is obsolete
+  pub message_obsolete : (o : MergeOptions) → All CanBeMerged (all_entries read)
+      → not (list_any (λ d. is_live d.entry) group) ≡ (merged_entry o (get_or (messages read) i [])).obsolete
+  message_obsolete o can =
+      sym (ap (λ l. (merged_entry o l).obsolete) (sym (message_at read i group inside is))
+      ∙ obsolete_where_none_is_live o group (group_valid read i group inside is can).some)
 
   -- the definitions of a message that is kept
   module _ (kept : List NamedEntry) (are : kept ≡ definitions group) where

@@ -1,11 +1,16 @@
 -- Files that are read as the catalogues of inputs, and the run of a header that can't stand in a catalogue.
-use Rattle.std.proofs.Common.{◌≡◌, ℕ, ◌<◌, List, [], sym, ap, ◌∙◌, subst, get_or, length, arith}
+use Rattle.std.proofs.Common.{◌≡◌, ℕ, ◌<◌, List, [], ◌∷◌, Some, refl, sym, ap, ◌∙◌, subst, get_or, slice_get, length, arith}
 use Rattle.std.specs.Prelude.{All}
+use Rattle.std.specs.List.{AllZip}
 use Rattle.po_entry.specs.Bytes.{Lacks}
 use Rattle.std.specs.Borrow.{Bor}
 use Rattle.std.proofs.Math.ListN.{get_or-map}
 use Rattle.std.proofs.lemmas.List.{get_or_default, length-map}
 use Rattle.runs.specs.NamedFile.{NamedFile, named_file, named_files}
+use Rattle.msgcat.specs.Inputs.{Named}
+use Rattle.msgcat.specs.MergeInputs.{IsReadInput, name_of_first}
+use Rattle.msgcat.specs.Msgcat.{AreReadAs, first_name}
+use Rattle.msgcat.specs.declared.input.ReadInput.{ReadInput}
 
 abbrev pub Files : Type 0
 Files = List (Bor (List ℕ) × Bor (List ℕ))
@@ -23,3 +28,17 @@ pub name_lacks : (files : Files) (i : ℕ) (e : Bor (List ℕ) × Bor (List ℕ)
 name_lacks files i e l h =
     let inside : i < length (named_files files) = omega (arith, l, length-map files named_file) in
     subst (λ (f : NamedFile). Lacks 0 f.name) (sym (file_at files i e l)) (h i (named_file (get_or files i e)) inside)
+
+-- the first input has the name of the first file
+pub first_named : (files : List NamedFile) (inputs : List Named) → AreReadAs files inputs
+    → name_of_first inputs ≡ first_name files
+first_named [] [] are = refl
+first_named [] (input ∷ inputs) are = absurd are
+first_named (file ∷ files) [] are = absurd are
+first_named (file ∷ files) (input ∷ inputs) are = are.0.name
+
+-- and that by which it is known
+pub first_known : (inputs : List Named) (read : List ReadInput) → AllZip IsReadInput inputs read
+    → (input : ReadInput) → slice_get read 0 ≡ Some input → input.name.now ≡ name_of_first inputs
+first_known [] [] known input is = cc
+first_known (r ∷ inputs) (i ∷ read) known input is = cc

@@ -1,6 +1,6 @@
 -- What private functions, proofs and laws cite; no clause of a public function does.
 pub mod Inputs
-pub mod Gathered
+pub mod ReadFiles
 pub mod MergedText
 pub mod NulNames
 pub mod Comments

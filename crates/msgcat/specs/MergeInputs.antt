@@ -1,5 +1,5 @@
 -- The entries of inputs in one store, linked by their messages.
-use Rattle.std.specs.Prelude.{◌≡◌, ◌<◌, ℕ, All, IsUtf8, List, [], get_or, length, map, take}
+use Rattle.std.specs.Prelude.{◌≡◌, ◌<◌, ℕ, All, IsUtf8, List, [], ◌∷◌, get_or, length, map, take}
 use Rattle.std.specs.List.{AllZip}
 use Rattle.po_entry.specs.Bytes.{Lacks}
 use Rattle.po_entry.specs.Header.{HasAdmittedCharset}
@@ -39,6 +39,11 @@ pub record CanBeMerged (entry : NamedEntry) : Type 0 where
 -- how many messages there are
 abbrev pub count_messages : List NamedEntry → ℕ
 count_messages entries = length (first_ones same_message (named_messages entries))
+
+-- the name of the first input; empty where there is none
+abbrev pub name_of_first : List Named → List ℕ
+name_of_first [] = []
+name_of_first (input ∷ inputs) = input.name
 
 -- the entries of these inputs are held, and those of each message are linked
 pub record HoldInputs (read : List Named) (held : MergeInputs) : Type 0 where

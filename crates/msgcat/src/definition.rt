@@ -1,7 +1,8 @@
 //! The definitions of one message: which members of a group they are, and which of them is taken.
 
-ghost use Rattle.std.specs.Prelude.{◌≡◌, ◌<◌, IfNone, IfSome, false, length, true};
+ghost use Rattle.std.specs.Prelude.{◌≡◌, ◌<◌, ◌∷◌, [], IfNone, IfSome, List, ℕ, false, length, true};
 ghost use Rattle.msgcat.specs.Groups.{definitions};
+ghost use Rattle.msgcat.specs.Inputs.{named};
 ghost use Rattle.msgcat.specs.InputsView.{named_entries};
 ghost use Rattle.msgcat.specs.Merged.{is_kept, is_wanted};
 ghost use Rattle.msgcat.specs.MergedEntry.{first_with};
@@ -55,6 +56,18 @@ pub(crate) fn kept_definitions<'a>(
         .any(|definition| definition.entry.is_header());
     if has_header || is_wanted(options, definitions.len()) {
         return Some(definitions);
+    }
+    None
+}
+
+/// The only definition of a message, where the message is kept.
+pub(crate) fn kept_alone<'a>(entry: EntryRef<'a>, options: &MergeOptions) -> Option<EntryRef<'a>>
+    ensures none { IfNone result ((name : List ℕ) → is_kept options.now (named name entry.entry ∷ []) ≡ false) }
+    ensures some { IfSome result (λ kept. (kept ≡ entry.entry)
+        × ((name : List ℕ) → is_kept options.now (named name entry.entry ∷ []) ≡ true)) }
+{
+    if entry.is_header() || is_wanted(options, 1) {
+        return Some(entry);
     }
     None
 }

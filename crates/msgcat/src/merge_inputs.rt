@@ -1,17 +1,19 @@
 //! The entries of several inputs in one store, and what those of a message are merged to.
 
-ghost use Rattle.std.specs.Prelude.{◌≡◌, ◌<◌, ◌∷◌, [], IfErr, IfOk, IfSome, List, get_or, length, option_to_list};
+ghost use Rattle.std.specs.Prelude.{◌≡◌, ◌<◌, ◌∷◌, [], IfErr, IfOk, IfSome, List, ℕ, get_or, length, option_to_list};
 ghost use Rattle.po_entry.specs.Validity.{IsCatalogueEntry};
 ghost use Rattle.po_entry.specs.FirstOnes.{first_ones, group_numbers};
 ghost use Rattle.po_entry.specs.Message.{entry_messages, same_message};
 ghost use Rattle.msgcat.specs.Groups.{groups};
-ghost use Rattle.msgcat.specs.Inputs.{Named, all_entries};
+ghost use Rattle.msgcat.specs.Inputs.{Named, all_entries, named};
 ghost use Rattle.msgcat.specs.InputsView.{named_entries};
 ghost use Rattle.msgcat.specs.Internal.EntriesAt.{name_of};
-ghost use Rattle.msgcat.specs.MergeInputs.{AreReadInputs, HoldInputs, unnamed};
+ghost use Rattle.msgcat.specs.MergeInputs.{AreReadInputs, HoldInputs, name_of_first, unnamed};
 ghost use Rattle.msgcat.specs.Merged.{IsMergeFault, merged_messages, messages};
+ghost use Rattle.msgcat.specs.MergedEntry.{merged_entry};
+ghost use Rattle.msgcat.specs.declared.input.MergeOptions as asked;
 
-use crate::definition::{NamedEntry, kept_definitions};
+use crate::definition::{NamedEntry, kept_alone, kept_definitions};
 use crate::input::{MergeOptions, ReadInput};
 use crate::links::Links;
 use crate::merging::merged_entry;
@@ -71,6 +73,16 @@ impl<'a> MergeInputs<'a> {
         })
     }
 
+    /// The name of the first input; empty where there is none.
+    pub fn first_name(&self) -> &'a str
+        ensures { (read : List Named) → HoldInputs read self.now → result.now ≡ name_of_first read }
+    {
+        match self.inputs.first() {
+            Some(input) => input.name,
+            None => "",
+        }
+    }
+
     /// How many messages there are.
     pub fn message_count(&self) -> usize
         ensures { (read : List Named) → HoldInputs read self.now → result ≡ length (messages read) }
@@ -78,7 +90,40 @@ impl<'a> MergeInputs<'a> {
         self.links.firsts.len()
     }
 
-    /// The entries of a message, which are numbered from 0 in the order in which they first appear.
+    /// Whether what a message is merged to is obsolete, as it is where none of its entries is live.
+    /// Messages are numbered from 0 in the order in which they first appear.
+    pub fn is_obsolete(&self, number: usize) -> bool
+        requires { (read : List Named) × HoldInputs read self.now × (number < length (messages read)) }
+        ensures { (read : List Named) (options : asked.MergeOptions) → HoldInputs read self.now
+            → number < length (messages read)
+            → result ≡ (merged_entry options (get_or (messages read) number [])).obsolete }
+    {
+        let mut index = self.links.firsts[number];
+        while index < self.links.next.len() {
+            if !self.store.get(index).obsolete() {
+                return false;
+            }
+            index = self.links.next[index];
+        }
+        true
+    }
+
+    /// The only entry of a message that has no other.
+    fn only_entry(&self, number: usize) -> Option<EntryRef<'_>>
+        requires { (read : List Named) × HoldInputs read self.now × (number < length (messages read)) }
+        ensures only { IfSome result (λ entry. (read : List Named) → HoldInputs read self.now
+            → number < length (messages read)
+            → (name : List ℕ) × (get_or (messages read) number [] ≡ named name entry ∷ [])) }
+        ensures valid { IfSome result IsCatalogueEntry }
+    {
+        let index = self.links.firsts[number];
+        if self.links.next[index] < self.links.next.len() {
+            return None;
+        }
+        Some(self.store.get(index))
+    }
+
+    /// The entries of a message.
     fn group(&self, alloc: Global, number: usize) -> Result<Vec<NamedEntry<'_>>, AllocError>
         requires { (read : List Named) × HoldInputs read self.now × (number < length (messages read)) }
         ensures { IfOk result (λ group. (read : List Named) → HoldInputs read self.now → number < length (messages read)
@@ -118,6 +163,9 @@ impl<'a> MergeInputs<'a> {
             → number < length (messages read)
             → IsMergeFault (merged_messages options.now (get_or (messages read) number [] ∷ [])) error) }
     {
+        if let Some(entry) = self.only_entry(number) {
+            return Ok(kept_alone(entry, options));
+        }
         let group = self.group(alloc, number)?;
         match kept_definitions(group, options) {
             Some(definitions) => Ok(Some(merged_entry(alloc, options, definitions, merged)?)),

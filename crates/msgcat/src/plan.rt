@@ -3,8 +3,8 @@
 ghost use Rattle.std.specs.Prelude.{◌≡◌, ◌≢◌, ◌⊎◌, All, Err, IfErr, IfOk, IfSome, List, MatchOption, None, OnErr, Some, []};
 ghost use Rattle.po_entry.specs.Bytes.{Lacks};
 ghost use Rattle.msgcat.specs.Inputs.{Named};
-ghost use Rattle.msgcat.specs.Internal.Gathered.{IsGathered};
-ghost use Rattle.msgcat.specs.Msgcat.{AreReadAs, IsMsgcatRun, IsUnread, first_name};
+ghost use Rattle.msgcat.specs.Internal.ReadFiles.{IsReadingOf};
+ghost use Rattle.msgcat.specs.Msgcat.{AreReadAs, IsMsgcatRun, IsUnread};
 ghost use Rattle.msgcat.specs.Internal.NulNames.{IsFirstWithNul};
 ghost use Rattle.runs.specs.NamedFile.{NamedFile, named_files};
 ghost use Rattle.runs.specs.Run.{run_view};
@@ -17,54 +17,25 @@ use crate::merge_inputs::MergeInputs;
 use runs::{ProgramFault, Run, ToolFault, refused_text, text_run};
 use std::alloc::{AllocError, Global};
 
-/// The name of the first input, and the entries of all, or why one isn't read. The run of the
-/// inputs needs no more of them.
-#[derive(Drop)]
-pub(crate) struct Gathered<'a> {
-    first: &'a str,
-    entries: Result<MergeInputs<'a>, FileFault<'a>>,
-}
-
-/// The name of the first file.
-fn first_name<'a>(files: &[(&'a str, &[u8])]) -> &'a str
-    ensures { result.now ≡ first_name (named_files files.now) }
-{
-    match files {
-        [(name, _), ..] => name,
-        [] => "",
-    }
-}
-
-/// Gathers what the run of inputs needs of them.
-pub(crate) fn gather<'a>(alloc: Global, inputs: &[(&'a str, &[u8])]) -> Gathered<'a>
-    requires { All (λ file. Lacks 0 file.name) (named_files inputs.now) }
-    ensures { IsGathered (named_files inputs.now) result }
-{
-    Gathered {
-        first: first_name(inputs),
-        entries: read_inputs(alloc, inputs),
-    }
-}
-
-/// The run of inputs of which this is gathered. The text is written over what `room` holds.
-pub(crate) fn gathered_run(
+/// The run of inputs, by their entries or by why one isn't read. The text is written over what
+/// `room` holds.
+pub(crate) fn run_of_read(
     alloc: Global,
-    gathered: Gathered<'_>,
+    read: Result<MergeInputs<'_>, FileFault<'_>>,
     room: Vec<u8>,
     options: &MergeOptions,
 ) -> Result<Run, AllocError>
-    requires { (files : List NamedFile) × IsGathered files gathered }
-    ensures { IfOk result (λ run. (files : List NamedFile) → IsGathered files gathered.entry
+    requires { (files : List NamedFile) × IsReadingOf files read }
+    ensures { IfOk result (λ run. (files : List NamedFile) → IsReadingOf files read.entry
         → IsMsgcatRun files options.now (run_view run)) }
 {
-    let Gathered { first, entries } = gathered;
-    let entries = match entries {
-        Ok(entries) => entries,
+    let inputs = match read {
+        Ok(inputs) => inputs,
         Err(fault) => return refused_text(alloc, "msgcat", fault.name, fault.error),
     };
-    match merged_text(alloc, room, &entries, options) {
-        Ok(output) => Ok(text_run(alloc, output)),
-        Err(error) => refused_text(alloc, "msgcat", first, error),
+    match merged_text(alloc, room, &inputs, options) {
+        Ok(text) => Ok(text_run(alloc, text)),
+        Err(error) => refused_text(alloc, "msgcat", inputs.first_name(), error),
     }
 }
 
@@ -81,8 +52,8 @@ pub fn plan_msgcat(
     ensures run { IfOk result (λ run. IsMsgcatRun (named_files inputs.now) options.now (run_view run)) }
     ensures memory { OnErr result (result ≡ Err ToolFault.OutOfMemory) }
 {
-    let gathered = gather(alloc, inputs);
-    Ok(gathered_run(alloc, gathered, Vec::new(alloc), options)?)
+    let read = read_inputs(alloc, inputs);
+    Ok(run_of_read(alloc, read, Vec::new(alloc), options)?)
 }
 
 /// What `msgcat` comes to where the input after these can't be read: the refusal of these, or,

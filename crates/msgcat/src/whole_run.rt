@@ -9,7 +9,8 @@ ghost use Rattle.runs.specs.ProgramFaults.{program_text};
 ghost use Rattle.runs.specs.Run.{run_view};
 ghost use Rattle.runs.specs.ToolRuns.{asking};
 
-use crate::plan::{first_with_nul, gather, gathered_run, plan_msgcat_before};
+use crate::inputs::read_inputs;
+use crate::plan::{first_with_nul, plan_msgcat_before, run_of_read};
 use crate::input::MergeOptions;
 use runs::{ByteOut, InputSource, Inputs, OutputFiles, OutputSystem, ProgramFault, Run};
 use std::alloc::Global;
@@ -44,9 +45,9 @@ pub fn plan_msgcat_of<'a>(
     if let Some(fault) = fault {
         return plan_msgcat_before(alloc, &texts, fault);
     }
-    let gathered = gather(alloc, &texts);
+    let read = read_inputs(alloc, &texts);
     drop(texts);
-    let run = gathered_run(alloc, gathered, inputs.bytes, options)?;
+    let run = run_of_read(alloc, read, inputs.bytes, options)?;
     Ok(run)
 }
 

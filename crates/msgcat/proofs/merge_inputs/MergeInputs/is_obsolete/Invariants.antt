@@ -1,0 +1,18 @@
+use Rattle.std.proofs.Common.{◌≡◌, ◌-◌, ◌<◌, ℕ, List, [], get_or, length}
+use Rattle.msgcat.specs.Groups.{groups}
+use Rattle.msgcat.specs.Inputs.{Named, all_entries}
+use Rattle.msgcat.specs.Internal.EntriesAt.{entries_at}
+use Rattle.msgcat.specs.MergeInputs.{HoldInputs}
+use Rattle.msgcat.specs.Merged.{messages}
+use Rattle.msgcat.proofs.Walks.{AreLeft, any_live}
+use Rattle.msgcat.proofs.merge_inputs.MergeInputs.is_obsolete.Given as goal
+
+-- an entry of the message is live exactly if one of those that are left is
+abbrev pub invariant-loop-index : goal.invariant-loop-index
+invariant-loop-index l =
+    (read : List Named) → HoldInputs read l.self → l.number < length (messages read)
+    → (left : List ℕ) × AreLeft read l.self l.index left
+    × (any_live (get_or (groups (all_entries read)) l.number []) ≡ any_live (entries_at (all_entries read) left))
+
+abbrev pub decreases-loop-index : goal.decreases-loop-index
+decreases-loop-index l = length l.self.links.next.items - l.index
