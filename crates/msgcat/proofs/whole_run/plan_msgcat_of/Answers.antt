@@ -7,7 +7,7 @@ use Rattle.runs.specs.Facts.RunEnds.{none_read}
 use Rattle.runs.specs.Inputs.{named_inputs}
 use Rattle.runs.specs.NamedFile.{named_files}
 use Rattle.runs.specs.Run.{run_view}
-use Rattle.msgcat.specs.Internal.Gathered.{IsGathered}
+use Rattle.msgcat.specs.Internal.ReadFiles.{IsReadingOf}
 use Rattle.msgcat.specs.Msgcat.{IsMsgcatRun, IsUnread}
 use Rattle.msgcat.proofs.UnreadBefore.{name_told, names_before, none_before, place_is, refused_before, refused_whole, some_file}
 use Rattle.msgcat.proofs.whole_run.plan_msgcat_of.Goals as goal
@@ -77,5 +77,5 @@ returns-clause-names c =
 pub returns-clause-whole : goal.returns-clause-whole
 returns-clause-whole c = λ none.
     c.in_ok-run.ensures (named_inputs c.args.inputs)
-    (subst (λ files. IsGathered files c.gather-gathered.result)
-    (ap named_files c.deref-2.ensures.value ∙ c.in_ok-texts.ensures.files) c.gather-gathered.ensures)
+    (subst (λ files. IsReadingOf files c.read_inputs.result)
+    (ap named_files c.deref-2.ensures.value ∙ c.in_ok-texts.ensures.files) c.read_inputs.ensures)
