@@ -41,4 +41,6 @@ first_named (file ∷ files) (input ∷ inputs) are = are.0.name
 pub first_known : (inputs : List Named) (read : List ReadInput) → AllZip IsReadInput inputs read
     → (input : ReadInput) → slice_get read 0 ≡ Some input → input.name.now ≡ name_of_first inputs
 first_known [] [] known input is = cc
+first_known [] (i ∷ read) known input is = absurd known
+first_known (r ∷ inputs) [] known input is = absurd known
 first_known (r ∷ inputs) (i ∷ read) known input is = cc

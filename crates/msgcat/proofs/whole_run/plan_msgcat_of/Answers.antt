@@ -1,7 +1,7 @@
 use Rattle.std.proofs.Common.{Ok, ap, inl, subst, ◌∙◌}
 use Rattle.std.specs.Prelude.{All}
 use Rattle.std.proofs.lemmas.Bool.{false≢true}
-use Rattle.std.proofs.lemmas.Result.{IfOk-weaker}
+use Rattle.std.proofs.lemmas.Result.{IfOk-weaker, MatchResult-from_both}
 use Rattle.po_entry.specs.Bytes.{Lacks}
 use Rattle.runs.specs.Facts.RunEnds.{none_read}
 use Rattle.runs.specs.Inputs.{named_inputs}
@@ -74,8 +74,14 @@ returns-clause-names c =
     none_before (Ok c.in_ok-run.run') (named_inputs c.args.inputs) (subst (All (λ file. Lacks 0 file.name))
     (ap named_files c.deref.ensures.value ∙ c.in_ok-texts.ensures.files) c.in_default.ensures)
 
+pub run_of_read-requires : goal.run_of_read-requires
+run_of_read-requires c =
+    (named_files c.deref-2.result.now, MatchResult-from_both c.read_inputs-read.result _ _ c.read_inputs-read.ensures.read
+    c.read_inputs-read.ensures.fault)
+
 pub returns-clause-whole : goal.returns-clause-whole
 returns-clause-whole c = λ none.
     c.in_ok-run.ensures (named_inputs c.args.inputs)
-    (subst (λ files. IsReadingOf files c.read_inputs.result)
-    (ap named_files c.deref-2.ensures.value ∙ c.in_ok-texts.ensures.files) c.read_inputs.ensures)
+    (subst (λ files. IsReadingOf files c.read_inputs-read.result)
+    (ap named_files c.deref-2.ensures.value ∙ c.in_ok-texts.ensures.files)
+    (MatchResult-from_both c.read_inputs-read.result _ _ c.read_inputs-read.ensures.read c.read_inputs-read.ensures.fault))
