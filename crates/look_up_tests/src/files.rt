@@ -1,9 +1,8 @@
 //! How files are laid out and read.
 
 use crate::samples::{CONTEXTS, ONE, ONE_BIG, TWO};
-use mo_file::{
-    BuildError, Meter, MoView, Order, Pair, build, compare_key, layout_is_mo_file, one_message_list,
-};
+use mo_file::laws::{layout_is_mo_file, one_message_list};
+use mo_file::{BuildError, Meter, MoView, Order, Pair, build, compare_key};
 use std::alloc::{AllocError, Global};
 use std::cmp::Ordering;
 

@@ -11,7 +11,8 @@ use crate::completing::add_completed;
 use crate::expanding::count_in;
 use crate::listing::list_own;
 use crate::platform_text::PlatformText;
-use mo_file::{BorrowedPair, Meter, MoView, Order, file_len, lay_out, one_message_list};
+use mo_file::laws::one_message_list;
+use mo_file::{BorrowedPair, Meter, MoView, Order, file_len, lay_out};
 
 /// What has become of a file that was to be expanded.
 #[derive(Clone, Copy, Debug)]

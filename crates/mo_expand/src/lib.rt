@@ -18,7 +18,7 @@ mod completing;
 mod expanded_file;
 mod expanding;
 mod joining;
-mod laws;
+pub mod laws;
 mod listing;
 mod platform_text;
 mod segments;
@@ -28,10 +28,5 @@ pub use any_order::message_count;
 pub use expanded_file::{ExpandedFile, expand_file};
 pub use expanding::{expand, system_count};
 pub use joining::Missing;
-pub use laws::{
-    example_is_completed, example_needs_its_text, expanded_file_is_mo_file, first_text_counts,
-    message_is_added_in_order, message_is_its_strings, mo_file_is_in_order, one_order,
-    order_alone_is_told, same_message_under_key, sorted_file_is_mo_file, text_is_its_segments,
-};
 pub use platform_text::PlatformText;
 pub use sorted_file::{SortedFile, sort_file};

@@ -21,7 +21,7 @@ mod common_prefix;
 mod fault;
 mod file_header;
 mod key;
-mod laws;
+pub mod laws;
 mod message_parts;
 mod meter;
 mod pairs;
@@ -34,11 +34,6 @@ pub use byte_order::{Order, word};
 pub use common_prefix::find_byte;
 pub use fault::MoError;
 pub use key::{compare_key, compare_originals};
-pub use laws::{
-    files_are_laid_out, known_revisions_are_valid, layout_is_mo_file, mo_file_or_fault,
-    no_fault_of_mo_file, no_hash_table_is_laid_out, one_first_fault, one_message_list,
-    other_revisions_are_refused,
-};
 pub use message_parts::{EOT, NUL, first_part, key_parts, original_parts, split_form};
 pub use meter::Meter;
 pub use pairs::{BorrowedPair, Pair};

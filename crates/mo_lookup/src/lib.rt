@@ -18,7 +18,7 @@ mod answer;
 mod catalog;
 mod chain;
 mod forms;
-mod laws;
+pub mod laws;
 mod lookup;
 mod messages;
 mod opening;
@@ -29,12 +29,6 @@ mod search;
 pub use answer::Answer;
 pub use catalog::Catalog;
 pub use chain::{Chain, ChainAnswer};
-pub use laws::{
-    bound_halves, bound_is_logarithm, chain_asks_up_to_first, chain_costs_add_up,
-    count_selects_form, each_key_finds_its_translation, forms_are_selected,
-    forms_stand_at_their_index, keys_lack_nul_and_eot, other_keys_find_none, search_halves,
-    search_is_bounded, untranslated_texts_are_answered,
-};
 pub use lookup::locate;
 pub use messages::{Messages, ViewMessages};
 pub use opening::open_into;

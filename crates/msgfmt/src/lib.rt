@@ -6,13 +6,12 @@
 #![tactic(auto)]
 
 mod fault_lines;
-mod laws;
+pub mod laws;
 mod options;
 mod plan;
 mod profile;
 mod whole_run;
 
-pub use laws::first_profile_fault;
 pub use options::{MsgfmtOptions, msgfmt_options_of};
 pub use plan::plan_msgfmt;
 pub use profile::{CheckFault, check_collected};

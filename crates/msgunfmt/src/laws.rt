@@ -4,7 +4,7 @@
 ghost use Rattle.msgunfmt.specs.MessageParts.{EntriesAreOfMessages};
 ghost use Rattle.msgunfmt.specs.RoundTrip.{EmptyText, NoFaultWhereUnformatted, OneText, OneUnformatFault, TextOrFault, UnformatThenCompile};
 
-use mo_file::{mo_file_or_fault, one_first_fault, one_message_list};
+use mo_file::laws::{mo_file_or_fault, one_first_fault, one_message_list};
 use po_compile::laws::{
     joined_entries_can_stand, look_up_means_entries, messages_are_one, messages_differ,
     one_text_is_read, texts_come_back,

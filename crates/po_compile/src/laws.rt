@@ -5,7 +5,7 @@ ghost use Rattle.po_compile.specs.CompiledEntries.{CompiledListIsKept};
 ghost use Rattle.po_compile.specs.Headline.{AcceptedOrFault, CataloguesAreOne, LookUpMeansEntries, MessagesAreOne, MessagesMeanEntries, NoFaultWhereAccepted, NoFaultWhereDistinct, OneCompileFault, OneTextFault};
 ghost use Rattle.po_compile.specs.MessageLaws.{CompiledCanBeKeys, JoinedEntriesCanStand, LayoutsAreLimited, MessagesDiffer, MessagesHaveParts, OneMoreChangesNoOther, OneTextIsRead, TextsComeBack};
 
-use mo_file::layout_is_mo_file;
+use mo_file::laws::layout_is_mo_file;
 use po_entry::laws::{no_duplicate_or_first, no_first_duplicate_where_none, one_first_duplicate};
 use po_reader::laws::{
     entries_can_stand, entries_or_fault, no_fault_is_memory, no_fault_where_entries, one_fault,

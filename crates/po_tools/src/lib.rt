@@ -27,9 +27,8 @@ pub use gettext::{
 };
 pub use msgattrib::{plan_msgattrib, selection_of};
 pub use msgcat::{merge_options_of, plan_msgcat, plan_msgcat_before, plan_msgcat_of};
-pub use msgfmt::{
-    CheckFault, MsgfmtOptions, first_profile_fault, msgfmt_options_of, plan_msgfmt, plan_msgfmt_of,
-};
+pub use msgfmt::laws::first_profile_fault;
+pub use msgfmt::{CheckFault, MsgfmtOptions, msgfmt_options_of, plan_msgfmt, plan_msgfmt_of};
 pub use msgunfmt::plan_msgunfmt;
 pub use one_input::{run_msgattrib, run_msgfmt, run_msgunfmt};
 pub use po_compile::{Compiled, Options, compile, compile_all, laws};

@@ -3,7 +3,7 @@
 ghost use Rattle.po_tools.specs.ChainLaws.{CompiledAreKept, KeptCompilesAlike, LongerChainAnswersAlike, MsgcatAgain, MsgcatCompilesAlike, MsgcatOfSeveral, ThereAndBack};
 ghost use Rattle.po_tools.specs.RunLaws.{OneLookUpRun, OneMsgattribRun, OneMsgcatRun, OneMsgfmtRun, OneMsgunfmtRun};
 
-use mo_file::{no_fault_of_mo_file, one_first_fault, one_message_list};
+use mo_file::laws::{no_fault_of_mo_file, one_first_fault, one_message_list};
 use mo_lookup::one_rule;
 use po_compile::laws::{
     catalogues_are_one, messages_are_one, no_fault_where_accepted, no_fault_where_distinct,

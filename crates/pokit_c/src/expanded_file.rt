@@ -7,7 +7,8 @@ ghost use Rattle.mo_file.specs.MoFile.{IsMoFile};
 ghost use Rattle.mo_expand.specs.ExpandedFile.{IsNotExpanded, expanded_file};
 ghost use Rattle.mo_expand.specs.Merging.{expanded_messages};
 
-use mo_expand::{ExpandedFile, PlatformText, expand_file, expanded_file_is_mo_file};
+use mo_expand::laws::expanded_file_is_mo_file;
+use mo_expand::{ExpandedFile, PlatformText, expand_file};
 use mo_file::BorrowedPair;
 
 /// Expands an MO file into one without system-dependent messages: the messages of the file, and of

@@ -9,9 +9,8 @@ ghost use Rattle.mo_expand.specs.AnyOrder.{IsFileInAnyOrder, IsInOrder};
 ghost use Rattle.mo_expand.specs.SortedFile.{IsFileOfSorted, IsNotSorted};
 ghost use Rattle.pokit_c.specs.Sorted.{AnswersAlike};
 
-use mo_expand::{
-    SortedFile, message_count, same_message_under_key, sort_file, sorted_file_is_mo_file,
-};
+use mo_expand::laws::{same_message_under_key, sorted_file_is_mo_file};
+use mo_expand::{SortedFile, message_count, sort_file};
 use mo_file::BorrowedPair;
 
 /// How many messages a file has by its file header, its header entry among them: so many places
