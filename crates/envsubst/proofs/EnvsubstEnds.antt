@@ -4,8 +4,7 @@ use Rattle.std.specs.Io.KnownBytes.{Appends}
 use Rattle.runs.specs.declared.tool_fault.ToolFault.{ToolFault}
 use Rattle.runs.specs.declared.tool_fault.ToolFault.TheVariants.{ReadFault, WriteFault, OutOfMemory}
 use Rattle.envsubst.specs.Envsubst.{EndsAs, HasGoneOut, StopsWithin, StopsAtEnd}
-use Rattle.envsubst.specs.EnvsubstLaw.{Took, TookAll, TookAllRead, TookBeginning, TookBeginningOfRead}
-use Rattle.envsubst.specs.Replacing.{Replaces}
+use Rattle.envsubst.specs.EnvsubstLaws.{Took, TookAll, TookAllRead, TookBeginning, TookBeginningOfRead, Replaces}
 use Rattle.envsubst.specs.Stream.{Stops}
 use Rattle.envsubst.specs.Substitution.{Values, substitution}
 use Rattle.envsubst.proofs.ReplacedReferences.{references_replaced}

@@ -10,7 +10,7 @@ use Rattle.std.proofs.lemmas.List.Folds.{Any-from_list_any, list_any-from_Any}
 use Rattle.std.proofs.lemmas.Slice.Eq.{bytes_eq-Decides}
 use Rattle.std.proofs.lemmas.Option.{none-some}
 use Rattle.envsubst.specs.Substitution.{value_of, is_replaced, values_of}
-use Rattle.envsubst.specs.Replacing.{HasValue, unset, set, IsReplaced}
+use Rattle.envsubst.specs.EnvsubstLaws.{HasValue, unset, set, IsReplaced}
 
 abbrev Variable : Type 0
 Variable = List ℕ × List ℕ

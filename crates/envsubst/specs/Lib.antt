@@ -1,15 +1,11 @@
 pub mod References
 pub mod Substitution
-pub mod Replacing
+pub mod EnvsubstLaws
 pub mod Stream
 pub mod PendingReference
 pub mod SubstituterView
 pub mod Envsubst
-pub mod Failures
-pub mod EnvsubstLaw
 pub mod Variables
 pub mod ByArguments
 pub mod Usage
-pub mod UsageView
-pub mod ArgumentValues
 pub mod Internal

@@ -2,9 +2,8 @@
 //! into a proof.
 ghost use Rattle.std.specs.Prelude.{◌≡◌, ◌↔◌, [], ℕ, List, Option, Some, Ok, Err};
 ghost use Rattle.envsubst.specs.Envsubst.{EndsAs};
-ghost use Rattle.envsubst.specs.EnvsubstLaw.{TookAll, TookAllRead, TookBeginning, TookBeginningOfRead};
+ghost use Rattle.envsubst.specs.EnvsubstLaws.{TookAll, TookAllRead, TookBeginning, TookBeginningOfRead, HasValue, HoldsNames, IsReplaced, Replaces};
 ghost use Rattle.envsubst.specs.References.{names_in};
-ghost use Rattle.envsubst.specs.Replacing.{HasValue, HoldsNames, IsReplaced, Replaces};
 ghost use Rattle.envsubst.specs.Stream.{FeedCallsAgree};
 ghost use Rattle.envsubst.specs.Substitution.{Values, substitution, values_of};
 ghost use Rattle.runs.specs.declared.tool_fault.ToolFault.{ToolFault};

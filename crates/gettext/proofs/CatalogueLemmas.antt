@@ -3,8 +3,7 @@ use Rattle.std.proofs.Common.{◌≡◌, ◌+◌, ◌<◌, ◌≤◌, ℕ, List,
 use Rattle.std.proofs.lemmas.List.{drop_more}
 use Rattle.std.specs.Global.{Vec}
 use Rattle.gettext.specs.Catalogues.{AreCatalogues, AsksAt, AsksPaths, IsCatalogueAt, done, found, none, next, skipped}
-use Rattle.runs.specs.Inputs.{Asked, Reading, Stays}
-use Rattle.runs.specs.NamedFile.{NamedFile}
+use Rattle.runs.specs.Inputs.{Asked, Reading, Stays, NamedFile}
 
 abbrev pub path_texts : List (Vec ℕ) → List (List ℕ)
 path_texts paths = map (λ path. path.items) paths

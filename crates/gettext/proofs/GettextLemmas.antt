@@ -7,7 +7,7 @@ use Rattle.std.specs.List.{join_with_byte, list_any}
 use Rattle.mo_lookup.specs.CatalogView.{CatalogView}
 use Rattle.gettext.specs.declared.plan.Opened.{Opened}
 use Rattle.gettext.specs.Gettext.{Opens, none, opened, refused}
-use Rattle.runs.specs.NamedFile.{NamedFile, named_file, named_files}
+use Rattle.runs.specs.Inputs.{NamedFile, named_file, named_files}
 use Rattle.gettext.specs.Internal.OpensFile.{OpensFile}
 
 -- whatever the files from i on add completes what the files before made

@@ -5,7 +5,7 @@ use Rattle.gettext.specs.Catalogues.{catalogue_files}
 use Rattle.gettext.specs.Gettext.{IsLookUpRun, Request}
 use Rattle.gettext.specs.WholeRun.{catalogue_limit}
 use Rattle.gettext.specs.declared.catalogues.CatalogueFile.{CatalogueFile}
-use Rattle.runs.specs.NamedFile.{named_files}
+use Rattle.runs.specs.Inputs.{named_files}
 use Rattle.runs.specs.Run.{RunView}
 
 pub of_found : (request : Request) (run : RunView) (given borrowed : List (Bor (List ℕ) × Bor (List ℕ)))

@@ -7,8 +7,7 @@ use Rattle.gettext.specs.declared.candidates.Environment.{Environment}
 use Rattle.gettext.specs.declared.catalogues.CatalogueFile.{CatalogueFile}
 use Rattle.runs.specs.declared.inputs.InputFault.{InputFault}
 use Rattle.runs.specs.declared.inputs.InputFault.TheVariants.{OutOfMemory}
-use Rattle.runs.specs.Inputs.{Asked, Asks, Reading, gives, refuses, file_of}
-use Rattle.runs.specs.NamedFile.{NamedFile}
+use Rattle.runs.specs.Inputs.{Asked, Asks, Reading, gives, refuses, file_of, NamedFile}
 
 -- what contracts see of a catalogue's file
 abbrev pub catalogue_file : CatalogueFile → NamedFile

@@ -1,7 +1,5 @@
 -- What gettext and ngettext write (manual, "Invoking the gettext program" and "Invoking the ngettext program").
-use Rattle.std.specs.Prelude.{◌≡◌, refl, ℕ, Bool, true, false, not, ◌&&◌}
-use Rattle.std.specs.Prelude.{List, [], ◌∷◌, ◌++◌, map, Option, None, Some, codes}
-use Rattle.std.specs.Prelude.{if◌then◌else◌}
+use Rattle.std.specs.Prelude.{◌≡◌, refl, ℕ, Bool, true, false, not, ◌&&◌, List, [], ◌∷◌, ◌++◌, map, Option, None, Some, codes, if◌then◌else◌}
 use Rattle.std.specs.List.{join_with_byte, list_any}
 use Rattle.mo_file.specs.declared.byte_order.Order.{Order}
 use Rattle.mo_file.specs.declared.fault.MoError.{MoError}
@@ -12,7 +10,7 @@ use Rattle.mo_lookup.specs.CatalogView.{CatalogView, IsCatalogView}
 use Rattle.gettext.specs.CountArgument.{count_in}
 use Rattle.gettext.specs.Escapes.{expansion, has_no_newline, escape_after, given_bytes_after, letter_escape}
 use Rattle.runs.specs.FaultText.{fault_line, mo_text}
-use Rattle.runs.specs.NamedFile.{NamedFile}
+use Rattle.runs.specs.Inputs.{NamedFile}
 use Rattle.runs.specs.Run.{RunView}
 
 -- The files that are catalogues make the chain, in order; each other one is reported by a line, in order.

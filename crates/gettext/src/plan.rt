@@ -9,7 +9,7 @@ ghost use Rattle.runs.specs.Run.{run_view};
 ghost use Rattle.gettext.specs.Gettext as Spec;
 ghost use Rattle.gettext.specs.Gettext.{for_count, for_messages};
 ghost use Rattle.gettext.specs.GettextView.{gettext_view, ngettext_view, request_view};
-ghost use Rattle.runs.specs.NamedFile.{named_files};
+ghost use Rattle.runs.specs.Inputs.{named_files};
 ghost use Rattle.gettext.specs.Internal.OpensFile.{Joins, OpensFile};
 
 use crate::catalogues::bytes_of;

@@ -10,11 +10,10 @@ use Rattle.po_tools.specs.ToolRun.{ReaderView, RunsTool, reached, reader_of}
 use Rattle.known_system.specs.declared.files.KnownFiles.{KnownFiles}
 use Rattle.known_system.specs.declared.source.KnownSource.{KnownSource}
 use Rattle.known_system.specs.Contents.{Contents, Holds, contents}
-use Rattle.known_system.specs.Links.{links_by_path}
+use Rattle.known_system.specs.Stored.{links_by_path, stored}
 use Rattle.known_system.specs.Replay.{Links, Place, bytes_at, folder, nothing, replay}
-use Rattle.known_system.specs.Stored.{stored}
 use Rattle.known_runs.specs.Ends.{End, end, end_of}
-use Rattle.known_runs.specs.InMemory.{RunsInMemory, answers_in, line_in, system_after, system_before}
+use Rattle.known_runs.specs.Words.{RunsInMemory, answers_in, line_in, system_after, system_before}
 use Rattle.known_runs.specs.declared.in_memory.Ended.{Ended}
 use Rattle.known_runs.specs.declared.in_memory.Reached.{Reached}
 use Rattle.known_runs.specs.declared.words.Words.{Words}

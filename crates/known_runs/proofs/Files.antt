@@ -1,16 +1,13 @@
 -- What a command comes to that writes a file.
 use Rattle.std.proofs.Common.{◌≡◌, ℕ, Bool, true, false, List, [], ◌++◌, is_some, Option, Some, None, Result, Err, refl, sym, ap, ◌∙◌, subst, inl}
 use Rattle.std.proofs.lemmas.Bool.{false≢true}
-use Rattle.runs.specs.Inputs.{Reading, gives, refuses, unread}
-use Rattle.runs.specs.NamedFile.{NamedFile}
+use Rattle.runs.specs.Inputs.{Reading, gives, refuses, unread, NamedFile, ReadsAs}
 use Rattle.runs.specs.Outputs.{SystemView}
 use Rattle.runs.specs.ProgramFaults.{program_text}
 use Rattle.runs.specs.Run.{RunView, output_file, is_standard}
 use Rattle.runs.specs.ToolRuns as tools
-use Rattle.runs.specs.Inputs.{ReadsAs}
 use Rattle.runs.specs.declared.program_fault.ProgramFault.{ProgramFault}
-use Rattle.known_system.specs.Contents.{Contents, Leaves, IsFileFault, filed as filed_there, left, printed as printed_there}
-use Rattle.known_system.specs.Leads.{Leads, there, follows}
+use Rattle.known_system.specs.Contents.{Contents, Leaves, IsFileFault, filed as filed_there, left, printed as printed_there, Leads, there, follows}
 use Rattle.known_system.specs.Replay.{Links, bytes_at}
 use Rattle.known_system.specs.Source.{bytes_of}
 use Rattle.known_runs.specs.Ends.{End, end, EndsInFile, filed, printed, failed}

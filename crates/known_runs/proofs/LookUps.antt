@@ -21,12 +21,11 @@ use Rattle.mo_lookup.specs.CatalogView.{CatalogView, IsCatalogView, answered as 
 use Rattle.mo_lookup.specs.Chain.{chain_answered}
 use Rattle.mo_lookup.specs.Answer.{untranslated}
 use Rattle.mo_lookup.specs.Query.{Query}
-use Rattle.po_compile.specs.CompiledList.{compiled_list}
-use Rattle.po_compile.specs.Meaning.{meant}
+use Rattle.po_compile.specs.Compiled.{compiled_list}
+use Rattle.po_compile.specs.Compiling.{meant}
 use Rattle.po_compile.specs.declared.options.Compiled.{Compiled}
 use Rattle.po_entry.specs.Joined.{joined_entries}
-use Rattle.runs.specs.Inputs.{Reading, gives, refuses}
-use Rattle.runs.specs.NamedFile.{NamedFile}
+use Rattle.runs.specs.Inputs.{Reading, gives, refuses, NamedFile}
 use Rattle.runs.specs.Outputs.{SystemView}
 use Rattle.runs.specs.Run.{RunView}
 use Rattle.runs.specs.ToolRuns.{Writes}

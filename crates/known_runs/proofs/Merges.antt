@@ -5,11 +5,10 @@ use Rattle.std.specs.Option.{unwrap_or}
 use Rattle.msgcat.specs.Msgcat.{IsMsgcatRun}
 use Rattle.msgcat.specs.Options.{AreMergeOptions, or_zero}
 use Rattle.msgcat.specs.WholeRun.{HaveNoRun, IsRunOf, RunsMsgcat}
-use Rattle.po_entry.specs.Bytes.{Lacks}
+use Rattle.po_entry.specs.Texts.{Lacks}
 use Rattle.msgcat.specs.declared.input.MergeOptions.{MergeOptions}
 use Rattle.runs.specs.ArgumentValues.{IsTextOr}
-use Rattle.runs.specs.Inputs.{AreInputs, Reading, gives, refuses, read, unread, done}
-use Rattle.runs.specs.NamedFile.{NamedFile}
+use Rattle.runs.specs.Inputs.{AreInputs, Reading, gives, refuses, read, unread, done, NamedFile}
 use Rattle.runs.specs.Outputs.{SystemView}
 use Rattle.runs.specs.ProgramFaults.{program_text}
 use Rattle.runs.specs.Run.{RunView}

@@ -12,15 +12,13 @@ use Rattle.po_compile.specs.Compiling.{IsCompilation}
 use Rattle.po_entry.specs.Joined.{joined_entries}
 use Rattle.po_compile.specs.declared.options.Compiled.{Compiled}
 use Rattle.runs.specs.ArgumentValues.{IsTextOr}
-use Rattle.runs.specs.Inputs.{AreInputs, Reading, gives, refuses, read, unread, done}
-use Rattle.runs.specs.NamedFile.{NamedFile}
+use Rattle.runs.specs.Inputs.{AreInputs, Reading, gives, refuses, read, unread, done, NamedFile}
 use Rattle.runs.specs.Outputs.{SystemView, link_limit}
 use Rattle.runs.specs.ProgramFaults.{program_text}
 use Rattle.runs.specs.Run.{RunView, output_file, refusal}
 use Rattle.runs.specs.ToolRuns.{Asking, Writes, runs, has_none, no_memory_to_read, no_memory_to_plan}
 use Rattle.runs.specs.declared.program_fault.ProgramFault.{ProgramFault}
-use Rattle.known_system.specs.Contents.{Contents, Leaves, IsFileFault, filed, left, printed}
-use Rattle.known_system.specs.Leads.{Leads}
+use Rattle.known_system.specs.Contents.{Contents, Leaves, IsFileFault, filed, left, printed, Leads}
 use Rattle.known_system.specs.Replay.{Place, bytes_at}
 use Rattle.known_runs.specs.Ends.{End, end}
 use Rattle.known_runs.specs.Msgfmt.{EndsMsgfmt, IsCompiledFrom, plain, compiled, empty, refused, failed}

@@ -6,21 +6,20 @@ use Rattle.mo_lookup.specs.Query.{Query}
 use Rattle.msgfmt.specs.declared.options.MsgfmtOptions.{MsgfmtOptions}
 use Rattle.msgfmt.specs.Msgfmt.{IsDone, IsMsgfmtRun, compiled_run, join_line}
 use Rattle.plural_rule.specs.PluralRule.{RuleView, IsRuleOf, expression_limit}
-use Rattle.po_compile.specs.CompiledList.{compiled_list}
+use Rattle.po_compile.specs.Compiled.{compiled_list}
 use Rattle.po_compile.specs.Headline.{CataloguesAreOne}
-use Rattle.po_compile.specs.Meaning.{header_of, meant}
+use Rattle.po_compile.specs.Compiling.{header_of, meant}
 use Rattle.po_compile.specs.declared.options.Compiled.{Compiled}
 use Rattle.po_entry.specs.TextEntry.{TextEntry}
 use Rattle.po_entry.specs.Joined.{joined_entries}
 use Rattle.po_entry.specs.Statistics.{stats_of}
 use Rattle.po_tools.specs.RunLaws.{OneMsgfmtRun}
-use Rattle.runs.specs.NamedFile.{NamedFile}
+use Rattle.runs.specs.Inputs.{NamedFile}
 use Rattle.runs.specs.Run.{RunView, refusal}
 use Rattle.envsubst.specs.Substitution.{Values}
-use Rattle.known_runs.specs.Ends.{End, EndsInFile, end, filed, printed, failed}
+use Rattle.known_runs.specs.Ends.{End, EndsInFile, end, filed, printed, failed, HasStatus, OneEnd}
 use Rattle.known_runs.specs.LookUps.{EndsLookUp, answered, failed as no_memory}
 use Rattle.known_runs.specs.Msgfmt.{EndsMsgfmt, IsCompiledFrom, compiled, empty, refused, failed as unwritten}
-use Rattle.known_runs.specs.OneEnd.{HasStatus, OneEnd}
 use Rattle.known_runs.specs.Substitutions.{EndsSubstituted, substituted, cut}
 
 pub in_file : {IsRun : RunView → Type 0} → ((run other : RunView) → IsRun run → IsRun other → run ≡ other)

@@ -3,14 +3,13 @@ use Rattle.std.proofs.Common.{◌≡◌, ◌+◌, ℕ, Bool, true, false, List, 
 use Rattle.std.proofs.lemmas.Bool.{false≢true}
 use Rattle.std.specs.Option.{option_to_list}
 use Rattle.envsubst.specs.ByArguments.{RunsEnvsubst, named, substituted as replaced_all, unread}
-use Rattle.envsubst.specs.Envsubst.{EndsAs, HasGoneOut, StopsWithin}
-use Rattle.envsubst.specs.Failures.{write_failures}
+use Rattle.envsubst.specs.Envsubst.{EndsAs, HasGoneOut, StopsWithin, write_failures}
 use Rattle.envsubst.specs.References.{names_in}
 use Rattle.envsubst.specs.Substitution.{Values, substitution, values_of}
 use Rattle.envsubst.specs.Usage.{EnvsubstUsage, envsubst_usage, replaced}
 use Rattle.envsubst.specs.Variables.{variables_of}
 use Rattle.po_tools.specs.ToolRun.{Answers, AnswersStatus, CommandLine, Reached, RunsEnvsubstLine, Substitutes, answers_of, line_of, reached, reader_of, runs_envsubst, no_envsubst}
-use Rattle.runs.specs.FileCalls.{FileLog}
+use Rattle.runs.specs.OutputFiles.{FileLog}
 use Rattle.runs.specs.Inputs.{Asked, Reading}
 use Rattle.runs.specs.Outputs.{WriterView, system, writer}
 use Rattle.runs.specs.declared.program_fault.ProgramFault.{ProgramFault}

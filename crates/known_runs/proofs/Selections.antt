@@ -5,8 +5,7 @@ use Rattle.msgattrib.specs.Msgattrib.{IsMsgattribRun}
 use Rattle.msgattrib.specs.Options.{IsEither, IsSelection}
 use Rattle.msgattrib.specs.declared.selection.Selection.{Selection}
 use Rattle.runs.specs.ArgumentValues.{IsTextOr}
-use Rattle.runs.specs.Inputs.{Reading, gives}
-use Rattle.runs.specs.NamedFile.{NamedFile}
+use Rattle.runs.specs.Inputs.{Reading, gives, NamedFile}
 use Rattle.runs.specs.Outputs.{SystemView}
 use Rattle.runs.specs.Run.{RunView, is_standard}
 use Rattle.runs.specs.ToolRuns.{Asking, RunsInput, Writes}

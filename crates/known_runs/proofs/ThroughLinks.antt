@@ -14,8 +14,7 @@ use Rattle.runs.specs.Run.{RunView, is_standard, output_file}
 use Rattle.runs.specs.ToolRuns.{Asking, Writes, runs, has_none, no_memory_to_read, no_memory_to_plan}
 use Rattle.runs.specs.declared.program_fault.ProgramFault.{ProgramFault}
 use Rattle.runs.specs.declared.program_fault.ProgramFault.TheVariants.{OutOfMemory}
-use Rattle.known_system.specs.Contents.{Contents, Leaves, filed, left, printed}
-use Rattle.known_system.specs.Leads.{Leads, there, follows}
+use Rattle.known_system.specs.Contents.{Contents, Leaves, filed, left, printed, Leads, there, follows}
 use Rattle.known_system.specs.Replay.{Links, Place, bytes_at, is_free}
 use Rattle.known_system.specs.Source.{bytes_of}
 use Rattle.known_runs.specs.Ends.{end}

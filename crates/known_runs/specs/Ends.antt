@@ -33,3 +33,13 @@ pub data EndsInFile (IsRun : RunView → Type 0) (path : List ℕ) (old : Option
   -- memory or the folder is too small: the file is as it was, and nothing is told
   failed : {fault : ProgramFault} → IsFileFault path (program_text fault)
       → EndsInFile IsRun path old (end (Err fault) old [] [])
+
+-- A command has one end.
+
+-- it ended with a status
+abbrev pub HasStatus : End → Type 0
+HasStatus is = (status : ℕ) × (is.result ≡ Ok status)
+
+-- what it writes, tells and returns is the same wherever it ends with a status
+abbrev pub OneEnd : (End → Type 0) → Type 0
+OneEnd Ends = (first second : End) → Ends first → Ends second → HasStatus first → HasStatus second → first ≡ second

@@ -1,8 +1,6 @@
 pub mod Words
-pub mod InMemory
 pub mod Ends
 pub mod Msgfmt
 pub mod Plain
 pub mod LookUps
 pub mod Substitutions
-pub mod OneEnd

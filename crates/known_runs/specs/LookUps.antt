@@ -6,8 +6,8 @@ use Rattle.gettext.specs.CountArgument.{count_in}
 use Rattle.mo_lookup.specs.Query.{Query}
 use Rattle.plural_rule.specs.PluralRule.{RuleView, IsRuleOf, expression_limit}
 use Rattle.po_compile.specs.Accepted.{AreRead}
-use Rattle.po_compile.specs.CompiledList.{compiled_list}
-use Rattle.po_compile.specs.Meaning.{header_of, meant}
+use Rattle.po_compile.specs.Compiled.{compiled_list}
+use Rattle.po_compile.specs.Compiling.{header_of, meant}
 use Rattle.po_entry.specs.TextEntry.{TextEntry}
 use Rattle.po_entry.specs.Joined.{joined_entries}
 use Rattle.runs.specs.declared.program_fault.ProgramFault.{ProgramFault}

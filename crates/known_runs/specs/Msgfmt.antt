@@ -12,8 +12,7 @@ use Rattle.po_entry.specs.declared.duplicate.JoinError.{JoinError}
 use Rattle.po_syntax.specs.declared.fault.PoFault.TheVariants.{OutOfMemory}
 use Rattle.runs.specs.ProgramFaults.{program_text}
 use Rattle.runs.specs.declared.program_fault.ProgramFault.{ProgramFault}
-use Rattle.known_system.specs.Contents.{IsFileFault}
-use Rattle.known_system.specs.Leads.{Leads}
+use Rattle.known_system.specs.Contents.{IsFileFault, Leads}
 use Rattle.known_system.specs.Replay.{Links}
 use Rattle.known_runs.specs.Ends.{End, end}
 

@@ -3,7 +3,7 @@ ghost use Rattle.std.specs.Prelude.{◌≡◌, [], codes, Err, option_map};
 ghost use Rattle.known_runs.specs.Ends.{EndsInFile, end_of};
 ghost use Rattle.known_runs.specs.Msgfmt.{EndsMsgfmt, EndsThroughLinks};
 ghost use Rattle.known_runs.specs.Plain.{all_as_they_are, all_messages, two_files};
-ghost use Rattle.known_system.specs.Links.{links_by_path};
+ghost use Rattle.known_system.specs.Stored.{links_by_path};
 ghost use Rattle.msgattrib.specs.Msgattrib.{IsMsgattribRun};
 ghost use Rattle.msgcat.specs.Msgcat.{IsMsgcatRun};
 ghost use Rattle.msgunfmt.specs.Msgunfmt.{IsMsgunfmtRunOf};

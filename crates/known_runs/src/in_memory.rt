@@ -1,6 +1,6 @@
 //! A tool over a known system.
 ghost use Rattle.std.specs.Prelude.{◌≡◌, Some, []};
-ghost use Rattle.known_runs.specs.InMemory.{RunsInMemory};
+ghost use Rattle.known_runs.specs.Words.{RunsInMemory};
 
 use crate::words::Words;
 use known_system::{KnownFiles, KnownSource, Told};

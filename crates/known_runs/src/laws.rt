@@ -1,10 +1,9 @@
 //! Laws of whole commands. Each function does nothing; calling it gives its clauses.
 ghost use Rattle.std.specs.Prelude.{ℕ, List, Option, codes};
 ghost use Rattle.envsubst.specs.Substitution.{Values};
-ghost use Rattle.known_runs.specs.Ends.{EndsInFile};
+ghost use Rattle.known_runs.specs.Ends.{EndsInFile, OneEnd};
 ghost use Rattle.known_runs.specs.LookUps.{EndsLookUp};
 ghost use Rattle.known_runs.specs.Msgfmt.{EndsMsgfmt};
-ghost use Rattle.known_runs.specs.OneEnd.{OneEnd};
 ghost use Rattle.known_runs.specs.Plain.{all_as_they_are, all_messages, two_files};
 ghost use Rattle.known_runs.specs.Substitutions.{EndsSubstituted};
 ghost use Rattle.mo_lookup.specs.Query.{Query};

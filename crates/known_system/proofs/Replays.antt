@@ -1,6 +1,6 @@
 -- One call more.
 use Rattle.std.proofs.Common.{◌≡◌, List, [], ◌∷◌, ◌++◌, Option, Some, None, option_and_then, refl, ◌∙◌}
-use Rattle.runs.specs.FileCalls.{FileCall}
+use Rattle.runs.specs.OutputFiles.{FileCall}
 use Rattle.known_system.specs.Replay.{Folder, replay, step}
 
 pub ends : (o : Option Folder) → option_and_then (replay []) o ≡ o

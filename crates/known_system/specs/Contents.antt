@@ -1,12 +1,34 @@
 -- What a known system holds, and what writing a run leaves in it.
-use Rattle.std.specs.Prelude.{◌≡◌, ◌⊎◌, ◌++◌, ℕ, true, List, Option, Some, None, Result, Ok, Err, codes}
-use Rattle.runs.specs.FileCalls.{FileCall}
+use Rattle.std.specs.Prelude.{◌≡◌, ℕ, suc, List, [], ◌∷◌, Option, Some, None, codes, refl, ◌⊎◌, ◌++◌, true, Result, Ok, Err}
+use Rattle.runs.specs.OutputPaths.{link_target}
+use Rattle.known_system.specs.Replay.{Links, Place, bytes_at, folder, is_free, nothing, replay, Folder}
+use Rattle.known_system.specs.Source.{bytes_of}
+use Rattle.runs.specs.OutputFiles.{FileCall}
 use Rattle.runs.specs.Outputs.{SystemView, link_limit, writer}
 use Rattle.runs.specs.ProgramFaults.{program_text}
 use Rattle.runs.specs.Run.{RunView, output_file}
 use Rattle.runs.specs.declared.program_fault.ProgramFault.{ProgramFault}
-use Rattle.known_system.specs.Leads.{Leads}
-use Rattle.known_system.specs.Replay.{Links, Place, bytes_at, folder, is_free, nothing, replay}
+use Rattle.runs.specs.declared.output_files.OutputFault.{OutputFault}
+
+-- Where a path leads through the links of a folder.
+
+-- the path that it leads to through so many links at most, if it does
+pub data Leads (links : Links) : ℕ → List ℕ → List ℕ → Type 0 where
+  there : {limit : ℕ} {path : List ℕ} → bytes_of links path ≡ None → Leads links limit path path
+  follows : {limit : ℕ} {path text target : List ℕ} → bytes_of links path ≡ Some text
+      → Leads links limit (link_target path text) target → Leads links (suc limit) path target
+
+-- a path that is no link leads to itself, and one that is leads where its text says, if that is none
+pub no_link : Leads [] 0 (codes "a.mo") (codes "a.mo")
+no_link = there refl
+
+pub one_link : {links : Links} {path text : List ℕ} → bytes_of links path ≡ Some text
+    → bytes_of links (link_target path text) ≡ None → Leads links 1 path (link_target path text)
+one_link is none = follows is (there none)
+
+-- more links than are followed lead nowhere
+pub too_many : (target : List ℕ) → ¬ Leads ((codes "a.mo", codes "b.mo") ∷ []) 0 (codes "a.mo") target
+too_many target (there none) = cc
 
 -- the links and the file that are there, and what standard output and standard error took
 pub record Contents : Type 0 where
@@ -46,3 +68,13 @@ pub data Leaves (run : RunView) (argument : List ℕ) (old new : Contents) : Res
   -- the file can't be written: it is as it was, and nothing is told
   left : {path : List ℕ} {fault : ProgramFault} → output_file run argument ≡ Some path
       → IsFileFault argument (program_text fault) → new ≡ old → Leaves run argument old new (Err fault)
+
+-- What an output leaves in the small folder: all of it where its path leads, where no other file is
+-- there, or the file that was there.
+
+pub data Left (output : List ℕ) (limit : ℕ) (path : List ℕ) (links : Links) (held : Place) (new : Folder)
+    : Option OutputFault → Type 0 where
+  whole : {target : List ℕ} → Leads links limit path target → is_free held target ≡ true
+      → bytes_at target new.held ≡ Some output → new.links ≡ links → Left output limit path links held new None
+  kept : {why : OutputFault} → new.held ≡ held → new.links ≡ links
+      → Left output limit path links held new (Some why)

@@ -1,11 +1,8 @@
 pub mod CallCode
 pub mod Noted
 pub mod Source
-pub mod Links
-pub mod Replay
 pub mod Stored
-pub mod Leads
-pub mod Left
+pub mod Replay
 pub mod Contents
 pub mod AskedCode
 pub mod Questioned

@@ -1,7 +1,7 @@
 //! The calls that a system was asked. They exist only in proofs, and take no memory.
 ghost use Rattle.std.specs.Prelude.{◌≡◌, List, [], ◌∷◌, ◌++◌};
 ghost use base.Fml.{ftrue};
-ghost use Rattle.runs.specs.FileCalls.{FileCall};
+ghost use Rattle.runs.specs.OutputFiles.{FileCall};
 ghost use Rattle.known_system.specs.CallCode.{calls_code};
 
 use runs::{Counted, FileKind, MakeFault, OutputFault, Owner};

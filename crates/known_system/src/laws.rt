@@ -1,10 +1,9 @@
 //! Laws of a known system. Each function does nothing; calling it gives its clause.
 ghost use Rattle.std.specs.Prelude.{◌≡◌, ℕ, List, Some, Result};
-ghost use Rattle.known_system.specs.Contents.{Contents, Holds, Leaves};
-ghost use Rattle.known_system.specs.Left.{Left};
+ghost use Rattle.known_system.specs.Contents.{Contents, Holds, Leaves, Left};
 ghost use Rattle.known_system.specs.Replay.{Folder, Links, Place, folder, replay};
-ghost use Rattle.runs.specs.FileCalls.{Course, calls_of, fault_of};
-ghost use Rattle.runs.specs.OutputFiles.{WritesFile};
+ghost use Rattle.runs.specs.OutputFiles.{Course, calls_of, fault_of};
+ghost use Rattle.runs.specs.OutputWriting.{WritesFile};
 ghost use Rattle.runs.specs.Outputs.{SystemView};
 ghost use Rattle.runs.specs.Run.{RunView};
 ghost use Rattle.runs.specs.ToolRuns.{Writes};

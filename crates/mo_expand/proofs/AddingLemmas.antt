@@ -9,9 +9,9 @@ use Rattle.std.proofs.lemmas.List.Sorted.{IsPermutation-cons, IsPermutation-midd
 use Rattle.std.proofs.lemmas.Map.Lookups.{exact_bytes}
 use Rattle.mo_file.specs.Key.{AreRising, key_cmp, key_of, keys}
 use Rattle.mo_file.specs.Message.{Message}
-use Rattle.mo_expand.specs.AnyOrder.{IsInOrder}
-use Rattle.mo_expand.specs.Merging.{with_message}
-use Rattle.mo_expand.specs.OrderLaws.{MessageIsAddedInOrder}
+use Rattle.mo_expand.specs.SortedFile.{IsInOrder}
+use Rattle.mo_expand.specs.ExpandedFile.{with_message}
+use Rattle.mo_expand.specs.Laws.{MessageIsAddedInOrder}
 use Rattle.mo_expand.proofs.ListingLemmas.{with_message-cons, with_message-none}
 use Rattle.mo_expand.proofs.RisingLemmas.{rising-rest, rising-with_message}
 use Rattle.mo_expand.proofs.SearchLemmas.{rising_between}

@@ -6,7 +6,7 @@ use Rattle.mo_file.specs.FileHeader.{HasMagicOf, message_count, originals_table,
 use Rattle.mo_file.specs.Message.{Message}
 use Rattle.mo_file.specs.StringTable.{end_at, messages_of}
 use Rattle.mo_file.proofs.FaultLemmas.{HasMagicOf-unique, not_below}
-use Rattle.mo_expand.specs.AnyOrder.{IsFileInAnyOrder}
+use Rattle.mo_expand.specs.SortedFile.{IsFileInAnyOrder}
 
 -- what holds of the messages that a file has in the byte order that it shows
 pub shown : (bytes : List ℕ) (order : Order) (P : Order → List Message → Type 0) → HasMagicOf order bytes

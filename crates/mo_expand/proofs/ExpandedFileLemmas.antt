@@ -8,7 +8,7 @@ use Rattle.mo_file.specs.declared.fault.MoError.TheVariants.{NotSorted}
 use Rattle.mo_file.proofs.ViewLemmas.{AreRising-messages_of}
 use Rattle.mo_file.proofs.RoundTripLemmas.{layout_is_mo_file}
 use Rattle.mo_expand.specs.Laws.{ExpandedFileIsMoFile}
-use Rattle.mo_expand.specs.Merging.{system_messages, with_messages}
+use Rattle.mo_expand.specs.ExpandedFile.{system_messages, with_messages}
 use Rattle.mo_expand.proofs.RisingLemmas.{rising-with_messages}
 
 pub rising : (order : Order) (bytes : List ℕ) (messages : List Message) → IsMoFile order bytes messages

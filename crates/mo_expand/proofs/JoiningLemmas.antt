@@ -13,8 +13,7 @@ use Rattle.mo_file.specs.declared.byte_order.Order.{Order}
 use Rattle.mo_file.specs.Word.{word_at}
 use Rattle.mo_expand.specs.declared.platform_text.PlatformText.{PlatformText}
 use Rattle.mo_expand.specs.Segments.{joined, from_segment, join}
-use Rattle.mo_expand.specs.Expanded.{message_from}
-use Rattle.mo_expand.specs.Expanding.{IsExpanded}
+use Rattle.mo_expand.specs.Expanding.{message_from, IsExpanded}
 use Rattle.mo_expand.specs.Internal.Joining.{HasText, IsJoining, IsPut, IsTried, IsWritten, with_rest}
 
 pub joined-none : (order : Order) (bytes : List ℕ) (texts : List PlatformText) (at start : ℕ)

@@ -9,7 +9,7 @@ use Rattle.mo_file.specs.Key.{key_of, key_cmp}
 use Rattle.mo_file.specs.Message.{Message, originals, translations}
 use Rattle.mo_file.specs.declared.pairs.BorrowedPair.{BorrowedPair}
 use Rattle.mo_file.specs.Pairs.{borrowed_message, messages_of_borrowed}
-use Rattle.mo_expand.specs.Merging.{beside, with_message}
+use Rattle.mo_expand.specs.ExpandedFile.{beside, with_message}
 
 pub with_message-cons : (m other : Message) (others : List Message) (o : Ordering)
     → key_cmp (key_of other.original) (key_of m.original) ≡ o

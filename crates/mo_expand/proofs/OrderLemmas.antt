@@ -15,8 +15,8 @@ use Rattle.std.proofs.lemmas.Slice.Eq.{bytes_eq-Decides}
 use Rattle.mo_file.specs.Key.{AreRising, key_cmp, key_of, keys}
 use Rattle.mo_file.specs.Message.{Message}
 use Rattle.mo_file.proofs.RoundTripLemmas.{layout_is_mo_file}
-use Rattle.mo_expand.specs.AnyOrder.{HaveDistinctKeys, IsInOrder}
-use Rattle.mo_expand.specs.OrderLaws.{MoFileIsInOrder, OneOrder, SameMessageUnderKey, SortedFileIsMoFile}
+use Rattle.mo_expand.specs.SortedFile.{HaveDistinctKeys, IsInOrder}
+use Rattle.mo_expand.specs.Laws.{MoFileIsInOrder, OneOrder, SameMessageUnderKey, SortedFileIsMoFile}
 use Rattle.mo_expand.proofs.ExpandedFileLemmas.{rising}
 use Rattle.mo_expand.proofs.RisingLemmas.{rising-rest}
 use Rattle.mo_expand.proofs.SearchLemmas.{rising_between}

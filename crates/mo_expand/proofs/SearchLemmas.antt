@@ -12,7 +12,7 @@ use Rattle.mo_file.specs.Key.{AreRising, key_at, key_cmp, key_of, keys}
 use Rattle.mo_file.specs.Message.{Message}
 use Rattle.mo_file.specs.declared.pairs.BorrowedPair.{BorrowedPair}
 use Rattle.mo_file.specs.Pairs.{borrowed_message, messages_of_borrowed}
-use Rattle.mo_expand.specs.Merging.{with_message}
+use Rattle.mo_expand.specs.ExpandedFile.{with_message}
 use Rattle.mo_expand.proofs.ListingLemmas.{with_message-cons, with_message-none}
 
 -- key i is below key j wherever i is below j

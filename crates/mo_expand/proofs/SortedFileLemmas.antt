@@ -18,7 +18,7 @@ use Rattle.mo_file.specs.Key.{AreRising, key_cmp, key_of, keys}
 use Rattle.mo_file.specs.Message.{Message}
 use Rattle.mo_file.specs.declared.pairs.BorrowedPair.{BorrowedPair}
 use Rattle.mo_file.specs.Pairs.{borrowed_message, messages_of_borrowed}
-use Rattle.mo_expand.specs.AnyOrder.{HaveDistinctKeys}
+use Rattle.mo_expand.specs.SortedFile.{HaveDistinctKeys}
 
 is_less : (o : Ordering) → true ≡ is_lt o → o ≡ Less
 is_less Less is = refl

@@ -11,9 +11,9 @@ use Rattle.mo_file.specs.FileHeader.{revision}
 use Rattle.mo_file.specs.Message.{Message}
 use Rattle.mo_file.specs.Word.{word_at}
 use Rattle.mo_expand.specs.declared.platform_text.PlatformText.{PlatformText}
-use Rattle.mo_expand.specs.Expanded.{message_from, system_count}
+use Rattle.mo_expand.specs.Expanding.{message_from, system_count}
 use Rattle.mo_expand.specs.Segments.{text_at}
-use Rattle.mo_expand.specs.SystemStrings.{FirstTextCounts, IsSystemNumber, MessageIsItsStrings}
+use Rattle.mo_expand.specs.Laws.{FirstTextCounts, IsSystemNumber, MessageIsItsStrings}
 use Rattle.mo_expand.proofs.SegmentLemmas.{both, if-false, if-some, if-true, some-same}
 
 differs : (b : Bool) → ¬ (b ≡ true) → b ≡ false

@@ -1,12 +1,6 @@
-pub mod PlatformText
 pub mod Segments
-pub mod SystemStrings
-pub mod Expanded
-pub mod Expanding
-pub mod Merging
-pub mod ExpandedFile
-pub mod AnyOrder
-pub mod SortedFile
 pub mod Laws
-pub mod OrderLaws
+pub mod Expanding
+pub mod ExpandedFile
+pub mod SortedFile
 pub mod Internal

@@ -3,13 +3,19 @@
 -- of their originals and translations are. The table of names has a length and an offset for each. Those of the
 -- strings have an offset, where a string is described: the offset of its bytes, and then for each segment how many of
 -- these bytes it has, and which name stands after them, or 0xffffffff after the last. A length counts a NUL at the end.
-use Rattle.std.specs.Prelude.{ℕ, zero, suc, ◌+◌, ◌-◌, ◌*◌, ◌==◌, ◌&&◌, nat_le, nat_lt, List, ◌++◌}
-use Rattle.std.specs.Prelude.{length, slice_index_or, Option, None, Some, option_and_then, if◌then◌else◌}
+use Rattle.std.specs.Prelude.{ℕ, List, [], ◌∷◌, Option, None, Some, if◌then◌else◌, zero, suc, ◌+◌, ◌-◌, ◌*◌, ◌==◌, ◌&&◌, nat_le, nat_lt, ◌++◌, length, slice_index_or, option_and_then}
+use Rattle.std.specs.Str.{bytes_eq}
+use Rattle.mo_expand.specs.declared.platform_text.PlatformText.{PlatformText}
 use Rattle.std.specs.List.{slice_range}
 use Rattle.mo_file.specs.declared.byte_order.Order.{Order}
 use Rattle.mo_file.specs.Word.{word_at}
-use Rattle.mo_expand.specs.declared.platform_text.PlatformText.{PlatformText}
-use Rattle.mo_expand.specs.PlatformText.{text_of}
+
+-- The texts that a platform has for names as PRIu64, by which system-dependent strings are completed.
+
+-- the text of the first of them that has this name
+abbrev pub text_of : List PlatformText → List ℕ → Option (List ℕ)
+text_of [] name = None
+text_of (t ∷ ts) name = if bytes_eq t.name.now name then Some t.text.now else text_of ts name
 
 -- the bytes from an offset on without the NUL that is the last of them, where the file has them
 abbrev pub terminated_part : List ℕ → ℕ → ℕ → Option (List ℕ)

@@ -6,7 +6,7 @@ ghost use Rattle.mo_file.specs.FileHeader.{HasMagicOf, message_count};
 ghost use Rattle.mo_file.specs.Message.{Message};
 ghost use Rattle.mo_file.specs.Pairs.{messages_of_borrowed};
 ghost use Rattle.mo_file.specs.StringTable.{end_at, messages_of, string_at};
-ghost use Rattle.mo_expand.specs.AnyOrder.{IsFileInAnyOrder};
+ghost use Rattle.mo_expand.specs.SortedFile.{IsFileInAnyOrder};
 
 use mo_file::{BorrowedPair, Meter, MoError, MoView, Order, word};
 

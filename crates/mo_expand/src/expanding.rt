@@ -4,8 +4,7 @@ ghost use Rattle.std.specs.Prelude.{◌≡◌, ◌<◌, ◌≤◌, Err, length};
 ghost use Rattle.mo_file.specs.declared.byte_order.Order.{Order};
 ghost use Rattle.mo_file.specs.FileHeader.{HasMagicOf};
 ghost use Rattle.mo_expand.specs.declared.joining.Missing.TheVariants.{Absent};
-ghost use Rattle.mo_expand.specs.Expanded.{message_from, system_count, system_message};
-ghost use Rattle.mo_expand.specs.Expanding.{IsExpanded};
+ghost use Rattle.mo_expand.specs.Expanding.{message_from, system_count, system_message, IsExpanded};
 ghost use Rattle.mo_expand.specs.Internal.Joining.{IsTried};
 ghost use Rattle.mo_expand.specs.Segments.{text_at};
 

@@ -3,7 +3,7 @@
 ghost use Rattle.std.specs.Prelude.{◌≡◌, ◌+◌, ◌<◌, ◌≤◌, length, take};
 ghost use Rattle.mo_file.specs.Key.{AreRising, keys};
 ghost use Rattle.mo_file.specs.Pairs.{borrowed_message, messages_of_borrowed};
-ghost use Rattle.mo_expand.specs.Merging.{with_message};
+ghost use Rattle.mo_expand.specs.ExpandedFile.{with_message};
 
 use mo_file::{BorrowedPair, Meter, MoView, compare_originals};
 

@@ -8,8 +8,7 @@ ghost use Rattle.mo_file.specs.Key.{AreRising, key_cmp, key_of, keys};
 ghost use Rattle.mo_file.specs.Message.{Message};
 ghost use Rattle.mo_file.specs.Pairs.{messages_of_borrowed};
 ghost use Rattle.mo_expand.specs.declared.sorted_file.SortedFile.TheVariants.{NotMoFile};
-ghost use Rattle.mo_expand.specs.AnyOrder.{IsFileInAnyOrder};
-ghost use Rattle.mo_expand.specs.SortedFile.{IsSortedFile};
+ghost use Rattle.mo_expand.specs.SortedFile.{IsFileInAnyOrder, IsSortedFile};
 
 use crate::any_order::{list_all, order_of};
 use mo_file::{BorrowedPair, compare_originals, file_len, lay_out, word};

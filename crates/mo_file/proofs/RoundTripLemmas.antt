@@ -1,6 +1,5 @@
 -- What is laid out is a valid file, of whatever revision it is.
-use Rattle.std.proofs.Common.{◌≡◌, ℕ, suc, ◌+◌, ◌*◌, ◌/◌, ◌^◌, ◌<◌, ◌≤◌, List, [], ◌∷◌, ◌++◌, length, take, drop, Some, refl, sym, ◌∙◌}
-use Rattle.std.proofs.Common.{ap, subst, arith, append_assoc, length-append, inl, inr}
+use Rattle.std.proofs.Common.{◌≡◌, ℕ, suc, ◌+◌, ◌*◌, ◌/◌, ◌^◌, ◌<◌, ◌≤◌, List, [], ◌∷◌, ◌++◌, length, take, drop, Some, refl, sym, ◌∙◌, ap, subst, arith, append_assoc, length-append, inl, inr}
 use Rattle.std.specs.List.{slice_get}
 use Rattle.std.specs.Option.{option_map}
 use Rattle.std.proofs.lemmas.List.{append-nil, length-map, take_at, drop_at}
@@ -13,10 +12,9 @@ use Rattle.mo_file.specs.Message.{Message, originals, translations}
 use Rattle.mo_file.specs.Key.{AreRising, keys}
 use Rattle.mo_file.specs.StringTable.{messages_of, message_at}
 use Rattle.mo_file.specs.Layout.{layout, originals_offset, table, terminated, translations_offset}
-use Rattle.mo_file.specs.Revision.{IsKnownMajor, zeroth, first, layout_of_revision}
+use Rattle.mo_file.specs.Laws.{IsKnownMajor, zeroth, first, layout_of_revision, KnownRevisionsAreValid, LayoutIsMoFile, NoHashTableIsLaidOut}
 use Rattle.mo_file.specs.MoFile.{IsMoFile}
 use Rattle.mo_file.specs.Internal.Checking.{AreRisingBelow, HasStrings, IsHeader}
-use Rattle.mo_file.specs.Laws.{KnownRevisionsAreValid, LayoutIsMoFile, NoHashTableIsLaidOut}
 use Rattle.mo_file.proofs.BuildLemmas.{length-layout, length-magic, length-table, length-word_bytes}
 use Rattle.mo_file.proofs.FaultLemmas.{faultless}
 use Rattle.mo_file.proofs.LayoutLemmas.{IsString, IsString-laid_out, StandsAt, word_at-StandsAt}

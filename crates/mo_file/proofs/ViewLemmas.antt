@@ -14,7 +14,7 @@ use Rattle.mo_file.specs.FileHeader.{message_count}
 use Rattle.mo_file.specs.declared.file_header.FileHeader.{FileHeader}
 use Rattle.mo_file.specs.StringTable.{end_at, message_at, messages_of, offset_at, original_at, string_at, translation_at}
 use Rattle.mo_file.specs.Internal.Checking.{AreRisingBelow, IsChecked}
-use Rattle.mo_file.specs.FileView.{IsStringAt}
+use Rattle.mo_file.specs.MoFile.{IsStringAt}
 use Rattle.mo_file.proofs.KeyComparison.{some_nul}
 
 not_unequal : (order : Ordering) → ¬ (order ≢ Less) → order ≡ Less

@@ -8,8 +8,7 @@ use Rattle.std.proofs.Common.{arith, ap, inl, inr}
 use Rattle.mo_file.specs.declared.byte_order.Order.TheVariants.{Little, Big}
 use Rattle.mo_file.specs.declared.byte_order.Order.{Order}
 use Rattle.mo_file.specs.declared.fault.MoError.{MoError}
-use Rattle.mo_file.specs.declared.fault.MoError.TheVariants.{TooShort, BadMagic, BadRevision, TableOutside}
-use Rattle.mo_file.specs.declared.fault.MoError.TheVariants.{StringOutside, NoTerminator, NotSorted}
+use Rattle.mo_file.specs.declared.fault.MoError.TheVariants.{TooShort, BadMagic, BadRevision, TableOutside, StringOutside, NoTerminator, NotSorted}
 use Rattle.mo_file.specs.Message.{Message, originals, translations}
 use Rattle.mo_file.specs.Word.{word_at, word_bytes}
 use Rattle.mo_file.specs.FileHeader.{magic, HasMagicOf, revision, message_count, originals_table, translations_table}
@@ -18,8 +17,7 @@ use Rattle.mo_file.specs.MessageParts.{is_eot, context_of, id_of, forms, plural_
 use Rattle.mo_file.specs.Layout.{terminated, table, header, originals_offset, translations_offset, layout}
 use Rattle.mo_file.specs.StringTable.{offset_at, end_at, string_at, original_at, translation_at, message_at, messages_of}
 use Rattle.mo_file.specs.Fault.{IsOutside, IsUnterminated, IsNotRising, HasFaultIn, HasFault, kind, index, IsBefore, IsFirstFault, comparisons_before}
-use Rattle.mo_file.specs.FileView.{FileView}
-use Rattle.mo_file.specs.MoFile.{IsMoFile}
+use Rattle.mo_file.specs.MoFile.{FileView, IsMoFile}
 use Rattle.mo_file.specs.Laws.{two_messages, one_message, file_of_two, big_file_of_one, OneMessageList, MoFileOrFault, OneFirstFault, NoFaultOfMoFile}
 
 abbrev pub message_with_plural : Message

@@ -1,15 +1,27 @@
 -- Laws of the format.
-use Rattle.std.specs.Prelude.{◌≡◌, ◌⊎◌, ◌+◌, ◌*◌, ◌<◌, ◌≤◌, ◌++◌, ◌∷◌, [], ℕ, List, codes, length}
+use Rattle.std.specs.Prelude.{ℕ, List, ◌++◌, take, drop, ◌≡◌, ◌⊎◌, ◌+◌, ◌*◌, ◌<◌, ◌≤◌, ◌∷◌, [], codes, length}
 use Rattle.mo_file.specs.declared.byte_order.Order.{Order}
+use Rattle.mo_file.specs.Word.{word_bytes}
+use Rattle.mo_file.specs.Layout.{layout, LayoutFits}
+use Rattle.mo_file.specs.Message.{Message}
 use Rattle.mo_file.specs.declared.fault.MoError.{MoError}
 use Rattle.mo_file.specs.Key.{keys, AreRising}
-use Rattle.mo_file.specs.Layout.{layout, LayoutFits}
 use Rattle.mo_file.specs.declared.fault.MoError.TheVariants.{BadRevision}
 use Rattle.mo_file.specs.FileHeader.{HasMagicOf, hash_size, revision}
-use Rattle.mo_file.specs.Revision.{IsKnownMajor, layout_of_revision}
 use Rattle.mo_file.specs.MoFile.{IsMoFile}
 use Rattle.mo_file.specs.Fault.{IsFirstFault}
-use Rattle.mo_file.specs.Message.{Message}
+
+-- Files of other revisions than the one that is written ("The Format of GNU MO Files").
+
+-- the major revisions that are read
+pub data IsKnownMajor : ℕ → Type 0 where
+  zeroth : IsKnownMajor 0
+  first : IsKnownMajor 1
+
+-- what is laid out, with another revision in the second word
+abbrev pub layout_of_revision : Order → ℕ → List Message → List ℕ
+layout_of_revision order revision messages =
+    take 4 (layout order messages) ++ word_bytes order revision ++ drop 8 (layout order messages)
 
 -- what is laid out in the order of its keys is a valid file with these very messages
 abbrev pub LayoutIsMoFile : Type 0

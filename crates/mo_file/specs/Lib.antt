@@ -6,11 +6,8 @@ pub mod FileHeader
 pub mod StringTable
 pub mod Fault
 pub mod MoFile
-pub mod FileView
 pub mod Layout
-pub mod Revision
-pub mod Pairs
-pub mod Building
 pub mod Laws
+pub mod Pairs
 pub mod Internal
 pub mod Examples

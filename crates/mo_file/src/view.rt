@@ -4,8 +4,7 @@ ghost use Rattle.std.specs.Prelude.{◌≡◌, ◌+◌, ◌-◌, ◌^◌, ◌<�
 ghost use Rattle.std.specs.Option.{option_copied};
 ghost use Rattle.mo_file.specs.declared.byte_order.Order.{Order};
 ghost use Rattle.mo_file.specs.FileHeader.{HasMagicOf};
-ghost use Rattle.mo_file.specs.MoFile.{IsMoFile};
-ghost use Rattle.mo_file.specs.FileView.{IsTranslationAt};
+ghost use Rattle.mo_file.specs.MoFile.{IsMoFile, IsTranslationAt};
 ghost use Rattle.mo_file.specs.Fault.{IsFirstFault, comparisons_before};
 ghost use Rattle.mo_file.specs.Key.{AreRising, key_at, key_cmp, keys, query_key};
 ghost use Rattle.mo_file.specs.Layout.{layout};
@@ -39,7 +38,7 @@ pub struct MoView<'a> {
 }
 
 impl<'a> Model for MoView<'a> {
-    ghost use Rattle.mo_file.specs.FileView.{FileView};
+    ghost use Rattle.mo_file.specs.MoFile.{FileView};
     ghost use Rattle.mo_file.specs.StringTable.{messages_of};
     ghost use Rattle.mo_file.specs.Internal.Checking.{IsChecked};
 

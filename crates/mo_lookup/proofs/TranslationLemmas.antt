@@ -13,7 +13,7 @@ use Rattle.std.proofs.lemmas.Slice.Eq.{bytes_eq-Decides}
 use Rattle.std.proofs.lemmas.Bool.{cases_lt, false_from_ne_true}
 use Rattle.mo_file.specs.Message.{Message, translations}
 use Rattle.mo_file.specs.Key.{AreRising, key_of, keys, key_at, key_cmp}
-use Rattle.mo_lookup.specs.Index.{IsIndexOf}
+use Rattle.mo_lookup.specs.Search.{IsIndexOf}
 use Rattle.mo_lookup.specs.Answer.{form_at}
 use Rattle.mo_file.specs.MessageParts.{forms}
 use Rattle.mo_lookup.specs.CatalogView.{header_text, translation_under}

@@ -5,8 +5,7 @@ use Rattle.std.specs.List.{find, position_or_len, sum_by}
 use Rattle.std.specs.Option.{is_some, option_map_or}
 use Rattle.plural_rule.specs.Expression.{nodes}
 use Rattle.mo_lookup.specs.declared.chain.ChainAnswer.{ChainAnswer}
-use Rattle.mo_lookup.specs.Bound.{search_bound}
-use Rattle.mo_lookup.specs.Comparisons.{query_comparisons}
+use Rattle.mo_lookup.specs.Search.{search_bound, query_comparisons}
 use Rattle.mo_lookup.specs.Query.{Query, can_be_key}
 use Rattle.mo_lookup.specs.Answer.{AnswerView, untranslated}
 use Rattle.mo_lookup.specs.CatalogView.{CatalogView, forms_found, answered}

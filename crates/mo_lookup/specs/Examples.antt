@@ -10,11 +10,10 @@ use Rattle.plural_rule.specs.declared.rule.Source.TheVariants.{Header}
 use Rattle.plural_rule.specs.Expression.{Count, Not}
 use Rattle.plural_rule.specs.PluralRule.{RuleView, IsRuleOf}
 use Rattle.mo_file.specs.Message.{Message}
-use Rattle.mo_lookup.specs.Bound.{halvings_within, search_bound, BoundHalves, BoundIsLogarithm}
+use Rattle.mo_lookup.specs.Search.{halvings_within, search_bound, BoundHalves, BoundIsLogarithm, half, keys_left, comparisons_within, comparisons, query_comparisons}
 use Rattle.mo_lookup.specs.Query.{Query, query, is_separator, has_no_separator, can_be_key}
 use Rattle.mo_lookup.specs.declared.answer.Answer.{Answer}
 use Rattle.mo_lookup.specs.Answer.{AnswerView, answer_view, form_at, selected_form, untranslated_text, untranslated, translated, answer}
-use Rattle.mo_lookup.specs.Comparisons.{half, keys_left, comparisons_within, comparisons, query_comparisons}
 use Rattle.mo_lookup.specs.CatalogView.{CatalogView, translation_under, header_text, IsCatalogView, forms_found, answered}
 
 pub halvings_are : (halvings_within 10 8 ∷ halvings_within 2 8 ∷ [] ≡ 4 ∷ 2 ∷ [])

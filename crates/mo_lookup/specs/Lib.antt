@@ -1,7 +1,5 @@
-pub mod Bound
-pub mod Index
+pub mod Search
 pub mod Query
-pub mod Comparisons
 pub mod Answer
 pub mod Place
 pub mod CatalogView

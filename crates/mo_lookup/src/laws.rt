@@ -5,12 +5,10 @@ ghost use Rattle.std.specs.Prelude.{◌≡◌, ◌≢◌, ◌⊎◌, ◌+◌, �
 ghost use Rattle.plural_rule.specs.Expression.{value, visited};
 ghost use Rattle.plural_rule.specs.PluralRule.{RuleView};
 ghost use Rattle.mo_lookup.specs.Answer.{answer, form_at, selected_form, untranslated_text};
-ghost use Rattle.mo_lookup.specs.Bound.{BoundHalves, BoundIsLogarithm, search_bound};
+ghost use Rattle.mo_lookup.specs.Search.{BoundHalves, BoundIsLogarithm, search_bound, SearchHalves, SearchIsBounded, query_comparisons};
 ghost use Rattle.mo_lookup.specs.CatalogView.{CatalogView};
 ghost use Rattle.mo_lookup.specs.Chain.{chain_bound, chain_comparisons};
-ghost use Rattle.mo_lookup.specs.Comparisons.{SearchHalves, SearchIsBounded, query_comparisons};
-ghost use Rattle.mo_lookup.specs.Laws.{ChainAsksAll, ChainAsksNone, ChainAsksUpToFirst, KeysLackNulAndEot};
-ghost use Rattle.mo_lookup.specs.Laws.{EachKeyFindsItsTranslation, OtherKeysFindNone};
+ghost use Rattle.mo_lookup.specs.Laws.{ChainAsksAll, ChainAsksNone, ChainAsksUpToFirst, KeysLackNulAndEot, EachKeyFindsItsTranslation, OtherKeysFindNone};
 ghost use Rattle.mo_lookup.specs.Query.{Query};
 
 /// The bound of a search is 0 for no keys, and else one more than for half as many.

@@ -1,7 +1,7 @@
 //! Messages as a look-up sees them.
 
 ghost use Rattle.std.specs.Prelude.{◌≡◌, ◌<◌, Some, length, slice_get};
-ghost use Rattle.mo_file.specs.FileView.{IsTranslationAt};
+ghost use Rattle.mo_file.specs.MoFile.{IsTranslationAt};
 ghost use Rattle.mo_file.specs.Key.{keys};
 ghost use Rattle.mo_file.specs.Message.{translations};
 

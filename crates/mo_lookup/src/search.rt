@@ -3,10 +3,8 @@
 ghost use Rattle.std.specs.Prelude.{ℕ, ◌≡◌, ◌+◌, ◌-◌, ◌^◌, ◌<◌, ◌≤◌, List, length};
 ghost use Rattle.std.specs.Option.{option_copied};
 ghost use Rattle.mo_file.specs.Key.{AreRising, key_at, key_cmp, query_key};
-ghost use Rattle.mo_file.specs.FileView.{FileView};
-ghost use Rattle.mo_lookup.specs.Bound.{search_bound};
-ghost use Rattle.mo_lookup.specs.Comparisons.{comparisons};
-ghost use Rattle.mo_lookup.specs.Index.{IsIndexOf};
+ghost use Rattle.mo_file.specs.MoFile.{FileView};
+ghost use Rattle.mo_lookup.specs.Search.{search_bound, comparisons, IsIndexOf};
 
 use std::cmp::Ordering;
 

@@ -4,8 +4,7 @@ use Rattle.std.proofs.lemmas.List.{get_or_append_left, get_or_push, length_push}
 use Rattle.po_entry.specs.TextEntry.{TextEntry}
 use Rattle.po_entry.specs.Rows.{changed_at, set_fuzzy, set_obsolete}
 use Rattle.msgattrib.specs.declared.selection.Selection.{Selection}
-use Rattle.msgattrib.specs.ChangedAt.{IsChangedAt}
-use Rattle.msgattrib.specs.Selected.{changed}
+use Rattle.msgattrib.specs.Selected.{IsChangedAt, changed}
 
 pub same_length : (f : TextEntry → TextEntry) (index : ℕ) (entries : List TextEntry)
     → length (changed_at f index entries) ≡ length entries

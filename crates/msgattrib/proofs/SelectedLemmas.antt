@@ -9,10 +9,9 @@ use Rattle.po_entry.specs.ReadsText.{ReadsText}
 use Rattle.po_entry.specs.TextEntry.{TextEntry}
 use Rattle.po_entry.specs.Duplicate.{AllDiffer, HasNoDuplicate, IsDuplicateFaultOf, IsSameMessage}
 use Rattle.po_entry.specs.Facts.FirstRepeats.{pairs_map, pairs_of_map}
-use Rattle.po_entry.specs.Facts.Mapped.{filter_map, filter_twice}
+use Rattle.po_syntax.specs.Facts.Mapped.{filter_map, filter_twice}
 use Rattle.po_entry.specs.Joined.{is_live}
-use Rattle.po_entry.specs.Message.{entry_message}
-use Rattle.po_entry.specs.MessageHash.{message_hash}
+use Rattle.po_entry.specs.Message.{entry_message, message_hash}
 use Rattle.po_reader.proofs.Texts.{text_once}
 use Rattle.msgattrib.specs.declared.selection.Selection.{Selection}
 use Rattle.msgattrib.specs.Selected.{changed, is_kept, selected}

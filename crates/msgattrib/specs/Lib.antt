@@ -2,6 +2,5 @@ pub mod Msgattrib
 pub mod Options
 pub mod Internal
 pub mod Selected
-pub mod ChangedAt
 pub mod SelectionLaws
 pub mod Examples

@@ -1,7 +1,7 @@
 -- Which entries of a catalogue are selected, and how they are changed (manual, "Invoking the
 -- msgattrib Program"). That a live header is always kept, stays live and keeps its forms is this
 -- project's own rule.
-use Rattle.std.specs.Prelude.{◌≡◌, Bool, false, not, ◌&&◌, ◌||◌, List, [], map, filter, if◌then◌else◌}
+use Rattle.std.specs.Prelude.{◌≡◌, Bool, false, not, ◌&&◌, ◌||◌, List, [], map, filter, if◌then◌else◌, ◌≢◌, ◌⊎◌, ◌+◌, ◌<◌, ◌≤◌, ℕ, get_or, length}
 use Rattle.po_entry.specs.TextEntry.{TextEntry, no_previous}
 use Rattle.po_entry.specs.Header.{is_header}
 use Rattle.po_entry.specs.Joined.{is_live, is_live_header}
@@ -71,3 +71,22 @@ pub record ChangesNothing (s : Selection) : Type 0 where
   pub set_obsolete : s.set_obsolete ≡ false
   pub clear_obsolete : s.clear_obsolete ≡ false
   pub clear_previous : s.clear_previous ≡ false
+
+-- What becomes of entries of which one is changed (manual, "Invoking the msgattrib Program").
+
+-- all entries but the one with this index stay, in their places
+pub record OthersStay (index : ℕ) (old new : List TextEntry) : Type 0 where
+  pub others : (i : ℕ) (other : TextEntry) → i < length old → i ≢ index → get_or new i other ≡ get_or old i other
+  pub longer : length old ≤ length new
+
+-- the entry with this index stays there, and none is added; or its copy alone is added, at the end
+abbrev pub IsThereOrCopied : ℕ → List TextEntry → List TextEntry → ℕ → Type 0
+IsThereOrCopied index old new at =
+    ((at ≡ index) × (length new ≡ length old)) ⊎ ((at ≡ length old) × (length new ≡ length old + 1))
+
+-- the entry with this index stands there or at the end, changed as the selection says; the others stay
+pub record IsChangedAt (s : Selection) (index : ℕ) (old new : List TextEntry) (at : ℕ) : Type 0 where
+  pub place : IsThereOrCopied index old new at
+  pub inside : at < length new
+  pub entry : (other : TextEntry) → get_or new at other ≡ changed s (get_or old index other)
+  pub rest : OthersStay index old new

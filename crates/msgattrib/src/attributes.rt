@@ -30,7 +30,7 @@ pub trait Attributes {
 }
 
 impl Attributes for Fields {
-    ghost use Rattle.po_entry.specs.EntryView.{entry_view};
+    ghost use Rattle.po_entry.specs.Fields.{entry_view};
 
     ghost entry = { entry_view };
 

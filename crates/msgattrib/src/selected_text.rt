@@ -8,8 +8,7 @@ ghost use Rattle.po_entry.specs.ReadsText.{ReadsText};
 ghost use Rattle.po_entry.specs.TextEntry.{TextEntry};
 ghost use Rattle.po_entry.specs.Validity.{IsCatalogueEntry};
 ghost use Rattle.po_reader.specs.PieceRead.{IsTextError};
-ghost use Rattle.msgattrib.specs.ChangedAt.{OthersStay};
-ghost use Rattle.msgattrib.specs.Selected.{selected};
+ghost use Rattle.msgattrib.specs.Selected.{OthersStay, selected};
 ghost use Rattle.po_writer.specs.TextParts.{AreParts};
 ghost use Rattle.msgattrib.specs.Internal.SelectedText.{AddsParts, HaveNoDuplicate, IsSelectedText, IsSelectedWhole, IsSelectionFault, hashes_of};
 

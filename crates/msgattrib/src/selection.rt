@@ -2,11 +2,10 @@
 
 ghost use Rattle.std.specs.Prelude.{◌≡◌, ◌<◌, IfOk, OnErr, false, length};
 ghost use Rattle.po_entry.specs.Joined.{is_live_header};
-ghost use Rattle.po_entry.specs.EntryView.{entry_view};
+ghost use Rattle.po_entry.specs.Fields.{entry_view};
 ghost use Rattle.po_entry.specs.Rows.{set_fuzzy, set_obsolete};
 ghost use Rattle.po_entry.specs.TextEntry.{no_previous};
-ghost use Rattle.msgattrib.specs.ChangedAt.{IsChangedAt};
-ghost use Rattle.msgattrib.specs.Selected.{changed, fuzzy_after, is_emptied, is_kept, obsolete_after};
+ghost use Rattle.msgattrib.specs.Selected.{IsChangedAt, changed, fuzzy_after, is_emptied, is_kept, obsolete_after};
 
 use crate::attributes::Attributes;
 use po_entry::{EntryRef, Fields, Previous, Store};

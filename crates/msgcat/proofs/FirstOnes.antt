@@ -8,7 +8,7 @@ use Rattle.std.proofs.lemmas.List.{map-append}
 use Rattle.std.proofs.lemmas.List.Elements.{All-head, All-nil, All-push, All-tail}
 use Rattle.std.proofs.lemmas.Bool.{cond_both, or_parts, false_from_ne_true, false≢true}
 use Rattle.std.proofs.Math.Bool.{or-false}
-use Rattle.po_entry.specs.Facts.Mapped.{any_map}
+use Rattle.po_syntax.specs.Facts.Mapped.{any_map}
 use Rattle.msgcat.specs.Groups.{with_new, first_ones}
 
 -- no two elements are alike

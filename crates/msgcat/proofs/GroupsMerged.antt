@@ -8,7 +8,7 @@ use Rattle.std.proofs.lemmas.List.Folds.{list_any_at}
 use Rattle.std.proofs.lemmas.List.Elements.{All-head, All-filter, All-map, filter-append}
 use Rattle.po_syntax.specs.declared.fault.PoError.{PoError}
 use Rattle.po_syntax.specs.declared.fault.PoFault.TheVariants.{ForeignCharset}
-use Rattle.po_entry.specs.Facts.AllAppend.{All-left, All-right}
+use Rattle.po_syntax.specs.Facts.AllAppend.{All-left, All-right}
 use Rattle.po_entry.specs.Header.{HasAdmittedCharset}
 use Rattle.po_entry.specs.TextEntry.{TextEntry}
 use Rattle.po_entry.specs.Joined.{is_live}
@@ -17,8 +17,7 @@ use Rattle.msgcat.specs.declared.input.MergeOptions.{MergeOptions}
 use Rattle.msgcat.specs.Inputs.{NamedEntry}
 use Rattle.msgcat.specs.Groups.{same_message, first_ones, groups, definitions, definitions_by}
 use Rattle.msgcat.specs.Grouping.{IsDefinition, IsGroup}
-use Rattle.msgcat.specs.MergedEntry.{merged_entry}
-use Rattle.msgcat.specs.Merged.{is_kept, merged_messages, IsMergeFault}
+use Rattle.msgcat.specs.Merged.{merged_entry, is_kept, merged_messages, IsMergeFault}
 use Rattle.msgcat.proofs.FirstOnes.{group_of}
 use Rattle.msgcat.proofs.Messages.{same_message_laws}
 

@@ -6,26 +6,24 @@ use Rattle.std.proofs.Math.Seq.{take-append_seam, drop-append_seam}
 use Rattle.std.proofs.lemmas.List.{drop-map, length-map, map-append, take-append-drop, take-map, take_all, take_more}
 use Rattle.std.proofs.lemmas.List.Elements.{All-head, All-nil, All-push, All-tail}
 use Rattle.po_syntax.specs.declared.fault.PoFault.TheVariants.{Duplicate}
-use Rattle.po_entry.specs.Facts.AllAppend.{All-left, All-right}
+use Rattle.po_syntax.specs.Facts.AllAppend.{All-left, All-right}
 use Rattle.po_entry.specs.ReadsText.{ReadsText}
 use Rattle.po_entry.specs.TextEntry.{TextEntry}
-use Rattle.po_entry.specs.Duplicate.{AllDiffer, HasNoDuplicate}
-use Rattle.po_entry.specs.FirstOnes.{group_numbers}
+use Rattle.po_entry.specs.Duplicate.{AllDiffer, HasNoDuplicate, AreNumbered, IsNumbered, RepeatsOnLines, are_placed, number_in, place_of}
+use Rattle.po_entry.specs.Message.{group_numbers, entry_messages, same_message}
 use Rattle.po_entry.specs.Joined.{is_live}
-use Rattle.po_entry.specs.Message.{entry_messages, same_message}
 use Rattle.msgcat.specs.Inputs.{Named, all_entries}
-use Rattle.po_entry.specs.Facts.Zips.{zip_at, zip_length, zip_more, zip_split}
+use Rattle.po_syntax.specs.Facts.Zips.{zip_at, zip_length, zip_more, zip_split}
 use Rattle.msgcat.specs.MergeInputs.{IsReadInput, unnamed}
 use Rattle.msgcat.specs.Internal.Inputs.{AreReadUpTo, IsFaultOfFirst, IsFirstRepeating, IsTextOf, with_part}
 use Rattle.msgcat.specs.Msgcat.{AreReadAs, IsFileFault}
-use Rattle.po_entry.specs.Places.{AreNumbered, IsNumbered, RepeatsOnLines, are_placed, number_in, place_of}
 use Rattle.po_entry.specs.declared.repeats.EntryPlace.{EntryPlace}
 use Rattle.msgcat.specs.declared.input.ReadInput.{ReadInput}
 use Rattle.msgcat.specs.declared.inputs.FileFault.{FileFault}
 use Rattle.msgcat.specs.declared.inputs.ReadInputs.{ReadInputs}
 use Rattle.po_entry.proofs.NumberLemmas.{are_numbered, repeats_of}
 use Rattle.msgcat.proofs.ReadInputs.{entries_first}
-use Rattle.runs.specs.NamedFile.{NamedFile}
+use Rattle.runs.specs.Inputs.{NamedFile}
 
 -- the entries of an input, and those after them
 with_first : (input : Named) (rest : List Named) (part : List TextEntry)

@@ -2,7 +2,7 @@
 use Rattle.std.proofs.Common.{ℕ, List, [], ◌∷◌, ◌++◌, map}
 use Rattle.std.specs.Prelude.{All, IsUtf8}
 use Rattle.std.proofs.lemmas.List.Elements.{All-map, All-append, All-weaker}
-use Rattle.po_entry.specs.Bytes.{Lacks}
+use Rattle.po_entry.specs.Texts.{Lacks}
 use Rattle.po_entry.specs.TextEntry.{TextEntry}
 use Rattle.po_entry.specs.Validity.{IsCatalogueEntry}
 use Rattle.msgcat.specs.Inputs.{Named, NamedEntry, named, all_entries}

@@ -9,8 +9,7 @@ use Rattle.msgcat.specs.declared.input.MergeOptions.{MergeOptions}
 use Rattle.msgcat.specs.Inputs.{Named, NamedEntry, named, all_entries}
 use Rattle.msgcat.specs.Groups.{groups, definitions}
 use Rattle.msgcat.specs.Grouping.{IsDefinition, IsGroup}
-use Rattle.msgcat.specs.MergedEntry.{merged_entry, joined_forms, translations, first_translated}
-use Rattle.msgcat.specs.Merged.{is_kept, messages}
+use Rattle.msgcat.specs.Merged.{merged_entry, joined_forms, translations, first_translated, is_kept, messages}
 use Rattle.msgcat.specs.MergeLaws.{IsInput, OneDefinitionStays, MergedAreEntries, MergedCanStand, FormsAreOfOne}
 use Rattle.msgcat.proofs.ListedInputs.{definitions_more}
 use Rattle.msgcat.proofs.Valid.{merged_is_entry, first_with_keeps}

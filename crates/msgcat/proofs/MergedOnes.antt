@@ -8,9 +8,8 @@ use Rattle.msgcat.specs.declared.input.MergeOptions.{MergeOptions}
 use Rattle.msgcat.specs.Grouping.{IsGroup}
 use Rattle.msgcat.specs.Groups.{definitions, groups}
 use Rattle.msgcat.specs.Inputs.{Named, NamedEntry, all_entries, named}
-use Rattle.msgcat.specs.MergedEntry.{merged_entry}
+use Rattle.msgcat.specs.Merged.{merged_entry, is_kept, merged_messages, messages}
 use Rattle.msgcat.specs.MergeInputs.{CanBeMerged}
-use Rattle.msgcat.specs.Merged.{is_kept, merged_messages, messages}
 use Rattle.msgcat.proofs.EntryLaws.{obsolete_where_none_is_live}
 use Rattle.msgcat.proofs.GroupsMerged.{dropped_one, kept_one}
 use Rattle.msgcat.proofs.HeldGroups.{group_valid, message_at, message_can, message_valid}

@@ -12,14 +12,13 @@ use Rattle.std.proofs.lemmas.List.Elements.{All-head, All-tail, All-filter, All-
 use Rattle.po_entry.specs.TextEntry.{TextEntry, plain_entry}
 use Rattle.po_entry.specs.Joined.{is_live}
 use Rattle.po_entry.specs.Duplicate.{IsSameMessage, AllDiffer, is_of_message}
-use Rattle.po_entry.specs.Facts.Mapped.{any_map}
+use Rattle.po_syntax.specs.Facts.Mapped.{any_map}
 use Rattle.po_entry.proofs.FirstOnes.{any_first_ones}
 use Rattle.po_entry.proofs.MessageIndex.{contexts_are}
 use Rattle.msgcat.specs.declared.input.MergeOptions.{MergeOptions}
 use Rattle.msgcat.specs.Inputs.{Named, NamedEntry, named, all_entries}
 use Rattle.msgcat.specs.Groups.{same_message, first_ones, definitions}
-use Rattle.msgcat.specs.MergedEntry.{merged_entry}
-use Rattle.msgcat.specs.Merged.{is_kept, merged_messages}
+use Rattle.msgcat.specs.Merged.{merged_entry, is_kept, merged_messages}
 use Rattle.msgcat.specs.MergeLaws.{has_message, MessagesStandOnce, KeptMessagesStand}
 use Rattle.msgcat.proofs.FirstOnes.{Apart, group_of, apart_first_ones}
 use Rattle.msgcat.proofs.Messages.{same_message_laws}

@@ -8,9 +8,8 @@ use Rattle.std.proofs.lemmas.Simd.{map-map}
 use Rattle.std.proofs.lemmas.List.Elements.{filter_agree}
 use Rattle.std.specs.Cmp.{IsEquivalence}
 use Rattle.msgcat.specs.Inputs.{NamedEntry}
-use Rattle.po_entry.specs.Facts.Mapped.{cond_ap}
-use Rattle.po_entry.specs.FirstOnes.{first_ones as firsts_of}
-use Rattle.po_entry.specs.Message.{Message, entry_message, same_message as one_message}
+use Rattle.po_syntax.specs.Facts.Mapped.{cond_ap}
+use Rattle.po_entry.specs.Message.{first_ones as firsts_of, Message, entry_message, same_message as one_message}
 use Rattle.msgcat.specs.Grouping.{message_numbers, named_messages}
 use Rattle.msgcat.specs.Groups.{by_number, first_ones, same_message, with_number}
 use Rattle.msgcat.specs.MergeLaws.{GroupsByNumber}

@@ -14,10 +14,9 @@ use Rattle.po_entry.specs.Duplicate.{IsSameMessage, AllDiffer}
 use Rattle.msgcat.specs.declared.input.MergeOptions.{MergeOptions}
 use Rattle.msgcat.specs.Inputs.{Named, NamedEntry, named}
 use Rattle.msgcat.specs.Groups.{with_new, first_ones, same_message, definitions}
-use Rattle.msgcat.specs.MergedEntry.{merged_entry}
-use Rattle.msgcat.specs.Merged.{is_kept, is_wanted, merged_messages}
+use Rattle.msgcat.specs.Merged.{merged_entry, is_kept, is_wanted, merged_messages}
 use Rattle.msgcat.specs.MergeLaws.{keep_all, OneInputStays, WithItself}
-use Rattle.po_entry.specs.Facts.Filters.{all_pass, none_pass}
+use Rattle.po_syntax.specs.Facts.Filters.{all_pass, none_pass}
 use Rattle.msgcat.proofs.FirstOnes.{Apart, group_of, none_all}
 use Rattle.msgcat.proofs.Messages.{same_message_laws}
 use Rattle.msgcat.proofs.MessagesOnce.{same_is}

@@ -8,7 +8,7 @@ use Rattle.std.proofs.lemmas.Slice.Eq.{bytes_eq-Decides}
 use Rattle.std.proofs.Math.Bool.{or_assoc, or-false, or-true}
 use Rattle.po_entry.specs.SeenTexts.{with_seen}
 use Rattle.msgcat.specs.Internal.SameTexts.{HaveSameTexts}
-use Rattle.msgcat.specs.MergedEntry.{with_others}
+use Rattle.msgcat.specs.Merged.{with_others}
 
 -- what both have, the one has whatever is omitted of the other
 pub has_others : (q : List ℕ) (done ts : List (List ℕ))

@@ -13,7 +13,7 @@ use Rattle.po_entry.specs.Statistics.{has_translation}
 use Rattle.msgcat.specs.declared.input.MergeOptions.{MergeOptions}
 use Rattle.msgcat.specs.Inputs.{NamedEntry}
 use Rattle.msgcat.specs.Groups.{definitions}
-use Rattle.msgcat.specs.MergedEntry.{first_of, first_translated, form_count, is_joined, joined_form, joined_forms, marked, merged_entry, translations}
+use Rattle.msgcat.specs.Merged.{first_of, first_translated, form_count, is_joined, joined_form, joined_forms, marked, merged_entry, translations}
 use Rattle.msgcat.specs.TranslationLaws.{HasLongest, IsTranslated, TranslatedStays}
 use Rattle.msgcat.proofs.TranslationLaws.{IsOne, each_is, has, has_is, is_has, joined_as_longest}
 

@@ -6,10 +6,9 @@ use Rattle.std.proofs.lemmas.List.{get_or-map, length-map}
 use Rattle.std.proofs.lemmas.List.Elements.{All-head, All-tail}
 use Rattle.po_entry.specs.Joined.{is_live}
 use Rattle.po_entry.specs.TextEntry.{TextEntry}
-use Rattle.msgcat.specs.Groups.{definitions, groups}
+use Rattle.msgcat.specs.Groups.{definitions, groups, IsChain}
 use Rattle.msgcat.specs.Inputs.{Named, NamedEntry, all_entries, named}
 use Rattle.msgcat.specs.Internal.EntriesAt.{entries_at, no_entry}
-use Rattle.msgcat.specs.Links.{IsChain}
 use Rattle.msgcat.specs.MergeInputs.{HoldInputs}
 use Rattle.msgcat.specs.Merged.{messages}
 use Rattle.msgcat.specs.declared.merge_inputs.MergeInputs.{MergeInputs}

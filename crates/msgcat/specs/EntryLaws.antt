@@ -1,7 +1,6 @@
 -- What is promised of the entry that the definitions of one message are merged to, and of which
 -- messages are kept (manual, "Invoking the msgcat Program").
-use Rattle.std.specs.Prelude.{◌≡◌, ◌≢◌, ◌↔◌, ℕ, ◌<◌, Bool, true, false, not, List, [], ◌∷◌, ◌++◌, filter, length, get_or}
-use Rattle.std.specs.Prelude.{slice_get, codes, All, Contains, None, Some, bytes_eq}
+use Rattle.std.specs.Prelude.{◌≡◌, ◌≢◌, ◌↔◌, ℕ, ◌<◌, Bool, true, false, not, List, [], ◌∷◌, ◌++◌, filter, length, get_or, slice_get, codes, All, Contains, None, Some, bytes_eq}
 use Rattle.std.specs.List.{AllZip, list_any}
 use Rattle.po_syntax.specs.declared.item.CommentKind.{CommentKind}
 use Rattle.po_entry.specs.TextEntry.{TextEntry, SameButLine, no_previous}
@@ -10,9 +9,7 @@ use Rattle.po_entry.specs.Joined.{is_live}
 use Rattle.msgcat.specs.declared.input.MergeOptions.{MergeOptions}
 use Rattle.msgcat.specs.Inputs.{NamedEntry}
 use Rattle.msgcat.specs.Groups.{definitions}
-use Rattle.msgcat.specs.MergedEntry.{is_joined, merged_entry, texts_of}
-use Rattle.msgcat.specs.MergedEntry.{translations}
-use Rattle.msgcat.specs.Merged.{is_kept}
+use Rattle.msgcat.specs.Merged.{is_joined, merged_entry, texts_of, translations, is_kept}
 
 -- the entry has this comment, reference or flag
 abbrev pub has_text : CommentKind → List ℕ → TextEntry → Bool

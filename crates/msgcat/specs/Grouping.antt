@@ -1,8 +1,7 @@
 -- Entries that are grouped by their messages.
 use Rattle.std.specs.Prelude.{ℕ, ◌<◌, All, length, List, map, IsUtf8}
-use Rattle.po_entry.specs.FirstOnes.{group_numbers}
-use Rattle.po_entry.specs.Message.{Message, entry_message, same_message}
-use Rattle.po_entry.specs.Bytes.{Lacks}
+use Rattle.po_entry.specs.Message.{group_numbers, Message, entry_message, same_message}
+use Rattle.po_entry.specs.Texts.{Lacks}
 use Rattle.po_entry.specs.Validity.{IsEntry}
 use Rattle.msgcat.specs.Inputs.{NamedEntry}
 

@@ -1,10 +1,11 @@
 -- Entries grouped by their messages (manual, "Invoking the msgcat Program").
-pub use Rattle.po_entry.specs.FirstOnes.{with_new, first_ones}
-use Rattle.std.specs.Prelude.{Bool, ℕ, ◌==◌, List, [], ◌∷◌, map, filter, if◌then◌else◌}
+pub use Rattle.po_entry.specs.Message.{with_new, first_ones}
+use Rattle.std.specs.Prelude.{Bool, ℕ, ◌==◌, List, [], ◌∷◌, map, filter, if◌then◌else◌, ◌≡◌, ◌<◌, ◌≤◌, get_or, length}
 use Rattle.std.specs.List.{list_any, range_with_len}
 use Rattle.po_entry.specs.Joined.{is_live}
 use Rattle.po_entry.specs.Message.{entry_message, same_message as one_message}
 use Rattle.msgcat.specs.Inputs.{NamedEntry}
+use Rattle.msgcat.specs.declared.links.Links.{Links}
 
 -- entries of one message have the same context, or both none, and the same msgid
 abbrev pub same_message : NamedEntry → NamedEntry → Bool
@@ -31,3 +32,21 @@ definitions_by live group = if list_any live group then filter live group else g
 
 abbrev pub definitions : List NamedEntry → List NamedEntry
 definitions group = definitions_by (λ d. is_live d.entry) group
+
+-- Which entries are of one message, by links between their indexes.
+
+-- the indexes of the entries of each message, by the numbers of their messages
+abbrev pub indexes_by : ℕ → List ℕ → List (List ℕ)
+indexes_by count numbers = by_number count numbers (range_with_len 0 (length numbers))
+
+-- the indexes are reached from the first one, link by link, and after the last there is none
+abbrev pub IsChain : List ℕ → ℕ → List ℕ → Type 0
+IsChain next at [] = length next ≤ at
+IsChain next at (index ∷ indexes) =
+    (at ≡ index) × (at < length next) × (at < get_or next at 0) × IsChain next (get_or next at 0) indexes
+
+-- each group of indexes is linked
+pub record AreLinked (groups : List (List ℕ)) (links : Links) : Type 0 where
+  pub many : length links.firsts.items ≡ length groups
+  pub chains : (n : ℕ) → n < length groups
+      → IsChain links.next.items (get_or links.firsts.items n 0) (get_or groups n [])

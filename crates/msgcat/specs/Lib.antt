@@ -3,12 +3,9 @@ pub mod Options
 pub mod WholeRun
 pub mod Internal
 pub mod Inputs
-pub mod InputsView
 pub mod Groups
-pub mod MergedEntry
 pub mod Merged
 pub mod Grouping
-pub mod Links
 pub mod MergeInputs
 pub mod MergeLaws
 pub mod EntryLaws

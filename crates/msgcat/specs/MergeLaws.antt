@@ -1,11 +1,10 @@
 -- What is promised of merging beyond its definition (manual, "Invoking the msgcat Program").
-use Rattle.std.specs.Prelude.{◌≡◌, ℕ, ◌<◌, Bool, false, ◌&&◌, List, [], ◌∷◌, map, filter, length}
-use Rattle.std.specs.Prelude.{All, Contains, Option, None}
+use Rattle.std.specs.Prelude.{◌≡◌, ℕ, ◌<◌, Bool, false, ◌&&◌, List, [], ◌∷◌, map, filter, length, All, Contains, Option, None}
 use Rattle.std.specs.List.{list_any}
 use Rattle.po_syntax.specs.declared.fault.PoError.{PoError}
 use Rattle.po_entry.specs.TextEntry.{TextEntry}
 use Rattle.po_entry.specs.Header.{HasAdmittedCharset}
-use Rattle.po_syntax.specs.ItemContents.{IsText}
+use Rattle.po_syntax.specs.TextItem.{IsText}
 use Rattle.po_entry.specs.Validity.{IsEntry, IsCatalogueEntry}
 use Rattle.po_entry.specs.Duplicate.{AllDiffer, is_of_message}
 use Rattle.po_entry.specs.Message.{same_message as one_message}
@@ -13,8 +12,7 @@ use Rattle.msgcat.specs.declared.input.MergeOptions.{MergeOptions}
 use Rattle.msgcat.specs.Inputs.{Named, NamedEntry, all_entries}
 use Rattle.msgcat.specs.Grouping.{message_numbers, named_messages}
 use Rattle.msgcat.specs.Groups.{by_number, definitions, first_ones, groups}
-use Rattle.msgcat.specs.MergedEntry.{merged_entry, is_joined}
-use Rattle.msgcat.specs.Merged.{IsMergeFault, is_kept, merged}
+use Rattle.msgcat.specs.Merged.{merged_entry, is_joined, IsMergeFault, is_kept, merged}
 
 -- what one definition is merged to is its entry
 abbrev pub OneDefinitionStays : MergeOptions → NamedEntry → Type 0

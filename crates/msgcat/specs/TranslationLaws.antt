@@ -1,14 +1,12 @@
 -- What is promised of the translations that the definitions of one message have, and of the header's
 -- message (manual, "Invoking the msgcat Program").
-use Rattle.std.specs.Prelude.{◌≡◌, ◌≢◌, ◌↔◌, ℕ, ◌≤◌, true, false, List, [], ◌∷◌, ◌++◌}
-use Rattle.std.specs.Prelude.{length, All, Contains, None}
+use Rattle.std.specs.Prelude.{◌≡◌, ◌≢◌, ◌↔◌, ℕ, ◌≤◌, true, false, List, [], ◌∷◌, ◌++◌, length, All, Contains, None}
 use Rattle.po_syntax.specs.declared.item.CommentKind.{CommentKind}
 use Rattle.po_entry.specs.Header.{first_form}
 use Rattle.msgcat.specs.declared.input.MergeOptions.{MergeOptions}
 use Rattle.msgcat.specs.Groups.{definitions}
 use Rattle.msgcat.specs.Inputs.{NamedEntry}
-use Rattle.msgcat.specs.MergedEntry.{is_joined, merged_entry, texts_of}
-use Rattle.msgcat.specs.Merged.{is_kept}
+use Rattle.msgcat.specs.Merged.{is_joined, merged_entry, texts_of, is_kept}
 
 -- the definition has a translation: its first form isn't empty
 abbrev pub IsTranslated : NamedEntry → Type 0

@@ -2,10 +2,8 @@
 
 ghost use Rattle.std.specs.Prelude.{◌≡◌, ◌<◌, ◌∷◌, [], IfNone, IfSome, List, ℕ, false, length, true};
 ghost use Rattle.msgcat.specs.Groups.{definitions};
-ghost use Rattle.msgcat.specs.Inputs.{named};
-ghost use Rattle.msgcat.specs.InputsView.{named_entries};
-ghost use Rattle.msgcat.specs.Merged.{is_kept, is_wanted};
-ghost use Rattle.msgcat.specs.MergedEntry.{first_with};
+ghost use Rattle.msgcat.specs.Inputs.{named, named_entries};
+ghost use Rattle.msgcat.specs.Merged.{is_kept, is_wanted, first_with};
 ghost use Rattle.msgcat.specs.Internal.FirstParts.{has_part};
 
 use crate::input::MergeOptions;

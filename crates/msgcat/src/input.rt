@@ -1,7 +1,7 @@
 //! The inputs and options of a merge.
 
 ghost use Rattle.std.specs.Prelude.{◌≡◌, length};
-ghost use Rattle.po_entry.specs.Bytes.{Lacks};
+ghost use Rattle.po_entry.specs.Texts.{Lacks};
 ghost use Rattle.msgcat.specs.Inputs.{Named};
 ghost use Rattle.msgcat.specs.MergeInputs.{IsReadInput};
 

@@ -1,7 +1,7 @@
 //! Reading inputs: the pieces of each are read into one store. After the last input an index of all
 //! messages tells which entries are of one message.
 ghost use Rattle.std.specs.Prelude.{◌≡◌, ◌⊎◌, All, IfErr, IfOk, List, OnOk};
-ghost use Rattle.po_entry.specs.Bytes.{Lacks};
+ghost use Rattle.po_entry.specs.Texts.{Lacks};
 ghost use Rattle.po_entry.specs.TextEntry.{TextEntry};
 ghost use Rattle.po_entry.specs.Validity.{out_of_memory};
 ghost use Rattle.msgcat.specs.Inputs as merge;
@@ -9,7 +9,7 @@ ghost use Rattle.po_entry.specs.Duplicate.{HasNoDuplicate};
 ghost use Rattle.msgcat.specs.MergeInputs.{HoldInputs};
 ghost use Rattle.msgcat.specs.Internal.Inputs.{AreNumberedInputs, AreReadUpTo, IsFirstRepeating};
 ghost use Rattle.msgcat.specs.Msgcat.{AreReadAs, IsFileFault};
-ghost use Rattle.runs.specs.NamedFile.{named_files};
+ghost use Rattle.runs.specs.Inputs.{named_files};
 
 use po_entry::{Drafts, EntryPlace, Store, duplicate_at, message_numbers, places_of, repeated_lines, split_at_most};
 use crate::input::ReadInput;

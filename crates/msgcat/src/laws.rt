@@ -5,7 +5,7 @@ ghost use Rattle.msgcat.specs.declared.input.MergeOptions.{MergeOptions};
 ghost use Rattle.msgcat.specs.Inputs.{Named, NamedEntry, all_entries};
 ghost use Rattle.msgcat.specs.MergeLaws.{DistinctInputsStay, FaultIsOfNoLine, FormsAreOfOne, MergedAgain, GroupsByNumber, KeptMessagesStand, MergedAreEntries, MergedCanStand, MessagesStandOnce, OneDefinitionStays, OneInputStays, StandInTurn, WithItself};
 ghost use Rattle.msgcat.specs.EntryLaws.{DefinedByLive, EndsForm, FormsAreJoined, JoinedIsFuzzy, KeptByCount, LinesAreNotMerged, ObsoleteWhereNoneIsLive, PluralOfFirst, PreviousOfFirst, TextsInOrder, TextsOfAll};
-ghost use Rattle.msgcat.specs.MergedEntry.{ended};
+ghost use Rattle.msgcat.specs.Merged.{ended};
 ghost use Rattle.msgcat.specs.TranslationLaws.{CommentsOfFirst, FormsOfFirst, HeadersAreKept, JoinedAsLongest, JoinedWhereTheyDiffer, TranslatedStays};
 ghost use Rattle.po_syntax.specs.declared.item.CommentKind.{CommentKind};
 ghost use Rattle.po_syntax.specs.declared.fault.PoError.{PoError};

@@ -2,15 +2,12 @@
 
 ghost use Rattle.std.specs.Prelude.{◌≡◌, ◌<◌, ◌∷◌, [], IfErr, IfOk, IfSome, List, ℕ, get_or, length, option_to_list};
 ghost use Rattle.po_entry.specs.Validity.{IsCatalogueEntry};
-ghost use Rattle.po_entry.specs.FirstOnes.{first_ones, group_numbers};
-ghost use Rattle.po_entry.specs.Message.{entry_messages, same_message};
+ghost use Rattle.po_entry.specs.Message.{first_ones, group_numbers, entry_messages, same_message};
 ghost use Rattle.msgcat.specs.Groups.{groups};
-ghost use Rattle.msgcat.specs.Inputs.{Named, all_entries, named};
-ghost use Rattle.msgcat.specs.InputsView.{named_entries};
+ghost use Rattle.msgcat.specs.Inputs.{Named, all_entries, named, named_entries};
 ghost use Rattle.msgcat.specs.Internal.EntriesAt.{name_of};
 ghost use Rattle.msgcat.specs.MergeInputs.{AreReadInputs, HoldInputs, name_of_first, unnamed};
-ghost use Rattle.msgcat.specs.Merged.{IsMergeFault, merged_messages, messages};
-ghost use Rattle.msgcat.specs.MergedEntry.{merged_entry};
+ghost use Rattle.msgcat.specs.Merged.{IsMergeFault, merged_messages, messages, merged_entry};
 ghost use Rattle.msgcat.specs.declared.input.MergeOptions as asked;
 
 use crate::definition::{NamedEntry, kept_alone, kept_definitions};

@@ -4,7 +4,7 @@ ghost use Rattle.po_entry.specs.Header.{HasAdmittedCharset};
 ghost use Rattle.msgcat.specs.Inputs as merge;
 ghost use Rattle.msgcat.specs.MergeInputs.{HoldInputs};
 ghost use Rattle.msgcat.specs.Merged.{IsMergeFault, merged, merged_messages, messages};
-ghost use Rattle.po_writer.specs.Separated.{with_entry};
+ghost use Rattle.po_writer.specs.WrittenText.{with_entry};
 ghost use Rattle.msgcat.specs.Internal.MergedText.{IsPartWritten, IsTextOfMerged};
 
 use po_entry::Store;

@@ -1,6 +1,6 @@
 //! msgcat as a whole: its inputs are read, and their run is written.
 ghost use Rattle.std.specs.Prelude.{◌≡◌, ◌≢◌, ◌⊎◌, ◌^◌, ◌<◌, All, Err, IfErr, IfOk, IfSome, List, None, Some, [], false, map};
-ghost use Rattle.po_entry.specs.Bytes.{Lacks};
+ghost use Rattle.po_entry.specs.Texts.{Lacks};
 ghost use Rattle.msgcat.specs.Inputs.{Named};
 ghost use Rattle.msgcat.specs.Msgcat.{AreReadAs, HasNulName, IsMsgcatRun, IsUnread, IsUnreadBeforeNul};
 ghost use Rattle.msgcat.specs.WholeRun.{RunsMsgcat};

@@ -11,11 +11,10 @@ use Rattle.plural_rule.specs.declared.rule.Source.TheVariants.{Header, Default}
 use Rattle.po_entry.specs.TextEntry.{TextEntry, plain_entry, with_line}
 use Rattle.po_entry.specs.Header.{first_form}
 use Rattle.po_entry.specs.Validity.{IsCatalogueEntry, IsEntry}
-use Rattle.po_entry.specs.Facts.Mapped.{find_map}
+use Rattle.po_syntax.specs.Facts.Mapped.{find_map}
 use Rattle.po_entry.specs.Joined.{InputEntry, entries_of, joined, joined_entries}
-use Rattle.po_compile.specs.CompiledInputs.{compiled_inputs, compiled_message, compiled_view}
-use Rattle.po_compile.specs.CompiledList.{is_compiled}
-use Rattle.po_compile.specs.CompiledMessages.{original_of, translation_of}
+use Rattle.po_compile.specs.Collected.{compiled_inputs, compiled_message, compiled_view}
+use Rattle.po_compile.specs.Compiled.{is_compiled, original_of, translation_of}
 use Rattle.po_compile.specs.declared.messages.CompiledMessage.{CompiledMessage}
 use Rattle.po_compile.specs.MessageLaws.{TextsComeBack}
 use Rattle.msgfmt.specs.Msgfmt.{AreChecked}

@@ -5,13 +5,12 @@ use Rattle.std.proofs.lemmas.Slice.Zip.{AllZip-long}
 use Rattle.po_entry.specs.ReadsText.{ReadsText}
 use Rattle.po_entry.specs.Joined.{joined_entries}
 use Rattle.po_compile.specs.Accepted.{IsCompileFault}
-use Rattle.po_compile.specs.Collected.{LiveMessage, live_messages}
-use Rattle.po_compile.specs.CompiledInputs.{AreCollected}
+use Rattle.po_compile.specs.Collected.{LiveMessage, live_messages, AreCollected}
 use Rattle.po_compile.specs.Compiling.{IsCompilation}
 use Rattle.po_compile.specs.declared.options.Options.{Options}
 use Rattle.msgfmt.specs.declared.options.MsgfmtOptions.{MsgfmtOptions}
 use Rattle.msgfmt.specs.Msgfmt.{NoneRefused, IsMsgfmtRun, IsRefused, compile_options, input_texts}
-use Rattle.runs.specs.NamedFile.{NamedFile}
+use Rattle.runs.specs.Inputs.{NamedFile}
 use Rattle.runs.specs.Run.{RunView}
 
 -- each input is collected

@@ -1,6 +1,5 @@
 -- What msgfmt writes and reports (manual, "Invoking the msgfmt Program").
-use Rattle.std.specs.Prelude.{◌≡◌, ◌≢◌, ◌⊎◌, ◌^◌, ◌≤◌, length, nat_lt, ◌==◌, ℕ, Bool, true, List, [], ◌∷◌, map, refl}
-use Rattle.std.specs.Prelude.{slice_get, Option, None, Some, codes, decimal, ◌++◌, if◌then◌else◌}
+use Rattle.std.specs.Prelude.{◌≡◌, ◌≢◌, ◌⊎◌, ◌^◌, ◌≤◌, length, nat_lt, ◌==◌, ℕ, Bool, true, List, [], ◌∷◌, map, refl, slice_get, Option, None, Some, codes, decimal, ◌++◌, if◌then◌else◌}
 use Rattle.std.specs.Option.{option_map_or}
 use Rattle.po_syntax.specs.declared.fault.PoFault.{PoFault}
 use Rattle.po_syntax.specs.declared.fault.PoFault.TheVariants.{Duplicate, OutOfMemory as NoMemory}
@@ -9,17 +8,15 @@ use Rattle.po_entry.specs.Joined.{joined, joined_entries}
 use Rattle.po_entry.specs.Statistics.{stats_line, stats_of}
 use Rattle.po_entry.specs.declared.duplicate.JoinError.{JoinError}
 use Rattle.po_compile.specs.Accepted.{AreCompiled, AreRead, IsCompileFault}
-use Rattle.po_compile.specs.CompiledInputs.{compiled_inputs}
+use Rattle.po_compile.specs.Collected.{compiled_inputs}
 use Rattle.po_compile.specs.Compiling.{IsCompilation}
 use Rattle.po_compile.specs.declared.options.Compiled.{Compiled}
 use Rattle.po_compile.specs.declared.options.Options.{Options}
 use Rattle.msgfmt.specs.declared.options.MsgfmtOptions.{MsgfmtOptions}
 use Rattle.msgfmt.specs.declared.profile.CheckFault.{CheckFault}
-use Rattle.msgfmt.specs.declared.profile.CheckFault.TheVariants.{NoHeader, NoRule, FormCount, LeadingNewline}
-use Rattle.msgfmt.specs.declared.profile.CheckFault.TheVariants.{TrailingNewline, Undefined, IndexOutside}
-use Rattle.msgfmt.specs.declared.profile.CheckFault.TheVariants.{OutOfMemory}
+use Rattle.msgfmt.specs.declared.profile.CheckFault.TheVariants.{NoHeader, NoRule, FormCount, LeadingNewline, TrailingNewline, Undefined, IndexOutside, OutOfMemory}
 use Rattle.runs.specs.FaultText.{po_text, duplicate_text, fault_line}
-use Rattle.runs.specs.NamedFile.{NamedFile}
+use Rattle.runs.specs.Inputs.{NamedFile}
 use Rattle.msgfmt.specs.Profile.{IsChecked, Reported}
 use Rattle.runs.specs.Run.{RunView, refusal}
 

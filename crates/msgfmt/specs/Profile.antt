@@ -1,7 +1,6 @@
 -- What `--profile-check` asks of the messages that are compiled: this project's own part of GNU msgfmt's
 -- checks (manual, "Invoking the msgfmt Program": `--check-header`, `--check-format`; "Plural forms").
-use Rattle.std.specs.Prelude.{◌≡◌, MatchOption, ℕ, ◌-◌, ◌==◌, slice_get, Bool, true, false, not, ◌&&◌, nat_lt, List, []}
-use Rattle.std.specs.Prelude.{◌∷◌, ◌++◌, length, find, map, Option, None, Some, if◌then◌else◌}
+use Rattle.std.specs.Prelude.{◌≡◌, MatchOption, ℕ, ◌-◌, ◌==◌, slice_get, Bool, true, false, not, ◌&&◌, nat_lt, List, [], ◌∷◌, ◌++◌, length, find, map, Option, None, Some, if◌then◌else◌}
 use Rattle.std.specs.List.{list_any, range_with_len}
 use Rattle.std.specs.Option.{is_some, option_or, option_to_list, option_map_or}
 use Rattle.mo_file.specs.Key.{key_of}
@@ -9,7 +8,7 @@ use Rattle.mo_file.specs.MessageParts.{context_of, forms, id_of, plural_of}
 use Rattle.po_entry.specs.TextEntry.{TextEntry, plain_entry, with_line}
 use Rattle.po_entry.specs.Header.{is_header, first_form}
 use Rattle.po_entry.specs.Joined.{InputEntry}
-use Rattle.po_compile.specs.CompiledInputs.{CompiledView, compiled_view}
+use Rattle.po_compile.specs.Collected.{CompiledView, compiled_view}
 use Rattle.po_compile.specs.declared.messages.CompiledMessage.{CompiledMessage}
 use Rattle.plural_rule.specs.Expression.{value}
 use Rattle.plural_rule.specs.PluralRule.{RuleView, IsRuleOf, expression_limit}
@@ -18,8 +17,7 @@ use Rattle.plural_rule.specs.declared.rule.Source.TheVariants.{Header, Default}
 use Rattle.msgfmt.specs.declared.profile.End.{End}
 use Rattle.msgfmt.specs.declared.profile.End.TheVariants.{Beginning, Ending}
 use Rattle.msgfmt.specs.declared.profile.CheckFault.{CheckFault}
-use Rattle.msgfmt.specs.declared.profile.CheckFault.TheVariants.{NoHeader, NoRule, FormCount, LeadingNewline}
-use Rattle.msgfmt.specs.declared.profile.CheckFault.TheVariants.{TrailingNewline, Undefined, IndexOutside}
+use Rattle.msgfmt.specs.declared.profile.CheckFault.TheVariants.{NoHeader, NoRule, FormCount, LeadingNewline, TrailingNewline, Undefined, IndexOutside}
 
 -- the texts that are taken from the message of an entry, with its input and line
 abbrev pub taken_entry : CompiledView → InputEntry

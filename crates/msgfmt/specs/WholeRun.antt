@@ -3,7 +3,7 @@ use Rattle.std.specs.Prelude.{◌≡◌, ◌⊎◌, ℕ, List, Option, None, Som
 use Rattle.msgfmt.specs.declared.options.MsgfmtOptions.{MsgfmtOptions}
 use Rattle.msgfmt.specs.Msgfmt.{AreWrong, IsMsgfmtRun, IsRefused, NoneRefused}
 use Rattle.runs.specs.declared.program_fault.ProgramFault.{ProgramFault}
-use Rattle.runs.specs.NamedFile.{NamedFile}
+use Rattle.runs.specs.Inputs.{NamedFile}
 use Rattle.runs.specs.Outputs.{SystemView}
 use Rattle.runs.specs.Run.{RunView}
 use Rattle.runs.specs.ToolRuns.{Asking, Planning, RunsInputs}

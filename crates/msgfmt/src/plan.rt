@@ -2,7 +2,7 @@
 ghost use Rattle.std.specs.Prelude.{◌≡◌, ◌^◌, ◌<◌, List, length, IfOk, OnErr, Err};
 ghost use Rattle.po_entry.specs.TextEntry.{slice_texts};
 ghost use Rattle.po_entry.specs.Statistics.{stats_line};
-ghost use Rattle.runs.specs.NamedFile.{NamedFile, named_files};
+ghost use Rattle.runs.specs.Inputs.{NamedFile, named_files};
 ghost use Rattle.msgfmt.specs.Internal.Gathered.{HoldInputs, IsGathered};
 ghost use Rattle.msgfmt.specs.Msgfmt as Spec;
 ghost use Rattle.runs.specs.Run.{run_view};

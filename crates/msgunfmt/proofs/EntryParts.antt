@@ -7,7 +7,7 @@ use Rattle.std.proofs.lemmas.List.Elements.{All-cons, All-head, All-nil, All-tai
 use Rattle.mo_file.specs.Key.{is_nul, key_of}
 use Rattle.mo_file.specs.Message.{Message}
 use Rattle.mo_file.specs.MessageParts.{context_of, forms, id_of, plural_of}
-use Rattle.po_entry.specs.Bytes.{Lacks}
+use Rattle.po_entry.specs.Texts.{Lacks}
 use Rattle.msgunfmt.specs.MessageParts.{ContainsMsgid, msgid_alone, after_context, IsAfterPart, at_end, at_nul, ContainsKey, key_alone, before_plural, ContainsForms, first_part, each_part, IsEntryOf}
 use Rattle.msgunfmt.specs.Unformatted.{taken_forms, unformatted}
 use Rattle.mo_file.proofs.CutLemmas.{before_all, before_is, context_cut, context_none, id_all, id_cut, first_all, first_cut, plural_cut, plural_none}

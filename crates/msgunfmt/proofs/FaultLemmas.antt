@@ -13,8 +13,7 @@ use Rattle.po_entry.proofs.TextsFaults.{no_texts_fault}
 use Rattle.po_writer.specs.WrittenText.{written_text}
 use Rattle.msgunfmt.specs.declared.fault.UnformatError.TheVariants.{Mo, NotUtf8, ForbiddenByte, ForeignCharset, OutOfMemory}
 use Rattle.msgunfmt.specs.RoundTrip.{EmptyText, NoFaultWhereUnformatted, OneText}
-use Rattle.msgunfmt.specs.Unformatted.{unformatted}
-use Rattle.msgunfmt.specs.UnformattedText.{AreWrittenAs, HasFirstEntryTextFault, HasForeignCharset, IsFileOf}
+use Rattle.msgunfmt.specs.Unformatted.{unformatted, AreWrittenAs, HasFirstEntryTextFault, HasForeignCharset, IsFileOf}
 use Rattle.msgunfmt.proofs.MessageLemmas.{texts_of}
 
 -- messages that are written have no fault in their texts

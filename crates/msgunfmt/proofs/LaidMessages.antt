@@ -5,8 +5,8 @@ use Rattle.std.proofs.lemmas.List.Elements.{All-append, All-cons, All-head, All-
 use Rattle.mo_file.specs.Key.{key_of}
 use Rattle.mo_file.specs.Message.{Message}
 use Rattle.mo_file.specs.MessageParts.{context_of, forms, id_of, plural_of}
-use Rattle.po_entry.specs.Bytes.{Lacks}
-use Rattle.po_entry.specs.Facts.AllAppend.{All-left, All-right}
+use Rattle.po_entry.specs.Texts.{Lacks}
+use Rattle.po_syntax.specs.Facts.AllAppend.{All-left, All-right}
 use Rattle.po_entry.specs.Header.{HasAdmittedCharset}
 use Rattle.po_entry.specs.Rows.{Adds, AreLaid, CanLie, LiesIn, entries_in, entry_at, message_entry, row_of}
 use Rattle.po_entry.specs.TextEntry.{TextEntry, plain_entry, quoted_texts}

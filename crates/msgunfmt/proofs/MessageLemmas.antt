@@ -10,17 +10,16 @@ use Rattle.mo_file.specs.Message.{Message, originals, translations}
 use Rattle.mo_file.specs.MessageParts.{context_of, forms, id_of, plural_of}
 use Rattle.po_syntax.specs.declared.fault.PoFault.{PoFault}
 use Rattle.po_entry.specs.TextEntry.{TextEntry, plain_entry, quoted_texts}
-use Rattle.po_entry.specs.Bytes.{Lacks}
+use Rattle.po_entry.specs.Texts.{Lacks}
 use Rattle.po_entry.specs.Header.{HasAdmittedCharset}
 use Rattle.po_entry.specs.Validity.{HasTexts, IsCatalogueEntry, IsEntry, IsFlag, IsReference, IsTranslatorComment, EntryTextFault}
-use Rattle.po_syntax.specs.ItemContents.{IsComment, IsText}
+use Rattle.po_syntax.specs.TextItem.{IsComment, IsText}
 use Rattle.po_entry.specs.Validity.EntryTextFault.{not_utf8, forbidden}
 use Rattle.msgunfmt.specs.declared.fault.UnformatError.{UnformatError}
 use Rattle.msgunfmt.specs.declared.fault.UnformatError.TheVariants.{Mo, NotUtf8, ForbiddenByte, ForeignCharset, OutOfMemory}
 use Rattle.msgunfmt.specs.Internal.Refused.{RefusesEntry, RefusesMessages, error_at}
 use Rattle.po_writer.specs.WrittenText.{written_text}
-use Rattle.msgunfmt.specs.Unformatted.{entry_of_message, taken_forms, unformatted}
-use Rattle.msgunfmt.specs.UnformattedText.{AreWrittenAs, HasForeignCharset}
+use Rattle.msgunfmt.specs.Unformatted.{entry_of_message, taken_forms, unformatted, AreWrittenAs, HasForeignCharset}
 
 -- the texts of an entry can stand in it
 pub texts_of : (entry : TextEntry) → IsEntry entry → HasTexts entry

@@ -12,8 +12,7 @@ use Rattle.po_entry.specs.Validity.{HasTexts, EntryTextFault}
 use Rattle.po_entry.proofs.TextsFaults.{no_texts_fault, one_texts_fault}
 use Rattle.msgunfmt.specs.declared.fault.UnformatError.TheVariants.{Mo, NotUtf8, ForbiddenByte, ForeignCharset, OutOfMemory}
 use Rattle.msgunfmt.specs.RoundTrip.{OneUnformatFault}
-use Rattle.msgunfmt.specs.Unformatted.{unformatted}
-use Rattle.msgunfmt.specs.UnformattedText.{HasFirstEntryTextFault, HasForeignCharset, IsFileOf, IsUnformatFault}
+use Rattle.msgunfmt.specs.Unformatted.{unformatted, HasFirstEntryTextFault, HasForeignCharset, IsFileOf, IsUnformatFault}
 use Rattle.msgunfmt.proofs.FaultLemmas.{moved}
 
 -- a message before the first one with such a fault has none

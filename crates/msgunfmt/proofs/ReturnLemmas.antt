@@ -14,18 +14,16 @@ use Rattle.mo_file.specs.Message.{Message}
 use Rattle.mo_file.specs.MessageParts.{forms, id_of, plural_of}
 use Rattle.po_syntax.specs.PoText.{IsSmall}
 use Rattle.po_entry.specs.TextEntry.{TextEntry, previous_texts, quoted_texts, with_line, plain_entry as bare_entry}
-use Rattle.po_entry.specs.Facts.AllAppend.{All-right}
+use Rattle.po_syntax.specs.Facts.AllAppend.{All-right}
 use Rattle.po_entry.specs.Header.{is_header}
 use Rattle.po_entry.specs.ReadsText.{ReadsText}
 use Rattle.po_entry.specs.Validity.{IsCatalogueEntry, IsEntry}
-use Rattle.po_syntax.specs.ItemContents.{IsText}
+use Rattle.po_syntax.specs.TextItem.{IsText}
 use Rattle.po_writer.specs.WrittenText.{arranged, written_text}
-use Rattle.po_entry.specs.Duplicate.{AllDiffer, HasNoDuplicate}
+use Rattle.po_entry.specs.Duplicate.{AllDiffer, HasNoDuplicate, ReadsDistinct}
 use Rattle.po_entry.specs.Joined.{is_live, joined_entries}
 use Rattle.po_entry.specs.Statistics.{has_translation}
-use Rattle.po_entry.specs.DistinctText.{ReadsDistinct}
-use Rattle.po_compile.specs.CompiledList.{compiled_list, is_compiled}
-use Rattle.po_compile.specs.CompiledMessages.{AreMessagesOf, message_of, original_of, translation_of}
+use Rattle.po_compile.specs.Compiled.{compiled_list, is_compiled, AreMessagesOf, message_of, original_of, translation_of}
 use Rattle.po_compile.specs.Compiling.{HasSmallLayout, IsCompilation}
 use Rattle.po_compile.specs.Accepted.{AreAccepted}
 use Rattle.po_compile.specs.Headline.{LookUpMeansEntries, MessagesAreOne}

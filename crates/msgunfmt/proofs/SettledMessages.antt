@@ -12,15 +12,14 @@ use Rattle.po_syntax.specs.declared.fault.PoFault.{PoFault}
 use Rattle.po_entry.specs.TextEntry.{TextEntry, quoted_texts}
 use Rattle.po_entry.specs.Header.{HasAdmittedCharset}
 use Rattle.po_entry.specs.Validity.{HasTexts, IsEntry, EntryTextFault}
-use Rattle.po_syntax.specs.ItemContents.{IsText}
+use Rattle.po_syntax.specs.TextItem.{IsText}
 use Rattle.po_entry.specs.Validity.EntryTextFault.{not_utf8, forbidden}
 use Rattle.po_writer.specs.WrittenText.{written_text}
 use Rattle.msgunfmt.specs.declared.fault.UnformatError.{UnformatError}
 use Rattle.msgunfmt.specs.declared.fault.UnformatError.TheVariants.{Mo, NotUtf8, ForbiddenByte, ForeignCharset, OutOfMemory}
 use Rattle.msgunfmt.specs.RoundTrip.{TextOrFault}
 use Rattle.msgunfmt.specs.Internal.Refused.{RefusesMessages}
-use Rattle.msgunfmt.specs.Unformatted.{entry_of_message, taken_forms, unformatted}
-use Rattle.msgunfmt.specs.UnformattedText.{AreWrittenAs, IsUnformatFault}
+use Rattle.msgunfmt.specs.Unformatted.{entry_of_message, taken_forms, unformatted, AreWrittenAs, IsUnformatFault}
 use Rattle.po_entry.proofs.Settled.{all_settled, texts_or_fault, charset_settled}
 use Rattle.msgunfmt.proofs.MessageLemmas.{catalogue_entries, message_valid}
 

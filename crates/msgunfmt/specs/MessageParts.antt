@@ -3,7 +3,7 @@
 use Rattle.std.specs.Prelude.{◌≡◌, ℕ, All, List, [], ◌∷◌, ◌++◌, Option, None, Some}
 use Rattle.std.specs.List.{AllZip, join_with_byte}
 use Rattle.mo_file.specs.Message.{Message}
-use Rattle.po_entry.specs.Bytes.{Lacks}
+use Rattle.po_entry.specs.Texts.{Lacks}
 use Rattle.po_entry.specs.TextEntry.{TextEntry, plain_entry}
 use Rattle.msgunfmt.specs.Unformatted.{unformatted}
 

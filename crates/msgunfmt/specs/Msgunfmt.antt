@@ -1,12 +1,11 @@
 -- What msgunfmt writes and reports (manual, "Invoking the msgunfmt Program").
 use Rattle.std.specs.Prelude.{◌≡◌, ◌≢◌, ◌⊎◌, nat_lt, ℕ, List, [], length, codes, decimal, ◌++◌, refl}
 use Rattle.mo_file.specs.Message.{Message}
-use Rattle.msgunfmt.specs.UnformattedText.{IsUnformatted, IsUnformatFault}
+use Rattle.msgunfmt.specs.Unformatted.{IsUnformatted, IsUnformatFault}
 use Rattle.msgunfmt.specs.declared.fault.UnformatError.{UnformatError}
-use Rattle.msgunfmt.specs.declared.fault.UnformatError.TheVariants.{Mo, NotUtf8, ForbiddenByte, ForeignCharset}
-use Rattle.msgunfmt.specs.declared.fault.UnformatError.TheVariants.{OutOfMemory}
+use Rattle.msgunfmt.specs.declared.fault.UnformatError.TheVariants.{Mo, NotUtf8, ForbiddenByte, ForeignCharset, OutOfMemory}
 use Rattle.runs.specs.FaultText.{fault_line, mo_text}
-use Rattle.runs.specs.NamedFile.{NamedFile}
+use Rattle.runs.specs.Inputs.{NamedFile}
 use Rattle.runs.specs.Run.{RunView, refusal}
 
 -- why a file has no PO text

@@ -5,12 +5,11 @@ use Rattle.mo_file.specs.Message.{Message}
 use Rattle.po_syntax.specs.PoText.{IsSmall}
 use Rattle.po_entry.specs.TextEntry.{TextEntry}
 use Rattle.po_entry.specs.Joined.{joined_entries}
-use Rattle.po_compile.specs.CompiledList.{compiled_list}
-use Rattle.po_compile.specs.CompiledMessages.{AreMessagesOf}
+use Rattle.po_compile.specs.Compiled.{compiled_list, AreMessagesOf}
 use Rattle.po_compile.specs.Accepted.{AreAccepted, AreCompiled}
 use Rattle.po_compile.specs.declared.options.Compiled.{Compiled}
 use Rattle.po_compile.specs.declared.options.Options.{Options}
-use Rattle.msgunfmt.specs.UnformattedText.{IsUnformatted, IsUnformatFault}
+use Rattle.msgunfmt.specs.Unformatted.{IsUnformatted, IsUnformatFault}
 use Rattle.msgunfmt.specs.declared.fault.UnformatError.{UnformatError}
 use Rattle.msgunfmt.specs.declared.fault.UnformatError.TheVariants.{OutOfMemory}
 

@@ -4,7 +4,7 @@ use Rattle.std.specs.Prelude.{bytes_eq}
 use Rattle.std.specs.Global.{Vec}
 use lib.Pointwise.{pointwise}
 use Rattle.po_entry.specs.TextEntry.{texts}
-use Rattle.po_entry.specs.Equality.{texts_eq}
+use Rattle.po_entry.specs.Fields.{texts_eq}
 
 pub same_vectors : (xs ys : List (Vec ℕ))
     → pointwise (λ (x y : Vec ℕ). bytes_eq x.items y.items) xs ys ≡ texts_eq (texts xs) (texts ys)

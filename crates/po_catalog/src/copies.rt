@@ -1,7 +1,7 @@
 //! Copies of entries from a buffer, and for one.
 
 ghost use Rattle.std.specs.Prelude.{◌≡◌, IfOk};
-ghost use Rattle.po_entry.specs.EntryView.{entry_view};
+ghost use Rattle.po_entry.specs.Fields.{entry_view};
 ghost use Rattle.po_entry.specs.TextLists.{texts_left};
 ghost use Rattle.po_entry.specs.Validity.{IsEntry};
 

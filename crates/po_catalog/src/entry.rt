@@ -2,8 +2,7 @@
 
 ghost use Rattle.std.specs.Prelude.{◌≡◌, ◌<◌, ◌↔◌, IfOk, IfErr, IsOkUnless, IsTrue, None, map, [], false, length, option_copied};
 ghost use Rattle.po_entry.specs.TextEntry.{texts, no_previous, optional_text};
-ghost use Rattle.po_entry.specs.EntryView.{borrowed_entry};
-ghost use Rattle.po_entry.specs.Equality.{bodies_eq, comments_eq, optional_eq, previous_eq};
+ghost use Rattle.po_entry.specs.Fields.{borrowed_entry, bodies_eq, comments_eq, optional_eq, previous_eq};
 ghost use Rattle.po_entry.specs.Header.{HasAdmittedCharset, is_header};
 ghost use Rattle.po_entry.specs.Validity.{HasTexts, IsEntry, RefusesMessage, out_of_memory};
 
@@ -334,7 +333,7 @@ impl Entry {
 }
 
 impl PartialEq for Entry {
-    ghost use Rattle.po_entry.specs.Equality.{entry_eq};
+    ghost use Rattle.po_entry.specs.Fields.{entry_eq};
     ghost use Rattle.po_entry.specs.Facts.EqualityLaws.{entry_eq_laws};
 
     ghost eq = { entry_eq };

@@ -1,7 +1,7 @@
 //! Lists of texts, each text in a buffer of its own.
 
 ghost use Rattle.std.specs.Prelude.{◌≡◌, [], IfOk, map};
-ghost use Rattle.po_entry.specs.Equality.{texts_eq};
+ghost use Rattle.po_entry.specs.Fields.{texts_eq};
 ghost use Rattle.po_entry.specs.TextEntry.{slice_texts, texts};
 
 use std::alloc::{AllocError, Global};

@@ -7,8 +7,8 @@ use Rattle.std.proofs.lemmas.Bool.{and_parts, or_cases, or_left, or_right, cond_
 use Rattle.po_entry.specs.TextEntry.{TextEntry}
 use Rattle.po_entry.specs.Header.{first_form, is_header}
 use Rattle.po_entry.specs.Statistics.{has_translation}
-use Rattle.po_compile.specs.CompiledEntries.{IsTranslated, MayBeUsed, not_fuzzy, asked_for, header, IsToBeCompiled, KeepsCompiled, none, compiled, omitted}
-use Rattle.po_compile.specs.CompiledList.{compiled_list, is_compiled}
+use Rattle.po_compile.specs.MessageLaws.{IsTranslated, MayBeUsed, not_fuzzy, asked_for, header, IsToBeCompiled, KeepsCompiled, none, compiled, omitted}
+use Rattle.po_compile.specs.Compiled.{compiled_list, is_compiled}
 
 translated_says : (entry : TextEntry) → has_translation entry ≡ true → IsTranslated entry
 translated_says entry e = by_forms entry.forms refl e where

@@ -3,7 +3,7 @@
 use Rattle.std.proofs.Common.{◌≡◌, ℕ, ◌≤◌, ◌^◌, List, [], ◌∷◌, ◌++◌, refl, sym, ◌∙◌, subst, length, map, inl, inr, arith, suc, ap, ◌≢◌, ◌⊎◌, ap₂, append-nil, length-append, get_or, le_antisymm}
 use Rattle.std.proofs.Math.Seq.{get_or-append_seam}
 use Rattle.std.proofs.lemmas.List.{get_or_append_left}
-use Rattle.po_entry.specs.Facts.Zips.{zip_get, zip_length}
+use Rattle.po_syntax.specs.Facts.Zips.{zip_get, zip_length}
 use Rattle.std.specs.List.{AllZip}
 use Rattle.mo_file.specs.Layout.{layout}
 use Rattle.po_syntax.specs.declared.fault.PoError.{PoError}
@@ -12,13 +12,11 @@ use Rattle.po_entry.specs.TextEntry.{TextEntry}
 use Rattle.po_entry.specs.ReadsText.{ReadsText}
 use Rattle.po_entry.specs.Faults.{IsReadFault}
 use Rattle.po_entry.specs.Joined.{InputEntry, in_input, joined, joined_entries, entries_of}
-use Rattle.po_entry.specs.Duplicate.{HasNoDuplicate, IsFirstDuplicate, join_out_of_memory, duplicate_fault}
+use Rattle.po_entry.specs.Duplicate.{HasNoDuplicate, IsFirstDuplicate, join_out_of_memory, duplicate_fault, ReadsDistinct, IsTextFault}
 use Rattle.po_entry.specs.declared.duplicate.JoinError.{JoinError}
 use Rattle.po_entry.proofs.DuplicateLemmas.{entries_of_input}
-use Rattle.po_entry.specs.DistinctText.{ReadsDistinct, IsTextFault}
 use Rattle.po_compile.specs.Accepted.{AreRead, AreAccepted, IsFaultOfInput, HasJoinedDuplicate, IsTooLarge, IsCompileFault}
-use Rattle.po_compile.specs.CompiledList.{compiled_list}
-use Rattle.po_compile.specs.CompiledMessages.{AreMessagesOf}
+use Rattle.po_compile.specs.Compiled.{compiled_list, AreMessagesOf}
 use Rattle.po_compile.specs.Headline.{MessagesAreOne, OneCompileFault, AcceptedOrFault}
 use Rattle.po_compile.specs.declared.options.Options.{Options}
 use Rattle.std.proofs.lemmas.Bool.{cases_lt}

@@ -16,7 +16,7 @@ use Rattle.po_entry.proofs.JoiningLemmas.{kept_valid}
 use Rattle.po_entry.proofs.DuplicateLemmas.{entries_of_input}
 use Rattle.po_compile.specs.Collected.{LiveMessage, live_message, live_messages}
 use Rattle.po_compile.specs.Internal.Rows.{InputMessage, all_messages, has_no_key, in_input_message, input_message, is_joined, joined_messages}
-use Rattle.po_entry.specs.Facts.Mapped.{filter_map, filter_twice}
+use Rattle.po_syntax.specs.Facts.Mapped.{filter_map, filter_twice}
 use Rattle.po_compile.proofs.Filters.{filter_all}
 
 -- one more row, or none, before those that are left

@@ -3,7 +3,7 @@ use Rattle.std.proofs.Common.{◌≡◌, ◌≢◌, refl, sym, ap, ap₂, ◌∙
 use Rattle.std.specs.Ordering.{is_lt, ordering_reverse}
 use Rattle.std.specs.List.Sorted.{IsSortedBy}
 use Rattle.std.specs.Bool.{MatchBool}
-use Rattle.std.specs.List.{AllWithin, HoldsAt, IsAllAdjacentAnswer}
+use Rattle.std.specs.List.{AllWithin, HoldsAt, IsAllAdjacentAnswer, AllZip, list_any}
 use Rattle.std.specs.Prelude.{◌↔◌, IsTrue}
 use Rattle.po_entry.specs.Facts.FirstRepeats.{pairs_of_map}
 use Rattle.std.specs.declared.cmp.Ordering.{Ordering}
@@ -17,7 +17,6 @@ use Rattle.mo_file.specs.Key.{AreRising, key_cmp, query_key}
 use Rattle.mo_file.proofs.BuildLemmas.{is_less, isnt_less}
 use Rattle.mo_lookup.proofs.RisingLemmas.{less_is_other, rising_between}
 use Rattle.po_compile.specs.Internal.Rows.{AllApart, HasOneHeader, InputMessage, all_messages, has_no_key, in_input_message, input_keys, input_message, is_joined, joined_messages, message_keys, row_view, row_key}
-use Rattle.std.specs.List.{AllZip, list_any}
 use Rattle.std.specs.Str.{bytes_eq}
 use Rattle.std.proofs.Math.ListN.{get_or-map as map_at}
 use Rattle.std.proofs.lemmas.List.Elements.{All-nil, All-cons, All-head, All-tail, All-map, All-weaker, All-from_all_within, filter_passes}
@@ -28,8 +27,7 @@ use Rattle.std.proofs.lemmas.Simd.{map-map}
 use Rattle.std.proofs.lemmas.Slice.Eq.{bytes_eq-Decides}
 use Rattle.po_entry.specs.ReadsText.{ReadsText}
 use Rattle.po_entry.specs.TextEntry.{TextEntry}
-use Rattle.po_entry.specs.DistinctText.{ReadsDistinct}
-use Rattle.po_entry.specs.Duplicate.{AllDiffer, HasNoDuplicate, live_entries}
+use Rattle.po_entry.specs.Duplicate.{ReadsDistinct, AllDiffer, HasNoDuplicate, live_entries}
 use Rattle.po_entry.specs.Joined.{InputEntry, entries_of, is_live, joined, joined_entries}
 use Rattle.po_compile.specs.Collected.{LiveMessage, live_message, live_messages}
 use Rattle.po_compile.specs.Internal.Repeats.{EachApart}

@@ -8,12 +8,11 @@ use Rattle.std.proofs.lemmas.List.Elements.{All-filter, All-head, All-tail, All-
 use Rattle.mo_file.specs.Layout.{layout}
 use Rattle.mo_file.specs.Message.{Message}
 use Rattle.mo_lookup.specs.Query.{can_be_key, has_no_separator, is_separator}
-use Rattle.po_entry.specs.Bytes.{Lacks}
+use Rattle.po_entry.specs.Texts.{Lacks}
 use Rattle.po_entry.specs.TextEntry.{TextEntry}
 use Rattle.po_entry.specs.Validity.{IsCatalogueEntry}
 use Rattle.po_entry.specs.Joined.{joined_entries}
-use Rattle.po_compile.specs.CompiledList.{compiled_list, is_compiled}
-use Rattle.po_compile.specs.CompiledMessages.{AreMessagesOf}
+use Rattle.po_compile.specs.Compiled.{compiled_list, is_compiled, AreMessagesOf}
 use Rattle.po_compile.specs.Headline.{CataloguesAreOne, MessagesAreOne}
 use Rattle.po_compile.specs.MessageLaws.{CompiledCanBeKeys, JoinedEntriesCanStand, LayoutsAreLimited}
 use Rattle.po_compile.specs.declared.options.Options.{Options}

@@ -6,9 +6,9 @@ use Rattle.std.proofs.lemmas.Bool.{lt-ltb}
 use Rattle.std.proofs.lemmas.List.{length-map}
 use Rattle.std.proofs.lemmas.Simd.{map-map}
 use Rattle.po_entry.specs.TextEntry.{TextEntry}
-use Rattle.po_entry.specs.Facts.Mapped.{filter_map}
+use Rattle.po_syntax.specs.Facts.Mapped.{filter_map}
 use Rattle.po_entry.specs.Joined.{is_live}
-use Rattle.po_reader.specs.KeptComments.{without_comments}
+use Rattle.po_reader.specs.PieceRead.{without_comments}
 use Rattle.po_compile.specs.Collected.{LiveMessage, live_message, live_messages}
 
 -- one is there where some are

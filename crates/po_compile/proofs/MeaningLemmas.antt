@@ -25,19 +25,19 @@ use Rattle.mo_file.proofs.CutLemmas.{first_all, plural_cut, plural_none}
 use Rattle.mo_lookup.specs.CatalogView.{translation_under, header_text}
 use Rattle.plural_rule.specs.PluralRule.{IsRuleOf, expression_limit}
 use Rattle.po_entry.specs.TextEntry.{TextEntry, quoted_texts, previous_texts}
-use Rattle.po_entry.specs.Bytes.{Lacks}
-use Rattle.po_entry.specs.Facts.AllAppend.{All-left, All-right}
+use Rattle.po_entry.specs.Texts.{Lacks}
+use Rattle.po_syntax.specs.Facts.AllAppend.{All-left, All-right}
 use Rattle.po_entry.specs.Header.{first_form}
 use Rattle.po_entry.specs.Validity.{IsEntry}
 use Rattle.po_entry.specs.Duplicate.{is_of_message}
-use Rattle.po_syntax.specs.ItemContents.{IsText}
-use Rattle.po_compile.specs.CompiledMessages.{original_of, translation_of, message_of, AreMessagesOf, plural_part}
-use Rattle.po_compile.specs.Meaning.{header_of}
+use Rattle.po_syntax.specs.TextItem.{IsText}
+use Rattle.po_compile.specs.Compiled.{original_of, translation_of, message_of, AreMessagesOf, plural_part}
+use Rattle.po_compile.specs.Compiling.{header_of}
 use Rattle.po_compile.specs.Headline.{MessagesMeanEntries}
 use Rattle.po_compile.proofs.TextLemmas.{context_back, id_back, key_of-plural_part, query_key_lacks, query_key_is_one, slice_split-join}
 use Rattle.std.proofs.Math.ListN.{get_or-map}
 use Rattle.po_compile.specs.MessageLaws.{MessagesHaveParts, MessagesDiffer, TextsComeBack}
-use Rattle.po_entry.specs.Facts.Mapped.{find_map}
+use Rattle.po_syntax.specs.Facts.Mapped.{find_map}
 
 -- what a search finds is in the list and passes the test
 pub record IsFound {X : Type 0} (test : X → Bool) (xs : List X) (x : X) : Type 0 where

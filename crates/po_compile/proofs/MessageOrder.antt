@@ -14,9 +14,8 @@ use Rattle.po_entry.specs.Validity.{IsEntry, IsCatalogueEntry}
 use Rattle.po_entry.specs.Statistics.{has_translation}
 use Rattle.po_entry.specs.Joined.{is_live}
 use Rattle.po_entry.specs.Duplicate.{IsSameMessage, AllDiffer, HasNoDuplicate}
-use Rattle.po_compile.specs.CompiledList.{is_compiled, compiled_list}
-use Rattle.po_compile.specs.CompiledMessages.{original_of, message_of, AreMessagesOf}
-use Rattle.po_entry.specs.Facts.Mapped.{filter_twice}
+use Rattle.po_compile.specs.Compiled.{is_compiled, compiled_list, original_of, message_of, AreMessagesOf}
+use Rattle.po_syntax.specs.Facts.Mapped.{filter_twice}
 use Rattle.po_compile.proofs.TextLemmas.{query_key_is_one}
 use Rattle.po_compile.proofs.MeaningLemmas.{LacksSeparators, key_of-original}
 use Rattle.std.specs.declared.cmp.Ordering.TheVariants.{Less, Equal, Greater}

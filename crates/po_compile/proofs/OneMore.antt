@@ -10,12 +10,12 @@ use Rattle.std.proofs.lemmas.List.Folds.{find-append}
 use Rattle.std.proofs.lemmas.Slice.Eq.{bytes_eq-Decides}
 use Rattle.mo_lookup.specs.Answer.{answer}
 use Rattle.mo_lookup.specs.Query.{Query, can_be_key}
-use Rattle.po_entry.specs.Facts.AllAppend.{All-left, All-right}
+use Rattle.po_syntax.specs.Facts.AllAppend.{All-left, All-right}
 use Rattle.po_entry.specs.TextEntry.{TextEntry}
 use Rattle.po_entry.specs.Validity.{IsEntry}
 use Rattle.po_entry.specs.Duplicate.{is_of_message}
 use Rattle.po_compile.specs.Headline.{MessagesMeanEntries}
-use Rattle.po_compile.specs.Meaning.{definition}
+use Rattle.po_compile.specs.Compiling.{definition}
 use Rattle.po_compile.specs.MessageLaws.{OneMoreChangesNoOther}
 use Rattle.po_compile.proofs.MeaningLemmas.{option_decides}
 

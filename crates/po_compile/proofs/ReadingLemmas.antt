@@ -9,16 +9,15 @@ use Rattle.po_syntax.specs.declared.fault.PoFault.{PoFault}
 use Rattle.po_syntax.specs.declared.fault.PoFault.TheVariants.{OutOfMemory}
 use Rattle.po_entry.specs.TextEntry.{TextEntry, slice_texts}
 use Rattle.po_entry.specs.Joined.{joined_entries, entries_of, in_input}
-use Rattle.po_entry.specs.Duplicate.{HasNoDuplicate}
+use Rattle.po_entry.specs.Duplicate.{HasNoDuplicate, ReadsDistinct, IsTextFault}
 use Rattle.po_entry.specs.Validity.{out_of_memory, IsCatalogueEntry}
 use Rattle.po_entry.proofs.DuplicateLemmas.{entries_of_input}
-use Rattle.po_entry.specs.DistinctText.{ReadsDistinct, IsTextFault}
 use Rattle.po_compile.specs.Accepted.{AreRead, IsReadingFault, fault_input, fault_of_input}
 use Rattle.std.proofs.lemmas.List.Elements.{All-nil, All-cons}
 use Rattle.mo_file.specs.Layout.{layout}
 use Rattle.mo_file.specs.Laws.{LayoutIsMoFile}
 use Rattle.po_entry.specs.ReadsText.{ReadsText}
-use Rattle.po_compile.specs.CompiledList.{compiled_list}
+use Rattle.po_compile.specs.Compiled.{compiled_list}
 use Rattle.po_compile.specs.Headline.{LookUpMeansEntries, MessagesAreOne, MessagesMeanEntries}
 use Rattle.po_compile.proofs.JoinedRows.{joined_valid}
 use Rattle.po_compile.proofs.MessageOrder.{compiled_valid}

@@ -11,7 +11,7 @@ use Rattle.std.proofs.lemmas.Simd.{map-map}
 use Rattle.std.proofs.lemmas.Slice.Eq.{bytes_eq-Decides}
 use Rattle.po_entry.specs.SeenTexts.{with_seen}
 use Rattle.po_entry.specs.TextEntry.{slice_texts}
-use Rattle.po_entry.specs.Repeats.{IsFirstRepeat}
+use Rattle.po_entry.specs.Duplicate.{IsFirstRepeat}
 use Rattle.po_entry.specs.Facts.FirstRepeats.{pairs_of_map}
 use Rattle.po_entry.proofs.FirstOnes.{found_within}
 use Rattle.po_compile.specs.Collected.{LiveMessage}

@@ -12,13 +12,11 @@ use Rattle.po_entry.specs.Validity.{IsCatalogueEntry}
 use Rattle.po_entry.specs.Duplicate.{live_entries}
 use Rattle.po_entry.specs.Joined.{InputEntry, entries_of, is_live, joined, joined_entries}
 use Rattle.po_entry.specs.Statistics.{stats_of, is_translated, is_fuzzy, is_untranslated}
-use Rattle.po_compile.specs.Collected.{HoldCatalogues, LiveMessage, live_message, live_messages}
-use Rattle.po_compile.specs.CompiledInputs.{compiled_inputs, compiled_message}
-use Rattle.po_compile.specs.CompiledList.{is_compiled, compiled_list}
-use Rattle.po_compile.specs.CompiledMessages.{AreMessagesOf, message_of}
+use Rattle.po_compile.specs.Collected.{HoldCatalogues, LiveMessage, live_message, live_messages, compiled_inputs, compiled_message}
+use Rattle.po_compile.specs.Compiled.{is_compiled, compiled_list, AreMessagesOf, message_of}
 use Rattle.po_compile.specs.Internal.Rows.{AreSortedRows, InputMessage, all_messages, compiled_of, counts_fuzzy, counts_of, counts_translated, counts_untranslated, input_message, row_view, view_of_message}
 use Rattle.po_compile.specs.declared.row.Row.{Row}
-use Rattle.po_entry.specs.Facts.Mapped.{filter_map}
+use Rattle.po_syntax.specs.Facts.Mapped.{filter_map}
 use Rattle.po_compile.proofs.Filters.{IsPermutation-filter, filter_within}
 use Rattle.po_compile.proofs.JoinedRows.{all_are, joined_valid}
 use Rattle.po_entry.proofs.DuplicateLemmas.{live_of_entries}

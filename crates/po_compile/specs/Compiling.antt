@@ -1,21 +1,49 @@
 -- What a list of entries is compiled to, and when it is refused (manual, "Invoking the msgfmt
 -- Program").
-use Rattle.std.specs.Prelude.{◌≡◌, ◌^◌, ◌<◌, ◌≤◌, List, length}
+use Rattle.std.specs.Prelude.{◌≡◌, ℕ, List, [], Option, None, option_map, find, if◌then◌else◌, ◌^◌, ◌<◌, ◌≤◌, length}
+use Rattle.std.specs.Option.{option_map_or}
+use Rattle.plural_rule.specs.PluralRule.{RuleView, IsRuleOf, expression_limit}
 use Rattle.mo_file.specs.Message.{Message}
+use Rattle.mo_lookup.specs.Answer.{AnswerView, answer}
+use Rattle.mo_lookup.specs.CatalogView.{IsCatalogView, answered}
+use Rattle.mo_lookup.specs.Query.{Query, can_be_key}
+use Rattle.po_entry.specs.TextEntry.{TextEntry}
+use Rattle.po_entry.specs.Header.{first_form}
+use Rattle.po_entry.specs.Duplicate.{is_of_message, join_out_of_memory}
 use Rattle.mo_file.specs.Layout.{layout}
 use Rattle.mo_file.specs.MoFile.{IsMoFile}
 use Rattle.mo_file.specs.declared.building.BuildError.{BuildError}
-use Rattle.mo_file.specs.declared.building.BuildError.TheVariants.{TooLarge as Large, NotSorted}
-use Rattle.mo_file.specs.declared.building.BuildError.TheVariants.{OutOfMemory as NoMemory}
-use Rattle.po_entry.specs.TextEntry.{TextEntry}
+use Rattle.mo_file.specs.declared.building.BuildError.TheVariants.{TooLarge as Large, NotSorted, OutOfMemory as NoMemory}
 use Rattle.po_syntax.specs.declared.fault.PoFault.TheVariants.{TooLarge}
-use Rattle.po_entry.specs.Duplicate.{join_out_of_memory}
 use Rattle.po_entry.specs.declared.duplicate.JoinError.{JoinError}
-use Rattle.po_compile.specs.CompiledList.{compiled_list}
-use Rattle.po_compile.specs.CompiledMessages.{AreMessagesOf}
-use Rattle.po_compile.specs.Meaning.{MeansEntries}
+use Rattle.po_compile.specs.Compiled.{compiled_list, AreMessagesOf}
 use Rattle.po_compile.specs.declared.options.Options.{Options}
 use Rattle.po_compile.specs.declared.options.Compiled.{Compiled}
+
+-- What the entries of a catalogue mean to a query (manual, "Contexts" and "Plural forms").
+
+-- the entry that defines a context and msgid: the first that has them, and none where they can't be
+-- a key
+abbrev pub definition : List TextEntry → Option (List ℕ) → List ℕ → Option TextEntry
+definition entries context id = if can_be_key context id then find (is_of_message context id) entries else None
+
+-- the text of the header: the first form of the entry of the empty msgid without a context, or the
+-- empty text
+abbrev pub header_of : List TextEntry → List ℕ
+header_of entries = option_map_or (λ header. first_form header.forms) (definition entries None []) []
+
+-- what the entries answer to a query under their rule
+abbrev pub meant : List TextEntry → RuleView → Query → AnswerView
+meant entries rule query =
+    answer (option_map (λ entry. entry.forms) (definition entries query.context query.id)) rule query
+
+-- The answers of a file's messages are those of the entries: the rule of the file is that of the
+-- entries' header, the default rule where they have none, and under any one rule, and so that one,
+-- every query is answered alike.
+pub record MeansEntries (entries : List TextEntry) (messages : List Message) : Type 0 where
+  pub rule : (rule : RuleView) → IsCatalogView messages rule → IsRuleOf expression_limit (header_of entries) rule
+  pub answers : (rule : RuleView) (query : Query)
+      → answered (record { messages = messages; rule = rule }) query ≡ meant entries rule query
 
 -- the layout of the compiled entries' messages has fewer than 2^32 bytes
 pub record HasSmallLayout (options : Options) (entries : List TextEntry) : Type 0 where

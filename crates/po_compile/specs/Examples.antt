@@ -15,15 +15,12 @@ use Rattle.mo_lookup.specs.Query.{Query}
 use Rattle.po_entry.specs.TextEntry.{TextEntry, plain_entry}
 use Rattle.po_syntax.specs.declared.fault.PoFault.TheVariants.{BadToken, Duplicate, TooLarge}
 use Rattle.po_entry.specs.declared.duplicate.JoinError.{JoinError}
-use Rattle.po_entry.specs.DistinctText.{ReadsDistinct, IsTextFault}
-use Rattle.po_entry.specs.Duplicate.{join_out_of_memory}
+use Rattle.po_entry.specs.Duplicate.{ReadsDistinct, IsTextFault, join_out_of_memory}
 use Rattle.po_entry.specs.MessageExamples.{of_a_on, obsolete_of_a, first_duplicate}
 use Rattle.po_entry.specs.Joined.{in_input, joined_entries}
 use Rattle.po_entry.specs.Statistics.{stats_of}
-use Rattle.po_compile.specs.CompiledList.{is_compiled, compiled_list}
-use Rattle.po_compile.specs.CompiledMessages.{plural_part, original_of, translation_of, message_of, AreMessagesOf}
-use Rattle.po_compile.specs.Meaning.{definition, header_of, meant, MeansEntries}
-use Rattle.po_compile.specs.Compiling.{HasSmallLayout, IsCompilation, HasLargeLayout}
+use Rattle.po_compile.specs.Compiled.{is_compiled, compiled_list, plural_part, original_of, translation_of, message_of, AreMessagesOf}
+use Rattle.po_compile.specs.Compiling.{definition, header_of, meant, MeansEntries, HasSmallLayout, IsCompilation, HasLargeLayout}
 use Rattle.po_compile.specs.Accepted.{AreRead, AreAccepted, AreCompiled, HasStatistics, HasJoinedDuplicate, IsReadingFault, IsCompileFault}
 use Rattle.po_compile.specs.Headline.{LookUpMeansEntries, NoFaultWhereAccepted, AcceptedOrFault, OneCompileFault}
 use Rattle.po_compile.specs.declared.options.Options.{Options}

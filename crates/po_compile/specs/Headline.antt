@@ -7,13 +7,11 @@ use Rattle.mo_file.specs.MoFile.{IsMoFile}
 use Rattle.po_entry.specs.TextEntry.{TextEntry}
 use Rattle.po_entry.specs.Validity.{IsEntry}
 use Rattle.po_entry.specs.Joined.{joined_entries}
-use Rattle.po_compile.specs.CompiledList.{compiled_list}
-use Rattle.po_compile.specs.CompiledMessages.{AreMessagesOf}
-use Rattle.po_compile.specs.Meaning.{MeansEntries}
-use Rattle.po_entry.specs.Duplicate.{join_out_of_memory}
+use Rattle.po_compile.specs.Compiled.{compiled_list, AreMessagesOf}
+use Rattle.po_compile.specs.Compiling.{MeansEntries}
+use Rattle.po_entry.specs.Duplicate.{join_out_of_memory, IsTextFault, ReadsDistinct}
 use Rattle.po_entry.specs.declared.duplicate.JoinError.{JoinError}
 use Rattle.po_syntax.specs.declared.fault.PoError.{PoError}
-use Rattle.po_entry.specs.DistinctText.{IsTextFault, ReadsDistinct}
 use Rattle.po_compile.specs.Accepted.{AreAccepted, AreRead, IsCompileFault}
 use Rattle.po_compile.specs.declared.options.Options.{Options}
 

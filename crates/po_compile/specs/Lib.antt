@@ -1,13 +1,8 @@
-pub mod CompiledList
-pub mod CompiledMessages
-pub mod Meaning
+pub mod Compiled
 pub mod Compiling
 pub mod Accepted
 pub mod Headline
 pub mod MessageLaws
 pub mod Collected
-pub mod OfInputs
-pub mod CompiledEntries
-pub mod CompiledInputs
 pub mod Internal
 pub mod Examples

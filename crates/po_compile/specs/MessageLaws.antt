@@ -1,5 +1,5 @@
 -- Laws of the messages that entries are compiled to, and of the entries of texts.
-use Rattle.std.specs.Prelude.{◌≡◌, ◌↔◌, ◌<◌, ◌≤◌, ℕ, Bool, true, List, [], ◌∷◌, ◌++◌, All, length}
+use Rattle.std.specs.Prelude.{◌≡◌, ◌↔◌, ◌<◌, ◌≤◌, ℕ, Bool, true, List, [], ◌∷◌, ◌++◌, All, length, false, None}
 use Rattle.mo_file.specs.Key.{key_of, query_key}
 use Rattle.mo_file.specs.Layout.{layout}
 use Rattle.mo_file.specs.Message.{Message}
@@ -11,13 +11,11 @@ use Rattle.po_syntax.specs.declared.fault.PoFault.TheVariants.{TooLarge}
 use Rattle.po_entry.specs.TextEntry.{TextEntry}
 use Rattle.po_entry.specs.Validity.{IsEntry, IsCatalogueEntry}
 use Rattle.po_entry.specs.Joined.{joined_entries}
-use Rattle.po_entry.specs.Duplicate.{AllDiffer}
-use Rattle.po_entry.specs.DistinctText.{ReadsDistinct}
+use Rattle.po_entry.specs.Duplicate.{AllDiffer, ReadsDistinct}
 use Rattle.po_entry.specs.declared.duplicate.JoinError.{JoinError}
 use Rattle.po_compile.specs.Accepted.{AreAccepted, AreRead, IsTooLarge}
-use Rattle.po_compile.specs.CompiledList.{compiled_list}
+use Rattle.po_compile.specs.Compiled.{compiled_list, original_of, translation_of, AreMessagesOf}
 use Rattle.po_compile.specs.declared.options.Options.{Options}
-use Rattle.po_compile.specs.CompiledMessages.{original_of, translation_of, AreMessagesOf}
 
 -- an original has the key and the plural of its entry, and a translation has its forms
 pub record HasParts (entry : TextEntry) : Type 0 where
@@ -92,3 +90,38 @@ OneMoreChangesNoOther =
     → ¬ ((entry.context ≡ query.context) × (entry.id ≡ query.id))
     → answered (record { messages = more; rule = rule }) query
     ≡ answered (record { messages = messages; rule = rule }) query
+
+-- Which entries of a catalogue are compiled, with a case for each reason (manual, "Invoking the
+-- msgfmt Program").
+
+-- the first form has a byte
+pub record IsTranslated (entry : TextEntry) : Type 0 where
+  pub byte : ℕ
+  pub form : List ℕ
+  pub forms : List (List ℕ)
+  pub forms_are : entry.forms ≡ (byte ∷ form) ∷ forms
+
+-- what a fuzzy entry has to be for being compiled all the same
+pub data MayBeUsed (use_fuzzy : Bool) (entry : TextEntry) : Type 0 where
+  not_fuzzy : entry.fuzzy ≡ false → MayBeUsed use_fuzzy entry
+  asked_for : use_fuzzy ≡ true → MayBeUsed use_fuzzy entry
+  header : entry.context ≡ None → entry.id ≡ [] → MayBeUsed use_fuzzy entry
+
+pub record IsToBeCompiled (use_fuzzy : Bool) (entry : TextEntry) : Type 0 where
+  pub live : entry.obsolete ≡ false
+  pub translated : IsTranslated entry
+  pub used : MayBeUsed use_fuzzy entry
+
+-- of a list the entries that are to be compiled, in order, and no others
+pub data KeepsCompiled (use_fuzzy : Bool) : List TextEntry → List TextEntry → Type 0 where
+  none : KeepsCompiled use_fuzzy [] []
+  compiled : {entry : TextEntry} {entries list : List TextEntry} → IsToBeCompiled use_fuzzy entry
+      → KeepsCompiled use_fuzzy entries list
+      → KeepsCompiled use_fuzzy (entry ∷ entries) (entry ∷ list)
+  omitted : {entry : TextEntry} {entries list : List TextEntry} → (IsToBeCompiled use_fuzzy entry → ⊥)
+      → KeepsCompiled use_fuzzy entries list
+      → KeepsCompiled use_fuzzy (entry ∷ entries) list
+
+abbrev pub CompiledListIsKept : Type 0
+CompiledListIsKept = (use_fuzzy : Bool) (entries : List TextEntry)
+    → KeepsCompiled use_fuzzy entries (compiled_list use_fuzzy entries)

@@ -5,7 +5,7 @@ ghost use Rattle.po_entry.specs.TextEntry.{slice_texts};
 ghost use Rattle.po_entry.specs.Joined.{joined_entries};
 ghost use Rattle.po_entry.specs.Statistics.{stats_of};
 ghost use Rattle.po_compile.specs.Accepted.{AreCompiled, AreRead, HasStatistics, IsCompileFault, fault_of_only_input};
-ghost use Rattle.po_compile.specs.CompiledInputs.{AreCollected};
+ghost use Rattle.po_compile.specs.Collected.{AreCollected};
 ghost use Rattle.po_compile.specs.Compiling.{IsCompilation, IsReportedFault};
 
 use crate::collecting::Collected;

@@ -3,7 +3,7 @@
 ghost use Rattle.std.specs.Prelude.{◌<◌, ◌^◌, IfErr, IfOk, length};
 ghost use Rattle.po_entry.specs.TextEntry.{slice_texts};
 ghost use Rattle.po_compile.specs.Accepted.{IsReadingFault};
-ghost use Rattle.po_compile.specs.CompiledInputs.{AreCollected};
+ghost use Rattle.po_compile.specs.Collected.{AreCollected};
 
 use crate::collecting::{Collected, collect};
 use crate::repeats::{check_each, fault_of_input};

@@ -3,8 +3,7 @@
 ghost use Rattle.std.specs.Prelude.{◌≡◌, ◌<◌, ◌^◌, All, IfOk, OnOk, length, map};
 ghost use Rattle.po_entry.specs.Joined.{joined, joined_entries};
 ghost use Rattle.po_entry.specs.Validity.{IsCatalogueEntry};
-ghost use Rattle.po_compile.specs.CompiledInputs.{compiled_inputs, compiled_message, compiled_view};
-ghost use Rattle.po_compile.specs.OfInputs.{OfAllInputs};
+ghost use Rattle.po_compile.specs.Collected.{compiled_inputs, compiled_message, compiled_view, OfAllInputs};
 
 use crate::collecting::Collected;
 use crate::rows::joined_rows;

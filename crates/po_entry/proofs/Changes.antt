@@ -6,8 +6,8 @@ use Rattle.std.proofs.lemmas.List.{length-map}
 use Rattle.std.proofs.lemmas.Str.{IsUtf8-nil}
 use Rattle.po_entry.specs.TextEntry.{TextEntry, quoted_texts, previous_texts, no_previous}
 use Rattle.po_entry.specs.Validity.{IsEntry}
-use Rattle.po_syntax.specs.ItemContents.{IsText}
-use Rattle.po_entry.specs.Facts.AllAppend.{All-left, All-right}
+use Rattle.po_syntax.specs.TextItem.{IsText}
+use Rattle.po_syntax.specs.Facts.AllAppend.{All-left, All-right}
 
 -- the texts of the quoted strings but the forms
 abbrev unformed_texts : TextEntry → List (List ℕ)

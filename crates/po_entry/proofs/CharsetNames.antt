@@ -9,8 +9,7 @@ use Rattle.std.proofs.lemmas.List.Elements.{All-head, All-tail}
 use Rattle.std.proofs.lemmas.Slice.Eq.{starts_is}
 use Rattle.po_syntax.specs.Blanks.{FailsFirst}
 use Rattle.po_syntax.specs.Facts.Runs.{parts_of}
-use Rattle.po_entry.specs.Header.{after_charset, ends_name, charset_of}
-use Rattle.po_entry.specs.Charset.{EndsName, IsAfterName, at_end, at_byte, IsAround, NamesCharset, unnamed, named}
+use Rattle.po_entry.specs.Header.{after_charset, ends_name, charset_of, EndsName, IsAfterName, at_end, at_byte, IsAround, NamesCharset, unnamed, named}
 
 -- no `charset=` stands in the text before this many bytes
 abbrev IsEarliest : List ℕ → ℕ → Type 0

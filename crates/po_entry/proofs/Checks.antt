@@ -6,7 +6,7 @@ use Rattle.std.specs.Global.{Vec}
 use Rattle.std.proofs.lemmas.List.Elements.{All-nil, All-cons, All-head, All-append, All-get_or, All-more, All-map}
 use Rattle.std.proofs.lemmas.List.{length-map, take_all, get_or-map}
 use Rattle.po_entry.specs.TextEntry.{texts}
-use Rattle.po_entry.specs.Facts.AllAppend.{All-left, All-right}
+use Rattle.po_syntax.specs.Facts.AllAppend.{All-left, All-right}
 
 -- two lists pass where both do
 pub both : {X : Type 0} (P : X → Type 0) (xs ys : List X) (a b : Bool) → (IsTrue a ↔ All P xs) → (IsTrue b ↔ All P ys)

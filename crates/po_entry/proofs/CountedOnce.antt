@@ -4,7 +4,7 @@ use Rattle.std.proofs.Math.Bool.{and_assoc, and_comm}
 use Rattle.po_entry.specs.TextEntry.{TextEntry}
 use Rattle.po_entry.specs.Header.{first_form}
 use Rattle.po_entry.specs.Statistics.{has_translation, is_counted, is_fuzzy, is_translated, is_untranslated}
-use Rattle.po_entry.specs.StatisticsLaws.{CountsAddUp, EmptyAreUntranslated, FlaggedAreFuzzy, has_empty_first_form, live_messages}
+use Rattle.po_entry.specs.MessageLaws.{CountsAddUp, EmptyAreUntranslated, FlaggedAreFuzzy, has_empty_first_form, live_messages}
 
 one_more : (counted has fuzzy : Bool) (e : TextEntry) (ts fs us all : List TextEntry)
     → length ts + length fs + length us ≡ length all

@@ -4,7 +4,7 @@ use Rattle.po_entry.specs.TextEntry.{TextEntry}
 use Rattle.po_entry.specs.Joined.{InputEntry, is_live, in_input, entries_of}
 use Rattle.po_entry.specs.Duplicate.{IsSameMessage, AllDiffer, HasNoDuplicate, live_entries, IsFirstDuplicate, IsDuplicateFault, join_out_of_memory}
 use Rattle.po_entry.specs.Facts.FirstRepeats.{none_repeats, pairs_map, pairs_of_map}
-use Rattle.po_entry.specs.Facts.Mapped.{filter_map}
+use Rattle.po_syntax.specs.Facts.Mapped.{filter_map}
 use Rattle.po_entry.specs.declared.duplicate.JoinError.{JoinError}
 
 pub live_of_entries : (xs : List InputEntry) → filter is_live (entries_of xs) ≡ entries_of (live_entries xs)

@@ -2,7 +2,7 @@
 use Rattle.std.proofs.Common.{◌≡◌, inl, inr, Bool, true, false, cond, List, [], ◌∷◌, ◌++◌, refl, sym, subst, ap, ◌∙◌, filter, append_assoc}
 use Rattle.std.proofs.lemmas.Bool.{not-true}
 use Rattle.po_entry.specs.Duplicate.{IsFirstDuplicate, duplicate_fault}
-use Rattle.po_entry.specs.DuplicateLaws.{NamesEarlier, FaultNamesEarlier}
+use Rattle.po_entry.specs.MessageLaws.{NamesEarlier, FaultNamesEarlier}
 use Rattle.po_entry.specs.Joined.{InputEntry, is_live}
 use Rattle.po_entry.specs.declared.duplicate.JoinError.{JoinError}
 

@@ -10,7 +10,7 @@ use Rattle.std.specs.Char.{to_ascii_lowercase}
 use Rattle.po_syntax.specs.declared.fault.PoFault.{PoFault}
 use Rattle.po_syntax.specs.declared.fault.PoFault.TheVariants.{NotUtf8, ForbiddenByte}
 use Rattle.po_entry.specs.TextEntry.{TextEntry, quoted_texts}
-use Rattle.po_entry.specs.Bytes.{Lacks}
+use Rattle.po_entry.specs.Texts.{Lacks}
 use Rattle.po_entry.specs.Header.{HasAdmittedCharset, charset_of, first_form, is_header}
 use Rattle.po_entry.proofs.ListedElements.{among_says, among_passes}
 use Rattle.po_entry.specs.Validity.{HasTexts, IsClean, EntryTextFault, not_utf8, forbidden}

@@ -8,11 +8,9 @@ use Rattle.po_syntax.specs.declared.fault.PoFault.TheVariants.{Duplicate, OutOfM
 use Rattle.po_entry.specs.ReadsText.{ReadsText}
 use Rattle.po_entry.specs.TextEntry.{TextEntry, plain_entry}
 use Rattle.po_entry.specs.Joined.{InputEntry, is_live, is_live_header, in_input, kept_entries, joined_from, joined, entries_of, joined_entries}
-use Rattle.po_entry.specs.Duplicate.{is_of_message, IsSameMessage, AllDiffer, HasNoDuplicate, IsFirstDuplicate, join_out_of_memory}
+use Rattle.po_entry.specs.Duplicate.{is_of_message, IsSameMessage, AllDiffer, HasNoDuplicate, IsFirstDuplicate, join_out_of_memory, ReadsDistinct, IsTextFault}
 use Rattle.po_entry.specs.Statistics.{has_translation, stats_of, stats_line}
-use Rattle.po_entry.specs.Message.{entry_message, same_message}
-use Rattle.po_entry.specs.FirstOnes.{first_ones}
-use Rattle.po_entry.specs.DistinctText.{ReadsDistinct, IsTextFault}
+use Rattle.po_entry.specs.Message.{entry_message, same_message, first_ones}
 
 -- a header; msgid "a" with msgstr "b", live and obsolete; the same in the context "c", untranslated
 abbrev pub header : TextEntry

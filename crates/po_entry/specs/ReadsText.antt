@@ -2,7 +2,7 @@
 use Rattle.std.specs.Prelude.{ℕ, List, All}
 use Rattle.po_syntax.specs.TextItem.{TextItem}
 use Rattle.po_syntax.specs.PoText.{SpellsText}
-use Rattle.po_syntax.specs.LinesLeft.{LinesLeft, SpellsLeft}
+use Rattle.po_syntax.specs.Pieces.{LinesLeft, SpellsLeft}
 use Rattle.po_entry.specs.TextEntry.{TextEntry}
 use Rattle.po_entry.specs.Header.{HasAdmittedCharset}
 use Rattle.po_entry.specs.Spelling.{SpellsEntries}

@@ -1,12 +1,13 @@
 -- Entries that lie in one buffer: what a row of it means, and how an entry is laid out (manual, "The
 -- Format of PO Files"; for keys and forms "The Format of GNU MO Files").
-use Rattle.std.specs.Prelude.{◌≡◌, ◌+◌, ◌<◌, ◌≤◌, All, ◌==◌, ◌&&◌, ℕ, zero, suc, Bool, true, List, [], ◌∷◌, ◌++◌, map, length, take, drop, Option, None, Some, is_none, is_some, option_to_list, slice_index_or, if◌then◌else◌}
+use Rattle.std.specs.Prelude.{◌≡◌, ◌+◌, ◌<◌, ◌≤◌, All, ◌==◌, ◌&&◌, ℕ, zero, suc, Bool, true, List, [], ◌∷◌, ◌++◌, map, length, take, drop, Option, None, Some, is_none, is_some, option_to_list, slice_index_or, if◌then◌else◌, option_copied}
 use Rattle.std.specs.List.{flat_map, join_with_byte, slice_split}
 use Rattle.po_entry.specs.TextEntry.{TextEntry, TextPrevious, plain_entry, quoted_texts}
-use Rattle.po_entry.specs.Bytes.{Lacks}
+use Rattle.po_entry.specs.Texts.{Lacks}
 use Rattle.po_entry.specs.TextLists.{measured, texts_in}
 use Rattle.po_entry.specs.declared.row.Row.{Row}
 use Rattle.po_entry.specs.declared.drafts.Drafts.{Drafts}
+use Rattle.po_entry.specs.declared.entry_ref.FormIter.{FormIter}
 
 -- the key: the msgid, or the context, an EOT and the msgid
 abbrev pub key_bytes : Option (List ℕ) → List ℕ → List ℕ
@@ -219,3 +220,9 @@ abbrev pub changed_at : (TextEntry → TextEntry) → ℕ → List TextEntry →
 changed_at change at [] = []
 changed_at change zero (entry ∷ entries) = change entry ∷ entries
 changed_at change (suc at) (entry ∷ entries) = entry ∷ changed_at change at entries
+
+-- Texts with a NUL between them, one after another.
+
+-- the texts that an iterator has yet to give
+abbrev pub forms_left : FormIter → List (List ℕ)
+forms_left forms = forms_of (option_copied forms.rest)

@@ -9,8 +9,7 @@ use Rattle.po_syntax.specs.declared.item.Marks.{Marks}
 pub use Rattle.po_syntax.specs.Spelling.{own_marks, previous_marks}
 use Rattle.po_syntax.specs.TextItem.{TextItem, Comment, Word, Str}
 use Rattle.po_entry.specs.TextEntry.{TextEntry}
-use Rattle.po_entry.specs.EntryParts.{CommentText, PreviousText}
-use Rattle.po_entry.specs.Comments.{texts_of, references_of, fuzzy_of, flags_of, previous_of}
+use Rattle.po_entry.specs.Comments.{CommentText, PreviousText, texts_of, references_of, fuzzy_of, flags_of, previous_of}
 
 -- one string or more, all under these marks: their bytes, joined
 pub data SpellsStrings (marks : Marks) : List TextItem → List ℕ → Type 0 where

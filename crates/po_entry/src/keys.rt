@@ -2,10 +2,8 @@
 //! key exactly where they are of one message.
 
 ghost use Rattle.std.specs.Prelude.{◌≡◌, IfOk, drop, length, take};
-ghost use Rattle.po_entry.specs.Seeds.{digest_of};
-ghost use Rattle.po_entry.specs.Digests.{keys_writes};
-ghost use Rattle.po_entry.specs.FirstOnes.{first_ones, group_numbers};
-ghost use Rattle.po_entry.specs.Message.{entry_messages, same_message};
+ghost use Rattle.po_entry.specs.SeenTexts.{digest_of};
+ghost use Rattle.po_entry.specs.Message.{keys_writes, first_ones, group_numbers, entry_messages, same_message};
 
 use crate::seen_texts::{Seeded, SeenTexts};
 use crate::store::Store;

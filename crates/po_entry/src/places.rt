@@ -3,7 +3,7 @@
 ghost use Rattle.std.specs.Prelude.{◌≡◌, All, IfOk, OnOk};
 ghost use Rattle.po_entry.specs.Validity.{IsCatalogueEntry};
 ghost use Rattle.po_entry.specs.Joined.{is_live};
-ghost use Rattle.po_entry.specs.Places.{are_placed};
+ghost use Rattle.po_entry.specs.Duplicate.{are_placed};
 
 use crate::repeats::EntryPlace;
 use crate::store::Store;

@@ -1,8 +1,8 @@
 //! Whether an entry that lies in a buffer can stand in a catalogue.
 
 ghost use Rattle.std.specs.Prelude.{◌≡◌, true, MatchResult, All, IfSome, IsTrue, IsUtf8, ◌↔◌};
-ghost use Rattle.po_entry.specs.Bytes.{Lacks};
-ghost use Rattle.po_entry.specs.FormLists.{forms_left};
+ghost use Rattle.po_entry.specs.Texts.{Lacks};
+ghost use Rattle.po_entry.specs.Rows.{forms_left};
 ghost use Rattle.po_entry.specs.Header.{HasAdmittedCharset};
 ghost use Rattle.po_entry.specs.TextEntry.{quoted_texts};
 ghost use Rattle.po_entry.specs.Validity.{EntryTextFault, HasTexts};

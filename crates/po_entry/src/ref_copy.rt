@@ -1,8 +1,8 @@
 //! Copies of entries that lie in a buffer.
 
 ghost use Rattle.std.specs.Prelude.{◌≡◌, IfOk, OnOk};
-ghost use Rattle.po_entry.specs.EntryView.{entry_view};
-ghost use Rattle.po_entry.specs.FormLists.{forms_left};
+ghost use Rattle.po_entry.specs.Fields.{entry_view};
+ghost use Rattle.po_entry.specs.Rows.{forms_left};
 ghost use Rattle.po_entry.specs.TextEntry.{texts};
 
 use crate::entry_ref::{EntryRef, FormIter};

@@ -3,9 +3,7 @@
 ghost use Rattle.std.specs.Prelude.{◌≡◌, ◌≢◌, ◌+◌, ◌<◌, ◌^◌, ℕ, Bool, IfOk, List, MatchOption, OnOk, filter, get_or, length};
 ghost use Rattle.po_entry.specs.TextEntry.{TextEntry};
 ghost use Rattle.po_syntax.specs.declared.fault.PoFault.{PoFault};
-ghost use Rattle.po_entry.specs.Duplicate.{AllDiffer};
-ghost use Rattle.po_entry.specs.Places.{AreNumbered, RepeatsOnLines, are_placed, is_looked_at};
-ghost use Rattle.po_entry.specs.Repeats.{AreUpTo, DifferUpTo, RepeatsAt};
+ghost use Rattle.po_entry.specs.Duplicate.{AllDiffer, AreNumbered, RepeatsOnLines, are_placed, is_looked_at, AreUpTo, DifferUpTo, RepeatsAt};
 
 use po_syntax::{PoError, PoFault};
 use std::alloc::AllocError;

@@ -10,7 +10,7 @@ use Rattle.po_syntax.specs.declared.item.Keyword.TheVariants.{MsgId, MsgStr, Msg
 use Rattle.po_syntax.specs.TextItem.{TextItem, Word, Str, line_of}
 use Rattle.po_entry.specs.TextEntry.{TextEntry}
 use Rattle.po_entry.specs.Spelling.{own_marks, last, keyword_text, SpellsEntries}
-use Rattle.po_entry.specs.Viable.{IsViable, Misfit, index, mixed, order, ItemsFault, at, at_end, last_line}
+use Rattle.po_entry.specs.Faults.{IsViable, Misfit, index, mixed, order, ItemsFault, at, at_end, last_line}
 use Rattle.po_reader.specs.Internal.Stage.{SoFar, Id, Translation, Form, Gap, InHead, Before, AfterForm, Stage, Between, In, Stop, Entries, no_lines, with_own, with_text, Outcome, Fault}
 use Rattle.po_reader.specs.Internal.Turn.{turn, outcome, comes_to, closed, begins_string, with_keyword, ended}
 use Rattle.po_reader.specs.Internal.Reads.{start, come_to}

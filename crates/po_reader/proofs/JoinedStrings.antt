@@ -5,11 +5,9 @@ use Rattle.std.proofs.lemmas.List.Elements.{All-nil, All-cons, All-head, All-tai
 use Rattle.po_syntax.specs.declared.item.Keyword.{Keyword}
 use Rattle.po_syntax.specs.declared.item.Keyword.TheVariants.{MsgCtxt, MsgId, MsgIdPlural, MsgStr, MsgStrAt}
 use Rattle.po_syntax.specs.declared.item.Marks.{Marks}
-use Rattle.po_syntax.specs.ItemContents.{OfString}
-use Rattle.po_syntax.specs.TextItem.{TextItem}
-use Rattle.po_entry.specs.Comments.{with_previous}
-use Rattle.po_entry.specs.EntryParts.{CommentText, PreviousText}
-use Rattle.po_entry.specs.Facts.AllAppend.{All-left, All-right}
+use Rattle.po_syntax.specs.TextItem.{OfString, TextItem}
+use Rattle.po_entry.specs.Comments.{with_previous, CommentText, PreviousText}
+use Rattle.po_syntax.specs.Facts.AllAppend.{All-left, All-right}
 use Rattle.po_entry.specs.Spelling.{with_head}
 use Rattle.po_entry.specs.Spelling as spell
 use Rattle.po_entry.specs.TextEntry.{TextEntry, TextPrevious, no_previous, quoted_texts}

@@ -7,7 +7,7 @@ use Rattle.po_syntax.specs.declared.item.Item.{Item}
 use Rattle.po_syntax.specs.TextItem.{line_of, view, views}
 use Rattle.po_entry.specs.TextEntry.{TextEntry}
 use Rattle.po_entry.specs.Rows.{entry_at}
-use Rattle.po_entry.specs.Viable.{last_line}
+use Rattle.po_entry.specs.Faults.{last_line}
 use Rattle.po_entry.specs.declared.row.Row.{Row}
 use Rattle.po_entry.proofs.RowLemmas.{taken_here}
 

@@ -2,7 +2,7 @@
 use Rattle.std.proofs.Common.{ℕ, ◌<◌, List, [], ◌∷◌, map, arith}
 use Rattle.po_syntax.specs.declared.item.Keyword.{Keyword}
 use Rattle.po_syntax.specs.declared.item.Keyword.TheVariants.{MsgCtxt, MsgId, MsgIdPlural, MsgStr}
-use Rattle.po_entry.specs.EntryParts.{PreviousText, rank}
+use Rattle.po_entry.specs.Comments.{PreviousText, rank}
 use Rattle.po_entry.specs.Spelling.{AreSome, none, with, without, AreInOrder}
 
 -- the ranks of the keywords rise from above this one

@@ -11,7 +11,7 @@ use Rattle.po_syntax.specs.declared.item.Keyword.TheVariants.{MsgCtxt, MsgId, Ms
 use Rattle.po_syntax.specs.declared.item.Marks.{Marks}
 use Rattle.po_syntax.specs.TextItem.{TextItem, Comment, Word, Str}
 use Rattle.po_entry.specs.TextEntry.{TextEntry}
-use Rattle.po_entry.specs.EntryParts.{CommentText, PreviousText, rank}
+use Rattle.po_entry.specs.Comments.{CommentText, PreviousText, rank}
 use Rattle.po_entry.specs.Spelling as spell
 use Rattle.po_entry.specs.Spelling.{own_marks, previous_marks, with_head}
 use Rattle.po_reader.specs.Internal.Stage.{SoFar, Wanted, Id, Translation, Form, Gap, InHead, Before, AfterForm, Stage, Between, In, Stop, Entries, Fault, no_lines, only, with_own, with_text, with_entry}

@@ -15,7 +15,7 @@ use Rattle.po_reader.proofs.Faults.{fault_unread, spelt_once, items_end, items_f
 use Rattle.po_syntax.proofs.Uniqueness.{text_once as items_once, text_not_faulty as no_fault, fault_once}
 use Rattle.po_syntax.specs.declared.fault.PoFault.TheVariants.{ForeignCharset, OutOfMemory}
 use Rattle.po_syntax.proofs.Totality.{text_ends as items_or_fault}
-use Rattle.po_entry.specs.Viable.{ItemsFault, Misfit, index, mixed, order, at, at_end}
+use Rattle.po_entry.specs.Faults.{ItemsFault, Misfit, index, mixed, order, at, at_end}
 use Rattle.po_syntax.proofs.NoMemory.{text_reported}
 use Rattle.po_reader.proofs.SoundCatalogue.{entries_sound, entry_valid}
 use Rattle.po_syntax.proofs.ItemTexts.{text_items as hold}

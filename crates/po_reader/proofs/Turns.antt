@@ -10,7 +10,7 @@ use Rattle.po_syntax.specs.declared.fault.PoFault.{PoFault}
 use Rattle.po_syntax.specs.declared.item.Keyword.{Keyword}
 use Rattle.po_syntax.specs.TextItem.{TextItem, Comment, Word, Str, line_of}
 use Rattle.po_entry.specs.TextEntry.{TextEntry}
-use Rattle.po_entry.specs.EntryParts.{rank}
+use Rattle.po_entry.specs.Comments.{rank}
 use Rattle.po_reader.specs.Internal.Stage.{SoFar, Wanted, Id, Translation, Form, Outcome, InHead, Before, AfterForm, Stage, Between, In, Stop, Entries, Fault, no_lines, with_own, with_entry, with_previous_text}
 use Rattle.po_reader.specs.Internal.Reads.{first_line}
 use Rattle.po_reader.specs.PieceRead.{IsFaultOf}

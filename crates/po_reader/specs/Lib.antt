@@ -1,3 +1,2 @@
-pub mod KeptComments
 pub mod PieceRead
 pub mod Internal

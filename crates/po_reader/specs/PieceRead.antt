@@ -1,16 +1,31 @@
 -- How a text is read piece by piece, and why what is left of it isn't read. Internal but for the functions that read
 -- pieces (manual, "The Format of PO Files").
-use Rattle.std.specs.Prelude.{◌≡◌, ◌≢◌, ◌<◌, ℕ, Bool, List, [], ◌++◌, map, length}
+use Rattle.std.specs.Prelude.{Bool, true, false, List, [], ℕ, ◌≡◌, ◌≢◌, ◌<◌, ◌++◌, map, length}
+use Rattle.po_entry.specs.TextEntry.{TextEntry}
 use Rattle.po_syntax.specs.declared.fault.PoFault.{PoFault}
 use Rattle.po_syntax.specs.declared.fault.PoError.{PoError}
 use Rattle.po_syntax.specs.declared.fault.PoFault.TheVariants.{OutOfMemory}
 use Rattle.po_entry.specs.Faults.{IsReadFault, IsStop, ItemsStop}
-use Rattle.po_syntax.specs.LinesLeft.{LinesLeft, SpellsLeft, LeftStops}
-use Rattle.po_syntax.specs.Piece.{IsPiece}
+use Rattle.po_syntax.specs.Pieces.{LinesLeft, SpellsLeft, LeftStops, IsPiece}
 use Rattle.po_syntax.specs.TextItem.{TextItem}
-use Rattle.po_entry.specs.TextEntry.{TextEntry}
 use Rattle.po_entry.specs.ReadsText.{ReadsLeft, ReadsText}
-use Rattle.po_reader.specs.KeptComments.{kept_entry}
+
+-- What is kept of the entries that are read: all, or all but their comments, references and flags
+-- (manual, "The Format of PO Files").
+
+-- the entry without its comments, references and flags; whether it is fuzzy stays
+abbrev pub without_comments : TextEntry → TextEntry
+without_comments entry = record entry { comments = []; extracted = []; references = []; flags = [] }
+
+-- the entry, with its comments or without
+abbrev pub kept_entry : Bool → TextEntry → TextEntry
+kept_entry true entry = entry
+kept_entry false entry = without_comments entry
+
+-- the texts, or none
+abbrev pub kept_texts : Bool → List (List ℕ) → List (List ℕ)
+kept_texts true texts = texts
+kept_texts false texts = []
 
 -- the error is such a fault, or out of memory, without a line
 pub record IsFaultOf (Has : PoFault → ℕ → Type 0) (error : PoError) : Type 0 where

@@ -2,16 +2,14 @@
 //! catalogue.
 
 ghost use Rattle.std.specs.Prelude.{◌≡◌, ◌≢◌, ◌<◌, ◌≤◌, ◌^◌, [], List, All, length, map, vec_len, true, IfErr, IsUtf8, OnOk};
-ghost use Rattle.po_syntax.specs.ItemContents.{HoldsText, OfString};
-ghost use Rattle.po_syntax.specs.TextItem.{views};
-ghost use Rattle.po_entry.specs.Bytes.{Lacks};
+ghost use Rattle.po_syntax.specs.TextItem.{HoldsText, OfString, views};
+ghost use Rattle.po_entry.specs.Texts.{Lacks};
 ghost use Rattle.po_entry.specs.TextEntry.{TextEntry, quoted_texts};
 ghost use Rattle.po_entry.specs.Header.{HasAdmittedCharset};
 ghost use Rattle.po_entry.specs.Rows.{AreLaid, CanLie, entries_in};
 ghost use Rattle.po_entry.specs.Validity.{IsCatalogueEntry, HasTexts, EntryTextFault};
-ghost use Rattle.po_entry.specs.Faults.{CharsetFault, EntriesStop, IsStop, ItemsStop};
-ghost use Rattle.po_entry.specs.Viable.{last_line};
-ghost use Rattle.po_reader.specs.KeptComments.{kept_entry};
+ghost use Rattle.po_entry.specs.Faults.{CharsetFault, EntriesStop, IsStop, ItemsStop, last_line};
+ghost use Rattle.po_reader.specs.PieceRead.{kept_entry};
 ghost use Rattle.po_reader.specs.Internal.Keeping.{KeepsItems};
 ghost use Rattle.po_reader.specs.Internal.Reads.{ChecksStop, Reads, start, Fails};
 

@@ -9,11 +9,10 @@ use Rattle.po_syntax.specs.declared.item.CommentKind.{CommentKind}
 use Rattle.po_syntax.specs.declared.item.CommentKind.TheVariants.{Translator}
 use Rattle.po_syntax.specs.Escapes.{SpellsEscape, letter, octal, hexadecimal, SpellsString, closed, plain, escape}
 use Rattle.po_syntax.specs.Blanks.{IsBlank, without_end}
-use Rattle.po_syntax.specs.ItemContents.{trim_returns, IsCommentOf, HoldsText}
+use Rattle.po_syntax.specs.TextItem.{trim_returns, IsCommentOf, HoldsText, TextItem}
 use Rattle.po_syntax.specs.PoText.{SpellsLines, SpellsText}
 use Rattle.po_syntax.specs.Spelling.{is_mark, SpellsComment, extracted, reference, flags, translator, HoldsTokens, end, blank, keyword, string, HoldsItems, indented, comment, obsolete_comment, live, previous, obsolete, obsolete_previous}
-use Rattle.po_syntax.specs.TextItem.{TextItem}
-use Rattle.po_syntax.specs.CleanLine.{IsCleanLine}
+use Rattle.po_syntax.specs.Pieces.{IsCleanLine}
 use Rattle.po_syntax.proofs.CleanLines.{clean_lines}
 use Rattle.po_syntax.proofs.SpeltEscapes.{of_each_letter}
 use Rattle.po_syntax.proofs.Tokens.{keyword_rest}

@@ -4,7 +4,7 @@ use Rattle.std.specs.List.{onto_first}
 use Rattle.std.proofs.lemmas.Bool.{cond_both}
 use Rattle.std.proofs.lemmas.List.Splits.{length-slice_split}
 use Rattle.std.proofs.lemmas.List.Sums.{sum_by-cons}
-use Rattle.po_syntax.specs.LinesLeft.{lines_len}
+use Rattle.po_syntax.specs.Pieces.{lines_len}
 use Rattle.po_syntax.specs.declared.item.Marks.{Marks}
 use Rattle.po_syntax.specs.Spelling.{HoldsTokens, end, blank, keyword, string, HoldsItems, indented, live, previous, obsolete, obsolete_previous}
 use Rattle.po_syntax.specs.PoText.{SpellsLines, lines_of, without_byte_order_mark}

@@ -9,14 +9,12 @@ use Rattle.std.proofs.lemmas.List.Elements.{All-nil, All-append, All-drop, All-h
 use Rattle.std.proofs.lemmas.List.Sums.{sum_by-take-drop, sum_by-cons}
 use Rattle.po_syntax.specs.declared.fault.PoFault.{PoFault}
 use Rattle.po_syntax.specs.declared.item.Item.{Item}
-use Rattle.po_syntax.specs.CleanLine.{IsCleanLine}
+use Rattle.po_syntax.specs.Pieces.{IsCleanLine, LinesLeft, lines_len, lines_of_rest, EndsTranslation, BeginsAnew, LineBeginsAnew, CanEnd, HasRead}
 use Rattle.po_syntax.specs.Internal.LineView.{AddsLent}
 use Rattle.po_syntax.specs.Internal.PieceEnd.{IsCut}
 use Rattle.po_syntax.specs.Lent.{LendsUtf8}
 use Rattle.po_syntax.specs.LineFaults.{LineFault}
 use Rattle.po_syntax.specs.Spelling.{HoldsItems}
-use Rattle.po_syntax.specs.LinesLeft.{LinesLeft, lines_len, lines_of_rest}
-use Rattle.po_syntax.specs.Piece.{EndsTranslation, BeginsAnew, LineBeginsAnew, CanEnd, HasRead}
 use Rattle.po_syntax.specs.PoText.{SpellsLines, LinesStop, lines_of}
 use Rattle.po_syntax.specs.TextItem.{TextItem, views}
 use Rattle.po_syntax.proofs.Uniqueness.{line_once, lines_once}

@@ -5,7 +5,7 @@ use Rattle.std.proofs.lemmas.Bool.{cases_lt}
 use Rattle.std.proofs.lemmas.List.{drop-drop, drop_all, length-map}
 use Rattle.std.proofs.lemmas.List.Elements.{All-cons, All-drop, All-head}
 use Rattle.po_syntax.specs.declared.item.Item.{Item}
-use Rattle.po_syntax.specs.Piece.{IsString, IsTranslationWord, IsTranslation, EndsTranslation}
+use Rattle.po_syntax.specs.Pieces.{IsString, IsTranslationWord, IsTranslation, EndsTranslation}
 use Rattle.po_syntax.specs.TextItem.{TextItem, Comment, Word, Str, view, views}
 
 -- items that are cut off again

@@ -9,12 +9,11 @@ use Rattle.po_syntax.specs.declared.fault.PoFault.TheVariants.{BadEscape, BadPlu
 use Rattle.po_syntax.specs.declared.item.CommentKind.TheVariants.{Translator, Extracted}
 use Rattle.po_syntax.specs.declared.item.Keyword.TheVariants.{MsgId, MsgStrAt}
 use Rattle.po_syntax.specs.Blanks.{is_blank, IsBlank, skip_blanks, FailsFirst, without_end}
-use Rattle.po_syntax.specs.TextItem.{TextItem, Comment, Word, Str, line_of}
+use Rattle.po_syntax.specs.TextItem.{TextItem, Comment, Word, Str, line_of, trim_returns}
 use Rattle.po_syntax.specs.Escapes.{NoDigitFirst, IsByteNumber, escape_letters, letter_value, SpellsEscape, letter, octal, SpellsString, closed, plain, escape}
-use Rattle.po_syntax.specs.ItemContents.{trim_returns}
 use Rattle.po_syntax.specs.Spelling.{is_word_byte, SpellsKeyword, msgid, form, HoldsTokens, end, blank, keyword, string, is_mark, SpellsComment, extracted, translator, own_marks, previous_marks, HoldsItems, indented, comment, live, obsolete}
 use Rattle.po_syntax.specs.LineFaults.{large, octal as octal_fault, in_escape, IsNoKeyword, large_index, KeywordFault, in_index, blank as blank_first, in_string, after_keyword, BeginsTokens, live as live_fault}
-use Rattle.po_syntax.specs.QuotedForm.{quoted, written_byte}
+use Rattle.po_syntax.specs.Quoting.{quoted, written_byte}
 use Rattle.po_syntax.specs.PoText.{IsSmall, line_number, without_byte_order_mark, lines_of, SpellsLines, LinesStop, SpellsText, TextFault, nul}
 
 pub space_is_blank : IsBlank 32

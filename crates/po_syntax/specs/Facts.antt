@@ -1,2 +1,6 @@
 -- Facts about lists and values, with their proofs, which any crate may cite.
 pub mod Runs
+pub mod AllAppend
+pub mod Filters
+pub mod Mapped
+pub mod Zips

@@ -2,14 +2,10 @@ pub mod TextItem
 pub mod Escapes
 pub mod Spelling
 pub mod LineFaults
-pub mod ItemContents
 pub mod Lent
 pub mod PoText
-pub mod CleanLine
-pub mod LinesLeft
-pub mod Piece
-pub mod QuotedForm
-pub mod WrittenForm
+pub mod Pieces
+pub mod Quoting
 pub mod LineNumbers
 pub mod Internal
 pub mod Facts

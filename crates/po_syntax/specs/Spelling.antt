@@ -10,8 +10,7 @@ use Rattle.po_syntax.specs.declared.item.Keyword.TheVariants.{MsgCtxt, MsgId, Ms
 use Rattle.po_syntax.specs.declared.item.Marks.{Marks}
 use Rattle.po_syntax.specs.Blanks.{IsBlank, skip_blanks, FailsFirst}
 use Rattle.po_syntax.specs.Escapes.{SpellsString}
-use Rattle.po_syntax.specs.ItemContents.{trim_returns}
-use Rattle.po_syntax.specs.TextItem.{TextItem, Comment, Word, Str}
+use Rattle.po_syntax.specs.TextItem.{trim_returns, TextItem, Comment, Word, Str}
 
 -- an ASCII letter, a digit or `_`
 abbrev pub is_word_byte : ℕ → Bool

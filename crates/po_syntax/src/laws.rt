@@ -3,17 +3,14 @@
 ghost use Rattle.std.specs.Prelude.{◌≡◌, ◌≢◌, ◌⊎◌, ◌<◌, ◌≤◌, ℕ, List, [], ◌∷◌, ◌++◌, length, All, IsUtf8};
 ghost use Rattle.po_syntax.specs.declared.fault.PoFault.{PoFault};
 ghost use Rattle.po_syntax.specs.Escapes.{SpellsString};
-ghost use Rattle.po_syntax.specs.ItemContents.{HoldsText};
+ghost use Rattle.po_syntax.specs.TextItem.{HoldsText, TextItem};
 ghost use Rattle.po_syntax.specs.LineFaults.{LineFault};
 ghost use Rattle.po_syntax.specs.LineNumbers.{HasFaultOnLine, ItemsAreOnTheirLines, MarkIsOmitted};
-ghost use Rattle.po_syntax.specs.LinesLeft.{LinesLeft, SpellsLeft, LeftStops};
-ghost use Rattle.po_syntax.specs.Piece.{IsPiece, EndsInString, LeftAnew};
+ghost use Rattle.po_syntax.specs.Pieces.{LinesLeft, SpellsLeft, LeftStops, IsPiece, EndsInString, LeftAnew};
 ghost use Rattle.po_syntax.specs.PoText.{SpellsText, TextFault};
-ghost use Rattle.po_syntax.specs.QuotedForm.{quoted, written_bytes};
+ghost use Rattle.po_syntax.specs.Quoting.{quoted, written_bytes, WritesQuoted, lettered_bytes, lettered_text};
 ghost use Rattle.po_syntax.specs.Spelling.{HoldsItems};
-ghost use Rattle.po_syntax.specs.TextItem.{TextItem};
 ghost use Rattle.po_syntax.specs.Internal.Token.{OpeningQuote, token_at};
-ghost use Rattle.po_syntax.specs.WrittenForm.{WritesQuoted, lettered_bytes, lettered_text};
 
 /// A text spells at most one list of items.
 #[tactic(auto, using(crate::proofs::Uniqueness::text_once))]

@@ -4,7 +4,7 @@ ghost use Rattle.std.specs.Prelude.{◌≡◌, ◌+◌, ◌≤◌, ◌++◌, ℕ
 ghost use Rattle.std.specs.List.{prefix_len};
 ghost use Rattle.std.specs.Vec.{vec_len, vec_capacity};
 ghost use Rattle.po_syntax.specs.declared.fault.PoFault.TheVariants.{OutOfMemory};
-ghost use Rattle.po_syntax.specs.QuotedForm.{is_raw, quoted, written_byte, written_bytes};
+ghost use Rattle.po_syntax.specs.Quoting.{is_raw, quoted, written_byte, written_bytes};
 
 use crate::fault::PoError;
 use std::alloc::AllocError;
@@ -55,7 +55,7 @@ fn split_raw(bytes: &[u8]) -> (&[u8], &[u8])
 }
 
 /// Appends what is written for one byte.
-#[tactic(auto, unfolding(crate::specs::QuotedForm::written_byte))]
+#[tactic(auto, unfolding(crate::specs::Quoting::written_byte))]
 fn write_byte(byte: u8, out: &mut Vec<u8>) -> Result<(), AllocError>
     ensures ok { OnOk result (out.new.items ≡ out.old.items ++ written_byte byte) }
     ensures unchanged { OnErr result (out.new.items ≡ out.old.items) }

@@ -6,7 +6,7 @@ use Rattle.po_entry.specs.TextEntry.{TextEntry}
 use Rattle.po_entry.specs.Header.{is_header}
 use Rattle.po_entry.specs.Joined.{is_live}
 use Rattle.po_entry.specs.Statistics.{has_translation}
-use Rattle.po_compile.specs.CompiledList.{compiled_list, is_compiled}
+use Rattle.po_compile.specs.Compiled.{compiled_list, is_compiled}
 use Rattle.msgattrib.specs.Selected.{ChangesNothing, every_entry, is_kept, selected}
 use Rattle.msgattrib.specs.declared.selection.Selection.{Selection}
 use Rattle.po_tools.specs.ChainLaws.{CompiledAreKept, CompilesAlike, KeptCompilesAlike}

@@ -9,8 +9,7 @@ use Rattle.po_entry.specs.TextEntry.{TextEntry}
 use Rattle.po_entry.specs.ReadsText.{ReadsText}
 use Rattle.po_entry.specs.Header.{HasAdmittedCharset}
 use Rattle.po_entry.specs.Joined.{InputEntry, in_input, entries_of}
-use Rattle.po_entry.specs.Duplicate.{HasNoDuplicate, IsFirstDuplicate}
-use Rattle.po_entry.specs.DistinctText.{IsTextFault}
+use Rattle.po_entry.specs.Duplicate.{HasNoDuplicate, IsFirstDuplicate, IsTextFault}
 use Rattle.po_compile.specs.Headline.{OneTextFault, NoFaultWhereDistinct}
 use Rattle.msgcat.specs.Inputs.{Named}
 use Rattle.msgcat.specs.Merged.{merged}
@@ -20,11 +19,10 @@ use Rattle.msgunfmt.specs.RoundTrip.{NoFaultWhereUnformatted, OneText, OneUnform
 use Rattle.msgattrib.specs.Msgattrib.{error_line}
 use Rattle.msgcat.specs.Msgcat.{AreReadAs, IsFileFault, msgcat_line}
 use Rattle.msgunfmt.specs.Msgunfmt.{unformat_line, unformatted_run}
-use Rattle.runs.specs.NamedFile.{NamedFile}
+use Rattle.runs.specs.Inputs.{NamedFile}
 use Rattle.po_entry.proofs.DuplicateLemmas.{entries_of_input}
 use Rattle.po_tools.specs.RunLaws.{OneMsgattribRun, OneMsgcatRun, OneMsgunfmtRun}
-use Rattle.runs.specs.Run.{refusal}
-use Rattle.runs.specs.TextRuns.{written_run}
+use Rattle.runs.specs.Run.{refusal, written_run}
 
 abbrev OneReading : Type 0
 OneReading = (text : List ℕ) (entries others : List TextEntry) → ReadsText text entries → ReadsText text others

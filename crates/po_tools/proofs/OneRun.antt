@@ -12,7 +12,7 @@ use Rattle.po_entry.specs.Joined.{InputEntry, joined, joined_entries}
 use Rattle.po_entry.specs.Statistics.{stats_of}
 use Rattle.po_entry.specs.declared.duplicate.JoinError.{JoinError}
 use Rattle.po_compile.specs.Accepted.{AreAccepted, AreRead}
-use Rattle.po_compile.specs.CompiledList.{compiled_list}
+use Rattle.po_compile.specs.Compiled.{compiled_list}
 use Rattle.po_compile.specs.Compiling.{IsCompilation}
 use Rattle.po_compile.specs.Headline.{CataloguesAreOne, MessagesAreOne, NoFaultWhereAccepted, OneCompileFault}
 use Rattle.po_compile.specs.declared.options.Compiled.{Compiled}
@@ -21,9 +21,9 @@ use Rattle.msgfmt.specs.declared.profile.CheckFault.TheVariants.{NoHeader}
 use Rattle.runs.specs.FaultText.{fault_line, mo_text}
 use Rattle.gettext.specs.Gettext.{IsLookUpRun, Opens, Request, output_of, output_run, tool_of}
 use Rattle.gettext.specs.Gettext.Opens.{none, opened, refused}
-use Rattle.po_compile.specs.CompiledInputs.{compiled_inputs}
+use Rattle.po_compile.specs.Collected.{compiled_inputs}
 use Rattle.msgfmt.specs.Msgfmt.{AreChecked, IsRefused, check_line, compile_options, compiled_run, input_names, input_texts, join_line}
-use Rattle.runs.specs.NamedFile.{NamedFile}
+use Rattle.runs.specs.Inputs.{NamedFile}
 use Rattle.msgfmt.specs.Profile.{Reported, first_fault, is_header_entry}
 use Rattle.po_tools.specs.RunLaws.{OneMsgfmtRun}
 use Rattle.runs.specs.Run.{RunView, refusal}

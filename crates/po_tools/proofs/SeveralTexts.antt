@@ -7,7 +7,7 @@ use Rattle.std.proofs.lemmas.List.Elements.{All-nil, All-cons, All-head, All-tai
 use Rattle.po_syntax.specs.PoText.{IsSmall}
 use Rattle.po_entry.specs.TextEntry.{TextEntry}
 use Rattle.po_entry.specs.ReadsText.{ReadsText}
-use Rattle.po_entry.specs.Facts.Filters.{all_pass}
+use Rattle.po_syntax.specs.Facts.Filters.{all_pass}
 use Rattle.po_entry.specs.Header.{is_header}
 use Rattle.po_entry.proofs.HeaderLaws.{header_decided}
 use Rattle.po_entry.specs.Duplicate.{AllDiffer, IsSameMessage}
@@ -16,8 +16,7 @@ use Rattle.msgcat.specs.Inputs.{Named, NamedEntry, all_entries, named}
 use Rattle.msgcat.specs.MergeLaws.{DistinctInputsStay, OneInputStays}
 use Rattle.msgcat.proofs.SameInput.{differ_head, differ_tail}
 use Rattle.po_writer.specs.WrittenText.{written_text}
-use Rattle.po_compile.specs.CompiledList.{compiled_list}
-use Rattle.po_compile.specs.CompiledMessages.{message_of}
+use Rattle.po_compile.specs.Compiled.{compiled_list, message_of}
 use Rattle.po_tools.specs.ChainLaws.{MsgcatOfSeveral}
 use Rattle.po_tools.proofs.WrittenAgain.{OneReading, WrittenReads, read_alike}
 

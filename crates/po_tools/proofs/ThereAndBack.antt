@@ -9,11 +9,11 @@ use Rattle.po_syntax.specs.PoText.{IsSmall}
 use Rattle.po_compile.specs.Headline.{NoFaultWhereAccepted}
 use Rattle.po_entry.specs.declared.duplicate.JoinError.{JoinError}
 use Rattle.msgunfmt.specs.RoundTrip.{CompilesTo, NoFaultWhereUnformatted, OneText, UnformatThenCompile}
-use Rattle.msgunfmt.specs.UnformattedText.{IsUnformatted, IsUnformatFault}
+use Rattle.msgunfmt.specs.Unformatted.{IsUnformatted, IsUnformatFault}
 use Rattle.msgfmt.specs.declared.options.MsgfmtOptions.{MsgfmtOptions}
 use Rattle.msgfmt.specs.Msgfmt.{IsDone, IsMsgfmtRun, compile_options, input_texts}
 use Rattle.msgunfmt.specs.Msgunfmt.{IsMsgunfmtRun}
-use Rattle.runs.specs.NamedFile.{NamedFile}
+use Rattle.runs.specs.Inputs.{NamedFile}
 use Rattle.runs.specs.Run.{RunView}
 use Rattle.po_tools.specs.ChainLaws.{ThereAndBack}
 

@@ -6,14 +6,13 @@ use Rattle.std.proofs.lemmas.List.{get_or_default, append-nil}
 use Rattle.std.proofs.lemmas.List.Elements.{All-nil, All-cons, All-head, All-tail, All-append, All-weaker, All-filter, All-contains_itself, filter-append, filter_passes}
 use Rattle.std.proofs.lemmas.List.Kept.{AllPairs-cons, AllPairs-filter}
 use Rattle.std.proofs.lemmas.Simd.{map-map}
-use Rattle.po_syntax.specs.ItemContents.{IsText}
+use Rattle.po_syntax.specs.TextItem.{IsText}
 use Rattle.po_syntax.specs.PoText.{IsSmall}
 use Rattle.po_entry.specs.TextEntry.{TextEntry, with_line}
 use Rattle.po_entry.specs.Header.{HasAdmittedCharset}
 use Rattle.po_entry.specs.ReadsText.{ReadsText}
 use Rattle.po_entry.specs.Validity.{IsCatalogueEntry}
-use Rattle.po_entry.specs.DistinctText.{IsTextFault}
-use Rattle.po_entry.specs.Duplicate.{AllDiffer, IsSameMessage}
+use Rattle.po_entry.specs.Duplicate.{IsTextFault, AllDiffer, IsSameMessage}
 use Rattle.po_entry.specs.Facts.FirstRepeats.{pairs_map, pairs_of_map}
 use Rattle.po_entry.specs.Joined.{is_live}
 use Rattle.msgcat.specs.Inputs.{Named}
@@ -21,11 +20,10 @@ use Rattle.msgcat.specs.Merged.{merged}
 use Rattle.msgcat.specs.MergeLaws.{IsInput, MergedCanStand, MessagesStandOnce, OneInputStays, keep_all}
 use Rattle.msgcat.specs.declared.input.MergeOptions.{MergeOptions}
 use Rattle.po_writer.specs.WrittenText.{arranged, written_text}
-use Rattle.po_compile.specs.CompiledList.{compiled_list, is_compiled}
-use Rattle.po_compile.specs.CompiledMessages.{message_of}
+use Rattle.po_compile.specs.Compiled.{compiled_list, is_compiled, message_of}
 use Rattle.po_compile.specs.Headline.{NoFaultWhereDistinct}
 use Rattle.msgcat.specs.Msgcat.{AreReadAs, IsMerged, IsMsgcatRun, IsReadAs}
-use Rattle.runs.specs.NamedFile.{NamedFile}
+use Rattle.runs.specs.Inputs.{NamedFile}
 use Rattle.runs.specs.Run.{RunView}
 use Rattle.po_tools.specs.ChainLaws.{MsgcatAgain, MsgcatCompilesAlike}
 

@@ -13,17 +13,16 @@ use Rattle.msgcat.specs.MergeLaws.{keep_all}
 use Rattle.msgcat.specs.Merged.{merged}
 use Rattle.msgcat.specs.declared.input.MergeOptions.{MergeOptions}
 use Rattle.po_writer.specs.WrittenText.{written_text}
-use Rattle.po_compile.specs.CompiledList.{compiled_list}
-use Rattle.po_compile.specs.CompiledMessages.{message_of}
+use Rattle.po_compile.specs.Compiled.{compiled_list, message_of}
 use Rattle.msgattrib.specs.Selected.{ChangesNothing, every_entry, is_kept, selected}
 use Rattle.msgattrib.specs.declared.selection.Selection.{Selection}
 use Rattle.msgfmt.specs.declared.options.MsgfmtOptions.{MsgfmtOptions}
 use Rattle.msgfmt.specs.Msgfmt.{IsMsgfmtRun}
 use Rattle.msgcat.specs.Msgcat.{IsMsgcatRun}
 use Rattle.msgunfmt.specs.Msgunfmt.{IsMsgunfmtRun}
-use Rattle.po_syntax.specs.ItemContents.{IsText}
+use Rattle.po_syntax.specs.TextItem.{IsText}
 use Rattle.po_syntax.specs.PoText.{IsSmall}
-use Rattle.runs.specs.NamedFile.{NamedFile}
+use Rattle.runs.specs.Inputs.{NamedFile}
 use Rattle.runs.specs.Run.{RunView}
 
 -- what msgfmt wrote, msgunfmt writes as a text, of which msgfmt writes the same bytes again

@@ -8,7 +8,7 @@ use Rattle.msgattrib.specs.Msgattrib.{IsMsgattribRun}
 use Rattle.msgcat.specs.Msgcat.{IsMsgcatRun}
 use Rattle.msgfmt.specs.Msgfmt.{IsMsgfmtRun}
 use Rattle.msgunfmt.specs.Msgunfmt.{IsMsgunfmtRun}
-use Rattle.runs.specs.NamedFile.{NamedFile}
+use Rattle.runs.specs.Inputs.{NamedFile}
 use Rattle.runs.specs.Run.{RunView}
 
 -- msgfmt has one run of its inputs under its options

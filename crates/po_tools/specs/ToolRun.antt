@@ -17,10 +17,9 @@ use Rattle.msgcat.specs.Options.{AreMergeOptions}
 use Rattle.runs.specs.declared.program_fault.ProgramFault.{ProgramFault}
 use Rattle.runs.specs.declared.program_fault.ProgramFault.TheVariants.{WrongArguments}
 use Rattle.envsubst.specs.ByArguments.{RunsEnvsubst}
-use Rattle.envsubst.specs.Failures.{ReadsFail, write_failures}
+use Rattle.envsubst.specs.Envsubst.{ReadsFail, write_failures}
 use Rattle.runs.specs.ArgumentValues.{IsTextOr}
-use Rattle.runs.specs.Inputs.{Asked, Asks, Reading, asked_for}
-use Rattle.runs.specs.NamedFile.{NamedFile}
+use Rattle.runs.specs.Inputs.{Asked, Asks, Reading, asked_for, NamedFile}
 use Rattle.runs.specs.Outputs.{SystemView}
 use Rattle.envsubst.specs.Usage.{EnvsubstUsage, envsubst_usage}
 use Rattle.runs.specs.ProgramFaults.{program_text, stdin_text}

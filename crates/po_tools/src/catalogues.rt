@@ -1,7 +1,7 @@
 //! The tools' work on catalogues: select, merge and check, each by what the tool runs on a store.
 
 ghost use Rattle.std.specs.Prelude.{◌≡◌, ◌⊎◌, ◌<◌, ◌^◌, ◌++◌, All, IfErr, IfOk, IsOk, MatchResult, None, OnOk, Some, length, map};
-ghost use Rattle.po_entry.specs.Bytes.{Lacks};
+ghost use Rattle.po_entry.specs.Texts.{Lacks};
 ghost use Rattle.po_entry.specs.Validity.{IsCatalogueEntry};
 ghost use Rattle.msgattrib.specs.Selected.{changed, selected};
 ghost use Rattle.msgcat.specs.Merged.{IsMergeFault, merged};

@@ -5,11 +5,9 @@ use Rattle.std.proofs.lemmas.List.{append-nil}
 use Rattle.std.proofs.lemmas.List.Elements.{All-head, All-tail}
 use Rattle.po_syntax.specs.declared.item.Keyword.{Keyword}
 use Rattle.po_syntax.specs.declared.item.Keyword.TheVariants.{MsgCtxt, MsgId, MsgIdPlural, MsgStr, MsgStrAt}
-use Rattle.po_syntax.specs.ItemContents.{IsText}
-use Rattle.po_syntax.specs.TextItem.{TextItem}
+use Rattle.po_syntax.specs.TextItem.{IsText, TextItem}
 use Rattle.po_entry.specs.TextEntry.{TextEntry, TextPrevious, with_line}
-use Rattle.po_entry.specs.EntryParts.{PreviousText}
-use Rattle.po_entry.specs.Comments.{previous_of}
+use Rattle.po_entry.specs.Comments.{PreviousText, previous_of}
 use Rattle.po_entry.specs.Spelling.{own_marks, previous_marks, SpellsHead, none, with, without, AreInOrder, SpellsContext, SpellsKeywordText, SpellsForms, SpellsTranslation, SpellsBody}
 use Rattle.po_entry.specs.Spelling as spell
 use Rattle.po_writer.specs.WrittenText.{keyword_lines, optional_lines, own_lines, previous_lines, form_lines, translation_lines}

@@ -4,11 +4,10 @@ use Rattle.std.proofs.lemmas.Bool.{eqb-true, false_from_ne_true}
 use Rattle.std.proofs.lemmas.List.Elements.{All-head, All-tail}
 use Rattle.po_syntax.specs.declared.item.CommentKind.{CommentKind}
 use Rattle.po_syntax.specs.declared.item.CommentKind.TheVariants.{Translator, Extracted, Reference, Flags}
-use Rattle.po_syntax.specs.ItemContents.{trim_returns}
+use Rattle.po_syntax.specs.TextItem.{trim_returns, TextItem, Comment}
 use Rattle.po_syntax.specs.Spelling.{is_mark, SpellsComment, extracted, reference, flags, translator, HoldsItems, comment}
-use Rattle.po_syntax.specs.TextItem.{TextItem, Comment}
 use Rattle.po_syntax.proofs.SpeltKeywords.{or_step}
-use Rattle.po_entry.specs.EntryParts.{CommentText, PreviousText}
+use Rattle.po_entry.specs.Comments.{CommentText, PreviousText}
 use Rattle.po_entry.specs.Spelling.{SpellsHead, nothing, head_comment, previous_text}
 use Rattle.po_entry.specs.Validity.{IsTranslatorComment}
 use Rattle.po_writer.specs.WrittenText.{comment_lines}

@@ -6,9 +6,8 @@ use Rattle.std.proofs.lemmas.List.Elements.{All-head, All-tail}
 use Rattle.std.proofs.lemmas.Bool.{cond_both}
 use Rattle.po_syntax.specs.declared.item.Keyword.{Keyword}
 use Rattle.po_syntax.specs.declared.item.Marks.{Marks}
-use Rattle.po_syntax.specs.ItemContents.{IsText}
-use Rattle.po_syntax.specs.QuotedForm.{quoted}
-use Rattle.po_syntax.specs.TextItem.{TextItem, Word, Str}
+use Rattle.po_syntax.specs.TextItem.{IsText, TextItem, Word, Str}
+use Rattle.po_syntax.specs.Quoting.{quoted}
 use Rattle.po_entry.specs.Spelling.{SpellsStrings, last, more, SpellsKeywordText, keyword_text}
 use Rattle.po_writer.specs.WrittenText.{lines_with_ends, string_line, keyword_lines}
 use Rattle.po_writer.proofs.CutLines.{flat_lines, lines_are}

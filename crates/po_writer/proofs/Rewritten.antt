@@ -5,7 +5,7 @@ use Rattle.std.specs.List.{flat_map, join_by}
 use Rattle.std.proofs.lemmas.List.{append-nil, map-append}
 use Rattle.std.proofs.lemmas.List.Elements.{All-weaker, filter-append, filter_passes}
 use Rattle.std.proofs.lemmas.Bool.{not-true}
-use Rattle.po_entry.specs.Facts.Filters.{all_pass, none_pass}
+use Rattle.po_syntax.specs.Facts.Filters.{all_pass, none_pass}
 use Rattle.po_entry.specs.TextEntry.{TextEntry, with_line}
 use Rattle.po_writer.specs.WrittenText.{entry_lines, arranged, written_text}
 

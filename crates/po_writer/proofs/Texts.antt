@@ -6,12 +6,11 @@ use Rattle.std.proofs.lemmas.List.{append-nil}
 use Rattle.std.proofs.lemmas.List.Elements.{All-nil, All-cons, All-head, All-tail, All-append, All-weaker, All-filter}
 use Rattle.std.proofs.lemmas.Bool.{ne_eqb}
 use Rattle.po_syntax.specs.PoText.{IsSmall, SpellsText, without_byte_order_mark}
-use Rattle.po_syntax.specs.TextItem.{TextItem}
+use Rattle.po_syntax.specs.TextItem.{TextItem, IsText}
 use Rattle.po_syntax.specs.Spelling.{end, live}
-use Rattle.po_entry.specs.Bytes.{Lacks}
+use Rattle.po_entry.specs.Texts.{Lacks}
 use Rattle.po_entry.specs.TextEntry.{TextEntry, with_line, quoted_texts}
 use Rattle.po_entry.specs.Header.{HasAdmittedCharset}
-use Rattle.po_syntax.specs.ItemContents.{IsText}
 use Rattle.po_entry.specs.Validity.{IsEntry, IsCatalogueEntry, HasTexts}
 use Rattle.po_entry.specs.Spelling.{SpellsEntries, nothing, comments, entries as joined_entries}
 use Rattle.po_entry.specs.ReadsText.{ReadsText}

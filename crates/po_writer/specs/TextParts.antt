@@ -2,8 +2,7 @@
 -- Files").
 use Rattle.std.specs.Prelude.{◌≡◌, ℕ, ◌==◌, List, ◌∷◌, ◌++◌, length, not, filter, fold, if◌then◌else◌}
 use Rattle.po_entry.specs.TextEntry.{TextEntry}
-use Rattle.po_writer.specs.Separated.{with_entry}
-use Rattle.po_writer.specs.WrittenText.{in_order}
+use Rattle.po_writer.specs.WrittenText.{with_entry, in_order}
 use Rattle.po_writer.specs.declared.parts.TextParts.{TextParts}
 
 -- the live ones of the entries are written in one part, and the obsolete ones in the other

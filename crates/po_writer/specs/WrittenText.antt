@@ -1,8 +1,7 @@
 -- The text that a catalogue is written as (manual, "The Format of PO Files"). No line is wrapped.
-use Rattle.std.specs.Prelude.{ℕ, ◌+◌, ◌==◌, Bool, not, nat_lt, List, [], ◌∷◌, ◌++◌, length, filter, Option, None, Some}
-use Rattle.std.specs.Prelude.{codes, decimal, if◌then◌else◌}
+use Rattle.std.specs.Prelude.{ℕ, ◌+◌, ◌==◌, Bool, not, nat_lt, List, [], ◌∷◌, ◌++◌, length, filter, Option, None, Some, codes, decimal, if◌then◌else◌}
 use Rattle.std.specs.List.{flat_map, join_by, onto_first}
-use Rattle.po_syntax.specs.QuotedForm.{quoted}
+use Rattle.po_syntax.specs.Quoting.{quoted}
 use Rattle.po_entry.specs.TextEntry.{TextEntry, TextPrevious}
 
 -- the lines of a text, each with the LF that ends it, if one does
@@ -93,3 +92,9 @@ in_order entries = join_by entry_lines (10 ∷ []) entries
 -- the entries, arranged, with an empty line between two
 abbrev pub written_text : List TextEntry → List ℕ
 written_text entries = in_order (arranged entries)
+
+-- A text entry by entry, as it grows (manual, "The Format of PO Files").
+
+-- a text with an entry after it, and an empty line between them
+abbrev pub with_entry : List ℕ → TextEntry → List ℕ
+with_entry text entry = (if length text == 0 then [] else text ++ 10 ∷ []) ++ entry_lines entry

@@ -6,8 +6,7 @@ ghost use Rattle.po_syntax.specs.PoText.{IsSmall};
 ghost use Rattle.po_entry.specs.TextEntry.{TextEntry, with_line};
 ghost use Rattle.po_entry.specs.Validity.{IsCatalogueEntry, IsEntry};
 ghost use Rattle.po_entry.specs.ReadsText.{ReadsText};
-ghost use Rattle.po_writer.specs.EntryLines.{IsArranged, StandInOrder, WritesEntry};
-ghost use Rattle.po_writer.specs.TextLines.{EachEndsInItsOnlyFeed, TextsAreWritten};
+ghost use Rattle.po_writer.specs.EntryLines.{IsArranged, StandInOrder, WritesEntry, EachEndsInItsOnlyFeed, TextsAreWritten};
 ghost use Rattle.po_writer.specs.WrittenText.{arranged, entry_lines, in_order, lines_with_ends, written_text};
 
 /// The lines of a text, joined, are the text. Each but the last ends in its only LF; the last may

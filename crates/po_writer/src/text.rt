@@ -2,8 +2,7 @@
 
 ghost use Rattle.std.specs.Prelude.{◌≡◌, ◌++◌, ◌∷◌, List, [], All, OnOk, false};
 ghost use Rattle.po_entry.specs.TextEntry.{TextEntry};
-ghost use Rattle.po_writer.specs.Separated.{with_entry};
-ghost use Rattle.po_writer.specs.WrittenText.{written_text};
+ghost use Rattle.po_writer.specs.WrittenText.{with_entry, written_text};
 
 use crate::entry_lines::push_entry;
 use po_entry::EntryRef;

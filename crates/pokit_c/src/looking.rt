@@ -2,9 +2,8 @@
 
 ghost use Rattle.std.specs.Prelude.{◌≡◌, ◌+◌, ◌^◌, ◌<◌, ◌≤◌, length, false};
 ghost use Rattle.plural_rule.specs.Expression.{nodes};
-ghost use Rattle.mo_lookup.specs.Bound.{search_bound};
+ghost use Rattle.mo_lookup.specs.Search.{search_bound, query_comparisons};
 ghost use Rattle.mo_lookup.specs.CatalogView.{CatalogView, answered};
-ghost use Rattle.mo_lookup.specs.Comparisons.{query_comparisons};
 ghost use Rattle.mo_lookup.specs.Query.{can_be_key};
 ghost use Rattle.pokit_c.specs.QueryView.{query_view, answer_view, IsTerminated, IsOfQuery};
 ghost use Rattle.pokit_c.specs.Opened.{IsOpened};

@@ -5,8 +5,7 @@ ghost use Rattle.mo_file.specs.declared.byte_order.Order.{Order};
 ghost use Rattle.mo_file.specs.FileHeader.{HasMagicOf, message_count};
 ghost use Rattle.mo_file.specs.Message.{Message};
 ghost use Rattle.mo_file.specs.MoFile.{IsMoFile};
-ghost use Rattle.mo_expand.specs.AnyOrder.{IsFileInAnyOrder, IsInOrder};
-ghost use Rattle.mo_expand.specs.SortedFile.{IsFileOfSorted, IsNotSorted};
+ghost use Rattle.mo_expand.specs.SortedFile.{IsFileInAnyOrder, IsInOrder, IsFileOfSorted, IsNotSorted};
 ghost use Rattle.pokit_c.specs.Sorted.{AnswersAlike};
 
 use mo_expand::laws::{same_message_under_key, sorted_file_is_mo_file};

@@ -4,8 +4,7 @@ ghost use Rattle.std.specs.Prelude.{◌≡◌, ◌<◌, ◌≤◌, Err, None, Ok
 ghost use Rattle.mo_file.specs.declared.byte_order.Order.{Order};
 ghost use Rattle.mo_file.specs.FileHeader.{HasMagicOf};
 ghost use Rattle.mo_expand.specs.declared.joining.Missing.TheVariants.{Full};
-ghost use Rattle.mo_expand.specs.Expanded.{system_count, system_message};
-ghost use Rattle.mo_expand.specs.Expanding.{IsExpanded};
+ghost use Rattle.mo_expand.specs.Expanding.{system_count, system_message, IsExpanded};
 
 use mo_expand::{Missing, PlatformText, expand, system_count};
 

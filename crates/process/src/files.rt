@@ -43,8 +43,8 @@ impl<S: SystemCalls> OutputFiles for SystemFiles<S> {
     ghost use Rattle.std.specs.String.{string_bytes};
     ghost use Rattle.process.specs.OutputCalls.{FindsKind, FindsLink, GivesOwner, LacksFile, LacksLink, Numbers, SetsMode, SetsOwner, TakesStream, bytes_of};
     ghost use Rattle.process.specs.SystemCalls.{Does, called, creates, empties, removes, renames};
-    ghost use Rattle.runs.specs.Counted.{counted_failures, counted_inner};
-    ghost use Rattle.runs.specs.FileCalls.{closes, logged};
+    ghost use Rattle.runs.specs.Device.{counted_failures, counted_inner};
+    ghost use Rattle.runs.specs.OutputFiles.{closes, logged};
 
     type File = Opened<S::File, S::Output, S::Errors>;
 

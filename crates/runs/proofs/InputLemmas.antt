@@ -7,8 +7,7 @@ use Rattle.std.specs.List.{sum_by}
 use Rattle.std.specs.Borrow.{Bor}
 use Rattle.runs.specs.declared.inputs.Input.{Input}
 use Rattle.runs.specs.declared.inputs.InputFault.{InputFault}
-use Rattle.runs.specs.Inputs.{AreInputs, Asked, Asks, AsksFirst, ReadsAs, Reading, Stays, asked_arguments, asked_by, asked_for, gives, refuses, done, read, unread, input_fault_text, inputs_in}
-use Rattle.runs.specs.NamedFile.{NamedFile}
+use Rattle.runs.specs.Inputs.{AreInputs, Asked, Asks, AsksFirst, ReadsAs, Reading, Stays, asked_arguments, asked_by, asked_for, gives, refuses, done, read, unread, input_fault_text, inputs_in, NamedFile}
 use Rattle.runs.specs.Run.{is_standard, shown_name}
 
 abbrev pub arguments_now : List (Bor (List ℕ)) → List (List ℕ)

@@ -2,9 +2,8 @@
 use Rattle.std.proofs.Common.{◌≡◌, ◌↔◌, ◌||◌, inl, inr, ℕ, Bool, true, false, List, [], ◌∷◌, Option, Some, refl, ap₂, subst, codes}
 use Rattle.std.proofs.lemmas.Bool.{cases_Bool, cond-false}
 use Rattle.runs.specs.declared.inputs.InputFault.{InputFault}
-use Rattle.runs.specs.Inputs.{Reading, gives, refuses, input_fault_text, AreInputs, done, read, unread}
+use Rattle.runs.specs.Inputs.{Reading, gives, refuses, input_fault_text, AreInputs, done, read, unread, NamedFile}
 use Rattle.runs.specs.InputsLaw.{named, AreInputsAfter, no_argument, another_file, unread_file, empty_text, AreInputsInTurn, nothing, a_file, no_file, standard_input, no_standard_input}
-use Rattle.runs.specs.NamedFile.{NamedFile}
 use Rattle.runs.specs.Run.{is_standard, shown_name}
 use Rattle.runs.proofs.AskedInTurn.{is_dash, no_dash, other}
 

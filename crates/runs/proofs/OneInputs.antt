@@ -1,8 +1,7 @@
 -- Where a system reads each thing as one, arguments have one list of inputs.
 use Rattle.std.proofs.Common.{◌≡◌, ◌||◌, ℕ, Bool, true, false, List, [], ◌∷◌, Option, Some, refl, sym, ◌∙◌, ap, ap₂}
 use Rattle.runs.specs.declared.inputs.InputFault.{InputFault}
-use Rattle.runs.specs.Inputs.{Reading, gives, refuses, ReadsAs, input_fault_text, AreInputs, done, read, unread}
-use Rattle.runs.specs.NamedFile.{NamedFile}
+use Rattle.runs.specs.Inputs.{Reading, gives, refuses, ReadsAs, input_fault_text, AreInputs, done, read, unread, NamedFile}
 use Rattle.runs.specs.Run.{is_standard, shown_name}
 use Rattle.runs.specs.ToolRuns.{HasOneReading}
 

@@ -11,9 +11,8 @@ use Rattle.runs.specs.declared.output_files.MakeFault.{MakeFault}
 use Rattle.runs.specs.declared.output_files.MakeFault.TheVariants.{Exists}
 use Rattle.runs.specs.declared.output_files.Owner.{Owner}
 use Rattle.runs.specs.declared.output_files.Rights.{Rights}
-use Rattle.runs.specs.FileCalls.{FileCall, FileLog, Course, done, fails, ◌▸◌, calls_of, fault_in, logged, Runs, asks, reads_link, numbers, makes, fails_to_make, closes, sets_mode, sets_owner}
-use Rattle.runs.specs.FileRights.{first_mode, kept_mode}
-use Rattle.runs.specs.OutputFiles.{Closes, whole, cut, late, Fills, Finishes, NewFile, Replaces, made, taken, with_rights, WritesFile, follows}
+use Rattle.runs.specs.OutputFiles.{FileCall, FileLog, Course, done, fails, ◌▸◌, calls_of, fault_in, logged, Runs, asks, reads_link, numbers, makes, fails_to_make, closes, sets_mode, sets_owner, first_mode, kept_mode}
+use Rattle.runs.specs.OutputWriting.{Closes, whole, cut, late, Fills, Finishes, NewFile, Replaces, made, taken, with_rights, WritesFile, follows}
 use Rattle.runs.specs.OutputPaths.{NamesNoStream, link_target, beside}
 
 pub logged-twice : (first rest : List FileCall) (log : FileLog)

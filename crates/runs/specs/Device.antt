@@ -1,7 +1,8 @@
 -- What readers and writers count, and what a writer has taken after a fault.
-use Rattle.std.specs.Prelude.{◌≡◌, ℕ, List, [], ◌∷◌, ◌++◌, length, take, nat_eq, not, ◌&&◌, if◌then◌else◌}
-use Rattle.std.specs.Prelude.{Option, Some, None, Result, Ok, Err}
+use Rattle.std.specs.Prelude.{◌≡◌, ℕ, List, [], ◌∷◌, ◌++◌, length, take, nat_eq, not, ◌&&◌, if◌then◌else◌, Option, Some, None, Result, Ok, Err, suc, zero}
 use Rattle.std.specs.Io.KnownBytes.{Appends}
+use Rattle.runs.specs.declared.device.Counted.{Counted}
+use Rattle.runs.specs.declared.failing.Failing.{Failing}
 
 -- how many failures a call of a reader is: an `Err` is one
 abbrev pub failure_of_read : {T E : Type 0} → Result T E → ℕ
@@ -29,3 +30,33 @@ abbrev pub GivesFirst : Option (List (List ℕ)) → Option (List (List ℕ)) �
 GivesFirst None after piece = Unit {0}
 GivesFirst (Some before) None piece = ⊥
 GivesFirst (Some before) (Some after) piece = (rest : List (List ℕ)) × (after ≡ before ++ piece ∷ rest)
+
+-- What clauses see of a `Counted`: the reader or writer below, and its two counts.
+
+abbrev pub counted_inner : {D : Type 0} → Counted D → D
+counted_inner c = c.inner
+
+abbrev pub counted_calls : {D : Type 0} → Counted D → ℕ
+counted_calls c = c.calls
+
+abbrev pub counted_failures : {D : Type 0} → Counted D → ℕ
+counted_failures c = c.failures
+
+-- What clauses see of a `Failing`: the device below, how many calls come before the one that fails,
+-- if one is still to fail, and how many bytes a call moves at most.
+
+abbrev pub failing_inner : {D : Type 0} → Failing D → D
+failing_inner f = f.inner
+
+abbrev pub failing_calls_before : {D : Type 0} → Failing D → Option ℕ
+failing_calls_before f = f.calls_before
+
+abbrev pub failing_most_bytes : {D : Type 0} → Failing D → ℕ
+failing_most_bytes f = f.most_bytes
+
+-- how many calls come before the one that fails, after one more call: the call that fails is the
+-- last that counts
+abbrev pub calls_after : Option ℕ → Option ℕ
+calls_after None = None
+calls_after (Some zero) = None
+calls_after (Some (suc calls)) = Some calls

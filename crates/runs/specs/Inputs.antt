@@ -1,13 +1,26 @@
 -- What the tools read: the inputs that the command line names, in order, up to the first that can't
 -- be read (manual, "Invoking the msgfmt Program": "If input file is `-`, standard input is read").
-use Rattle.std.specs.Prelude.{◌≡◌, ◌+◌, ◌++◌, ◌∷◌, ◌||◌, ℕ, Bool, true, false, List, [], drop, length, take, Option}
-use Rattle.std.specs.Prelude.{Some, None, codes}
+use Rattle.std.specs.Prelude.{ℕ, List, map, ◌≡◌, ◌+◌, ◌++◌, ◌∷◌, ◌||◌, Bool, true, false, [], drop, length, take, Option, Some, None, codes}
+use Rattle.std.specs.Borrow.{Bor}
 use Rattle.runs.specs.declared.inputs.Input.{Input}
 use Rattle.runs.specs.declared.inputs.Inputs.{Inputs}
 use Rattle.runs.specs.declared.inputs.InputFault.{InputFault}
 use Rattle.runs.specs.declared.inputs.InputFault.TheVariants.{CannotOpen, ReadFault, OutOfMemory}
-use Rattle.runs.specs.NamedFile.{NamedFile}
 use Rattle.runs.specs.Run.{is_standard, shown_name}
+
+-- Files by their names and bytes, as tools are given them.
+
+-- a file that is read: its name as fault lines show it, and its bytes
+pub record NamedFile : Type 0 where
+  pub name : List ℕ
+  pub bytes : List ℕ
+
+-- what contracts see of a file
+abbrev pub named_file : Bor (List ℕ) × Bor (List ℕ) → NamedFile
+named_file file = record { name = file.0.now; bytes = file.1.now }
+
+abbrev pub named_files : List (Bor (List ℕ) × Bor (List ℕ)) → List NamedFile
+named_files files = map named_file files
 
 -- what reading an input comes to: its bytes, or why it can't be read
 pub data Reading : Type 0 where

@@ -2,8 +2,7 @@
 -- `-`, and an empty text for each further one.
 use Rattle.std.specs.Prelude.{◌≢◌, ℕ, List, [], ◌∷◌, Option, Some, None, codes}
 use Rattle.runs.specs.declared.inputs.InputFault.{InputFault}
-use Rattle.runs.specs.Inputs.{Reading, gives, refuses, input_fault_text}
-use Rattle.runs.specs.NamedFile.{NamedFile}
+use Rattle.runs.specs.Inputs.{Reading, gives, refuses, input_fault_text, NamedFile}
 
 -- the input of this name has these bytes
 abbrev pub named : List ℕ → List ℕ → NamedFile

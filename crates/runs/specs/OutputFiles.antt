@@ -1,120 +1,110 @@
--- How an output is made, as the calls of the system in their order: whole in a new file beside the
--- one that it replaces, which then gets its path.
-use Rattle.std.specs.Prelude.{◌≡◌, ◌+◌, ◌<◌, ◌^◌, ℕ, Bool, true, false, List, Option, Some, None}
-use Rattle.std.specs.Io.KnownBytes.{Appends}
-use Rattle.runs.specs.Device.{AppendsPrefix}
-use Rattle.runs.specs.declared.output_files.FileKind.TheVariants.{Regular, Special, Unknown}
-use Rattle.runs.specs.declared.output_files.MakeFault.TheVariants.{Exists, Forbidden, Failed}
+-- The calls of the system by which an output is made, each with its answer, in their order.
+use Rattle.std.specs.Prelude.{◌≡◌, ℕ, Bool, List, [], ◌∷◌, ◌++◌, Option, Some, None, option_map, Result, Ok, Err, refl, ◌*◌, ◌/◌, ◌^◌, ◌==◌, true, false, bit_and, bit_or}
+use Rattle.runs.specs.declared.output_files.FileKind.{FileKind}
+use Rattle.runs.specs.declared.output_files.MakeFault.{MakeFault}
 use Rattle.runs.specs.declared.output_files.OutputFault.{OutputFault}
-use Rattle.runs.specs.declared.output_files.OutputFault.TheVariants.{CannotCreate, WriteFault, OutOfMemory}
 use Rattle.runs.specs.declared.output_files.Owner.{Owner}
 use Rattle.runs.specs.declared.output_files.Rights.{Rights}
-use Rattle.runs.specs.FileCalls.{FileCall, Course, done, fails, ◌▸◌, asks, reads_link}
-use Rattle.runs.specs.FileCalls.{fails_to_read_link, numbers, makes, fails_to_make, sets_owner, sets_mode}
-use Rattle.runs.specs.FileCalls.{opens, fails_to_open, takes_stream, lacks_stream, closes, renames, removes}
-use Rattle.runs.specs.FileRights.{kept_mode, first_mode}
-use Rattle.runs.specs.Limits.{further_names}
-use Rattle.runs.specs.OutputPaths.{NamesStream, NamesNoStream, link_target, beside}
 
--- the output was put into a file or stream that had these bytes and is then closed by this call, and
--- whether it took all
-pub data Closes (output : List ℕ) (before : Option (List ℕ)) : FileCall → Bool → Type 0 where
-  whole : {after : Option (List ℕ)} → Appends before after output → Closes output before (closes after 0 true) true
-  cut : {after : Option (List ℕ)} {closed : Bool} → AppendsPrefix before after output
-      → Closes output before (closes after 1 closed) false
-  late : {after : Option (List ℕ)} → Appends before after output → Closes output before (closes after 0 false) false
+pub data FileCall : Type 0 where
+  -- what the path leads to
+  asks : List ℕ → FileKind → FileCall
+  -- where the link at the path leads, or None where no link is there
+  reads_link : List ℕ → Option (List ℕ) → FileCall
+  -- the link at the path can't be read
+  fails_to_read_link : List ℕ → OutputFault → FileCall
+  -- a number for the name of a new file
+  numbers : ℕ → FileCall
+  -- a file that wasn't there is made at the path, with this mode and these bytes
+  makes : List ℕ → ℕ → Option (List ℕ) → FileCall
+  -- none is made at the path with this mode
+  fails_to_make : List ℕ → ℕ → MakeFault → FileCall
+  -- the file that is open is to get an owner, and whose it is then, where that is known
+  sets_owner : Owner → Option Owner → FileCall
+  -- the file that is open is to get the mode, and whether it did
+  sets_mode : ℕ → Bool → FileCall
+  -- the file at the path itself is opened and emptied; these are its bytes then
+  opens : List ℕ → Option (List ℕ) → FileCall
+  fails_to_open : List ℕ → FileCall
+  -- the open stream of this number is taken, one above 2 at its end; these are its bytes so far
+  takes_stream : ℕ → Option (List ℕ) → FileCall
+  lacks_stream : ℕ → FileCall
+  -- the file or stream is closed with these bytes, after this many calls failed, and whether all was taken
+  closes : Option (List ℕ) → ℕ → Bool → FileCall
+  -- the file at the first path gets the second, and whether it did
+  renames : List ℕ → List ℕ → Bool → FileCall
+  -- the file at the path is removed
+  removes : List ℕ → FileCall
 
--- the output is put into what is open, and had these bytes
-pub data Puts (output : List ℕ) (before : Option (List ℕ)) : Course → Type 0 where
-  put : {close : FileCall} → Closes output before close true → Puts output before (close ▸ done)
-  unput : {close : FileCall} → Closes output before close false → Puts output before (close ▸ fails WriteFault)
+-- all calls up to now, where they are known
+abbrev pub FileLog : Type 0
+FileLog = Option (List FileCall)
 
--- the output is written to an open stream, where it stands
-pub data WritesStream (output : List ℕ) (number : ℕ) : Course → Type 0 where
-  lacking : WritesStream output number (lacks_stream number ▸ fails CannotCreate)
-  taken : {before : Option (List ℕ)} {rest : Course} → Puts output before rest
-      → WritesStream output number (takes_stream number before ▸ rest)
+-- the log after these calls
+abbrev pub logged : List FileCall → FileLog → FileLog
+logged calls log = option_map (λ before. before ++ calls) log
 
--- the output is written to the file at the path itself
-pub data WritesInPlace (output path : List ℕ) : Course → Type 0 where
-  unopened : WritesInPlace output path (fails_to_open path ▸ fails CannotCreate)
-  opened : {before : Option (List ℕ)} {rest : Course} → Puts output before rest
-      → WritesInPlace output path (opens path before ▸ rest)
+infixr 60 ◌▸◌
+-- what is done for an output: one call after the other, and at the end it is done, or fails
+pub data Course : Type 0 where
+  done : Course
+  fails : OutputFault → Course
+  ◌▸◌ : FileCall → Course → Course
 
--- a new file that is to replace what is at a path
-pub record NewFile : Type 0 where
-  pub path : List ℕ
-  pub target : List ℕ
-  -- its bytes when it was made
-  pub made : Option (List ℕ)
+abbrev pub calls_of : Course → List FileCall
+calls_of done = []
+calls_of (fails why) = []
+calls_of (call ▸ rest) = call ∷ calls_of rest
 
--- the new file gets all of the output, and then the path; where a call fails it is removed
-pub data Finishes (output : List ℕ) (new : NewFile) : Course → Type 0 where
-  replaced : {close : FileCall} → Closes output new.made close true
-      → Finishes output new (close ▸ renames new.path new.target true ▸ done)
-  unmoved : {close : FileCall} → Closes output new.made close true
-      → Finishes output new (close ▸ renames new.path new.target false ▸ removes new.path ▸ fails CannotCreate)
-  unwritten : {close : FileCall} → Closes output new.made close false
-      → Finishes output new (close ▸ removes new.path ▸ fails WriteFault)
+-- why the output isn't written, where it isn't
+abbrev pub fault_of : Course → Option OutputFault
+fault_of done = None
+fault_of (fails why) = Some why
+fault_of (call ▸ rest) = fault_of rest
 
--- before that it gets the owner of the old file, where one is there, as far as the system lets it,
--- and what is kept of the mode
-pub data Fills (output : List ℕ) (new : NewFile) : Option Rights → Course → Type 0 where
-  replaces_none : {rest : Course} → Finishes output new rest → Fills output new None rest
-  with_rights : {old : Rights} {owner : Option Owner} {rest : Course} → Finishes output new rest
-      → Fills output new (Some old)
-      (sets_owner old.owner owner ▸ sets_mode (kept_mode old owner) true ▸ rest)
-  without_rights : {old : Rights} {owner : Option Owner}
-      → Fills output new (Some old)
-      (sets_owner old.owner owner ▸ sets_mode (kept_mode old owner) false ▸ removes new.path ▸ fails CannotCreate)
+abbrev pub fault_in : {T : Type 0} → Result T OutputFault → Option OutputFault
+fault_in (Ok _) = None
+fault_in (Err why) = Some why
 
--- The file at the path, which has these rights or isn't there, is replaced by a new one, whose name has
--- a number that the system gives; where a name is taken another is tried, so often at most. It is
--- written in place only where it is there and no file may be made in its folder.
-pub data Replaces (output path : List ℕ) : Option Rights → ℕ → Course → Type 0 where
-  unnamed : {old : Option Rights} {tries number : ℕ}
-      → Replaces output path old tries (numbers number ▸ fails OutOfMemory)
-  made : {old : Option Rights} {tries number : ℕ} {before : Option (List ℕ)} {rest : Course} → number < 2 ^ 32
-      → Fills output (record { path = beside path number; target = path; made = before }) old rest
-      → Replaces output path old tries (numbers number ▸ makes (beside path number) (first_mode old) before ▸ rest)
-  taken : {old : Option Rights} {tries number : ℕ} {rest : Course} → Replaces output path old tries rest
-      → Replaces output path old (tries + 1)
-      (numbers number ▸ fails_to_make (beside path number) (first_mode old) Exists ▸ rest)
-  all_taken : {old : Option Rights} {number : ℕ}
-      → Replaces output path old 0
-      (numbers number ▸ fails_to_make (beside path number) (first_mode old) Exists ▸ fails CannotCreate)
-  in_place : {old : Rights} {tries number : ℕ} {rest : Course} → WritesInPlace output path rest
-      → Replaces output path (Some old) tries
-      (numbers number ▸ fails_to_make (beside path number) (first_mode (Some old)) Forbidden ▸ rest)
-  forbidden : {tries number : ℕ}
-      → Replaces output path None tries
-      (numbers number ▸ fails_to_make (beside path number) (first_mode None) Forbidden ▸ fails CannotCreate)
-  failed : {old : Option Rights} {tries number : ℕ}
-      → Replaces output path old tries
-      (numbers number ▸ fails_to_make (beside path number) (first_mode old) Failed ▸ fails CannotCreate)
+-- what happened between two logs is such a course, with this fault at its end
+pub record Runs (before after : FileLog) (fault : Option OutputFault) (Is : Course → Type 0) : Type 0 where
+  pub course : Course
+  pub log : after ≡ logged (calls_of course) before
+  pub fault_is : fault ≡ fault_of course
+  pub is : Is course
 
--- where the path leads isn't found, through so many links at most
-pub data Stops (links : ℕ) (path : List ℕ) : Course → Type 0 where
-  unknown : Stops links path (asks path Unknown ▸ fails CannotCreate)
-  unread : {old : Option Rights} {why : OutputFault}
-      → Stops links path (asks path (Regular old) ▸ fails_to_read_link path why ▸ fails why)
-  no_memory : {old : Option Rights} {text : List ℕ}
-      → Stops links path (asks path (Regular old) ▸ reads_link path (Some text) ▸ fails OutOfMemory)
-  too_long : {old : Option Rights} {text : List ℕ} → links ≡ 0
-      → Stops links path (asks path (Regular old) ▸ reads_link path (Some text) ▸ fails CannotCreate)
+-- what happened between two logs is one such call
+pub record Call (before after : FileLog) (Is : FileCall → Type 0) : Type 0 where
+  pub call : FileCall
+  pub log : after ≡ logged (call ∷ []) before
+  pub is : Is call
 
--- The output goes where the path leads, through so many links at most: an open stream is written
--- where it stands, what is no regular file in place, and a regular file or none is replaced.
-pub data WritesFile (output : List ℕ) : ℕ → List ℕ → Course → Type 0 where
-  stream : {links number : ℕ} {path : List ℕ} {rest : Course} → NamesStream path number
-      → WritesStream output number rest → WritesFile output links path rest
-  stops : {links : ℕ} {path : List ℕ} {rest : Course} → NamesNoStream path → Stops links path rest
-      → WritesFile output links path rest
-  special : {links : ℕ} {path : List ℕ} {rest : Course} → NamesNoStream path → WritesInPlace output path rest
-      → WritesFile output links path (asks path Special ▸ rest)
-  replaces : {links : ℕ} {path : List ℕ} {old : Option Rights} {rest : Course} → NamesNoStream path
-      → Replaces output path old further_names rest
-      → WritesFile output links path (asks path (Regular old) ▸ reads_link path None ▸ rest)
-  follows : {links : ℕ} {path text : List ℕ} {old : Option Rights} {rest : Course} → NamesNoStream path
-      → WritesFile output links (link_target path text) rest
-      → WritesFile output (links + 1) path (asks path (Regular old) ▸ reads_link path (Some text) ▸ rest)
+-- Who may do what with a file, and what of that is kept by a new file that takes its place.
+
+-- the bits that are kept of a mode, by whether the file's user and its group are the same as before:
+-- never set-user-id, set-group-id and sticky; where one is another, others may not write; and where
+-- the group is another, it and others may what both might before, but for writing
+abbrev pub kept_bits : ℕ → (same_user same_group : Bool) → ℕ
+kept_bits mode true true = bit_and mode 0o777
+kept_bits mode false true = bit_and mode 0o775
+kept_bits mode same_user false =
+    let both = bit_and (bit_and mode (mode / 2 ^ 3)) 0o5 in bit_or (bit_or (bit_and mode 0o700) (both * 2 ^ 3)) both
+
+-- the mode of a new file, by the rights of the one that it replaces and whose the new one is, where
+-- that is known
+abbrev pub kept_mode : Rights → Option Owner → ℕ
+kept_mode old None = kept_bits old.mode false false
+kept_mode old (Some owner) = kept_bits old.mode (owner.user == old.owner.user) (owner.group == old.owner.group)
+
+-- the mode with which a new file is made: for its owner alone, where it replaces another; else the
+-- system's, less the umask
+abbrev pub first_mode : Option Rights → ℕ
+first_mode None = 0o666
+first_mode (Some old) = 0o600
+
+-- of all rights; of rw-r-x--- where nothing is known of the new owner
+pub rights_are_kept : (old : Rights)
+    → (kept_bits 0o7777 true true ∷ kept_bits 0o777 false true ∷ kept_bits 0o777 true false ∷ kept_bits 0o650 true false
+    ∷ [] ≡ 0o777 ∷ 0o775 ∷ 0o755 ∷ 0o600 ∷ [])
+    × (kept_mode (record old { mode = 0o777 }) None ≡ 0o755) × (first_mode (Some old) ≡ 0o600)
+rights_are_kept old = (refl, refl, refl)

@@ -4,8 +4,8 @@ use Rattle.std.specs.Io.KnownBytes.{Appends}
 use Rattle.runs.specs.Device.{AppendsPrefix}
 use Rattle.runs.specs.declared.output_files.OutputFault.{OutputFault}
 use Rattle.runs.specs.declared.output_files.OutputFault.TheVariants.{CannotCreate, WriteFault, OutOfMemory}
-use Rattle.runs.specs.FileCalls.{FileLog, Runs}
-use Rattle.runs.specs.OutputFiles.{WritesFile}
+use Rattle.runs.specs.OutputFiles.{FileLog, Runs}
+use Rattle.runs.specs.OutputWriting.{WritesFile}
 use Rattle.runs.specs.Run.{RunView, DeliversPrefix}
 
 -- how many links are followed at most from the argument for an output file

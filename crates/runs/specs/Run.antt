@@ -1,10 +1,14 @@
 -- What a run of a tool writes and reports, and its exit status: this project's own, as far as the
 -- manual's chapters on the tools leave it open.
-use Rattle.std.specs.Prelude.{◌≡◌, refl, ℕ, Bool, not, ◌&&◌, nat_lt, if◌then◌else◌, List, [], ◌∷◌, length, map, true, false, Option, Some, None, codes, ◌⊎◌}
+use Rattle.std.specs.Prelude.{◌≡◌, refl, ℕ, Bool, not, ◌&&◌, nat_lt, if◌then◌else◌, List, [], ◌∷◌, length, map, true, false, Option, Some, None, codes, ◌⊎◌, zero, suc}
 use Rattle.std.specs.Io.KnownBytes.{Appends, Keeps}
 use Rattle.std.specs.Str.{bytes_eq}
 use Rattle.runs.specs.Device.{AppendsPrefix}
 use Rattle.runs.specs.declared.run.Run.{Run}
+use Rattle.runs.specs.declared.run.Ending.{Ending}
+use Rattle.runs.specs.declared.run.Ending.TheVariants.{Ran, Helped, Refused}
+use Rattle.po_entry.specs.TextEntry.{TextEntry}
+use Rattle.po_writer.specs.WrittenText.{written_text}
 
 -- What contracts see of a run: the bytes of its output, whether a file is made of them, what it
 -- writes on standard error, and its exit status.
@@ -54,3 +58,26 @@ nothing_is_made = (refl, refl, refl)
 pub outputs_are_made : (map (λ output. (output_run output).create) ([] ∷ codes "a" ∷ []) ≡ false ∷ true ∷ [])
     × ((output_run (codes "a")).status ≡ 0)
 outputs_are_made = (refl, refl)
+
+-- The exit status of the program: 0 where help was given or the tool's run has status 0, else 1.
+
+abbrev pub exit_status : Ending → ℕ
+exit_status (Ran zero) = 0
+exit_status (Ran (suc status)) = 1
+exit_status (Helped true) = 0
+exit_status (Helped false) = 1
+exit_status Refused = 1
+
+-- The run of a tool that writes a catalogue (manual, "The Format of PO Files").
+
+-- the text of the entries, and a file where there is an entry
+abbrev pub written_run : List TextEntry → RunView
+written_run entries = record {
+  output = written_text entries;
+  create = nat_lt 0 (length entries);
+  messages = [];
+  status = 0;
+}
+
+pub written_status : (entries : List TextEntry) → (written_run entries).status ≡ 0
+written_status entries = refl

@@ -2,9 +2,7 @@
 use Rattle.std.specs.Prelude.{◌≡◌, ℕ, List, [], Option, None, Result, Ok, Err, false}
 use Rattle.runs.specs.declared.program_fault.ProgramFault.{ProgramFault}
 use Rattle.runs.specs.declared.program_fault.ProgramFault.TheVariants.{OutOfMemory}
-use Rattle.runs.specs.Inputs.{Asked, Asks, AsksFirst, AreInputs, IsInputFault, Reading, ReadsAs, gives}
-use Rattle.runs.specs.Inputs.{asked_by, asked_arguments}
-use Rattle.runs.specs.NamedFile.{NamedFile}
+use Rattle.runs.specs.Inputs.{Asked, Asks, AsksFirst, AreInputs, IsInputFault, Reading, ReadsAs, gives, asked_by, asked_arguments, NamedFile}
 use Rattle.runs.specs.Outputs.{SystemView, WritesRun, IsOutputFault}
 use Rattle.runs.specs.ProgramFaults.{program_text}
 use Rattle.runs.specs.Run.{RunView, is_standard, output_file, shown_name}

@@ -2,20 +2,16 @@
 //! law into a proof.
 ghost use Rattle.std.specs.Prelude.{◌≡◌, ◌↔◌, ◌⊎◌, ◌<◌, ◌^◌, ◌+◌, ◌++◌, ℕ, List, Option, codes, decimal, false, replicate, slice_index};
 ghost use Rattle.runs.specs.AskedLaw.{AsksInTurn};
-ghost use Rattle.runs.specs.FileCalls.{Course};
-ghost use Rattle.runs.specs.FileRights.{kept_mode};
-ghost use Rattle.runs.specs.Inputs.{AreInputs, Asked, asked_by};
+ghost use Rattle.runs.specs.OutputFiles.{Course, kept_mode};
+ghost use Rattle.runs.specs.Inputs.{AreInputs, Asked, asked_by, NamedFile};
 ghost use Rattle.runs.specs.InputsLaw.{AreInputsInTurn};
 ghost use Rattle.runs.specs.Limits.{call_limit, further_names, input_limit};
-ghost use Rattle.runs.specs.NamedFile.{NamedFile};
-ghost use Rattle.runs.specs.OutputFiles.{WritesFile};
+ghost use Rattle.runs.specs.OutputWriting.{WritesFile};
 ghost use Rattle.runs.specs.OutputPaths.{NamesStream, beside, link_target};
-ghost use Rattle.runs.specs.OutputLaw.{IsWholeOrAsItWasThroughout};
+ghost use Rattle.runs.specs.OutputLaws.{IsWholeOrAsItWasThroughout, GivesNobodyMore, IsWhose, KeepsRights, IsAllWritten};
 ghost use Rattle.runs.specs.Outputs.{SystemView, link_limit};
-ghost use Rattle.runs.specs.RightsLaw.{GivesNobodyMore, IsWhose, KeepsRights};
 ghost use Rattle.runs.specs.Run.{RunView, output_file};
 ghost use Rattle.runs.specs.ToolRuns.{HasOneReading, Writes};
-ghost use Rattle.runs.specs.WrittenLaw.{IsAllWritten};
 ghost use Rattle.runs.specs.declared.output_files.Owner.{Owner};
 ghost use Rattle.runs.specs.declared.output_files.Rights.{Rights};
 

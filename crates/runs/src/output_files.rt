@@ -1,8 +1,7 @@
 //! The calls of the system by which an output file is made, and what a new one keeps of the rights
 //! of the one that it replaces.
 ghost use Rattle.std.specs.Prelude.{◌≡◌, []};
-ghost use Rattle.runs.specs.FileCalls.{logged};
-ghost use Rattle.runs.specs.FileRights.{first_mode, kept_bits, kept_mode};
+ghost use Rattle.runs.specs.OutputFiles.{logged, first_mode, kept_bits, kept_mode};
 ghost use Rattle.runs.specs.declared.output_files.OutputFault.TheVariants.{OutOfMemory};
 
 use crate::device::Counted;
@@ -81,8 +80,8 @@ impl From<AllocError> for OutputFault {
 pub trait OutputFiles {
     ghost use Rattle.std.specs.Prelude.{◌∷◌, MatchResult, MatchOption, option_map};
     ghost use Rattle.std.specs.String.{string_bytes};
-    ghost use Rattle.runs.specs.Counted.{counted_failures, counted_inner};
-    ghost use Rattle.runs.specs.FileCalls.{FileLog, asks, reads_link, fails_to_read_link, numbers, makes, fails_to_make, sets_owner, sets_mode, opens, fails_to_open, takes_stream, lacks_stream, closes, renames, removes};
+    ghost use Rattle.runs.specs.Device.{counted_failures, counted_inner};
+    ghost use Rattle.runs.specs.OutputFiles.{FileLog, asks, reads_link, fails_to_read_link, numbers, makes, fails_to_make, sets_owner, sets_mode, opens, fails_to_open, takes_stream, lacks_stream, closes, renames, removes};
 
     /// A file or a stream that is open to be written.
     type File: Write + Drop;

@@ -2,8 +2,7 @@
 ghost use Rattle.std.specs.Prelude.{◌≡◌, ◌≢◌, IfOk, List};
 ghost use Rattle.po_entry.specs.TextEntry.{TextEntry};
 ghost use Rattle.runs.specs.FaultText.{text_line};
-ghost use Rattle.runs.specs.Run.{refusal, run_view};
-ghost use Rattle.runs.specs.TextRuns.{written_run};
+ghost use Rattle.runs.specs.Run.{refusal, run_view, written_run};
 ghost use Rattle.po_writer.specs.WrittenText.{written_text};
 
 use crate::fault_text::{push_po_text, reported};

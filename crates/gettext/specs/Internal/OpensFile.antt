@@ -5,7 +5,7 @@ use Rattle.mo_file.specs.MoFile.{IsMoFile}
 use Rattle.mo_lookup.specs.CatalogView.{CatalogView, IsCatalogView}
 use Rattle.gettext.specs.declared.plan.Opened.{Opened}
 use Rattle.gettext.specs.Gettext.{Opens}
-use Rattle.runs.specs.NamedFile.{NamedFile}
+use Rattle.runs.specs.Inputs.{NamedFile}
 
 -- the catalogue of these bytes joins others
 pub record Joins (bytes : List ℕ) (old new : List CatalogView) : Type 0 where

@@ -4,7 +4,7 @@ use Rattle.po_entry.specs.TextEntry.{TextEntry}
 use Rattle.po_entry.specs.Statistics.{has_translation}
 use Rattle.msgcat.specs.declared.definition.Part.{Part}
 use Rattle.msgcat.specs.declared.definition.Part.TheVariants.{Translation, Previous, Plural}
-use Rattle.msgcat.specs.MergedEntry.{has_previous, has_plural}
+use Rattle.msgcat.specs.Merged.{has_previous, has_plural}
 
 abbrev pub has_part : Part → TextEntry → Bool
 has_part Translation e = has_translation e

@@ -2,8 +2,7 @@
 use Rattle.std.specs.Prelude.{◌≡◌, ℕ, Bool, All, List, filter, fold, not, if◌then◌else◌}
 use Rattle.po_entry.specs.Header.{HasAdmittedCharset}
 use Rattle.po_entry.specs.TextEntry.{TextEntry}
-use Rattle.po_writer.specs.Separated.{with_entry}
-use Rattle.po_writer.specs.WrittenText.{written_text}
+use Rattle.po_writer.specs.WrittenText.{with_entry, written_text}
 
 -- the entry is of this part: that of the obsolete entries, or that of the live ones
 abbrev pub is_of_part : Bool → TextEntry → Bool

@@ -6,7 +6,7 @@ use Rattle.msgcat.specs.MergeInputs.{HoldInputs}
 use Rattle.msgcat.specs.declared.inputs.FileFault.{FileFault}
 use Rattle.msgcat.specs.declared.merge_inputs.MergeInputs.{MergeInputs}
 use Rattle.msgcat.specs.Msgcat.{AreReadAs, IsFileFault}
-use Rattle.runs.specs.NamedFile.{NamedFile}
+use Rattle.runs.specs.Inputs.{NamedFile}
 
 -- the entries of all files, or why one isn't read
 abbrev pub IsReadingOf : List NamedFile → Result MergeInputs FileFault → Type 0

@@ -6,10 +6,8 @@ use Rattle.po_syntax.specs.declared.fault.PoFault.TheVariants.{NotUtf8 as BadTex
 use Rattle.po_entry.specs.TextEntry.{TextEntry}
 use Rattle.po_entry.specs.Validity.{EntryTextFault}
 use Rattle.msgunfmt.specs.declared.fault.UnformatError.{UnformatError}
-use Rattle.msgunfmt.specs.declared.fault.UnformatError.TheVariants.{Mo, NotUtf8, ForbiddenByte, ForeignCharset}
-use Rattle.msgunfmt.specs.declared.fault.UnformatError.TheVariants.{OutOfMemory}
-use Rattle.msgunfmt.specs.Unformatted.{unformatted}
-use Rattle.msgunfmt.specs.UnformattedText.{HasFirstEntryTextFault, HasForeignCharset}
+use Rattle.msgunfmt.specs.declared.fault.UnformatError.TheVariants.{Mo, NotUtf8, ForbiddenByte, ForeignCharset, OutOfMemory}
+use Rattle.msgunfmt.specs.Unformatted.{unformatted, HasFirstEntryTextFault, HasForeignCharset}
 
 -- the error for the entry of message i, by what is wrong with its texts
 abbrev pub error_at : ℕ → PoFault → UnformatError

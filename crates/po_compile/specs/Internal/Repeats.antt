@@ -1,13 +1,11 @@
 -- Messages that repeat earlier ones (manual, "The Format of PO Files").
 use Rattle.std.specs.Prelude.{◌≡◌, ◌⊎◌, ◌<◌, ℕ, List, [], All, map, length, take, get_or}
-use Rattle.po_entry.specs.Duplicate.{join_out_of_memory}
-use Rattle.po_entry.specs.Repeats.{IsFirstRepeat}
+use Rattle.po_entry.specs.Duplicate.{join_out_of_memory, IsFirstRepeat}
 use Rattle.po_entry.specs.declared.duplicate.JoinError.{JoinError}
 use Rattle.po_syntax.specs.declared.fault.PoFault.TheVariants.{Duplicate}
 use Rattle.po_compile.specs.Accepted.{fault_of_input}
 use Rattle.po_compile.specs.Collected.{LiveMessage}
-use Rattle.po_compile.specs.Internal.Rows.{AllApart, InputMessage, all_messages, in_input_message}
-use Rattle.po_compile.specs.Internal.Rows.{message_keys}
+use Rattle.po_compile.specs.Internal.Rows.{AllApart, InputMessage, all_messages, in_input_message, message_keys}
 
 -- the first key that stands among those before it, with the index of the first of these that it is
 pub record IsRepeatAt (keys : List (List ℕ)) (first later : ℕ) : Type 0 where

@@ -1,7 +1,6 @@
 -- The rows of several inputs that are compiled, in the order of their joined list and sorted (manual,
 -- "Invoking the msgfmt Program": several input files).
-use Rattle.std.specs.Prelude.{ℕ, ◌+◌, ◌≤◌, ◌==◌, Bool, false, not, ◌&&◌, ◌||◌, List, [], ◌∷◌, ◌++◌, map, filter, length}
-use Rattle.std.specs.Prelude.{◌≢◌, AllPairs, IsPermutation, count_by}
+use Rattle.std.specs.Prelude.{ℕ, ◌+◌, ◌≤◌, ◌==◌, Bool, false, not, ◌&&◌, ◌||◌, List, [], ◌∷◌, ◌++◌, map, filter, length, ◌≢◌, AllPairs, IsPermutation, count_by}
 use Rattle.std.specs.List.{list_any}
 use Rattle.std.specs.List.Sorted.{IsSortedBy}
 use Rattle.std.specs.Ordering.{is_lt}
@@ -9,9 +8,8 @@ use Rattle.mo_file.specs.Key.{AreRising, key_cmp, query_key}
 use Rattle.mo_file.specs.Message.{Message}
 use Rattle.po_entry.specs.Joined.{InputEntry}
 use Rattle.po_entry.specs.declared.stats.Stats.{Stats}
-use Rattle.po_compile.specs.Collected.{LiveMessage, live_message}
-use Rattle.po_compile.specs.CompiledInputs.{CompiledView}
-use Rattle.po_compile.specs.CompiledMessages.{message_of}
+use Rattle.po_compile.specs.Collected.{LiveMessage, live_message, CompiledView}
+use Rattle.po_compile.specs.Compiled.{message_of}
 use Rattle.po_compile.specs.declared.status.Status.{Status}
 use Rattle.po_compile.specs.declared.row.Row.{Row}
 

@@ -5,7 +5,7 @@ use Rattle.std.specs.Cmp.{IsPartialEquivalence, booleans_Decides}
 use Rattle.std.proofs.lemmas.Bool.{false≢true}
 use Rattle.std.proofs.lemmas.Slice.Eq.{bytes_eq-Decides, slice_eq-Decides}
 use Rattle.po_entry.specs.TextEntry.{TextEntry, TextPrevious, SameButLine}
-use Rattle.po_entry.specs.Equality.{texts_eq, optional_eq, previous_eq, entry_eq}
+use Rattle.po_entry.specs.Fields.{texts_eq, optional_eq, previous_eq, entry_eq}
 
 pub both_decide : {P Q : Type 0} (a b : Bool) → Decides a P → Decides b Q → Decides (a && b) (P × Q)
 both_decide true true p q = (λ _. (p.0 refl, q.0 refl), λ _. refl)

@@ -7,7 +7,7 @@ use Rattle.std.proofs.lemmas.Bool.{cases_order}
 use Rattle.std.proofs.lemmas.List.{get_or-map, length-map, map-append}
 use Rattle.std.proofs.lemmas.List.Elements.{All-nil, All-cons}
 use Rattle.std.proofs.lemmas.List.Quantifiers.{all_pairs_push}
-use Rattle.po_entry.specs.Repeats.{IsFirstRepeat}
+use Rattle.po_entry.specs.Duplicate.{IsFirstRepeat}
 
 -- a relation of what a function makes of elements
 module _ {X Y : Type 0} (R : Y → Y → Type 0) (f : X → Y) where

@@ -4,11 +4,10 @@ use Rattle.po_reader.specs.declared.head.Head.{Head}
 use Rattle.po_entry.specs.declared.drafts.Drafts.{Drafts}
 use Rattle.po_entry.specs.declared.row.Row.{Row}
 use Rattle.po_entry.specs.Rows.{Adds, row_of}
-use Rattle.po_reader.specs.KeptComments.{kept_texts}
+use Rattle.po_reader.specs.PieceRead.{kept_texts}
 use Rattle.po_entry.specs.TextEntry.{TextEntry, slice_texts}
-use Rattle.po_entry.specs.EntryParts.{CommentText, PreviousText}
+use Rattle.po_entry.specs.Comments.{CommentText, PreviousText, flags_of, fuzzy_of, previous_of, references_of, texts_of}
 use Rattle.po_syntax.specs.declared.item.CommentKind.TheVariants.{Translator, Extracted, Flags}
-use Rattle.po_entry.specs.Comments.{flags_of, fuzzy_of, previous_of, references_of, texts_of}
 use Rattle.po_reader.specs.declared.body.Wanted.{Wanted}
 use Rattle.po_reader.specs.declared.body.Wanted.TheVariants as code
 use Rattle.po_reader.specs.Internal.Stage as spec

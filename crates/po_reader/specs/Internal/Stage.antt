@@ -5,7 +5,7 @@ use Rattle.po_syntax.specs.declared.item.Keyword.{Keyword}
 use Rattle.po_syntax.specs.declared.item.Keyword.TheVariants.{MsgCtxt, MsgId, MsgIdPlural, MsgStr, MsgStrAt}
 use Rattle.po_syntax.specs.declared.item.Marks.{Marks}
 use Rattle.po_entry.specs.TextEntry.{TextEntry, plain_entry}
-use Rattle.po_entry.specs.EntryParts.{CommentText, PreviousText}
+use Rattle.po_entry.specs.Comments.{CommentText, PreviousText}
 use Rattle.po_entry.specs.Spelling.{with_head}
 
 -- what was read: whole entries, and of the next one its comments, its previous texts and its own lines

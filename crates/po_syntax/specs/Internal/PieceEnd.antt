@@ -1,7 +1,6 @@
 -- A piece as it is cut off, before its bytes are tested (manual, "The Format of PO Files").
 use Rattle.std.specs.Prelude.{◌≡◌, ◌⊎◌, ℕ, List, [], take}
-use Rattle.po_syntax.specs.LinesLeft.{LinesLeft, lines_len}
-use Rattle.po_syntax.specs.Piece.{CanEnd, HasRead}
+use Rattle.po_syntax.specs.Pieces.{LinesLeft, lines_len, CanEnd, HasRead}
 use Rattle.po_syntax.specs.TextItem.{TextItem}
 
 -- From `old` a piece of so many bytes was cut off that has these items, and `new` is left: the piece is

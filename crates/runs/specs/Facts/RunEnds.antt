@@ -4,13 +4,11 @@ use Rattle.runs.specs.declared.inputs.Input.{Input}
 use Rattle.runs.specs.declared.inputs.Inputs.{Inputs}
 use Rattle.runs.specs.declared.program_fault.ProgramFault.{ProgramFault}
 use Rattle.runs.specs.declared.program_fault.ProgramFault.TheVariants.{OutOfMemory}
-use Rattle.runs.specs.Inputs.{IsInputFault, inputs_in, named_inputs}
-use Rattle.runs.specs.NamedFile.{NamedFile}
+use Rattle.runs.specs.Inputs.{IsInputFault, inputs_in, named_inputs, NamedFile}
 use Rattle.runs.specs.Outputs.{SystemView}
 use Rattle.runs.specs.ProgramFaults.{program_text}
 use Rattle.runs.specs.Run.{RunView}
-use Rattle.runs.specs.ToolRuns.{Asking, Planning, ReadsInputs, RunsInput, RunsInputs, has_none, no_memory_to_plan}
-use Rattle.runs.specs.ToolRuns.{out_of_memory, unread}
+use Rattle.runs.specs.ToolRuns.{Asking, Planning, ReadsInputs, RunsInput, RunsInputs, has_none, no_memory_to_plan, out_of_memory, unread}
 
 -- the only input can't be read, or there is no memory
 pub input_ended : {source : Asking} {IsRun : NamedFile → RunView → Type 0} {argument output : List ℕ}

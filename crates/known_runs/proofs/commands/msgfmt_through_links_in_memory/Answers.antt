@@ -4,7 +4,7 @@ use Rattle.runs.specs.Run.{RunView}
 use Rattle.runs.specs.declared.program_fault.ProgramFault.{ProgramFault}
 use Rattle.known_runs.specs.Msgfmt.{EndsThroughLinks}
 use Rattle.known_system.specs.Contents.{contents}
-use Rattle.known_system.specs.Links.{links_by_path}
+use Rattle.known_system.specs.Stored.{links_by_path}
 use Rattle.known_system.specs.Source.{bytes_of, reading_of, texts_by_name}
 use Rattle.known_runs.proofs.AllCommands.{arrives, held_at, holds_after, holds_before, holds_now, unstarted_ends}
 use Rattle.known_runs.proofs.ThroughLinks.{through_links, unstarted_so}

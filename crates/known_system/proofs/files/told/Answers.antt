@@ -1,5 +1,5 @@
 use Rattle.std.proofs.Common.{List, [], ◌∷◌, ◌++◌, ap, ◌∙◌}
-use Rattle.runs.specs.FileCalls.{FileCall, numbers}
+use Rattle.runs.specs.OutputFiles.{FileCall, numbers}
 use Rattle.known_system.specs.Replay.{nothing, replay}
 use Rattle.known_system.proofs.Tellings.{told_all}
 use Rattle.known_system.proofs.files.told.Goals as goal

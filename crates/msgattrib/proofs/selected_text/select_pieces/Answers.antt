@@ -4,7 +4,7 @@ use Rattle.po_entry.specs.Faults.IsReadFault.{in_text}
 use Rattle.po_entry.specs.TextEntry.{TextEntry}
 use Rattle.po_reader.proofs.Heads.{all_kept}
 use Rattle.po_reader.proofs.PieceReading.{read_all, read_more, read_none}
-use Rattle.po_reader.specs.KeptComments.{kept_entry}
+use Rattle.po_reader.specs.PieceRead.{kept_entry}
 use Rattle.msgattrib.proofs.SelectedLemmas.{piece_selected}
 use Rattle.msgattrib.proofs.selected_text.select_pieces.Goals as goal
 

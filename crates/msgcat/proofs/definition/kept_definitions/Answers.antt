@@ -5,7 +5,7 @@ use Rattle.std.proofs.lemmas.Iterator.Search.{any_from_yields_List}
 use Rattle.std.proofs.lemmas.List.{length-map}
 use Rattle.po_entry.specs.Header.{is_header}
 use Rattle.msgcat.specs.declared.definition.NamedEntry.{NamedEntry}
-use Rattle.msgcat.specs.InputsView.{named_entries, named_entry}
+use Rattle.msgcat.specs.Inputs.{named_entries, named_entry}
 use Rattle.msgcat.specs.Merged.{is_kept, is_wanted}
 use Rattle.msgcat.proofs.Views.{any_named}
 use Rattle.msgcat.proofs.definition.kept_definitions.Goals as goal

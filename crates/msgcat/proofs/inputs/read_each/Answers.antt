@@ -10,7 +10,7 @@ use Rattle.msgcat.specs.Internal.Inputs.{IsTextOf}
 use Rattle.msgcat.proofs.ReadInputs.{entries_more, inputs_more}
 use Rattle.msgcat.proofs.InputLemmas.{text_more}
 use Rattle.msgcat.proofs.MsgcatLemmas.{file_at, name_lacks, no_file}
-use Rattle.runs.specs.NamedFile.{NamedFile, named_file, named_files}
+use Rattle.runs.specs.Inputs.{NamedFile, named_file, named_files}
 use Rattle.msgcat.proofs.inputs.read_each.Goals as goal
 
 pub returns-in-Err-clause-read : goal.returns-in-Err-clause-read

@@ -1,5 +1,5 @@
 use Rattle.std.proofs.Common.{◌≡◌, ◌++◌}
-use Rattle.po_entry.specs.FormLists.{forms_left}
+use Rattle.po_entry.specs.Rows.{forms_left}
 use Rattle.po_entry.specs.TextEntry.{texts}
 use Rattle.msgcat.proofs.merging.copied_forms.Given as goal
 

@@ -2,10 +2,9 @@ use Rattle.std.proofs.Common.{Ok, ap, inl, subst, ◌∙◌}
 use Rattle.std.specs.Prelude.{All}
 use Rattle.std.proofs.lemmas.Bool.{false≢true}
 use Rattle.std.proofs.lemmas.Result.{IfOk-weaker, MatchResult-from_both}
-use Rattle.po_entry.specs.Bytes.{Lacks}
+use Rattle.po_entry.specs.Texts.{Lacks}
 use Rattle.runs.specs.Facts.RunEnds.{none_read}
-use Rattle.runs.specs.Inputs.{named_inputs}
-use Rattle.runs.specs.NamedFile.{named_files}
+use Rattle.runs.specs.Inputs.{named_inputs, named_files}
 use Rattle.runs.specs.Run.{run_view}
 use Rattle.msgcat.specs.Internal.ReadFiles.{IsReadingOf}
 use Rattle.msgcat.specs.Msgcat.{IsMsgcatRun, IsUnread}

@@ -5,7 +5,7 @@ use Rattle.po_entry.specs.TextEntry.{slice_texts}
 use Rattle.msgfmt.specs.Msgfmt.{join_line}
 use Rattle.msgfmt.proofs.MsgfmtLemmas.{collected-count}
 use Rattle.msgfmt.proofs.plan.gathered_run.Goals as goal
-use Rattle.runs.specs.NamedFile.{NamedFile}
+use Rattle.runs.specs.Inputs.{NamedFile}
 use Rattle.runs.specs.Run.{refusal}
 
 pub collected_run-requires-clause-few : goal.collected_run-requires-clause-few

@@ -1,6 +1,6 @@
 use Rattle.std.proofs.Common.{◌≡◌, take}
 use Rattle.po_entry.specs.TextEntry.{slice_texts}
-use Rattle.runs.specs.NamedFile.{named_files}
+use Rattle.runs.specs.Inputs.{named_files}
 use Rattle.msgfmt.specs.Msgfmt.{input_names}
 use Rattle.msgfmt.proofs.plan.names_of.Given as goal
 

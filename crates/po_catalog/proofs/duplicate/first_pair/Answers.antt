@@ -4,8 +4,7 @@ use Rattle.std.proofs.lemmas.List.{get_or-map, length-map}
 use Rattle.po_entry.specs.TextEntry.{TextEntry}
 use Rattle.po_entry.specs.Joined.{InputEntry, is_live}
 use Rattle.po_catalog.specs.JoinedView.{input_entries, input_entry}
-use Rattle.po_entry.specs.Places.{is_looked_at, number_in}
-use Rattle.po_entry.specs.Repeats.{DifferUpTo, RepeatsAt}
+use Rattle.po_entry.specs.Duplicate.{is_looked_at, number_in, DifferUpTo, RepeatsAt}
 use Rattle.po_catalog.specs.declared.joining.InputEntry.{InputEntry as BorrowedEntry}
 use Rattle.po_entry.proofs.DuplicateLemmas.{live_differ}
 use Rattle.po_entry.proofs.NumberLemmas.{are_numbered, as_many, first_twice, none_twice}

@@ -5,7 +5,7 @@ use Rattle.std.proofs.lemmas.Result.{MatchResult-from_both, IfOk-weaker, IfErr-w
 use Rattle.po_entry.specs.TextEntry.{slice_texts}
 use Rattle.po_syntax.proofs.Results.{ok_both}
 use Rattle.po_compile.specs.Accepted.{AreCompiled, IsCompileFault}
-use Rattle.po_compile.specs.CompiledInputs.{AreCollected}
+use Rattle.po_compile.specs.Collected.{AreCollected}
 use Rattle.po_compile.proofs.InputLemmas.{collected_count}
 use Rattle.po_compile.proofs.compiling.compile_all.Goals as goal
 

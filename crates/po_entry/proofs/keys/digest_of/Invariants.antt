@@ -1,6 +1,6 @@
 use Rattle.std.proofs.Common.{◌≡◌, take}
-use Rattle.po_entry.specs.Seeds.{digest_of}
-use Rattle.po_entry.specs.Digests.{keys_writes}
+use Rattle.po_entry.specs.SeenTexts.{digest_of}
+use Rattle.po_entry.specs.Message.{keys_writes}
 use Rattle.po_entry.proofs.keys.digest_of.Given as goal
 
 -- the keys so far are digested

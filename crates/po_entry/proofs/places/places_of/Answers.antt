@@ -5,7 +5,7 @@ use Rattle.std.proofs.lemmas.List.Elements.{All-push}
 use Rattle.po_entry.specs.TextEntry.{TextEntry}
 use Rattle.po_entry.specs.Validity.{IsCatalogueEntry}
 use Rattle.po_entry.specs.Joined.{is_live}
-use Rattle.po_entry.specs.Places.{are_placed, place_of}
+use Rattle.po_entry.specs.Duplicate.{are_placed, place_of}
 use Rattle.po_entry.specs.declared.repeats.EntryPlace.{EntryPlace}
 use Rattle.po_entry.proofs.places.places_of.Goals as goal
 

@@ -2,7 +2,7 @@ use Rattle.std.proofs.Common.{◌≡◌, take}
 use Rattle.std.specs.Prelude.{All}
 use Rattle.po_entry.specs.Validity.{IsCatalogueEntry}
 use Rattle.po_entry.specs.Joined.{is_live}
-use Rattle.po_entry.specs.Places.{are_placed}
+use Rattle.po_entry.specs.Duplicate.{are_placed}
 use Rattle.po_entry.proofs.places.places_of.Given as goal
 
 -- where the entries so far stand

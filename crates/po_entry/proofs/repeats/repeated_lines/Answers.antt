@@ -2,8 +2,7 @@ use Rattle.std.proofs.Common.{◌≡◌, ◌<◌, [], ◌∷◌, List, None, ap,
 use Rattle.std.specs.Prelude.{MatchOption}
 use Rattle.std.proofs.lemmas.List.{get_or_default}
 use Rattle.po_entry.specs.TextEntry.{TextEntry, plain_entry}
-use Rattle.po_entry.specs.Places.{is_looked_at}
-use Rattle.po_entry.specs.Repeats.{DifferUpTo, RepeatsAt}
+use Rattle.po_entry.specs.Duplicate.{is_looked_at, DifferUpTo, RepeatsAt}
 use Rattle.po_entry.specs.declared.repeats.EntryPlace.{EntryPlace}
 use Rattle.po_entry.proofs.NumberLemmas.{as_many, first_twice, none_twice, place_at}
 use Rattle.po_entry.proofs.repeats.repeated_lines.Goals as goal

@@ -1,5 +1,5 @@
 use Rattle.std.proofs.Common.{◌≡◌, take}
-use Rattle.po_entry.specs.Seeds.{digest_of}
+use Rattle.po_entry.specs.SeenTexts.{digest_of}
 use Rattle.po_entry.specs.TextEntry.{slice_texts}
 use Rattle.po_reader.proofs.comment_texts.seeded_by.Given as goal
 

@@ -1,5 +1,5 @@
 use Rattle.std.proofs.Common.{All, IsUtf8, refl}
-use Rattle.po_entry.specs.Bytes.{Lacks}
+use Rattle.po_entry.specs.Texts.{Lacks}
 use Rattle.po_entry.specs.TextEntry.{quoted_texts}
 use Rattle.po_entry.specs.Validity.{HasTexts}
 use Rattle.po_entry.specs.Faults.EntriesStop.{here, later}

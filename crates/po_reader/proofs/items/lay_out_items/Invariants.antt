@@ -3,7 +3,7 @@ use Rattle.po_syntax.specs.TextItem.{views}
 use Rattle.po_entry.specs.Rows.{AreLaid, CanLie, entries_in}
 use Rattle.po_entry.specs.TextEntry.{TextEntry}
 use Rattle.po_reader.specs.Internal.Reads.{come_to, comes, start}
-use Rattle.po_reader.specs.KeptComments.{kept_entry}
+use Rattle.po_reader.specs.PieceRead.{kept_entry}
 use Rattle.po_reader.proofs.items.lay_out_items.Given as goal
 
 abbrev pub invariant-loop-head : goal.invariant-loop-head

@@ -1,5 +1,5 @@
 use Rattle.std.proofs.Common.{[], List, All, IsUtf8, inl, inr, subst, sym}
-use Rattle.po_entry.specs.Bytes.{Lacks}
+use Rattle.po_entry.specs.Texts.{Lacks}
 use Rattle.po_entry.specs.Header.{HasAdmittedCharset}
 use Rattle.po_entry.specs.Validity.{HasTexts, IsCatalogueEntry}
 use Rattle.po_entry.specs.TextEntry.{TextEntry, quoted_texts}

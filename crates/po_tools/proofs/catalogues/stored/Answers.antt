@@ -1,6 +1,6 @@
 use Rattle.std.proofs.Common.{◌≡◌, ◌+◌, ◌∙◌, ◌∷◌, ◌++◌, [], ap, ap₂, arith, length, List, refl, subst, sym, take}
 use Rattle.std.proofs.lemmas.List.{length-map, map-append, take_all, take_more}
-use Rattle.po_entry.specs.Bytes.{Lacks}
+use Rattle.po_entry.specs.Texts.{Lacks}
 use Rattle.po_entry.specs.TextEntry.{TextEntry}
 use Rattle.msgcat.specs.Inputs.{NamedEntry, all_entries}
 use Rattle.msgcat.proofs.ReadInputs.{entries_more, inputs_more}

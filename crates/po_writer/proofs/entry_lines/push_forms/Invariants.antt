@@ -1,5 +1,5 @@
 use Rattle.std.proofs.Common.{◌≡◌, ◌≤◌, ◌++◌, length}
-use Rattle.po_entry.specs.FormLists.{forms_left}
+use Rattle.po_entry.specs.Rows.{forms_left}
 use Rattle.po_writer.specs.WrittenText.{form_lines}
 use Rattle.po_writer.proofs.entry_lines.push_forms.Given as goal
 

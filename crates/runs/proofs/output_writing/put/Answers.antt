@@ -1,4 +1,4 @@
-use Rattle.runs.specs.OutputFiles.{put as all_put, unput}
+use Rattle.runs.specs.OutputWriting.{put as all_put, unput}
 use Rattle.runs.proofs.OutputLemmas.{after-call, is-done, is-fault}
 use Rattle.runs.proofs.output_writing.put.Goals as goal
 

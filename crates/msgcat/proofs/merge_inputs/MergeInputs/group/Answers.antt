@@ -3,11 +3,9 @@ use Rattle.std.proofs.lemmas.Grind.{get_or_default_zero}
 use Rattle.std.proofs.lemmas.List.{length-map}
 use Rattle.std.proofs.lemmas.List.Elements.{All-head, All-tail}
 use Rattle.msgcat.specs.declared.definition.NamedEntry.{NamedEntry as BorrowedEntry}
-use Rattle.msgcat.specs.Groups.{definitions, groups}
-use Rattle.msgcat.specs.Inputs.{NamedEntry, all_entries}
-use Rattle.msgcat.specs.InputsView.{named_entries}
+use Rattle.msgcat.specs.Groups.{definitions, groups, IsChain}
+use Rattle.msgcat.specs.Inputs.{NamedEntry, all_entries, named_entries}
 use Rattle.msgcat.specs.Internal.EntriesAt.{entries_at, no_entry}
-use Rattle.msgcat.specs.Links.{IsChain}
 use Rattle.msgcat.specs.MergeInputs.{AreReadInputs}
 use Rattle.msgcat.proofs.HeldGroups.{entries_here, groups_at, groups_counted, indexes_here}
 use Rattle.msgcat.proofs.LinkLemmas.{chain_on, chain_over}

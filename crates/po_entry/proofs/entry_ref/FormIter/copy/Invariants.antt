@@ -1,5 +1,5 @@
 use Rattle.std.proofs.Common.{◌≡◌, ◌++◌}
-use Rattle.po_entry.specs.FormLists.{forms_left}
+use Rattle.po_entry.specs.Rows.{forms_left}
 use Rattle.po_entry.specs.TextEntry.{texts}
 use Rattle.po_entry.proofs.entry_ref.FormIter.copy.Given as goal
 

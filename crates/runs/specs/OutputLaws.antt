@@ -2,21 +2,88 @@
 -- what each open stream has taken, and what is open. Two paths are two files, a path to what is no
 -- regular file stands for that, also where a link is there, and no other program changes anything
 -- meanwhile.
-use Rattle.std.specs.Prelude.{◌≡◌, ◌≢◌, ◌⊎◌, ◌==◌, ℕ, zero, Bool, true, List, [], if◌then◌else◌, Option}
-use Rattle.std.specs.Prelude.{Some, None, ⊤}
+use Rattle.std.specs.Prelude.{◌≡◌, ◌≢◌, ◌^◌, ◌<◌, ◌%◌, ◌==◌, ℕ, Bool, Option, Some, None, if◌then◌else◌, ⊤, ◌⊎◌, zero, true, List, []}
+use Rattle.std.specs.Int.{bit_at}
+use Rattle.runs.specs.declared.output_files.Owner.{Owner}
+use Rattle.runs.specs.declared.output_files.Rights.{Rights}
 use Rattle.std.specs.Io.KnownBytes.{Appends}
 use Rattle.std.specs.Path.{path_with_file_name}
 use Rattle.std.specs.Str.{bytes_eq}
 use Rattle.runs.specs.declared.output_files.FileKind.{FileKind}
 use Rattle.runs.specs.declared.output_files.FileKind.TheVariants.{Regular, Special, Unknown}
 use Rattle.runs.specs.declared.output_files.MakeFault.TheVariants.{Forbidden}
-use Rattle.runs.specs.declared.output_files.Owner.{Owner}
-use Rattle.runs.specs.declared.output_files.Rights.{Rights}
-use Rattle.runs.specs.FileCalls.{FileCall, Course, done, fails, ◌▸◌, fault_of, asks, reads_link, makes}
-use Rattle.runs.specs.FileCalls.{fails_to_make, sets_owner, sets_mode, opens, takes_stream, closes, renames, removes}
-use Rattle.runs.specs.FileRights.{kept_mode, first_mode}
+use Rattle.runs.specs.OutputFiles.{FileCall, Course, done, fails, ◌▸◌, fault_of, asks, reads_link, makes, fails_to_make, sets_owner, sets_mode, opens, takes_stream, closes, renames, removes, FileLog, calls_of, logged, kept_mode, first_mode}
 use Rattle.runs.specs.OutputPaths.{NamesStream, NamesNoStream, link_target}
-use Rattle.runs.specs.RightsLaw.{GivesNobodyMore, IsWhose}
+use Rattle.runs.specs.Outputs.{SystemView}
+use Rattle.runs.specs.Run.{RunView}
+
+-- What a user may do with a file ("File Mode Bits" of the GNU coreutils manual), and what it means
+-- that new rights give nobody more than old ones.
+
+-- what is done with a file
+pub data Deed : Type 0 where
+  reads : Deed
+  writes : Deed
+  runs : Deed
+
+-- for whom a mode says what may be done
+pub data Class : Type 0 where
+  its_owner : Class
+  its_group : Class
+  others : Class
+
+-- the bit of a mode by which a class may do it
+abbrev pub bit_for : Class → Deed → ℕ
+bit_for its_owner reads = 8
+bit_for its_owner writes = 7
+bit_for its_owner runs = 6
+bit_for its_group reads = 5
+bit_for its_group writes = 4
+bit_for its_group runs = 3
+bit_for others reads = 2
+bit_for others writes = 1
+bit_for others runs = 0
+
+-- a user of the system
+pub record User : Type 0 where
+  pub number : ℕ
+  pub is_in : ℕ → Bool
+
+-- the class of a user, by whose the file is
+abbrev pub class_of : User → Owner → Class
+class_of user owner =
+    if user.number == owner.user then its_owner else (if user.is_in owner.group then its_group else others)
+
+-- the user may do it with a file that has these rights
+abbrev pub May : User → Rights → Deed → Type 0
+May user rights deed = bit_at rights.mode (bit_for (class_of user rights.owner) deed) ≡ 1
+
+-- the file is this one's, as far as it is known whose it is
+abbrev pub IsWhose : Option Owner → Owner → Type 0
+IsWhose None owner = ⊤
+IsWhose (Some known) owner = owner ≡ known
+
+-- the new rights give nobody more than the old ones but the two owners: a file isn't run as another,
+-- and where it is another's, others may not write it
+pub record GivesNobodyMore (old new : Rights) : Type 0 where
+  pub users : (user : User) (deed : Deed) → user.number ≢ old.owner.user → user.number ≢ new.owner.user
+      → May user new deed → May user old deed
+  pub set_ids : new.mode < 2 ^ 9
+  pub others : new.owner ≢ old.owner → bit_at new.mode (bit_for others writes) ≡ 0
+
+-- the mode of a new file keeps what it may: its owner's bits; where its group is the same, the group's,
+-- and but for writing those of others; and where it is another, what both might, but for writing
+pub record KeepsRights (old : Rights) (owner : Owner) (mode : ℕ) : Type 0 where
+  pub of_owner : (deed : Deed) → bit_at mode (bit_for its_owner deed) ≡ bit_at old.mode (bit_for its_owner deed)
+  pub of_group : owner.group ≡ old.owner.group
+      → (deed : Deed) → bit_at mode (bit_for its_group deed) ≡ bit_at old.mode (bit_for its_group deed)
+  pub of_others : owner.group ≡ old.owner.group → (deed : Deed) → deed ≢ writes
+      → bit_at mode (bit_for others deed) ≡ bit_at old.mode (bit_for others deed)
+  pub of_both : (class : Class) (deed : Deed) → class ≢ its_owner → deed ≢ writes
+      → bit_at old.mode (bit_for its_group deed) ≡ 1 → bit_at old.mode (bit_for others deed) ≡ 1
+      → bit_at mode (bit_for class deed) ≡ 1
+  -- where it is all the old owner's, all nine bits
+  pub of_all : owner ≡ old.owner → mode ≡ old.mode % 2 ^ 9
 
 -- what a path holds
 pub data PathState : Type 0 where
@@ -268,3 +335,21 @@ pub record IsWholeOrAsItWasThroughout (output path : List ℕ) (course : Course)
       → Leads files path to ⊎ ((fault_of course ≢ None) × (after course files ≡ files))
   pub allowed : Each (IsAllowed to course) course
   pub comes : (files : Files) → GivesAll course files → Comes output to course files
+
+-- What is there after a run was written, over the model of a system of files.
+
+-- by the calls between two logs all of the output is where the path leads, whatever the files were
+pub record IsThere (output path : List ℕ) (log log' : FileLog) : Type 0 where
+  pub course : Course
+  pub calls : log' ≡ logged (calls_of course) log
+  pub to : Destination
+  pub leads : (files : Files) → GivesAll course files → Leads files path to
+  pub whole : (files : Files) → GivesAll course files → HasAll output to files (after course files)
+
+-- all of the output of a run is where the path of its file leads, or on standard output where it has
+-- none, and all of its messages are on standard error
+pub data IsAllWritten (run : RunView) (before now : SystemView) : Option (List ℕ) → Type 0 where
+  in_file : {path : List ℕ} → IsThere run.output path before.files now.files → now.out ≡ before.out
+      → Appends before.err.bytes now.err.bytes run.messages → IsAllWritten run before now (Some path)
+  on_standard_output : now.files ≡ before.files → Appends before.out.bytes now.out.bytes run.output
+      → Appends before.err.bytes now.err.bytes run.messages → IsAllWritten run before now None

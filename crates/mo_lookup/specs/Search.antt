@@ -1,12 +1,32 @@
 -- How many keys the binary search compares (manual, "The Format of GNU MO Files"). The key in the
 -- middle of a list is that at half its length, rounded down, counted from 0.
-use Rattle.std.specs.Prelude.{ℕ, suc, ◌+◌, ◌/◌, ◌<◌, ◌≤◌, ◌≡◌, List, [], ◌∷◌, length, take, drop, if◌then◌else◌}
+use Rattle.std.specs.Prelude.{ℕ, suc, ◌+◌, ◌-◌, ◌/◌, ◌^◌, ◌<◌, ◌≤◌, ◌≡◌, List, [], ◌∷◌, length, take, drop, if◌then◌else◌, ◌≢◌, Option, MatchOption}
 use Rattle.std.specs.declared.cmp.Ordering.{Ordering}
 use Rattle.std.specs.declared.cmp.Ordering.TheVariants.{Less, Equal, Greater}
 use Rattle.mo_file.specs.Message.{Message}
 use Rattle.mo_file.specs.Key.{key_at, key_cmp, keys, query_key}
-use Rattle.mo_lookup.specs.Bound.{search_bound}
 use Rattle.mo_lookup.specs.Query.{Query, can_be_key}
+
+-- The bound of the binary search: how often a list can be halved (manual, "The Format of GNU MO
+-- Files").
+
+-- how often n can be halved, rounded down, until it is 0, up to `most` times
+abbrev pub halvings_within : ℕ → ℕ → ℕ
+halvings_within (suc most) (suc n) = 1 + halvings_within most (suc n / 2)
+halvings_within most n = 0
+
+-- The most comparisons that a binary search of n keys makes. More than n halvings are never needed.
+-- For n above 0 it is floor(log2 n) + 1.
+unfoldable pub search_bound : ℕ → ℕ
+search_bound n = halvings_within n n
+
+-- no comparison for no keys, and one more than for half as many
+abbrev pub BoundHalves : Type 0
+BoundHalves = (search_bound 0 ≡ 0) × ((n : ℕ) → 0 < n → search_bound n ≡ 1 + search_bound (n / 2))
+
+-- so it is floor(log2 n) + 1
+abbrev pub BoundIsLogarithm : Type 0
+BoundIsLogarithm = (n : ℕ) → 0 < n → (2 ^ (search_bound n - 1) ≤ n) × (n < 2 ^ search_bound n)
 
 -- where the key in the middle is below the one that is searched, the keys after it; where it is
 -- above, those before it; and none where it is the one
@@ -44,3 +64,10 @@ SearchIsBounded = (ks : List (List ℕ)) (key : List ℕ) → comparisons ks key
 abbrev pub query_comparisons : List Message → Query → ℕ
 query_comparisons messages query =
     if can_be_key query.context query.id then comparisons (keys messages) (query_key query.context query.id) else 0
+
+-- Where a key stands in a list of keys.
+
+-- the index of the key, or none where no key is it
+abbrev pub IsIndexOf : List (List ℕ) → List ℕ → Option ℕ → Type 0
+IsIndexOf ks key index =
+    MatchOption index ((i : ℕ) → i < length ks → key_at ks i ≢ key) (λ i. (i < length ks) × (key_at ks i ≡ key))
