@@ -11,9 +11,8 @@ use Rattle.clap.specs.Walk.{is_empty, rule_of}
 use Rattle.clap.specs.declared.builder.arg.Arg.{Arg}
 use Rattle.clap.specs.declared.builder.command.Command.{Command}
 use Rattle.clap.specs.declared.builder.command.Command.TheViews.{out-Command}
-use Rattle.command_line.specs.Arguments.{Argument, IsRuleOf, arguments_of}
-use Rattle.command_line.specs.Offering.{AddsArguments, IsToolCommand, IsToolShape, OffersTools, offered, offered_tools, top_of}
-use Rattle.runs.specs.Tools.{tool_name}
+use Rattle.command_line.specs.Prelude.{Argument, IsRuleOf, arguments_of, AddsArguments, IsToolCommand, IsToolShape, OffersTools, offered, offered_tools, top_of}
+use Rattle.runs.specs.Prelude.{tool_name}
 use Rattle.runs.specs.declared.tool.Tool.{Tool}
 
 -- one pair more

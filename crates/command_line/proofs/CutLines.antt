@@ -3,8 +3,8 @@ use Rattle.std.proofs.Common.{◌≢◌, sym, subst, ℕ, ◌==◌, List, [], �
 use Rattle.std.specs.List.{onto_first}
 use Rattle.std.proofs.lemmas.Bool.{cond_both, eqb-true, eqb-false}
 use Rattle.std.proofs.lemmas.List.Elements.{All-cons, All-nil}
-use Rattle.command_line.specs.Reworded.{lines_with_ends}
-use Rattle.command_line.specs.TextLines.{ContainsLines, ended, last, none, LacksFeed, TextsAreCutIntoLines}
+use Rattle.command_line.specs.Prelude.{lines_with_ends, ContainsLines, LacksFeed, TextsAreCutIntoLines}
+use Rattle.command_line.specs.TextLines.{ended, last, none}
 
 nothing : LacksFeed []
 nothing = All-nil (λ b. b ≢ 10)

@@ -5,7 +5,7 @@ use Rattle.std.specs.Str.{IsCharBoundary}
 use Rattle.std.specs.Str.Pattern.{FindsTextPrefix, StripsPrefix}
 use Rattle.std.proofs.Math.Seq.{take-length}
 use Rattle.std.proofs.lemmas.Str.Pattern.{IsSplitOnceResult, split_once_first, starts_text}
-use Rattle.command_line.specs.OwnTip.{before_quote, word_after}
+use Rattle.command_line.specs.Prelude.{before_quote, word_after}
 
 pub no_word : (beginning text : List ℕ) → FindsTextPrefix beginning text None → word_after beginning text ≡ None
 no_word beginning text none = rw (← starts_text false beginning text none)

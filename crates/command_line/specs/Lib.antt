@@ -5,3 +5,4 @@ pub mod OwnTip
 pub mod Reworded
 pub mod TextLines
 pub mod Internal
+pub mod Prelude

@@ -6,7 +6,7 @@ use Rattle.clap.specs.Walk.{Rule, is_empty}
 use Rattle.clap.specs.declared.builder.command.Command.{Command}
 use Rattle.clap.specs.declared.builder.command.Command.TheViews.{out-Command}
 use Rattle.command_line.specs.Arguments.{Argument, IsRuleOf, arguments_of}
-use Rattle.runs.specs.Tools.{every_tool, tool_name}
+use Rattle.runs.specs.Prelude.{every_tool, tool_name}
 use Rattle.runs.specs.declared.tool.Tool.{Tool}
 
 -- the command has these arguments more, after those that it has

@@ -7,7 +7,7 @@ use Rattle.std.specs.Option.{option_or}
 use Rattle.std.specs.Str.{bytes_eq}
 use Rattle.runs.specs.declared.tool.Tool.{Tool}
 use Rattle.runs.specs.declared.tool.Tool.TheVariants.{Msgfmt, Msgunfmt, Msgattrib, Msgcat}
-use Rattle.runs.specs.Tools.{tool_name}
+use Rattle.runs.specs.Prelude.{tool_name}
 
 -- the tool's arguments are files
 abbrev pub takes_files : Option Tool → Bool

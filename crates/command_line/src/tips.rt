@@ -2,9 +2,7 @@
 ghost use Rattle.std.specs.Prelude.{◌≡◌, ◌==◌, IfOk, option_and_then, option_map, string_bytes};
 ghost use Rattle.std.specs.List.{slice_split};
 ghost use Rattle.std.specs.Option.{option_copied};
-ghost use Rattle.command_line.specs.OwnTip.{before_quote, gnu_checks, gnu_options, is_among, manual_of};
-ghost use Rattle.command_line.specs.OwnTip.{option_tip, own_tip, takes_files, tip_on, tool_tip, unknown_option};
-ghost use Rattle.command_line.specs.OwnTip.{unknown_tool, word_after};
+ghost use Rattle.command_line.specs.Prelude.{before_quote, gnu_checks, gnu_options, is_among, manual_of, option_tip, own_tip, takes_files, tip_on, tool_tip, unknown_option, unknown_tool, word_after};
 
 use runs::Tool;
 use std::alloc::{AllocError, Global};

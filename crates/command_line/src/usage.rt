@@ -1,9 +1,7 @@
 //! The command line with `help` spelled out, and the texts of its faults.
 ghost use Rattle.std.specs.Prelude.{◌≡◌, IfOk, map, string_bytes};
 ghost use Rattle.std.specs.Option.{option_copied};
-ghost use Rattle.command_line.specs.Reworded.{is_file_tip, is_left_out, reworded, reworded_line, single_spaced};
-ghost use Rattle.command_line.specs.Reworded.{spaced_line};
-ghost use Rattle.command_line.specs.SpelledOut.{spelled_out};
+ghost use Rattle.command_line.specs.Prelude.{is_file_tip, is_left_out, reworded, reworded_line, single_spaced, spaced_line, spelled_out};
 
 use crate::tips;
 use runs::Tool;

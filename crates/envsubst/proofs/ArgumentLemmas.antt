@@ -2,11 +2,8 @@
 use Rattle.std.proofs.Common.{◌≡◌, ℕ, List, Option, Result, option_map, subst}
 use Rattle.std.specs.Borrow.{Bor}
 use Rattle.runs.specs.declared.tool_fault.ToolFault.{ToolFault}
-use Rattle.envsubst.specs.Envsubst.{EndsAs}
-use Rattle.envsubst.specs.References.{names_in}
-use Rattle.envsubst.specs.Substitution.{names_given, pairs_in, values_of, values_of_slices}
-use Rattle.envsubst.specs.Variables.{variables_of}
-use Rattle.envsubst.specs.ByArguments.{RunsEnvsubst, substituted}
+use Rattle.envsubst.specs.Prelude.{EndsAs, names_in, names_given, pairs_in, values_of, values_of_slices, variables_of, RunsEnvsubst}
+use Rattle.envsubst.specs.ByArguments.{substituted}
 use Rattle.envsubst.specs.Usage.{replaced}
 
 -- variables are replaced, by the entries of an environment and the names in a SHELL-FORMAT

@@ -3,10 +3,7 @@ use Rattle.std.proofs.Common.{◌≡◌, inl, inr, ℕ, List, ◌++◌, Option, 
 use Rattle.std.specs.Io.KnownBytes.{Appends}
 use Rattle.runs.specs.declared.tool_fault.ToolFault.{ToolFault}
 use Rattle.runs.specs.declared.tool_fault.ToolFault.TheVariants.{ReadFault, WriteFault, OutOfMemory}
-use Rattle.envsubst.specs.Envsubst.{EndsAs, HasGoneOut, StopsWithin, StopsAtEnd}
-use Rattle.envsubst.specs.EnvsubstLaws.{Took, TookAll, TookAllRead, TookBeginning, TookBeginningOfRead, Replaces}
-use Rattle.envsubst.specs.Stream.{Stops}
-use Rattle.envsubst.specs.Substitution.{Values, substitution}
+use Rattle.envsubst.specs.Prelude.{EndsAs, HasGoneOut, StopsWithin, StopsAtEnd, Took, TookAll, TookAllRead, TookBeginning, TookBeginningOfRead, Replaces, Stops, Values, substitution}
 use Rattle.envsubst.proofs.ReplacedReferences.{references_replaced}
 
 replaced : (values : Values) (text result : List ℕ) → result ≡ substitution values text → Replaces values text result

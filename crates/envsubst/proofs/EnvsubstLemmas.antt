@@ -6,10 +6,8 @@ use Rattle.std.proofs.lemmas.List.{take_all}
 use Rattle.std.specs.Io.KnownBytes.{Appends, Consumes, Keeps, IsAtEnd}
 use Rattle.runs.specs.declared.tool_fault.ToolFault.{ToolFault}
 use Rattle.runs.specs.declared.tool_fault.ToolFault.TheVariants.{ReadFault, WriteFault, OutOfMemory}
-use Rattle.runs.specs.Device.{AppendsPrefix}
-use Rattle.envsubst.specs.Envsubst.{EndsAs, HasGoneOut, Substitutes, StopsAtEnd, StopsWithin}
-use Rattle.envsubst.specs.Stream.{Advances, Stops}
-use Rattle.envsubst.specs.Substitution.{Values, values_of, substitution}
+use Rattle.runs.specs.Prelude.{AppendsPrefix}
+use Rattle.envsubst.specs.Prelude.{EndsAs, HasGoneOut, Substitutes, StopsAtEnd, StopsWithin, Advances, Stops, Values, values_of, substitution}
 use Rattle.envsubst.proofs.StreamLemmas.{Advances-none, Advances-trans, Advances-more, Stops-after}
 
 -- the bytes that were read have come out, but for those that are held

@@ -6,7 +6,7 @@ use Rattle.std.proofs.lemmas.Bool.{cond-false, cases_Bool}
 use Rattle.std.proofs.lemmas.List.{drop_all}
 use Rattle.memchr.specs.Find.{is_byte}
 use Rattle.locale_names.proofs.SearchLemmas.{byte-here, byte-later}
-use Rattle.envsubst.specs.References.{reference_after, names_in}
+use Rattle.envsubst.specs.Prelude.{reference_after, names_in}
 use Rattle.locale_names.proofs.SearchLemmas.{byte-next}
 
 -- no name begins before the first `$`

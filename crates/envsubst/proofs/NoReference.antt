@@ -3,8 +3,7 @@ use Rattle.std.proofs.Common.{◌≡◌, ℕ, Bool, true, false, eqb, cond, ◌�
 use Rattle.std.specs.List.{cons_option}
 use Rattle.std.specs.Option.{option_map}
 use Rattle.std.proofs.lemmas.Bool.{cases_Bool, cond-true, cond-false, eqb-true}
-use Rattle.envsubst.specs.References.{Reference, names_in, reference_after}
-use Rattle.envsubst.specs.Substitution.{Values, replacement_of, substitution, substitution_after}
+use Rattle.envsubst.specs.Prelude.{Reference, names_in, reference_after, Values, replacement_of, substitution, substitution_after}
 use Rattle.envsubst.proofs.SubstitutionLemmas.{plain, not-replaced}
 
 neither : {X : Type 0} (o : Option X) (l : List X) → cons_option o l ≡ [] → (o ≡ None) × (l ≡ [])

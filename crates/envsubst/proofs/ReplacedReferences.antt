@@ -4,9 +4,8 @@ use Rattle.std.specs.Prelude.{◌↔◌}
 use Rattle.std.specs.List.{cons_option}
 use Rattle.std.specs.Option.{option_map}
 use Rattle.std.proofs.lemmas.Bool.{cases_Bool, cond_both, cond-false, eqb-true, eqb-false}
-use Rattle.envsubst.specs.References.{Reference, reference_after, names_in}
-use Rattle.envsubst.specs.Substitution.{Values, Replacement, replacement_of, substituted, substitution_after, substitution}
-use Rattle.envsubst.specs.EnvsubstLaws.{SpellsReference, BeginsNoReplaced, Replaces, nothing, copied, replaced, HoldsNames, no_text, no_reference, reference}
+use Rattle.envsubst.specs.Prelude.{Reference, reference_after, names_in, Values, Replacement, replacement_of, substituted, substitution_after, substitution, SpellsReference, BeginsNoReplaced, Replaces, HoldsNames}
+use Rattle.envsubst.specs.EnvsubstLaws.{nothing, copied, replaced, no_text, no_reference, reference}
 use Rattle.envsubst.proofs.SpeltReferences.{reference_read, reference_spelt}
 use Rattle.envsubst.proofs.SubstitutionLemmas.{plain, not-replaced, replacement-some, replaced as is-replaced}
 

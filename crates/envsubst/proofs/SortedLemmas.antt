@@ -20,7 +20,7 @@ use Rattle.std.proofs.lemmas.List.Folds.{list_any_at, list_any_none}
 use Rattle.std.proofs.lemmas.List.Sorted.{searchable_from_sorted, list_any-IsPermutation}
 use Rattle.std.proofs.lemmas.Map.Text.{is_eq-slice_cmp}
 use Rattle.envsubst.specs.Internal.Sorted.{name_cmp, AreNamesSorted, AreVariablesSorted}
-use Rattle.envsubst.specs.Substitution.{value_of, is_replaced, names_given, values_of, pairs_in}
+use Rattle.envsubst.specs.Prelude.{value_of, is_replaced, names_given, values_of, pairs_in}
 use Rattle.envsubst.proofs.VariableLemmas.{value_of-next, list_any-map}
 
 abbrev pub Name : Type 0

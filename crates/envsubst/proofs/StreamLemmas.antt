@@ -4,9 +4,8 @@ use Rattle.std.specs.List.{position_or_len}
 use Rattle.std.proofs.lemmas.List.{drop-append-le, drop-drop, drop_more, take_rest}
 use Rattle.std.proofs.KnownBytes.{Appends-nil, Appends-trans}
 use Rattle.memchr.specs.Find.{is_byte}
-use Rattle.runs.specs.Device.{AppendsPrefix}
-use Rattle.envsubst.specs.Substitution.{Values, substitution}
-use Rattle.envsubst.specs.Stream.{Advances, Stops, FeedCall, AreFeedCalls, pieces_of, written_in, held_after, FeedCallsAgree}
+use Rattle.runs.specs.Prelude.{AppendsPrefix}
+use Rattle.envsubst.specs.Prelude.{Values, substitution, Advances, Stops, FeedCall, AreFeedCalls, pieces_of, written_in, held_after, FeedCallsAgree}
 use Rattle.locale_names.proofs.SearchLemmas.{byte-at}
 use Rattle.envsubst.proofs.SubstitutionLemmas.{plain-prefix}
 

@@ -6,13 +6,11 @@ use Rattle.std.proofs.lemmas.Bool.{and_parts, cond-false, cases_Bool, true≢fal
 use Rattle.std.proofs.lemmas.List.{drop_at}
 use Rattle.memchr.specs.Find.{is_byte}
 use Rattle.locale_names.proofs.SearchLemmas.{byte-here, byte-later}
-use Rattle.envsubst.specs.References.{is_name_byte, reference_after}
-use Rattle.envsubst.specs.Substitution.{Values, Replacement, replacement_of, substituted, substitution_after, substitution}
+use Rattle.envsubst.specs.Prelude.{is_name_byte, reference_after, Values, Replacement, replacement_of, substituted, substitution_after, substitution, is_begun_name}
 use Rattle.std.specs.Borrow.{Bor}
 use Rattle.envsubst.specs.declared.holding.Decision.TheVariants.{Ends, Closes, Copies}
 use Rattle.envsubst.specs.declared.holding.Effect.{Effect}
 use Rattle.envsubst.specs.declared.holding.Effect.TheVariants.{Held, Copied, Replaced}
-use Rattle.envsubst.specs.PendingReference.{is_begun_name}
 use Rattle.envsubst.specs.Internal.PendingSteps.{after_dollar, Decides, ComesOut, ReplacesName, Ending}
 use Rattle.envsubst.proofs.ReferenceLemmas.{name_byte-not, begun-bytes, dollar-no_name, ending-none, ending-some, after-closed}
 

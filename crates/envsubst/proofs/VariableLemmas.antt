@@ -4,7 +4,7 @@ use Rattle.std.specs.Borrow.{Bor}
 use Rattle.std.specs.List.{list_any}
 use Rattle.std.specs.Str.{bytes_eq}
 use Rattle.std.proofs.lemmas.List.{drop_more}
-use Rattle.envsubst.specs.Substitution.{value_of, pairs_in}
+use Rattle.envsubst.specs.Prelude.{value_of, pairs_in}
 
 -- the variable at an index, and those after it
 pub value_of-next : (vars : List (Bor (List ℕ) × Bor (List ℕ))) (name : List ℕ) (i : ℕ)

@@ -9,8 +9,8 @@ use Rattle.std.proofs.lemmas.List.Elements.{All-nil, All-cons, All-head, All-tai
 use Rattle.std.proofs.lemmas.List.Folds.{Any-from_list_any, list_any-from_Any}
 use Rattle.std.proofs.lemmas.Slice.Eq.{bytes_eq-Decides}
 use Rattle.std.proofs.lemmas.Option.{none-some}
-use Rattle.envsubst.specs.Substitution.{value_of, is_replaced, values_of}
-use Rattle.envsubst.specs.EnvsubstLaws.{HasValue, unset, set, IsReplaced}
+use Rattle.envsubst.specs.Prelude.{value_of, is_replaced, values_of, HasValue, IsReplaced}
+use Rattle.envsubst.specs.EnvsubstLaws.{unset, set}
 
 abbrev Variable : Type 0
 Variable = List ℕ × List ℕ

@@ -3,7 +3,7 @@ use Rattle.std.specs.Prelude.{◌≡◌, ℕ, List, Option, option_map, Result, 
 use Rattle.std.specs.Io.KnownBytes.{Appends}
 use Rattle.runs.specs.declared.tool_fault.ToolFault.{ToolFault}
 use Rattle.runs.specs.declared.tool_fault.ToolFault.TheVariants.{ReadFault, WriteFault, OutOfMemory}
-use Rattle.runs.specs.Device.{AppendsPrefix}
+use Rattle.runs.specs.Prelude.{AppendsPrefix}
 use Rattle.envsubst.specs.Envsubst.{EndsAs}
 use Rattle.envsubst.specs.References.{names_in, name_lines}
 use Rattle.envsubst.specs.Substitution.{values_of}

@@ -4,7 +4,7 @@ use Rattle.std.specs.Prelude.{◌⊎◌, ◌≤◌, ℕ, List, length, Option, I
 use Rattle.std.specs.Io.KnownBytes.{Appends, Consumes}
 use Rattle.runs.specs.declared.tool_fault.ToolFault.{ToolFault}
 use Rattle.runs.specs.declared.tool_fault.ToolFault.TheVariants.{ReadFault, WriteFault, OutOfMemory}
-use Rattle.runs.specs.Device.{AppendsPrefix}
+use Rattle.runs.specs.Prelude.{AppendsPrefix}
 use Rattle.envsubst.specs.Substitution.{Values, substitution}
 use Rattle.envsubst.specs.Stream.{Advances, Stops}
 

@@ -9,3 +9,4 @@ pub mod Variables
 pub mod ByArguments
 pub mod Usage
 pub mod Internal
+pub mod Prelude

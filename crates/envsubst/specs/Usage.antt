@@ -5,7 +5,7 @@ use Rattle.std.specs.Option.{option_copied}
 use Rattle.envsubst.specs.declared.arguments.EnvsubstArguments.{EnvsubstArguments}
 use Rattle.envsubst.specs.declared.arguments.EnvsubstArguments.TheVariants.{Names, Replaced}
 use Rattle.runs.specs.declared.program_fault.ProgramFault.{ProgramFault}
-use Rattle.runs.specs.ArgumentValues.{IsTaken}
+use Rattle.runs.specs.Prelude.{IsTaken}
 
 -- what envsubst is asked for: the names in a SHELL-FORMAT, or the input with the variables
 -- replaced, all or those that a SHELL-FORMAT refers to

@@ -1,6 +1,6 @@
 //! The arguments of envsubst after its options.
 ghost use Rattle.std.specs.Prelude.{◌≡◌, map, option_map};
-ghost use Rattle.envsubst.specs.Usage.{AreEnvsubstArguments, envsubst_usage, envsubst_arguments};
+ghost use Rattle.envsubst.specs.Prelude.{AreEnvsubstArguments, envsubst_usage, envsubst_arguments};
 
 use runs::{Arguments, ProgramFault};
 

@@ -1,10 +1,7 @@
 //! envsubst by its arguments.
 ghost use Rattle.std.specs.Prelude.{◌≡◌, ◌+◌, ◌^◌, ◌<◌, ◌≤◌, IfOk, IfSome, OnErr, OnOk, Err, length, map, option_map};
 ghost use Rattle.std.specs.Option.{option_copied};
-ghost use Rattle.envsubst.specs.ByArguments.{RunsEnvsubst, WritesNames};
-ghost use Rattle.envsubst.specs.Envsubst.{ReadsFail, write_failures};
-ghost use Rattle.envsubst.specs.References.{names_in};
-ghost use Rattle.envsubst.specs.Usage.{envsubst_arguments};
+ghost use Rattle.envsubst.specs.Prelude.{RunsEnvsubst, WritesNames, ReadsFail, write_failures, names_in, envsubst_arguments};
 
 use crate::arguments::EnvsubstArguments;
 use crate::reference::{name_lines, names};

@@ -1,9 +1,8 @@
 //! The bytes that may begin a reference, held back until the next ones decide.
 ghost use Rattle.std.specs.Prelude.{◌≡◌, ◌<◌, true, false, ◌∷◌, [], length, take, IfSome};
-ghost use Rattle.envsubst.specs.PendingReference.{is_undecided, is_begun_name};
+ghost use Rattle.envsubst.specs.Prelude.{is_undecided, is_begun_name, Values};
 ghost use Rattle.envsubst.specs.Internal.PendingSteps.{Decides, ComesOut, ReplacesName, IsStep, Ending, after_dollar};
 ghost use Rattle.envsubst.specs.Internal.Sorted.{values_of_replacements};
-ghost use Rattle.envsubst.specs.Substitution.{Values};
 
 use crate::reference::{LONGEST_NAME, begins_with, is_letter, is_name, is_name_byte, name_prefix};
 use crate::replacements::Replacements;

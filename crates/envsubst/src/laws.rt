@@ -1,11 +1,7 @@
 //! Laws of substitution, each the contract of a function that does nothing: a call brings the law
 //! into a proof.
 ghost use Rattle.std.specs.Prelude.{◌≡◌, ◌↔◌, [], ℕ, List, Option, Some, Ok, Err};
-ghost use Rattle.envsubst.specs.Envsubst.{EndsAs};
-ghost use Rattle.envsubst.specs.EnvsubstLaws.{TookAll, TookAllRead, TookBeginning, TookBeginningOfRead, HasValue, HoldsNames, IsReplaced, Replaces};
-ghost use Rattle.envsubst.specs.References.{names_in};
-ghost use Rattle.envsubst.specs.Stream.{FeedCallsAgree};
-ghost use Rattle.envsubst.specs.Substitution.{Values, substitution, values_of};
+ghost use Rattle.envsubst.specs.Prelude.{EndsAs, TookAll, TookAllRead, TookBeginning, TookBeginningOfRead, HasValue, HoldsNames, IsReplaced, Replaces, names_in, FeedCallsAgree, Values, substitution, values_of};
 ghost use Rattle.runs.specs.declared.tool_fault.ToolFault.{ToolFault};
 
 /// However a text is cut into pieces, the calls that take them write, together with what is still

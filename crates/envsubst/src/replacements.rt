@@ -3,7 +3,7 @@
 ghost use Rattle.std.specs.Prelude.{◌≡◌};
 ghost use Rattle.std.specs.Option.{option_map};
 ghost use Rattle.envsubst.specs.Internal.Sorted.{values_of_replacements};
-ghost use Rattle.envsubst.specs.Substitution.{is_replaced, names_given, pairs_in, value_of};
+ghost use Rattle.envsubst.specs.Prelude.{is_replaced, names_given, pairs_in, value_of};
 
 use crate::sorted::sorted_value;
 use std::marker::Model;

@@ -3,7 +3,7 @@ ghost use Rattle.std.specs.Prelude.{◌≡◌, ℕ, List, map, option_map, true,
 ghost use Rattle.std.specs.List.{list_any};
 ghost use Rattle.std.specs.Str.{bytes_eq};
 ghost use Rattle.envsubst.specs.Internal.Sorted.{AreNamesSorted, AreVariablesSorted};
-ghost use Rattle.envsubst.specs.Substitution.{is_replaced, names_given, pairs_in, value_of};
+ghost use Rattle.envsubst.specs.Prelude.{is_replaced, names_given, pairs_in, value_of};
 
 use std::alloc::{AllocError, Global};
 

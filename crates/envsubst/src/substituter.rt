@@ -2,12 +2,9 @@
 //! gettext manual).
 ghost use Rattle.std.specs.Prelude.{◌≡◌, ◌+◌, ◌-◌, ◌*◌, ◌^◌, ◌<◌, ◌≤◌, min, true, false, [], ◌++◌, drop, length, if◌then◌else◌, is_err, IsErr, IfOk, OnOk, OnErr, Err};
 ghost use Rattle.std.specs.Io.KnownBytes.{Appends, Keeps};
-ghost use Rattle.runs.specs.Device.{AppendsPrefix};
-ghost use Rattle.envsubst.specs.PendingReference.{is_undecided};
+ghost use Rattle.runs.specs.Prelude.{AppendsPrefix};
+ghost use Rattle.envsubst.specs.Prelude.{is_undecided, Advances, Stops, values_of_substituter, substitution, pairs_in, names_given};
 ghost use Rattle.envsubst.specs.Internal.Sorted.{values_of_replacements};
-ghost use Rattle.envsubst.specs.Stream.{Advances, Stops};
-ghost use Rattle.envsubst.specs.SubstituterView.{values_of_substituter};
-ghost use Rattle.envsubst.specs.Substitution.{substitution, pairs_in, names_given};
 
 use crate::holding::{Step, ending, next_step};
 use crate::replacements::Replacements;

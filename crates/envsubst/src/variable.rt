@@ -1,8 +1,7 @@
 //! The variables of an environment ("Environment Variables" of the manual of the C library).
 ghost use Rattle.std.specs.Prelude.{◌≡◌, ◌≢◌, ◌==◌, ◌+◌, ◌<◌, ◌++◌, ◌∷◌, All, IfOk, IfSome, IsNone, length, take, drop, position, map};
 ghost use Rattle.std.specs.Option.{option_map};
-ghost use Rattle.envsubst.specs.Substitution.{pairs_in};
-ghost use Rattle.envsubst.specs.Variables.{variable_of, variables_of};
+ghost use Rattle.envsubst.specs.Prelude.{pairs_in, variable_of, variables_of};
 
 use std::alloc::{AllocError, Global};
 

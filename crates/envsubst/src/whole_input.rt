@@ -1,9 +1,6 @@
 //! Substitution of a whole input ("Invoking the envsubst program" of the GNU gettext manual).
 ghost use Rattle.std.specs.Prelude.{◌≡◌, ◌+◌, ◌^◌, ◌<◌, ◌≤◌, ◌≢◌, ◌++◌, [], None, Some, length, false, IfOk, IfSome, OnOk, OnErr, Err};
-ghost use Rattle.envsubst.specs.Envsubst.{ReadsFail, write_failures, EndsAs};
-ghost use Rattle.envsubst.specs.Stream.{Advances, Stops};
-ghost use Rattle.envsubst.specs.SubstituterView.{values_of_substituter};
-ghost use Rattle.envsubst.specs.Substitution.{values_of_slices};
+ghost use Rattle.envsubst.specs.Prelude.{ReadsFail, write_failures, EndsAs, Advances, Stops, values_of_substituter, values_of_slices};
 
 use crate::sorted::{sorted_names, sorted_variables};
 use crate::substituter::Substituter;

@@ -2,8 +2,9 @@
 use Rattle.std.proofs.Common.{◌≡◌, ◌+◌, ◌<◌, ◌≤◌, ℕ, List, [], ◌∷◌, ◌++◌, Option, None, Some, inl, inr, map, drop, get_or, length, drop_of_length-le, append-nil, append_assoc, ap, subst}
 use Rattle.std.proofs.lemmas.List.{drop_more}
 use Rattle.std.specs.Global.{Vec}
-use Rattle.gettext.specs.Catalogues.{AreCatalogues, AsksAt, AsksPaths, IsCatalogueAt, done, found, none, next, skipped}
-use Rattle.runs.specs.Inputs.{Asked, Reading, Stays, NamedFile}
+use Rattle.gettext.specs.Prelude.{AreCatalogues, AsksAt, AsksPaths, IsCatalogueAt}
+use Rattle.gettext.specs.Catalogues.{done, found, none, next, skipped}
+use Rattle.runs.specs.Prelude.{Asked, Reading, Stays, NamedFile}
 
 abbrev pub path_texts : List (Vec ℕ) → List (List ℕ)
 path_texts paths = map (λ path. path.items) paths

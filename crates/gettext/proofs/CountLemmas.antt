@@ -7,7 +7,7 @@ use Rattle.std.proofs.lemmas.Bool.{cond-true, cond-false, lt-ltb, ltb-true, le-l
 use Rattle.std.proofs.lemmas.Int.Digits.{digits_value_more}
 use Rattle.std.proofs.lemmas.List.Folds.{list_all_at, list_all_more}
 use Rattle.std.proofs.lemmas.Str.Parse.{digits_value-take-le}
-use Rattle.gettext.specs.CountArgument.{are_digits, is_count, count_in}
+use Rattle.gettext.specs.Prelude.{are_digits, is_count, count_in}
 
 -- a byte that is no digit is in no number
 pub other_byte : (text : List ℕ) (i : ℕ) → i < length text → 10 ≤ digit_value (get_or text i 0)

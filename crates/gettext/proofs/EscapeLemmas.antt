@@ -7,7 +7,7 @@ use Rattle.std.proofs.lemmas.List.{drop_all, take_min}
 use Rattle.memchr.specs.Find.{is_byte}
 use Rattle.locale_names.proofs.SearchLemmas.{byte-here, byte-later}
 use Rattle.gettext.specs.declared.escape.Escape.{Escape}
-use Rattle.gettext.specs.Escapes.{is_octal, octal_prefix, octal_value, letter_escape, escape_after, given_bytes, given_bytes_after, expansion, has_no_newline}
+use Rattle.gettext.specs.Prelude.{is_octal, octal_prefix, octal_value, letter_escape, escape_after, given_bytes, given_bytes_after, expansion, has_no_newline}
 use Rattle.locale_names.proofs.SearchLemmas.{byte-at}
 
 -- skipped bytes leave the text after them

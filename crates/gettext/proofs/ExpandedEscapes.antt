@@ -4,8 +4,8 @@ use Rattle.std.specs.Prelude.{◌↔◌}
 use Rattle.std.specs.List.{filter_map, list_any}
 use Rattle.std.proofs.lemmas.Bool.{cond_both, eqb-true, eqb-false, ne_eqb}
 use Rattle.gettext.specs.declared.escape.Escape.{Escape}
-use Rattle.gettext.specs.Escapes.{escape_after, given_bytes, given_bytes_after, expansion, has_no_newline}
-use Rattle.gettext.specs.Expanding.{SpellsByte, IsNoEscape, Expands, nothing, plain, escape, no_newline, stays}
+use Rattle.gettext.specs.Prelude.{escape_after, given_bytes, given_bytes_after, expansion, has_no_newline, SpellsByte, IsNoEscape, Expands}
+use Rattle.gettext.specs.Expanding.{nothing, plain, escape, no_newline, stays}
 use Rattle.gettext.proofs.EscapeLemmas.{given_bytes-plain, given_bytes-stays, given_bytes-escape}
 use Rattle.gettext.proofs.SpeltEscapes.{byte_read, c_read, ByteSays, escape_spelt}
 

@@ -4,10 +4,11 @@ use Rattle.std.proofs.Math.Bool.{or-false}
 use Rattle.std.proofs.lemmas.List.{drop_more, length-map}
 use Rattle.std.specs.Borrow.{Bor}
 use Rattle.std.specs.List.{join_with_byte, list_any}
-use Rattle.mo_lookup.specs.CatalogView.{CatalogView}
+use Rattle.mo_lookup.specs.Prelude.{CatalogView}
 use Rattle.gettext.specs.declared.plan.Opened.{Opened}
-use Rattle.gettext.specs.Gettext.{Opens, none, opened, refused}
-use Rattle.runs.specs.Inputs.{NamedFile, named_file, named_files}
+use Rattle.gettext.specs.Prelude.{Opens}
+use Rattle.gettext.specs.Gettext.{none, opened, refused}
+use Rattle.runs.specs.Prelude.{NamedFile, named_file, named_files}
 use Rattle.gettext.specs.Internal.OpensFile.{OpensFile}
 
 -- whatever the files from i on add completes what the files before made

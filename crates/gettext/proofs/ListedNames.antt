@@ -12,12 +12,11 @@ use Rattle.std.proofs.lemmas.List.Splits.{join_with_byte-slice_split, slice_spli
 use Rattle.std.proofs.lemmas.List.Sums.{take_while-cons}
 use Rattle.std.proofs.lemmas.Slice.Eq.{bytes_eq-Decides}
 use Rattle.memchr.specs.Find.{is_byte}
-use Rattle.locale_names.specs.Names.{candidates, candidates_of_name, is_path_part, is_c_locale, language_parts, languages}
+use Rattle.locale_names.specs.Prelude.{candidates, candidates_of_name, is_path_part, is_c_locale, language_parts, languages}
 use Rattle.locale_names.proofs.SearchLemmas.{nil-from_length}
 use Rattle.gettext.specs.declared.candidates.Environment.{Environment}
-use Rattle.gettext.specs.Environments.{environment_view}
-use Rattle.gettext.specs.Locales.{non_empty, locale_of, candidates_of, distinct}
-use Rattle.gettext.specs.Candidates.{Lacks, IsCLocale, CanStandInPath, Count, no_part, ends, omitted, counts, Lists, AreLanguages, untranslated, no_path, the_locale, of_language, FirstPlaces, AreCandidates}
+use Rattle.gettext.specs.Prelude.{environment_view, non_empty, locale_of, candidates_of, distinct, Lacks, IsCLocale, CanStandInPath, Count, Lists, AreLanguages, FirstPlaces, AreCandidates}
+use Rattle.gettext.specs.Candidates.{no_part, ends, omitted, counts, untranslated, no_path, the_locale, of_language}
 use Rattle.gettext.proofs.ChoiceLemmas.{says, from_text, from_no_text, locale_chosen}
 use Rattle.gettext.proofs.NameParts.{have_five, are_five}
 use Rattle.gettext.proofs.NamesOnce.{places_of, are_places, neither}

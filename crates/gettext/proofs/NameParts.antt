@@ -6,9 +6,10 @@ use Rattle.std.proofs.lemmas.Bool.{cases_Bool, eqb-true, eqb-false, eq-eqb, ne_e
 use Rattle.std.proofs.lemmas.List.{take-append-drop}
 use Rattle.std.proofs.lemmas.List.Elements.{All-nil, All-cons, All-head, All-tail}
 use Rattle.memchr.specs.Find.{is_byte}
-use Rattle.locale_names.specs.Names.{before, from_first, candidates_of_name}
+use Rattle.locale_names.specs.Prelude.{before, from_first, candidates_of_name}
 use Rattle.locale_names.proofs.SearchLemmas.{byte-here, byte-later}
-use Rattle.gettext.specs.Candidates.{Lacks, IsEmptyOrBegins, HasFive, five, HaveFive, no_name, next_name}
+use Rattle.gettext.specs.Prelude.{Lacks, IsEmptyOrBegins, HasFive, HaveFive}
+use Rattle.gettext.specs.Candidates.{five, no_name, next_name}
 
 -- a text is cut at the first such byte
 lacks : (a : ℕ) (text : List ℕ) → Lacks a (before a text)

@@ -8,8 +8,8 @@ use Rattle.std.proofs.lemmas.Bool.{cases_Bool, cond-true, cond-false, not-true}
 use Rattle.std.proofs.lemmas.Bool.Decides.{Decides-by_and, Decides-not}
 use Rattle.std.proofs.lemmas.List.Folds.{Any-from_list_any, list_any-from_Any}
 use Rattle.std.proofs.lemmas.Slice.Eq.{bytes_eq-Decides}
-use Rattle.gettext.specs.Locales.{with_name, distinct}
-use Rattle.gettext.specs.Candidates.{FirstPlaces, no_more, repeated, first}
+use Rattle.gettext.specs.Prelude.{with_name, distinct, FirstPlaces}
+use Rattle.gettext.specs.Candidates.{no_more, repeated, first}
 
 abbrev is_in : List (List ℕ) → List ℕ → Bool
 is_in seen name = list_any (λ known. bytes_eq known name) seen

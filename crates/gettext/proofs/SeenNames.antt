@@ -12,7 +12,7 @@ use Rattle.std.proofs.lemmas.Grind.{fold-append}
 use Rattle.std.proofs.lemmas.List.{take_more, map-append}
 use Rattle.std.proofs.lemmas.List.Folds.{list_any-append}
 use Rattle.std.proofs.Math.Bool.{or-false}
-use Rattle.gettext.specs.Locales.{distinct, with_name}
+use Rattle.gettext.specs.Prelude.{distinct, with_name}
 
 -- the tree has exactly these names
 abbrev pub HasNames : BTreeSet (Bor (List ℕ)) → List (List ℕ) → Type 0

@@ -1,12 +1,9 @@
 -- The run of the catalogues that are read.
 use Rattle.std.proofs.Common.{◌≡◌, ◌∙◌, ℕ, List, ap, subst, take}
 use Rattle.std.specs.Borrow.{Bor}
-use Rattle.gettext.specs.Catalogues.{catalogue_files}
-use Rattle.gettext.specs.Gettext.{IsLookUpRun, Request}
-use Rattle.gettext.specs.WholeRun.{catalogue_limit}
+use Rattle.gettext.specs.Prelude.{catalogue_files, IsLookUpRun, Request, catalogue_limit}
 use Rattle.gettext.specs.declared.catalogues.CatalogueFile.{CatalogueFile}
-use Rattle.runs.specs.Inputs.{named_files}
-use Rattle.runs.specs.Run.{RunView}
+use Rattle.runs.specs.Prelude.{named_files, RunView}
 
 pub of_found : (request : Request) (run : RunView) (given borrowed : List (Bor (List ℕ) × Bor (List ℕ)))
     (read found : List CatalogueFile) → given ≡ borrowed

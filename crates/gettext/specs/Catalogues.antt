@@ -7,7 +7,8 @@ use Rattle.gettext.specs.declared.candidates.Environment.{Environment}
 use Rattle.gettext.specs.declared.catalogues.CatalogueFile.{CatalogueFile}
 use Rattle.runs.specs.declared.inputs.InputFault.{InputFault}
 use Rattle.runs.specs.declared.inputs.InputFault.TheVariants.{OutOfMemory}
-use Rattle.runs.specs.Inputs.{Asked, Asks, Reading, gives, refuses, file_of, NamedFile}
+use Rattle.runs.specs.Prelude.{Asked, Asks, Reading, NamedFile}
+use Rattle.runs.specs.Inputs.{gives, refuses, file_of}
 
 -- what contracts see of a catalogue's file
 abbrev pub catalogue_file : CatalogueFile → NamedFile

@@ -3,15 +3,11 @@ use Rattle.std.specs.Prelude.{◌≡◌, refl, ℕ, Bool, true, false, not, ◌&
 use Rattle.std.specs.List.{join_with_byte, list_any}
 use Rattle.mo_file.specs.declared.byte_order.Order.{Order}
 use Rattle.mo_file.specs.declared.fault.MoError.{MoError}
-use Rattle.mo_file.specs.MoFile.{IsMoFile}
-use Rattle.mo_file.specs.Fault.{IsFirstFault}
-use Rattle.mo_lookup.specs.Chain.{chain_answered}
-use Rattle.mo_lookup.specs.CatalogView.{CatalogView, IsCatalogView}
+use Rattle.mo_file.specs.Prelude.{IsMoFile, IsFirstFault}
+use Rattle.mo_lookup.specs.Prelude.{chain_answered, CatalogView, IsCatalogView}
 use Rattle.gettext.specs.CountArgument.{count_in}
 use Rattle.gettext.specs.Escapes.{expansion, has_no_newline, escape_after, given_bytes_after, letter_escape}
-use Rattle.runs.specs.FaultText.{fault_line, mo_text}
-use Rattle.runs.specs.Inputs.{NamedFile}
-use Rattle.runs.specs.Run.{RunView}
+use Rattle.runs.specs.Prelude.{fault_line, mo_text, NamedFile, RunView}
 
 -- The files that are catalogues make the chain, in order; each other one is reported by a line, in order.
 pub data Opens (tool : List ℕ) : List NamedFile → List CatalogView → List ℕ → Type 0 where

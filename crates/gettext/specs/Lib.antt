@@ -16,3 +16,4 @@ pub mod UsageView
 pub mod ArgumentValues
 pub mod WholeRun
 pub mod Internal
+pub mod Prelude

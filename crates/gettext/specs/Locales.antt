@@ -5,7 +5,7 @@ use Rattle.std.specs.Borrow.{Bor}
 use Rattle.std.specs.List.{list_any}
 use Rattle.std.specs.Option.{option_or}
 use Rattle.std.specs.Str.{bytes_eq}
-use Rattle.locale_names.specs.Names.{candidates}
+use Rattle.locale_names.specs.Prelude.{candidates}
 use Rattle.gettext.specs.declared.candidates.Environment.{Environment}
 
 -- a variable counts where it is set and not empty

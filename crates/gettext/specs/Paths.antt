@@ -2,7 +2,7 @@
 -- Catalog Files" of the GNU gettext manual).
 use Rattle.std.specs.Prelude.{◌≡◌, refl, ℕ, if◌then◌else◌, List, [], ◌++◌, map, Option, Some, None, unwrap_or, codes}
 use Rattle.std.specs.Option.{option_or, option_copied}
-use Rattle.locale_names.specs.Names.{is_path_part}
+use Rattle.locale_names.specs.Prelude.{is_path_part}
 use Rattle.gettext.specs.Locales.{non_empty, candidates_of}
 use Rattle.gettext.specs.declared.candidates.Environment.{Environment}
 

@@ -3,10 +3,7 @@
 use Rattle.std.specs.Prelude.{◌≡◌, ◌-◌, ◌^◌, ℕ, List, Result, Err, codes, take}
 use Rattle.runs.specs.declared.program_fault.ProgramFault.{ProgramFault}
 use Rattle.runs.specs.declared.program_fault.ProgramFault.TheVariants.{OutOfMemory}
-use Rattle.runs.specs.Inputs.{NamedFile}
-use Rattle.runs.specs.Outputs.{SystemView}
-use Rattle.runs.specs.Run.{RunView}
-use Rattle.runs.specs.ToolRuns.{Writes}
+use Rattle.runs.specs.Prelude.{NamedFile, SystemView, RunView, Writes}
 use Rattle.gettext.specs.Catalogues.{AreFound, Searching}
 use Rattle.gettext.specs.Gettext.{IsLookUpRun}
 use Rattle.gettext.specs.Options.{CommandView}

@@ -1,9 +1,6 @@
 //! What a command line of gettext or ngettext asks for, by its arguments and options.
 ghost use Rattle.std.specs.Prelude.{◌≡◌, map, option_map};
-ghost use Rattle.gettext.specs.ArgumentValues.{IsTakenAs};
-ghost use Rattle.gettext.specs.Options.{AsksGettext, AsksNgettext};
-ghost use Rattle.gettext.specs.Usage.{gettext_usage, ngettext_usage};
-ghost use Rattle.gettext.specs.UsageView.{messages_given, plural_form_given};
+ghost use Rattle.gettext.specs.Prelude.{IsTakenAs, AsksGettext, AsksNgettext, gettext_usage, ngettext_usage, messages_given, plural_form_given};
 
 use crate::plan::{GettextOptions, LookUp, NgettextOptions};
 use runs::{Arguments, ProgramFault};

@@ -2,7 +2,7 @@
 //! Priority List of Languages" of the GNU gettext manual).
 ghost use Rattle.std.specs.Prelude.{◌≡◌, ◌++◌, ◌∷◌, [], map, IfOk, OnOk, OnErr, Err};
 ghost use Rattle.std.specs.Option.{option_map};
-ghost use Rattle.locale_names.specs.Candidate.{text_of};
+ghost use Rattle.locale_names.specs.Prelude.{text_of};
 ghost use Rattle.gettext.specs.Locales as spec;
 
 use locale_names::{Candidate, Position, is_untranslated, translated_candidate_at};

@@ -1,9 +1,8 @@
 //! The compiled catalogues of a text domain.
 ghost use Rattle.std.specs.Prelude.{◌≡◌, ◌^◌, ◌<◌, IfOk, IfSome, OnErr, OnOk, length, map, option_map, take};
 ghost use Rattle.std.specs.Option.{option_copied};
-ghost use Rattle.gettext.specs.Catalogues.{AreCatalogues, AreFound, AsksAt, AsksPaths, IsCatalogueAt, catalogue_file, catalogue_files, given_domain, searching};
-ghost use Rattle.gettext.specs.WholeRun.{catalogue_limit};
-ghost use Rattle.runs.specs.Inputs.{Stays, named_files};
+ghost use Rattle.gettext.specs.Prelude.{AreCatalogues, AreFound, AsksAt, AsksPaths, IsCatalogueAt, catalogue_file, catalogue_files, given_domain, searching, catalogue_limit};
+ghost use Rattle.runs.specs.Prelude.{Stays, named_files};
 
 use crate::environment::{OwnedEnvironment, VariableSource};
 use crate::paths::catalogue_paths;

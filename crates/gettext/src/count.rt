@@ -1,7 +1,7 @@
 //! The COUNT of ngettext ("Invoking the ngettext program" of the GNU gettext manual).
 ghost use Rattle.std.specs.Prelude.{◌≡◌, ◌^◌, ◌<◌, true, SomeIff};
 ghost use Rattle.std.specs.Str.Parse.{digits_value};
-ghost use Rattle.gettext.specs.CountArgument.{are_digits, count_in};
+ghost use Rattle.gettext.specs.Prelude.{are_digits, count_in};
 
 /// What a COUNT is taken as where it isn't decimal digits alone, one at least, or is 2^64 or more.
 pub const OTHER_COUNT: u64 = 99;

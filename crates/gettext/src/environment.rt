@@ -1,7 +1,7 @@
 //! The environment variables that choose a catalogue ("Locale Environment Variables" and "Locating
 //! Message Catalog Files" of the GNU gettext manual).
 ghost use Rattle.std.specs.Prelude.{◌≡◌, ℕ, List, Option, option_map, IfOk};
-ghost use Rattle.gettext.specs.Environments.{IsEnvironment, environment_view, owned_environment_view};
+ghost use Rattle.gettext.specs.Prelude.{IsEnvironment, environment_view, owned_environment_view};
 
 use crate::candidates::Environment;
 use std::alloc::{AllocError, Global};

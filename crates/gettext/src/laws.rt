@@ -2,18 +2,7 @@
 //! of a function that does nothing: a call brings the law into a proof.
 ghost use Rattle.std.specs.Prelude.{◌≡◌, ◌↔◌, [], ℕ, Bool, List, None, Option, Some, codes, false, true};
 ghost use Rattle.gettext.specs.declared.candidates.Environment.{Environment};
-ghost use Rattle.gettext.specs.Candidates.{AreCandidates};
-ghost use Rattle.gettext.specs.Choosing.{IsDomain, IsFolder, IsLocale};
-ghost use Rattle.gettext.specs.CountArgument.{count_in};
-ghost use Rattle.gettext.specs.Counting.{GivesCount};
-ghost use Rattle.gettext.specs.Environments.{environment_view};
-ghost use Rattle.gettext.specs.Escapes.{expansion, has_no_newline};
-ghost use Rattle.gettext.specs.Expanding.{Expands};
-ghost use Rattle.gettext.specs.Gettext.{gettext_output, request_of};
-ghost use Rattle.gettext.specs.Locales.{candidates_of, locale_of};
-ghost use Rattle.gettext.specs.Paths.{domain_of, folder_of};
-ghost use Rattle.gettext.specs.Usage.{gettext_usage};
-ghost use Rattle.gettext.specs.WholeRun.{catalogue_limit};
+ghost use Rattle.gettext.specs.Prelude.{AreCandidates, IsDomain, IsFolder, IsLocale, count_in, GivesCount, environment_view, expansion, has_no_newline, Expands, gettext_output, request_of, candidates_of, locale_of, domain_of, folder_of, gettext_usage, catalogue_limit};
 
 /// The expansion of a text is the text in which each escape stands for its byte, `\c` for none, and
 /// any other byte for itself.

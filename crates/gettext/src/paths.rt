@@ -2,7 +2,7 @@
 //! Catalog Files" of the GNU gettext manual).
 ghost use Rattle.std.specs.Prelude.{◌≡◌, map, IfOk, OnErr, Err};
 ghost use Rattle.std.specs.Option.{option_copied};
-ghost use Rattle.gettext.specs.Paths.{folder_of, path_of, paths_of};
+ghost use Rattle.gettext.specs.Prelude.{folder_of, path_of, paths_of};
 
 use crate::candidates::{Environment, locale_candidates, non_empty};
 use locale_names::is_path_part;

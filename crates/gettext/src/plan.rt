@@ -2,14 +2,12 @@
 ghost use Rattle.std.specs.Prelude.{◌≡◌, ◌^◌, ◌<◌, ◌≤◌, ◌++◌, None, Some, length, IfOk, MatchOption, OnOk, OnErr, Err};
 ghost use Rattle.std.specs.List.{list_any};
 ghost use Rattle.std.specs.Option.{option_copied};
-ghost use Rattle.mo_file.specs.Fault.{IsFirstFault};
-ghost use Rattle.mo_lookup.specs.Chain.{chain_answered};
-ghost use Rattle.mo_lookup.specs.Query.{given};
-ghost use Rattle.runs.specs.Run.{run_view};
+ghost use Rattle.mo_file.specs.Prelude.{IsFirstFault};
+ghost use Rattle.mo_lookup.specs.Prelude.{chain_answered, given};
+ghost use Rattle.runs.specs.Prelude.{run_view, named_files};
 ghost use Rattle.gettext.specs.Gettext as Spec;
 ghost use Rattle.gettext.specs.Gettext.{for_count, for_messages};
-ghost use Rattle.gettext.specs.GettextView.{gettext_view, ngettext_view, request_view};
-ghost use Rattle.runs.specs.Inputs.{named_files};
+ghost use Rattle.gettext.specs.Prelude.{gettext_view, ngettext_view, request_view};
 ghost use Rattle.gettext.specs.Internal.OpensFile.{Joins, OpensFile};
 
 use crate::catalogues::bytes_of;

@@ -1,8 +1,6 @@
 //! gettext and ngettext as a whole: catalogues are looked for, and their run is written.
 ghost use Rattle.std.specs.Prelude.{◌^◌, ◌<◌};
-ghost use Rattle.gettext.specs.Catalogues.{searching};
-ghost use Rattle.gettext.specs.GettextView.{command_view};
-ghost use Rattle.gettext.specs.WholeRun.{RunsLookUp};
+ghost use Rattle.gettext.specs.Prelude.{searching, command_view, RunsLookUp};
 
 use crate::arguments::LookUpCommand;
 use crate::catalogues::{borrowed_catalogues, find_catalogues};

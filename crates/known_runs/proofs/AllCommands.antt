@@ -2,18 +2,15 @@
 use Rattle.std.proofs.Common.{◌≡◌, ℕ, List, [], Option, Some, None, IfSome, option_map, Result, Err, refl, sym, subst}
 use Rattle.std.proofs.lemmas.Slice.Eq.{bytes_eq-Decides}
 use Rattle.std.specs.Global.{Vec}
-use Rattle.runs.specs.Outputs.{SystemView, system, writer}
+use Rattle.runs.specs.Prelude.{SystemView, system, writer}
 use Rattle.runs.specs.declared.program_fault.ProgramFault.{ProgramFault}
 use Rattle.runs.specs.declared.program_fault.ProgramFault.TheVariants.{OutOfMemory}
 use Rattle.runs.specs.declared.tool.Tool.{Tool}
-use Rattle.po_tools.specs.ToolRun.{ReaderView, RunsTool, reached, reader_of}
+use Rattle.po_tools.specs.Prelude.{ReaderView, RunsTool, reached, reader_of}
 use Rattle.known_system.specs.declared.files.KnownFiles.{KnownFiles}
 use Rattle.known_system.specs.declared.source.KnownSource.{KnownSource}
-use Rattle.known_system.specs.Contents.{Contents, Holds, contents}
-use Rattle.known_system.specs.Stored.{links_by_path, stored}
-use Rattle.known_system.specs.Replay.{Links, Place, bytes_at, folder, nothing, replay}
-use Rattle.known_runs.specs.Ends.{End, end, end_of}
-use Rattle.known_runs.specs.Words.{RunsInMemory, answers_in, line_in, system_after, system_before}
+use Rattle.known_system.specs.Prelude.{Contents, Holds, contents, links_by_path, stored, Links, Place, bytes_at, folder, nothing, replay}
+use Rattle.known_runs.specs.Prelude.{End, end, end_of, RunsInMemory, answers_in, line_in, system_after, system_before}
 use Rattle.known_runs.specs.declared.in_memory.Ended.{Ended}
 use Rattle.known_runs.specs.declared.in_memory.Reached.{Reached}
 use Rattle.known_runs.specs.declared.words.Words.{Words}

@@ -1,16 +1,14 @@
 -- What a command comes to that writes a file.
 use Rattle.std.proofs.Common.{◌≡◌, ℕ, Bool, true, false, List, [], ◌++◌, is_some, Option, Some, None, Result, Err, refl, sym, ap, ◌∙◌, subst, inl}
 use Rattle.std.proofs.lemmas.Bool.{false≢true}
-use Rattle.runs.specs.Inputs.{Reading, gives, refuses, unread, NamedFile, ReadsAs}
-use Rattle.runs.specs.Outputs.{SystemView}
-use Rattle.runs.specs.ProgramFaults.{program_text}
-use Rattle.runs.specs.Run.{RunView, output_file, is_standard}
+use Rattle.runs.specs.Prelude.{Reading, NamedFile, ReadsAs, SystemView, program_text, RunView, output_file, is_standard}
+use Rattle.runs.specs.Inputs.{gives, refuses, unread}
 use Rattle.runs.specs.ToolRuns as tools
 use Rattle.runs.specs.declared.program_fault.ProgramFault.{ProgramFault}
-use Rattle.known_system.specs.Contents.{Contents, Leaves, IsFileFault, filed as filed_there, left, printed as printed_there, Leads, there, follows}
-use Rattle.known_system.specs.Replay.{Links, bytes_at}
-use Rattle.known_system.specs.Source.{bytes_of}
-use Rattle.known_runs.specs.Ends.{End, end, EndsInFile, filed, printed, failed}
+use Rattle.known_system.specs.Prelude.{Contents, Leaves, IsFileFault, Leads, Links, bytes_at, bytes_of}
+use Rattle.known_system.specs.Contents.{filed as filed_there, left, printed as printed_there, there, follows}
+use Rattle.known_runs.specs.Prelude.{End, end, EndsInFile}
+use Rattle.known_runs.specs.Ends.{filed, printed, failed}
 
 -- without links a path leads to itself
 pub leads_there : (links : Links) → links ≡ [] → {limit : ℕ} {path target : List ℕ} → Leads links limit path target

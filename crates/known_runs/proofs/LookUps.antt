@@ -4,37 +4,28 @@ use Rattle.std.proofs.lemmas.Bool.{false≢true, ltb-true}
 use Rattle.std.proofs.lemmas.Str.{IsUtf8-from_ascii}
 use Rattle.std.specs.Borrow.{Bor}
 use Rattle.std.specs.Option.{option_copied, option_map_or}
-use Rattle.gettext.specs.Catalogues.{AreCatalogues, GivenDomain, Searching, given_domain, searching, done, found, skipped}
-use Rattle.gettext.specs.Environments.{IsEnvironment, environment_view}
-use Rattle.gettext.specs.Gettext.{Opens, GettextRequest, NgettextRequest, IsLookUpRun, gettext_output, ngettext_output, output_of, output_run, none, opened, refused}
-use Rattle.gettext.specs.Locales.{with_name}
-use Rattle.gettext.specs.Paths.{paths_of}
-use Rattle.gettext.specs.Options.{AsksGettext, AsksNgettext, CommandView, IsGettextRequest, IsNgettextRequest, asks_messages, asks_plural_form, fits_no_gettext, fits_no_ngettext}
-use Rattle.gettext.specs.Usage.{GettextUsage, NgettextUsage, gettext_usage, ngettext_usage}
-use Rattle.po_tools.specs.ToolRun.{Answers, CommandLine, Reached, RunsLookUpLine, answers_of, fits_none, line_of, looks_up}
-use Rattle.gettext.specs.WholeRun.{RunsLookUp, runs, no_memory}
+use Rattle.gettext.specs.Prelude.{AreCatalogues, GivenDomain, Searching, given_domain, searching, IsEnvironment, environment_view, Opens, GettextRequest, NgettextRequest, IsLookUpRun, gettext_output, ngettext_output, output_of, output_run, with_name, paths_of, AsksGettext, AsksNgettext, CommandView, IsGettextRequest, IsNgettextRequest, GettextUsage, NgettextUsage, gettext_usage, ngettext_usage, RunsLookUp}
+use Rattle.gettext.specs.Catalogues.{done, found, skipped}
+use Rattle.gettext.specs.Gettext.{none, opened, refused}
+use Rattle.gettext.specs.Options.{asks_messages, asks_plural_form, fits_no_gettext, fits_no_ngettext}
+use Rattle.po_tools.specs.Prelude.{Answers, CommandLine, Reached, RunsLookUpLine, answers_of, line_of}
+use Rattle.po_tools.specs.ToolRun.{fits_none, looks_up}
+use Rattle.gettext.specs.WholeRun.{runs, no_memory}
 use Rattle.gettext.specs.declared.candidates.Environment.{Environment}
-use Rattle.locale_names.specs.Names.{before as part_before, candidates_of_name, from_first, is_c_locale, language_parts}
-use Rattle.mo_file.specs.Laws.{NoFaultOfMoFile, OneMessageList}
-use Rattle.mo_file.specs.MoFile.{IsMoFile}
-use Rattle.mo_lookup.specs.CatalogView.{CatalogView, IsCatalogView, answered as catalog_answered, forms_found}
-use Rattle.mo_lookup.specs.Chain.{chain_answered}
-use Rattle.mo_lookup.specs.Answer.{untranslated}
-use Rattle.mo_lookup.specs.Query.{Query}
-use Rattle.po_compile.specs.Compiled.{compiled_list}
-use Rattle.po_compile.specs.Compiling.{meant}
+use Rattle.locale_names.specs.Prelude.{before as part_before, candidates_of_name, from_first, is_c_locale, language_parts}
+use Rattle.mo_file.specs.Prelude.{NoFaultOfMoFile, OneMessageList, IsMoFile}
+use Rattle.mo_lookup.specs.Prelude.{CatalogView, IsCatalogView, answered as catalog_answered, forms_found, chain_answered, untranslated, Query}
+use Rattle.po_compile.specs.Prelude.{compiled_list, meant}
 use Rattle.po_compile.specs.declared.options.Compiled.{Compiled}
-use Rattle.po_entry.specs.Joined.{joined_entries}
-use Rattle.runs.specs.Inputs.{Reading, gives, refuses, NamedFile}
-use Rattle.runs.specs.Outputs.{SystemView}
-use Rattle.runs.specs.Run.{RunView}
-use Rattle.runs.specs.ToolRuns.{Writes}
+use Rattle.po_entry.specs.Prelude.{joined_entries}
+use Rattle.runs.specs.Prelude.{Reading, NamedFile, SystemView, RunView, Writes}
+use Rattle.runs.specs.Inputs.{gives, refuses}
 use Rattle.runs.specs.declared.program_fault.ProgramFault.{ProgramFault}
 use Rattle.runs.specs.declared.program_fault.ProgramFault.TheVariants.{OutOfMemory}
-use Rattle.known_system.specs.Contents.{Contents, Leaves, filed, left, printed}
-use Rattle.known_runs.specs.Ends.{End, end}
-use Rattle.known_runs.specs.LookUps.{EndsLookUp, counted, hello_mo, message, answered, failed, status_or_memory}
-use Rattle.known_runs.specs.Msgfmt.{IsCompiledFrom, plain}
+use Rattle.known_system.specs.Prelude.{Contents, Leaves}
+use Rattle.known_system.specs.Contents.{filed, left, printed}
+use Rattle.known_runs.specs.Prelude.{End, end, EndsLookUp, counted, hello_mo, message, status_or_memory, IsCompiledFrom, plain}
+use Rattle.known_runs.specs.LookUps.{answered, failed}
 
 -- every byte is below 128
 abbrev low : List ℕ → Bool

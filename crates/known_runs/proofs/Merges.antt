@@ -2,22 +2,15 @@
 use Rattle.std.proofs.Common.{◌≡◌, ℕ, false, List, [], ◌∷◌, ◌++◌, is_some, suc, zero, arith, Option, Some, None, Result, codes, refl, sym, ap, ◌∙◌, subst, inl, inr}
 use Rattle.std.proofs.lemmas.Bool.{false≢true}
 use Rattle.std.specs.Option.{unwrap_or}
-use Rattle.msgcat.specs.Msgcat.{IsMsgcatRun}
-use Rattle.msgcat.specs.Options.{AreMergeOptions, or_zero}
-use Rattle.msgcat.specs.WholeRun.{HaveNoRun, IsRunOf, RunsMsgcat}
-use Rattle.po_entry.specs.Texts.{Lacks}
+use Rattle.msgcat.specs.Prelude.{IsMsgcatRun, AreMergeOptions, or_zero, HaveNoRun, IsRunOf, RunsMsgcat}
+use Rattle.po_entry.specs.Prelude.{Lacks}
 use Rattle.msgcat.specs.declared.input.MergeOptions.{MergeOptions}
-use Rattle.runs.specs.ArgumentValues.{IsTextOr}
-use Rattle.runs.specs.Inputs.{AreInputs, Reading, gives, refuses, read, unread, done, NamedFile}
-use Rattle.runs.specs.Outputs.{SystemView}
-use Rattle.runs.specs.ProgramFaults.{program_text}
-use Rattle.runs.specs.Run.{RunView}
-use Rattle.runs.specs.ToolRuns.{Asking, Writes, runs, has_none, no_memory_to_read, no_memory_to_plan}
+use Rattle.runs.specs.Prelude.{IsTextOr, AreInputs, Reading, NamedFile, SystemView, program_text, RunView, Asking, Writes}
+use Rattle.runs.specs.Inputs.{gives, refuses, read, unread, done}
+use Rattle.runs.specs.ToolRuns.{runs, has_none, no_memory_to_read, no_memory_to_plan}
 use Rattle.runs.specs.declared.program_fault.ProgramFault.{ProgramFault}
-use Rattle.known_system.specs.Contents.{Contents, Leaves}
-use Rattle.known_system.specs.Replay.{bytes_at}
-use Rattle.known_runs.specs.Ends.{EndsInFile, end}
-use Rattle.known_runs.specs.Plain.{all_messages, named, two_files}
+use Rattle.known_system.specs.Prelude.{Contents, Leaves, bytes_at}
+use Rattle.known_runs.specs.Prelude.{EndsInFile, end, all_messages, named, two_files}
 use Rattle.known_runs.proofs.Files.{fails, run_ends}
 
 -- the inputs are the two files

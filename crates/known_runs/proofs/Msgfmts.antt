@@ -4,24 +4,18 @@ use Rattle.std.proofs.lemmas.Bool.{false≢true, ltb-false, ltb-true}
 use Rattle.std.specs.Option.{unwrap_or}
 use Rattle.mo_file.specs.declared.byte_order.Order.TheVariants.{Little}
 use Rattle.msgfmt.specs.declared.options.MsgfmtOptions.{MsgfmtOptions}
-use Rattle.msgfmt.specs.Msgfmt.{IsMsgfmtRun, compile_options, compiled_run, join_line}
-use Rattle.msgfmt.specs.Options.{AreMsgfmtOptions, default_output, order_of}
-use Rattle.msgfmt.specs.WholeRun.{HaveNoRun, IsRunOf, RunsMsgfmt}
-use Rattle.po_compile.specs.Accepted.{IsCompileFault}
-use Rattle.po_compile.specs.Compiling.{IsCompilation}
-use Rattle.po_entry.specs.Joined.{joined_entries}
+use Rattle.msgfmt.specs.Prelude.{IsMsgfmtRun, compile_options, compiled_run, join_line, AreMsgfmtOptions, default_output, order_of, HaveNoRun, IsRunOf, RunsMsgfmt}
+use Rattle.po_compile.specs.Prelude.{IsCompileFault, IsCompilation}
+use Rattle.po_entry.specs.Prelude.{joined_entries}
 use Rattle.po_compile.specs.declared.options.Compiled.{Compiled}
-use Rattle.runs.specs.ArgumentValues.{IsTextOr}
-use Rattle.runs.specs.Inputs.{AreInputs, Reading, gives, refuses, read, unread, done, NamedFile}
-use Rattle.runs.specs.Outputs.{SystemView, link_limit}
-use Rattle.runs.specs.ProgramFaults.{program_text}
-use Rattle.runs.specs.Run.{RunView, output_file, refusal}
-use Rattle.runs.specs.ToolRuns.{Asking, Writes, runs, has_none, no_memory_to_read, no_memory_to_plan}
+use Rattle.runs.specs.Prelude.{IsTextOr, AreInputs, Reading, NamedFile, SystemView, link_limit, program_text, RunView, output_file, refusal, Asking, Writes}
+use Rattle.runs.specs.Inputs.{gives, refuses, read, unread, done}
+use Rattle.runs.specs.ToolRuns.{runs, has_none, no_memory_to_read, no_memory_to_plan}
 use Rattle.runs.specs.declared.program_fault.ProgramFault.{ProgramFault}
-use Rattle.known_system.specs.Contents.{Contents, Leaves, IsFileFault, filed, left, printed, Leads}
-use Rattle.known_system.specs.Replay.{Place, bytes_at}
-use Rattle.known_runs.specs.Ends.{End, end}
-use Rattle.known_runs.specs.Msgfmt.{EndsMsgfmt, IsCompiledFrom, plain, compiled, empty, refused, failed}
+use Rattle.known_system.specs.Prelude.{Contents, Leaves, IsFileFault, Leads, Place, bytes_at}
+use Rattle.known_system.specs.Contents.{filed, left, printed}
+use Rattle.known_runs.specs.Prelude.{End, end, EndsMsgfmt, IsCompiledFrom, plain}
+use Rattle.known_runs.specs.Msgfmt.{compiled, empty, refused, failed}
 
 -- the only input is the text
 module _ (text : List ℕ) (file : List ℕ → Reading → Type 0) (standard : Reading → Type 0)

@@ -2,25 +2,21 @@
 use Rattle.std.proofs.Common.{arith, nat_lt, ◌<◌, if◌then◌else◌, ◌≡◌, ℕ, Bool, true, false, List, [], ◌∷◌, Option, Some, None, Ok, codes, refl, sym, ap, ◌∙◌, subst, inl, inr}
 use Rattle.std.proofs.lemmas.Bool.{ltb-false}
 use Rattle.mo_file.specs.declared.byte_order.Order.TheVariants.{Little}
-use Rattle.mo_lookup.specs.Query.{Query}
+use Rattle.mo_lookup.specs.Prelude.{Query}
 use Rattle.msgfmt.specs.declared.options.MsgfmtOptions.{MsgfmtOptions}
-use Rattle.msgfmt.specs.Msgfmt.{IsDone, IsMsgfmtRun, compiled_run, join_line}
-use Rattle.plural_rule.specs.PluralRule.{RuleView, IsRuleOf, expression_limit}
-use Rattle.po_compile.specs.Compiled.{compiled_list}
-use Rattle.po_compile.specs.Headline.{CataloguesAreOne}
-use Rattle.po_compile.specs.Compiling.{header_of, meant}
+use Rattle.msgfmt.specs.Prelude.{IsDone, IsMsgfmtRun, compiled_run, join_line}
+use Rattle.plural_rule.specs.Prelude.{RuleView, IsRuleOf, expression_limit}
+use Rattle.po_compile.specs.Prelude.{compiled_list, CataloguesAreOne, header_of, meant}
 use Rattle.po_compile.specs.declared.options.Compiled.{Compiled}
-use Rattle.po_entry.specs.TextEntry.{TextEntry}
-use Rattle.po_entry.specs.Joined.{joined_entries}
-use Rattle.po_entry.specs.Statistics.{stats_of}
-use Rattle.po_tools.specs.RunLaws.{OneMsgfmtRun}
-use Rattle.runs.specs.Inputs.{NamedFile}
-use Rattle.runs.specs.Run.{RunView, refusal}
-use Rattle.envsubst.specs.Substitution.{Values}
-use Rattle.known_runs.specs.Ends.{End, EndsInFile, end, filed, printed, failed, HasStatus, OneEnd}
-use Rattle.known_runs.specs.LookUps.{EndsLookUp, answered, failed as no_memory}
-use Rattle.known_runs.specs.Msgfmt.{EndsMsgfmt, IsCompiledFrom, compiled, empty, refused, failed as unwritten}
-use Rattle.known_runs.specs.Substitutions.{EndsSubstituted, substituted, cut}
+use Rattle.po_entry.specs.Prelude.{TextEntry, joined_entries, stats_of}
+use Rattle.po_tools.specs.Prelude.{OneMsgfmtRun}
+use Rattle.runs.specs.Prelude.{NamedFile, RunView, refusal}
+use Rattle.envsubst.specs.Prelude.{Values}
+use Rattle.known_runs.specs.Prelude.{End, EndsInFile, end, HasStatus, OneEnd, EndsLookUp, EndsMsgfmt, IsCompiledFrom, EndsSubstituted}
+use Rattle.known_runs.specs.Ends.{filed, printed, failed}
+use Rattle.known_runs.specs.LookUps.{answered, failed as no_memory}
+use Rattle.known_runs.specs.Msgfmt.{compiled, empty, refused, failed as unwritten}
+use Rattle.known_runs.specs.Substitutions.{substituted, cut}
 
 pub in_file : {IsRun : RunView → Type 0} → ((run other : RunView) → IsRun run → IsRun other → run ≡ other)
     → {path : List ℕ} {old : Option (List ℕ)} → OneEnd (EndsInFile IsRun path old)

@@ -2,21 +2,17 @@
 use Rattle.std.proofs.Common.{◌≡◌, ◌+◌, ℕ, Bool, true, false, List, [], ◌++◌, is_some, Option, Some, None, option_map, Result, Ok, Err, refl, sym, ap, ◌∙◌, subst, arith}
 use Rattle.std.proofs.lemmas.Bool.{false≢true}
 use Rattle.std.specs.Option.{option_to_list}
-use Rattle.envsubst.specs.ByArguments.{RunsEnvsubst, named, substituted as replaced_all, unread}
-use Rattle.envsubst.specs.Envsubst.{EndsAs, HasGoneOut, StopsWithin, write_failures}
-use Rattle.envsubst.specs.References.{names_in}
-use Rattle.envsubst.specs.Substitution.{Values, substitution, values_of}
-use Rattle.envsubst.specs.Usage.{EnvsubstUsage, envsubst_usage, replaced}
-use Rattle.envsubst.specs.Variables.{variables_of}
-use Rattle.po_tools.specs.ToolRun.{Answers, AnswersStatus, CommandLine, Reached, RunsEnvsubstLine, Substitutes, answers_of, line_of, reached, reader_of, runs_envsubst, no_envsubst}
-use Rattle.runs.specs.OutputFiles.{FileLog}
-use Rattle.runs.specs.Inputs.{Asked, Reading}
-use Rattle.runs.specs.Outputs.{WriterView, system, writer}
+use Rattle.envsubst.specs.Prelude.{RunsEnvsubst, EndsAs, HasGoneOut, StopsWithin, write_failures, names_in, Values, substitution, values_of, EnvsubstUsage, envsubst_usage, variables_of}
+use Rattle.envsubst.specs.ByArguments.{named, substituted as replaced_all, unread}
+use Rattle.envsubst.specs.Usage.{replaced}
+use Rattle.po_tools.specs.Prelude.{Answers, AnswersStatus, CommandLine, Reached, RunsEnvsubstLine, Substitutes, answers_of, line_of, reached, reader_of}
+use Rattle.po_tools.specs.ToolRun.{runs_envsubst, no_envsubst}
+use Rattle.runs.specs.Prelude.{FileLog, Asked, Reading, WriterView, system, writer}
 use Rattle.runs.specs.declared.program_fault.ProgramFault.{ProgramFault}
 use Rattle.runs.specs.declared.tool_fault.ToolFault.{ToolFault}
 use Rattle.runs.specs.declared.tool_fault.ToolFault.TheVariants.{ReadFault, WriteFault, OutOfMemory}
-use Rattle.known_runs.specs.Ends.{end}
-use Rattle.known_runs.specs.Substitutions.{EndsSubstituted, IsStatusOrInputFault, substituted, cut, values_by}
+use Rattle.known_runs.specs.Prelude.{end, EndsSubstituted, IsStatusOrInputFault, values_by}
+use Rattle.known_runs.specs.Substitutions.{substituted, cut}
 
 module _ (values : Values) (text : List ℕ) where
   -- what was written is a beginning of the whole

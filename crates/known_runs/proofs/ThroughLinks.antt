@@ -4,21 +4,16 @@ use Rattle.std.proofs.lemmas.Slice.Eq.{bytes_eq-Decides}
 use Rattle.std.specs.Option.{unwrap_or}
 use Rattle.std.specs.Str.{bytes_eq}
 use Rattle.msgfmt.specs.declared.options.MsgfmtOptions.{MsgfmtOptions}
-use Rattle.msgfmt.specs.Options.{AreMsgfmtOptions, default_output}
-use Rattle.msgfmt.specs.WholeRun.{RunsMsgfmt}
-use Rattle.runs.specs.ArgumentValues.{IsTextOr}
-use Rattle.runs.specs.Inputs.{Reading, gives}
-use Rattle.runs.specs.OutputPaths.{link_target}
-use Rattle.runs.specs.Outputs.{SystemView, link_limit}
-use Rattle.runs.specs.Run.{RunView, is_standard, output_file}
-use Rattle.runs.specs.ToolRuns.{Asking, Writes, runs, has_none, no_memory_to_read, no_memory_to_plan}
+use Rattle.msgfmt.specs.Prelude.{AreMsgfmtOptions, default_output, RunsMsgfmt}
+use Rattle.runs.specs.Prelude.{IsTextOr, Reading, link_target, SystemView, link_limit, RunView, is_standard, output_file, Asking, Writes}
+use Rattle.runs.specs.Inputs.{gives}
+use Rattle.runs.specs.ToolRuns.{runs, has_none, no_memory_to_read, no_memory_to_plan}
 use Rattle.runs.specs.declared.program_fault.ProgramFault.{ProgramFault}
 use Rattle.runs.specs.declared.program_fault.ProgramFault.TheVariants.{OutOfMemory}
-use Rattle.known_system.specs.Contents.{Contents, Leaves, filed, left, printed, Leads, there, follows}
-use Rattle.known_system.specs.Replay.{Links, Place, bytes_at, is_free}
-use Rattle.known_system.specs.Source.{bytes_of}
-use Rattle.known_runs.specs.Ends.{end}
-use Rattle.known_runs.specs.Msgfmt.{EndsThroughLinks, led, elsewhere, failed}
+use Rattle.known_system.specs.Prelude.{Contents, Leaves, Leads, Links, Place, bytes_at, is_free, bytes_of}
+use Rattle.known_system.specs.Contents.{filed, left, printed, there, follows}
+use Rattle.known_runs.specs.Prelude.{end, EndsThroughLinks}
+use Rattle.known_runs.specs.Msgfmt.{led, elsewhere, failed}
 use Rattle.known_runs.proofs.Msgfmts.{line_ends}
 
 -- a path leads to one place

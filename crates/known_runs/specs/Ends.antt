@@ -1,9 +1,8 @@
 -- What a command comes to over a known system.
 use Rattle.std.specs.Prelude.{◌≡◌, ℕ, true, false, List, [], Option, Some, Result, Ok, Err, option_map}
-use Rattle.runs.specs.ProgramFaults.{program_text}
-use Rattle.runs.specs.Run.{RunView}
+use Rattle.runs.specs.Prelude.{program_text, RunView}
 use Rattle.runs.specs.declared.program_fault.ProgramFault.{ProgramFault}
-use Rattle.known_system.specs.Contents.{IsFileFault}
+use Rattle.known_system.specs.Prelude.{IsFileFault}
 use Rattle.known_runs.specs.declared.in_memory.Ended.{Ended}
 
 -- its status or why it has none, the bytes of its output file, where one is there, and what it wrote on

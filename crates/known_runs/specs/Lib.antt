@@ -4,3 +4,4 @@ pub mod Msgfmt
 pub mod Plain
 pub mod LookUps
 pub mod Substitutions
+pub mod Prelude

@@ -2,14 +2,11 @@
 -- `fr` and the catalogue of `hello` is compiled from a text (manual, "Invoking the gettext program" and
 -- "Invoking the ngettext program").
 use Rattle.std.specs.Prelude.{ℕ, List, [], ◌∷◌, Some, None, Result, Ok, Err, codes, false}
-use Rattle.gettext.specs.CountArgument.{count_in}
-use Rattle.mo_lookup.specs.Query.{Query}
-use Rattle.plural_rule.specs.PluralRule.{RuleView, IsRuleOf, expression_limit}
-use Rattle.po_compile.specs.Accepted.{AreRead}
-use Rattle.po_compile.specs.Compiled.{compiled_list}
-use Rattle.po_compile.specs.Compiling.{header_of, meant}
-use Rattle.po_entry.specs.TextEntry.{TextEntry}
-use Rattle.po_entry.specs.Joined.{joined_entries}
+use Rattle.gettext.specs.Prelude.{count_in}
+use Rattle.mo_lookup.specs.Prelude.{Query}
+use Rattle.plural_rule.specs.Prelude.{RuleView, IsRuleOf, expression_limit}
+use Rattle.po_compile.specs.Prelude.{AreRead, compiled_list, header_of, meant}
+use Rattle.po_entry.specs.Prelude.{TextEntry, joined_entries}
 use Rattle.runs.specs.declared.program_fault.ProgramFault.{ProgramFault}
 use Rattle.runs.specs.declared.program_fault.ProgramFault.TheVariants.{OutOfMemory}
 use Rattle.known_runs.specs.Ends.{End, end}

@@ -1,19 +1,16 @@
 -- What `msgfmt a.po -o a.mo` comes to (manual, "Invoking the msgfmt Program").
 use Rattle.std.specs.Prelude.{◌≡◌, ◌≢◌, ◌<◌, ℕ, List, [], ◌∷◌, Option, Some, Ok, Err, codes, false}
 use Rattle.mo_file.specs.declared.byte_order.Order.TheVariants.{Little}
-use Rattle.msgfmt.specs.Msgfmt.{join_line}
-use Rattle.po_compile.specs.Accepted.{AreRead, IsCompileFault}
-use Rattle.po_compile.specs.Compiling.{IsCompilation}
+use Rattle.msgfmt.specs.Prelude.{join_line}
+use Rattle.po_compile.specs.Prelude.{AreRead, IsCompileFault, IsCompilation}
 use Rattle.po_compile.specs.declared.options.Compiled.{Compiled}
 use Rattle.po_compile.specs.declared.options.Options.{Options}
-use Rattle.po_entry.specs.TextEntry.{TextEntry}
-use Rattle.po_entry.specs.Joined.{joined_entries}
+use Rattle.po_entry.specs.Prelude.{TextEntry, joined_entries}
 use Rattle.po_entry.specs.declared.duplicate.JoinError.{JoinError}
 use Rattle.po_syntax.specs.declared.fault.PoFault.TheVariants.{OutOfMemory}
-use Rattle.runs.specs.ProgramFaults.{program_text}
+use Rattle.runs.specs.Prelude.{program_text}
 use Rattle.runs.specs.declared.program_fault.ProgramFault.{ProgramFault}
-use Rattle.known_system.specs.Contents.{IsFileFault, Leads}
-use Rattle.known_system.specs.Replay.{Links}
+use Rattle.known_system.specs.Prelude.{IsFileFault, Leads, Links}
 use Rattle.known_runs.specs.Ends.{End, end}
 
 -- the options of a command line without any

@@ -2,7 +2,7 @@
 use Rattle.std.specs.Prelude.{ℕ, List, [], ◌∷◌, None, false, codes}
 use Rattle.msgcat.specs.declared.input.MergeOptions.{MergeOptions}
 use Rattle.msgattrib.specs.declared.selection.Selection.{Selection}
-use Rattle.runs.specs.Inputs.{NamedFile}
+use Rattle.runs.specs.Prelude.{NamedFile}
 
 abbrev pub named : List ℕ → List ℕ → NamedFile
 named name bytes = record { name = name; bytes = bytes }

@@ -1,9 +1,7 @@
 -- What `envsubst [SHELL-FORMAT]` comes to (manual, "Invoking the envsubst program").
 use Rattle.std.specs.Prelude.{◌≡◌, ◌⊎◌, ℕ, List, [], ◌++◌, Option, None, option_map, Result, Ok, Err, codes}
-use Rattle.envsubst.specs.References.{names_in}
-use Rattle.envsubst.specs.Substitution.{Values, substitution, values_of}
-use Rattle.envsubst.specs.Variables.{variables_of}
-use Rattle.runs.specs.ProgramFaults.{program_text}
+use Rattle.envsubst.specs.Prelude.{names_in, Values, substitution, values_of, variables_of}
+use Rattle.runs.specs.Prelude.{program_text}
 use Rattle.runs.specs.declared.program_fault.ProgramFault.{ProgramFault}
 use Rattle.known_runs.specs.Ends.{End, end}
 

@@ -4,13 +4,13 @@ use Rattle.std.specs.Option.{option_copied}
 use Rattle.std.specs.Str.{bytes_eq}
 use Rattle.known_runs.specs.declared.words.Words.{Words}
 use Rattle.runs.specs.Inputs.{gives}
-use Rattle.runs.specs.Outputs.{SystemView, system, writer}
+use Rattle.runs.specs.Prelude.{SystemView, system, writer}
 use Rattle.runs.specs.declared.program_fault.ProgramFault.{ProgramFault}
 use Rattle.runs.specs.declared.tool.Tool.{Tool}
-use Rattle.po_tools.specs.ToolRun.{Answers, CommandLine, RunsTool, answers_of, line_of, reached, reader_of}
+use Rattle.po_tools.specs.Prelude.{Answers, CommandLine, RunsTool, answers_of, line_of, reached, reader_of}
 use Rattle.known_system.specs.declared.files.KnownFiles.{KnownFiles}
 use Rattle.known_system.specs.declared.source.KnownSource.{KnownSource}
-use Rattle.known_system.specs.Source.{bytes_of, entry_texts, reading_of, texts_by_name}
+use Rattle.known_system.specs.Prelude.{bytes_of, entry_texts, reading_of, texts_by_name}
 use Rattle.known_runs.specs.declared.in_memory.Reached.{Reached}
 
 abbrev pub operands_of : Words → List (List ℕ)

@@ -1,12 +1,10 @@
 //! Commands that make a file.
 ghost use Rattle.std.specs.Prelude.{◌≡◌, [], codes, Err, option_map};
-ghost use Rattle.known_runs.specs.Ends.{EndsInFile, end_of};
-ghost use Rattle.known_runs.specs.Msgfmt.{EndsMsgfmt, EndsThroughLinks};
-ghost use Rattle.known_runs.specs.Plain.{all_as_they_are, all_messages, two_files};
-ghost use Rattle.known_system.specs.Stored.{links_by_path};
-ghost use Rattle.msgattrib.specs.Msgattrib.{IsMsgattribRun};
-ghost use Rattle.msgcat.specs.Msgcat.{IsMsgcatRun};
-ghost use Rattle.msgunfmt.specs.Msgunfmt.{IsMsgunfmtRunOf};
+ghost use Rattle.known_runs.specs.Prelude.{EndsInFile, end_of, EndsMsgfmt, EndsThroughLinks, all_as_they_are, all_messages, two_files};
+ghost use Rattle.known_system.specs.Prelude.{links_by_path};
+ghost use Rattle.msgattrib.specs.Prelude.{IsMsgattribRun};
+ghost use Rattle.msgcat.specs.Prelude.{IsMsgcatRun};
+ghost use Rattle.msgunfmt.specs.Prelude.{IsMsgunfmtRunOf};
 
 use crate::in_memory::{Ended, run_in_memory};
 use crate::words::Words;

@@ -1,6 +1,6 @@
 //! A tool over a known system.
 ghost use Rattle.std.specs.Prelude.{◌≡◌, Some, []};
-ghost use Rattle.known_runs.specs.Words.{RunsInMemory};
+ghost use Rattle.known_runs.specs.Prelude.{RunsInMemory};
 
 use crate::words::Words;
 use known_system::{KnownFiles, KnownSource, Told};

@@ -1,15 +1,11 @@
 //! Laws of whole commands. Each function does nothing; calling it gives its clauses.
 ghost use Rattle.std.specs.Prelude.{ℕ, List, Option, codes};
-ghost use Rattle.envsubst.specs.Substitution.{Values};
-ghost use Rattle.known_runs.specs.Ends.{EndsInFile, OneEnd};
-ghost use Rattle.known_runs.specs.LookUps.{EndsLookUp};
-ghost use Rattle.known_runs.specs.Msgfmt.{EndsMsgfmt};
-ghost use Rattle.known_runs.specs.Plain.{all_as_they_are, all_messages, two_files};
-ghost use Rattle.known_runs.specs.Substitutions.{EndsSubstituted};
-ghost use Rattle.mo_lookup.specs.Query.{Query};
-ghost use Rattle.msgattrib.specs.Msgattrib.{IsMsgattribRun};
-ghost use Rattle.msgcat.specs.Msgcat.{IsMsgcatRun};
-ghost use Rattle.msgunfmt.specs.Msgunfmt.{IsMsgunfmtRunOf};
+ghost use Rattle.envsubst.specs.Prelude.{Values};
+ghost use Rattle.known_runs.specs.Prelude.{EndsInFile, OneEnd, EndsLookUp, EndsMsgfmt, all_as_they_are, all_messages, two_files, EndsSubstituted};
+ghost use Rattle.mo_lookup.specs.Prelude.{Query};
+ghost use Rattle.msgattrib.specs.Prelude.{IsMsgattribRun};
+ghost use Rattle.msgcat.specs.Prelude.{IsMsgcatRun};
+ghost use Rattle.msgunfmt.specs.Prelude.{IsMsgunfmtRunOf};
 
 use mo_lookup::one_rule;
 use po_compile::laws::catalogues_are_one;

@@ -1,9 +1,7 @@
 //! Look-ups in a catalogue that is compiled from a text.
 ghost use Rattle.std.specs.Prelude.{◌≡◌, ◌∷◌, [], None, MatchResult};
-ghost use Rattle.known_runs.specs.Ends.{end_of};
-ghost use Rattle.known_runs.specs.LookUps.{EndsLookUp, counted, message, status_or_memory};
-ghost use Rattle.known_runs.specs.Msgfmt.{plain};
-ghost use Rattle.po_compile.specs.Accepted.{IsCompileFault};
+ghost use Rattle.known_runs.specs.Prelude.{end_of, EndsLookUp, counted, message, status_or_memory, plain};
+ghost use Rattle.po_compile.specs.Prelude.{IsCompileFault};
 
 use crate::in_memory::{Ended, run_in_memory};
 use crate::words::Words;

@@ -1,9 +1,8 @@
 //! Standard input with its references to variables replaced.
 ghost use Rattle.std.specs.Prelude.{◌≡◌, map};
 ghost use Rattle.std.specs.Option.{option_copied, option_to_list};
-ghost use Rattle.known_runs.specs.Ends.{end_of};
-ghost use Rattle.known_runs.specs.Substitutions.{EndsSubstituted, IsStatusOrInputFault, values_by};
-ghost use Rattle.known_system.specs.Source.{entry_texts};
+ghost use Rattle.known_runs.specs.Prelude.{end_of, EndsSubstituted, IsStatusOrInputFault, values_by};
+ghost use Rattle.known_system.specs.Prelude.{entry_texts};
 
 use crate::in_memory::{Ended, run_in_memory};
 use crate::look_ups::words_of;

@@ -1,6 +1,6 @@
 //! The words of a command line, by the names of its arguments.
 ghost use Rattle.std.specs.Prelude.{◌≡◌, false, None};
-ghost use Rattle.known_runs.specs.Words.{operands_of, text_of};
+ghost use Rattle.known_runs.specs.Prelude.{operands_of, text_of};
 
 use runs::Arguments;
 

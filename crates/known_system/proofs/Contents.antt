@@ -1,16 +1,14 @@
 -- What writing a run leaves in a known system.
 use Rattle.std.proofs.Common.{◌≡◌, ℕ, ◌+◌, List, [], ◌++◌, Option, Some, None, Result, Ok, Err, codes, option_and_then, refl, sym, ap, ◌∙◌, subst, inl, inr, arith}
 use Rattle.std.specs.Io.KnownBytes.{Appends}
-use Rattle.runs.specs.OutputFiles.{FileCall, calls_of, logged}
-use Rattle.runs.specs.Outputs.{IsCutShort, IsOutputFault, MakesFile, OutputIs, SystemView, Takes, WriterView, link_limit, WritesRun, cut, delivered, made, output_fault_text, to_file, unmade, unreported, writer}
-use Rattle.runs.specs.ProgramFaults.{program_text}
-use Rattle.runs.specs.Run.{RunView, output_file}
-use Rattle.runs.specs.ToolRuns.{Writes, unwritten, written}
+use Rattle.runs.specs.Prelude.{FileCall, calls_of, logged, IsCutShort, IsOutputFault, MakesFile, OutputIs, SystemView, Takes, WriterView, link_limit, WritesRun, output_fault_text, writer, program_text, RunView, output_file, Writes}
+use Rattle.runs.specs.Outputs.{cut, delivered, made, to_file, unmade, unreported}
+use Rattle.runs.specs.ToolRuns.{unwritten, written}
 use Rattle.runs.specs.declared.output_files.OutputFault.{OutputFault}
 use Rattle.runs.specs.declared.output_files.OutputFault.TheVariants.{CannotCreate, WriteFault, OutOfMemory}
 use Rattle.runs.specs.declared.program_fault.ProgramFault.{ProgramFault}
-use Rattle.known_system.specs.Contents.{Contents, contents, Holds, IsFileFault, Leaves, filed, left, printed, Left, whole, kept}
-use Rattle.known_system.specs.Replay.{Folder, Links, Place, bytes_at, folder, nothing, replay}
+use Rattle.known_system.specs.Prelude.{Contents, contents, Holds, IsFileFault, Leaves, Left, Folder, Links, Place, bytes_at, folder, nothing, replay}
+use Rattle.known_system.specs.Contents.{filed, left, printed, whole, kept}
 use Rattle.known_system.proofs.Lefts.{left_by}
 use Rattle.known_system.proofs.Replays.{replay_all}
 

@@ -4,13 +4,12 @@ use Rattle.std.proofs.lemmas.Slice.Eq.{bytes_eq-Decides}
 use Rattle.std.specs.Str.{bytes_eq}
 use Rattle.runs.specs.declared.output_files.OutputFault.{OutputFault}
 use Rattle.runs.specs.declared.output_files.Rights.{Rights}
-use Rattle.runs.specs.OutputFiles.{Course, makes, renames, calls_of, fault_of, first_mode}
-use Rattle.runs.specs.OutputWriting.{whole as all_taken_in, cut, late, unopened, opened, Finishes, replaced, unmoved, unwritten, Fills, replaces_none, with_rights, without_rights, Replaces, unnamed, made as made_new, taken, all_taken, in_place, forbidden, failed, unknown, unread, no_memory, too_long, WritesFile, lacking, taken as stream_taken, stream, stops, special, replaces, follows}
-use Rattle.runs.specs.OutputPaths.{link_target}
+use Rattle.runs.specs.Prelude.{Course, calls_of, fault_of, first_mode, Finishes, Fills, Replaces, WritesFile, link_target}
+use Rattle.runs.specs.OutputFiles.{makes, renames}
+use Rattle.runs.specs.OutputWriting.{whole as all_taken_in, cut, late, unopened, opened, replaced, unmoved, unwritten, replaces_none, with_rights, without_rights, unnamed, made as made_new, taken, all_taken, in_place, forbidden, failed, unknown, unread, no_memory, too_long, lacking, taken as stream_taken, stream, stops, special, replaces, follows}
 use Rattle.known_system.proofs.Replays.{ends}
-use Rattle.known_system.specs.Contents.{Leads, there, follows as leads_on, Left, whole, kept}
-use Rattle.known_system.specs.Replay.{Links, Place, Folder, bytes_at, folder, is_at, is_free, is_link, is_linked, replay, step, unless_at}
-use Rattle.known_system.specs.Source.{bytes_of}
+use Rattle.known_system.specs.Prelude.{Leads, Left, Links, Place, Folder, bytes_at, folder, is_at, is_free, is_link, is_linked, replay, step, unless_at, bytes_of}
+use Rattle.known_system.specs.Contents.{there, follows as leads_on, whole, kept}
 
 same : (s t : Folder) → Some s ≡ Some t → s ≡ t
 same s t is = cc

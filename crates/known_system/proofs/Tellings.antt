@@ -1,11 +1,10 @@
 -- What calls leave that tell of links.
 use Rattle.std.proofs.Common.{◌≡◌, ℕ, List, [], ◌∷◌, ◌++◌, append-nil, append_assoc, Option, Some, None, option_and_then, refl, sym, ap, ◌∙◌}
 use Rattle.std.proofs.lemmas.Slice.Eq.{bytes_eq-Decides}
-use Rattle.runs.specs.OutputFiles.{FileCall, numbers, reads_link}
-use Rattle.known_system.specs.Stored.{links_by_path, tellings}
+use Rattle.runs.specs.Prelude.{FileCall}
+use Rattle.runs.specs.OutputFiles.{numbers, reads_link}
+use Rattle.known_system.specs.Prelude.{links_by_path, tellings, Links, Place, folder, linked, nothing, replay, telling, bytes_of}
 use Rattle.known_system.specs.declared.stored.Link.{Link}
-use Rattle.known_system.specs.Replay.{Links, Place, folder, linked, nothing, replay, telling}
-use Rattle.known_system.specs.Source.{bytes_of}
 use Rattle.known_system.proofs.Replays.{replay_all, replay_more}
 
 tells : (links : List Link) (told : Links) (held : Place)

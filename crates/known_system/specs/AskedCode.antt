@@ -1,7 +1,8 @@
 -- How the logic stores what a source of inputs was asked for.
 use Rattle.std.specs.Prelude.{◌≡◌, ℕ, List, Option, Some, None, refl}
 use Rattle.std.specs.Coded.{Coded, code_by, coded_ℕ, coded_list, coded_option}
-use Rattle.runs.specs.Inputs.{Asked, standard_input, file_of}
+use Rattle.runs.specs.Prelude.{Asked}
+use Rattle.runs.specs.Inputs.{standard_input, file_of}
 
 abbrev pub to_name : Asked → Option (List ℕ)
 to_name standard_input = None

@@ -1,7 +1,8 @@
 -- How the logic stores the calls of a system.
 use Rattle.std.specs.Prelude.{◌≡◌, ℕ, List, [], true, false, cond, ◌==◌, Option, Some, None, refl}
 use Rattle.std.specs.Coded.{Coded, code_by, coded×, coded_ℕ, coded_list, coded_option}
-use Rattle.runs.specs.OutputFiles.{FileCall, asks, reads_link, fails_to_read_link, numbers, makes, fails_to_make, sets_owner, sets_mode, opens, fails_to_open, takes_stream, lacks_stream, closes, renames, removes}
+use Rattle.runs.specs.Prelude.{FileCall}
+use Rattle.runs.specs.OutputFiles.{asks, reads_link, fails_to_read_link, numbers, makes, fails_to_make, sets_owner, sets_mode, opens, fails_to_open, takes_stream, lacks_stream, closes, renames, removes}
 use Rattle.runs.specs.declared.output_files.FileKind.TheVariants.{Regular, Special, Unknown}
 use Rattle.runs.specs.declared.output_files.MakeFault.TheVariants.{Exists, Forbidden, Failed}
 use Rattle.runs.specs.declared.output_files.OutputFault.TheVariants.{CannotCreate, WriteFault, OutOfMemory}

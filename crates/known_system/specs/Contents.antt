@@ -1,12 +1,8 @@
 -- What a known system holds, and what writing a run leaves in it.
 use Rattle.std.specs.Prelude.{◌≡◌, ℕ, suc, List, [], ◌∷◌, Option, Some, None, codes, refl, ◌⊎◌, ◌++◌, true, Result, Ok, Err}
-use Rattle.runs.specs.OutputPaths.{link_target}
+use Rattle.runs.specs.Prelude.{link_target, FileCall, SystemView, link_limit, writer, program_text, RunView, output_file}
 use Rattle.known_system.specs.Replay.{Links, Place, bytes_at, folder, is_free, nothing, replay, Folder}
 use Rattle.known_system.specs.Source.{bytes_of}
-use Rattle.runs.specs.OutputFiles.{FileCall}
-use Rattle.runs.specs.Outputs.{SystemView, link_limit, writer}
-use Rattle.runs.specs.ProgramFaults.{program_text}
-use Rattle.runs.specs.Run.{RunView, output_file}
 use Rattle.runs.specs.declared.program_fault.ProgramFault.{ProgramFault}
 use Rattle.runs.specs.declared.output_files.OutputFault.{OutputFault}
 

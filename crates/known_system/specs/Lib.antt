@@ -6,3 +6,4 @@ pub mod Replay
 pub mod Contents
 pub mod AskedCode
 pub mod Questioned
+pub mod Prelude

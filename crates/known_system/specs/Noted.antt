@@ -1,7 +1,7 @@
 -- The call that a note is of.
 use Rattle.std.specs.Prelude.{[], Some, None}
-use Rattle.runs.specs.OutputFiles.{FileCall, asks, reads_link, fails_to_read_link, numbers, makes, fails_to_make, sets_owner, sets_mode, fails_to_open, lacks_stream, closes, renames, removes}
-use Rattle.runs.specs.Device.{counted_failures, counted_inner}
+use Rattle.runs.specs.Prelude.{FileCall, counted_failures, counted_inner}
+use Rattle.runs.specs.OutputFiles.{asks, reads_link, fails_to_read_link, numbers, makes, fails_to_make, sets_owner, sets_mode, fails_to_open, lacks_stream, closes, renames, removes}
 use Rattle.known_system.specs.declared.history.Note.{Note}
 use Rattle.known_system.specs.declared.history.Note.TheVariants as note
 

@@ -1,5 +1,6 @@
 -- What a question asks for.
-use Rattle.runs.specs.Inputs.{Asked, standard_input, file_of}
+use Rattle.runs.specs.Prelude.{Asked}
+use Rattle.runs.specs.Inputs.{standard_input, file_of}
 use Rattle.known_system.specs.declared.questions.Question.{Question}
 use Rattle.known_system.specs.declared.questions.Question.TheVariants as question
 

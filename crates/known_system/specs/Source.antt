@@ -3,7 +3,8 @@ use Rattle.std.specs.Prelude.{ℕ, List, [], ◌∷◌, Option, Some, None, map,
 use Rattle.std.specs.Borrow.{Bor}
 use Rattle.std.specs.Str.{bytes_eq}
 use Rattle.runs.specs.declared.inputs.InputFault.TheVariants.{CannotOpen}
-use Rattle.runs.specs.Inputs.{Reading, gives, refuses}
+use Rattle.runs.specs.Prelude.{Reading}
+use Rattle.runs.specs.Inputs.{gives, refuses}
 use Rattle.known_system.specs.declared.source.Named.{Named}
 
 abbrev pub texts_by_name : List Named → List (List ℕ × List ℕ)

@@ -3,7 +3,8 @@ use Rattle.std.specs.Prelude.{Option, Some, None, ℕ, List, map}
 use Rattle.std.specs.String.{string_bytes}
 use Rattle.known_system.specs.declared.stored.Stored.{Stored}
 use Rattle.known_system.specs.Replay.{Place}
-use Rattle.runs.specs.OutputFiles.{FileCall, reads_link}
+use Rattle.runs.specs.Prelude.{FileCall}
+use Rattle.runs.specs.OutputFiles.{reads_link}
 use Rattle.known_system.specs.declared.stored.Link.{Link}
 
 abbrev pub stored : Option Stored → Place

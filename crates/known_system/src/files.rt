@@ -1,8 +1,7 @@
 //! Files in memory, of one folder: links, one file, which may be there, and a new file beside it.
 ghost use Rattle.std.specs.Prelude.{◌≡◌, ◌++◌, [], Some, None};
-ghost use Rattle.known_system.specs.Stored.{links_by_path, tellings, stored};
-ghost use Rattle.known_system.specs.Replay.{Place, folder, replay, nothing, telling};
-ghost use Rattle.runs.specs.Device.{counted_inner};
+ghost use Rattle.known_system.specs.Prelude.{links_by_path, tellings, stored, Place, folder, replay, nothing, telling};
+ghost use Rattle.runs.specs.Prelude.{counted_inner};
 
 use crate::history::{History, Note};
 use crate::stored::{Link, Stored, is_at, is_free, link_at, unless_at, with_bytes, with_path};
@@ -141,8 +140,8 @@ fn with_links(before: History, links: &[Link<'_>]) -> History
 
 impl<'a> OutputFiles for KnownFiles<'a> {
     ghost use Rattle.std.specs.Prelude.{◌∷◌};
-    ghost use Rattle.runs.specs.Device.{counted_failures};
-    ghost use Rattle.runs.specs.OutputFiles.{closes, logged};
+    ghost use Rattle.runs.specs.Prelude.{counted_failures, logged};
+    ghost use Rattle.runs.specs.OutputFiles.{closes};
 
     type File = Vec<u8>;
 

@@ -1,12 +1,7 @@
 //! Laws of a known system. Each function does nothing; calling it gives its clause.
 ghost use Rattle.std.specs.Prelude.{◌≡◌, ℕ, List, Some, Result};
-ghost use Rattle.known_system.specs.Contents.{Contents, Holds, Leaves, Left};
-ghost use Rattle.known_system.specs.Replay.{Folder, Links, Place, folder, replay};
-ghost use Rattle.runs.specs.OutputFiles.{Course, calls_of, fault_of};
-ghost use Rattle.runs.specs.OutputWriting.{WritesFile};
-ghost use Rattle.runs.specs.Outputs.{SystemView};
-ghost use Rattle.runs.specs.Run.{RunView};
-ghost use Rattle.runs.specs.ToolRuns.{Writes};
+ghost use Rattle.known_system.specs.Prelude.{Contents, Holds, Leaves, Left, Folder, Links, Place, folder, replay};
+ghost use Rattle.runs.specs.Prelude.{Course, calls_of, fault_of, WritesFile, SystemView, RunView, Writes};
 ghost use Rattle.runs.specs.declared.program_fault.ProgramFault.{ProgramFault};
 
 /// The calls by which an output is made leave all of it where its path leads, or the file that was

@@ -2,9 +2,7 @@
 ghost use Rattle.std.specs.Option.{option_copied};
 ghost use Rattle.std.specs.Prelude.{◌≡◌, ◌↔◌, IsTrue};
 ghost use Rattle.std.specs.String.{string_bytes};
-ghost use Rattle.known_system.specs.Stored.{links_by_path, stored};
-ghost use Rattle.known_system.specs.Replay.{is_at, is_free, unless_at, with_path, with_bytes};
-ghost use Rattle.known_system.specs.Source.{bytes_of};
+ghost use Rattle.known_system.specs.Prelude.{links_by_path, stored, is_at, is_free, unless_at, with_path, with_bytes, bytes_of};
 
 /// A link.
 #[derive(Clone, Copy, Drop)]

@@ -6,8 +6,7 @@ use Rattle.std.proofs.lemmas.List.{drop-drop, drop_all}
 use Rattle.std.proofs.lemmas.Option.{slice_get_within, get_or_from_slice_get}
 use Rattle.locale_names.specs.declared.name.Candidate.{Candidate}
 use Rattle.locale_names.specs.declared.position.Position.{Position}
-use Rattle.locale_names.specs.Candidate.{names_from, names_left, text_of}
-use Rattle.locale_names.specs.Names.{before, candidates, candidates_of_name, from_first, is_untranslated, language_parts, languages}
+use Rattle.locale_names.specs.Prelude.{names_from, names_left, text_of, before, candidates, candidates_of_name, from_first, is_untranslated, language_parts, languages}
 
 next-of : (names : List (List ℕ)) (n : ℕ) (text : List ℕ) → slice_get names n ≡ Some text
     → drop n names ≡ text ∷ drop (n + 1) names

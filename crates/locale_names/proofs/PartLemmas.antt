@@ -7,7 +7,7 @@ use Rattle.std.proofs.lemmas.List.{drop_all}
 use Rattle.std.proofs.lemmas.List.Splits.{slice_split_first, slice_split-cons_no}
 use Rattle.std.proofs.lemmas.List.Sums.{take_while-cons}
 use Rattle.memchr.specs.Find.{is_byte}
-use Rattle.locale_names.specs.Names.{is_c_locale, is_path_part, language_parts}
+use Rattle.locale_names.specs.Prelude.{is_c_locale, is_path_part, language_parts}
 use Rattle.locale_names.proofs.SearchLemmas.{byte-here, byte-later}
 
 -- the parts of a text, up to the first separator and after it

@@ -1,7 +1,7 @@
 //! The parts of LANGUAGE: languages in order of preference, with a colon between two.
 
 ghost use Rattle.std.specs.Prelude.{◌≡◌, ◌<◌, ◌≤◌, [], ◌∷◌, drop, length, IfSome, MatchOption, if◌then◌else◌};
-ghost use Rattle.locale_names.specs.Names.{is_c_locale, is_path_part, language_parts};
+ghost use Rattle.locale_names.specs.Prelude.{is_c_locale, is_path_part, language_parts};
 
 use crate::name::{is_c_locale, is_path_part, len_before};
 

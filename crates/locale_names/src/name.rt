@@ -4,7 +4,7 @@ ghost use Rattle.std.specs.Prelude.{◌≡◌, ◌<◌, ◌≤◌, Some, length,
 ghost use Rattle.std.specs.List.{position_or_len};
 ghost use Rattle.memchr.specs.Find.{is_byte};
 ghost use Rattle.locale_names.specs.Names as spec;
-ghost use Rattle.locale_names.specs.Candidate.{text_of};
+ghost use Rattle.locale_names.specs.Prelude.{text_of};
 
 use memchr::memchr;
 

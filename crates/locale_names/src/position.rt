@@ -1,8 +1,7 @@
 //! The names of the locales whose catalogues are looked for, in order, by their positions.
 
 ghost use Rattle.std.specs.Prelude.{◌≡◌, [], ◌∷◌, drop, false, MatchOption};
-ghost use Rattle.locale_names.specs.Names.{candidates, is_untranslated, language_parts};
-ghost use Rattle.locale_names.specs.Candidate.{names_from, names_left, text_of};
+ghost use Rattle.locale_names.specs.Prelude.{candidates, is_untranslated, language_parts, names_from, names_left, text_of};
 
 use crate::language::next_language;
 use crate::name::{Candidate, candidate_of_name, is_untranslated};

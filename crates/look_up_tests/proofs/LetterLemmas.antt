@@ -5,7 +5,7 @@ use Rattle.std.specs.Ordering.{ordering_then}
 use Rattle.std.specs.declared.cmp.Ordering.TheVariants.{Less, Equal}
 use Rattle.std.specs.Cmp.{nat_cmp_is}
 use Rattle.std.proofs.lemmas.List.FromFn.{get_or-map-range_with_len, length-map-range_with_len}
-use Rattle.mo_file.specs.Key.{AreRising, key_at, key_cmp}
+use Rattle.mo_file.specs.Prelude.{AreRising, key_at, key_cmp}
 
 abbrev pub letters : ℕ → List (List ℕ)
 letters many = map (λ i. (98 + 2 * i) ∷ []) (range_with_len 0 many)

@@ -3,8 +3,8 @@ use Rattle.std.proofs.Common.{◌≡◌, ℕ, suc, ◌+◌, ◌-◌, ◌<◌, �
 use Rattle.std.specs.List.{range_with_len, sum_by, slice_range}
 use Rattle.std.proofs.lemmas.List.{take-take}
 use Rattle.std.proofs.lemmas.List.Sums.{sum_by-cons}
-use Rattle.mo_file.specs.Message.{Message}
-use Rattle.mo_expand.specs.ExpandedFile.{with_message, with_messages, strings_len}
+use Rattle.mo_file.specs.Prelude.{Message}
+use Rattle.mo_expand.specs.Prelude.{with_message, with_messages, strings_len}
 use Rattle.mo_expand.proofs.JoiningLemmas.{slice_range-before, length-slice_range}
 
 -- the messages that are left, of which the first is that of an index

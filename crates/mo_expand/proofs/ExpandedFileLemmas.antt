@@ -1,14 +1,11 @@
 -- An expanded file is valid.
 use Rattle.std.proofs.Common.{ℕ, ◌+◌, List, refl, subst, sym}
-use Rattle.mo_file.specs.Key.{AreRising, keys}
-use Rattle.mo_file.specs.Message.{Message}
-use Rattle.mo_file.specs.MoFile.{IsMoFile}
+use Rattle.mo_file.specs.Prelude.{AreRising, keys, Message, IsMoFile}
 use Rattle.mo_file.specs.declared.byte_order.Order.{Order}
 use Rattle.mo_file.specs.declared.fault.MoError.TheVariants.{NotSorted}
 use Rattle.mo_file.proofs.ViewLemmas.{AreRising-messages_of}
 use Rattle.mo_file.proofs.RoundTripLemmas.{layout_is_mo_file}
-use Rattle.mo_expand.specs.Laws.{ExpandedFileIsMoFile}
-use Rattle.mo_expand.specs.ExpandedFile.{system_messages, with_messages}
+use Rattle.mo_expand.specs.Prelude.{ExpandedFileIsMoFile, system_messages, with_messages}
 use Rattle.mo_expand.proofs.RisingLemmas.{rising-with_messages}
 
 pub rising : (order : Order) (bytes : List ℕ) (messages : List Message) → IsMoFile order bytes messages

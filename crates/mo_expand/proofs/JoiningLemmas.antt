@@ -10,10 +10,9 @@ use Rattle.std.proofs.lemmas.List.{drop-drop, drop-take, take-take}
 use Rattle.mo_expand.specs.declared.joining.Missing.TheVariants.{Full}
 use Rattle.mo_expand.specs.declared.joining.Segment.{Segment}
 use Rattle.mo_file.specs.declared.byte_order.Order.{Order}
-use Rattle.mo_file.specs.Word.{word_at}
+use Rattle.mo_file.specs.Prelude.{word_at}
 use Rattle.mo_expand.specs.declared.platform_text.PlatformText.{PlatformText}
-use Rattle.mo_expand.specs.Segments.{joined, from_segment, join}
-use Rattle.mo_expand.specs.Expanding.{message_from, IsExpanded}
+use Rattle.mo_expand.specs.Prelude.{joined, from_segment, join, message_from, IsExpanded}
 use Rattle.mo_expand.specs.Internal.Joining.{HasText, IsJoining, IsPut, IsTried, IsWritten, with_rest}
 
 pub joined-none : (order : Order) (bytes : List ℕ) (texts : List PlatformText) (at start : ℕ)

@@ -5,11 +5,9 @@ use Rattle.std.specs.List.{copy_within}
 use Rattle.std.proofs.lemmas.List.{take_more, take_more_set, take-map, take-take, take_at, drop-take, set_at, map-append, drop-map}
 use Rattle.std.proofs.lemmas.Option.{none-some}
 use Rattle.std.specs.declared.cmp.Ordering.{Ordering}
-use Rattle.mo_file.specs.Key.{key_of, key_cmp}
-use Rattle.mo_file.specs.Message.{Message, originals, translations}
+use Rattle.mo_file.specs.Prelude.{key_of, key_cmp, Message, originals, translations, borrowed_message, messages_of_borrowed}
 use Rattle.mo_file.specs.declared.pairs.BorrowedPair.{BorrowedPair}
-use Rattle.mo_file.specs.Pairs.{borrowed_message, messages_of_borrowed}
-use Rattle.mo_expand.specs.ExpandedFile.{beside, with_message}
+use Rattle.mo_expand.specs.Prelude.{beside, with_message}
 
 pub with_message-cons : (m other : Message) (others : List Message) (o : Ordering)
     → key_cmp (key_of other.original) (key_of m.original) ≡ o

@@ -12,11 +12,9 @@ use Rattle.std.proofs.lemmas.List.Sorted.{All-permutation, Contains-permutation,
 use Rattle.std.proofs.lemmas.List.Sums.{fails_before_first, passes_at_first}
 use Rattle.std.proofs.lemmas.Option.{get_or_from_slice_get, none-some, slice_get-get_or, slice_get_within}
 use Rattle.std.proofs.lemmas.Slice.Eq.{bytes_eq-Decides}
-use Rattle.mo_file.specs.Key.{AreRising, key_cmp, key_of, keys}
-use Rattle.mo_file.specs.Message.{Message}
+use Rattle.mo_file.specs.Prelude.{AreRising, key_cmp, key_of, keys, Message}
 use Rattle.mo_file.proofs.RoundTripLemmas.{layout_is_mo_file}
-use Rattle.mo_expand.specs.SortedFile.{HaveDistinctKeys, IsInOrder}
-use Rattle.mo_expand.specs.Laws.{MoFileIsInOrder, OneOrder, SameMessageUnderKey, SortedFileIsMoFile}
+use Rattle.mo_expand.specs.Prelude.{HaveDistinctKeys, IsInOrder, MoFileIsInOrder, OneOrder, SameMessageUnderKey, SortedFileIsMoFile}
 use Rattle.mo_expand.proofs.ExpandedFileLemmas.{rising}
 use Rattle.mo_expand.proofs.RisingLemmas.{rising-rest}
 use Rattle.mo_expand.proofs.SearchLemmas.{rising_between}

@@ -4,9 +4,8 @@ use Rattle.std.specs.declared.cmp.Ordering.{Ordering}
 use Rattle.std.specs.declared.cmp.Ordering.TheVariants.{Less, Equal, Greater}
 use Rattle.std.specs.Ordering.{ordering_reverse}
 use Rattle.std.proofs.lemmas.Cmp.{nat_list_cmp_total}
-use Rattle.mo_file.specs.Key.{AreRising, key_at, key_cmp, key_of, keys}
-use Rattle.mo_file.specs.Message.{Message}
-use Rattle.mo_expand.specs.ExpandedFile.{beside, with_message, with_messages}
+use Rattle.mo_file.specs.Prelude.{AreRising, key_at, key_cmp, key_of, keys, Message}
+use Rattle.mo_expand.specs.Prelude.{beside, with_message, with_messages}
 
 -- a key is below the first of others, if there is one
 abbrev IsBelow : List ℕ → List (List ℕ) → Type 0

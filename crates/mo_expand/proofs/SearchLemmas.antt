@@ -8,11 +8,9 @@ use Rattle.std.proofs.lemmas.Cmp.{nat_list_cmp_total}
 use Rattle.std.proofs.lemmas.List.Sorted.{searchable_from_sorted}
 use Rattle.std.proofs.lemmas.List.{length-map, get_or-map}
 use Rattle.std.proofs.lemmas.Map.Lookups.{exact_bytes}
-use Rattle.mo_file.specs.Key.{AreRising, key_at, key_cmp, key_of, keys}
-use Rattle.mo_file.specs.Message.{Message}
+use Rattle.mo_file.specs.Prelude.{AreRising, key_at, key_cmp, key_of, keys, Message, borrowed_message, messages_of_borrowed}
 use Rattle.mo_file.specs.declared.pairs.BorrowedPair.{BorrowedPair}
-use Rattle.mo_file.specs.Pairs.{borrowed_message, messages_of_borrowed}
-use Rattle.mo_expand.specs.ExpandedFile.{with_message}
+use Rattle.mo_expand.specs.Prelude.{with_message}
 use Rattle.mo_expand.proofs.ListingLemmas.{with_message-cons, with_message-none}
 
 -- key i is below key j wherever i is below j

@@ -5,10 +5,9 @@ use Rattle.std.proofs.lemmas.Bool.{and_parts, cases_lt, eqb-true, eqb-false, eq-
 use Rattle.std.proofs.lemmas.List.{get_or_past}
 use Rattle.std.proofs.lemmas.Option.{get_or_from_slice_get, none-some, slice_get-get_or}
 use Rattle.mo_file.specs.declared.byte_order.Order.{Order}
-use Rattle.mo_file.specs.Word.{word_at}
+use Rattle.mo_file.specs.Prelude.{word_at}
 use Rattle.mo_expand.specs.declared.platform_text.PlatformText.{PlatformText}
-use Rattle.mo_expand.specs.Segments.{text_of, inserted, join, joined, name_of, part, terminated_part}
-use Rattle.mo_expand.specs.Laws.{AreSegments, IsBeforeNul, IsName, IsPart, TextIsItsSegments}
+use Rattle.mo_expand.specs.Prelude.{text_of, inserted, join, joined, name_of, part, terminated_part, AreSegments, IsBeforeNul, IsName, IsPart, TextIsItsSegments}
 use Rattle.mo_expand.specs.Laws.AreSegments.{last, before}
 
 pub if-some : {A : Type 0} (b : Bool) (x : Option A) (t : A) → (if b then x else None) ≡ Some t

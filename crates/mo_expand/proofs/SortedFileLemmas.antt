@@ -14,11 +14,9 @@ use Rattle.std.proofs.lemmas.Map.Lookups.{exact_bytes}
 use Rattle.std.proofs.lemmas.Map.Made.{AllPairs-from_IsDistinct, IsDistinct-from_AllPairs}
 use Rattle.std.proofs.lemmas.Slice.Eq.{bytes_eq-Decides}
 use Rattle.std.specs.Str.{bytes_eq}
-use Rattle.mo_file.specs.Key.{AreRising, key_cmp, key_of, keys}
-use Rattle.mo_file.specs.Message.{Message}
+use Rattle.mo_file.specs.Prelude.{AreRising, key_cmp, key_of, keys, Message, borrowed_message, messages_of_borrowed}
 use Rattle.mo_file.specs.declared.pairs.BorrowedPair.{BorrowedPair}
-use Rattle.mo_file.specs.Pairs.{borrowed_message, messages_of_borrowed}
-use Rattle.mo_expand.specs.SortedFile.{HaveDistinctKeys}
+use Rattle.mo_expand.specs.Prelude.{HaveDistinctKeys}
 
 is_less : (o : Ordering) → true ≡ is_lt o → o ≡ Less
 is_less Less is = refl

@@ -7,13 +7,9 @@ use Rattle.std.proofs.lemmas.List.Elements.{All-head, All-tail}
 use Rattle.std.proofs.lemmas.Option.{none-some}
 use Rattle.std.proofs.lemmas.Slice.Eq.{bytes_eq-Decides}
 use Rattle.mo_file.specs.declared.byte_order.Order.{Order}
-use Rattle.mo_file.specs.FileHeader.{revision}
-use Rattle.mo_file.specs.Message.{Message}
-use Rattle.mo_file.specs.Word.{word_at}
+use Rattle.mo_file.specs.Prelude.{revision, Message, word_at}
 use Rattle.mo_expand.specs.declared.platform_text.PlatformText.{PlatformText}
-use Rattle.mo_expand.specs.Expanding.{message_from, system_count}
-use Rattle.mo_expand.specs.Segments.{text_at}
-use Rattle.mo_expand.specs.Laws.{FirstTextCounts, IsSystemNumber, MessageIsItsStrings}
+use Rattle.mo_expand.specs.Prelude.{message_from, system_count, text_at, FirstTextCounts, IsSystemNumber, MessageIsItsStrings}
 use Rattle.mo_expand.proofs.SegmentLemmas.{both, if-false, if-some, if-true, some-same}
 
 differs : (b : Bool) → ¬ (b ≡ true) → b ≡ false

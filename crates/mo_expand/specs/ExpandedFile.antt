@@ -4,11 +4,9 @@ use Rattle.std.specs.List.{range_with_len, sum_by}
 use Rattle.std.specs.declared.cmp.Ordering.{Ordering}
 use Rattle.std.specs.declared.cmp.Ordering.TheVariants.{Less, Equal, Greater}
 use Rattle.mo_file.specs.declared.byte_order.Order.{Order}
-use Rattle.mo_file.specs.Key.{key_of, key_cmp}
-use Rattle.mo_file.specs.Message.{Message}
+use Rattle.mo_file.specs.Prelude.{key_of, key_cmp, Message, layout}
 use Rattle.mo_expand.specs.declared.platform_text.PlatformText.{PlatformText}
 use Rattle.mo_expand.specs.Expanding.{system_count, system_message}
-use Rattle.mo_file.specs.Layout.{layout}
 use Rattle.mo_expand.specs.declared.expanded_file.ExpandedFile.{ExpandedFile}
 use Rattle.mo_expand.specs.declared.expanded_file.ExpandedFile.TheVariants.{Len, NotMoFile, ListTooShort, RoomTooShort, TooLarge}
 

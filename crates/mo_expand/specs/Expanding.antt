@@ -1,12 +1,10 @@
 -- What has become of a message that was to be written.
 use Rattle.std.specs.Prelude.{◌≡◌, ℕ, ◌+◌, ◌<◌, ◌≤◌, List, length, Option, None, Some, Result, Ok, Err, ◌*◌, ◌%◌, ◌&&◌, nat_le, nat_lt, if◌then◌else◌}
 use Rattle.std.specs.List.{slice_range}
-use Rattle.mo_file.specs.Message.{Message}
+use Rattle.mo_file.specs.Prelude.{Message, word_at, revision}
 use Rattle.mo_expand.specs.declared.joining.Missing.{Missing}
 use Rattle.mo_expand.specs.declared.joining.Missing.TheVariants.{Absent, Full}
 use Rattle.mo_file.specs.declared.byte_order.Order.{Order}
-use Rattle.mo_file.specs.Word.{word_at}
-use Rattle.mo_file.specs.FileHeader.{revision}
 use Rattle.mo_expand.specs.declared.platform_text.PlatformText.{PlatformText}
 use Rattle.mo_expand.specs.Segments.{text_at}
 

@@ -2,20 +2,14 @@
 use Rattle.std.specs.Prelude.{◌≡◌, ℕ, List, [], ◌∷◌, None, Some, codes, ◌⊎◌, ◌↔◌, Contains, ◌≢◌, suc, ◌+◌, ◌-◌, ◌*◌, ◌%◌, ◌<◌, ◌≤◌, ◌++◌, All, length, slice_get}
 use Rattle.mo_file.specs.declared.byte_order.Order.{Order}
 use Rattle.mo_file.specs.declared.byte_order.Order.TheVariants.{Little, Big}
-use Rattle.mo_file.specs.Layout.{LayoutFits, layout}
-use Rattle.mo_file.specs.Message.{Message}
-use Rattle.mo_file.specs.MoFile.{IsMoFile}
+use Rattle.mo_file.specs.Prelude.{LayoutFits, layout, Message, IsMoFile, IsFirstFault, kind, AreRising, key_of, keys, revision, word_at}
 use Rattle.mo_expand.specs.declared.platform_text.PlatformText.{PlatformText}
 use Rattle.mo_expand.specs.Expanding.{system_message}
 use Rattle.mo_expand.specs.ExpandedFile.{expanded_file, expanded_messages, with_message}
 use Rattle.std.specs.List.{find, slice_range}
 use Rattle.std.specs.Str.{bytes_eq}
 use Rattle.mo_file.specs.declared.fault.MoError.{MoError}
-use Rattle.mo_file.specs.Fault.{IsFirstFault, kind}
-use Rattle.mo_file.specs.Key.{AreRising, key_of, keys}
 use Rattle.mo_expand.specs.SortedFile.{HaveDistinctKeys, IsFileInAnyOrder, IsInOrder}
-use Rattle.mo_file.specs.FileHeader.{revision}
-use Rattle.mo_file.specs.Word.{word_at}
 use Rattle.mo_expand.specs.Segments.{text_of, text_at}
 
 -- the file that GNU's msgfmt 0.21 writes with `--no-hash`, in either byte order, of a message `%<PRIu64> kB` with the

@@ -4,3 +4,4 @@ pub mod Expanding
 pub mod ExpandedFile
 pub mod SortedFile
 pub mod Internal
+pub mod Prelude

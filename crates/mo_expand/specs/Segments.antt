@@ -8,7 +8,7 @@ use Rattle.std.specs.Str.{bytes_eq}
 use Rattle.mo_expand.specs.declared.platform_text.PlatformText.{PlatformText}
 use Rattle.std.specs.List.{slice_range}
 use Rattle.mo_file.specs.declared.byte_order.Order.{Order}
-use Rattle.mo_file.specs.Word.{word_at}
+use Rattle.mo_file.specs.Prelude.{word_at}
 
 -- The texts that a platform has for names as PRIu64, by which system-dependent strings are completed.
 

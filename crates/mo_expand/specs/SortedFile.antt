@@ -3,12 +3,7 @@ use Rattle.std.specs.Prelude.{◌≡◌, ◌≢◌, ℕ, List, AllPairs, IsPermu
 use Rattle.mo_file.specs.declared.byte_order.Order.{Order}
 use Rattle.mo_file.specs.declared.fault.MoError.{MoError}
 use Rattle.mo_file.specs.declared.fault.MoError.TheVariants.{NotSorted}
-use Rattle.mo_file.specs.Fault.{HasFault}
-use Rattle.mo_file.specs.FileHeader.{HasMagicOf}
-use Rattle.mo_file.specs.Key.{AreRising, keys}
-use Rattle.mo_file.specs.Message.{Message}
-use Rattle.mo_file.specs.StringTable.{messages_of}
-use Rattle.mo_file.specs.Layout.{layout}
+use Rattle.mo_file.specs.Prelude.{HasFault, HasMagicOf, AreRising, keys, Message, messages_of, layout}
 use Rattle.mo_expand.specs.declared.sorted_file.SortedFile.{SortedFile}
 use Rattle.mo_expand.specs.declared.sorted_file.SortedFile.TheVariants.{Len, NotMoFile, ListTooShort, EqualKeys, TooLarge}
 use Rattle.mo_expand.specs.ExpandedFile.{IsWrittenIfItFits}

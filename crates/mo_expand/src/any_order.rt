@@ -2,11 +2,8 @@
 
 ghost use Rattle.std.specs.Prelude.{◌≡◌, ◌+◌, ◌*◌, ◌<◌, ◌≤◌, List, length, MatchOption};
 ghost use Rattle.mo_file.specs.declared.byte_order.Order.{Order};
-ghost use Rattle.mo_file.specs.FileHeader.{HasMagicOf, message_count};
-ghost use Rattle.mo_file.specs.Message.{Message};
-ghost use Rattle.mo_file.specs.Pairs.{messages_of_borrowed};
-ghost use Rattle.mo_file.specs.StringTable.{end_at, messages_of, string_at};
-ghost use Rattle.mo_expand.specs.SortedFile.{IsFileInAnyOrder};
+ghost use Rattle.mo_file.specs.Prelude.{HasMagicOf, message_count, Message, messages_of_borrowed, end_at, messages_of, string_at};
+ghost use Rattle.mo_expand.specs.Prelude.{IsFileInAnyOrder};
 
 use mo_file::{BorrowedPair, Meter, MoError, MoView, Order, word};
 

@@ -2,10 +2,8 @@
 
 ghost use Rattle.std.specs.Prelude.{◌≡◌, ◌+◌, ◌<◌, ◌≤◌, None, IfSome, length, take};
 ghost use Rattle.std.specs.List.{sum_by};
-ghost use Rattle.mo_file.specs.Key.{AreRising, keys};
-ghost use Rattle.mo_file.specs.Pairs.{messages_of_borrowed};
-ghost use Rattle.mo_expand.specs.Expanding.{system_count};
-ghost use Rattle.mo_expand.specs.ExpandedFile.{expanded_messages, strings_len, system_messages};
+ghost use Rattle.mo_file.specs.Prelude.{AreRising, keys, messages_of_borrowed};
+ghost use Rattle.mo_expand.specs.Prelude.{system_count, expanded_messages, strings_len, system_messages};
 
 use crate::expanding::{count_in, expand_in};
 use crate::joining::Missing;

@@ -2,10 +2,9 @@
 
 ghost use Rattle.std.specs.Prelude.{◌≡◌, List, length};
 ghost use Rattle.mo_file.specs.declared.byte_order.Order.{Order};
-ghost use Rattle.mo_file.specs.Message.{Message};
-ghost use Rattle.mo_file.specs.MoFile.{IsMoFile};
+ghost use Rattle.mo_file.specs.Prelude.{Message, IsMoFile};
 ghost use Rattle.mo_expand.specs.declared.expanded_file.ExpandedFile.TheVariants.{NotMoFile};
-ghost use Rattle.mo_expand.specs.ExpandedFile.{IsExpandedFile};
+ghost use Rattle.mo_expand.specs.Prelude.{IsExpandedFile};
 
 use crate::completing::add_completed;
 use crate::expanding::count_in;

@@ -2,11 +2,10 @@
 
 ghost use Rattle.std.specs.Prelude.{◌≡◌, ◌<◌, ◌≤◌, Err, length};
 ghost use Rattle.mo_file.specs.declared.byte_order.Order.{Order};
-ghost use Rattle.mo_file.specs.FileHeader.{HasMagicOf};
+ghost use Rattle.mo_file.specs.Prelude.{HasMagicOf};
 ghost use Rattle.mo_expand.specs.declared.joining.Missing.TheVariants.{Absent};
-ghost use Rattle.mo_expand.specs.Expanding.{message_from, system_count, system_message, IsExpanded};
+ghost use Rattle.mo_expand.specs.Prelude.{message_from, system_count, system_message, IsExpanded, text_at};
 ghost use Rattle.mo_expand.specs.Internal.Joining.{IsTried};
-ghost use Rattle.mo_expand.specs.Segments.{text_at};
 
 use crate::joining::{Missing, has_text, put_text};
 use crate::platform_text::PlatformText;

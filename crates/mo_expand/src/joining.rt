@@ -1,7 +1,7 @@
 //! Joining the segments of a string.
 
 ghost use Rattle.std.specs.Prelude.{◌≡◌, ◌+◌, ◌<◌, ◌≤◌, ◌^◌, ◌++◌, ℕ, List, Option, IfSome, is_some, length};
-ghost use Rattle.mo_expand.specs.Segments.{from_segment, text_at};
+ghost use Rattle.mo_expand.specs.Prelude.{from_segment, text_at};
 ghost use Rattle.mo_expand.specs.Internal.Joining.{IsPut, IsWritten, with_rest};
 
 use crate::platform_text::PlatformText;

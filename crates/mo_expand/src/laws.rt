@@ -1,7 +1,7 @@
 //! Laws of system-dependent messages and of files whose keys are in any order, each the contract of
 //! a function that does nothing.
 
-ghost use Rattle.mo_expand.specs.Laws.{ExampleIsCompleted, ExampleNeedsItsText, ExpandedFileIsMoFile, FirstTextCounts, MessageIsItsStrings, TextIsItsSegments, MessageIsAddedInOrder, MoFileIsInOrder, OneOrder, OrderAloneIsTold, SameMessageUnderKey, SortedFileIsMoFile};
+ghost use Rattle.mo_expand.specs.Prelude.{ExampleIsCompleted, ExampleNeedsItsText, ExpandedFileIsMoFile, FirstTextCounts, MessageIsItsStrings, TextIsItsSegments, MessageIsAddedInOrder, MoFileIsInOrder, OneOrder, OrderAloneIsTold, SameMessageUnderKey, SortedFileIsMoFile};
 
 /// A file of one such message that GNU's msgfmt wrote, in either byte order: a platform that has
 /// the text for its name has the message.

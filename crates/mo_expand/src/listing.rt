@@ -1,9 +1,8 @@
 //! Messages in a list of the caller's, in rising order of their keys.
 
 ghost use Rattle.std.specs.Prelude.{◌≡◌, ◌+◌, ◌<◌, ◌≤◌, length, take};
-ghost use Rattle.mo_file.specs.Key.{AreRising, keys};
-ghost use Rattle.mo_file.specs.Pairs.{borrowed_message, messages_of_borrowed};
-ghost use Rattle.mo_expand.specs.ExpandedFile.{with_message};
+ghost use Rattle.mo_file.specs.Prelude.{AreRising, keys, borrowed_message, messages_of_borrowed};
+ghost use Rattle.mo_expand.specs.Prelude.{with_message};
 
 use mo_file::{BorrowedPair, Meter, MoView, compare_originals};
 

@@ -2,7 +2,7 @@
 
 ghost use Rattle.std.specs.Prelude.{◌≡◌};
 ghost use Rattle.std.specs.Option.{option_copied};
-ghost use Rattle.mo_expand.specs.Segments.{text_of};
+ghost use Rattle.mo_expand.specs.Prelude.{text_of};
 
 /// The text that a platform has for a name: for `PRIu64` it may be `lu`.
 #[repr(C)]

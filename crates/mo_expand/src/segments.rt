@@ -2,7 +2,7 @@
 
 ghost use Rattle.std.specs.Prelude.{◌≡◌, ◌<◌, ◌≤◌, ◌^◌, length};
 ghost use Rattle.std.specs.Option.{option_copied};
-ghost use Rattle.mo_expand.specs.Segments.{terminated_part, part, inserted};
+ghost use Rattle.mo_expand.specs.Prelude.{terminated_part, part, inserted};
 
 use crate::platform_text::{PlatformText, text_of};
 use mo_file::{Order, word};

@@ -10,13 +10,8 @@ use Rattle.std.proofs.lemmas.List.Sums.{sum_by-cons}
 use Rattle.mo_file.specs.declared.byte_order.Order.{Order}
 use Rattle.mo_file.specs.declared.byte_order.Order.TheVariants.{Little, Big}
 use Rattle.mo_file.specs.declared.pairs.Pair.{Pair}
-use Rattle.mo_file.specs.FileHeader.{magic}
-use Rattle.mo_file.specs.Word.{word_bytes}
-use Rattle.mo_file.specs.Message.{Message, originals, translations}
-use Rattle.mo_file.specs.Layout.{layout, header, table, terminated}
+use Rattle.mo_file.specs.Prelude.{magic, word_bytes, Message, originals, translations, layout, header, table, terminated, AreRising, key_at, key_cmp, key_of, keys, messages_of_pairs, strings_of}
 use Rattle.mo_file.specs.declared.pairs.Part.TheVariants.{Original, Translation}
-use Rattle.mo_file.specs.Key.{AreRising, key_at, key_cmp, key_of, keys}
-use Rattle.mo_file.specs.Pairs.{messages_of_pairs, strings_of}
 
 abbrev message_len : Message → ℕ
 message_len m = 18 + length m.original + length m.translation

@@ -7,10 +7,7 @@ use Rattle.mo_file.specs.declared.fault.MoError.{MoError}
 use Rattle.mo_file.specs.declared.fault.MoError.TheVariants.{TooShort, BadMagic, BadRevision, TableOutside}
 use Rattle.mo_file.specs.declared.fault.MoError.TheVariants.{StringOutside, NoTerminator, NotSorted}
 use Rattle.mo_file.specs.declared.file_header.FileHeader.{FileHeader}
-use Rattle.mo_file.specs.FileHeader.{HasMagicOf, message_count, originals_table, revision, translations_table}
-use Rattle.mo_file.specs.Message.{Message}
-use Rattle.mo_file.specs.MoFile.{IsMoFile}
-use Rattle.mo_file.specs.Fault.{HasFault, HasFaultIn, IsBefore, IsFirstFault, IsNotRising}
+use Rattle.mo_file.specs.Prelude.{HasMagicOf, message_count, originals_table, revision, translations_table, Message, IsMoFile, HasFault, HasFaultIn, IsBefore, IsFirstFault, IsNotRising}
 use Rattle.mo_file.specs.Internal.Checking.{AreRisingBelow, HasStrings, IsChecked, IsHeader}
 
 pub not_below : (a b : ℕ) → ¬ (a < b) → b ≤ a

@@ -7,12 +7,7 @@ use Rattle.mo_file.specs.declared.byte_order.Order.{Order}
 use Rattle.mo_file.specs.declared.byte_order.Order.TheVariants.{Little, Big}
 use Rattle.mo_file.specs.declared.fault.MoError.{MoError}
 use Rattle.mo_file.specs.declared.fault.MoError.TheVariants.{TooShort, BadMagic, BadRevision, TableOutside, StringOutside, NoTerminator, NotSorted}
-use Rattle.mo_file.specs.FileHeader.{HasMagicOf, magic, revision, message_count, originals_table, translations_table}
-use Rattle.mo_file.specs.StringTable.{end_at, original_at, messages_of}
-use Rattle.mo_file.specs.Key.{key_of, key_cmp}
-use Rattle.mo_file.specs.Message.{Message}
-use Rattle.mo_file.specs.MoFile.{IsMoFile}
-use Rattle.mo_file.specs.Fault.{HasFault, HasFaultIn, IsFirstFault, IsNotRising, IsOutside, IsUnterminated, kind, index}
+use Rattle.mo_file.specs.Prelude.{HasMagicOf, magic, revision, message_count, originals_table, translations_table, end_at, original_at, messages_of, key_of, key_cmp, Message, IsMoFile, HasFault, HasFaultIn, IsFirstFault, IsNotRising, IsOutside, IsUnterminated, kind, index}
 use Rattle.mo_file.proofs.FaultLemmas.{HasFaultIn-shown}
 
 -- a fact holds or it doesn't

@@ -9,7 +9,7 @@ use Rattle.std.proofs.lemmas.Bool.{cases_eq, cases_lt, eq-eqb, ne_eqb}
 use Rattle.std.specs.Option.{unwrap_or}
 use Rattle.std.proofs.lemmas.Option.{unwrap_or-slice_get}
 use Rattle.std.proofs.lemmas.List.{append-nil, drop_all, get_or-drop, length-drop, take_all}
-use Rattle.mo_file.specs.Key.{is_nul, key_of, key_cmp}
+use Rattle.mo_file.specs.Prelude.{is_nul, key_of, key_cmp}
 use Rattle.mo_file.specs.Internal.CommonPrefix.{AreEqualBetween, IsCommonPrefix}
 
 key_of-cut : (a : ℕ) (xs : List ℕ) (b : Bool) → (a == 0) ≡ b

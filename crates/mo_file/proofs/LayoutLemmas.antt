@@ -8,9 +8,7 @@ use Rattle.std.proofs.lemmas.Option.{slice_get_within}
 use Rattle.byteorder.specs.Numbers.{big_number-reads_back, little_number-reads_back}
 use Rattle.mo_file.specs.declared.byte_order.Order.{Order}
 use Rattle.mo_file.specs.declared.byte_order.Order.TheVariants.{Little, Big}
-use Rattle.mo_file.specs.Word.{word_at, word_bytes}
-use Rattle.mo_file.specs.StringTable.{end_at, offset_at, string_at}
-use Rattle.mo_file.specs.Layout.{table, terminated}
+use Rattle.mo_file.specs.Prelude.{word_at, word_bytes, end_at, offset_at, string_at, table, terminated}
 use Rattle.mo_file.proofs.BuildLemmas.{length-word_bytes, length-table}
 
 -- a part of a file stands at an offset

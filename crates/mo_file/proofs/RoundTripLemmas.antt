@@ -6,14 +6,8 @@ use Rattle.std.proofs.lemmas.List.{append-nil, length-map, take_at, drop_at}
 use Rattle.std.proofs.lemmas.Option.{slice_get-map, slice_get_cases, slice_get_past}
 use Rattle.mo_file.specs.declared.byte_order.Order.{Order}
 use Rattle.mo_file.specs.declared.file_header.FileHeader.{FileHeader}
-use Rattle.mo_file.specs.Word.{word_bytes}
-use Rattle.mo_file.specs.FileHeader.{HasMagicOf, hash_size, magic, revision, message_count, originals_table, translations_table}
-use Rattle.mo_file.specs.Message.{Message, originals, translations}
-use Rattle.mo_file.specs.Key.{AreRising, keys}
-use Rattle.mo_file.specs.StringTable.{messages_of, message_at}
-use Rattle.mo_file.specs.Layout.{layout, originals_offset, table, terminated, translations_offset}
-use Rattle.mo_file.specs.Laws.{IsKnownMajor, zeroth, first, layout_of_revision, KnownRevisionsAreValid, LayoutIsMoFile, NoHashTableIsLaidOut}
-use Rattle.mo_file.specs.MoFile.{IsMoFile}
+use Rattle.mo_file.specs.Prelude.{word_bytes, HasMagicOf, hash_size, magic, revision, message_count, originals_table, translations_table, Message, originals, translations, AreRising, keys, messages_of, message_at, layout, originals_offset, table, terminated, translations_offset, IsKnownMajor, layout_of_revision, KnownRevisionsAreValid, LayoutIsMoFile, NoHashTableIsLaidOut, IsMoFile}
+use Rattle.mo_file.specs.Laws.{zeroth, first}
 use Rattle.mo_file.specs.Internal.Checking.{AreRisingBelow, HasStrings, IsHeader}
 use Rattle.mo_file.proofs.BuildLemmas.{length-layout, length-magic, length-table, length-word_bytes}
 use Rattle.mo_file.proofs.FaultLemmas.{faultless}

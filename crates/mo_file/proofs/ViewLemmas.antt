@@ -8,13 +8,9 @@ use Rattle.std.proofs.lemmas.List.{length-map}
 use Rattle.std.proofs.lemmas.List.FromFn.{length-map-range_with_len, get_or-map-range_with_len}
 use Rattle.std.proofs.lemmas.Option.{slice_get_within, slice_get-map, slice_get-get_or, get_or_from_slice_get}
 use Rattle.mo_file.specs.declared.byte_order.Order.{Order}
-use Rattle.mo_file.specs.Message.{Message}
-use Rattle.mo_file.specs.Key.{key_of, keys, key_at, AreRising}
-use Rattle.mo_file.specs.FileHeader.{message_count}
+use Rattle.mo_file.specs.Prelude.{Message, key_of, keys, key_at, AreRising, message_count, end_at, message_at, messages_of, offset_at, original_at, string_at, translation_at, IsStringAt}
 use Rattle.mo_file.specs.declared.file_header.FileHeader.{FileHeader}
-use Rattle.mo_file.specs.StringTable.{end_at, message_at, messages_of, offset_at, original_at, string_at, translation_at}
 use Rattle.mo_file.specs.Internal.Checking.{AreRisingBelow, IsChecked}
-use Rattle.mo_file.specs.MoFile.{IsStringAt}
 use Rattle.mo_file.proofs.KeyComparison.{some_nul}
 
 not_unequal : (order : Ordering) → ¬ (order ≢ Less) → order ≡ Less

@@ -11,3 +11,4 @@ pub mod Laws
 pub mod Pairs
 pub mod Internal
 pub mod Examples
+pub mod Prelude

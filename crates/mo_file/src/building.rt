@@ -1,9 +1,7 @@
 //! An MO file built from pairs, in any order or already in that of the originals.
 
 ghost use Rattle.std.specs.Prelude.{◌≡◌, ◌^◌, ◌≤◌, length, map, IfErr, IfOk, OnOk};
-ghost use Rattle.mo_file.specs.Layout.{IsBuildFault, LayoutFits, layout};
-ghost use Rattle.mo_file.specs.Key.{AreRising, keys};
-ghost use Rattle.mo_file.specs.Pairs.{messages_of_borrowed, messages_of_pairs};
+ghost use Rattle.mo_file.specs.Prelude.{IsBuildFault, LayoutFits, layout, AreRising, keys, messages_of_borrowed, messages_of_pairs};
 
 use crate::byte_order::Order;
 use crate::file_header::HEADER_LEN;

@@ -1,8 +1,7 @@
 //! The byte order of an MO file, by its magic number, and the words read in it.
 
 ghost use Rattle.std.specs.Prelude.{◌≡◌, ◌+◌, ◌≤◌, length, MatchOption};
-ghost use Rattle.mo_file.specs.FileHeader.{HasMagicOf};
-ghost use Rattle.mo_file.specs.Word.{word_at};
+ghost use Rattle.mo_file.specs.Prelude.{HasMagicOf, word_at};
 
 use byteorder::{BigEndian, ByteOrder, LittleEndian};
 
@@ -45,7 +44,7 @@ impl Order {
 pub(crate) trait FileOrder: ByteOrder {
     ghost use Rattle.std.specs.Prelude.{◌≡◌, ℕ, List, drop};
     ghost use Rattle.mo_file.specs.declared.byte_order.Order.{Order};
-    ghost use Rattle.mo_file.specs.Word.{word_at, word_bytes};
+    ghost use Rattle.mo_file.specs.Prelude.{word_at, word_bytes};
 
     ghost order: { Order };
 

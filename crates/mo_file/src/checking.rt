@@ -2,7 +2,7 @@
 //! order.
 
 ghost use Rattle.std.specs.Prelude.{◌≡◌, ◌+◌, ◌-◌, ◌^◌, ◌<◌, ◌↔◌, Some, IfErr, IsTrue, MatchResult, slice_get};
-ghost use Rattle.mo_file.specs.Fault.{IsFirstFault, comparisons_before};
+ghost use Rattle.mo_file.specs.Prelude.{IsFirstFault, comparisons_before};
 ghost use Rattle.mo_file.specs.Internal.Checking.{AreRisingBelow, HasStrings, IsHeader};
 
 use crate::byte_order::FileOrder;

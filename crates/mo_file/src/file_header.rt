@@ -1,8 +1,7 @@
 //! The seven words that begin an MO file.
 
 ghost use Rattle.std.specs.Prelude.{◌≡◌, ◌≤◌, IfErr, IfOk, MatchResult, length};
-ghost use Rattle.mo_file.specs.FileHeader.{HasMagicOf, message_count, originals_table, translations_table};
-ghost use Rattle.mo_file.specs.Fault.{IsFirstFault, comparisons_before};
+ghost use Rattle.mo_file.specs.Prelude.{HasMagicOf, message_count, originals_table, translations_table, IsFirstFault, comparisons_before};
 ghost use Rattle.mo_file.specs.Internal.Checking.{IsHeader};
 
 use crate::byte_order::{FileOrder, Order, word_in};

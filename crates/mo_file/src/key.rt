@@ -2,7 +2,7 @@
 
 ghost use Rattle.std.specs.Prelude.{◌≡◌};
 ghost use Rattle.std.specs.Option.{option_copied};
-ghost use Rattle.mo_file.specs.Key.{key_cmp, key_of, query_key};
+ghost use Rattle.mo_file.specs.Prelude.{key_cmp, key_of, query_key};
 
 use crate::common_prefix::{byte_at, common_prefix_len, long_common_prefix_len};
 use crate::message_parts::EOT;

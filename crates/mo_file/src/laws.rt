@@ -1,11 +1,8 @@
 //! Laws of MO files, each the contract of a function that does nothing: a call brings the law into
 //! a proof.
 
-ghost use Rattle.mo_file.specs.Laws.{OneMessageList, MoFileOrFault, LayoutIsMoFile, NoFaultOfMoFile, OneFirstFault};
+ghost use Rattle.mo_file.specs.Prelude.{OneMessageList, MoFileOrFault, LayoutIsMoFile, NoFaultOfMoFile, OneFirstFault, KnownRevisionsAreValid, NoHashTableIsLaidOut, OtherRevisionsAreRefused, big_file_of_one, file_of_two, one_message, two_messages, layout};
 ghost use Rattle.std.specs.Prelude.{◌≡◌};
-ghost use Rattle.mo_file.specs.Laws.{KnownRevisionsAreValid, NoHashTableIsLaidOut, OtherRevisionsAreRefused};
-ghost use Rattle.mo_file.specs.Laws.{big_file_of_one, file_of_two, one_message, two_messages};
-ghost use Rattle.mo_file.specs.Layout.{layout};
 
 use crate::byte_order::Order;
 

@@ -1,8 +1,7 @@
 //! The pairs of original and translation that a file is built from.
 
 ghost use Rattle.std.specs.Prelude.{◌↔◌, IsTrue};
-ghost use Rattle.mo_file.specs.Key.{AreRising, keys};
-ghost use Rattle.mo_file.specs.Pairs.{messages_of_pairs};
+ghost use Rattle.mo_file.specs.Prelude.{AreRising, keys, messages_of_pairs};
 
 use crate::key::compare_originals;
 
@@ -40,8 +39,7 @@ pub struct BorrowedPair<'a> {
 /// A pair, whoever owns its strings.
 pub trait StringPair {
     ghost use Rattle.std.specs.Prelude.{◌≡◌};
-    ghost use Rattle.mo_file.specs.Message.{Message};
-    ghost use Rattle.mo_file.specs.Pairs.{string_of};
+    ghost use Rattle.mo_file.specs.Prelude.{Message, string_of};
 
     ghost message: { Self → Message };
 
@@ -51,7 +49,7 @@ pub trait StringPair {
 }
 
 impl StringPair for Pair {
-    ghost use Rattle.mo_file.specs.Pairs.{message};
+    ghost use Rattle.mo_file.specs.Prelude.{message};
 
     ghost message = { message };
 
@@ -64,7 +62,7 @@ impl StringPair for Pair {
 }
 
 impl StringPair for BorrowedPair<'_> {
-    ghost use Rattle.mo_file.specs.Pairs.{borrowed_message};
+    ghost use Rattle.mo_file.specs.Prelude.{borrowed_message};
 
     ghost message = { borrowed_message };
 

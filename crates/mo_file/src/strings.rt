@@ -1,8 +1,7 @@
 //! Where the strings of an MO file stand, by its two tables of descriptors.
 
 ghost use Rattle.std.specs.Prelude.{◌≡◌, ◌+◌, ◌*◌, ◌<◌, ◌≤◌, length};
-ghost use Rattle.mo_file.specs.Key.{key_of};
-ghost use Rattle.mo_file.specs.StringTable.{end_at, offset_at, original_at};
+ghost use Rattle.mo_file.specs.Prelude.{key_of, end_at, offset_at, original_at};
 ghost use Rattle.mo_file.specs.Internal.Checking.{HasStrings, IsHeader};
 
 use crate::byte_order::{FileOrder, Order, word_in};

@@ -3,12 +3,7 @@
 ghost use Rattle.std.specs.Prelude.{◌≡◌, ◌+◌, ◌-◌, ◌^◌, ◌<◌, ◌≤◌, List, [], Some, length, IfOk, IsOk, MatchResult, slice_get};
 ghost use Rattle.std.specs.Option.{option_copied};
 ghost use Rattle.mo_file.specs.declared.byte_order.Order.{Order};
-ghost use Rattle.mo_file.specs.FileHeader.{HasMagicOf};
-ghost use Rattle.mo_file.specs.MoFile.{IsMoFile, IsTranslationAt};
-ghost use Rattle.mo_file.specs.Fault.{IsFirstFault, comparisons_before};
-ghost use Rattle.mo_file.specs.Key.{AreRising, key_at, key_cmp, keys, query_key};
-ghost use Rattle.mo_file.specs.Layout.{layout};
-ghost use Rattle.mo_file.specs.Message.{Message, originals, translations};
+ghost use Rattle.mo_file.specs.Prelude.{HasMagicOf, IsMoFile, IsTranslationAt, IsFirstFault, comparisons_before, AreRising, key_at, key_cmp, keys, query_key, layout, Message, originals, translations};
 
 use crate::byte_order::{FileOrder, Order};
 use crate::checking::{check_keys, check_strings};
@@ -38,8 +33,7 @@ pub struct MoView<'a> {
 }
 
 impl<'a> Model for MoView<'a> {
-    ghost use Rattle.mo_file.specs.MoFile.{FileView};
-    ghost use Rattle.mo_file.specs.StringTable.{messages_of};
+    ghost use Rattle.mo_file.specs.Prelude.{FileView, messages_of};
     ghost use Rattle.mo_file.specs.Internal.Checking.{IsChecked};
 
     ghost Value = { FileView };

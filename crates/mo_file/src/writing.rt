@@ -1,9 +1,7 @@
 //! An MO file laid out in memory of the caller.
 
 ghost use Rattle.std.specs.Prelude.{◌≡◌, ◌+◌, ◌*◌, ◌^◌, ◌<◌, ◌≤◌, ◌++◌, length, map, take};
-ghost use Rattle.mo_file.specs.Layout.{header, layout, table, terminated};
-ghost use Rattle.mo_file.specs.Pairs.{strings_of};
-ghost use Rattle.mo_file.specs.Word.{word_bytes};
+ghost use Rattle.mo_file.specs.Prelude.{header, layout, table, terminated, strings_of, word_bytes};
 
 use crate::byte_order::{FileOrder, Order};
 use crate::file_header::{DESCRIPTOR_LEN, HEADER_LEN};

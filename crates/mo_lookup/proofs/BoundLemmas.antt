@@ -2,7 +2,7 @@
 -- logarithm.
 use Rattle.std.proofs.Common.{ℕ, zero, suc, ◌≡◌, ◌+◌, ◌-◌, ◌*◌, ◌/◌, ◌^◌, ◌<◌, ◌≤◌, refl, ap, arith, max, one-add}
 use Rattle.std.proofs.Math.Nat.{pow-succ'}
-use Rattle.mo_lookup.specs.Search.{halvings_within, search_bound}
+use Rattle.mo_lookup.specs.Prelude.{halvings_within, search_bound}
 
 within_same : (most more n : ℕ) → n ≤ most → n ≤ more → halvings_within most n ≡ halvings_within more n
 within_same zero zero n _ _ = refl

@@ -6,15 +6,10 @@ use Rattle.std.proofs.lemmas.List.Folds.{find_at}
 use Rattle.std.proofs.lemmas.Option.{slice_get-get_or, slice_get_past}
 use Rattle.std.specs.List.{find, position_or_len}
 use Rattle.std.specs.Option.{is_some, option_map_or}
-use Rattle.plural_rule.specs.Expression.{nodes}
-use Rattle.plural_rule.specs.PluralRule.{RuleView}
-use Rattle.mo_file.specs.Message.{Message}
-use Rattle.mo_lookup.specs.Laws.{ChainAsksAll, ChainAsksNone, ChainAsksUpToFirst, NoneHas}
-use Rattle.mo_lookup.specs.Query.{Query, can_be_key}
+use Rattle.plural_rule.specs.Prelude.{nodes, RuleView}
+use Rattle.mo_file.specs.Prelude.{Message}
+use Rattle.mo_lookup.specs.Prelude.{ChainAsksAll, ChainAsksNone, ChainAsksUpToFirst, NoneHas, Query, can_be_key, AnswerView, answer, translated, untranslated, CatalogView, answered, forms_found, answering_nodes, asked, chain_answered, chain_bound, chain_comparisons, translates}
 use Rattle.std.proofs.lemmas.Bool.{cases_Bool}
-use Rattle.mo_lookup.specs.Answer.{AnswerView, answer, translated, untranslated}
-use Rattle.mo_lookup.specs.CatalogView.{CatalogView, answered, forms_found}
-use Rattle.mo_lookup.specs.Chain.{answering_nodes, asked, chain_answered, chain_bound, chain_comparisons, translates}
 
 translated-found : (fs : List (List ℕ)) (rule : RuleView) (plural : Option (List ℕ × ℕ)) →
     (translated fs rule plural).found ≡ true

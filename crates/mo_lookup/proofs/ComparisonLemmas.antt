@@ -3,8 +3,8 @@ use Rattle.std.proofs.Common.{ℕ, zero, suc, ◌≡◌, ◌+◌, ◌-◌, ◌/�
 use Rattle.std.specs.declared.cmp.Ordering.{Ordering}
 use Rattle.std.specs.declared.cmp.Ordering.TheVariants.{Less, Equal, Greater}
 use Rattle.std.proofs.lemmas.List.{length-take, length-drop, get_or-take, get_or-drop, take-take, drop-take, drop-drop}
-use Rattle.mo_file.specs.Key.{key_at, key_cmp}
-use Rattle.mo_lookup.specs.Search.{search_bound, half, keys_left, comparisons_within, comparisons}
+use Rattle.mo_file.specs.Prelude.{key_at, key_cmp}
+use Rattle.mo_lookup.specs.Prelude.{search_bound, half, keys_left, comparisons_within, comparisons}
 use Rattle.mo_lookup.proofs.BoundLemmas.{search_bound-halves, search_bound-rises}
 
 half-short : (order : Ordering) (ks : List (List ℕ)) → length (half order ks) ≤ length ks / 2

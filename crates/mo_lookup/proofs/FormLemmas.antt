@@ -8,10 +8,8 @@ use Rattle.std.proofs.lemmas.List.Splits.{slice_split_first, slice_split_none, l
 use Rattle.std.proofs.lemmas.List.Elements.{All-from_get_or}
 use Rattle.std.proofs.lemmas.Option.{get_or_from_slice_get, slice_get-get_or, slice_get_within}
 use Rattle.memchr.specs.Find.{NoneBefore, Nowhere, Passes, is_byte}
-use Rattle.mo_file.specs.Key.{is_nul}
-use Rattle.mo_lookup.specs.Answer.{form_at, selected_form}
-use Rattle.mo_file.specs.MessageParts.{forms}
-use Rattle.mo_lookup.specs.Place.{IsFormAt}
+use Rattle.mo_file.specs.Prelude.{is_nul, forms}
+use Rattle.mo_lookup.specs.Prelude.{form_at, selected_form, IsFormAt}
 
 -- a translation with a NUL: its first form stands before it, the others are the forms of what
 -- stands after it

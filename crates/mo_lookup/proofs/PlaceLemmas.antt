@@ -3,12 +3,9 @@ use Rattle.std.proofs.Common.{◌≡◌, refl, ℕ, ◌+◌, ◌-◌, ◌<◌, �
 use Rattle.std.proofs.lemmas.List.{drop-drop, get_or-drop, get_or-take, length-take, take-take}
 use Rattle.std.proofs.lemmas.Slice.{between_is}
 use Rattle.std.proofs.lemmas.Option.{get_or_from_slice_get, slice_get-get_or, slice_get_within}
-use Rattle.mo_file.specs.MoFile.{FileView, IsStringAt, IsTranslationAt}
-use Rattle.mo_file.specs.Message.{translations}
+use Rattle.mo_file.specs.Prelude.{FileView, IsStringAt, IsTranslationAt, translations}
 use Rattle.std.specs.Prelude.{if◌then◌else◌}
-use Rattle.mo_lookup.specs.Answer.{untranslated_text}
-use Rattle.mo_lookup.specs.Place.{IsFormAt, IsPlace, located_view, untranslated_place}
-use Rattle.mo_lookup.specs.Query.{Query}
+use Rattle.mo_lookup.specs.Prelude.{untranslated_text, IsFormAt, IsPlace, located_view, untranslated_place, Query}
 use Rattle.mo_lookup.specs.declared.place.Located.{Located}
 use Rattle.std.specs.Option.{option_map_or}
 use Rattle.mo_lookup.specs.declared.place.Place.TheVariants.{Id, Plural}

@@ -7,9 +7,8 @@ use Rattle.std.proofs.lemmas.List.Folds.{list_any_at, list_any_none}
 use Rattle.std.proofs.lemmas.Bool.{cases_Bool, cases_eq, false_from_ne_true, ne_eqb, not-true}
 use Rattle.std.proofs.lemmas.Option.{get_or_from_slice_get, slice_get-get_or, slice_get_within}
 use Rattle.std.specs.List.{list_any}
-use Rattle.mo_lookup.specs.Laws.{LacksNulAndEot}
+use Rattle.mo_lookup.specs.Prelude.{LacksNulAndEot, is_separator, has_no_separator, can_be_key}
 use Rattle.memchr.specs.Find.{IsFirstByte, is_byte}
-use Rattle.mo_lookup.specs.Query.{is_separator, has_no_separator, can_be_key}
 
 neither : (nul eot : Bool) → nul ≡ false → eot ≡ false → (nul || eot) ≡ false
 neither nul eot no_nul no_eot = rw (no_nul, no_eot) refl

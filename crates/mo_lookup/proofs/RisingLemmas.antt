@@ -5,7 +5,7 @@ use Rattle.std.specs.Ordering.{ordering_reverse}
 use Rattle.std.proofs.lemmas.Cmp.{nat_list_cmp_total, tied_itself}
 use Rattle.std.proofs.lemmas.Map.Lookups.{exact_bytes}
 use Rattle.std.proofs.lemmas.Bool.{cases_lt}
-use Rattle.mo_file.specs.Key.{AreRising, key_at, key_cmp}
+use Rattle.mo_file.specs.Prelude.{AreRising, key_at, key_cmp}
 
 pub equal_is_same : (x y : List ℕ) → key_cmp x y ≡ Equal → x ≡ y
 equal_is_same x y equal = exact_bytes x y equal

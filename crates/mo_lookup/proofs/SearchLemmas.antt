@@ -2,8 +2,8 @@
 use Rattle.std.proofs.Common.{◌≡◌, ◌≢◌, ℕ, ◌+◌, ◌-◌, ◌/◌, ◌^◌, ◌<◌, ◌≤◌, List, Some, length, sym, ◌∙◌, arith}
 use Rattle.std.specs.declared.cmp.Ordering.{Ordering}
 use Rattle.std.specs.declared.cmp.Ordering.TheVariants.{Less, Equal, Greater}
-use Rattle.mo_file.specs.Key.{AreRising, key_at, key_cmp}
-use Rattle.mo_lookup.specs.Search.{search_bound, comparisons, IsIndexOf}
+use Rattle.mo_file.specs.Prelude.{AreRising, key_at, key_cmp}
+use Rattle.mo_lookup.specs.Prelude.{search_bound, comparisons, IsIndexOf}
 use Rattle.mo_lookup.proofs.BoundLemmas.{search_bound-at_most_32}
 use Rattle.mo_lookup.proofs.ComparisonLemmas.{AreCompared, AreCompared-less, AreCompared-greater, AreCompared-equal, AreCompared-none, comparisons-bound}
 use Rattle.mo_lookup.proofs.RisingLemmas.{equal_is_same, none_up_to, none_from}

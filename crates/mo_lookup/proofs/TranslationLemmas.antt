@@ -11,12 +11,8 @@ use Rattle.std.proofs.lemmas.List.Folds.{find_at}
 use Rattle.std.proofs.lemmas.Option.{slice_get-map, slice_get_past}
 use Rattle.std.proofs.lemmas.Slice.Eq.{bytes_eq-Decides}
 use Rattle.std.proofs.lemmas.Bool.{cases_lt, false_from_ne_true}
-use Rattle.mo_file.specs.Message.{Message, translations}
-use Rattle.mo_file.specs.Key.{AreRising, key_of, keys, key_at, key_cmp}
-use Rattle.mo_lookup.specs.Search.{IsIndexOf}
-use Rattle.mo_lookup.specs.Answer.{form_at}
-use Rattle.mo_file.specs.MessageParts.{forms}
-use Rattle.mo_lookup.specs.CatalogView.{header_text, translation_under}
+use Rattle.mo_file.specs.Prelude.{Message, translations, AreRising, key_of, keys, key_at, key_cmp, forms}
+use Rattle.mo_lookup.specs.Prelude.{IsIndexOf, form_at, header_text, translation_under}
 use Rattle.mo_lookup.proofs.RisingLemmas.{equal_is_same, less_is_other, rising_between}
 
 -- what is read after the end of a list of messages

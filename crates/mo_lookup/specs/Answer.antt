@@ -1,8 +1,7 @@
 -- What a query is answered (GNU gettext manual, "Plural forms").
 use Rattle.std.specs.Prelude.{ℕ, ◌==◌, Bool, true, false, nat_lt, min, List, [], length, slice_index_or, Option, None}
 use Rattle.std.specs.Prelude.{Some, if◌then◌else◌}
-use Rattle.plural_rule.specs.Expression.{value, visited}
-use Rattle.plural_rule.specs.PluralRule.{RuleView}
+use Rattle.plural_rule.specs.Prelude.{value, visited, RuleView}
 use Rattle.mo_lookup.specs.declared.answer.Answer.{Answer}
 use Rattle.mo_lookup.specs.Query.{Query}
 

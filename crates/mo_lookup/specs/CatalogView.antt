@@ -4,10 +4,8 @@ use Rattle.std.specs.Prelude.{ℕ, List, [], Option, None, option_map, if◌then
 use Rattle.std.specs.List.{find}
 use Rattle.std.specs.Option.{option_map_or}
 use Rattle.std.specs.Str.{bytes_eq}
-use Rattle.plural_rule.specs.PluralRule.{RuleView, IsRuleOf, expression_limit}
-use Rattle.mo_file.specs.Key.{AreRising, key_of, keys, query_key}
-use Rattle.mo_file.specs.Message.{Message}
-use Rattle.mo_file.specs.MessageParts.{forms}
+use Rattle.plural_rule.specs.Prelude.{RuleView, IsRuleOf, expression_limit}
+use Rattle.mo_file.specs.Prelude.{AreRising, key_of, keys, query_key, Message, forms}
 use Rattle.mo_lookup.specs.Query.{Query, can_be_key}
 use Rattle.mo_lookup.specs.Answer.{AnswerView, form_at, answer}
 

@@ -3,7 +3,7 @@
 use Rattle.std.specs.Prelude.{ℕ, ◌+◌, Bool, List, length, min, if◌then◌else◌}
 use Rattle.std.specs.List.{find, position_or_len, sum_by}
 use Rattle.std.specs.Option.{is_some, option_map_or}
-use Rattle.plural_rule.specs.Expression.{nodes}
+use Rattle.plural_rule.specs.Prelude.{nodes}
 use Rattle.mo_lookup.specs.declared.chain.ChainAnswer.{ChainAnswer}
 use Rattle.mo_lookup.specs.Search.{search_bound, query_comparisons}
 use Rattle.mo_lookup.specs.Query.{Query, can_be_key}

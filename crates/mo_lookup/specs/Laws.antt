@@ -1,9 +1,8 @@
 -- What is found under a key in a list of messages, and whom a chain asks (GNU gettext manual, "The
 -- Format of GNU MO Files" and "Specifying a Priority List of Languages").
 use Rattle.std.specs.Prelude.{◌≡◌, ◌≢◌, ◌↔◌, ℕ, ◌+◌, ◌<◌, List, ◌∷◌, ◌++◌, None, Some, true, false, length, slice_get}
-use Rattle.plural_rule.specs.Expression.{nodes}
-use Rattle.mo_file.specs.Message.{Message, translations}
-use Rattle.mo_file.specs.Key.{AreRising, key_at, keys}
+use Rattle.plural_rule.specs.Prelude.{nodes}
+use Rattle.mo_file.specs.Prelude.{Message, translations, AreRising, key_at, keys}
 use Rattle.mo_lookup.specs.Query.{Query, can_be_key}
 use Rattle.mo_lookup.specs.Answer.{untranslated}
 use Rattle.mo_lookup.specs.CatalogView.{CatalogView, answered, forms_found, translation_under}

@@ -8,3 +8,4 @@ pub mod Laws
 pub mod Examples
 pub use Rattle.plural_rule.specs.Expression
 pub use Rattle.plural_rule.specs.PluralRule
+pub mod Prelude

@@ -3,8 +3,7 @@
 use Rattle.std.specs.Prelude.{ℕ, suc, ◌+◌, ◌-◌, ◌/◌, ◌^◌, ◌<◌, ◌≤◌, ◌≡◌, List, [], ◌∷◌, length, take, drop, if◌then◌else◌, ◌≢◌, Option, MatchOption}
 use Rattle.std.specs.declared.cmp.Ordering.{Ordering}
 use Rattle.std.specs.declared.cmp.Ordering.TheVariants.{Less, Equal, Greater}
-use Rattle.mo_file.specs.Message.{Message}
-use Rattle.mo_file.specs.Key.{key_at, key_cmp, keys, query_key}
+use Rattle.mo_file.specs.Prelude.{Message, key_at, key_cmp, keys, query_key}
 use Rattle.mo_lookup.specs.Query.{Query, can_be_key}
 
 -- The bound of the binary search: how often a list can be halved (manual, "The Format of GNU MO

@@ -2,16 +2,10 @@
 
 ghost use Rattle.std.specs.Prelude.{◌≡◌, ◌+◌, ◌^◌, ◌<◌, ◌≤◌, List, [], length, MatchResult, IsOk, IfOk, OnOk, OnErr, false};
 ghost use Rattle.std.specs.Option.{option_copied};
-ghost use Rattle.plural_rule.specs.Expression.{nodes};
-ghost use Rattle.plural_rule.specs.PluralRule.{IsRuleOf, expression_limit};
+ghost use Rattle.plural_rule.specs.Prelude.{nodes, IsRuleOf, expression_limit};
 ghost use Rattle.mo_file.specs.declared.byte_order.Order.{Order};
-ghost use Rattle.mo_file.specs.Message.{Message};
-ghost use Rattle.mo_file.specs.MoFile.{IsMoFile};
-ghost use Rattle.mo_file.specs.Fault.{IsFirstFault, comparisons_before};
-ghost use Rattle.mo_lookup.specs.Search.{search_bound, query_comparisons};
-ghost use Rattle.mo_lookup.specs.Query.{query, can_be_key};
-ghost use Rattle.mo_lookup.specs.CatalogView.{IsCatalogView, header_text, answered};
-ghost use Rattle.mo_lookup.specs.Answer.{answer_view};
+ghost use Rattle.mo_file.specs.Prelude.{Message, IsMoFile, IsFirstFault, comparisons_before};
+ghost use Rattle.mo_lookup.specs.Prelude.{search_bound, query_comparisons, query, can_be_key, IsCatalogView, header_text, answered, answer_view};
 
 use crate::answer::Answer;
 use crate::lookup::locate;
@@ -34,7 +28,7 @@ pub struct Catalog<'a> {
 impl<'a> Model for Catalog<'a> {
     ghost use Rattle.std.specs.Coded.{codes};
     ghost use Rattle.plural_rule.specs.contracts.rule.Rule.{the_row as rule_row};
-    ghost use Rattle.mo_lookup.specs.CatalogView.{CatalogView, IsCatalogView};
+    ghost use Rattle.mo_lookup.specs.Prelude.{CatalogView, IsCatalogView};
 
     ghost Value = { CatalogView };
 

@@ -1,8 +1,7 @@
 //! A chain of catalogues, of which the first that has a message answers for it.
 
 ghost use Rattle.std.specs.Prelude.{◌≡◌, ◌+◌, ◌^◌, ◌<◌, ◌≤◌, length, take};
-ghost use Rattle.mo_lookup.specs.Query.{query};
-ghost use Rattle.mo_lookup.specs.Chain.{answering_nodes, asked, chain_bound, chain_answer_view, chain_answered, chain_comparisons};
+ghost use Rattle.mo_lookup.specs.Prelude.{query, answering_nodes, asked, chain_bound, chain_answer_view, chain_answered, chain_comparisons};
 
 use crate::catalog::Catalog;
 use crate::query::{can_be_key, untranslated_text};
@@ -36,7 +35,7 @@ impl<'c, 'a> Model for Chain<'c, 'a> {
     ghost use Rattle.std.specs.Prelude.{◌^◌, ◌<◌, List, length};
     ghost use Rattle.std.specs.Coded.{codes};
     ghost use Rattle.plural_rule.specs.contracts.rule.Rule.{the_row as rule_row};
-    ghost use Rattle.mo_lookup.specs.CatalogView.{CatalogView};
+    ghost use Rattle.mo_lookup.specs.Prelude.{CatalogView};
 
     ghost Value = { List CatalogView };
 

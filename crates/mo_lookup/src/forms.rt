@@ -2,13 +2,9 @@
 
 ghost use Rattle.std.specs.Prelude.{◌≡◌, ◌+◌, ◌^◌, ◌<◌, ◌≤◌, ℕ, List, None, Some, drop, length, slice_get, MatchOption};
 ghost use Rattle.plural_rule.specs.declared.rule.Source.{Source};
-ghost use Rattle.plural_rule.specs.Expression.{nodes};
-ghost use Rattle.plural_rule.specs.PluralRule.{expression_limit};
-ghost use Rattle.plural_rule.specs.Program.{program as program_of, tree_of};
-ghost use Rattle.mo_lookup.specs.Answer.{form_at, translated};
-ghost use Rattle.mo_file.specs.MessageParts.{forms};
-ghost use Rattle.mo_lookup.specs.Place.{IsFormAt};
-ghost use Rattle.mo_lookup.specs.Query.{given};
+ghost use Rattle.plural_rule.specs.Prelude.{nodes, expression_limit, program as program_of, tree_of};
+ghost use Rattle.mo_lookup.specs.Prelude.{form_at, translated, IsFormAt, given};
+ghost use Rattle.mo_file.specs.Prelude.{forms};
 
 use mo_file::{NUL, find_byte};
 use plural_rule::{Instruction, Steps, evaluate};

@@ -2,14 +2,8 @@
 //! proof.
 
 ghost use Rattle.std.specs.Prelude.{◌≡◌, ◌≢◌, ◌⊎◌, ◌+◌, ◌<◌, ◌≤◌, ℕ, List, [], ◌∷◌, None, Some, true, false, length, slice_get};
-ghost use Rattle.plural_rule.specs.Expression.{value, visited};
-ghost use Rattle.plural_rule.specs.PluralRule.{RuleView};
-ghost use Rattle.mo_lookup.specs.Answer.{answer, form_at, selected_form, untranslated_text};
-ghost use Rattle.mo_lookup.specs.Search.{BoundHalves, BoundIsLogarithm, search_bound, SearchHalves, SearchIsBounded, query_comparisons};
-ghost use Rattle.mo_lookup.specs.CatalogView.{CatalogView};
-ghost use Rattle.mo_lookup.specs.Chain.{chain_bound, chain_comparisons};
-ghost use Rattle.mo_lookup.specs.Laws.{ChainAsksAll, ChainAsksNone, ChainAsksUpToFirst, KeysLackNulAndEot, EachKeyFindsItsTranslation, OtherKeysFindNone};
-ghost use Rattle.mo_lookup.specs.Query.{Query};
+ghost use Rattle.plural_rule.specs.Prelude.{value, visited, RuleView};
+ghost use Rattle.mo_lookup.specs.Prelude.{answer, form_at, selected_form, untranslated_text, BoundHalves, BoundIsLogarithm, search_bound, SearchHalves, SearchIsBounded, query_comparisons, CatalogView, chain_bound, chain_comparisons, ChainAsksAll, ChainAsksNone, ChainAsksUpToFirst, KeysLackNulAndEot, EachKeyFindsItsTranslation, OtherKeysFindNone, Query};
 
 /// The bound of a search is 0 for no keys, and else one more than for half as many.
 pub fn bound_halves()

@@ -1,17 +1,11 @@
 //! Looking up a message, by the number of plural forms and the program of the plural rule.
 
 ghost use Rattle.std.specs.Prelude.{◌≡◌, ◌+◌, ◌^◌, ◌<◌, ◌≤◌, None, length, slice_get, false, MatchOption};
-ghost use Rattle.mo_file.specs.Message.{translations};
+ghost use Rattle.mo_file.specs.Prelude.{translations, keys, query_key};
 ghost use Rattle.std.specs.Option.{option_copied};
 ghost use Rattle.plural_rule.specs.declared.rule.Source.{Source};
-ghost use Rattle.plural_rule.specs.Expression.{nodes};
-ghost use Rattle.plural_rule.specs.PluralRule.{expression_limit};
-ghost use Rattle.plural_rule.specs.Program.{program as program_of, tree_of};
-ghost use Rattle.mo_file.specs.Key.{keys, query_key};
-ghost use Rattle.mo_lookup.specs.Search.{search_bound, comparisons, query_comparisons};
-ghost use Rattle.mo_lookup.specs.Query.{query, given, can_be_key};
-ghost use Rattle.mo_lookup.specs.CatalogView.{answered, translation_under};
-ghost use Rattle.mo_lookup.specs.Place.{IsPlace, located_view};
+ghost use Rattle.plural_rule.specs.Prelude.{nodes, expression_limit, program as program_of, tree_of};
+ghost use Rattle.mo_lookup.specs.Prelude.{search_bound, comparisons, query_comparisons, query, given, can_be_key, answered, translation_under, IsPlace, located_view};
 
 use crate::forms::answered_form;
 use crate::messages::Messages;

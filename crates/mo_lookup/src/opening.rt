@@ -1,14 +1,10 @@
 //! Opening a file: it is checked whole, and the plural rule of its header entry is read.
 
 ghost use Rattle.std.specs.Prelude.{◌≡◌, ◌+◌, ◌^◌, ◌<◌, ◌≤◌, List, length, min, MatchResult, IsOk, IfOk, OnErr};
-ghost use Rattle.plural_rule.specs.PluralRule.{rule_in, program_in, expression_limit};
-ghost use Rattle.plural_rule.specs.Program.{program as program_of};
+ghost use Rattle.plural_rule.specs.Prelude.{rule_in, program_in, expression_limit, program as program_of};
 ghost use Rattle.mo_file.specs.declared.byte_order.Order.{Order};
-ghost use Rattle.mo_file.specs.Message.{Message};
-ghost use Rattle.mo_file.specs.Key.{AreRising, keys};
-ghost use Rattle.mo_file.specs.MoFile.{IsMoFile};
-ghost use Rattle.mo_file.specs.Fault.{IsFirstFault, comparisons_before};
-ghost use Rattle.mo_lookup.specs.CatalogView.{IsCatalogView, header_text};
+ghost use Rattle.mo_file.specs.Prelude.{Message, AreRising, keys, IsMoFile, IsFirstFault, comparisons_before};
+ghost use Rattle.mo_lookup.specs.Prelude.{IsCatalogView, header_text};
 
 use crate::forms::first_form;
 use crate::messages::{Messages, ViewMessages};

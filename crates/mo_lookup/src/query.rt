@@ -2,9 +2,7 @@
 
 ghost use Rattle.std.specs.Prelude.{◌≡◌};
 ghost use Rattle.std.specs.Option.{option_copied};
-ghost use Rattle.mo_lookup.specs.Query.{given, has_no_separator, can_be_key};
-ghost use Rattle.mo_lookup.specs.Answer.{untranslated_text};
-ghost use Rattle.mo_lookup.specs.Place.{untranslated_place};
+ghost use Rattle.mo_lookup.specs.Prelude.{given, has_no_separator, can_be_key, untranslated_text, untranslated_place};
 
 use crate::place::Place;
 use mo_file::{EOT, NUL, find_byte};

@@ -2,9 +2,8 @@
 
 ghost use Rattle.std.specs.Prelude.{ℕ, ◌≡◌, ◌+◌, ◌-◌, ◌^◌, ◌<◌, ◌≤◌, List, length};
 ghost use Rattle.std.specs.Option.{option_copied};
-ghost use Rattle.mo_file.specs.Key.{AreRising, key_at, key_cmp, query_key};
-ghost use Rattle.mo_file.specs.MoFile.{FileView};
-ghost use Rattle.mo_lookup.specs.Search.{search_bound, comparisons, IsIndexOf};
+ghost use Rattle.mo_file.specs.Prelude.{AreRising, key_at, key_cmp, query_key, FileView};
+ghost use Rattle.mo_lookup.specs.Prelude.{search_bound, comparisons, IsIndexOf};
 
 use std::cmp::Ordering;
 

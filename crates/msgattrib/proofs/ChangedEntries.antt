@@ -1,10 +1,9 @@
 -- Entries of which one is changed in its place, or in a copy behind them.
 use Rattle.std.proofs.Common.{◌≡◌, ◌≢◌, ◌∙◌, sym, ℕ, ◌+◌, zero, suc, ◌<◌, Bool, List, [], ◌∷◌, ◌++◌, length, get_or, refl, ap, arith, inl, inr}
 use Rattle.std.proofs.lemmas.List.{get_or_append_left, get_or_push, length_push}
-use Rattle.po_entry.specs.TextEntry.{TextEntry}
-use Rattle.po_entry.specs.Rows.{changed_at, set_fuzzy, set_obsolete}
+use Rattle.po_entry.specs.Prelude.{TextEntry, changed_at, set_fuzzy, set_obsolete}
 use Rattle.msgattrib.specs.declared.selection.Selection.{Selection}
-use Rattle.msgattrib.specs.Selected.{IsChangedAt, changed}
+use Rattle.msgattrib.specs.Prelude.{IsChangedAt, changed}
 
 pub same_length : (f : TextEntry → TextEntry) (index : ℕ) (entries : List TextEntry)
     → length (changed_at f index entries) ≡ length entries

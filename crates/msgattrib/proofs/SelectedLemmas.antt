@@ -5,21 +5,16 @@ use Rattle.std.proofs.lemmas.List.Elements.{filter-append, filter_agree}
 use Rattle.std.proofs.lemmas.List.Kept.{AllPairs-filter}
 use Rattle.po_syntax.specs.declared.fault.PoError.{PoError}
 use Rattle.po_syntax.specs.declared.fault.PoFault.TheVariants.{OutOfMemory}
-use Rattle.po_entry.specs.ReadsText.{ReadsText}
-use Rattle.po_entry.specs.TextEntry.{TextEntry}
-use Rattle.po_entry.specs.Duplicate.{AllDiffer, HasNoDuplicate, IsDuplicateFaultOf, IsSameMessage}
+use Rattle.po_entry.specs.Prelude.{ReadsText, TextEntry, AllDiffer, HasNoDuplicate, IsDuplicateFaultOf, IsSameMessage, is_live, entry_message, message_hash}
 use Rattle.po_entry.specs.Facts.FirstRepeats.{pairs_map, pairs_of_map}
 use Rattle.po_syntax.specs.Facts.Mapped.{filter_map, filter_twice}
-use Rattle.po_entry.specs.Joined.{is_live}
-use Rattle.po_entry.specs.Message.{entry_message, message_hash}
 use Rattle.po_reader.proofs.Texts.{text_once}
 use Rattle.msgattrib.specs.declared.selection.Selection.{Selection}
-use Rattle.msgattrib.specs.Selected.{changed, is_kept, selected}
-use Rattle.msgattrib.specs.Msgattrib.{IsMsgattribRun, error_line}
+use Rattle.msgattrib.specs.Prelude.{changed, is_kept, selected, IsMsgattribRun, error_line}
 use Rattle.msgattrib.specs.Internal.SelectedText.{AddsParts, AreSelected, HaveNoDuplicate, IsSelectionFault, hashes_of, may_repeat, stays_live}
-use Rattle.po_writer.specs.TextParts.{AreParts}
+use Rattle.po_writer.specs.Prelude.{AreParts}
 use Rattle.po_writer.specs.declared.parts.TextParts.{TextParts}
-use Rattle.runs.specs.Run.{refusal, run_view}
+use Rattle.runs.specs.Prelude.{refusal, run_view}
 use Rattle.runs.specs.declared.run.Run.{Run}
 
 abbrev hash_of : TextEntry → ℕ

@@ -4,13 +4,10 @@ use Rattle.std.proofs.Common.{◌≡◌, Bool, true, false, not, ◌&&◌, List,
 use Rattle.std.specs.Prelude.{All}
 use Rattle.std.proofs.Math.Bool.{and-false, and-true, or-true}
 use Rattle.std.proofs.lemmas.List.Elements.{All-head, All-tail, All-filter, All-map, All-weaker, filter_passes}
-use Rattle.po_entry.specs.TextEntry.{TextEntry, no_previous}
-use Rattle.po_entry.specs.Header.{is_header}
-use Rattle.po_entry.specs.Validity.{IsEntry, IsCatalogueEntry}
+use Rattle.po_entry.specs.Prelude.{TextEntry, no_previous, is_header, IsEntry, IsCatalogueEntry, is_live_header}
 use Rattle.po_entry.proofs.Changes.{IsEntry-emptied, IsEntry-without_previous}
-use Rattle.po_entry.specs.Joined.{is_live_header}
 use Rattle.msgattrib.specs.declared.selection.Selection.{Selection}
-use Rattle.msgattrib.specs.Selected.{ChangesNothing, changed, every_entry, fuzzy_after, is_emptied, is_kept, obsolete_after, selected}
+use Rattle.msgattrib.specs.Prelude.{ChangesNothing, changed, every_entry, fuzzy_after, is_emptied, is_kept, obsolete_after, selected}
 
 -- a flag that isn't taken away empties nothing
 not_emptied : (empty fuzzy header : Bool) → (empty && fuzzy && not (fuzzy && true) && header) ≡ false

@@ -4,3 +4,4 @@ pub mod Internal
 pub mod Selected
 pub mod SelectionLaws
 pub mod Examples
+pub mod Prelude

@@ -2,13 +2,10 @@
 use Rattle.std.specs.Prelude.{◌≡◌, ◌≢◌, ◌⊎◌, ℕ, List, map, codes, refl}
 use Rattle.po_syntax.specs.declared.fault.PoError.{PoError}
 use Rattle.po_syntax.specs.declared.fault.PoFault.TheVariants.{Duplicate, OutOfMemory}
-use Rattle.po_entry.specs.TextEntry.{TextEntry}
-use Rattle.po_entry.specs.Joined.{InputEntry, in_input}
-use Rattle.po_entry.specs.Duplicate.{HasNoDuplicate, IsFirstDuplicate, IsTextFault, ReadsDistinct}
+use Rattle.po_entry.specs.Prelude.{TextEntry, InputEntry, in_input, HasNoDuplicate, IsFirstDuplicate, IsTextFault, ReadsDistinct}
 use Rattle.msgattrib.specs.declared.selection.Selection.{Selection}
 use Rattle.msgattrib.specs.Selected.{selected}
-use Rattle.runs.specs.FaultText.{text_line}
-use Rattle.runs.specs.Run.{RunView, refusal, written_run}
+use Rattle.runs.specs.Prelude.{text_line, RunView, refusal, written_run}
 
 -- the line that reports a fault of a file
 abbrev pub error_line : List ℕ → PoError → List ℕ

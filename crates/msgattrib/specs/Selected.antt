@@ -2,10 +2,7 @@
 -- msgattrib Program"). That a live header is always kept, stays live and keeps its forms is this
 -- project's own rule.
 use Rattle.std.specs.Prelude.{◌≡◌, Bool, false, not, ◌&&◌, ◌||◌, List, [], map, filter, if◌then◌else◌, ◌≢◌, ◌⊎◌, ◌+◌, ◌<◌, ◌≤◌, ℕ, get_or, length}
-use Rattle.po_entry.specs.TextEntry.{TextEntry, no_previous}
-use Rattle.po_entry.specs.Header.{is_header}
-use Rattle.po_entry.specs.Joined.{is_live, is_live_header}
-use Rattle.po_entry.specs.Statistics.{has_translation}
+use Rattle.po_entry.specs.Prelude.{TextEntry, no_previous, is_header, is_live, is_live_header, has_translation}
 use Rattle.msgattrib.specs.declared.selection.Selection.{Selection}
 
 -- the condition holds, if its option is given

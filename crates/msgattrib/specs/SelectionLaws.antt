@@ -2,9 +2,7 @@
 -- Program"). That a live header is always kept, stays live and keeps its forms is this project's
 -- own rule.
 use Rattle.std.specs.Prelude.{◌≡◌, ◌≢◌, ◌⊎◌, true, false, List, [], All, filter, length}
-use Rattle.po_entry.specs.TextEntry.{TextEntry, no_previous}
-use Rattle.po_entry.specs.Header.{is_header, first_form}
-use Rattle.po_entry.specs.Joined.{is_live_header}
+use Rattle.po_entry.specs.Prelude.{TextEntry, no_previous, is_header, first_form, is_live_header}
 use Rattle.msgattrib.specs.declared.selection.Selection.{Selection}
 use Rattle.msgattrib.specs.Selected.{changed, is_kept}
 

@@ -1,9 +1,7 @@
 //! What a selection asks of an entry.
 
 ghost use Rattle.std.specs.Prelude.{◌≡◌};
-ghost use Rattle.po_entry.specs.Header.{is_header};
-ghost use Rattle.po_entry.specs.TextEntry.{TextEntry};
-ghost use Rattle.po_entry.specs.Statistics.{has_translation};
+ghost use Rattle.po_entry.specs.Prelude.{is_header, TextEntry, has_translation};
 
 use po_entry::{EntryRef, Fields, has_translation};
 
@@ -30,7 +28,7 @@ pub trait Attributes {
 }
 
 impl Attributes for Fields {
-    ghost use Rattle.po_entry.specs.Fields.{entry_view};
+    ghost use Rattle.po_entry.specs.Prelude.{entry_view};
 
     ghost entry = { entry_view };
 

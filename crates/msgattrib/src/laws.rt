@@ -1,12 +1,9 @@
 //! Laws of selecting, each the contract of a function that does nothing: a call brings the law into
 //! a proof.
 ghost use Rattle.std.specs.Prelude.{◌≡◌, List, All, filter, true, false};
-ghost use Rattle.po_entry.specs.Joined.{is_live_header};
-ghost use Rattle.po_entry.specs.TextEntry.{TextEntry};
-ghost use Rattle.po_entry.specs.Validity.{IsCatalogueEntry};
+ghost use Rattle.po_entry.specs.Prelude.{is_live_header, TextEntry, IsCatalogueEntry};
 ghost use Rattle.msgattrib.specs.declared.selection.Selection.{Selection};
-ghost use Rattle.msgattrib.specs.Selected.{ChangesNothing, changed, every_entry, is_kept, selected};
-ghost use Rattle.msgattrib.specs.SelectionLaws.{ClearsFuzzy, ClearsObsolete, ClearsPrevious, Empties, FormsStay, IsUnwanted, KeepsFuzzy, KeepsObsolete, KeepsTranslated, KeepsUntranslated, MarksStay, RemovesFuzzy, RemovesObsolete, RestStays, SetsFuzzy, SetsObsolete};
+ghost use Rattle.msgattrib.specs.Prelude.{ChangesNothing, changed, every_entry, is_kept, selected, ClearsFuzzy, ClearsObsolete, ClearsPrevious, Empties, FormsStay, IsUnwanted, KeepsFuzzy, KeepsObsolete, KeepsTranslated, KeepsUntranslated, MarksStay, RemovesFuzzy, RemovesObsolete, RestStays, SetsFuzzy, SetsObsolete};
 
 /// Without an option, all entries are selected as they are.
 pub fn nothing_given_selects_all()

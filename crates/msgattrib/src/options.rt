@@ -1,5 +1,5 @@
 //! What the options of a command line mean for msgattrib.
-ghost use Rattle.msgattrib.specs.Options.{IsSelection};
+ghost use Rattle.msgattrib.specs.Prelude.{IsSelection};
 
 use crate::selection::Selection;
 use runs::Arguments;

@@ -4,12 +4,10 @@
 //! once more, whole.
 
 ghost use Rattle.std.specs.Prelude.{◌≡◌, ◌<◌, ◌++◌, ◌∷◌, [], IfErr, IfOk, List, MatchResult, OnOk, get_or, length};
-ghost use Rattle.po_entry.specs.ReadsText.{ReadsText};
-ghost use Rattle.po_entry.specs.TextEntry.{TextEntry};
-ghost use Rattle.po_entry.specs.Validity.{IsCatalogueEntry};
-ghost use Rattle.po_reader.specs.PieceRead.{IsTextError};
-ghost use Rattle.msgattrib.specs.Selected.{OthersStay, selected};
-ghost use Rattle.po_writer.specs.TextParts.{AreParts};
+ghost use Rattle.po_entry.specs.Prelude.{ReadsText, TextEntry, IsCatalogueEntry};
+ghost use Rattle.po_reader.specs.Prelude.{IsTextError};
+ghost use Rattle.msgattrib.specs.Prelude.{OthersStay, selected};
+ghost use Rattle.po_writer.specs.Prelude.{AreParts};
 ghost use Rattle.msgattrib.specs.Internal.SelectedText.{AddsParts, HaveNoDuplicate, IsSelectedText, IsSelectedWhole, IsSelectionFault, hashes_of};
 
 use crate::selection::Selection;

@@ -1,11 +1,8 @@
 //! Which entries are kept, and what becomes of them.
 
 ghost use Rattle.std.specs.Prelude.{◌≡◌, ◌<◌, IfOk, OnErr, false, length};
-ghost use Rattle.po_entry.specs.Joined.{is_live_header};
-ghost use Rattle.po_entry.specs.Fields.{entry_view};
-ghost use Rattle.po_entry.specs.Rows.{set_fuzzy, set_obsolete};
-ghost use Rattle.po_entry.specs.TextEntry.{no_previous};
-ghost use Rattle.msgattrib.specs.Selected.{IsChangedAt, changed, fuzzy_after, is_emptied, is_kept, obsolete_after};
+ghost use Rattle.po_entry.specs.Prelude.{is_live_header, entry_view, set_fuzzy, set_obsolete, no_previous};
+ghost use Rattle.msgattrib.specs.Prelude.{IsChangedAt, changed, fuzzy_after, is_emptied, is_kept, obsolete_after};
 
 use crate::attributes::Attributes;
 use po_entry::{EntryRef, Fields, Previous, Store};

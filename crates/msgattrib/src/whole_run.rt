@@ -1,9 +1,7 @@
 //! msgattrib as a whole: its input is read, and its run is written.
 ghost use Rattle.std.specs.Prelude.{◌^◌, ◌<◌, false};
-ghost use Rattle.msgattrib.specs.Msgattrib.{IsMsgattribRun};
-ghost use Rattle.runs.specs.Inputs.{Asks, asked_for};
-ghost use Rattle.runs.specs.Run.{is_standard};
-ghost use Rattle.runs.specs.ToolRuns.{RunsInput, asking};
+ghost use Rattle.msgattrib.specs.Prelude.{IsMsgattribRun};
+ghost use Rattle.runs.specs.Prelude.{Asks, asked_for, is_standard, RunsInput, asking};
 
 use crate::plan::plan_msgattrib;
 use crate::selection::Selection;

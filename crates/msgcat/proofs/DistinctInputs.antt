@@ -3,14 +3,10 @@ use Rattle.std.proofs.Common.{◌≡◌, Bool, cond, false, subst, List, [], ◌
 use Rattle.std.specs.Prelude.{All}
 use Rattle.std.proofs.lemmas.List.Folds.{list_any_none}
 use Rattle.std.proofs.lemmas.List.Elements.{All-nil, All-cons, All-head, All-tail}
-use Rattle.po_entry.specs.TextEntry.{TextEntry}
+use Rattle.po_entry.specs.Prelude.{TextEntry, IsSameMessage, AllDiffer}
 use Rattle.po_syntax.specs.Facts.Filters.{none_pass}
-use Rattle.po_entry.specs.Duplicate.{IsSameMessage, AllDiffer}
 use Rattle.msgcat.specs.declared.input.MergeOptions.{MergeOptions}
-use Rattle.msgcat.specs.Inputs.{Named, NamedEntry, all_entries}
-use Rattle.msgcat.specs.Groups.{same_message, definitions}
-use Rattle.msgcat.specs.Merged.{merged_entry, is_kept, merged_messages}
-use Rattle.msgcat.specs.MergeLaws.{keep_all, DistinctInputsStay}
+use Rattle.msgcat.specs.Prelude.{Named, NamedEntry, all_entries, same_message, definitions, merged_entry, is_kept, merged_messages, keep_all, DistinctInputsStay}
 use Rattle.msgcat.proofs.FirstOnes.{Apart, group_of}
 use Rattle.msgcat.proofs.Messages.{same_message_laws}
 use Rattle.msgcat.proofs.SameInput.{Stays, differ_head, differ_tail, differs, entry_stays, firsts_of_apart}

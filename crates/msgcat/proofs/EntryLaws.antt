@@ -13,13 +13,10 @@ use Rattle.std.proofs.lemmas.List.Sums.{fold_push}
 use Rattle.po_syntax.specs.declared.item.CommentKind.{CommentKind}
 use Rattle.po_syntax.specs.declared.item.CommentKind.TheVariants.{Translator}
 use Rattle.po_syntax.specs.declared.fault.PoError.{PoError}
-use Rattle.po_entry.specs.TextEntry.{TextEntry, TextPrevious, no_previous}
-use Rattle.po_entry.specs.Joined.{is_live}
+use Rattle.po_entry.specs.Prelude.{TextEntry, TextPrevious, no_previous, is_live}
 use Rattle.msgcat.specs.declared.input.MergeOptions.{MergeOptions}
-use Rattle.msgcat.specs.Inputs.{NamedEntry}
-use Rattle.msgcat.specs.Merged.{collected, comment_of, ended, first_of, first_with, form_count, has_plural, has_previous, joined_form, joined_forms, marked, merged_entry, first_translated, texts_of, translations, with_others, is_below, is_wanted}
-use Rattle.msgcat.specs.EntryLaws.{AreLiveOf, no_entry, live, obsolete, DefinedByLive, EndsForm, of_nothing, without_feed, with_feed, FormsAreJoined, IsJoinedForm, no_more, with_form, without_form, JoinedIsFuzzy, KeptByCount, ObsoleteWhereNoneIsLive, PluralOfFirst, PreviousOfFirst, TextsInOrder, TextsOfAll, has_text}
-use Rattle.msgcat.specs.MergeLaws.{FaultIsOfNoLine}
+use Rattle.msgcat.specs.Prelude.{NamedEntry, collected, comment_of, ended, first_of, first_with, form_count, has_plural, has_previous, joined_form, joined_forms, marked, merged_entry, first_translated, texts_of, translations, with_others, is_below, is_wanted, AreLiveOf, DefinedByLive, EndsForm, FormsAreJoined, IsJoinedForm, JoinedIsFuzzy, KeptByCount, ObsoleteWhereNoneIsLive, PluralOfFirst, PreviousOfFirst, TextsInOrder, TextsOfAll, has_text, FaultIsOfNoLine}
+use Rattle.msgcat.specs.EntryLaws.{no_entry, live, obsolete, of_nothing, without_feed, with_feed, no_more, with_form, without_form}
 use Rattle.msgcat.proofs.Sets.{has_others}
 use Rattle.po_entry.proofs.FuzzyFlags.{any_passing}
 

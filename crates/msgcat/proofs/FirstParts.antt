@@ -3,10 +3,9 @@ use Rattle.std.proofs.Common.{◌≡◌, ℕ, suc, ◌+◌, ◌<◌, ◌≤◌, 
 use Rattle.std.specs.Option.{option_map_or}
 use Rattle.std.proofs.Math.Seq.{drop-cons}
 use Rattle.std.proofs.lemmas.List.{drop_all}
-use Rattle.po_entry.specs.TextEntry.{TextEntry}
+use Rattle.po_entry.specs.Prelude.{TextEntry}
 use Rattle.msgcat.specs.declared.definition.NamedEntry.{NamedEntry as BorrowedEntry}
-use Rattle.msgcat.specs.Inputs.{NamedEntry, named_entries, named_entry}
-use Rattle.msgcat.specs.Merged.{first_of, first_with}
+use Rattle.msgcat.specs.Prelude.{NamedEntry, named_entries, named_entry, first_of, first_with}
 use Rattle.msgcat.proofs.OneDefinition.{first_is}
 
 module _ (has : TextEntry → Bool) (ds : List BorrowedEntry) (i : ℕ) (d : BorrowedEntry) where

@@ -9,15 +9,11 @@ use Rattle.std.proofs.lemmas.List.Elements.{All-head, All-filter, All-map, filte
 use Rattle.po_syntax.specs.declared.fault.PoError.{PoError}
 use Rattle.po_syntax.specs.declared.fault.PoFault.TheVariants.{ForeignCharset}
 use Rattle.po_syntax.specs.Facts.AllAppend.{All-left, All-right}
-use Rattle.po_entry.specs.Header.{HasAdmittedCharset}
-use Rattle.po_entry.specs.TextEntry.{TextEntry}
-use Rattle.po_entry.specs.Joined.{is_live}
+use Rattle.po_entry.specs.Prelude.{HasAdmittedCharset, TextEntry, is_live}
 use Rattle.po_entry.proofs.FirstOnes.{any_first_ones}
 use Rattle.msgcat.specs.declared.input.MergeOptions.{MergeOptions}
-use Rattle.msgcat.specs.Inputs.{NamedEntry}
-use Rattle.msgcat.specs.Groups.{same_message, first_ones, groups, definitions, definitions_by}
-use Rattle.msgcat.specs.Grouping.{IsDefinition, IsGroup}
-use Rattle.msgcat.specs.Merged.{merged_entry, is_kept, merged_messages, IsMergeFault}
+use Rattle.msgcat.specs.Prelude.{NamedEntry, same_message, groups, definitions, definitions_by, IsDefinition, IsGroup, merged_entry, is_kept, merged_messages, IsMergeFault}
+use Rattle.msgcat.specs.Groups.{first_ones}
 use Rattle.msgcat.proofs.FirstOnes.{group_of}
 use Rattle.msgcat.proofs.Messages.{same_message_laws}
 

@@ -7,14 +7,10 @@ use Rattle.std.proofs.lemmas.List.Elements.{All-cons, All-filter, All-head, All-
 use Rattle.std.proofs.lemmas.List.FromFn.{get_or-range_with_len, length-range_with_len}
 use Rattle.std.proofs.lemmas.Bool.{cond_both}
 use Rattle.std.proofs.lemmas.Simd.{map-map}
-use Rattle.po_entry.specs.Message.{first_ones as firsts_of, entry_message, entry_messages, same_message as one_message}
-use Rattle.po_entry.specs.Joined.{is_live}
-use Rattle.msgcat.specs.Grouping.{IsGroup, message_numbers, named_messages}
-use Rattle.msgcat.specs.Groups.{by_number, definitions, first_ones, groups, same_message, with_number, indexes_by}
-use Rattle.msgcat.specs.Inputs.{Named, NamedEntry, all_entries}
+use Rattle.po_entry.specs.Prelude.{first_ones as firsts_of, entry_message, entry_messages, same_message as one_message, is_live}
+use Rattle.msgcat.specs.Prelude.{IsGroup, message_numbers, named_messages, by_number, definitions, groups, same_message, with_number, indexes_by, Named, NamedEntry, all_entries, CanBeMerged, count_messages, unnamed, messages}
+use Rattle.msgcat.specs.Groups.{first_ones}
 use Rattle.msgcat.specs.Internal.EntriesAt.{entries_at, no_entry}
-use Rattle.msgcat.specs.MergeInputs.{CanBeMerged, count_messages, unnamed}
-use Rattle.msgcat.specs.Merged.{messages}
 use Rattle.msgcat.proofs.FirstOnes.{group_of}
 use Rattle.msgcat.proofs.GroupsMerged.{definitions_valid, groups_valid}
 use Rattle.msgcat.proofs.NumberedGroups.{by_number-mapped, groups_by_number}

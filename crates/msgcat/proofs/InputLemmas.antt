@@ -7,23 +7,17 @@ use Rattle.std.proofs.lemmas.List.{drop-map, length-map, map-append, take-append
 use Rattle.std.proofs.lemmas.List.Elements.{All-head, All-nil, All-push, All-tail}
 use Rattle.po_syntax.specs.declared.fault.PoFault.TheVariants.{Duplicate}
 use Rattle.po_syntax.specs.Facts.AllAppend.{All-left, All-right}
-use Rattle.po_entry.specs.ReadsText.{ReadsText}
-use Rattle.po_entry.specs.TextEntry.{TextEntry}
-use Rattle.po_entry.specs.Duplicate.{AllDiffer, HasNoDuplicate, AreNumbered, IsNumbered, RepeatsOnLines, are_placed, number_in, place_of}
-use Rattle.po_entry.specs.Message.{group_numbers, entry_messages, same_message}
-use Rattle.po_entry.specs.Joined.{is_live}
-use Rattle.msgcat.specs.Inputs.{Named, all_entries}
+use Rattle.po_entry.specs.Prelude.{ReadsText, TextEntry, AllDiffer, HasNoDuplicate, AreNumbered, IsNumbered, RepeatsOnLines, are_placed, number_in, place_of, group_numbers, entry_messages, same_message, is_live}
+use Rattle.msgcat.specs.Prelude.{Named, all_entries, IsReadInput, unnamed, AreReadAs, IsFileFault}
 use Rattle.po_syntax.specs.Facts.Zips.{zip_at, zip_length, zip_more, zip_split}
-use Rattle.msgcat.specs.MergeInputs.{IsReadInput, unnamed}
 use Rattle.msgcat.specs.Internal.Inputs.{AreReadUpTo, IsFaultOfFirst, IsFirstRepeating, IsTextOf, with_part}
-use Rattle.msgcat.specs.Msgcat.{AreReadAs, IsFileFault}
 use Rattle.po_entry.specs.declared.repeats.EntryPlace.{EntryPlace}
 use Rattle.msgcat.specs.declared.input.ReadInput.{ReadInput}
 use Rattle.msgcat.specs.declared.inputs.FileFault.{FileFault}
 use Rattle.msgcat.specs.declared.inputs.ReadInputs.{ReadInputs}
 use Rattle.po_entry.proofs.NumberLemmas.{are_numbered, repeats_of}
 use Rattle.msgcat.proofs.ReadInputs.{entries_first}
-use Rattle.runs.specs.Inputs.{NamedFile}
+use Rattle.runs.specs.Prelude.{NamedFile}
 
 -- the entries of an input, and those after them
 with_first : (input : Named) (rest : List Named) (part : List TextEntry)

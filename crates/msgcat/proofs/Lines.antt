@@ -7,14 +7,11 @@ use Rattle.std.proofs.lemmas.List.{length-map}
 use Rattle.std.proofs.lemmas.List.Folds.{flat_map-map, fold-map}
 use Rattle.po_syntax.specs.declared.item.CommentKind.{CommentKind}
 use Rattle.po_syntax.specs.declared.item.CommentKind.TheVariants.{Translator, Extracted, Reference, Flags}
-use Rattle.po_entry.specs.TextEntry.{TextEntry, with_line}
+use Rattle.po_entry.specs.Prelude.{TextEntry, with_line, has_translation}
 use Rattle.po_syntax.specs.Facts.Mapped.{filter_map, find_map}
-use Rattle.po_entry.specs.Statistics.{has_translation}
 use Rattle.msgcat.specs.declared.input.MergeOptions.{MergeOptions}
-use Rattle.msgcat.specs.EntryLaws.{IsSameButLine, LinesAreNotMerged}
-use Rattle.msgcat.specs.Inputs.{NamedEntry, named}
+use Rattle.msgcat.specs.Prelude.{IsSameButLine, LinesAreNotMerged, NamedEntry, named, comment_of, first_of, first_translated, first_with, has_plural, has_previous, is_joined, joined_form, joined_forms, marked, merged_entry, same_forms, texts_of, translations, with_others}
 use Rattle.msgcat.specs.Groups.{first_ones}
-use Rattle.msgcat.specs.Merged.{comment_of, first_of, first_translated, first_with, has_plural, has_previous, is_joined, joined_form, joined_forms, marked, merged_entry, same_forms, texts_of, translations, with_others}
 use Rattle.msgcat.proofs.FirstOnes.{first_ones-map}
 
 abbrev unlined : NamedEntry → NamedEntry

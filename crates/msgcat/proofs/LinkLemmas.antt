@@ -6,7 +6,7 @@ use Rattle.std.proofs.Math.Seq.{drop-cons}
 use Rattle.std.proofs.lemmas.Bool.Decides.{eqb_tells}
 use Rattle.std.proofs.lemmas.List.{get_or-set_other, get_or-set_same, length-set}
 use Rattle.std.proofs.lemmas.List.FromFn.{get_or-map-range_with_len, length-map-range_with_len}
-use Rattle.msgcat.specs.Groups.{with_number, AreLinked, IsChain, indexes_by}
+use Rattle.msgcat.specs.Prelude.{with_number, AreLinked, IsChain, indexes_by}
 use Rattle.msgcat.specs.declared.links.Links.{Links}
 
 -- a chain of later indexes stays as an earlier one is linked

@@ -2,12 +2,9 @@
 use Rattle.std.proofs.Common.{ℕ, List, [], ◌∷◌, ◌++◌, map}
 use Rattle.std.specs.Prelude.{All, IsUtf8}
 use Rattle.std.proofs.lemmas.List.Elements.{All-map, All-append, All-weaker}
-use Rattle.po_entry.specs.Texts.{Lacks}
-use Rattle.po_entry.specs.TextEntry.{TextEntry}
-use Rattle.po_entry.specs.Validity.{IsCatalogueEntry}
-use Rattle.msgcat.specs.Inputs.{Named, NamedEntry, named, all_entries}
-use Rattle.msgcat.specs.Grouping.{IsDefinition}
-use Rattle.msgcat.specs.MergeLaws.{StandInTurn, no_input, no_further, first_entry}
+use Rattle.po_entry.specs.Prelude.{Lacks, TextEntry, IsCatalogueEntry}
+use Rattle.msgcat.specs.Prelude.{Named, NamedEntry, named, all_entries, IsDefinition, StandInTurn}
+use Rattle.msgcat.specs.MergeLaws.{no_input, no_further, first_entry}
 
 pub definitions_more : (before : List NamedEntry) (name : List ℕ) (entries : List TextEntry) → All IsDefinition before
     → IsUtf8 name → Lacks 0 name → All IsCatalogueEntry entries

@@ -6,13 +6,11 @@ use Rattle.std.proofs.lemmas.Bool.{cond_both}
 use Rattle.std.proofs.lemmas.List.Elements.{All-append, All-cons, All-nil, All-weaker, filter-append}
 use Rattle.std.proofs.lemmas.List.Sums.{fold-append}
 use Rattle.po_syntax.specs.Facts.Filters.{all_pass, none_pass}
-use Rattle.po_entry.specs.Header.{HasAdmittedCharset}
-use Rattle.po_entry.specs.TextEntry.{TextEntry}
-use Rattle.po_writer.specs.WrittenText.{with_entry, arranged}
+use Rattle.po_entry.specs.Prelude.{HasAdmittedCharset, TextEntry}
+use Rattle.po_writer.specs.Prelude.{with_entry, arranged}
 use Rattle.po_writer.proofs.Separated.{joined}
 use Rattle.msgcat.specs.declared.input.MergeOptions.{MergeOptions}
-use Rattle.msgcat.specs.Inputs.{NamedEntry}
-use Rattle.msgcat.specs.Merged.{merged_entry, is_kept, merged_messages}
+use Rattle.msgcat.specs.Prelude.{NamedEntry, merged_entry, is_kept, merged_messages}
 use Rattle.msgcat.proofs.GroupsMerged.{messages_more}
 use Rattle.msgcat.specs.Internal.MergedText.{IsPartWritten, IsTextOfMerged, is_of_part}
 

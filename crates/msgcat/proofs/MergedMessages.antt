@@ -3,14 +3,9 @@ use Rattle.std.proofs.Common.{ℕ, Bool, List, [], ◌∷◌, sym, subst, map, f
 use Rattle.std.specs.Prelude.{All, Contains, if◌then◌else◌}
 use Rattle.std.proofs.lemmas.List.{get_or-map, length-map}
 use Rattle.std.proofs.lemmas.List.Elements.{All-nil, All-head, All-tail, All-append, All-filter, All-map, All-weaker}
-use Rattle.po_entry.specs.Validity.{IsEntry}
-use Rattle.po_entry.specs.Statistics.{has_translation}
+use Rattle.po_entry.specs.Prelude.{IsEntry, has_translation}
 use Rattle.msgcat.specs.declared.input.MergeOptions.{MergeOptions}
-use Rattle.msgcat.specs.Inputs.{Named, NamedEntry, named, all_entries}
-use Rattle.msgcat.specs.Groups.{groups, definitions}
-use Rattle.msgcat.specs.Grouping.{IsDefinition, IsGroup}
-use Rattle.msgcat.specs.Merged.{merged_entry, joined_forms, translations, first_translated, is_kept, messages}
-use Rattle.msgcat.specs.MergeLaws.{IsInput, OneDefinitionStays, MergedAreEntries, MergedCanStand, FormsAreOfOne}
+use Rattle.msgcat.specs.Prelude.{Named, NamedEntry, named, all_entries, groups, definitions, IsDefinition, IsGroup, merged_entry, joined_forms, translations, first_translated, is_kept, messages, IsInput, OneDefinitionStays, MergedAreEntries, MergedCanStand, FormsAreOfOne}
 use Rattle.msgcat.proofs.ListedInputs.{definitions_more}
 use Rattle.msgcat.proofs.Valid.{merged_is_entry, first_with_keeps}
 use Rattle.msgcat.proofs.GroupsMerged.{definitions_valid, groups_valid}

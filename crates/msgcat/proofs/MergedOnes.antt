@@ -2,14 +2,9 @@
 use Rattle.std.proofs.Common.{◌≡◌, ℕ, ◌<◌, not, true, false, List, [], ◌∷◌, sym, ap, ◌∙◌, get_or, length, subst}
 use Rattle.std.specs.Prelude.{All, IfNone, IfSome, None, Option, Some, option_to_list}
 use Rattle.std.specs.List.{list_any}
-use Rattle.po_entry.specs.Joined.{is_live}
-use Rattle.po_entry.specs.TextEntry.{TextEntry}
+use Rattle.po_entry.specs.Prelude.{is_live, TextEntry}
 use Rattle.msgcat.specs.declared.input.MergeOptions.{MergeOptions}
-use Rattle.msgcat.specs.Grouping.{IsGroup}
-use Rattle.msgcat.specs.Groups.{definitions, groups}
-use Rattle.msgcat.specs.Inputs.{Named, NamedEntry, all_entries, named}
-use Rattle.msgcat.specs.Merged.{merged_entry, is_kept, merged_messages, messages}
-use Rattle.msgcat.specs.MergeInputs.{CanBeMerged}
+use Rattle.msgcat.specs.Prelude.{IsGroup, definitions, groups, Named, NamedEntry, all_entries, named, merged_entry, is_kept, merged_messages, messages, CanBeMerged}
 use Rattle.msgcat.proofs.EntryLaws.{obsolete_where_none_is_live}
 use Rattle.msgcat.proofs.GroupsMerged.{dropped_one, kept_one}
 use Rattle.msgcat.proofs.HeldGroups.{group_valid, message_at, message_can, message_valid}

@@ -9,17 +9,13 @@ use Rattle.std.proofs.lemmas.Slice.Eq.{bytes_eq-Decides}
 use Rattle.std.proofs.lemmas.List.Folds.{list_any-append, list_any_at}
 use Rattle.std.proofs.lemmas.List.Kept.{AllPairs-cons}
 use Rattle.std.proofs.lemmas.List.Elements.{All-head, All-tail, All-filter, All-map, All-weaker, filter_agree, filter_passes}
-use Rattle.po_entry.specs.TextEntry.{TextEntry, plain_entry}
-use Rattle.po_entry.specs.Joined.{is_live}
-use Rattle.po_entry.specs.Duplicate.{IsSameMessage, AllDiffer, is_of_message}
+use Rattle.po_entry.specs.Prelude.{TextEntry, plain_entry, is_live, IsSameMessage, AllDiffer, is_of_message}
 use Rattle.po_syntax.specs.Facts.Mapped.{any_map}
 use Rattle.po_entry.proofs.FirstOnes.{any_first_ones}
 use Rattle.po_entry.proofs.MessageIndex.{contexts_are}
 use Rattle.msgcat.specs.declared.input.MergeOptions.{MergeOptions}
-use Rattle.msgcat.specs.Inputs.{Named, NamedEntry, named, all_entries}
-use Rattle.msgcat.specs.Groups.{same_message, first_ones, definitions}
-use Rattle.msgcat.specs.Merged.{merged_entry, is_kept, merged_messages}
-use Rattle.msgcat.specs.MergeLaws.{has_message, MessagesStandOnce, KeptMessagesStand}
+use Rattle.msgcat.specs.Prelude.{Named, NamedEntry, named, all_entries, same_message, definitions, merged_entry, is_kept, merged_messages, has_message, MessagesStandOnce, KeptMessagesStand}
+use Rattle.msgcat.specs.Groups.{first_ones}
 use Rattle.msgcat.proofs.FirstOnes.{Apart, group_of, apart_first_ones}
 use Rattle.msgcat.proofs.Messages.{same_message_laws}
 use Rattle.msgcat.proofs.Valid.{first_keeps}

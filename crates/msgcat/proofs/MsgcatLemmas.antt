@@ -2,14 +2,12 @@
 use Rattle.std.proofs.Common.{◌≡◌, ℕ, ◌<◌, List, [], ◌∷◌, Some, refl, sym, ap, ◌∙◌, subst, get_or, slice_get, length, arith}
 use Rattle.std.specs.Prelude.{All}
 use Rattle.std.specs.List.{AllZip}
-use Rattle.po_entry.specs.Texts.{Lacks}
+use Rattle.po_entry.specs.Prelude.{Lacks}
 use Rattle.std.specs.Borrow.{Bor}
 use Rattle.std.proofs.Math.ListN.{get_or-map}
 use Rattle.std.proofs.lemmas.List.{get_or_default, length-map}
-use Rattle.runs.specs.Inputs.{NamedFile, named_file, named_files}
-use Rattle.msgcat.specs.Inputs.{Named}
-use Rattle.msgcat.specs.MergeInputs.{IsReadInput, name_of_first}
-use Rattle.msgcat.specs.Msgcat.{AreReadAs, first_name}
+use Rattle.runs.specs.Prelude.{NamedFile, named_file, named_files}
+use Rattle.msgcat.specs.Prelude.{Named, IsReadInput, name_of_first, AreReadAs, first_name}
 use Rattle.msgcat.specs.declared.input.ReadInput.{ReadInput}
 
 abbrev pub Files : Type 0

@@ -10,8 +10,8 @@ use Rattle.std.proofs.lemmas.List.{length-map, map-append, take-append-drop}
 use Rattle.std.proofs.lemmas.List.Elements.{All-nil, All-cons, All-head, All-tail, All-from_get_or}
 use Rattle.std.proofs.lemmas.List.Folds.{list_any_at, list_any_none}
 use Rattle.memchr.specs.Find.{IsFirstByte, is_byte}
-use Rattle.po_entry.specs.Texts.{Lacks}
-use Rattle.runs.specs.Inputs.{named_file, named_files}
+use Rattle.po_entry.specs.Prelude.{Lacks}
+use Rattle.runs.specs.Prelude.{named_file, named_files}
 use Rattle.msgcat.specs.Internal.NulNames.{IsFirstWithNul}
 use Rattle.msgcat.proofs.MsgcatLemmas.{Files}
 

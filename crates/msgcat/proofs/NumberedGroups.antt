@@ -7,12 +7,10 @@ use Rattle.std.proofs.lemmas.List.{get_or_at, length-map}
 use Rattle.std.proofs.lemmas.Simd.{map-map}
 use Rattle.std.proofs.lemmas.List.Elements.{filter_agree}
 use Rattle.std.specs.Cmp.{IsEquivalence}
-use Rattle.msgcat.specs.Inputs.{NamedEntry}
+use Rattle.msgcat.specs.Prelude.{NamedEntry, message_numbers, named_messages, by_number, same_message, with_number, GroupsByNumber}
 use Rattle.po_syntax.specs.Facts.Mapped.{cond_ap}
-use Rattle.po_entry.specs.Message.{first_ones as firsts_of, Message, entry_message, same_message as one_message}
-use Rattle.msgcat.specs.Grouping.{message_numbers, named_messages}
-use Rattle.msgcat.specs.Groups.{by_number, first_ones, same_message, with_number}
-use Rattle.msgcat.specs.MergeLaws.{GroupsByNumber}
+use Rattle.po_entry.specs.Prelude.{first_ones as firsts_of, Message, entry_message, same_message as one_message}
+use Rattle.msgcat.specs.Groups.{first_ones}
 use Rattle.msgcat.proofs.FirstOnes.{Apart, group_of, apart_first_ones, first_ones-map, place-map, none_all}
 use Rattle.msgcat.proofs.Messages.{same_message_laws}
 

@@ -8,12 +8,10 @@ use Rattle.std.proofs.lemmas.List.Folds.{list_any_at}
 use Rattle.std.proofs.lemmas.Slice.Eq.{bytes_eq-Decides}
 use Rattle.po_syntax.specs.declared.item.CommentKind.{CommentKind}
 use Rattle.po_syntax.specs.declared.item.CommentKind.TheVariants.{Translator, Extracted, Reference, Flags}
-use Rattle.po_entry.specs.TextEntry.{TextEntry}
-use Rattle.po_entry.specs.Statistics.{has_translation}
+use Rattle.po_entry.specs.Prelude.{TextEntry, has_translation}
 use Rattle.msgcat.specs.declared.definition.NamedEntry.{NamedEntry as BorrowedEntry}
 use Rattle.msgcat.specs.declared.input.MergeOptions.{MergeOptions}
-use Rattle.msgcat.specs.Inputs.{NamedEntry, named_entry, named_entries}
-use Rattle.msgcat.specs.Merged.{first_of, first_with, has_previous, has_plural, first_translated, texts_of, with_others, collected, comment_of, translations, is_joined, joined_forms, merged_entry}
+use Rattle.msgcat.specs.Prelude.{NamedEntry, named_entry, named_entries, first_of, first_with, has_previous, has_plural, first_translated, texts_of, with_others, collected, comment_of, translations, is_joined, joined_forms, merged_entry}
 use Rattle.po_syntax.specs.Facts.Filters.{all_pass, none_pass}
 use Rattle.msgcat.proofs.TranslationLaws.{joined_where_they_differ}
 use Rattle.msgcat.proofs.Valid.{first_keeps, first_with_keeps}

@@ -11,12 +11,10 @@ use Rattle.std.proofs.lemmas.Grind.{flat_map-append}
 use Rattle.std.proofs.lemmas.List.Concat.{get_or-flat_map}
 use Rattle.std.proofs.lemmas.List.FromFn.{fill_by_all}
 use Rattle.po_syntax.specs.Facts.AllAppend.{All-left, All-right}
-use Rattle.po_entry.specs.TextEntry.{TextEntry}
-use Rattle.po_entry.specs.Validity.{IsCatalogueEntry}
+use Rattle.po_entry.specs.Prelude.{TextEntry, IsCatalogueEntry}
 use Rattle.po_syntax.specs.Facts.Zips.{zip_get, zip_length, zip_more}
-use Rattle.msgcat.specs.Inputs.{Named, NamedEntry, all_entries, named, named_entries, named_entry}
+use Rattle.msgcat.specs.Prelude.{Named, NamedEntry, all_entries, named, named_entries, named_entry, AreReadInputs, CanBeMerged, IsReadInput, no_input, unnamed}
 use Rattle.msgcat.specs.Internal.EntriesAt.{entries_at, name_of, no_entry}
-use Rattle.msgcat.specs.MergeInputs.{AreReadInputs, CanBeMerged, IsReadInput, no_input, unnamed}
 use Rattle.msgcat.specs.declared.definition.NamedEntry.{NamedEntry as BorrowedEntry}
 use Rattle.msgcat.specs.declared.input.ReadInput.{ReadInput}
 

@@ -7,15 +7,10 @@ use Rattle.std.proofs.lemmas.List.Sums.{fold-append}
 use Rattle.std.proofs.lemmas.List.Elements.{All-nil, All-cons, All-head, All-tail, All-map, All-weaker, filter-append}
 use Rattle.std.proofs.lemmas.Bool.{cond_both, false_from_ne_true, false≢true, lt-ltb}
 use Rattle.std.proofs.Math.Bool.{or-true}
-use Rattle.po_entry.specs.TextEntry.{TextEntry}
-use Rattle.po_entry.specs.Header.{is_header}
-use Rattle.po_entry.specs.Joined.{is_live}
-use Rattle.po_entry.specs.Duplicate.{IsSameMessage, AllDiffer}
+use Rattle.po_entry.specs.Prelude.{TextEntry, is_header, is_live, IsSameMessage, AllDiffer}
 use Rattle.msgcat.specs.declared.input.MergeOptions.{MergeOptions}
-use Rattle.msgcat.specs.Inputs.{Named, NamedEntry, named}
-use Rattle.msgcat.specs.Groups.{with_new, first_ones, same_message, definitions}
-use Rattle.msgcat.specs.Merged.{merged_entry, is_kept, is_wanted, merged_messages}
-use Rattle.msgcat.specs.MergeLaws.{keep_all, OneInputStays, WithItself}
+use Rattle.msgcat.specs.Prelude.{Named, NamedEntry, named, same_message, definitions, merged_entry, is_kept, is_wanted, merged_messages, keep_all, OneInputStays, WithItself}
+use Rattle.msgcat.specs.Groups.{with_new, first_ones}
 use Rattle.po_syntax.specs.Facts.Filters.{all_pass, none_pass}
 use Rattle.msgcat.proofs.FirstOnes.{Apart, group_of, none_all}
 use Rattle.msgcat.proofs.Messages.{same_message_laws}

@@ -14,16 +14,12 @@ use Rattle.std.proofs.lemmas.List.Elements.{All-head, All-tail, All-take, All-we
 use Rattle.std.proofs.lemmas.List.Folds.{list_any-append}
 use Rattle.std.proofs.lemmas.List.Splits.{slice_split_at, slice_split_none}
 use Rattle.std.proofs.lemmas.Slice.Eq.{bytes_eq-Decides}
-use Rattle.po_syntax.specs.TextItem.{IsText}
-use Rattle.po_entry.specs.Texts.{Lacks}
-use Rattle.po_entry.specs.Fields.{texts_eq}
+use Rattle.po_syntax.specs.Prelude.{IsText}
+use Rattle.po_entry.specs.Prelude.{Lacks, texts_eq, split_forms, translation_bytes}
 use Rattle.po_entry.specs.Facts.EqualityLaws.{texts_decide}
-use Rattle.po_entry.specs.Rows.{split_forms, translation_bytes}
-use Rattle.msgcat.specs.Grouping.{IsDefinition}
-use Rattle.msgcat.specs.Inputs.{NamedEntry, named_entries, named_entry}
+use Rattle.msgcat.specs.Prelude.{IsDefinition, NamedEntry, named_entries, named_entry, same_forms, translations}
 use Rattle.msgcat.specs.declared.definition.NamedEntry.{NamedEntry as BorrowedEntry}
 use Rattle.msgcat.specs.Internal.SeenForms.{HasTranslations}
-use Rattle.msgcat.specs.Merged.{same_forms, translations}
 use Rattle.msgcat.proofs.Valid.{quoted_parts, translations_all}
 
 without : (text : List ℕ) → Lacks 0 text → All (λ b. (b == 0) ≡ false) text

@@ -5,12 +5,10 @@ use Rattle.std.specs.List.{list_any}
 use Rattle.std.proofs.lemmas.List.{take_more, map-append}
 use Rattle.std.proofs.lemmas.List.Elements.{filter-append}
 use Rattle.std.proofs.lemmas.List.Sums.{fold_push}
-use Rattle.po_entry.specs.TextEntry.{TextEntry}
-use Rattle.po_entry.specs.Statistics.{has_translation}
+use Rattle.po_entry.specs.Prelude.{TextEntry, has_translation}
 use Rattle.msgcat.specs.declared.definition.NamedEntry.{NamedEntry as BorrowedEntry}
-use Rattle.msgcat.specs.Inputs.{NamedEntry, named_entry, named_entries}
+use Rattle.msgcat.specs.Prelude.{NamedEntry, named_entry, named_entries, with_others, collected, same_forms, translations}
 use Rattle.msgcat.specs.Groups.{with_new, first_ones}
-use Rattle.msgcat.specs.Merged.{with_others, collected, same_forms, translations}
 
 pub named_more : (ds : List BorrowedEntry) (i : ℕ) (d : BorrowedEntry) → i < length ds → d ≡ get_or ds i d
     → named_entries (take (i + 1) ds) ≡ named_entries (take i ds) ++ named_entry d ∷ []

@@ -13,16 +13,12 @@ use Rattle.std.proofs.Math.Bool.{or-false}
 use Rattle.std.proofs.lemmas.List.FromFn.{length-map-range_with_len}
 use Rattle.std.proofs.lemmas.Slice.Eq.{bytes_eq-Decides, slice_eq-Decides}
 use Rattle.po_syntax.specs.declared.item.CommentKind.{CommentKind}
-use Rattle.po_entry.specs.TextEntry.{TextEntry}
-use Rattle.po_entry.specs.Fields.{texts_eq}
+use Rattle.po_entry.specs.Prelude.{TextEntry, texts_eq, is_header, first_form, has_translation}
 use Rattle.po_entry.proofs.FuzzyFlags.{any_passing}
-use Rattle.po_entry.specs.Header.{is_header, first_form}
-use Rattle.po_entry.specs.Statistics.{has_translation}
 use Rattle.po_entry.proofs.FirstOnes.{any_first_ones}
 use Rattle.msgcat.specs.declared.input.MergeOptions.{MergeOptions}
-use Rattle.msgcat.specs.Inputs.{NamedEntry}
-use Rattle.msgcat.specs.Merged.{collected, form_count, joined_form, joined_forms, merged_entry, first_translated, same_forms, texts_of, translations, is_wanted}
-use Rattle.msgcat.specs.TranslationLaws.{IsTranslated, IsUntranslated, TranslationsDiffer, JoinedWhereTheyDiffer, JoinedAsLongest, IsFirstTranslated, translated, none, FormsOfFirst, CommentsOfFirst, HeadersAreKept}
+use Rattle.msgcat.specs.Prelude.{NamedEntry, collected, form_count, joined_form, joined_forms, merged_entry, first_translated, same_forms, texts_of, translations, is_wanted, IsTranslated, IsUntranslated, TranslationsDiffer, JoinedWhereTheyDiffer, JoinedAsLongest, IsFirstTranslated, FormsOfFirst, CommentsOfFirst, HeadersAreKept}
+use Rattle.msgcat.specs.TranslationLaws.{translated, none}
 use Rattle.msgcat.proofs.EntryLaws.{find_none, first_is, texts_merged}
 use Rattle.msgcat.proofs.Valid.{at_least}
 use Rattle.msgcat.proofs.FirstOnes.{all_first_ones, Apart, apart_first_ones}

@@ -4,16 +4,14 @@ use Rattle.std.specs.Prelude.{All}
 use Rattle.std.specs.Borrow.{Bor}
 use Rattle.std.proofs.lemmas.List.{length-map, length-take-le}
 use Rattle.std.proofs.lemmas.List.Elements.{All-head, All-tail}
-use Rattle.po_entry.specs.Texts.{Lacks}
+use Rattle.po_entry.specs.Prelude.{Lacks}
 use Rattle.msgcat.specs.Inputs as merge
 use Rattle.runs.specs.declared.program_fault.ProgramFault.{ProgramFault}
 use Rattle.runs.specs.declared.program_fault.ProgramFault.TheVariants.{CannotOpen, OutOfMemory}
 use Rattle.runs.specs.declared.run.Run.{Run}
-use Rattle.runs.specs.Inputs.{NamedFile, named_file, named_files}
-use Rattle.runs.specs.ProgramFaults.{program_text}
-use Rattle.runs.specs.Run.{RunView, run_view}
+use Rattle.runs.specs.Prelude.{NamedFile, named_file, named_files, program_text, RunView, run_view}
 use Rattle.msgcat.specs.Internal.NulNames.{IsFirstWithNul}
-use Rattle.msgcat.specs.Msgcat.{AreReadAs, HasNulName, IsUnread, IsUnreadBeforeNul}
+use Rattle.msgcat.specs.Prelude.{AreReadAs, HasNulName, IsUnread, IsUnreadBeforeNul}
 use Rattle.msgcat.proofs.MsgcatLemmas.{Files}
 use Rattle.msgcat.proofs.NulNames.{named_take}
 

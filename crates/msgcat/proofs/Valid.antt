@@ -13,16 +13,11 @@ use Rattle.std.proofs.lemmas.List.Folds.{list_any_at}
 use Rattle.std.proofs.lemmas.List.Elements.{All-nil, All-cons, All-head, All-tail, All-append, All-filter, All-weaker, All-contains, All-contains_itself, All-map, filter_passes, Contains-get_or, Contains-append_right, Contains-append_cases}
 use Rattle.po_syntax.specs.declared.item.CommentKind.{CommentKind}
 use Rattle.po_syntax.specs.declared.item.CommentKind.TheVariants.{Translator, Extracted, Reference, Flags}
-use Rattle.po_entry.specs.Texts.{Lacks, AreDistinct}
+use Rattle.po_entry.specs.Prelude.{Lacks, AreDistinct, TextEntry, previous_texts, IsEntry, IsTranslatorComment, IsReference, IsFlag, has_translation}
 use Rattle.po_syntax.specs.Facts.AllAppend.{All-left, All-right}
-use Rattle.po_entry.specs.TextEntry.{TextEntry, previous_texts}
-use Rattle.po_syntax.specs.TextItem.{IsText, IsComment}
-use Rattle.po_entry.specs.Validity.{IsEntry, IsTranslatorComment, IsReference, IsFlag}
-use Rattle.po_entry.specs.Statistics.{has_translation}
+use Rattle.po_syntax.specs.Prelude.{IsText, IsComment}
 use Rattle.msgcat.specs.declared.input.MergeOptions.{MergeOptions}
-use Rattle.msgcat.specs.Inputs.{NamedEntry}
-use Rattle.msgcat.specs.Grouping.{IsDefinition}
-use Rattle.msgcat.specs.Merged.{first_of, first_with, has_previous, has_plural, first_translated, texts_of, with_others, collected, comment_of, same_forms, translations, is_joined, ended, marked, joined_form, form_count, joined_forms, merged_entry}
+use Rattle.msgcat.specs.Prelude.{NamedEntry, IsDefinition, first_of, first_with, has_previous, has_plural, first_translated, texts_of, with_others, collected, comment_of, same_forms, translations, is_joined, ended, marked, joined_form, form_count, joined_forms, merged_entry}
 use Rattle.msgcat.proofs.FirstOnes.{all_first_ones}
 
 -- the first definition that has something

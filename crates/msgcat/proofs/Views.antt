@@ -2,12 +2,10 @@
 use Rattle.std.proofs.Common.{◌≡◌, Bool, true, false, List, sym, ap, ◌∙◌, filter}
 use Rattle.std.specs.Prelude.{if◌then◌else◌}
 use Rattle.std.specs.List.{list_any}
-use Rattle.po_entry.specs.TextEntry.{TextEntry}
+use Rattle.po_entry.specs.Prelude.{TextEntry, is_live}
 use Rattle.po_syntax.specs.Facts.Mapped.{any_map, filter_map}
-use Rattle.po_entry.specs.Joined.{is_live}
 use Rattle.msgcat.specs.declared.definition.NamedEntry.{NamedEntry as BorrowedEntry}
-use Rattle.msgcat.specs.Groups.{definitions}
-use Rattle.msgcat.specs.Inputs.{NamedEntry, named_entry, named_entries}
+use Rattle.msgcat.specs.Prelude.{definitions, NamedEntry, named_entry, named_entries}
 
 pub any_named : (p : TextEntry → Bool) (ds : List BorrowedEntry)
     → list_any (λ d. p d.entry) ds ≡ list_any (λ d. p d.entry) (named_entries ds)

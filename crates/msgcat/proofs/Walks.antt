@@ -4,13 +4,9 @@ use Rattle.std.specs.Prelude.{All, if◌then◌else◌}
 use Rattle.std.specs.List.{list_any}
 use Rattle.std.proofs.lemmas.List.{get_or-map, length-map}
 use Rattle.std.proofs.lemmas.List.Elements.{All-head, All-tail}
-use Rattle.po_entry.specs.Joined.{is_live}
-use Rattle.po_entry.specs.TextEntry.{TextEntry}
-use Rattle.msgcat.specs.Groups.{definitions, groups, IsChain}
-use Rattle.msgcat.specs.Inputs.{Named, NamedEntry, all_entries, named}
+use Rattle.po_entry.specs.Prelude.{is_live, TextEntry}
+use Rattle.msgcat.specs.Prelude.{definitions, groups, IsChain, Named, NamedEntry, all_entries, named, HoldInputs, messages}
 use Rattle.msgcat.specs.Internal.EntriesAt.{entries_at, no_entry}
-use Rattle.msgcat.specs.MergeInputs.{HoldInputs}
-use Rattle.msgcat.specs.Merged.{messages}
 use Rattle.msgcat.specs.declared.merge_inputs.MergeInputs.{MergeInputs}
 use Rattle.msgcat.proofs.HeldGroups.{entries_here, group_valid, groups_at, groups_counted, indexes_here, message_at}
 use Rattle.msgcat.proofs.LinkLemmas.{chain_on, chain_over, chain_some}

@@ -1,16 +1,13 @@
 -- What msgcat does, by the way in which it ends.
 use Rattle.std.proofs.Common.{◌≡◌, ◌≢◌, ◌⊎◌, List, None, Some, Option, option_map, refl, ap, inl, inr}
 use Rattle.std.specs.Prelude.{All}
-use Rattle.po_entry.specs.Texts.{Lacks}
+use Rattle.po_entry.specs.Prelude.{Lacks}
 use Rattle.runs.specs.declared.program_fault.ProgramFault.{ProgramFault}
 use Rattle.runs.specs.declared.program_fault.ProgramFault.TheVariants.{OutOfMemory}
-use Rattle.runs.specs.Inputs.{NamedFile}
-use Rattle.runs.specs.ProgramFaults.{program_text}
-use Rattle.runs.specs.Run.{RunView}
+use Rattle.runs.specs.Prelude.{NamedFile, program_text, RunView}
 use Rattle.msgcat.specs.Inputs as merge
 use Rattle.msgcat.specs.declared.input.MergeOptions.{MergeOptions}
-use Rattle.msgcat.specs.Msgcat.{AreReadAs, HasNulName, IsMsgcatRun, IsUnread, IsUnreadBeforeNul}
-use Rattle.msgcat.specs.WholeRun.{HaveNoRun, IsRunOf}
+use Rattle.msgcat.specs.Prelude.{AreReadAs, HasNulName, IsMsgcatRun, IsUnread, IsUnreadBeforeNul, HaveNoRun, IsRunOf}
 
 pub planned : (inputs : List NamedFile) (o : MergeOptions) (run : RunView) (next : Option ProgramFault)
     → (next ≡ None → IsMsgcatRun inputs o run) → (next ≢ None → IsUnread inputs run) → IsUnreadBeforeNul inputs run

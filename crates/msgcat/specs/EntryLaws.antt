@@ -3,9 +3,7 @@
 use Rattle.std.specs.Prelude.{◌≡◌, ◌≢◌, ◌↔◌, ℕ, ◌<◌, Bool, true, false, not, List, [], ◌∷◌, ◌++◌, filter, length, get_or, slice_get, codes, All, Contains, None, Some, bytes_eq}
 use Rattle.std.specs.List.{AllZip, list_any}
 use Rattle.po_syntax.specs.declared.item.CommentKind.{CommentKind}
-use Rattle.po_entry.specs.TextEntry.{TextEntry, SameButLine, no_previous}
-use Rattle.po_entry.specs.Header.{is_header}
-use Rattle.po_entry.specs.Joined.{is_live}
+use Rattle.po_entry.specs.Prelude.{TextEntry, SameButLine, no_previous, is_header, is_live}
 use Rattle.msgcat.specs.declared.input.MergeOptions.{MergeOptions}
 use Rattle.msgcat.specs.Inputs.{NamedEntry}
 use Rattle.msgcat.specs.Groups.{definitions}

@@ -1,7 +1,7 @@
 -- What two inputs are merged to by hand (manual, "Invoking the msgcat Program").
 -- tests/mutants/msgcat/definitions has a wrong form of each definition, which this refuses.
 use Rattle.std.specs.Prelude.{◌≡◌, refl, true, false, ℕ, List, [], ◌∷◌, Some, None, codes}
-use Rattle.po_entry.specs.TextEntry.{TextEntry, plain_entry}
+use Rattle.po_entry.specs.Prelude.{TextEntry, plain_entry}
 use Rattle.msgcat.specs.Inputs.{Named}
 use Rattle.msgcat.specs.Merged.{merged}
 

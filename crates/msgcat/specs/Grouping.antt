@@ -1,8 +1,6 @@
 -- Entries that are grouped by their messages.
 use Rattle.std.specs.Prelude.{ℕ, ◌<◌, All, length, List, map, IsUtf8}
-use Rattle.po_entry.specs.Message.{group_numbers, Message, entry_message, same_message}
-use Rattle.po_entry.specs.Texts.{Lacks}
-use Rattle.po_entry.specs.Validity.{IsEntry}
+use Rattle.po_entry.specs.Prelude.{group_numbers, Message, entry_message, same_message, Lacks, IsEntry}
 use Rattle.msgcat.specs.Inputs.{NamedEntry}
 
 -- an entry that can be merged with others of its message

@@ -2,8 +2,7 @@
 pub use Rattle.po_entry.specs.Message.{with_new, first_ones}
 use Rattle.std.specs.Prelude.{Bool, ℕ, ◌==◌, List, [], ◌∷◌, map, filter, if◌then◌else◌, ◌≡◌, ◌<◌, ◌≤◌, get_or, length}
 use Rattle.std.specs.List.{list_any, range_with_len}
-use Rattle.po_entry.specs.Joined.{is_live}
-use Rattle.po_entry.specs.Message.{entry_message, same_message as one_message}
+use Rattle.po_entry.specs.Prelude.{is_live, entry_message, same_message as one_message}
 use Rattle.msgcat.specs.Inputs.{NamedEntry}
 use Rattle.msgcat.specs.declared.links.Links.{Links}
 

@@ -1,7 +1,7 @@
 -- The entries of several inputs (manual, "Invoking the msgcat Program").
 use Rattle.std.specs.Prelude.{ℕ, List, map}
 use Rattle.std.specs.List.{flat_map}
-use Rattle.po_entry.specs.TextEntry.{TextEntry}
+use Rattle.po_entry.specs.Prelude.{TextEntry}
 use Rattle.msgcat.specs.declared.definition.NamedEntry.{NamedEntry as BorrowedEntry}
 
 -- an input: its name, and the entries of its catalogue

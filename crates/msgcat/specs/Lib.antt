@@ -11,3 +11,4 @@ pub mod MergeLaws
 pub mod EntryLaws
 pub mod TranslationLaws
 pub mod Examples
+pub mod Prelude

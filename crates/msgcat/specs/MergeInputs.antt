@@ -1,10 +1,7 @@
 -- The entries of inputs in one store, linked by their messages.
 use Rattle.std.specs.Prelude.{◌≡◌, ◌<◌, ℕ, All, IsUtf8, List, [], ◌∷◌, get_or, length, map, take}
 use Rattle.std.specs.List.{AllZip}
-use Rattle.po_entry.specs.Texts.{Lacks}
-use Rattle.po_entry.specs.Header.{HasAdmittedCharset}
-use Rattle.po_entry.specs.TextEntry.{TextEntry}
-use Rattle.po_entry.specs.Message.{first_ones, same_message}
+use Rattle.po_entry.specs.Prelude.{Lacks, HasAdmittedCharset, TextEntry, first_ones, same_message}
 use Rattle.msgcat.specs.Grouping.{IsDefinition, message_numbers, named_messages}
 use Rattle.msgcat.specs.Inputs.{Named, NamedEntry, all_entries}
 use Rattle.msgcat.specs.Groups.{AreLinked, indexes_by}

@@ -2,12 +2,8 @@
 use Rattle.std.specs.Prelude.{◌≡◌, ℕ, ◌<◌, Bool, false, ◌&&◌, List, [], ◌∷◌, map, filter, length, All, Contains, Option, None}
 use Rattle.std.specs.List.{list_any}
 use Rattle.po_syntax.specs.declared.fault.PoError.{PoError}
-use Rattle.po_entry.specs.TextEntry.{TextEntry}
-use Rattle.po_entry.specs.Header.{HasAdmittedCharset}
-use Rattle.po_syntax.specs.TextItem.{IsText}
-use Rattle.po_entry.specs.Validity.{IsEntry, IsCatalogueEntry}
-use Rattle.po_entry.specs.Duplicate.{AllDiffer, is_of_message}
-use Rattle.po_entry.specs.Message.{same_message as one_message}
+use Rattle.po_entry.specs.Prelude.{TextEntry, HasAdmittedCharset, IsEntry, IsCatalogueEntry, AllDiffer, is_of_message, same_message as one_message}
+use Rattle.po_syntax.specs.Prelude.{IsText}
 use Rattle.msgcat.specs.declared.input.MergeOptions.{MergeOptions}
 use Rattle.msgcat.specs.Inputs.{Named, NamedEntry, all_entries}
 use Rattle.msgcat.specs.Grouping.{message_numbers, named_messages}

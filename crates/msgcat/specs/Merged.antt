@@ -4,16 +4,12 @@ use Rattle.std.specs.List.{list_any, flat_map, range_with_len, ends_with}
 use Rattle.std.specs.Option.{option_map_or}
 use Rattle.po_syntax.specs.declared.item.CommentKind.{CommentKind}
 use Rattle.po_syntax.specs.declared.item.CommentKind.TheVariants.{Translator, Extracted, Reference, Flags}
-use Rattle.po_entry.specs.TextEntry.{TextEntry, plain_entry}
-use Rattle.po_entry.specs.Fields.{texts_eq}
-use Rattle.po_entry.specs.Statistics.{has_translation}
+use Rattle.po_entry.specs.Prelude.{TextEntry, plain_entry, texts_eq, has_translation, is_header, HasAdmittedCharset, out_of_memory}
 use Rattle.msgcat.specs.declared.input.MergeOptions.{MergeOptions}
 use Rattle.msgcat.specs.Inputs.{NamedEntry, Named, all_entries}
 use Rattle.msgcat.specs.Groups.{first_ones, groups, definitions}
 use Rattle.po_syntax.specs.declared.fault.PoError.{PoError}
 use Rattle.po_syntax.specs.declared.fault.PoFault.TheVariants.{ForeignCharset}
-use Rattle.po_entry.specs.Header.{is_header, HasAdmittedCharset}
-use Rattle.po_entry.specs.Validity.{out_of_memory}
 
 -- The entry that the definitions of one message are merged to (manual, "Invoking the msgcat
 -- Program").

@@ -3,16 +3,12 @@ use Rattle.std.specs.Prelude.{◌≡◌, ◌≢◌, ◌⊎◌, ℕ, All, List, [
 use Rattle.std.specs.List.{AllZip}
 use Rattle.po_syntax.specs.declared.fault.PoError.{PoError}
 use Rattle.po_syntax.specs.declared.fault.PoFault.TheVariants.{ForeignCharset, OutOfMemory as NoMemory}
-use Rattle.po_entry.specs.Texts.{Lacks}
-use Rattle.po_entry.specs.Header.{HasAdmittedCharset}
-use Rattle.po_entry.specs.Duplicate.{ReadsDistinct, IsTextFault}
+use Rattle.po_entry.specs.Prelude.{Lacks, HasAdmittedCharset, ReadsDistinct, IsTextFault}
 use Rattle.msgcat.specs.Inputs.{Named}
 use Rattle.msgcat.specs.Merged.{merged}
 use Rattle.msgcat.specs.declared.input.MergeOptions.{MergeOptions}
 use Rattle.runs.specs.declared.inputs.InputFault.TheVariants.{CannotOpen}
-use Rattle.runs.specs.FaultText.{text_line}
-use Rattle.runs.specs.Inputs.{input_fault_text, NamedFile}
-use Rattle.runs.specs.Run.{RunView, refusal, written_run}
+use Rattle.runs.specs.Prelude.{text_line, input_fault_text, NamedFile, RunView, refusal, written_run}
 
 -- a file is read as the catalogue of an input, in which no live entry repeats an earlier one
 pub record IsReadAs (file : NamedFile) (input : Named) : Type 0 where

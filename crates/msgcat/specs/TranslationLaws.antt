@@ -2,7 +2,7 @@
 -- message (manual, "Invoking the msgcat Program").
 use Rattle.std.specs.Prelude.{◌≡◌, ◌≢◌, ◌↔◌, ℕ, ◌≤◌, true, false, List, [], ◌∷◌, ◌++◌, length, All, Contains, None}
 use Rattle.po_syntax.specs.declared.item.CommentKind.{CommentKind}
-use Rattle.po_entry.specs.Header.{first_form}
+use Rattle.po_entry.specs.Prelude.{first_form}
 use Rattle.msgcat.specs.declared.input.MergeOptions.{MergeOptions}
 use Rattle.msgcat.specs.Groups.{definitions}
 use Rattle.msgcat.specs.Inputs.{NamedEntry}

@@ -1,14 +1,11 @@
 -- What msgcat does as a whole (manual, "Invoking the msgcat Program").
 use Rattle.std.specs.Prelude.{◌≡◌, ◌⊎◌, ℕ, All, List, Option, None, Some, Result}
-use Rattle.po_entry.specs.Texts.{Lacks}
+use Rattle.po_entry.specs.Prelude.{Lacks}
 use Rattle.msgcat.specs.Inputs as merge
 use Rattle.msgcat.specs.declared.input.MergeOptions.{MergeOptions}
 use Rattle.msgcat.specs.Msgcat.{AreReadAs, HasNulName, IsMsgcatRun, IsUnread, IsUnreadBeforeNul}
 use Rattle.runs.specs.declared.program_fault.ProgramFault.{ProgramFault}
-use Rattle.runs.specs.Inputs.{NamedFile}
-use Rattle.runs.specs.Outputs.{SystemView}
-use Rattle.runs.specs.Run.{RunView}
-use Rattle.runs.specs.ToolRuns.{Asking, Planning, RunsInputs}
+use Rattle.runs.specs.Prelude.{NamedFile, SystemView, RunView, Asking, Planning, RunsInputs}
 
 -- the run of inputs: that of all; or, where the next one can't be read, the refusal of these; and where
 -- the name of one has a NUL, the refusal of those before it

@@ -1,9 +1,7 @@
 //! The definitions of one message: which members of a group they are, and which of them is taken.
 
 ghost use Rattle.std.specs.Prelude.{◌≡◌, ◌<◌, ◌∷◌, [], IfNone, IfSome, List, ℕ, false, length, true};
-ghost use Rattle.msgcat.specs.Groups.{definitions};
-ghost use Rattle.msgcat.specs.Inputs.{named, named_entries};
-ghost use Rattle.msgcat.specs.Merged.{is_kept, is_wanted, first_with};
+ghost use Rattle.msgcat.specs.Prelude.{definitions, named, named_entries, is_kept, is_wanted, first_with};
 ghost use Rattle.msgcat.specs.Internal.FirstParts.{has_part};
 
 use crate::input::MergeOptions;

@@ -1,9 +1,8 @@
 //! The inputs and options of a merge.
 
 ghost use Rattle.std.specs.Prelude.{◌≡◌, length};
-ghost use Rattle.po_entry.specs.Texts.{Lacks};
-ghost use Rattle.msgcat.specs.Inputs.{Named};
-ghost use Rattle.msgcat.specs.MergeInputs.{IsReadInput};
+ghost use Rattle.po_entry.specs.Prelude.{Lacks};
+ghost use Rattle.msgcat.specs.Prelude.{Named, IsReadInput};
 
 /// An input whose entries lie in a store, after those of the inputs before it.
 #[derive(Clone, Copy)]

@@ -1,15 +1,11 @@
 //! Reading inputs: the pieces of each are read into one store. After the last input an index of all
 //! messages tells which entries are of one message.
 ghost use Rattle.std.specs.Prelude.{◌≡◌, ◌⊎◌, All, IfErr, IfOk, List, OnOk};
-ghost use Rattle.po_entry.specs.Texts.{Lacks};
-ghost use Rattle.po_entry.specs.TextEntry.{TextEntry};
-ghost use Rattle.po_entry.specs.Validity.{out_of_memory};
+ghost use Rattle.po_entry.specs.Prelude.{Lacks, TextEntry, out_of_memory, HasNoDuplicate};
 ghost use Rattle.msgcat.specs.Inputs as merge;
-ghost use Rattle.po_entry.specs.Duplicate.{HasNoDuplicate};
-ghost use Rattle.msgcat.specs.MergeInputs.{HoldInputs};
+ghost use Rattle.msgcat.specs.Prelude.{HoldInputs, AreReadAs, IsFileFault};
 ghost use Rattle.msgcat.specs.Internal.Inputs.{AreNumberedInputs, AreReadUpTo, IsFirstRepeating};
-ghost use Rattle.msgcat.specs.Msgcat.{AreReadAs, IsFileFault};
-ghost use Rattle.runs.specs.Inputs.{named_files};
+ghost use Rattle.runs.specs.Prelude.{named_files};
 
 use po_entry::{Drafts, EntryPlace, Store, duplicate_at, message_numbers, places_of, repeated_lines, split_at_most};
 use crate::input::ReadInput;

@@ -1,11 +1,9 @@
 //! Translations that differ, joined in one with the names of their files between.
 
 ghost use Rattle.std.specs.Prelude.{◌≡◌, ◌++◌, All, IfOk, OnOk, map};
-ghost use Rattle.po_entry.specs.TextEntry.{texts};
-ghost use Rattle.msgcat.specs.Grouping.{IsDefinition};
-ghost use Rattle.msgcat.specs.Inputs.{named_entries};
+ghost use Rattle.po_entry.specs.Prelude.{texts};
+ghost use Rattle.msgcat.specs.Prelude.{IsDefinition, named_entries, marked, translations};
 ghost use Rattle.msgcat.specs.Internal.FormsLeft.{form_lists, joined_at, joined_lists, named_forms, rests};
-ghost use Rattle.msgcat.specs.Merged.{marked, translations};
 
 use crate::definition::{NamedEntry, Part, has_part};
 use po_entry::FormIter;

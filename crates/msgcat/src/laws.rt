@@ -2,14 +2,10 @@
 //! proof.
 ghost use Rattle.std.specs.Prelude.{ℕ, Bool, List, Option};
 ghost use Rattle.msgcat.specs.declared.input.MergeOptions.{MergeOptions};
-ghost use Rattle.msgcat.specs.Inputs.{Named, NamedEntry, all_entries};
-ghost use Rattle.msgcat.specs.MergeLaws.{DistinctInputsStay, FaultIsOfNoLine, FormsAreOfOne, MergedAgain, GroupsByNumber, KeptMessagesStand, MergedAreEntries, MergedCanStand, MessagesStandOnce, OneDefinitionStays, OneInputStays, StandInTurn, WithItself};
-ghost use Rattle.msgcat.specs.EntryLaws.{DefinedByLive, EndsForm, FormsAreJoined, JoinedIsFuzzy, KeptByCount, LinesAreNotMerged, ObsoleteWhereNoneIsLive, PluralOfFirst, PreviousOfFirst, TextsInOrder, TextsOfAll};
-ghost use Rattle.msgcat.specs.Merged.{ended};
-ghost use Rattle.msgcat.specs.TranslationLaws.{CommentsOfFirst, FormsOfFirst, HeadersAreKept, JoinedAsLongest, JoinedWhereTheyDiffer, TranslatedStays};
+ghost use Rattle.msgcat.specs.Prelude.{Named, NamedEntry, all_entries, DistinctInputsStay, FaultIsOfNoLine, FormsAreOfOne, MergedAgain, GroupsByNumber, KeptMessagesStand, MergedAreEntries, MergedCanStand, MessagesStandOnce, OneDefinitionStays, OneInputStays, StandInTurn, WithItself, DefinedByLive, EndsForm, FormsAreJoined, JoinedIsFuzzy, KeptByCount, LinesAreNotMerged, ObsoleteWhereNoneIsLive, PluralOfFirst, PreviousOfFirst, TextsInOrder, TextsOfAll, ended, CommentsOfFirst, FormsOfFirst, HeadersAreKept, JoinedAsLongest, JoinedWhereTheyDiffer, TranslatedStays};
 ghost use Rattle.po_syntax.specs.declared.item.CommentKind.{CommentKind};
 ghost use Rattle.po_syntax.specs.declared.fault.PoError.{PoError};
-ghost use Rattle.po_entry.specs.TextEntry.{TextEntry};
+ghost use Rattle.po_entry.specs.Prelude.{TextEntry};
 
 /// A message with one definition is merged to the entry of that definition.
 pub fn one_definition_stays()

@@ -2,7 +2,7 @@
 //! each entry the next one.
 
 ghost use Rattle.std.specs.Prelude.{◌<◌, All, IfOk};
-ghost use Rattle.msgcat.specs.Groups.{AreLinked, indexes_by};
+ghost use Rattle.msgcat.specs.Prelude.{AreLinked, indexes_by};
 
 use std::alloc::{AllocError, Global};
 

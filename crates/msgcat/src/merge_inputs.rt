@@ -1,13 +1,9 @@
 //! The entries of several inputs in one store, and what those of a message are merged to.
 
 ghost use Rattle.std.specs.Prelude.{◌≡◌, ◌<◌, ◌∷◌, [], IfErr, IfOk, IfSome, List, ℕ, get_or, length, option_to_list};
-ghost use Rattle.po_entry.specs.Validity.{IsCatalogueEntry};
-ghost use Rattle.po_entry.specs.Message.{first_ones, group_numbers, entry_messages, same_message};
-ghost use Rattle.msgcat.specs.Groups.{groups};
-ghost use Rattle.msgcat.specs.Inputs.{Named, all_entries, named, named_entries};
+ghost use Rattle.po_entry.specs.Prelude.{IsCatalogueEntry, first_ones, group_numbers, entry_messages, same_message};
+ghost use Rattle.msgcat.specs.Prelude.{groups, Named, all_entries, named, named_entries, AreReadInputs, HoldInputs, name_of_first, unnamed, IsMergeFault, merged_messages, messages, merged_entry};
 ghost use Rattle.msgcat.specs.Internal.EntriesAt.{name_of};
-ghost use Rattle.msgcat.specs.MergeInputs.{AreReadInputs, HoldInputs, name_of_first, unnamed};
-ghost use Rattle.msgcat.specs.Merged.{IsMergeFault, merged_messages, messages, merged_entry};
 ghost use Rattle.msgcat.specs.declared.input.MergeOptions as asked;
 
 use crate::definition::{NamedEntry, kept_alone, kept_definitions};

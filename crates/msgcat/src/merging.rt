@@ -1,14 +1,8 @@
 //! What several definitions of one message are merged to.
 
 ghost use Rattle.std.specs.Prelude.{◌≡◌, ◌<◌, ◌++◌, ◌∷◌, [], length, All, IfOk, IfErr, OnErr, OnOk};
-ghost use Rattle.po_entry.specs.Fields.{entry_view};
-ghost use Rattle.po_entry.specs.Rows.{forms_left};
-ghost use Rattle.po_entry.specs.TextEntry.{texts};
-ghost use Rattle.po_entry.specs.Validity.{IsCatalogueEntry};
-ghost use Rattle.msgcat.specs.Grouping.{IsDefinition};
-ghost use Rattle.msgcat.specs.Inputs.{named_entries};
-ghost use Rattle.msgcat.specs.Merged.{merged_entry, first_translated, IsMergeFault};
-ghost use Rattle.msgcat.specs.MergeInputs.{CanBeMerged};
+ghost use Rattle.po_entry.specs.Prelude.{entry_view, forms_left, texts, IsCatalogueEntry};
+ghost use Rattle.msgcat.specs.Prelude.{IsDefinition, named_entries, merged_entry, first_translated, IsMergeFault, CanBeMerged};
 ghost use Rattle.msgcat.specs.Internal.Comments.{comments_alone};
 
 use crate::comments::comment_of;

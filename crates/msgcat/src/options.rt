@@ -1,5 +1,5 @@
 //! What the options of a command line mean for msgcat.
-ghost use Rattle.msgcat.specs.Options.{AreMergeOptions};
+ghost use Rattle.msgcat.specs.Prelude.{AreMergeOptions};
 
 use crate::input::MergeOptions;
 use runs::Arguments;

@@ -1,13 +1,11 @@
 //! What msgcat writes and reports: the text of the catalogue that PO texts are merged to; and what
 //! it comes to where an input can't be read.
 ghost use Rattle.std.specs.Prelude.{◌≡◌, ◌≢◌, ◌⊎◌, All, Err, IfErr, IfOk, IfSome, List, MatchOption, None, OnErr, Some, []};
-ghost use Rattle.po_entry.specs.Texts.{Lacks};
-ghost use Rattle.msgcat.specs.Inputs.{Named};
+ghost use Rattle.po_entry.specs.Prelude.{Lacks};
+ghost use Rattle.msgcat.specs.Prelude.{Named, AreReadAs, IsMsgcatRun, IsUnread};
 ghost use Rattle.msgcat.specs.Internal.ReadFiles.{IsReadingOf};
-ghost use Rattle.msgcat.specs.Msgcat.{AreReadAs, IsMsgcatRun, IsUnread};
 ghost use Rattle.msgcat.specs.Internal.NulNames.{IsFirstWithNul};
-ghost use Rattle.runs.specs.Inputs.{NamedFile, named_files};
-ghost use Rattle.runs.specs.Run.{run_view};
+ghost use Rattle.runs.specs.Prelude.{NamedFile, named_files, run_view};
 
 use crate::inputs::{FileFault, read_inputs};
 use crate::merged_text::merged_text;

@@ -1,13 +1,8 @@
 //! msgcat as a whole: its inputs are read, and their run is written.
 ghost use Rattle.std.specs.Prelude.{◌≡◌, ◌≢◌, ◌⊎◌, ◌^◌, ◌<◌, All, Err, IfErr, IfOk, IfSome, List, None, Some, [], false, map};
-ghost use Rattle.po_entry.specs.Texts.{Lacks};
-ghost use Rattle.msgcat.specs.Inputs.{Named};
-ghost use Rattle.msgcat.specs.Msgcat.{AreReadAs, HasNulName, IsMsgcatRun, IsUnread, IsUnreadBeforeNul};
-ghost use Rattle.msgcat.specs.WholeRun.{RunsMsgcat};
-ghost use Rattle.runs.specs.Inputs.{AsksFirst, asked_by, named_inputs};
-ghost use Rattle.runs.specs.ProgramFaults.{program_text};
-ghost use Rattle.runs.specs.Run.{run_view};
-ghost use Rattle.runs.specs.ToolRuns.{asking};
+ghost use Rattle.po_entry.specs.Prelude.{Lacks};
+ghost use Rattle.msgcat.specs.Prelude.{Named, AreReadAs, HasNulName, IsMsgcatRun, IsUnread, IsUnreadBeforeNul, RunsMsgcat};
+ghost use Rattle.runs.specs.Prelude.{AsksFirst, asked_by, named_inputs, program_text, run_view, asking};
 
 use crate::inputs::read_inputs;
 use crate::plan::{first_with_nul, plan_msgcat_before, run_of_read};

@@ -3,23 +3,16 @@ use Rattle.std.proofs.Common.{◌≡◌, ℕ, if◌then◌else◌, Bool, true, f
 use Rattle.std.specs.Borrow.{Bor}
 use Rattle.std.specs.Option.{is_some, option_map, option_or}
 use Rattle.std.proofs.lemmas.List.Elements.{All-cons, All-filter, All-head, All-nil, All-tail}
-use Rattle.mo_file.specs.Key.{key_of}
-use Rattle.mo_file.specs.MessageParts.{forms, id_of, plural_of}
-use Rattle.plural_rule.specs.PluralRule.{IsRuleOf, RuleView, expression_limit}
+use Rattle.mo_file.specs.Prelude.{key_of, forms, id_of, plural_of}
+use Rattle.plural_rule.specs.Prelude.{IsRuleOf, RuleView, expression_limit}
 use Rattle.plural_rule.specs.declared.rule.Source.{Source}
 use Rattle.plural_rule.specs.declared.rule.Source.TheVariants.{Header, Default}
-use Rattle.po_entry.specs.TextEntry.{TextEntry, plain_entry, with_line}
-use Rattle.po_entry.specs.Header.{first_form}
-use Rattle.po_entry.specs.Validity.{IsCatalogueEntry, IsEntry}
+use Rattle.po_entry.specs.Prelude.{TextEntry, plain_entry, with_line, first_form, IsCatalogueEntry, IsEntry, InputEntry, entries_of, joined, joined_entries}
 use Rattle.po_syntax.specs.Facts.Mapped.{find_map}
-use Rattle.po_entry.specs.Joined.{InputEntry, entries_of, joined, joined_entries}
-use Rattle.po_compile.specs.Collected.{compiled_inputs, compiled_message, compiled_view}
-use Rattle.po_compile.specs.Compiled.{is_compiled, original_of, translation_of}
+use Rattle.po_compile.specs.Prelude.{compiled_inputs, compiled_message, compiled_view, is_compiled, original_of, translation_of, TextsComeBack}
 use Rattle.po_compile.specs.declared.messages.CompiledMessage.{CompiledMessage}
-use Rattle.po_compile.specs.MessageLaws.{TextsComeBack}
-use Rattle.msgfmt.specs.Msgfmt.{AreChecked}
+use Rattle.msgfmt.specs.Prelude.{AreChecked, IsChecked, Reported, checked_message, checked_messages, count_fault, counts_below, entry_fault, first_fault, first_some, is_header_entry, is_plural, rule_fault, taken_entry}
 use Rattle.msgfmt.specs.declared.profile.CheckFault.TheVariants.{NoHeader}
-use Rattle.msgfmt.specs.Profile.{IsChecked, Reported, checked_message, checked_messages, count_fault, counts_below, entry_fault, first_fault, first_some, is_header_entry, is_plural, rule_fault, taken_entry}
 
 -- what the check sees of an entry
 abbrev seen : InputEntry → InputEntry

@@ -13,19 +13,17 @@ use Rattle.std.proofs.lemmas.List.Folds.{Any-from_list_any, list_any-from_Any}
 use Rattle.std.proofs.lemmas.List.FromFn.{get_or-range_with_len, length-range_with_len}
 use Rattle.std.proofs.lemmas.Option.{none-some}
 use Rattle.po_syntax.specs.Facts.Runs.{from_end}
-use Rattle.po_entry.specs.TextEntry.{TextEntry}
-use Rattle.po_entry.specs.Joined.{InputEntry}
+use Rattle.po_entry.specs.Prelude.{TextEntry, InputEntry}
 use Rattle.po_compile.proofs.Filters.{split_at}
-use Rattle.plural_rule.specs.Expression.{value}
-use Rattle.plural_rule.specs.PluralRule.{RuleView}
+use Rattle.plural_rule.specs.Prelude.{value, RuleView}
 use Rattle.plural_rule.specs.declared.rule.Source.{Source}
 use Rattle.plural_rule.specs.declared.rule.Source.TheVariants.{Header, Default}
 use Rattle.msgfmt.specs.declared.profile.End.{End}
 use Rattle.msgfmt.specs.declared.profile.End.TheVariants.{Beginning, Ending}
 use Rattle.msgfmt.specs.declared.profile.CheckFault.{CheckFault}
 use Rattle.msgfmt.specs.declared.profile.CheckFault.TheVariants.{NoRule, FormCount, LeadingNewline, TrailingNewline, Undefined, IndexOutside}
-use Rattle.msgfmt.specs.Profile.{Reported, first_some, is_plural, is_header_entry, rule_fault, has_newline, differ, differs_from_msgid, entry_fault, value_fault, count_fault, counts_below, first_fault}
-use Rattle.msgfmt.specs.ProfileFaults.{HasNewline, Differ, DiffersAt, HasOtherCount, EntryFault, count, leading, trailing, HasProfileFault, CountFault, undefined, outside, HasPlural, IsFirst, NeedsNoOtherRule, FirstFault, no_rule, in_entry, at_count}
+use Rattle.msgfmt.specs.Prelude.{Reported, first_some, is_plural, is_header_entry, rule_fault, has_newline, differ, differs_from_msgid, entry_fault, value_fault, count_fault, counts_below, first_fault, HasNewline, Differ, DiffersAt, HasOtherCount, EntryFault, HasProfileFault, CountFault, HasPlural, IsFirst, NeedsNoOtherRule, FirstFault}
+use Rattle.msgfmt.specs.ProfileFaults.{count, leading, trailing, undefined, outside, no_rule, in_entry, at_count}
 
 -- what a test decides, and the choice by it
 

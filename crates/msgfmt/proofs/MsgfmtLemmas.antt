@@ -2,16 +2,12 @@
 use Rattle.std.proofs.Common.{◌≡◌, ◌≢◌, Bool, true, false, List, length, sym, ap, subst, ◌∙◌, inl, inr, arith}
 use Rattle.std.proofs.lemmas.List.{length-map}
 use Rattle.std.proofs.lemmas.Slice.Zip.{AllZip-long}
-use Rattle.po_entry.specs.ReadsText.{ReadsText}
-use Rattle.po_entry.specs.Joined.{joined_entries}
-use Rattle.po_compile.specs.Accepted.{IsCompileFault}
-use Rattle.po_compile.specs.Collected.{LiveMessage, live_messages, AreCollected}
-use Rattle.po_compile.specs.Compiling.{IsCompilation}
+use Rattle.po_entry.specs.Prelude.{ReadsText, joined_entries}
+use Rattle.po_compile.specs.Prelude.{IsCompileFault, LiveMessage, live_messages, AreCollected, IsCompilation}
 use Rattle.po_compile.specs.declared.options.Options.{Options}
 use Rattle.msgfmt.specs.declared.options.MsgfmtOptions.{MsgfmtOptions}
-use Rattle.msgfmt.specs.Msgfmt.{NoneRefused, IsMsgfmtRun, IsRefused, compile_options, input_texts}
-use Rattle.runs.specs.Inputs.{NamedFile}
-use Rattle.runs.specs.Run.{RunView}
+use Rattle.msgfmt.specs.Prelude.{NoneRefused, IsMsgfmtRun, IsRefused, compile_options, input_texts}
+use Rattle.runs.specs.Prelude.{NamedFile, RunView}
 
 -- each input is collected
 pub collected-count : (use_fuzzy : Bool) (inputs : List NamedFile) (collected : List (List LiveMessage))

@@ -2,7 +2,7 @@
 use Rattle.std.proofs.Common.{◌≡◌, ℕ, ◌+◌, ◌-◌, ◌<◌, suc, Option, refl, arith}
 use Rattle.std.specs.List.{range_with_len}
 use Rattle.std.specs.Option.{option_or}
-use Rattle.msgfmt.specs.Profile.{first_some}
+use Rattle.msgfmt.specs.Prelude.{first_some}
 
 -- a range begins with its first count
 pub first_some-range : {B : Type 0} (f : ℕ → Option B) (c n : ℕ) → c < n

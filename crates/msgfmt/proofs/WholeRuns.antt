@@ -2,12 +2,9 @@
 use Rattle.std.proofs.Common.{◌≡◌, ◌≢◌, ◌⊎◌, List, None, Some, Option, option_map, refl, ap, inl, inr, ⊎_elim}
 use Rattle.runs.specs.declared.program_fault.ProgramFault.{ProgramFault}
 use Rattle.runs.specs.declared.program_fault.ProgramFault.TheVariants.{OutOfMemory, WrongArguments}
-use Rattle.runs.specs.Inputs.{NamedFile}
-use Rattle.runs.specs.ProgramFaults.{program_text}
-use Rattle.runs.specs.Run.{RunView}
+use Rattle.runs.specs.Prelude.{NamedFile, program_text, RunView}
 use Rattle.msgfmt.specs.declared.options.MsgfmtOptions.{MsgfmtOptions}
-use Rattle.msgfmt.specs.Msgfmt.{AreWrong, IsMsgfmtRun, IsRefused, NoneRefused}
-use Rattle.msgfmt.specs.WholeRun.{HaveNoRun, IsRunOf}
+use Rattle.msgfmt.specs.Prelude.{AreWrong, IsMsgfmtRun, IsRefused, NoneRefused, HaveNoRun, IsRunOf}
 
 pub planned : (inputs : List NamedFile) (o : MsgfmtOptions) (run : RunView) (next : Option ProgramFault)
     → (next ≡ None → IsMsgfmtRun inputs o run) → (next ≢ None → IsRefused inputs o run)

@@ -4,3 +4,4 @@ pub mod ProfileFaults
 pub mod Options
 pub mod WholeRun
 pub mod Internal
+pub mod Prelude

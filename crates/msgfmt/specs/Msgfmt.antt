@@ -3,22 +3,16 @@ use Rattle.std.specs.Prelude.{◌≡◌, ◌≢◌, ◌⊎◌, ◌^◌, ◌≤�
 use Rattle.std.specs.Option.{option_map_or}
 use Rattle.po_syntax.specs.declared.fault.PoFault.{PoFault}
 use Rattle.po_syntax.specs.declared.fault.PoFault.TheVariants.{Duplicate, OutOfMemory as NoMemory}
-use Rattle.po_entry.specs.TextEntry.{TextEntry}
-use Rattle.po_entry.specs.Joined.{joined, joined_entries}
-use Rattle.po_entry.specs.Statistics.{stats_line, stats_of}
+use Rattle.po_entry.specs.Prelude.{TextEntry, joined, joined_entries, stats_line, stats_of}
 use Rattle.po_entry.specs.declared.duplicate.JoinError.{JoinError}
-use Rattle.po_compile.specs.Accepted.{AreCompiled, AreRead, IsCompileFault}
-use Rattle.po_compile.specs.Collected.{compiled_inputs}
-use Rattle.po_compile.specs.Compiling.{IsCompilation}
+use Rattle.po_compile.specs.Prelude.{AreCompiled, AreRead, IsCompileFault, compiled_inputs, IsCompilation}
 use Rattle.po_compile.specs.declared.options.Compiled.{Compiled}
 use Rattle.po_compile.specs.declared.options.Options.{Options}
 use Rattle.msgfmt.specs.declared.options.MsgfmtOptions.{MsgfmtOptions}
 use Rattle.msgfmt.specs.declared.profile.CheckFault.{CheckFault}
 use Rattle.msgfmt.specs.declared.profile.CheckFault.TheVariants.{NoHeader, NoRule, FormCount, LeadingNewline, TrailingNewline, Undefined, IndexOutside, OutOfMemory}
-use Rattle.runs.specs.FaultText.{po_text, duplicate_text, fault_line}
-use Rattle.runs.specs.Inputs.{NamedFile}
+use Rattle.runs.specs.Prelude.{po_text, duplicate_text, fault_line, NamedFile, RunView, refusal}
 use Rattle.msgfmt.specs.Profile.{IsChecked, Reported}
-use Rattle.runs.specs.Run.{RunView, refusal}
 
 -- the options with which inputs are compiled
 abbrev pub compile_options : MsgfmtOptions → Options

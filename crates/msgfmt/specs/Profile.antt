@@ -3,15 +3,11 @@
 use Rattle.std.specs.Prelude.{◌≡◌, MatchOption, ℕ, ◌-◌, ◌==◌, slice_get, Bool, true, false, not, ◌&&◌, nat_lt, List, [], ◌∷◌, ◌++◌, length, find, map, Option, None, Some, if◌then◌else◌}
 use Rattle.std.specs.List.{list_any, range_with_len}
 use Rattle.std.specs.Option.{is_some, option_or, option_to_list, option_map_or}
-use Rattle.mo_file.specs.Key.{key_of}
-use Rattle.mo_file.specs.MessageParts.{context_of, forms, id_of, plural_of}
-use Rattle.po_entry.specs.TextEntry.{TextEntry, plain_entry, with_line}
-use Rattle.po_entry.specs.Header.{is_header, first_form}
-use Rattle.po_entry.specs.Joined.{InputEntry}
-use Rattle.po_compile.specs.Collected.{CompiledView, compiled_view}
+use Rattle.mo_file.specs.Prelude.{key_of, context_of, forms, id_of, plural_of}
+use Rattle.po_entry.specs.Prelude.{TextEntry, plain_entry, with_line, is_header, first_form, InputEntry}
+use Rattle.po_compile.specs.Prelude.{CompiledView, compiled_view}
 use Rattle.po_compile.specs.declared.messages.CompiledMessage.{CompiledMessage}
-use Rattle.plural_rule.specs.Expression.{value}
-use Rattle.plural_rule.specs.PluralRule.{RuleView, IsRuleOf, expression_limit}
+use Rattle.plural_rule.specs.Prelude.{value, RuleView, IsRuleOf, expression_limit}
 use Rattle.plural_rule.specs.declared.rule.Source.{Source}
 use Rattle.plural_rule.specs.declared.rule.Source.TheVariants.{Header, Default}
 use Rattle.msgfmt.specs.declared.profile.End.{End}

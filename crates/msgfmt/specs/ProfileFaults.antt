@@ -2,11 +2,8 @@
 -- msgfmt Program": the checks of msgfmt).
 use Rattle.std.specs.Prelude.{◌≡◌, ◌≢◌, ◌⊎◌, ℕ, ◌<◌, ◌≤◌, false, List, [], ◌∷◌, ◌++◌, length, All, Contains, None, Some}
 use Rattle.std.specs.Option.{option_to_list}
-use Rattle.po_entry.specs.TextEntry.{TextEntry}
-use Rattle.po_entry.specs.Header.{is_header}
-use Rattle.po_entry.specs.Joined.{InputEntry}
-use Rattle.plural_rule.specs.Expression.{value}
-use Rattle.plural_rule.specs.PluralRule.{RuleView}
+use Rattle.po_entry.specs.Prelude.{TextEntry, is_header, InputEntry}
+use Rattle.plural_rule.specs.Prelude.{value, RuleView}
 use Rattle.plural_rule.specs.declared.rule.Reason.{Reason}
 use Rattle.plural_rule.specs.declared.rule.Source.TheVariants.{Header, Default}
 use Rattle.msgfmt.specs.declared.profile.End.{End}

@@ -3,10 +3,7 @@ use Rattle.std.specs.Prelude.{◌≡◌, ◌⊎◌, ℕ, List, Option, None, Som
 use Rattle.msgfmt.specs.declared.options.MsgfmtOptions.{MsgfmtOptions}
 use Rattle.msgfmt.specs.Msgfmt.{AreWrong, IsMsgfmtRun, IsRefused, NoneRefused}
 use Rattle.runs.specs.declared.program_fault.ProgramFault.{ProgramFault}
-use Rattle.runs.specs.Inputs.{NamedFile}
-use Rattle.runs.specs.Outputs.{SystemView}
-use Rattle.runs.specs.Run.{RunView}
-use Rattle.runs.specs.ToolRuns.{Asking, Planning, RunsInputs}
+use Rattle.runs.specs.Prelude.{NamedFile, SystemView, RunView, Asking, Planning, RunsInputs}
 
 -- what is planned of inputs: the run of all; or, where the next one can't be read, the refusal of these
 abbrev pub IsPlanOf : MsgfmtOptions → List NamedFile → Option (List ℕ) → RunView → Type 0

@@ -1,9 +1,8 @@
 //! Why inputs aren't compiled, and what the check finds, as the line that reports it, and as the
 //! run of it.
 ghost use Rattle.std.specs.Prelude.{◌≡◌, ◌≢◌, ◌++◌, IfOk, OnOk};
-ghost use Rattle.po_entry.specs.TextEntry.{slice_texts};
-ghost use Rattle.runs.specs.FaultText.{duplicate_text};
-ghost use Rattle.runs.specs.Run.{refusal, run_view};
+ghost use Rattle.po_entry.specs.Prelude.{slice_texts};
+ghost use Rattle.runs.specs.Prelude.{duplicate_text, refusal, run_view};
 ghost use Rattle.msgfmt.specs.Msgfmt as Spec;
 
 use crate::profile::CheckFault;

@@ -1,10 +1,9 @@
 //! Laws of the profile's check, each the contract of a function that does nothing: a call brings
 //! the law into a proof.
 ghost use Rattle.std.specs.Prelude.{◌≡◌, ◌↔◌, List, Some};
-ghost use Rattle.plural_rule.specs.PluralRule.{RuleView};
-ghost use Rattle.po_entry.specs.Joined.{InputEntry};
-ghost use Rattle.msgfmt.specs.Profile.{Reported, first_fault};
-ghost use Rattle.msgfmt.specs.ProfileFaults.{FirstFault};
+ghost use Rattle.plural_rule.specs.Prelude.{RuleView};
+ghost use Rattle.po_entry.specs.Prelude.{InputEntry};
+ghost use Rattle.msgfmt.specs.Prelude.{Reported, first_fault, FirstFault};
 
 /// The check of messages that have a header with this rule finds the first of their faults: that
 /// there is no readable rule, that of an entry, or that of the rule's value at a count.

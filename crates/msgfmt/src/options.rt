@@ -1,7 +1,7 @@
 //! What the options of a command line mean for msgfmt.
 ghost use Rattle.std.specs.Prelude.{◌≡◌};
 ghost use Rattle.std.specs.Option.{option_copied};
-ghost use Rattle.msgfmt.specs.Options.{AreMsgfmtOptions, order_of};
+ghost use Rattle.msgfmt.specs.Prelude.{AreMsgfmtOptions, order_of};
 
 use mo_file::Order;
 use runs::Arguments;

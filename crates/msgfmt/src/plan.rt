@@ -1,11 +1,9 @@
 //! What msgfmt writes and reports: the MO file of PO texts.
 ghost use Rattle.std.specs.Prelude.{◌≡◌, ◌^◌, ◌<◌, List, length, IfOk, OnErr, Err};
-ghost use Rattle.po_entry.specs.TextEntry.{slice_texts};
-ghost use Rattle.po_entry.specs.Statistics.{stats_line};
-ghost use Rattle.runs.specs.Inputs.{NamedFile, named_files};
+ghost use Rattle.po_entry.specs.Prelude.{slice_texts, stats_line};
+ghost use Rattle.runs.specs.Prelude.{NamedFile, named_files, run_view};
 ghost use Rattle.msgfmt.specs.Internal.Gathered.{HoldInputs, IsGathered};
 ghost use Rattle.msgfmt.specs.Msgfmt as Spec;
-ghost use Rattle.runs.specs.Run.{run_view};
 
 use crate::fault_lines::{failed_check_run, refused_run};
 use crate::options::MsgfmtOptions;

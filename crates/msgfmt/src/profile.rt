@@ -1,9 +1,9 @@
 //! What `--profile-check` finds wrong with the messages that inputs are compiled to.
 ghost use Rattle.std.specs.Prelude.{◌≡◌, ◌⊎◌, ◌^◌, ◌<◌, None, Some, IfErr, OnOk, find, length, option_map};
 ghost use Rattle.std.specs.List.{list_any};
-ghost use Rattle.mo_file.specs.MessageParts.{forms};
-ghost use Rattle.po_compile.specs.Collected.{OfAllInputs};
-ghost use Rattle.msgfmt.specs.Msgfmt.{AreChecked};
+ghost use Rattle.mo_file.specs.Prelude.{forms};
+ghost use Rattle.po_compile.specs.Prelude.{OfAllInputs};
+ghost use Rattle.msgfmt.specs.Prelude.{AreChecked};
 ghost use Rattle.msgfmt.specs.Profile as Spec;
 ghost use Rattle.msgfmt.specs.declared.profile.CheckFault.TheVariants.{OutOfMemory};
 

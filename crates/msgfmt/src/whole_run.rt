@@ -1,11 +1,8 @@
 //! msgfmt as a whole: the inputs of its command line are read, also where one can't be, and their
 //! run is planned and written.
 ghost use Rattle.std.specs.Prelude.{◌≡◌, ◌≢◌, ◌⊎◌, ◌^◌, ◌<◌, [], None, Some, Err, IfOk, IfErr, IfSome, OnOk, false, length, map};
-ghost use Rattle.msgfmt.specs.Msgfmt.{AreWrong, IsMsgfmtRun, IsRefused, NoneRefused};
-ghost use Rattle.msgfmt.specs.WholeRun.{RunsMsgfmt};
-ghost use Rattle.runs.specs.Inputs.{AsksFirst, asked_by, named_inputs};
-ghost use Rattle.runs.specs.Run.{run_view};
-ghost use Rattle.runs.specs.ToolRuns.{asking};
+ghost use Rattle.msgfmt.specs.Prelude.{AreWrong, IsMsgfmtRun, IsRefused, NoneRefused, RunsMsgfmt};
+ghost use Rattle.runs.specs.Prelude.{AsksFirst, asked_by, named_inputs, run_view, asking};
 
 use crate::options::MsgfmtOptions;
 use crate::plan::{gather, gathered_run};

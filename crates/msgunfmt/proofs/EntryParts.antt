@@ -4,12 +4,10 @@ use Rattle.std.specs.List.{AllZip, join_with_byte, onto_first}
 use Rattle.std.proofs.lemmas.Bool.Decides.{Decides-eqb}
 use Rattle.std.proofs.lemmas.List.Splits.{join_with_byte-slice_split, slice_split-cons_no, slice_split-cons_yes}
 use Rattle.std.proofs.lemmas.List.Elements.{All-cons, All-head, All-nil, All-tail}
-use Rattle.mo_file.specs.Key.{is_nul, key_of}
-use Rattle.mo_file.specs.Message.{Message}
-use Rattle.mo_file.specs.MessageParts.{context_of, forms, id_of, plural_of}
-use Rattle.po_entry.specs.Texts.{Lacks}
-use Rattle.msgunfmt.specs.MessageParts.{ContainsMsgid, msgid_alone, after_context, IsAfterPart, at_end, at_nul, ContainsKey, key_alone, before_plural, ContainsForms, first_part, each_part, IsEntryOf}
-use Rattle.msgunfmt.specs.Unformatted.{taken_forms, unformatted}
+use Rattle.mo_file.specs.Prelude.{is_nul, key_of, Message, context_of, forms, id_of, plural_of}
+use Rattle.po_entry.specs.Prelude.{Lacks}
+use Rattle.msgunfmt.specs.Prelude.{ContainsMsgid, IsAfterPart, ContainsKey, ContainsForms, IsEntryOf, taken_forms, unformatted}
+use Rattle.msgunfmt.specs.MessageParts.{msgid_alone, after_context, at_end, at_nul, key_alone, before_plural, first_part, each_part}
 use Rattle.mo_file.proofs.CutLemmas.{before_all, before_is, context_cut, context_none, id_all, id_cut, first_all, first_cut, plural_cut, plural_none}
 
 -- a text has a first such byte, or none

@@ -2,18 +2,14 @@
 use Rattle.std.proofs.Common.{◌≡◌, ℕ, List, [], ◌∷◌, ap, refl, sym, ◌∙◌, subst, get_or}
 use Rattle.std.proofs.lemmas.List.Elements.{All-weaker}
 use Rattle.std.proofs.lemmas.Option.{get_or_from_slice_get, slice_get_within}
-use Rattle.mo_file.specs.Laws.{OneMessageList}
-use Rattle.mo_file.specs.Message.{Message}
+use Rattle.mo_file.specs.Prelude.{OneMessageList, Message}
 use Rattle.po_syntax.specs.declared.fault.PoFault.{PoFault}
 use Rattle.po_syntax.specs.declared.fault.PoFault.TheVariants.{NotUtf8 as BadText, ForbiddenByte as BadByte}
-use Rattle.po_entry.specs.TextEntry.{TextEntry}
-use Rattle.po_entry.specs.Header.{HasAdmittedCharset}
-use Rattle.po_entry.specs.Validity.{IsCatalogueEntry}
+use Rattle.po_entry.specs.Prelude.{TextEntry, HasAdmittedCharset, IsCatalogueEntry}
 use Rattle.po_entry.proofs.TextsFaults.{no_texts_fault}
-use Rattle.po_writer.specs.WrittenText.{written_text}
+use Rattle.po_writer.specs.Prelude.{written_text}
 use Rattle.msgunfmt.specs.declared.fault.UnformatError.TheVariants.{Mo, NotUtf8, ForbiddenByte, ForeignCharset, OutOfMemory}
-use Rattle.msgunfmt.specs.RoundTrip.{EmptyText, NoFaultWhereUnformatted, OneText}
-use Rattle.msgunfmt.specs.Unformatted.{unformatted, AreWrittenAs, HasFirstEntryTextFault, HasForeignCharset, IsFileOf}
+use Rattle.msgunfmt.specs.Prelude.{EmptyText, NoFaultWhereUnformatted, OneText, unformatted, AreWrittenAs, HasFirstEntryTextFault, HasForeignCharset, IsFileOf}
 use Rattle.msgunfmt.proofs.MessageLemmas.{texts_of}
 
 -- messages that are written have no fault in their texts

@@ -2,22 +2,16 @@
 use Rattle.std.proofs.Common.{◌≡◌, ◌≢◌, ◌↔◌, ◌∙◌, ℕ, ◌<◌, Bool, true, List, [], ◌∷◌, ◌++◌, Option, Some, sym, ap, ap₂, subst, get_or, length, map, take, slice_get, arith, All}
 use Rattle.std.specs.Prelude.{option_to_list}
 use Rattle.std.proofs.lemmas.List.Elements.{All-append, All-cons, All-head, All-nil, All-tail}
-use Rattle.mo_file.specs.Key.{key_of}
-use Rattle.mo_file.specs.Message.{Message}
-use Rattle.mo_file.specs.MessageParts.{context_of, forms, id_of, plural_of}
-use Rattle.po_entry.specs.Texts.{Lacks}
+use Rattle.mo_file.specs.Prelude.{key_of, Message, context_of, forms, id_of, plural_of}
+use Rattle.po_entry.specs.Prelude.{Lacks, HasAdmittedCharset, Adds, AreLaid, CanLie, LiesIn, entries_in, entry_at, message_entry, row_of, TextEntry, plain_entry, quoted_texts, HasTexts}
 use Rattle.po_syntax.specs.Facts.AllAppend.{All-left, All-right}
-use Rattle.po_entry.specs.Header.{HasAdmittedCharset}
-use Rattle.po_entry.specs.Rows.{Adds, AreLaid, CanLie, LiesIn, entries_in, entry_at, message_entry, row_of}
-use Rattle.po_entry.specs.TextEntry.{TextEntry, plain_entry, quoted_texts}
-use Rattle.po_entry.specs.Validity.{HasTexts}
 use Rattle.po_entry.specs.declared.drafts.Drafts.{Drafts}
 use Rattle.po_entry.specs.declared.row.Row.{Row}
 use Rattle.msgunfmt.specs.declared.fault.UnformatError.{UnformatError}
 use Rattle.msgunfmt.specs.Internal.Laid.{AppendsEntry, AppendsMessage, HasOneMore, HoldsMessage}
 use Rattle.msgunfmt.specs.Internal.Refused.{RefusesEntry, RefusesMessage}
-use Rattle.msgunfmt.specs.MessageParts.{ContainsForms, ContainsKey, ContainsMsgid, after_context, before_plural, each_part, first_part, key_alone, msgid_alone}
-use Rattle.msgunfmt.specs.Unformatted.{entry_of_message, taken_forms, unformatted}
+use Rattle.msgunfmt.specs.Prelude.{ContainsForms, ContainsKey, ContainsMsgid, entry_of_message, taken_forms, unformatted}
+use Rattle.msgunfmt.specs.MessageParts.{after_context, before_plural, each_part, first_part, key_alone, msgid_alone}
 use Rattle.mo_file.proofs.CutLemmas.{split_none}
 use Rattle.msgunfmt.proofs.EntryParts.{entries_are, parts_of}
 use Rattle.msgunfmt.proofs.MessageLemmas.{message_valid}

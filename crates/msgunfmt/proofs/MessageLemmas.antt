@@ -5,21 +5,16 @@ use Rattle.std.proofs.lemmas.List.Elements.{All-nil, All-more, All-map, All-take
 use Rattle.std.proofs.lemmas.Option.{get_or_from_slice_get, slice_get_within}
 use Rattle.std.specs.Prelude.{IsUtf8}
 use Rattle.std.proofs.lemmas.List.Splits.{length-slice_split}
-use Rattle.mo_file.specs.Key.{is_nul, key_of}
-use Rattle.mo_file.specs.Message.{Message, originals, translations}
-use Rattle.mo_file.specs.MessageParts.{context_of, forms, id_of, plural_of}
+use Rattle.mo_file.specs.Prelude.{is_nul, key_of, Message, originals, translations, context_of, forms, id_of, plural_of}
 use Rattle.po_syntax.specs.declared.fault.PoFault.{PoFault}
-use Rattle.po_entry.specs.TextEntry.{TextEntry, plain_entry, quoted_texts}
-use Rattle.po_entry.specs.Texts.{Lacks}
-use Rattle.po_entry.specs.Header.{HasAdmittedCharset}
-use Rattle.po_entry.specs.Validity.{HasTexts, IsCatalogueEntry, IsEntry, IsFlag, IsReference, IsTranslatorComment, EntryTextFault}
-use Rattle.po_syntax.specs.TextItem.{IsComment, IsText}
+use Rattle.po_entry.specs.Prelude.{TextEntry, plain_entry, quoted_texts, Lacks, HasAdmittedCharset, HasTexts, IsCatalogueEntry, IsEntry, IsFlag, IsReference, IsTranslatorComment, EntryTextFault}
+use Rattle.po_syntax.specs.Prelude.{IsComment, IsText}
 use Rattle.po_entry.specs.Validity.EntryTextFault.{not_utf8, forbidden}
 use Rattle.msgunfmt.specs.declared.fault.UnformatError.{UnformatError}
 use Rattle.msgunfmt.specs.declared.fault.UnformatError.TheVariants.{Mo, NotUtf8, ForbiddenByte, ForeignCharset, OutOfMemory}
 use Rattle.msgunfmt.specs.Internal.Refused.{RefusesEntry, RefusesMessages, error_at}
-use Rattle.po_writer.specs.WrittenText.{written_text}
-use Rattle.msgunfmt.specs.Unformatted.{entry_of_message, taken_forms, unformatted, AreWrittenAs, HasForeignCharset}
+use Rattle.po_writer.specs.Prelude.{written_text}
+use Rattle.msgunfmt.specs.Prelude.{entry_of_message, taken_forms, unformatted, AreWrittenAs, HasForeignCharset}
 
 -- the texts of an entry can stand in it
 pub texts_of : (entry : TextEntry) → IsEntry entry → HasTexts entry

@@ -8,30 +8,15 @@ use Rattle.std.proofs.lemmas.List.Elements.{All-filter, All-head, All-map, All-t
 use Rattle.std.proofs.lemmas.List.Folds.{map_fixed}
 use Rattle.std.proofs.lemmas.List.Sorted.{All-permutation, IsPermutation-refl}
 use Rattle.std.proofs.lemmas.Simd.{map-map}
-use Rattle.mo_file.specs.Key.{key_of}
-use Rattle.mo_file.specs.Layout.{layout}
-use Rattle.mo_file.specs.Message.{Message}
-use Rattle.mo_file.specs.MessageParts.{forms, id_of, plural_of}
-use Rattle.po_syntax.specs.PoText.{IsSmall}
-use Rattle.po_entry.specs.TextEntry.{TextEntry, previous_texts, quoted_texts, with_line, plain_entry as bare_entry}
+use Rattle.mo_file.specs.Prelude.{key_of, layout, Message, forms, id_of, plural_of}
+use Rattle.po_syntax.specs.Prelude.{IsSmall, IsText}
+use Rattle.po_entry.specs.Prelude.{TextEntry, previous_texts, quoted_texts, with_line, plain_entry as bare_entry, is_header, ReadsText, IsCatalogueEntry, IsEntry, AllDiffer, HasNoDuplicate, ReadsDistinct, is_live, joined_entries, has_translation}
 use Rattle.po_syntax.specs.Facts.AllAppend.{All-right}
-use Rattle.po_entry.specs.Header.{is_header}
-use Rattle.po_entry.specs.ReadsText.{ReadsText}
-use Rattle.po_entry.specs.Validity.{IsCatalogueEntry, IsEntry}
-use Rattle.po_syntax.specs.TextItem.{IsText}
-use Rattle.po_writer.specs.WrittenText.{arranged, written_text}
-use Rattle.po_entry.specs.Duplicate.{AllDiffer, HasNoDuplicate, ReadsDistinct}
-use Rattle.po_entry.specs.Joined.{is_live, joined_entries}
-use Rattle.po_entry.specs.Statistics.{has_translation}
-use Rattle.po_compile.specs.Compiled.{compiled_list, is_compiled, AreMessagesOf, message_of, original_of, translation_of}
-use Rattle.po_compile.specs.Compiling.{HasSmallLayout, IsCompilation}
-use Rattle.po_compile.specs.Accepted.{AreAccepted}
-use Rattle.po_compile.specs.Headline.{LookUpMeansEntries, MessagesAreOne}
-use Rattle.po_compile.specs.MessageLaws.{ComesBack, JoinedEntriesCanStand, MessagesDiffer, OneTextIsRead, TextsComeBack}
+use Rattle.po_writer.specs.Prelude.{arranged, written_text}
+use Rattle.po_compile.specs.Prelude.{compiled_list, is_compiled, AreMessagesOf, message_of, original_of, translation_of, HasSmallLayout, IsCompilation, AreAccepted, LookUpMeansEntries, MessagesAreOne, ComesBack, JoinedEntriesCanStand, MessagesDiffer, OneTextIsRead, TextsComeBack}
 use Rattle.po_compile.specs.declared.options.Compiled.{Compiled}
 use Rattle.po_compile.specs.declared.options.Options.{Options}
-use Rattle.msgunfmt.specs.RoundTrip.{CompilesTo, UnformatThenCompile}
-use Rattle.msgunfmt.specs.Unformatted.{entry_of_message, taken_forms, unformatted}
+use Rattle.msgunfmt.specs.Prelude.{CompilesTo, UnformatThenCompile, entry_of_message, taken_forms, unformatted}
 use Rattle.msgunfmt.proofs.MessageLemmas.{plain_valid}
 
 -- the texts of an entry alone

@@ -2,24 +2,17 @@
 use Rattle.std.proofs.Common.{◌≡◌, ◌≢◌, ◌⊎◌, ℕ, ◌<◌, suc, List, [], ◌∷◌, Option, None, Some, refl, length, take, slice_get, arith, All, inl, inr}
 use Rattle.std.proofs.lemmas.List.Elements.{All-cons, All-head, All-nil, All-tail}
 use Rattle.std.proofs.lemmas.List.Splits.{length-slice_split}
-use Rattle.mo_file.specs.Key.{is_nul, key_of}
+use Rattle.mo_file.specs.Prelude.{is_nul, key_of, IsMoFile, MoFileOrFault, Message, context_of, forms, id_of, plural_of}
 use Rattle.mo_file.specs.declared.byte_order.Order.{Order}
-use Rattle.mo_file.specs.MoFile.{IsMoFile}
-use Rattle.mo_file.specs.Laws.{MoFileOrFault}
-use Rattle.mo_file.specs.Message.{Message}
-use Rattle.mo_file.specs.MessageParts.{context_of, forms, id_of, plural_of}
 use Rattle.po_syntax.specs.declared.fault.PoFault.{PoFault}
-use Rattle.po_entry.specs.TextEntry.{TextEntry, quoted_texts}
-use Rattle.po_entry.specs.Header.{HasAdmittedCharset}
-use Rattle.po_entry.specs.Validity.{HasTexts, IsEntry, EntryTextFault}
-use Rattle.po_syntax.specs.TextItem.{IsText}
+use Rattle.po_entry.specs.Prelude.{TextEntry, quoted_texts, HasAdmittedCharset, HasTexts, IsEntry, EntryTextFault}
+use Rattle.po_syntax.specs.Prelude.{IsText}
 use Rattle.po_entry.specs.Validity.EntryTextFault.{not_utf8, forbidden}
-use Rattle.po_writer.specs.WrittenText.{written_text}
+use Rattle.po_writer.specs.Prelude.{written_text}
 use Rattle.msgunfmt.specs.declared.fault.UnformatError.{UnformatError}
 use Rattle.msgunfmt.specs.declared.fault.UnformatError.TheVariants.{Mo, NotUtf8, ForbiddenByte, ForeignCharset, OutOfMemory}
-use Rattle.msgunfmt.specs.RoundTrip.{TextOrFault}
+use Rattle.msgunfmt.specs.Prelude.{TextOrFault, entry_of_message, taken_forms, unformatted, AreWrittenAs, IsUnformatFault}
 use Rattle.msgunfmt.specs.Internal.Refused.{RefusesMessages}
-use Rattle.msgunfmt.specs.Unformatted.{entry_of_message, taken_forms, unformatted, AreWrittenAs, IsUnformatFault}
 use Rattle.po_entry.proofs.Settled.{all_settled, texts_or_fault, charset_settled}
 use Rattle.msgunfmt.proofs.MessageLemmas.{catalogue_entries, message_valid}
 

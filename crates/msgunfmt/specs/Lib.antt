@@ -3,3 +3,4 @@ pub mod Unformatted
 pub mod RoundTrip
 pub mod MessageParts
 pub mod Internal
+pub mod Prelude

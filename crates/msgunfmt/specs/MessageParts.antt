@@ -2,9 +2,8 @@
 -- MO Files").
 use Rattle.std.specs.Prelude.{◌≡◌, ℕ, All, List, [], ◌∷◌, ◌++◌, Option, None, Some}
 use Rattle.std.specs.List.{AllZip, join_with_byte}
-use Rattle.mo_file.specs.Message.{Message}
-use Rattle.po_entry.specs.Texts.{Lacks}
-use Rattle.po_entry.specs.TextEntry.{TextEntry, plain_entry}
+use Rattle.mo_file.specs.Prelude.{Message}
+use Rattle.po_entry.specs.Prelude.{Lacks, TextEntry, plain_entry}
 use Rattle.msgunfmt.specs.Unformatted.{unformatted}
 
 -- a key: a msgid alone, or a context, the first EOT and a msgid

@@ -1,12 +1,10 @@
 -- What msgunfmt writes and reports (manual, "Invoking the msgunfmt Program").
 use Rattle.std.specs.Prelude.{◌≡◌, ◌≢◌, ◌⊎◌, nat_lt, ℕ, List, [], length, codes, decimal, ◌++◌, refl}
-use Rattle.mo_file.specs.Message.{Message}
+use Rattle.mo_file.specs.Prelude.{Message}
 use Rattle.msgunfmt.specs.Unformatted.{IsUnformatted, IsUnformatFault}
 use Rattle.msgunfmt.specs.declared.fault.UnformatError.{UnformatError}
 use Rattle.msgunfmt.specs.declared.fault.UnformatError.TheVariants.{Mo, NotUtf8, ForbiddenByte, ForeignCharset, OutOfMemory}
-use Rattle.runs.specs.FaultText.{fault_line, mo_text}
-use Rattle.runs.specs.Inputs.{NamedFile}
-use Rattle.runs.specs.Run.{RunView, refusal}
+use Rattle.runs.specs.Prelude.{fault_line, mo_text, NamedFile, RunView, refusal}
 
 -- why a file has no PO text
 abbrev pub unformat_text : UnformatError → List ℕ

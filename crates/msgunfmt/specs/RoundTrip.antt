@@ -1,12 +1,9 @@
 -- Laws of the PO text of an MO file: a compiled file comes back as the same bytes.
 use Rattle.std.specs.Prelude.{◌≡◌, ◌≢◌, ◌⊎◌, ◌↔◌, ℕ, Bool, List, [], ◌∷◌}
-use Rattle.mo_file.specs.Layout.{layout}
-use Rattle.mo_file.specs.Message.{Message}
-use Rattle.po_syntax.specs.PoText.{IsSmall}
-use Rattle.po_entry.specs.TextEntry.{TextEntry}
-use Rattle.po_entry.specs.Joined.{joined_entries}
-use Rattle.po_compile.specs.Compiled.{compiled_list, AreMessagesOf}
-use Rattle.po_compile.specs.Accepted.{AreAccepted, AreCompiled}
+use Rattle.mo_file.specs.Prelude.{layout, Message}
+use Rattle.po_syntax.specs.Prelude.{IsSmall}
+use Rattle.po_entry.specs.Prelude.{TextEntry, joined_entries}
+use Rattle.po_compile.specs.Prelude.{compiled_list, AreMessagesOf, AreAccepted, AreCompiled}
 use Rattle.po_compile.specs.declared.options.Compiled.{Compiled}
 use Rattle.po_compile.specs.declared.options.Options.{Options}
 use Rattle.msgunfmt.specs.Unformatted.{IsUnformatted, IsUnformatFault}

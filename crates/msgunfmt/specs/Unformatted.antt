@@ -1,18 +1,12 @@
 -- The entries of an MO file's messages (manual, "Invoking the msgunfmt Program" and "The Format of
 -- GNU MO Files").
 use Rattle.std.specs.Prelude.{ℕ, List, map, take, Option, None, Some, ◌≡◌, All, slice_get}
-use Rattle.mo_file.specs.Key.{key_of}
-use Rattle.mo_file.specs.Message.{Message}
-use Rattle.mo_file.specs.MessageParts.{context_of, forms, id_of, plural_of}
-use Rattle.po_entry.specs.TextEntry.{TextEntry, plain_entry}
+use Rattle.mo_file.specs.Prelude.{key_of, Message, context_of, forms, id_of, plural_of, IsMoFile, IsFirstFault}
+use Rattle.po_entry.specs.Prelude.{TextEntry, plain_entry, HasAdmittedCharset, HasTexts, IsCatalogueEntry, EntryTextFault}
 use Rattle.mo_file.specs.declared.byte_order.Order.{Order}
-use Rattle.mo_file.specs.MoFile.{IsMoFile}
-use Rattle.mo_file.specs.Fault.{IsFirstFault}
 use Rattle.po_syntax.specs.declared.fault.PoFault.{PoFault}
 use Rattle.po_syntax.specs.declared.fault.PoFault.TheVariants.{NotUtf8 as BadText, ForbiddenByte as BadByte}
-use Rattle.po_entry.specs.Header.{HasAdmittedCharset}
-use Rattle.po_entry.specs.Validity.{HasTexts, IsCatalogueEntry, EntryTextFault}
-use Rattle.po_writer.specs.WrittenText.{written_text}
+use Rattle.po_writer.specs.Prelude.{written_text}
 use Rattle.msgunfmt.specs.declared.fault.UnformatError.{UnformatError}
 use Rattle.msgunfmt.specs.declared.fault.UnformatError.TheVariants.{Mo, NotUtf8, ForbiddenByte, ForeignCharset, OutOfMemory}
 

@@ -1,8 +1,7 @@
 //! Laws of msgunfmt, each the contract of a function that does nothing: a call brings the law into
 //! a proof.
 
-ghost use Rattle.msgunfmt.specs.MessageParts.{EntriesAreOfMessages};
-ghost use Rattle.msgunfmt.specs.RoundTrip.{EmptyText, NoFaultWhereUnformatted, OneText, OneUnformatFault, TextOrFault, UnformatThenCompile};
+ghost use Rattle.msgunfmt.specs.Prelude.{EntriesAreOfMessages, EmptyText, NoFaultWhereUnformatted, OneText, OneUnformatFault, TextOrFault, UnformatThenCompile};
 
 use mo_file::laws::{mo_file_or_fault, one_first_fault, one_message_list};
 use po_compile::laws::{

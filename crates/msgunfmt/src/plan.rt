@@ -1,7 +1,7 @@
 //! What msgunfmt writes and reports: the PO text of an MO file.
 ghost use Rattle.std.specs.Prelude.{◌≡◌, ◌++◌, IfOk, OnOk, OnErr, Err};
-ghost use Rattle.msgunfmt.specs.Msgunfmt.{IsMsgunfmtRun, unformat_text};
-ghost use Rattle.runs.specs.Run.{run_view};
+ghost use Rattle.msgunfmt.specs.Prelude.{IsMsgunfmtRun, unformat_text};
+ghost use Rattle.runs.specs.Prelude.{run_view};
 
 use crate::fault::UnformatError;
 use crate::laws::empty_text;

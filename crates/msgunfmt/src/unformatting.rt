@@ -1,12 +1,11 @@
 //! The entries of messages, and the PO text of an MO file.
 
 ghost use Rattle.std.specs.Prelude.{◌≡◌, ◌<◌, [], All, IfErr, IfOk, MatchResult, OnOk, false, length, option_copied};
-ghost use Rattle.mo_file.specs.MessageParts.{forms};
-ghost use Rattle.po_entry.specs.Texts.{Lacks};
-ghost use Rattle.po_entry.specs.TextEntry.{quoted_texts};
+ghost use Rattle.mo_file.specs.Prelude.{forms};
+ghost use Rattle.po_entry.specs.Prelude.{Lacks, quoted_texts};
 ghost use Rattle.msgunfmt.specs.Internal.Laid.{AppendsEntry, AppendsMessage, HoldsMessage};
 ghost use Rattle.msgunfmt.specs.Internal.Refused.{RefusesEntry, RefusesMessage, RefusesMessages, error_at};
-ghost use Rattle.msgunfmt.specs.Unformatted.{taken_forms, AreWrittenAs, IsUnformatted, IsUnformatFault};
+ghost use Rattle.msgunfmt.specs.Prelude.{taken_forms, AreWrittenAs, IsUnformatted, IsUnformatFault};
 
 use crate::fault::UnformatError;
 use mo_file::{Meter, MoView, first_part, key_parts, original_parts};

@@ -5,8 +5,9 @@ use Rattle.plural_rule.specs.declared.operator.Operator.{Operator}
 use Rattle.plural_rule.specs.declared.operator.Operator.TheVariants.{Or}
 use Rattle.plural_rule.specs.declared.token.Token.{Token}
 use Rattle.plural_rule.specs.declared.token.Token.TheVariants.{Binary as BinaryToken, Question, Colon, Close}
-use Rattle.plural_rule.specs.Expression.{Tree, Not, Binary, Conditional}
-use Rattle.plural_rule.specs.Grammar.{Spells, tighter, conditional, binary, negation, parentheses, count, numeral, level}
+use Rattle.plural_rule.specs.Prelude.{Tree, Spells, level}
+use Rattle.plural_rule.specs.Expression.{Not, Binary, Conditional}
+use Rattle.plural_rule.specs.Grammar.{tighter, conditional, binary, negation, parentheses, count, numeral}
 use Rattle.plural_rule.specs.Internal.ShiftReduce.{Waiting, WaitNot, WaitOpen, WaitBinary, WaitQuestion, WaitColon, Operand, Want, Have, reduce, at_colon, at_close, alone, outcome_from, outcome}
 
 -- every operator's level is from 1 to 6

@@ -8,7 +8,8 @@ use Rattle.plural_rule.specs.declared.token.Token.{Token}
 use Rattle.plural_rule.specs.declared.token.Token.TheVariants.{Count, Number, Not, Binary, Question, Colon, Open, Close}
 use Rattle.std.specs.Str.Parse.{AllDigits, digits_value}
 use Rattle.std.specs.Char.{is_ascii_digit}
-use Rattle.plural_rule.specs.Tokens.{is_blank, operator_bytes, IsSpelling, IsLongest, Lexes, end, blank, token}
+use Rattle.plural_rule.specs.Prelude.{is_blank, operator_bytes, IsSpelling, IsLongest, Lexes}
+use Rattle.plural_rule.specs.Tokens.{end, blank, token}
 use Rattle.plural_rule.proofs.Numerals.{below_ten_digit}
 
 -- what is known of bytes that spell a token, by a function of the bytes

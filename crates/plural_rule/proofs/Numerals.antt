@@ -6,7 +6,7 @@ use Rattle.std.proofs.lemmas.Int.Digits.{digits_value_more}
 use Rattle.std.proofs.lemmas.Str.{digit_value_digit}
 use Rattle.std.proofs.lemmas.Str.Parse.{digits_value-take-le, digit_from_value}
 use Rattle.std.proofs.lemmas.Bool.Decides.{nat_tests}
-use Rattle.plural_rule.specs.Header.{digits_number}
+use Rattle.plural_rule.specs.Prelude.{digits_number}
 
 -- the value of all digits is at least that of the first
 pub digits_value-grows : (digits : List ℕ) (i : ℕ) → i < length digits

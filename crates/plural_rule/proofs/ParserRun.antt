@@ -10,13 +10,10 @@ use Rattle.plural_rule.specs.declared.operator.Operator.TheVariants.{Or, And}
 use Rattle.std.proofs.lemmas.Bool.{false≢true, cases_Bool, cases_lt, le-ltb, ltb-false}
 use Rattle.plural_rule.specs.declared.token.Token.{Token}
 use Rattle.plural_rule.specs.declared.token.Token.TheVariants.{Number as NumberToken, Binary as BinaryToken}
-use Rattle.plural_rule.specs.Expression.{Tree}
-use Rattle.plural_rule.specs.Tokens.{is_blank, operator_bytes, Lexes, end, blank, token}
-use Rattle.plural_rule.specs.Grammar.{Spelt}
-use Rattle.plural_rule.specs.Header.{without_blanks}
+use Rattle.plural_rule.specs.Prelude.{Tree, is_blank, operator_bytes, Lexes, Spelt, without_blanks, expression_limit}
+use Rattle.plural_rule.specs.Tokens.{end, blank, token}
 use Rattle.plural_rule.specs.Internal.Scanner.{IsTokenAt, IsTooLarge, HasNoToken}
 use Rattle.plural_rule.specs.Internal.ShiftReduce.{State, Want, Have, step, finish, outcome_from}
-use Rattle.plural_rule.specs.PluralRule.{expression_limit}
 use Rattle.plural_rule.specs.Internal.ParserState.{Held, held, Represents, Answers, HoldsTree, HoldsExpression, most_added}
 use Rattle.plural_rule.specs.declared.instruction.Instruction.{Instruction}
 use Rattle.plural_rule.specs.declared.parser_state.Parser.{Parser}

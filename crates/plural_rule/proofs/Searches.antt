@@ -9,7 +9,7 @@ use Rattle.std.proofs.lemmas.List.{take_all, get_or-drop, get_or-take}
 use Rattle.std.proofs.lemmas.List.Sums.{prefix_len_is}
 use Rattle.memchr.specs.Find.{OccursAt, IsFirstByte, Nowhere, Passes, is_byte, is_byte2}
 use Rattle.memchr.proofs.lemmas.MatchLemmas.{OccursAt-part, OccursAt-from_part, OccursAt-split}
-use Rattle.plural_rule.specs.Header.{after_first, is_end}
+use Rattle.plural_rule.specs.Prelude.{after_first, is_end}
 
 -- a name that occurs after the first byte
 occurs-later : (name rest : List ℕ) (c k : ℕ) → OccursAt rest name k → OccursAt (c ∷ rest) name (suc k)

@@ -4,8 +4,9 @@ use Rattle.std.proofs.lemmas.Bool.{cases_Bool, leb-true, leb-false, ltb-true, eq
 use Rattle.plural_rule.specs.declared.operator.Operator.{Operator}
 use Rattle.plural_rule.specs.declared.token.Token.{Token}
 use Rattle.plural_rule.specs.declared.token.Token.TheVariants.{Count as CountToken, Number as NumberToken, Not as NotToken, Binary as BinaryToken, Question, Colon, Open, Close}
-use Rattle.plural_rule.specs.Expression.{Tree, Not, Binary, Conditional}
-use Rattle.plural_rule.specs.Grammar.{Spells, tighter, conditional, binary, negation, parentheses, count, numeral, level}
+use Rattle.plural_rule.specs.Prelude.{Tree, Spells, level}
+use Rattle.plural_rule.specs.Expression.{Not, Binary, Conditional}
+use Rattle.plural_rule.specs.Grammar.{tighter, conditional, binary, negation, parentheses, count, numeral}
 use Rattle.plural_rule.specs.Internal.ShiftReduce.{Waiting, WaitNot, WaitOpen, WaitBinary, WaitQuestion, WaitColon, State, Want, Have, reduce, at_colon, at_close, step, alone, finish, outcome_from, outcome}
 use Rattle.plural_rule.proofs.Complete.{Fits, level-range}
 

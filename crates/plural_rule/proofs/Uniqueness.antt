@@ -7,10 +7,8 @@ use Rattle.plural_rule.specs.declared.rule.Source.{Source}
 use Rattle.plural_rule.specs.declared.rule.Source.TheVariants.{Header, Default}
 use Rattle.plural_rule.specs.declared.rule.Reason.{Reason}
 use Rattle.plural_rule.specs.declared.rule.Reason.TheVariants.{NoNumber, NoExpression, Unreadable, TooLong}
-use Rattle.plural_rule.specs.Expression.{Tree, Count, Number, Not, Binary, Conditional, nodes, needs_right, chosen, value, visited, visited_right}
-use Rattle.plural_rule.specs.Grammar.{Spelt}
-use Rattle.plural_rule.specs.Header.{nplurals_of, expression_of}
-use Rattle.plural_rule.specs.PluralRule.{RuleView, IsReadable, IsReason, Gives, IsRuleOf, IsWithin, default_rule}
+use Rattle.plural_rule.specs.Prelude.{Tree, nodes, needs_right, chosen, value, visited, visited_right, Spelt, nplurals_of, expression_of, RuleView, IsReadable, IsReason, Gives, IsRuleOf, IsWithin, default_rule}
+use Rattle.plural_rule.specs.Expression.{Count, Number, Not, Binary, Conditional}
 use Rattle.plural_rule.proofs.Complete.{complete}
 use Rattle.plural_rule.proofs.Lexing.{one_list}
 use Rattle.plural_rule.specs.Internal.ShiftReduce.{outcome}

@@ -8,3 +8,4 @@ pub mod Instruction
 pub mod Program
 pub mod Internal
 pub mod Examples
+pub mod Prelude

@@ -1,10 +1,7 @@
 //! The value of an expression at a count, by its program: one instruction after the other, with
 //! jumps that go forward only.
 ghost use Rattle.std.specs.Prelude.{◌≡◌, ℕ, ◌+◌, ◌*◌, ◌^◌, ◌<◌, ◌≤◌, List, ◌∷◌, length, drop, slice_index_or, Some};
-ghost use Rattle.plural_rule.specs.Instruction.{count_instruction, begins};
-ghost use Rattle.plural_rule.specs.Expression.{nodes, value, visited};
-ghost use Rattle.plural_rule.specs.PluralRule.{expression_limit};
-ghost use Rattle.plural_rule.specs.Program.{program, tree_of, low_of};
+ghost use Rattle.plural_rule.specs.Prelude.{count_instruction, begins, nodes, value, visited, expression_limit, program, tree_of, low_of};
 ghost use Rattle.plural_rule.specs.Internal.Run.{act, left_by, go_on, run, stored, Outcome};
 
 use crate::instruction::{Action, Instruction};

@@ -1,7 +1,7 @@
 //! The fields of a header text that make a plural rule.
 ghost use Rattle.std.specs.Prelude.{◌≡◌, ◌<◌, Some, None, length, MatchOption};
 ghost use Rattle.std.specs.Str.Parse.{AllDigits, digits_value};
-ghost use Rattle.plural_rule.specs.Header.{after_first, nplurals_of, expression_of};
+ghost use Rattle.plural_rule.specs.Prelude.{after_first, nplurals_of, expression_of};
 
 use crate::lexer;
 use memchr::arch::all::is_suffix;

@@ -2,7 +2,7 @@
 ghost use Rattle.std.specs.Prelude.{◌≡◌, ◌≢◌, ◌+◌, ◌^◌, ◌<◌, MatchOption};
 ghost use Rattle.plural_rule.specs.declared.instruction.Action.TheVariants.{Binary};
 ghost use Rattle.plural_rule.specs.declared.operator.Operator.{Operator};
-ghost use Rattle.plural_rule.specs.Instruction.{binary_instruction, action_of, begins};
+ghost use Rattle.plural_rule.specs.Prelude.{binary_instruction, action_of, begins};
 
 use crate::operator::Operator;
 use crate::steps::Steps;

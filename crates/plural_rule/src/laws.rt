@@ -5,11 +5,8 @@ ghost use Rattle.plural_rule.specs.declared.operator.Operator.{Operator};
 ghost use Rattle.plural_rule.specs.declared.operator.Operator.TheVariants.{And, Or};
 ghost use Rattle.plural_rule.specs.declared.rule.Reason.{Reason};
 ghost use Rattle.plural_rule.specs.declared.rule.Source.TheVariants.{Default};
-ghost use Rattle.plural_rule.specs.Evaluates.{Evaluates};
-ghost use Rattle.plural_rule.specs.Expression.{Tree, Binary, Conditional, Count, Not, Number, value, visited, nodes};
-ghost use Rattle.plural_rule.specs.Grammar.{Spelt};
-ghost use Rattle.plural_rule.specs.Header.{expression_of, nplurals_of};
-ghost use Rattle.plural_rule.specs.PluralRule.{RuleView, IsReadable, IsRuleOf, IsWithin, default_rule, expression_limit};
+ghost use Rattle.plural_rule.specs.Prelude.{Evaluates, Tree, value, visited, nodes, Spelt, expression_of, nplurals_of, RuleView, IsReadable, IsRuleOf, IsWithin, default_rule, expression_limit};
+ghost use Rattle.plural_rule.specs.Expression.{Binary, Conditional, Count, Not, Number};
 
 /// A text spells at most one expression.
 pub fn one_tree()

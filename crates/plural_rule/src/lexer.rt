@@ -2,8 +2,7 @@
 ghost use Rattle.std.specs.Prelude.{◌≡◌, ◌^◌, ◌<◌, ◌≤◌, [], ◌∷◌, length, take_while, MatchOption, SomeIff, false};
 ghost use Rattle.std.specs.Str.Parse.{AllDigits, digits_value};
 ghost use Rattle.std.specs.Char.{is_ascii_digit};
-ghost use Rattle.plural_rule.specs.Tokens.{IsSpelling};
-ghost use Rattle.plural_rule.specs.Header.{without_blanks};
+ghost use Rattle.plural_rule.specs.Prelude.{IsSpelling, without_blanks};
 ghost use Rattle.plural_rule.specs.Internal.Scanner.{IsTokenAt, HasNoToken, BeginsWithDouble, HasNoDouble};
 
 use crate::operator::Operator;

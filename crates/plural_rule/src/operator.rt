@@ -1,9 +1,6 @@
 //! The operators of two operands in a plural expression.
 ghost use Rattle.std.specs.Prelude.{◌≡◌};
-ghost use Rattle.plural_rule.specs.Expression.{combined, needs_right};
-ghost use Rattle.plural_rule.specs.Grammar.{level};
-ghost use Rattle.plural_rule.specs.Program.{is_lazy};
-ghost use Rattle.plural_rule.specs.Instruction.{operator_of};
+ghost use Rattle.plural_rule.specs.Prelude.{combined, needs_right, level, is_lazy, operator_of};
 
 /// An operator of two operands, with the meaning that it has in C for unsigned numbers of 64 bits.
 #[derive(Clone, Copy, Drop)]

@@ -17,11 +17,9 @@
 //! The instructions stand in memory of the caller, and what waits for an operand in an array of
 //! fixed size, so the machine's stack doesn't grow with the expression.
 ghost use Rattle.std.specs.Prelude.{◌≡◌, ◌≤◌, List, None, length, take, MatchOption, ⊤};
-ghost use Rattle.plural_rule.specs.Expression.{Tree};
+ghost use Rattle.plural_rule.specs.Prelude.{Tree, Spelt, expression_limit};
 ghost use Rattle.plural_rule.specs.Internal.ShiftReduce.{Waiting, State, reduce, want_step, at_operator, step, finish};
 ghost use Rattle.plural_rule.specs.Internal.ParserState.{held, IsWaiting, IsOperand, Represents, Answers, HoldsTree, HoldsExpression, HasRoom, Grows, most_added};
-ghost use Rattle.plural_rule.specs.Grammar.{Spelt};
-ghost use Rattle.plural_rule.specs.PluralRule.{expression_limit};
 
 use crate::instruction::Instruction;
 use crate::lexer;

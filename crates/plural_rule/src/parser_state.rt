@@ -2,8 +2,7 @@
 ghost use Rattle.std.specs.Prelude.{◌≡◌, ◌+◌, ◌-◌, ◌<◌, ◌≤◌, [], ◌∷◌, ◌++◌, length, take};
 ghost use Rattle.plural_rule.specs.Internal.ParserState.{begun, skipping, completed_program, first_of};
 ghost use Rattle.plural_rule.specs.Internal.Pending.{weight_of};
-ghost use Rattle.plural_rule.specs.PluralRule.{expression_limit};
-ghost use Rattle.plural_rule.specs.Program.{numeral_then, branch_then};
+ghost use Rattle.plural_rule.specs.Prelude.{expression_limit, numeral_then, branch_then};
 
 use crate::instruction::Instruction;
 use crate::operator::Operator;

@@ -1,9 +1,7 @@
 //! The rule of a header text.
 ghost use Rattle.std.specs.Prelude.{◌≡◌, ◌≤◌, [], length, take, MatchResult};
 ghost use Rattle.plural_rule.specs.declared.rule.Reason.{Reason};
-ghost use Rattle.plural_rule.specs.Expression.{value, visited, nodes};
-ghost use Rattle.plural_rule.specs.PluralRule.{IsRuleOf, IsReason, default_rule, expression_limit, rule_in, program_in};
-ghost use Rattle.plural_rule.specs.Program.{program as program_of, tree_of};
+ghost use Rattle.plural_rule.specs.Prelude.{value, visited, nodes, IsRuleOf, IsReason, default_rule, expression_limit, rule_in, program_in, program as program_of, tree_of};
 ghost use Rattle.plural_rule.specs.Internal.ParserState.{HoldsRule};
 
 use crate::evaluator::evaluate;
@@ -88,8 +86,7 @@ pub struct ParsedRule {
 impl Model for Rule {
     ghost use Rattle.std.specs.Prelude.{◌≡◌};
     ghost use Rattle.std.specs.Coded.{codes};
-    ghost use Rattle.plural_rule.specs.PluralRule.{RuleView};
-    ghost use Rattle.plural_rule.specs.Program.{program as program_of, tree_of, tree_code};
+    ghost use Rattle.plural_rule.specs.Prelude.{RuleView, program as program_of, tree_of, tree_code};
 
     ghost Value = { RuleView };
 

@@ -1,9 +1,8 @@
 -- The entries of a joined list, which the code borrows.
 use Rattle.std.proofs.Common.{◌≡◌, ◌∙◌, ◌<◌, ◌+◌, ◌++◌, ◌∷◌, [], ℕ, List, All, ap, arith, get_or, length, subst, sym, take}
 use Rattle.std.proofs.lemmas.List.{get_or-map, length-map, map_more, map_push}
-use Rattle.po_entry.specs.TextEntry.{TextEntry}
-use Rattle.po_entry.specs.Joined.{InputEntry, entries_of}
-use Rattle.po_catalog.specs.JoinedView.{input_entries, input_entry}
+use Rattle.po_entry.specs.Prelude.{TextEntry, InputEntry, entries_of}
+use Rattle.po_catalog.specs.Prelude.{input_entries, input_entry}
 use Rattle.po_catalog.specs.declared.joining.InputEntry.{InputEntry as BorrowedEntry}
 
 -- what holds of all entries holds of each

@@ -4,11 +4,8 @@ use Rattle.std.specs.Borrow.{Bor}
 use Rattle.std.specs.Prelude.{All, option_copied}
 use Rattle.std.proofs.lemmas.List.{length-map}
 use Rattle.std.proofs.lemmas.List.Elements.{All-nil, All-cons, All-head, All-tail}
-use Rattle.po_entry.specs.Texts.{Lacks}
-use Rattle.po_entry.specs.Fields.{borrowed_entry}
-use Rattle.po_entry.specs.TextEntry.{quoted_texts}
-use Rattle.po_entry.specs.Validity.{HasTexts, IsEntry}
-use Rattle.po_syntax.specs.TextItem.{IsText}
+use Rattle.po_entry.specs.Prelude.{Lacks, borrowed_entry, quoted_texts, HasTexts, IsEntry}
+use Rattle.po_syntax.specs.Prelude.{IsText}
 
 all_texts : (texts : List (List ℕ)) → All IsUtf8 texts → All (Lacks 0) texts → All IsText texts
 all_texts [] utf8 no_nul = All-nil IsText

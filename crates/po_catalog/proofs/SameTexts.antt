@@ -3,8 +3,7 @@ use Rattle.std.proofs.Common.{◌≡◌, ℕ, List, [], ◌∷◌, refl}
 use Rattle.std.specs.Prelude.{bytes_eq}
 use Rattle.std.specs.Global.{Vec}
 use lib.Pointwise.{pointwise}
-use Rattle.po_entry.specs.TextEntry.{texts}
-use Rattle.po_entry.specs.Fields.{texts_eq}
+use Rattle.po_entry.specs.Prelude.{texts, texts_eq}
 
 pub same_vectors : (xs ys : List (Vec ℕ))
     → pointwise (λ (x y : Vec ℕ). bytes_eq x.items y.items) xs ys ≡ texts_eq (texts xs) (texts ys)

@@ -3,7 +3,7 @@ use Rattle.std.proofs.Common.{◌+◌, ◌<◌, ◌≤◌, ℕ, List, All, get_o
 use Rattle.std.specs.Borrow.{Bor}
 use Rattle.std.proofs.lemmas.List.{get_or-map, length-map, take_all}
 use Rattle.std.proofs.lemmas.List.Elements.{All-get_or, All-map, All-more}
-use Rattle.po_entry.specs.TextEntry.{slice_texts}
+use Rattle.po_entry.specs.Prelude.{slice_texts}
 
 pub tested_more : (P : List ℕ → Type 0) (xs : List (Bor (List ℕ))) (i : ℕ) (d : Bor (List ℕ)) → i < length xs
     → All (λ s. P s.now) (take i xs) → P (get_or xs i d).now → All (λ s. P s.now) (take (i + 1) xs)

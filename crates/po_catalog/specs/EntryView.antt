@@ -1,5 +1,5 @@
 -- What contracts see of an entry of a catalogue.
-use Rattle.po_entry.specs.TextEntry.{TextEntry, optional_text, texts}
+use Rattle.po_entry.specs.Prelude.{TextEntry, optional_text, texts}
 use Rattle.po_catalog.specs.declared.entry.Entry.TheInside.{Inside}
 
 -- the entry that has these parts

@@ -1,2 +1,3 @@
 pub mod EntryView
 pub mod JoinedView
+pub mod Prelude

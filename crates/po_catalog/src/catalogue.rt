@@ -1,8 +1,7 @@
 //! A catalogue: the entries of a PO file, in its order.
 
 ghost use Rattle.std.specs.Prelude.{◌≡◌, IfOk, IfErr, OnOk, OnErr, All, [], ◌∷◌, ◌++◌};
-ghost use Rattle.po_entry.specs.Header.{HasAdmittedCharset};
-ghost use Rattle.po_entry.specs.Validity.{IsCatalogueEntry, IsRefusedEntry};
+ghost use Rattle.po_entry.specs.Prelude.{HasAdmittedCharset, IsCatalogueEntry, IsRefusedEntry};
 
 use crate::entry::Entry;
 use po_syntax::{PoError, PoFault};
@@ -18,8 +17,7 @@ pub struct Catalogue {
 
 impl Model for Catalogue {
     ghost use Rattle.std.specs.Prelude.{List, All};
-    ghost use Rattle.po_entry.specs.TextEntry.{TextEntry};
-    ghost use Rattle.po_entry.specs.Validity.{IsCatalogueEntry};
+    ghost use Rattle.po_entry.specs.Prelude.{TextEntry, IsCatalogueEntry};
 
     ghost Value = { List TextEntry };
 

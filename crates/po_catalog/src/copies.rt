@@ -1,9 +1,7 @@
 //! Copies of entries from a buffer, and for one.
 
 ghost use Rattle.std.specs.Prelude.{◌≡◌, IfOk};
-ghost use Rattle.po_entry.specs.Fields.{entry_view};
-ghost use Rattle.po_entry.specs.TextLists.{texts_left};
-ghost use Rattle.po_entry.specs.Validity.{IsEntry};
+ghost use Rattle.po_entry.specs.Prelude.{entry_view, texts_left, IsEntry};
 
 use crate::entry::Entry;
 use crate::text_list::{TextList, copy_texts};

@@ -1,10 +1,8 @@
 //! The first message that is defined twice, in one catalogue or across several.
 
 ghost use Rattle.std.specs.Prelude.{◌<◌, ◌^◌, All, IfOk, MatchOption, MatchResult, IsOkUnless, length};
-ghost use Rattle.po_entry.specs.Validity.{IsCatalogueEntry, out_of_memory};
-ghost use Rattle.po_entry.specs.Joined.{joined, joined_entries, entries_of};
-ghost use Rattle.po_entry.specs.Duplicate.{HasNoDuplicate, IsDuplicateFault, IsDuplicateFaultOf, IsFirstDuplicate, join_out_of_memory};
-ghost use Rattle.po_catalog.specs.JoinedView.{input_entries, input_entry};
+ghost use Rattle.po_entry.specs.Prelude.{IsCatalogueEntry, out_of_memory, joined, joined_entries, entries_of, HasNoDuplicate, IsDuplicateFault, IsDuplicateFaultOf, IsFirstDuplicate, join_out_of_memory};
+ghost use Rattle.po_catalog.specs.Prelude.{input_entries, input_entry};
 
 use crate::catalogue::Catalogue;
 use crate::joining::{InputEntry, joined, joined_store};

@@ -1,10 +1,7 @@
 //! An entry of a catalogue, of which each field is valid.
 
 ghost use Rattle.std.specs.Prelude.{◌≡◌, ◌<◌, ◌↔◌, IfOk, IfErr, IsOkUnless, IsTrue, None, map, [], false, length, option_copied};
-ghost use Rattle.po_entry.specs.TextEntry.{texts, no_previous, optional_text};
-ghost use Rattle.po_entry.specs.Fields.{borrowed_entry, bodies_eq, comments_eq, optional_eq, previous_eq};
-ghost use Rattle.po_entry.specs.Header.{HasAdmittedCharset, is_header};
-ghost use Rattle.po_entry.specs.Validity.{HasTexts, IsEntry, RefusesMessage, out_of_memory};
+ghost use Rattle.po_entry.specs.Prelude.{texts, no_previous, optional_text, borrowed_entry, bodies_eq, comments_eq, optional_eq, previous_eq, HasAdmittedCharset, is_header, HasTexts, IsEntry, RefusesMessage, out_of_memory};
 
 use crate::text_list::{TextList, copy_slices, copy_texts, empty_texts, same_texts};
 use crate::texts::check_texts;
@@ -33,8 +30,7 @@ pub struct Entry {
 }
 
 impl Model for Entry {
-    ghost use Rattle.po_entry.specs.TextEntry.{TextEntry};
-    ghost use Rattle.po_entry.specs.Validity.{IsEntry};
+    ghost use Rattle.po_entry.specs.Prelude.{TextEntry, IsEntry};
 
     ghost Value = { TextEntry };
 
@@ -333,7 +329,7 @@ impl Entry {
 }
 
 impl PartialEq for Entry {
-    ghost use Rattle.po_entry.specs.Fields.{entry_eq};
+    ghost use Rattle.po_entry.specs.Prelude.{entry_eq};
     ghost use Rattle.po_entry.specs.Facts.EqualityLaws.{entry_eq_laws};
 
     ghost eq = { entry_eq };

@@ -1,9 +1,8 @@
 //! The entries of several catalogues as one list, with the header of the first.
 
 ghost use Rattle.std.specs.Prelude.{◌≡◌, ◌++◌, ◌<◌, ◌^◌, length, map, All, OnOk, IfOk};
-ghost use Rattle.po_entry.specs.Validity.{IsCatalogueEntry};
-ghost use Rattle.po_entry.specs.Joined.{entries_of, in_input, is_live, is_live_header, kept_entries, joined, joined_entries};
-ghost use Rattle.po_catalog.specs.JoinedView.{input_entries};
+ghost use Rattle.po_entry.specs.Prelude.{IsCatalogueEntry, entries_of, in_input, is_live, is_live_header, kept_entries, joined, joined_entries};
+ghost use Rattle.po_catalog.specs.Prelude.{input_entries};
 
 use crate::catalogue::Catalogue;
 use crate::entry::Entry;

@@ -1,11 +1,9 @@
 //! Laws of catalogues, each the contract of a function that does nothing: a call brings the law
 //! into a proof. Those of the crates below are re-exported.
 ghost use Rattle.std.specs.Prelude.{◌≡◌, List, All, map};
-ghost use Rattle.po_syntax.specs.PoText.{IsSmall};
-ghost use Rattle.po_entry.specs.TextEntry.{TextEntry, with_line};
-ghost use Rattle.po_entry.specs.Validity.{IsCatalogueEntry};
-ghost use Rattle.po_entry.specs.ReadsText.{ReadsText};
-ghost use Rattle.po_writer.specs.WrittenText.{arranged, written_text};
+ghost use Rattle.po_syntax.specs.Prelude.{IsSmall};
+ghost use Rattle.po_entry.specs.Prelude.{TextEntry, with_line, IsCatalogueEntry, ReadsText};
+ghost use Rattle.po_writer.specs.Prelude.{arranged, written_text};
 
 pub use po_entry::laws::equal_but_line;
 pub use po_entry::laws::{

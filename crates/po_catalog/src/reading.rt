@@ -1,8 +1,7 @@
 //! The catalogue of a text.
 
 ghost use Rattle.std.specs.Prelude.{◌≡◌, ◌≢◌, IfOk, IfErr};
-ghost use Rattle.po_entry.specs.ReadsText.{ReadsText};
-ghost use Rattle.po_entry.specs.Faults.{IsReadFault};
+ghost use Rattle.po_entry.specs.Prelude.{ReadsText, IsReadFault};
 
 use crate::catalogue::Catalogue;
 use crate::stores::catalogue_of;

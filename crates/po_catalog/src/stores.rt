@@ -1,7 +1,7 @@
 //! Catalogues and stores, each made of a copy of the other's entries.
 
 ghost use Rattle.std.specs.Prelude.{◌≡◌, ◌++◌, ◌∷◌, [], All, IfOk, OnErr, OnOk};
-ghost use Rattle.po_entry.specs.Validity.{IsCatalogueEntry};
+ghost use Rattle.po_entry.specs.Prelude.{IsCatalogueEntry};
 
 use crate::catalogue::Catalogue;
 use crate::copies::fields_of;

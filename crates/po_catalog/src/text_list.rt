@@ -1,8 +1,7 @@
 //! Lists of texts, each text in a buffer of its own.
 
 ghost use Rattle.std.specs.Prelude.{◌≡◌, [], IfOk, map};
-ghost use Rattle.po_entry.specs.Fields.{texts_eq};
-ghost use Rattle.po_entry.specs.TextEntry.{slice_texts, texts};
+ghost use Rattle.po_entry.specs.Prelude.{texts_eq, slice_texts, texts};
 
 use std::alloc::{AllocError, Global};
 use std::marker::Model;
@@ -15,7 +14,7 @@ pub struct TextList {
 
 impl Model for TextList {
     ghost use Rattle.std.specs.Prelude.{List, ℕ};
-    ghost use Rattle.po_entry.specs.TextEntry.{texts};
+    ghost use Rattle.po_entry.specs.Prelude.{texts};
 
     ghost Value = { List (List ℕ) };
 

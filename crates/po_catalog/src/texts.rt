@@ -1,10 +1,7 @@
 //! Whether texts that are given can stand in an entry.
 
 ghost use Rattle.std.specs.Prelude.{MatchResult, All, IfSome, IsTrue, ◌↔◌, option_copied};
-ghost use Rattle.po_entry.specs.Texts.{Lacks, Meets};
-ghost use Rattle.po_entry.specs.Fields.{borrowed_entry};
-ghost use Rattle.po_entry.specs.TextEntry.{quoted_texts, slice_texts};
-ghost use Rattle.po_entry.specs.Validity.{EntryTextFault, HasTexts};
+ghost use Rattle.po_entry.specs.Prelude.{Lacks, Meets, borrowed_entry, quoted_texts, slice_texts, EntryTextFault, HasTexts};
 
 use po_entry::{EOT, NUL, Need, meets, optional_meets};
 use po_syntax::PoFault;

@@ -1,9 +1,8 @@
 //! The text of a catalogue.
 
 ghost use Rattle.std.specs.Prelude.{◌≡◌, [], IfOk, IfErr, OnOk};
-ghost use Rattle.po_entry.specs.Validity.{out_of_memory};
-ghost use Rattle.po_writer.specs.TextParts.{AreParts};
-ghost use Rattle.po_writer.specs.WrittenText.{written_text};
+ghost use Rattle.po_entry.specs.Prelude.{out_of_memory};
+ghost use Rattle.po_writer.specs.Prelude.{AreParts, written_text};
 
 use crate::catalogue::Catalogue;
 use crate::stores::store_of;

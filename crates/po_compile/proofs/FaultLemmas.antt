@@ -5,25 +5,17 @@ use Rattle.std.proofs.Math.Seq.{get_or-append_seam}
 use Rattle.std.proofs.lemmas.List.{get_or_append_left}
 use Rattle.po_syntax.specs.Facts.Zips.{zip_get, zip_length}
 use Rattle.std.specs.List.{AllZip}
-use Rattle.mo_file.specs.Layout.{layout}
+use Rattle.mo_file.specs.Prelude.{layout}
 use Rattle.po_syntax.specs.declared.fault.PoError.{PoError}
 use Rattle.po_syntax.specs.declared.fault.PoFault.{PoFault}
-use Rattle.po_entry.specs.TextEntry.{TextEntry}
-use Rattle.po_entry.specs.ReadsText.{ReadsText}
-use Rattle.po_entry.specs.Faults.{IsReadFault}
-use Rattle.po_entry.specs.Joined.{InputEntry, in_input, joined, joined_entries, entries_of}
-use Rattle.po_entry.specs.Duplicate.{HasNoDuplicate, IsFirstDuplicate, join_out_of_memory, duplicate_fault, ReadsDistinct, IsTextFault}
+use Rattle.po_entry.specs.Prelude.{TextEntry, ReadsText, IsReadFault, InputEntry, in_input, joined, joined_entries, entries_of, HasNoDuplicate, IsFirstDuplicate, join_out_of_memory, duplicate_fault, ReadsDistinct, IsTextFault, IsEntry}
 use Rattle.po_entry.specs.declared.duplicate.JoinError.{JoinError}
 use Rattle.po_entry.proofs.DuplicateLemmas.{entries_of_input}
-use Rattle.po_compile.specs.Accepted.{AreRead, AreAccepted, IsFaultOfInput, HasJoinedDuplicate, IsTooLarge, IsCompileFault}
-use Rattle.po_compile.specs.Compiled.{compiled_list, AreMessagesOf}
-use Rattle.po_compile.specs.Headline.{MessagesAreOne, OneCompileFault, AcceptedOrFault}
+use Rattle.po_compile.specs.Prelude.{AreRead, AreAccepted, IsFaultOfInput, HasJoinedDuplicate, IsTooLarge, IsCompileFault, compiled_list, AreMessagesOf, MessagesAreOne, OneCompileFault, AcceptedOrFault, layout_fault}
 use Rattle.po_compile.specs.declared.options.Options.{Options}
 use Rattle.std.proofs.lemmas.Bool.{cases_lt}
 use Rattle.std.proofs.lemmas.List.Elements.{All-weaker}
 use Rattle.po_syntax.specs.declared.fault.PoFault.TheVariants.{OutOfMemory}
-use Rattle.po_entry.specs.Validity.{IsEntry}
-use Rattle.po_compile.specs.Compiling.{layout_fault}
 use Rattle.po_compile.proofs.ReadingLemmas.{EntriesCanStand, read_valid}
 use Rattle.po_compile.proofs.MeaningLemmas.{LacksSeparators, entry_lacks_separators}
 use Rattle.po_compile.proofs.MessageOrder.{compiled_differ, compiled_valid, messages_exist}

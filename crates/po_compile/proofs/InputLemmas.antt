@@ -6,20 +6,15 @@ use Rattle.std.proofs.lemmas.Bool.{cases_Bool}
 use Rattle.std.proofs.lemmas.Bool.Decides.{not_from_Decides}
 use Rattle.std.proofs.lemmas.Slice.Eq.{bytes_eq-Decides}
 use Rattle.std.specs.Str.{bytes_eq}
-use Rattle.mo_file.specs.Key.{query_key}
+use Rattle.mo_file.specs.Prelude.{query_key, Message, IsBuildFault}
 use Rattle.std.proofs.lemmas.List.{get_or-map, length-map, take-map, map-append}
 use Rattle.std.proofs.lemmas.List.Elements.{All-filter, All-push}
-use Rattle.po_entry.specs.ReadsText.{ReadsText}
-use Rattle.po_entry.specs.TextEntry.{TextEntry}
-use Rattle.po_entry.specs.Validity.{IsCatalogueEntry, out_of_memory}
-use Rattle.po_entry.specs.Duplicate.{IsSameMessage, IsFirstDuplicate, duplicate_fault, join_out_of_memory, live_entries, IsFirstRepeat, IsTextFault, ReadsDistinct}
+use Rattle.po_entry.specs.Prelude.{ReadsText, TextEntry, IsCatalogueEntry, out_of_memory, IsSameMessage, IsFirstDuplicate, duplicate_fault, join_out_of_memory, live_entries, IsFirstRepeat, IsTextFault, ReadsDistinct, InputEntry, entries_of, in_input, is_live, joined, joined_entries, IsReadFault}
 use Rattle.po_entry.specs.Facts.FirstRepeats.{all_of_both, none_or_first_repeat, none_repeats, one_repeat, pairs_map, repeat_by, repeat_map}
 use Rattle.po_syntax.specs.Facts.Zips.{zip_get, zip_length, zip_more}
-use Rattle.po_entry.specs.Joined.{InputEntry, entries_of, in_input, is_live, joined, joined_entries}
 use Rattle.po_entry.specs.declared.duplicate.JoinError.{JoinError}
 use Rattle.po_entry.proofs.DuplicateLemmas.{entries_of_input, live_of_entries}
-use Rattle.po_compile.specs.Accepted.{IsFaultOfInput, IsReadingFault, fault_input, AreRead, IsCompileFault, fault_of_only_input}
-use Rattle.po_compile.specs.Collected.{HoldCatalogues, LiveMessage, live_messages, AreCollected}
+use Rattle.po_compile.specs.Prelude.{IsFaultOfInput, IsReadingFault, fault_input, AreRead, IsCompileFault, fault_of_only_input, HoldCatalogues, LiveMessage, live_messages, AreCollected, compiled_list, AreMessagesOf, IsReportedFault}
 use Rattle.po_compile.specs.Internal.Repeats.{EachApart, HaveOneKey, IsRepeat, IsRepeatFault, IsRepeatInInput, repeat_fault}
 use Rattle.po_compile.specs.Internal.Rows.{AllApart, InputMessage, all_messages, in_input_message, input_keys, input_message, AreSortedRows, compiled_of, row_view, row_key}
 use Rattle.po_compile.proofs.Filters.{split_at}
@@ -29,17 +24,12 @@ use Rattle.po_compile.proofs.MeaningLemmas.{entry_lacks_separators}
 use Rattle.po_compile.proofs.SortedRows.{at_entry, are_messages}
 use Rattle.po_compile.proofs.TextLemmas.{query_key_is_one}
 use Rattle.std.proofs.lemmas.Slice.Zip.{AllZip-long}
-use Rattle.mo_file.specs.Message.{Message}
-use Rattle.mo_file.specs.Layout.{IsBuildFault}
 use Rattle.mo_file.specs.declared.building.BuildError.{BuildError}
 use Rattle.mo_file.specs.declared.building.BuildError.TheVariants.{TooLarge, NotSorted, OutOfMemory as NoMemory}
 use Rattle.po_syntax.specs.declared.fault.PoError.{PoError}
 use Rattle.po_syntax.specs.declared.fault.PoFault.{PoFault}
 use Rattle.po_syntax.specs.declared.fault.PoFault.TheVariants.{OutOfMemory}
-use Rattle.po_entry.specs.Faults.{IsReadFault}
-use Rattle.po_reader.specs.PieceRead.{IsFaultOf}
-use Rattle.po_compile.specs.Compiled.{compiled_list, AreMessagesOf}
-use Rattle.po_compile.specs.Compiling.{IsReportedFault}
+use Rattle.po_reader.specs.Prelude.{IsFaultOf}
 use Rattle.po_compile.specs.declared.options.Options.{Options}
 use Rattle.po_compile.specs.declared.row.Row.{Row}
 use Rattle.po_compile.proofs.FaultLemmas.{NoFirstDuplicate}

@@ -6,15 +6,11 @@ use Rattle.std.proofs.lemmas.Bool.{ne_eqb}
 use Rattle.std.proofs.lemmas.List.{map-append}
 use Rattle.std.proofs.lemmas.List.Elements.{All-append, All-head, All-nil, All-tail, filter-append, filter_agree}
 use Rattle.std.proofs.lemmas.Simd.{map-map}
-use Rattle.mo_file.specs.Key.{query_key}
-use Rattle.po_entry.specs.TextEntry.{TextEntry}
-use Rattle.po_entry.specs.Header.{is_header}
-use Rattle.po_entry.specs.Validity.{IsCatalogueEntry}
-use Rattle.po_entry.specs.Joined.{InputEntry, entries_of, in_input, is_live, is_live_header, joined, joined_entries, joined_from, kept_entries}
-use Rattle.po_entry.specs.Duplicate.{live_entries}
+use Rattle.mo_file.specs.Prelude.{query_key}
+use Rattle.po_entry.specs.Prelude.{TextEntry, is_header, IsCatalogueEntry, InputEntry, entries_of, in_input, is_live, is_live_header, joined, joined_entries, joined_from, kept_entries, live_entries}
 use Rattle.po_entry.proofs.JoiningLemmas.{kept_valid}
 use Rattle.po_entry.proofs.DuplicateLemmas.{entries_of_input}
-use Rattle.po_compile.specs.Collected.{LiveMessage, live_message, live_messages}
+use Rattle.po_compile.specs.Prelude.{LiveMessage, live_message, live_messages}
 use Rattle.po_compile.specs.Internal.Rows.{InputMessage, all_messages, has_no_key, in_input_message, input_message, is_joined, joined_messages}
 use Rattle.po_syntax.specs.Facts.Mapped.{filter_map, filter_twice}
 use Rattle.po_compile.proofs.Filters.{filter_all}

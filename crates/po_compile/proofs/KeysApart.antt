@@ -13,7 +13,7 @@ use Rattle.std.proofs.lemmas.Cmp.{nat_list_cmp_total, nat_list_eq_equiv}
 use Rattle.std.proofs.lemmas.List.{get_or-map, get_or_default, length-map, get_or_append_left, map-append}
 use Rattle.std.proofs.lemmas.List.Kept.{AllPairs-filter, AllPairs-cons}
 use Rattle.std.proofs.lemmas.Map.Lookups.{exact_bytes}
-use Rattle.mo_file.specs.Key.{AreRising, key_cmp, query_key}
+use Rattle.mo_file.specs.Prelude.{AreRising, key_cmp, query_key}
 use Rattle.mo_file.proofs.BuildLemmas.{is_less, isnt_less}
 use Rattle.mo_lookup.proofs.RisingLemmas.{less_is_other, rising_between}
 use Rattle.po_compile.specs.Internal.Rows.{AllApart, HasOneHeader, InputMessage, all_messages, has_no_key, in_input_message, input_keys, input_message, is_joined, joined_messages, message_keys, row_view, row_key}
@@ -25,11 +25,8 @@ use Rattle.std.proofs.lemmas.Map.Keys.{IsDistinct-IsPermutation}
 use Rattle.std.proofs.lemmas.Map.Made.{AllPairs-from_IsDistinct, IsDistinct-from_AllPairs}
 use Rattle.std.proofs.lemmas.Simd.{map-map}
 use Rattle.std.proofs.lemmas.Slice.Eq.{bytes_eq-Decides}
-use Rattle.po_entry.specs.ReadsText.{ReadsText}
-use Rattle.po_entry.specs.TextEntry.{TextEntry}
-use Rattle.po_entry.specs.Duplicate.{ReadsDistinct, AllDiffer, HasNoDuplicate, live_entries}
-use Rattle.po_entry.specs.Joined.{InputEntry, entries_of, is_live, joined, joined_entries}
-use Rattle.po_compile.specs.Collected.{LiveMessage, live_message, live_messages}
+use Rattle.po_entry.specs.Prelude.{ReadsText, TextEntry, ReadsDistinct, AllDiffer, HasNoDuplicate, live_entries, InputEntry, entries_of, is_live, joined, joined_entries}
+use Rattle.po_compile.specs.Prelude.{LiveMessage, live_message, live_messages}
 use Rattle.po_compile.specs.Internal.Repeats.{EachApart}
 use Rattle.po_compile.specs.declared.row.Row.{Row}
 use Rattle.po_compile.proofs.Filters.{filter_all, first_of}

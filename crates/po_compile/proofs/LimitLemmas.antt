@@ -5,16 +5,10 @@ use Rattle.std.specs.List.{list_any}
 use Rattle.std.specs.Option.{unwrap_or}
 use Rattle.std.proofs.lemmas.Bool.{ne_eqb}
 use Rattle.std.proofs.lemmas.List.Elements.{All-filter, All-head, All-tail, All-weaker}
-use Rattle.mo_file.specs.Layout.{layout}
-use Rattle.mo_file.specs.Message.{Message}
-use Rattle.mo_lookup.specs.Query.{can_be_key, has_no_separator, is_separator}
-use Rattle.po_entry.specs.Texts.{Lacks}
-use Rattle.po_entry.specs.TextEntry.{TextEntry}
-use Rattle.po_entry.specs.Validity.{IsCatalogueEntry}
-use Rattle.po_entry.specs.Joined.{joined_entries}
-use Rattle.po_compile.specs.Compiled.{compiled_list, is_compiled, AreMessagesOf}
-use Rattle.po_compile.specs.Headline.{CataloguesAreOne, MessagesAreOne}
-use Rattle.po_compile.specs.MessageLaws.{CompiledCanBeKeys, JoinedEntriesCanStand, LayoutsAreLimited}
+use Rattle.mo_file.specs.Prelude.{layout, Message}
+use Rattle.mo_lookup.specs.Prelude.{can_be_key, has_no_separator, is_separator}
+use Rattle.po_entry.specs.Prelude.{Lacks, TextEntry, IsCatalogueEntry, joined_entries}
+use Rattle.po_compile.specs.Prelude.{compiled_list, is_compiled, AreMessagesOf, CataloguesAreOne, MessagesAreOne, CompiledCanBeKeys, JoinedEntriesCanStand, LayoutsAreLimited}
 use Rattle.po_compile.specs.declared.options.Options.{Options}
 use Rattle.po_compile.proofs.MeaningLemmas.{entry_lacks_separators}
 

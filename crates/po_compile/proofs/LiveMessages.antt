@@ -5,11 +5,10 @@ use Rattle.std.proofs.Math.ListN.{get_or-map}
 use Rattle.std.proofs.lemmas.Bool.{lt-ltb}
 use Rattle.std.proofs.lemmas.List.{length-map}
 use Rattle.std.proofs.lemmas.Simd.{map-map}
-use Rattle.po_entry.specs.TextEntry.{TextEntry}
+use Rattle.po_entry.specs.Prelude.{TextEntry, is_live}
 use Rattle.po_syntax.specs.Facts.Mapped.{filter_map}
-use Rattle.po_entry.specs.Joined.{is_live}
-use Rattle.po_reader.specs.PieceRead.{without_comments}
-use Rattle.po_compile.specs.Collected.{LiveMessage, live_message, live_messages}
+use Rattle.po_reader.specs.Prelude.{without_comments}
+use Rattle.po_compile.specs.Prelude.{LiveMessage, live_message, live_messages}
 
 -- one is there where some are
 pub any_counted : {X : Type 0} (p : X → Bool) (xs : List X) → nat_lt 0 (length (filter p xs)) ≡ list_any p xs

@@ -10,33 +10,22 @@ use Rattle.std.proofs.lemmas.List.Sums.{fails_before_first, passes_at_first}
 use Rattle.std.proofs.lemmas.Option.{get_or_from_slice_get, none-some, slice_get-get_or, slice_get_within}
 use Rattle.std.proofs.lemmas.List.Sorted.{All-permutation, Contains-permutation, IsPermutation-map, IsPermutation-sym}
 use Rattle.std.proofs.lemmas.Slice.Eq.{bytes_eq-Decides}
-use Rattle.mo_file.specs.Message.{Message}
-use Rattle.mo_file.specs.Key.{AreRising, key_cmp, key_of, keys, query_key}
+use Rattle.mo_file.specs.Prelude.{Message, AreRising, key_cmp, key_of, keys, query_key, context_of, forms, id_of, plural_of}
 use Rattle.mo_lookup.proofs.RisingLemmas.{less_is_other}
 use Rattle.po_compile.proofs.KeysApart.{below_from_rising, apart_permuted, rising_apart}
 use Rattle.std.specs.Bool.{Decides, one_answer}
 use Rattle.std.specs.List.{list_any, join_with_byte, position_or_len}
 use Rattle.std.specs.Option.{option_map, option_map_or, option_eq, unwrap_or}
 use Rattle.std.proofs.lemmas.Bool.Decides.{Decides-eqb, Decides-and, Decides-like}
-use Rattle.mo_lookup.specs.Answer.{form_at, answer}
-use Rattle.mo_lookup.specs.Query.{Query, can_be_key, has_no_separator, is_separator}
-use Rattle.mo_file.specs.MessageParts.{context_of, forms, id_of, plural_of}
+use Rattle.mo_lookup.specs.Prelude.{form_at, answer, Query, can_be_key, has_no_separator, is_separator, translation_under, header_text}
 use Rattle.mo_file.proofs.CutLemmas.{first_all, plural_cut, plural_none}
-use Rattle.mo_lookup.specs.CatalogView.{translation_under, header_text}
-use Rattle.plural_rule.specs.PluralRule.{IsRuleOf, expression_limit}
-use Rattle.po_entry.specs.TextEntry.{TextEntry, quoted_texts, previous_texts}
-use Rattle.po_entry.specs.Texts.{Lacks}
+use Rattle.plural_rule.specs.Prelude.{IsRuleOf, expression_limit}
+use Rattle.po_entry.specs.Prelude.{TextEntry, quoted_texts, previous_texts, Lacks, first_form, IsEntry, is_of_message}
 use Rattle.po_syntax.specs.Facts.AllAppend.{All-left, All-right}
-use Rattle.po_entry.specs.Header.{first_form}
-use Rattle.po_entry.specs.Validity.{IsEntry}
-use Rattle.po_entry.specs.Duplicate.{is_of_message}
-use Rattle.po_syntax.specs.TextItem.{IsText}
-use Rattle.po_compile.specs.Compiled.{original_of, translation_of, message_of, AreMessagesOf, plural_part}
-use Rattle.po_compile.specs.Compiling.{header_of}
-use Rattle.po_compile.specs.Headline.{MessagesMeanEntries}
+use Rattle.po_syntax.specs.Prelude.{IsText}
+use Rattle.po_compile.specs.Prelude.{original_of, translation_of, message_of, AreMessagesOf, plural_part, header_of, MessagesMeanEntries, MessagesHaveParts, MessagesDiffer, TextsComeBack}
 use Rattle.po_compile.proofs.TextLemmas.{context_back, id_back, key_of-plural_part, query_key_lacks, query_key_is_one, slice_split-join}
 use Rattle.std.proofs.Math.ListN.{get_or-map}
-use Rattle.po_compile.specs.MessageLaws.{MessagesHaveParts, MessagesDiffer, TextsComeBack}
 use Rattle.po_syntax.specs.Facts.Mapped.{find_map}
 
 -- what a search finds is in the list and passes the test

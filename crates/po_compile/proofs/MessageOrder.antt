@@ -4,24 +4,16 @@ use Rattle.std.proofs.Common.{◌≢◌, ℕ, Bool, ◌&&◌, ◌||◌, not, ◌
 use Rattle.std.proofs.lemmas.List.{length-map}
 use Rattle.std.proofs.lemmas.List.Elements.{All-weaker, All-filter, All-nil, All-cons, All-head, All-tail, All-map}
 use Rattle.std.proofs.lemmas.List.Kept.{AllPairs-filter, AllPairs-cons}
-use Rattle.mo_file.specs.Message.{Message, originals, translations}
-use Rattle.mo_file.specs.Key.{key_of, key_cmp}
-use Rattle.po_entry.specs.TextEntry.{TextEntry}
-use Rattle.mo_file.specs.Layout.{layout, header, table, terminated, originals_offset, translations_offset}
+use Rattle.mo_file.specs.Prelude.{Message, originals, translations, key_of, key_cmp, layout, header, table, terminated, originals_offset, translations_offset}
+use Rattle.po_entry.specs.Prelude.{TextEntry, is_header, IsEntry, IsCatalogueEntry, has_translation, is_live, IsSameMessage, AllDiffer, HasNoDuplicate}
 use Rattle.mo_file.specs.declared.byte_order.Order.{Order}
-use Rattle.po_entry.specs.Header.{is_header}
-use Rattle.po_entry.specs.Validity.{IsEntry, IsCatalogueEntry}
-use Rattle.po_entry.specs.Statistics.{has_translation}
-use Rattle.po_entry.specs.Joined.{is_live}
-use Rattle.po_entry.specs.Duplicate.{IsSameMessage, AllDiffer, HasNoDuplicate}
-use Rattle.po_compile.specs.Compiled.{is_compiled, compiled_list, original_of, message_of, AreMessagesOf}
+use Rattle.po_compile.specs.Prelude.{is_compiled, compiled_list, original_of, message_of, AreMessagesOf, MessagesAreOne}
 use Rattle.po_syntax.specs.Facts.Mapped.{filter_twice}
 use Rattle.po_compile.proofs.TextLemmas.{query_key_is_one}
 use Rattle.po_compile.proofs.MeaningLemmas.{LacksSeparators, key_of-original}
 use Rattle.std.specs.declared.cmp.Ordering.TheVariants.{Less, Equal, Greater}
 use Rattle.std.proofs.lemmas.Cmp.{nat_list_cmp_total, tied_itself}
 use Rattle.std.proofs.lemmas.List.Sorted.{Contains-permutation, IsPermutation-sym, IsPermutation-trans, All-permutation, IsPermutation-refl, IsPermutation-cons, IsPermutation-middle}
-use Rattle.po_compile.specs.Headline.{MessagesAreOne}
 use Rattle.po_compile.proofs.KeysApart.{below_from_rising, rising_from_below}
 use Rattle.std.specs.declared.cmp.Ordering.{Ordering}
 use Rattle.std.proofs.lemmas.Map.Lookups.{exact_bytes}

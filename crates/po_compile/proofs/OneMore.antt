@@ -8,15 +8,10 @@ use Rattle.std.proofs.lemmas.Bool.Decides.{Decides-and}
 use Rattle.std.proofs.lemmas.List.Elements.{All-append, All-tail}
 use Rattle.std.proofs.lemmas.List.Folds.{find-append}
 use Rattle.std.proofs.lemmas.Slice.Eq.{bytes_eq-Decides}
-use Rattle.mo_lookup.specs.Answer.{answer}
-use Rattle.mo_lookup.specs.Query.{Query, can_be_key}
+use Rattle.mo_lookup.specs.Prelude.{answer, Query, can_be_key}
 use Rattle.po_syntax.specs.Facts.AllAppend.{All-left, All-right}
-use Rattle.po_entry.specs.TextEntry.{TextEntry}
-use Rattle.po_entry.specs.Validity.{IsEntry}
-use Rattle.po_entry.specs.Duplicate.{is_of_message}
-use Rattle.po_compile.specs.Headline.{MessagesMeanEntries}
-use Rattle.po_compile.specs.Compiling.{definition}
-use Rattle.po_compile.specs.MessageLaws.{OneMoreChangesNoOther}
+use Rattle.po_entry.specs.Prelude.{TextEntry, IsEntry, is_of_message}
+use Rattle.po_compile.specs.Prelude.{MessagesMeanEntries, definition, OneMoreChangesNoOther}
 use Rattle.po_compile.proofs.MeaningLemmas.{option_decides}
 
 of_other : (query : Query) (entry : TextEntry) → ¬ ((entry.context ≡ query.context) × (entry.id ≡ query.id))

@@ -7,18 +7,11 @@ use Rattle.std.proofs.lemmas.List.{take_more, take-append-drop, map-append, leng
 use Rattle.po_syntax.specs.declared.fault.PoError.{PoError}
 use Rattle.po_syntax.specs.declared.fault.PoFault.{PoFault}
 use Rattle.po_syntax.specs.declared.fault.PoFault.TheVariants.{OutOfMemory}
-use Rattle.po_entry.specs.TextEntry.{TextEntry, slice_texts}
-use Rattle.po_entry.specs.Joined.{joined_entries, entries_of, in_input}
-use Rattle.po_entry.specs.Duplicate.{HasNoDuplicate, ReadsDistinct, IsTextFault}
-use Rattle.po_entry.specs.Validity.{out_of_memory, IsCatalogueEntry}
+use Rattle.po_entry.specs.Prelude.{TextEntry, slice_texts, joined_entries, entries_of, in_input, HasNoDuplicate, ReadsDistinct, IsTextFault, out_of_memory, IsCatalogueEntry, ReadsText}
 use Rattle.po_entry.proofs.DuplicateLemmas.{entries_of_input}
-use Rattle.po_compile.specs.Accepted.{AreRead, IsReadingFault, fault_input, fault_of_input}
+use Rattle.po_compile.specs.Prelude.{AreRead, IsReadingFault, fault_input, fault_of_input, compiled_list, LookUpMeansEntries, MessagesAreOne, MessagesMeanEntries}
 use Rattle.std.proofs.lemmas.List.Elements.{All-nil, All-cons}
-use Rattle.mo_file.specs.Layout.{layout}
-use Rattle.mo_file.specs.Laws.{LayoutIsMoFile}
-use Rattle.po_entry.specs.ReadsText.{ReadsText}
-use Rattle.po_compile.specs.Compiled.{compiled_list}
-use Rattle.po_compile.specs.Headline.{LookUpMeansEntries, MessagesAreOne, MessagesMeanEntries}
+use Rattle.mo_file.specs.Prelude.{layout, LayoutIsMoFile}
 use Rattle.po_compile.proofs.JoinedRows.{joined_valid}
 use Rattle.po_compile.proofs.MessageOrder.{compiled_valid}
 

@@ -9,12 +9,10 @@ use Rattle.std.proofs.lemmas.List.Quantifiers.{all_pairs_push}
 use Rattle.std.proofs.lemmas.List.Sums.{passes_at_first, prefix_len-le-length, prefix_len_passes}
 use Rattle.std.proofs.lemmas.Simd.{map-map}
 use Rattle.std.proofs.lemmas.Slice.Eq.{bytes_eq-Decides}
-use Rattle.po_entry.specs.SeenTexts.{with_seen}
-use Rattle.po_entry.specs.TextEntry.{slice_texts}
-use Rattle.po_entry.specs.Duplicate.{IsFirstRepeat}
+use Rattle.po_entry.specs.Prelude.{with_seen, slice_texts, IsFirstRepeat}
 use Rattle.po_entry.specs.Facts.FirstRepeats.{pairs_of_map}
 use Rattle.po_entry.proofs.FirstOnes.{found_within}
-use Rattle.po_compile.specs.Collected.{LiveMessage}
+use Rattle.po_compile.specs.Prelude.{LiveMessage}
 use Rattle.po_compile.specs.Internal.Repeats.{HaveOneKey, IsRepeatAt}
 use Rattle.po_compile.specs.Internal.Rows.{AllApart, InputMessage, all_messages, in_input_message, input_keys, is_joined, message_keys}
 use Rattle.po_compile.proofs.Filters.{filter_all, split_at}

@@ -5,15 +5,9 @@ use Rattle.std.proofs.lemmas.List.Elements.{All-filter, All-head, All-map, All-t
 use Rattle.std.proofs.lemmas.List.Sorted.{All-permutation, IsPermutation-map, length_permutation}
 use Rattle.std.proofs.lemmas.List.Sums.{length-filter}
 use Rattle.std.proofs.lemmas.Simd.{map-map}
-use Rattle.mo_file.specs.Key.{AreRising, key_of, keys}
-use Rattle.mo_file.specs.Message.{Message}
-use Rattle.po_entry.specs.TextEntry.{TextEntry}
-use Rattle.po_entry.specs.Validity.{IsCatalogueEntry}
-use Rattle.po_entry.specs.Duplicate.{live_entries}
-use Rattle.po_entry.specs.Joined.{InputEntry, entries_of, is_live, joined, joined_entries}
-use Rattle.po_entry.specs.Statistics.{stats_of, is_translated, is_fuzzy, is_untranslated}
-use Rattle.po_compile.specs.Collected.{HoldCatalogues, LiveMessage, live_message, live_messages, compiled_inputs, compiled_message}
-use Rattle.po_compile.specs.Compiled.{is_compiled, compiled_list, AreMessagesOf, message_of}
+use Rattle.mo_file.specs.Prelude.{AreRising, key_of, keys, Message}
+use Rattle.po_entry.specs.Prelude.{TextEntry, IsCatalogueEntry, live_entries, InputEntry, entries_of, is_live, joined, joined_entries, stats_of, is_translated, is_fuzzy, is_untranslated}
+use Rattle.po_compile.specs.Prelude.{HoldCatalogues, LiveMessage, live_message, live_messages, compiled_inputs, compiled_message, is_compiled, compiled_list, AreMessagesOf, message_of}
 use Rattle.po_compile.specs.Internal.Rows.{AreSortedRows, InputMessage, all_messages, compiled_of, counts_fuzzy, counts_of, counts_translated, counts_untranslated, input_message, row_view, view_of_message}
 use Rattle.po_compile.specs.declared.row.Row.{Row}
 use Rattle.po_syntax.specs.Facts.Mapped.{filter_map}

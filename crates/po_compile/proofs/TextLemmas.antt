@@ -3,11 +3,10 @@ use Rattle.std.proofs.Common.{◌≡◌, ◌≢◌, ℕ, ◌+◌, List, [], ◌�
 use Rattle.std.proofs.lemmas.List.{get_or-append-add}
 use Rattle.std.proofs.lemmas.List.Elements.{All-head, All-tail, All-cons, All-append}
 use Rattle.std.specs.List.{slice_split, join_with_byte}
-use Rattle.mo_file.specs.Key.{is_nul, key_of, query_key}
-use Rattle.mo_file.specs.MessageParts.{context_of, id_of}
+use Rattle.mo_file.specs.Prelude.{is_nul, key_of, query_key, context_of, id_of}
 use Rattle.mo_file.proofs.CutLemmas.{before_all, before_is, context_cut, context_none, id_all, id_cut, split_cut, split_none}
-use Rattle.po_entry.specs.Texts.{Lacks}
-use Rattle.po_compile.specs.Compiled.{plural_part}
+use Rattle.po_entry.specs.Prelude.{Lacks}
+use Rattle.po_compile.specs.Prelude.{plural_part}
 
 pub key_of-plural_part : (key : List ℕ) (plural : Option (List ℕ)) → Lacks 0 key
     → key_of (key ++ plural_part plural) ≡ key

@@ -5,10 +5,7 @@ use Rattle.std.specs.List.{AllZip}
 use Rattle.po_syntax.specs.declared.fault.PoError.{PoError}
 use Rattle.po_syntax.specs.declared.fault.PoFault.{PoFault}
 use Rattle.po_syntax.specs.declared.fault.PoFault.TheVariants.{OutOfMemory}
-use Rattle.po_entry.specs.TextEntry.{TextEntry}
-use Rattle.po_entry.specs.Joined.{InputEntry, joined, joined_entries}
-use Rattle.po_entry.specs.Duplicate.{HasNoDuplicate, IsFirstDuplicate, duplicate_fault, join_out_of_memory, IsTextFault, ReadsDistinct}
-use Rattle.po_entry.specs.Statistics.{stats_of}
+use Rattle.po_entry.specs.Prelude.{TextEntry, InputEntry, joined, joined_entries, HasNoDuplicate, IsFirstDuplicate, duplicate_fault, join_out_of_memory, IsTextFault, ReadsDistinct, stats_of}
 use Rattle.po_entry.specs.declared.duplicate.JoinError.{JoinError}
 use Rattle.po_compile.specs.Compiling.{IsCompilation, HasLargeLayout, HasSmallLayout, layout_fault}
 use Rattle.po_compile.specs.declared.options.Options.{Options}

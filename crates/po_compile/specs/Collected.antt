@@ -1,16 +1,11 @@
 -- What is collected of a text that is compiled: the messages of its live entries, one after another
 -- (manual, "The Format of GNU MO Files").
 use Rattle.std.specs.Prelude.{◌≡◌, ℕ, Bool, List, map, filter, All}
-use Rattle.mo_file.specs.Key.{query_key}
-use Rattle.mo_file.specs.Message.{Message}
-use Rattle.po_entry.specs.TextEntry.{TextEntry}
-use Rattle.po_entry.specs.Validity.{IsCatalogueEntry}
-use Rattle.po_entry.specs.Joined.{is_live, InputEntry}
-use Rattle.po_entry.specs.Statistics.{is_counted, has_translation}
+use Rattle.mo_file.specs.Prelude.{query_key, Message}
+use Rattle.po_entry.specs.Prelude.{TextEntry, IsCatalogueEntry, is_live, InputEntry, is_counted, has_translation, ReadsText}
 use Rattle.po_compile.specs.Compiled.{is_compiled, message_of}
 use Rattle.po_compile.specs.declared.status.Status.{Status}
 use Rattle.std.specs.List.{AllZip}
-use Rattle.po_entry.specs.ReadsText.{ReadsText}
 use Rattle.po_compile.specs.declared.messages.CompiledMessage.{CompiledMessage}
 
 -- whether the entry is compiled, and what the statistics ask of it

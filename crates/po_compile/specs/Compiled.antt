@@ -1,13 +1,9 @@
 -- Which entries of a catalogue are compiled (manual, "Invoking the msgfmt Program": fuzzy, obsolete
 -- and untranslated entries).
 use Rattle.std.specs.Prelude.{Bool, not, ◌&&◌, ◌||◌, List, filter, ℕ, [], ◌∷◌, ◌++◌, map, Option, None, Some, IsPermutation}
-use Rattle.po_entry.specs.TextEntry.{TextEntry}
-use Rattle.po_entry.specs.Header.{is_header}
-use Rattle.po_entry.specs.Joined.{is_live}
-use Rattle.po_entry.specs.Statistics.{has_translation}
+use Rattle.po_entry.specs.Prelude.{TextEntry, is_header, is_live, has_translation}
 use Rattle.std.specs.List.{join_with_byte}
-use Rattle.mo_file.specs.Message.{Message}
-use Rattle.mo_file.specs.Key.{AreRising, keys, query_key}
+use Rattle.mo_file.specs.Prelude.{Message, AreRising, keys, query_key}
 
 -- A live entry whose first form isn't empty, and that isn't fuzzy, unless fuzzy entries are asked
 -- for (`--use-fuzzy`). A header's flag `fuzzy` is ignored. Forms after the first may be empty.

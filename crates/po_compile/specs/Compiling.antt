@@ -2,16 +2,10 @@
 -- Program").
 use Rattle.std.specs.Prelude.{◌≡◌, ℕ, List, [], Option, None, option_map, find, if◌then◌else◌, ◌^◌, ◌<◌, ◌≤◌, length}
 use Rattle.std.specs.Option.{option_map_or}
-use Rattle.plural_rule.specs.PluralRule.{RuleView, IsRuleOf, expression_limit}
-use Rattle.mo_file.specs.Message.{Message}
-use Rattle.mo_lookup.specs.Answer.{AnswerView, answer}
-use Rattle.mo_lookup.specs.CatalogView.{IsCatalogView, answered}
-use Rattle.mo_lookup.specs.Query.{Query, can_be_key}
-use Rattle.po_entry.specs.TextEntry.{TextEntry}
-use Rattle.po_entry.specs.Header.{first_form}
-use Rattle.po_entry.specs.Duplicate.{is_of_message, join_out_of_memory}
-use Rattle.mo_file.specs.Layout.{layout}
-use Rattle.mo_file.specs.MoFile.{IsMoFile}
+use Rattle.plural_rule.specs.Prelude.{RuleView, IsRuleOf, expression_limit}
+use Rattle.mo_file.specs.Prelude.{Message, layout, IsMoFile}
+use Rattle.mo_lookup.specs.Prelude.{AnswerView, answer, IsCatalogView, answered, Query, can_be_key}
+use Rattle.po_entry.specs.Prelude.{TextEntry, first_form, is_of_message, join_out_of_memory}
 use Rattle.mo_file.specs.declared.building.BuildError.{BuildError}
 use Rattle.mo_file.specs.declared.building.BuildError.TheVariants.{TooLarge as Large, NotSorted, OutOfMemory as NoMemory}
 use Rattle.po_syntax.specs.declared.fault.PoFault.TheVariants.{TooLarge}

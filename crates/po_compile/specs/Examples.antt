@@ -5,20 +5,14 @@ use Rattle.std.specs.Prelude.{◌≡◌, refl, ℕ, ◌<◌, ◌≤◌, true, fa
 use Rattle.std.proofs.Common.{◌∙◌, arith, ap, inl, inr}
 use Rattle.plural_rule.specs.declared.rule.Source.TheVariants.{Header}
 use Rattle.plural_rule.specs.Expression.{Number}
-use Rattle.plural_rule.specs.PluralRule.{RuleView}
+use Rattle.plural_rule.specs.Prelude.{RuleView}
 use Rattle.mo_file.specs.declared.byte_order.Order.TheVariants.{Little}
-use Rattle.mo_file.specs.Key.{AreRising, keys}
-use Rattle.mo_file.specs.Layout.{layout}
-use Rattle.mo_file.specs.Message.{Message}
-use Rattle.mo_lookup.specs.CatalogView.{answered}
-use Rattle.mo_lookup.specs.Query.{Query}
-use Rattle.po_entry.specs.TextEntry.{TextEntry, plain_entry}
+use Rattle.mo_file.specs.Prelude.{AreRising, keys, layout, Message}
+use Rattle.mo_lookup.specs.Prelude.{answered, Query}
+use Rattle.po_entry.specs.Prelude.{TextEntry, plain_entry, ReadsDistinct, IsTextFault, join_out_of_memory, in_input, joined_entries, stats_of}
 use Rattle.po_syntax.specs.declared.fault.PoFault.TheVariants.{BadToken, Duplicate, TooLarge}
 use Rattle.po_entry.specs.declared.duplicate.JoinError.{JoinError}
-use Rattle.po_entry.specs.Duplicate.{ReadsDistinct, IsTextFault, join_out_of_memory}
 use Rattle.po_entry.specs.MessageExamples.{of_a_on, obsolete_of_a, first_duplicate}
-use Rattle.po_entry.specs.Joined.{in_input, joined_entries}
-use Rattle.po_entry.specs.Statistics.{stats_of}
 use Rattle.po_compile.specs.Compiled.{is_compiled, compiled_list, plural_part, original_of, translation_of, message_of, AreMessagesOf}
 use Rattle.po_compile.specs.Compiling.{definition, header_of, meant, MeansEntries, HasSmallLayout, IsCompilation, HasLargeLayout}
 use Rattle.po_compile.specs.Accepted.{AreRead, AreAccepted, AreCompiled, HasStatistics, HasJoinedDuplicate, IsReadingFault, IsCompileFault}

@@ -1,15 +1,10 @@
 -- Laws of compiling: what is looked up in a compiled catalogue is what its entries mean (manual,
 -- "Invoking the msgfmt Program" and "The Format of GNU MO Files").
 use Rattle.std.specs.Prelude.{◌≡◌, ◌≢◌, ◌⊎◌, ℕ, List, All}
-use Rattle.mo_file.specs.Message.{Message}
-use Rattle.mo_file.specs.Layout.{layout}
-use Rattle.mo_file.specs.MoFile.{IsMoFile}
-use Rattle.po_entry.specs.TextEntry.{TextEntry}
-use Rattle.po_entry.specs.Validity.{IsEntry}
-use Rattle.po_entry.specs.Joined.{joined_entries}
+use Rattle.mo_file.specs.Prelude.{Message, layout, IsMoFile}
+use Rattle.po_entry.specs.Prelude.{TextEntry, IsEntry, joined_entries, join_out_of_memory, IsTextFault, ReadsDistinct}
 use Rattle.po_compile.specs.Compiled.{compiled_list, AreMessagesOf}
 use Rattle.po_compile.specs.Compiling.{MeansEntries}
-use Rattle.po_entry.specs.Duplicate.{join_out_of_memory, IsTextFault, ReadsDistinct}
 use Rattle.po_entry.specs.declared.duplicate.JoinError.{JoinError}
 use Rattle.po_syntax.specs.declared.fault.PoError.{PoError}
 use Rattle.po_compile.specs.Accepted.{AreAccepted, AreRead, IsCompileFault}

@@ -6,3 +6,4 @@ pub mod MessageLaws
 pub mod Collected
 pub mod Internal
 pub mod Examples
+pub mod Prelude

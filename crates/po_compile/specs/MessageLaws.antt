@@ -1,17 +1,10 @@
 -- Laws of the messages that entries are compiled to, and of the entries of texts.
 use Rattle.std.specs.Prelude.{◌≡◌, ◌↔◌, ◌<◌, ◌≤◌, ℕ, Bool, true, List, [], ◌∷◌, ◌++◌, All, length, false, None}
-use Rattle.mo_file.specs.Key.{key_of, query_key}
-use Rattle.mo_file.specs.Layout.{layout}
-use Rattle.mo_file.specs.Message.{Message}
-use Rattle.mo_file.specs.MessageParts.{context_of, forms, id_of, plural_of}
-use Rattle.mo_lookup.specs.CatalogView.{answered}
-use Rattle.mo_lookup.specs.Query.{Query, can_be_key}
-use Rattle.plural_rule.specs.PluralRule.{RuleView}
+use Rattle.mo_file.specs.Prelude.{key_of, query_key, layout, Message, context_of, forms, id_of, plural_of}
+use Rattle.mo_lookup.specs.Prelude.{answered, Query, can_be_key}
+use Rattle.plural_rule.specs.Prelude.{RuleView}
 use Rattle.po_syntax.specs.declared.fault.PoFault.TheVariants.{TooLarge}
-use Rattle.po_entry.specs.TextEntry.{TextEntry}
-use Rattle.po_entry.specs.Validity.{IsEntry, IsCatalogueEntry}
-use Rattle.po_entry.specs.Joined.{joined_entries}
-use Rattle.po_entry.specs.Duplicate.{AllDiffer, ReadsDistinct}
+use Rattle.po_entry.specs.Prelude.{TextEntry, IsEntry, IsCatalogueEntry, joined_entries, AllDiffer, ReadsDistinct}
 use Rattle.po_entry.specs.declared.duplicate.JoinError.{JoinError}
 use Rattle.po_compile.specs.Accepted.{AreAccepted, AreRead, IsTooLarge}
 use Rattle.po_compile.specs.Compiled.{compiled_list, original_of, translation_of, AreMessagesOf}

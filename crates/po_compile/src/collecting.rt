@@ -1,10 +1,9 @@
 //! The live entries of an input.
 
 ghost use Rattle.std.specs.Prelude.{◌≡◌, IfOk, IfErr, List, filter, length};
-ghost use Rattle.po_entry.specs.ReadsText.{ReadsText};
-ghost use Rattle.po_entry.specs.TextEntry.{TextEntry};
-ghost use Rattle.po_reader.specs.PieceRead.{IsTextError};
-ghost use Rattle.po_compile.specs.Collected.{live_messages};
+ghost use Rattle.po_entry.specs.Prelude.{ReadsText, TextEntry};
+ghost use Rattle.po_reader.specs.Prelude.{IsTextError};
+ghost use Rattle.po_compile.specs.Prelude.{live_messages};
 ghost use Rattle.po_compile.specs.Internal.Rows.{has_no_key};
 
 use po_entry::{Drafts, Store};

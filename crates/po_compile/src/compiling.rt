@@ -1,12 +1,8 @@
 //! The MO file of PO texts.
 
 ghost use Rattle.std.specs.Prelude.{◌≡◌, ◌≢◌, ◌<◌, ◌^◌, ℕ, [], ◌∷◌, List, length, IfOk, IfErr, MatchResult};
-ghost use Rattle.po_entry.specs.TextEntry.{slice_texts};
-ghost use Rattle.po_entry.specs.Joined.{joined_entries};
-ghost use Rattle.po_entry.specs.Statistics.{stats_of};
-ghost use Rattle.po_compile.specs.Accepted.{AreCompiled, AreRead, HasStatistics, IsCompileFault, fault_of_only_input};
-ghost use Rattle.po_compile.specs.Collected.{AreCollected};
-ghost use Rattle.po_compile.specs.Compiling.{IsCompilation, IsReportedFault};
+ghost use Rattle.po_entry.specs.Prelude.{slice_texts, joined_entries, stats_of};
+ghost use Rattle.po_compile.specs.Prelude.{AreCompiled, AreRead, HasStatistics, IsCompileFault, fault_of_only_input, AreCollected, IsCompilation, IsReportedFault};
 
 use crate::collecting::Collected;
 use crate::inputs::collect_all;

@@ -1,9 +1,8 @@
 //! Several inputs collected.
 
 ghost use Rattle.std.specs.Prelude.{◌<◌, ◌^◌, IfErr, IfOk, length};
-ghost use Rattle.po_entry.specs.TextEntry.{slice_texts};
-ghost use Rattle.po_compile.specs.Accepted.{IsReadingFault};
-ghost use Rattle.po_compile.specs.Collected.{AreCollected};
+ghost use Rattle.po_entry.specs.Prelude.{slice_texts};
+ghost use Rattle.po_compile.specs.Prelude.{IsReadingFault, AreCollected};
 
 use crate::collecting::{Collected, collect};
 use crate::repeats::{check_each, fault_of_input};

@@ -1,8 +1,7 @@
 //! Laws of compiling, each the contract of a function that does nothing: a call brings the law into
 //! a proof.
 
-ghost use Rattle.po_compile.specs.MessageLaws.{CompiledListIsKept, CompiledCanBeKeys, JoinedEntriesCanStand, LayoutsAreLimited, MessagesDiffer, MessagesHaveParts, OneMoreChangesNoOther, OneTextIsRead, TextsComeBack};
-ghost use Rattle.po_compile.specs.Headline.{AcceptedOrFault, CataloguesAreOne, LookUpMeansEntries, MessagesAreOne, MessagesMeanEntries, NoFaultWhereAccepted, NoFaultWhereDistinct, OneCompileFault, OneTextFault};
+ghost use Rattle.po_compile.specs.Prelude.{CompiledListIsKept, CompiledCanBeKeys, JoinedEntriesCanStand, LayoutsAreLimited, MessagesDiffer, MessagesHaveParts, OneMoreChangesNoOther, OneTextIsRead, TextsComeBack, AcceptedOrFault, CataloguesAreOne, LookUpMeansEntries, MessagesAreOne, MessagesMeanEntries, NoFaultWhereAccepted, NoFaultWhereDistinct, OneCompileFault, OneTextFault};
 
 use mo_file::laws::layout_is_mo_file;
 use po_entry::laws::{no_duplicate_or_first, no_first_duplicate_where_none, one_first_duplicate};

@@ -1,9 +1,8 @@
 //! The messages of an MO file before they are written, as the profile's check reads them.
 
 ghost use Rattle.std.specs.Prelude.{◌≡◌, ◌<◌, ◌^◌, All, IfOk, OnOk, length, map};
-ghost use Rattle.po_entry.specs.Joined.{joined, joined_entries};
-ghost use Rattle.po_entry.specs.Validity.{IsCatalogueEntry};
-ghost use Rattle.po_compile.specs.Collected.{compiled_inputs, compiled_message, compiled_view, OfAllInputs};
+ghost use Rattle.po_entry.specs.Prelude.{joined, joined_entries, IsCatalogueEntry};
+ghost use Rattle.po_compile.specs.Prelude.{compiled_inputs, compiled_message, compiled_view, OfAllInputs};
 
 use crate::collecting::Collected;
 use crate::rows::joined_rows;

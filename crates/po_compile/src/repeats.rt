@@ -2,11 +2,8 @@
 
 ghost use Rattle.std.specs.Prelude.{◌≡◌, ◌⊎◌, ◌<◌, ◌^◌, IfErr, IfOk, MatchOption, OnOk, length};
 ghost use Rattle.std.specs.List.{flat_map};
-ghost use Rattle.po_entry.specs.SeenTexts.{digest_of};
-ghost use Rattle.po_entry.specs.TextEntry.{slice_texts};
-ghost use Rattle.po_entry.specs.Message.{key_writes};
-ghost use Rattle.po_entry.specs.Duplicate.{join_out_of_memory};
-ghost use Rattle.po_compile.specs.Accepted.{fault_of_input};
+ghost use Rattle.po_entry.specs.Prelude.{digest_of, slice_texts, key_writes, join_out_of_memory};
+ghost use Rattle.po_compile.specs.Prelude.{fault_of_input};
 ghost use Rattle.po_compile.specs.Internal.Repeats.{EachApart, IsRepeat, IsRepeatAt, IsRepeatInInput, repeat_fault};
 ghost use Rattle.po_compile.specs.Internal.Rows.{AllApart, all_messages, input_keys, row_view};
 

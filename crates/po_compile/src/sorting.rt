@@ -1,7 +1,7 @@
 //! Rows in the order of their keys, and their statistics.
 
 ghost use Rattle.std.specs.Prelude.{◌≡◌, ◌<◌, ◌^◌, ◌↔◌, All, IfErr, IfOk, IsPermutation, IsTrue, OnOk, count_by, length, map};
-ghost use Rattle.mo_file.specs.Key.{AreRising};
+ghost use Rattle.mo_file.specs.Prelude.{AreRising};
 ghost use Rattle.po_compile.specs.Internal.Repeats.{EachApart, IsRepeatFault};
 ghost use Rattle.po_compile.specs.Internal.Rows.{AreSorted, AreSortedRows, HasOneHeader, counts_of, row_key};
 

@@ -1,7 +1,7 @@
 //! Whether an entry is compiled, and what the statistics ask of it.
 
 ghost use Rattle.std.specs.Prelude.{◌≡◌};
-ghost use Rattle.po_compile.specs.Collected.{status_of};
+ghost use Rattle.po_compile.specs.Prelude.{status_of};
 
 use po_entry::{EntryRef, has_translation};
 

@@ -4,9 +4,8 @@ use Rattle.std.specs.Prelude.{All, option_to_list}
 use Rattle.std.proofs.lemmas.List.Elements.{All-nil, All-cons, All-append}
 use Rattle.std.proofs.lemmas.List.{length-map}
 use Rattle.std.proofs.lemmas.Str.{IsUtf8-nil}
-use Rattle.po_entry.specs.TextEntry.{TextEntry, quoted_texts, previous_texts, no_previous}
-use Rattle.po_entry.specs.Validity.{IsEntry}
-use Rattle.po_syntax.specs.TextItem.{IsText}
+use Rattle.po_entry.specs.Prelude.{TextEntry, quoted_texts, previous_texts, no_previous, IsEntry}
+use Rattle.po_syntax.specs.Prelude.{IsText}
 use Rattle.po_syntax.specs.Facts.AllAppend.{All-left, All-right}
 
 -- the texts of the quoted strings but the forms

@@ -7,9 +7,10 @@ use Rattle.std.proofs.lemmas.Bool.Decides.{Decides-eqb}
 use Rattle.std.proofs.lemmas.List.{append_cancel_left, drop_at}
 use Rattle.std.proofs.lemmas.List.Elements.{All-head, All-tail}
 use Rattle.std.proofs.lemmas.Slice.Eq.{starts_is}
-use Rattle.po_syntax.specs.Blanks.{FailsFirst}
+use Rattle.po_syntax.specs.Prelude.{FailsFirst}
 use Rattle.po_syntax.specs.Facts.Runs.{parts_of}
-use Rattle.po_entry.specs.Header.{after_charset, ends_name, charset_of, EndsName, IsAfterName, at_end, at_byte, IsAround, NamesCharset, unnamed, named}
+use Rattle.po_entry.specs.Prelude.{after_charset, ends_name, charset_of, EndsName, IsAfterName, IsAround, NamesCharset}
+use Rattle.po_entry.specs.Header.{at_end, at_byte, unnamed, named}
 
 -- no `charset=` stands in the text before this many bytes
 abbrev IsEarliest : List ℕ → ℕ → Type 0

@@ -5,7 +5,7 @@ use Rattle.std.specs.Prelude.{All, IsTrue, ◌↔◌, IfSome, option_to_list}
 use Rattle.std.specs.Global.{Vec}
 use Rattle.std.proofs.lemmas.List.Elements.{All-nil, All-cons, All-head, All-append, All-get_or, All-more, All-map}
 use Rattle.std.proofs.lemmas.List.{length-map, take_all, get_or-map}
-use Rattle.po_entry.specs.TextEntry.{texts}
+use Rattle.po_entry.specs.Prelude.{texts}
 use Rattle.po_syntax.specs.Facts.AllAppend.{All-left, All-right}
 
 -- two lists pass where both do

@@ -1,10 +1,7 @@
 -- Each live entry but the header is counted once.
 use Rattle.std.proofs.Common.{◌≡◌, ℕ, ◌+◌, ◌<◌, Bool, true, false, cond, not, ◌&&◌, ◌==◌, List, [], ◌∷◌, refl, ap, ◌∙◌, filter, length, arith, bytes_eq}
 use Rattle.std.proofs.Math.Bool.{and_assoc, and_comm}
-use Rattle.po_entry.specs.TextEntry.{TextEntry}
-use Rattle.po_entry.specs.Header.{first_form}
-use Rattle.po_entry.specs.Statistics.{has_translation, is_counted, is_fuzzy, is_translated, is_untranslated}
-use Rattle.po_entry.specs.MessageLaws.{CountsAddUp, EmptyAreUntranslated, FlaggedAreFuzzy, has_empty_first_form, live_messages}
+use Rattle.po_entry.specs.Prelude.{TextEntry, first_form, has_translation, is_counted, is_fuzzy, is_translated, is_untranslated, CountsAddUp, EmptyAreUntranslated, FlaggedAreFuzzy, has_empty_first_form, live_messages}
 
 one_more : (counted has fuzzy : Bool) (e : TextEntry) (ts fs us all : List TextEntry)
     → length ts + length fs + length us ≡ length all

@@ -1,8 +1,6 @@
 -- The first duplicate is the first live entry whose number an earlier live one has.
 use Rattle.std.proofs.Common.{◌≡◌, List, [], ◌∷◌, ℕ, refl, sym, ap, subst, map, filter, AllPairs, ⊎_elim, Result, Ok, Err, MatchResult, IsOkUnless}
-use Rattle.po_entry.specs.TextEntry.{TextEntry}
-use Rattle.po_entry.specs.Joined.{InputEntry, is_live, in_input, entries_of}
-use Rattle.po_entry.specs.Duplicate.{IsSameMessage, AllDiffer, HasNoDuplicate, live_entries, IsFirstDuplicate, IsDuplicateFault, join_out_of_memory}
+use Rattle.po_entry.specs.Prelude.{TextEntry, InputEntry, is_live, in_input, entries_of, IsSameMessage, AllDiffer, HasNoDuplicate, live_entries, IsFirstDuplicate, IsDuplicateFault, join_out_of_memory}
 use Rattle.po_entry.specs.Facts.FirstRepeats.{none_repeats, pairs_map, pairs_of_map}
 use Rattle.po_syntax.specs.Facts.Mapped.{filter_map}
 use Rattle.po_entry.specs.declared.duplicate.JoinError.{JoinError}

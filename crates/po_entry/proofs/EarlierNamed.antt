@@ -1,9 +1,7 @@
 -- The two entries of a duplicate, where they stand in the list.
 use Rattle.std.proofs.Common.{◌≡◌, inl, inr, Bool, true, false, cond, List, [], ◌∷◌, ◌++◌, refl, sym, subst, ap, ◌∙◌, filter, append_assoc}
 use Rattle.std.proofs.lemmas.Bool.{not-true}
-use Rattle.po_entry.specs.Duplicate.{IsFirstDuplicate, duplicate_fault}
-use Rattle.po_entry.specs.MessageLaws.{NamesEarlier, FaultNamesEarlier}
-use Rattle.po_entry.specs.Joined.{InputEntry, is_live}
+use Rattle.po_entry.specs.Prelude.{IsFirstDuplicate, duplicate_fault, NamesEarlier, FaultNamesEarlier, InputEntry, is_live}
 use Rattle.po_entry.specs.declared.duplicate.JoinError.{JoinError}
 
 -- where an element that passes a test stands, and what passes it before and after

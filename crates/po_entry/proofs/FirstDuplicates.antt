@@ -3,10 +3,8 @@ use Rattle.std.proofs.Common.{◌≡◌, ℕ, List, Option, Some, None, refl, sy
 use Rattle.std.proofs.lemmas.Bool.{cases_Bool, false≢true}
 use Rattle.std.proofs.lemmas.Slice.Eq.{bytes_eq-Decides}
 use Rattle.std.specs.Str.{bytes_eq}
-use Rattle.po_entry.specs.TextEntry.{TextEntry}
-use Rattle.po_entry.specs.Duplicate.{IsSameMessage, AllDiffer, HasNoDuplicate, live_entries, IsFirstDuplicate}
+use Rattle.po_entry.specs.Prelude.{TextEntry, IsSameMessage, AllDiffer, HasNoDuplicate, live_entries, IsFirstDuplicate, InputEntry, entries_of}
 use Rattle.po_entry.specs.Facts.FirstRepeats.{none_or_first_repeat, one_repeat, pairs_map}
-use Rattle.po_entry.specs.Joined.{InputEntry, entries_of}
 use Rattle.po_entry.proofs.DuplicateLemmas.{live_of_entries}
 
 text_is : (a b : List ℕ) → (a ≡ b) ⊎ (a ≡ b → ⊥)

@@ -9,7 +9,7 @@ use Rattle.std.proofs.lemmas.List.{map-append, length-map, get_or_at, get_or-map
 use Rattle.std.proofs.lemmas.List.Sums.{fold_push, passes_at_first}
 use Rattle.std.proofs.lemmas.List.Elements.{All-head, All-map, All-tail}
 use Rattle.std.proofs.Math.Bool.{or-false, or-true, or_assoc}
-use Rattle.po_entry.specs.Message.{with_new, first_ones, group_numbers}
+use Rattle.po_entry.specs.Prelude.{with_new, first_ones, group_numbers}
 
 module _ {X : Type 0} (p : X → Bool) where
   pub found_within : (xs : List X) → list_any p xs ≡ true → position_or_len p xs < length xs

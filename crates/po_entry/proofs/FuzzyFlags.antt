@@ -10,8 +10,9 @@ use Rattle.std.proofs.lemmas.Map.Views.{Contains-from_any}
 use Rattle.std.proofs.lemmas.Slice.Eq.{bytes_eq-Decides}
 use Rattle.po_syntax.specs.declared.item.CommentKind.{CommentKind}
 use Rattle.po_syntax.specs.declared.item.CommentKind.TheVariants.{Translator, Extracted, Reference, Flags}
-use Rattle.po_entry.specs.Comments.{CommentText, all_listed_flags, fuzzy_of, is_fuzzy_flag, listed_flags, ListsFlags, HaveFuzzyFlag, here, later}
-use Rattle.po_entry.specs.Header.{NamesAdmitted, no_name, utf_8, utf8, us_ascii, ascii, template, IsAdmittedName}
+use Rattle.po_entry.specs.Prelude.{CommentText, all_listed_flags, fuzzy_of, is_fuzzy_flag, listed_flags, ListsFlags, HaveFuzzyFlag, NamesAdmitted, IsAdmittedName}
+use Rattle.po_entry.specs.Comments.{here, later}
+use Rattle.po_entry.specs.Header.{no_name, utf_8, utf8, us_ascii, ascii, template}
 use Rattle.po_entry.proofs.ListedElements.{flags_listed}
 
 module _ {X : Type 0} (p : X → Bool) where

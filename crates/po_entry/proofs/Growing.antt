@@ -2,7 +2,7 @@
 use Rattle.std.proofs.Common.{sym, ap, ◌∙◌, ℕ, ◌≤◌, List, ◌++◌, length, length-take, take, arith}
 use Rattle.std.proofs.Math.Seq.{take-append_seam}
 use Rattle.std.proofs.lemmas.List.{take-take}
-use Rattle.po_entry.specs.Rows.{Grows}
+use Rattle.po_entry.specs.Prelude.{Grows}
 
 pub no_shorter : (old new : List ℕ) → Grows old new → length old ≤ length new
 no_shorter old new grows = omega (arith, ap length grows, length-take (length old) new)

@@ -4,9 +4,8 @@ use Rattle.std.specs.Prelude.{Decides, flat_map}
 use Rattle.std.proofs.lemmas.Bool.{and_parts, false≢true}
 use Rattle.po_syntax.specs.declared.item.CommentKind.{CommentKind}
 use Rattle.po_syntax.specs.declared.item.CommentKind.TheVariants.{Translator, Extracted, Reference, Flags}
-use Rattle.po_entry.specs.Header.{AdmitsCharset, IsHeaderEntry, NamesCharset, IsAdmittedName, charset_of, first_form, is_header}
-use Rattle.po_entry.specs.Comments.{HaveReferences, no_comment, references, other_kind, listed_references, references_of, same_kind, CommentText}
-use Rattle.po_entry.specs.TextEntry.{TextEntry}
+use Rattle.po_entry.specs.Prelude.{AdmitsCharset, IsHeaderEntry, NamesCharset, IsAdmittedName, charset_of, first_form, is_header, HaveReferences, listed_references, references_of, same_kind, CommentText, TextEntry}
+use Rattle.po_entry.specs.Comments.{no_comment, references, other_kind}
 use Rattle.po_entry.proofs.CharsetNames.{charset_named}
 use Rattle.po_entry.proofs.FuzzyFlags.{admitted}
 use Rattle.po_entry.proofs.Headers.{nonempty}

@@ -6,8 +6,7 @@ use Rattle.std.specs.Global.{Vec}
 use Rattle.std.proofs.lemmas.List.{take_all}
 use Rattle.std.proofs.lemmas.Bool.{false≢true, ltb-false, eqb-true}
 use Rattle.std.proofs.lemmas.List.Elements.{Contains-push, Contains-push_cases, Contains-append_left}
-use Rattle.po_entry.specs.TextEntry.{texts}
-use Rattle.po_entry.specs.Header.{first_form}
+use Rattle.po_entry.specs.Prelude.{texts, first_form}
 
 -- one more name that may be meant
 pub one_more_name : (names : List (List ℕ)) (name x : List ℕ) (a b : Bool) → (IsTrue a ↔ Contains names x)

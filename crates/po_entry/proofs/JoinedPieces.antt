@@ -1,10 +1,8 @@
 -- The items of two pieces of a text, joined, where those of the first end in a string.
 use Rattle.std.proofs.Common.{◌≡◌, refl, List, [], ◌∷◌, ◌++◌, append_assoc}
-use Rattle.po_syntax.specs.Pieces.{EndsInString}
-use Rattle.po_syntax.specs.TextItem.{TextItem}
-use Rattle.po_entry.specs.Comments.{CommentText}
-use Rattle.po_entry.specs.TextEntry.{TextEntry}
-use Rattle.po_entry.specs.Spelling.{SpellsHead, nothing, head_comment, SpellsEntries, comments, entries}
+use Rattle.po_syntax.specs.Prelude.{EndsInString, TextItem}
+use Rattle.po_entry.specs.Prelude.{CommentText, TextEntry, SpellsHead, SpellsEntries}
+use Rattle.po_entry.specs.Spelling.{nothing, head_comment, comments, entries}
 
 -- what is left of items that end in a string ends in it
 pub ends_rest : (own items : List TextItem) → EndsInString (own ++ items) → EndsInString items

@@ -3,9 +3,7 @@ use Rattle.std.proofs.Common.{◌≡◌, ◌<◌, ◌+◌, ◌||◌, ℕ, Bool, 
 use Rattle.std.specs.List.{list_any}
 use Rattle.std.proofs.lemmas.List.{drop_more, map-append}
 use Rattle.std.proofs.lemmas.List.Elements.{All-append, All-filter}
-use Rattle.po_entry.specs.TextEntry.{TextEntry}
-use Rattle.po_entry.specs.Validity.{IsCatalogueEntry}
-use Rattle.po_entry.specs.Joined.{InputEntry, in_input, is_live_header, joined_from, kept_entries, entries_of}
+use Rattle.po_entry.specs.Prelude.{TextEntry, IsCatalogueEntry, InputEntry, in_input, is_live_header, joined_from, kept_entries, entries_of}
 use Rattle.po_entry.proofs.DuplicateLemmas.{entries_of_input}
 
 pub kept_valid : (headed : Bool) (entries : List TextEntry) → All IsCatalogueEntry entries

@@ -7,11 +7,7 @@ use Rattle.std.specs.Cmp.Lexicographic.{nat_list_eq_equiv}
 use Rattle.std.proofs.lemmas.List.{length-map, map-append, take_more}
 use Rattle.std.proofs.lemmas.List.Elements.{All-head, All-nil, All-push, All-tail}
 use Rattle.std.proofs.lemmas.Slice.Eq.{bytes_eq-Decides}
-use Rattle.po_entry.specs.Texts.{Lacks}
-use Rattle.po_entry.specs.Rows.{key_bytes}
-use Rattle.po_entry.specs.TextEntry.{TextEntry}
-use Rattle.po_entry.specs.Validity.{IsCatalogueEntry}
-use Rattle.po_entry.specs.Message.{first_ones, group_numbers, with_new, Message, entry_message, entry_messages, same_message}
+use Rattle.po_entry.specs.Prelude.{Lacks, key_bytes, TextEntry, IsCatalogueEntry, first_ones, group_numbers, with_new, Message, entry_message, entry_messages, same_message}
 use Rattle.po_entry.proofs.FirstOnes.{firsts_push, numbers_push}
 use Rattle.po_entry.proofs.MessageIndex.{message_made, messages_are, same_message_laws}
 

@@ -6,11 +6,8 @@ use Rattle.std.proofs.Math.Seq.{drop-append_seam, take-append_seam}
 use Rattle.std.proofs.lemmas.Bool.{false≢true, ne_eqb}
 use Rattle.std.proofs.lemmas.List.Elements.{All-head, All-tail, All-append, All-nil, All-cons}
 use Rattle.std.proofs.lemmas.List.Splits.{slice_split_none, slice_split_at}
-use Rattle.po_entry.specs.Texts.{Lacks}
+use Rattle.po_entry.specs.Prelude.{Lacks, TextEntry, quoted_texts, length_bytes, measured, texts_in, EndsContext, PluralFollows, after_nul, context_in, context_length, entry_of, forms_in, further_texts, has_no_head, head_bytes, head_parts, is_empty_list, key_bytes, optional_bytes, optional_in, own_bytes, part_at, plural_in, previous_in, row_of, texts_after, CanLie}
 use Rattle.po_syntax.specs.Facts.AllAppend.{All-left, All-right}
-use Rattle.po_entry.specs.TextEntry.{TextEntry, quoted_texts}
-use Rattle.po_entry.specs.TextLists.{length_bytes, measured, texts_in}
-use Rattle.po_entry.specs.Rows.{EndsContext, PluralFollows, after_nul, context_in, context_length, entry_of, forms_in, further_texts, has_no_head, head_bytes, head_parts, is_empty_list, key_bytes, optional_bytes, optional_in, own_bytes, part_at, plural_in, previous_in, row_of, texts_after, CanLie}
 use Rattle.po_entry.proofs.TextListLemmas.{no_texts, texts_laid}
 
 abbrev IsShort : List ℕ → Type 0

@@ -10,10 +10,10 @@ use Rattle.std.proofs.lemmas.List.Sums.{fold_push}
 use Rattle.std.proofs.lemmas.Map.Views.{Contains-from_any}
 use Rattle.std.proofs.lemmas.Slice.Eq.{bytes_eq-Decides}
 use Rattle.po_syntax.specs.Facts.Runs.{parts_of, end_parts, kept_is, from_end}
-use Rattle.po_syntax.specs.Blanks.{is_blank, IsBlank, skip_blanks, FailsFirst, without_end}
+use Rattle.po_syntax.specs.Prelude.{is_blank, IsBlank, skip_blanks, FailsFirst, without_end}
 use Rattle.po_syntax.proofs.SpeltKeywords.{skip_prefix}
-use Rattle.po_entry.specs.Texts.{Lacks, trimmed}
-use Rattle.po_entry.specs.Comments.{CommentText, is_not_empty, listed_references, listed_flags, all_listed_flags, is_fuzzy_flag, with_flag, flags_of, EndsReference, ListsReferences, no_text, blank, reference, IsWithoutBlanks, NamesFlag, no_flag, flag, ListsFlags, last, more, KeepsFlags, none, first, fuzzy, repeated}
+use Rattle.po_entry.specs.Prelude.{Lacks, trimmed, CommentText, is_not_empty, listed_references, listed_flags, all_listed_flags, is_fuzzy_flag, with_flag, flags_of, EndsReference, ListsReferences, IsWithoutBlanks, NamesFlag, ListsFlags, KeepsFlags}
+use Rattle.po_entry.specs.Comments.{no_text, blank, reference, no_flag, flag, last, more, none, first, fuzzy, repeated}
 
 no_blank : (b : ℕ) → is_blank b ≡ false → IsBlank b → ⊥
 no_blank b e h = both_ways (is_blank b) e h

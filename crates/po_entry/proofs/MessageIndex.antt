@@ -8,7 +8,7 @@ use Rattle.std.specs.Cmp.Lexicographic.{options_equiv, nat_list_eq_equiv}
 use Rattle.std.proofs.lemmas.List.{get_or-map}
 use Rattle.std.proofs.lemmas.Slice.Eq.{bytes_eq-Decides}
 use Rattle.std.proofs.lemmas.Bool.{and_parts}
-use Rattle.po_entry.specs.Message.{first_ones, group_numbers, Message, same_message}
+use Rattle.po_entry.specs.Prelude.{first_ones, group_numbers, Message, same_message}
 use Rattle.po_entry.proofs.FirstOnes.{one_number}
 
 pub same_message_laws : IsEquivalence same_message

@@ -8,12 +8,9 @@ use Rattle.std.proofs.lemmas.List.Folds.{list_any_at}
 use Rattle.std.proofs.lemmas.List.Sums.{passes_at_first}
 use Rattle.po_syntax.specs.declared.fault.PoError.{PoError}
 use Rattle.po_syntax.specs.declared.fault.PoFault.TheVariants.{Duplicate}
-use Rattle.po_entry.specs.TextEntry.{TextEntry}
-use Rattle.po_entry.specs.Duplicate.{IsFirstDuplicate, IsSameMessage, live_entries, AreNumbered, IsNumbered, Repeats, RepeatsOnLines, are_placed, is_looked_at, number_in, place_of, DifferUpTo, IsFirstRepeat, RepeatsAt}
+use Rattle.po_entry.specs.Prelude.{TextEntry, IsFirstDuplicate, IsSameMessage, live_entries, AreNumbered, IsNumbered, Repeats, RepeatsOnLines, are_placed, is_looked_at, number_in, place_of, DifferUpTo, IsFirstRepeat, RepeatsAt, first_ones, group_numbers, Message, entry_message, entry_messages, same_message, InputEntry, in_input, is_live}
 use Rattle.po_entry.specs.Facts.FirstRepeats.{all_of_both, repeat_by, repeat_map}
 use Rattle.po_syntax.specs.Facts.Mapped.{filter_map}
-use Rattle.po_entry.specs.Message.{first_ones, group_numbers, Message, entry_message, entry_messages, same_message}
-use Rattle.po_entry.specs.Joined.{InputEntry, in_input, is_live}
 use Rattle.po_entry.specs.declared.repeats.EntryPlace.{EntryPlace}
 use Rattle.po_entry.proofs.FirstOnes.{any_first_ones, found_within}
 use Rattle.po_entry.proofs.RepeatLemmas.{all_differ, repeat_of}

@@ -6,10 +6,8 @@ use Rattle.std.proofs.Math.Bool.{and-false, and-true, or-false}
 use Rattle.std.proofs.lemmas.Bool.{lt-ltb, le-ltb}
 use Rattle.std.proofs.lemmas.List.Elements.{All-append, All-head, All-map, All-nil, All-tail, All-weaker, filter-append, filter_agree}
 use Rattle.std.proofs.lemmas.List.Folds.{list_any-append}
-use Rattle.po_entry.specs.TextEntry.{TextEntry}
+use Rattle.po_entry.specs.Prelude.{TextEntry, InputEntry, in_input, is_live_header, kept_entries, joined_from, entries_from, entries_of_inputs, has_header_before, is_omitted, OmitsLaterHeaders}
 use Rattle.po_syntax.specs.Facts.Mapped.{any_map, filter_map}
-use Rattle.po_entry.specs.Joined.{InputEntry, in_input, is_live_header, kept_entries, joined_from}
-use Rattle.po_entry.specs.MessageLaws.{entries_from, entries_of_inputs, has_header_before, is_omitted, OmitsLaterHeaders}
 
 abbrev keeps : List InputEntry → InputEntry → Bool
 keeps entries e = not (is_omitted entries e)

@@ -7,7 +7,7 @@ use Rattle.std.proofs.Math.Seq.{take-append_seam}
 use Rattle.std.proofs.lemmas.Bool.{false≢true}
 use Rattle.std.proofs.lemmas.List.{take-append-drop, take-take}
 use Rattle.std.proofs.lemmas.List.Splits.{join_with_byte-slice_split, length-slice_split}
-use Rattle.po_entry.specs.Rows.{EndsContext, PluralFollows, after_nul, context_in, forms_in, forms_of, key_bytes, optional_bytes, plural_in, split_forms, texts_after}
+use Rattle.po_entry.specs.Prelude.{EndsContext, PluralFollows, after_nul, context_in, forms_in, forms_of, key_bytes, optional_bytes, plural_in, split_forms, texts_after}
 
 pub key_cut : (context key : ℕ) (own : List ℕ) → context ≤ key → EndsContext context own
     → take key own ≡ key_bytes (context_in context own) (drop context (take key own))

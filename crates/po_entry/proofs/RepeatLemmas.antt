@@ -4,7 +4,7 @@ use Rattle.std.proofs.Math.Seq.{drop-cons}
 use Rattle.std.proofs.lemmas.List.{get_or-map, take-append-drop, take_all}
 use Rattle.std.proofs.lemmas.List.Elements.{filter-append, filter_passes}
 use Rattle.std.proofs.lemmas.List.Kept.{AllPairs-filter}
-use Rattle.po_entry.specs.Duplicate.{DifferUpTo, IsFirstRepeat, RepeatsAt}
+use Rattle.po_entry.specs.Prelude.{DifferUpTo, IsFirstRepeat, RepeatsAt}
 
 -- an element that passes a test, among those that do
 passing_at : {X : Type 0} (p : X → Bool) (xs : List X) (i : ℕ) (d : X) → i < length xs → p (get_or xs i d) ≡ true

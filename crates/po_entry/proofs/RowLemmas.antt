@@ -5,11 +5,9 @@ use Rattle.std.specs.List.{flat_map}
 use Rattle.std.proofs.Math.Seq.{drop-append-add, drop-append_seam, take-append_seam}
 use Rattle.std.proofs.lemmas.List.{take-append-le, drop-append-le, take_all, take-append-drop, map-append, length-map, get_or-map, take_more}
 use Rattle.std.proofs.lemmas.List.Elements.{All-nil, All-cons, All-head, All-tail, All-push, All-append, All-map}
-use Rattle.po_entry.specs.TextEntry.{TextEntry}
-use Rattle.po_entry.specs.Rows.{Adds, AreLaid, CanLie, EndsContext, Grows, PluralFollows, after_nul, context_length, further_texts, key_bytes, entries_in, changed_at, set_fuzzy, set_obsolete, LiesIn, entry_at, entry_bytes, head_at, head_bytes, moved, own_at, own_bytes, row_of}
+use Rattle.po_entry.specs.Prelude.{TextEntry, Adds, AreLaid, CanLie, EndsContext, Grows, PluralFollows, after_nul, context_length, further_texts, key_bytes, entries_in, changed_at, set_fuzzy, set_obsolete, LiesIn, entry_at, entry_bytes, head_at, head_bytes, moved, own_at, own_bytes, row_of, IsCatalogueEntry}
 use Rattle.po_entry.specs.declared.row.Row.{Row}
 use Rattle.po_entry.specs.declared.drafts.Drafts.{Drafts}
-use Rattle.po_entry.specs.Validity.{IsCatalogueEntry}
 use Rattle.po_entry.proofs.Growing.{grows_by, no_shorter}
 use Rattle.po_entry.proofs.LaidEntries.{context_fits, eot_laid, key_fits, means, nul_laid}
 

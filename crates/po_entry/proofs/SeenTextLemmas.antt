@@ -4,7 +4,7 @@ use Rattle.std.specs.List.{list_any, position_or_len}
 use Rattle.std.specs.Str.{bytes_eq}
 use Rattle.std.proofs.lemmas.List.{map-append}
 use Rattle.indexmap.specs.IndexSet.{insert_key}
-use Rattle.po_entry.specs.SeenTexts.{with_seen}
+use Rattle.po_entry.specs.Prelude.{with_seen}
 use Rattle.po_entry.specs.declared.seen_texts.SeenText.{SeenText}
 
 abbrev pub bytes_of : SeenText → List ℕ

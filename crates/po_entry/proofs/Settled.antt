@@ -9,11 +9,9 @@ use Rattle.std.proofs.lemmas.Str.{IsUtf8-from_is_utf8, is_utf8-from_IsUtf8}
 use Rattle.std.specs.Char.{to_ascii_lowercase}
 use Rattle.po_syntax.specs.declared.fault.PoFault.{PoFault}
 use Rattle.po_syntax.specs.declared.fault.PoFault.TheVariants.{NotUtf8, ForbiddenByte}
-use Rattle.po_entry.specs.TextEntry.{TextEntry, quoted_texts}
-use Rattle.po_entry.specs.Texts.{Lacks}
-use Rattle.po_entry.specs.Header.{HasAdmittedCharset, charset_of, first_form, is_header}
+use Rattle.po_entry.specs.Prelude.{TextEntry, quoted_texts, Lacks, HasAdmittedCharset, charset_of, first_form, is_header, HasTexts, IsClean, EntryTextFault}
 use Rattle.po_entry.proofs.ListedElements.{among_says, among_passes}
-use Rattle.po_entry.specs.Validity.{HasTexts, IsClean, EntryTextFault, not_utf8, forbidden}
+use Rattle.po_entry.specs.Validity.{not_utf8, forbidden}
 
 -- the claim holds, or it doesn't
 abbrev pub Settled : Type 0 → Type 0

@@ -1,9 +1,8 @@
 -- Counts of entries stay below the number of entries.
 use Rattle.std.proofs.Common.{◌≡◌, ℕ, ◌≤◌, Bool, List, length, arith, filter, ap, take, length-take}
 use Rattle.std.proofs.lemmas.List.Sums.{length-filter, count_by-le-length}
-use Rattle.po_entry.specs.TextEntry.{TextEntry}
+use Rattle.po_entry.specs.Prelude.{TextEntry, stats_of, is_translated, is_fuzzy, is_untranslated}
 use Rattle.po_entry.specs.declared.stats.Stats.{Stats}
-use Rattle.po_entry.specs.Statistics.{stats_of, is_translated, is_fuzzy, is_untranslated}
 
 filtered_is_short : (test : TextEntry → Bool) (entries : List TextEntry) → length (filter test entries) ≤ length entries
 filtered_is_short test entries = omega (arith, length-filter test entries, count_by-le-length test entries)

@@ -7,7 +7,7 @@ use Rattle.std.proofs.lemmas.List.Concat.{flat_map-append}
 use Rattle.std.proofs.lemmas.List.Elements.{All-nil, All-head, All-tail, All-push}
 use Rattle.byteorder.specs.Endian.{little_bytes, little_number}
 use Rattle.byteorder.specs.Numbers.{little_number-reads_back, length-bytes_low_first}
-use Rattle.po_entry.specs.TextLists.{AreTexts, cut_texts, measured, text_before, text_length, texts_in}
+use Rattle.po_entry.specs.Prelude.{AreTexts, cut_texts, measured, text_before, text_length, texts_in}
 
 abbrev IsShort : List ℕ → Type 0
 IsShort text = length text < 2 ^ 64

@@ -3,8 +3,7 @@
 use Rattle.std.proofs.Common.{◌≡◌, ◌≢◌, refl}
 use Rattle.po_syntax.specs.declared.fault.PoFault.{PoFault}
 use Rattle.po_syntax.specs.declared.fault.PoFault.TheVariants.{OutOfMemory}
-use Rattle.po_entry.specs.TextEntry.{TextEntry}
-use Rattle.po_entry.specs.Validity.{HasTexts, EntryTextFault}
+use Rattle.po_entry.specs.Prelude.{TextEntry, HasTexts, EntryTextFault}
 use Rattle.po_entry.specs.Validity.EntryTextFault.{not_utf8, forbidden}
 
 pub no_texts_fault : {entry : TextEntry} {kind : PoFault} → HasTexts entry → EntryTextFault entry kind → ⊥

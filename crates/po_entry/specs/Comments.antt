@@ -7,7 +7,7 @@ use Rattle.po_syntax.specs.declared.item.Keyword.TheVariants.{MsgCtxt, MsgId, Ms
 use Rattle.std.specs.List.{slice_split, list_any}
 use Rattle.po_syntax.specs.declared.item.CommentKind.TheVariants.{Translator, Extracted, Reference, Flags}
 use Rattle.po_entry.specs.TextEntry.{TextPrevious, no_previous}
-use Rattle.po_syntax.specs.Blanks.{is_blank, IsBlank}
+use Rattle.po_syntax.specs.Prelude.{is_blank, IsBlank}
 use Rattle.po_entry.specs.Texts.{trimmed, Lacks}
 
 -- What the items of an entry's head say, part by part: its comments and its previous texts (manual,

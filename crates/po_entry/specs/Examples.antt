@@ -10,9 +10,9 @@ use Rattle.std.proofs.lemmas.List.Elements.{All-cons, All-nil}
 use Rattle.po_syntax.specs.declared.fault.PoFault.TheVariants.{ForbiddenByte, BadPluralIndex, ForeignCharset, OutOfMemory}
 use Rattle.po_syntax.specs.declared.item.CommentKind.TheVariants.{Translator, Extracted, Reference, Flags}
 use Rattle.po_syntax.specs.declared.item.Keyword.TheVariants.{MsgCtxt, MsgId, MsgIdPlural, MsgStr, MsgStrAt}
-use Rattle.po_syntax.specs.PoText.{TextFault}
-use Rattle.po_syntax.specs.Spelling.{own_marks, previous_marks, end, live}
-use Rattle.po_syntax.specs.TextItem.{TextItem, Comment, Word, Str}
+use Rattle.po_syntax.specs.Prelude.{TextFault, own_marks, previous_marks, TextItem}
+use Rattle.po_syntax.specs.Spelling.{end, live}
+use Rattle.po_syntax.specs.TextItem.{Comment, Word, Str}
 use Rattle.po_entry.specs.Texts.{Lacks, trimmed}
 use Rattle.po_entry.specs.Comments.{CommentText, PreviousText, same_kind, texts_of, is_not_empty, listed_references, listed_flags, references_of, all_listed_flags, is_fuzzy_flag, fuzzy_of, with_flag, flags_of, with_previous, previous_of}
 use Rattle.po_entry.specs.TextEntry.{TextPrevious, no_previous, TextEntry, slice_texts, plain_entry, quoted_texts}

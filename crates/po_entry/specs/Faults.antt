@@ -4,11 +4,11 @@ use Rattle.std.specs.Prelude.{◌≡◌, ◌≢◌, ℕ, Bool, false, List, [], 
 use Rattle.po_syntax.specs.declared.fault.PoFault.{PoFault}
 use Rattle.po_syntax.specs.declared.fault.PoFault.TheVariants.{BadOrder, BadPluralIndex, MixedObsolete, ForeignCharset, OutOfMemory}
 use Rattle.po_syntax.specs.declared.item.Keyword.TheVariants.{MsgStrAt}
-use Rattle.po_syntax.specs.TextItem.{TextItem, Comment, Word, Str, line_of}
+use Rattle.po_syntax.specs.Prelude.{TextItem, line_of, SpellsText, TextFault}
+use Rattle.po_syntax.specs.TextItem.{Comment, Word, Str}
 use Rattle.po_entry.specs.Spelling.{own_marks, SpellsEntries}
 use Rattle.po_entry.specs.TextEntry.{TextEntry}
 use Rattle.po_syntax.specs.declared.fault.PoError.{PoError}
-use Rattle.po_syntax.specs.PoText.{SpellsText, TextFault}
 use Rattle.po_entry.specs.Header.{HasAdmittedCharset}
 use Rattle.po_entry.specs.Validity.{HasTexts, EntryTextFault}
 

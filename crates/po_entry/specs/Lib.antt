@@ -19,3 +19,4 @@ pub mod MessageLaws
 pub mod Duplicate
 pub mod Statistics
 pub mod MessageExamples
+pub mod Prelude

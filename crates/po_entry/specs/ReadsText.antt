@@ -1,8 +1,6 @@
 -- How a PO text reads as a list of entries (manual, "The Format of PO Files").
 use Rattle.std.specs.Prelude.{ℕ, List, All}
-use Rattle.po_syntax.specs.TextItem.{TextItem}
-use Rattle.po_syntax.specs.PoText.{SpellsText}
-use Rattle.po_syntax.specs.Pieces.{LinesLeft, SpellsLeft}
+use Rattle.po_syntax.specs.Prelude.{TextItem, SpellsText, LinesLeft, SpellsLeft}
 use Rattle.po_entry.specs.TextEntry.{TextEntry}
 use Rattle.po_entry.specs.Header.{HasAdmittedCharset}
 use Rattle.po_entry.specs.Spelling.{SpellsEntries}

@@ -7,7 +7,8 @@ use Rattle.po_syntax.specs.declared.item.Keyword.{Keyword}
 use Rattle.po_syntax.specs.declared.item.Keyword.TheVariants.{MsgCtxt, MsgId, MsgIdPlural, MsgStr, MsgStrAt}
 use Rattle.po_syntax.specs.declared.item.Marks.{Marks}
 pub use Rattle.po_syntax.specs.Spelling.{own_marks, previous_marks}
-use Rattle.po_syntax.specs.TextItem.{TextItem, Comment, Word, Str}
+use Rattle.po_syntax.specs.Prelude.{TextItem}
+use Rattle.po_syntax.specs.TextItem.{Comment, Word, Str}
 use Rattle.po_entry.specs.TextEntry.{TextEntry}
 use Rattle.po_entry.specs.Comments.{CommentText, PreviousText, texts_of, references_of, fuzzy_of, flags_of, previous_of}
 

@@ -1,7 +1,7 @@
 -- What a text lacks, and what is left of it without the blanks at its ends (manual, "The Format of PO
 -- Files").
 use Rattle.std.specs.Prelude.{◌≢◌, ℕ, List, [], ◌∷◌, All, Contains, IsUtf8}
-use Rattle.po_syntax.specs.Blanks.{is_blank, skip_blanks, without_end}
+use Rattle.po_syntax.specs.Prelude.{is_blank, skip_blanks, without_end}
 use Rattle.po_entry.specs.declared.texts.Need.{Need}
 use Rattle.po_entry.specs.declared.texts.Need.TheVariants.{Utf8, Without}
 

@@ -2,8 +2,7 @@
 use Rattle.std.specs.Prelude.{◌≡◌, ◌≢◌, ◌⊎◌, ℕ, ◌<◌, false, List, [], None, All, IfSome, IsUtf8, length, codes}
 use Rattle.po_entry.specs.TextEntry.{TextEntry, quoted_texts}
 use Rattle.po_entry.specs.Texts.{Lacks, trimmed, AreDistinct}
-use Rattle.po_syntax.specs.Blanks.{is_blank}
-use Rattle.po_syntax.specs.TextItem.{IsText, IsComment, IsCommentOf}
+use Rattle.po_syntax.specs.Prelude.{is_blank, IsText, IsComment, IsCommentOf}
 use Rattle.po_syntax.specs.declared.item.CommentKind.TheVariants.{Translator}
 use Rattle.po_syntax.specs.declared.fault.PoFault.{PoFault}
 use Rattle.po_syntax.specs.declared.fault.PoError.{PoError}

@@ -1,8 +1,7 @@
 //! The charset that a header names, and those that are admitted.
 
 ghost use Rattle.std.specs.Prelude.{◌≡◌, IsTrue, ◌↔◌, position};
-ghost use Rattle.po_entry.specs.Fields.{entry_view};
-ghost use Rattle.po_entry.specs.Header.{HasAdmittedCharset, IsAdmittedName, charset_of, after_charset, ends_name};
+ghost use Rattle.po_entry.specs.Prelude.{entry_view, HasAdmittedCharset, IsAdmittedName, charset_of, after_charset, ends_name};
 
 use crate::fields::Fields;
 

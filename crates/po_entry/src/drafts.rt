@@ -1,7 +1,7 @@
 //! Entries in one buffer before their texts are checked.
 
 ghost use Rattle.std.specs.Prelude.{◌≡◌, [], OnErr, OnOk, option_copied};
-ghost use Rattle.po_entry.specs.Rows.{Adds, AreLaid, entries_in, message_entry};
+ghost use Rattle.po_entry.specs.Prelude.{Adds, AreLaid, entries_in, message_entry};
 
 use crate::layout::add_message;
 use crate::row::Row;

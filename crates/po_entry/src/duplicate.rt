@@ -1,8 +1,7 @@
 //! The first message that is defined twice in a store, and the faults of several inputs.
 
 ghost use Rattle.std.specs.Prelude.{◌≡◌, MatchResult, IsOkUnless};
-ghost use Rattle.po_entry.specs.Duplicate.{HasNoDuplicate, IsDuplicateFaultOf, join_out_of_memory};
-ghost use Rattle.po_entry.specs.Validity.{out_of_memory};
+ghost use Rattle.po_entry.specs.Prelude.{HasNoDuplicate, IsDuplicateFaultOf, join_out_of_memory, out_of_memory};
 
 use crate::keys::message_numbers;
 use crate::places::places_of;

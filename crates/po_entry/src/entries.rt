@@ -1,8 +1,7 @@
 //! What is asked of one entry.
 
 ghost use Rattle.std.specs.Prelude.{◌≡◌};
-ghost use Rattle.po_entry.specs.Joined.{is_live_header};
-ghost use Rattle.po_entry.specs.Statistics.{has_translation};
+ghost use Rattle.po_entry.specs.Prelude.{is_live_header, has_translation};
 
 use crate::entry_ref::EntryRef;
 

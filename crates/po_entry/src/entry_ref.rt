@@ -2,10 +2,7 @@
 
 ghost use Rattle.std.specs.Prelude.{◌≡◌, ◌+◌, ◌++◌, ◌∷◌, ◌==◌, MatchOption, drop, length, option_copied};
 ghost use Rattle.std.specs.Iterator.{YieldsFirstBy, item_count};
-ghost use Rattle.po_entry.specs.Texts.{Lacks};
-ghost use Rattle.po_entry.specs.Header.{first_form, is_header};
-ghost use Rattle.po_entry.specs.TextLists.{texts_left};
-ghost use Rattle.po_entry.specs.Rows.{LiesIn, entry_at, forms_of, head_at, key_bytes, optional_in, original_bytes, own_at, part_at, split_forms, translation_bytes, forms_left};
+ghost use Rattle.po_entry.specs.Prelude.{Lacks, first_form, is_header, texts_left, LiesIn, entry_at, forms_of, head_at, key_bytes, optional_in, original_bytes, own_at, part_at, split_forms, translation_bytes, forms_left};
 
 use crate::row::Row;
 use crate::text_list::{TextListIter, first_text};

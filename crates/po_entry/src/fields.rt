@@ -1,9 +1,7 @@
 //! The fields of an entry that is made, and copies of them, where memory can fail.
 
 ghost use Rattle.std.specs.Prelude.{◌≡◌, IfOk, None, option_copied, map, []};
-ghost use Rattle.po_entry.specs.Fields.{entry_view};
-ghost use Rattle.po_entry.specs.Header.{is_header};
-ghost use Rattle.po_entry.specs.TextEntry.{no_previous, optional_text, plain_entry, texts};
+ghost use Rattle.po_entry.specs.Prelude.{entry_view, is_header, no_previous, optional_text, plain_entry, texts};
 
 use crate::text_list::TextList;
 use std::alloc::{AllocError, Global};

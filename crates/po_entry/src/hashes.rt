@@ -1,7 +1,7 @@
 //! The hashes of messages: where all differ, no message stands twice.
 
 ghost use Rattle.std.specs.Prelude.{◌≡◌, ◌≢◌, ◌↔◌, AllPairs, IsTrue};
-ghost use Rattle.po_entry.specs.Message.{entry_message, message_hash};
+ghost use Rattle.po_entry.specs.Prelude.{entry_message, message_hash};
 
 use crate::entry_ref::EntryRef;
 use std::hash::{DefaultHasher, Hasher};

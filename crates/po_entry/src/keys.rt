@@ -2,8 +2,7 @@
 //! key exactly where they are of one message.
 
 ghost use Rattle.std.specs.Prelude.{◌≡◌, IfOk, drop, length, take};
-ghost use Rattle.po_entry.specs.SeenTexts.{digest_of};
-ghost use Rattle.po_entry.specs.Message.{keys_writes, first_ones, group_numbers, entry_messages, same_message};
+ghost use Rattle.po_entry.specs.Prelude.{digest_of, keys_writes, first_ones, group_numbers, entry_messages, same_message};
 
 use crate::seen_texts::{Seeded, SeenTexts};
 use crate::store::Store;

@@ -2,21 +2,10 @@
 //! brings the law into a proof.
 ghost use Rattle.std.specs.Char.{to_ascii_lowercase};
 ghost use Rattle.std.specs.Prelude.{map, ◌≡◌, ◌↔◌, ◌++◌, ◌∷◌, [], ℕ, List, Decides, ◌≢◌, ◌⊎◌, ◌<◌, false, get_or, length, take};
-ghost use Rattle.po_syntax.specs.Pieces.{EndsInString};
-ghost use Rattle.po_syntax.specs.TextItem.{TextItem};
-ghost use Rattle.po_entry.specs.TextEntry.{TextEntry, SameButLine};
-ghost use Rattle.po_entry.specs.Header.{AdmitsCharset, IsHeaderEntry, NamesAdmitted, NamesCharset, charset_of, is_header, IsAdmittedName};
-ghost use Rattle.po_entry.specs.Fields.{entry_eq};
-ghost use Rattle.po_entry.specs.Comments.{CommentText, HaveFuzzyFlag, HaveReferences, KeepsFlags, ListsFlags, ListsReferences, listed_flags, all_listed_flags, flags_of, fuzzy_of, listed_references, references_of};
-ghost use Rattle.po_entry.specs.Spelling.{SpellsEntries};
+ghost use Rattle.po_syntax.specs.Prelude.{EndsInString, TextItem};
+ghost use Rattle.po_entry.specs.Prelude.{TextEntry, SameButLine, AdmitsCharset, IsHeaderEntry, NamesAdmitted, NamesCharset, charset_of, is_header, IsAdmittedName, entry_eq, CommentText, HaveFuzzyFlag, HaveReferences, KeepsFlags, ListsFlags, ListsReferences, listed_flags, all_listed_flags, flags_of, fuzzy_of, listed_references, references_of, SpellsEntries, Adds, AreLaid, CanLie, entries_in, HasNoDuplicate, IsFirstDuplicate, FaultNamesEarlier, OmitsLaterHeaders, CountsAddUp, EmptyAreUntranslated, FlaggedAreFuzzy, WritesStatistics, InputEntry, entries_of, first_ones, group_numbers, Message, same_message, message_hash, stats_line};
 ghost use Rattle.po_entry.specs.declared.drafts.Drafts.{Drafts};
-ghost use Rattle.po_entry.specs.Rows.{Adds, AreLaid, CanLie, entries_in};
 ghost use Rattle.std.specs.List.{position_or_len};
-ghost use Rattle.po_entry.specs.Duplicate.{HasNoDuplicate, IsFirstDuplicate};
-ghost use Rattle.po_entry.specs.MessageLaws.{FaultNamesEarlier, OmitsLaterHeaders, CountsAddUp, EmptyAreUntranslated, FlaggedAreFuzzy, WritesStatistics};
-ghost use Rattle.po_entry.specs.Joined.{InputEntry, entries_of};
-ghost use Rattle.po_entry.specs.Message.{first_ones, group_numbers, Message, same_message, message_hash};
-ghost use Rattle.po_entry.specs.Statistics.{stats_line};
 ghost use Rattle.po_entry.specs.declared.duplicate.JoinError.{JoinError};
 ghost use Rattle.po_entry.specs.declared.stats.Stats.{Stats};
 

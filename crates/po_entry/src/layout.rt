@@ -2,10 +2,7 @@
 
 ghost use Rattle.std.specs.Prelude.{◌≡◌, ◌++◌, ◌∷◌, [], IfOk, OnOk, length, option_copied};
 ghost use Rattle.std.specs.List.{flat_map};
-ghost use Rattle.po_entry.specs.TextLists.{measured};
-ghost use Rattle.po_entry.specs.Fields.{entry_view};
-ghost use Rattle.po_entry.specs.TextEntry.{texts};
-ghost use Rattle.po_entry.specs.Rows.{Grows, after_nul, context_length, entry_bytes, has_no_head, head_bytes, headed, key_bytes, message_entry, optional_bytes, own_bytes, row_of};
+ghost use Rattle.po_entry.specs.Prelude.{measured, entry_view, texts, Grows, after_nul, context_length, entry_bytes, has_no_head, head_bytes, headed, key_bytes, message_entry, optional_bytes, own_bytes, row_of};
 
 use crate::fields::{Fields, Previous};
 use crate::row::Row;

@@ -1,9 +1,7 @@
 //! Where the entries of a store stand.
 
 ghost use Rattle.std.specs.Prelude.{◌≡◌, All, IfOk, OnOk};
-ghost use Rattle.po_entry.specs.Validity.{IsCatalogueEntry};
-ghost use Rattle.po_entry.specs.Joined.{is_live};
-ghost use Rattle.po_entry.specs.Duplicate.{are_placed};
+ghost use Rattle.po_entry.specs.Prelude.{IsCatalogueEntry, is_live, are_placed};
 
 use crate::repeats::EntryPlace;
 use crate::store::Store;

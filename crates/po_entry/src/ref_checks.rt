@@ -1,11 +1,7 @@
 //! Whether an entry that lies in a buffer can stand in a catalogue.
 
 ghost use Rattle.std.specs.Prelude.{◌≡◌, true, MatchResult, All, IfSome, IsTrue, IsUtf8, ◌↔◌};
-ghost use Rattle.po_entry.specs.Texts.{Lacks};
-ghost use Rattle.po_entry.specs.Rows.{forms_left};
-ghost use Rattle.po_entry.specs.Header.{HasAdmittedCharset};
-ghost use Rattle.po_entry.specs.TextEntry.{quoted_texts};
-ghost use Rattle.po_entry.specs.Validity.{EntryTextFault, HasTexts};
+ghost use Rattle.po_entry.specs.Prelude.{Lacks, forms_left, HasAdmittedCharset, quoted_texts, EntryTextFault, HasTexts};
 
 use crate::charset::admits_charset;
 use crate::entry_ref::{EntryRef, FormIter};

@@ -1,9 +1,7 @@
 //! Copies of entries that lie in a buffer.
 
 ghost use Rattle.std.specs.Prelude.{◌≡◌, IfOk, OnOk};
-ghost use Rattle.po_entry.specs.Fields.{entry_view};
-ghost use Rattle.po_entry.specs.Rows.{forms_left};
-ghost use Rattle.po_entry.specs.TextEntry.{texts};
+ghost use Rattle.po_entry.specs.Prelude.{entry_view, forms_left, texts};
 
 use crate::entry_ref::{EntryRef, FormIter};
 use crate::fields::{Fields, Previous, copy_optional};

@@ -1,9 +1,8 @@
 //! Live entries that repeat an earlier one, by the numbers of their messages.
 
 ghost use Rattle.std.specs.Prelude.{◌≡◌, ◌≢◌, ◌+◌, ◌<◌, ◌^◌, ℕ, Bool, IfOk, List, MatchOption, OnOk, filter, get_or, length};
-ghost use Rattle.po_entry.specs.TextEntry.{TextEntry};
+ghost use Rattle.po_entry.specs.Prelude.{TextEntry, AllDiffer, AreNumbered, RepeatsOnLines, are_placed, is_looked_at, AreUpTo, DifferUpTo, RepeatsAt};
 ghost use Rattle.po_syntax.specs.declared.fault.PoFault.{PoFault};
-ghost use Rattle.po_entry.specs.Duplicate.{AllDiffer, AreNumbered, RepeatsOnLines, are_placed, is_looked_at, AreUpTo, DifferUpTo, RepeatsAt};
 
 use po_syntax::{PoError, PoFault};
 use std::alloc::AllocError;

@@ -3,7 +3,7 @@
 ghost use Rattle.std.specs.Prelude.{◌≡◌, [], IfOk, OnOk, length, map};
 ghost use Rattle.std.specs.List.{position_or_len};
 ghost use Rattle.std.specs.Str.{bytes_eq};
-ghost use Rattle.po_entry.specs.SeenTexts.{seed_of, with_seen};
+ghost use Rattle.po_entry.specs.Prelude.{seed_of, with_seen};
 
 use crate::text_list::TextList;
 use indexmap::IndexSet;

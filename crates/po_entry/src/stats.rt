@@ -1,8 +1,7 @@
 //! Translated, fuzzy and untranslated messages, counted.
 
 ghost use Rattle.std.specs.Prelude.{◌≡◌, ◌+◌, ◌-◌, ◌<◌, ◌^◌, ◌++◌, IfOk, IfErr, OnOk};
-ghost use Rattle.po_entry.specs.Validity.{out_of_memory};
-ghost use Rattle.po_entry.specs.Statistics.{counted, further};
+ghost use Rattle.po_entry.specs.Prelude.{out_of_memory, counted, further};
 
 use itoa::Buffer;
 use po_syntax::PoError;

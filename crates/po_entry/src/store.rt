@@ -2,10 +2,7 @@
 
 ghost use Rattle.std.specs.Prelude.{◌≡◌, ◌+◌, ◌^◌, ◌<◌, ◌≤◌, ◌++◌, ◌∷◌, [], IfOk, OnOk, OnErr, All, filter, length, get_or, map, not};
 ghost use Rattle.std.specs.Vec.{vec_capacity, vec_len};
-ghost use Rattle.po_entry.specs.Fields.{entry_view};
-ghost use Rattle.po_entry.specs.TextEntry.{TextEntry};
-ghost use Rattle.po_entry.specs.Validity.{IsCatalogueEntry};
-ghost use Rattle.po_entry.specs.Rows.{AreLaid, changed_at, entries_in, moved, set_fuzzy, set_obsolete};
+ghost use Rattle.po_entry.specs.Prelude.{entry_view, TextEntry, IsCatalogueEntry, AreLaid, changed_at, entries_in, moved, set_fuzzy, set_obsolete};
 
 use crate::drafts::Drafts;
 use crate::entry_ref::EntryRef;

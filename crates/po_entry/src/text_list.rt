@@ -4,8 +4,7 @@ ghost use Rattle.std.specs.Prelude.{◌≡◌, ◌+◌, ◌≤◌, ◌==◌, ◌
 ghost use Rattle.std.specs.Iterator.{YieldsFirstBy, item_count};
 ghost use Rattle.std.specs.Vec.{vec_capacity, vec_len};
 ghost use Rattle.std.specs.List.{flat_map};
-ghost use Rattle.po_entry.specs.Rows.{Grows};
-ghost use Rattle.po_entry.specs.TextLists.{length_bytes, measured, text_length, texts_in, texts_left};
+ghost use Rattle.po_entry.specs.Prelude.{Grows, length_bytes, measured, text_length, texts_in, texts_left};
 
 use byteorder::{ByteOrder, LittleEndian};
 use std::alloc::{AllocError, Global};

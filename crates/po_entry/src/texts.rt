@@ -1,7 +1,7 @@
 //! What the texts of an entry may hold: UTF-8, and no byte that can't be written.
 
 ghost use Rattle.std.specs.Prelude.{All, IsTrue, ◌↔◌, option_to_list, option_copied};
-ghost use Rattle.po_entry.specs.Texts.{Meets};
+ghost use Rattle.po_entry.specs.Prelude.{Meets};
 
 use memchr::memchr;
 use simdutf8::is_utf8;

@@ -7,10 +7,11 @@ use Rattle.std.specs.Cmp.{bool_eq_equiv}
 use Rattle.po_syntax.specs.declared.item.Keyword.{Keyword}
 use Rattle.po_syntax.specs.declared.item.Marks.{Marks}
 use Rattle.po_syntax.specs.declared.item.Keyword.TheVariants.{MsgId, MsgStr, MsgStrAt}
-use Rattle.po_syntax.specs.TextItem.{TextItem, Word, Str, line_of}
-use Rattle.po_entry.specs.TextEntry.{TextEntry}
-use Rattle.po_entry.specs.Spelling.{own_marks, last, keyword_text, SpellsEntries}
-use Rattle.po_entry.specs.Faults.{IsViable, Misfit, index, mixed, order, ItemsFault, at, at_end, last_line}
+use Rattle.po_syntax.specs.Prelude.{TextItem, line_of}
+use Rattle.po_syntax.specs.TextItem.{Word, Str}
+use Rattle.po_entry.specs.Prelude.{TextEntry, SpellsEntries, IsViable, Misfit, ItemsFault, last_line}
+use Rattle.po_entry.specs.Spelling.{own_marks, last, keyword_text}
+use Rattle.po_entry.specs.Faults.{index, mixed, order, at, at_end}
 use Rattle.po_reader.specs.Internal.Stage.{SoFar, Id, Translation, Form, Gap, InHead, Before, AfterForm, Stage, Between, In, Stop, Entries, no_lines, with_own, with_text, Outcome, Fault}
 use Rattle.po_reader.specs.Internal.Turn.{turn, outcome, comes_to, closed, begins_string, with_keyword, ended}
 use Rattle.po_reader.specs.Internal.Reads.{start, come_to}

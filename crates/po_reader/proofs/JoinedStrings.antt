@@ -5,12 +5,10 @@ use Rattle.std.proofs.lemmas.List.Elements.{All-nil, All-cons, All-head, All-tai
 use Rattle.po_syntax.specs.declared.item.Keyword.{Keyword}
 use Rattle.po_syntax.specs.declared.item.Keyword.TheVariants.{MsgCtxt, MsgId, MsgIdPlural, MsgStr, MsgStrAt}
 use Rattle.po_syntax.specs.declared.item.Marks.{Marks}
-use Rattle.po_syntax.specs.TextItem.{OfString, TextItem}
-use Rattle.po_entry.specs.Comments.{with_previous, CommentText, PreviousText}
+use Rattle.po_syntax.specs.Prelude.{OfString, TextItem}
+use Rattle.po_entry.specs.Prelude.{with_previous, CommentText, PreviousText, with_head, TextEntry, TextPrevious, no_previous, quoted_texts}
 use Rattle.po_syntax.specs.Facts.AllAppend.{All-left, All-right}
-use Rattle.po_entry.specs.Spelling.{with_head}
 use Rattle.po_entry.specs.Spelling as spell
-use Rattle.po_entry.specs.TextEntry.{TextEntry, TextPrevious, no_previous, quoted_texts}
 
 module _ (P : List ℕ → Type 0) (join : (xs ys : List ℕ) → P xs → P ys → P (xs ++ ys)) where
   strings : {marks : Marks} {items : List TextItem} {text : List ℕ} → spell.SpellsStrings marks items text

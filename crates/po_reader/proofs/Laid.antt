@@ -2,8 +2,7 @@
 use Rattle.std.proofs.Common.{◌≡◌, ◌∙◌, refl, sym, ap, ℕ, ◌-◌, List, [], ◌∷◌, ◌++◌, append_assoc, append-nil, length, length-append, Option, None, Some, arith}
 use Rattle.std.specs.List.{flat_map}
 use Rattle.std.proofs.lemmas.List.Concat.{flat_map-append}
-use Rattle.po_entry.specs.Rows.{after_nul, context_length, further_texts, key_bytes, own_bytes}
-use Rattle.po_entry.specs.TextEntry.{TextEntry}
+use Rattle.po_entry.specs.Prelude.{after_nul, context_length, further_texts, key_bytes, own_bytes, TextEntry}
 use Rattle.po_reader.specs.Internal.ReaderView.{context_bytes}
 
 -- a text after a NUL

@@ -4,10 +4,8 @@ use Rattle.std.specs.Prelude.{All, slice_get}
 use Rattle.std.proofs.lemmas.List.{take_all}
 use Rattle.std.proofs.lemmas.List.Elements.{All-push}
 use Rattle.po_syntax.specs.declared.item.Item.{Item}
-use Rattle.po_syntax.specs.TextItem.{line_of, view, views}
-use Rattle.po_entry.specs.TextEntry.{TextEntry}
-use Rattle.po_entry.specs.Rows.{entry_at}
-use Rattle.po_entry.specs.Faults.{last_line}
+use Rattle.po_syntax.specs.Prelude.{line_of, view, views}
+use Rattle.po_entry.specs.Prelude.{TextEntry, entry_at, last_line}
 use Rattle.po_entry.specs.declared.row.Row.{Row}
 use Rattle.po_entry.proofs.RowLemmas.{taken_here}
 

@@ -10,10 +10,11 @@ use Rattle.po_syntax.specs.declared.item.CommentKind.{CommentKind}
 use Rattle.po_syntax.specs.declared.item.Keyword.{Keyword}
 use Rattle.po_syntax.specs.declared.item.Keyword.TheVariants.{MsgStrAt}
 use Rattle.po_syntax.specs.declared.item.Marks.{Marks}
-use Rattle.po_syntax.specs.TextItem.{TextItem, Comment, Word, Str, line_of}
-use Rattle.po_entry.specs.Comments.{rank}
+use Rattle.po_syntax.specs.Prelude.{TextItem, line_of}
+use Rattle.po_syntax.specs.TextItem.{Comment, Word, Str}
+use Rattle.po_entry.specs.Prelude.{rank, IsViable, IsOwn, IsWrongIndex, IsMixed, with_obsolete, Misfit}
 use Rattle.po_entry.specs.Spelling.{own_marks, previous_marks}
-use Rattle.po_entry.specs.Faults.{IsViable, IsOwn, IsWrongIndex, IsMixed, with_obsolete, Misfit, index, mixed, order}
+use Rattle.po_entry.specs.Faults.{index, mixed, order}
 use Rattle.po_reader.specs.Internal.Stage.{SoFar, Wanted, Id, Translation, Form, Gap, InHead, Before, AfterForm, Stage, Between, In, Stop, no_lines, with_entry}
 use Rattle.po_reader.specs.Internal.Turn.{turn, turn_gap, turn_head, turn_own, opened, closed, same_marks, stray_string, is_form, is_wanted, is_wrong_form, begins_body}
 use Rattle.po_reader.proofs.Turns.{marked, goes_on}

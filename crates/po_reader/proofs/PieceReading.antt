@@ -3,23 +3,17 @@ use Rattle.std.proofs.Common.{◌≡◌, refl, sym, ap, ◌∙◌, ℕ, List, []
 use Rattle.std.specs.Prelude.{All}
 use Rattle.std.proofs.lemmas.List.Elements.{All-nil, All-head, All-tail, All-append}
 use Rattle.po_syntax.specs.declared.fault.PoFault.{PoFault}
-use Rattle.po_syntax.specs.Pieces.{EndsInString, IsNew, LeftAnew, IsCleanLine, LeftStops, LinesLeft, SpellsLeft}
-use Rattle.po_syntax.specs.TextItem.{TextItem, Word, Str}
-use Rattle.po_entry.specs.TextEntry.{TextEntry}
-use Rattle.po_entry.specs.Header.{HasAdmittedCharset}
-use Rattle.po_entry.specs.Validity.{HasTexts}
-use Rattle.po_entry.specs.Spelling.{SpellsEntries}
+use Rattle.po_syntax.specs.Prelude.{EndsInString, IsNew, LeftAnew, IsCleanLine, LeftStops, LinesLeft, SpellsLeft, TextItem, SpellsText, SpellsLines, TextFault}
+use Rattle.po_syntax.specs.TextItem.{Word, Str}
+use Rattle.po_entry.specs.Prelude.{TextEntry, HasAdmittedCharset, HasTexts, SpellsEntries, ReadsItems, ReadsText, ReadsLeft, ItemsStop, IsReadFault, ItemsFault, last_line}
 use Rattle.po_entry.proofs.JoinedPieces.{entries_joined}
 use Rattle.po_reader.proofs.Faults.{fault_unread, items_fault, fault_comes, spelt_once}
-use Rattle.po_entry.specs.ReadsText.{ReadsItems, ReadsText, ReadsLeft}
-use Rattle.po_entry.specs.Faults.{ItemsStop, IsReadFault, ItemsFault, last_line}
 use Rattle.po_reader.specs.Internal.Turn.{comes_to}
 use Rattle.po_reader.specs.Internal.Reads.{start}
 use Rattle.po_reader.proofs.SpeltRuns.{IsApart, spelt_go_on}
 use Rattle.po_reader.proofs.Texts.{read_or_stopped}
-use Rattle.po_syntax.specs.PoText.{SpellsText, SpellsLines, TextFault}
 use Rattle.po_syntax.specs.declared.item.Keyword.TheVariants.{MsgStrAt}
-use Rattle.po_reader.specs.PieceRead.{ReadsOn, FaultsStay, IsLeftFault, IsReadSoFar}
+use Rattle.po_reader.specs.Prelude.{ReadsOn, FaultsStay, IsLeftFault, IsReadSoFar}
 use Rattle.po_reader.specs.Internal.Keeping.{SpellsOn, KeepsReading, KeepsItems, StopsStay}
 use Rattle.po_entry.specs.Spelling as spelling
 use Rattle.po_entry.specs.Faults as faults

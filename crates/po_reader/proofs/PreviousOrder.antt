@@ -2,8 +2,8 @@
 use Rattle.std.proofs.Common.{ℕ, ◌<◌, List, [], ◌∷◌, map, arith}
 use Rattle.po_syntax.specs.declared.item.Keyword.{Keyword}
 use Rattle.po_syntax.specs.declared.item.Keyword.TheVariants.{MsgCtxt, MsgId, MsgIdPlural, MsgStr}
-use Rattle.po_entry.specs.Comments.{PreviousText, rank}
-use Rattle.po_entry.specs.Spelling.{AreSome, none, with, without, AreInOrder}
+use Rattle.po_entry.specs.Prelude.{PreviousText, rank, AreSome, AreInOrder}
+use Rattle.po_entry.specs.Spelling.{none, with, without}
 
 -- the ranks of the keywords rise from above this one
 abbrev pub Rise : ℕ → List Keyword → Type 0

@@ -9,11 +9,11 @@ use Rattle.po_syntax.specs.declared.fault.PoFault.TheVariants.{BadOrder, MixedOb
 use Rattle.po_syntax.specs.declared.item.Keyword.{Keyword}
 use Rattle.po_syntax.specs.declared.item.Keyword.TheVariants.{MsgCtxt, MsgId, MsgIdPlural, MsgStr, MsgStrAt}
 use Rattle.po_syntax.specs.declared.item.Marks.{Marks}
-use Rattle.po_syntax.specs.TextItem.{TextItem, Comment, Word, Str}
-use Rattle.po_entry.specs.TextEntry.{TextEntry}
-use Rattle.po_entry.specs.Comments.{CommentText, PreviousText, rank}
+use Rattle.po_syntax.specs.Prelude.{TextItem}
+use Rattle.po_syntax.specs.TextItem.{Comment, Word, Str}
+use Rattle.po_entry.specs.Prelude.{TextEntry, CommentText, PreviousText, rank, with_head}
 use Rattle.po_entry.specs.Spelling as spell
-use Rattle.po_entry.specs.Spelling.{own_marks, previous_marks, with_head}
+use Rattle.po_entry.specs.Spelling.{own_marks, previous_marks}
 use Rattle.po_reader.specs.Internal.Stage.{SoFar, Wanted, Id, Translation, Form, Gap, InHead, Before, AfterForm, Stage, Between, In, Stop, Entries, Fault, no_lines, only, with_own, with_text, with_entry}
 use Rattle.po_reader.specs.Internal.Turn.{turn, turn_head, turn_own, turn_gap, opened, closed, with_keyword, comes_to, same_marks, is_form, is_wanted, unwanted, stray_string}
 use Rattle.po_reader.proofs.Turns.{never, same_marks_true}

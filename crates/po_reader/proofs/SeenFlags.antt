@@ -2,8 +2,7 @@
 use Rattle.std.proofs.Common.{◌≡◌, ℕ, Bool, ◌==◌, List, [], ◌∷◌, Option, None, Some, MatchOption, sym, ap, ◌∙◌, map, filter}
 use Rattle.std.specs.Borrow.{Bor}
 use Rattle.std.specs.List.{slice_split}
-use Rattle.po_entry.specs.Texts.{trimmed}
-use Rattle.po_entry.specs.Comments.{is_not_empty, listed_flags}
+use Rattle.po_entry.specs.Prelude.{trimmed, is_not_empty, listed_flags}
 use Rattle.po_reader.specs.Internal.Elements.{with_element}
 
 abbrev is_comma : ℕ → Bool

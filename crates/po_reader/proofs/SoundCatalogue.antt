@@ -3,21 +3,16 @@ use Rattle.std.proofs.Common.{◌≡◌, ◌≢◌, ℕ, ◌<◌, Bool, List, Op
 use Rattle.std.specs.Prelude.{All}
 use Rattle.std.proofs.lemmas.List.Elements.{All-nil, All-append, All-cons, All-head, All-tail, All-weaker, All-map}
 use Rattle.std.proofs.lemmas.Str.{IsUtf8-append}
-use Rattle.po_syntax.specs.TextItem.{IsCommentOf, HoldsText, IsComment, OfString, TextItem, Comment, Str, Word}
-use Rattle.po_entry.specs.Comments.{CommentText, PreviousText, texts_of, references_of, all_listed_flags, flags_of}
+use Rattle.po_syntax.specs.Prelude.{IsCommentOf, HoldsText, IsComment, OfString, TextItem}
+use Rattle.po_syntax.specs.TextItem.{Comment, Str, Word}
+use Rattle.po_entry.specs.Prelude.{CommentText, PreviousText, texts_of, references_of, all_listed_flags, flags_of, CanLie, TextEntry, quoted_texts, AreDistinct, Lacks, HasTexts, IsCatalogueEntry, IsEntry, IsTranslatorComment, IsReference, IsFlag, EntryTextFault, with_head, SpellsEntries, HasAdmittedCharset}
 use Rattle.po_syntax.specs.Facts.AllAppend.{All-right, All-left}
 use Rattle.po_syntax.specs.declared.item.CommentKind.TheVariants.{Translator, Extracted, Reference, Flags}
-use Rattle.po_entry.specs.Rows.{CanLie}
-use Rattle.po_entry.specs.TextEntry.{TextEntry, quoted_texts}
-use Rattle.po_entry.specs.Texts.{AreDistinct, Lacks}
-use Rattle.po_entry.specs.Validity.{HasTexts, IsCatalogueEntry, IsEntry, IsTranslatorComment, IsReference, IsFlag, EntryTextFault}
-use Rattle.po_entry.specs.Spelling.{with_head, SpellsEntries}
 use Rattle.po_reader.proofs.Heads.{all_unmapped}
 use Rattle.po_reader.proofs.JoinedStrings.{entry_texts, entries_texts}
 use Rattle.po_reader.proofs.SoundFields.{SoundCommentText, SoundFlagElement, SoundFlags, kind_sound, references_sound, all_flag_elements_sound, flags_sound}
 use Rattle.po_syntax.specs.declared.fault.PoFault.{PoFault}
-use Rattle.po_entry.specs.Header.{HasAdmittedCharset}
-use Rattle.po_reader.specs.PieceRead.{kept_entry}
+use Rattle.po_reader.specs.Prelude.{kept_entry}
 use Rattle.po_entry.specs.Spelling as spell
 use Rattle.po_entry.specs.Validity as validity
 use Rattle.po_entry.specs.Faults as faults

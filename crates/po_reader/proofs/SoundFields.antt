@@ -3,8 +3,7 @@ use Rattle.std.proofs.Common.{◌≡◌, ℕ, Bool, true, List, [], ◌∷◌, �
 use Rattle.std.specs.Prelude.{All, Contains, if◌then◌else◌, filter, flat_map, fold, bytes_eq}
 use Rattle.std.specs.List.{prefix_len, slice_split, list_any}
 use Rattle.std.proofs.lemmas.List.Elements.{All-nil, All-head, All-tail, All-cons, All-append, All-push, All-map, All-filter, filter_passes, Contains-push_cases}
-use Rattle.po_syntax.specs.Blanks.{FailsFirst, without_end, is_blank, skip_blanks}
-use Rattle.po_syntax.specs.Pieces.{IsCleanLine}
+use Rattle.po_syntax.specs.Prelude.{FailsFirst, without_end, is_blank, skip_blanks, IsCleanLine, IsText, IsCommentOf}
 use Rattle.po_syntax.specs.Facts.Runs.{parts_of, run_length, end_parts, kept_is}
 use Rattle.po_syntax.proofs.SpeltKeywords.{of_blank}
 use Rattle.po_syntax.specs.Facts.AllAppend.{All-left, All-right}
@@ -17,10 +16,7 @@ use Rattle.std.proofs.lemmas.List.Folds.{list_any_at}
 use Rattle.std.proofs.lemmas.Slice.Eq.{bytes_eq-Decides}
 use Rattle.po_syntax.specs.declared.item.CommentKind.{CommentKind}
 use Rattle.po_syntax.specs.declared.item.CommentKind.TheVariants.{Translator, Extracted, Reference, Flags}
-use Rattle.po_entry.specs.Texts.{Lacks, trimmed, AreDistinct}
-use Rattle.po_entry.specs.Comments.{CommentText, same_kind, texts_of, is_not_empty, listed_references, listed_flags, is_fuzzy_flag, with_flag}
-use Rattle.po_syntax.specs.TextItem.{IsText, IsCommentOf}
-use Rattle.po_entry.specs.Validity.{IsReference, IsFlag}
+use Rattle.po_entry.specs.Prelude.{Lacks, trimmed, AreDistinct, CommentText, same_kind, texts_of, is_not_empty, listed_references, listed_flags, is_fuzzy_flag, with_flag, IsReference, IsFlag}
 
 -- what holds of a text that is cut at a byte that passes the test holds of both parts
 abbrev Cuts : (List ℕ → Type 0) → (ℕ → Bool) → Type 0

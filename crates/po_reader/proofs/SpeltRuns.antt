@@ -5,15 +5,14 @@ use Rattle.std.specs.Cmp.{bool_eq_equiv}
 use Rattle.po_syntax.specs.declared.item.Keyword.{Keyword}
 use Rattle.po_syntax.specs.declared.item.Keyword.TheVariants.{MsgId, MsgIdPlural, MsgStrAt}
 use Rattle.po_syntax.specs.declared.item.Marks.{Marks}
-use Rattle.po_syntax.specs.TextItem.{TextItem, Word, Str}
-use Rattle.po_entry.specs.TextEntry.{TextEntry, plain_entry}
-use Rattle.po_entry.specs.Comments.{CommentText, PreviousText, rank}
+use Rattle.po_syntax.specs.Prelude.{TextItem, EndsInString}
+use Rattle.po_syntax.specs.TextItem.{Word, Str}
+use Rattle.po_entry.specs.Prelude.{TextEntry, plain_entry, CommentText, PreviousText, rank}
 use Rattle.po_entry.specs.Spelling as spell
 use Rattle.po_entry.specs.Spelling.{own_marks}
 use Rattle.po_reader.specs.Internal.Stage.{SoFar, Id, Translation, Form, InHead, Before, AfterForm, Stage, Between, In, Entries, no_lines, only, with_own, with_text, with_entry}
 use Rattle.po_reader.specs.Internal.Turn.{turn, closed, comes_to, begins_string, begins_form}
 use Rattle.po_reader.specs.Internal.Reads.{start}
-use Rattle.po_syntax.specs.Pieces.{EndsInString}
 use Rattle.po_entry.proofs.JoinedPieces.{ends_rest, no_comment_last}
 use Rattle.po_reader.proofs.Turns.{text_ends, forms_end, form_follows, same_marks-refl}
 use Rattle.po_reader.proofs.PreviousOrder.{Rise, keywords, order_rises}

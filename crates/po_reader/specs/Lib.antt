@@ -1,2 +1,3 @@
 pub mod PieceRead
 pub mod Internal
+pub mod Prelude

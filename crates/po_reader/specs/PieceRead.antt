@@ -1,14 +1,11 @@
 -- How a text is read piece by piece, and why what is left of it isn't read. Internal but for the functions that read
 -- pieces (manual, "The Format of PO Files").
 use Rattle.std.specs.Prelude.{Bool, true, false, List, [], ℕ, ◌≡◌, ◌≢◌, ◌<◌, ◌++◌, map, length}
-use Rattle.po_entry.specs.TextEntry.{TextEntry}
+use Rattle.po_entry.specs.Prelude.{TextEntry, IsReadFault, IsStop, ItemsStop, ReadsLeft, ReadsText}
 use Rattle.po_syntax.specs.declared.fault.PoFault.{PoFault}
 use Rattle.po_syntax.specs.declared.fault.PoError.{PoError}
 use Rattle.po_syntax.specs.declared.fault.PoFault.TheVariants.{OutOfMemory}
-use Rattle.po_entry.specs.Faults.{IsReadFault, IsStop, ItemsStop}
-use Rattle.po_syntax.specs.Pieces.{LinesLeft, SpellsLeft, LeftStops, IsPiece}
-use Rattle.po_syntax.specs.TextItem.{TextItem}
-use Rattle.po_entry.specs.ReadsText.{ReadsLeft, ReadsText}
+use Rattle.po_syntax.specs.Prelude.{LinesLeft, SpellsLeft, LeftStops, IsPiece, TextItem}
 
 -- What is kept of the entries that are read: all, or all but their comments, references and flags
 -- (manual, "The Format of PO Files").

@@ -3,11 +3,8 @@
 
 ghost use Rattle.std.specs.Prelude.{◌≡◌, ◌==◌, ◌<◌, ◌++◌, ◌∷◌, [], ℕ, Bool, fold, length, position, IfOk, IfSome, MatchOption, OnOk};
 ghost use Rattle.std.specs.List.{flat_map, list_any, slice_split};
-ghost use Rattle.po_syntax.specs.Blanks.{is_blank};
-ghost use Rattle.po_entry.specs.Texts.{trimmed};
-ghost use Rattle.po_entry.specs.TextEntry.{slice_texts};
-ghost use Rattle.po_entry.specs.SeenTexts.{digest_of, seed_of};
-ghost use Rattle.po_entry.specs.Comments.{is_fuzzy_flag, listed_references, listed_flags, with_flag};
+ghost use Rattle.po_syntax.specs.Prelude.{is_blank};
+ghost use Rattle.po_entry.specs.Prelude.{trimmed, slice_texts, digest_of, seed_of, is_fuzzy_flag, listed_references, listed_flags, with_flag};
 ghost use Rattle.po_reader.specs.Internal.Elements.{with_element};
 
 use po_entry::{Seeded, SeenTexts, TextList};

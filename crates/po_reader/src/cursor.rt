@@ -2,8 +2,9 @@
 
 ghost use Rattle.std.specs.Prelude.{◌≡◌, ◌≢◌, ◌<◌, [], ◌∷◌, ◌++◌, ℕ, List, false, drop, length, IfErr, OnOk, MatchBool, MatchOption};
 ghost use Rattle.po_syntax.specs.declared.item.Keyword.{Keyword};
-ghost use Rattle.po_syntax.specs.TextItem.{Word, Str, line_of, view, views};
-ghost use Rattle.po_entry.specs.Faults.{last_line};
+ghost use Rattle.po_syntax.specs.Prelude.{line_of, view, views};
+ghost use Rattle.po_syntax.specs.TextItem.{Word, Str};
+ghost use Rattle.po_entry.specs.Prelude.{last_line};
 ghost use Rattle.po_reader.specs.Internal.Stage.{SoFar, In, Between};
 ghost use Rattle.po_reader.specs.Internal.Turn as spec;
 ghost use Rattle.po_reader.specs.Internal.Turn.{begins_word, begins_string, closed};
@@ -21,7 +22,7 @@ pub(crate) struct Cursor<'i, 'a> {
 }
 
 impl<'i, 'a> Model for Cursor<'i, 'a> {
-    ghost use Rattle.po_syntax.specs.TextItem.{views};
+    ghost use Rattle.po_syntax.specs.Prelude.{views};
     ghost use Rattle.po_reader.specs.Internal.Reads.{Rest};
 
     ghost Value = { Rest };

@@ -1,9 +1,7 @@
 //! What stands before an entry's own lines: comments, references, flags and previous texts.
 
 ghost use Rattle.std.specs.Prelude.{◌≡◌, ◌<◌, ◌≤◌, ◌++◌, ◌∷◌, [], ℕ, Bool, false, Some, List, length, IfOk, IfErr, OnOk};
-ghost use Rattle.po_entry.specs.Comments.{CommentText, PreviousText, rank, with_previous};
-ghost use Rattle.po_entry.specs.TextEntry.{TextEntry};
-ghost use Rattle.po_entry.specs.Rows.{head_bytes};
+ghost use Rattle.po_entry.specs.Prelude.{CommentText, PreviousText, rank, with_previous, TextEntry, head_bytes};
 ghost use Rattle.po_reader.specs.Internal.Stage.{Between, In, InHead, SoFar, after_head};
 ghost use Rattle.po_syntax.specs.declared.item.Keyword.{Keyword};
 ghost use Rattle.po_reader.specs.Internal.Turn.{begins_body, closed, EndsHead};

@@ -2,14 +2,9 @@
 //! catalogue.
 
 ghost use Rattle.std.specs.Prelude.{◌≡◌, ◌≢◌, ◌<◌, ◌≤◌, ◌^◌, [], List, All, length, map, vec_len, true, IfErr, IsUtf8, OnOk};
-ghost use Rattle.po_syntax.specs.TextItem.{HoldsText, OfString, views};
-ghost use Rattle.po_entry.specs.Texts.{Lacks};
-ghost use Rattle.po_entry.specs.TextEntry.{TextEntry, quoted_texts};
-ghost use Rattle.po_entry.specs.Header.{HasAdmittedCharset};
-ghost use Rattle.po_entry.specs.Rows.{AreLaid, CanLie, entries_in};
-ghost use Rattle.po_entry.specs.Validity.{IsCatalogueEntry, HasTexts, EntryTextFault};
-ghost use Rattle.po_entry.specs.Faults.{CharsetFault, EntriesStop, IsStop, ItemsStop, last_line};
-ghost use Rattle.po_reader.specs.PieceRead.{kept_entry};
+ghost use Rattle.po_syntax.specs.Prelude.{HoldsText, OfString, views};
+ghost use Rattle.po_entry.specs.Prelude.{Lacks, TextEntry, quoted_texts, HasAdmittedCharset, AreLaid, CanLie, entries_in, IsCatalogueEntry, HasTexts, EntryTextFault, CharsetFault, EntriesStop, IsStop, ItemsStop, last_line};
+ghost use Rattle.po_reader.specs.Prelude.{kept_entry};
 ghost use Rattle.po_reader.specs.Internal.Keeping.{KeepsItems};
 ghost use Rattle.po_reader.specs.Internal.Reads.{ChecksStop, Reads, start, Fails};
 

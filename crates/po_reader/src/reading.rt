@@ -1,11 +1,8 @@
 //! The entries of a text, a few at a time or all.
 
 ghost use Rattle.std.specs.Prelude.{◌≡◌, ◌++◌, All, List, IfErr, OnErr, OnOk};
-ghost use Rattle.po_entry.specs.ReadsText.{ReadsText};
-ghost use Rattle.po_entry.specs.TextEntry.{TextEntry};
-ghost use Rattle.po_entry.specs.Rows.{AreLaid, entries_in};
-ghost use Rattle.po_entry.specs.Validity.{IsCatalogueEntry};
-ghost use Rattle.po_reader.specs.PieceRead.{AddsReading, FaultsStay, IsLeftError, IsShorter, IsTextError, ReadsPiece};
+ghost use Rattle.po_entry.specs.Prelude.{ReadsText, TextEntry, AreLaid, entries_in, IsCatalogueEntry};
+ghost use Rattle.po_reader.specs.Prelude.{AddsReading, FaultsStay, IsLeftError, IsShorter, IsTextError, ReadsPiece};
 ghost use Rattle.po_reader.specs.Internal.Keeping.{KeepsReading};
 
 use crate::items::read_items;

@@ -8,8 +8,7 @@ use Rattle.std.proofs.lemmas.List.Sums.{prefix_len_passes}
 use Rattle.std.proofs.lemmas.Slice.Eq.{bytes_eq-Decides}
 use Rattle.std.proofs.lemmas.Str.{IsUtf8-past_char}
 use lib.Utf8.{encode}
-use Rattle.po_syntax.specs.Pieces.{IsCleanLine}
-use Rattle.po_syntax.specs.PoText.{lines_of, without_byte_order_mark}
+use Rattle.po_syntax.specs.Prelude.{IsCleanLine, lines_of, without_byte_order_mark}
 use Rattle.po_syntax.proofs.CleanTexts.{lines_of_text}
 
 -- a text lacks a byte that is found nowhere in it

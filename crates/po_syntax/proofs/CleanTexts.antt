@@ -9,10 +9,7 @@ use Rattle.std.proofs.lemmas.List.Sums.{sum_by-cons}
 use Rattle.std.proofs.lemmas.Slice.Eq.{bytes_eq-Decides}
 use Rattle.std.proofs.lemmas.Str.{IsUtf8-append, IsUtf8-nil}
 use lib.Utf8.{encode}
-use Rattle.po_syntax.specs.Pieces.{IsCleanLine, all_lines, lines_len}
-use Rattle.po_syntax.specs.TextItem.{IsText}
-use Rattle.po_syntax.specs.LineNumbers.{marked_text}
-use Rattle.po_syntax.specs.PoText.{lines_of, without_byte_order_mark}
+use Rattle.po_syntax.specs.Prelude.{IsCleanLine, all_lines, lines_len, IsText, marked_text, lines_of, without_byte_order_mark}
 use Rattle.po_syntax.proofs.LineNumbers.{Cut, only_line, first_line, cut, text_after_mark}
 use Rattle.po_syntax.proofs.Lines.{lines_len-lines_of}
 use Rattle.po_syntax.proofs.Utf8Rests.{before-utf8, rest-utf8}

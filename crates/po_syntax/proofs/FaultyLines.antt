@@ -6,11 +6,9 @@ use Rattle.std.proofs.lemmas.List.Elements.{All-head}
 use Rattle.std.proofs.lemmas.Slice.Eq.{bytes_eq-Decides}
 use Rattle.po_syntax.specs.declared.fault.PoFault.{PoFault}
 use Rattle.po_syntax.specs.declared.fault.PoFault.TheVariants.{BadToken, BadPluralIndex}
-use Rattle.po_syntax.specs.Escapes.{NoDigitFirst}
-use Rattle.po_syntax.specs.LineFaults.{IsNoKeyword, IndexFault, no_index, large_index, not_closed_index, KeywordFault, no_keyword, in_index}
-use Rattle.po_syntax.specs.Spelling.{is_word_byte}
+use Rattle.po_syntax.specs.Prelude.{NoDigitFirst, IsNoKeyword, IndexFault, KeywordFault, is_word_byte, is_blank, IsBlank, FailsFirst}
+use Rattle.po_syntax.specs.LineFaults.{no_index, large_index, not_closed_index, no_keyword, in_index}
 use Rattle.po_syntax.specs.Internal.Token.{WrongToken, close_token, index_token, bracket_token, keyword_token, first_token, token_at}
-use Rattle.po_syntax.specs.Blanks.{is_blank, IsBlank, FailsFirst}
 use Rattle.po_syntax.proofs.SpeltEscapes.{count_all}
 use Rattle.po_syntax.proofs.SpeltKeywords.{index_at, skip_prefix, m_read, word_prefix, ends_before_bracket, blank_no_word, digits_no_blank}
 

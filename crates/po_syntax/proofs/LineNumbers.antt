@@ -17,12 +17,9 @@ use Rattle.po_syntax.proofs.SpeltEscapes.{by_byte}
 use Rattle.po_syntax.specs.declared.fault.PoFault.{PoFault}
 use Rattle.po_syntax.specs.declared.fault.PoFault.TheVariants.{NotUtf8, ForbiddenByte}
 use Rattle.po_syntax.specs.declared.item.Marks.{Marks}
-use Rattle.po_syntax.specs.TextItem.{IsText, TextItem, line_of}
-use Rattle.po_syntax.specs.LineFaults.{LineFault}
-use Rattle.po_syntax.specs.LineNumbers.{HasFeeds, none, feed, other, BeginsLine, at_start, after_feed, at_end, before_feed, HasLine, IsOnItsLine, ItemsAreOnTheirLines, HasFaultOnLine, no_line, not_utf8, nul, in_line, marked_text, MarkIsOmitted}
-use Rattle.po_syntax.specs.PoText.{line_number, lines_of, LinesStop, SpellsLines, TextFault, without_byte_order_mark}
+use Rattle.po_syntax.specs.Prelude.{IsText, TextItem, line_of, LineFault, HasFeeds, BeginsLine, HasLine, IsOnItsLine, ItemsAreOnTheirLines, HasFaultOnLine, marked_text, MarkIsOmitted, line_number, lines_of, LinesStop, SpellsLines, TextFault, without_byte_order_mark, HoldsItems, HoldsTokens}
+use Rattle.po_syntax.specs.LineNumbers.{none, feed, other, at_start, after_feed, at_end, before_feed, no_line, not_utf8, nul, in_line}
 use Rattle.po_syntax.specs.PoText as text_faults
-use Rattle.po_syntax.specs.Spelling.{HoldsItems, HoldsTokens}
 use Rattle.po_syntax.specs.Spelling as spelt
 
 -- how many LFs a text has

@@ -4,11 +4,9 @@ use Rattle.std.specs.List.{onto_first}
 use Rattle.std.proofs.lemmas.Bool.{cond_both}
 use Rattle.std.proofs.lemmas.List.Splits.{length-slice_split}
 use Rattle.std.proofs.lemmas.List.Sums.{sum_by-cons}
-use Rattle.po_syntax.specs.Pieces.{lines_len}
+use Rattle.po_syntax.specs.Prelude.{lines_len, HoldsTokens, HoldsItems, SpellsLines, lines_of, without_byte_order_mark, TextItem}
 use Rattle.po_syntax.specs.declared.item.Marks.{Marks}
-use Rattle.po_syntax.specs.Spelling.{HoldsTokens, end, blank, keyword, string, HoldsItems, indented, live, previous, obsolete, obsolete_previous}
-use Rattle.po_syntax.specs.PoText.{SpellsLines, lines_of, without_byte_order_mark}
-use Rattle.po_syntax.specs.TextItem.{TextItem}
+use Rattle.po_syntax.specs.Spelling.{end, blank, keyword, string, indented, live, previous, obsolete, obsolete_previous}
 use Rattle.po_syntax.proofs.Escapes.{string_shorter}
 use Rattle.po_syntax.proofs.Tokens.{rest_shorter}
 

@@ -9,14 +9,9 @@ use Rattle.std.proofs.lemmas.List.Elements.{All-nil, All-append, All-drop, All-h
 use Rattle.std.proofs.lemmas.List.Sums.{sum_by-take-drop, sum_by-cons}
 use Rattle.po_syntax.specs.declared.fault.PoFault.{PoFault}
 use Rattle.po_syntax.specs.declared.item.Item.{Item}
-use Rattle.po_syntax.specs.Pieces.{IsCleanLine, LinesLeft, lines_len, lines_of_rest, EndsTranslation, BeginsAnew, LineBeginsAnew, CanEnd, HasRead}
+use Rattle.po_syntax.specs.Prelude.{IsCleanLine, LinesLeft, lines_len, lines_of_rest, EndsTranslation, BeginsAnew, LineBeginsAnew, CanEnd, HasRead, LendsUtf8, LineFault, HoldsItems, SpellsLines, LinesStop, lines_of, TextItem, views}
 use Rattle.po_syntax.specs.Internal.LineView.{AddsLent}
 use Rattle.po_syntax.specs.Internal.PieceEnd.{IsCut}
-use Rattle.po_syntax.specs.Lent.{LendsUtf8}
-use Rattle.po_syntax.specs.LineFaults.{LineFault}
-use Rattle.po_syntax.specs.Spelling.{HoldsItems}
-use Rattle.po_syntax.specs.PoText.{SpellsLines, LinesStop, lines_of}
-use Rattle.po_syntax.specs.TextItem.{TextItem, views}
 use Rattle.po_syntax.proofs.Uniqueness.{line_once, lines_once}
 use Rattle.po_syntax.proofs.TranslationEnds.{drop_rest, some_line}
 

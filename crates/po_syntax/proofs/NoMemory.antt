@@ -3,7 +3,8 @@ use Rattle.std.proofs.Common.{◌≢◌, inl, inr, ◌+◌, ℕ, List, [], ◌�
 use Rattle.po_syntax.specs.declared.fault.PoFault.{PoFault}
 use Rattle.po_syntax.specs.declared.fault.PoFault.TheVariants.{OutOfMemory}
 use Rattle.po_syntax.specs.LineFaults as fault
-use Rattle.po_syntax.specs.PoText.{LinesStop, TextFault, stops}
+use Rattle.po_syntax.specs.Prelude.{LinesStop, TextFault}
+use Rattle.po_syntax.specs.PoText.{stops}
 
 abbrev IsReported : PoFault → Type 0
 IsReported kind = kind ≢ OutOfMemory

@@ -2,9 +2,10 @@
 use Rattle.std.proofs.Common.{◌≡◌, ◌==◌, refl, ℕ, ◌<◌, false, List, [], ◌∷◌, length, Result, Ok, Err, arith, ◌∙◌, sym, ap, zero, suc, ◌+◌}
 use Rattle.std.proofs.lemmas.Bool.{eqb-false, ne_eqb}
 use Rattle.po_syntax.specs.declared.fault.PoFault.{PoFault}
-use Rattle.po_syntax.specs.Escapes.{SpellsString, closed, plain, escape}
+use Rattle.po_syntax.specs.Prelude.{SpellsString, StringFault}
+use Rattle.po_syntax.specs.Escapes.{closed, plain, escape}
 use Rattle.po_syntax.specs.Internal.QuotedString.{Step, End, Byte, Stop, escape_at, step_at}
-use Rattle.po_syntax.specs.LineFaults.{StringFault, not_closed, in_escape, after_plain, after_escape}
+use Rattle.po_syntax.specs.LineFaults.{not_closed, in_escape, after_plain, after_escape}
 use Rattle.po_syntax.proofs.Escapes.{EscapeSays, escape_says, escape_shorter}
 use Rattle.po_syntax.proofs.SpeltEscapes.{by_byte, escape_read, escape_stops}
 

@@ -5,10 +5,8 @@ use Rattle.std.proofs.lemmas.List.{drop_all, take-append-drop}
 use Rattle.std.proofs.lemmas.List.Elements.{All-nil, All-append, All-head, All-tail}
 use Rattle.std.proofs.lemmas.List.Sums.{sum_by-take-drop, sum_by-take-le, sum_by-cons}
 use Rattle.po_syntax.specs.declared.fault.PoFault.{PoFault}
-use Rattle.po_syntax.specs.Pieces.{IsCleanLine, LinesLeft, SpellsLeft, LeftStops, AreOfText, lines_len, IsString, IsTranslation, EndsTranslation, IsNew, BeginsAnew, LineBeginsAnew, CanEnd, IsPiece, EndsInString, LeftAnew}
+use Rattle.po_syntax.specs.Prelude.{IsCleanLine, LinesLeft, SpellsLeft, LeftStops, AreOfText, lines_len, IsString, IsTranslation, EndsTranslation, IsNew, BeginsAnew, LineBeginsAnew, CanEnd, IsPiece, EndsInString, LeftAnew, HoldsText, IsText, TextItem, SpellsLines, TextFault}
 use Rattle.po_syntax.specs.Internal.PieceEnd.{IsCut}
-use Rattle.po_syntax.specs.TextItem.{HoldsText, IsText, TextItem}
-use Rattle.po_syntax.specs.PoText.{SpellsLines, TextFault}
 use Rattle.po_syntax.proofs.ItemTexts.{lines_texts}
 use Rattle.po_syntax.proofs.Lines.{lines-few, some_length}
 use Rattle.po_syntax.proofs.Uniqueness.{line_once, lines_once}

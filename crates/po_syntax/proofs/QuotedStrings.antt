@@ -4,9 +4,10 @@ use Rattle.std.proofs.lemmas.Bool.{or_parts, eqb-false, false_from_ne_true}
 use Rattle.memchr.specs.Find.{IsFirstByte, is_byte2}
 use Rattle.po_syntax.specs.declared.fault.PoFault.{PoFault}
 use Rattle.po_syntax.specs.declared.fault.PoFault.TheVariants.{UnterminatedString}
-use Rattle.po_syntax.specs.Escapes.{SpellsString, closed, plain}
+use Rattle.po_syntax.specs.Prelude.{SpellsString, StringFault}
+use Rattle.po_syntax.specs.Escapes.{closed, plain}
 use Rattle.po_syntax.specs.Internal.QuotedString.{Step, escape_at}
-use Rattle.po_syntax.specs.LineFaults.{StringFault, not_closed, after_plain}
+use Rattle.po_syntax.specs.LineFaults.{not_closed, after_plain}
 use Rattle.po_syntax.proofs.Escapes.{EscapeSays, escape_says}
 
 -- a byte that is neither a quote nor a backslash stands for itself

@@ -8,7 +8,8 @@ use Rattle.std.proofs.lemmas.List.{take_all}
 use Rattle.std.proofs.lemmas.List.Elements.{All-append, All-cons, All-head, All-tail}
 use Rattle.std.proofs.lemmas.Str.{IsUtf8-nil, IsUtf8-append, IsUtf8-from_ascii, encode_ascii, inside_one}
 use Rattle.std.proofs.lemmas.Str.Ascii.{IsAscii-cons}
-use Rattle.po_syntax.specs.Quoting.{is_raw, written_byte, written_bytes, quoted, WritesByte, letter, delete, control, plain}
+use Rattle.po_syntax.specs.Prelude.{is_raw, written_byte, written_bytes, quoted, WritesByte}
+use Rattle.po_syntax.specs.Quoting.{letter, delete, control, plain}
 use Rattle.po_syntax.proofs.RawRuns.{written_run}
 use Rattle.po_syntax.proofs.SpeltEscapes.{of_each_byte}
 use Rattle.po_syntax.proofs.WrittenForms.{byte_written}

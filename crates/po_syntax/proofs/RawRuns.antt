@@ -5,7 +5,7 @@ use Rattle.std.proofs.lemmas.Bool.{or_parts, not-true, ltb-false, ne_eqb}
 use Rattle.std.proofs.lemmas.Grind.{flat_map-append}
 use Rattle.std.proofs.lemmas.List.{length_push, nil_from_length, take_more}
 use Rattle.std.proofs.lemmas.List.Sums.{prefix_len_passes, prefix_len-le-length}
-use Rattle.po_syntax.specs.Quoting.{is_control, is_raw, written_byte, written_bytes}
+use Rattle.po_syntax.specs.Prelude.{is_control, is_raw, written_byte, written_bytes}
 
 written_raw : (b : ℕ) → is_raw b ≡ true → written_byte b ≡ b ∷ []
 unfolding written_byte

@@ -7,7 +7,8 @@ use Rattle.std.proofs.lemmas.Bool.{cond-true, cond-false, eqb-false, lt-ltb, le-
 use Rattle.std.proofs.lemmas.Grind.{get_or_default_zero}
 use Rattle.std.proofs.lemmas.List.{drop-drop}
 use Rattle.memchr.specs.Find.{IsFirstByte, is_byte}
-use Rattle.po_syntax.specs.PoText.{lines_of, too_large, not_utf8, nul}
+use Rattle.po_syntax.specs.Prelude.{lines_of}
+use Rattle.po_syntax.specs.PoText.{too_large, not_utf8, nul}
 
 -- the index found, or the length where none is
 pub found_or_len : (test : ℕ → Bool) (text : List ℕ) (found : Option ℕ) → IsFirstByte test text found

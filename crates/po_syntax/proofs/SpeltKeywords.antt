@@ -13,14 +13,13 @@ use Rattle.std.proofs.lemmas.Slice.Eq.{bytes_eq-Decides}
 use Rattle.po_syntax.specs.declared.fault.PoFault.TheVariants.{BadPluralIndex, BadToken}
 use Rattle.po_syntax.specs.declared.item.Keyword.{Keyword}
 use Rattle.po_syntax.specs.declared.item.Keyword.TheVariants.{MsgCtxt, MsgId, MsgIdPlural, MsgStr, MsgStrAt}
-use Rattle.po_syntax.specs.Escapes.{NoDigitFirst}
+use Rattle.po_syntax.specs.Prelude.{NoDigitFirst, IndexFault, KeywordFault, TokensFault, is_word_byte, SpellsKeyword, is_blank, IsBlank, skip_blanks, FailsFirst}
 use Rattle.po_syntax.specs.declared.fault.PoFault.{PoFault}
-use Rattle.po_syntax.specs.LineFaults.{IndexFault, no_index, large_index, not_closed_index, KeywordFault, no_keyword, in_index, TokensFault, no_token, in_keyword}
+use Rattle.po_syntax.specs.LineFaults.{no_index, large_index, not_closed_index, no_keyword, in_index, no_token, in_keyword}
 use Rattle.po_syntax.specs.Internal.QuotedString.{digit_count}
 use Rattle.po_syntax.specs.Facts.Runs.{parts_of, run_length}
-use Rattle.po_syntax.specs.Spelling.{is_word_byte, SpellsKeyword, msgctxt, msgid, msgid_plural, msgstr, form}
+use Rattle.po_syntax.specs.Spelling.{msgctxt, msgid, msgid_plural, msgstr, form}
 use Rattle.po_syntax.specs.Internal.Token.{Token, LineEnd, OpeningQuote, KeywordToken, WrongToken, close_token, index_token, bracket_token, keyword_token, word_token, first_token, token_at}
-use Rattle.po_syntax.specs.Blanks.{is_blank, IsBlank, skip_blanks, FailsFirst}
 use Rattle.po_syntax.proofs.Escapes.{all_digits, positive}
 use Rattle.po_syntax.proofs.SpeltEscapes.{by_byte, count_all}
 

@@ -8,9 +8,7 @@ use Rattle.std.proofs.lemmas.List.Elements.{All-nil, All-append, All-drop, All-t
 use Rattle.std.proofs.lemmas.List.Sums.{sum_by-take-drop, sum_by-take-le, sum_by-cons}
 use Rattle.po_syntax.specs.declared.fault.PoError.{PoError}
 use Rattle.po_syntax.specs.declared.fault.PoFault.{PoFault}
-use Rattle.po_syntax.specs.Pieces.{IsCleanLine, LinesLeft, LeftStops, AreOfText, all_lines, lines_len, lines_of_rest, HasRead}
-use Rattle.po_syntax.specs.TextItem.{IsText, TextItem}
-use Rattle.po_syntax.specs.PoText.{SpellsLines, LinesStop, TextFault, without_byte_order_mark}
+use Rattle.po_syntax.specs.Prelude.{IsCleanLine, LinesLeft, LeftStops, AreOfText, all_lines, lines_len, lines_of_rest, HasRead, IsText, TextItem, SpellsLines, LinesStop, TextFault, without_byte_order_mark}
 use Rattle.po_syntax.proofs.CleanTexts.{first_lines_clean}
 use Rattle.po_syntax.proofs.CleanLines.{clean_lines}
 use Rattle.po_syntax.proofs.Lines.{lines_some, lines_len-lines_of, without_byte_order_mark-le}

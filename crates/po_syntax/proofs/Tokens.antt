@@ -2,9 +2,9 @@
 use Rattle.std.proofs.Common.{◌≡◌, refl, ap, ℕ, ◌<◌, ◌≤◌, List, [], ◌∷◌, ◌++◌, append_assoc, length, length-append, length-drop, codes, subst, arith}
 use Rattle.std.specs.List.{prefix_len}
 use Rattle.po_syntax.specs.declared.item.Keyword.{Keyword}
-use Rattle.po_syntax.specs.Spelling.{SpellsKeyword, msgctxt, msgid, msgid_plural, msgstr, form}
+use Rattle.po_syntax.specs.Prelude.{SpellsKeyword, is_blank, skip_blanks}
+use Rattle.po_syntax.specs.Spelling.{msgctxt, msgid, msgid_plural, msgstr, form}
 use Rattle.po_syntax.specs.Internal.Token.{Token, OpeningQuote, KeywordToken, token_at}
-use Rattle.po_syntax.specs.Blanks.{is_blank, skip_blanks}
 use Rattle.po_syntax.proofs.SpeltKeywords.{TokenSays, first_says}
 
 -- the text is some bytes, and this rest

@@ -6,10 +6,8 @@ use Rattle.std.proofs.lemmas.Str.{IsUtf8-from_is_utf8, is_utf8-from_IsUtf8}
 use Rattle.std.proofs.lemmas.Bool.{cases_lt, false≢true}
 use Rattle.po_syntax.specs.declared.fault.PoFault.{PoFault}
 use Rattle.po_syntax.specs.declared.fault.PoFault.TheVariants.{NotUtf8, ForbiddenByte, TooLarge}
-use Rattle.po_syntax.specs.PoText.{IsSmall, line_number, without_byte_order_mark, lines_of, SpellsLines, LinesStop, SpellsText, TextFault, too_large, not_utf8, nul, stops}
-use Rattle.po_syntax.specs.LineFaults.{LineFault}
-use Rattle.po_syntax.specs.Spelling.{HoldsItems}
-use Rattle.po_syntax.specs.TextItem.{TextItem}
+use Rattle.po_syntax.specs.Prelude.{IsSmall, line_number, without_byte_order_mark, lines_of, SpellsLines, LinesStop, SpellsText, TextFault, LineFault, HoldsItems, TextItem}
+use Rattle.po_syntax.specs.PoText.{too_large, not_utf8, nul, stops}
 use Rattle.po_syntax.proofs.CleanLines.{no_nul_all}
 use Rattle.po_syntax.proofs.OneLine.{Outcome, LineIs, line_once}
 

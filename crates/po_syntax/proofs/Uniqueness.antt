@@ -3,11 +3,8 @@ use Rattle.std.proofs.Common.{◌≡◌, ◌∙◌, sym, ap, refl, inl, inr, Ok,
 use Rattle.std.proofs.lemmas.Bool.{eqb-true}
 use Rattle.std.proofs.lemmas.List.Quantifiers.{position-Some}
 use Rattle.po_syntax.specs.declared.fault.PoFault.{PoFault}
-use Rattle.po_syntax.specs.PoText.{SpellsLines, LinesStop, SpellsText, TextFault, too_large, not_utf8, nul, stops}
-use Rattle.po_syntax.specs.Escapes.{SpellsString}
-use Rattle.po_syntax.specs.LineFaults.{LineFault}
-use Rattle.po_syntax.specs.Spelling.{HoldsItems}
-use Rattle.po_syntax.specs.TextItem.{TextItem}
+use Rattle.po_syntax.specs.Prelude.{SpellsLines, LinesStop, SpellsText, TextFault, SpellsString, LineFault, HoldsItems, TextItem}
+use Rattle.po_syntax.specs.PoText.{too_large, not_utf8, nul, stops}
 use Rattle.po_syntax.proofs.OneLine.{line_once as once_of_line}
 use Rattle.po_syntax.proofs.OneString.{same, string_once}
 

@@ -3,8 +3,8 @@ use Rattle.std.proofs.Common.{◌≡◌, ◌==◌, ◌||◌, Option, Some, None,
 use Rattle.std.specs.Char.{digit_char}
 use Rattle.std.proofs.lemmas.Bool.{cond_both, cond-true, eqb-true, eqb-false, lt-ltb, ltb-true, ltb-false, or_parts}
 use Rattle.std.specs.Option.{option_map_or}
-use Rattle.po_syntax.specs.Escapes.{escape_letter}
-use Rattle.po_syntax.specs.Quoting.{is_control, octal_escape, quoted, written_byte, written_bytes, WritesByte, letter, delete, control, plain, WritesString, closing_quote, byte, WritesQuoted}
+use Rattle.po_syntax.specs.Prelude.{escape_letter, is_control, octal_escape, quoted, written_byte, written_bytes, WritesByte, WritesString, WritesQuoted}
+use Rattle.po_syntax.specs.Quoting.{letter, delete, control, plain, closing_quote, byte}
 
 pub digit_is : (d : ℕ) → d < 10 → digit_char d ≡ 48 + d
 digit_is d less = cond-true (nat_lt d 10) (48 + d) (87 + d) (lt-ltb d 10 less)

@@ -11,3 +11,4 @@ pub mod Internal
 pub mod Facts
 pub mod Examples
 pub mod Blanks
+pub mod Prelude

@@ -4,7 +4,7 @@ ghost use Rattle.std.specs.Prelude.{◌≡◌, ◌^◌, ◌<◌, ◌≤◌, leng
 ghost use Rattle.std.specs.Char.{digit_value};
 ghost use Rattle.std.specs.Str.Parse.{digits_value};
 ghost use Rattle.po_syntax.specs.Internal.LineView.{IsByteOf};
-ghost use Rattle.po_syntax.specs.Escapes.{letter_value};
+ghost use Rattle.po_syntax.specs.Prelude.{letter_value};
 ghost use Rattle.po_syntax.specs.Internal.QuotedString.{digit_count, escape_at, number_step};
 
 use crate::fault::PoFault;

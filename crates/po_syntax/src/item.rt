@@ -1,9 +1,7 @@
 //! The items of a PO text: comments, keywords and strings, each with its line.
 
 ghost use Rattle.std.specs.Prelude.{◌≡◌, ◌↔◌, All, IsTrue, IsUtf8};
-ghost use Rattle.po_syntax.specs.TextItem.{OfString, spelt_bytes, views};
-ghost use Rattle.po_syntax.specs.Lent.{LendsUtf8, owns_utf8};
-ghost use Rattle.po_syntax.specs.Spelling.{own_marks, previous_marks};
+ghost use Rattle.po_syntax.specs.Prelude.{OfString, spelt_bytes, views, LendsUtf8, owns_utf8, own_marks, previous_marks};
 
 use simdutf8::is_utf8;
 

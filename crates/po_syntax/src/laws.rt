@@ -2,14 +2,7 @@
 //! a proof.
 ghost use Rattle.std.specs.Prelude.{◌≡◌, ◌≢◌, ◌⊎◌, ◌<◌, ◌≤◌, ℕ, List, [], ◌∷◌, ◌++◌, length, All, IsUtf8};
 ghost use Rattle.po_syntax.specs.declared.fault.PoFault.{PoFault};
-ghost use Rattle.po_syntax.specs.Escapes.{SpellsString};
-ghost use Rattle.po_syntax.specs.TextItem.{HoldsText, TextItem};
-ghost use Rattle.po_syntax.specs.LineFaults.{LineFault};
-ghost use Rattle.po_syntax.specs.LineNumbers.{HasFaultOnLine, ItemsAreOnTheirLines, MarkIsOmitted};
-ghost use Rattle.po_syntax.specs.Pieces.{LinesLeft, SpellsLeft, LeftStops, IsPiece, EndsInString, LeftAnew};
-ghost use Rattle.po_syntax.specs.PoText.{SpellsText, TextFault};
-ghost use Rattle.po_syntax.specs.Quoting.{quoted, written_bytes, WritesQuoted, lettered_bytes, lettered_text};
-ghost use Rattle.po_syntax.specs.Spelling.{HoldsItems};
+ghost use Rattle.po_syntax.specs.Prelude.{SpellsString, HoldsText, TextItem, LineFault, HasFaultOnLine, ItemsAreOnTheirLines, MarkIsOmitted, LinesLeft, SpellsLeft, LeftStops, IsPiece, EndsInString, LeftAnew, SpellsText, TextFault, quoted, written_bytes, WritesQuoted, lettered_bytes, lettered_text, HoldsItems};
 ghost use Rattle.po_syntax.specs.Internal.Token.{OpeningQuote, token_at};
 
 /// A text spells at most one list of items.

@@ -2,9 +2,7 @@
 
 ghost use Rattle.std.specs.Prelude.{◌≡◌, ◌≢◌, IfErr, OnOk};
 ghost use Rattle.po_syntax.specs.Internal.Line.{shape_of, hash_shape, tilde_shape, comment_shape};
-ghost use Rattle.po_syntax.specs.LineFaults.{LineFault, TokensFault};
-ghost use Rattle.po_syntax.specs.Spelling.{HoldsItems, HoldsTokens};
-ghost use Rattle.po_syntax.specs.TextItem.{trim_returns};
+ghost use Rattle.po_syntax.specs.Prelude.{LineFault, TokensFault, HoldsItems, HoldsTokens, trim_returns};
 ghost use Rattle.po_syntax.specs.Internal.LineView.{AddsItems, AddsLent, IsShapeOf};
 
 use crate::fault::PoFault;

@@ -2,11 +2,8 @@
 
 ghost use Rattle.std.specs.Prelude.{◌≡◌, ◌≢◌, ◌↔◌, ◌+◌, ◌<◌, ◌≤◌, ◌^◌, ◌∷◌, [], take, drop, List, ℕ, All, length, vec_len, true, false, IfOk, IfErr, IfSome, MatchOption, OnOk, OnErr, IsTrue};
 ghost use Rattle.po_syntax.specs.declared.fault.PoFault.{PoFault};
-ghost use Rattle.po_syntax.specs.Pieces.{IsCleanLine, LinesLeft, SpellsLeft, LeftStops, AreOfText, lines_len, lines_of_rest, BeginsAnew, EndsTranslation, IsPiece, IsString, IsTranslationWord};
+ghost use Rattle.po_syntax.specs.Prelude.{IsCleanLine, LinesLeft, SpellsLeft, LeftStops, AreOfText, lines_len, lines_of_rest, BeginsAnew, EndsTranslation, IsPiece, IsString, IsTranslationWord, HoldsText, IsText, TextItem, view, views, LendsUtf8, LinesStop, SpellsText, TextFault, line_number, lines_of};
 ghost use Rattle.po_syntax.specs.Internal.PieceEnd.{IsCut};
-ghost use Rattle.po_syntax.specs.TextItem.{HoldsText, IsText, TextItem, view, views};
-ghost use Rattle.po_syntax.specs.Lent.{LendsUtf8};
-ghost use Rattle.po_syntax.specs.PoText.{LinesStop, SpellsText, TextFault, line_number, lines_of};
 
 use crate::fault::{PoError, PoFault};
 use crate::item::{Item, Keyword};

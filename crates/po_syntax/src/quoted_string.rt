@@ -1,10 +1,7 @@
 //! The bytes that a quoted string spells.
 
 ghost use Rattle.std.specs.Prelude.{◌≡◌, ◌≢◌, ℕ, ◌⊎◌, List, ◌∷◌, ◌++◌, true, IfOk, IfErr, IsUtf8};
-ghost use Rattle.po_syntax.specs.Escapes.{SpellsString};
-ghost use Rattle.po_syntax.specs.Lent.{LentAreUtf8};
-ghost use Rattle.po_syntax.specs.LineFaults.{StringFault};
-ghost use Rattle.po_syntax.specs.TextItem.{spelt_bytes};
+ghost use Rattle.po_syntax.specs.Prelude.{SpellsString, LentAreUtf8, StringFault, spelt_bytes};
 
 use crate::escape::escape;
 use crate::fault::PoFault;

@@ -4,7 +4,7 @@ ghost use Rattle.std.specs.Prelude.{◌≡◌, ◌+◌, ◌≤◌, ◌++◌, ℕ
 ghost use Rattle.std.specs.List.{prefix_len};
 ghost use Rattle.std.specs.Vec.{vec_len, vec_capacity};
 ghost use Rattle.po_syntax.specs.declared.fault.PoFault.TheVariants.{OutOfMemory};
-ghost use Rattle.po_syntax.specs.Quoting.{is_raw, quoted, written_byte, written_bytes};
+ghost use Rattle.po_syntax.specs.Prelude.{is_raw, quoted, written_byte, written_bytes};
 
 use crate::fault::PoError;
 use std::alloc::AllocError;

@@ -3,8 +3,7 @@
 ghost use Rattle.std.specs.Prelude.{◌≡◌, ◌<◌, true, false, bytes_eq, MatchOption};
 ghost use Rattle.std.specs.List.{list_all};
 ghost use Rattle.po_syntax.specs.Internal.Token.{after_first_word, first_word, index_token, token_at, word_token};
-ghost use Rattle.po_syntax.specs.Spelling.{is_word_byte};
-ghost use Rattle.po_syntax.specs.Blanks.{is_blank, skip_blanks};
+ghost use Rattle.po_syntax.specs.Prelude.{is_word_byte, is_blank, skip_blanks};
 ghost use Rattle.po_syntax.specs.Internal.LineView.{IsKeywordOf, IsTokenOf};
 
 use crate::escape::{digit_count, number_of};

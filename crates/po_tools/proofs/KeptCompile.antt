@@ -2,14 +2,11 @@
 use Rattle.std.proofs.Common.{◌≡◌, Bool, true, false, cond, not, ◌&&◌, ◌||◌, List, [], ◌∷◌, filter, refl, ap, ◌∙◌}
 use Rattle.std.specs.Prelude.{All}
 use Rattle.std.proofs.lemmas.List.Elements.{All-head, All-tail, All-weaker, filter_passes}
-use Rattle.po_entry.specs.TextEntry.{TextEntry}
-use Rattle.po_entry.specs.Header.{is_header}
-use Rattle.po_entry.specs.Joined.{is_live}
-use Rattle.po_entry.specs.Statistics.{has_translation}
-use Rattle.po_compile.specs.Compiled.{compiled_list, is_compiled}
-use Rattle.msgattrib.specs.Selected.{ChangesNothing, every_entry, is_kept, selected}
+use Rattle.po_entry.specs.Prelude.{TextEntry, is_header, is_live, has_translation}
+use Rattle.po_compile.specs.Prelude.{compiled_list, is_compiled}
+use Rattle.msgattrib.specs.Prelude.{ChangesNothing, every_entry, is_kept, selected}
 use Rattle.msgattrib.specs.declared.selection.Selection.{Selection}
-use Rattle.po_tools.specs.ChainLaws.{CompiledAreKept, CompilesAlike, KeptCompilesAlike}
+use Rattle.po_tools.specs.Prelude.{CompiledAreKept, CompilesAlike, KeptCompilesAlike}
 
 step : {X : Type 0} (a b : Bool) (x : X) (p q : X → Bool) (xs : List X) → p x ≡ a → q x ≡ b
     → filter p (filter q xs) ≡ filter q (filter p xs)

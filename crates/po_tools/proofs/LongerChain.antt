@@ -3,11 +3,8 @@ use Rattle.std.proofs.Common.{◌≡◌, true, Option, Some, None, refl, ap, ◌
 use Rattle.std.specs.Option.{option_map_or, option_or}
 use Rattle.std.proofs.lemmas.Bool.{false≢true}
 use Rattle.std.proofs.lemmas.List.Folds.{find-append}
-use Rattle.mo_lookup.specs.Answer.{AnswerView, untranslated}
-use Rattle.mo_lookup.specs.CatalogView.{CatalogView, answered}
-use Rattle.mo_lookup.specs.Chain.{translates}
-use Rattle.mo_lookup.specs.Query.{Query}
-use Rattle.po_tools.specs.ChainLaws.{LongerChainAnswersAlike}
+use Rattle.mo_lookup.specs.Prelude.{AnswerView, untranslated, CatalogView, answered, translates, Query}
+use Rattle.po_tools.specs.Prelude.{LongerChainAnswersAlike}
 
 -- what is answered by the catalogue that is found
 abbrev by_found : Query → Option CatalogView → AnswerView

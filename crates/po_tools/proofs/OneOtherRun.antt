@@ -1,28 +1,18 @@
 -- msgunfmt, msgattrib and msgcat have one run of their inputs.
 use Rattle.std.proofs.Common.{◌≡◌, ℕ, List, [], ◌∷◌, ◌++◌, map, refl, sym, ap, ap₂, subst, ◌∙◌, inl, inr}
 use Rattle.std.specs.Prelude.{All}
-use Rattle.mo_file.specs.Laws.{OneMessageList}
-use Rattle.mo_file.specs.Message.{Message}
+use Rattle.mo_file.specs.Prelude.{OneMessageList, Message}
 use Rattle.po_syntax.specs.declared.fault.PoError.{PoError}
 use Rattle.po_syntax.specs.declared.fault.PoFault.TheVariants.{Duplicate}
-use Rattle.po_entry.specs.TextEntry.{TextEntry}
-use Rattle.po_entry.specs.ReadsText.{ReadsText}
-use Rattle.po_entry.specs.Header.{HasAdmittedCharset}
-use Rattle.po_entry.specs.Joined.{InputEntry, in_input, entries_of}
-use Rattle.po_entry.specs.Duplicate.{HasNoDuplicate, IsFirstDuplicate, IsTextFault}
-use Rattle.po_compile.specs.Headline.{OneTextFault, NoFaultWhereDistinct}
-use Rattle.msgcat.specs.Inputs.{Named}
-use Rattle.msgcat.specs.Merged.{merged}
-use Rattle.msgattrib.specs.Selected.{selected}
+use Rattle.po_entry.specs.Prelude.{TextEntry, ReadsText, HasAdmittedCharset, InputEntry, in_input, entries_of, HasNoDuplicate, IsFirstDuplicate, IsTextFault}
+use Rattle.po_compile.specs.Prelude.{OneTextFault, NoFaultWhereDistinct}
+use Rattle.msgcat.specs.Prelude.{Named, merged, AreReadAs, IsFileFault, msgcat_line}
+use Rattle.msgattrib.specs.Prelude.{selected, error_line}
 use Rattle.msgunfmt.specs.declared.fault.UnformatError.{UnformatError}
-use Rattle.msgunfmt.specs.RoundTrip.{NoFaultWhereUnformatted, OneText, OneUnformatFault}
-use Rattle.msgattrib.specs.Msgattrib.{error_line}
-use Rattle.msgcat.specs.Msgcat.{AreReadAs, IsFileFault, msgcat_line}
-use Rattle.msgunfmt.specs.Msgunfmt.{unformat_line, unformatted_run}
-use Rattle.runs.specs.Inputs.{NamedFile}
+use Rattle.msgunfmt.specs.Prelude.{NoFaultWhereUnformatted, OneText, OneUnformatFault, unformat_line, unformatted_run}
+use Rattle.runs.specs.Prelude.{NamedFile, refusal, written_run}
 use Rattle.po_entry.proofs.DuplicateLemmas.{entries_of_input}
-use Rattle.po_tools.specs.RunLaws.{OneMsgattribRun, OneMsgcatRun, OneMsgunfmtRun}
-use Rattle.runs.specs.Run.{refusal, written_run}
+use Rattle.po_tools.specs.Prelude.{OneMsgattribRun, OneMsgcatRun, OneMsgunfmtRun}
 
 abbrev OneReading : Type 0
 OneReading = (text : List ℕ) (entries others : List TextEntry) → ReadsText text entries → ReadsText text others

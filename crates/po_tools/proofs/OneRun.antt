@@ -1,32 +1,20 @@
 -- A tool has one run of its inputs.
 use Rattle.std.proofs.Common.{◌≡◌, ℕ, List, [], ◌∷◌, ◌++◌, Option, None, Some, MatchOption, codes, find, length, refl, sym, ap, subst, ◌∙◌, inl, inr}
-use Rattle.mo_file.specs.Laws.{OneMessageList, NoFaultOfMoFile, OneFirstFault}
-use Rattle.mo_file.specs.Message.{Message}
-use Rattle.mo_file.specs.Layout.{layout}
+use Rattle.mo_file.specs.Prelude.{OneMessageList, NoFaultOfMoFile, OneFirstFault, Message, layout}
 use Rattle.mo_file.specs.declared.fault.MoError.{MoError}
-use Rattle.plural_rule.specs.PluralRule.{RuleView, IsRuleOf, expression_limit}
-use Rattle.mo_lookup.specs.CatalogView.{IsCatalogView, CatalogView, header_text}
-use Rattle.po_entry.specs.TextEntry.{TextEntry}
-use Rattle.po_entry.specs.Header.{first_form}
-use Rattle.po_entry.specs.Joined.{InputEntry, joined, joined_entries}
-use Rattle.po_entry.specs.Statistics.{stats_of}
+use Rattle.plural_rule.specs.Prelude.{RuleView, IsRuleOf, expression_limit}
+use Rattle.mo_lookup.specs.Prelude.{IsCatalogView, CatalogView, header_text}
+use Rattle.po_entry.specs.Prelude.{TextEntry, first_form, InputEntry, joined, joined_entries, stats_of}
 use Rattle.po_entry.specs.declared.duplicate.JoinError.{JoinError}
-use Rattle.po_compile.specs.Accepted.{AreAccepted, AreRead}
-use Rattle.po_compile.specs.Compiled.{compiled_list}
-use Rattle.po_compile.specs.Compiling.{IsCompilation}
-use Rattle.po_compile.specs.Headline.{CataloguesAreOne, MessagesAreOne, NoFaultWhereAccepted, OneCompileFault}
+use Rattle.po_compile.specs.Prelude.{AreAccepted, AreRead, compiled_list, IsCompilation, CataloguesAreOne, MessagesAreOne, NoFaultWhereAccepted, OneCompileFault, compiled_inputs}
 use Rattle.po_compile.specs.declared.options.Compiled.{Compiled}
 use Rattle.msgfmt.specs.declared.options.MsgfmtOptions.{MsgfmtOptions}
 use Rattle.msgfmt.specs.declared.profile.CheckFault.TheVariants.{NoHeader}
-use Rattle.runs.specs.FaultText.{fault_line, mo_text}
-use Rattle.gettext.specs.Gettext.{IsLookUpRun, Opens, Request, output_of, output_run, tool_of}
+use Rattle.runs.specs.Prelude.{fault_line, mo_text, NamedFile, RunView, refusal}
+use Rattle.gettext.specs.Prelude.{IsLookUpRun, Opens, Request, output_of, output_run, tool_of}
 use Rattle.gettext.specs.Gettext.Opens.{none, opened, refused}
-use Rattle.po_compile.specs.Collected.{compiled_inputs}
-use Rattle.msgfmt.specs.Msgfmt.{AreChecked, IsRefused, check_line, compile_options, compiled_run, input_names, input_texts, join_line}
-use Rattle.runs.specs.Inputs.{NamedFile}
-use Rattle.msgfmt.specs.Profile.{Reported, first_fault, is_header_entry}
-use Rattle.po_tools.specs.RunLaws.{OneMsgfmtRun}
-use Rattle.runs.specs.Run.{RunView, refusal}
+use Rattle.msgfmt.specs.Prelude.{AreChecked, IsRefused, check_line, compile_options, compiled_run, input_names, input_texts, join_line, Reported, first_fault, is_header_entry}
+use Rattle.po_tools.specs.Prelude.{OneMsgfmtRun}
 
 abbrev OneRule : Type 0
 OneRule = (limit : ℕ) (header : List ℕ) (rule other : RuleView) → IsRuleOf limit header rule

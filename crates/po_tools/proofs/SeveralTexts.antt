@@ -4,20 +4,15 @@ use Rattle.std.specs.Prelude.{All}
 use Rattle.std.specs.List.{list_any}
 use Rattle.std.proofs.lemmas.Bool.{false_from_ne_true, false≢true}
 use Rattle.std.proofs.lemmas.List.Elements.{All-nil, All-cons, All-head, All-tail, All-weaker}
-use Rattle.po_syntax.specs.PoText.{IsSmall}
-use Rattle.po_entry.specs.TextEntry.{TextEntry}
-use Rattle.po_entry.specs.ReadsText.{ReadsText}
+use Rattle.po_syntax.specs.Prelude.{IsSmall}
+use Rattle.po_entry.specs.Prelude.{TextEntry, ReadsText, is_header, AllDiffer, IsSameMessage, InputEntry, entries_of, in_input, is_live, is_live_header, joined_from}
 use Rattle.po_syntax.specs.Facts.Filters.{all_pass}
-use Rattle.po_entry.specs.Header.{is_header}
 use Rattle.po_entry.proofs.HeaderLaws.{header_decided}
-use Rattle.po_entry.specs.Duplicate.{AllDiffer, IsSameMessage}
-use Rattle.po_entry.specs.Joined.{InputEntry, entries_of, in_input, is_live, is_live_header, joined_from}
-use Rattle.msgcat.specs.Inputs.{Named, NamedEntry, all_entries, named}
-use Rattle.msgcat.specs.MergeLaws.{DistinctInputsStay, OneInputStays}
+use Rattle.msgcat.specs.Prelude.{Named, NamedEntry, all_entries, named, DistinctInputsStay, OneInputStays}
 use Rattle.msgcat.proofs.SameInput.{differ_head, differ_tail}
-use Rattle.po_writer.specs.WrittenText.{written_text}
-use Rattle.po_compile.specs.Compiled.{compiled_list, message_of}
-use Rattle.po_tools.specs.ChainLaws.{MsgcatOfSeveral}
+use Rattle.po_writer.specs.Prelude.{written_text}
+use Rattle.po_compile.specs.Prelude.{compiled_list, message_of}
+use Rattle.po_tools.specs.Prelude.{MsgcatOfSeveral}
 use Rattle.po_tools.proofs.WrittenAgain.{OneReading, WrittenReads, read_alike}
 
 abbrev unnamed : List Named → List TextEntry

@@ -1,21 +1,16 @@
 -- What msgfmt wrote comes back by msgunfmt and msgfmt.
 use Rattle.std.proofs.Common.{◌≡◌, ℕ, true, false, cond, nat_lt, inl, inr, List, [], ◌∷◌, length, sym, ap, ◌∙◌, subst}
 use Rattle.std.proofs.lemmas.Bool.{false≢true}
-use Rattle.mo_file.specs.Laws.{OneMessageList}
-use Rattle.mo_file.specs.Message.{Message}
+use Rattle.mo_file.specs.Prelude.{OneMessageList, Message, IsMoFile}
 use Rattle.mo_file.specs.declared.byte_order.Order.{Order}
-use Rattle.mo_file.specs.MoFile.{IsMoFile}
-use Rattle.po_syntax.specs.PoText.{IsSmall}
-use Rattle.po_compile.specs.Headline.{NoFaultWhereAccepted}
+use Rattle.po_syntax.specs.Prelude.{IsSmall}
+use Rattle.po_compile.specs.Prelude.{NoFaultWhereAccepted}
 use Rattle.po_entry.specs.declared.duplicate.JoinError.{JoinError}
-use Rattle.msgunfmt.specs.RoundTrip.{CompilesTo, NoFaultWhereUnformatted, OneText, UnformatThenCompile}
-use Rattle.msgunfmt.specs.Unformatted.{IsUnformatted, IsUnformatFault}
+use Rattle.msgunfmt.specs.Prelude.{CompilesTo, NoFaultWhereUnformatted, OneText, UnformatThenCompile, IsUnformatted, IsUnformatFault, IsMsgunfmtRun}
 use Rattle.msgfmt.specs.declared.options.MsgfmtOptions.{MsgfmtOptions}
-use Rattle.msgfmt.specs.Msgfmt.{IsDone, IsMsgfmtRun, compile_options, input_texts}
-use Rattle.msgunfmt.specs.Msgunfmt.{IsMsgunfmtRun}
-use Rattle.runs.specs.Inputs.{NamedFile}
-use Rattle.runs.specs.Run.{RunView}
-use Rattle.po_tools.specs.ChainLaws.{ThereAndBack}
+use Rattle.msgfmt.specs.Prelude.{IsDone, IsMsgfmtRun, compile_options, input_texts}
+use Rattle.runs.specs.Prelude.{NamedFile, RunView}
+use Rattle.po_tools.specs.Prelude.{ThereAndBack}
 
 done : (inputs : List NamedFile) (o : MsgfmtOptions) (run : RunView) → IsMsgfmtRun inputs o run → run.create ≡ true
     → IsDone inputs o run

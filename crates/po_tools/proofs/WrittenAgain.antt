@@ -6,26 +6,15 @@ use Rattle.std.proofs.lemmas.List.{get_or_default, append-nil}
 use Rattle.std.proofs.lemmas.List.Elements.{All-nil, All-cons, All-head, All-tail, All-append, All-weaker, All-filter, All-contains_itself, filter-append, filter_passes}
 use Rattle.std.proofs.lemmas.List.Kept.{AllPairs-cons, AllPairs-filter}
 use Rattle.std.proofs.lemmas.Simd.{map-map}
-use Rattle.po_syntax.specs.TextItem.{IsText}
-use Rattle.po_syntax.specs.PoText.{IsSmall}
-use Rattle.po_entry.specs.TextEntry.{TextEntry, with_line}
-use Rattle.po_entry.specs.Header.{HasAdmittedCharset}
-use Rattle.po_entry.specs.ReadsText.{ReadsText}
-use Rattle.po_entry.specs.Validity.{IsCatalogueEntry}
-use Rattle.po_entry.specs.Duplicate.{IsTextFault, AllDiffer, IsSameMessage}
+use Rattle.po_syntax.specs.Prelude.{IsText, IsSmall}
+use Rattle.po_entry.specs.Prelude.{TextEntry, with_line, HasAdmittedCharset, ReadsText, IsCatalogueEntry, IsTextFault, AllDiffer, IsSameMessage, is_live}
 use Rattle.po_entry.specs.Facts.FirstRepeats.{pairs_map, pairs_of_map}
-use Rattle.po_entry.specs.Joined.{is_live}
-use Rattle.msgcat.specs.Inputs.{Named}
-use Rattle.msgcat.specs.Merged.{merged}
-use Rattle.msgcat.specs.MergeLaws.{IsInput, MergedCanStand, MessagesStandOnce, OneInputStays, keep_all}
+use Rattle.msgcat.specs.Prelude.{Named, merged, IsInput, MergedCanStand, MessagesStandOnce, OneInputStays, keep_all, AreReadAs, IsMerged, IsMsgcatRun, IsReadAs}
 use Rattle.msgcat.specs.declared.input.MergeOptions.{MergeOptions}
-use Rattle.po_writer.specs.WrittenText.{arranged, written_text}
-use Rattle.po_compile.specs.Compiled.{compiled_list, is_compiled, message_of}
-use Rattle.po_compile.specs.Headline.{NoFaultWhereDistinct}
-use Rattle.msgcat.specs.Msgcat.{AreReadAs, IsMerged, IsMsgcatRun, IsReadAs}
-use Rattle.runs.specs.Inputs.{NamedFile}
-use Rattle.runs.specs.Run.{RunView}
-use Rattle.po_tools.specs.ChainLaws.{MsgcatAgain, MsgcatCompilesAlike}
+use Rattle.po_writer.specs.Prelude.{arranged, written_text}
+use Rattle.po_compile.specs.Prelude.{compiled_list, is_compiled, message_of, NoFaultWhereDistinct}
+use Rattle.runs.specs.Prelude.{NamedFile, RunView}
+use Rattle.po_tools.specs.Prelude.{MsgcatAgain, MsgcatCompilesAlike}
 
 abbrev pub OneReading : Type 0
 OneReading = (text : List ℕ) (entries others : List TextEntry) → ReadsText text entries → ReadsText text others

@@ -1,29 +1,18 @@
 -- Laws of runs one after the other.
 use Rattle.std.specs.Prelude.{◌≡◌, ℕ, All, Bool, List, [], ◌∷◌, ◌++◌, true, false, filter, map}
-use Rattle.po_entry.specs.TextEntry.{TextEntry}
-use Rattle.mo_lookup.specs.CatalogView.{CatalogView}
-use Rattle.mo_lookup.specs.Chain.{chain_answered}
-use Rattle.mo_lookup.specs.Query.{Query}
-use Rattle.po_entry.specs.ReadsText.{ReadsText}
-use Rattle.po_entry.specs.Validity.{IsCatalogueEntry}
-use Rattle.po_entry.specs.Duplicate.{AllDiffer}
-use Rattle.po_entry.specs.Joined.{joined_entries}
-use Rattle.msgcat.specs.Inputs.{Named, all_entries}
-use Rattle.msgcat.specs.MergeLaws.{keep_all}
-use Rattle.msgcat.specs.Merged.{merged}
+use Rattle.po_entry.specs.Prelude.{TextEntry, ReadsText, IsCatalogueEntry, AllDiffer, joined_entries}
+use Rattle.mo_lookup.specs.Prelude.{CatalogView, chain_answered, Query}
+use Rattle.msgcat.specs.Prelude.{Named, all_entries, keep_all, merged, IsMsgcatRun}
 use Rattle.msgcat.specs.declared.input.MergeOptions.{MergeOptions}
-use Rattle.po_writer.specs.WrittenText.{written_text}
-use Rattle.po_compile.specs.Compiled.{compiled_list, message_of}
-use Rattle.msgattrib.specs.Selected.{ChangesNothing, every_entry, is_kept, selected}
+use Rattle.po_writer.specs.Prelude.{written_text}
+use Rattle.po_compile.specs.Prelude.{compiled_list, message_of}
+use Rattle.msgattrib.specs.Prelude.{ChangesNothing, every_entry, is_kept, selected}
 use Rattle.msgattrib.specs.declared.selection.Selection.{Selection}
 use Rattle.msgfmt.specs.declared.options.MsgfmtOptions.{MsgfmtOptions}
-use Rattle.msgfmt.specs.Msgfmt.{IsMsgfmtRun}
-use Rattle.msgcat.specs.Msgcat.{IsMsgcatRun}
-use Rattle.msgunfmt.specs.Msgunfmt.{IsMsgunfmtRun}
-use Rattle.po_syntax.specs.TextItem.{IsText}
-use Rattle.po_syntax.specs.PoText.{IsSmall}
-use Rattle.runs.specs.Inputs.{NamedFile}
-use Rattle.runs.specs.Run.{RunView}
+use Rattle.msgfmt.specs.Prelude.{IsMsgfmtRun}
+use Rattle.msgunfmt.specs.Prelude.{IsMsgunfmtRun}
+use Rattle.po_syntax.specs.Prelude.{IsText, IsSmall}
+use Rattle.runs.specs.Prelude.{NamedFile, RunView}
 
 -- what msgfmt wrote, msgunfmt writes as a text, of which msgfmt writes the same bytes again
 abbrev pub ThereAndBack : Type 0

@@ -3,3 +3,4 @@ pub mod RunLaws
 pub mod RunsOver
 pub mod ToolRun
 pub mod ChainLaws
+pub mod Prelude

@@ -1,8 +1,7 @@
 -- Catalogues that are merged, each under its name (manual, "Invoking the msgcat Program").
 use Rattle.std.specs.Prelude.{◌≡◌, List, map}
-use Rattle.po_entry.specs.TextEntry.{TextEntry}
-use Rattle.msgcat.specs.Inputs.{Named, all_entries}
-use Rattle.msgcat.specs.MergeInputs.{AreReadInputs, unnamed}
+use Rattle.po_entry.specs.Prelude.{TextEntry}
+use Rattle.msgcat.specs.Prelude.{Named, all_entries, AreReadInputs, unnamed}
 use Rattle.msgcat.specs.declared.input.ReadInput.{ReadInput}
 use Rattle.po_tools.specs.declared.catalogues.Named.{Named as NamedCatalogue}
 

@@ -1,15 +1,14 @@
 -- What a tool writes and reports, and its exit status, are functions of its inputs: it has one run.
 use Rattle.std.specs.Prelude.{◌≡◌, ℕ, List}
 use Rattle.msgfmt.specs.declared.options.MsgfmtOptions.{MsgfmtOptions}
-use Rattle.gettext.specs.Gettext.{IsLookUpRun, Request}
+use Rattle.gettext.specs.Prelude.{IsLookUpRun, Request}
 use Rattle.msgcat.specs.declared.input.MergeOptions.{MergeOptions}
 use Rattle.msgattrib.specs.declared.selection.Selection.{Selection}
-use Rattle.msgattrib.specs.Msgattrib.{IsMsgattribRun}
-use Rattle.msgcat.specs.Msgcat.{IsMsgcatRun}
-use Rattle.msgfmt.specs.Msgfmt.{IsMsgfmtRun}
-use Rattle.msgunfmt.specs.Msgunfmt.{IsMsgunfmtRun}
-use Rattle.runs.specs.Inputs.{NamedFile}
-use Rattle.runs.specs.Run.{RunView}
+use Rattle.msgattrib.specs.Prelude.{IsMsgattribRun}
+use Rattle.msgcat.specs.Prelude.{IsMsgcatRun}
+use Rattle.msgfmt.specs.Prelude.{IsMsgfmtRun}
+use Rattle.msgunfmt.specs.Prelude.{IsMsgunfmtRun}
+use Rattle.runs.specs.Prelude.{NamedFile, RunView}
 
 -- msgfmt has one run of its inputs under its options
 abbrev pub OneMsgfmtRun : Type 0

@@ -3,9 +3,7 @@
 use Rattle.std.specs.Prelude.{◌≡◌, ◌≢◌, ◌⊎◌, ◌+◌, ◌≤◌, ℕ, List, Result, Err, IfOk, IsErrOf}
 use Rattle.std.specs.Io.KnownBytes.{Keeps}
 use Rattle.po_tools.specs.ToolRun.{ReaderView}
-use Rattle.runs.specs.Delivered.{IsCut, IsDelivered}
-use Rattle.runs.specs.Outputs.{WriterView}
-use Rattle.runs.specs.Run.{RunView}
+use Rattle.runs.specs.Prelude.{IsCut, IsDelivered, WriterView, RunView}
 use Rattle.runs.specs.declared.tool_fault.ToolFault.{ToolFault}
 use Rattle.runs.specs.declared.tool_fault.ToolFault.TheVariants.{ReadFault, WriteFault, OutOfMemory}
 

@@ -1,30 +1,18 @@
 -- What each tool does as a whole, by what its command line gives.
 use Rattle.std.specs.Prelude.{◌≡◌, ◌+◌, ℕ, Bool, List, Option, None, Some, Result, Ok, Err, codes, false}
-use Rattle.gettext.specs.Catalogues.{searching}
-use Rattle.gettext.specs.WholeRun.{RunsLookUp}
-use Rattle.gettext.specs.Options.{AsksGettext, AsksNgettext, CommandView}
+use Rattle.gettext.specs.Prelude.{searching, RunsLookUp, AsksGettext, AsksNgettext, CommandView}
 use Rattle.msgfmt.specs.declared.options.MsgfmtOptions.{MsgfmtOptions}
-use Rattle.msgfmt.specs.WholeRun.{RunsMsgfmt}
-use Rattle.msgunfmt.specs.Msgunfmt.{IsMsgunfmtRun}
-use Rattle.msgfmt.specs.Options.{AreMsgfmtOptions, default_output}
+use Rattle.msgfmt.specs.Prelude.{RunsMsgfmt, AreMsgfmtOptions, default_output}
+use Rattle.msgunfmt.specs.Prelude.{IsMsgunfmtRun}
 use Rattle.msgcat.specs.declared.input.MergeOptions.{MergeOptions}
 use Rattle.msgattrib.specs.declared.selection.Selection.{Selection}
 use Rattle.runs.specs.declared.tool_fault.ToolFault.{ToolFault}
-use Rattle.msgattrib.specs.Msgattrib.{IsMsgattribRun}
-use Rattle.msgcat.specs.WholeRun.{RunsMsgcat}
-use Rattle.msgattrib.specs.Options.{IsSelection}
-use Rattle.msgcat.specs.Options.{AreMergeOptions}
+use Rattle.msgattrib.specs.Prelude.{IsMsgattribRun, IsSelection}
+use Rattle.msgcat.specs.Prelude.{RunsMsgcat, AreMergeOptions}
 use Rattle.runs.specs.declared.program_fault.ProgramFault.{ProgramFault}
 use Rattle.runs.specs.declared.program_fault.ProgramFault.TheVariants.{WrongArguments}
-use Rattle.envsubst.specs.ByArguments.{RunsEnvsubst}
-use Rattle.envsubst.specs.Envsubst.{ReadsFail, write_failures}
-use Rattle.runs.specs.ArgumentValues.{IsTextOr}
-use Rattle.runs.specs.Inputs.{Asked, Asks, Reading, asked_for, NamedFile}
-use Rattle.runs.specs.Outputs.{SystemView}
-use Rattle.envsubst.specs.Usage.{EnvsubstUsage, envsubst_usage}
-use Rattle.runs.specs.ProgramFaults.{program_text, stdin_text}
-use Rattle.runs.specs.Run.{RunView, is_standard}
-use Rattle.runs.specs.ToolRuns.{Asking, RunsInput, asking}
+use Rattle.envsubst.specs.Prelude.{RunsEnvsubst, ReadsFail, write_failures, EnvsubstUsage, envsubst_usage}
+use Rattle.runs.specs.Prelude.{IsTextOr, Asked, Asks, Reading, asked_for, NamedFile, SystemView, program_text, stdin_text, RunView, is_standard, Asking, RunsInput, asking}
 use Rattle.runs.specs.declared.tool.Tool.{Tool}
 use Rattle.runs.specs.declared.tool.Tool.TheVariants.{Msgfmt, Msgunfmt, Msgattrib, Msgcat, Gettext, Ngettext, Envsubst}
 

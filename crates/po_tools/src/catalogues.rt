@@ -1,14 +1,12 @@
 //! The tools' work on catalogues: select, merge and check, each by what the tool runs on a store.
 
 ghost use Rattle.std.specs.Prelude.{◌≡◌, ◌⊎◌, ◌<◌, ◌^◌, ◌++◌, All, IfErr, IfOk, IsOk, MatchResult, None, OnOk, Some, length, map};
-ghost use Rattle.po_entry.specs.Texts.{Lacks};
-ghost use Rattle.po_entry.specs.Validity.{IsCatalogueEntry};
-ghost use Rattle.msgattrib.specs.Selected.{changed, selected};
-ghost use Rattle.msgcat.specs.Merged.{IsMergeFault, merged};
-ghost use Rattle.msgcat.specs.MergeInputs.{HoldInputs};
-ghost use Rattle.po_compile.specs.Collected.{HoldCatalogues};
-ghost use Rattle.msgfmt.specs.Msgfmt.{AreChecked};
-ghost use Rattle.po_tools.specs.NamedInputs.{AreStored, inputs_view};
+ghost use Rattle.po_entry.specs.Prelude.{Lacks, IsCatalogueEntry};
+ghost use Rattle.msgattrib.specs.Prelude.{changed, selected};
+ghost use Rattle.msgcat.specs.Prelude.{IsMergeFault, merged, HoldInputs};
+ghost use Rattle.po_compile.specs.Prelude.{HoldCatalogues};
+ghost use Rattle.msgfmt.specs.Prelude.{AreChecked};
+ghost use Rattle.po_tools.specs.Prelude.{AreStored, inputs_view};
 
 use msgfmt::{CheckFault, check_collected};
 use po_catalog::{Catalogue, Entry, has_translation, push_entry, store_of};

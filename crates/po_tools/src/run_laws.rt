@@ -1,7 +1,6 @@
 //! Laws of the runs of the tools, each the contract of a function that does nothing: a call brings
 //! the law into a proof.
-ghost use Rattle.po_tools.specs.ChainLaws.{CompiledAreKept, KeptCompilesAlike, LongerChainAnswersAlike, MsgcatAgain, MsgcatCompilesAlike, MsgcatOfSeveral, ThereAndBack};
-ghost use Rattle.po_tools.specs.RunLaws.{OneLookUpRun, OneMsgattribRun, OneMsgcatRun, OneMsgfmtRun, OneMsgunfmtRun};
+ghost use Rattle.po_tools.specs.Prelude.{CompiledAreKept, KeptCompilesAlike, LongerChainAnswersAlike, MsgcatAgain, MsgcatCompilesAlike, MsgcatOfSeveral, ThereAndBack, OneLookUpRun, OneMsgattribRun, OneMsgcatRun, OneMsgfmtRun, OneMsgunfmtRun};
 
 use mo_file::laws::{no_fault_of_mo_file, one_first_fault, one_message_list};
 use mo_lookup::one_rule;

@@ -1,7 +1,7 @@
 //! Each tool as a whole, by what its command line gives.
 ghost use Rattle.std.specs.Prelude.{◌^◌, ◌<◌, Option, List};
-ghost use Rattle.po_tools.specs.ToolRun.{RunsEnvsubstLine, RunsTool, answers_of, line_of, reached, reader_of};
-ghost use Rattle.runs.specs.Inputs.{Asked};
+ghost use Rattle.po_tools.specs.Prelude.{RunsEnvsubstLine, RunsTool, answers_of, line_of, reached, reader_of};
+ghost use Rattle.runs.specs.Prelude.{Asked};
 
 use envsubst::{EntrySource, EnvsubstArguments, envsubst};
 use gettext::{LookUpCommand, VariableSource, run_look_up};

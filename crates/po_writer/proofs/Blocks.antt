@@ -3,9 +3,7 @@ use Rattle.std.proofs.Common.{◌≢◌, ◌==◌, refl, ℕ, ◌+◌, ◌<◌, 
 use Rattle.std.proofs.lemmas.Bool.{ne_eqb}
 use Rattle.std.proofs.lemmas.List.Elements.{All-weaker}
 use Rattle.std.proofs.lemmas.List.Splits.{slice_split_at}
-use Rattle.po_syntax.specs.PoText.{SpellsLines, lines_of}
-use Rattle.po_syntax.specs.Spelling.{HoldsItems}
-use Rattle.po_syntax.specs.TextItem.{IsText, TextItem}
+use Rattle.po_syntax.specs.Prelude.{SpellsLines, lines_of, HoldsItems, IsText, TextItem}
 use Rattle.po_writer.proofs.Utf8.{IsLine, text-empty, text-feed, text-append}
 
 -- the lines of a text, from this number on, spell these items

@@ -5,12 +5,11 @@ use Rattle.std.proofs.lemmas.List.{append-nil}
 use Rattle.std.proofs.lemmas.List.Elements.{All-head, All-tail}
 use Rattle.po_syntax.specs.declared.item.Keyword.{Keyword}
 use Rattle.po_syntax.specs.declared.item.Keyword.TheVariants.{MsgCtxt, MsgId, MsgIdPlural, MsgStr, MsgStrAt}
-use Rattle.po_syntax.specs.TextItem.{IsText, TextItem}
-use Rattle.po_entry.specs.TextEntry.{TextEntry, TextPrevious, with_line}
-use Rattle.po_entry.specs.Comments.{PreviousText, previous_of}
-use Rattle.po_entry.specs.Spelling.{own_marks, previous_marks, SpellsHead, none, with, without, AreInOrder, SpellsContext, SpellsKeywordText, SpellsForms, SpellsTranslation, SpellsBody}
+use Rattle.po_syntax.specs.Prelude.{IsText, TextItem}
+use Rattle.po_entry.specs.Prelude.{TextEntry, TextPrevious, with_line, PreviousText, previous_of, SpellsHead, AreInOrder, SpellsContext, SpellsKeywordText, SpellsForms, SpellsTranslation, SpellsBody}
+use Rattle.po_entry.specs.Spelling.{own_marks, previous_marks, none, with, without}
 use Rattle.po_entry.specs.Spelling as spell
-use Rattle.po_writer.specs.WrittenText.{keyword_lines, optional_lines, own_lines, previous_lines, form_lines, translation_lines}
+use Rattle.po_writer.specs.Prelude.{keyword_lines, optional_lines, own_lines, previous_lines, form_lines, translation_lines}
 use Rattle.po_writer.proofs.Blocks.{Block, empty_block, two_blocks, weaker_block}
 use Rattle.po_writer.proofs.KeywordTexts.{TextPart, IsLinePrefix, IsLineKeyword, text_block}
 use Rattle.po_writer.proofs.Numbered.{context_written, id_written, plural_written, single_written, numbered}

@@ -4,9 +4,9 @@ use Rattle.std.specs.List.{concat, flat_map, onto_first}
 use Rattle.std.proofs.lemmas.List.Concat.{concat_is}
 use Rattle.std.proofs.lemmas.Bool.{cond_both, cond-true, eqb-true, eqb-false, lt-ltb}
 use Rattle.std.proofs.lemmas.List.Elements.{All-cons, All-nil}
-use Rattle.po_entry.specs.Texts.{Lacks}
-use Rattle.po_writer.specs.EntryLines.{ContainsLines, none, last, ended, WritesText, one_line, one_ended_line, each_line, EachEndsInItsOnlyFeed}
-use Rattle.po_writer.specs.WrittenText.{lines_with_ends, string_line, text_lines}
+use Rattle.po_entry.specs.Prelude.{Lacks}
+use Rattle.po_writer.specs.Prelude.{ContainsLines, WritesText, EachEndsInItsOnlyFeed, lines_with_ends, string_line, text_lines}
+use Rattle.po_writer.specs.EntryLines.{none, last, ended, one_line, one_ended_line, each_line}
 
 empty : Lacks 10 []
 empty = All-nil (λ b. b ≢ 10)

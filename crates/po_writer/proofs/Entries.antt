@@ -7,14 +7,12 @@ use Rattle.std.proofs.lemmas.Bool.{ne_eqb, not-true}
 use Rattle.std.proofs.lemmas.List.Sums.{AllPass-from_list_all}
 use Rattle.po_syntax.specs.declared.item.CommentKind.{CommentKind}
 use Rattle.po_syntax.specs.declared.item.CommentKind.TheVariants.{Translator, Extracted, Reference, Flags}
-use Rattle.po_syntax.specs.TextItem.{TextItem, IsText, IsComment}
-use Rattle.po_entry.specs.TextEntry.{TextEntry, with_line, previous_texts}
+use Rattle.po_syntax.specs.Prelude.{TextItem, IsText, IsComment}
+use Rattle.po_entry.specs.Prelude.{TextEntry, with_line, previous_texts, IsTranslatorComment, IsReference, IsFlag, IsEntry, texts_of, references_of, all_listed_flags, fuzzy_of, flags_of, listed_references, listed_flags, is_fuzzy_flag, with_flag, CommentText, with_head, SpellsHead, SpellsEntry}
 use Rattle.po_syntax.specs.Facts.AllAppend.{All-left, All-right}
-use Rattle.po_entry.specs.Validity.{IsTranslatorComment, IsReference, IsFlag, IsEntry}
-use Rattle.po_entry.specs.Comments.{texts_of, references_of, all_listed_flags, fuzzy_of, flags_of, listed_references, listed_flags, is_fuzzy_flag, with_flag, CommentText}
-use Rattle.po_entry.specs.Spelling.{own_marks, previous_marks, with_head, SpellsHead, SpellsEntry, entry}
+use Rattle.po_entry.specs.Spelling.{own_marks, previous_marks, entry}
 use Rattle.po_entry.proofs.Checks.{on_option}
-use Rattle.po_writer.specs.WrittenText.{all_flags, comment_lines, elements_line, previous_lines, previous_prefix, own_lines, own_prefix, entry_lines}
+use Rattle.po_writer.specs.Prelude.{all_flags, comment_lines, elements_line, previous_lines, previous_prefix, own_lines, own_prefix, entry_lines}
 use Rattle.po_writer.proofs.Utf8.{line-append, plain_line}
 use Rattle.po_writer.proofs.Blocks.{Block, two_blocks, weaker_block}
 use Rattle.po_writer.proofs.Tokens.{no_prefix, previous_live, previous_obsolete, own_obsolete}

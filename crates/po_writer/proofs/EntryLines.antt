@@ -1,11 +1,10 @@
 -- An entry is written line by line, and entries one after another.
 use Rattle.std.proofs.Common.{◌≡◌, ℕ, ◌+◌, Bool, true, false, cond, not, List, [], ◌∷◌, ◌++◌, Option, None, Some, refl, sym, ap, ◌∙◌, subst, length, filter, codes, decimal, append_assoc, append-nil, arith}
 use Rattle.std.specs.List.{flat_map}
-use Rattle.po_entry.specs.TextEntry.{TextEntry}
-use Rattle.po_entry.specs.Validity.{IsEntry}
-use Rattle.po_writer.specs.EntryLines.{WritesComments, no_comments, comment, WritesFurther, line_end, next_element, WritesElements, no_line, line, WritesFlags, plain, fuzzy, IsPreviousPrefix, previous_live, previous_obsolete, IsOwnPrefix, own_live, own_obsolete, WritesKeyword, written, WritesOptional, absent, present}
-use Rattle.po_writer.specs.EntryLines.{WritesForms, no_forms, form, WritesTranslation, only, with_plural, previous, own, WritesEntry, entry, live_before, HasParts, no_entries, live_first, obsolete_first, IsArranged, FollowEntries, no_further, after_empty_line, StandInOrder, no_text, first_entry}
-use Rattle.po_writer.specs.WrittenText.{all_flags, arranged, comment_lines, elements_line, entry_lines, form_lines, in_order, keyword_lines, optional_lines, own_prefix, previous_prefix, translation_lines}
+use Rattle.po_entry.specs.Prelude.{TextEntry, IsEntry}
+use Rattle.po_writer.specs.Prelude.{WritesComments, WritesFurther, WritesElements, WritesFlags, IsPreviousPrefix, IsOwnPrefix, WritesKeyword, WritesOptional, WritesForms, WritesTranslation, WritesEntry, HasParts, IsArranged, FollowEntries, StandInOrder, all_flags, arranged, comment_lines, elements_line, entry_lines, form_lines, in_order, keyword_lines, optional_lines, own_prefix, previous_prefix, translation_lines}
+use Rattle.po_writer.specs.EntryLines.{no_comments, comment, line_end, next_element, no_line, line, plain, fuzzy, previous_live, previous_obsolete, own_live, own_obsolete, written, absent, present}
+use Rattle.po_writer.specs.EntryLines.{no_forms, form, only, with_plural, previous, own, entry, live_before, no_entries, live_first, obsolete_first, no_further, after_empty_line, no_text, first_entry}
 use Rattle.po_writer.proofs.CutLines.{texts_are_written}
 
 comments_written : (mark : List ℕ) (texts : List (List ℕ)) → WritesComments mark texts (comment_lines mark texts)

@@ -8,11 +8,9 @@ use Rattle.std.proofs.lemmas.Bool.{false_from_ne_true}
 use Rattle.std.proofs.lemmas.Slice.Eq.{bytes_eq-Decides}
 use Rattle.po_syntax.specs.declared.item.CommentKind.{CommentKind}
 use Rattle.po_syntax.specs.declared.item.CommentKind.TheVariants.{Translator, Extracted, Reference, Flags}
-use Rattle.po_entry.specs.Texts.{AreDistinct}
-use Rattle.po_entry.specs.Comments.{CommentText, same_kind, texts_of, listed_flags, listed_references, is_fuzzy_flag, with_flag}
+use Rattle.po_entry.specs.Prelude.{AreDistinct, CommentText, same_kind, texts_of, listed_flags, listed_references, is_fuzzy_flag, with_flag, IsReference}
 use Rattle.po_entry.specs.Spelling.{nothing}
-use Rattle.po_entry.specs.Validity.{IsReference}
-use Rattle.po_writer.specs.WrittenText.{elements_line, all_flags}
+use Rattle.po_writer.specs.Prelude.{elements_line, all_flags}
 use Rattle.po_writer.proofs.Utf8.{IsLine, line-append, plain_line}
 use Rattle.po_writer.proofs.Blocks.{Block, BeginsLow, empty_block}
 use Rattle.po_writer.proofs.Heads.{HeadPart, head_comments, IsCommentLine, comment_block}

@@ -4,13 +4,13 @@ use Rattle.std.proofs.lemmas.Bool.{eqb-true, false_from_ne_true}
 use Rattle.std.proofs.lemmas.List.Elements.{All-head, All-tail}
 use Rattle.po_syntax.specs.declared.item.CommentKind.{CommentKind}
 use Rattle.po_syntax.specs.declared.item.CommentKind.TheVariants.{Translator, Extracted, Reference, Flags}
-use Rattle.po_syntax.specs.TextItem.{trim_returns, TextItem, Comment}
-use Rattle.po_syntax.specs.Spelling.{is_mark, SpellsComment, extracted, reference, flags, translator, HoldsItems, comment}
+use Rattle.po_syntax.specs.Prelude.{trim_returns, TextItem, is_mark, SpellsComment, HoldsItems}
+use Rattle.po_syntax.specs.TextItem.{Comment}
+use Rattle.po_syntax.specs.Spelling.{extracted, reference, flags, translator, comment}
 use Rattle.po_syntax.proofs.SpeltKeywords.{or_step}
-use Rattle.po_entry.specs.Comments.{CommentText, PreviousText}
-use Rattle.po_entry.specs.Spelling.{SpellsHead, nothing, head_comment, previous_text}
-use Rattle.po_entry.specs.Validity.{IsTranslatorComment}
-use Rattle.po_writer.specs.WrittenText.{comment_lines}
+use Rattle.po_entry.specs.Prelude.{CommentText, PreviousText, SpellsHead, IsTranslatorComment}
+use Rattle.po_entry.specs.Spelling.{nothing, head_comment, previous_text}
+use Rattle.po_writer.specs.Prelude.{comment_lines}
 use Rattle.po_writer.proofs.Utf8.{IsLine}
 use Rattle.po_writer.proofs.Blocks.{Block, BeginsLow, empty_block, two_blocks, line_block}
 

@@ -4,9 +4,8 @@ use Rattle.std.specs.Prelude.{fold}
 use Rattle.std.proofs.lemmas.List.Elements.{filter-append}
 use Rattle.std.proofs.lemmas.List.Sums.{fold-append}
 use Rattle.std.proofs.lemmas.Bool.{eqb-true, eqb-false}
-use Rattle.po_entry.specs.TextEntry.{TextEntry}
-use Rattle.po_writer.specs.WrittenText.{with_entry, in_order, written_text}
-use Rattle.po_writer.specs.TextParts.{AreAdded, AreParts}
+use Rattle.po_entry.specs.Prelude.{TextEntry}
+use Rattle.po_writer.specs.Prelude.{with_entry, in_order, written_text, AreAdded, AreParts}
 use Rattle.po_writer.specs.declared.parts.TextParts.{TextParts}
 use Rattle.po_writer.proofs.Separated.{further, joined, some_text}
 

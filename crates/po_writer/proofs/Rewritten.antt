@@ -6,8 +6,8 @@ use Rattle.std.proofs.lemmas.List.{append-nil, map-append}
 use Rattle.std.proofs.lemmas.List.Elements.{All-weaker, filter-append, filter_passes}
 use Rattle.std.proofs.lemmas.Bool.{not-true}
 use Rattle.po_syntax.specs.Facts.Filters.{all_pass, none_pass}
-use Rattle.po_entry.specs.TextEntry.{TextEntry, with_line}
-use Rattle.po_writer.specs.WrittenText.{entry_lines, arranged, written_text}
+use Rattle.po_entry.specs.Prelude.{TextEntry, with_line}
+use Rattle.po_writer.specs.Prelude.{entry_lines, arranged, written_text}
 
 -- the entries without their lines
 abbrev pub unnumbered : List TextEntry → List TextEntry

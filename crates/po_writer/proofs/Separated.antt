@@ -7,8 +7,8 @@ use Rattle.std.proofs.lemmas.List.Elements.{All-push}
 use Rattle.std.proofs.lemmas.List.Sums.{fold_push}
 use Rattle.std.proofs.lemmas.Bool.{ne_eqb}
 use Rattle.po_syntax.specs.Facts.Filters.{all_pass, none_pass}
-use Rattle.po_entry.specs.TextEntry.{TextEntry}
-use Rattle.po_writer.specs.WrittenText.{with_entry, own_prefix, optional_lines, keyword_lines, text_lines, translation_lines, own_lines, entry_lines, arranged, written_text}
+use Rattle.po_entry.specs.Prelude.{TextEntry}
+use Rattle.po_writer.specs.Prelude.{with_entry, own_prefix, optional_lines, keyword_lines, text_lines, translation_lines, own_lines, entry_lines, arranged, written_text}
 
 some_after : (xs ys : List ℕ) → 0 < length ys → 0 < length (xs ++ ys)
 some_after xs ys h = omega (arith, length-append xs ys)

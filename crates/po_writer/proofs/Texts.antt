@@ -5,16 +5,11 @@ use Rattle.std.specs.Str.{IsUtf8}
 use Rattle.std.proofs.lemmas.List.{append-nil}
 use Rattle.std.proofs.lemmas.List.Elements.{All-nil, All-cons, All-head, All-tail, All-append, All-weaker, All-filter}
 use Rattle.std.proofs.lemmas.Bool.{ne_eqb}
-use Rattle.po_syntax.specs.PoText.{IsSmall, SpellsText, without_byte_order_mark}
-use Rattle.po_syntax.specs.TextItem.{TextItem, IsText}
+use Rattle.po_syntax.specs.Prelude.{IsSmall, SpellsText, without_byte_order_mark, TextItem, IsText}
 use Rattle.po_syntax.specs.Spelling.{end, live}
-use Rattle.po_entry.specs.Texts.{Lacks}
-use Rattle.po_entry.specs.TextEntry.{TextEntry, with_line, quoted_texts}
-use Rattle.po_entry.specs.Header.{HasAdmittedCharset}
-use Rattle.po_entry.specs.Validity.{IsEntry, IsCatalogueEntry, HasTexts}
-use Rattle.po_entry.specs.Spelling.{SpellsEntries, nothing, comments, entries as joined_entries}
-use Rattle.po_entry.specs.ReadsText.{ReadsText}
-use Rattle.po_writer.specs.WrittenText.{entry_lines, arranged, written_text}
+use Rattle.po_entry.specs.Prelude.{Lacks, TextEntry, with_line, quoted_texts, HasAdmittedCharset, IsEntry, IsCatalogueEntry, HasTexts, SpellsEntries, ReadsText}
+use Rattle.po_entry.specs.Spelling.{nothing, comments, entries as joined_entries}
+use Rattle.po_writer.specs.Prelude.{entry_lines, arranged, written_text}
 use Rattle.po_writer.proofs.Utf8.{plain_line}
 use Rattle.po_writer.proofs.Blocks.{Spells, Block, BeginsLow, empty_block, two_blocks, line_block}
 use Rattle.po_writer.proofs.Entries.{EntryPart, entry_block}

@@ -3,9 +3,9 @@ use Rattle.std.proofs.Common.{refl, ℕ, ◌<◌, false, true, List, [], ◌∷�
 use Rattle.po_syntax.specs.declared.item.Keyword.{Keyword}
 use Rattle.po_syntax.specs.declared.item.Keyword.TheVariants.{MsgCtxt, MsgId, MsgIdPlural, MsgStr}
 use Rattle.po_syntax.specs.declared.item.Marks.{Marks}
-use Rattle.po_syntax.specs.Quoting.{quoted, written_bytes}
-use Rattle.po_syntax.specs.Spelling.{SpellsKeyword, msgctxt, msgid, msgid_plural, msgstr, HoldsTokens, end, blank, keyword, string, own_marks, previous_marks, HoldsItems, live, previous, obsolete, obsolete_previous}
-use Rattle.po_syntax.specs.TextItem.{TextItem, Word, Str}
+use Rattle.po_syntax.specs.Prelude.{quoted, written_bytes, SpellsKeyword, HoldsTokens, own_marks, previous_marks, HoldsItems, TextItem}
+use Rattle.po_syntax.specs.Spelling.{msgctxt, msgid, msgid_plural, msgstr, end, blank, keyword, string, live, previous, obsolete, obsolete_previous}
+use Rattle.po_syntax.specs.TextItem.{Word, Str}
 use Rattle.po_syntax.proofs.QuotedForms.{bytes_spell}
 
 -- after the prefix, tokens stand under these marks

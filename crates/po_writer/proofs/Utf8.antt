@@ -9,12 +9,12 @@ use Rattle.std.proofs.lemmas.Str.Ascii.{IsAscii-from_all, IsAscii-cons, IsAscii-
 use Rattle.std.proofs.lemmas.List.Elements.{All-nil, All-cons, All-append}
 use Rattle.std.proofs.lemmas.Bool.{cond_both, ltb-true, and_parts}
 use Rattle.std.proofs.lemmas.List.Sums.{AllPass-from_list_all}
-use Rattle.po_syntax.specs.TextItem.{IsText}
-use Rattle.po_syntax.specs.Quoting.{quoted}
+use Rattle.po_syntax.specs.Prelude.{IsText, quoted}
 use Rattle.po_syntax.proofs.QuotedTexts.{quoted_utf8, quoted_shown}
-use Rattle.po_entry.specs.Texts.{Lacks}
+use Rattle.po_entry.specs.Prelude.{Lacks}
 use Rattle.po_syntax.specs.Facts.AllAppend.{All-left, All-right}
-use Rattle.po_writer.specs.EntryLines.{ContainsLines, none, last, ended}
+use Rattle.po_writer.specs.Prelude.{ContainsLines}
+use Rattle.po_writer.specs.EntryLines.{none, last, ended}
 
 abbrev IsByte : ℕ → Type 0
 IsByte b = b < 256

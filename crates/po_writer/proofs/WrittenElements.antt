@@ -6,12 +6,9 @@ use Rattle.std.proofs.lemmas.List.Elements.{All-nil, All-cons, All-head, All-tai
 use Rattle.std.proofs.lemmas.List.Splits.{slice_split_at, slice_split_none}
 use Rattle.std.proofs.lemmas.Bool.{ne_eqb, or_parts}
 use Rattle.po_syntax.specs.Facts.Runs.{FailsLast, from_end, end_parts, kept_is}
-use Rattle.po_syntax.specs.TextItem.{trim_returns}
-use Rattle.po_syntax.specs.Blanks.{is_blank, skip_blanks, without_end}
-use Rattle.po_entry.specs.Texts.{trimmed}
-use Rattle.po_entry.specs.Comments.{listed_references, listed_flags, is_not_empty}
+use Rattle.po_syntax.specs.Prelude.{trim_returns, is_blank, skip_blanks, without_end}
+use Rattle.po_entry.specs.Prelude.{trimmed, listed_references, listed_flags, is_not_empty, IsReference}
 use Rattle.po_syntax.specs.Facts.AllAppend.{All-right}
-use Rattle.po_entry.specs.Validity.{IsReference}
 use Rattle.po_writer.proofs.Utf8.{IsLine, line-append}
 
 -- the text may stand on a line, holds a byte, and ends with no blank

@@ -2,9 +2,8 @@
 -- in its text (manual, "The Format of PO Files").
 use Rattle.std.specs.Prelude.{◌≡◌, ◌≢◌, ◌⊎◌, ℕ, List, [], ◌∷◌, ◌++◌, ◌+◌, Bool, true, false, Option, None, Some, codes, decimal}
 use Rattle.std.specs.List.{flat_map}
-use Rattle.po_entry.specs.Texts.{Lacks}
+use Rattle.po_entry.specs.Prelude.{Lacks, TextEntry}
 use Rattle.po_writer.specs.WrittenText.{string_line, text_lines, entry_lines}
-use Rattle.po_entry.specs.TextEntry.{TextEntry}
 
 -- How a text stands after its keyword, with a case for each form (manual, "The Format of PO Files").
 

@@ -2,8 +2,8 @@
 -- tests/mutants/po_writer/definitions has a wrong form of each definition, which it refuses.
 use Rattle.std.specs.Prelude.{◌≡◌, refl, true, List, [], ◌∷◌, ◌++◌, Some, None, codes}
 use Rattle.std.specs.Fmt.{digits}
-use Rattle.po_syntax.specs.Quoting.{written_byte}
-use Rattle.po_entry.specs.TextEntry.{TextEntry, plain_entry}
+use Rattle.po_syntax.specs.Prelude.{written_byte}
+use Rattle.po_entry.specs.Prelude.{TextEntry, plain_entry}
 use Rattle.po_writer.specs.WrittenText.{written_text}
 
 abbrev pub obsolete_entry : TextEntry

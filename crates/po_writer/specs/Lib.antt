@@ -2,3 +2,4 @@ pub mod WrittenText
 pub mod TextParts
 pub mod EntryLines
 pub mod Examples
+pub mod Prelude

@@ -1,7 +1,7 @@
 -- A written text in two parts, the live entries and the obsolete ones (manual, "The Format of PO
 -- Files").
 use Rattle.std.specs.Prelude.{◌≡◌, ℕ, ◌==◌, List, ◌∷◌, ◌++◌, length, not, filter, fold, if◌then◌else◌}
-use Rattle.po_entry.specs.TextEntry.{TextEntry}
+use Rattle.po_entry.specs.Prelude.{TextEntry}
 use Rattle.po_writer.specs.WrittenText.{with_entry, in_order}
 use Rattle.po_writer.specs.declared.parts.TextParts.{TextParts}
 

@@ -1,8 +1,8 @@
 -- The text that a catalogue is written as (manual, "The Format of PO Files"). No line is wrapped.
 use Rattle.std.specs.Prelude.{ℕ, ◌+◌, ◌==◌, Bool, not, nat_lt, List, [], ◌∷◌, ◌++◌, length, filter, Option, None, Some, codes, decimal, if◌then◌else◌}
 use Rattle.std.specs.List.{flat_map, join_by, onto_first}
-use Rattle.po_syntax.specs.Quoting.{quoted}
-use Rattle.po_entry.specs.TextEntry.{TextEntry, TextPrevious}
+use Rattle.po_syntax.specs.Prelude.{quoted}
+use Rattle.po_entry.specs.Prelude.{TextEntry, TextPrevious}
 
 -- the lines of a text, each with the LF that ends it, if one does
 abbrev pub lines_with_ends : List ℕ → List (List ℕ)

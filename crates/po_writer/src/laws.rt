@@ -2,12 +2,9 @@
 //! law into a proof.
 ghost use Rattle.std.specs.Prelude.{◌≡◌, ℕ, List, [], All, false, map};
 ghost use Rattle.std.specs.List.{concat};
-ghost use Rattle.po_syntax.specs.PoText.{IsSmall};
-ghost use Rattle.po_entry.specs.TextEntry.{TextEntry, with_line};
-ghost use Rattle.po_entry.specs.Validity.{IsCatalogueEntry, IsEntry};
-ghost use Rattle.po_entry.specs.ReadsText.{ReadsText};
-ghost use Rattle.po_writer.specs.EntryLines.{IsArranged, StandInOrder, WritesEntry, EachEndsInItsOnlyFeed, TextsAreWritten};
-ghost use Rattle.po_writer.specs.WrittenText.{arranged, entry_lines, in_order, lines_with_ends, written_text};
+ghost use Rattle.po_syntax.specs.Prelude.{IsSmall};
+ghost use Rattle.po_entry.specs.Prelude.{TextEntry, with_line, IsCatalogueEntry, IsEntry, ReadsText};
+ghost use Rattle.po_writer.specs.Prelude.{IsArranged, StandInOrder, WritesEntry, EachEndsInItsOnlyFeed, TextsAreWritten, arranged, entry_lines, in_order, lines_with_ends, written_text};
 
 /// The lines of a text, joined, are the text. Each but the last ends in its only LF; the last may
 /// have none, and then it isn't empty.

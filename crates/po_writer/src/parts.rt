@@ -1,9 +1,8 @@
 //! A text in two parts, live entries before obsolete ones.
 
 ghost use Rattle.std.specs.Prelude.{◌≡◌, ◌++◌, ◌∷◌, List, [], OnOk, IfOk};
-ghost use Rattle.po_entry.specs.TextEntry.{TextEntry};
-ghost use Rattle.po_writer.specs.TextParts.{AreAdded, AreParts, joined_parts};
-ghost use Rattle.po_writer.specs.WrittenText.{written_text};
+ghost use Rattle.po_entry.specs.Prelude.{TextEntry};
+ghost use Rattle.po_writer.specs.Prelude.{AreAdded, AreParts, joined_parts, written_text};
 
 use crate::text::push_separated;
 use po_entry::EntryRef;

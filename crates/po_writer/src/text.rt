@@ -1,8 +1,8 @@
 //! The text of entries, written one after the other.
 
 ghost use Rattle.std.specs.Prelude.{◌≡◌, ◌++◌, ◌∷◌, List, [], All, OnOk, false};
-ghost use Rattle.po_entry.specs.TextEntry.{TextEntry};
-ghost use Rattle.po_writer.specs.WrittenText.{with_entry, written_text};
+ghost use Rattle.po_entry.specs.Prelude.{TextEntry};
+ghost use Rattle.po_writer.specs.Prelude.{with_entry, written_text};
 
 use crate::entry_lines::push_entry;
 use po_entry::EntryRef;

@@ -1,3 +1,4 @@
 pub mod Sorted
 pub mod Opened
 pub mod QueryView
+pub mod Prelude

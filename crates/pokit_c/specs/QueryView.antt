@@ -3,9 +3,7 @@ use Rattle.std.specs.Prelude.{◌≡◌, ◌≢◌, ℕ, ◌+◌, ◌<◌, ◌==
 use Rattle.std.specs.List.{slice_range}
 use Rattle.mo_lookup.specs.declared.place.Place.{Place}
 use Rattle.mo_lookup.specs.declared.place.Place.TheVariants.{Translation, Id, Plural}
-use Rattle.mo_lookup.specs.Answer.{AnswerView}
-use Rattle.mo_lookup.specs.Place.{untranslated_place}
-use Rattle.mo_lookup.specs.Query.{Query}
+use Rattle.mo_lookup.specs.Prelude.{AnswerView, untranslated_place, Query}
 use Rattle.pokit_c.specs.declared.query.PokitLocated.{PokitLocated}
 use Rattle.pokit_c.specs.declared.query.PokitQuery.{PokitQuery}
 

@@ -1,8 +1,7 @@
 //! The names of the locales whose catalogues are looked for.
 
 ghost use Rattle.std.specs.Prelude.{◌≡◌, ◌^◌, ◌-◌, ◌<◌, ◌≤◌, ◌++◌, ◌∷◌, [], ℕ, List, drop, length};
-ghost use Rattle.locale_names.specs.Names.{candidates};
-ghost use Rattle.locale_names.specs.Candidate.{names_from};
+ghost use Rattle.locale_names.specs.Prelude.{candidates, names_from};
 
 use locale_names::{Position, candidate_at};
 

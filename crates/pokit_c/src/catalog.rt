@@ -1,10 +1,9 @@
 //! A catalogue as C holds it.
 
 ghost use Rattle.std.specs.Prelude.{◌≡◌, ◌≤◌, length};
-ghost use Rattle.plural_rule.specs.PluralRule.{expression_limit};
-ghost use Rattle.plural_rule.specs.Program.{program as program_of, tree_of};
-ghost use Rattle.mo_lookup.specs.CatalogView.{CatalogView};
-ghost use Rattle.pokit_c.specs.Opened.{IsOpened};
+ghost use Rattle.plural_rule.specs.Prelude.{expression_limit, program as program_of, tree_of};
+ghost use Rattle.mo_lookup.specs.Prelude.{CatalogView};
+ghost use Rattle.pokit_c.specs.Prelude.{IsOpened};
 
 use plural_rule::Instruction;
 

@@ -1,12 +1,9 @@
 //! Looking up a message.
 
 ghost use Rattle.std.specs.Prelude.{◌≡◌, ◌+◌, ◌^◌, ◌<◌, ◌≤◌, length, false};
-ghost use Rattle.plural_rule.specs.Expression.{nodes};
-ghost use Rattle.mo_lookup.specs.Search.{search_bound, query_comparisons};
-ghost use Rattle.mo_lookup.specs.CatalogView.{CatalogView, answered};
-ghost use Rattle.mo_lookup.specs.Query.{can_be_key};
-ghost use Rattle.pokit_c.specs.QueryView.{query_view, answer_view, IsTerminated, IsOfQuery};
-ghost use Rattle.pokit_c.specs.Opened.{IsOpened};
+ghost use Rattle.plural_rule.specs.Prelude.{nodes};
+ghost use Rattle.mo_lookup.specs.Prelude.{search_bound, query_comparisons, CatalogView, answered, can_be_key};
+ghost use Rattle.pokit_c.specs.Prelude.{query_view, answer_view, IsTerminated, IsOfQuery, IsOpened};
 
 use crate::catalog::PokitCatalog;
 use crate::query::{PokitLocated, PokitQuery};

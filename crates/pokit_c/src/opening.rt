@@ -3,11 +3,9 @@
 ghost use Rattle.std.specs.Prelude.{◌≡◌, ◌+◌, ◌^◌, ◌<◌, List, length};
 ghost use Rattle.mo_file.specs.declared.byte_order.Order.{Order};
 ghost use Rattle.mo_file.specs.declared.fault.MoError.{MoError};
-ghost use Rattle.mo_file.specs.MoFile.{IsMoFile};
-ghost use Rattle.mo_file.specs.Fault.{IsFirstFault, comparisons_before, kind, index};
-ghost use Rattle.mo_file.specs.Message.{Message};
-ghost use Rattle.mo_lookup.specs.CatalogView.{CatalogView};
-ghost use Rattle.pokit_c.specs.Opened.{IsOpened};
+ghost use Rattle.mo_file.specs.Prelude.{IsMoFile, IsFirstFault, comparisons_before, kind, index, Message};
+ghost use Rattle.mo_lookup.specs.Prelude.{CatalogView};
+ghost use Rattle.pokit_c.specs.Prelude.{IsOpened};
 
 use crate::catalog::PokitCatalog;
 use crate::fault::{index, number};

@@ -2,11 +2,9 @@
 
 ghost use Rattle.std.specs.Prelude.{◌≡◌, ◌<◌, ◌≤◌, List, length, take};
 ghost use Rattle.mo_file.specs.declared.byte_order.Order.{Order};
-ghost use Rattle.mo_file.specs.FileHeader.{HasMagicOf, message_count};
-ghost use Rattle.mo_file.specs.Message.{Message};
-ghost use Rattle.mo_file.specs.MoFile.{IsMoFile};
-ghost use Rattle.mo_expand.specs.SortedFile.{IsFileInAnyOrder, IsInOrder, IsFileOfSorted, IsNotSorted};
-ghost use Rattle.pokit_c.specs.Sorted.{AnswersAlike};
+ghost use Rattle.mo_file.specs.Prelude.{HasMagicOf, message_count, Message, IsMoFile};
+ghost use Rattle.mo_expand.specs.Prelude.{IsFileInAnyOrder, IsInOrder, IsFileOfSorted, IsNotSorted};
+ghost use Rattle.pokit_c.specs.Prelude.{AnswersAlike};
 
 use mo_expand::laws::{same_message_under_key, sorted_file_is_mo_file};
 use mo_expand::{SortedFile, message_count, sort_file};

@@ -1,9 +1,8 @@
 -- What a writer took, by the result of the call.
 use Rattle.std.proofs.Common.{◌≡◌, ◌⊎◌, ◌+◌, inl, inr, ℕ, List, Result, Ok, Err, OnOk, OnErr}
 use Rattle.std.specs.Io.KnownBytes.{Appends}
-use Rattle.runs.specs.Device.{AppendsPrefix}
-use Rattle.runs.specs.Outputs.{Takes, WriterView}
-use Rattle.process.specs.Endings.{Puts}
+use Rattle.runs.specs.Prelude.{AppendsPrefix, Takes, WriterView}
+use Rattle.process.specs.Prelude.{Puts}
 
 pub put : {T E : Type 0} (result : Result T E) (bytes : List ℕ) (before after : WriterView)
     → OnOk result (Appends before.bytes after.bytes bytes) → OnErr result (AppendsPrefix before.bytes after.bytes bytes)

@@ -1,7 +1,6 @@
 -- How the calls of a function join to those of its caller.
 use Rattle.std.proofs.Common.{◌≡◌, ℕ, suc, Bool, List, [], ◌∷◌, ◌++◌, Some, None, refl, sym, ap, ◌∙◌, subst, append_assoc, append-nil}
-use Rattle.process.specs.OutputCalls.{Holds}
-use Rattle.process.specs.SystemCalls.{CallLog, Does, SystemCall, called}
+use Rattle.process.specs.Prelude.{Holds, CallLog, Does, SystemCall, called}
 
 called-twice : (first rest : List SystemCall) (log : CallLog)
     → called rest (called first log) ≡ called (first ++ rest) log

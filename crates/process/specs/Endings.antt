@@ -1,8 +1,6 @@
 -- What the program writes itself, beside what its tools write, and how it ends then.
 use Rattle.std.specs.Prelude.{◌≡◌, ◌⊎◌, ◌+◌, ℕ, true, false, List, Option, Some, option_map, Result, Ok, Err}
-use Rattle.runs.specs.Outputs.{Fails, Takes, WriterView}
-use Rattle.runs.specs.ProgramFaults.{program_line}
-use Rattle.runs.specs.Tools.{tool_name}
+use Rattle.runs.specs.Prelude.{Fails, Takes, WriterView, program_line, tool_name}
 use Rattle.runs.specs.declared.program_fault.ProgramFault.{ProgramFault}
 use Rattle.runs.specs.declared.run.Ending.{Ending}
 use Rattle.runs.specs.declared.run.Ending.TheVariants.{Ran, Helped, Refused}

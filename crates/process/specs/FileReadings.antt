@@ -1,8 +1,8 @@
 -- What reading a file comes to, by what opening it may come to: None where it can't be opened, and else
 -- the bytes that it holds, where they are known.
 use Rattle.std.specs.Prelude.{◌≡◌, ℕ, List, Option, Some, None, IfSome, MatchOption, take}
-use Rattle.runs.specs.Inputs.{Reading, gives, refuses}
-use Rattle.runs.specs.Limits.{input_limit}
+use Rattle.runs.specs.Prelude.{Reading, input_limit}
+use Rattle.runs.specs.Inputs.{gives, refuses}
 use Rattle.runs.specs.declared.inputs.InputFault.TheVariants.{CannotOpen, ReadFault}
 
 pub data ReadsFile (opens : Option (Option (List ℕ)) → Type 0) : Reading → Type 0 where

@@ -7,3 +7,4 @@ pub mod Matched
 pub mod Endings
 pub mod Program
 pub mod Starts
+pub mod Prelude

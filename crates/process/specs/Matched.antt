@@ -2,7 +2,7 @@
 use Rattle.std.specs.Prelude.{◌≡◌, ℕ, Bool, true, false, List, [], Option, None, Some, Result, codes}
 use Rattle.clap.specs.Matches.{ReadsOne, first_value, matched_of, one_text, raw_values}
 use Rattle.clap.specs.declared.parser.matches.Found.{Found}
-use Rattle.po_tools.specs.ToolRun.{CommandLine, line_of}
+use Rattle.po_tools.specs.Prelude.{CommandLine, line_of}
 use Rattle.clap.specs.declared.parser.matches.MatchedArg.{MatchedArg}
 
 -- an option without a value is given where its text is `true`, and isn't where that is `false` or

@@ -7,11 +7,9 @@ use Rattle.clap.specs.Walk.{rows_of}
 use Rattle.clap.specs.declared.builder.command.Command.{Command}
 use Rattle.clap.specs.declared.parser.matches.ArgMatches.{ArgMatches}
 use Rattle.clap.specs.declared.parser.matches.ArgMatches.TheViews.{out-ArgMatches}
-use Rattle.command_line.specs.Offering.{OffersTools, offered_tools}
-use Rattle.command_line.specs.Reworded.{reworded}
-use Rattle.po_tools.specs.ToolRun.{Answers, CommandLine, Reached, RunsTool}
-use Rattle.runs.specs.Outputs.{SystemView, WriterView}
-use Rattle.runs.specs.Tools.{tool_name}
+use Rattle.command_line.specs.Prelude.{OffersTools, offered_tools, reworded, spelled_out}
+use Rattle.po_tools.specs.Prelude.{Answers, CommandLine, Reached, RunsTool}
+use Rattle.runs.specs.Prelude.{SystemView, WriterView, tool_name}
 use Rattle.runs.specs.declared.program_fault.ProgramFault.{ProgramFault}
 use Rattle.runs.specs.declared.run.Ending.{Ending}
 use Rattle.runs.specs.declared.run.Ending.TheVariants.{Refused}
@@ -20,7 +18,6 @@ use Rattle.runs.specs.declared.program_fault.ProgramFault.TheVariants.{OutOfMemo
 use Rattle.process.specs.Endings.{Ends, GivesHelp, Puts, Reports}
 use Rattle.process.specs.Matched.{line_in}
 use Rattle.process.specs.Values.{AreArguments, HasNoText}
-use Rattle.command_line.specs.SpelledOut.{spelled_out}
 
 -- a tool runs, and what it comes to is reported and is the ending
 pub record EndsTool (tool : Tool) (line : CommandLine) (answers : Answers) (refused : Type 0) (before after : Reached)

@@ -1,8 +1,7 @@
 -- What the program over a system comes to.
 use Rattle.std.specs.Prelude.{◌≡◌, ℕ, List, Option, None, Result, codes, true, false}
-use Rattle.po_tools.specs.ToolRun.{Answers, Reached}
-use Rattle.runs.specs.Outputs.{WriterView}
-use Rattle.runs.specs.ProgramFaults.{program_text}
+use Rattle.po_tools.specs.Prelude.{Answers, Reached}
+use Rattle.runs.specs.Prelude.{WriterView, program_text}
 use Rattle.runs.specs.declared.program_fault.ProgramFault.{ProgramFault}
 use Rattle.runs.specs.declared.run.Ending.{Ending}
 use Rattle.runs.specs.declared.run.Ending.TheVariants.{Refused}

@@ -1,6 +1,6 @@
 //! What answers of a system mean.
 ghost use Rattle.std.specs.Prelude.{◌≡◌};
-ghost use Rattle.process.specs.Answers.{is_for_writing, kind_of, make_fault, no_link, rights_of};
+ghost use Rattle.process.specs.Prelude.{is_for_writing, kind_of, make_fault, no_link, rights_of};
 
 use crate::cutting::cut;
 use runs::{FileKind, MakeFault, OutputFault, Owner, Rights};

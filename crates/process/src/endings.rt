@@ -1,10 +1,9 @@
 //! What the program writes itself, and how it ends then.
 ghost use Rattle.std.specs.Prelude.{◌≡◌, ◌<◌, ◌^◌, IfOk, OnErr, option_map};
 ghost use Rattle.std.specs.Option.{option_copied};
-ghost use Rattle.runs.specs.Tools.{tool_name};
-ghost use Rattle.runs.specs.Outputs.{writer};
-ghost use Rattle.command_line.specs.Reworded.{reworded};
-ghost use Rattle.process.specs.Endings.{GivesHelp, Puts, Reports};
+ghost use Rattle.runs.specs.Prelude.{tool_name, writer};
+ghost use Rattle.command_line.specs.Prelude.{reworded};
+ghost use Rattle.process.specs.Prelude.{GivesHelp, Puts, Reports};
 
 use command_line::reworded;
 use runs::{ByteOut, Ending, ProgramFault, Tool, put_all, report_fault};

@@ -2,7 +2,7 @@
 //! needn't be text.
 ghost use Rattle.std.specs.Prelude.{◌≡◌, ◌==◌, ◌⊎◌, ◌+◌, ◌++◌, ◌∷◌, [], ℕ, None, codes, length, map, string_bytes, true, vec_len, IfErr, IfOk, OnOk, option_map};
 ghost use Rattle.std.specs.List.{slice_split};
-ghost use Rattle.process.specs.Values.{AreArguments, AreEntries, AreValues, HasNoText};
+ghost use Rattle.process.specs.Prelude.{AreArguments, AreEntries, AreValues, HasNoText};
 
 use crate::cutting::cut;
 use crate::value::{Value, ask};

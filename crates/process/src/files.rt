@@ -1,9 +1,7 @@
 //! Output files by the calls of a system.
 ghost use Rattle.std.specs.Prelude.{◌≡◌, ◌++◌, ◌<◌, IfOk, IfSome, codes, decimal, option_map};
 ghost use Rattle.std.specs.String.{string_bytes};
-ghost use Rattle.process.specs.OutputCalls.{GivesOwner, TakesStream};
-ghost use Rattle.process.specs.FileReadings.{ReadsFile};
-ghost use Rattle.process.specs.SystemCalls.{Does};
+ghost use Rattle.process.specs.Prelude.{GivesOwner, TakesStream, ReadsFile, Does};
 ghost use Rattle.runs.specs.Inputs.{gives};
 
 use crate::answers::{is_for_writing, kind_of, make_fault, no_link};
@@ -43,8 +41,8 @@ impl<S: SystemCalls> OutputFiles for SystemFiles<S> {
     ghost use Rattle.std.specs.String.{string_bytes};
     ghost use Rattle.process.specs.OutputCalls.{FindsKind, FindsLink, GivesOwner, LacksFile, LacksLink, Numbers, SetsMode, SetsOwner, TakesStream, bytes_of};
     ghost use Rattle.process.specs.SystemCalls.{Does, called, creates, empties, removes, renames};
-    ghost use Rattle.runs.specs.Device.{counted_failures, counted_inner};
-    ghost use Rattle.runs.specs.OutputFiles.{closes, logged};
+    ghost use Rattle.runs.specs.Prelude.{counted_failures, counted_inner, logged};
+    ghost use Rattle.runs.specs.OutputFiles.{closes};
 
     type File = Opened<S::File, S::Output, S::Errors>;
 

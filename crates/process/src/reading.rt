@@ -1,6 +1,6 @@
 //! Inputs by their names.
 ghost use Rattle.std.specs.Prelude.{◌≡◌, ◌⊎◌, MatchResult, drop, take, vec_len};
-ghost use Rattle.process.specs.FileReadings.{ReadsFile, ReadsInput};
+ghost use Rattle.process.specs.Prelude.{ReadsFile, ReadsInput};
 ghost use Rattle.runs.specs.Inputs.{gives, refuses};
 
 use crate::system_calls::SystemCalls;

@@ -1,8 +1,6 @@
 //! The program over a system.
-ghost use Rattle.po_tools.specs.ToolRun.{answers_of};
-ghost use Rattle.process.specs.FileReadings.{ReadsFile, ReadsInput};
-ghost use Rattle.process.specs.Starts.{Starts};
-ghost use Rattle.process.specs.Values.{AreEntries};
+ghost use Rattle.po_tools.specs.Prelude.{answers_of};
+ghost use Rattle.process.specs.Prelude.{ReadsFile, ReadsInput, Starts, AreEntries};
 ghost use Rattle.runs.specs.Inputs.{gives};
 ghost use Rattle.std.specs.Prelude.{codes};
 

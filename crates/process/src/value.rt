@@ -1,6 +1,6 @@
 //! Values of a process, each copied into a room that may be too short for it.
 ghost use Rattle.std.specs.Prelude.{IfOk, option_map};
-ghost use Rattle.process.specs.Values.{Fills};
+ghost use Rattle.process.specs.Prelude.{Fills};
 
 use std::alloc::{AllocError, Global};
 use std::env::FillError;

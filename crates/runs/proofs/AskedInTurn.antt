@@ -3,9 +3,9 @@ use Rattle.std.proofs.Common.{◌≡◌, ◌≢◌, ◌↔◌, inl, inr, ℕ, tr
 use Rattle.std.proofs.lemmas.Bool.{cases_Bool, false_from_ne_true}
 use Rattle.std.proofs.lemmas.Bool.Decides.{not_from_Decides}
 use Rattle.std.proofs.lemmas.Slice.Eq.{bytes_eq-Decides}
-use Rattle.runs.specs.AskedLaw.{HaveFiles, no_argument, another_file, standard_again, AsksInTurn, nothing, file, standard}
-use Rattle.runs.specs.Inputs.{Asked, standard_input, file_of, asked_by}
-use Rattle.runs.specs.Run.{is_standard}
+use Rattle.runs.specs.Prelude.{HaveFiles, AsksInTurn, Asked, asked_by, is_standard}
+use Rattle.runs.specs.AskedLaw.{no_argument, another_file, standard_again, nothing, file, standard}
+use Rattle.runs.specs.Inputs.{standard_input, file_of}
 
 pub is_dash : (argument : List ℕ) → is_standard argument ≡ true → argument ≡ codes "-"
 is_dash argument is = (bytes_eq-Decides argument (codes "-")).0 is

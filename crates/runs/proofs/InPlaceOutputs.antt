@@ -4,9 +4,10 @@ use Rattle.std.proofs.lemmas.Bool.{cond-true, cond-false, eq-eqb, ne_eqb}
 use Rattle.std.specs.Io.KnownBytes.{Appends}
 use Rattle.runs.specs.declared.output_files.OutputFault.TheVariants.{CannotCreate}
 use Rattle.runs.specs.declared.output_files.Owner.{Owner}
-use Rattle.runs.specs.OutputFiles.{Course, ◌▸◌, opens, fails_to_open, takes_stream, lacks_stream}
-use Rattle.runs.specs.OutputWriting.{whole, cut, late, Puts, put as all_put, unput, WritesStream, lacking, taken as stream_taken, WritesInPlace, unopened, opened}
-use Rattle.runs.specs.OutputLaws.{PathState, file, file_at, stream_of, Files, put, put_stream, with_bytes, HasRights, GivesAll, GivesNothingAway}
+use Rattle.runs.specs.Prelude.{Course, Puts, WritesStream, WritesInPlace, PathState, Files, put, put_stream, with_bytes, HasRights, GivesAll, GivesNothingAway}
+use Rattle.runs.specs.OutputFiles.{◌▸◌, opens, fails_to_open, takes_stream, lacks_stream}
+use Rattle.runs.specs.OutputWriting.{whole, cut, late, put as all_put, unput, lacking, taken as stream_taken, unopened, opened}
+use Rattle.runs.specs.OutputLaws.{file, file_at, stream_of}
 use Rattle.runs.proofs.OutputSteps.{same_or_other, put_there, put_elsewhere, no_fault, no_file, taken_all, same_rights, Ends, idle, stop}
 
 -- the target is written in place

@@ -7,8 +7,8 @@ use Rattle.std.specs.List.{sum_by}
 use Rattle.std.specs.Borrow.{Bor}
 use Rattle.runs.specs.declared.inputs.Input.{Input}
 use Rattle.runs.specs.declared.inputs.InputFault.{InputFault}
-use Rattle.runs.specs.Inputs.{AreInputs, Asked, Asks, AsksFirst, ReadsAs, Reading, Stays, asked_arguments, asked_by, asked_for, gives, refuses, done, read, unread, input_fault_text, inputs_in, NamedFile}
-use Rattle.runs.specs.Run.{is_standard, shown_name}
+use Rattle.runs.specs.Prelude.{AreInputs, Asked, Asks, AsksFirst, ReadsAs, Reading, Stays, asked_arguments, asked_by, asked_for, input_fault_text, inputs_in, NamedFile, is_standard, shown_name}
+use Rattle.runs.specs.Inputs.{gives, refuses, done, read, unread}
 
 abbrev pub arguments_now : List (Bor (List ℕ)) → List (List ℕ)
 arguments_now arguments = map (λ argument. argument.now) arguments

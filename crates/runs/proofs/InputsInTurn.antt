@@ -2,9 +2,9 @@
 use Rattle.std.proofs.Common.{◌≡◌, ◌↔◌, ◌||◌, inl, inr, ℕ, Bool, true, false, List, [], ◌∷◌, Option, Some, refl, ap₂, subst, codes}
 use Rattle.std.proofs.lemmas.Bool.{cases_Bool, cond-false}
 use Rattle.runs.specs.declared.inputs.InputFault.{InputFault}
-use Rattle.runs.specs.Inputs.{Reading, gives, refuses, input_fault_text, AreInputs, done, read, unread, NamedFile}
-use Rattle.runs.specs.InputsLaw.{named, AreInputsAfter, no_argument, another_file, unread_file, empty_text, AreInputsInTurn, nothing, a_file, no_file, standard_input, no_standard_input}
-use Rattle.runs.specs.Run.{is_standard, shown_name}
+use Rattle.runs.specs.Prelude.{Reading, input_fault_text, AreInputs, NamedFile, named, AreInputsAfter, AreInputsInTurn, is_standard, shown_name}
+use Rattle.runs.specs.Inputs.{gives, refuses, done, read, unread}
+use Rattle.runs.specs.InputsLaw.{no_argument, another_file, unread_file, empty_text, nothing, a_file, no_file, standard_input, no_standard_input}
 use Rattle.runs.proofs.AskedInTurn.{is_dash, no_dash, other}
 
 shown_file : (argument : List ℕ) → is_standard argument ≡ false → shown_name argument ≡ argument

@@ -14,7 +14,7 @@ use Rattle.std.proofs.lemmas.List.Elements.{All-nil, All-cons, All-append, All-f
 use Rattle.std.proofs.lemmas.Paths.{path_components_file_name, path_components_join, path_join_relative}
 use Rattle.std.proofs.lemmas.Slice.Eq.{bytes_eq-Decides}
 use Rattle.std.proofs.lemmas.Str.Parse.{digit_from_value}
-use Rattle.runs.specs.OutputPaths.{beside, new_name, own_name}
+use Rattle.runs.specs.Prelude.{beside, new_name, own_name}
 
 -- no byte is a slash
 abbrev LacksSlash : List ℕ → Type 0

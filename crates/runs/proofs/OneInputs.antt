@@ -1,9 +1,8 @@
 -- Where a system reads each thing as one, arguments have one list of inputs.
 use Rattle.std.proofs.Common.{◌≡◌, ◌||◌, ℕ, Bool, true, false, List, [], ◌∷◌, Option, Some, refl, sym, ◌∙◌, ap, ap₂}
 use Rattle.runs.specs.declared.inputs.InputFault.{InputFault}
-use Rattle.runs.specs.Inputs.{Reading, gives, refuses, ReadsAs, input_fault_text, AreInputs, done, read, unread, NamedFile}
-use Rattle.runs.specs.Run.{is_standard, shown_name}
-use Rattle.runs.specs.ToolRuns.{HasOneReading}
+use Rattle.runs.specs.Prelude.{Reading, ReadsAs, input_fault_text, AreInputs, NamedFile, is_standard, shown_name, HasOneReading}
+use Rattle.runs.specs.Inputs.{gives, refuses, done, read, unread}
 
 one_bytes : {a b : List ℕ} → gives a ≡ gives b → a ≡ b
 one_bytes e = cc

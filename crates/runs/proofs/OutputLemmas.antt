@@ -2,7 +2,7 @@
 use Rattle.std.proofs.Common.{◌≡◌, ◌+◌, ◌<◌, ◌^◌, ◌&&◌, true, false, ℕ, Bool, List, [], ◌∷◌, ◌++◌, Option, Some, None, Result, Ok, Err, OnOk, OnErr, is_ok, refl, sym, ap, ◌∙◌, subst, append_assoc, append-nil}
 use Rattle.std.specs.Io.KnownBytes.{Appends}
 use Rattle.std.specs.Result.{IsErrAnd}
-use Rattle.runs.specs.Device.{AppendsPrefix}
+use Rattle.runs.specs.Prelude.{AppendsPrefix, FileCall, FileLog, Course, calls_of, fault_in, logged, Runs, first_mode, kept_mode, Closes, Fills, Finishes, NewFile, Replaces, WritesFile, NamesNoStream, link_target, beside}
 use Rattle.runs.specs.declared.tool_fault.ToolFault.{ToolFault}
 use Rattle.runs.specs.declared.output_files.OutputFault.{OutputFault}
 use Rattle.runs.specs.declared.output_files.OutputFault.TheVariants.{OutOfMemory}
@@ -11,9 +11,8 @@ use Rattle.runs.specs.declared.output_files.MakeFault.{MakeFault}
 use Rattle.runs.specs.declared.output_files.MakeFault.TheVariants.{Exists}
 use Rattle.runs.specs.declared.output_files.Owner.{Owner}
 use Rattle.runs.specs.declared.output_files.Rights.{Rights}
-use Rattle.runs.specs.OutputFiles.{FileCall, FileLog, Course, done, fails, ◌▸◌, calls_of, fault_in, logged, Runs, asks, reads_link, numbers, makes, fails_to_make, closes, sets_mode, sets_owner, first_mode, kept_mode}
-use Rattle.runs.specs.OutputWriting.{Closes, whole, cut, late, Fills, Finishes, NewFile, Replaces, made, taken, with_rights, WritesFile, follows}
-use Rattle.runs.specs.OutputPaths.{NamesNoStream, link_target, beside}
+use Rattle.runs.specs.OutputFiles.{done, fails, ◌▸◌, asks, reads_link, numbers, makes, fails_to_make, closes, sets_mode, sets_owner}
+use Rattle.runs.specs.OutputWriting.{whole, cut, late, made, taken, with_rights, follows}
 
 pub logged-twice : (first rest : List FileCall) (log : FileLog)
     → logged rest (logged first log) ≡ logged (first ++ rest) log

@@ -6,8 +6,9 @@ use Rattle.std.specs.Io.KnownBytes.{Appends}
 use Rattle.std.specs.Str.{bytes_eq}
 use Rattle.runs.specs.declared.output_files.OutputFault.{OutputFault}
 use Rattle.runs.specs.declared.output_files.Owner.{Owner}
-use Rattle.runs.specs.OutputFiles.{FileCall, Course, fails, ◌▸◌, fault_of}
-use Rattle.runs.specs.OutputLaws.{PathState, nothing, link, file, Destination, file_at, stream_of, Files, put, with_bytes, after_call, after, Always, Each, HasRights, IsNotOpening, IsWholeOrAsItWas, GivesNothingAway, KeepsMode, HasAll}
+use Rattle.runs.specs.Prelude.{FileCall, Course, fault_of, PathState, Destination, Files, put, with_bytes, after_call, after, Always, Each, HasRights, IsNotOpening, IsWholeOrAsItWas, GivesNothingAway, KeepsMode, HasAll}
+use Rattle.runs.specs.OutputFiles.{fails, ◌▸◌}
+use Rattle.runs.specs.OutputLaws.{nothing, link, file, file_at, stream_of}
 
 pub same_or_other : (p q : List ℕ) → (p ≡ q) ⊎ (p ≢ q)
 same_or_other p q = elim (cases_Bool (bytes_eq p q)) [

@@ -3,7 +3,8 @@ use Rattle.std.proofs.Common.{◌≡◌, ◌≢◌, ◌↔◌, ◌⊎◌, inl, i
 use Rattle.std.proofs.lemmas.Fmt.{decimal_is_IsNumeral}
 use Rattle.std.specs.Str.Parse.{digits_value}
 use Rattle.std.specs.Str.Pattern.{FindsTextPrefix, StripsPrefix}
-use Rattle.runs.specs.OutputPaths.{NamesStream, standard_output, standard_error, of_device, of_process, NamesNoStream}
+use Rattle.runs.specs.Prelude.{NamesStream, NamesNoStream}
+use Rattle.runs.specs.OutputPaths.{standard_output, standard_error, of_device, of_process}
 
 -- what a text begins with
 begins : (prefix path rest : List ℕ) → StripsPrefix (FindsTextPrefix prefix) path rest → path ≡ prefix ++ rest

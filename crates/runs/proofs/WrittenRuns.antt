@@ -2,10 +2,10 @@
 use Rattle.std.proofs.Common.{◌≡◌, ℕ, List, None, Some, Option, Result, Ok, IfOk, refl, sym, inl, inr}
 use Rattle.runs.specs.declared.output_files.OutputFault.{OutputFault}
 use Rattle.runs.specs.declared.program_fault.ProgramFault.{ProgramFault}
-use Rattle.runs.specs.Outputs.{MakesFile, OutputIs, SystemView, WritesRun, cut, delivered, link_limit, made, to_file, unmade, unreported}
-use Rattle.runs.specs.Run.{RunView, output_file}
-use Rattle.runs.specs.ToolRuns.{Writes, unwritten, written}
-use Rattle.runs.specs.OutputLaws.{IsAllWritten, IsThere, in_file, on_standard_output}
+use Rattle.runs.specs.Prelude.{MakesFile, OutputIs, SystemView, WritesRun, link_limit, RunView, output_file, Writes, IsAllWritten, IsThere}
+use Rattle.runs.specs.Outputs.{cut, delivered, made, to_file, unmade, unreported}
+use Rattle.runs.specs.ToolRuns.{unwritten, written}
+use Rattle.runs.specs.OutputLaws.{in_file, on_standard_output}
 use Rattle.runs.proofs.WholeOutputs.{whole_outputs}
 
 there : (run : RunView) (path : List ℕ) (before now : SystemView) → OutputIs run path before now None

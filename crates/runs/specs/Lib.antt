@@ -17,3 +17,4 @@ pub mod ToolRuns
 pub mod Internal
 pub mod Facts
 pub mod Limits
+pub mod Prelude

@@ -7,8 +7,8 @@ use Rattle.runs.specs.Device.{AppendsPrefix}
 use Rattle.runs.specs.declared.run.Run.{Run}
 use Rattle.runs.specs.declared.run.Ending.{Ending}
 use Rattle.runs.specs.declared.run.Ending.TheVariants.{Ran, Helped, Refused}
-use Rattle.po_entry.specs.TextEntry.{TextEntry}
-use Rattle.po_writer.specs.WrittenText.{written_text}
+use Rattle.po_entry.specs.Prelude.{TextEntry}
+use Rattle.po_writer.specs.Prelude.{written_text}
 
 -- What contracts see of a run: the bytes of its output, whether a file is made of them, what it
 -- writes on standard error, and its exit status.

@@ -2,7 +2,7 @@
 ghost use Rattle.std.specs.Prelude.{◌≡◌, ◌≢◌, ℕ, ◌+◌, ◌-◌, ◌^◌, ◌<◌, List, [], None, Option, OnOk, OnErr, Err};
 ghost use Rattle.std.specs.Io.{ReadsAtMost, WritesAtMost};
 ghost use Rattle.std.specs.Io.KnownBytes.{Appends, ReadConsumes, WriteAppends};
-ghost use Rattle.runs.specs.Device.{AppendsPrefix, Gives, GivesFirst, failure_of_read, failure_of_write, counted_inner, counted_calls, counted_failures};
+ghost use Rattle.runs.specs.Prelude.{AppendsPrefix, Gives, GivesFirst, failure_of_read, failure_of_write, counted_inner, counted_calls, counted_failures};
 
 use crate::tool_fault::ToolFault;
 use std::io::{self, Read, Write};

@@ -3,7 +3,7 @@ ghost use Rattle.std.specs.Prelude.{◌≡◌, ◌≢◌, ◌↔◌, ◌-◌, �
 ghost use Rattle.std.specs.Io.{ReadsAtMost, WritesAtMost};
 ghost use Rattle.std.specs.Io.KnownBytes.{ReadConsumes, WriteAppends};
 ghost use Rattle.std.specs.IoError.{error_kind};
-ghost use Rattle.runs.specs.Device.{calls_after, failing_inner, failing_calls_before, failing_most_bytes};
+ghost use Rattle.runs.specs.Prelude.{calls_after, failing_inner, failing_calls_before, failing_most_bytes};
 
 use std::io::{self, ErrorKind, Read, Write};
 

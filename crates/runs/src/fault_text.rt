@@ -1,7 +1,6 @@
 //! The texts of faults, the line that reports one, and the run of it.
 ghost use Rattle.std.specs.Prelude.{◌≡◌, ◌++◌, decimal, IfOk, OnOk};
-ghost use Rattle.runs.specs.FaultText.{fault_line, location, mo_text, po_text};
-ghost use Rattle.runs.specs.Run.{refusal, run_view};
+ghost use Rattle.runs.specs.Prelude.{fault_line, location, mo_text, po_text, refusal, run_view};
 
 use crate::run::{Run, refused};
 use itoa::Buffer;

@@ -1,17 +1,7 @@
 //! Laws of inputs and outputs, each the contract of a function that does nothing: a call brings the
 //! law into a proof.
 ghost use Rattle.std.specs.Prelude.{◌≡◌, ◌↔◌, ◌⊎◌, ◌<◌, ◌^◌, ◌+◌, ◌++◌, ℕ, List, Option, codes, decimal, false, replicate, slice_index};
-ghost use Rattle.runs.specs.AskedLaw.{AsksInTurn};
-ghost use Rattle.runs.specs.OutputFiles.{Course, kept_mode};
-ghost use Rattle.runs.specs.Inputs.{AreInputs, Asked, asked_by, NamedFile};
-ghost use Rattle.runs.specs.InputsLaw.{AreInputsInTurn};
-ghost use Rattle.runs.specs.Limits.{call_limit, further_names, input_limit};
-ghost use Rattle.runs.specs.OutputWriting.{WritesFile};
-ghost use Rattle.runs.specs.OutputPaths.{NamesStream, beside, link_target};
-ghost use Rattle.runs.specs.OutputLaws.{IsWholeOrAsItWasThroughout, GivesNobodyMore, IsWhose, KeepsRights, IsAllWritten};
-ghost use Rattle.runs.specs.Outputs.{SystemView, link_limit};
-ghost use Rattle.runs.specs.Run.{RunView, output_file};
-ghost use Rattle.runs.specs.ToolRuns.{HasOneReading, Writes};
+ghost use Rattle.runs.specs.Prelude.{AsksInTurn, Course, kept_mode, AreInputs, Asked, asked_by, NamedFile, AreInputsInTurn, call_limit, further_names, input_limit, WritesFile, NamesStream, beside, link_target, IsWholeOrAsItWasThroughout, GivesNobodyMore, IsWhose, KeepsRights, IsAllWritten, SystemView, link_limit, RunView, output_file, HasOneReading, Writes};
 ghost use Rattle.runs.specs.declared.output_files.Owner.{Owner};
 ghost use Rattle.runs.specs.declared.output_files.Rights.{Rights};
 

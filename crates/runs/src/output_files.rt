@@ -1,7 +1,7 @@
 //! The calls of the system by which an output file is made, and what a new one keeps of the rights
 //! of the one that it replaces.
 ghost use Rattle.std.specs.Prelude.{◌≡◌, []};
-ghost use Rattle.runs.specs.OutputFiles.{logged, first_mode, kept_bits, kept_mode};
+ghost use Rattle.runs.specs.Prelude.{logged, first_mode, kept_bits, kept_mode};
 ghost use Rattle.runs.specs.declared.output_files.OutputFault.TheVariants.{OutOfMemory};
 
 use crate::device::Counted;

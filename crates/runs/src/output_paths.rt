@@ -2,7 +2,7 @@
 ghost use Rattle.std.specs.Prelude.{◌≡◌, ◌≢◌, ◌^◌, ◌<◌, ℕ, IfOk, MatchOption, decimal};
 ghost use Rattle.std.specs.Option.{option_copied};
 ghost use Rattle.std.specs.String.{string_bytes};
-ghost use Rattle.runs.specs.OutputPaths.{NamesNoStream, NamesStream, beside, link_target, own_name};
+ghost use Rattle.runs.specs.Prelude.{NamesNoStream, NamesStream, beside, link_target, own_name};
 
 use itoa::Buffer;
 use std::alloc::{AllocError, Global};

@@ -1,10 +1,7 @@
 //! A system to which runs are written, as one value: to the output file or to standard output, and
 //! then to standard error.
 ghost use Rattle.std.specs.Prelude.{◌^◌, ◌<◌};
-ghost use Rattle.runs.specs.OutputFiles.{fault_in};
-ghost use Rattle.runs.specs.Outputs.{WritesRun};
-ghost use Rattle.runs.specs.Run.{output_file, run_view};
-ghost use Rattle.runs.specs.ToolRuns.{Writes};
+ghost use Rattle.runs.specs.Prelude.{fault_in, WritesRun, output_file, run_view, Writes};
 
 use crate::device::{ByteOut, put_all};
 use crate::output_files::{OutputFault, OutputFiles};

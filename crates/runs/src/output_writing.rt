@@ -1,7 +1,7 @@
 //! How an output is made: whole in a new file beside the one that it replaces, which then gets its
 //! path.
-ghost use Rattle.runs.specs.OutputFiles.{◌▸◌, Call, Runs, fault_in, numbers};
-ghost use Rattle.runs.specs.OutputWriting.{Closes, Fills, Puts, Replaces, WritesFile, WritesInPlace};
+ghost use Rattle.runs.specs.Prelude.{Call, Runs, fault_in, Closes, Fills, Puts, Replaces, WritesFile, WritesInPlace};
+ghost use Rattle.runs.specs.OutputFiles.{◌▸◌, numbers};
 
 use crate::device::{Counted, put_all};
 use crate::output_files::{

@@ -2,9 +2,8 @@
 ghost use Rattle.std.specs.Prelude.{◌≡◌, ◌+◌, ◌^◌, ◌<◌, ◌≤◌, ◌++◌, codes, length, IfOk, OnOk, OnErr, Err};
 ghost use Rattle.std.specs.Io.KnownBytes.{Appends};
 ghost use Rattle.std.specs.Option.{option_copied};
-ghost use Rattle.runs.specs.Device.{GivesFirst};
+ghost use Rattle.runs.specs.Prelude.{GivesFirst, program_line, program_text, stdin_text};
 ghost use Rattle.runs.specs.Internal.Parts.{joined};
-ghost use Rattle.runs.specs.ProgramFaults.{program_line, program_text, stdin_text};
 ghost use Rattle.runs.specs.declared.program_fault.ProgramFault.TheVariants.{OutOfMemory};
 
 use crate::device::{ByteOut, put_all};

@@ -2,7 +2,7 @@
 ghost use Rattle.std.specs.Prelude.{◌≡◌, ◌+◌, ◌^◌, ◌<◌, Err, OnOk, OnErr};
 ghost use Rattle.std.specs.Io.KnownBytes.{Appends};
 ghost use Rattle.std.specs.Option.{option_copied};
-ghost use Rattle.runs.specs.Run.{exit_status, run_view, output_file, output_run, refusal, shown_name, DeliversPrefix};
+ghost use Rattle.runs.specs.Prelude.{exit_status, run_view, output_file, output_run, refusal, shown_name, DeliversPrefix};
 
 use crate::device::{ByteOut, put_all};
 use crate::tool_fault::ToolFault;

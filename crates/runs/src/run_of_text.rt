@@ -1,9 +1,8 @@
 //! The runs of tools that read PO texts and write one.
 ghost use Rattle.std.specs.Prelude.{◌≡◌, ◌≢◌, IfOk, List};
-ghost use Rattle.po_entry.specs.TextEntry.{TextEntry};
-ghost use Rattle.runs.specs.FaultText.{text_line};
-ghost use Rattle.runs.specs.Run.{refusal, run_view, written_run};
-ghost use Rattle.po_writer.specs.WrittenText.{written_text};
+ghost use Rattle.po_entry.specs.Prelude.{TextEntry};
+ghost use Rattle.runs.specs.Prelude.{text_line, refusal, run_view, written_run};
+ghost use Rattle.po_writer.specs.Prelude.{written_text};
 
 use crate::fault_text::{push_po_text, reported};
 use crate::run::{Run, written};

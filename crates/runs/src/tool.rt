@@ -1,6 +1,6 @@
 //! A tool, and its name.
 ghost use Rattle.std.specs.Prelude.{◌≡◌, ◌≢◌, MatchOption};
-ghost use Rattle.runs.specs.Tools.{tool_name};
+ghost use Rattle.runs.specs.Prelude.{tool_name};
 ghost use Rattle.runs.specs.declared.tool.Tool.{Tool as ATool};
 
 /// A tool of the program.

@@ -1,8 +1,7 @@
 //! Reading a whole input.
 ghost use Rattle.std.specs.Prelude.{◌≡◌, ◌≢◌, ◌+◌, ◌-◌, ◌^◌, ◌<◌, ◌≤◌, [], take, drop, vec_len, IfOk, OnOk, IfSome, IsErrOf, Err};
 ghost use Rattle.std.specs.Io.KnownBytes.{Consumes, IsAtEnd};
-ghost use Rattle.runs.specs.Device.{failure_of_read};
-ghost use Rattle.runs.specs.Limits.{call_limit, input_limit};
+ghost use Rattle.runs.specs.Prelude.{failure_of_read, call_limit, input_limit};
 
 use crate::device::ByteIn;
 use crate::inputs::InputFault;

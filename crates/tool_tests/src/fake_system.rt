@@ -1,8 +1,8 @@
 //! A system in memory: inputs that fail at a call, a file, and standard streams that fail at a
 //! call.
 ghost use Rattle.std.specs.Prelude.{◌≡◌, ◌∷◌, [], None};
-ghost use Rattle.runs.specs.Device.{counted_failures};
-ghost use Rattle.runs.specs.OutputFiles.{closes, logged};
+ghost use Rattle.runs.specs.Prelude.{counted_failures, logged};
+ghost use Rattle.runs.specs.OutputFiles.{closes};
 
 use po_shell::{Counted, Failing};
 use po_tools::{

@@ -1,11 +1,11 @@
 -- Internal: a file is opened after others.
 use Rattle.std.specs.Prelude.{◌≡◌, ◌++◌, ◌∷◌, [], ℕ, List}
 use Rattle.mo_file.specs.declared.byte_order.Order.{Order}
-use Rattle.mo_file.specs.MoFile.{IsMoFile}
-use Rattle.mo_lookup.specs.CatalogView.{CatalogView, IsCatalogView}
+use Rattle.mo_file.specs.Prelude.{IsMoFile}
+use Rattle.mo_lookup.specs.Prelude.{CatalogView, IsCatalogView}
 use Rattle.gettext.specs.declared.plan.Opened.{Opened}
 use Rattle.gettext.specs.Gettext.{Opens}
-use Rattle.runs.specs.Inputs.{NamedFile}
+use Rattle.runs.specs.Prelude.{NamedFile}
 
 -- the catalogue of these bytes joins others
 pub record Joins (bytes : List ℕ) (old new : List CatalogView) : Type 0 where

@@ -3,7 +3,7 @@ use Rattle.std.specs.Prelude.{◌≡◌, ℕ, ◌+◌, ◌<◌, ◌≤◌, List,
 use Rattle.std.specs.List.{slice_range}
 use Rattle.mo_expand.specs.declared.joining.Segment.{Segment}
 use Rattle.mo_expand.specs.declared.joining.Segment.TheVariants.{Last, Before}
-use Rattle.mo_file.specs.Message.{Message}
+use Rattle.mo_file.specs.Prelude.{Message}
 use Rattle.mo_expand.specs.Expanding.{IsExpanded}
 use Rattle.mo_expand.specs.Segments.{join}
 use Rattle.mo_expand.specs.declared.joining.Missing.{Missing}

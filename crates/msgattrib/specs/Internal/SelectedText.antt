@@ -2,16 +2,11 @@
 use Rattle.std.specs.Prelude.{◌≡◌, ◌⊎◌, ◌&&◌, ◌||◌, ℕ, Bool, List, ◌++◌, filter, map, not}
 use Rattle.po_syntax.specs.declared.fault.PoError.{PoError}
 use Rattle.po_syntax.specs.declared.fault.PoFault.TheVariants.{Duplicate, OutOfMemory}
-use Rattle.po_entry.specs.ReadsText.{ReadsText}
-use Rattle.po_entry.specs.TextEntry.{TextEntry}
-use Rattle.po_entry.specs.Duplicate.{HasNoDuplicate, IsFirstDuplicate, IsTextFault}
-use Rattle.po_entry.specs.Joined.{InputEntry, in_input, is_live}
+use Rattle.po_entry.specs.Prelude.{ReadsText, TextEntry, HasNoDuplicate, IsFirstDuplicate, IsTextFault, InputEntry, in_input, is_live, entry_message, message_hash}
 use Rattle.msgattrib.specs.declared.selection.Selection.{Selection}
 use Rattle.msgattrib.specs.Selected.{is_kept, obsolete_after, selected}
-use Rattle.po_writer.specs.TextParts.{AreParts}
-use Rattle.po_writer.specs.WrittenText.{written_text}
+use Rattle.po_writer.specs.Prelude.{AreParts, written_text}
 use Rattle.po_writer.specs.declared.parts.TextParts.{TextParts}
-use Rattle.po_entry.specs.Message.{entry_message, message_hash}
 
 -- the entry is kept, and live once it is changed
 abbrev pub stays_live : Selection → TextEntry → Bool

@@ -1,6 +1,6 @@
 -- Internal: an entry that has its comments alone.
 use Rattle.std.specs.Prelude.{[], None, false}
-use Rattle.po_entry.specs.TextEntry.{TextEntry, no_previous}
+use Rattle.po_entry.specs.Prelude.{TextEntry, no_previous}
 
 -- the entry's comments, references and flags, without its texts
 abbrev pub comments_alone : TextEntry → TextEntry

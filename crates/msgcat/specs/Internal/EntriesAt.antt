@@ -1,6 +1,6 @@
 -- Internal: the entries of inputs, by their indexes among those of all inputs.
 use Rattle.std.specs.Prelude.{ℕ, List, [], None, get_or, map}
-use Rattle.po_entry.specs.TextEntry.{plain_entry}
+use Rattle.po_entry.specs.Prelude.{plain_entry}
 use Rattle.msgcat.specs.Inputs.{Named, NamedEntry, all_entries, named}
 
 abbrev pub no_entry : NamedEntry

@@ -1,7 +1,6 @@
 -- Internal: the parts that a merged entry takes from the first definition that has them.
 use Rattle.std.specs.Prelude.{Bool}
-use Rattle.po_entry.specs.TextEntry.{TextEntry}
-use Rattle.po_entry.specs.Statistics.{has_translation}
+use Rattle.po_entry.specs.Prelude.{TextEntry, has_translation}
 use Rattle.msgcat.specs.declared.definition.Part.{Part}
 use Rattle.msgcat.specs.declared.definition.Part.TheVariants.{Translation, Previous, Plural}
 use Rattle.msgcat.specs.Merged.{has_previous, has_plural}

@@ -2,7 +2,7 @@
 use Rattle.std.specs.Prelude.{ℕ, max, List, [], ◌∷◌, fold, length, map, slice_get}
 use Rattle.std.specs.List.{flat_map, range_with_len}
 use Rattle.std.specs.Option.{option_map_or}
-use Rattle.po_entry.specs.Rows.{forms_left}
+use Rattle.po_entry.specs.Prelude.{forms_left}
 use Rattle.msgcat.specs.declared.joined_translations.FormsLeft.{FormsLeft}
 use Rattle.msgcat.specs.Inputs.{NamedEntry}
 use Rattle.msgcat.specs.Merged.{marked}

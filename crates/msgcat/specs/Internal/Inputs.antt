@@ -1,19 +1,14 @@
 -- Inputs that are read piece by piece. Internal to this crate.
 use Rattle.std.specs.Prelude.{◌≡◌, ℕ, All, List, [], ◌∷◌, ◌++◌, MatchOption}
 use Rattle.std.specs.List.{AllZip}
-use Rattle.po_entry.specs.ReadsText.{ReadsText}
-use Rattle.po_entry.specs.Faults.{IsReadFault}
-use Rattle.po_entry.specs.TextEntry.{TextEntry}
-use Rattle.po_entry.specs.Duplicate.{HasNoDuplicate, Repeats, are_placed}
-use Rattle.po_entry.specs.Message.{group_numbers, entry_messages, same_message}
-use Rattle.po_entry.specs.Joined.{is_live}
+use Rattle.po_entry.specs.Prelude.{ReadsText, IsReadFault, TextEntry, HasNoDuplicate, Repeats, are_placed, group_numbers, entry_messages, same_message, is_live}
 use Rattle.msgcat.specs.Inputs.{Named, all_entries}
 use Rattle.po_entry.specs.declared.repeats.EntryPlace.{EntryPlace}
 use Rattle.msgcat.specs.MergeInputs.{AreReadInputs, IsReadInput, unnamed}
 use Rattle.msgcat.specs.declared.input.ReadInput.{ReadInput}
 use Rattle.msgcat.specs.declared.inputs.FileFault.{FileFault}
 use Rattle.msgcat.specs.declared.inputs.ReadInputs.{ReadInputs}
-use Rattle.runs.specs.Inputs.{NamedFile}
+use Rattle.runs.specs.Prelude.{NamedFile}
 
 -- the entries of these inputs, and then those of a part of another
 abbrev pub with_part : List Named → List TextEntry → List TextEntry

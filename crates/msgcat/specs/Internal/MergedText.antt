@@ -1,8 +1,7 @@
 -- What inputs are merged to, by the entries in their store. Internal to this crate.
 use Rattle.std.specs.Prelude.{◌≡◌, ℕ, Bool, All, List, filter, fold, not, if◌then◌else◌}
-use Rattle.po_entry.specs.Header.{HasAdmittedCharset}
-use Rattle.po_entry.specs.TextEntry.{TextEntry}
-use Rattle.po_writer.specs.WrittenText.{with_entry, written_text}
+use Rattle.po_entry.specs.Prelude.{HasAdmittedCharset, TextEntry}
+use Rattle.po_writer.specs.Prelude.{with_entry, written_text}
 
 -- the entry is of this part: that of the obsolete entries, or that of the live ones
 abbrev pub is_of_part : Bool → TextEntry → Bool

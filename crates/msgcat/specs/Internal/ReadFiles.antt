@@ -1,12 +1,12 @@
 -- Files that are read as inputs, or not. Internal to this crate.
 use Rattle.std.specs.Prelude.{◌≡◌, ◌⊎◌, List, MatchResult, Result}
-use Rattle.po_entry.specs.Validity.{out_of_memory}
+use Rattle.po_entry.specs.Prelude.{out_of_memory}
 use Rattle.msgcat.specs.Inputs.{Named}
 use Rattle.msgcat.specs.MergeInputs.{HoldInputs}
 use Rattle.msgcat.specs.declared.inputs.FileFault.{FileFault}
 use Rattle.msgcat.specs.declared.merge_inputs.MergeInputs.{MergeInputs}
 use Rattle.msgcat.specs.Msgcat.{AreReadAs, IsFileFault}
-use Rattle.runs.specs.Inputs.{NamedFile}
+use Rattle.runs.specs.Prelude.{NamedFile}
 
 -- the entries of all files, or why one isn't read
 abbrev pub IsReadingOf : List NamedFile → Result MergeInputs FileFault → Type 0

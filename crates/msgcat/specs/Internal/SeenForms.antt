@@ -5,7 +5,7 @@ use Rattle.std.specs.Ordering.{nat_cmp}
 use Rattle.std.specs.Cmp.Lexicographic.{slice_cmp}
 use Rattle.std.specs.Borrow.{Bor}
 use Rattle.std.specs.BTreeSet.{BTreeSet, contains}
-use Rattle.po_entry.specs.Rows.{translation_bytes}
+use Rattle.po_entry.specs.Prelude.{translation_bytes}
 use Rattle.msgcat.specs.Inputs.{NamedEntry}
 
 -- the set has just the translations of these definitions

@@ -1,11 +1,10 @@
 -- What is gathered of inputs before they are compiled.
 use Rattle.std.specs.Prelude.{◌≡◌, Bool, List, ℕ, MatchResult}
-use Rattle.po_compile.specs.Accepted.{IsReadingFault}
-use Rattle.po_compile.specs.Collected.{LiveMessage, AreCollected}
-use Rattle.po_entry.specs.TextEntry.{slice_texts}
+use Rattle.po_compile.specs.Prelude.{IsReadingFault, LiveMessage, AreCollected}
+use Rattle.po_entry.specs.Prelude.{slice_texts}
 use Rattle.msgfmt.specs.declared.plan.Gathered.{Gathered}
 use Rattle.msgfmt.specs.Msgfmt.{input_names, input_texts}
-use Rattle.runs.specs.Inputs.{NamedFile}
+use Rattle.runs.specs.Prelude.{NamedFile}
 
 -- these are the names of the inputs, and the live entries of their texts
 pub record HoldInputs (use_fuzzy : Bool) (inputs : List NamedFile) (names : List (List ℕ))

@@ -1,13 +1,10 @@
 -- Internal to this crate: the entry of a message, as it is laid out and appended to a text.
 use Rattle.std.specs.Prelude.{◌≡◌, ◌↔◌, ℕ, Bool, false, true, All, List, [], ◌∷◌, ◌++◌, Some, slice_get}
-use Rattle.mo_file.specs.Message.{Message}
-use Rattle.po_entry.specs.TextEntry.{TextEntry}
-use Rattle.po_entry.specs.Header.{HasAdmittedCharset}
-use Rattle.po_entry.specs.Rows.{LiesIn, entry_at}
-use Rattle.po_entry.specs.Validity.{HasTexts, IsEntry}
+use Rattle.mo_file.specs.Prelude.{Message}
+use Rattle.po_entry.specs.Prelude.{TextEntry, HasAdmittedCharset, LiesIn, entry_at, HasTexts, IsEntry}
 use Rattle.po_entry.specs.declared.drafts.Drafts.{Drafts}
 use Rattle.po_entry.specs.declared.row.Row.{Row}
-use Rattle.po_writer.specs.WrittenText.{written_text}
+use Rattle.po_writer.specs.Prelude.{written_text}
 use Rattle.msgunfmt.specs.Unformatted.{entry_of_message, unformatted}
 
 -- the drafts are the entry of this message alone

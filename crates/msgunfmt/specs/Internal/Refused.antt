@@ -1,10 +1,9 @@
 -- Internal to this crate: faults while the messages of a file are taken one after another.
 use Rattle.std.specs.Prelude.{◌≡◌, ℕ, List, Some, slice_get}
-use Rattle.mo_file.specs.Message.{Message}
+use Rattle.mo_file.specs.Prelude.{Message}
 use Rattle.po_syntax.specs.declared.fault.PoFault.{PoFault}
 use Rattle.po_syntax.specs.declared.fault.PoFault.TheVariants.{NotUtf8 as BadText, ForbiddenByte as BadByte}
-use Rattle.po_entry.specs.TextEntry.{TextEntry}
-use Rattle.po_entry.specs.Validity.{EntryTextFault}
+use Rattle.po_entry.specs.Prelude.{TextEntry, EntryTextFault}
 use Rattle.msgunfmt.specs.declared.fault.UnformatError.{UnformatError}
 use Rattle.msgunfmt.specs.declared.fault.UnformatError.TheVariants.{Mo, NotUtf8, ForbiddenByte, ForeignCharset, OutOfMemory}
 use Rattle.msgunfmt.specs.Unformatted.{unformatted, HasFirstEntryTextFault, HasForeignCharset}

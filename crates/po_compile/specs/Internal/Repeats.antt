@@ -1,6 +1,6 @@
 -- Messages that repeat earlier ones (manual, "The Format of PO Files").
 use Rattle.std.specs.Prelude.{◌≡◌, ◌⊎◌, ◌<◌, ℕ, List, [], All, map, length, take, get_or}
-use Rattle.po_entry.specs.Duplicate.{join_out_of_memory, IsFirstRepeat}
+use Rattle.po_entry.specs.Prelude.{join_out_of_memory, IsFirstRepeat}
 use Rattle.po_entry.specs.declared.duplicate.JoinError.{JoinError}
 use Rattle.po_syntax.specs.declared.fault.PoFault.TheVariants.{Duplicate}
 use Rattle.po_compile.specs.Accepted.{fault_of_input}

@@ -4,9 +4,8 @@ use Rattle.std.specs.Prelude.{ℕ, ◌+◌, ◌≤◌, ◌==◌, Bool, false, no
 use Rattle.std.specs.List.{list_any}
 use Rattle.std.specs.List.Sorted.{IsSortedBy}
 use Rattle.std.specs.Ordering.{is_lt}
-use Rattle.mo_file.specs.Key.{AreRising, key_cmp, query_key}
-use Rattle.mo_file.specs.Message.{Message}
-use Rattle.po_entry.specs.Joined.{InputEntry}
+use Rattle.mo_file.specs.Prelude.{AreRising, key_cmp, query_key, Message}
+use Rattle.po_entry.specs.Prelude.{InputEntry}
 use Rattle.po_entry.specs.declared.stats.Stats.{Stats}
 use Rattle.po_compile.specs.Collected.{LiveMessage, live_message, CompiledView}
 use Rattle.po_compile.specs.Compiled.{message_of}

@@ -1,11 +1,9 @@
 -- Internal to this crate: what stays while the pieces of a text are read.
 use Rattle.std.specs.Prelude.{◌≡◌, ℕ, Bool, List, ◌++◌, map}
 use Rattle.po_syntax.specs.declared.fault.PoFault.{PoFault}
-use Rattle.po_syntax.specs.Pieces.{LinesLeft, SpellsLeft, LeftStops}
-use Rattle.po_syntax.specs.TextItem.{TextItem}
-use Rattle.po_entry.specs.TextEntry.{TextEntry}
+use Rattle.po_syntax.specs.Prelude.{LinesLeft, SpellsLeft, LeftStops, TextItem}
+use Rattle.po_entry.specs.Prelude.{TextEntry, ReadsItems}
 use Rattle.po_reader.specs.PieceRead.{kept_entry, ReadsOn}
-use Rattle.po_entry.specs.ReadsText.{ReadsItems}
 
 -- if the lines left in `new` spell some items, the lines left in `old` spell `items` and then those
 abbrev pub SpellsOn : LinesLeft → LinesLeft → List TextItem → Type 0

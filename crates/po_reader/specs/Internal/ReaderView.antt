@@ -3,10 +3,8 @@ use Rattle.std.specs.Prelude.{◌≡◌, ℕ, Bool, false, List, [], ◌∷◌, 
 use Rattle.po_reader.specs.declared.head.Head.{Head}
 use Rattle.po_entry.specs.declared.drafts.Drafts.{Drafts}
 use Rattle.po_entry.specs.declared.row.Row.{Row}
-use Rattle.po_entry.specs.Rows.{Adds, row_of}
+use Rattle.po_entry.specs.Prelude.{Adds, row_of, TextEntry, slice_texts, CommentText, PreviousText, flags_of, fuzzy_of, previous_of, references_of, texts_of}
 use Rattle.po_reader.specs.PieceRead.{kept_texts}
-use Rattle.po_entry.specs.TextEntry.{TextEntry, slice_texts}
-use Rattle.po_entry.specs.Comments.{CommentText, PreviousText, flags_of, fuzzy_of, previous_of, references_of, texts_of}
 use Rattle.po_syntax.specs.declared.item.CommentKind.TheVariants.{Translator, Extracted, Flags}
 use Rattle.po_reader.specs.declared.body.Wanted.{Wanted}
 use Rattle.po_reader.specs.declared.body.Wanted.TheVariants as code

@@ -1,10 +1,7 @@
 -- Which entries the reader finds.
 use Rattle.std.specs.Prelude.{◌≡◌, ◌⊎◌, ℕ, All, List, [], ◌∷◌}
-use Rattle.po_syntax.specs.TextItem.{TextItem, line_of}
-use Rattle.po_entry.specs.TextEntry.{TextEntry}
-use Rattle.po_entry.specs.Faults.{CharsetFault, EntriesStop, last_line}
-use Rattle.po_entry.specs.Header.{HasAdmittedCharset}
-use Rattle.po_entry.specs.Validity.{EntryTextFault, HasTexts}
+use Rattle.po_syntax.specs.Prelude.{TextItem, line_of}
+use Rattle.po_entry.specs.Prelude.{TextEntry, CharsetFault, EntriesStop, last_line, HasAdmittedCharset, EntryTextFault, HasTexts}
 use Rattle.po_reader.specs.Internal.Stage.{Stage, Between, InHead, Outcome, Entries, Fault, only}
 use Rattle.po_syntax.specs.declared.fault.PoError.{PoError}
 use Rattle.po_syntax.specs.declared.fault.PoFault.{PoFault}

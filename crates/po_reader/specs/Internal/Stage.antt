@@ -4,9 +4,7 @@ use Rattle.po_syntax.specs.declared.fault.PoFault.{PoFault}
 use Rattle.po_syntax.specs.declared.item.Keyword.{Keyword}
 use Rattle.po_syntax.specs.declared.item.Keyword.TheVariants.{MsgCtxt, MsgId, MsgIdPlural, MsgStr, MsgStrAt}
 use Rattle.po_syntax.specs.declared.item.Marks.{Marks}
-use Rattle.po_entry.specs.TextEntry.{TextEntry, plain_entry}
-use Rattle.po_entry.specs.Comments.{CommentText, PreviousText}
-use Rattle.po_entry.specs.Spelling.{with_head}
+use Rattle.po_entry.specs.Prelude.{TextEntry, plain_entry, CommentText, PreviousText, with_head}
 
 -- what was read: whole entries, and of the next one its comments, its previous texts and its own lines
 pub record SoFar : Type 0 where

@@ -1,6 +1,6 @@
 use Rattle.std.proofs.Common.{map, take}
 use Rattle.command_line.specs.Internal.Kind.{argument_of}
-use Rattle.command_line.specs.Offering.{AddsArguments}
+use Rattle.command_line.specs.Prelude.{AddsArguments}
 use Rattle.command_line.proofs.commands.command_of.Given as goal
 
 abbrev pub invariant-loop-argument : goal.invariant-loop-argument

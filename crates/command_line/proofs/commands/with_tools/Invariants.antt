@@ -1,5 +1,5 @@
 use Rattle.std.proofs.Common.{take}
-use Rattle.command_line.specs.Offering.{OffersTools}
+use Rattle.command_line.specs.Prelude.{OffersTools}
 use Rattle.command_line.proofs.commands.with_tools.Given as goal
 
 abbrev pub invariant-loop-tool : goal.invariant-loop-tool

@@ -1,7 +1,6 @@
 use Rattle.std.proofs.Common.{◌≡◌, ◌++◌, ◌∙◌, ap, string_bytes}
 use Rattle.std.specs.Option.{option_copied}
-use Rattle.command_line.specs.OwnTip.{own_tip}
-use Rattle.command_line.specs.Reworded.{reworded_line}
+use Rattle.command_line.specs.Prelude.{own_tip, reworded_line}
 use Rattle.command_line.proofs.LineSteps.{appended, step}
 use Rattle.command_line.proofs.usage.reworded.Goals as goal
 

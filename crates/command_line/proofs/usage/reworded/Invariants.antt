@@ -1,8 +1,7 @@
 use Rattle.std.proofs.Common.{◌≡◌, ◌++◌, option_map, string_bytes}
 use Rattle.std.specs.List.{flat_map}
 use Rattle.std.specs.Str.Iter.{split_inclusive_pattern, split_inclusive_text}
-use Rattle.command_line.specs.OwnTip.{own_tip}
-use Rattle.command_line.specs.Reworded.{lines_with_ends, reworded_line}
+use Rattle.command_line.specs.Prelude.{own_tip, lines_with_ends, reworded_line}
 use Rattle.command_line.proofs.usage.reworded.Given as goal
 
 abbrev pub invariant-loop-line : goal.invariant-loop-line

@@ -1,5 +1,5 @@
 use Rattle.std.proofs.Common.{get_or, ◌++◌, drop, sym, ap, ◌∙◌, arith}
-use Rattle.envsubst.specs.PendingReference.{is_undecided}
+use Rattle.envsubst.specs.Prelude.{is_undecided}
 use Rattle.runs.proofs.DeviceLemmas.{on-err}
 use Rattle.envsubst.proofs.ReferenceLemmas.{nothing-undecided, undecided-room}
 use Rattle.envsubst.proofs.StreamLemmas.{Stops-out, Stops-seen, first-taken}

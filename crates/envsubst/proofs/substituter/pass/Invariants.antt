@@ -1,7 +1,6 @@
 use Rattle.std.proofs.Common.{◌≡◌, ◌≤◌, ◌+◌, ◌-◌, ◌*◌, ◌++◌, min, true, length, drop}
-use Rattle.envsubst.specs.PendingReference.{is_undecided}
+use Rattle.envsubst.specs.Prelude.{is_undecided, Advances}
 use Rattle.envsubst.specs.Internal.Sorted.{values_of_replacements}
-use Rattle.envsubst.specs.Stream.{Advances}
 use Rattle.envsubst.proofs.substituter.pass.Given as goal
 
 abbrev pub invariant-loop-at : goal.invariant-loop-at

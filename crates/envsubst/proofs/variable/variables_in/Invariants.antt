@@ -1,6 +1,5 @@
 use Rattle.std.proofs.Common.{◌≡◌, map, take}
-use Rattle.envsubst.specs.Substitution.{pairs_in}
-use Rattle.envsubst.specs.Variables.{variables_of}
+use Rattle.envsubst.specs.Prelude.{pairs_in, variables_of}
 use Rattle.envsubst.proofs.variable.variables_in.Given as goal
 
 abbrev pub invariant-loop-entry : goal.invariant-loop-entry

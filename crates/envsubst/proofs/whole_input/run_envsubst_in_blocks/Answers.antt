@@ -1,7 +1,6 @@
 use Rattle.std.proofs.Common.{subst, ap, ◌∙◌}
 use Rattle.std.proofs.lemmas.Result.{err_from_is_err_and}
-use Rattle.envsubst.specs.Envsubst.{EndsAs}
-use Rattle.envsubst.specs.Substitution.{value_of, is_replaced, names_given, pairs_in}
+use Rattle.envsubst.specs.Prelude.{EndsAs, value_of, is_replaced, names_given, pairs_in}
 use Rattle.envsubst.proofs.EnvsubstLemmas.{stops-unread}
 use Rattle.envsubst.proofs.SortedLemmas.{given-names, same-replacements}
 use Rattle.envsubst.proofs.whole_input.run_envsubst_in_blocks.Goals as goal

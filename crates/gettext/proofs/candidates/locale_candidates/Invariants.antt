@@ -1,7 +1,6 @@
 use Rattle.std.proofs.Common.{◌≡◌, ◌++◌, [], map, length, unwrap_or}
-use Rattle.locale_names.specs.Candidate.{names_from}
-use Rattle.locale_names.specs.Names.{candidates}
-use Rattle.gettext.specs.Locales.{locale_of, non_empty}
+use Rattle.locale_names.specs.Prelude.{names_from, candidates}
+use Rattle.gettext.specs.Prelude.{locale_of, non_empty}
 use Rattle.gettext.proofs.candidates.locale_candidates.Given as goal
 
 -- the names so far, and those that are still to be given

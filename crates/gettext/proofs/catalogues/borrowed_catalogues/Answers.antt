@@ -1,7 +1,7 @@
 use Rattle.std.proofs.Common.{◌∙◌, ap, sym, take}
 use Rattle.std.proofs.lemmas.List.{take-map, take_all}
-use Rattle.gettext.specs.Catalogues.{catalogue_files}
-use Rattle.runs.specs.Inputs.{named_file, named_files}
+use Rattle.gettext.specs.Prelude.{catalogue_files}
+use Rattle.runs.specs.Prelude.{named_file, named_files}
 use Rattle.gettext.proofs.catalogues.borrowed_catalogues.Goals as goal
 
 pub returns-clause-borrowed : goal.returns-clause-borrowed

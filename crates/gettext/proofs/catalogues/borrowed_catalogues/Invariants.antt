@@ -1,6 +1,6 @@
 use Rattle.std.proofs.Common.{◌≡◌, take}
-use Rattle.gettext.specs.Catalogues.{catalogue_files}
-use Rattle.runs.specs.Inputs.{named_files}
+use Rattle.gettext.specs.Prelude.{catalogue_files}
+use Rattle.runs.specs.Prelude.{named_files}
 use Rattle.gettext.proofs.catalogues.borrowed_catalogues.Given as goal
 
 abbrev pub invariant-loop-catalogue : goal.invariant-loop-catalogue

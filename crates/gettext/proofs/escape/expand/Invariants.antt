@@ -1,5 +1,5 @@
 use Rattle.std.proofs.Common.{◌≡◌, ◌||◌, ◌++◌, length}
-use Rattle.gettext.specs.Escapes.{expansion, has_no_newline}
+use Rattle.gettext.specs.Prelude.{expansion, has_no_newline}
 use Rattle.gettext.proofs.escape.expand.Given as goal
 
 abbrev pub invariant-loop-bytes : goal.invariant-loop-bytes

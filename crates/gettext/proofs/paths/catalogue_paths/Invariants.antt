@@ -1,5 +1,5 @@
 use Rattle.std.proofs.Common.{◌≡◌, ◌++◌, map, drop}
-use Rattle.gettext.specs.Paths.{path_of}
+use Rattle.gettext.specs.Prelude.{path_of}
 use Rattle.gettext.proofs.paths.catalogue_paths.Given as goal
 
 abbrev pub invariant-loop-locale : goal.invariant-loop-locale

@@ -1,6 +1,6 @@
 use Rattle.std.proofs.Common.{[], ◌∷◌, sym, ◌∙◌, append-nil, append_assoc}
 use Rattle.gettext.specs.Gettext.{opened, refused}
-use Rattle.runs.specs.FaultText.{fault_line, mo_text}
+use Rattle.runs.specs.Prelude.{fault_line, mo_text}
 use Rattle.gettext.proofs.plan.open_file.Goals as goal
 
 pub returns-in-None : goal.returns-in-None

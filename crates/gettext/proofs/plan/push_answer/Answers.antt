@@ -1,5 +1,5 @@
 use Rattle.std.proofs.Common.{◌≡◌, ap, rules, ◌∙◌}
-use Rattle.gettext.specs.Escapes.{expansion}
+use Rattle.gettext.specs.Prelude.{expansion}
 use Rattle.gettext.proofs.plan.push_answer.Goals as goal
 
 pub returns-clause-answer : goal.returns-clause-answer

@@ -1,5 +1,4 @@
-use Rattle.gettext.specs.Gettext.{omits_newline, argument_answer}
-use Rattle.gettext.specs.GettextView.{gettext_view}
+use Rattle.gettext.specs.Prelude.{omits_newline, argument_answer, gettext_view}
 use Rattle.gettext.proofs.GettextLemmas.{answers-reported, omitted-reported}
 use Rattle.gettext.proofs.plan.push_answers.Goals as goal
 

@@ -1,7 +1,6 @@
 use Rattle.std.proofs.Common.{◌≡◌, ◌++◌, ◌||◌, drop, map}
 use Rattle.std.specs.List.{list_any}
-use Rattle.gettext.specs.Gettext.{omits_newline, argument_answer}
-use Rattle.gettext.specs.GettextView.{gettext_view}
+use Rattle.gettext.specs.Prelude.{omits_newline, argument_answer, gettext_view}
 use Rattle.gettext.proofs.GettextLemmas.{further}
 use Rattle.gettext.proofs.plan.push_answers.Given as goal
 

@@ -1,11 +1,9 @@
 use Rattle.std.proofs.Common.{ℕ, List, [], Result, option_map, codes, refl, ap, ◌∙◌}
 use Rattle.std.specs.String.{string_bytes}
-use Rattle.runs.specs.Run.{RunView}
+use Rattle.runs.specs.Prelude.{RunView}
 use Rattle.runs.specs.declared.program_fault.ProgramFault.{ProgramFault}
-use Rattle.known_runs.specs.Msgfmt.{EndsThroughLinks}
-use Rattle.known_system.specs.Contents.{contents}
-use Rattle.known_system.specs.Stored.{links_by_path}
-use Rattle.known_system.specs.Source.{bytes_of, reading_of, texts_by_name}
+use Rattle.known_runs.specs.Prelude.{EndsThroughLinks}
+use Rattle.known_system.specs.Prelude.{contents, links_by_path, bytes_of, reading_of, texts_by_name}
 use Rattle.known_runs.proofs.AllCommands.{arrives, held_at, holds_after, holds_before, holds_now, unstarted_ends}
 use Rattle.known_runs.proofs.ThroughLinks.{through_links, unstarted_so}
 use Rattle.known_runs.proofs.commands.msgfmt_through_links_in_memory.Goals as goal

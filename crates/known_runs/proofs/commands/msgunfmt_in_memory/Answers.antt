@@ -1,11 +1,11 @@
 use Rattle.std.proofs.Common.{ℕ, List, [], Result, option_map, codes, refl, ap, ◌∙◌, inl}
 use Rattle.std.specs.String.{string_bytes}
-use Rattle.runs.specs.Run.{RunView}
+use Rattle.runs.specs.Prelude.{RunView}
 use Rattle.runs.specs.declared.program_fault.ProgramFault.{ProgramFault}
-use Rattle.msgunfmt.specs.Msgunfmt.{IsMsgunfmtRun, IsMsgunfmtRunOf}
-use Rattle.known_runs.specs.Ends.{EndsInFile, failed}
-use Rattle.known_system.specs.Contents.{contents}
-use Rattle.known_system.specs.Source.{bytes_of, reading_of, texts_by_name}
+use Rattle.msgunfmt.specs.Prelude.{IsMsgunfmtRun, IsMsgunfmtRunOf}
+use Rattle.known_runs.specs.Prelude.{EndsInFile}
+use Rattle.known_runs.specs.Ends.{failed}
+use Rattle.known_system.specs.Prelude.{contents, bytes_of, reading_of, texts_by_name}
 use Rattle.known_runs.proofs.AllCommands.{arrives, held_at, holds_after, holds_before, holds_now, unstarted_ends}
 use Rattle.known_runs.proofs.Selections.{line_ends}
 use Rattle.known_runs.proofs.commands.msgunfmt_in_memory.Goals as goal

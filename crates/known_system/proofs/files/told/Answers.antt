@@ -1,6 +1,7 @@
 use Rattle.std.proofs.Common.{List, [], ◌∷◌, ◌++◌, ap, ◌∙◌}
-use Rattle.runs.specs.OutputFiles.{FileCall, numbers}
-use Rattle.known_system.specs.Replay.{nothing, replay}
+use Rattle.runs.specs.Prelude.{FileCall}
+use Rattle.runs.specs.OutputFiles.{numbers}
+use Rattle.known_system.specs.Prelude.{nothing, replay}
 use Rattle.known_system.proofs.Tellings.{told_all}
 use Rattle.known_system.proofs.files.told.Goals as goal
 

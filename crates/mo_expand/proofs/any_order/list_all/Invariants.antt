@@ -1,6 +1,5 @@
 use Rattle.std.proofs.Common.{◌≡◌, take}
-use Rattle.mo_file.specs.Pairs.{messages_of_borrowed}
-use Rattle.mo_file.specs.StringTable.{messages_of}
+use Rattle.mo_file.specs.Prelude.{messages_of_borrowed, messages_of}
 use Rattle.mo_expand.proofs.any_order.list_all.Given as goal
 
 abbrev pub invariant-loop-i : goal.invariant-loop-i

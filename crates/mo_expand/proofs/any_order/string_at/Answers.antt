@@ -1,5 +1,5 @@
 use Rattle.std.proofs.Common.{refl}
-use Rattle.mo_file.specs.StringTable.{string_at}
+use Rattle.mo_file.specs.Prelude.{string_at}
 use Rattle.mo_expand.proofs.any_order.string_at.Goals as goal
 
 pub returns : goal.returns

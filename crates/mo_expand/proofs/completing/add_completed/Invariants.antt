@@ -1,9 +1,7 @@
 use Rattle.std.proofs.Common.{◌≡◌, ◌+◌, ◌-◌, ◌≤◌, length, map, take}
 use Rattle.std.specs.List.{range_with_len, sum_by}
-use Rattle.mo_file.specs.Key.{AreRising, keys}
-use Rattle.mo_expand.specs.Expanding.{system_count, system_message}
-use Rattle.mo_file.specs.Pairs.{messages_of_borrowed}
-use Rattle.mo_expand.specs.ExpandedFile.{expanded_messages, with_messages, strings_len, system_messages}
+use Rattle.mo_file.specs.Prelude.{AreRising, keys, messages_of_borrowed}
+use Rattle.mo_expand.specs.Prelude.{system_count, system_message, expanded_messages, with_messages, strings_len, system_messages}
 use Rattle.mo_expand.proofs.completing.add_completed.Given as goal
 
 abbrev pub invariant-loop-index : goal.invariant-loop-index

@@ -1,6 +1,5 @@
 use Rattle.std.proofs.Common.{◌≡◌, ◌∙◌, sym, rules}
-use Rattle.mo_expand.specs.Expanding.{message_from, system_message}
-use Rattle.mo_expand.specs.Segments.{text_at}
+use Rattle.mo_expand.specs.Prelude.{message_from, system_message, text_at}
 use Rattle.mo_expand.proofs.JoiningLemmas.{full-there}
 use Rattle.mo_expand.proofs.expanding.expand_in.Goals as goal
 

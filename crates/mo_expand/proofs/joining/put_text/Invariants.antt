@@ -1,5 +1,5 @@
 use Rattle.std.proofs.Common.{◌+◌, ◌-◌, ◌*◌, ◌^◌, ◌≤◌}
-use Rattle.mo_expand.specs.Segments.{joined, text_at}
+use Rattle.mo_expand.specs.Prelude.{joined, text_at}
 use Rattle.mo_expand.specs.Internal.Joining.{IsJoining}
 use Rattle.mo_expand.proofs.joining.put_text.Given as goal
 

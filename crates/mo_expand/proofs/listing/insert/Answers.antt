@@ -1,8 +1,7 @@
 use Rattle.std.proofs.Common.{◌+◌, ◌≤◌, ◌∙◌, ap, take, sym, arith, length-take, rules}
 use Rattle.std.specs.Prelude.{slice_set}
 use Rattle.std.proofs.lemmas.Fn.{always_returns_same}
-use Rattle.mo_file.specs.Key.{key_cmp, key_of}
-use Rattle.mo_file.specs.Pairs.{messages_of_borrowed}
+use Rattle.mo_file.specs.Prelude.{key_cmp, key_of, messages_of_borrowed}
 use Rattle.mo_expand.proofs.ListingLemmas.{inserted}
 use Rattle.mo_expand.proofs.SearchLemmas.{listed-found, listed-place}
 use Rattle.mo_expand.proofs.listing.insert.Goals as goal

@@ -1,7 +1,7 @@
 use Rattle.std.proofs.Common.{rules}
 use Rattle.std.specs.Ordering.{is_lt}
 use Rattle.std.proofs.lemmas.List.Sorted.{answers_always}
-use Rattle.mo_file.specs.Key.{key_cmp}
+use Rattle.mo_file.specs.Prelude.{key_cmp}
 use Rattle.mo_expand.proofs.SortedFileLemmas.{listed_key, rising-answered}
 use Rattle.mo_expand.proofs.sorted_file.are_rising.Goals as goal
 

@@ -1,6 +1,5 @@
 use Rattle.std.proofs.Common.{◌≡◌, ◌+◌}
-use Rattle.mo_file.specs.Key.{key_of}
-use Rattle.mo_file.specs.StringTable.{original_at}
+use Rattle.mo_file.specs.Prelude.{key_of, original_at}
 use Rattle.mo_file.specs.Internal.Checking.{AreRisingBelow}
 use Rattle.mo_file.proofs.checking.check_keys.Given as goal
 

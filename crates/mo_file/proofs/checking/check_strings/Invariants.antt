@@ -1,5 +1,5 @@
 use Rattle.std.proofs.Common.{ℕ, ◌<◌}
-use Rattle.mo_file.specs.Fault.{IsOutside, IsUnterminated}
+use Rattle.mo_file.specs.Prelude.{IsOutside, IsUnterminated}
 use Rattle.mo_file.specs.Internal.Checking.{IsFirstBelow}
 use Rattle.mo_file.proofs.checking.check_strings.Given as goal
 

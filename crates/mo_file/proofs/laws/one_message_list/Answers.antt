@@ -1,5 +1,5 @@
 use Rattle.std.proofs.Common.{sym, ◌∙◌, ap}
-use Rattle.mo_file.specs.StringTable.{messages_of}
+use Rattle.mo_file.specs.Prelude.{messages_of}
 use Rattle.mo_file.proofs.FaultLemmas.{HasMagicOf-unique}
 use Rattle.mo_file.proofs.laws.one_message_list.Goals as goal
 

@@ -1,7 +1,7 @@
 use Rattle.std.proofs.Common.{rules}
 use Rattle.std.specs.Ordering.{is_lt}
 use Rattle.std.proofs.lemmas.List.Sorted.{answers_always}
-use Rattle.mo_file.specs.Key.{key_cmp, key_of}
+use Rattle.mo_file.specs.Prelude.{key_cmp, key_of}
 use Rattle.mo_file.proofs.BuildLemmas.{rising-answered}
 use Rattle.mo_file.proofs.pairs.are_rising.Goals as goal
 

@@ -1,6 +1,5 @@
 use Rattle.std.proofs.Common.{◌≡◌, ◌+◌, ◌++◌, length, map, take, drop}
-use Rattle.mo_file.specs.Layout.{terminated}
-use Rattle.mo_file.specs.Pairs.{strings_of}
+use Rattle.mo_file.specs.Prelude.{terminated, strings_of}
 use Rattle.mo_file.proofs.writing.put_strings.Given as goal
 
 abbrev pub invariant-loop-pair : goal.invariant-loop-pair

@@ -1,6 +1,5 @@
 use Rattle.std.proofs.Common.{◌≡◌, ◌+◌, ◌*◌, ◌++◌, length, map, take, drop}
-use Rattle.mo_file.specs.Layout.{table, terminated}
-use Rattle.mo_file.specs.Pairs.{strings_of}
+use Rattle.mo_file.specs.Prelude.{table, terminated, strings_of}
 use Rattle.mo_file.proofs.writing.put_table.Given as goal
 
 abbrev pub invariant-loop-pair : goal.invariant-loop-pair

@@ -1,5 +1,5 @@
 use Rattle.std.proofs.Common.{◌≡◌, ◌-◌, ◌≤◌, drop, length, slice_get}
-use Rattle.mo_file.specs.MessageParts.{forms}
+use Rattle.mo_file.specs.Prelude.{forms}
 use Rattle.mo_lookup.proofs.forms.form.Given as goal
 
 abbrev pub invariant-loop : goal.invariant-loop

@@ -1,6 +1,6 @@
 use Rattle.std.proofs.Common.{◌≡◌, ℕ, ◌<◌, ◌≤◌, ◌++◌, get_or, length, take}
-use Rattle.po_entry.specs.TextEntry.{TextEntry}
-use Rattle.msgattrib.specs.Selected.{selected}
+use Rattle.po_entry.specs.Prelude.{TextEntry}
+use Rattle.msgattrib.specs.Prelude.{selected}
 use Rattle.msgattrib.specs.Internal.SelectedText.{AddsParts, hashes_of}
 use Rattle.msgattrib.proofs.selected_text.add_entries.Given as goal
 

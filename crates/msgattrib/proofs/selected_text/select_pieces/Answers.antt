@@ -1,10 +1,10 @@
 use Rattle.std.proofs.Common.{◌≡◌, ◌∙◌, true, List, [], ◌++◌, ap, map}
 use Rattle.std.proofs.lemmas.Result.{err_from_is_err_and}
 use Rattle.po_entry.specs.Faults.IsReadFault.{in_text}
-use Rattle.po_entry.specs.TextEntry.{TextEntry}
+use Rattle.po_entry.specs.Prelude.{TextEntry}
 use Rattle.po_reader.proofs.Heads.{all_kept}
 use Rattle.po_reader.proofs.PieceReading.{read_all, read_more, read_none}
-use Rattle.po_reader.specs.PieceRead.{kept_entry}
+use Rattle.po_reader.specs.Prelude.{kept_entry}
 use Rattle.msgattrib.proofs.SelectedLemmas.{piece_selected}
 use Rattle.msgattrib.proofs.selected_text.select_pieces.Goals as goal
 

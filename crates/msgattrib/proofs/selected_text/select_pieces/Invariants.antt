@@ -1,6 +1,6 @@
 use Rattle.std.proofs.Common.{◌≡◌, List, [], length}
-use Rattle.po_entry.specs.TextEntry.{TextEntry}
-use Rattle.po_reader.specs.PieceRead.{IsReadSoFar}
+use Rattle.po_entry.specs.Prelude.{TextEntry}
+use Rattle.po_reader.specs.Prelude.{IsReadSoFar}
 use Rattle.msgattrib.specs.Internal.SelectedText.{AreSelected}
 use Rattle.msgattrib.proofs.selected_text.select_pieces.Given as goal
 

@@ -1,6 +1,5 @@
 use Rattle.std.proofs.Common.{◌≡◌, take}
-use Rattle.msgcat.specs.Inputs.{named_entries}
-use Rattle.msgcat.specs.Merged.{collected, texts_of}
+use Rattle.msgcat.specs.Prelude.{named_entries, collected, texts_of}
 use Rattle.msgcat.specs.Internal.SameTexts.{HaveSameTexts}
 use Rattle.msgcat.proofs.comments.collected.Given as goal
 

@@ -1,5 +1,5 @@
 use Rattle.std.proofs.Common.{◌≡◌, ◌++◌}
-use Rattle.po_entry.specs.TextLists.{texts_left}
+use Rattle.po_entry.specs.Prelude.{texts_left}
 use Rattle.msgcat.proofs.comments.listed.Given as goal
 
 -- the texts so far, and those that are left

@@ -1,8 +1,7 @@
 use Rattle.std.proofs.Common.{◌≡◌, take}
 use Rattle.std.specs.List.{flat_map}
-use Rattle.po_entry.specs.SeenTexts.{digest_of}
-use Rattle.msgcat.specs.Inputs.{named_entries}
-use Rattle.msgcat.specs.Merged.{texts_of}
+use Rattle.po_entry.specs.Prelude.{digest_of}
+use Rattle.msgcat.specs.Prelude.{named_entries, texts_of}
 use Rattle.msgcat.proofs.comments.seeded_by.Given as goal
 
 -- the texts of the definitions so far are digested

@@ -1,5 +1,5 @@
 use Rattle.std.proofs.Common.{◌≡◌, drop, find}
-use Rattle.msgcat.specs.Inputs.{named_entries}
+use Rattle.msgcat.specs.Prelude.{named_entries}
 use Rattle.msgcat.specs.Internal.FirstParts.{has_part}
 use Rattle.msgcat.proofs.definition.first_with.Given as goal
 

@@ -3,7 +3,7 @@ use Rattle.std.specs.List.{list_any}
 use Rattle.std.proofs.lemmas.Fn.{filter_same}
 use Rattle.std.proofs.lemmas.Iterator.{YieldsList-from_slice}
 use Rattle.std.proofs.lemmas.Iterator.Search.{any_from_yields_List}
-use Rattle.po_entry.specs.Joined.{is_live}
+use Rattle.po_entry.specs.Prelude.{is_live}
 use Rattle.msgcat.specs.declared.definition.NamedEntry.{NamedEntry}
 use Rattle.msgcat.proofs.Views.{all_left, live_left}
 use Rattle.msgcat.proofs.definition.keep_definitions.Goals as goal

@@ -1,8 +1,7 @@
 use Rattle.std.proofs.Common.{◌-◌, ◌≤◌, List, length}
-use Rattle.po_entry.specs.TextEntry.{TextEntry}
-use Rattle.msgcat.specs.Inputs.{Named}
+use Rattle.po_entry.specs.Prelude.{TextEntry, AreUpTo}
+use Rattle.msgcat.specs.Prelude.{Named}
 use Rattle.msgcat.specs.Internal.Inputs.{AreNumberedInputs}
-use Rattle.po_entry.specs.Duplicate.{AreUpTo}
 use Rattle.msgcat.proofs.InputLemmas.{AreLeft}
 use Rattle.msgcat.proofs.inputs.check_inputs.Given as goal
 

@@ -1,9 +1,8 @@
 use Rattle.std.proofs.Common.{◌≡◌, List, take}
 use Rattle.std.specs.List.{AllZip}
-use Rattle.msgcat.specs.Inputs.{Named, all_entries}
-use Rattle.msgcat.specs.MergeInputs.{AreReadInputs, unnamed}
+use Rattle.msgcat.specs.Prelude.{Named, all_entries, AreReadInputs, unnamed}
 use Rattle.msgcat.specs.Internal.Inputs.{IsTextOf}
-use Rattle.runs.specs.Inputs.{named_files}
+use Rattle.runs.specs.Prelude.{named_files}
 use Rattle.msgcat.proofs.inputs.read_each.Given as goal
 
 -- the inputs so far are read

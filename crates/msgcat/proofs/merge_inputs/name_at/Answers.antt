@@ -1,5 +1,5 @@
 use Rattle.std.proofs.Common.{◌+◌, ◌<◌, ◌≡◌, arith, length, subst, take}
-use Rattle.msgcat.specs.Inputs.{all_entries}
+use Rattle.msgcat.specs.Prelude.{all_entries}
 use Rattle.msgcat.proofs.ReadInputs.{begins_first, name_found}
 use Rattle.msgcat.proofs.merge_inputs.name_at.Goals as goal
 

@@ -1,6 +1,5 @@
 use Rattle.std.proofs.Common.{◌<◌, ◌≤◌, ◌-◌, List, get_or, length, take}
-use Rattle.msgcat.specs.Inputs.{Named, all_entries}
-use Rattle.msgcat.specs.MergeInputs.{AreReadInputs, no_input}
+use Rattle.msgcat.specs.Prelude.{Named, all_entries, AreReadInputs, no_input}
 use Rattle.msgcat.proofs.merge_inputs.name_at.Given as goal
 
 -- the entry stands in one of these inputs

@@ -1,8 +1,7 @@
 use Rattle.std.proofs.Common.{[], ◌∙◌, ap, subst, sym}
 use Rattle.std.specs.Prelude.{All, IfSome, option_to_list}
 use Rattle.std.proofs.lemmas.List.Elements.{All-cons, All-nil}
-use Rattle.po_entry.specs.Header.{HasAdmittedCharset}
-use Rattle.po_entry.specs.Validity.{IsCatalogueEntry}
+use Rattle.po_entry.specs.Prelude.{HasAdmittedCharset, IsCatalogueEntry}
 use Rattle.msgcat.proofs.merged_text.push_message.Goals as goal
 
 pub returns-in_ok-push_separated-in-Some-clause-admitted : goal.returns-in_ok-push_separated-in-Some-clause-admitted

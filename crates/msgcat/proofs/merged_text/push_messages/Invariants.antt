@@ -1,7 +1,5 @@
 use Rattle.std.proofs.Common.{List, take}
-use Rattle.msgcat.specs.Inputs.{Named}
-use Rattle.msgcat.specs.MergeInputs.{HoldInputs}
-use Rattle.msgcat.specs.Merged.{merged_messages, messages}
+use Rattle.msgcat.specs.Prelude.{Named, HoldInputs, merged_messages, messages}
 use Rattle.msgcat.specs.Internal.MergedText.{IsPartWritten}
 use Rattle.msgcat.proofs.merged_text.push_messages.Given as goal
 

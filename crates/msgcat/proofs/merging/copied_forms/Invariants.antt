@@ -1,6 +1,5 @@
 use Rattle.std.proofs.Common.{◌≡◌, ◌++◌}
-use Rattle.po_entry.specs.Rows.{forms_left}
-use Rattle.po_entry.specs.TextEntry.{texts}
+use Rattle.po_entry.specs.Prelude.{forms_left, texts}
 use Rattle.msgcat.proofs.merging.copied_forms.Given as goal
 
 -- the copies so far, and the forms that are left

@@ -1,11 +1,8 @@
 use Rattle.std.proofs.Common.{◌≡◌, ◌<◌, ◌∙◌, arith, length, subst, sym}
 use Rattle.std.proofs.lemmas.Bool.{false≢true}
 use Rattle.std.proofs.lemmas.List.{length-map}
-use Rattle.po_entry.specs.Fields.{entry_view}
-use Rattle.po_entry.specs.Header.{HasAdmittedCharset}
-use Rattle.po_entry.specs.Validity.{IsEntry}
-use Rattle.msgcat.specs.Inputs.{named_entries, named_entry}
-use Rattle.msgcat.specs.Merged.{merged_entry}
+use Rattle.po_entry.specs.Prelude.{entry_view, HasAdmittedCharset, IsEntry}
+use Rattle.msgcat.specs.Prelude.{named_entries, named_entry, merged_entry}
 use Rattle.msgcat.proofs.GroupsMerged.{foreign_one}
 use Rattle.msgcat.proofs.Valid.{merged_is_entry}
 use Rattle.msgcat.proofs.merging.merge_definitions.Goals as goal

@@ -1,5 +1,5 @@
 use Rattle.std.proofs.lemmas.Result.{MatchResult-from_both}
-use Rattle.runs.specs.Inputs.{named_files}
+use Rattle.runs.specs.Prelude.{named_files}
 use Rattle.msgcat.proofs.plan.plan_msgcat.Goals as goal
 
 pub run_of_read-requires : goal.run_of_read-requires

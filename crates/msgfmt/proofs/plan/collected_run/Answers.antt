@@ -1,8 +1,8 @@
 use Rattle.std.proofs.Common.{◌≡◌, ◌∙◌, ap, false, inl, inr, sym, true, true≢false, ⊎_elim}
 use Rattle.std.proofs.lemmas.Result.{IfOk-weaker}
 use Rattle.std.specs.Prelude.{is_ok}
-use Rattle.msgfmt.specs.Msgfmt.{check_line, input_texts, join_line}
-use Rattle.runs.specs.Run.{refusal}
+use Rattle.msgfmt.specs.Prelude.{check_line, input_texts, join_line}
+use Rattle.runs.specs.Prelude.{refusal}
 use Rattle.msgfmt.proofs.plan.collected_run.Goals.{then-options, else-options}
 use Rattle.msgfmt.proofs.plan.collected_run.Goals as goal
 

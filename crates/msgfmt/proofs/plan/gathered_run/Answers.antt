@@ -1,12 +1,11 @@
 use Rattle.std.proofs.Common.{ap, arith, inl, length, sym, ◌∙◌}
 use Rattle.std.proofs.lemmas.List.{length-map}
 use Rattle.std.proofs.lemmas.Result.{IfOk-weaker}
-use Rattle.po_entry.specs.TextEntry.{slice_texts}
-use Rattle.msgfmt.specs.Msgfmt.{join_line}
+use Rattle.po_entry.specs.Prelude.{slice_texts}
+use Rattle.msgfmt.specs.Prelude.{join_line}
 use Rattle.msgfmt.proofs.MsgfmtLemmas.{collected-count}
 use Rattle.msgfmt.proofs.plan.gathered_run.Goals as goal
-use Rattle.runs.specs.Inputs.{NamedFile}
-use Rattle.runs.specs.Run.{refusal}
+use Rattle.runs.specs.Prelude.{NamedFile, refusal}
 
 pub collected_run-requires-clause-few : goal.collected_run-requires-clause-few
 collected_run-requires-clause-few c =

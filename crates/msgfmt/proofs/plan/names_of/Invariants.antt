@@ -1,7 +1,7 @@
 use Rattle.std.proofs.Common.{◌≡◌, take}
-use Rattle.po_entry.specs.TextEntry.{slice_texts}
-use Rattle.runs.specs.Inputs.{named_files}
-use Rattle.msgfmt.specs.Msgfmt.{input_names}
+use Rattle.po_entry.specs.Prelude.{slice_texts}
+use Rattle.runs.specs.Prelude.{named_files}
+use Rattle.msgfmt.specs.Prelude.{input_names}
 use Rattle.msgfmt.proofs.plan.names_of.Given as goal
 
 abbrev pub invariant-loop-name : goal.invariant-loop-name

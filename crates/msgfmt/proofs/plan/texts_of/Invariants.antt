@@ -1,7 +1,7 @@
 use Rattle.std.proofs.Common.{◌≡◌, take}
-use Rattle.po_entry.specs.TextEntry.{slice_texts}
-use Rattle.runs.specs.Inputs.{named_files}
-use Rattle.msgfmt.specs.Msgfmt.{input_texts}
+use Rattle.po_entry.specs.Prelude.{slice_texts}
+use Rattle.runs.specs.Prelude.{named_files}
+use Rattle.msgfmt.specs.Prelude.{input_texts}
 use Rattle.msgfmt.proofs.plan.texts_of.Given as goal
 
 abbrev pub invariant-loop-text : goal.invariant-loop-text

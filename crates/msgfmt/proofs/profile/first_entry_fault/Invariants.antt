@@ -1,5 +1,5 @@
 use Rattle.std.proofs.Common.{◌≡◌, drop}
-use Rattle.msgfmt.specs.Profile.{checked_messages, entry_fault, first_some}
+use Rattle.msgfmt.specs.Prelude.{checked_messages, entry_fault, first_some}
 use Rattle.msgfmt.proofs.profile.first_entry_fault.Given as goal
 
 -- the messages that are left decide

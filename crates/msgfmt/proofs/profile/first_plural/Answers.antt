@@ -1,7 +1,7 @@
 use Rattle.std.proofs.Common.{rules}
 use Rattle.std.proofs.lemmas.Iterator.{YieldsList-from_slice}
 use Rattle.std.proofs.lemmas.Iterator.Search.{find_from_yields_List}
-use Rattle.msgfmt.specs.Profile.{checked_message, is_plural}
+use Rattle.msgfmt.specs.Prelude.{checked_message, is_plural}
 use Rattle.msgfmt.proofs.CheckedMessages.{found_checked}
 use Rattle.po_compile.specs.declared.messages.CompiledMessage.{CompiledMessage}
 use Rattle.msgfmt.proofs.profile.first_plural.Goals as goal

@@ -1,7 +1,7 @@
 use Rattle.std.proofs.Common.{ap, arith, length}
 use Rattle.std.proofs.lemmas.List.{length-map}
 use Rattle.runs.specs.Facts.RunEnds.{named_count}
-use Rattle.runs.specs.Inputs.{NamedFile, named_file, named_files}
+use Rattle.runs.specs.Prelude.{NamedFile, named_file, named_files}
 use Rattle.msgfmt.proofs.whole_run.plan_inputs.Goals as goal
 
 pub gather-requires : goal.gather-requires

@@ -2,9 +2,8 @@ use Rattle.std.proofs.Common.{◌≡◌, ◌<◌, ◌==◌, ◌∙◌, [], Optio
 use Rattle.runs.specs.declared.inputs.Inputs.{Inputs}
 use Rattle.runs.specs.declared.program_fault.ProgramFault.{ProgramFault}
 use Rattle.runs.specs.Facts.RunEnds.{named_count}
-use Rattle.runs.specs.Inputs.{named_inputs}
-use Rattle.runs.specs.Run.{run_view}
-use Rattle.msgfmt.specs.Msgfmt.{AreWrong}
+use Rattle.runs.specs.Prelude.{named_inputs, run_view}
+use Rattle.msgfmt.specs.Prelude.{AreWrong}
 use Rattle.msgfmt.proofs.MsgfmtLemmas.{refused, taken}
 use Rattle.msgfmt.proofs.whole_run.plan_msgfmt_of.Goals as goal
 

@@ -1,7 +1,6 @@
 use Rattle.std.proofs.Common.{refl}
 use Rattle.std.proofs.lemmas.Result.{err_from_is_err_and}
-use Rattle.runs.specs.Inputs.{named_inputs}
-use Rattle.runs.specs.Run.{run_view}
+use Rattle.runs.specs.Prelude.{named_inputs, run_view}
 use Rattle.runs.specs.ToolRuns.{no_memory_to_read, runs}
 use Rattle.runs.specs.Facts.RunEnds.{inputs_ended, none_unread}
 use Rattle.msgfmt.proofs.WholeRuns.{no_run, planned}

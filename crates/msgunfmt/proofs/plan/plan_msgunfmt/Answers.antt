@@ -1,6 +1,6 @@
 use Rattle.std.proofs.Common.{ap, ◌∙◌, Bool, [], inr}
 use Rattle.runs.specs.Internal.EmptyOutput.{create_is}
-use Rattle.runs.specs.Run.{RunView}
+use Rattle.runs.specs.Prelude.{RunView}
 use Rattle.msgunfmt.proofs.plan.plan_msgunfmt.Goals as goal
 
 pub returns-in-Ok-clause-run : goal.returns-in-Ok-clause-run

@@ -1,8 +1,7 @@
 use Rattle.std.proofs.Common.{◌≡◌, true, false, take, All}
-use Rattle.po_entry.specs.Header.{HasAdmittedCharset}
-use Rattle.po_entry.specs.Validity.{IsEntry}
-use Rattle.po_writer.specs.WrittenText.{written_text}
-use Rattle.msgunfmt.specs.Unformatted.{unformatted}
+use Rattle.po_entry.specs.Prelude.{HasAdmittedCharset, IsEntry}
+use Rattle.po_writer.specs.Prelude.{written_text}
+use Rattle.msgunfmt.specs.Prelude.{unformatted}
 use Rattle.msgunfmt.proofs.unformatting.append_entries.Given as goal
 
 -- the entries so far are written, and it is known whether each charset is admitted

@@ -1,6 +1,6 @@
 use Rattle.std.proofs.Common.{ap, sym, ◌∙◌, option_copied}
-use Rattle.mo_file.specs.MessageParts.{forms}
-use Rattle.msgunfmt.specs.Unformatted.{taken_forms}
+use Rattle.mo_file.specs.Prelude.{forms}
+use Rattle.msgunfmt.specs.Prelude.{taken_forms}
 use Rattle.msgunfmt.proofs.LaidMessages.{first_alone}
 use Rattle.msgunfmt.proofs.unformatting.taken_part.Goals as goal
 

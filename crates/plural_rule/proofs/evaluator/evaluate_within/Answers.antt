@@ -1,8 +1,7 @@
 use Rattle.std.proofs.Common.{◌≡◌, ℕ, ◌≤◌, Option, Some, None, ◌+◌, ◌-◌, ◌∷◌, [], List, length, drop, ap, ◌∙◌, sym, arith, length-drop, ◌<◌}
 use Rattle.std.proofs.lemmas.List.{drop_all}
-use Rattle.plural_rule.specs.Expression.{Tree, value, visited, nodes}
+use Rattle.plural_rule.specs.Prelude.{Tree, value, visited, nodes, program, tree_of, size, length-program}
 use Rattle.plural_rule.specs.declared.instruction.Instruction.{Instruction}
-use Rattle.plural_rule.specs.Program.{program, tree_of, size, length-program}
 use Rattle.plural_rule.proofs.Uniqueness.{visited_le_nodes}
 use Rattle.plural_rule.specs.Internal.Run.{run, stored, Outcome, outcome}
 use Rattle.plural_rule.proofs.Programs.{nodes-le-size, stored-cons, starts, skips, ready}

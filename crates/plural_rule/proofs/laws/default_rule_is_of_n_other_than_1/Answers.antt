@@ -5,8 +5,8 @@ use Rattle.plural_rule.specs.declared.operator.Operator.TheVariants.{Or, NotEqua
 use Rattle.plural_rule.specs.declared.token.Token.{Token}
 use Rattle.plural_rule.specs.declared.token.Token.TheVariants.{Count as CountToken, Number as NumberToken, Binary as BinaryToken}
 use Rattle.plural_rule.specs.Expression.{Binary, Count, Number}
-use Rattle.plural_rule.specs.Grammar.{Spelt}
-use Rattle.plural_rule.specs.Tokens.{Lexes, end, blank, token, operator_bytes}
+use Rattle.plural_rule.specs.Prelude.{Spelt, Lexes, operator_bytes}
+use Rattle.plural_rule.specs.Tokens.{end, blank, token}
 use Rattle.plural_rule.specs.Internal.Scanner.{HasNoDouble}
 use Rattle.plural_rule.proofs.Scanning.{double-token, numeral-token, single-token}
 use Rattle.plural_rule.proofs.Sound.{sound}

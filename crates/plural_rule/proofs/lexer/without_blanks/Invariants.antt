@@ -1,5 +1,5 @@
 use Rattle.std.proofs.Common.{◌≡◌, ℕ, ◌<◌, true, get_or}
-use Rattle.plural_rule.specs.Tokens.{is_blank}
+use Rattle.plural_rule.specs.Prelude.{is_blank}
 use Rattle.plural_rule.proofs.lexer.without_blanks.Given as goal
 
 abbrev pub invariant-loop-index : goal.invariant-loop-index

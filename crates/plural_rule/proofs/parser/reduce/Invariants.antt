@@ -1,5 +1,5 @@
 use Rattle.std.proofs.Common.{List}
-use Rattle.plural_rule.specs.Expression.{Tree}
+use Rattle.plural_rule.specs.Prelude.{Tree}
 use Rattle.plural_rule.specs.Internal.ShiftReduce.{Waiting, reduce}
 use Rattle.plural_rule.specs.Internal.ParserState.{held, IsOperand, Grows}
 use Rattle.plural_rule.proofs.ParserSteps.{Reduces}

@@ -2,8 +2,7 @@ use Rattle.std.proofs.Common.{◌≡◌, ◌+◌, ◌%◌, inl, inr, [], ◌∷�
 use Rattle.std.proofs.lemmas.Bool.{cases_Bool}
 use Rattle.plural_rule.specs.declared.operator.Operator.{Operator}
 use Rattle.plural_rule.specs.declared.token.Token.TheVariants.{Binary}
-use Rattle.plural_rule.specs.Instruction.{choose_instruction, jump_instruction}
-use Rattle.plural_rule.specs.Program.{branch_then, is_lazy}
+use Rattle.plural_rule.specs.Prelude.{choose_instruction, jump_instruction, branch_then, is_lazy}
 use Rattle.plural_rule.specs.Internal.ShiftReduce.{WaitBinary, WaitQuestion}
 use Rattle.plural_rule.specs.declared.pending.Pending.TheVariants.{Colon}
 use Rattle.plural_rule.specs.declared.parser_state.Parser.{Parser}

@@ -1,5 +1,5 @@
 use Rattle.std.proofs.Common.{◌≡◌, ◌+◌, ◌-◌, length, take, if◌then◌else◌, refl, sym, ◌∙◌, arith}
-use Rattle.plural_rule.specs.Program.{is_lazy}
+use Rattle.plural_rule.specs.Prelude.{is_lazy}
 use Rattle.plural_rule.specs.Internal.ParserState.{skipping}
 use Rattle.plural_rule.proofs.parser_state.complete.Goals as goal
 use Rattle.plural_rule.proofs.parser_state.complete.Goals.{then-is_lazy, else-is_lazy}

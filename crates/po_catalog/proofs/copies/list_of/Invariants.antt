@@ -1,6 +1,5 @@
 use Rattle.std.proofs.Common.{◌≡◌, ◌++◌}
-use Rattle.po_entry.specs.TextEntry.{texts}
-use Rattle.po_entry.specs.TextLists.{texts_left}
+use Rattle.po_entry.specs.Prelude.{texts, texts_left}
 use Rattle.po_catalog.proofs.copies.list_of.Given as goal
 
 abbrev pub invariant-loop-text : goal.invariant-loop-text

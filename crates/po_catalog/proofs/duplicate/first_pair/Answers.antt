@@ -1,10 +1,8 @@
 use Rattle.std.proofs.Common.{◌≡◌, ◌∙◌, ◌<◌, ℕ, ap, arith, get_or, length, subst, sym}
 use Rattle.std.specs.Prelude.{MatchOption}
 use Rattle.std.proofs.lemmas.List.{get_or-map, length-map}
-use Rattle.po_entry.specs.TextEntry.{TextEntry}
-use Rattle.po_entry.specs.Joined.{InputEntry, is_live}
-use Rattle.po_catalog.specs.JoinedView.{input_entries, input_entry}
-use Rattle.po_entry.specs.Duplicate.{is_looked_at, number_in, DifferUpTo, RepeatsAt}
+use Rattle.po_entry.specs.Prelude.{TextEntry, InputEntry, is_live, is_looked_at, number_in, DifferUpTo, RepeatsAt}
+use Rattle.po_catalog.specs.Prelude.{input_entries, input_entry}
 use Rattle.po_catalog.specs.declared.joining.InputEntry.{InputEntry as BorrowedEntry}
 use Rattle.po_entry.proofs.DuplicateLemmas.{live_differ}
 use Rattle.po_entry.proofs.NumberLemmas.{are_numbered, as_many, first_twice, none_twice}

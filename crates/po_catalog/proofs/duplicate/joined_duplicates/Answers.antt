@@ -1,8 +1,6 @@
 use Rattle.std.proofs.Common.{All, subst, sym, ap, ◌∙◌}
-use Rattle.po_entry.specs.Validity.{IsCatalogueEntry}
-use Rattle.po_entry.specs.Joined.{entries_of}
-use Rattle.po_catalog.specs.JoinedView.{input_entries}
-use Rattle.po_entry.specs.Duplicate.{HasNoDuplicate}
+use Rattle.po_entry.specs.Prelude.{IsCatalogueEntry, entries_of, HasNoDuplicate}
+use Rattle.po_catalog.specs.Prelude.{input_entries}
 use Rattle.po_entry.proofs.DuplicateLemmas.{only_memory}
 use Rattle.po_catalog.proofs.duplicate.joined_duplicates.Goals as goal
 

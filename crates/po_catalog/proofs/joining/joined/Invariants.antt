@@ -1,7 +1,6 @@
 use Rattle.std.proofs.Common.{◌≡◌, ◌++◌, drop, All}
-use Rattle.po_entry.specs.Validity.{IsCatalogueEntry}
-use Rattle.po_entry.specs.Joined.{joined, joined_from, entries_of}
-use Rattle.po_catalog.specs.JoinedView.{input_entries}
+use Rattle.po_entry.specs.Prelude.{IsCatalogueEntry, joined, joined_from, entries_of}
+use Rattle.po_catalog.specs.Prelude.{input_entries}
 use Rattle.po_catalog.proofs.joining.joined.Given as goal
 
 -- what is there, and what the inputs that are left add, is the whole list

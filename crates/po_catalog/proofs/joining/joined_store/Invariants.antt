@@ -1,6 +1,6 @@
 use Rattle.std.proofs.Common.{◌≡◌, take}
-use Rattle.po_entry.specs.Joined.{entries_of}
-use Rattle.po_catalog.specs.JoinedView.{input_entries}
+use Rattle.po_entry.specs.Prelude.{entries_of}
+use Rattle.po_catalog.specs.Prelude.{input_entries}
 use Rattle.po_catalog.proofs.joining.joined_store.Given as goal
 
 abbrev pub invariant-loop-member : goal.invariant-loop-member

@@ -1,6 +1,6 @@
 use Rattle.std.proofs.Common.{◌≡◌, List, map, ap, ◌∙◌}
-use Rattle.po_entry.specs.TextEntry.{TextEntry, with_line}
-use Rattle.po_writer.specs.WrittenText.{written_text}
+use Rattle.po_entry.specs.Prelude.{TextEntry, with_line}
+use Rattle.po_writer.specs.Prelude.{written_text}
 use Rattle.po_catalog.proofs.laws.what_is_written_reads_back.Goals as goal
 
 pub returns : goal.returns

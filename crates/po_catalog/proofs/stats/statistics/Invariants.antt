@@ -1,5 +1,5 @@
 use Rattle.std.proofs.Common.{◌≡◌, take}
-use Rattle.po_entry.specs.Statistics.{stats_of}
+use Rattle.po_entry.specs.Prelude.{stats_of}
 use Rattle.po_catalog.proofs.stats.statistics.Given as goal
 
 abbrev pub invariant-loop-entry : goal.invariant-loop-entry

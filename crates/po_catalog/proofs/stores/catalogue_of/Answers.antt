@@ -2,8 +2,7 @@ use Rattle.std.proofs.Common.{sym, ◌∙◌, ◌≡◌, ◌++◌, ◌∷◌, []
 use Rattle.std.specs.Prelude.{All}
 use Rattle.std.proofs.lemmas.List.{take_more}
 use Rattle.std.proofs.lemmas.List.Elements.{All-push}
-use Rattle.po_entry.specs.TextEntry.{TextEntry}
-use Rattle.po_entry.specs.Validity.{IsCatalogueEntry}
+use Rattle.po_entry.specs.Prelude.{TextEntry, IsCatalogueEntry}
 use Rattle.po_catalog.proofs.stores.catalogue_of.Goals as goal
 
 pub loop-index-preserved : goal.loop-index-preserved

@@ -1,7 +1,7 @@
 use Rattle.std.proofs.Common.{◌≡◌, ◌≤◌, take, length}
 use Rattle.std.specs.Prelude.{All}
 use Rattle.std.specs.Vec.{vec_capacity}
-use Rattle.po_entry.specs.Validity.{IsCatalogueEntry}
+use Rattle.po_entry.specs.Prelude.{IsCatalogueEntry}
 use Rattle.po_catalog.proofs.stores.catalogue_of.Given as goal
 
 abbrev pub invariant-loop-index : goal.invariant-loop-index

@@ -1,5 +1,5 @@
 use Rattle.std.proofs.Common.{◌≡◌, take}
-use Rattle.po_entry.specs.TextEntry.{texts, slice_texts}
+use Rattle.po_entry.specs.Prelude.{texts, slice_texts}
 use Rattle.po_catalog.proofs.text_list.copy_slices.Given as goal
 
 abbrev pub invariant-loop-text : goal.invariant-loop-text

@@ -1,4 +1,4 @@
-use Rattle.po_entry.specs.Texts.{Meets}
+use Rattle.po_entry.specs.Prelude.{Meets}
 use Rattle.po_entry.proofs.Checks.{both, of_one}
 use Rattle.po_catalog.proofs.texts.all_meet.Goals as goal
 

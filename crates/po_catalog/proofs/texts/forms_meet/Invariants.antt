@@ -1,6 +1,6 @@
 use Rattle.std.proofs.Common.{take}
 use Rattle.std.specs.Prelude.{All}
-use Rattle.po_entry.specs.Texts.{Meets}
+use Rattle.po_entry.specs.Prelude.{Meets}
 use Rattle.po_catalog.proofs.texts.forms_meet.Given as goal
 
 abbrev pub invariant-loop-form : goal.invariant-loop-form

@@ -1,7 +1,7 @@
 use Rattle.std.proofs.Common.{◌∙◌, ◌++◌, ◌∷◌, [], ap, subst, sym, take}
 use Rattle.std.proofs.lemmas.List.{take_more}
-use Rattle.po_entry.specs.TextEntry.{TextEntry}
-use Rattle.po_writer.specs.TextParts.{AreParts}
+use Rattle.po_entry.specs.Prelude.{TextEntry}
+use Rattle.po_writer.specs.Prelude.{AreParts}
 use Rattle.po_catalog.proofs.writing.add_entries.Goals as goal
 
 pub loop-index-preserved : goal.loop-index-preserved

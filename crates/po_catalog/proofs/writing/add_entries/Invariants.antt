@@ -1,5 +1,5 @@
 use Rattle.std.proofs.Common.{take}
-use Rattle.po_writer.specs.TextParts.{AreParts}
+use Rattle.po_writer.specs.Prelude.{AreParts}
 use Rattle.po_catalog.proofs.writing.add_entries.Given as goal
 
 abbrev pub invariant-loop-index : goal.invariant-loop-index

@@ -1,6 +1,6 @@
 use Rattle.std.proofs.Common.{◌≡◌, List, length, map}
-use Rattle.po_entry.specs.TextEntry.{TextEntry}
-use Rattle.po_reader.specs.PieceRead.{without_comments, IsReadSoFar}
+use Rattle.po_entry.specs.Prelude.{TextEntry}
+use Rattle.po_reader.specs.Prelude.{without_comments, IsReadSoFar}
 use Rattle.po_compile.proofs.collecting.collect.Given as goal
 
 abbrev pub invariant-loop-pieces : goal.invariant-loop-pieces

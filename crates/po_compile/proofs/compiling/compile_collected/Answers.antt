@@ -1,11 +1,9 @@
 use Rattle.std.proofs.Common.{refl, sym, ap, ◌∙◌, subst, inl, arith, length, ◌<◌, ◌^◌}
 use Rattle.std.proofs.lemmas.List.{length-map}
 use Rattle.std.proofs.lemmas.Result.{err_from_is_err_and}
-use Rattle.mo_file.specs.Layout.{IsBuildFault, layout}
-use Rattle.mo_file.specs.MoFile.{IsMoFile}
-use Rattle.mo_file.specs.Pairs.{borrowed_message, messages_of_borrowed}
-use Rattle.po_entry.specs.Joined.{joined_entries}
-use Rattle.po_compile.specs.Compiled.{compiled_list}
+use Rattle.mo_file.specs.Prelude.{IsBuildFault, layout, IsMoFile, borrowed_message, messages_of_borrowed}
+use Rattle.po_entry.specs.Prelude.{joined_entries}
+use Rattle.po_compile.specs.Prelude.{compiled_list}
 use Rattle.po_compile.specs.Internal.Rows.{counts_of}
 use Rattle.po_compile.proofs.InputLemmas.{build_refused, inputs_refused, pairs_are, sorted_read}
 use Rattle.po_compile.proofs.JoinedRows.{joined_valid}

@@ -1,6 +1,6 @@
 use Rattle.std.proofs.Common.{take}
-use Rattle.po_entry.specs.TextEntry.{slice_texts}
-use Rattle.po_compile.specs.Collected.{AreCollected}
+use Rattle.po_entry.specs.Prelude.{slice_texts}
+use Rattle.po_compile.specs.Prelude.{AreCollected}
 use Rattle.po_compile.proofs.inputs.collect_all.Given as goal
 
 abbrev pub invariant-loop-input : goal.invariant-loop-input

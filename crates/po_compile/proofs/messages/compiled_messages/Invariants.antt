@@ -1,5 +1,5 @@
 use Rattle.std.proofs.Common.{◌≡◌, take, map, filter}
-use Rattle.po_compile.specs.Collected.{compiled_view}
+use Rattle.po_compile.specs.Prelude.{compiled_view}
 use Rattle.po_compile.specs.Internal.Rows.{InputMessage, row_view, view_of_message}
 use Rattle.po_compile.proofs.messages.compiled_messages.Given as goal
 

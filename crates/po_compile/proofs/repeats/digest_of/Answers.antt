@@ -1,6 +1,5 @@
 use Rattle.std.proofs.Common.{◌+◌, get_or, sym, take}
-use Rattle.po_entry.specs.TextEntry.{slice_texts}
-use Rattle.po_entry.specs.Message.{key_writes}
+use Rattle.po_entry.specs.Prelude.{slice_texts, key_writes}
 use Rattle.po_entry.proofs.Digests.{digest_more}
 use Rattle.po_compile.proofs.RepeatedKeys.{keys_more, no_key}
 use Rattle.po_compile.proofs.repeats.digest_of.Goals as goal

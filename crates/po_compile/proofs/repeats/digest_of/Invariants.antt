@@ -1,8 +1,6 @@
 use Rattle.std.proofs.Common.{◌≡◌, take}
 use Rattle.std.specs.List.{flat_map}
-use Rattle.po_entry.specs.SeenTexts.{digest_of}
-use Rattle.po_entry.specs.TextEntry.{slice_texts}
-use Rattle.po_entry.specs.Message.{key_writes}
+use Rattle.po_entry.specs.Prelude.{digest_of, slice_texts, key_writes}
 use Rattle.po_compile.proofs.repeats.digest_of.Given as goal
 
 -- the keys so far are digested

@@ -1,5 +1,5 @@
 use Rattle.std.proofs.Common.{◌≡◌, take, map}
-use Rattle.mo_file.specs.Pairs.{messages_of_borrowed}
+use Rattle.mo_file.specs.Prelude.{messages_of_borrowed}
 use Rattle.po_compile.specs.Internal.Rows.{compiled_of, row_view}
 use Rattle.po_compile.proofs.rows.compiled_pairs.Given as goal
 

@@ -1,5 +1,5 @@
 use Rattle.std.proofs.Common.{◌≡◌, length}
-use Rattle.po_entry.specs.Header.{after_charset}
+use Rattle.po_entry.specs.Prelude.{after_charset}
 use Rattle.po_entry.proofs.charset.after_charset.Given as goal
 
 abbrev pub invariant-loop-next : goal.invariant-loop-next

@@ -1,5 +1,5 @@
 use Rattle.std.proofs.Common.{◌∙◌, ap, take}
-use Rattle.po_entry.specs.Rows.{own_at}
+use Rattle.po_entry.specs.Prelude.{own_at}
 use Rattle.po_entry.proofs.OwnTexts.{key_cut}
 use Rattle.po_entry.proofs.entry_ref.key.Goals as goal
 

@@ -1,5 +1,5 @@
 use Rattle.std.proofs.Common.{◌≡◌, ◌+◌, ℕ, [], slice_index_or}
-use Rattle.po_entry.specs.TextLists.{texts_in}
+use Rattle.po_entry.specs.Prelude.{texts_in}
 use Rattle.po_entry.proofs.entry_ref.part.Given as goal
 
 abbrev pub invariant-loop : goal.invariant-loop

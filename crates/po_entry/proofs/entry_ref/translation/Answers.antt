@@ -1,5 +1,5 @@
 use Rattle.std.proofs.Common.{◌∙◌, ap, refl, sym}
-use Rattle.po_entry.specs.Rows.{own_at, split_forms}
+use Rattle.po_entry.specs.Prelude.{own_at, split_forms}
 use Rattle.po_entry.proofs.OwnTexts.{forms_alone, forms_cut}
 use Rattle.po_entry.proofs.entry_ref.translation.Goals as goal
 

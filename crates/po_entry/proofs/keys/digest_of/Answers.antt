@@ -1,7 +1,6 @@
 use Rattle.std.proofs.Common.{◌+◌, ◌<◌, ◌∙◌, ◌∷◌, ◌++◌, [], arith, ap, length, sym, take}
 use Rattle.std.proofs.lemmas.List.{take_more}
-use Rattle.po_entry.specs.Rows.{key_bytes}
-use Rattle.po_entry.specs.Message.{key_writes}
+use Rattle.po_entry.specs.Prelude.{key_bytes, key_writes}
 use Rattle.po_entry.proofs.Digests.{digest_more}
 use Rattle.po_entry.proofs.keys.digest_of.Goals as goal
 

@@ -1,6 +1,5 @@
 use Rattle.std.proofs.Common.{◌≡◌, take}
-use Rattle.po_entry.specs.SeenTexts.{digest_of}
-use Rattle.po_entry.specs.Message.{keys_writes}
+use Rattle.po_entry.specs.Prelude.{digest_of, keys_writes}
 use Rattle.po_entry.proofs.keys.digest_of.Given as goal
 
 -- the keys so far are digested

@@ -1,7 +1,6 @@
 use Rattle.std.proofs.Common.{◌≡◌, ◌++◌, take}
 use Rattle.std.specs.List.{flat_map}
-use Rattle.po_entry.specs.Rows.{Grows, after_nul}
-use Rattle.po_entry.specs.TextEntry.{texts}
+use Rattle.po_entry.specs.Prelude.{Grows, after_nul, texts}
 use Rattle.po_entry.proofs.layout.add_forms.Given as goal
 
 abbrev pub invariant-loop-form : goal.invariant-loop-form

@@ -1,7 +1,6 @@
 use Rattle.std.proofs.Common.{◌≡◌, ◌++◌, rules}
 use Rattle.std.specs.List.{flat_map}
-use Rattle.po_entry.specs.Fields.{entry_view}
-use Rattle.po_entry.specs.Rows.{after_nul, key_bytes, optional_bytes}
+use Rattle.po_entry.specs.Prelude.{entry_view, after_nul, key_bytes, optional_bytes}
 use Rattle.po_entry.proofs.OwnTexts.{own_laid}
 use Rattle.po_entry.proofs.layout.add_own.Goals as goal
 

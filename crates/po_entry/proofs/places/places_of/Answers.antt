@@ -2,10 +2,7 @@ use Rattle.std.proofs.Common.{◌≡◌, ℕ, ◌+◌, ◌<◌, ◌≤◌, ◌++
 use Rattle.std.specs.Prelude.{All}
 use Rattle.std.proofs.lemmas.List.{map-append, take_all, take_more}
 use Rattle.std.proofs.lemmas.List.Elements.{All-push}
-use Rattle.po_entry.specs.TextEntry.{TextEntry}
-use Rattle.po_entry.specs.Validity.{IsCatalogueEntry}
-use Rattle.po_entry.specs.Joined.{is_live}
-use Rattle.po_entry.specs.Duplicate.{are_placed, place_of}
+use Rattle.po_entry.specs.Prelude.{TextEntry, IsCatalogueEntry, is_live, are_placed, place_of}
 use Rattle.po_entry.specs.declared.repeats.EntryPlace.{EntryPlace}
 use Rattle.po_entry.proofs.places.places_of.Goals as goal
 

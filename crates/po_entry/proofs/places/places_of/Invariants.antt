@@ -1,8 +1,6 @@
 use Rattle.std.proofs.Common.{◌≡◌, take}
 use Rattle.std.specs.Prelude.{All}
-use Rattle.po_entry.specs.Validity.{IsCatalogueEntry}
-use Rattle.po_entry.specs.Joined.{is_live}
-use Rattle.po_entry.specs.Duplicate.{are_placed}
+use Rattle.po_entry.specs.Prelude.{IsCatalogueEntry, is_live, are_placed}
 use Rattle.po_entry.proofs.places.places_of.Given as goal
 
 -- where the entries so far stand

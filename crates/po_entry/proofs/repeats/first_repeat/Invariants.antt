@@ -1,5 +1,5 @@
 use Rattle.std.proofs.Common.{◌≡◌, ◌+◌, ◌<◌, ℕ, get_or, true}
-use Rattle.po_entry.specs.Duplicate.{is_looked_at, AreUpTo, DifferUpTo}
+use Rattle.po_entry.specs.Prelude.{is_looked_at, AreUpTo, DifferUpTo}
 use Rattle.po_entry.specs.declared.repeats.EntryPlace.{EntryPlace}
 use Rattle.po_entry.proofs.repeats.first_repeat.Given as goal
 

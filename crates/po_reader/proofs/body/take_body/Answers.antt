@@ -1,6 +1,5 @@
 use Rattle.std.proofs.Common.{◌≡◌, ◌∙◌, ◌++◌, ◌∷◌, ◌-◌, [], ℕ, List, ap, ap₂, append_assoc, length, refl}
-use Rattle.po_entry.specs.Rows.{head_bytes, own_bytes, row_of}
-use Rattle.po_entry.specs.TextEntry.{TextEntry}
+use Rattle.po_entry.specs.Prelude.{head_bytes, own_bytes, row_of, TextEntry}
 use Rattle.po_entry.specs.declared.row.Row.{Row}
 use Rattle.po_reader.specs.Internal.ReaderView.{with_kept_head}
 use Rattle.po_reader.proofs.Laid.{part_len}

@@ -1,6 +1,6 @@
 use Rattle.std.proofs.Common.{◌≡◌, [], ◌++◌, ◌+◌, ◌≤◌, ℕ, List, length}
 use Rattle.std.specs.List.{flat_map}
-use Rattle.po_entry.specs.Rows.{after_nul}
+use Rattle.po_entry.specs.Prelude.{after_nul}
 use Rattle.po_reader.specs.Internal.Stage.{SoFar, Between, Before, Form, with_forms}
 use Rattle.po_reader.specs.Internal.Reads.{comes}
 use Rattle.po_reader.proofs.body.take_forms.Given as goal

@@ -1,6 +1,6 @@
 use Rattle.std.proofs.Common.{◌∙◌, ◌-◌, ap₂, refl, length}
 use Rattle.po_syntax.specs.declared.item.Keyword.TheVariants.{MsgId}
-use Rattle.po_entry.specs.TextEntry.{TextEntry}
+use Rattle.po_entry.specs.Prelude.{TextEntry}
 use Rattle.po_reader.specs.Internal.Stage.{with_own, with_context, with_text, no_lines}
 use Rattle.po_reader.specs.Internal.Turn.{with_keyword}
 use Rattle.po_syntax.proofs.Results.{passed_on}

@@ -1,5 +1,5 @@
 use Rattle.std.proofs.Common.{◌≡◌, ◌++◌, length}
-use Rattle.po_entry.specs.Comments.{listed_references}
+use Rattle.po_entry.specs.Prelude.{listed_references}
 use Rattle.po_reader.proofs.comment_texts.add_references.Given as goal
 
 abbrev pub invariant-loop-list : goal.invariant-loop-list

@@ -1,7 +1,6 @@
 use Rattle.std.proofs.Common.{◌≡◌, [], drop, fold}
 use Rattle.std.specs.List.{flat_map}
-use Rattle.po_entry.specs.Comments.{listed_flags, with_flag}
-use Rattle.po_entry.specs.TextEntry.{slice_texts}
+use Rattle.po_entry.specs.Prelude.{listed_flags, with_flag, slice_texts}
 use Rattle.po_reader.proofs.comment_texts.distinct_flags.Given as goal
 
 -- the flags that were seen, with those of the texts that are left

@@ -1,6 +1,6 @@
 use Rattle.std.proofs.Common.{refl, sym, ap, ◌++◌, ◌∷◌, [], ◌∙◌, false, arith}
 use Rattle.std.proofs.lemmas.Bool.{le-ltb, lt-ltb}
-use Rattle.po_entry.specs.Comments.{CommentText, PreviousText}
+use Rattle.po_entry.specs.Prelude.{CommentText, PreviousText}
 use Rattle.po_reader.specs.Internal.Stage.{after_head, Between, In, InHead}
 use Rattle.po_reader.specs.Internal.Reads.{comes}
 use Rattle.po_syntax.proofs.Results.{passed_on}

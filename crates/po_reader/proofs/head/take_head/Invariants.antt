@@ -1,6 +1,5 @@
 use Rattle.std.proofs.Common.{◌≡◌, List, ◌≤◌, length}
-use Rattle.po_entry.specs.Comments.{CommentText, PreviousText}
-use Rattle.po_entry.specs.TextEntry.{TextEntry}
+use Rattle.po_entry.specs.Prelude.{CommentText, PreviousText, TextEntry}
 use Rattle.po_reader.specs.Internal.ReaderView.{HoldsHead}
 use Rattle.po_reader.specs.Internal.Stage.{Between, InHead, after_head}
 use Rattle.po_reader.specs.Internal.Reads.{comes, start}

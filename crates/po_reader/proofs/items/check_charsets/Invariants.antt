@@ -1,9 +1,7 @@
 use Rattle.std.proofs.Common.{ℕ, drop, take, map}
 use Rattle.std.specs.Prelude.{All}
 use Rattle.po_syntax.specs.declared.fault.PoFault.{PoFault}
-use Rattle.po_entry.specs.Rows.{entry_at, entries_in}
-use Rattle.po_entry.specs.Faults.{CharsetFault, EntriesStop}
-use Rattle.po_entry.specs.Header.{HasAdmittedCharset}
+use Rattle.po_entry.specs.Prelude.{entry_at, entries_in, CharsetFault, EntriesStop, HasAdmittedCharset}
 use Rattle.po_reader.proofs.items.check_charsets.Given as goal
 
 abbrev pub invariant-loop-row : goal.invariant-loop-row

@@ -1,7 +1,5 @@
 use Rattle.std.proofs.Common.{All, IsUtf8, refl}
-use Rattle.po_entry.specs.Texts.{Lacks}
-use Rattle.po_entry.specs.TextEntry.{quoted_texts}
-use Rattle.po_entry.specs.Validity.{HasTexts}
+use Rattle.po_entry.specs.Prelude.{Lacks, quoted_texts, HasTexts}
 use Rattle.po_entry.specs.Faults.EntriesStop.{here, later}
 use Rattle.po_entry.proofs.RowLemmas.{entry_here}
 use Rattle.po_reader.proofs.Loops.{asked_all, asked_more, no_row, rest_here}

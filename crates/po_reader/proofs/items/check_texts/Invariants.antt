@@ -1,9 +1,7 @@
 use Rattle.std.proofs.Common.{ℕ, drop, take, map}
 use Rattle.std.specs.Prelude.{All}
 use Rattle.po_syntax.specs.declared.fault.PoFault.{PoFault}
-use Rattle.po_entry.specs.Rows.{entry_at, entries_in}
-use Rattle.po_entry.specs.Validity.{HasTexts, EntryTextFault}
-use Rattle.po_entry.specs.Faults.{EntriesStop}
+use Rattle.po_entry.specs.Prelude.{entry_at, entries_in, HasTexts, EntryTextFault, EntriesStop}
 use Rattle.po_reader.proofs.items.check_texts.Given as goal
 
 abbrev pub invariant-loop-row : goal.invariant-loop-row

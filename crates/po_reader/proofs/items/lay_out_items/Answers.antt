@@ -2,10 +2,8 @@ use Rattle.std.proofs.Common.{[], ◌∷◌, ◌++◌, ◌∙◌, List, All, ap,
 use Rattle.std.proofs.lemmas.List.{map_push}
 use Rattle.std.proofs.lemmas.List.Elements.{All-head}
 use Rattle.po_syntax.specs.Facts.AllAppend.{All-left, All-right}
-use Rattle.po_entry.specs.TextEntry.{TextEntry}
-use Rattle.po_entry.specs.Rows.{Adds, CanLie}
-use Rattle.po_entry.specs.Spelling.{with_head}
-use Rattle.po_reader.specs.PieceRead.{kept_entry}
+use Rattle.po_entry.specs.Prelude.{TextEntry, Adds, CanLie, with_head}
+use Rattle.po_reader.specs.Prelude.{kept_entry}
 use Rattle.po_reader.specs.Internal.Stage.{after_head}
 use Rattle.po_syntax.proofs.Results.{passed_on}
 use Rattle.po_reader.proofs.Heads.{kept_from}

@@ -1,9 +1,8 @@
 use Rattle.std.proofs.Common.{◌≡◌, List, ◌≤◌, length, map, All}
-use Rattle.po_syntax.specs.TextItem.{views}
-use Rattle.po_entry.specs.Rows.{AreLaid, CanLie, entries_in}
-use Rattle.po_entry.specs.TextEntry.{TextEntry}
+use Rattle.po_syntax.specs.Prelude.{views}
+use Rattle.po_entry.specs.Prelude.{AreLaid, CanLie, entries_in, TextEntry}
 use Rattle.po_reader.specs.Internal.Reads.{come_to, comes, start}
-use Rattle.po_reader.specs.PieceRead.{kept_entry}
+use Rattle.po_reader.specs.Prelude.{kept_entry}
 use Rattle.po_reader.proofs.items.lay_out_items.Given as goal
 
 abbrev pub invariant-loop-head : goal.invariant-loop-head

@@ -1,8 +1,5 @@
 use Rattle.std.proofs.Common.{[], List, All, IsUtf8, inl, inr, subst, sym}
-use Rattle.po_entry.specs.Texts.{Lacks}
-use Rattle.po_entry.specs.Header.{HasAdmittedCharset}
-use Rattle.po_entry.specs.Validity.{HasTexts, IsCatalogueEntry}
-use Rattle.po_entry.specs.TextEntry.{TextEntry, quoted_texts}
+use Rattle.po_entry.specs.Prelude.{Lacks, HasAdmittedCharset, HasTexts, IsCatalogueEntry, TextEntry, quoted_texts}
 use Rattle.po_entry.specs.Faults.ItemsStop.{in_items, in_texts, in_charset}
 use Rattle.po_reader.proofs.RunsSpelt.{whole_spelt}
 use Rattle.po_reader.proofs.Faults.{items_fault}

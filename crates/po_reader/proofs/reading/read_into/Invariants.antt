@@ -1,6 +1,6 @@
 use Rattle.std.proofs.Common.{◌≡◌, List, ◌++◌, length}
-use Rattle.po_entry.specs.TextEntry.{TextEntry}
-use Rattle.po_reader.specs.PieceRead.{IsReadSoFar}
+use Rattle.po_entry.specs.Prelude.{TextEntry}
+use Rattle.po_reader.specs.Prelude.{IsReadSoFar}
 use Rattle.po_reader.proofs.reading.read_into.Given as goal
 
 -- the entries so far are added

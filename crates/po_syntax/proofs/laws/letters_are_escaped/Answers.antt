@@ -1,6 +1,6 @@
 use Rattle.std.proofs.Common.{refl}
 use Rattle.po_syntax.specs.Escapes.{letter, closed, escape}
-use Rattle.po_syntax.specs.Quoting.{written_byte}
+use Rattle.po_syntax.specs.Prelude.{written_byte}
 use Rattle.po_syntax.proofs.laws.letters_are_escaped.Goals as goal
 
 pub returns-clause-read : goal.returns-clause-read

@@ -1,9 +1,9 @@
 use Rattle.std.proofs.Common.{◌≡◌, ◌∙◌, refl, ap, [], ◌∷◌, ◌++◌, append_assoc, append-nil, Ok, Err, arith}
 use Rattle.std.proofs.lemmas.List.{map_push}
 use Rattle.std.proofs.lemmas.Result.{err_from_is_err_and}
-use Rattle.po_syntax.specs.Escapes.{SpellsString}
+use Rattle.po_syntax.specs.Prelude.{SpellsString, spelt_bytes}
 use Rattle.po_syntax.proofs.LentStrings.{one_more}
-use Rattle.po_syntax.specs.TextItem.{Word, Str, spelt_bytes}
+use Rattle.po_syntax.specs.TextItem.{Word, Str}
 use Rattle.po_syntax.specs.Internal.Token.{LineEnd, OpeningQuote, KeywordToken, token_at}
 use Rattle.po_syntax.specs.Internal.LineView.{token_view}
 use Rattle.po_syntax.proofs.Escapes.{string_shorter}

@@ -1,7 +1,6 @@
 use Rattle.std.proofs.Common.{◌≤◌, length, drop}
 use Rattle.std.specs.Prelude.{All}
-use Rattle.po_syntax.specs.Pieces.{IsString}
-use Rattle.po_syntax.specs.TextItem.{views}
+use Rattle.po_syntax.specs.Prelude.{IsString, views}
 use Rattle.po_syntax.proofs.pieces.before_strings.Given as goal
 
 abbrev pub invariant-loop-count : goal.invariant-loop-count

@@ -1,7 +1,7 @@
 use Rattle.std.proofs.Common.{◌≡◌, [], arith, IfOk}
 use Rattle.std.proofs.lemmas.List.{length-map}
 use Rattle.std.proofs.lemmas.Result.{IfOk-weaker, IfErr-weaker, err_from_is_err_and}
-use Rattle.po_syntax.specs.TextItem.{view, views}
+use Rattle.po_syntax.specs.Prelude.{view, views}
 use Rattle.po_syntax.proofs.Lines.{items-few}
 use Rattle.po_syntax.proofs.PieceLemmas.{piece_all}
 use Rattle.po_syntax.proofs.Results.{ok_both}

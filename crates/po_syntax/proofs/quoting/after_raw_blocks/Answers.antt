@@ -1,7 +1,7 @@
 use Rattle.std.proofs.Common.{◌≡◌, ◌+◌, ◌++◌, length, sym, ap, ap₂, ◌∙◌, arith, List, ℕ}
 use Rattle.std.specs.List.{prefix_len}
 use Rattle.std.proofs.lemmas.List.{length-append, take-append-drop}
-use Rattle.po_syntax.specs.Quoting.{is_raw}
+use Rattle.po_syntax.specs.Prelude.{is_raw}
 use Rattle.po_syntax.proofs.RawRuns.{raw_append}
 use Rattle.po_syntax.proofs.quoting.after_raw_blocks.Goals as goal
 

@@ -3,7 +3,7 @@ use Rattle.std.proofs.lemmas.Iterator.{YieldsList-from_slice}
 use Rattle.std.proofs.lemmas.Iterator.Consumers.{count_from_yields_List}
 use Rattle.std.proofs.lemmas.Iterator.Search.{YieldsList-from_take_while}
 use Rattle.std.proofs.lemmas.List.Folds.{length-prefix_len}
-use Rattle.po_syntax.specs.Quoting.{is_raw}
+use Rattle.po_syntax.specs.Prelude.{is_raw}
 use Rattle.po_syntax.proofs.RawRuns.{written_prefix}
 use Rattle.po_syntax.proofs.quoting.split_raw.Goals as goal
 

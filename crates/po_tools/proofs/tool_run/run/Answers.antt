@@ -2,8 +2,8 @@ use Rattle.std.proofs.Common.{◌≡◌, ℕ, List, None, Some, Option, ap, code
 use Rattle.std.proofs.lemmas.Result.{err_from_is_err_and}
 use Rattle.std.specs.Borrow.{Bor}
 use Rattle.std.specs.Option.{option_copied, unwrap_or}
-use Rattle.msgfmt.specs.Options.{default_output}
-use Rattle.runs.specs.ArgumentValues.{IsTextOr}
+use Rattle.msgfmt.specs.Prelude.{default_output}
+use Rattle.runs.specs.Prelude.{IsTextOr}
 use Rattle.po_tools.specs.ToolRun.{fits_none, looks_up}
 use Rattle.po_tools.proofs.tool_run.run.Goals as goal
 

@@ -1,6 +1,6 @@
 use Rattle.std.proofs.Common.{◌≡◌, ◌∙◌, ap, sym, List, ℕ, ◌+◌, ◌≤◌, ◌++◌, ◌∷◌, append_assoc, codes, decimal, length, length-append, arith, rules}
-use Rattle.po_entry.specs.Rows.{forms_left}
-use Rattle.po_writer.specs.WrittenText.{form_lines, keyword_lines}
+use Rattle.po_entry.specs.Prelude.{forms_left}
+use Rattle.po_writer.specs.Prelude.{form_lines, keyword_lines}
 use Rattle.po_writer.proofs.Separated.{keyword_some}
 use Rattle.po_writer.proofs.entry_lines.push_forms.Goals as goal
 

@@ -1,6 +1,6 @@
 use Rattle.std.proofs.Common.{◌≡◌, ◌≤◌, ◌++◌, length}
-use Rattle.po_entry.specs.Rows.{forms_left}
-use Rattle.po_writer.specs.WrittenText.{form_lines}
+use Rattle.po_entry.specs.Prelude.{forms_left}
+use Rattle.po_writer.specs.Prelude.{form_lines}
 use Rattle.po_writer.proofs.entry_lines.push_forms.Given as goal
 
 abbrev pub invariant-loop-form : goal.invariant-loop-form

@@ -1,5 +1,5 @@
 use Rattle.std.proofs.Common.{refl}
-use Rattle.plural_rule.specs.PluralRule.{rule_in}
+use Rattle.plural_rule.specs.Prelude.{rule_in}
 use Rattle.pokit_c.proofs.opening.open.Goals as goal
 
 pub returns-in-Ok-clause-opened : goal.returns-in-Ok-clause-opened

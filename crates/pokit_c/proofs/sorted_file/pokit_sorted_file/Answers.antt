@@ -1,14 +1,9 @@
 use Rattle.std.proofs.Common.{◌≡◌, ◌≤◌, ℕ, List, [], None, length, take, find, inr, sym, ap, ◌∙◌, subst, arith, if◌then◌else◌}
 use Rattle.std.specs.Option.{option_map, option_map_or}
 use Rattle.std.specs.Str.{bytes_eq}
-use Rattle.mo_file.specs.Key.{key_of, query_key}
-use Rattle.mo_file.specs.Layout.{layout}
-use Rattle.mo_file.specs.Message.{Message}
-use Rattle.mo_file.specs.MoFile.{IsMoFile}
-use Rattle.mo_lookup.specs.Answer.{form_at}
-use Rattle.mo_file.specs.MessageParts.{forms}
-use Rattle.mo_lookup.specs.Query.{can_be_key}
-use Rattle.pokit_c.specs.Sorted.{AnswersAlike}
+use Rattle.mo_file.specs.Prelude.{key_of, query_key, layout, Message, IsMoFile, forms}
+use Rattle.mo_lookup.specs.Prelude.{form_at, can_be_key}
+use Rattle.pokit_c.specs.Prelude.{AnswersAlike}
 use Rattle.pokit_c.proofs.sorted_file.pokit_sorted_file.Goals as goal
 
 answers-alike : (messages sorted : List Message)

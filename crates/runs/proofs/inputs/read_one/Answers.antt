@@ -1,5 +1,5 @@
 use Rattle.std.proofs.Common.{ap, ◌∙◌, inl, inr}
-use Rattle.runs.specs.Inputs.{input_fault_text}
+use Rattle.runs.specs.Prelude.{input_fault_text}
 use Rattle.runs.proofs.inputs.read_one.Goals as goal
 
 pub returns-clause-fault : goal.returns-clause-fault

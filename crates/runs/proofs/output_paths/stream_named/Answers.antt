@@ -1,7 +1,8 @@
 use Rattle.std.proofs.Common.{◌≡◌, ◌≢◌, ℕ, Bool, true, false, List, sym, ◌∙◌, subst, codes}
 use Rattle.std.specs.Str.{bytes_eq}
 use Rattle.std.proofs.lemmas.Slice.Eq.{bytes_eq-Decides}
-use Rattle.runs.specs.OutputPaths.{NamesStream, standard_output, standard_error}
+use Rattle.runs.specs.Prelude.{NamesStream}
+use Rattle.runs.specs.OutputPaths.{standard_output, standard_error}
 use Rattle.runs.proofs.StreamNames.{no_stream, device_number, process_number}
 use Rattle.runs.proofs.output_paths.stream_named.Goals as goal
 

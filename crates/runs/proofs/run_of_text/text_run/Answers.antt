@@ -1,8 +1,8 @@
 use Rattle.std.proofs.Common.{ap, ◌∙◌, ℕ, Bool, length, List, [], sym}
 use Rattle.std.specs.Prelude.{nat_lt}
-use Rattle.po_writer.specs.WrittenText.{written_text}
+use Rattle.po_writer.specs.Prelude.{written_text}
 use Rattle.runs.specs.Internal.EmptyOutput.{create_is}
-use Rattle.runs.specs.Run.{RunView}
+use Rattle.runs.specs.Prelude.{RunView}
 use Rattle.runs.proofs.run_of_text.text_run.Goals as goal
 
 pub returns : goal.returns

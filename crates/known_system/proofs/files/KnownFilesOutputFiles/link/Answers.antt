@@ -1,8 +1,7 @@
 use Rattle.std.proofs.Common.{List, ap, sym, ◌∙◌}
 use Rattle.std.specs.Option.{option_copied}
-use Rattle.runs.specs.OutputFiles.{FileCall}
-use Rattle.known_system.specs.Stored.{links_by_path, stored}
-use Rattle.known_system.specs.Replay.{nothing, replay}
+use Rattle.runs.specs.Prelude.{FileCall}
+use Rattle.known_system.specs.Prelude.{links_by_path, stored, nothing, replay}
 use Rattle.known_system.proofs.Tellings.{answers_link}
 use Rattle.known_system.proofs.files.KnownFilesOutputFiles.link.Goals as goal
 

@@ -1,5 +1,5 @@
 use Rattle.std.proofs.Common.{◌≡◌, map, take}
-use Rattle.known_system.specs.Source.{entry_texts}
+use Rattle.known_system.specs.Prelude.{entry_texts}
 use Rattle.known_system.proofs.source.KnownSourceEntrySource.read_entries.Given as goal
 
 abbrev pub invariant-loop-entry : goal.invariant-loop-entry

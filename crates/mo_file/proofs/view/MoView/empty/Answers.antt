@@ -1,6 +1,5 @@
 use Rattle.std.proofs.Common.{arith, refl, ℕ, ◌+◌, ◌<◌}
-use Rattle.mo_file.specs.Word.{word_at, word_bytes}
-use Rattle.mo_file.specs.StringTable.{messages_of}
+use Rattle.mo_file.specs.Prelude.{word_at, word_bytes, messages_of}
 use Rattle.mo_file.proofs.view.MoView.empty.Goals as goal
 
 none_below : (i : ℕ) → i < 0 → ⊥

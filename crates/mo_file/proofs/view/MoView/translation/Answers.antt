@@ -1,6 +1,6 @@
 use Rattle.std.proofs.Common.{◌∙◌, ap, sym, Some}
 use Rattle.std.specs.List.{slice_range}
-use Rattle.mo_file.specs.MoFile.{FileView}
+use Rattle.mo_file.specs.Prelude.{FileView}
 use Rattle.mo_file.proofs.view.MoView.translation.Goals as goal
 
 pub returns : goal.returns

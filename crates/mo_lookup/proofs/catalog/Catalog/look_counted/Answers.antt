@@ -1,7 +1,5 @@
 use Rattle.std.proofs.Common.{◌≡◌, ◌∙◌, refl}
-use Rattle.mo_lookup.specs.Place.{located_view}
-use Rattle.mo_lookup.specs.Answer.{AnswerView}
-use Rattle.mo_lookup.specs.Query.{query}
+use Rattle.mo_lookup.specs.Prelude.{located_view, AnswerView, query}
 use Rattle.mo_lookup.proofs.PlaceLemmas.{untranslated_view}
 use Rattle.mo_lookup.proofs.catalog.Catalog.look_counted.Goals.{in-Translation, in-Id}
 use Rattle.mo_lookup.proofs.catalog.Catalog.look_counted.Goals as goal

@@ -1,7 +1,6 @@
 use Rattle.std.proofs.Common.{[], ◌∷◌, ◌++◌, ◌∙◌, ap, subst, sym}
-use Rattle.po_entry.specs.TextEntry.{TextEntry}
-use Rattle.po_entry.specs.Validity.{IsCatalogueEntry}
-use Rattle.msgattrib.specs.Selected.{changed}
+use Rattle.po_entry.specs.Prelude.{TextEntry, IsCatalogueEntry}
+use Rattle.msgattrib.specs.Prelude.{changed}
 use Rattle.msgattrib.proofs.ChangedEntries.{changed_in_copy}
 use Rattle.msgattrib.proofs.SelectionLaws.{changed_can_stand}
 use Rattle.msgattrib.proofs.selection.Selection.push_changed.Goals as goal

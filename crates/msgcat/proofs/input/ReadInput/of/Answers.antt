@@ -1,6 +1,6 @@
 use Rattle.std.proofs.Common.{subst}
 use Rattle.std.specs.Prelude.{IsUtf8}
-use Rattle.po_entry.specs.Texts.{Lacks}
+use Rattle.po_entry.specs.Prelude.{Lacks}
 use Rattle.msgcat.proofs.input.ReadInput.of.Goals as goal
 
 pub returns-clause-known : goal.returns-clause-known

@@ -3,10 +3,8 @@ use Rattle.std.proofs.lemmas.Grind.{get_or_default_zero}
 use Rattle.std.proofs.lemmas.List.{length-map}
 use Rattle.std.proofs.lemmas.List.Elements.{All-head, All-tail}
 use Rattle.msgcat.specs.declared.definition.NamedEntry.{NamedEntry as BorrowedEntry}
-use Rattle.msgcat.specs.Groups.{definitions, groups, IsChain}
-use Rattle.msgcat.specs.Inputs.{NamedEntry, all_entries, named_entries}
+use Rattle.msgcat.specs.Prelude.{definitions, groups, IsChain, NamedEntry, all_entries, named_entries, AreReadInputs}
 use Rattle.msgcat.specs.Internal.EntriesAt.{entries_at, no_entry}
-use Rattle.msgcat.specs.MergeInputs.{AreReadInputs}
 use Rattle.msgcat.proofs.HeldGroups.{entries_here, groups_at, groups_counted, indexes_here}
 use Rattle.msgcat.proofs.LinkLemmas.{chain_on, chain_over}
 use Rattle.msgcat.proofs.ReadInputs.{entry_is, entry_taken}

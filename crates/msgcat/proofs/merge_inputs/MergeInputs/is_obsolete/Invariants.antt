@@ -1,9 +1,6 @@
 use Rattle.std.proofs.Common.{◌≡◌, ◌-◌, ◌<◌, ℕ, List, [], get_or, length}
-use Rattle.msgcat.specs.Groups.{groups}
-use Rattle.msgcat.specs.Inputs.{Named, all_entries}
+use Rattle.msgcat.specs.Prelude.{groups, Named, all_entries, HoldInputs, messages}
 use Rattle.msgcat.specs.Internal.EntriesAt.{entries_at}
-use Rattle.msgcat.specs.MergeInputs.{HoldInputs}
-use Rattle.msgcat.specs.Merged.{messages}
 use Rattle.msgcat.proofs.Walks.{AreLeft, any_live}
 use Rattle.msgcat.proofs.merge_inputs.MergeInputs.is_obsolete.Given as goal
 

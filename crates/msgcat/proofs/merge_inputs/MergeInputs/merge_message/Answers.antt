@@ -1,7 +1,6 @@
 use Rattle.std.proofs.Common.{◌∷◌, [], ◌∙◌, ap, subst}
 use Rattle.std.proofs.lemmas.Result.{err_from_is_err_and}
-use Rattle.msgcat.specs.Inputs.{named_entries}
-use Rattle.msgcat.specs.Merged.{IsMergeFault}
+use Rattle.msgcat.specs.Prelude.{named_entries, IsMergeFault}
 use Rattle.msgcat.proofs.MergedOnes.{alone_merged, kept_can, kept_message}
 use Rattle.msgcat.proofs.merge_inputs.MergeInputs.merge_message.Goals as goal
 

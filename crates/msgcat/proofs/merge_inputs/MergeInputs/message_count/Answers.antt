@@ -1,7 +1,6 @@
 use Rattle.std.proofs.Common.{arith}
 use Rattle.std.proofs.lemmas.List.{length-map}
-use Rattle.msgcat.specs.Groups.{definitions, groups}
-use Rattle.msgcat.specs.Inputs.{all_entries}
+use Rattle.msgcat.specs.Prelude.{definitions, groups, all_entries}
 use Rattle.msgcat.proofs.HeldGroups.{groups_counted}
 use Rattle.msgcat.proofs.merge_inputs.MergeInputs.message_count.Goals as goal
 

@@ -1,13 +1,9 @@
 use Rattle.std.proofs.Common.{◌≡◌, ◌∙◌, ap, length, subst}
 use Rattle.std.specs.Prelude.{All}
-use Rattle.po_entry.specs.Validity.{IsCatalogueEntry}
-use Rattle.po_entry.specs.Message.{first_ones, group_numbers, entry_messages, same_message}
+use Rattle.po_entry.specs.Prelude.{IsCatalogueEntry, first_ones, group_numbers, entry_messages, same_message}
 use Rattle.po_entry.proofs.FirstOnes.{numbers_below}
 use Rattle.po_entry.proofs.MessageIndex.{same_message_laws}
-use Rattle.msgcat.specs.Grouping.{named_messages}
-use Rattle.msgcat.specs.Inputs.{all_entries}
-use Rattle.msgcat.specs.Groups.{AreLinked, indexes_by}
-use Rattle.msgcat.specs.MergeInputs.{count_messages}
+use Rattle.msgcat.specs.Prelude.{named_messages, all_entries, AreLinked, indexes_by, count_messages}
 use Rattle.msgcat.proofs.HeldGroups.{messages_of}
 use Rattle.msgcat.proofs.ReadInputs.{all_can}
 use Rattle.msgcat.proofs.merge_inputs.MergeInputs.of.Goals as goal

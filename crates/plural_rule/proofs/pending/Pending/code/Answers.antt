@@ -2,7 +2,7 @@ use Rattle.std.proofs.Common.{◌≡◌, ℕ, ◌+◌, ◌*◌, ◌/◌, ◌%◌
 use Rattle.plural_rule.specs.declared.operator.Operator.{Operator}
 use Rattle.plural_rule.specs.declared.operator.Operator.TheVariants.{Or}
 use Rattle.plural_rule.specs.declared.pending.Pending.TheVariants.{Binary}
-use Rattle.plural_rule.specs.Instruction.{operator_code}
+use Rattle.plural_rule.specs.Prelude.{operator_code}
 use Rattle.plural_rule.specs.Internal.Pending.{pending_by, pending_of}
 use Rattle.plural_rule.proofs.pending.Pending.code.Goals as goal
 

@@ -1,5 +1,5 @@
 use Rattle.std.proofs.Common.{◌≡◌, ◌+◌, ◌*◌, ◌^◌, ◌≤◌, drop}
-use Rattle.plural_rule.specs.Expression.{nodes}
+use Rattle.plural_rule.specs.Prelude.{nodes}
 use Rattle.plural_rule.proofs.Programs.{all_begin}
 use Rattle.plural_rule.proofs.rule.Rule.nodes.Given as goal
 

@@ -2,9 +2,7 @@ use Rattle.std.proofs.Common.{◌≡◌, List, refl, ap, sym, ◌∙◌}
 use Rattle.plural_rule.specs.declared.instruction.Instruction.{Instruction}
 use Rattle.plural_rule.specs.declared.rule.Source.TheVariants.{Default}
 use Rattle.plural_rule.specs.declared.rule.Reason.TheVariants.{NoNumber}
-use Rattle.plural_rule.specs.Expression.{Tree}
-use Rattle.plural_rule.specs.PluralRule.{default_rule}
-use Rattle.plural_rule.specs.Program.{program, tree_of, tree_of-program}
+use Rattle.plural_rule.specs.Prelude.{Tree, default_rule, program, tree_of, tree_of-program}
 use Rattle.plural_rule.proofs.rule.Rule.of_no_header.Goals as goal
 
 tree_is : (code : List Instruction) (t : Tree) → code ≡ program 0 t → tree_of code ≡ t

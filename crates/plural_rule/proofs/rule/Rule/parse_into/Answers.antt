@@ -1,9 +1,7 @@
 use Rattle.std.proofs.Common.{◌≡◌, List, sym, ap, subst, ◌∙◌}
 use Rattle.plural_rule.specs.declared.instruction.Instruction.{Instruction}
 use Rattle.plural_rule.specs.declared.rule.Source.TheVariants.{Default}
-use Rattle.plural_rule.specs.Expression.{Tree}
-use Rattle.plural_rule.specs.PluralRule.{IsReadable, default_rule, expression_limit}
-use Rattle.plural_rule.specs.Program.{program, tree_of, tree_of-program}
+use Rattle.plural_rule.specs.Prelude.{Tree, IsReadable, default_rule, expression_limit, program, tree_of, tree_of-program}
 use Rattle.plural_rule.proofs.rule.Rule.parse_into.Goals as goal
 
 tree_is : (code : List Instruction) (t : Tree) → code ≡ program 0 t → tree_of code ≡ t

@@ -1,6 +1,6 @@
 use Rattle.std.proofs.Common.{◌≡◌, ◌∙◌, map, []}
 use Rattle.std.proofs.lemmas.List.{with_items_is}
-use Rattle.po_entry.specs.TextEntry.{texts}
+use Rattle.po_entry.specs.Prelude.{texts}
 use Rattle.po_entry.proofs.Changes.{IsEntry-emptied}
 use Rattle.po_catalog.proofs.entry.Entry.empty_forms.Goals as goal
 

@@ -2,7 +2,7 @@ use Rattle.std.proofs.Common.{◌≡◌, ◌<◌, ◌≤◌, ◌+◌, ap, ap₂,
 use Rattle.std.proofs.lemmas.List.{take_all}
 use Rattle.std.proofs.lemmas.List.Filters.{length-filter_more}
 use Rattle.std.proofs.lemmas.List.Sums.{length-filter}
-use Rattle.po_compile.specs.Collected.{live_message}
+use Rattle.po_compile.specs.Prelude.{live_message}
 use Rattle.po_compile.specs.Internal.Rows.{has_no_key}
 use Rattle.po_compile.proofs.JoinedRows.{header_seen}
 use Rattle.po_compile.proofs.LiveMessages.{as_many, message_at}

@@ -2,8 +2,7 @@ use Rattle.std.proofs.Common.{◌≡◌, ◌∙◌, sym, ap, subst, map, filter,
 use Rattle.std.specs.Prelude.{All}
 use Rattle.std.proofs.lemmas.Fn.{filter_same}
 use Rattle.std.proofs.lemmas.List.Elements.{All-filter}
-use Rattle.po_entry.specs.Rows.{LiesIn, entry_at}
-use Rattle.po_entry.specs.Validity.{IsCatalogueEntry}
+use Rattle.po_entry.specs.Prelude.{LiesIn, entry_at, IsCatalogueEntry}
 use Rattle.po_entry.specs.declared.row.Row.{Row}
 use Rattle.po_entry.proofs.RowLemmas.{filtered, kept_live}
 use Rattle.po_entry.proofs.store.Store.keep_live.Goals as goal

@@ -1,8 +1,6 @@
 use Rattle.std.proofs.Common.{◌<◌, ◌^◌, ◌++◌, ◌∷◌, [], ◌∙◌, ap, refl, sym, subst, List, length, arith}
 use Rattle.std.specs.Prelude.{All}
-use Rattle.po_entry.specs.Fields.{entry_view}
-use Rattle.po_entry.specs.TextEntry.{TextEntry}
-use Rattle.po_entry.specs.Validity.{IsCatalogueEntry}
+use Rattle.po_entry.specs.Prelude.{entry_view, TextEntry, IsCatalogueEntry}
 use Rattle.po_entry.specs.declared.row.Row.{Row}
 use Rattle.po_entry.proofs.RowLemmas.{Pushed, always, keeps, pushed}
 use Rattle.po_entry.proofs.store.Store.push.Goals as goal

@@ -1,8 +1,7 @@
 use Rattle.std.proofs.Common.{◌<◌, ◌∙◌, sym, ap, length, map, subst, arith}
 use Rattle.std.specs.Prelude.{All}
 use Rattle.std.proofs.lemmas.List.{length-map}
-use Rattle.po_entry.specs.Rows.{LiesIn, changed_at, entry_at, set_obsolete}
-use Rattle.po_entry.specs.Validity.{IsCatalogueEntry}
+use Rattle.po_entry.specs.Prelude.{LiesIn, changed_at, entry_at, set_obsolete, IsCatalogueEntry}
 use Rattle.po_entry.specs.declared.row.Row.{Row}
 use Rattle.po_entry.proofs.RowLemmas.{all_changed, all_set, obsolete_lies, obsolete_stands, written}
 use Rattle.po_entry.proofs.store.Store.set_obsolete.Goals as goal

@@ -1,5 +1,5 @@
 use Rattle.std.proofs.Common.{◌≡◌, ◌∙◌, ap, sym, subst, inl, inr, length, arith}
-use Rattle.po_syntax.specs.Pieces.{AreOfText, lines_of_rest, BeginsAnew, EndsTranslation}
+use Rattle.po_syntax.specs.Prelude.{AreOfText, lines_of_rest, BeginsAnew, EndsTranslation}
 use Rattle.po_syntax.proofs.LinesRead.{can_end, cut_off, lent_before, line_stops, lines_begin, none_read, read_on}
 use Rattle.po_syntax.proofs.TextLeft.{len_few, read_few}
 use Rattle.po_syntax.proofs.TranslationEnds.{cut_at}

@@ -1,7 +1,6 @@
 use Rattle.std.proofs.Common.{◌≡◌, List, sym, ap, ◌∙◌}
 use Rattle.plural_rule.specs.declared.instruction.Instruction.{Instruction}
-use Rattle.plural_rule.specs.Expression.{Tree}
-use Rattle.plural_rule.specs.Program.{program, tree_of, tree_of-program}
+use Rattle.plural_rule.specs.Prelude.{Tree, program, tree_of, tree_of-program}
 use Rattle.pokit_c.proofs.catalog.PokitCatalog.program.Goals as goal
 
 tree_held : (code : List Instruction) (tree : Tree) → code ≡ program 0 tree → tree_of code ≡ tree

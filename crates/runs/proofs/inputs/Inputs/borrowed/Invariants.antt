@@ -1,5 +1,5 @@
 use Rattle.std.proofs.Common.{◌≡◌, ◌++◌, drop}
-use Rattle.runs.specs.Inputs.{inputs_in, named_inputs, named_files}
+use Rattle.runs.specs.Prelude.{inputs_in, named_inputs, named_files}
 use Rattle.runs.proofs.inputs.Inputs.borrowed.Given as goal
 
 abbrev pub invariant-loop-input : goal.invariant-loop-input

@@ -1,6 +1,6 @@
 use Rattle.std.proofs.Common.{◌≡◌, ◌||◌, ◌+◌, Bool, List, Some, length, drop, vec_len, rules, arith, length-append, refl, sym, subst, ◌∙◌, ap, ⊎_elim}
 use Rattle.std.proofs.lemmas.Bool.{false≢true}
-use Rattle.runs.specs.Inputs.{inputs_in, NamedFile}
+use Rattle.runs.specs.Prelude.{inputs_in, NamedFile}
 use Rattle.std.proofs.lemmas.List.{length-take, places}
 use Rattle.std.proofs.lemmas.List.Sums.{sum_by-append}
 use Rattle.std.specs.List.{sum_by}

@@ -3,7 +3,7 @@ use Rattle.std.specs.Borrow.{Bor}
 use Rattle.std.specs.List.{AllWithin, HoldsAt}
 use Rattle.std.specs.Option.{option_copied}
 use Rattle.std.proofs.lemmas.Iterator.{YieldsList-from_slice, first_from_find}
-use Rattle.runs.specs.Tools.{every_tool, tool_name}
+use Rattle.runs.specs.Prelude.{every_tool, tool_name}
 use Rattle.runs.specs.declared.tool.Tool.{Tool}
 use Rattle.runs.specs.declared.tool.Tool.TheVariants.{Msgfmt, Msgunfmt, Msgattrib, Msgcat, Gettext, Ngettext, Envsubst}
 use Rattle.runs.proofs.tool.Tool.of_name.Goals as goal

@@ -1,6 +1,6 @@
 use Rattle.std.specs.Option.{option_copied}
 use Rattle.std.proofs.lemmas.Bool.{ne_eqb}
-use Rattle.mo_file.specs.Key.{key_cmp, key_of, query_key}
+use Rattle.mo_file.specs.Prelude.{key_cmp, key_of, query_key}
 use Rattle.std.proofs.Common.{ℕ, ◌≡◌, ◌+◌, ◌*◌, ◌<◌, ◌∙◌, ap, arith, cond, not, take, [], ◌∷◌}
 use Rattle.look_up_tests.proofs.LetterLemmas.{length-letters, key_at-letters}
 use Rattle.look_up_tests.proofs.look_ups.letters.LettersKeys.compare.Goals as goal

@@ -1,0 +1,7 @@
+-- What contracts and proofs cite of the definitions of this crate. Declares nothing.
+pub use Rattle.known_runs.specs.Words.{RunsInMemory, answers_in, line_in, operands_of, system_after, system_before, text_of}
+pub use Rattle.known_runs.specs.Ends.{End, EndsInFile, HasStatus, OneEnd, end, end_of}
+pub use Rattle.known_runs.specs.Msgfmt.{EndsMsgfmt, EndsThroughLinks, IsCompiledFrom, plain}
+pub use Rattle.known_runs.specs.Plain.{all_as_they_are, all_messages, named, two_files}
+pub use Rattle.known_runs.specs.LookUps.{EndsLookUp, counted, hello_mo, message, status_or_memory}
+pub use Rattle.known_runs.specs.Substitutions.{EndsSubstituted, IsStatusOrInputFault, values_by}
