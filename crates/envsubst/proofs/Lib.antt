@@ -1,9 +1,10 @@
-pub mod EnvsubstLemmas
+-- The lemmas in reading order: each module stands on those above it.
 pub mod NameLemmas
 pub mod NameLines
 pub mod ReferenceLemmas
-pub mod StreamLemmas
 pub mod SubstitutionLemmas
+pub mod StreamLemmas
+pub mod EnvsubstLemmas
 pub mod VariableLemmas
 pub mod SortedLemmas
 pub mod SpeltReferences

@@ -1,3 +1,4 @@
+-- The definitions in reading order: each module stands on those above it.
 pub mod CountArgument
 pub mod Counting
 pub mod Escapes
@@ -8,10 +9,10 @@ pub mod Environments
 pub mod Choosing
 pub mod Candidates
 pub mod Gettext
-pub mod GettextView
 pub mod Catalogues
-pub mod Options
 pub mod Usage
+pub mod Options
+pub mod GettextView
 pub mod UsageView
 pub mod ArgumentValues
 pub mod WholeRun

@@ -1,8 +1,9 @@
+-- The definitions in reading order: each module stands on those above it.
 pub mod CallCode
 pub mod Noted
 pub mod Source
-pub mod Stored
 pub mod Replay
+pub mod Stored
 pub mod Contents
 pub mod AskedCode
 pub mod Questioned

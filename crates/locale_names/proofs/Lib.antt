@@ -1,3 +1,4 @@
+-- The lemmas in reading order: each module stands on those above it.
 pub mod SearchLemmas
 pub mod PartLemmas
 pub mod CandidateLemmas

@@ -1,7 +1,8 @@
-pub mod Msgattrib
+-- The definitions in reading order: each module stands on those above it.
 pub mod Options
-pub mod Internal
 pub mod Selected
+pub mod Msgattrib
+pub mod Internal
 pub mod SelectionLaws
 pub mod Examples
 pub mod Prelude

@@ -1,12 +1,13 @@
-pub mod Msgcat
+-- The definitions in reading order: each module stands on those above it.
 pub mod Options
-pub mod WholeRun
-pub mod Internal
 pub mod Inputs
 pub mod Groups
 pub mod Merged
+pub mod Msgcat
+pub mod WholeRun
 pub mod Grouping
 pub mod MergeInputs
+pub mod Internal
 pub mod MergeLaws
 pub mod EntryLaws
 pub mod TranslationLaws

@@ -1,3 +1,4 @@
+-- The lemmas in reading order: each module stands on those above it.
 pub mod Profiles
 pub mod MsgfmtLemmas
 pub mod FirstFaults

@@ -1,5 +1,6 @@
-pub mod Msgfmt
+-- The definitions in reading order: each module stands on those above it.
 pub mod Profile
+pub mod Msgfmt
 pub mod ProfileFaults
 pub mod Options
 pub mod WholeRun

@@ -1,17 +1,18 @@
+-- The lemmas in reading order: each module stands on those above it.
 pub mod TextLemmas
 pub mod Filters
 pub mod LiveMessages
-pub mod ReadingLemmas
-pub mod MessageOrder
-pub mod FaultLemmas
-pub mod MeaningLemmas
 pub mod PrefixLemmas
 pub mod CompiledLemmas
-pub mod InputLemmas
 pub mod JoinedRows
 pub mod KeysApart
+pub mod MeaningLemmas
+pub mod MessageOrder
+pub mod ReadingLemmas
+pub mod FaultLemmas
 pub mod RepeatedKeys
 pub mod CompiledRows
 pub mod SortedRows
+pub mod InputLemmas
 pub mod LimitLemmas
 pub mod OneMore

@@ -1,22 +1,23 @@
+-- The definitions in reading order: each module stands on those above it.
 pub mod TextEntry
 pub mod TextLists
 pub mod SeenTexts
-pub mod Rows
 pub mod Fields
 pub mod Texts
+pub mod Rows
 pub mod Header
 pub mod Validity
 pub mod Comments
 pub mod Spelling
 pub mod ReadsText
 pub mod Faults
-pub mod Facts
 pub mod Internal
 pub mod Examples
 pub mod Joined
 pub mod Message
-pub mod MessageLaws
 pub mod Duplicate
+pub mod Facts
 pub mod Statistics
+pub mod MessageLaws
 pub mod MessageExamples
 pub mod Prelude

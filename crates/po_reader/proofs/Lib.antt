@@ -1,17 +1,18 @@
+-- The lemmas in reading order: each module stands on those above it.
 pub mod PreviousOrder
 pub mod Splits
 pub mod Loops
-pub mod Misfits
 pub mod SeenFlags
-pub mod SpeltRuns
-pub mod RunsSpelt
-pub mod Texts
-pub mod SoundCatalogue
-pub mod Faults
 pub mod Turns
+pub mod SpeltRuns
+pub mod Misfits
+pub mod RunsSpelt
+pub mod Faults
 pub mod Heads
 pub mod Results
 pub mod Laid
-pub mod PieceReading
 pub mod SoundFields
 pub mod JoinedStrings
+pub mod SoundCatalogue
+pub mod Texts
+pub mod PieceReading

@@ -1,8 +1,10 @@
+-- The definitions in reading order: each module stands on those above it.
+pub mod Lent
+pub mod Blanks
 pub mod TextItem
 pub mod Escapes
 pub mod Spelling
 pub mod LineFaults
-pub mod Lent
 pub mod PoText
 pub mod Pieces
 pub mod Quoting
@@ -10,5 +12,4 @@ pub mod LineNumbers
 pub mod Internal
 pub mod Facts
 pub mod Examples
-pub mod Blanks
 pub mod Prelude

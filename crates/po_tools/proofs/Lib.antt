@@ -1,7 +1,8 @@
+-- The lemmas in reading order: each module stands on those above it.
 pub mod OneRun
 pub mod OneOtherRun
 pub mod ThereAndBack
 pub mod KeptCompile
 pub mod WrittenAgain
-mod LongerChain
 pub mod SeveralTexts
+mod LongerChain

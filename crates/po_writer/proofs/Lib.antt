@@ -1,3 +1,4 @@
+-- The lemmas in reading order: each module stands on those above it.
 pub mod LinesWithEnds
 pub mod Separated
 pub mod Utf8
@@ -5,13 +6,13 @@ pub mod Blocks
 pub mod Tokens
 pub mod Heads
 pub mod WrittenElements
-pub mod KeywordTexts
-pub mod Bodies
-pub mod Numbered
 pub mod Fields
-pub mod Entries
-pub mod Texts
 pub mod Rewritten
 pub mod Parted
 pub mod CutLines
+pub mod KeywordTexts
+pub mod Numbered
+pub mod Bodies
+pub mod Entries
+pub mod Texts
 pub mod EntryLines

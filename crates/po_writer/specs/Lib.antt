@@ -1,3 +1,4 @@
+-- The definitions in reading order: each module stands on those above it.
 pub mod WrittenText
 pub mod TextParts
 pub mod EntryLines

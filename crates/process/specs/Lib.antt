@@ -1,3 +1,4 @@
+-- The definitions in reading order: each module stands on those above it.
 pub mod Answers
 pub mod SystemCalls
 pub mod FileReadings

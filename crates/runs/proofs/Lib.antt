@@ -1,6 +1,8 @@
+-- The lemmas in reading order: each module stands on those above it.
 pub mod DeviceLemmas
 pub mod InputLemmas
 pub mod OutputLemmas
+pub mod ArgumentLemmas
 mod NewPaths
 mod StreamNames
 mod RightsLemmas
@@ -10,6 +12,5 @@ mod FilledOutputs
 mod WholeOutputs
 mod AskedInTurn
 mod InputsInTurn
-pub mod ArgumentLemmas
 mod WrittenRuns
 mod OneInputs

@@ -1,3 +1,4 @@
+-- The definitions in reading order: each module stands on those above it.
 pub mod Tools
 pub mod Device
 pub mod Run
@@ -7,14 +8,14 @@ pub mod Inputs
 pub mod AskedLaw
 pub mod InputsLaw
 pub mod OutputFiles
-pub mod OutputLaws
 pub mod OutputPaths
+pub mod ArgumentValues
+pub mod Internal
+pub mod Limits
 pub mod OutputWriting
 pub mod Outputs
-pub mod ArgumentValues
+pub mod OutputLaws
 pub mod Delivered
 pub mod ToolRuns
-pub mod Internal
 pub mod Facts
-pub mod Limits
 pub mod Prelude
