@@ -2,11 +2,11 @@
 
 use crate::outcomes::{Outcome, is_memory, of_bytes};
 use mo_file::{BuildError, Order, Pair, build};
+use msgunfmt::{UnformatError, unformat};
 use po_catalog::{Catalogue, Entry, Stats, duplicates, joined_duplicates, read, write};
 use po_compile::{Options, compile, compile_all};
 use po_syntax::{PoError, PoFault, items, quote};
 use po_tools::{MergeOptions, Named, Selection, merge, select};
-use msgunfmt::{UnformatError, unformat};
 use std::alloc::Global;
 
 pub(crate) const ONE_MESSAGE: &[u8] = b"msgid \"a\"\nmsgstr \"b\"\n";

@@ -7,9 +7,12 @@ ghost use Rattle.msgcat.specs.Prelude.{HoldInputs, AreReadAs, IsFileFault};
 ghost use Rattle.msgcat.specs.Internal.Inputs.{AreNumberedInputs, AreReadUpTo, IsFirstRepeating};
 ghost use Rattle.runs.specs.Prelude.{named_files};
 
-use po_entry::{Drafts, EntryPlace, Store, duplicate_at, message_numbers, places_of, repeated_lines, split_at_most};
 use crate::input::ReadInput;
 use crate::merge_inputs::MergeInputs;
+use po_entry::{
+    Drafts, EntryPlace, Store, duplicate_at, message_numbers, places_of, repeated_lines,
+    split_at_most,
+};
 use po_reader::read_into;
 use po_syntax::{PoError, PoFault};
 use std::alloc::{AllocError, AllocFailed, Global};

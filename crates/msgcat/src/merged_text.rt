@@ -6,9 +6,9 @@ ghost use Rattle.msgcat.specs.Prelude.{HoldInputs, IsMergeFault, merged, merged_
 ghost use Rattle.po_writer.specs.Prelude.{with_entry};
 ghost use Rattle.msgcat.specs.Internal.MergedText.{IsPartWritten, IsTextOfMerged};
 
-use po_entry::Store;
 use crate::input::MergeOptions;
 use crate::merge_inputs::MergeInputs;
+use po_entry::Store;
 use po_syntax::PoError;
 use po_writer::push_separated;
 use std::alloc::Global;

@@ -7,11 +7,11 @@ ghost use Rattle.msgcat.specs.Internal.ReadFiles.{IsReadingOf};
 ghost use Rattle.msgcat.specs.Internal.NulNames.{IsFirstWithNul};
 ghost use Rattle.runs.specs.Prelude.{NamedFile, named_files, run_view};
 
+use crate::input::MergeOptions;
 use crate::inputs::{FileFault, read_inputs};
+use crate::merge_inputs::MergeInputs;
 use crate::merged_text::merged_text;
 use memchr::memchr;
-use crate::input::MergeOptions;
-use crate::merge_inputs::MergeInputs;
 use runs::{ProgramFault, Run, ToolFault, refused_text, text_run};
 use std::alloc::{AllocError, Global};
 

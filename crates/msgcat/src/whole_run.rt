@@ -4,9 +4,9 @@ ghost use Rattle.po_entry.specs.Prelude.{Lacks};
 ghost use Rattle.msgcat.specs.Prelude.{Named, AreReadAs, HasNulName, IsMsgcatRun, IsUnread, IsUnreadBeforeNul, RunsMsgcat};
 ghost use Rattle.runs.specs.Prelude.{AsksFirst, asked_by, named_inputs, program_text, run_view, asking};
 
+use crate::input::MergeOptions;
 use crate::inputs::read_inputs;
 use crate::plan::{first_with_nul, plan_msgcat_before, run_of_read};
-use crate::input::MergeOptions;
 use runs::{ByteOut, InputSource, Inputs, OutputFiles, OutputSystem, ProgramFault, Run};
 use std::alloc::Global;
 

@@ -23,7 +23,9 @@ ghost use Rattle.plural_rule.specs.Internal.ParserState.{held, IsWaiting, IsOper
 
 use crate::instruction::Instruction;
 use crate::lexer;
-use crate::parser_state::{Parser, Room, begin, complete, push, push_branch, push_numeral, skip_operand};
+use crate::parser_state::{
+    Parser, Room, begin, complete, push, push_branch, push_numeral, skip_operand,
+};
 use crate::pending::{Pending, newest, wait};
 use crate::token::Token;
 

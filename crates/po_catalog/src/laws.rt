@@ -5,11 +5,10 @@ ghost use Rattle.po_syntax.specs.Prelude.{IsSmall};
 ghost use Rattle.po_entry.specs.Prelude.{TextEntry, with_line, IsCatalogueEntry, ReadsText};
 ghost use Rattle.po_writer.specs.Prelude.{arranged, written_text};
 
-pub use po_entry::laws::equal_but_line;
 pub use po_entry::laws::{
-    later_headers_are_omitted, messages_are_numbered_in_order, no_duplicate_or_first,
-    no_first_duplicate_where_none, one_first_duplicate, one_number_is_one_message,
-    statistics_count_each_once,
+    equal_but_line, later_headers_are_omitted, messages_are_numbered_in_order,
+    no_duplicate_or_first, no_first_duplicate_where_none, one_first_duplicate,
+    one_number_is_one_message, statistics_count_each_once,
 };
 pub use po_reader::laws::{
     entries_can_stand, entries_or_fault, no_fault_is_memory, no_fault_where_entries, one_fault,

@@ -32,5 +32,4 @@ pub use crate::stats::{has_translation, statistics};
 pub use crate::stores::{catalogue_of, push_entry, store_of};
 pub use crate::text_list::TextList;
 pub use crate::writing::write;
-pub use po_entry::Previous;
-pub use po_entry::{JoinError, Stats};
+pub use po_entry::{JoinError, Previous, Stats};

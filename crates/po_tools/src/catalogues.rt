@@ -8,12 +8,12 @@ ghost use Rattle.po_compile.specs.Prelude.{HoldCatalogues};
 ghost use Rattle.msgfmt.specs.Prelude.{AreChecked};
 ghost use Rattle.po_tools.specs.Prelude.{AreStored, inputs_view};
 
+use msgattrib::{Attributes, Selection};
+use msgcat::{MergeInputs, MergeOptions, ReadInput};
 use msgfmt::{CheckFault, check_collected};
 use po_catalog::{Catalogue, Entry, has_translation, push_entry, store_of};
 use po_compile::Collected;
 use po_entry::{Store, message_numbers};
-use msgcat::{MergeInputs, MergeOptions, ReadInput};
-use msgattrib::{Attributes, Selection};
 use po_syntax::PoError;
 use std::alloc::{AllocError, Global};
 

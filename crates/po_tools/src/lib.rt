@@ -25,17 +25,14 @@ pub use gettext::{
     borrowed_catalogues, find_catalogues, plan_gettext, plan_look_up, plan_ngettext,
     read_catalogues,
 };
-pub use msgattrib::{plan_msgattrib, selection_of};
-pub use msgcat::{merge_options_of, plan_msgcat, plan_msgcat_before, plan_msgcat_of};
+pub use msgattrib::{Selection, plan_msgattrib, selection_of};
+pub use msgcat::{MergeOptions, merge_options_of, plan_msgcat, plan_msgcat_before, plan_msgcat_of};
 pub use msgfmt::laws::first_profile_fault;
 pub use msgfmt::{CheckFault, MsgfmtOptions, msgfmt_options_of, plan_msgfmt, plan_msgfmt_of};
-pub use msgunfmt::plan_msgunfmt;
+pub use msgunfmt::{UnformatError, laws as unformat_laws, plan_msgunfmt, unformat};
 pub use one_input::{run_msgattrib, run_msgfmt, run_msgunfmt};
 pub use po_compile::{Compiled, Options, compile, compile_all, laws};
-pub use msgcat::MergeOptions;
 pub use po_entry::JoinError;
-pub use msgattrib::Selection;
-pub use msgunfmt::{UnformatError, laws as unformat_laws, unformat};
 pub use run_laws::{
     kept_entries_compile_alike, longer_chain_answers_alike, msgcat_again, msgcat_compiles_alike,
     msgcat_of_several, one_look_up_run, one_msgattrib_run, one_msgcat_run, one_msgfmt_run,

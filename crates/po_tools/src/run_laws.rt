@@ -4,19 +4,19 @@ ghost use Rattle.po_tools.specs.Prelude.{CompiledAreKept, KeptCompilesAlike, Lon
 
 use mo_file::laws::{no_fault_of_mo_file, one_first_fault, one_message_list};
 use mo_lookup::one_rule;
+use msgattrib::laws::conditions_alone_keep;
+use msgcat::laws::{
+    distinct_inputs_stay, merged_entries_can_stand, messages_stand_once, one_input_stays,
+};
+use msgunfmt::laws::{
+    no_fault_where_unformatted, one_text, one_unformat_fault, unformat_then_compile,
+};
 use po_compile::laws::{
     catalogues_are_one, messages_are_one, no_fault_where_accepted, no_fault_where_distinct,
     one_compile_fault, one_text_fault,
 };
-use msgcat::laws::{
-    distinct_inputs_stay, merged_entries_can_stand, messages_stand_once, one_input_stays,
-};
 use po_entry::laws::{no_first_duplicate_where_none, one_first_duplicate};
 use po_reader::laws::{entries_can_stand, one_reading};
-use msgattrib::laws::conditions_alone_keep;
-use msgunfmt::laws::{
-    no_fault_where_unformatted, one_text, one_unformat_fault, unformat_then_compile,
-};
 use po_writer::laws::{written_text_again, written_text_reads};
 
 /// Inputs and options of `msgfmt` have one run: its output, messages and status are functions of

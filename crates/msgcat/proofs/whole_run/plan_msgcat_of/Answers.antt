@@ -73,13 +73,16 @@ returns-clause-names c =
     (ap named_files c.deref.ensures.value ∙ c.in_ok-texts.ensures.files) c.in_default.ensures)
 
 pub run_of_read-requires : goal.run_of_read-requires
-run_of_read-requires c =
-    (named_files c.deref-2.result.now, MatchResult-from_both c.read_inputs-read.result _ _ c.read_inputs-read.ensures.read
-    c.read_inputs-read.ensures.fault)
+run_of_read-requires c = (
+  named_files c.deref-2.result.now,
+  MatchResult-from_both c.read_inputs-read.result _ _ c.read_inputs-read.ensures.read
+      c.read_inputs-read.ensures.fault,
+)
 
 pub returns-clause-whole : goal.returns-clause-whole
 returns-clause-whole c = λ none.
     c.in_ok-run.ensures (named_inputs c.args.inputs)
     (subst (λ files. IsReadingOf files c.read_inputs-read.result)
     (ap named_files c.deref-2.ensures.value ∙ c.in_ok-texts.ensures.files)
-    (MatchResult-from_both c.read_inputs-read.result _ _ c.read_inputs-read.ensures.read c.read_inputs-read.ensures.fault))
+    (MatchResult-from_both c.read_inputs-read.result _ _ c.read_inputs-read.ensures.read
+    c.read_inputs-read.ensures.fault))

@@ -27,7 +27,8 @@ returns-in_err-merged_entry-in-Some-kept_definitions-clause-fault c =
     let group = named_entries c.in_ok-group.group.items in
     subst (λ l. IsMergeFault l c.in_err-merged_entry-in-Some-kept_definitions.field-0.0)
     (kept_message read c.args.number group below (c.in_ok-group.ensures read h below)
-    (named_entries c.in-Some-kept_definitions.definitions.items) c.in-Some-kept_definitions.ensures.some.0 c.args.options.now c.in-Some-kept_definitions.ensures.some.1)
+    (named_entries c.in-Some-kept_definitions.definitions.items) c.in-Some-kept_definitions.ensures.some.0
+    c.args.options.now c.in-Some-kept_definitions.ensures.some.1)
     c.in_err-merged_entry-in-Some-kept_definitions.ensures.fault)
 
 pub returns-in_ok-merged_entry-in-Some-kept_definitions-clause-merged :
@@ -36,4 +37,5 @@ returns-in_ok-merged_entry-in-Some-kept_definitions-clause-merged c = λ read h 
     let group = named_entries c.in_ok-group.group.items in
     ap (λ e. e ∷ []) c.in_ok-merged_entry-in-Some-kept_definitions.ensures.merged
     ∙ kept_message read c.args.number group below (c.in_ok-group.ensures read h below)
-    (named_entries c.in-Some-kept_definitions.definitions.items) c.in-Some-kept_definitions.ensures.some.0 c.args.options.now c.in-Some-kept_definitions.ensures.some.1
+    (named_entries c.in-Some-kept_definitions.definitions.items) c.in-Some-kept_definitions.ensures.some.0
+    c.args.options.now c.in-Some-kept_definitions.ensures.some.1
