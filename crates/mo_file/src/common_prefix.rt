@@ -39,8 +39,8 @@ pub(crate) fn long_common_prefix_len(stop: u8, first: &[u8], second: &[u8]) -> u
     }
 }
 
-/// The length of that common prefix within the first `len` bytes, compared `LANES` at a time. The last group ends at `len`,
-/// so it may begin with bytes of the group before it.
+/// The length of that common prefix within the first `len` bytes, compared `LANES` at a time. The
+/// last group ends at `len`, so it may begin with bytes of the group before it.
 #[inline(always)]
 fn common_prefix_within<const LANES: usize>(
     stop: u8,

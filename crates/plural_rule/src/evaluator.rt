@@ -43,8 +43,8 @@ pub fn evaluate(instructions: &[Instruction], count: u64, steps: &mut Steps) -> 
 /// values it takes, and how many instructions it skips.
 type Effect = (Option<u64>, usize, u16);
 
-/// The value of the expression at `count`, with room for `N` values: half of the instructions suffice, since an operator takes
-/// two.
+/// The value of the expression at `count`, with room for `N` values: half of the instructions
+/// suffice, since an operator takes two.
 ///
 /// The newest value stands beside the array, whose first value is none of the program's.
 #[inline(never)]

@@ -4,7 +4,8 @@
 //!
 //! The modules in reading order: `tool`, `tool_fault`, `device`, `failing` for tests,
 //! `whole_input`, `run`, `program_fault`, `fault_text`, `arguments`, `inputs`, `output_files`,
-//! `output_paths`, `output_writing`, `output_system`, `run_of_text` for msgattrib and msgcat, `laws`.
+//! `output_paths`, `output_writing`, `output_system`, `run_of_text` for msgattrib and msgcat,
+//! `laws`.
 
 #![tactic(auto)]
 
