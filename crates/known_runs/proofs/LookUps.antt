@@ -251,7 +251,7 @@ module _ (text bytes : List ℕ) (made : Compiled) (from : IsCompiledFrom text m
       looked_up text bytes query made from same_bytes no_fault one_list old new out err
       before.written after.written (searching (λ name value. value ≡ variables name) file before.asked after.asked)
       (λ v e. e ∙ all) (λ v e. e ∙ messages) (λ v e. e ∙ lang) (λ v e. e ∙ language) (λ v e. e ∙ folder) is leaves same
-      command domain says {result} looks
+      command domain says {result = result} looks
 
   domain_is : (argument option : Option (List ℕ)) → argument ≡ Some (codes "hello") → option ≡ given (codes "domain")
       → given_domain argument option ≡ given_domain (Some (codes "hello")) None
