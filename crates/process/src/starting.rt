@@ -23,10 +23,10 @@ pub fn start<S: SystemCalls + Copy>(alloc: Global, system: S) -> Ending
         (λ text. ReadsFile (S.opens system (codes "/proc/self/environ")) (gives text)) entries)) result }
 {
     let mut calls = system;
-    let mut errors = Counted::new(calls.errors());
     if let Err(fault) = replace_closed(&mut calls) {
-        return report(&mut errors, None, fault);
+        return report(&mut Counted::new(calls.errors()), None, fault);
     }
+    let mut errors = Counted::new(calls.errors());
     let mut reader = Counted::new(calls.input());
     let mut source = Source(&system);
     let mut output = OutputSystem {

@@ -7,4 +7,4 @@ returns-in-Err g c =
     (is_closed c.in-Err.fault c.in-Err.ensures.calls c.in-Err.ensures.fault c.report.ensures.line)
 
 pub returns : goal.returns
-returns g c = runs c.run.ensures
+returns g c = runs c.in_default.ensures.calls c.run.ensures
