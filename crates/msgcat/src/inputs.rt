@@ -68,10 +68,9 @@ fn read_each<'a>(
     ensures read { IfOk result (AreReadUpTo (named_files inputs.now)) }
     ensures memory { IfErr result (λ fault. fault.error ≡ out_of_memory) }
 {
-    // An entry has hardly ever more bytes in the store than in its text, which mostly has more
-    // than 64.
+    // An entry has hardly ever more bytes in the store than in its text.
     let room = inputs.iter().fold(0_usize, |total, (_, text)| total.saturating_add(text.len()));
-    let mut store = Store::with_capacity(alloc, room / 64, room)?;
+    let mut store = Store::with_capacity(alloc, 0, room)?;
     let mut drafts = Drafts::new(alloc);
     let mut read = Vec::new(alloc);
     for (name, text) in inputs {
