@@ -82,17 +82,6 @@ fn collected(
     Ok(all)
 }
 
-/// A list of texts.
-fn listed(alloc: Global, texts: TextListIter<'_>) -> Result<TextList, AllocError>
-    ensures { IfOk result (λ list. list ≡ texts_left texts.entry) }
-{
-    let mut list = TextList::new(alloc);
-    for text in texts {
-        list.push(text)?;
-    }
-    Ok(list)
-}
-
 /// The comments of one kind that the definitions are merged to.
 pub(crate) fn comment_of(
     alloc: Global,
@@ -104,10 +93,7 @@ pub(crate) fn comment_of(
     ensures { IfOk result (λ all. all ≡ comment_of options.now kind (named_entries definitions.now)) }
 {
     if options.use_first {
-        listed(
-            alloc,
-            texts_of(first_with(definitions, Part::Translation), kind),
-        )
+        texts_of(first_with(definitions, Part::Translation), kind).copy(alloc)
     } else {
         collected(alloc, definitions, kind)
     }

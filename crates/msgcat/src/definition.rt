@@ -5,7 +5,7 @@ ghost use Rattle.msgcat.specs.Prelude.{definitions, named, named_entries, is_kep
 ghost use Rattle.msgcat.specs.Internal.FirstParts.{has_part};
 
 use crate::input::MergeOptions;
-use po_entry::EntryRef;
+use po_entry::{EntryRef, has_translation};
 
 /// An entry of one of several inputs, with that input's name.
 #[derive(Drop)]
@@ -84,7 +84,7 @@ pub(crate) fn has_part(entry: &EntryRef<'_>, part: Part) -> bool
     ensures { result ≡ has_part part entry.now }
 {
     match part {
-        Part::Translation => entry.forms().next().is_some_and(|form| !form.is_empty()),
+        Part::Translation => has_translation(entry),
         Part::Previous => {
             entry.previous_context().is_some()
                 || entry.previous_id().is_some()

@@ -1,7 +1,7 @@
 //! What several definitions of one message are merged to.
 
 ghost use Rattle.std.specs.Prelude.{◌≡◌, ◌<◌, ◌++◌, ◌∷◌, [], length, All, IfOk, IfErr, OnErr, OnOk};
-ghost use Rattle.po_entry.specs.Prelude.{entry_view, forms_left, texts, IsCatalogueEntry};
+ghost use Rattle.po_entry.specs.Prelude.{entry_view, texts, IsCatalogueEntry};
 ghost use Rattle.msgcat.specs.Prelude.{IsDefinition, named_entries, merged_entry, first_translated, IsMergeFault, CanBeMerged};
 ghost use Rattle.msgcat.specs.Internal.Comments.{comments_alone};
 
@@ -9,20 +9,9 @@ use crate::comments::comment_of;
 use crate::definition::{NamedEntry, Part, first_with};
 use crate::input::MergeOptions;
 use crate::joined_translations::{joined_forms, translations};
-use po_entry::{EntryRef, Fields, FormIter, Previous, Store, copy_optional};
+use po_entry::{EntryRef, Fields, Store, copy_optional};
 use po_syntax::{CommentKind, PoError, PoFault};
 use std::alloc::{AllocError, Global};
-
-/// Copies of forms.
-fn copied_forms(alloc: Global, forms: FormIter<'_>) -> Result<Vec<Vec<u8>>, AllocError>
-    ensures { IfOk result (λ copies. texts copies.items ≡ forms_left forms.entry) }
-{
-    let mut copies = Vec::new(alloc);
-    for form in forms {
-        copies.push(form.to_vec(alloc)?)?;
-    }
-    Ok(copies)
-}
 
 /// The forms of the first translation, or else of the first definition, and whether that definition
 /// is fuzzy.
@@ -35,7 +24,7 @@ fn taken_forms(
     ensures fuzzy { IfOk result (λ r. r.1 ≡ (first_translated (named_entries definitions.now)).fuzzy) }
 {
     let taken = first_with(definitions, Part::Translation);
-    Ok((copied_forms(alloc, taken.forms())?, taken.fuzzy()))
+    Ok((taken.forms().copy(alloc)?, taken.fuzzy()))
 }
 
 /// The forms that the definitions are merged to, and whether these are fuzzy.
@@ -95,11 +84,7 @@ fn fill_texts(
     let (forms, fuzzy) = merged_forms(alloc, options, definitions)?;
     fields.forms = forms;
     fields.fuzzy = fuzzy;
-    fields.previous = Previous {
-        context: copy_optional(alloc, earliest.previous_context())?,
-        id: copy_optional(alloc, earliest.previous_id())?,
-        plural: copy_optional(alloc, earliest.previous_plural())?,
-    };
+    fields.previous = earliest.copy_previous(alloc)?;
     fields.context = copy_optional(alloc, first.context())?;
     fields.id = first.id().to_vec(alloc)?;
     fields.plural = copy_optional(alloc, first_with(definitions, Part::Plural).plural())?;

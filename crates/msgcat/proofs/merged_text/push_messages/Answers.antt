@@ -1,4 +1,4 @@
-use Rattle.std.proofs.Common.{◌≡◌, ◌≢◌, ◌<◌, ◌∙◌, ap, arith, inl, inr, length, rules}
+use Rattle.std.proofs.Common.{◌<◌, ◌∙◌, ap, arith, inl, inr, length}
 use Rattle.std.proofs.lemmas.Result.{err_from_is_err_and}
 use Rattle.msgcat.specs.Prelude.{messages}
 use Rattle.msgcat.proofs.GroupsMerged.{fault_of_one}
