@@ -7,7 +7,7 @@ use Rattle.std.specs.List.{range_with_len}
 use Rattle.std.specs.declared.cmp.Ordering.TheVariants.{Less, Equal, Greater}
 use Rattle.std.proofs.Common.{arith}
 use Rattle.plural_rule.specs.declared.rule.Source.TheVariants.{Header}
-use Rattle.plural_rule.specs.Expression.{Count, Not}
+use Rattle.plural_rule.specs.Evaluator.{Count, Not}
 use Rattle.plural_rule.specs.Prelude.{RuleView, IsRuleOf}
 use Rattle.mo_file.specs.Prelude.{Message}
 use Rattle.mo_lookup.specs.Search.{halvings_within, search_bound, BoundHalves, BoundIsLogarithm, half, keys_left, comparisons_within, comparisons, query_comparisons}

@@ -8,5 +8,3 @@ pub mod Chain
 pub mod Laws
 pub mod Examples
 pub mod Prelude
-pub use Rattle.plural_rule.specs.Expression
-pub use Rattle.plural_rule.specs.PluralRule

@@ -6,9 +6,9 @@ use Rattle.plural_rule.specs.declared.operator.Operator.TheVariants.{Or}
 use Rattle.plural_rule.specs.declared.token.Token.{Token}
 use Rattle.plural_rule.specs.declared.token.Token.TheVariants.{Binary as BinaryToken, Question, Colon, Close}
 use Rattle.plural_rule.specs.Prelude.{Tree, Spells, level}
-use Rattle.plural_rule.specs.Expression.{Not, Binary, Conditional}
-use Rattle.plural_rule.specs.Grammar.{tighter, conditional, binary, negation, parentheses, count, numeral}
-use Rattle.plural_rule.specs.Internal.ShiftReduce.{Waiting, WaitNot, WaitOpen, WaitBinary, WaitQuestion, WaitColon, Operand, Want, Have, reduce, at_colon, at_close, alone, outcome_from, outcome}
+use Rattle.plural_rule.specs.Evaluator.{Not, Binary, Conditional}
+use Rattle.plural_rule.specs.Parser.{tighter, conditional, binary, negation, parentheses, count, numeral}
+use Rattle.plural_rule.specs.Internal.Parser.{Waiting, WaitNot, WaitOpen, WaitBinary, WaitQuestion, WaitColon, Operand, Want, Have, reduce, at_colon, at_close, alone, outcome_from, outcome}
 
 -- every operator's level is from 1 to 6
 pub level-range : (op : Operator) → (1 ≤ level op) × (level op ≤ 6)

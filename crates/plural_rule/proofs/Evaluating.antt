@@ -6,8 +6,7 @@ use Rattle.std.proofs.lemmas.Bool.Decides.{eqb_tells, leb_tells}
 use Rattle.plural_rule.specs.declared.operator.Operator.{Operator}
 use Rattle.plural_rule.specs.declared.operator.Operator.TheVariants.{Or, And, Equal, NotEqual, Less, Greater, AtMost, AtLeast, Add, Subtract, Multiply, Divide, Remainder}
 use Rattle.plural_rule.specs.Prelude.{Tree, needs_right, short_circuit_value, combined, truth, binary_value, chosen, value, Evaluates}
-use Rattle.plural_rule.specs.Expression.{Count, Number, Not, Binary, Conditional}
-use Rattle.plural_rule.specs.Evaluates.{count, numeral, not_zero, not_other, or_first, or_second, or_neither, and_first, and_second, and_both, equal, equal_not, unequal, unequal_not, less, less_not, greater, greater_not, at_most, at_most_not, at_least, at_least_not, sum, difference, product, quotient, remainder, then_case, else_case}
+use Rattle.plural_rule.specs.Evaluator.{Count, Number, Not, Binary, Conditional, count, numeral, not_zero, not_other, or_first, or_second, or_neither, and_first, and_second, and_both, equal, equal_not, unequal, unequal_not, less, less_not, greater, greater_not, at_most, at_most_not, at_least, at_least_not, sum, difference, product, quotient, remainder, then_case, else_case}
 
 -- the value, as a record, which shows the tree and the number
 record Has (n : ℕ) (t : Tree) (v : ℕ) : Type 0 where

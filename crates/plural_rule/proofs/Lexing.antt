@@ -9,7 +9,7 @@ use Rattle.plural_rule.specs.declared.token.Token.TheVariants.{Count, Number, No
 use Rattle.std.specs.Str.Parse.{AllDigits, digits_value}
 use Rattle.std.specs.Char.{is_ascii_digit}
 use Rattle.plural_rule.specs.Prelude.{is_blank, operator_bytes, IsSpelling, IsLongest, Lexes}
-use Rattle.plural_rule.specs.Tokens.{end, blank, token}
+use Rattle.plural_rule.specs.Lexer.{end, blank, token}
 use Rattle.plural_rule.proofs.Numerals.{below_ten_digit}
 
 -- what is known of bytes that spell a token, by a function of the bytes

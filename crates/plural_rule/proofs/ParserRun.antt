@@ -11,9 +11,9 @@ use Rattle.std.proofs.lemmas.Bool.{false≢true, cases_Bool, cases_lt, le-ltb, l
 use Rattle.plural_rule.specs.declared.token.Token.{Token}
 use Rattle.plural_rule.specs.declared.token.Token.TheVariants.{Number as NumberToken, Binary as BinaryToken}
 use Rattle.plural_rule.specs.Prelude.{Tree, is_blank, operator_bytes, Lexes, Spelt, without_blanks, expression_limit}
-use Rattle.plural_rule.specs.Tokens.{end, blank, token}
-use Rattle.plural_rule.specs.Internal.Scanner.{IsTokenAt, IsTooLarge, HasNoToken}
-use Rattle.plural_rule.specs.Internal.ShiftReduce.{State, Want, Have, step, finish, outcome_from}
+use Rattle.plural_rule.specs.Lexer.{end, blank, token}
+use Rattle.plural_rule.specs.Internal.Lexer.{IsTokenAt, IsTooLarge, HasNoToken}
+use Rattle.plural_rule.specs.Internal.Parser.{State, Want, Have, step, finish, outcome_from}
 use Rattle.plural_rule.specs.Internal.ParserState.{Held, held, Represents, Answers, HoldsTree, HoldsExpression, most_added}
 use Rattle.plural_rule.specs.declared.instruction.Instruction.{Instruction}
 use Rattle.plural_rule.specs.declared.parser_state.Parser.{Parser}

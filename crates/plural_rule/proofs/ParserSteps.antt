@@ -8,8 +8,8 @@ use Rattle.plural_rule.specs.declared.parser_state.Parser.{Parser}
 use Rattle.plural_rule.specs.declared.pending.Pending.{Pending}
 use Rattle.plural_rule.specs.declared.pending.Pending.TheVariants.{Open as OpenPending, Question as QuestionPending, Colon as ColonPending}
 use Rattle.plural_rule.specs.Prelude.{Tree, count_instruction, number_instruction, wide_instruction, low_instruction, not_instruction, binary_instruction, branch_instruction, choose_instruction, jump_instruction, program, program_then, program-append, branch-append, size, length-program, is_lazy}
-use Rattle.plural_rule.specs.Expression.{Count, Number, Not, Binary, Conditional}
-use Rattle.plural_rule.specs.Internal.ShiftReduce.{Waiting, WaitNot, WaitOpen, WaitBinary, WaitQuestion, WaitColon, Operand, completed, reduce, reduce_by, at_colon, at_close}
+use Rattle.plural_rule.specs.Evaluator.{Count, Number, Not, Binary, Conditional}
+use Rattle.plural_rule.specs.Internal.Parser.{Waiting, WaitNot, WaitOpen, WaitBinary, WaitQuestion, WaitColon, Operand, completed, reduce, reduce_by, at_colon, at_close}
 use Rattle.plural_rule.specs.Internal.ParserState.{waiting_then, start_after, pending, pendings, Held, held, IsWaiting, IsOperand, Answers, counted, edited, begun, with_skip, skipping, completed_program, first_of}
 use Rattle.plural_rule.specs.Internal.Pending.{binds, entries_in}
 use Rattle.plural_rule.proofs.Programs.{size-some}

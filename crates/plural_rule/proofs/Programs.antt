@@ -10,8 +10,8 @@ use Rattle.plural_rule.specs.declared.instruction.Instruction.{Instruction}
 use Rattle.plural_rule.specs.declared.instruction.Action.{Action}
 use Rattle.plural_rule.specs.declared.instruction.Action.TheVariants.{Binary as BinaryAction, Branch as BranchAction}
 use Rattle.plural_rule.specs.Prelude.{operator_of-code, action_of, count_instruction, number_instruction, wide_instruction, low_instruction, not_instruction, binary_instruction, branch_instruction, choose_instruction, jump_instruction, begins, Tree, nodes, needs_right, short_circuit_value, combined, truth, binary_value, chosen, value, visited, visited_right, is_lazy, branch_then, size, program, program_then, length-program, drop-program, low_of}
-use Rattle.plural_rule.specs.Expression.{Count, Number, Not, Binary, Conditional}
-use Rattle.plural_rule.specs.Internal.Run.{Next, act, with_value, left_by, Outcome, outcome, go_on, run, stored}
+use Rattle.plural_rule.specs.Evaluator.{Count, Number, Not, Binary, Conditional}
+use Rattle.plural_rule.specs.Internal.Evaluator.{Next, act, with_value, left_by, Outcome, outcome, go_on, run, stored}
 
 pub nodes-le-size : (t : Tree) → nodes t ≤ size t
 nodes-le-size Count = omega arith

@@ -12,7 +12,7 @@ use Rattle.plural_rule.specs.declared.token.Token.TheVariants.{Number, Binary}
 use Rattle.std.specs.Str.Parse.{AllDigits, digits_value}
 use Rattle.std.specs.Char.{is_ascii_digit}
 use Rattle.plural_rule.specs.Prelude.{operator_bytes, IsSpelling, IsLongest}
-use Rattle.plural_rule.specs.Internal.Scanner.{IsTokenAt, IsTooLarge, HasNoToken, BeginsWithDouble, HasNoDouble}
+use Rattle.plural_rule.specs.Internal.Lexer.{IsTokenAt, IsTooLarge, HasNoToken, BeginsWithDouble, HasNoDouble}
 use Rattle.plural_rule.proofs.Numerals.{digit_below_ten, below_ten_digit}
 use Rattle.plural_rule.proofs.Lexing.{one_prefix, first_byte, operator-facts, spelling-not_blank}
 

@@ -5,9 +5,9 @@ use Rattle.plural_rule.specs.declared.operator.Operator.{Operator}
 use Rattle.plural_rule.specs.declared.token.Token.{Token}
 use Rattle.plural_rule.specs.declared.token.Token.TheVariants.{Count as CountToken, Number as NumberToken, Not as NotToken, Binary as BinaryToken, Question, Colon, Open, Close}
 use Rattle.plural_rule.specs.Prelude.{Tree, Spells, level}
-use Rattle.plural_rule.specs.Expression.{Not, Binary, Conditional}
-use Rattle.plural_rule.specs.Grammar.{tighter, conditional, binary, negation, parentheses, count, numeral}
-use Rattle.plural_rule.specs.Internal.ShiftReduce.{Waiting, WaitNot, WaitOpen, WaitBinary, WaitQuestion, WaitColon, State, Want, Have, reduce, at_colon, at_close, step, alone, finish, outcome_from, outcome}
+use Rattle.plural_rule.specs.Evaluator.{Not, Binary, Conditional}
+use Rattle.plural_rule.specs.Parser.{tighter, conditional, binary, negation, parentheses, count, numeral}
+use Rattle.plural_rule.specs.Internal.Parser.{Waiting, WaitNot, WaitOpen, WaitBinary, WaitQuestion, WaitColon, State, Want, Have, reduce, at_colon, at_close, step, alone, finish, outcome_from, outcome}
 use Rattle.plural_rule.proofs.Complete.{Fits, level-range}
 
 -- the tokens that a stack stands for

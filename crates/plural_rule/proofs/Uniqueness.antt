@@ -8,10 +8,10 @@ use Rattle.plural_rule.specs.declared.rule.Source.TheVariants.{Header, Default}
 use Rattle.plural_rule.specs.declared.rule.Reason.{Reason}
 use Rattle.plural_rule.specs.declared.rule.Reason.TheVariants.{NoNumber, NoExpression, Unreadable, TooLong}
 use Rattle.plural_rule.specs.Prelude.{Tree, nodes, needs_right, chosen, value, visited, visited_right, Spelt, nplurals_of, expression_of, RuleView, IsReadable, IsReason, Gives, IsRuleOf, IsWithin, default_rule}
-use Rattle.plural_rule.specs.Expression.{Count, Number, Not, Binary, Conditional}
+use Rattle.plural_rule.specs.Evaluator.{Count, Number, Not, Binary, Conditional}
 use Rattle.plural_rule.proofs.Complete.{complete}
 use Rattle.plural_rule.proofs.Lexing.{one_list}
-use Rattle.plural_rule.specs.Internal.ShiftReduce.{outcome}
+use Rattle.plural_rule.specs.Internal.Parser.{outcome}
 
 pub one_tree : (text : List ℕ) (t u : Tree) → Spelt t text → Spelt u text → t ≡ u
 one_tree text t u (ts, lexes, spells) (us, lexes', spells') =

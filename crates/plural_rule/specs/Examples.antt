@@ -5,22 +5,19 @@ use Rattle.std.specs.Prelude.{◌≡◌, ◌≢◌, refl, ℕ, true, false, List
 use Rattle.std.specs.List.{range_with_len}
 use Rattle.std.proofs.Common.{arith, ap}
 use Rattle.plural_rule.specs.declared.operator.Operator.{Operator}
-use Rattle.plural_rule.specs.declared.operator.Operator.TheVariants.{Or, And, Equal, NotEqual, Less, Greater, Remainder}
-use Rattle.plural_rule.specs.declared.operator.Operator.TheVariants.{AtMost, AtLeast, Add, Subtract, Multiply, Divide}
+use Rattle.plural_rule.specs.declared.operator.Operator.TheVariants.{Or, And, Equal, NotEqual, Less, Greater, Remainder, AtMost, AtLeast, Add, Subtract, Multiply, Divide}
 use Rattle.plural_rule.specs.declared.token.Token.TheVariants.{Count as CountToken, Number as NumberToken, Binary as BinaryToken}
 use Rattle.plural_rule.specs.declared.instruction.Instruction.{Instruction}
-use Rattle.plural_rule.specs.declared.instruction.Action.TheVariants.{Count as CountAction, Number as NumberAction, Wide, Not as NotAction}
-use Rattle.plural_rule.specs.declared.instruction.Action.TheVariants.{Binary as BinaryAction, Branch, Choose, Jump}
+use Rattle.plural_rule.specs.declared.instruction.Action.TheVariants.{Count as CountAction, Number as NumberAction, Wide, Not as NotAction, Binary as BinaryAction, Branch, Choose, Jump}
 use Rattle.plural_rule.specs.declared.rule.Source.TheVariants.{Header, Default}
 use Rattle.plural_rule.specs.declared.rule.Reason.TheVariants.{NoNumber, NoExpression, TooLong}
-use Rattle.plural_rule.specs.Expression.{Tree, Count, Number, Not, Binary, Conditional, nodes, truth, needs_right, short_circuit_value, combined, binary_value, chosen, value, visited_right, visited}
-use Rattle.plural_rule.specs.Tokens.{is_blank, operator_bytes, IsSpelling, IsLongest, Lexes, end, blank, token}
-use Rattle.plural_rule.specs.Grammar.{level, Spells, tighter, binary, count, numeral, Spelt}
-use Rattle.plural_rule.specs.Header.{after_first, without_blanks, digits_number, leading_number, nplurals_of, is_end, expression_of}
-use Rattle.plural_rule.specs.Instruction.{operator_code, operator_of, begins, action_of}
-use Rattle.plural_rule.specs.Program.{program, tree_of}
-use Rattle.plural_rule.specs.Evaluates.{Evaluates, count as of_count, numeral as of_numeral, difference}
-use Rattle.plural_rule.specs.PluralRule.{RuleView, expression_limit, default_rule, IsReadable, IsReason, Gives, IsRuleOf}
+use Rattle.plural_rule.specs.Evaluator.{Tree, Count, Number, Not, Binary, Conditional, nodes, binary_value, chosen, value, visited_right, visited, Evaluates, count as of_count, numeral as of_numeral, difference}
+use Rattle.plural_rule.specs.Operator.{truth, needs_right, short_circuit_value, combined, level, operator_code, operator_of}
+use Rattle.plural_rule.specs.Lexer.{is_blank, operator_bytes, IsSpelling, IsLongest, Lexes, end, blank, token, without_blanks}
+use Rattle.plural_rule.specs.Parser.{Spells, tighter, binary, count, numeral, Spelt}
+use Rattle.plural_rule.specs.Header.{after_first, digits_number, leading_number, nplurals_of, is_end, expression_of}
+use Rattle.plural_rule.specs.Instruction.{begins, action_of, program, tree_of}
+use Rattle.plural_rule.specs.Rule.{RuleView, expression_limit, default_rule, IsReadable, IsReason, Gives, IsRuleOf}
 
 abbrev pub operators : List Operator
 operators =

@@ -1,11 +1,10 @@
 -- The two fields of a header text that make a plural rule.
 -- GNU gettext manual, "Plural forms" and "Filling in the Header Entry".
-use Rattle.std.specs.Prelude.{ℕ, Bool, ◌||◌, ◌==◌, nat_eq, List, [], ◌∷◌, Option, Some, None, option_map}
-use Rattle.std.specs.Prelude.{option_and_then, length, drop, take_while, if◌then◌else◌, codes}
-use Rattle.std.specs.List.{starts_with, prefix_len, before_first}
+use Rattle.std.specs.Prelude.{ℕ, Bool, ◌||◌, ◌==◌, nat_eq, List, [], ◌∷◌, Option, Some, None, option_map, option_and_then, length, drop, take_while, if◌then◌else◌, codes}
+use Rattle.std.specs.List.{starts_with, before_first}
 use Rattle.std.specs.Str.Parse.{digits_value}
 use Rattle.std.specs.Char.{is_ascii_digit}
-use Rattle.plural_rule.specs.Tokens.{is_blank}
+use Rattle.plural_rule.specs.Lexer.{without_blanks}
 
 -- what stands after the first occurrence of a name in a text, wherever that is; none where there is
 -- none
@@ -13,10 +12,6 @@ abbrev pub after_first : List ℕ → List ℕ → Option (List ℕ)
 after_first name [] = None
 after_first name (c ∷ rest) =
     if starts_with nat_eq (c ∷ rest) name then Some (drop (length name) (c ∷ rest)) else after_first name rest
-
--- the text without the blanks at its beginning
-abbrev pub without_blanks : List ℕ → List ℕ
-without_blanks text = drop (prefix_len is_blank text) text
 
 -- the number that one digit or more spell, however large
 abbrev pub digits_number : List ℕ → Option ℕ

@@ -1,7 +1,6 @@
 -- What private functions, proofs and laws cite; no clause of a public function does.
-pub mod Levels
-pub mod ParserState
-pub mod Run
-pub mod Scanner
-pub mod ShiftReduce
+pub mod Lexer
+pub mod Evaluator
+pub mod Parser
 pub mod Pending
+pub mod ParserState

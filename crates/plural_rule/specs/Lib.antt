@@ -1,12 +1,11 @@
 -- The definitions in reading order: each module stands on those above it.
-pub mod Expression
-pub mod Tokens
-pub mod Evaluates
-pub mod Grammar
+pub mod Operator
+pub mod Lexer
+pub mod Evaluator
+pub mod Parser
 pub mod Header
 pub mod Instruction
-pub mod Program
-pub mod PluralRule
+pub mod Rule
 pub mod Internal
 pub mod Examples
 pub mod Prelude

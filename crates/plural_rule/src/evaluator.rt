@@ -2,7 +2,7 @@
 //! jumps that go forward only.
 ghost use Rattle.std.specs.Prelude.{◌≡◌, ℕ, ◌+◌, ◌*◌, ◌^◌, ◌<◌, ◌≤◌, List, ◌∷◌, length, drop, slice_index_or, Some};
 ghost use Rattle.plural_rule.specs.Prelude.{count_instruction, begins, nodes, value, visited, expression_limit, program, tree_of, low_of};
-ghost use Rattle.plural_rule.specs.Internal.Run.{act, left_by, go_on, run, stored, Outcome};
+ghost use Rattle.plural_rule.specs.Internal.Evaluator.{act, left_by, go_on, run, stored, Outcome};
 
 use crate::instruction::{Action, Instruction};
 use crate::steps::Steps;

@@ -6,7 +6,7 @@ ghost use Rattle.plural_rule.specs.declared.operator.Operator.TheVariants.{And, 
 ghost use Rattle.plural_rule.specs.declared.rule.Reason.{Reason};
 ghost use Rattle.plural_rule.specs.declared.rule.Source.TheVariants.{Default};
 ghost use Rattle.plural_rule.specs.Prelude.{Evaluates, Tree, value, visited, nodes, Spelt, expression_of, nplurals_of, RuleView, IsReadable, IsRuleOf, IsWithin, default_rule, expression_limit};
-ghost use Rattle.plural_rule.specs.Expression.{Binary, Conditional, Count, Not, Number};
+ghost use Rattle.plural_rule.specs.Evaluator.{Binary, Conditional, Count, Not, Number};
 
 /// A text spells at most one expression.
 pub fn one_tree()

@@ -3,7 +3,7 @@ ghost use Rattle.std.specs.Prelude.{◌≡◌, ◌^◌, ◌<◌, ◌≤◌, [], 
 ghost use Rattle.std.specs.Str.Parse.{AllDigits, digits_value};
 ghost use Rattle.std.specs.Char.{is_ascii_digit};
 ghost use Rattle.plural_rule.specs.Prelude.{IsSpelling, without_blanks};
-ghost use Rattle.plural_rule.specs.Internal.Scanner.{IsTokenAt, HasNoToken, BeginsWithDouble, HasNoDouble};
+ghost use Rattle.plural_rule.specs.Internal.Lexer.{IsTokenAt, HasNoToken, BeginsWithDouble, HasNoDouble};
 
 use crate::operator::Operator;
 use crate::token::Token;

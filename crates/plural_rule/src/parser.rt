@@ -18,7 +18,7 @@
 //! fixed size, so the machine's stack doesn't grow with the expression.
 ghost use Rattle.std.specs.Prelude.{◌≡◌, ◌≤◌, List, None, length, take, MatchOption, ⊤};
 ghost use Rattle.plural_rule.specs.Prelude.{Tree, Spelt, expression_limit};
-ghost use Rattle.plural_rule.specs.Internal.ShiftReduce.{Waiting, State, reduce, want_step, at_operator, step, finish};
+ghost use Rattle.plural_rule.specs.Internal.Parser.{Waiting, State, reduce, want_step, at_operator, step, finish};
 ghost use Rattle.plural_rule.specs.Internal.ParserState.{held, IsWaiting, IsOperand, Represents, Answers, HoldsTree, HoldsExpression, HasRoom, Grows, most_added};
 
 use crate::instruction::Instruction;

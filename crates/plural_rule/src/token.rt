@@ -1,6 +1,6 @@
 //! The tokens of a plural expression.
 ghost use Rattle.std.specs.Prelude.{◌≡◌};
-ghost use Rattle.plural_rule.specs.Internal.ShiftReduce.{closing_level};
+ghost use Rattle.plural_rule.specs.Internal.Parser.{closing_level};
 
 use crate::operator::Operator;
 

@@ -4,7 +4,7 @@
 use Rattle.std.specs.Prelude.{◌≡◌, refl, ℕ, ◌<◌, ◌≤◌, true, false, List, [], ◌∷◌, Some, None, map, length, codes}
 use Rattle.std.proofs.Common.{◌∙◌, arith, ap, inl, inr}
 use Rattle.plural_rule.specs.declared.rule.Source.TheVariants.{Header}
-use Rattle.plural_rule.specs.Expression.{Number}
+use Rattle.plural_rule.specs.Evaluator.{Number}
 use Rattle.plural_rule.specs.Prelude.{RuleView}
 use Rattle.mo_file.specs.declared.byte_order.Order.TheVariants.{Little}
 use Rattle.mo_file.specs.Prelude.{AreRising, keys, layout, Message}

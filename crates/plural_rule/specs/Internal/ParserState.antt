@@ -1,23 +1,18 @@
 -- Internal: how the parser's program and stack stand for what waits and for a complete operand.
-use Rattle.std.specs.Prelude.{◌≡◌, ℕ, ◌+◌, ◌-◌, ◌%◌, ◌^◌, nat_lt, Bool, true, false, List, [], ◌∷◌, ◌++◌, length, take, ◌≤◌, Option, Some}
-use Rattle.std.specs.Prelude.{None, if◌then◌else◌, slice_set, slice_index_or}
+use Rattle.std.specs.Prelude.{◌≡◌, ℕ, ◌+◌, ◌-◌, ◌%◌, ◌^◌, nat_lt, Bool, true, false, List, [], ◌∷◌, ◌++◌, length, take, ◌≤◌, Option, Some, None, if◌then◌else◌, slice_set, slice_index_or}
 use Rattle.plural_rule.specs.declared.instruction.Instruction.{Instruction}
 use Rattle.plural_rule.specs.declared.parser_state.Parser.{Parser}
 use Rattle.plural_rule.specs.declared.pending.Pending.{Pending}
-use Rattle.plural_rule.specs.declared.pending.Pending.TheVariants.{Not as NotPending, Open as OpenPending}
-use Rattle.plural_rule.specs.declared.pending.Pending.TheVariants.{Binary as BinaryPending, Question as QuestionPending}
-use Rattle.plural_rule.specs.declared.pending.Pending.TheVariants.{Colon as ColonPending}
+use Rattle.plural_rule.specs.declared.pending.Pending.TheVariants.{Not as NotPending, Open as OpenPending, Binary as BinaryPending, Question as QuestionPending, Colon as ColonPending}
 use Rattle.plural_rule.specs.declared.token.Token.{Token}
 use Rattle.plural_rule.specs.declared.token.Token.TheVariants.{Number as NumberToken, Binary as BinaryToken}
-use Rattle.plural_rule.specs.Expression.{Tree}
-use Rattle.plural_rule.specs.Grammar.{Spelt}
-use Rattle.plural_rule.specs.Instruction.{count_instruction, not_instruction, binary_instruction, choose_instruction}
-use Rattle.plural_rule.specs.Instruction.{jump_instruction}
-use Rattle.plural_rule.specs.PluralRule.{IsReadable, expression_limit}
-use Rattle.plural_rule.specs.Program.{program, program_then, size, is_lazy, branch_then}
+use Rattle.plural_rule.specs.Evaluator.{Tree}
+use Rattle.plural_rule.specs.Parser.{Spelt}
+use Rattle.plural_rule.specs.Instruction.{count_instruction, not_instruction, binary_instruction, choose_instruction, jump_instruction, program, program_then, size, branch_then}
+use Rattle.plural_rule.specs.Rule.{IsReadable, expression_limit}
+use Rattle.plural_rule.specs.Operator.{is_lazy}
 use Rattle.plural_rule.specs.Internal.Pending.{entries_in, weight}
-use Rattle.plural_rule.specs.Internal.ShiftReduce.{Waiting, WaitNot, WaitOpen, WaitBinary, WaitQuestion, WaitColon, State, Want}
-use Rattle.plural_rule.specs.Internal.ShiftReduce.{Have}
+use Rattle.plural_rule.specs.Internal.Parser.{Waiting, WaitNot, WaitOpen, WaitBinary, WaitQuestion, WaitColon, State, Want, Have}
 
 -- the instructions of what waits, before its last operand, and then `rest`: what is skipped over isn't known
 -- yet

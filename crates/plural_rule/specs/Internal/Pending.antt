@@ -1,12 +1,9 @@
 -- Internal: what waits in the parser's stack for an operand.
 use Rattle.std.specs.Prelude.{ℕ, ◌+◌, ◌-◌, ◌/◌, ◌%◌, nat_le, ◌==◌, Bool, true, false, List, [], ◌∷◌, map, if◌then◌else◌}
 use Rattle.plural_rule.specs.declared.pending.Pending.{Pending}
-use Rattle.plural_rule.specs.declared.pending.Pending.TheVariants.{Not as NotPending, Open as OpenPending}
-use Rattle.plural_rule.specs.declared.pending.Pending.TheVariants.{Binary as BinaryPending, Question as QuestionPending}
-use Rattle.plural_rule.specs.declared.pending.Pending.TheVariants.{Colon as ColonPending}
-use Rattle.plural_rule.specs.Grammar.{level}
-use Rattle.plural_rule.specs.Instruction.{operator_of}
-use Rattle.plural_rule.specs.Internal.Run.{stored}
+use Rattle.plural_rule.specs.declared.pending.Pending.TheVariants.{Not as NotPending, Open as OpenPending, Binary as BinaryPending, Question as QuestionPending, Colon as ColonPending}
+use Rattle.plural_rule.specs.Operator.{level, operator_of}
+use Rattle.plural_rule.specs.Internal.Evaluator.{stored}
 
 -- what a number of 16 bits stands for: 12 bits are the index
 abbrev pub pending_by : ℕ → ℕ → Pending

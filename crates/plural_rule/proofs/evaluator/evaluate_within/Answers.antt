@@ -3,7 +3,7 @@ use Rattle.std.proofs.lemmas.List.{drop_all}
 use Rattle.plural_rule.specs.Prelude.{Tree, value, visited, nodes, program, tree_of, size, length-program}
 use Rattle.plural_rule.specs.declared.instruction.Instruction.{Instruction}
 use Rattle.plural_rule.proofs.Uniqueness.{visited_le_nodes}
-use Rattle.plural_rule.specs.Internal.Run.{run, stored, Outcome, outcome}
+use Rattle.plural_rule.specs.Internal.Evaluator.{run, stored, Outcome, outcome}
 use Rattle.plural_rule.proofs.Programs.{nodes-le-size, stored-cons, starts, skips, ready}
 use Rattle.plural_rule.proofs.evaluator.evaluate_within.Goals as goal
 

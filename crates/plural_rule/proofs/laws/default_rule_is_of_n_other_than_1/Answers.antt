@@ -4,10 +4,10 @@ use Rattle.plural_rule.specs.declared.operator.Operator.{Operator}
 use Rattle.plural_rule.specs.declared.operator.Operator.TheVariants.{Or, NotEqual}
 use Rattle.plural_rule.specs.declared.token.Token.{Token}
 use Rattle.plural_rule.specs.declared.token.Token.TheVariants.{Count as CountToken, Number as NumberToken, Binary as BinaryToken}
-use Rattle.plural_rule.specs.Expression.{Binary, Count, Number}
+use Rattle.plural_rule.specs.Evaluator.{Binary, Count, Number}
 use Rattle.plural_rule.specs.Prelude.{Spelt, Lexes, operator_bytes}
-use Rattle.plural_rule.specs.Tokens.{end, blank, token}
-use Rattle.plural_rule.specs.Internal.Scanner.{HasNoDouble}
+use Rattle.plural_rule.specs.Lexer.{end, blank, token}
+use Rattle.plural_rule.specs.Internal.Lexer.{HasNoDouble}
 use Rattle.plural_rule.proofs.Scanning.{double-token, numeral-token, single-token}
 use Rattle.plural_rule.proofs.Sound.{sound}
 use Rattle.plural_rule.proofs.laws.default_rule_is_of_n_other_than_1.Goals as goal

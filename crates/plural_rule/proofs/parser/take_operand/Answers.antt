@@ -3,7 +3,7 @@ use Rattle.std.proofs.lemmas.Bool.{lt-ltb}
 use Rattle.std.proofs.lemmas.List.{length-take-le}
 use Rattle.plural_rule.specs.Internal.ParserState.{held}
 use Rattle.plural_rule.specs.Internal.Pending.{weight}
-use Rattle.plural_rule.specs.Expression.{Count, Number}
+use Rattle.plural_rule.specs.Evaluator.{Count, Number}
 use Rattle.plural_rule.specs.declared.pending.Pending.TheVariants.{Not, Open}
 use Rattle.plural_rule.proofs.ParserSteps.{first-operand}
 use Rattle.plural_rule.proofs.parser.take_operand.Goals as goal

@@ -3,7 +3,7 @@ use Rattle.std.proofs.lemmas.Bool.{cases_Bool}
 use Rattle.plural_rule.specs.declared.operator.Operator.{Operator}
 use Rattle.plural_rule.specs.declared.token.Token.TheVariants.{Binary}
 use Rattle.plural_rule.specs.Prelude.{choose_instruction, jump_instruction, branch_then, is_lazy}
-use Rattle.plural_rule.specs.Internal.ShiftReduce.{WaitBinary, WaitQuestion}
+use Rattle.plural_rule.specs.Internal.Parser.{WaitBinary, WaitQuestion}
 use Rattle.plural_rule.specs.declared.pending.Pending.TheVariants.{Colon}
 use Rattle.plural_rule.specs.declared.parser_state.Parser.{Parser}
 use Rattle.plural_rule.specs.Internal.Pending.{entries_in, weight}

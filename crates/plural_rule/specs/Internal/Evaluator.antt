@@ -1,12 +1,11 @@
 -- Internal: a program that runs.
-use Rattle.std.specs.Prelude.{ℕ, zero, suc, ◌+◌, ◌*◌, ◌^◌, nat_lt, ◌==◌, List, [], ◌∷◌, length, drop, slice_index_or, Option, Some, None}
-use Rattle.std.specs.Prelude.{if◌then◌else◌}
+use Rattle.std.specs.Prelude.{ℕ, zero, suc, ◌+◌, ◌*◌, ◌^◌, nat_lt, ◌==◌, List, [], ◌∷◌, length, drop, slice_index_or, Option, Some, None, if◌then◌else◌}
 use Rattle.plural_rule.specs.declared.instruction.Instruction.{Instruction}
 use Rattle.plural_rule.specs.declared.instruction.Action.{Action}
 use Rattle.plural_rule.specs.declared.instruction.Action.TheVariants.{Count, Number, Wide, Not, Binary, Branch, Choose, Jump}
-use Rattle.plural_rule.specs.Instruction.{action_of, begins}
-use Rattle.plural_rule.specs.Expression.{Tree, truth, needs_right, short_circuit_value, combined, value, visited}
-use Rattle.plural_rule.specs.Program.{low_of}
+use Rattle.plural_rule.specs.Instruction.{action_of, begins, low_of}
+use Rattle.plural_rule.specs.Evaluator.{Tree, value, visited}
+use Rattle.plural_rule.specs.Operator.{truth, needs_right, short_circuit_value, combined}
 
 -- what an instruction leaves: how many instructions are skipped, and the values, newest first; or it
 -- divides by 0

@@ -8,9 +8,9 @@ use Rattle.plural_rule.specs.declared.rule.Reason.{Reason}
 use Rattle.plural_rule.specs.declared.rule.Reason.TheVariants.{NoNumber, NoExpression, Unreadable, TooLong}
 use Rattle.plural_rule.specs.declared.rule.ParsedRule.{ParsedRule}
 use Rattle.plural_rule.specs.declared.instruction.Instruction.{Instruction}
-use Rattle.plural_rule.specs.Expression.{Tree, Count, Number, Binary}
-use Rattle.plural_rule.specs.Program.{tree_of}
-use Rattle.plural_rule.specs.Grammar.{Spelt}
+use Rattle.plural_rule.specs.Evaluator.{Tree, Count, Number, Binary}
+use Rattle.plural_rule.specs.Instruction.{tree_of}
+use Rattle.plural_rule.specs.Parser.{Spelt}
 use Rattle.plural_rule.specs.Header.{nplurals_of, expression_of}
 
 -- What clauses see of a rule: where it comes from (`Header`, or `Default` with the reason why there

@@ -1,16 +1,20 @@
 -- The tokens that a text spells, each the longest that fits, with blanks between them.
 -- GNU gettext manual, "Plural forms"; C standard, "Lexical elements".
-use Rattle.std.specs.Prelude.{◌≡◌, ◌≢◌, ℕ, Bool, ◌||◌, ◌==◌, List, [], ◌∷◌, ◌++◌, IsTrue, codes}
+use Rattle.std.specs.Prelude.{◌≡◌, ◌≢◌, ℕ, Bool, ◌||◌, ◌==◌, List, [], ◌∷◌, ◌++◌, IsTrue, codes, drop}
 use Rattle.std.specs.Str.Parse.{AllDigits, digits_value}
 use Rattle.plural_rule.specs.declared.operator.Operator.{Operator}
-use Rattle.plural_rule.specs.declared.operator.Operator.TheVariants.{Or, And, Equal, NotEqual, Less, Greater, Remainder}
-use Rattle.plural_rule.specs.declared.operator.Operator.TheVariants.{AtMost, AtLeast, Add, Subtract, Multiply, Divide}
+use Rattle.plural_rule.specs.declared.operator.Operator.TheVariants.{Or, And, Equal, NotEqual, Less, Greater, Remainder, AtMost, AtLeast, Add, Subtract, Multiply, Divide}
 use Rattle.plural_rule.specs.declared.token.Token.{Token}
 use Rattle.plural_rule.specs.declared.token.Token.TheVariants.{Count, Number, Not, Binary, Question, Colon, Open, Close}
+use Rattle.std.specs.List.{prefix_len}
 
 -- a space or a TAB; CR, FF and VT, which are blanks of a PO text, are none here
 abbrev pub is_blank : ℕ → Bool
 is_blank c = c == 32 || c == 9
+
+-- the text without the blanks at its beginning
+abbrev pub without_blanks : List ℕ → List ℕ
+without_blanks text = drop (prefix_len is_blank text) text
 
 -- the bytes of an operator
 abbrev pub operator_bytes : Operator → List ℕ

@@ -4,28 +4,11 @@
 -- 0) to "Unary operators" (level 7).
 use Rattle.std.specs.Prelude.{ℕ, suc, ◌^◌, ◌<◌, List, [], ◌∷◌, ◌++◌}
 use Rattle.plural_rule.specs.declared.operator.Operator.{Operator}
-use Rattle.plural_rule.specs.declared.operator.Operator.TheVariants.{Or, And, Equal, NotEqual, Less, Greater, AtMost}
-use Rattle.plural_rule.specs.declared.operator.Operator.TheVariants.{AtLeast, Add, Subtract}
 use Rattle.plural_rule.specs.declared.token.Token.{Token}
-use Rattle.plural_rule.specs.declared.token.Token.TheVariants.{Count as CountToken, Number as NumberToken}
-use Rattle.plural_rule.specs.declared.token.Token.TheVariants.{Not as NotToken, Binary as BinaryToken, Question, Colon}
-use Rattle.plural_rule.specs.declared.token.Token.TheVariants.{Open, Close}
-use Rattle.plural_rule.specs.Expression.{Tree, Count, Number, Not, Binary, Conditional}
-use Rattle.plural_rule.specs.Tokens.{Lexes}
-
--- the level of an operator: the higher, the tighter it binds; the last line is `*`, `/` and `%`
-abbrev pub level : Operator → ℕ
-level Or = 1
-level And = 2
-level Equal = 3
-level NotEqual = 3
-level Less = 4
-level Greater = 4
-level AtMost = 4
-level AtLeast = 4
-level Add = 5
-level Subtract = 5
-level op = 6
+use Rattle.plural_rule.specs.declared.token.Token.TheVariants.{Count as CountToken, Number as NumberToken, Not as NotToken, Binary as BinaryToken, Question, Colon, Open, Close}
+use Rattle.plural_rule.specs.Evaluator.{Tree, Count, Number, Not, Binary, Conditional}
+use Rattle.plural_rule.specs.Lexer.{Lexes}
+use Rattle.plural_rule.specs.Operator.{level}
 
 -- The tokens spell the tree as an operand of this level: 0 is a whole expression, 7 an operand of
 -- `!`, as is an expression in parentheses. Operators of two operands group to the left, `?:` to the

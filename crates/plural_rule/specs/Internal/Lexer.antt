@@ -3,7 +3,7 @@ use Rattle.std.specs.Prelude.{◌≡◌, ℕ, ◌^◌, ◌<◌, ◌≤◌, List,
 use Rattle.plural_rule.specs.declared.operator.Operator.{Operator}
 use Rattle.plural_rule.specs.declared.token.Token.{Token}
 use Rattle.plural_rule.specs.declared.token.Token.TheVariants.{Number}
-use Rattle.plural_rule.specs.Tokens.{operator_bytes, IsSpelling, IsLongest}
+use Rattle.plural_rule.specs.Lexer.{operator_bytes, IsSpelling, IsLongest}
 
 -- the first n bytes of the text are the longest that spell a token
 pub record IsTokenAt (text : List ℕ) (t : Token) (n : ℕ) : Type 0 where

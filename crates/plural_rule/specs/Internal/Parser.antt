@@ -1,13 +1,11 @@
 -- Internal: reading tokens by operator precedence, over trees.
-use Rattle.std.specs.Prelude.{ℕ, ◌^◌, nat_le, nat_lt, ◌==◌, List, [], ◌∷◌, Option, Some, None, option_and_then}
-use Rattle.std.specs.Prelude.{if◌then◌else◌}
+use Rattle.std.specs.Prelude.{ℕ, ◌^◌, nat_le, nat_lt, ◌==◌, List, [], ◌∷◌, Option, Some, None, option_and_then, if◌then◌else◌, ◌≡◌, refl}
 use Rattle.plural_rule.specs.declared.operator.Operator.{Operator}
 use Rattle.plural_rule.specs.declared.token.Token.{Token}
-use Rattle.plural_rule.specs.declared.token.Token.TheVariants.{Count as CountToken, Number as NumberToken}
-use Rattle.plural_rule.specs.declared.token.Token.TheVariants.{Not as NotToken, Binary as BinaryToken, Question, Colon}
-use Rattle.plural_rule.specs.declared.token.Token.TheVariants.{Open, Close}
-use Rattle.plural_rule.specs.Expression.{Tree, Count, Number, Not, Binary, Conditional}
-use Rattle.plural_rule.specs.Grammar.{level}
+use Rattle.plural_rule.specs.declared.token.Token.TheVariants.{Count as CountToken, Number as NumberToken, Not as NotToken, Binary as BinaryToken, Question, Colon, Open, Close}
+use Rattle.plural_rule.specs.Evaluator.{Tree, Count, Number, Not, Binary, Conditional}
+use Rattle.plural_rule.specs.Operator.{level}
+use Rattle.plural_rule.specs.declared.operator.Operator.TheVariants.{Or, And, Equal, NotEqual, Less, Greater, Remainder, AtMost, AtLeast, Add, Subtract, Multiply, Divide}
 
 -- what waits for its last operand: `!`, `(`, `a op`, `a ?` and `a ? b :`
 pub data Waiting : Type 0 where
@@ -99,3 +97,53 @@ outcome_from state (token ∷ ts) = option_and_then (λ next. outcome_from next 
 -- the tree that tokens spell
 abbrev pub outcome : List Token → Option Tree
 outcome ts = outcome_from (Want []) ts
+
+-- Expressions with operators of two levels, worked out by hand from C's table of operators (C standard,
+-- "Expressions"; GNU gettext manual, "Plural forms").
+
+-- 1 op 2 op' 3
+abbrev tokens : Operator → Operator → List Token
+tokens op op' = NumberToken 1 ∷ BinaryToken op ∷ NumberToken 2 ∷ BinaryToken op' ∷ NumberToken 3 ∷ []
+
+-- (1 op 2) op' 3, and 1 op (2 op' 3)
+abbrev from_left : Operator → Operator → Tree
+from_left op op' = Binary op' (Binary op (Number 1) (Number 2)) (Number 3)
+
+abbrev from_right : Operator → Operator → Tree
+from_right op op' = Binary op (Number 1) (Binary op' (Number 2) (Number 3))
+
+abbrev GroupsRight : Operator → Operator → Type 0
+GroupsRight op op' = outcome (tokens op op') ≡ Some (from_right op op')
+
+abbrev GroupsLeft : Operator → Operator → Type 0
+GroupsLeft op op' = outcome (tokens op op') ≡ Some (from_left op op')
+
+-- the second operator binds tighter: 1 || 2 && 3 is 1 || (2 && 3), and so on
+pub tighter : GroupsRight Or And × GroupsRight And Equal × GroupsRight NotEqual Less × GroupsRight AtLeast Add
+    × GroupsRight Subtract Multiply
+tighter = (refl, refl, refl, refl, refl)
+
+-- operators of one level group to the left: 1 || 2 || 3 is (1 || 2) || 3, and so on
+pub to_the_left : GroupsLeft Or Or × GroupsLeft And And × GroupsLeft Equal NotEqual × GroupsLeft NotEqual Equal
+    × GroupsLeft Less Greater × GroupsLeft Greater AtMost × GroupsLeft AtMost AtLeast × GroupsLeft AtLeast Less
+    × GroupsLeft Add Subtract × GroupsLeft Subtract Add × GroupsLeft Multiply Divide × GroupsLeft Divide Remainder
+    × GroupsLeft Remainder Multiply
+to_the_left = (refl, refl, refl, refl, refl, refl, refl, refl, refl, refl, refl, refl, refl)
+
+-- !n == 1 is (!n) == 1
+pub not_equal : outcome (NotToken ∷ CountToken ∷ BinaryToken Equal ∷ NumberToken 1 ∷ [])
+    ≡ Some (Binary Equal (Not Count) (Number 1))
+not_equal = refl
+
+-- n || 1 ? 2 : 3 is (n || 1) ? 2 : 3
+pub or_condition : outcome
+    (CountToken ∷ BinaryToken Or ∷ NumberToken 1 ∷ Question ∷ NumberToken 2 ∷ Colon ∷ NumberToken 3 ∷ [])
+    ≡ Some (Conditional (Binary Or Count (Number 1)) (Number 2) (Number 3))
+or_condition = refl
+
+-- n ? 1 : 2 ? 3 : 4 is n ? 1 : (2 ? 3 : 4)
+pub conditions : outcome
+    (CountToken ∷ Question ∷ NumberToken 1 ∷ Colon ∷ NumberToken 2 ∷ Question ∷ NumberToken 3 ∷ Colon ∷ NumberToken 4
+    ∷ [])
+    ≡ Some (Conditional Count (Number 1) (Conditional (Number 2) (Number 3) (Number 4)))
+conditions = refl
