@@ -1,16 +1,12 @@
 -- Building: the length of a layout, and the keys of pairs.
-use Rattle.std.proofs.Common.{◌≡◌, ◌≢◌, ◌↔◌, ℕ, ◌+◌, ◌*◌, ◌<◌, Bool, true, false, IsTrue, List, [], ◌∷◌, ◌++◌, length, get_or}
+use Rattle.std.proofs.Common.{◌≡◌, ℕ, ◌+◌, ◌*◌, List, [], ◌∷◌, ◌++◌, length}
 use Rattle.std.proofs.Common.{map, take, refl, sym, ◌∙◌, ap, arith, length-append}
-use Rattle.std.specs.List.{IsAllAdjacentAnswer, sum_by}
-use Rattle.std.specs.Ordering.{is_lt}
-use Rattle.std.specs.declared.cmp.Ordering.{Ordering}
-use Rattle.std.specs.declared.cmp.Ordering.TheVariants.{Less, Equal, Greater}
-use Rattle.std.proofs.lemmas.List.{length-map, get_or-map}
+use Rattle.std.specs.List.{sum_by}
+use Rattle.std.proofs.lemmas.List.{length-map}
 use Rattle.std.proofs.lemmas.List.Sums.{sum_by-cons}
 use Rattle.mo_file.specs.declared.byte_order.Order.{Order}
 use Rattle.mo_file.specs.declared.byte_order.Order.TheVariants.{Little, Big}
-use Rattle.mo_file.specs.declared.pairs.Pair.{Pair}
-use Rattle.mo_file.specs.Prelude.{magic, word_bytes, Message, originals, translations, layout, header, table, terminated, AreRising, key_at, key_cmp, key_of, keys, messages_of_pairs, strings_of}
+use Rattle.mo_file.specs.Prelude.{magic, word_bytes, Message, originals, translations, layout, header, table, terminated, strings_of}
 use Rattle.mo_file.specs.declared.pairs.Part.TheVariants.{Original, Translation}
 
 abbrev message_len : Message → ℕ
@@ -45,11 +41,6 @@ originals-strings (m ∷ ms) = ap (λ ss. m.original ∷ ss) (originals-strings 
 translations-strings : (messages : List Message) → translations messages ≡ strings_of Translation messages
 translations-strings [] = refl
 translations-strings (m ∷ ms) = ap (λ ss. m.translation ∷ ss) (translations-strings ms)
-
-pub keys-pairs : (pairs : List Pair) →
-    keys (messages_of_pairs pairs) ≡ map (λ pair. key_of pair.original.items) pairs
-keys-pairs [] = refl
-keys-pairs (p ∷ ps) = ap (λ ks. key_of p.original.items ∷ ks) (keys-pairs ps)
 
 sum_by-message_len : (messages : List Message) →
     sum_by message_len messages
@@ -131,51 +122,3 @@ pub word_bytes-magic : (order : Order) → word_bytes order 0x950412de ≡ magic
 unfolding word_bytes
 word_bytes-magic Little = refl
 word_bytes-magic Big = refl
-
--- the key of a pair
-key-pair : (pairs : List Pair) (i : ℕ) (d : Pair) → i < length pairs →
-    key_at (keys (messages_of_pairs pairs)) i ≡ key_of (get_or pairs i d).original.items
-key-pair pairs i d lt = rw (keys-pairs pairs) (get_or-map (λ q. key_of q.original.items) pairs i d [] lt)
-
-length-keys : (pairs : List Pair) → length (keys (messages_of_pairs pairs)) ≡ length pairs
-length-keys pairs = simp length-map
-
-pub is_less : (o : Ordering) → true ≡ is_lt o → o ≡ Less
-is_less Less is = refl
-is_less Equal is = cc
-is_less Greater is = cc
-
-pub isnt_less : (o : Ordering) → false ≡ is_lt o → o ≢ Less
-isnt_less Less is = cc
-isnt_less Equal is = λ less. cc
-isnt_less Greater is = λ less. cc
-
--- whether keys rise, by what is answered of each two neighbours
-pub rising-answered : (pairs : List Pair) (r : Bool) →
-    IsAllAdjacentAnswer (λ a b answer. answer ≡ is_lt (key_cmp (key_of a.original.items) (key_of b.original.items)))
-    pairs r
-    → IsTrue r ↔ AreRising (keys (messages_of_pairs pairs))
-rising-answered [] true answers = (λ _. record { next = λ i lt. absurd (omega (arith, lt)) }, λ _. refl)
-rising-answered [] false answers = absurd (omega (arith, answers.1))
-rising-answered (p ∷ ps) true answers = (
-  λ _. record {
-    next = λ i lt.
-        let inside : i + 1 < length (p ∷ ps) = omega (arith, length-keys (p ∷ ps), lt) in
-        rw (key-pair (p ∷ ps) i p (omega (arith, inside)), key-pair (p ∷ ps) (i + 1) p inside)
-        (is_less _ (answers i p inside));
-  },
-  λ _. refl,
-)
-rising-answered (p ∷ ps) false answers = (
-  λ no. absurd (cc),
-  λ rising.
-      let inside = answers.1 in
-      let i = answers.0 in
-      let within : i + 1 < length (keys (messages_of_pairs (p ∷ ps))) =
-      omega (arith, length-keys (p ∷ ps), inside) in
-      let here = key-pair (p ∷ ps) i p (omega (arith, inside)) in
-      let next = key-pair (p ∷ ps) (i + 1) p inside in
-      absurd (isnt_less _ (answers.2 p)
-      (ap (λ k. key_cmp k (key_of (get_or (p ∷ ps) (i + 1) p).original.items)) (sym here)
-      ∙ ap (key_cmp (key_at (keys (messages_of_pairs (p ∷ ps))) i)) (sym next) ∙ rising.next i within)),
-)

@@ -11,8 +11,7 @@ use Rattle.std.proofs.lemmas.List.Folds.{list_any_at, list_any_none}
 use Rattle.std.proofs.lemmas.List.Splits.{slice_split_none, slice_split_at}
 use Rattle.std.proofs.lemmas.List.Sums.{position_or_len_is}
 use Rattle.std.specs.Prelude.{slice_index_or}
-use Rattle.mo_file.specs.Internal.Cut.{IsCut, Lacks}
-use Rattle.mo_file.specs.Prelude.{context_of, forms, id_of, is_eot, plural_of}
+use Rattle.mo_file.specs.Prelude.{IsCut, Lacks, context_of, forms, id_of, is_eot, plural_of}
 
 module _ (byte : ℕ) where
   abbrev is : ℕ → Bool

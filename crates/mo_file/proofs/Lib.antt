@@ -1,6 +1,7 @@
 -- The lemmas in reading order: each module stands on those above it.
 pub mod CommonPrefixLemmas
 pub mod CutLemmas
+pub mod RisingKeys
 pub mod KeyComparison
 pub mod FaultLemmas
 pub mod FaultTotality

@@ -9,15 +9,15 @@ use Rattle.mo_file.specs.declared.byte_order.Order.TheVariants.{Little, Big}
 use Rattle.mo_file.specs.declared.byte_order.Order.{Order}
 use Rattle.mo_file.specs.declared.fault.MoError.{MoError}
 use Rattle.mo_file.specs.declared.fault.MoError.TheVariants.{TooShort, BadMagic, BadRevision, TableOutside, StringOutside, NoTerminator, NotSorted}
-use Rattle.mo_file.specs.Message.{Message, originals, translations}
-use Rattle.mo_file.specs.Word.{word_at, word_bytes}
+use Rattle.mo_file.specs.Pairs.{Message, originals, translations}
+use Rattle.mo_file.specs.ByteOrder.{word_at, word_bytes}
 use Rattle.mo_file.specs.FileHeader.{magic, HasMagicOf, revision, message_count, originals_table, translations_table}
 use Rattle.mo_file.specs.Key.{is_nul, key_of, query_key, key_cmp, keys, key_at, AreRising}
 use Rattle.mo_file.specs.MessageParts.{is_eot, context_of, id_of, forms, plural_of}
-use Rattle.mo_file.specs.Layout.{terminated, table, header, originals_offset, translations_offset, layout}
-use Rattle.mo_file.specs.StringTable.{offset_at, end_at, string_at, original_at, translation_at, message_at, messages_of}
+use Rattle.mo_file.specs.Writing.{terminated, table, header, originals_offset, translations_offset, layout}
+use Rattle.mo_file.specs.Strings.{offset_at, end_at, string_at, original_at, translation_at, message_at, messages_of}
 use Rattle.mo_file.specs.Fault.{IsOutside, IsUnterminated, IsNotRising, HasFaultIn, HasFault, kind, index, IsBefore, IsFirstFault, comparisons_before}
-use Rattle.mo_file.specs.MoFile.{FileView, IsMoFile}
+use Rattle.mo_file.specs.View.{FileView, IsMoFile}
 use Rattle.mo_file.specs.Laws.{two_messages, one_message, file_of_two, big_file_of_one, OneMessageList, MoFileOrFault, OneFirstFault, NoFaultOfMoFile}
 
 abbrev pub message_with_plural : Message

@@ -4,10 +4,9 @@ use Rattle.std.specs.Prelude.{◌≡◌, ◌≢◌, ℕ, ◌+◌, ◌*◌, ◌/�
 use Rattle.std.specs.declared.cmp.Ordering.TheVariants.{Less}
 use Rattle.mo_file.specs.declared.byte_order.Order.{Order}
 use Rattle.mo_file.specs.declared.fault.MoError.{MoError}
-use Rattle.mo_file.specs.declared.fault.MoError.TheVariants.{TooShort, BadMagic, BadRevision, TableOutside}
-use Rattle.mo_file.specs.declared.fault.MoError.TheVariants.{StringOutside, NoTerminator, NotSorted}
+use Rattle.mo_file.specs.declared.fault.MoError.TheVariants.{TooShort, BadMagic, BadRevision, TableOutside, StringOutside, NoTerminator, NotSorted}
 use Rattle.mo_file.specs.FileHeader.{HasMagicOf, revision, message_count, originals_table, translations_table}
-use Rattle.mo_file.specs.StringTable.{end_at, original_at}
+use Rattle.mo_file.specs.Strings.{end_at, original_at}
 use Rattle.mo_file.specs.Key.{key_of, key_cmp}
 
 -- the original or the translation of message i ends past the end of the file

@@ -4,7 +4,7 @@
 use Rattle.std.specs.Prelude.{◌≡◌, ℕ, List, [], ◌∷◌, take}
 use Rattle.mo_file.specs.declared.byte_order.Order.{Order}
 use Rattle.mo_file.specs.declared.byte_order.Order.TheVariants.{Little, Big}
-use Rattle.mo_file.specs.Word.{word_at}
+use Rattle.mo_file.specs.ByteOrder.{word_at}
 
 -- the magic number 0x950412de as it stands in a file
 abbrev pub magic : Order → List ℕ

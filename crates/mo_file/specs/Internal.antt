@@ -1,5 +1,3 @@
 -- What private functions, proofs and laws cite; no clause of a public function does.
 pub mod Checking
 pub mod CommonPrefix
-pub mod Cut
-pub mod Words

@@ -1,13 +1,12 @@
 -- The key by which a message is looked up (manual, "The Format of GNU MO Files"): the msgid, or the
 -- context, a byte 4 (EOT) and the msgid. In an original a NUL and the plural may follow the key.
-use Rattle.std.specs.Prelude.{◌≡◌, ℕ, ◌+◌, ◌<◌, ◌==◌, Bool, List, [], ◌∷◌, ◌++◌, length, map, slice_index_or, Option}
-use Rattle.std.specs.Prelude.{None, Some}
+use Rattle.std.specs.Prelude.{◌≡◌, ℕ, ◌+◌, ◌<◌, ◌==◌, Bool, List, [], ◌∷◌, ◌++◌, length, map, slice_index_or, Option, None, Some}
 use Rattle.std.specs.Ordering.{nat_cmp}
 use Rattle.std.specs.declared.cmp.Ordering.{Ordering}
 use Rattle.std.specs.declared.cmp.Ordering.TheVariants.{Less}
 use Rattle.std.specs.Cmp.Lexicographic.{slice_cmp}
 use Rattle.std.specs.List.{before_first}
-use Rattle.mo_file.specs.Message.{Message}
+use Rattle.mo_file.specs.Pairs.{Message}
 
 abbrev pub is_nul : ℕ → Bool
 is_nul byte = byte == 0

@@ -1,14 +1,15 @@
 -- Laws of the format.
 use Rattle.std.specs.Prelude.{ℕ, List, ◌++◌, take, drop, ◌≡◌, ◌⊎◌, ◌+◌, ◌*◌, ◌<◌, ◌≤◌, ◌∷◌, [], codes, length}
 use Rattle.mo_file.specs.declared.byte_order.Order.{Order}
-use Rattle.mo_file.specs.Word.{word_bytes}
-use Rattle.mo_file.specs.Layout.{layout, LayoutFits}
-use Rattle.mo_file.specs.Message.{Message}
+use Rattle.mo_file.specs.ByteOrder.{word_bytes}
+use Rattle.mo_file.specs.Writing.{layout}
+use Rattle.mo_file.specs.Building.{LayoutFits}
+use Rattle.mo_file.specs.Pairs.{Message}
 use Rattle.mo_file.specs.declared.fault.MoError.{MoError}
 use Rattle.mo_file.specs.Key.{keys, AreRising}
 use Rattle.mo_file.specs.declared.fault.MoError.TheVariants.{BadRevision}
 use Rattle.mo_file.specs.FileHeader.{HasMagicOf, hash_size, revision}
-use Rattle.mo_file.specs.MoFile.{IsMoFile}
+use Rattle.mo_file.specs.View.{IsMoFile}
 use Rattle.mo_file.specs.Fault.{IsFirstFault}
 
 -- Files of other revisions than the one that is written ("The Format of GNU MO Files").

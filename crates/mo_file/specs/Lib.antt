@@ -1,15 +1,15 @@
 -- The definitions in reading order: each module stands on those above it.
-pub mod Message
+pub mod Pairs
 pub mod Key
 pub mod MessageParts
-pub mod Word
+pub mod ByteOrder
 pub mod FileHeader
-pub mod StringTable
+pub mod Strings
 pub mod Fault
-pub mod MoFile
-pub mod Layout
+pub mod View
+pub mod Writing
+pub mod Building
 pub mod Laws
-pub mod Pairs
 pub mod Internal
 pub mod Examples
 pub mod Prelude

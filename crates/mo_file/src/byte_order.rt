@@ -61,7 +61,7 @@ pub(crate) trait FileOrder: ByteOrder {
 
 impl FileOrder for LittleEndian {
     ghost use Rattle.mo_file.specs.declared.byte_order.Order.TheVariants.{Little};
-    ghost use Rattle.mo_file.specs.Internal.Words.{little_words_are_read, little_words_are_written};
+    ghost use Rattle.mo_file.specs.ByteOrder.{little_words_are_read, little_words_are_written};
 
     ghost order = { Little };
 
@@ -77,7 +77,7 @@ impl FileOrder for LittleEndian {
 
 impl FileOrder for BigEndian {
     ghost use Rattle.mo_file.specs.declared.byte_order.Order.TheVariants.{Big};
-    ghost use Rattle.mo_file.specs.Internal.Words.{big_words_are_read, big_words_are_written};
+    ghost use Rattle.mo_file.specs.ByteOrder.{big_words_are_read, big_words_are_written};
 
     ghost order = { Big };
 

@@ -3,8 +3,7 @@
 
 ghost use Rattle.std.specs.Prelude.{◌≡◌, ◌<◌, [], ◌∷◌, IfSome, MatchOption, length, slice_index_or, take};
 ghost use Rattle.std.specs.Option.{option_copied};
-ghost use Rattle.mo_file.specs.Internal.Cut.{IsCut};
-ghost use Rattle.mo_file.specs.Prelude.{key_of, context_of, forms, id_of, plural_of};
+ghost use Rattle.mo_file.specs.Prelude.{IsCut, key_of, context_of, forms, id_of, plural_of};
 
 use crate::common_prefix::find_byte;
 

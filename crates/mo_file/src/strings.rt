@@ -37,7 +37,7 @@ pub(crate) fn range_at(order: Order, bytes: &[u8], table: u32, i: u32) -> Range<
 
 /// The rest of the file from the original of message `i` on. It has the original's key, which ends
 /// at the NUL after the original at the latest.
-#[tactic(auto, using(crate::proofs::KeyComparison::key_of_rest), unfolding(crate::specs::StringTable::string_at))]
+#[tactic(auto, using(crate::proofs::KeyComparison::key_of_rest), unfolding(crate::specs::Strings::string_at))]
 #[inline(always)]
 pub(crate) fn rest_in<O: FileOrder>(header: FileHeader, bytes: &[u8], i: u32) -> &[u8]
     requires order { header.order ≡ O.order }

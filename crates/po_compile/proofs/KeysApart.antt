@@ -14,8 +14,7 @@ use Rattle.std.proofs.lemmas.List.{get_or-map, get_or_default, length-map, get_o
 use Rattle.std.proofs.lemmas.List.Kept.{AllPairs-filter, AllPairs-cons}
 use Rattle.std.proofs.lemmas.Map.Lookups.{exact_bytes}
 use Rattle.mo_file.specs.Prelude.{AreRising, key_cmp, query_key}
-use Rattle.mo_file.proofs.BuildLemmas.{is_less, isnt_less}
-use Rattle.mo_lookup.proofs.RisingLemmas.{less_is_other, rising_between}
+use Rattle.mo_file.proofs.RisingKeys.{is_less, isnt_less, less_is_other, rising_between}
 use Rattle.po_compile.specs.Internal.Rows.{AllApart, HasOneHeader, InputMessage, all_messages, has_no_key, in_input_message, input_keys, input_message, is_joined, joined_messages, message_keys, row_view, row_key}
 use Rattle.std.specs.Str.{bytes_eq}
 use Rattle.std.proofs.Math.ListN.{get_or-map as map_at}

@@ -11,7 +11,7 @@ use Rattle.std.proofs.lemmas.Option.{get_or_from_slice_get, none-some, slice_get
 use Rattle.std.proofs.lemmas.List.Sorted.{All-permutation, Contains-permutation, IsPermutation-map, IsPermutation-sym}
 use Rattle.std.proofs.lemmas.Slice.Eq.{bytes_eq-Decides}
 use Rattle.mo_file.specs.Prelude.{Message, AreRising, key_cmp, key_of, keys, query_key, context_of, forms, id_of, plural_of}
-use Rattle.mo_lookup.proofs.RisingLemmas.{less_is_other}
+use Rattle.mo_file.proofs.RisingKeys.{less_is_other}
 use Rattle.po_compile.proofs.KeysApart.{below_from_rising, apart_permuted, rising_apart}
 use Rattle.std.specs.Bool.{Decides, one_answer}
 use Rattle.std.specs.List.{list_any, join_with_byte, position_or_len}

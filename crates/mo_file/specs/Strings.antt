@@ -3,9 +3,9 @@
 use Rattle.std.specs.Prelude.{ℕ, ◌+◌, ◌*◌, List, map}
 use Rattle.std.specs.List.{range_with_len, slice_range}
 use Rattle.mo_file.specs.declared.byte_order.Order.{Order}
-use Rattle.mo_file.specs.Word.{word_at}
+use Rattle.mo_file.specs.ByteOrder.{word_at}
 use Rattle.mo_file.specs.FileHeader.{message_count, originals_table, translations_table}
-use Rattle.mo_file.specs.Message.{Message}
+use Rattle.mo_file.specs.Pairs.{Message}
 
 -- where string i of the table that begins at `table` begins, i counted from 0
 abbrev pub offset_at : Order → List ℕ → ℕ → ℕ → ℕ

@@ -4,9 +4,9 @@ use Rattle.std.specs.Prelude.{◌≡◌, ℕ, List, ◌≤◌, Some, slice_get}
 use Rattle.mo_file.specs.declared.byte_order.Order.{Order}
 use Rattle.mo_file.specs.declared.fault.MoError.{MoError}
 use Rattle.mo_file.specs.FileHeader.{HasMagicOf}
-use Rattle.mo_file.specs.StringTable.{messages_of}
+use Rattle.mo_file.specs.Strings.{messages_of}
 use Rattle.mo_file.specs.Fault.{HasFault}
-use Rattle.mo_file.specs.Message.{Message, translations}
+use Rattle.mo_file.specs.Pairs.{Message, translations}
 use Rattle.std.specs.List.{slice_range}
 
 -- these bytes are an MO file in this order, with these messages: they have none of the seven faults
@@ -14,8 +14,6 @@ pub record IsMoFile (order : Order) (bytes : List ℕ) (messages : List Message)
   pub shows : HasMagicOf order bytes
   pub faultless : (f : MoError) → ¬ HasFault bytes f
   pub lists : messages ≡ messages_of order bytes
-
--- What clauses see of a view ("The Format of GNU MO Files").
 
 -- the bytes of a file, and its messages
 pub record FileView : Type 0 where

@@ -1,14 +1,11 @@
 -- How a list of messages is laid out as an MO file: the file header, the two tables, all originals
 -- and all translations, without padding and without a hash table (manual, "The Format of GNU MO
 -- Files").
-use Rattle.std.specs.Prelude.{ℕ, ◌+◌, ◌*◌, ◌^◌, ◌<◌, List, [], ◌∷◌, ◌++◌, length, ◌≤◌}
+use Rattle.std.specs.Prelude.{ℕ, ◌+◌, ◌*◌, List, [], ◌∷◌, ◌++◌, length}
 use Rattle.mo_file.specs.declared.byte_order.Order.{Order}
-use Rattle.mo_file.specs.Word.{word_bytes}
+use Rattle.mo_file.specs.ByteOrder.{word_bytes}
 use Rattle.mo_file.specs.FileHeader.{magic}
-use Rattle.mo_file.specs.Message.{Message, originals, translations}
-use Rattle.mo_file.specs.declared.building.BuildError.{BuildError}
-use Rattle.mo_file.specs.declared.building.BuildError.TheVariants.{TooLarge, NotSorted, OutOfMemory}
-use Rattle.mo_file.specs.Key.{keys, AreRising}
+use Rattle.mo_file.specs.Pairs.{Message, originals, translations}
 
 -- the strings, each with its NUL
 abbrev pub terminated : List (List ℕ) → List ℕ
@@ -45,15 +42,3 @@ layout order messages =
     ++ table order (translations_offset messages) (translations messages)
     ++ terminated (originals messages)
     ++ terminated (translations messages)
-
--- 32 bits reach the end of the layout
-abbrev pub LayoutFits : Order → List Message → Type 0
-LayoutFits order messages = length (layout order messages) < 2 ^ 32
-
--- Why messages aren't built to a file.
-
--- the first reason for which these messages are refused; memory is asked for last
-abbrev pub IsBuildFault : Order → List Message → BuildError → Type 0
-IsBuildFault order messages TooLarge = 2 ^ 32 ≤ length (layout order messages)
-IsBuildFault order messages NotSorted = LayoutFits order messages × ¬ AreRising (keys messages)
-IsBuildFault order messages OutOfMemory = LayoutFits order messages × AreRising (keys messages)
