@@ -8,10 +8,10 @@ use Rattle.std.proofs.lemmas.List.{get_or_default}
 use Rattle.std.proofs.lemmas.List.Sorted.{IsPermutation-cons, IsPermutation-middle, IsPermutation-refl, IsPermutation-trans}
 use Rattle.std.proofs.lemmas.Map.Lookups.{exact_bytes}
 use Rattle.mo_file.specs.Prelude.{AreRising, key_cmp, key_of, keys, Message}
+use Rattle.mo_file.proofs.RisingKeys.{rising_between}
 use Rattle.mo_expand.specs.Prelude.{IsInOrder, with_message, MessageIsAddedInOrder}
 use Rattle.mo_expand.proofs.ListingLemmas.{with_message-cons, with_message-none}
 use Rattle.mo_expand.proofs.RisingLemmas.{rising-rest, rising-with_message}
-use Rattle.mo_expand.proofs.SearchLemmas.{rising_between}
 
 abbrev key : Message → List ℕ
 key m = key_of m.original

@@ -1,10 +1,10 @@
 -- Messages in order: they are the only ones, and under each key the same is found.
-use Rattle.std.proofs.Common.{◌≡◌, ◌≢◌, ℕ, zero, suc, ◌<◌, ◌≤◌, ◌⊎◌, Bool, true, false, List, [], ◌∷◌, Option, None, Some, get_or, refl, sym, ap, ap₂, ◌∙◌, inl, inr, subst, arith, All, Contains, find}
+use Rattle.std.proofs.Common.{◌≡◌, ℕ, zero, suc, ◌<◌, ◌≤◌, ◌⊎◌, Bool, true, false, List, [], ◌∷◌, Option, None, Some, get_or, refl, sym, ap, ap₂, ◌∙◌, inl, inr, subst, arith, All, Contains, find}
 use Rattle.std.specs.List.{position_or_len}
 use Rattle.std.specs.Str.{bytes_eq}
-use Rattle.std.specs.declared.cmp.Ordering.TheVariants.{Less, Equal}
+use Rattle.std.specs.declared.cmp.Ordering.TheVariants.{Less}
 use Rattle.std.proofs.lemmas.Bool.{cases_lt}
-use Rattle.std.proofs.lemmas.Cmp.{nat_list_cmp_total, tied_itself}
+use Rattle.std.proofs.lemmas.Cmp.{nat_list_cmp_total}
 use Rattle.std.proofs.lemmas.List.{get_or-map, get_or_default, length-map}
 use Rattle.std.proofs.lemmas.List.Elements.{All-contains}
 use Rattle.std.proofs.lemmas.List.Folds.{find_at}
@@ -13,22 +13,15 @@ use Rattle.std.proofs.lemmas.List.Sums.{fails_before_first, passes_at_first}
 use Rattle.std.proofs.lemmas.Option.{get_or_from_slice_get, none-some, slice_get-get_or, slice_get_within}
 use Rattle.std.proofs.lemmas.Slice.Eq.{bytes_eq-Decides}
 use Rattle.mo_file.specs.Prelude.{AreRising, key_cmp, key_of, keys, Message}
+use Rattle.mo_file.proofs.RisingKeys.{less_is_other, rising_between}
 use Rattle.mo_file.proofs.RoundTripLemmas.{layout_is_mo_file}
 use Rattle.mo_expand.specs.Prelude.{HaveDistinctKeys, IsInOrder, MoFileIsInOrder, OneOrder, SameMessageUnderKey, SortedFileIsMoFile}
 use Rattle.mo_expand.proofs.ExpandedFileLemmas.{rising}
 use Rattle.mo_expand.proofs.RisingLemmas.{rising-rest}
-use Rattle.mo_expand.proofs.SearchLemmas.{rising_between}
 use Rattle.mo_expand.proofs.SortedFileLemmas.{distinct-permuted}
 
 abbrev key : Message → List ℕ
 key m = key_of m.original
-
-not_less_itself : (x y : List ℕ) → key_cmp x y ≡ Less → x ≢ y
-not_less_itself x y less same =
-    let itself : key_cmp y y ≡ Equal = tied_itself nat_list_cmp_total y in
-    let P : List ℕ → Type 0 = λ z. key_cmp z y ≡ Less in
-    let other : key_cmp y y ≡ Less = subst P same less in
-    (cc)
 
 -- the first key is below those of the rest
 below-rest : (x : Message) (xs : List Message) → AreRising (keys (x ∷ xs)) → (m : Message) → Contains xs m
@@ -56,7 +49,7 @@ same-first x y xs ys rises rises' to from =
       | inl is ↦ is
       | inr later ↦ elim (first-or-rest x xs y (from y (0, omega arith, refl))) [
         | inl is ↦ sym is
-        | inr later' ↦ absurd (not_less_itself (key x) (key x)
+        | inr later' ↦ absurd (less_is_other (key x) (key x)
             (nat_list_cmp_total.trans (key x) (key y) (key x) (below-rest x xs rises y later')
             (below-rest y ys rises' x later)) refl)
       ]
@@ -67,7 +60,7 @@ rest-includes : (x y : Message) (xs ys : List Message) → AreRising (keys (x �
     → Includes (x ∷ xs) (y ∷ ys) → Includes xs ys
 rest-includes x y xs ys rises same to m among =
     elim (first-or-rest y ys m (to m (in-rest x xs m among))) [
-      | inl is ↦ absurd (not_less_itself (key x) (key m) (below-rest x xs rises m among) (ap key (same ∙ sym is)))
+      | inl is ↦ absurd (less_is_other (key x) (key m) (below-rest x xs rises m among) (ap key (same ∙ sym is)))
       | inr later ↦ later
     ]
 
@@ -92,7 +85,7 @@ includes messages sorted others is is' m among =
 
 distinct-rising : (messages : List Message) → AreRising (keys messages) → HaveDistinctKeys messages
 distinct-rising messages rises i j d before inside =
-    not_less_itself (get_or (keys messages) i d) (get_or (keys messages) j d)
+    less_is_other (get_or (keys messages) i d) (get_or (keys messages) j d)
     (ap₂ key_cmp (get_or_default (keys messages) i d [] (omega (arith, before, inside)))
     (get_or_default (keys messages) j d [] inside)
     ∙ rising_between (keys messages) rises i j before inside)
@@ -140,12 +133,12 @@ one-message (x ∷ xs) rises m n among among' same =
     elim (first-or-rest x xs m among) [
       | inl is ↦ elim (first-or-rest x xs n among') [
         | inl is' ↦ is ∙ sym is'
-        | inr later' ↦ absurd (not_less_itself (key x) (key n) (below-rest x xs rises n later')
+        | inr later' ↦ absurd (less_is_other (key x) (key n) (below-rest x xs rises n later')
             (ap key (sym is) ∙ same))
       ]
       | inr later ↦ elim (first-or-rest x xs n among') [
         | inl is' ↦ absurd
-            (not_less_itself (key x) (key m) (below-rest x xs rises m later) (ap key (sym is') ∙ sym same))
+            (less_is_other (key x) (key m) (below-rest x xs rises m later) (ap key (sym is') ∙ sym same))
         | inr later' ↦ one-message xs (rising-rest (key x) (keys xs) rises) m n later later' same
       ]
     ]

@@ -1,10 +1,9 @@
 -- Messages in rising order of their keys, of which one is added.
-use Rattle.std.proofs.Common.{◌≡◌, ℕ, zero, suc, ◌+◌, ◌<◌, List, [], ◌∷◌, length, Option, None, Some, refl, ap, ◌∙◌, subst, arith}
+use Rattle.std.proofs.Common.{◌≡◌, ℕ, zero, suc, ◌+◌, ◌<◌, List, [], ◌∷◌, length, Option, None, Some, refl, subst, arith}
 use Rattle.std.specs.declared.cmp.Ordering.{Ordering}
 use Rattle.std.specs.declared.cmp.Ordering.TheVariants.{Less, Equal, Greater}
-use Rattle.std.specs.Ordering.{ordering_reverse}
-use Rattle.std.proofs.lemmas.Cmp.{nat_list_cmp_total}
 use Rattle.mo_file.specs.Prelude.{AreRising, key_at, key_cmp, key_of, keys, Message}
+use Rattle.mo_file.proofs.RisingKeys.{greater_is_less}
 use Rattle.mo_expand.specs.Prelude.{beside, with_message, with_messages}
 
 -- a key is below the first of others, if there is one
@@ -31,9 +30,6 @@ rising-rest key ks rising = record {
 
 rising-first : (key : List ℕ) (ks : List (List ℕ)) → AreRising (key ∷ ks) → IsBelow key ks
 rising-first key ks rising inside = rising.next 0 (omega (arith, inside))
-
-greater_is_less : (x y : List ℕ) → key_cmp x y ≡ Greater → key_cmp y x ≡ Less
-greater_is_less x y greater = nat_list_cmp_total.antisymm y x ∙ ap ordering_reverse greater
 
 -- a key below a message and below the first of others is below the first of both
 below-beside : (key : List ℕ) (m other : Message) (others with_others : List Message) (o : Ordering)

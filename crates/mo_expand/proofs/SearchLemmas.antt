@@ -6,33 +6,13 @@ use Rattle.std.specs.List.Sorted.{IsNonDecreasingBy, IsPartitionPoint, IsSortedB
 use Rattle.std.specs.Ordering.{is_lt, ordering_index, ordering_reverse}
 use Rattle.std.proofs.lemmas.Cmp.{nat_list_cmp_total}
 use Rattle.std.proofs.lemmas.List.Sorted.{searchable_from_sorted}
-use Rattle.std.proofs.lemmas.List.{length-map, get_or-map}
+use Rattle.std.proofs.lemmas.List.{length-map}
 use Rattle.std.proofs.lemmas.Map.Lookups.{exact_bytes}
 use Rattle.mo_file.specs.Prelude.{AreRising, key_at, key_cmp, key_of, keys, Message, borrowed_message, messages_of_borrowed}
 use Rattle.mo_file.specs.declared.pairs.BorrowedPair.{BorrowedPair}
+use Rattle.mo_file.proofs.RisingKeys.{key-by, length-keys, rising_between}
 use Rattle.mo_expand.specs.Prelude.{with_message}
 use Rattle.mo_expand.proofs.ListingLemmas.{with_message-cons, with_message-none}
-
--- key i is below key j wherever i is below j
-rising_apart : (ks : List (List ℕ)) → AreRising ks → (i gap : ℕ) → i + 1 + gap < length ks
-    → key_cmp (key_at ks i) (key_at ks (i + 1 + gap)) ≡ Less
-rising_apart ks rising i zero inside =
-    let e : i + 1 + 0 ≡ i + 1 = omega arith in
-    rw e (rising.next i (omega arith))
-rising_apart ks rising i (suc gap) inside =
-    let e : i + 1 + suc gap ≡ i + 1 + gap + 1 = omega arith in
-    rw e
-    (
-    nat_list_cmp_total.trans (key_at ks i) (key_at ks (i + 1 + gap)) (key_at ks (i + 1 + gap + 1))
-    (rising_apart ks rising i gap (omega arith)) (rising.next (i + 1 + gap) (omega arith))
-    )
-
-pub rising_between : (ks : List (List ℕ)) → AreRising ks → (i j : ℕ) → i < j → j < length ks
-    → key_cmp (key_at ks i) (key_at ks j) ≡ Less
-rising_between ks rising i j before inside =
-    let e : i + 1 + (j - (i + 1)) ≡ j = omega arith in
-    let P : ℕ → Type 0 = λ k. key_cmp (key_at ks i) (key_at ks k) ≡ Less in
-    subst P e (rising_apart ks rising i (j - (i + 1)) (omega arith))
 
 reversed : (x y : List ℕ) (o : Ordering) → key_cmp x y ≡ o → key_cmp y x ≡ ordering_reverse o
 reversed x y o e = nat_list_cmp_total.antisymm y x ∙ ap ordering_reverse e
@@ -60,23 +40,15 @@ taken m (x ∷ xs) (suc at) inside below equal =
     with_message-cons m x xs Less (below 0 (omega arith))
     ∙ ap (λ l. x ∷ l) (taken m xs at (omega (arith, inside)) (λ k before. below (suc k) (omega (arith, before))) equal)
 
--- the key of a listed message
-key-listed : (listed : List BorrowedPair) (i : ℕ) (d : BorrowedPair) → i < length listed
-    → key_at (keys (messages_of_borrowed listed)) i ≡ key_of (get_or listed i d).original.now
-key-listed listed i d inside =
-    let lt : i < length (messages_of_borrowed listed) = omega (arith, length-map listed borrowed_message, inside) in
-    get_or-map (λ (m : Message). key_of m.original) (messages_of_borrowed listed) i (borrowed_message d) [] lt
-    ∙ ap (λ (m : Message). key_of m.original) (get_or-map borrowed_message listed i d (borrowed_message d) inside)
-
-length-keys : (ms : List Message) → length (keys ms) ≡ length ms
-length-keys ms = length-map ms (λ m. key_of m.original)
-
 sorted-listed : (listed : List BorrowedPair) → AreRising (keys (messages_of_borrowed listed)) →
     IsSortedBy (λ a b. is_lt (key_cmp (key_of a.original.now) (key_of b.original.now))) listed
 sorted-listed listed rising = λ k d low inside.
     let next = rising.next k
-    (omega (arith, length-keys (messages_of_borrowed listed), length-map listed borrowed_message, inside)) in
-    let less = rw (key-listed listed k d (omega (arith, inside)), key-listed listed (k + 1) d inside) at next in
+    (omega (arith, length-keys borrowed_message listed, inside)) in
+    let less = rw (
+      key-by borrowed_message listed k d (omega (arith, inside)),
+      key-by borrowed_message listed (k + 1) d inside,
+    ) at next in
     ap is_lt (reversed (key_of (get_or listed k d).original.now)
     (key_of (get_or listed (k + 1) d).original.now) Less less)
 
@@ -87,7 +59,7 @@ module _ (listed : List BorrowedPair) (m : BorrowedPair) (rising : AreRising (ke
 
   against-key : (i : ℕ) → i < length listed →
       key_cmp (key_at (keys (messages_of_borrowed listed)) i) (key_of m.original.now) ≡ against (get_or listed i m)
-  against-key i inside = ap (λ k. key_cmp k (key_of m.original.now)) (key-listed listed i m inside)
+  against-key i inside = ap (λ k. key_cmp k (key_of m.original.now)) (key-by borrowed_message listed i m inside)
 
   pub listed-found : (at : ℕ) → at < length listed →
       key_cmp (key_of (get_or listed at m).original.now) (key_of m.original.now) ≡ Equal →
@@ -97,7 +69,7 @@ module _ (listed : List BorrowedPair) (m : BorrowedPair) (rising : AreRising (ke
       let here = against-key at inside ∙ equal in
       let within : at < length (messages_of_borrowed listed) =
       omega (arith, length-map listed borrowed_message, inside) in
-      let among : at < length ks = omega (arith, length-keys (messages_of_borrowed listed), within) in
+      let among : at < length ks = omega (arith, length-keys borrowed_message listed, inside) in
       taken (borrowed_message m) (messages_of_borrowed listed) at within
       (λ k before. subst (λ key. key_cmp (key_at ks k) key ≡ Less)
       (exact_bytes (key_at ks at) (key_of m.original.now) here)

@@ -1,9 +1,9 @@
 -- The text of a string is that of its segments.
-use Rattle.std.proofs.Common.{◌≡◌, ℕ, zero, suc, ◌+◌, ◌-◌, ◌*◌, ◌≤◌, ◌⊎◌, ◌==◌, ◌&&◌, Bool, true, false, List, ◌++◌, length, get_or, Option, None, Some, refl, sym, ap, ◌∙◌, inl, inr, subst, arith}
-use Rattle.std.specs.Prelude.{nat_le, nat_lt, unwrap_or, slice_get, slice_index_or, option_and_then, if◌then◌else◌}
-use Rattle.std.proofs.lemmas.Bool.{and_parts, cases_lt, eqb-true, eqb-false, eq-eqb, ne_eqb, leb-true, le-leb, ltb-true, lt-ltb}
+use Rattle.std.proofs.Common.{◌≡◌, ℕ, zero, suc, ◌+◌, ◌-◌, ◌*◌, ◌≤◌, ◌⊎◌, ◌==◌, Bool, true, false, List, ◌++◌, length, get_or, Option, None, Some, refl, sym, ap, ◌∙◌, inl, inr, subst, arith}
+use Rattle.std.specs.Prelude.{nat_le, nat_lt, slice_get, slice_index_or, option_and_then, if◌then◌else◌}
+use Rattle.std.proofs.lemmas.Bool.{and_from, and_parts, cases_lt, cond-false, cond-true, eqb-true, eqb-false, eq-eqb, ne_eqb, leb-true, le-leb, ltb-true, lt-ltb}
 use Rattle.std.proofs.lemmas.List.{get_or_past}
-use Rattle.std.proofs.lemmas.Option.{get_or_from_slice_get, none-some, slice_get-get_or}
+use Rattle.std.proofs.lemmas.Option.{get_or_from_slice_get, none-some, same_Some, slice_get-get_or}
 use Rattle.mo_file.specs.declared.byte_order.Order.{Order}
 use Rattle.mo_file.specs.Prelude.{word_at}
 use Rattle.mo_expand.specs.declared.platform_text.PlatformText.{PlatformText}
@@ -19,22 +19,6 @@ if-either : {A : Type 0} (b : Bool) (x y : Option A) (t : A) → (if b then x el
     → ((b ≡ true) × (x ≡ Some t)) ⊎ ((b ≡ false) × (y ≡ Some t))
 if-either true x y t is = inl (refl, is)
 if-either false x y t is = inr (refl, is)
-
-pub some-same : {A : Type 0} (x y : A) → Some x ≡ Some y → x ≡ y
-some-same x y is = ap (λ o. unwrap_or o x) is
-
-pub if-true : {A : Type 0} (b : Bool) (x y : A) → b ≡ true → (if b then x else y) ≡ x
-if-true true x y is = refl
-if-true false x y is = cc
-
-pub if-false : {A : Type 0} (b : Bool) (x y : A) → b ≡ false → (if b then x else y) ≡ y
-if-false true x y is = cc
-if-false false x y is = refl
-
-pub both : (a b : Bool) → a ≡ true → b ≡ true → (a && b) ≡ true
-both true true is is' = refl
-both true false is is' = is'
-both false b is is' = is
 
 -- a byte that isn't there isn't NUL
 nul-there : (bytes : List ℕ) (at : ℕ) → get_or bytes at 1 ≡ 0 → slice_get bytes at ≡ Some 0
@@ -52,25 +36,25 @@ before-nul bytes start len t is =
     record {
       some = ltb-true 0 len tests.0;
       nul = nul-there bytes (start + (len - 1)) (eqb-true _ 0 tests.1);
-      is = sym (some-same _ t parts.1);
+      is = sym (same_Some _ t parts.1);
     }
 
 before-nul-back : (bytes : List ℕ) (start len : ℕ) (t : List ℕ) → IsBeforeNul bytes start len t
     → terminated_part bytes start len ≡ Some t
 before-nul-back bytes start len t is =
-    if-true _ _ _ (both (nat_lt 0 len) (slice_index_or bytes (start + (len - 1)) 1 == 0) (lt-ltb 0 len is.some)
+    cond-true _ _ _ (and_from (nat_lt 0 len) (slice_index_or bytes (start + (len - 1)) 1 == 0) (lt-ltb 0 len is.some)
     (eq-eqb _ 0 (get_or_from_slice_get bytes (start + (len - 1)) 0 1 is.nul)))
     ∙ ap Some (sym is.is)
 
 whole-part : (bytes : List ℕ) (start len : ℕ) (t : List ℕ) → part bytes start len ≡ Some t → IsPart bytes start len t
 whole-part bytes start len t is =
     let parts = if-some _ _ t is in
-    record { inside = leb-true (start + len) (length bytes) parts.0; is = sym (some-same _ t parts.1) }
+    record { inside = leb-true (start + len) (length bytes) parts.0; is = sym (same_Some _ t parts.1) }
 
 whole-part-back : (bytes : List ℕ) (start len : ℕ) (t : List ℕ) → IsPart bytes start len t
     → part bytes start len ≡ Some t
 whole-part-back bytes start len t is =
-    if-true _ _ _ (le-leb (start + len) (length bytes) is.inside) ∙ ap Some (sym is.is)
+    cond-true _ _ _ (le-leb (start + len) (length bytes) is.inside) ∙ ap Some (sym is.is)
 
 then-some : (texts : List PlatformText) (name : Option (List ℕ)) (t : List ℕ)
     → option_and_then (text_of texts) name ≡ Some t
@@ -99,13 +83,13 @@ module _ (order : Order) (bytes : List ℕ) (texts : List PlatformText) where
       → inserted order bytes texts number ≡ Some t
   named-back number name t is has =
       ap (option_and_then (text_of texts))
-      (if-true _ _ _ (both _ _ (lt-ltb number (word_at order bytes 28) is.among)
+      (cond-true _ _ _ (and_from _ _ (lt-ltb number (word_at order bytes 28) is.among)
       (le-leb (word_at order bytes 32 + 8 * number + 8) (length bytes) is.listed))
       ∙ before-nul-back bytes _ _ name is.is) ∙ has
 
   joined-three : (a b c : Option (List ℕ)) (t : List ℕ) → join a b c ≡ Some t
       → (x : List ℕ) × (y : List ℕ) × (z : List ℕ) × (a ≡ Some x) × (b ≡ Some y) × (c ≡ Some z) × (x ++ y ++ z ≡ t)
-  joined-three (Some x) (Some y) (Some z) t is = (x, y, z, refl, refl, refl, some-same _ t is)
+  joined-three (Some x) (Some y) (Some z) t is = (x, y, z, refl, refl, refl, same_Some _ t is)
   joined-three (Some x) (Some y) None t is = absurd (none-some t is)
   joined-three (Some x) None c t is = absurd (none-some t is)
   joined-three None b c t is = absurd (none-some t is)
@@ -147,14 +131,14 @@ module _ (order : Order) (bytes : List ℕ) (texts : List PlatformText) where
   unfolding joined
   segments-back (last inside ends is) zero few = absurd (omega (arith, few))
   segments-back (last {at = at} {start = start} {text = text} inside ends is) (suc most) few =
-      if-true _ _ _ (le-leb (at + 8) (length bytes) inside)
-      ∙ if-true _ _ _ (eq-eqb (word_at order bytes (at + 4)) 0xffffffff ends)
+      cond-true _ _ _ (le-leb (at + 8) (length bytes) inside)
+      ∙ cond-true _ _ _ (eq-eqb (word_at order bytes (at + 4)) 0xffffffff ends)
       ∙ before-nul-back bytes start (word_at order bytes at) text is
   segments-back (before inside goes_on is named has rest) zero few = absurd (omega (arith, few))
   segments-back (before {more = more} {at = at} {start = start} {literal = literal} {name = name} {inserted = put}
       {rest = later} inside goes_on is named has rest) (suc most) few =
-      if-true _ _ _ (le-leb (at + 8) (length bytes) inside)
-      ∙ if-false _ _ _ (ne_eqb (word_at order bytes (at + 4)) 0xffffffff goes_on)
+      cond-true _ _ _ (le-leb (at + 8) (length bytes) inside)
+      ∙ cond-false _ _ _ (ne_eqb (word_at order bytes (at + 4)) 0xffffffff goes_on)
       ∙ rw (
         whole-part-back bytes start (word_at order bytes at) literal is,
         named-back (word_at order bytes (at + 4)) name put named has,
@@ -168,6 +152,6 @@ text_is_its_segments order bytes texts at text = (
       let made = segments order bytes texts 256 (at + 4) (word_at order bytes at) text parts.1 in
       (made.0, made.1, leb-true (at + 4) (length bytes) parts.0, made.2),
   λ is.
-      if-true _ _ _ (le-leb (at + 4) (length bytes) is.2)
+      cond-true _ _ _ (le-leb (at + 4) (length bytes) is.2)
       ∙ segments-back order bytes texts is.3 256 is.1,
 )

@@ -2,25 +2,21 @@
 use Rattle.std.proofs.Common.{◌≡◌, ◌≢◌, ℕ, zero, suc, ◌+◌, ◌*◌, ◌%◌, ◌<◌, ◌≤◌, ◌&&◌, Bool, true, false, List, [], ◌∷◌, length, Option, None, Some, refl, ap, ap₂, ◌∙◌, arith}
 use Rattle.std.specs.Prelude.{nat_le, nat_lt, if◌then◌else◌}
 use Rattle.std.specs.Str.{bytes_eq}
-use Rattle.std.proofs.lemmas.Bool.{and_parts, leb-true, le-leb, ltb-true, lt-ltb}
+use Rattle.std.proofs.lemmas.Bool.{and_from, and_parts, cond-false, cond-true, false_from_ne_true, leb-true, le-leb, ltb-true, lt-ltb}
 use Rattle.std.proofs.lemmas.List.Elements.{All-head, All-tail}
-use Rattle.std.proofs.lemmas.Option.{none-some}
+use Rattle.std.proofs.lemmas.Option.{none-some, same_Some}
 use Rattle.std.proofs.lemmas.Slice.Eq.{bytes_eq-Decides}
 use Rattle.mo_file.specs.declared.byte_order.Order.{Order}
 use Rattle.mo_file.specs.Prelude.{revision, Message, word_at}
 use Rattle.mo_expand.specs.declared.platform_text.PlatformText.{PlatformText}
 use Rattle.mo_expand.specs.Prelude.{message_from, system_count, text_at, FirstTextCounts, IsSystemNumber, MessageIsItsStrings}
-use Rattle.mo_expand.proofs.SegmentLemmas.{both, if-false, if-some, if-true, some-same}
-
-differs : (b : Bool) → ¬ (b ≡ true) → b ≡ false
-differs true not = absurd (not refl)
-differs false not = refl
+use Rattle.mo_expand.proofs.SegmentLemmas.{if-some}
 
 pub first_text_counts : FirstTextCounts
-first_text_counts [] after it apart = if-true _ _ _ ((bytes_eq-Decides it.name.now it.name.now).1 refl)
+first_text_counts [] after it apart = cond-true _ _ _ ((bytes_eq-Decides it.name.now it.name.now).1 refl)
 first_text_counts (other ∷ others) after it apart =
-    if-false _ _ _
-    (differs (bytes_eq other.name.now it.name.now)
+    cond-false _ _ _
+    (false_from_ne_true (bytes_eq other.name.now it.name.now)
     (λ same. All-head (λ (o : PlatformText). o.name.now ≢ it.name.now) other others apart
     ((bytes_eq-Decides other.name.now it.name.now).0 same)))
     ∙ first_text_counts others after it
@@ -59,15 +55,15 @@ module _ (order : Order) (bytes : List ℕ) where
   number-back n is =
       let some = some-number (revision order bytes % 65536) is.minor in
       let tables : has_tables ≡ true =
-      both _ _ (both _ _ (both _ _ (le-leb 48 (length bytes) is.long) (le-leb 1 _ some))
+      and_from _ _ (and_from _ _ (and_from _ _ (le-leb 48 (length bytes) is.long) (le-leb 1 _ some))
       (le-leb _ (length bytes) is.originals)) (le-leb _ (length bytes) is.translations) in
-      ap (nat_lt n) (if-true has_tables (word_at order bytes 36) 0 tables)
+      ap (nat_lt n) (cond-true has_tables (word_at order bytes 36) 0 tables)
       ∙ lt-ltb n (word_at order bytes 36) is.counted
 
   from-both : (o t : Option (List ℕ)) (m : Message) → message_from o t ≡ Some m
       → (o ≡ Some m.original) × (t ≡ Some m.translation)
   from-both (Some o) (Some t) m is =
-      let same = some-same _ m is in
+      let same = same_Some _ m is in
       (ap (λ (k : Message). Some k.original) same, ap (λ (k : Message). Some k.translation) same)
   from-both (Some o) None m is = absurd (none-some m is)
   from-both None t m is = absurd (none-some m is)
@@ -81,5 +77,5 @@ message_is_its_strings order bytes texts n m =
           let strings = from-both order bytes o t m parts.1 in
           (number order bytes n parts.0, strings.0, strings.1),
       λ is.
-          if-true _ _ _ (number-back order bytes n is.0) ∙ ap₂ message_from is.1 is.2,
+          cond-true _ _ _ (number-back order bytes n is.0) ∙ ap₂ message_from is.1 is.2,
     )

@@ -1,21 +1,14 @@
 -- A text has no separator where none is found in it, and then it lacks NUL and EOT.
-use Rattle.std.proofs.Common.{◌≡◌, ◌≢◌, ℕ, ◌<◌, ◌==◌, ◌||◌, ◌&&◌, Bool, true, false, not, List, [], Option, None, Some, length, get_or, slice_get, refl, sym, ap, inl, inr, ◌∙◌, arith}
+use Rattle.std.proofs.Common.{◌≡◌, ℕ, ◌<◌, ◌==◌, Bool, true, false, not, List, Option, None, Some, length, get_or, slice_get, refl, sym, ap, ◌∙◌, arith}
 use Rattle.std.specs.Prelude.{◌↔◌}
 use Rattle.std.specs.Option.{is_some}
 use Rattle.std.proofs.lemmas.List.Elements.{All-from_get_or}
 use Rattle.std.proofs.lemmas.List.Folds.{list_any_at, list_any_none}
-use Rattle.std.proofs.lemmas.Bool.{cases_Bool, cases_eq, false_from_ne_true, ne_eqb, not-true}
+use Rattle.std.proofs.lemmas.Bool.{and_from, and_parts, false_from_ne_true, ne_eqb, not-true, or_from, or_right}
 use Rattle.std.proofs.lemmas.Option.{get_or_from_slice_get, slice_get-get_or, slice_get_within}
 use Rattle.std.specs.List.{list_any}
 use Rattle.mo_lookup.specs.Prelude.{LacksNulAndEot, is_separator, has_no_separator, can_be_key}
 use Rattle.memchr.specs.Find.{IsFirstByte, is_byte}
-
-neither : (nul eot : Bool) → nul ≡ false → eot ≡ false → (nul || eot) ≡ false
-neither nul eot no_nul no_eot = rw (no_nul, no_eot) refl
-
-second : (nul eot : Bool) → eot ≡ true → (nul || eot) ≡ true
-second true eot is = refl
-second false eot is = is
 
 -- a text where no NUL is found has no separator where no EOT is found either
 pub no_separator_by_eot : (text : List ℕ) (nul eot : Option ℕ) (no_nul no_eot : Bool) →
@@ -26,7 +19,8 @@ no_separator_by_eot text nul eot false no_eot first_nul first_eot is_nul none is
 no_separator_by_eot text None (Some index) true true first_nul first_eot is_nul none is_eot = absurd (cc)
 no_separator_by_eot text None (Some index) true false first_nul first_eot is_nul none is_eot =
     let inside = first_eot.0.high in
-    ap not (sym (list_any_at is_separator text index 0 (omega arith) (second (get_or text index 0 == 0) _ first_eot.1)))
+    ap not (sym (list_any_at is_separator text index 0 (omega arith)
+    (or_right (get_or text index 0 == 0) _ first_eot.1)))
 no_separator_by_eot text None None true false first_nul first_eot is_nul none is_eot = absurd (cc)
 no_separator_by_eot text None None true true first_nul first_eot is_nul none is_eot =
     ap not
@@ -36,7 +30,7 @@ no_separator_by_eot text None None true true first_nul first_eot is_nul none is_
     list_any_none is_separator text
     (
     All-from_get_or (λ byte. is_separator byte ≡ false) text 0
-    (λ i inside. neither _ _ (false_from_ne_true _ (first_nul i (omega arith) inside))
+    (λ i inside. or_from _ _ (false_from_ne_true _ (first_nul i (omega arith) inside))
     (false_from_ne_true _ (first_eot i (omega arith) inside)))
     )
     )
@@ -64,20 +58,9 @@ has-none text lacking =
     other : (i : ℕ) → i < length text → is_separator (get_or text i 0) ≡ false
     other i inside =
         let here = slice_get-get_or text i 0 inside in
-        neither _ _
+        or_from _ _
         (ne_eqb (get_or text i 0) 0 (λ e. (lacking i).0 (here ∙ ap Some e)))
         (ne_eqb (get_or text i 0) 4 (λ e. (lacking i).1 (here ∙ ap Some e)))
-
-both : (a b : Bool) → a ≡ true → b ≡ true → (a && b) ≡ true
-both a b one two = rw (one, two) refl
-
-first-of-both : (a b : Bool) → (a && b) ≡ true → a ≡ true
-first-of-both true b is = refl
-first-of-both false b is = absurd cc
-
-second-of-both : (a b : Bool) → (a && b) ≡ true → b ≡ true
-second-of-both true b is = is
-second-of-both false b is = absurd cc
 
 pub key-alone : (id : List ℕ) → can_be_key None id ≡ true ↔ LacksNulAndEot id
 key-alone id = (λ is. lacks id is, λ lacking. has-none id lacking)
@@ -85,9 +68,8 @@ key-alone id = (λ is. lacks id is, λ lacking. has-none id lacking)
 pub key-in-context : (context id : List ℕ)
     → can_be_key (Some context) id ≡ true ↔ (LacksNulAndEot context × LacksNulAndEot id)
 key-in-context context id = (
-  λ is. (
-    lacks context (first-of-both (has_no_separator context) (has_no_separator id) is),
-    lacks id (second-of-both (has_no_separator context) (has_no_separator id) is),
-  ),
-  λ lacking. both _ _ (has-none context lacking.0) (has-none id lacking.1),
+  λ is.
+      let parts = and_parts (has_no_separator context) (has_no_separator id) is in
+      (lacks context parts.0, lacks id parts.1),
+  λ lacking. and_from _ _ (has-none context lacking.0) (has-none id lacking.1),
 )

@@ -6,7 +6,8 @@ use Rattle.mo_file.specs.Prelude.{AreRising, key_at, key_cmp}
 use Rattle.mo_lookup.specs.Prelude.{search_bound, comparisons, IsIndexOf}
 use Rattle.mo_lookup.proofs.BoundLemmas.{search_bound-at_most_32}
 use Rattle.mo_lookup.proofs.ComparisonLemmas.{AreCompared, AreCompared-less, AreCompared-greater, AreCompared-equal, AreCompared-none, comparisons-bound}
-use Rattle.mo_lookup.proofs.RisingLemmas.{equal_is_same, none_up_to, none_from}
+use Rattle.mo_file.proofs.RisingKeys.{equal_is_same}
+use Rattle.mo_lookup.proofs.RisingLemmas.{none_up_to, none_from}
 
 -- no key outside the range from low to high is the one, and what was counted leaves the comparisons
 -- of the range

@@ -13,7 +13,7 @@ use Rattle.std.proofs.lemmas.Slice.Eq.{bytes_eq-Decides}
 use Rattle.std.proofs.lemmas.Bool.{cases_lt, false_from_ne_true}
 use Rattle.mo_file.specs.Prelude.{Message, translations, AreRising, key_of, keys, key_at, key_cmp, forms}
 use Rattle.mo_lookup.specs.Prelude.{IsIndexOf, form_at, header_text, translation_under}
-use Rattle.mo_lookup.proofs.RisingLemmas.{equal_is_same, less_is_other, rising_between}
+use Rattle.mo_file.proofs.RisingKeys.{equal_is_same, less_is_other, rising_between}
 
 -- what is read after the end of a list of messages
 no_message : Message
