@@ -64,18 +64,7 @@ module _ (file : List ℕ → Reading → Type 0) where
       subst (AreCatalogues file (path_texts paths)) (append-nil catalogues)
       (before.completes [] (rw (drop_of_length-le paths past) done))
 
--- what may be read stays
-pub stays_itself : (file : List ℕ → Reading → Type 0) (standard : Reading → Type 0) → Stays file file standard standard
-stays_itself file standard = record { of_file = λ name reading is. is; of_standard = λ reading is. is }
-
-pub stays_on : {f f' f'' : List ℕ → Reading → Type 0} {s s' s'' : Reading → Type 0} → Stays f f' s s'
-    → Stays f' f'' s' s'' → Stays f f'' s s''
-stays_on first then =
-    record {
-      of_file = λ name reading is. first.of_file name reading (then.of_file name reading is);
-      of_standard = λ reading is. first.of_standard reading (then.of_standard reading is);
-    }
-
+-- what stands at a path stands there as before
 pub catalogue_as_before : {f f' : List ℕ → Reading → Type 0} {s s' : Reading → Type 0} → Stays f f' s s'
     → (path : List ℕ) (catalogue : Option NamedFile) → IsCatalogueAt f' path catalogue → IsCatalogueAt f path catalogue
 catalogue_as_before stays path None (inl unread) = inl unread

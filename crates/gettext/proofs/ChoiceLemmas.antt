@@ -7,7 +7,8 @@ use Rattle.std.proofs.lemmas.Bool.{cases_Bool, cond-true, cond-false}
 use Rattle.locale_names.proofs.SearchLemmas.{nil-from_length, some-from_length}
 use Rattle.gettext.specs.declared.candidates.Environment.{Environment}
 use Rattle.gettext.specs.Prelude.{EnvironmentView, environment_view, non_empty, locale_of, domain_of, folder_of, HasText, HasNoText, IsLocale, IsFolder, IsDomain}
-use Rattle.gettext.specs.Choosing.{by_lc_all, by_lc_messages, by_lang, no_locale, by_textdomaindir, of_system, by_argument, by_option, by_textdomain, no_domain}
+use Rattle.gettext.specs.Candidates.{by_lc_all, by_lc_messages, by_lang, no_locale}
+use Rattle.gettext.specs.Paths.{by_textdomaindir, of_system, by_argument, by_option, by_textdomain, no_domain}
 
 none_some : (value : List ℕ) → None ≡ Some value → ⊥
 none_some value e = cc

@@ -3,19 +3,17 @@ use Rattle.std.proofs.Common.{◌≡◌, refl, sym, ap, ◌∙◌, subst, ℕ, z
 use Rattle.std.specs.Prelude.{◌↔◌}
 use Rattle.std.specs.List.{filter_map, list_any}
 use Rattle.std.proofs.lemmas.Bool.{cond_both, eqb-true, eqb-false, ne_eqb}
+use Rattle.std.proofs.lemmas.Option.{none-some}
 use Rattle.gettext.specs.declared.escape.Escape.{Escape}
 use Rattle.gettext.specs.Prelude.{escape_after, given_bytes, given_bytes_after, expansion, has_no_newline, SpellsByte, IsNoEscape, Expands}
-use Rattle.gettext.specs.Expanding.{nothing, plain, escape, no_newline, stays}
+use Rattle.gettext.specs.Escape.{nothing, plain, escape, no_newline, stays}
 use Rattle.gettext.proofs.EscapeLemmas.{given_bytes-plain, given_bytes-stays, given_bytes-escape}
 use Rattle.gettext.proofs.SpeltEscapes.{byte_read, c_read, ByteSays, escape_spelt}
 
-some_is_none : {X : Type 0} (x : X) → Some x ≡ None → ⊥
-some_is_none x e = cc
-
 no_escape : (text : List ℕ) → escape_after text ≡ None → IsNoEscape text
 no_escape text none = record {
-  no_byte = λ b rest h. let read = byte_read h in some_is_none read.escape (sym read.read ∙ none);
-  not_c = λ rest is. some_is_none _ (sym (c_read rest) ∙ ap escape_after (sym is) ∙ none);
+  no_byte = λ b rest h. let read = byte_read h in none-some read.escape (sym none ∙ read.read);
+  not_c = λ rest is. none-some _ (sym none ∙ ap escape_after is ∙ c_read rest);
 }
 
 none_read : (text : List ℕ) (o : Option Escape) → escape_after text ≡ o → IsNoEscape text → escape_after text ≡ None

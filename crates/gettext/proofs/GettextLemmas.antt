@@ -7,9 +7,9 @@ use Rattle.std.specs.List.{join_with_byte, list_any}
 use Rattle.mo_lookup.specs.Prelude.{CatalogView}
 use Rattle.gettext.specs.declared.plan.Opened.{Opened}
 use Rattle.gettext.specs.Prelude.{Opens}
-use Rattle.gettext.specs.Gettext.{none, opened, refused}
+use Rattle.gettext.specs.Plan.{none, opened, refused}
 use Rattle.runs.specs.Prelude.{NamedFile, named_file, named_files}
-use Rattle.gettext.specs.Internal.OpensFile.{OpensFile}
+use Rattle.gettext.specs.Internal.Plan.{OpensFile}
 
 -- whatever the files from i on add completes what the files before made
 abbrev pub Completes : List ℕ → List (Bor (List ℕ) × Bor (List ℕ)) → ℕ → Opened → Type 0

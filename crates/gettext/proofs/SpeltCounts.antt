@@ -8,7 +8,7 @@ use Rattle.std.proofs.lemmas.Str.{digit_value_digit}
 use Rattle.std.proofs.lemmas.Str.Parse.{digit_from_value}
 use Rattle.locale_names.proofs.SearchLemmas.{nil-from_length, some-from_length}
 use Rattle.gettext.specs.Prelude.{are_digits, is_count, count_in, SpellsAfter, SpellsNumber, GivesCount}
-use Rattle.gettext.specs.Counting.{no_digit, digit, number, other}
+use Rattle.gettext.specs.Count.{no_digit, digit, number, other}
 
 -- the byte of a digit
 digit_byte : (c : ℕ) → digit_value c < 10 → c ≡ 48 + digit_value c

@@ -5,7 +5,7 @@ use Rattle.std.proofs.lemmas.Bool.{and_parts, and_from, cases_Bool, cond_both, c
 use Rattle.std.proofs.lemmas.List.Sums.{take_while-cons}
 use Rattle.gettext.specs.declared.escape.Escape.{Escape}
 use Rattle.gettext.specs.Prelude.{is_octal, octal_prefix, octal_value, letter, letter_escape, escape_after, NoOctalFirst, SpellsByte}
-use Rattle.gettext.specs.Expanding.{alert, backspace, form_feed, line_feed, carriage_return, tab, vertical_tab, backslash, one_digit, two_digits, three_digits}
+use Rattle.gettext.specs.Escape.{alert, backspace, form_feed, line_feed, carriage_return, tab, vertical_tab, backslash, one_digit, two_digits, three_digits}
 
 octal_digit : (a : ℕ) → a < 8 → is_octal (48 + a) ≡ true
 octal_digit a l = and_from _ _ (le-leb 48 (48 + a) (omega arith)) (le-leb (48 + a) 55 (omega (arith, l)))

@@ -1,10 +1,43 @@
--- The names of the locales whose catalogues are looked for, in their order, with a case for each
--- ("Locale Environment Variables", "Locale Names" and "Specifying a Priority List of Languages" of
--- the GNU gettext manual).
-use Rattle.std.specs.Prelude.{◌≡◌, ◌≢◌, ◌⊎◌, ℕ, List, [], ◌∷◌, ◌++◌, All, Contains, codes}
-use Rattle.std.specs.List.{join_with_byte}
-use Rattle.gettext.specs.Choosing.{HasText, HasNoText, IsLocale}
-use Rattle.gettext.specs.Environments.{EnvironmentView}
+-- The names of the locales whose catalogues are looked for, in their order ("Locale Environment
+-- Variables", "Locale Names" and "Specifying a Priority List of Languages" of the GNU gettext manual).
+use Rattle.std.specs.Prelude.{ℕ, ◌==◌, if◌then◌else◌, List, [], ◌∷◌, ◌++◌, length, fold, Option, Some, None, unwrap_or, ◌≡◌, ◌≢◌, ◌⊎◌, codes, All, Contains}
+use Rattle.std.specs.Borrow.{Bor}
+use Rattle.std.specs.List.{list_any, join_with_byte}
+use Rattle.std.specs.Option.{option_or}
+use Rattle.std.specs.Str.{bytes_eq}
+use Rattle.locale_names.specs.Prelude.{candidates}
+use Rattle.gettext.specs.declared.candidates.Environment.{Environment}
+use Rattle.gettext.specs.Environment.{EnvironmentView, HasText, HasNoText}
+
+-- a variable counts where it is set and not empty
+abbrev pub non_empty : Option (Bor (List ℕ)) → Option (List ℕ)
+non_empty None = None
+non_empty (Some value) = if length value.now == 0 then None else Some value.now
+
+-- the locale: the first of LC_ALL, LC_MESSAGES and LANG that counts, or nothing
+abbrev pub locale_of : Environment → List ℕ
+locale_of env = unwrap_or
+    (option_or (non_empty env.lc_all) (option_or (non_empty env.lc_messages) (non_empty env.lang))) []
+
+-- one more name, if it isn't among those before
+unfoldable pub with_name : List (List ℕ) → List ℕ → List (List ℕ)
+with_name names name = if list_any (λ known. bytes_eq known name) names then names else names ++ name ∷ []
+
+-- each name at its first place alone
+abbrev pub distinct : List (List ℕ) → List (List ℕ)
+distinct names = fold with_name [] names
+
+-- the candidates of an environment, the first to be asked first
+abbrev pub candidates_of : Environment → List (List ℕ)
+candidates_of env = distinct (candidates (locale_of env) (unwrap_or (non_empty env.language) []))
+
+-- the locale: that of LC_ALL, else that of LC_MESSAGES, else that of LANG, else none
+pub data IsLocale (env : EnvironmentView) : List ℕ → Type 0 where
+  by_lc_all : {locale : List ℕ} → HasText env.lc_all locale → IsLocale env locale
+  by_lc_messages : {locale : List ℕ} → HasNoText env.lc_all → HasText env.lc_messages locale → IsLocale env locale
+  by_lang : {locale : List ℕ} → HasNoText env.lc_all → HasNoText env.lc_messages → HasText env.lang locale
+      → IsLocale env locale
+  no_locale : HasNoText env.lc_all → HasNoText env.lc_messages → HasNoText env.lang → IsLocale env []
 
 -- the text is without this byte
 abbrev pub Lacks : ℕ → List ℕ → Type 0

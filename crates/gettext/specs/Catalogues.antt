@@ -2,7 +2,7 @@
 -- that can be, in the order in which they are asked for.
 use Rattle.std.specs.Prelude.{◌≡◌, ◌≢◌, ◌⊎◌, ℕ, List, [], ◌∷◌, map, Option, None, Some, IsUtf8, string_bytes}
 use Rattle.gettext.specs.Paths.{paths_of}
-use Rattle.gettext.specs.Environments.{IsEnvironment, environment_view}
+use Rattle.gettext.specs.Environment.{IsEnvironment, environment_view}
 use Rattle.gettext.specs.declared.candidates.Environment.{Environment}
 use Rattle.gettext.specs.declared.catalogues.CatalogueFile.{CatalogueFile}
 use Rattle.runs.specs.declared.inputs.InputFault.{InputFault}

@@ -1,2 +1,2 @@
 -- What private functions, proofs and laws cite; no clause of a public function does.
-pub mod OpensFile
+pub mod Plan

@@ -1,20 +1,12 @@
 -- The definitions in reading order: each module stands on those above it.
-pub mod CountArgument
-pub mod Counting
-pub mod Escapes
-pub mod Expanding
-pub mod Locales
-pub mod Paths
-pub mod Environments
-pub mod Choosing
+pub mod Count
+pub mod Escape
+pub mod Environment
 pub mod Candidates
-pub mod Gettext
+pub mod Paths
 pub mod Catalogues
-pub mod Usage
-pub mod Options
-pub mod GettextView
-pub mod UsageView
-pub mod ArgumentValues
+pub mod Plan
+pub mod Arguments
 pub mod WholeRun
 pub mod Internal
 pub mod Prelude

@@ -1,10 +1,12 @@
--- Where the catalogues of a text domain lie ("Invoking the gettext program" and "Locating Message
--- Catalog Files" of the GNU gettext manual).
+-- Where the catalogues of a text domain lie, and which variable or argument gives the folder and the
+-- domain ("Invoking the gettext program" and "Locating Message Catalog Files" of the GNU gettext
+-- manual).
 use Rattle.std.specs.Prelude.{◌≡◌, refl, ℕ, if◌then◌else◌, List, [], ◌++◌, map, Option, Some, None, unwrap_or, codes}
 use Rattle.std.specs.Option.{option_or, option_copied}
 use Rattle.locale_names.specs.Prelude.{is_path_part}
-use Rattle.gettext.specs.Locales.{non_empty, candidates_of}
+use Rattle.gettext.specs.Candidates.{non_empty, candidates_of}
 use Rattle.gettext.specs.declared.candidates.Environment.{Environment}
+use Rattle.gettext.specs.Environment.{EnvironmentView, HasText, HasNoText}
 
 -- the text domain: the one among the arguments, else that of `-d`, else that of TEXTDOMAIN, each
 -- also where it is empty
@@ -56,3 +58,17 @@ option_counts env = refl
 
 pub textdomain_counts : (env : Environment) → paths_of None None env ≡ paths_in env (option_copied env.textdomain)
 textdomain_counts env = refl
+
+-- the folder that the catalogues lie below: that of TEXTDOMAINDIR, else that of the system
+pub data IsFolder (env : EnvironmentView) : List ℕ → Type 0 where
+  by_textdomaindir : {folder : List ℕ} → HasText env.textdomaindir folder → IsFolder env folder
+  of_system : HasNoText env.textdomaindir → IsFolder env (codes "/usr/share/locale")
+
+-- the text domain: the argument, else that of `-d`, else that of TEXTDOMAIN, each also where it is
+-- empty
+pub data IsDomain (argument option : Option (List ℕ)) (env : EnvironmentView) : Option (List ℕ) → Type 0 where
+  by_argument : {domain : List ℕ} → argument ≡ Some domain → IsDomain argument option env (Some domain)
+  by_option : {domain : List ℕ} → argument ≡ None → option ≡ Some domain → IsDomain argument option env (Some domain)
+  by_textdomain : {domain : List ℕ} → argument ≡ None → option ≡ None → env.textdomain ≡ Some domain
+      → IsDomain argument option env (Some domain)
+  no_domain : argument ≡ None → option ≡ None → env.textdomain ≡ None → IsDomain argument option env None

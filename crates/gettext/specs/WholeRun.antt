@@ -5,8 +5,8 @@ use Rattle.runs.specs.declared.program_fault.ProgramFault.{ProgramFault}
 use Rattle.runs.specs.declared.program_fault.ProgramFault.TheVariants.{OutOfMemory}
 use Rattle.runs.specs.Prelude.{NamedFile, SystemView, RunView, Writes}
 use Rattle.gettext.specs.Catalogues.{AreFound, Searching}
-use Rattle.gettext.specs.Gettext.{IsLookUpRun}
-use Rattle.gettext.specs.Options.{CommandView}
+use Rattle.gettext.specs.Plan.{IsLookUpRun}
+use Rattle.gettext.specs.Arguments.{CommandView}
 
 -- how many catalogues a chain counts at most
 abbrev pub catalogue_limit : ℕ

@@ -3,7 +3,7 @@
 ghost use Rattle.std.specs.Prelude.{◌≡◌, ◌++◌, ◌∷◌, [], map, IfOk, OnOk, OnErr, Err};
 ghost use Rattle.std.specs.Option.{option_map};
 ghost use Rattle.locale_names.specs.Prelude.{text_of};
-ghost use Rattle.gettext.specs.Locales as spec;
+ghost use Rattle.gettext.specs.Candidates as spec;
 
 use locale_names::{Candidate, Position, is_untranslated, translated_candidate_at};
 use runs::ToolFault;

@@ -1,7 +1,7 @@
 //! The escapes that `gettext -e` expands ("Invoking the gettext program" of the GNU gettext
 //! manual).
 ghost use Rattle.std.specs.Prelude.{◌≡◌, ◌≤◌, length, IfSome, IfOk, OnErr, Err};
-ghost use Rattle.gettext.specs.Escapes as spec;
+ghost use Rattle.gettext.specs.Escape as spec;
 
 use locale_names::len_before;
 use runs::ToolFault;
@@ -105,7 +105,7 @@ fn octal_value(digits: &[u8]) -> u8
 }
 
 /// An escape of one letter.
-#[tactic(auto, unfolding(crate::specs::Escapes::letter_escape))]
+#[tactic(auto, unfolding(crate::specs::Escape::letter_escape))]
 fn letter_escape(letter: u8) -> Option<Escape>
     ensures escape { result ≡ spec.letter_escape letter }
     ensures size { IfSome result (λ escape. escape.size ≡ 1) }

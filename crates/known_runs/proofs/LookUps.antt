@@ -6,8 +6,8 @@ use Rattle.std.specs.Borrow.{Bor}
 use Rattle.std.specs.Option.{option_copied, option_map_or}
 use Rattle.gettext.specs.Prelude.{AreCatalogues, GivenDomain, Searching, given_domain, searching, IsEnvironment, environment_view, Opens, GettextRequest, NgettextRequest, IsLookUpRun, gettext_output, ngettext_output, output_of, output_run, with_name, paths_of, AsksGettext, AsksNgettext, CommandView, IsGettextRequest, IsNgettextRequest, GettextUsage, NgettextUsage, gettext_usage, ngettext_usage, RunsLookUp}
 use Rattle.gettext.specs.Catalogues.{done, found, skipped}
-use Rattle.gettext.specs.Gettext.{none, opened, refused}
-use Rattle.gettext.specs.Options.{asks_messages, asks_plural_form, fits_no_gettext, fits_no_ngettext}
+use Rattle.gettext.specs.Plan.{none, opened, refused}
+use Rattle.gettext.specs.Arguments.{asks_messages, asks_plural_form, fits_no_gettext, fits_no_ngettext}
 use Rattle.po_tools.specs.Prelude.{Answers, CommandLine, Reached, RunsLookUpLine, answers_of, line_of}
 use Rattle.po_tools.specs.ToolRun.{fits_none, looks_up}
 use Rattle.gettext.specs.WholeRun.{runs, no_memory}

@@ -12,7 +12,7 @@ use Rattle.msgfmt.specs.declared.options.MsgfmtOptions.{MsgfmtOptions}
 use Rattle.msgfmt.specs.declared.profile.CheckFault.TheVariants.{NoHeader}
 use Rattle.runs.specs.Prelude.{fault_line, mo_text, NamedFile, RunView, refusal}
 use Rattle.gettext.specs.Prelude.{IsLookUpRun, Opens, Request, output_of, output_run, tool_of}
-use Rattle.gettext.specs.Gettext.Opens.{none, opened, refused}
+use Rattle.gettext.specs.Plan.Opens.{none, opened, refused}
 use Rattle.msgfmt.specs.Prelude.{AreChecked, IsRefused, check_line, compile_options, compiled_run, input_names, input_texts, join_line, Reported, first_fault, is_header_entry}
 use Rattle.po_tools.specs.Prelude.{OneMsgfmtRun}
 

@@ -1,5 +1,5 @@
 use Rattle.std.proofs.Common.{[], ◌∷◌, sym, ◌∙◌, append-nil, append_assoc}
-use Rattle.gettext.specs.Gettext.{opened, refused}
+use Rattle.gettext.specs.Plan.{opened, refused}
 use Rattle.runs.specs.Prelude.{fault_line, mo_text}
 use Rattle.gettext.proofs.plan.open_file.Goals as goal
 

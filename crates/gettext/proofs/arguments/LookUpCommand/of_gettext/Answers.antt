@@ -1,6 +1,6 @@
 use Rattle.std.proofs.Common.{ap, refl, sym, ◌∙◌}
 use Rattle.std.specs.Option.{option_map}
-use Rattle.gettext.specs.Options.{asks_messages, fits_no_gettext}
+use Rattle.gettext.specs.Arguments.{asks_messages, fits_no_gettext}
 use Rattle.gettext.specs.Prelude.{messages_given}
 use Rattle.gettext.proofs.arguments.LookUpCommand.of_gettext.Goals as goal
 

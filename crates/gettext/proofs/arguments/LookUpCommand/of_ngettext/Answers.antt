@@ -1,6 +1,6 @@
 use Rattle.std.proofs.Common.{ap, refl, sym, ◌∙◌}
 use Rattle.std.specs.Option.{option_map}
-use Rattle.gettext.specs.Options.{asks_plural_form, fits_no_ngettext}
+use Rattle.gettext.specs.Arguments.{asks_plural_form, fits_no_ngettext}
 use Rattle.gettext.specs.Prelude.{plural_form_given}
 use Rattle.gettext.proofs.arguments.LookUpCommand.of_ngettext.Goals as goal
 

@@ -4,7 +4,7 @@ use Rattle.mo_file.specs.declared.byte_order.Order.{Order}
 use Rattle.mo_file.specs.Prelude.{IsMoFile}
 use Rattle.mo_lookup.specs.Prelude.{CatalogView, IsCatalogView}
 use Rattle.gettext.specs.declared.plan.Opened.{Opened}
-use Rattle.gettext.specs.Gettext.{Opens}
+use Rattle.gettext.specs.Plan.{Opens}
 use Rattle.runs.specs.Prelude.{NamedFile}
 
 -- the catalogue of these bytes joins others

@@ -1,6 +1,6 @@
 -- The environment variables that choose a catalogue ("Locale Environment Variables" and "Locating
 -- Message Catalog Files" of the GNU gettext manual).
-use Rattle.std.specs.Prelude.{ℕ, List, Option, option_map, codes}
+use Rattle.std.specs.Prelude.{ℕ, List, Option, option_map, codes, ◌≡◌, ◌≢◌, ◌⊎◌, [], Some, None}
 use Rattle.std.specs.Option.{option_copied}
 use Rattle.gettext.specs.declared.environment.OwnedEnvironment.{OwnedEnvironment}
 use Rattle.gettext.specs.declared.candidates.Environment.{Environment}
@@ -49,3 +49,12 @@ pub names_are : {variable : List ℕ → Option (List ℕ) → Type 0} (env : En
     × variable (codes "LANG") env.lang × variable (codes "LANGUAGE") env.language
     × variable (codes "TEXTDOMAIN") env.textdomain × variable (codes "TEXTDOMAINDIR") env.textdomaindir
 names_are env is = (is.lc_all, is.lc_messages, is.lang, is.language, is.textdomain, is.textdomaindir)
+
+-- the variable has this value, which isn't empty
+pub record HasText (variable : Option (List ℕ)) (value : List ℕ) : Type 0 where
+  pub is : variable ≡ Some value
+  pub some : value ≢ []
+
+-- the variable is unset or empty
+abbrev pub HasNoText : Option (List ℕ) → Type 0
+HasNoText variable = (variable ≡ None) ⊎ (variable ≡ Some [])

@@ -5,9 +5,14 @@ use Rattle.mo_file.specs.declared.byte_order.Order.{Order}
 use Rattle.mo_file.specs.declared.fault.MoError.{MoError}
 use Rattle.mo_file.specs.Prelude.{IsMoFile, IsFirstFault}
 use Rattle.mo_lookup.specs.Prelude.{chain_answered, CatalogView, IsCatalogView}
-use Rattle.gettext.specs.CountArgument.{count_in}
-use Rattle.gettext.specs.Escapes.{expansion, has_no_newline, escape_after, given_bytes_after, letter_escape}
+use Rattle.gettext.specs.Count.{count_in}
+use Rattle.gettext.specs.Escape.{expansion, has_no_newline, escape_after, given_bytes_after, letter_escape}
 use Rattle.runs.specs.Prelude.{fault_line, mo_text, NamedFile, RunView}
+use Rattle.std.specs.Option.{option_copied}
+use Rattle.gettext.specs.declared.plan.GettextOptions.{GettextOptions}
+use Rattle.gettext.specs.declared.plan.LookUp.{LookUp}
+use Rattle.gettext.specs.declared.plan.LookUp.TheVariants.{Messages, PluralForm}
+use Rattle.gettext.specs.declared.plan.NgettextOptions.{NgettextOptions}
 
 -- The files that are catalogues make the chain, in order; each other one is reported by a line, in order.
 pub data Opens (tool : List ℕ) : List NamedFile → List CatalogView → List ℕ → Type 0 where
@@ -170,3 +175,25 @@ pub plural_asked : (chain : List CatalogView)
     (record { context = Some (codes "menu"); id = codes "a\tb"; plural = Some (codes "c\td", 3) })).text
 unfolding given_bytes_after escape_after letter_escape count_in
 plural_asked chain = refl
+
+abbrev pub gettext_view : GettextOptions → GettextRequest
+gettext_view o = record {
+  arguments = map (λ argument. argument.now) o.messages.now;
+  context = option_copied o.context;
+  expand = o.expand;
+  no_newline = o.no_newline;
+  shell = o.shell;
+}
+
+abbrev pub ngettext_view : NgettextOptions → NgettextRequest
+ngettext_view o = record {
+  context = option_copied o.context;
+  expand = o.expand;
+  id = o.id.now;
+  plural = o.plural.now;
+  count = o.count.now;
+}
+
+abbrev pub request_view : LookUp → Request
+request_view (Messages o) = for_messages (gettext_view o)
+request_view (PluralForm o) = for_count (ngettext_view o)
