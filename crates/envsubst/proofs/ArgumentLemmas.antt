@@ -4,7 +4,7 @@ use Rattle.std.specs.Borrow.{Bor}
 use Rattle.runs.specs.declared.tool_fault.ToolFault.{ToolFault}
 use Rattle.envsubst.specs.Prelude.{EndsAs, names_in, names_given, pairs_in, values_of, values_of_slices, variables_of, RunsEnvsubst}
 use Rattle.envsubst.specs.ByArguments.{substituted}
-use Rattle.envsubst.specs.Usage.{replaced}
+use Rattle.envsubst.specs.Arguments.{replaced}
 
 -- variables are replaced, by the entries of an environment and the names in a SHELL-FORMAT
 pub replaces : (entries : List (List ℕ) → Type 0) (input left old new : Option (List ℕ))

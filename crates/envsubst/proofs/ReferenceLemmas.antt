@@ -6,7 +6,7 @@ use Rattle.std.proofs.lemmas.Bool.Decides.{nat_tests}
 use Rattle.std.proofs.lemmas.List.{drop_at, drop-drop}
 use Rattle.std.proofs.lemmas.List.Sums.{take_while-cons}
 use Rattle.envsubst.specs.Prelude.{is_letter, is_name_byte, is_name, name_prefix, begins_with, bare_reference, braced_reference, reference_after, is_begun_name, is_undecided_after, is_undecided}
-use Rattle.envsubst.specs.Internal.PendingSteps.{after_dollar}
+use Rattle.envsubst.specs.Internal.Holding.{after_dollar}
 
 -- neither `$` nor a brace is a name byte
 pub dollar-no_name : is_name_byte 36 ≡ false

@@ -4,8 +4,9 @@ use Rattle.std.specs.Prelude.{◌↔◌}
 use Rattle.std.specs.List.{cons_option}
 use Rattle.std.specs.Option.{option_map}
 use Rattle.std.proofs.lemmas.Bool.{cases_Bool, cond_both, cond-false, eqb-true, eqb-false}
+use Rattle.std.proofs.lemmas.Option.{none-some}
 use Rattle.envsubst.specs.Prelude.{Reference, reference_after, names_in, Values, Replacement, replacement_of, substituted, substitution_after, substitution, SpellsReference, BeginsNoReplaced, Replaces, HoldsNames}
-use Rattle.envsubst.specs.EnvsubstLaws.{nothing, copied, replaced, no_text, no_reference, reference}
+use Rattle.envsubst.specs.Laws.{nothing, copied, replaced, no_text, no_reference, reference}
 use Rattle.envsubst.proofs.SpeltReferences.{reference_read, reference_spelt}
 use Rattle.envsubst.proofs.SubstitutionLemmas.{plain, not-replaced, replacement-some, replaced as is-replaced}
 
@@ -23,14 +24,11 @@ read_at b text name rest h =
 not_dollar : (b : ℕ) (text name rest : List ℕ) → eqb b 36 ≡ false → SpellsReference (b ∷ text) name rest → ⊥
 not_dollar b text name rest other h = eqb-false b 36 other (read_at b text name rest h).1
 
-some_is_none : {X : Type 0} (x : X) → Some x ≡ None → ⊥
-some_is_none x e = cc
-
 begins_none : (values : Values) (text : List ℕ) → replacement_of values (reference_after text) ≡ None
     → BeginsNoReplaced values (36 ∷ text)
 begins_none values text none name value rest h is =
     let read = read_at 36 text name rest h in
-    some_is_none _ (sym (replacement-some values name value read.0 text read.2 is) ∙ none)
+    none-some _ (sym none ∙ replacement-some values name value read.0 text read.2 is)
 
 -- a replacement is that of a spelt reference
 record IsSpelt (values : Values) (text : List ℕ) (r : Replacement) : Type 0 where
@@ -41,11 +39,11 @@ record IsSpelt (values : Values) (text : List ℕ) (r : Replacement) : Type 0 wh
 replacement_spelt : (values : Values) (text : List ℕ) (o : Option Reference) (r : Replacement)
     → reference_after text ≡ o → replacement_of values o ≡ Some r → IsSpelt values text r
 unfolding replacement_of
-replacement_spelt values text None r e is = absurd (some_is_none r (sym is))
+replacement_spelt values text None r e is = absurd (none-some r is)
 replacement_spelt values text (Some found) r e is = non_empty (values found.name) refl is where
   non_empty : (o : Option (List ℕ)) → values found.name ≡ o
       → option_map (λ v. record { value = v; size = found.size }) o ≡ Some r → IsSpelt values text r
-  non_empty None none some = absurd (some_is_none r (sym some))
+  non_empty None none some = absurd (none-some r some)
   non_empty (Some value) some same =
       let it : record { value = value; size = found.size } ≡ r = cc in
       subst (IsSpelt values text) it (record { name = found.name; spelt = reference_spelt text found e; value = some })
@@ -123,7 +121,7 @@ dollar_names : (b : ℕ) (text : List ℕ) (names : List (List ℕ)) → b ≡ 3
     → HoldsNames (b ∷ text) (cons_option (option_map (λ r. r.name) o) names)
 dollar_names b text names is None e more =
     no_reference (subst (λ a. (name rest : List ℕ) → SpellsReference (a ∷ text) name rest → ⊥) (sym is)
-    (λ name rest h. some_is_none _ (sym (read_at 36 text name rest h).2 ∙ e))) more
+    (λ name rest h. none-some _ (sym e ∙ (read_at 36 text name rest h).2))) more
 dollar_names b text names is (Some r) e more =
     reference (subst (λ a. SpellsReference (a ∷ text) r.name (drop r.size text)) (sym is) (reference_spelt text r e))
     more

@@ -7,7 +7,7 @@ use Rattle.std.proofs.lemmas.Bool.{and_parts, and_from, cond_both, eqb-true, ltb
 use Rattle.std.proofs.lemmas.List.{drop_at, drop-drop}
 use Rattle.std.proofs.lemmas.List.Sums.{take_while-cons}
 use Rattle.envsubst.specs.Prelude.{Reference, is_letter, is_name_byte, is_name, name_prefix, begins_with, bare_reference, braced_reference, reference_after, is_begun_name, IsInName, IsName, NoNameGoesOn, SpellsReference}
-use Rattle.envsubst.specs.EnvsubstLaws.{bare, braced}
+use Rattle.envsubst.specs.Laws.{bare, braced}
 use Rattle.envsubst.proofs.ReferenceLemmas.{ends, closes, ending-some, after-closed, letter-name_byte}
 
 all_decides : (bytes : List ℕ) → Decides (list_all is_name_byte bytes) (All IsInName bytes)

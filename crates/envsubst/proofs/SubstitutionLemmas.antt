@@ -11,7 +11,7 @@ use Rattle.std.specs.Borrow.{Bor}
 use Rattle.envsubst.specs.declared.holding.Decision.TheVariants.{Ends, Closes, Copies}
 use Rattle.envsubst.specs.declared.holding.Effect.{Effect}
 use Rattle.envsubst.specs.declared.holding.Effect.TheVariants.{Held, Copied, Replaced}
-use Rattle.envsubst.specs.Internal.PendingSteps.{after_dollar, Decides, ComesOut, ReplacesName, Ending}
+use Rattle.envsubst.specs.Internal.Holding.{after_dollar, Decides, ComesOut, ReplacesName, Ending}
 use Rattle.envsubst.proofs.ReferenceLemmas.{name_byte-not, begun-bytes, dollar-no_name, ending-none, ending-some, after-closed}
 
 -- skipped bytes leave the text after them

@@ -10,7 +10,7 @@ use Rattle.std.proofs.lemmas.List.Folds.{Any-from_list_any, list_any-from_Any}
 use Rattle.std.proofs.lemmas.Slice.Eq.{bytes_eq-Decides}
 use Rattle.std.proofs.lemmas.Option.{none-some}
 use Rattle.envsubst.specs.Prelude.{value_of, is_replaced, values_of, HasValue, IsReplaced}
-use Rattle.envsubst.specs.EnvsubstLaws.{unset, set}
+use Rattle.envsubst.specs.Laws.{unset, set}
 
 abbrev Variable : Type 0
 Variable = List ℕ × List ℕ

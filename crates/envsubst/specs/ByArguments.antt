@@ -4,11 +4,11 @@ use Rattle.std.specs.Io.KnownBytes.{Appends}
 use Rattle.runs.specs.declared.tool_fault.ToolFault.{ToolFault}
 use Rattle.runs.specs.declared.tool_fault.ToolFault.TheVariants.{ReadFault, WriteFault, OutOfMemory}
 use Rattle.runs.specs.Prelude.{AppendsPrefix}
-use Rattle.envsubst.specs.Envsubst.{EndsAs}
-use Rattle.envsubst.specs.References.{names_in, name_lines}
-use Rattle.envsubst.specs.Substitution.{values_of}
-use Rattle.envsubst.specs.Variables.{variables_of}
-use Rattle.envsubst.specs.Usage.{EnvsubstUsage, names, replaced}
+use Rattle.envsubst.specs.WholeInput.{EndsAs}
+use Rattle.envsubst.specs.Reference.{names_in, name_lines}
+use Rattle.envsubst.specs.Replacements.{values_of}
+use Rattle.envsubst.specs.Variable.{variables_of}
+use Rattle.envsubst.specs.Arguments.{EnvsubstUsage, names, replaced}
 
 -- the writer took the names in a SHELL-FORMAT, one a line, or after a fault a prefix of them
 abbrev pub WritesNames : List ℕ → Option (List ℕ) → Option (List ℕ) → Result (Unit {0}) ToolFault → Type 0

@@ -1,3 +1,3 @@
 -- What private functions, proofs and laws cite; no clause of a public function does.
 pub mod Sorted
-pub mod PendingSteps
+pub mod Holding

@@ -1,13 +1,12 @@
 -- The definitions in reading order: each module stands on those above it.
-pub mod References
-pub mod Substitution
-pub mod EnvsubstLaws
-pub mod Stream
-pub mod PendingReference
-pub mod SubstituterView
-pub mod Envsubst
-pub mod Variables
-pub mod Usage
+pub mod Reference
+pub mod Replacements
+pub mod Substituter
+pub mod Holding
+pub mod WholeInput
+pub mod Variable
+pub mod Arguments
 pub mod ByArguments
+pub mod Laws
 pub mod Internal
 pub mod Prelude

@@ -1,7 +1,7 @@
 //! The bytes that may begin a reference, held back until the next ones decide.
 ghost use Rattle.std.specs.Prelude.{◌≡◌, ◌<◌, true, false, ◌∷◌, [], length, take, IfSome};
 ghost use Rattle.envsubst.specs.Prelude.{is_undecided, is_begun_name, Values};
-ghost use Rattle.envsubst.specs.Internal.PendingSteps.{Decides, ComesOut, ReplacesName, IsStep, Ending, after_dollar};
+ghost use Rattle.envsubst.specs.Internal.Holding.{Decides, ComesOut, ReplacesName, IsStep, Ending, after_dollar};
 ghost use Rattle.envsubst.specs.Internal.Sorted.{values_of_replacements};
 
 use crate::reference::{LONGEST_NAME, begins_with, is_letter, is_name, is_name_byte, name_prefix};

@@ -2,7 +2,7 @@
 ghost use Rattle.std.specs.Prelude.{◌≡◌, ◌<◌, [], map, length, IfNone, IfSome, IfOk, OnErr, Err};
 ghost use Rattle.std.specs.Option.{option_map};
 ghost use Rattle.std.specs.List.{cons_option};
-ghost use Rattle.envsubst.specs.References as spec;
+ghost use Rattle.envsubst.specs.Reference as spec;
 
 use locale_names::len_before;
 use runs::ToolFault;
@@ -12,7 +12,7 @@ use std::alloc::Global;
 pub const LONGEST_NAME: usize = 255;
 
 /// Whether a name may begin with this byte.
-#[tactic(auto, unfolding(crate::specs::References::is_letter))]
+#[tactic(auto, unfolding(crate::specs::Reference::is_letter))]
 pub(crate) fn is_letter(byte: u8) -> bool
     ensures { result ≡ spec.is_letter byte }
 {
@@ -20,7 +20,7 @@ pub(crate) fn is_letter(byte: u8) -> bool
 }
 
 /// Whether a name may go on with this byte.
-#[tactic(auto, unfolding(crate::specs::References::is_name_byte))]
+#[tactic(auto, unfolding(crate::specs::Reference::is_name_byte))]
 pub(crate) fn is_name_byte(byte: u8) -> bool
     ensures { result ≡ spec.is_name_byte byte }
 {
@@ -28,7 +28,7 @@ pub(crate) fn is_name_byte(byte: u8) -> bool
 }
 
 /// Whether a run of name bytes is a name.
-#[tactic(auto, unfolding(crate::specs::References::is_name))]
+#[tactic(auto, unfolding(crate::specs::Reference::is_name))]
 pub(crate) fn is_name(run: &[u8]) -> bool
     ensures { result ≡ spec.is_name run.now }
 {
@@ -58,7 +58,7 @@ pub(crate) fn name_prefix(bytes: &[u8]) -> &[u8]
 }
 
 /// The name of the reference that a `$` begins, by the bytes after it.
-#[tactic(auto, unfolding(crate::specs::References::reference_after, crate::specs::References::braced_reference, crate::specs::References::bare_reference))]
+#[tactic(auto, unfolding(crate::specs::Reference::reference_after, crate::specs::Reference::braced_reference, crate::specs::Reference::bare_reference))]
 fn reference_name(after: &[u8]) -> Option<&[u8]>
     ensures { option_map (λ name. name.now) result
         ≡ option_map (λ r. r.name) (spec.reference_after after.now) }

@@ -21,7 +21,7 @@ pub(crate) struct Replacements<'a> {
 impl<'a> Model for Replacements<'a> {
     ghost use Rattle.std.specs.Prelude.{◌≡◌, true, IfSome};
     ghost use Rattle.envsubst.specs.Internal.Sorted.{AreNamesSorted, AreVariablesSorted, ReplacementsView};
-    ghost use Rattle.envsubst.specs.Substitution.{pairs_in, names_given};
+    ghost use Rattle.envsubst.specs.Replacements.{pairs_in, names_given};
 
     ghost Value = { ReplacementsView };
 
@@ -52,7 +52,7 @@ impl<'a> Replacements<'a> {
     }
 
     /// What a reference to this name becomes, or `None` where it isn't replaced.
-    #[tactic(auto, unfolding(crate::specs::Substitution::values_of))]
+    #[tactic(auto, unfolding(crate::specs::Replacements::values_of))]
     pub(crate) fn value_for(&self, name: &[u8]) -> Option<&'a [u8]>
         ensures { option_map (λ value. value.now) result ≡ values_of_replacements self.now name.now }
     {
@@ -65,7 +65,7 @@ impl<'a> Replacements<'a> {
 
     /// Whether references to this name are replaced: all are, but for those whose name isn't among
     /// the names that are given.
-    #[tactic(auto, unfolding(crate::specs::Substitution::is_replaced))]
+    #[tactic(auto, unfolding(crate::specs::Replacements::is_replaced))]
     fn is_replaced(&self, name: &[u8]) -> bool
         ensures { result ≡ is_replaced self.now.only name.now }
     {

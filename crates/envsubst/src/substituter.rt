@@ -26,8 +26,8 @@ pub struct Substituter<'a> {
 
 impl<'a> Model for Substituter<'a> {
     ghost use Rattle.std.specs.Prelude.{◌≡◌, true};
-    ghost use Rattle.envsubst.specs.SubstituterView.{SubstituterView};
-    ghost use Rattle.envsubst.specs.PendingReference.{is_undecided};
+    ghost use Rattle.envsubst.specs.Substituter.{SubstituterView};
+    ghost use Rattle.envsubst.specs.Holding.{is_undecided};
 
     ghost Value = { SubstituterView };
 

@@ -4,7 +4,7 @@ use Rattle.std.proofs.lemmas.Bool.{false≢true}
 use Rattle.std.specs.Option.{option_to_list}
 use Rattle.envsubst.specs.Prelude.{RunsEnvsubst, EndsAs, HasGoneOut, StopsWithin, write_failures, names_in, Values, substitution, values_of, EnvsubstUsage, envsubst_usage, variables_of}
 use Rattle.envsubst.specs.ByArguments.{named, substituted as replaced_all, unread}
-use Rattle.envsubst.specs.Usage.{replaced}
+use Rattle.envsubst.specs.Arguments.{replaced}
 use Rattle.po_tools.specs.Prelude.{Answers, AnswersStatus, CommandLine, Reached, RunsEnvsubstLine, Substitutes, answers_of, line_of, reached, reader_of}
 use Rattle.po_tools.specs.ToolRun.{runs_envsubst, no_envsubst}
 use Rattle.runs.specs.Prelude.{FileLog, Asked, Reading, WriterView, system, writer}

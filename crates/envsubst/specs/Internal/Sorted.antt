@@ -5,7 +5,7 @@ use Rattle.std.specs.Cmp.Lexicographic.{slice_cmp}
 use Rattle.std.specs.List.Sorted.{IsSortedBy}
 use Rattle.std.specs.Ordering.{is_lt, nat_cmp}
 use Rattle.std.specs.declared.cmp.Ordering.{Ordering}
-use Rattle.envsubst.specs.Substitution.{Values, values_of}
+use Rattle.envsubst.specs.Replacements.{Values, values_of}
 
 -- how two names compare, by unsigned bytes
 abbrev pub name_cmp : List ℕ → List ℕ → Ordering

@@ -1,16 +1,16 @@
 -- Internal to this crate: what a byte decides of those that are held, and what comes out then.
-use Rattle.std.specs.Prelude.{◌≡◌, ℕ, ◌+◌, ◌<◌, ◌≤◌, Bool, true, false, List, [], ◌∷◌, ◌++◌}
-use Rattle.std.specs.Prelude.{length, take, drop, Option, Some, None}
+use Rattle.std.specs.Prelude.{◌≡◌, ℕ, ◌+◌, ◌<◌, ◌≤◌, Bool, true, false, List, [], ◌∷◌, ◌++◌, length, take, drop, Option, Some, None}
 use Rattle.std.specs.Borrow.{Bor}
-use Rattle.envsubst.specs.References.{reference_after}
-use Rattle.envsubst.specs.Substitution.{Values, substitution}
+use Rattle.envsubst.specs.Reference.{reference_after}
+use Rattle.envsubst.specs.Replacements.{Values}
+use Rattle.envsubst.specs.Substituter.{substitution}
 use Rattle.envsubst.specs.declared.holding.Decision.{Decision}
 use Rattle.envsubst.specs.declared.holding.Decision.TheVariants.{Grows, Ends, Closes, Copies}
 use Rattle.envsubst.specs.declared.holding.Effect.{Effect}
 use Rattle.envsubst.specs.declared.holding.Effect.TheVariants.{Held, Copied, Replaced}
 use Rattle.envsubst.specs.declared.holding.Step.{Step}
 use Rattle.envsubst.specs.declared.holding.Step.TheVariants.{Hold, Write}
-use Rattle.envsubst.specs.PendingReference.{is_undecided}
+use Rattle.envsubst.specs.Holding.{is_undecided}
 
 -- what stands after the `$` of a reference that is begun: with a brace first, or without
 abbrev pub after_dollar : Bool → List ℕ → List ℕ

@@ -1,7 +1,9 @@
 -- What a run of envsubst has written, by its text alone.
 use Rattle.std.specs.Prelude.{◌≡◌, ℕ, ◌≤◌, List, [], ◌∷◌, ◌++◌, length, All, Option, Some, ◌≢◌, None, Contains, IsTrue}
-use Rattle.envsubst.specs.References.{is_letter, is_name_byte}
-use Rattle.envsubst.specs.Substitution.{Values}
+use Rattle.envsubst.specs.Reference.{is_letter, is_name_byte}
+use Rattle.envsubst.specs.Replacements.{Values}
+use Rattle.std.specs.List.{flat_map}
+use Rattle.envsubst.specs.Substituter.{substitution}
 
 -- What spells a reference, and a text with its references replaced, with a case each ("Invoking the
 -- envsubst program" of the GNU gettext manual).
@@ -99,3 +101,40 @@ pub record TookBeginningOfRead (values : Values) (text : List ℕ) (left old new
   pub read : List ℕ
   pub reads : (rest : List ℕ) → left ≡ Some rest → text ≡ read ++ rest
   pub took : (other : List ℕ) → TookBeginning values (read ++ other) old new
+
+-- one call: what it held before, its piece, what it wrote, and what it held after
+pub record FeedCall : Type 0 where
+  pub before : List ℕ
+  pub piece : List ℕ
+  pub written : List ℕ
+  pub after : List ℕ
+
+-- each call holds before what the one before it held after, and writes what its bytes become but
+-- for what it holds
+abbrev pub AreFeedCalls : Values → List ℕ → List FeedCall → Type 0
+AreFeedCalls values held [] = Unit {0}
+AreFeedCalls values held (c ∷ calls) =
+    (c.before ≡ held)
+    × ((rest : List ℕ)
+    → substitution values ((c.before ++ c.piece) ++ rest) ≡ c.written ++ substitution values (c.after ++ rest))
+    × AreFeedCalls values c.after calls
+
+-- the pieces of the calls, joined
+abbrev pub pieces_of : List FeedCall → List ℕ
+pieces_of calls = flat_map (λ c. c.piece) calls
+
+-- what the calls wrote, joined
+abbrev pub written_in : List FeedCall → List ℕ
+written_in calls = flat_map (λ c. c.written) calls
+
+-- what is held after the last call
+abbrev pub held_after : List ℕ → List FeedCall → List ℕ
+held_after held [] = held
+held_after held (c ∷ calls) = held_after c.after calls
+
+-- however a text is cut, what all calls wrote and what is still held make what the whole text
+-- becomes
+abbrev pub FeedCallsAgree : Type 0
+FeedCallsAgree = (values : Values) (calls : List FeedCall) → AreFeedCalls values [] calls → (rest : List ℕ)
+    → written_in calls ++ substitution values (held_after [] calls ++ rest)
+    ≡ substitution values (pieces_of calls ++ rest)

@@ -1,7 +1,6 @@
 -- The variables of an environment (manual of the C library, "Environment Variables": each entry is
 -- `NAME=VALUE`).
-use Rattle.std.specs.Prelude.{◌≡◌, refl, ℕ, ◌+◌, ◌==◌, List, []}
-use Rattle.std.specs.Prelude.{◌∷◌, Option, Some, option_map, position, take, drop, codes}
+use Rattle.std.specs.Prelude.{◌≡◌, refl, ℕ, ◌+◌, ◌==◌, List, [], ◌∷◌, Option, Some, option_map, position, take, drop, codes}
 use Rattle.std.specs.List.{flat_map}
 use Rattle.std.specs.Option.{option_to_list}
 

@@ -5,8 +5,8 @@ use Rattle.std.specs.Io.KnownBytes.{Appends, Consumes}
 use Rattle.runs.specs.declared.tool_fault.ToolFault.{ToolFault}
 use Rattle.runs.specs.declared.tool_fault.ToolFault.TheVariants.{ReadFault, WriteFault, OutOfMemory}
 use Rattle.runs.specs.Prelude.{AppendsPrefix}
-use Rattle.envsubst.specs.Substitution.{Values, substitution}
-use Rattle.envsubst.specs.Stream.{Advances, Stops}
+use Rattle.envsubst.specs.Replacements.{Values}
+use Rattle.envsubst.specs.Substituter.{substitution, Advances, Stops}
 
 -- the writer took what the whole input becomes
 abbrev pub Substitutes : Values → Option (List ℕ) → Option (List ℕ) → Option (List ℕ) → Type 0

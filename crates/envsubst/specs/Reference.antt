@@ -1,6 +1,5 @@
 -- Names and references in a text ("Invoking the envsubst program" of the GNU gettext manual).
-use Rattle.std.specs.Prelude.{◌≡◌, refl, filter, codes, ℕ, ◌+◌, Bool, false, ◌&&◌, ◌||◌, ◌==◌, nat_lt, if◌then◌else◌, List, [], ◌∷◌, ◌++◌, length}
-use Rattle.std.specs.Prelude.{drop, take_while, Option, Some, None}
+use Rattle.std.specs.Prelude.{◌≡◌, refl, filter, codes, ℕ, ◌+◌, Bool, false, ◌&&◌, ◌||◌, ◌==◌, nat_lt, if◌then◌else◌, List, [], ◌∷◌, ◌++◌, length, drop, take_while, Option, Some, None}
 use Rattle.std.specs.List.{cons_option, flat_map, range_with_len}
 use Rattle.std.specs.Char.{is_ascii_alphabetic, is_ascii_alphanumeric}
 use Rattle.std.specs.Option.{option_map}

@@ -1,7 +1,7 @@
 -- Which bytes are held back, and what the next byte makes of them.
 use Rattle.std.specs.Prelude.{ℕ, Bool, true, ◌&&◌, ◌==◌, if◌then◌else◌, List, [], ◌∷◌}
 use Rattle.std.specs.List.{list_all}
-use Rattle.envsubst.specs.References.{is_name_byte, is_name}
+use Rattle.envsubst.specs.Reference.{is_name_byte, is_name}
 
 -- no byte yet, or a name that may go on
 abbrev pub is_begun_name : List ℕ → Bool
