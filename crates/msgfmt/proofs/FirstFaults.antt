@@ -14,7 +14,7 @@ use Rattle.std.proofs.lemmas.List.FromFn.{get_or-range_with_len, length-range_wi
 use Rattle.std.proofs.lemmas.Option.{none-some}
 use Rattle.po_syntax.specs.Facts.Runs.{from_end}
 use Rattle.po_entry.specs.Prelude.{TextEntry, InputEntry}
-use Rattle.po_compile.proofs.Filters.{split_at}
+use Rattle.std.proofs.Math.Seq.{split_at}
 use Rattle.plural_rule.specs.Prelude.{value, RuleView}
 use Rattle.plural_rule.specs.declared.rule.Source.{Source}
 use Rattle.plural_rule.specs.declared.rule.Source.TheVariants.{Header, Default}

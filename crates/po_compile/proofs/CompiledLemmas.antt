@@ -6,7 +6,7 @@ use Rattle.std.proofs.lemmas.Bool.Decides.{Decides-and, Decides-like, not_from_D
 use Rattle.std.proofs.lemmas.Bool.{and_parts, or_cases, or_left, or_right, cond_both, eqb-true, false≢true, ne_eqb, not-true, not_from_false}
 use Rattle.po_entry.specs.Prelude.{TextEntry, first_form, is_header, has_translation}
 use Rattle.po_compile.specs.Prelude.{IsTranslated, MayBeUsed, IsToBeCompiled, KeepsCompiled, compiled_list, is_compiled}
-use Rattle.po_compile.specs.MessageLaws.{not_fuzzy, asked_for, header, none, compiled, omitted}
+use Rattle.po_compile.specs.Laws.{not_fuzzy, asked_for, header, none, compiled, omitted}
 
 translated_says : (entry : TextEntry) → has_translation entry ≡ true → IsTranslated entry
 translated_says entry e = by_forms entry.forms refl e where

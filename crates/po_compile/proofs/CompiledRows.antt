@@ -2,7 +2,7 @@
 use Rattle.std.proofs.Common.{◌≡◌, ◌+◌, ◌<◌, ◌++◌, ◌∷◌, [], ◌∙◌, ℕ, Bool, true, false, List, ap, append-nil, cond, filter, get_or, length, map, sym, take}
 use Rattle.std.proofs.lemmas.List.{map-append, take_more}
 use Rattle.std.proofs.lemmas.List.Elements.{filter-append}
-use Rattle.po_compile.specs.Internal.Rows.{InputMessage, row_view}
+use Rattle.po_compile.specs.Internal.{InputMessage, row_view}
 use Rattle.po_compile.specs.declared.row.Row.{Row}
 
 abbrev compiled : List InputMessage → List InputMessage

@@ -1,7 +1,5 @@
 -- Filters, one after another, of lists that are mapped, and of lists that are permuted.
-use Rattle.std.proofs.Common.{◌≡◌, refl, sym, ap, ◌∙◌, Bool, true, false, ◌&&◌, cond, List, [], ◌∷◌, filter, subst, ℕ, zero, suc, ◌<◌, ◌++◌, append_assoc, length, get_or, set, take, drop, arith, IsPermutation}
-use Rattle.std.proofs.Math.Seq.{drop-cons}
-use Rattle.std.proofs.lemmas.List.{take-append-drop}
+use Rattle.std.proofs.Common.{◌≡◌, refl, sym, ◌∙◌, Bool, true, false, ◌&&◌, cond, List, [], ◌∷◌, filter, subst, ℕ, zero, suc, ◌<◌, ◌++◌, append_assoc, length, get_or, set, arith, IsPermutation}
 use Rattle.std.proofs.lemmas.List.Elements.{filter_agree}
 use Rattle.po_syntax.specs.Facts.Mapped.{filter_twice}
 use Rattle.std.specs.List.{swap}
@@ -11,11 +9,6 @@ use Rattle.std.proofs.lemmas.List.Sorted.{IsPermutation-refl, IsPermutation-tran
 within : (a b : Bool) → (a ≡ false → b ≡ false) → a && b ≡ b
 within true b only = refl
 within false b only = sym (only refl)
-
--- a list around one of its elements
-pub split_at : {X : Type 0} (xs : List X) (i : ℕ) (d : X) → i < length xs
-    → xs ≡ take i xs ++ get_or xs i d ∷ drop (suc i) xs
-split_at xs i d inside = sym (take-append-drop i xs) ∙ ap (λ l. take i xs ++ l) (drop-cons xs i d inside)
 
 pub first_of : {X : Type 0} (xs : List X) → 0 < length xs → X
 first_of [] some = absurd (omega arith)
@@ -27,11 +20,6 @@ module _ {X : Type 0} where
       → filter q (filter p xs) ≡ filter q xs
   filter_within p q only xs =
       filter_twice p q xs ∙ filter_agree (λ x. p x && q x) q (λ x. within (p x) (q x) (only x)) xs
-
-  pub filter_all : (p : X → Bool) → ((x : X) → p x ≡ true) → (xs : List X) → filter p xs ≡ xs
-  filter_all p all [] = refl
-  filter_all p all (x ∷ xs) =
-      ap (λ b. cond b (x ∷ filter p xs) (filter p xs)) (all x) ∙ ap (λ l. x ∷ l) (filter_all p all xs)
 
 module _ {X : Type 0} (p : X → Bool) where
   -- the element, if it passes

@@ -1,6 +1,6 @@
 -- The inputs that are collected, and why they are refused: the repeats of messages that are collected are
 -- the duplicates of the texts.
-use Rattle.std.proofs.Common.{◌≡◌, ◌⊎◌, sym, ap, ap₂, ◌∙◌, subst, inl, inr, ℕ, ◌<◌, zero, suc, Bool, List, [], ◌∷◌, ◌++◌, append_assoc, append-nil, length, length-take, get_or, take, drop, map, arith, All, ◌≢◌, refl, length-append}
+use Rattle.std.proofs.Common.{◌≡◌, ◌⊎◌, sym, ap, ap₂, ◌∙◌, subst, inl, inr, ℕ, ◌<◌, suc, Bool, List, [], ◌∷◌, ◌++◌, append_assoc, append-nil, length, length-take, get_or, take, drop, map, arith, All, ◌≢◌, refl, length-append}
 use Rattle.std.specs.List.{AllZip}
 use Rattle.std.proofs.lemmas.Bool.{cases_Bool}
 use Rattle.std.proofs.lemmas.Bool.Decides.{not_from_Decides}
@@ -11,13 +11,12 @@ use Rattle.std.proofs.lemmas.List.{get_or-map, length-map, take-map, map-append}
 use Rattle.std.proofs.lemmas.List.Elements.{All-filter, All-push}
 use Rattle.po_entry.specs.Prelude.{ReadsText, TextEntry, IsCatalogueEntry, out_of_memory, IsSameMessage, IsFirstDuplicate, duplicate_fault, join_out_of_memory, live_entries, IsFirstRepeat, IsTextFault, ReadsDistinct, InputEntry, entries_of, in_input, is_live, joined, joined_entries, IsReadFault}
 use Rattle.po_entry.specs.Facts.FirstRepeats.{all_of_both, none_or_first_repeat, none_repeats, one_repeat, pairs_map, repeat_by, repeat_map}
-use Rattle.po_syntax.specs.Facts.Zips.{zip_get, zip_length, zip_more}
+use Rattle.po_syntax.specs.Facts.Zips.{zip_get, zip_length, zip_more, zip_take}
 use Rattle.po_entry.specs.declared.duplicate.JoinError.{JoinError}
 use Rattle.po_entry.proofs.DuplicateLemmas.{entries_of_input, live_of_entries}
 use Rattle.po_compile.specs.Prelude.{IsFaultOfInput, IsReadingFault, fault_input, AreRead, IsCompileFault, fault_of_only_input, HoldCatalogues, LiveMessage, live_messages, AreCollected, compiled_list, AreMessagesOf, IsReportedFault}
-use Rattle.po_compile.specs.Internal.Repeats.{EachApart, HaveOneKey, IsRepeat, IsRepeatFault, IsRepeatInInput, repeat_fault}
-use Rattle.po_compile.specs.Internal.Rows.{AllApart, InputMessage, all_messages, in_input_message, input_keys, input_message, AreSortedRows, compiled_of, row_view, row_key}
-use Rattle.po_compile.proofs.Filters.{split_at}
+use Rattle.po_compile.specs.Internal.{EachApart, HaveOneKey, IsRepeat, IsRepeatFault, IsRepeatInInput, repeat_fault, AllApart, InputMessage, all_messages, in_input_message, input_keys, input_message, AreSortedRows, compiled_of, row_view, row_key}
+use Rattle.std.proofs.Math.Seq.{split_at}
 use Rattle.po_compile.proofs.JoinedRows.{all_are, joined_valid, of_input}
 use Rattle.po_compile.proofs.KeysApart.{joined_distinct, read_distinct, rising_apart, sorted_keys}
 use Rattle.po_compile.proofs.MeaningLemmas.{entry_lacks_separators}
@@ -34,15 +33,6 @@ use Rattle.po_compile.specs.declared.options.Options.{Options}
 use Rattle.po_compile.specs.declared.row.Row.{Row}
 use Rattle.po_compile.proofs.FaultLemmas.{NoFirstDuplicate}
 use Rattle.po_compile.proofs.ReadingLemmas.{EntriesCanStand, distinct_of_one}
-
-zip_take : {X Y : Type 0} (R : X → Y → Type 0) (n : ℕ) (xs : List X) (ys : List Y) → AllZip R xs ys
-    → AllZip R (take n xs) (take n ys)
-zip_take R zero [] [] h = tt
-zip_take R (suc n) [] [] h = tt
-zip_take R n [] (y ∷ ys) h = absurd h
-zip_take R n (x ∷ xs) [] h = absurd h
-zip_take R zero (x ∷ xs) (y ∷ ys) h = tt
-zip_take R (suc n) (x ∷ xs) (y ∷ ys) h = (h.0, zip_take R n xs ys h.1)
 
 -- the first repeat in a list of what a function makes of elements is made of theirs
 repeat_of_map : {X Y : Type 0} (Alike : Y → Y → Type 0) → ((a b : Y) → Alike a b ⊎ (Alike a b → ⊥))

@@ -11,9 +11,9 @@ use Rattle.po_entry.specs.Prelude.{TextEntry, is_header, IsCatalogueEntry, Input
 use Rattle.po_entry.proofs.JoiningLemmas.{kept_valid}
 use Rattle.po_entry.proofs.DuplicateLemmas.{entries_of_input}
 use Rattle.po_compile.specs.Prelude.{LiveMessage, live_message, live_messages}
-use Rattle.po_compile.specs.Internal.Rows.{InputMessage, all_messages, has_no_key, in_input_message, input_message, is_joined, joined_messages}
+use Rattle.po_compile.specs.Internal.{InputMessage, all_messages, has_no_key, in_input_message, input_message, is_joined, joined_messages}
 use Rattle.po_syntax.specs.Facts.Mapped.{filter_map, filter_twice}
-use Rattle.po_compile.proofs.Filters.{filter_all}
+use Rattle.po_syntax.specs.Facts.Filters.{all_pass}
 
 -- one more row, or none, before those that are left
 pub rows_more : (input : ℕ) (headed : Bool) (old new : List InputMessage) (row : InputMessage) (m : LiveMessage)
@@ -76,7 +76,7 @@ module _ (use_fuzzy : Bool) where
       → filter (λ e. is_joined headed (live_message use_fuzzy e)) (filter is_live entries)
       ≡ filter is_live (kept_entries headed entries)
   kept_live false entries =
-      filter_all (λ e. is_joined false (live_message use_fuzzy e)) (λ e. refl) (filter is_live entries)
+      all_pass (λ e. is_joined false (live_message use_fuzzy e)) (filter is_live entries) (λ k d below. refl)
   kept_live true entries =
       let joins : TextEntry → Bool = λ e. is_joined true (live_message use_fuzzy e) in
       let stays : TextEntry → Bool = λ e. not (is_live_header e) in

@@ -8,14 +8,14 @@ use Rattle.std.specs.Prelude.{◌↔◌, IsTrue}
 use Rattle.po_entry.specs.Facts.FirstRepeats.{pairs_of_map}
 use Rattle.std.specs.declared.cmp.Ordering.{Ordering}
 use Rattle.std.specs.declared.cmp.Ordering.TheVariants.{Less, Equal, Greater}
-use Rattle.std.proofs.lemmas.Bool.{eqb-true, not-true}
+use Rattle.std.proofs.lemmas.Bool.{not-true}
 use Rattle.std.proofs.lemmas.Cmp.{nat_list_cmp_total, nat_list_eq_equiv}
 use Rattle.std.proofs.lemmas.List.{get_or-map, get_or_default, length-map, get_or_append_left, map-append}
 use Rattle.std.proofs.lemmas.List.Kept.{AllPairs-filter, AllPairs-cons}
 use Rattle.std.proofs.lemmas.Map.Lookups.{exact_bytes}
 use Rattle.mo_file.specs.Prelude.{AreRising, key_cmp, query_key}
 use Rattle.mo_file.proofs.RisingKeys.{is_less, isnt_less, less_is_other, rising_between}
-use Rattle.po_compile.specs.Internal.Rows.{AllApart, HasOneHeader, InputMessage, all_messages, has_no_key, in_input_message, input_keys, input_message, is_joined, joined_messages, message_keys, row_view, row_key}
+use Rattle.po_compile.specs.Internal.{AllApart, HasOneHeader, InputMessage, all_messages, has_no_key, in_input_message, input_keys, input_message, is_joined, joined_messages, message_keys, row_view, row_key, EachApart}
 use Rattle.std.specs.Str.{bytes_eq}
 use Rattle.std.proofs.Math.ListN.{get_or-map as map_at}
 use Rattle.std.proofs.lemmas.List.Elements.{All-nil, All-cons, All-head, All-tail, All-map, All-weaker, All-from_all_within, filter_passes}
@@ -26,10 +26,11 @@ use Rattle.std.proofs.lemmas.Simd.{map-map}
 use Rattle.std.proofs.lemmas.Slice.Eq.{bytes_eq-Decides}
 use Rattle.po_entry.specs.Prelude.{ReadsText, TextEntry, ReadsDistinct, AllDiffer, HasNoDuplicate, live_entries, InputEntry, entries_of, is_live, joined, joined_entries}
 use Rattle.po_compile.specs.Prelude.{LiveMessage, live_message, live_messages}
-use Rattle.po_compile.specs.Internal.Repeats.{EachApart}
 use Rattle.po_compile.specs.declared.row.Row.{Row}
-use Rattle.po_compile.proofs.Filters.{filter_all, first_of}
+use Rattle.po_syntax.specs.Facts.Filters.{all_pass}
+use Rattle.po_compile.proofs.Filters.{first_of}
 use Rattle.po_compile.proofs.JoinedRows.{all_are}
+use Rattle.po_entry.proofs.HeaderLaws.{empty_is}
 use Rattle.po_entry.proofs.DuplicateLemmas.{live_of_entries}
 
 -- keys that rise are different
@@ -204,10 +205,6 @@ module _ (inputs : List (List LiveMessage)) (rows sorted : List Row) (made : map
       (IsPermutation-map (λ (m : InputMessage). m.message.key) (all_messages inputs)
       (map row_view sorted) sorted_all) apart)
 
-no_bytes : (key : List ℕ) → (length key == 0) ≡ true → key ≡ []
-no_bytes [] is = refl
-no_bytes (byte ∷ key) is = absurd (omega (arith, eqb-true (length (byte ∷ key)) 0 is))
-
 -- one header among messages that differ and are no headers
 with_header : (headers others : List LiveMessage) → length headers ≤ 1 → All (λ m. has_no_key m ≡ true) headers
     → All (λ m. is_joined true m ≡ true) others → AllApart (message_keys others)
@@ -225,7 +222,7 @@ with_header (h ∷ g ∷ headers) others few none some apart = absurd (omega (ar
 input_apart : (headed : Bool) (messages : List LiveMessage) → HasOneHeader messages
     → AllApart (message_keys (filter (is_joined headed) messages)) → AllApart (message_keys messages)
 input_apart false messages one apart =
-    subst (λ ms. AllApart (message_keys ms)) (filter_all (is_joined false) (λ m. refl) messages) apart
+    subst (λ ms. AllApart (message_keys ms)) (all_pass (is_joined false) messages (λ k d below. refl)) apart
 input_apart true messages one apart =
     let key : LiveMessage → List ℕ = λ m. m.key in
     let headers = filter has_no_key messages in
@@ -269,7 +266,7 @@ one_header messages apart = few (filter has_no_key messages) (filter_passes has_
       few (h ∷ []) none apart = omega arith
       few (h ∷ g ∷ headers) none apart =
           absurd (apart 0 1 h (omega arith) (omega arith)
-          (no_bytes h.key (none 0 h (omega arith)) ∙ sym (no_bytes g.key (none 1 h (omega arith)))))
+          (empty_is h.key (none 0 h (omega arith)) ∙ sym (empty_is g.key (none 1 h (omega arith)))))
 
 -- inputs in each of which the messages are apart have one header at most each
 pub one_header_each : (inputs : List (List LiveMessage)) → EachApart inputs → All HasOneHeader inputs

@@ -13,9 +13,9 @@ use Rattle.po_entry.specs.Prelude.{with_seen, slice_texts, IsFirstRepeat}
 use Rattle.po_entry.specs.Facts.FirstRepeats.{pairs_of_map}
 use Rattle.po_entry.proofs.FirstOnes.{found_within}
 use Rattle.po_compile.specs.Prelude.{LiveMessage}
-use Rattle.po_compile.specs.Internal.Repeats.{HaveOneKey, IsRepeatAt}
-use Rattle.po_compile.specs.Internal.Rows.{AllApart, InputMessage, all_messages, in_input_message, input_keys, is_joined, message_keys}
-use Rattle.po_compile.proofs.Filters.{filter_all, split_at}
+use Rattle.po_compile.specs.Internal.{HaveOneKey, IsRepeatAt, AllApart, InputMessage, all_messages, in_input_message, input_keys, is_joined, message_keys}
+use Rattle.std.proofs.Math.Seq.{split_at}
+use Rattle.po_syntax.specs.Facts.Filters.{all_pass}
 
 abbrev pub no_key : Bor (List ℕ)
 no_key = record { ref_ptr = (0, 0); now = [] }
@@ -106,7 +106,7 @@ repeat_found messages n k repeat first later first_is later_is =
 -- one input alone
 pub only_messages : (messages : List LiveMessage) → all_messages (messages ∷ []) ≡ map (in_input_message 0) messages
 only_messages messages = append-nil (map (in_input_message 0) (filter (is_joined false) messages))
-    ∙ ap (map (in_input_message 0)) (filter_all (is_joined false) (λ m. refl) messages)
+    ∙ ap (map (in_input_message 0)) (all_pass (is_joined false) messages (λ k d below. refl))
 
 pub only_keys : (messages : List LiveMessage) → input_keys (all_messages (messages ∷ [])) ≡ message_keys messages
 only_keys messages = let key : InputMessage → List ℕ =

@@ -8,7 +8,7 @@ use Rattle.std.proofs.lemmas.Simd.{map-map}
 use Rattle.mo_file.specs.Prelude.{AreRising, key_of, keys, Message}
 use Rattle.po_entry.specs.Prelude.{TextEntry, IsCatalogueEntry, live_entries, InputEntry, entries_of, is_live, joined, joined_entries, stats_of, is_translated, is_fuzzy, is_untranslated}
 use Rattle.po_compile.specs.Prelude.{HoldCatalogues, LiveMessage, live_message, live_messages, compiled_inputs, compiled_message, is_compiled, compiled_list, AreMessagesOf, message_of}
-use Rattle.po_compile.specs.Internal.Rows.{AreSortedRows, InputMessage, all_messages, compiled_of, counts_fuzzy, counts_of, counts_translated, counts_untranslated, input_message, row_view, view_of_message}
+use Rattle.po_compile.specs.Internal.{AreSortedRows, InputMessage, all_messages, compiled_of, counts_fuzzy, counts_of, counts_translated, counts_untranslated, input_message, row_view, view_of_message}
 use Rattle.po_compile.specs.declared.row.Row.{Row}
 use Rattle.po_syntax.specs.Facts.Mapped.{filter_map}
 use Rattle.po_compile.proofs.Filters.{IsPermutation-filter, filter_within}

@@ -13,8 +13,7 @@ use Rattle.po_entry.specs.Prelude.{TextEntry, plain_entry, ReadsDistinct, IsText
 use Rattle.po_syntax.specs.declared.fault.PoFault.TheVariants.{BadToken, Duplicate, TooLarge}
 use Rattle.po_entry.specs.declared.duplicate.JoinError.{JoinError}
 use Rattle.po_entry.specs.MessageExamples.{of_a_on, obsolete_of_a, first_duplicate}
-use Rattle.po_compile.specs.Compiled.{is_compiled, compiled_list, plural_part, original_of, translation_of, message_of, AreMessagesOf}
-use Rattle.po_compile.specs.Compiling.{definition, header_of, meant, MeansEntries, HasSmallLayout, IsCompilation, HasLargeLayout}
+use Rattle.po_compile.specs.Compiling.{is_compiled, compiled_list, plural_part, original_of, translation_of, message_of, AreMessagesOf, definition, header_of, meant, MeansEntries, HasSmallLayout, IsCompilation, HasLargeLayout}
 use Rattle.po_compile.specs.Accepted.{AreRead, AreAccepted, AreCompiled, HasStatistics, HasJoinedDuplicate, IsReadingFault, IsCompileFault}
 use Rattle.po_compile.specs.Headline.{LookUpMeansEntries, NoFaultWhereAccepted, AcceptedOrFault, OneCompileFault}
 use Rattle.po_compile.specs.declared.options.Options.{Options}

@@ -3,8 +3,7 @@
 use Rattle.std.specs.Prelude.{◌≡◌, ◌≢◌, ◌⊎◌, ℕ, List, All}
 use Rattle.mo_file.specs.Prelude.{Message, layout, IsMoFile}
 use Rattle.po_entry.specs.Prelude.{TextEntry, IsEntry, joined_entries, join_out_of_memory, IsTextFault, ReadsDistinct}
-use Rattle.po_compile.specs.Compiled.{compiled_list, AreMessagesOf}
-use Rattle.po_compile.specs.Compiling.{MeansEntries}
+use Rattle.po_compile.specs.Compiling.{compiled_list, AreMessagesOf, MeansEntries}
 use Rattle.po_entry.specs.declared.duplicate.JoinError.{JoinError}
 use Rattle.po_syntax.specs.declared.fault.PoError.{PoError}
 use Rattle.po_compile.specs.Accepted.{AreAccepted, AreRead, IsCompileFault}

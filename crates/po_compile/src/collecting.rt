@@ -4,7 +4,7 @@ ghost use Rattle.std.specs.Prelude.{◌≡◌, IfOk, IfErr, List, filter, length
 ghost use Rattle.po_entry.specs.Prelude.{ReadsText, TextEntry};
 ghost use Rattle.po_reader.specs.Prelude.{IsTextError};
 ghost use Rattle.po_compile.specs.Prelude.{live_messages};
-ghost use Rattle.po_compile.specs.Internal.Rows.{has_no_key};
+ghost use Rattle.po_compile.specs.Internal.{has_no_key};
 
 use po_entry::{Drafts, Store};
 use po_reader::{PIECE, next_store};
@@ -24,7 +24,7 @@ pub struct Collected {
 
 impl Model for Collected {
     ghost use Rattle.std.specs.Prelude.{List, map};
-    ghost use Rattle.po_compile.specs.Collected.{LiveMessage, live_message};
+    ghost use Rattle.po_compile.specs.Collecting.{LiveMessage, live_message};
 
     ghost Value = { List LiveMessage };
 

@@ -4,8 +4,7 @@ ghost use Rattle.std.specs.Prelude.{◌≡◌, ◌⊎◌, ◌<◌, ◌^◌, IfEr
 ghost use Rattle.std.specs.List.{flat_map};
 ghost use Rattle.po_entry.specs.Prelude.{digest_of, slice_texts, key_writes, join_out_of_memory};
 ghost use Rattle.po_compile.specs.Prelude.{fault_of_input};
-ghost use Rattle.po_compile.specs.Internal.Repeats.{EachApart, IsRepeat, IsRepeatAt, IsRepeatInInput, repeat_fault};
-ghost use Rattle.po_compile.specs.Internal.Rows.{AllApart, all_messages, input_keys, row_view};
+ghost use Rattle.po_compile.specs.Internal.{EachApart, IsRepeat, IsRepeatAt, IsRepeatInInput, repeat_fault, AllApart, all_messages, input_keys, row_view};
 
 use crate::collecting::Collected;
 use crate::row::Row;

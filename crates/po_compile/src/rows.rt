@@ -3,7 +3,7 @@
 ghost use Rattle.std.specs.Prelude.{◌≡◌, ◌+◌, ◌<◌, ◌≤◌, ◌^◌, ◌++◌, ◌∷◌, [], IfOk, OnOk, filter, length, map};
 ghost use Rattle.mo_file.specs.Prelude.{messages_of_borrowed};
 ghost use Rattle.po_compile.specs.Prelude.{live_message};
-ghost use Rattle.po_compile.specs.Internal.Rows.{all_messages, compiled_of, in_input_message, is_joined, row_view};
+ghost use Rattle.po_compile.specs.Internal.{all_messages, compiled_of, in_input_message, is_joined, row_view};
 
 use crate::collecting::Collected;
 use crate::row::{PREFIX_LEN, Row, prefix_of};

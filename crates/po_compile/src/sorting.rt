@@ -2,8 +2,7 @@
 
 ghost use Rattle.std.specs.Prelude.{◌≡◌, ◌<◌, ◌^◌, ◌↔◌, All, IfErr, IfOk, IsPermutation, IsTrue, OnOk, count_by, length, map};
 ghost use Rattle.mo_file.specs.Prelude.{AreRising};
-ghost use Rattle.po_compile.specs.Internal.Repeats.{EachApart, IsRepeatFault};
-ghost use Rattle.po_compile.specs.Internal.Rows.{AreSorted, AreSortedRows, HasOneHeader, counts_of, row_key};
+ghost use Rattle.po_compile.specs.Internal.{EachApart, IsRepeatFault, AreSorted, AreSortedRows, HasOneHeader, counts_of, row_key};
 
 use crate::collecting::Collected;
 use crate::repeats::{check_each, check_joined};

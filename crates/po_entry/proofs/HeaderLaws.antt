@@ -15,7 +15,7 @@ none_is : (context : Option (List ℕ)) → is_none context ≡ true → context
 none_is None h = refl
 none_is (Some text) h = absurd (false≢true h)
 
-empty_is : (id : List ℕ) → (length id == 0) ≡ true → id ≡ []
+pub empty_is : (id : List ℕ) → (length id == 0) ≡ true → id ≡ []
 empty_is [] h = refl
 empty_is (b ∷ id) h = absurd (nonempty b id h)
 

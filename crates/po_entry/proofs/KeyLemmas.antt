@@ -8,6 +8,7 @@ use Rattle.std.proofs.lemmas.List.{length-map, map-append, take_more}
 use Rattle.std.proofs.lemmas.List.Elements.{All-head, All-nil, All-push, All-tail}
 use Rattle.std.proofs.lemmas.Slice.Eq.{bytes_eq-Decides}
 use Rattle.po_entry.specs.Prelude.{Lacks, key_bytes, TextEntry, IsCatalogueEntry, first_ones, group_numbers, with_new, Message, entry_message, entry_messages, same_message}
+use Rattle.po_entry.specs.Facts.EqualityLaws.{answer}
 use Rattle.po_entry.proofs.FirstOnes.{firsts_push, numbers_push}
 use Rattle.po_entry.proofs.MessageIndex.{message_made, messages_are, same_message_laws}
 
@@ -117,15 +118,10 @@ keys_are (Some c) (Some d) i j c_lacks d_lacks i_lacks j_lacks e =
     let both = cut_eot c i d j c_lacks d_lacks e in
     (ap (λ (t : List ℕ). Some t) both.0, both.1)
 
-by_truth : (a b : Bool) → (a ≡ true → b ≡ true) → (b ≡ true → a ≡ true) → a ≡ b
-by_truth true b to from = sym (to refl)
-by_truth false true to from = from refl
-by_truth false false to from = refl
-
 -- entries of a catalogue have one key exactly where they are of one message
 keys_agree : (d e : TextEntry) → IsCatalogueEntry d → IsCatalogueEntry e
     → bytes_eq (entry_key d) (entry_key e) ≡ same_message (entry_message d) (entry_message e)
-keys_agree d e one other = by_truth (bytes_eq (entry_key d) (entry_key e))
+keys_agree d e one other = answer (bytes_eq (entry_key d) (entry_key e))
     (same_message (entry_message d) (entry_message e))
     (λ same.
     let both = keys_are d.context e.context d.id e.id one.valid.context other.valid.context one.valid.id other.valid.id

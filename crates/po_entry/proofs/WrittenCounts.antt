@@ -4,7 +4,7 @@ use Rattle.std.specs.Prelude.{if◌then◌else◌}
 use Rattle.std.proofs.lemmas.Bool.{eqb-true, eqb-false}
 use Rattle.std.proofs.lemmas.Fmt.{decimal_digit}
 use Rattle.po_entry.specs.Prelude.{counted, further, stats_line, WritesCount, WritesFurther, WritesStatistics}
-use Rattle.po_entry.specs.MessageLaws.{one, other, omitted, written}
+use Rattle.po_entry.specs.Laws.{one, other, omitted, written}
 use Rattle.po_entry.specs.declared.stats.Stats.{Stats}
 
 count_written : (count : ℕ) (noun : List ℕ) → WritesCount count noun (counted count (32 ∷ noun))

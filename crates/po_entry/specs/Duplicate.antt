@@ -12,7 +12,7 @@ use Rattle.po_entry.specs.Joined.{InputEntry, is_live, in_input}
 use Rattle.std.specs.List.{position_or_len}
 use Rattle.po_entry.specs.Message.{first_ones, entry_message, entry_messages, same_message}
 use Rattle.po_entry.specs.declared.repeats.EntryPlace.{EntryPlace}
-use Rattle.po_entry.specs.ReadsText.{ReadsText}
+use Rattle.po_entry.specs.Spelling.{ReadsText}
 use Rattle.po_entry.specs.Faults.{IsReadFault}
 
 -- What stands twice in a list, and what a table keeps of numbers: of lists of any kind, and from no

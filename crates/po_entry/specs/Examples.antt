@@ -11,16 +11,15 @@ use Rattle.po_syntax.specs.declared.fault.PoFault.TheVariants.{ForbiddenByte, Ba
 use Rattle.po_syntax.specs.declared.item.CommentKind.TheVariants.{Translator, Extracted, Reference, Flags}
 use Rattle.po_syntax.specs.declared.item.Keyword.TheVariants.{MsgCtxt, MsgId, MsgIdPlural, MsgStr, MsgStrAt}
 use Rattle.po_syntax.specs.Prelude.{TextFault, own_marks, previous_marks, TextItem}
-use Rattle.po_syntax.specs.Spelling.{end, live}
-use Rattle.po_syntax.specs.TextItem.{Comment, Word, Str}
+use Rattle.po_syntax.specs.Line.{end, live}
+use Rattle.po_syntax.specs.Item.{Comment, Word, Str}
 use Rattle.po_entry.specs.Texts.{Lacks, trimmed}
 use Rattle.po_entry.specs.Comments.{CommentText, PreviousText, same_kind, texts_of, is_not_empty, listed_references, listed_flags, references_of, all_listed_flags, is_fuzzy_flag, fuzzy_of, with_flag, flags_of, with_previous, previous_of}
 use Rattle.po_entry.specs.TextEntry.{TextPrevious, no_previous, TextEntry, slice_texts, plain_entry, quoted_texts}
 use Rattle.po_entry.specs.Header.{is_header, after_charset, ends_name, charset_of, IsAdmittedName, first_form, HasAdmittedCharset}
-use Rattle.po_entry.specs.Spelling.{SpellsStrings, last, more, SpellsKeywordText, keyword_text, SpellsHead, nothing, head_comment, previous_text, AreSome, none, with, without, AreInOrder, SpellsContext, context, no_context, SpellsForms, no_form, more_forms, SpellsTranslation, single, plural, SpellsBody, own_lines, with_head, SpellsEntry, entry, SpellsEntries, comments, entries}
+use Rattle.po_entry.specs.Spelling.{SpellsStrings, last, more, SpellsKeywordText, keyword_text, SpellsHead, nothing, head_comment, previous_text, AreSome, none, with, without, AreInOrder, SpellsContext, context, no_context, SpellsForms, no_form, more_forms, SpellsTranslation, single, plural, SpellsBody, own_lines, with_head, SpellsEntry, entry, SpellsEntries, comments, entries, ReadsItems, ReadsText}
 use Rattle.po_entry.specs.Validity.{IsClean, EntryTextFault, forbidden, HasTexts, out_of_memory}
 use Rattle.po_entry.specs.Faults.{IsViable, IsOwn, with_obsolete, IsWrongIndex, IsMixed, index, last_line, at, EntriesStop, here, later, CharsetFault, foreign, ItemsStop, in_items, IsReadFault, in_text}
-use Rattle.po_entry.specs.ReadsText.{ReadsItems, ReadsText}
 
 pub third_byte_lacks : Lacks 4 (97 ∷ 3 ∷ 4 ∷ []) → ⊥
 third_byte_lacks lacks = lacks 2 0 (omega arith) refl

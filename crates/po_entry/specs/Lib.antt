@@ -1,6 +1,6 @@
 -- The definitions in reading order: each module stands on those above it.
 pub mod TextEntry
-pub mod TextLists
+pub mod TextList
 pub mod SeenTexts
 pub mod Fields
 pub mod Texts
@@ -9,7 +9,6 @@ pub mod Header
 pub mod Validity
 pub mod Comments
 pub mod Spelling
-pub mod ReadsText
 pub mod Faults
 pub mod Internal
 pub mod Examples
@@ -17,7 +16,7 @@ pub mod Joined
 pub mod Message
 pub mod Duplicate
 pub mod Facts
-pub mod Statistics
-pub mod MessageLaws
+pub mod Stats
+pub mod Laws
 pub mod MessageExamples
 pub mod Prelude

@@ -5,11 +5,11 @@ use Rattle.std.specs.Prelude.{◌≡◌, refl, ℕ, true, false, List, [], ◌�
 use Rattle.std.specs.Fmt.{digits}
 use Rattle.std.proofs.Common.{arith, inr}
 use Rattle.po_syntax.specs.declared.fault.PoFault.TheVariants.{Duplicate, OutOfMemory}
-use Rattle.po_entry.specs.ReadsText.{ReadsText}
+use Rattle.po_entry.specs.Spelling.{ReadsText}
 use Rattle.po_entry.specs.TextEntry.{TextEntry, plain_entry}
 use Rattle.po_entry.specs.Joined.{InputEntry, is_live, is_live_header, in_input, kept_entries, joined_from, joined, entries_of, joined_entries}
 use Rattle.po_entry.specs.Duplicate.{is_of_message, IsSameMessage, AllDiffer, HasNoDuplicate, IsFirstDuplicate, join_out_of_memory, ReadsDistinct, IsTextFault}
-use Rattle.po_entry.specs.Statistics.{has_translation, stats_of, stats_line}
+use Rattle.po_entry.specs.Stats.{has_translation, stats_of, stats_line}
 use Rattle.po_entry.specs.Message.{entry_message, same_message, first_ones}
 
 -- a header; msgid "a" with msgstr "b", live and obsolete; the same in the context "c", untranslated

@@ -4,7 +4,7 @@ use Rattle.std.specs.Prelude.{◌≡◌, ◌+◌, ◌<◌, ◌≤◌, All, ◌==
 use Rattle.std.specs.List.{flat_map, join_with_byte, slice_split}
 use Rattle.po_entry.specs.TextEntry.{TextEntry, TextPrevious, plain_entry, quoted_texts}
 use Rattle.po_entry.specs.Texts.{Lacks}
-use Rattle.po_entry.specs.TextLists.{measured, texts_in}
+use Rattle.po_entry.specs.TextList.{measured, texts_in}
 use Rattle.po_entry.specs.declared.row.Row.{Row}
 use Rattle.po_entry.specs.declared.drafts.Drafts.{Drafts}
 use Rattle.po_entry.specs.declared.entry_ref.FormIter.{FormIter}

@@ -1,16 +1,18 @@
--- What spells the entries of a PO text (manual, "The Format of PO Files"): the items of each entry
--- in turn, and then comments that belong to no entry.
-use Rattle.std.specs.Prelude.{ℕ, ◌+◌, Bool, List, [], ◌∷◌, ◌++◌, map, Option, Some, None}
+-- What spells the entries of a PO text: the items of each entry in turn, and then comments that belong
+-- to no entry; and how a text reads as a list of entries (manual, "The Format of PO Files").
+use Rattle.std.specs.Prelude.{ℕ, ◌+◌, Bool, List, [], ◌∷◌, ◌++◌, map, Option, Some, None, All}
 use Rattle.po_syntax.specs.declared.item.CommentKind.{CommentKind}
 use Rattle.po_syntax.specs.declared.item.CommentKind.TheVariants.{Translator, Extracted}
 use Rattle.po_syntax.specs.declared.item.Keyword.{Keyword}
 use Rattle.po_syntax.specs.declared.item.Keyword.TheVariants.{MsgCtxt, MsgId, MsgIdPlural, MsgStr, MsgStrAt}
 use Rattle.po_syntax.specs.declared.item.Marks.{Marks}
-pub use Rattle.po_syntax.specs.Spelling.{own_marks, previous_marks}
-use Rattle.po_syntax.specs.Prelude.{TextItem}
-use Rattle.po_syntax.specs.TextItem.{Comment, Word, Str}
+pub use Rattle.po_syntax.specs.Item.{own_marks, previous_marks}
+use Rattle.po_syntax.specs.Prelude.{TextItem, SpellsText, LinesLeft, SpellsLeft}
+use Rattle.po_syntax.specs.Item.{Comment, Word, Str}
 use Rattle.po_entry.specs.TextEntry.{TextEntry}
 use Rattle.po_entry.specs.Comments.{CommentText, PreviousText, texts_of, references_of, fuzzy_of, flags_of, previous_of}
+use Rattle.po_entry.specs.Header.{HasAdmittedCharset}
+use Rattle.po_entry.specs.Validity.{HasTexts}
 
 -- one string or more, all under these marks: their bytes, joined
 pub data SpellsStrings (marks : Marks) : List TextItem → List ℕ → Type 0 where
@@ -100,3 +102,22 @@ pub data SpellsEntries : List TextItem → List TextEntry → Type 0 where
       → SpellsEntries items []
   entries : {own items : List TextItem} {first : TextEntry} {others : List TextEntry} → SpellsEntry own first
       → SpellsEntries items others → SpellsEntries (own ++ items) (first ∷ others)
+
+-- the items read as these entries: they spell them, and the texts and headers of these can stand in
+-- a catalogue; duplicates are no matter here
+pub record ReadsItems (items : List TextItem) (entries : List TextEntry) : Type 0 where
+  pub reads : SpellsEntries items entries
+  pub texts : All HasTexts entries
+  pub charsets : All HasAdmittedCharset entries
+
+-- the text reads as these entries: its lines spell items that do
+pub record ReadsText (text : List ℕ) (entries : List TextEntry) : Type 0 where
+  pub items : List TextItem
+  pub spelt : SpellsText text items
+  pub read : ReadsItems items entries
+
+-- the lines of a text that are left read as these entries
+pub record ReadsLeft (left : LinesLeft) (entries : List TextEntry) : Type 0 where
+  pub items : List TextItem
+  pub spelt : SpellsLeft left items
+  pub read : ReadsItems items entries

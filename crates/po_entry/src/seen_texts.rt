@@ -61,7 +61,7 @@ struct SeenText<'a> {
 
 impl Hash for SeenText<'_> {
     ghost use Rattle.std.specs.Prelude.{◌∷◌, []};
-    ghost use Rattle.po_entry.specs.Internal.Hashing.{equal_texts_write_alike};
+    ghost use Rattle.po_entry.specs.Internal.{equal_texts_write_alike};
 
     ghost hash_input = { λ text. text.bytes.now ∷ [] };
 

@@ -20,7 +20,7 @@ pub struct Stats {
 }
 
 impl Stats {
-    ghost use Rattle.po_entry.specs.Statistics.{stats_line, counted_stats};
+    ghost use Rattle.po_entry.specs.Stats.{stats_line, counted_stats};
 
     /// The line that `--statistics` prints, with its LF. Refused only where an allocation failed.
     pub fn line(&self, alloc: Global) -> Result<Vec<u8>, PoError>

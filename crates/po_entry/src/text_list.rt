@@ -35,7 +35,7 @@ impl Drop for TextList {
 
 impl Model for TextList {
     ghost use Rattle.std.specs.Prelude.{List, ℕ};
-    ghost use Rattle.po_entry.specs.TextLists.{AreTexts, texts_in};
+    ghost use Rattle.po_entry.specs.TextList.{AreTexts, texts_in};
 
     ghost Value = { List (List ℕ) };
 

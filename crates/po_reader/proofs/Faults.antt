@@ -8,7 +8,7 @@ use Rattle.po_syntax.specs.declared.item.Keyword.{Keyword}
 use Rattle.po_syntax.specs.declared.item.Marks.{Marks}
 use Rattle.po_syntax.specs.declared.item.Keyword.TheVariants.{MsgId, MsgStr, MsgStrAt}
 use Rattle.po_syntax.specs.Prelude.{TextItem, line_of}
-use Rattle.po_syntax.specs.TextItem.{Word, Str}
+use Rattle.po_syntax.specs.Item.{Word, Str}
 use Rattle.po_entry.specs.Prelude.{TextEntry, SpellsEntries, IsViable, Misfit, ItemsFault, last_line}
 use Rattle.po_entry.specs.Spelling.{own_marks, last, keyword_text}
 use Rattle.po_entry.specs.Faults.{index, mixed, order, at, at_end}

@@ -1,6 +1,5 @@
 -- The lemmas in reading order: each module stands on those above it.
 pub mod PreviousOrder
-pub mod Splits
 pub mod Loops
 pub mod SeenFlags
 pub mod Turns

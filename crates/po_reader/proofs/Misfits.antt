@@ -11,7 +11,7 @@ use Rattle.po_syntax.specs.declared.item.Keyword.{Keyword}
 use Rattle.po_syntax.specs.declared.item.Keyword.TheVariants.{MsgStrAt}
 use Rattle.po_syntax.specs.declared.item.Marks.{Marks}
 use Rattle.po_syntax.specs.Prelude.{TextItem, line_of}
-use Rattle.po_syntax.specs.TextItem.{Comment, Word, Str}
+use Rattle.po_syntax.specs.Item.{Comment, Word, Str}
 use Rattle.po_entry.specs.Prelude.{rank, IsViable, IsOwn, IsWrongIndex, IsMixed, with_obsolete, Misfit}
 use Rattle.po_entry.specs.Spelling.{own_marks, previous_marks}
 use Rattle.po_entry.specs.Faults.{index, mixed, order}

@@ -4,7 +4,7 @@ use Rattle.std.specs.Prelude.{All}
 use Rattle.std.proofs.lemmas.List.Elements.{All-nil, All-head, All-tail, All-append}
 use Rattle.po_syntax.specs.declared.fault.PoFault.{PoFault}
 use Rattle.po_syntax.specs.Prelude.{EndsInString, IsNew, LeftAnew, IsCleanLine, LeftStops, LinesLeft, SpellsLeft, TextItem, SpellsText, SpellsLines, TextFault}
-use Rattle.po_syntax.specs.TextItem.{Word, Str}
+use Rattle.po_syntax.specs.Item.{Word, Str}
 use Rattle.po_entry.specs.Prelude.{TextEntry, HasAdmittedCharset, HasTexts, SpellsEntries, ReadsItems, ReadsText, ReadsLeft, ItemsStop, IsReadFault, ItemsFault, last_line}
 use Rattle.po_entry.proofs.JoinedPieces.{entries_joined}
 use Rattle.po_reader.proofs.Faults.{fault_unread, items_fault, fault_comes, spelt_once}

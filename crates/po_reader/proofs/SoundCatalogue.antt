@@ -4,7 +4,7 @@ use Rattle.std.specs.Prelude.{All}
 use Rattle.std.proofs.lemmas.List.Elements.{All-nil, All-append, All-cons, All-head, All-tail, All-weaker, All-map}
 use Rattle.std.proofs.lemmas.Str.{IsUtf8-append}
 use Rattle.po_syntax.specs.Prelude.{IsCommentOf, HoldsText, IsComment, OfString, TextItem}
-use Rattle.po_syntax.specs.TextItem.{Comment, Str, Word}
+use Rattle.po_syntax.specs.Item.{Comment, Str, Word}
 use Rattle.po_entry.specs.Prelude.{CommentText, PreviousText, texts_of, references_of, all_listed_flags, flags_of, CanLie, TextEntry, quoted_texts, AreDistinct, Lacks, HasTexts, IsCatalogueEntry, IsEntry, IsTranslatorComment, IsReference, IsFlag, EntryTextFault, with_head, SpellsEntries, HasAdmittedCharset}
 use Rattle.po_syntax.specs.Facts.AllAppend.{All-right, All-left}
 use Rattle.po_syntax.specs.declared.item.CommentKind.TheVariants.{Translator, Extracted, Reference, Flags}

@@ -38,7 +38,7 @@ fn first_comma(text: &[u8]) -> Option<usize>
 }
 
 /// The text before an index, and that after the byte there; where there is none, all of the text.
-#[tactic(auto, using(crate::proofs::Splits::cut_none, crate::proofs::Splits::cut_found))]
+#[tactic(auto, using(po_syntax::specs::Facts::Cuts::cut_none, po_syntax::specs::Facts::Cuts::cut_found))]
 fn cut(text: &[u8], at: Option<usize>) -> (&[u8], Option<&[u8]>)
     requires { IfSome at (λ i. i < length text.now) }
     ensures cut { (ends : ℕ → Bool) → at ≡ position ends text.now

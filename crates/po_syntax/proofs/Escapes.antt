@@ -8,9 +8,9 @@ use Rattle.po_syntax.specs.declared.fault.PoFault.{PoFault}
 use Rattle.po_syntax.specs.declared.fault.PoFault.TheVariants.{BadEscape, ForbiddenByte}
 use Rattle.po_syntax.specs.Prelude.{EscapeFault, NumberFault, NoDigitFirst, letter_value, SpellsEscape, SpellsString}
 use Rattle.po_syntax.specs.LineFaults.{at_end, no_escape, octal as octal_fault, no_digit, hexadecimal_digits, nul, large}
-use Rattle.po_syntax.specs.Internal.QuotedString.{Step, End, Byte, Stop, digit_count, number_step, letter_step, escape_at}
+use Rattle.po_syntax.specs.Internal.{Step, End, Byte, Stop, digit_count, number_step, letter_step, escape_at}
 use Rattle.po_syntax.proofs.SpeltEscapes.{by_byte}
-use Rattle.po_syntax.specs.Escapes.{letter, octal, hexadecimal, closed, plain, escape}
+use Rattle.po_syntax.specs.Escape.{letter, octal, hexadecimal, closed, plain, escape}
 
 -- the first n bytes are digits, at most so many, and no digit follows where there are fewer
 abbrev ArePrefix : ℕ → ℕ → List ℕ → ℕ → Type 0

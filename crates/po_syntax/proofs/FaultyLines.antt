@@ -8,7 +8,7 @@ use Rattle.po_syntax.specs.declared.fault.PoFault.{PoFault}
 use Rattle.po_syntax.specs.declared.fault.PoFault.TheVariants.{BadToken, BadPluralIndex}
 use Rattle.po_syntax.specs.Prelude.{NoDigitFirst, IsNoKeyword, IndexFault, KeywordFault, is_word_byte, is_blank, IsBlank, FailsFirst}
 use Rattle.po_syntax.specs.LineFaults.{no_index, large_index, not_closed_index, no_keyword, in_index}
-use Rattle.po_syntax.specs.Internal.Token.{WrongToken, close_token, index_token, bracket_token, keyword_token, first_token, token_at}
+use Rattle.po_syntax.specs.Internal.{WrongToken, close_token, index_token, bracket_token, keyword_token, first_token, token_at}
 use Rattle.po_syntax.proofs.SpeltEscapes.{count_all}
 use Rattle.po_syntax.proofs.SpeltKeywords.{index_at, skip_prefix, m_read, word_prefix, ends_before_bracket, blank_no_word, digits_no_blank}
 

@@ -8,8 +8,8 @@ use Rattle.po_syntax.specs.declared.item.Marks.{Marks}
 use Rattle.po_syntax.specs.declared.item.CommentKind.{CommentKind}
 use Rattle.po_syntax.specs.declared.item.CommentKind.TheVariants.{Translator}
 use Rattle.po_syntax.specs.Prelude.{SpellsEscape, SpellsString, IsBlank, without_end, trim_returns, IsCommentOf, HoldsText, TextItem, SpellsLines, SpellsText, is_mark, SpellsComment, HoldsTokens, HoldsItems, IsCleanLine}
-use Rattle.po_syntax.specs.Escapes.{letter, octal, hexadecimal, closed, plain, escape}
-use Rattle.po_syntax.specs.Spelling.{extracted, reference, flags, translator, end, blank, keyword, string, indented, comment, obsolete_comment, live, previous, obsolete, obsolete_previous}
+use Rattle.po_syntax.specs.Escape.{letter, octal, hexadecimal, closed, plain, escape}
+use Rattle.po_syntax.specs.Line.{extracted, reference, flags, translator, end, blank, keyword, string, indented, comment, obsolete_comment, live, previous, obsolete, obsolete_previous}
 use Rattle.po_syntax.proofs.CleanLines.{clean_lines}
 use Rattle.po_syntax.proofs.SpeltEscapes.{of_each_letter}
 use Rattle.po_syntax.proofs.Tokens.{keyword_rest}

@@ -12,7 +12,7 @@ use Rattle.po_syntax.specs.declared.item.Item.TheVariants.{Comment, Word, Str}
 use Rattle.po_syntax.specs.declared.item.Marks.{Marks}
 use Rattle.po_syntax.specs.declared.item.SpeltBytes.{SpeltBytes}
 use Rattle.po_syntax.specs.declared.item.SpeltBytes.TheVariants.{Plain, Escaped, Numbered}
-use Rattle.po_syntax.specs.Internal.LineView.{AddsLent}
+use Rattle.po_syntax.specs.Internal.{AddsLent}
 use Rattle.po_syntax.specs.Prelude.{OfString, view, views, LendsUtf8, owns_utf8}
 
 tested : (bytes : List ℕ) (found : Bool) → (IsTrue found ↔ IsUtf8 bytes) → found ≡ is_utf8 bytes

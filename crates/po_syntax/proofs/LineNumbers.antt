@@ -18,9 +18,9 @@ use Rattle.po_syntax.specs.declared.fault.PoFault.{PoFault}
 use Rattle.po_syntax.specs.declared.fault.PoFault.TheVariants.{NotUtf8, ForbiddenByte}
 use Rattle.po_syntax.specs.declared.item.Marks.{Marks}
 use Rattle.po_syntax.specs.Prelude.{IsText, TextItem, line_of, LineFault, HasFeeds, BeginsLine, HasLine, IsOnItsLine, ItemsAreOnTheirLines, HasFaultOnLine, marked_text, MarkIsOmitted, line_number, lines_of, LinesStop, SpellsLines, TextFault, without_byte_order_mark, HoldsItems, HoldsTokens}
-use Rattle.po_syntax.specs.LineNumbers.{none, feed, other, at_start, after_feed, at_end, before_feed, no_line, not_utf8, nul, in_line}
+use Rattle.po_syntax.specs.Laws.{none, feed, other, at_start, after_feed, at_end, before_feed, no_line, not_utf8, nul, in_line}
 use Rattle.po_syntax.specs.PoText as text_faults
-use Rattle.po_syntax.specs.Spelling as spelt
+use Rattle.po_syntax.specs.Line as spelt
 
 -- how many LFs a text has
 abbrev feeds : List ℕ → ℕ

@@ -6,7 +6,7 @@ use Rattle.std.proofs.lemmas.List.Splits.{length-slice_split}
 use Rattle.std.proofs.lemmas.List.Sums.{sum_by-cons}
 use Rattle.po_syntax.specs.Prelude.{lines_len, HoldsTokens, HoldsItems, SpellsLines, lines_of, without_byte_order_mark, TextItem}
 use Rattle.po_syntax.specs.declared.item.Marks.{Marks}
-use Rattle.po_syntax.specs.Spelling.{end, blank, keyword, string, indented, live, previous, obsolete, obsolete_previous}
+use Rattle.po_syntax.specs.Line.{end, blank, keyword, string, indented, live, previous, obsolete, obsolete_previous}
 use Rattle.po_syntax.proofs.Escapes.{string_shorter}
 use Rattle.po_syntax.proofs.Tokens.{rest_shorter}
 

@@ -10,7 +10,7 @@ use Rattle.std.proofs.lemmas.List.Sums.{sum_by-take-drop, sum_by-cons}
 use Rattle.po_syntax.specs.declared.fault.PoFault.{PoFault}
 use Rattle.po_syntax.specs.declared.item.Item.{Item}
 use Rattle.po_syntax.specs.Prelude.{IsCleanLine, LinesLeft, lines_len, lines_of_rest, EndsTranslation, BeginsAnew, LineBeginsAnew, CanEnd, HasRead, LendsUtf8, LineFault, HoldsItems, SpellsLines, LinesStop, lines_of, TextItem, views}
-use Rattle.po_syntax.specs.Internal.LineView.{AddsLent}
+use Rattle.po_syntax.specs.Internal.{AddsLent}
 use Rattle.po_syntax.specs.Internal.PieceEnd.{IsCut}
 use Rattle.po_syntax.proofs.Uniqueness.{line_once, lines_once}
 use Rattle.po_syntax.proofs.TranslationEnds.{drop_rest, some_line}

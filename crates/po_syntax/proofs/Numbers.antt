@@ -4,7 +4,7 @@ use Rattle.std.specs.Char.{digit_value, is_digit}
 use Rattle.std.proofs.lemmas.List.{get_or-take, length-take}
 use Rattle.std.proofs.lemmas.List.Sums.{prefix_len_passes, prefix_len-le-length}
 use Rattle.std.proofs.lemmas.Bool.{ltb-true}
-use Rattle.po_syntax.specs.Internal.QuotedString.{digit_count}
+use Rattle.po_syntax.specs.Internal.{digit_count}
 
 -- each of the digits that a text begins with is one
 pub digits_all : (base count : ℕ) (text : List ℕ) → count ≤ digit_count base text

@@ -6,11 +6,10 @@ use Rattle.po_syntax.specs.declared.fault.PoFault.TheVariants.{BadToken}
 use Rattle.po_syntax.specs.declared.item.Keyword.{Keyword}
 use Rattle.po_syntax.specs.declared.item.Marks.{Marks}
 use Rattle.po_syntax.specs.Prelude.{is_blank, IsBlank, skip_blanks, FailsFirst, trim_returns, TextItem, TokensFault, LineFault, SpellsKeyword, HoldsTokens, own_marks, HoldsItems}
-use Rattle.po_syntax.specs.Internal.Line.{Shape, CommentLine, Tokens, NoShape, obsolete_shape, tilde_shape, hash_shape, first_shape, shape_of}
-use Rattle.po_syntax.specs.Internal.Token.{Token, LineEnd, OpeningQuote, KeywordToken, WrongToken, first_token, token_at}
-use Rattle.po_syntax.specs.TextItem.{Comment, Word, Str}
+use Rattle.po_syntax.specs.Internal.{Shape, CommentLine, Tokens, NoShape, obsolete_shape, tilde_shape, hash_shape, first_shape, shape_of, Token, LineEnd, OpeningQuote, KeywordToken, WrongToken, first_token, token_at}
+use Rattle.po_syntax.specs.Item.{Comment, Word, Str}
 use Rattle.po_syntax.specs.LineFaults as faulty
-use Rattle.po_syntax.specs.Spelling.{end, blank, keyword, string, indented, comment, obsolete_comment, live, previous, obsolete, obsolete_previous}
+use Rattle.po_syntax.specs.Line.{end, blank, keyword, string, indented, comment, obsolete_comment, live, previous, obsolete, obsolete_previous}
 use Rattle.po_syntax.proofs.Escapes.{string_shorter}
 use Rattle.po_syntax.proofs.FaultyLines.{keyword_stops, no_token_stops}
 use Rattle.po_syntax.proofs.OneString.{Once, Reads, ends, goes_on, reads_once, Reading, StringIs, string_once}

@@ -3,8 +3,8 @@ use Rattle.std.proofs.Common.{◌≡◌, ◌==◌, refl, ℕ, ◌<◌, false, Li
 use Rattle.std.proofs.lemmas.Bool.{eqb-false, ne_eqb}
 use Rattle.po_syntax.specs.declared.fault.PoFault.{PoFault}
 use Rattle.po_syntax.specs.Prelude.{SpellsString, StringFault}
-use Rattle.po_syntax.specs.Escapes.{closed, plain, escape}
-use Rattle.po_syntax.specs.Internal.QuotedString.{Step, End, Byte, Stop, escape_at, step_at}
+use Rattle.po_syntax.specs.Escape.{closed, plain, escape}
+use Rattle.po_syntax.specs.Internal.{Step, End, Byte, Stop, escape_at, step_at}
 use Rattle.po_syntax.specs.LineFaults.{not_closed, in_escape, after_plain, after_escape}
 use Rattle.po_syntax.proofs.Escapes.{EscapeSays, escape_says, escape_shorter}
 use Rattle.po_syntax.proofs.SpeltEscapes.{by_byte, escape_read, escape_stops}

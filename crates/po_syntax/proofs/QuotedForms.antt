@@ -4,7 +4,7 @@ use Rattle.std.specs.Char.{digit_value}
 use Rattle.std.specs.Str.Parse.{digits_value}
 use Rattle.std.proofs.lemmas.Str.{digit_value-digit_char}
 use Rattle.po_syntax.specs.Prelude.{escape_letter, letter_value, SpellsString, written_bytes, WritesByte}
-use Rattle.po_syntax.specs.Escapes.{letter as letter_escape, octal, closed, plain as plain_byte, escape}
+use Rattle.po_syntax.specs.Escape.{letter as letter_escape, octal, closed, plain as plain_byte, escape}
 use Rattle.po_syntax.specs.Quoting.{letter, delete, control, plain}
 use Rattle.po_syntax.proofs.SpeltEscapes.{of_each_byte}
 use Rattle.po_syntax.proofs.WrittenForms.{digit_is, byte_written}

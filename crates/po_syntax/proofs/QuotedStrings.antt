@@ -5,8 +5,8 @@ use Rattle.memchr.specs.Find.{IsFirstByte, is_byte2}
 use Rattle.po_syntax.specs.declared.fault.PoFault.{PoFault}
 use Rattle.po_syntax.specs.declared.fault.PoFault.TheVariants.{UnterminatedString}
 use Rattle.po_syntax.specs.Prelude.{SpellsString, StringFault}
-use Rattle.po_syntax.specs.Escapes.{closed, plain}
-use Rattle.po_syntax.specs.Internal.QuotedString.{Step, escape_at}
+use Rattle.po_syntax.specs.Escape.{closed, plain}
+use Rattle.po_syntax.specs.Internal.{Step, escape_at}
 use Rattle.po_syntax.specs.LineFaults.{not_closed, after_plain}
 use Rattle.po_syntax.proofs.Escapes.{EscapeSays, escape_says}
 

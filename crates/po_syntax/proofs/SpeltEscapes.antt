@@ -5,9 +5,9 @@ use Rattle.std.specs.Str.Parse.{AllDigits, IsNumeral, digits_value}
 use Rattle.std.proofs.Math.Seq.{take-append_seam, drop-append_seam}
 use Rattle.std.proofs.lemmas.Bool.{cond_both, cond-false, eqb-true, ne_eqb, lt-ltb, le-ltb}
 use Rattle.po_syntax.specs.declared.fault.PoFault.{PoFault}
-use Rattle.po_syntax.specs.Internal.QuotedString.{Byte, Stop, digit_count, numbered, number_step, letter_step, escape_at}
+use Rattle.po_syntax.specs.Internal.{Byte, Stop, digit_count, numbered, number_step, letter_step, escape_at}
 use Rattle.po_syntax.specs.Prelude.{NoDigitFirst, IsByteNumber, escape_letters, letter_value, escape_letter, SpellsEscape, NumberFault, EscapeFault}
-use Rattle.po_syntax.specs.Escapes.{letter, octal, hexadecimal}
+use Rattle.po_syntax.specs.Escape.{letter, octal, hexadecimal}
 use Rattle.po_syntax.specs.LineFaults.{nul, large, at_end, no_escape, octal as octal_fault, no_digit, hexadecimal_digits}
 
 -- what holds where a byte is this one, and where it is another

@@ -16,10 +16,9 @@ use Rattle.po_syntax.specs.declared.item.Keyword.TheVariants.{MsgCtxt, MsgId, Ms
 use Rattle.po_syntax.specs.Prelude.{NoDigitFirst, IndexFault, KeywordFault, TokensFault, is_word_byte, SpellsKeyword, is_blank, IsBlank, skip_blanks, FailsFirst}
 use Rattle.po_syntax.specs.declared.fault.PoFault.{PoFault}
 use Rattle.po_syntax.specs.LineFaults.{no_index, large_index, not_closed_index, no_keyword, in_index, no_token, in_keyword}
-use Rattle.po_syntax.specs.Internal.QuotedString.{digit_count}
+use Rattle.po_syntax.specs.Internal.{digit_count, Token, LineEnd, OpeningQuote, KeywordToken, WrongToken, close_token, index_token, bracket_token, keyword_token, word_token, first_token, token_at}
 use Rattle.po_syntax.specs.Facts.Runs.{parts_of, run_length}
-use Rattle.po_syntax.specs.Spelling.{msgctxt, msgid, msgid_plural, msgstr, form}
-use Rattle.po_syntax.specs.Internal.Token.{Token, LineEnd, OpeningQuote, KeywordToken, WrongToken, close_token, index_token, bracket_token, keyword_token, word_token, first_token, token_at}
+use Rattle.po_syntax.specs.Token.{msgctxt, msgid, msgid_plural, msgstr, form}
 use Rattle.po_syntax.proofs.Escapes.{all_digits, positive}
 use Rattle.po_syntax.proofs.SpeltEscapes.{by_byte, count_all}
 

@@ -8,11 +8,11 @@ use Rattle.po_syntax.specs.declared.fault.PoFault.{PoFault}
 use Rattle.po_syntax.specs.declared.fault.PoFault.TheVariants.{BadToken}
 use Rattle.po_syntax.specs.declared.item.CommentKind.{CommentKind}
 use Rattle.po_syntax.specs.declared.item.Marks.{Marks}
-use Rattle.po_syntax.specs.Internal.Line.{Shape, CommentLine, Tokens, NoShape, comment_shape, obsolete_shape, tilde_shape, hash_shape, first_shape}
+use Rattle.po_syntax.specs.Internal.{Shape, CommentLine, Tokens, NoShape, comment_shape, obsolete_shape, tilde_shape, hash_shape, first_shape}
 use Rattle.po_syntax.specs.Prelude.{trim_returns, TextItem, TokensFault, BeginsTokens, LineFault, HoldsTokens, SpellsComment, previous_marks, HoldsItems, is_blank, IsBlank, skip_blanks, FailsFirst}
-use Rattle.po_syntax.specs.TextItem.{Comment}
+use Rattle.po_syntax.specs.Item.{Comment}
 use Rattle.po_syntax.specs.LineFaults.{previous_again, obsolete_again, live as fault_live, previous as fault_previous, obsolete as fault_obsolete, obsolete_previous as fault_obsolete_previous}
-use Rattle.po_syntax.specs.Spelling.{blank, extracted, reference, flags, translator, comment, obsolete_comment, live, previous, obsolete, obsolete_previous}
+use Rattle.po_syntax.specs.Line.{blank, extracted, reference, flags, translator, comment, obsolete_comment, live, previous, obsolete, obsolete_previous}
 use Rattle.po_syntax.proofs.SpeltEscapes.{by_byte}
 use Rattle.po_syntax.proofs.SpeltKeywords.{of_blank, over_blanks, skips, skip_prefix}
 

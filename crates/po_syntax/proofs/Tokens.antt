@@ -3,8 +3,8 @@ use Rattle.std.proofs.Common.{◌≡◌, refl, ap, ℕ, ◌<◌, ◌≤◌, List
 use Rattle.std.specs.List.{prefix_len}
 use Rattle.po_syntax.specs.declared.item.Keyword.{Keyword}
 use Rattle.po_syntax.specs.Prelude.{SpellsKeyword, is_blank, skip_blanks}
-use Rattle.po_syntax.specs.Spelling.{msgctxt, msgid, msgid_plural, msgstr, form}
-use Rattle.po_syntax.specs.Internal.Token.{Token, OpeningQuote, KeywordToken, token_at}
+use Rattle.po_syntax.specs.Token.{msgctxt, msgid, msgid_plural, msgstr, form}
+use Rattle.po_syntax.specs.Internal.{Token, OpeningQuote, KeywordToken, token_at}
 use Rattle.po_syntax.proofs.SpeltKeywords.{TokenSays, first_says}
 
 -- the text is some bytes, and this rest

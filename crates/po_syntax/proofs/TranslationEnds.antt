@@ -6,7 +6,7 @@ use Rattle.std.proofs.lemmas.List.{drop-drop, drop_all, length-map}
 use Rattle.std.proofs.lemmas.List.Elements.{All-cons, All-drop, All-head}
 use Rattle.po_syntax.specs.declared.item.Item.{Item}
 use Rattle.po_syntax.specs.Prelude.{IsString, IsTranslationWord, IsTranslation, EndsTranslation, TextItem, view, views}
-use Rattle.po_syntax.specs.TextItem.{Comment, Word, Str}
+use Rattle.po_syntax.specs.Item.{Comment, Word, Str}
 
 -- items that are cut off again
 pub cut_at : (before after : List Item) (here : List TextItem) (own : ℕ) → own ≡ length before

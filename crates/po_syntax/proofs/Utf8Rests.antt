@@ -11,10 +11,9 @@ use Rattle.std.proofs.lemmas.Str.{IsUtf8-append, IsUtf8-drop, IsUtf8-from_ascii,
 use Rattle.po_syntax.specs.declared.item.Keyword.{Keyword}
 use Rattle.po_syntax.specs.declared.item.Marks.{Marks}
 use Rattle.po_syntax.specs.Prelude.{IsBlank, skip_blanks, letter_value, SpellsEscape, SpellsString, SpellsKeyword}
-use Rattle.po_syntax.specs.Escapes.{letter, octal, hexadecimal, closed, plain, escape}
-use Rattle.po_syntax.specs.Internal.Line.{Shape, CommentLine, Tokens, NoShape, comment_shape, obsolete_shape, tilde_shape, hash_shape, first_shape, shape_of}
-use Rattle.po_syntax.specs.Internal.Token.{OpeningQuote, KeywordToken, token_at}
-use Rattle.po_syntax.specs.Spelling.{msgctxt, msgid, msgid_plural, msgstr, form}
+use Rattle.po_syntax.specs.Escape.{letter, octal, hexadecimal, closed, plain, escape}
+use Rattle.po_syntax.specs.Internal.{Shape, CommentLine, Tokens, NoShape, comment_shape, obsolete_shape, tilde_shape, hash_shape, first_shape, shape_of, OpeningQuote, KeywordToken, token_at}
+use Rattle.po_syntax.specs.Token.{msgctxt, msgid, msgid_plural, msgstr, form}
 use Rattle.po_syntax.proofs.SpeltEscapes.{by_byte, of_each_letter}
 use Rattle.po_syntax.proofs.SpeltKeywords.{of_blank, skips}
 use Rattle.po_syntax.proofs.SpeltLines.{CommentSays, comment_says}

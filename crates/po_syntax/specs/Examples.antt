@@ -8,13 +8,14 @@ use Rattle.std.proofs.lemmas.List.Elements.{All-cons, All-nil}
 use Rattle.po_syntax.specs.declared.fault.PoFault.TheVariants.{BadEscape, BadPluralIndex, ForbiddenByte}
 use Rattle.po_syntax.specs.declared.item.CommentKind.TheVariants.{Translator, Extracted}
 use Rattle.po_syntax.specs.declared.item.Keyword.TheVariants.{MsgId, MsgStrAt}
-use Rattle.po_syntax.specs.Blanks.{is_blank, IsBlank, skip_blanks, FailsFirst, without_end}
-use Rattle.po_syntax.specs.TextItem.{TextItem, Comment, Word, Str, line_of, trim_returns}
-use Rattle.po_syntax.specs.Escapes.{NoDigitFirst, IsByteNumber, escape_letters, letter_value, SpellsEscape, letter, octal, SpellsString, closed, plain, escape}
-use Rattle.po_syntax.specs.Spelling.{is_word_byte, SpellsKeyword, msgid, form, HoldsTokens, end, blank, keyword, string, is_mark, SpellsComment, extracted, translator, own_marks, previous_marks, HoldsItems, indented, comment, live, obsolete}
+use Rattle.po_syntax.specs.Token.{is_blank, IsBlank, skip_blanks, FailsFirst, without_end, is_word_byte, SpellsKeyword, msgid, form}
+use Rattle.po_syntax.specs.Item.{TextItem, Comment, Word, Str, line_of, trim_returns, own_marks, previous_marks}
+use Rattle.po_syntax.specs.Escape.{NoDigitFirst, IsByteNumber, escape_letters, letter_value, SpellsEscape, letter, octal, SpellsString, closed, plain, escape}
+use Rattle.po_syntax.specs.Line.{HoldsTokens, end, blank, keyword, string, is_mark, SpellsComment, extracted, translator, HoldsItems, indented, comment, live, obsolete}
 use Rattle.po_syntax.specs.LineFaults.{large, octal as octal_fault, in_escape, IsNoKeyword, large_index, KeywordFault, in_index, blank as blank_first, in_string, after_keyword, BeginsTokens, live as live_fault}
 use Rattle.po_syntax.specs.Quoting.{quoted, written_byte}
-use Rattle.po_syntax.specs.PoText.{IsSmall, line_number, without_byte_order_mark, lines_of, SpellsLines, LinesStop, SpellsText, TextFault, nul}
+use Rattle.po_syntax.specs.Facts.LinesWithEnds.{lines_with_ends}
+use Rattle.po_syntax.specs.PoText.{IsSmall, without_byte_order_mark, lines_of, SpellsLines, LinesStop, SpellsText, TextFault, nul}
 
 pub space_is_blank : IsBlank 32
 space_is_blank = refl
@@ -171,3 +172,6 @@ pub bytes_are_quoted : quoted (codes "a\"\n" ++ 1 ∷ 127 ∷ 195 ∷ [])
     ≡ codes "\"a\\\"\\n\\001\\177" ++ 195 ∷ 34 ∷ []
 unfolding written_byte
 bytes_are_quoted = refl
+
+pub lines_keep_their_ends : lines_with_ends (codes "a\n\nb") ≡ codes "a\n" ∷ codes "\n" ∷ codes "b" ∷ []
+lines_keep_their_ends = refl

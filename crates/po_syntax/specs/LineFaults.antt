@@ -6,9 +6,8 @@ use Rattle.std.specs.Str.Parse.{IsNumeral, digits_value}
 use Rattle.po_syntax.specs.declared.fault.PoFault.{PoFault}
 use Rattle.po_syntax.specs.declared.fault.PoFault.TheVariants.{UnterminatedString, BadEscape, ForbiddenByte, BadToken, BadPluralIndex}
 use Rattle.po_syntax.specs.declared.item.Keyword.{Keyword}
-use Rattle.po_syntax.specs.Blanks.{is_blank, IsBlank, FailsFirst}
-use Rattle.po_syntax.specs.Escapes.{NoDigitFirst, letter_value, SpellsEscape, SpellsString}
-use Rattle.po_syntax.specs.Spelling.{is_word_byte, SpellsKeyword}
+use Rattle.po_syntax.specs.Token.{is_blank, IsBlank, FailsFirst, is_word_byte, SpellsKeyword}
+use Rattle.po_syntax.specs.Escape.{NoDigitFirst, letter_value, SpellsEscape, SpellsString}
 
 -- no byte that a string may hold has this number
 pub data NumberFault : ℕ → PoFault → Type 0 where

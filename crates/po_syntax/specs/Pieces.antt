@@ -3,9 +3,9 @@
 use Rattle.std.specs.Prelude.{◌≢◌, ℕ, List, All, IsUtf8, ◌≡◌, ◌+◌, ◌≤◌, [], length, take, drop, sum_by, Option, Some, None, ◌⊎◌, ◌<◌, ◌∷◌}
 use Rattle.std.specs.Borrow.{Bor}
 use Rattle.po_syntax.specs.PoText.{IsSmall, SpellsLines, TextFault, lines_of, without_byte_order_mark}
-use Rattle.po_syntax.specs.TextItem.{TextItem, Comment, Word, Str}
+use Rattle.po_syntax.specs.Item.{TextItem, Comment, Word, Str}
 use Rattle.po_syntax.specs.declared.fault.PoFault.{PoFault}
-use Rattle.po_syntax.specs.Spelling.{HoldsItems}
+use Rattle.po_syntax.specs.Line.{HoldsItems}
 use Rattle.po_syntax.specs.declared.item.Keyword.TheVariants.{MsgStr, MsgStrAt}
 
 -- A line as it stands in a text: UTF-8 without NUL and LF (manual, "The Format of PO Files").

@@ -6,8 +6,8 @@ use Rattle.std.specs.Str.Lossy.{utf8_valid_len}
 use Rattle.po_syntax.specs.declared.fault.PoFault.{PoFault}
 use Rattle.po_syntax.specs.declared.fault.PoFault.TheVariants.{NotUtf8, ForbiddenByte, TooLarge}
 use Rattle.po_syntax.specs.LineFaults.{LineFault}
-use Rattle.po_syntax.specs.Spelling.{HoldsItems}
-use Rattle.po_syntax.specs.TextItem.{TextItem}
+use Rattle.po_syntax.specs.Line.{HoldsItems}
+use Rattle.po_syntax.specs.Item.{TextItem}
 
 -- at most 2,147,483,647 bytes, this project's limit; a byte order mark counts
 abbrev pub IsSmall : List ℕ → Type 0

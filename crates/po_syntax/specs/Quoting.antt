@@ -3,7 +3,7 @@ use Rattle.std.specs.Prelude.{ℕ, ◌/◌, ◌%◌, Bool, not, ◌==◌, ◌||�
 use Rattle.std.specs.List.{flat_map}
 use Rattle.std.specs.Option.{option_map_or}
 use Rattle.std.specs.Char.{digit_char}
-use Rattle.po_syntax.specs.Escapes.{escape_letter}
+use Rattle.po_syntax.specs.Escape.{escape_letter}
 
 -- a backslash and the three octal digits of a byte
 abbrev pub octal_escape : ℕ → List ℕ

@@ -3,9 +3,8 @@
 ghost use Rattle.std.specs.Prelude.{◌≡◌, ◌^◌, ◌<◌, ◌≤◌, length, All, SomeIff};
 ghost use Rattle.std.specs.Char.{digit_value};
 ghost use Rattle.std.specs.Str.Parse.{digits_value};
-ghost use Rattle.po_syntax.specs.Internal.LineView.{IsByteOf};
+ghost use Rattle.po_syntax.specs.Internal.{IsByteOf, digit_count, escape_at, number_step};
 ghost use Rattle.po_syntax.specs.Prelude.{letter_value};
-ghost use Rattle.po_syntax.specs.Internal.QuotedString.{digit_count, escape_at, number_step};
 
 use crate::fault::PoFault;
 
@@ -72,7 +71,7 @@ fn letter_value(letter: u8) -> Option<u8>
 }
 
 /// The byte that an escape stands for, read after its backslash, and the text after it.
-#[tactic(auto, unfolding(crate::specs::Internal::QuotedString::escape_at))]
+#[tactic(auto, unfolding(crate::specs::Internal::escape_at))]
 pub(crate) fn escape(text: &[u8]) -> Result<(u8, &[u8]), PoFault>
     ensures { IsByteOf (escape_at text.now) result }
 {

@@ -3,7 +3,7 @@
 ghost use Rattle.std.specs.Prelude.{◌≡◌, ◌≢◌, ◌⊎◌, ◌<◌, ◌≤◌, ℕ, List, [], ◌∷◌, ◌++◌, length, All, IsUtf8};
 ghost use Rattle.po_syntax.specs.declared.fault.PoFault.{PoFault};
 ghost use Rattle.po_syntax.specs.Prelude.{SpellsString, HoldsText, TextItem, LineFault, HasFaultOnLine, ItemsAreOnTheirLines, MarkIsOmitted, LinesLeft, SpellsLeft, LeftStops, IsPiece, EndsInString, LeftAnew, SpellsText, TextFault, quoted, written_bytes, WritesQuoted, lettered_bytes, lettered_text, HoldsItems};
-ghost use Rattle.po_syntax.specs.Internal.Token.{OpeningQuote, token_at};
+ghost use Rattle.po_syntax.specs.Internal.{OpeningQuote, token_at};
 
 /// A text spells at most one list of items.
 #[tactic(auto, using(crate::proofs::Uniqueness::text_once))]

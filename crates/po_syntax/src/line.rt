@@ -1,9 +1,8 @@
 //! The items of one line.
 
 ghost use Rattle.std.specs.Prelude.{◌≡◌, ◌≢◌, IfErr, OnOk};
-ghost use Rattle.po_syntax.specs.Internal.Line.{shape_of, hash_shape, tilde_shape, comment_shape};
+ghost use Rattle.po_syntax.specs.Internal.{shape_of, hash_shape, tilde_shape, comment_shape, AddsItems, AddsLent, IsShapeOf};
 ghost use Rattle.po_syntax.specs.Prelude.{LineFault, TokensFault, HoldsItems, HoldsTokens, trim_returns};
-ghost use Rattle.po_syntax.specs.Internal.LineView.{AddsItems, AddsLent, IsShapeOf};
 
 use crate::fault::PoFault;
 use crate::item::{CommentKind, Item, Marks};
@@ -31,7 +30,7 @@ fn comment_shape(text: &[u8]) -> Option<Shape<'_>>
 }
 
 /// The shape of a line, read after `#~`.
-#[tactic(auto, unfolding(crate::specs::Internal::Line::tilde_shape, crate::specs::Internal::Line::obsolete_shape))]
+#[tactic(auto, unfolding(crate::specs::Internal::tilde_shape, crate::specs::Internal::obsolete_shape))]
 fn tilde_shape(text: &[u8]) -> Option<Shape<'_>>
     ensures { IsShapeOf (tilde_shape text.now) result }
 {
@@ -46,7 +45,7 @@ fn tilde_shape(text: &[u8]) -> Option<Shape<'_>>
 }
 
 /// The shape of a line, read after its first `#`.
-#[tactic(auto, unfolding(crate::specs::Internal::Line::hash_shape))]
+#[tactic(auto, unfolding(crate::specs::Internal::hash_shape))]
 fn hash_shape(text: &[u8]) -> Option<Shape<'_>>
     ensures { IsShapeOf (hash_shape text.now) result }
 {
@@ -58,7 +57,7 @@ fn hash_shape(text: &[u8]) -> Option<Shape<'_>>
 }
 
 /// The shape of a line; none if it is neither a comment nor a line of tokens.
-#[tactic(auto, unfolding(crate::specs::Internal::Line::first_shape))]
+#[tactic(auto, unfolding(crate::specs::Internal::first_shape))]
 fn shape_of(line: &[u8]) -> Option<Shape<'_>>
     ensures { IsShapeOf (shape_of line.now) result }
 {

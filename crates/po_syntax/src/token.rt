@@ -2,9 +2,8 @@
 
 ghost use Rattle.std.specs.Prelude.{◌≡◌, ◌<◌, true, false, bytes_eq, MatchOption};
 ghost use Rattle.std.specs.List.{list_all};
-ghost use Rattle.po_syntax.specs.Internal.Token.{after_first_word, first_word, index_token, token_at, word_token};
+ghost use Rattle.po_syntax.specs.Internal.{after_first_word, first_word, index_token, token_at, word_token, IsKeywordOf, IsTokenOf};
 ghost use Rattle.po_syntax.specs.Prelude.{is_word_byte, is_blank, skip_blanks};
-ghost use Rattle.po_syntax.specs.Internal.LineView.{IsKeywordOf, IsTokenOf};
 
 use crate::escape::{digit_count, number_of};
 use crate::fault::PoFault;
@@ -45,7 +44,7 @@ pub fn skip_blanks(text: &[u8]) -> &[u8]
 }
 
 /// The keyword `msgstr[i]`, read after its bracket and the blanks that follow.
-#[tactic(auto, using(crate::proofs::Numbers::digits_all), unfolding(crate::specs::Internal::Token::index_token))]
+#[tactic(auto, using(crate::proofs::Numbers::digits_all), unfolding(crate::specs::Internal::index_token))]
 fn plural_form(text: &[u8]) -> Result<(Keyword, &[u8]), PoFault>
     ensures { IsKeywordOf (index_token text.now) result }
 {
@@ -77,7 +76,7 @@ fn after_word<'a>(text: &'a [u8], word: &[u8]) -> Option<&'a [u8]>
 }
 
 /// The keyword with which the text begins, and the text after it.
-#[tactic(auto, unfolding(crate::specs::Internal::Token::keyword_token))]
+#[tactic(auto, unfolding(crate::specs::Internal::keyword_token))]
 fn keyword(text: &[u8]) -> Result<(Keyword, &[u8]), PoFault>
     ensures { IsKeywordOf (word_token text.now) result }
 {
@@ -100,7 +99,7 @@ fn keyword(text: &[u8]) -> Result<(Keyword, &[u8]), PoFault>
 }
 
 /// The next token of a line, after blanks.
-#[tactic(auto, unfolding(crate::specs::Internal::Token::first_token))]
+#[tactic(auto, unfolding(crate::specs::Internal::first_token))]
 pub(crate) fn next_token(text: &[u8]) -> Result<Token<'_>, PoFault>
     ensures { IsTokenOf (token_at text.now) result }
 {

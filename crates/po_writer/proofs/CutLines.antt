@@ -1,33 +1,13 @@
--- A text is cut into its lines.
-use Rattle.std.proofs.Common.{◌≡◌, ◌≢◌, ◌∙◌, refl, sym, ap, subst, ℕ, ◌<◌, ◌==◌, cond, nat_lt, List, [], ◌∷◌, ◌++◌, drop, length, length-append, append-nil, append_assoc, inl, inr, arith}
-use Rattle.std.specs.List.{concat, flat_map, onto_first}
+-- A text is written line by line.
+use Rattle.std.proofs.Common.{◌≡◌, ◌≢◌, ◌∙◌, refl, sym, ap, subst, ℕ, ◌<◌, cond, nat_lt, List, [], ◌∷◌, ◌++◌, drop, length, length-append, append-nil, append_assoc, inl, inr, arith}
+use Rattle.std.specs.List.{concat, flat_map}
 use Rattle.std.proofs.lemmas.List.Concat.{concat_is}
-use Rattle.std.proofs.lemmas.Bool.{cond_both, cond-true, eqb-true, eqb-false, lt-ltb}
-use Rattle.std.proofs.lemmas.List.Elements.{All-cons, All-nil}
+use Rattle.std.proofs.lemmas.Bool.{cond-true, lt-ltb}
+use Rattle.std.proofs.lemmas.List.Elements.{All-nil}
 use Rattle.po_entry.specs.Prelude.{Lacks}
-use Rattle.po_writer.specs.Prelude.{ContainsLines, WritesText, EachEndsInItsOnlyFeed, lines_with_ends, string_line, text_lines}
-use Rattle.po_writer.specs.EntryLines.{none, last, ended, one_line, one_ended_line, each_line}
-
-empty : Lacks 10 []
-empty = All-nil (λ b. b ≢ 10)
-
-more : (b : ℕ) (line : List ℕ) → b ≢ 10 → Lacks 10 line → Lacks 10 (b ∷ line)
-more b line other lacks = All-cons (λ c. c ≢ 10) b line other lacks
-
-onto : (b : ℕ) {text : List ℕ} {lines : List (List ℕ)} → b ≢ 10 → ContainsLines text lines
-    → ContainsLines (b ∷ text) (onto_first b lines)
-onto b other none = last (more b [] other empty)
-onto b other (last {b = c} {line = line} lacks) = last (more b (c ∷ line) other lacks)
-onto b other (ended line lacks lines) = ended (b ∷ line) (more b line other lacks) lines
-
-pub lines_are : (text : List ℕ) → ContainsLines text (lines_with_ends text)
-lines_are [] = none
-lines_are (b ∷ text) =
-    let others = lines_are text in
-    cond_both (b == 10) ((10 ∷ []) ∷ lines_with_ends text) (onto_first b (lines_with_ends text))
-    (ContainsLines (b ∷ text))
-    (λ is. subst (λ x. ContainsLines (x ∷ text) ((10 ∷ []) ∷ lines_with_ends text)) (sym (eqb-true b 10 is))
-    (ended [] empty others)) (λ other. onto b (eqb-false b 10 other) others)
+use Rattle.po_syntax.specs.Facts.LinesWithEnds.{ContainsLines, lines_are, lines_with_ends, none, last, ended}
+use Rattle.po_writer.specs.Prelude.{WritesText, EachEndsInItsOnlyFeed, string_line, text_lines}
+use Rattle.po_writer.specs.Laws.{one_line, one_ended_line, each_line}
 
 -- what is written of a text with these lines
 abbrev written : List ℕ → List ℕ → List (List ℕ) → List ℕ
@@ -42,7 +22,7 @@ several prefix text line lines some =
 
 writes : (prefix : List ℕ) {text : List ℕ} {lines : List (List ℕ)} → ContainsLines text lines
     → WritesText prefix text (written prefix text lines)
-writes prefix none = one_line empty
+writes prefix none = one_line (All-nil (λ b. b ≢ 10))
 writes prefix (last lacks) = one_line lacks
 writes prefix (ended line lacks none) = one_ended_line line lacks
 writes prefix (ended line lacks (last {b = b} {line = rest} others)) =

@@ -3,8 +3,7 @@ use Rattle.std.proofs.Common.{◌≡◌, ℕ, ◌+◌, Bool, true, false, cond, 
 use Rattle.std.specs.List.{flat_map}
 use Rattle.po_entry.specs.Prelude.{TextEntry, IsEntry}
 use Rattle.po_writer.specs.Prelude.{WritesComments, WritesFurther, WritesElements, WritesFlags, IsPreviousPrefix, IsOwnPrefix, WritesKeyword, WritesOptional, WritesForms, WritesTranslation, WritesEntry, HasParts, IsArranged, FollowEntries, StandInOrder, all_flags, arranged, comment_lines, elements_line, entry_lines, form_lines, in_order, keyword_lines, optional_lines, own_prefix, previous_prefix, translation_lines}
-use Rattle.po_writer.specs.EntryLines.{no_comments, comment, line_end, next_element, no_line, line, plain, fuzzy, previous_live, previous_obsolete, own_live, own_obsolete, written, absent, present}
-use Rattle.po_writer.specs.EntryLines.{no_forms, form, only, with_plural, previous, own, entry, live_before, no_entries, live_first, obsolete_first, no_further, after_empty_line, no_text, first_entry}
+use Rattle.po_writer.specs.Laws.{no_comments, comment, line_end, next_element, no_line, line, plain, fuzzy, previous_live, previous_obsolete, own_live, own_obsolete, written, absent, present, no_forms, form, only, with_plural, previous, own, entry, live_before, no_entries, live_first, obsolete_first, no_further, after_empty_line, no_text, first_entry}
 use Rattle.po_writer.proofs.CutLines.{texts_are_written}
 
 comments_written : (mark : List ℕ) (texts : List (List ℕ)) → WritesComments mark texts (comment_lines mark texts)

@@ -5,8 +5,8 @@ use Rattle.std.proofs.lemmas.List.Elements.{All-head, All-tail}
 use Rattle.po_syntax.specs.declared.item.CommentKind.{CommentKind}
 use Rattle.po_syntax.specs.declared.item.CommentKind.TheVariants.{Translator, Extracted, Reference, Flags}
 use Rattle.po_syntax.specs.Prelude.{trim_returns, TextItem, is_mark, SpellsComment, HoldsItems}
-use Rattle.po_syntax.specs.TextItem.{Comment}
-use Rattle.po_syntax.specs.Spelling.{extracted, reference, flags, translator, comment}
+use Rattle.po_syntax.specs.Item.{Comment}
+use Rattle.po_syntax.specs.Line.{extracted, reference, flags, translator, comment}
 use Rattle.po_syntax.proofs.SpeltKeywords.{or_step}
 use Rattle.po_entry.specs.Prelude.{CommentText, PreviousText, SpellsHead, IsTranslatorComment}
 use Rattle.po_entry.specs.Spelling.{nothing, head_comment, previous_text}

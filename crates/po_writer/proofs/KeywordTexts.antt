@@ -7,11 +7,12 @@ use Rattle.std.proofs.lemmas.Bool.{cond_both}
 use Rattle.po_syntax.specs.declared.item.Keyword.{Keyword}
 use Rattle.po_syntax.specs.declared.item.Marks.{Marks}
 use Rattle.po_syntax.specs.Prelude.{IsText, TextItem, quoted}
-use Rattle.po_syntax.specs.TextItem.{Word, Str}
+use Rattle.po_syntax.specs.Item.{Word, Str}
 use Rattle.po_entry.specs.Prelude.{SpellsStrings, SpellsKeywordText}
 use Rattle.po_entry.specs.Spelling.{last, more, keyword_text}
-use Rattle.po_writer.specs.Prelude.{lines_with_ends, string_line, keyword_lines}
-use Rattle.po_writer.proofs.CutLines.{flat_lines, lines_are}
+use Rattle.po_syntax.specs.Facts.LinesWithEnds.{lines_with_ends, lines_are}
+use Rattle.po_writer.specs.Prelude.{string_line, keyword_lines}
+use Rattle.po_writer.proofs.CutLines.{flat_lines}
 use Rattle.po_writer.proofs.Utf8.{IsLine, line-append, quoted_line, text_some, text_lines, text-empty, plain_line}
 use Rattle.po_writer.proofs.Blocks.{Block, BeginsLow, low-append, empty_block, two_blocks, weaker_block, line_block}
 use Rattle.po_writer.proofs.Tokens.{IsPrefix, IsKeyword, string_spells, keyword_spells}

@@ -3,7 +3,7 @@ use Rattle.std.proofs.Common.{◌≡◌, ◌==◌, nat_lt, not, if◌then◌else
 use Rattle.std.specs.List.{onto_first}
 use Rattle.std.proofs.lemmas.Bool.{false_from_ne_true, eqb-true, lt-ltb, ne_eqb}
 use Rattle.memchr.specs.Find.{IsFirstByte, Passes, is_byte}
-use Rattle.po_writer.specs.Prelude.{lines_with_ends}
+use Rattle.po_syntax.specs.Facts.LinesWithEnds.{lines_with_ends}
 
 abbrev NoFeedBelow : List ℕ → ℕ → Type 0
 NoFeedBelow text end = (k : ℕ) → k < end → Passes (is_byte 10) text k → ⊥

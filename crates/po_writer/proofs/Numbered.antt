@@ -6,7 +6,7 @@ use Rattle.std.proofs.lemmas.Str.Parse.{digit_from_value}
 use Rattle.std.proofs.lemmas.List.Elements.{All-nil, All-cons}
 use Rattle.po_syntax.specs.declared.item.Keyword.TheVariants.{MsgCtxt, MsgId, MsgIdPlural, MsgStr, MsgStrAt}
 use Rattle.po_syntax.specs.Prelude.{IsBlank, SpellsKeyword}
-use Rattle.po_syntax.specs.Spelling.{form}
+use Rattle.po_syntax.specs.Token.{form}
 use Rattle.po_writer.proofs.KeywordTexts.{IsLineKeyword}
 use Rattle.po_writer.proofs.Tokens.{context_keyword, id_keyword, plural_keyword, single_keyword}
 use Rattle.po_writer.proofs.Utf8.{ascii_line, line-append, plain_line}

@@ -4,7 +4,7 @@ use Rattle.std.proofs.Common.{◌≡◌, ◌∙◌, not, refl, sym, ap, Bool, tr
 use Rattle.std.specs.List.{flat_map, join_by}
 use Rattle.std.proofs.lemmas.List.{append-nil, map-append}
 use Rattle.std.proofs.lemmas.List.Elements.{All-weaker, filter-append, filter_passes}
-use Rattle.std.proofs.lemmas.Bool.{not-true}
+use Rattle.std.proofs.lemmas.Bool.{not-true, not_from_true}
 use Rattle.po_syntax.specs.Facts.Filters.{all_pass, none_pass}
 use Rattle.po_entry.specs.Prelude.{TextEntry, with_line}
 use Rattle.po_writer.specs.Prelude.{entry_lines, arranged, written_text}
@@ -49,9 +49,6 @@ kept_other test other entries apart =
     (All-weaker (λ (e : TextEntry). test e.obsolete ≡ true) (λ (e : TextEntry). other e.obsolete ≡ false)
     (λ e yes. apart e.obsolete yes) (kept test entries) (filter_passes (λ e. test e.obsolete) entries))
 
-not_true : (b : Bool) → b ≡ true → not b ≡ false
-not_true b h = ap not h
-
 -- arranged entries stay as they are
 arranged_again : (entries : List TextEntry) → arranged (arranged entries) ≡ arranged entries
 arranged_again entries =
@@ -59,7 +56,7 @@ arranged_again entries =
     let obsolete = kept (λ b. b) entries in
     let prefix : kept not (live ++ obsolete) ≡ live =
     filter-append (λ e. not e.obsolete) live obsolete
-    ∙ rw (kept_again not entries, kept_other (λ b. b) not entries not_true) (append-nil live) in
+    ∙ rw (kept_again not entries, kept_other (λ b. b) not entries not_from_true) (append-nil live) in
     let back : kept (λ b. b) (live ++ obsolete) ≡ obsolete =
     filter-append (λ e. e.obsolete) live obsolete
     ∙ rw (kept_again (λ b. b) entries, kept_other not (λ b. b) entries not-true) refl in

@@ -6,7 +6,7 @@ use Rattle.std.proofs.lemmas.List.{append-nil}
 use Rattle.std.proofs.lemmas.List.Elements.{All-nil, All-cons, All-head, All-tail, All-append, All-weaker, All-filter}
 use Rattle.std.proofs.lemmas.Bool.{ne_eqb}
 use Rattle.po_syntax.specs.Prelude.{IsSmall, SpellsText, without_byte_order_mark, TextItem, IsText}
-use Rattle.po_syntax.specs.Spelling.{end, live}
+use Rattle.po_syntax.specs.Line.{end, live}
 use Rattle.po_entry.specs.Prelude.{Lacks, TextEntry, with_line, quoted_texts, HasAdmittedCharset, IsEntry, IsCatalogueEntry, HasTexts, SpellsEntries, ReadsText}
 use Rattle.po_entry.specs.Spelling.{nothing, comments, entries as joined_entries}
 use Rattle.po_writer.specs.Prelude.{entry_lines, arranged, written_text}

@@ -4,8 +4,9 @@ use Rattle.po_syntax.specs.declared.item.Keyword.{Keyword}
 use Rattle.po_syntax.specs.declared.item.Keyword.TheVariants.{MsgCtxt, MsgId, MsgIdPlural, MsgStr}
 use Rattle.po_syntax.specs.declared.item.Marks.{Marks}
 use Rattle.po_syntax.specs.Prelude.{quoted, written_bytes, SpellsKeyword, HoldsTokens, own_marks, previous_marks, HoldsItems, TextItem}
-use Rattle.po_syntax.specs.Spelling.{msgctxt, msgid, msgid_plural, msgstr, end, blank, keyword, string, live, previous, obsolete, obsolete_previous}
-use Rattle.po_syntax.specs.TextItem.{Word, Str}
+use Rattle.po_syntax.specs.Token.{msgctxt, msgid, msgid_plural, msgstr}
+use Rattle.po_syntax.specs.Line.{end, blank, keyword, string, live, previous, obsolete, obsolete_previous}
+use Rattle.po_syntax.specs.Item.{Word, Str}
 use Rattle.po_syntax.proofs.QuotedForms.{bytes_spell}
 
 -- after the prefix, tokens stand under these marks

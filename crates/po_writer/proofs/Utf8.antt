@@ -13,8 +13,7 @@ use Rattle.po_syntax.specs.Prelude.{IsText, quoted}
 use Rattle.po_syntax.proofs.QuotedTexts.{quoted_utf8, quoted_shown}
 use Rattle.po_entry.specs.Prelude.{Lacks}
 use Rattle.po_syntax.specs.Facts.AllAppend.{All-left, All-right}
-use Rattle.po_writer.specs.Prelude.{ContainsLines}
-use Rattle.po_writer.specs.EntryLines.{none, last, ended}
+use Rattle.po_syntax.specs.Facts.LinesWithEnds.{ContainsLines, none, last, ended}
 
 abbrev IsByte : ℕ → Type 0
 IsByte b = b < 256

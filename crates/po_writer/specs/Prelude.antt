@@ -1,4 +1,4 @@
 -- What contracts and proofs cite of the definitions of this crate. Declares nothing.
-pub use Rattle.po_writer.specs.WrittenText.{all_flags, arranged, comment_lines, elements_line, entry_lines, form_lines, in_order, keyword_lines, lines_with_ends, optional_lines, own_lines, own_prefix, previous_lines, previous_prefix, string_line, text_lines, translation_lines, with_entry, written_text}
-pub use Rattle.po_writer.specs.TextParts.{AreAdded, AreParts, joined_parts}
-pub use Rattle.po_writer.specs.EntryLines.{ContainsLines, EachEndsInItsOnlyFeed, FollowEntries, HasParts, IsArranged, IsOwnPrefix, IsPreviousPrefix, StandInOrder, TextsAreWritten, WritesComments, WritesElements, WritesEntry, WritesFlags, WritesForms, WritesFurther, WritesKeyword, WritesOptional, WritesText, WritesTranslation}
+pub use Rattle.po_writer.specs.WrittenText.{all_flags, arranged, comment_lines, elements_line, entry_lines, form_lines, in_order, keyword_lines, optional_lines, own_lines, own_prefix, previous_lines, previous_prefix, string_line, text_lines, translation_lines, with_entry, written_text}
+pub use Rattle.po_writer.specs.Parts.{AreAdded, AreParts, joined_parts}
+pub use Rattle.po_writer.specs.Laws.{EachEndsInItsOnlyFeed, FollowEntries, HasParts, IsArranged, IsOwnPrefix, IsPreviousPrefix, StandInOrder, TextsAreWritten, WritesComments, WritesElements, WritesEntry, WritesFlags, WritesForms, WritesFurther, WritesKeyword, WritesOptional, WritesText, WritesTranslation}

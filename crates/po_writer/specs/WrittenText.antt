@@ -1,13 +1,9 @@
 -- The text that a catalogue is written as (manual, "The Format of PO Files"). No line is wrapped.
 use Rattle.std.specs.Prelude.{ℕ, ◌+◌, ◌==◌, Bool, not, nat_lt, List, [], ◌∷◌, ◌++◌, length, filter, Option, None, Some, codes, decimal, if◌then◌else◌}
-use Rattle.std.specs.List.{flat_map, join_by, onto_first}
+use Rattle.std.specs.List.{flat_map, join_by}
+use Rattle.po_syntax.specs.Facts.LinesWithEnds.{lines_with_ends}
 use Rattle.po_syntax.specs.Prelude.{quoted}
 use Rattle.po_entry.specs.Prelude.{TextEntry, TextPrevious}
-
--- the lines of a text, each with the LF that ends it, if one does
-abbrev pub lines_with_ends : List ℕ → List (List ℕ)
-lines_with_ends [] = []
-lines_with_ends (b ∷ text) = if b == 10 then (10 ∷ []) ∷ lines_with_ends text else onto_first b (lines_with_ends text)
 
 -- the quoted form on a line of its own
 abbrev pub string_line : List ℕ → List ℕ → List ℕ

@@ -2,7 +2,8 @@
 
 ghost use Rattle.std.specs.Prelude.{◌≡◌, ◌<◌, ◌++◌, ◌∷◌, [], codes, decimal, OnOk, length, option_copied};
 ghost use Rattle.std.specs.List.{flat_map};
-ghost use Rattle.po_writer.specs.Prelude.{lines_with_ends, text_lines, keyword_lines, optional_lines, string_line};
+ghost use Rattle.po_syntax.specs.Facts.LinesWithEnds.{lines_with_ends};
+ghost use Rattle.po_writer.specs.Prelude.{text_lines, keyword_lines, optional_lines, string_line};
 
 use itoa::Buffer;
 use memchr::memchr;

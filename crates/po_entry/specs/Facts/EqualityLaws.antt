@@ -1,16 +1,12 @@
 -- Equality of entries decides that they are the same but for their lines, so it is an equivalence.
-use Rattle.std.proofs.Common.{◌≡◌, ℕ, Bool, true, false, ◌&&◌, List, Option, Some, None, refl, sym, ap, ◌∙◌}
+use Rattle.std.proofs.Common.{◌≡◌, ℕ, Bool, true, false, List, Option, Some, None, refl, sym, ap, ◌∙◌}
 use Rattle.std.specs.Prelude.{Decides}
 use Rattle.std.specs.Cmp.{IsPartialEquivalence, booleans_Decides}
 use Rattle.std.proofs.lemmas.Bool.{false≢true}
+use Rattle.std.proofs.lemmas.Bool.Decides.{Decides-and}
 use Rattle.std.proofs.lemmas.Slice.Eq.{bytes_eq-Decides, slice_eq-Decides}
 use Rattle.po_entry.specs.TextEntry.{TextEntry, TextPrevious, SameButLine}
 use Rattle.po_entry.specs.Fields.{texts_eq, optional_eq, previous_eq, entry_eq}
-
-pub both_decide : {P Q : Type 0} (a b : Bool) → Decides a P → Decides b Q → Decides (a && b) (P × Q)
-both_decide true true p q = (λ _. (p.0 refl, q.0 refl), λ _. refl)
-both_decide true false p q = (λ t. absurd (false≢true t), λ h. q.1 h.1)
-both_decide false b p q = (λ t. absurd (false≢true t), λ h. p.1 h.0)
 
 pub texts_decide : (a b : List (List ℕ)) → Decides (texts_eq a b) (a ≡ b)
 texts_decide a b = slice_eq-Decides bytes_eq-Decides a b (texts_eq a b) refl
@@ -29,8 +25,8 @@ rebuilt p = record { context = p.context; id = p.id; plural = p.plural }
 
 previous_decide : (a b : TextPrevious) → Decides (previous_eq a b) (a ≡ b)
 previous_decide a b =
-    let two = both_decide _ _ (optional_decide a.context b.context) (optional_decide a.id b.id) in
-    let fields = both_decide _ _ two (optional_decide a.plural b.plural) in (
+    let two = Decides-and _ _ (optional_decide a.context b.context) (optional_decide a.id b.id) in
+    let fields = Decides-and _ _ two (optional_decide a.plural b.plural) in (
       λ t. let h = fields.0 t in let same : rebuilt a ≡ rebuilt b = rw (h.0.0, h.0.1, h.1) refl in same,
       λ e. fields.1 (
         (ap (λ (p : TextPrevious). p.context) e, ap (λ (p : TextPrevious). p.id) e),
@@ -40,15 +36,15 @@ previous_decide a b =
 
 pub entry_decide : (a b : TextEntry) → Decides (entry_eq a b) (SameButLine a b)
 entry_decide a b =
-    let extracted = both_decide _ _ (texts_decide a.comments b.comments) (texts_decide a.extracted b.extracted) in
-    let references = both_decide _ _ extracted (texts_decide a.references b.references) in
-    let fuzzy = both_decide _ _ references (booleans_Decides a.fuzzy b.fuzzy) in
-    let comments = both_decide _ _ fuzzy (texts_decide a.flags b.flags) in
-    let id = both_decide _ _ (optional_decide a.context b.context) (bytes_eq-Decides a.id b.id) in
-    let plural = both_decide _ _ id (optional_decide a.plural b.plural) in
-    let forms = both_decide _ _ plural (texts_decide a.forms b.forms) in
-    let messages = both_decide _ _ forms (booleans_Decides a.obsolete b.obsolete) in
-    let all = both_decide _ _ (both_decide _ _ comments (previous_decide a.previous b.previous)) messages in (
+    let extracted = Decides-and _ _ (texts_decide a.comments b.comments) (texts_decide a.extracted b.extracted) in
+    let references = Decides-and _ _ extracted (texts_decide a.references b.references) in
+    let fuzzy = Decides-and _ _ references (booleans_Decides a.fuzzy b.fuzzy) in
+    let comments = Decides-and _ _ fuzzy (texts_decide a.flags b.flags) in
+    let id = Decides-and _ _ (optional_decide a.context b.context) (bytes_eq-Decides a.id b.id) in
+    let plural = Decides-and _ _ id (optional_decide a.plural b.plural) in
+    let forms = Decides-and _ _ plural (texts_decide a.forms b.forms) in
+    let messages = Decides-and _ _ forms (booleans_Decides a.obsolete b.obsolete) in
+    let all = Decides-and _ _ (Decides-and _ _ comments (previous_decide a.previous b.previous)) messages in (
       λ t.
           let h = all.0 t in
           let comments = h.0.0 in

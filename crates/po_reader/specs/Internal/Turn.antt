@@ -7,7 +7,7 @@ use Rattle.po_syntax.specs.declared.item.Keyword.{Keyword}
 use Rattle.po_syntax.specs.declared.item.Keyword.TheVariants.{MsgCtxt, MsgId, MsgIdPlural, MsgStr, MsgStrAt}
 use Rattle.po_syntax.specs.declared.item.Marks.{Marks}
 use Rattle.po_syntax.specs.Prelude.{TextItem, line_of}
-use Rattle.po_syntax.specs.TextItem.{Comment, Word, Str}
+use Rattle.po_syntax.specs.Item.{Comment, Word, Str}
 use Rattle.po_entry.specs.Prelude.{TextEntry, rank}
 use Rattle.po_entry.specs.Spelling.{own_marks}
 use Rattle.po_reader.specs.Internal.Stage.{SoFar, Wanted, Id, Translation, Form, Gap, InHead, Before, AfterForm, Stage, Between, In, Stop, Outcome, Entries, Fault, no_lines, with_entry, with_own, with_comment, with_previous_text, with_text}

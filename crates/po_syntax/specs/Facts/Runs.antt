@@ -7,7 +7,7 @@ use Rattle.std.proofs.lemmas.Bool.{cond_both, cond-true, cond-false}
 use Rattle.std.proofs.lemmas.List.{take-append-drop, take-append-le, take_all, length-append, reverse-append, reverse-reverse, same_from_push}
 use Rattle.std.proofs.lemmas.List.Sums.{suffix_len-le-length}
 use Rattle.std.proofs.lemmas.List.Elements.{All-nil, All-cons, All-head, All-tail, All-append}
-use Rattle.po_syntax.specs.Blanks.{FailsFirst, without_end}
+use Rattle.po_syntax.specs.Token.{FailsFirst, without_end}
 
 -- the list is a run of elements that pass, and a rest that begins with none
 pub record Parts {X : Type 0} (test : X → Bool) (xs : List X) : Type 0 where

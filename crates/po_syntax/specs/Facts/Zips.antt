@@ -55,3 +55,12 @@ module _ {X Y : Type 0} (R : X → Y → Type 0) where
   zip_all P f [] ys h = All-nil P
   zip_all P f (x ∷ xs) [] h = absurd h
   zip_all P f (x ∷ xs) (y ∷ ys) h = All-cons P x xs (f x y h.0) (zip_all P f xs ys h.1)
+
+  -- the first ones of each
+  pub zip_take : (n : ℕ) (xs : List X) (ys : List Y) → AllZip R xs ys → AllZip R (take n xs) (take n ys)
+  zip_take zero [] [] h = tt
+  zip_take (suc n) [] [] h = tt
+  zip_take n [] (y ∷ ys) h = absurd h
+  zip_take n (x ∷ xs) [] h = absurd h
+  zip_take zero (x ∷ xs) (y ∷ ys) h = tt
+  zip_take (suc n) (x ∷ xs) (y ∷ ys) h = (h.0, zip_take n xs ys h.1)

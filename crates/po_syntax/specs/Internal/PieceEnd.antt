@@ -1,7 +1,7 @@
 -- A piece as it is cut off, before its bytes are tested (manual, "The Format of PO Files").
 use Rattle.std.specs.Prelude.{◌≡◌, ◌⊎◌, ℕ, List, [], take}
 use Rattle.po_syntax.specs.Pieces.{LinesLeft, lines_len, CanEnd, HasRead}
-use Rattle.po_syntax.specs.TextItem.{TextItem}
+use Rattle.po_syntax.specs.Item.{TextItem}
 
 -- From `old` a piece of so many bytes was cut off that has these items, and `new` is left: the piece is
 -- the fewest lines after which it can end, or all of them where it can't. Its last line has an LF here,

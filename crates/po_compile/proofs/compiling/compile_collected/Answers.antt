@@ -4,7 +4,7 @@ use Rattle.std.proofs.lemmas.Result.{err_from_is_err_and}
 use Rattle.mo_file.specs.Prelude.{IsBuildFault, layout, IsMoFile, borrowed_message, messages_of_borrowed}
 use Rattle.po_entry.specs.Prelude.{joined_entries}
 use Rattle.po_compile.specs.Prelude.{compiled_list}
-use Rattle.po_compile.specs.Internal.Rows.{counts_of}
+use Rattle.po_compile.specs.Internal.{counts_of}
 use Rattle.po_compile.proofs.InputLemmas.{build_refused, inputs_refused, pairs_are, sorted_read}
 use Rattle.po_compile.proofs.JoinedRows.{joined_valid}
 use Rattle.po_compile.proofs.MessageOrder.{compiled_valid, count_below_layout}

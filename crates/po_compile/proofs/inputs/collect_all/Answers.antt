@@ -4,7 +4,7 @@ use Rattle.std.proofs.lemmas.List.{length-map, take_all}
 use Rattle.std.proofs.lemmas.Result.{err_from_is_err_and}
 use Rattle.po_entry.specs.Prelude.{slice_texts}
 use Rattle.po_compile.specs.Prelude.{IsReadingFault, AreCollected}
-use Rattle.po_compile.specs.Internal.Repeats.{EachApart}
+use Rattle.po_compile.specs.Internal.{EachApart}
 use Rattle.po_compile.proofs.InputLemmas.{collected_count, collected_more, each_refused, text_fault}
 use Rattle.po_compile.proofs.KeysApart.{read_distinct}
 use Rattle.po_compile.proofs.ReadingLemmas.{more_texts, no_text, refused_input, split_texts}

@@ -3,8 +3,7 @@ use Rattle.std.proofs.lemmas.List.{get_or_default, take_all}
 use Rattle.std.proofs.lemmas.List.Elements.{All-more}
 use Rattle.po_entry.specs.declared.duplicate.JoinError.{JoinError}
 use Rattle.po_compile.specs.Prelude.{fault_of_input}
-use Rattle.po_compile.specs.Internal.Repeats.{EachApart, IsRepeat}
-use Rattle.po_compile.specs.Internal.Rows.{AllApart, all_messages, in_input_message, input_keys, message_keys}
+use Rattle.po_compile.specs.Internal.{EachApart, IsRepeat, AllApart, all_messages, in_input_message, input_keys, message_keys}
 use Rattle.po_compile.proofs.RepeatedKeys.{only_keys, only_messages}
 use Rattle.po_compile.proofs.repeats.check_each.Goals as goal
 

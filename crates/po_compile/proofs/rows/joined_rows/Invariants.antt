@@ -1,5 +1,5 @@
 use Rattle.std.proofs.Common.{◌≡◌, ◌++◌, drop, map}
-use Rattle.po_compile.specs.Internal.Rows.{all_messages, joined_messages, row_view}
+use Rattle.po_compile.specs.Internal.{all_messages, joined_messages, row_view}
 use Rattle.po_compile.proofs.rows.joined_rows.Given as goal
 
 abbrev pub invariant-loop-input : goal.invariant-loop-input

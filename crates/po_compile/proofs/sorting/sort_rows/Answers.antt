@@ -4,7 +4,7 @@ use Rattle.std.proofs.lemmas.Cmp.{nat_list_cmp_total, on_total}
 use Rattle.std.proofs.lemmas.List.Sorted.{answers_always, ranks_by}
 use Rattle.mo_file.specs.Prelude.{key_cmp}
 use Rattle.po_compile.specs.declared.row.Row.{Row}
-use Rattle.po_compile.specs.Internal.Rows.{row_key}
+use Rattle.po_compile.specs.Internal.{row_key}
 use Rattle.po_compile.proofs.sorting.sort_rows.Goals as goal
 
 pub returns-clause-sorted : goal.returns-clause-sorted

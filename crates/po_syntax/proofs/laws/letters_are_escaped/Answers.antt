@@ -1,5 +1,5 @@
 use Rattle.std.proofs.Common.{refl}
-use Rattle.po_syntax.specs.Escapes.{letter, closed, escape}
+use Rattle.po_syntax.specs.Escape.{letter, closed, escape}
 use Rattle.po_syntax.specs.Prelude.{written_byte}
 use Rattle.po_syntax.proofs.laws.letters_are_escaped.Goals as goal
 

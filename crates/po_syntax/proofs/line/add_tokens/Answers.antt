@@ -3,9 +3,8 @@ use Rattle.std.proofs.lemmas.List.{map_push}
 use Rattle.std.proofs.lemmas.Result.{err_from_is_err_and}
 use Rattle.po_syntax.specs.Prelude.{SpellsString, spelt_bytes}
 use Rattle.po_syntax.proofs.LentStrings.{one_more}
-use Rattle.po_syntax.specs.TextItem.{Word, Str}
-use Rattle.po_syntax.specs.Internal.Token.{LineEnd, OpeningQuote, KeywordToken, token_at}
-use Rattle.po_syntax.specs.Internal.LineView.{token_view}
+use Rattle.po_syntax.specs.Item.{Word, Str}
+use Rattle.po_syntax.specs.Internal.{LineEnd, OpeningQuote, KeywordToken, token_at, token_view}
 use Rattle.po_syntax.proofs.Escapes.{string_shorter}
 use Rattle.po_syntax.proofs.OneLine.{tokens_at}
 use Rattle.po_syntax.proofs.Tokens.{keyword-shorter, quote-shorter}

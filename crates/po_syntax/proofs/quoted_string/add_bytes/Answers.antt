@@ -1,7 +1,7 @@
 use Rattle.std.proofs.Common.{◌∙◌, ap, sym, subst, IsUtf8, [], ◌∷◌, ◌++◌, append_assoc, append-nil, length, length-append, arith}
 use Rattle.std.proofs.lemmas.Result.{err_from_is_err_and}
 use Rattle.po_syntax.specs.Prelude.{SpellsString, StringFault}
-use Rattle.po_syntax.specs.Escapes.{escape}
+use Rattle.po_syntax.specs.Escape.{escape}
 use Rattle.po_syntax.specs.LineFaults.{in_escape, after_escape}
 use Rattle.std.proofs.lemmas.Bool.{and_parts, ltb-true}
 use Rattle.std.proofs.lemmas.Str.{IsUtf8-append}

@@ -8,7 +8,7 @@ use Rattle.std.proofs.lemmas.List.Sums.{AllPass-from_list_all}
 use Rattle.std.proofs.lemmas.Slice.Eq.{bytes_eq-Decides}
 use Rattle.po_syntax.specs.Prelude.{FailsFirst, is_word_byte}
 use Rattle.po_syntax.specs.Facts.Runs.{parts_of, run_length}
-use Rattle.po_syntax.specs.Internal.Token.{after_first_word, first_word}
+use Rattle.po_syntax.specs.Internal.{after_first_word, first_word}
 use Rattle.po_syntax.proofs.token.after_word.Goals as goal
 use Rattle.po_syntax.proofs.token.after_word.Goals.{in_default-via-in-Some+else-is_word_byte, in_default-via-in_default}
 

@@ -1,5 +1,5 @@
 use Rattle.std.proofs.Common.{◌≡◌, true, not, nat_lt, append_assoc, length, sym, ap, ◌∙◌, rules}
-use Rattle.po_writer.specs.Prelude.{lines_with_ends}
+use Rattle.po_syntax.specs.Facts.LinesWithEnds.{lines_with_ends}
 use Rattle.po_writer.proofs.LinesWithEnds.{several}
 use Rattle.po_writer.proofs.keyword_lines.push_text.Goals as goal
 

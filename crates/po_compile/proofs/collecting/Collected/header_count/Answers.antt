@@ -3,7 +3,7 @@ use Rattle.std.proofs.lemmas.List.{take_all}
 use Rattle.std.proofs.lemmas.List.Filters.{length-filter_more}
 use Rattle.std.proofs.lemmas.List.Sums.{length-filter}
 use Rattle.po_compile.specs.Prelude.{live_message}
-use Rattle.po_compile.specs.Internal.Rows.{has_no_key}
+use Rattle.po_compile.specs.Internal.{has_no_key}
 use Rattle.po_compile.proofs.JoinedRows.{header_seen}
 use Rattle.po_compile.proofs.LiveMessages.{as_many, message_at}
 use Rattle.po_compile.proofs.collecting.Collected.header_count.Goals as goal

@@ -6,8 +6,8 @@ use Rattle.po_syntax.specs.declared.fault.PoFault.{PoFault}
 use Rattle.po_syntax.specs.declared.fault.PoFault.TheVariants.{NotUtf8, ForbiddenByte, TooLarge}
 use Rattle.po_syntax.specs.LineFaults.{LineFault}
 use Rattle.po_syntax.specs.PoText.{IsSmall, SpellsText, without_byte_order_mark}
-use Rattle.po_syntax.specs.Spelling.{HoldsItems}
-use Rattle.po_syntax.specs.TextItem.{TextItem, line_of}
+use Rattle.po_syntax.specs.Line.{HoldsItems}
+use Rattle.po_syntax.specs.Item.{TextItem, line_of}
 
 -- so many LFs are in the text
 pub data HasFeeds : List ℕ → ℕ → Type 0 where

@@ -1,7 +1,6 @@
 -- Whether an entry has a translation, and the statistics of a catalogue (manual, "Invoking the msgfmt
 -- Program": `--statistics`).
-use Rattle.std.specs.Prelude.{ℕ, ◌+◌, Bool, not, ◌&&◌, ◌==◌, List, [], ◌++◌, length, filter, codes, decimal}
-use Rattle.std.specs.Prelude.{if◌then◌else◌}
+use Rattle.std.specs.Prelude.{ℕ, ◌+◌, Bool, not, ◌&&◌, ◌==◌, List, [], ◌++◌, length, filter, codes, decimal, if◌then◌else◌}
 use Rattle.po_entry.specs.TextEntry.{TextEntry}
 use Rattle.po_entry.specs.Header.{is_header, first_form}
 use Rattle.po_entry.specs.Joined.{is_live}

@@ -3,7 +3,7 @@
 use Rattle.std.specs.Prelude.{◌≡◌, ℕ, Bool, List, map, filter, All}
 use Rattle.mo_file.specs.Prelude.{query_key, Message}
 use Rattle.po_entry.specs.Prelude.{TextEntry, IsCatalogueEntry, is_live, InputEntry, is_counted, has_translation, ReadsText}
-use Rattle.po_compile.specs.Compiled.{is_compiled, message_of}
+use Rattle.po_compile.specs.Compiling.{is_compiled, message_of}
 use Rattle.po_compile.specs.declared.status.Status.{Status}
 use Rattle.std.specs.List.{AllZip}
 use Rattle.po_compile.specs.declared.messages.CompiledMessage.{CompiledMessage}

@@ -1,4 +1,4 @@
--- What the fault of a duplicate says of the list that has it (manual, "The Format of PO Files").
+-- What laws say of entries and of their messages (manual, "The Format of PO Files").
 use Rattle.std.specs.Prelude.{◌≡◌, ◌≢◌, false, List, ◌∷◌, ◌++◌, ℕ, ◌+◌, Bool, not, ◌&&◌, nat_lt, [], map, filter, length, bytes_eq, codes, decimal}
 use Rattle.po_syntax.specs.declared.fault.PoFault.TheVariants.{Duplicate as DuplicateOf}
 use Rattle.po_entry.specs.declared.duplicate.JoinError.{JoinError}
@@ -7,7 +7,7 @@ use Rattle.po_entry.specs.Joined.{InputEntry, in_input, is_live_header, joined}
 use Rattle.std.specs.List.{list_any}
 use Rattle.po_entry.specs.TextEntry.{TextEntry}
 use Rattle.po_entry.specs.Header.{is_header, first_form}
-use Rattle.po_entry.specs.Statistics.{stats_of}
+use Rattle.po_entry.specs.Stats.{stats_of}
 use Rattle.po_entry.specs.declared.stats.Stats.{Stats}
 
 -- the fault is at an entry, and names an entry of the same message that stands before it; both are

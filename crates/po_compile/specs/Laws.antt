@@ -7,7 +7,7 @@ use Rattle.po_syntax.specs.declared.fault.PoFault.TheVariants.{TooLarge}
 use Rattle.po_entry.specs.Prelude.{TextEntry, IsEntry, IsCatalogueEntry, joined_entries, AllDiffer, ReadsDistinct}
 use Rattle.po_entry.specs.declared.duplicate.JoinError.{JoinError}
 use Rattle.po_compile.specs.Accepted.{AreAccepted, AreRead, IsTooLarge}
-use Rattle.po_compile.specs.Compiled.{compiled_list, original_of, translation_of, AreMessagesOf}
+use Rattle.po_compile.specs.Compiling.{compiled_list, original_of, translation_of, AreMessagesOf}
 use Rattle.po_compile.specs.declared.options.Options.{Options}
 
 -- an original has the key and the plural of its entry, and a translation has its forms

@@ -1,35 +1,13 @@
 -- What spells the items of a line, with a case for each kind of line and of token (manual, "The
 -- Format of PO Files").
-use Rattle.std.specs.Prelude.{ℕ, ◌^◌, ◌<◌, Bool, ◌||◌, ◌==◌, true, false, List, [], ◌∷◌, ◌++◌, All, codes}
-use Rattle.std.specs.Char.{is_ascii_alphanumeric}
-use Rattle.std.specs.Str.Parse.{IsNumeral, digits_value}
+use Rattle.std.specs.Prelude.{ℕ, Bool, ◌||◌, ◌==◌, true, false, List, [], ◌∷◌, ◌++◌, All}
 use Rattle.po_syntax.specs.declared.item.CommentKind.{CommentKind}
 use Rattle.po_syntax.specs.declared.item.CommentKind.TheVariants.{Translator, Extracted, Reference, Flags}
 use Rattle.po_syntax.specs.declared.item.Keyword.{Keyword}
-use Rattle.po_syntax.specs.declared.item.Keyword.TheVariants.{MsgCtxt, MsgId, MsgIdPlural, MsgStr, MsgStrAt}
 use Rattle.po_syntax.specs.declared.item.Marks.{Marks}
-use Rattle.po_syntax.specs.Blanks.{IsBlank, skip_blanks, FailsFirst}
-use Rattle.po_syntax.specs.Escapes.{SpellsString}
-use Rattle.po_syntax.specs.TextItem.{trim_returns, TextItem, Comment, Word, Str}
-
--- an ASCII letter, a digit or `_`
-abbrev pub is_word_byte : ℕ → Bool
-is_word_byte b = is_ascii_alphanumeric b || b == 95
-
--- The text begins with this keyword, and the rest stands after it. After `msgstr` a bracket, an
--- index and a closing bracket may follow, on the same line, with blanks before and between them. The
--- index may begin with zeros, and is at most 4,294,967,295: this project's limit.
-pub data SpellsKeyword : List ℕ → Keyword → List ℕ → Type 0 where
-  msgctxt : {rest : List ℕ} → FailsFirst is_word_byte rest → SpellsKeyword (codes "msgctxt" ++ rest) MsgCtxt rest
-  msgid : {rest : List ℕ} → FailsFirst is_word_byte rest → SpellsKeyword (codes "msgid" ++ rest) MsgId rest
-  msgid_plural : {rest : List ℕ} → FailsFirst is_word_byte rest
-      → SpellsKeyword (codes "msgid_plural" ++ rest) MsgIdPlural rest
-  msgstr : {rest : List ℕ} → FailsFirst is_word_byte rest → FailsFirst (λ b. b == 91) (skip_blanks rest)
-      → SpellsKeyword (codes "msgstr" ++ rest) MsgStr rest
-  form : (before inside digits after : List ℕ) {rest : List ℕ} → All IsBlank before → All IsBlank inside
-      → IsNumeral 10 digits → digits_value 10 digits < 2 ^ 32 → All IsBlank after
-      → SpellsKeyword (codes "msgstr" ++ (before ++ 91 ∷ (inside ++ (digits ++ (after ++ 93 ∷ rest)))))
-      (MsgStrAt (digits_value 10 digits)) rest
+use Rattle.po_syntax.specs.Token.{IsBlank, FailsFirst, SpellsKeyword}
+use Rattle.po_syntax.specs.Escape.{SpellsString}
+use Rattle.po_syntax.specs.Item.{trim_returns, TextItem, Comment, Word, Str, own_marks, previous_marks}
 
 -- keywords and strings in any order and number, with blanks or none before, between and after them
 pub data HoldsTokens (marks : Marks) (line : ℕ) : List ℕ → List TextItem → Type 0 where
@@ -51,14 +29,6 @@ pub data SpellsComment : List ℕ → CommentKind → List ℕ → Type 0 where
   reference : {rest : List ℕ} → SpellsComment (58 ∷ rest) Reference rest
   flags : {rest : List ℕ} → SpellsComment (44 ∷ rest) Flags rest
   translator : {text : List ℕ} → FailsFirst is_mark text → SpellsComment text Translator text
-
--- the marks of an entry's own lines, which begin with `#~` where it is obsolete
-abbrev pub own_marks : Bool → Marks
-own_marks obsolete = record { obsolete = obsolete; previous = false }
-
--- the marks of previous texts, whose lines begin with `#|`, or with `#~|` where `obsolete` is true
-abbrev pub previous_marks : Bool → Marks
-previous_marks obsolete = record { obsolete = obsolete; previous = true }
 
 -- The line of this number, after any blanks, holds these items: tokens, alone or after `#|`, `#~` or
 -- `#~|`; or a comment, alone or after `#~`, which leaves no mark on it. An empty line, and `#|`, `#~`

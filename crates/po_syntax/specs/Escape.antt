@@ -4,7 +4,7 @@ use Rattle.std.specs.Prelude.{◌≡◌, ◌≢◌, ◌⊎◌, ℕ, ◌<◌, ◌
 use Rattle.std.specs.Char.{is_digit}
 use Rattle.std.specs.List.{find}
 use Rattle.std.specs.Str.Parse.{IsNumeral, digits_value}
-use Rattle.po_syntax.specs.Blanks.{FailsFirst}
+use Rattle.po_syntax.specs.Token.{FailsFirst}
 
 -- no digit of the base stands first in the text
 abbrev pub NoDigitFirst : ℕ → List ℕ → Type 0

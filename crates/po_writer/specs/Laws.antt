@@ -2,17 +2,11 @@
 -- in its text (manual, "The Format of PO Files").
 use Rattle.std.specs.Prelude.{◌≡◌, ◌≢◌, ◌⊎◌, ℕ, List, [], ◌∷◌, ◌++◌, ◌+◌, Bool, true, false, Option, None, Some, codes, decimal}
 use Rattle.std.specs.List.{flat_map}
+use Rattle.po_syntax.specs.Facts.LinesWithEnds.{ContainsLines}
 use Rattle.po_entry.specs.Prelude.{Lacks, TextEntry}
 use Rattle.po_writer.specs.WrittenText.{string_line, text_lines, entry_lines}
 
 -- How a text stands after its keyword, with a case for each form (manual, "The Format of PO Files").
-
--- the lines of a text, each with the LF that ends it; the last one may have none
-pub data ContainsLines : List ℕ → List (List ℕ) → Type 0 where
-  none : ContainsLines [] []
-  last : {b : ℕ} {line : List ℕ} → Lacks 10 (b ∷ line) → ContainsLines (b ∷ line) ((b ∷ line) ∷ [])
-  ended : (line : List ℕ) {text : List ℕ} {lines : List (List ℕ)} → Lacks 10 line → ContainsLines text lines
-      → ContainsLines (line ++ 10 ∷ text) ((line ++ 10 ∷ []) ∷ lines)
 
 -- a text without LF, or whose only LF is its last byte, is one string; any other is an empty string,
 -- and then each of its lines is one, after the prefix

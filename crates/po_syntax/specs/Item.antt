@@ -1,6 +1,6 @@
 -- What contracts see of an item of a PO text: its bytes are a list, wherever they are kept (manual,
 -- "The Format of PO Files").
-use Rattle.std.specs.Prelude.{ℕ, List, map, ◌≡◌, ◌≢◌, ◌==◌, ◌∷◌, All, Contains, IsUtf8, codes}
+use Rattle.std.specs.Prelude.{ℕ, List, map, ◌≡◌, ◌≢◌, ◌==◌, ◌∷◌, All, Contains, IsUtf8, codes, Bool, true, false}
 use Rattle.po_syntax.specs.declared.item.CommentKind.{CommentKind}
 use Rattle.po_syntax.specs.declared.item.Keyword.{Keyword}
 use Rattle.po_syntax.specs.declared.item.Marks.{Marks}
@@ -9,7 +9,8 @@ use Rattle.po_syntax.specs.declared.item.SpeltBytes.TheVariants.{Plain, Escaped,
 use Rattle.po_syntax.specs.declared.item.Item.{Item}
 use Rattle.po_syntax.specs.declared.item.Item.TheVariants as code
 use Rattle.po_syntax.specs.declared.item.CommentKind.TheVariants.{Translator}
-use Rattle.po_syntax.specs.Blanks.{without_end}
+use Rattle.po_syntax.specs.Token.{without_end}
+use Rattle.std.specs.Str.{is_utf8}
 
 -- An item, with its line, counted from 1: a comment with its text, a keyword, or the bytes that a
 -- quoted string spells. A comment is by its mark a translator's (`#`), extracted (`#.`), one with
@@ -75,3 +76,32 @@ abbrev pub OfString : (List ℕ → Type 0) → TextItem → Type 0
 OfString P (Comment kind text line) = Unit {0}
 OfString P (Word keyword marks line) = Unit {0}
 OfString P (Str bytes marks line) = P bytes
+
+-- Bytes that are borrowed are UTF-8, and so are those with escapes of ASCII bytes. Of bytes with an
+-- escape above 127 nothing is said, as it may spell a part of a character.
+abbrev pub LentAreUtf8 : SpeltBytes → Type 0
+LentAreUtf8 (Plain bytes) = IsUtf8 bytes.now
+LentAreUtf8 (Escaped bytes) = IsUtf8 bytes.items
+LentAreUtf8 (Numbered bytes) = Unit {0}
+
+-- so are those of a string
+abbrev pub LendsUtf8 : Item → Type 0
+LendsUtf8 (code.Comment kind text line) = Unit {0}
+LendsUtf8 (code.Word keyword marks line) = Unit {0}
+LendsUtf8 (code.Str bytes marks line) = LentAreUtf8 bytes
+
+-- whether the bytes of a string are UTF-8, if an escape above 127 stands among them
+abbrev pub owns_utf8 : Item → Bool
+owns_utf8 (code.Comment kind text line) = true
+owns_utf8 (code.Word keyword marks line) = true
+owns_utf8 (code.Str (Plain bytes) marks line) = true
+owns_utf8 (code.Str (Escaped bytes) marks line) = true
+owns_utf8 (code.Str (Numbered bytes) marks line) = is_utf8 bytes.items
+
+-- the marks of an entry's own lines, which begin with `#~` where it is obsolete
+abbrev pub own_marks : Bool → Marks
+own_marks obsolete = record { obsolete = obsolete; previous = false }
+
+-- the marks of previous texts, whose lines begin with `#|`, or with `#~|` where `obsolete` is true
+abbrev pub previous_marks : Bool → Marks
+previous_marks obsolete = record { obsolete = obsolete; previous = true }
