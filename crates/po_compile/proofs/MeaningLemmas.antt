@@ -1,6 +1,6 @@
 -- The messages of entries mean these entries: the one message under a key is found in whatever order the
 -- messages stand, and is taken apart again.
-use Rattle.std.proofs.Common.{◌≡◌, ◌≢◌, ◌⊎◌, ℕ, ◌<◌, ◌≤◌, Bool, true, false, cond, List, [], ◌∷◌, Option, None, Some, refl, sym, ap, ap₂, ◌∙◌, inl, inr, length, get_or, arith, All, Contains, find, map, IsPermutation, ◌==◌, ◌++◌, subst, IfSome, append_assoc, option_to_list, append-nil}
+use Rattle.std.proofs.Common.{◌≡◌, ◌≢◌, ◌⊎◌, ℕ, ◌<◌, ◌≤◌, Bool, true, false, cond, List, [], ◌∷◌, Option, None, Some, refl, sym, ap, ap₂, ◌∙◌, inl, inr, length, get_or, arith, All, Contains, find, map, IsPermutation, ◌==◌, ◌++◌, subst, IfSome, option_to_list, append-nil}
 use Rattle.std.specs.Str.{bytes_eq}
 use Rattle.std.proofs.lemmas.Bool.{cases_lt, and_parts, not-true, or_parts}
 use Rattle.std.proofs.lemmas.List.{get_or_default, length-map}
@@ -20,8 +20,8 @@ use Rattle.std.proofs.lemmas.Bool.Decides.{Decides-eqb, Decides-and, Decides-lik
 use Rattle.mo_lookup.specs.Prelude.{form_at, answer, Query, can_be_key, has_no_separator, is_separator, translation_under, header_text}
 use Rattle.mo_file.proofs.CutLemmas.{first_all, plural_cut, plural_none}
 use Rattle.plural_rule.specs.Prelude.{IsRuleOf, expression_limit}
-use Rattle.po_entry.specs.Prelude.{TextEntry, quoted_texts, previous_texts, Lacks, first_form, IsEntry, is_of_message}
-use Rattle.po_syntax.specs.Facts.AllAppend.{All-left, All-right}
+use Rattle.po_entry.specs.Prelude.{TextEntry, Lacks, first_form, IsEntry, is_of_message}
+use Rattle.po_entry.proofs.QuotedParts.{quoted_parts}
 use Rattle.po_syntax.specs.Prelude.{IsText}
 use Rattle.po_compile.specs.Prelude.{original_of, translation_of, message_of, AreMessagesOf, plural_part, header_of, MessagesMeanEntries, MessagesHaveParts, MessagesDiffer, TextsComeBack}
 use Rattle.po_compile.proofs.TextLemmas.{context_back, id_back, key_of-plural_part, query_key_lacks, query_key_is_one, slice_split-join}
@@ -117,25 +117,15 @@ pub record LacksSeparators (entry : TextEntry) : Type 0 where
 
 pub entry_lacks_separators : (entry : TextEntry) → IsEntry entry → LacksSeparators entry
 entry_lacks_separators entry valid =
-    let NoNul : List ℕ → Type 0 = Lacks 0 in
-    let previous = previous_texts entry.previous in
-    let context = option_to_list entry.context in
-    let plural = option_to_list entry.plural in
-    let after_id = plural ++ entry.forms in
-    let own = context ++ (entry.id ∷ after_id) in
-    let split : quoted_texts entry ≡ previous ++ own = simp append_assoc in
-    let all : All NoNul (previous ++ own) =
-    All-weaker IsText NoNul (λ text t. t.no_nul) (previous ++ own) (subst (All IsText) split valid.quoted_texts) in
-    let texts = All-right NoNul previous own all in
-    let with_id = All-right NoNul context (entry.id ∷ after_id) texts in
-    let others = All-tail NoNul entry.id after_id with_id in
+    let parts = quoted_parts IsText entry valid.quoted_texts in
+    let lacks = All-weaker IsText (Lacks 0) (λ text t. t.no_nul) in
     record {
-      context_nul = optional NoNul entry.context (All-left NoNul context (entry.id ∷ after_id) texts);
+      context_nul = optional (Lacks 0) entry.context (lacks (option_to_list entry.context) parts.context);
       context_eot = valid.context;
-      id_nul = All-head NoNul entry.id after_id with_id;
+      id_nul = All-head (Lacks 0) entry.id [] (lacks (entry.id ∷ []) parts.id);
       id_eot = valid.id;
-      plural_nul = optional NoNul entry.plural (All-left NoNul plural entry.forms others);
-      forms_nul = All-right NoNul plural entry.forms others;
+      plural_nul = optional (Lacks 0) entry.plural (lacks (option_to_list entry.plural) parts.plural);
+      forms_nul = lacks entry.forms parts.forms;
       some_form = valid.some_form;
     }
 

@@ -1,12 +1,13 @@
 -- An entry stays one when its forms are emptied, or its previous texts go.
-use Rattle.std.proofs.Common.{◌≡◌, ℕ, List, [], ◌∷◌, ◌++◌, map, append_assoc}
+use Rattle.std.proofs.Common.{ℕ, List, [], ◌∷◌, ◌++◌, map}
 use Rattle.std.specs.Prelude.{All, option_to_list}
 use Rattle.std.proofs.lemmas.List.Elements.{All-nil, All-cons, All-append}
 use Rattle.std.proofs.lemmas.List.{length-map}
 use Rattle.std.proofs.lemmas.Str.{IsUtf8-nil}
-use Rattle.po_entry.specs.Prelude.{TextEntry, quoted_texts, previous_texts, no_previous, IsEntry}
+use Rattle.po_entry.specs.Prelude.{TextEntry, previous_texts, no_previous, IsEntry}
 use Rattle.po_syntax.specs.Prelude.{IsText}
-use Rattle.po_syntax.specs.Facts.AllAppend.{All-left, All-right}
+use Rattle.po_syntax.specs.Facts.AllAppend.{All-left}
+use Rattle.po_entry.proofs.QuotedParts.{quoted_parts}
 
 -- the texts of the quoted strings but the forms
 abbrev unformed_texts : TextEntry → List (List ℕ)
@@ -37,9 +38,12 @@ IsEntry-emptied entry h = record {
 
 pub IsEntry-without_previous : (entry : TextEntry) → IsEntry entry → IsEntry (record entry { previous = no_previous })
 IsEntry-without_previous entry h = record {
-  quoted_texts = All-right IsText (previous_texts entry.previous)
-      (option_to_list entry.context ++ (entry.id ∷ []) ++ option_to_list entry.plural ++ entry.forms)
-      (rw joined h.quoted_texts);
+  quoted_texts =
+      let parts = quoted_parts IsText entry h.quoted_texts in
+      All-append IsText ((option_to_list entry.context ++ (entry.id ∷ [])) ++ option_to_list entry.plural) entry.forms
+      (All-append IsText (option_to_list entry.context ++ (entry.id ∷ [])) (option_to_list entry.plural)
+      (All-append IsText (option_to_list entry.context) (entry.id ∷ []) parts.context parts.id) parts.plural)
+      parts.forms;
   comments = h.comments;
   extracted = h.extracted;
   references = h.references;
@@ -49,8 +53,4 @@ IsEntry-without_previous entry h = record {
   id = h.id;
   some_form = h.some_form;
   one_form = h.one_form;
-} where
-  joined : previous_texts entry.previous
-      ++ (option_to_list entry.context ++ (entry.id ∷ []) ++ option_to_list entry.plural ++ entry.forms)
-      ≡ quoted_texts entry
-  joined = simp append_assoc
+}

@@ -7,7 +7,7 @@ use Rattle.std.proofs.lemmas.Bool.{false≢true, ne_eqb}
 use Rattle.std.proofs.lemmas.List.Elements.{All-head, All-tail, All-append, All-nil, All-cons}
 use Rattle.std.proofs.lemmas.List.Splits.{slice_split_none, slice_split_at}
 use Rattle.po_entry.specs.Prelude.{Lacks, TextEntry, quoted_texts, length_bytes, measured, texts_in, EndsContext, PluralFollows, after_nul, context_in, context_length, entry_of, forms_in, further_texts, has_no_head, head_bytes, head_parts, is_empty_list, key_bytes, optional_bytes, optional_in, own_bytes, part_at, plural_in, previous_in, row_of, texts_after, CanLie}
-use Rattle.po_syntax.specs.Facts.AllAppend.{All-left, All-right}
+use Rattle.po_entry.proofs.QuotedParts.{quoted_parts}
 use Rattle.po_entry.proofs.TextListLemmas.{no_texts, texts_laid}
 
 abbrev IsShort : List ℕ → Type 0
@@ -189,9 +189,8 @@ head_means entry fits = by_cases (has_no_head entry) refl fits
 -- the texts after the key have no NUL
 further_lack : (entry : TextEntry) → All (Lacks 0) (quoted_texts entry) → All (Lacks 0) (further_texts entry)
 further_lack entry all =
-    let unformed = All-left (Lacks 0) _ entry.forms all in
-    All-append (Lacks 0) (option_to_list entry.plural) entry.forms
-    (All-right (Lacks 0) _ (option_to_list entry.plural) unformed) (All-right (Lacks 0) _ entry.forms all)
+    let parts = quoted_parts (Lacks 0) entry all in
+    All-append (Lacks 0) (option_to_list entry.plural) entry.forms parts.plural parts.forms
 
 some_further : (entry : TextEntry) → 0 < length entry.forms → 0 < length (further_texts entry)
 some_further entry some = omega (arith, some, length-append (option_to_list entry.plural) entry.forms)

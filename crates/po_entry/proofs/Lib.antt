@@ -1,5 +1,6 @@
 -- The lemmas in reading order: each module stands on those above it.
 pub mod Lists
+pub mod QuotedParts
 pub mod Changes
 pub mod Checks
 pub mod Headers

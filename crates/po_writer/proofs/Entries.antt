@@ -8,10 +8,11 @@ use Rattle.std.proofs.lemmas.List.Sums.{AllPass-from_list_all}
 use Rattle.po_syntax.specs.declared.item.CommentKind.{CommentKind}
 use Rattle.po_syntax.specs.declared.item.CommentKind.TheVariants.{Translator, Extracted, Reference, Flags}
 use Rattle.po_syntax.specs.Prelude.{TextItem, IsText, IsComment}
-use Rattle.po_entry.specs.Prelude.{TextEntry, with_line, previous_texts, IsTranslatorComment, IsReference, IsFlag, IsEntry, texts_of, references_of, all_listed_flags, fuzzy_of, flags_of, listed_references, listed_flags, is_fuzzy_flag, with_flag, CommentText, with_head, SpellsHead, SpellsEntry}
+use Rattle.po_entry.specs.Prelude.{TextEntry, with_line, IsTranslatorComment, IsReference, IsFlag, IsEntry, texts_of, references_of, all_listed_flags, fuzzy_of, flags_of, listed_references, listed_flags, is_fuzzy_flag, with_flag, CommentText, with_head, SpellsHead, SpellsEntry}
 use Rattle.po_syntax.specs.Facts.AllAppend.{All-left, All-right}
 use Rattle.po_entry.specs.Spelling.{own_marks, previous_marks, entry}
 use Rattle.po_entry.proofs.Checks.{on_option}
+use Rattle.po_entry.proofs.QuotedParts.{quoted_parts}
 use Rattle.po_writer.specs.Prelude.{all_flags, comment_lines, elements_line, previous_lines, previous_prefix, own_lines, own_prefix, entry_lines}
 use Rattle.po_writer.proofs.Utf8.{line-append, plain_line}
 use Rattle.po_writer.proofs.Blocks.{Block, two_blocks, weaker_block}
@@ -122,22 +123,14 @@ own_prefix_line : (obsolete : Bool) → IsLinePrefix (own_prefix obsolete) (own_
 own_prefix_line true = record { marked = own_obsolete; line = plain_line (codes "#~ ") refl; low = omega arith }
 own_prefix_line false = record { marked = no_prefix; line = plain_line [] refl; low = tt }
 
-both : (xs ys : List (List ℕ)) → All IsText (xs ++ ys) → All IsText xs × All IsText ys
-both xs ys h = (All-left IsText xs ys h, All-right IsText xs ys h)
-
 -- an entry's lines
 pub entry_block : (e : TextEntry) → IsEntry e → length (entry_lines e) < 2 ^ 32 → Block (EntryPart e) (entry_lines e)
 entry_block e h few =
     let fs = all_flags e.fuzzy e.flags in
+    let parts = quoted_parts IsText e h.quoted_texts in
     let before = option_to_list e.previous.context ++ option_to_list e.previous.id in
-    let C = option_to_list e.context in
-    let forms = both (((previous_texts e.previous ++ C) ++ (e.id ∷ [])) ++ option_to_list e.plural) e.forms
-    h.quoted_texts in
-    let plural = both ((previous_texts e.previous ++ C) ++ (e.id ∷ [])) (option_to_list e.plural) forms.0 in
-    let id = both (previous_texts e.previous ++ C) (e.id ∷ []) plural.0 in
-    let context = both (previous_texts e.previous) C id.0 in
-    let previous = both before (option_to_list e.previous.plural) context.0 in
-    let first = both (option_to_list e.previous.context) (option_to_list e.previous.id) previous.0 in
+    let prior = option_to_list e.previous.plural in
+    let first = All-left IsText before prior parts.previous in
     let some = λ (text : Option (List ℕ)) (all : All IsText (option_to_list text)). (on_option IsText text).0 all in
     let comments = comments_block Translator (codes "#") e.comments
     (All-weaker IsTranslatorComment (IsMarked Translator (codes "#")) translator_marked e.comments h.comments) in
@@ -150,10 +143,12 @@ entry_block e h few =
     (plain_line (codes "#, ") refl) (λ t. omega arith) (plain_line (codes ", ") refl)
     (All-weaker IsFlagElement IsListed flag_listed fs (flag_elements e h)) in
     let head = previous_lines_block (previous_prefix e.obsolete) e.obsolete e.previous (previous_prefix_line e.obsolete)
-    (some e.previous.context first.0) (some e.previous.id first.1) (some e.previous.plural previous.1) in
-    let own = body_block (own_prefix e.obsolete) e (own_prefix_line e.obsolete) (some e.context context.1)
-    (All-head IsText e.id [] id.1)
-    (record { some = h.some_form; one = h.one_form; texts = forms.1; plural_text = some e.plural plural.1 })
+    (some e.previous.context (All-left IsText (option_to_list e.previous.context) (option_to_list e.previous.id) first))
+    (some e.previous.id (All-right IsText (option_to_list e.previous.context) (option_to_list e.previous.id) first))
+    (some e.previous.plural (All-right IsText before prior parts.previous)) in
+    let own = body_block (own_prefix e.obsolete) e (own_prefix_line e.obsolete) (some e.context parts.context)
+    (All-head IsText e.id [] parts.id)
+    (record { some = h.some_form; one = h.one_form; texts = parts.forms; plural_text = some e.plural parts.plural })
     (omega (arith, few, length-append (head_lines e) (own_lines (own_prefix e.obsolete) e))) in
     let all : Block (HeadPart (entry_comments e) (all_previous e.previous)) _ =
     weaker_block (head_blocks (head_blocks (head_blocks (head_blocks comments extracted) references) flags) head)
