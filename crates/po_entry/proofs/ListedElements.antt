@@ -3,7 +3,7 @@ use Rattle.std.proofs.Common.{◌≡◌, ◌==◌, ◌≢◌, inl, inr, ◌∙�
 use Rattle.std.specs.Prelude.{◌↔◌, Contains}
 use Rattle.std.specs.List.{list_any, prefix_len}
 use Rattle.std.proofs.lemmas.Bool.{cases_Bool, or_from, or_left, or_right, cond-true, cond-false, eqb-true, eqb-false, ne_eqb, both_ways, false_from_ne_true}
-use Rattle.std.proofs.lemmas.List.Elements.{All-append, All-cons, All-nil, Contains-append_left, Contains-push, Contains-push_cases}
+use Rattle.std.proofs.lemmas.List.Elements.{All-append, All-nil, All-push, Contains-append_left, Contains-push, Contains-push_cases}
 use Rattle.std.proofs.lemmas.List.Folds.{list_any_at}
 use Rattle.std.proofs.lemmas.List.Splits.{slice_split_none, slice_split_at, slice_split-cons_yes}
 use Rattle.std.proofs.lemmas.List.Sums.{fold_push}
@@ -36,40 +36,24 @@ some_kept b element elements =
 some_element : (b : ℕ) (element : List ℕ) → (b ∷ element) ≡ [] → ⊥
 some_element b element e = cc
 
-before_end : (prefix : List ℕ) → All (λ b. is_blank b ≡ false) prefix → ListsReferences prefix (kept prefix [])
-before_end [] all = no_text
-before_end (b ∷ prefix) all =
-    subst (ListsReferences (b ∷ prefix)) (sym (some_kept b prefix []))
-    (subst (λ t. ListsReferences t ((b ∷ prefix) ∷ [])) (append-nil (b ∷ prefix))
-    (reference (some_element b prefix)
-    (λ k d below. no_blank (get_or (b ∷ prefix) k d) (all k d below)) tt no_text))
+-- some elements that a text lists
+abbrev Listed : List ℕ → Type 0
+Listed text = (elements : List (List ℕ)) × ListsReferences text elements
 
-before_blank : (prefix : List ℕ) (b : ℕ) (text : List ℕ) (elements : List (List ℕ))
-    → All (λ b. is_blank b ≡ false) prefix → is_blank b ≡ true → ListsReferences text elements
-    → ListsReferences (prefix ++ b ∷ text) (kept prefix elements)
-before_blank [] b text elements all e later = blank e later
-before_blank (a ∷ prefix) b text elements all e later =
-    subst (ListsReferences ((a ∷ prefix) ++ b ∷ text)) (sym (some_kept a prefix elements))
-    (reference (some_element a prefix) (λ k d below. no_blank (get_or (a ∷ prefix) k d) (all k d below)) e
-    (blank e later))
+after_element : (element rest : List ℕ) → All (λ b. IsBlank b → ⊥) element → EndsReference rest → Listed rest
+    → Listed (element ++ rest)
+after_element [] rest all ends later = later
+after_element (b ∷ element) rest all ends later =
+    ((b ∷ element) ∷ later.0, reference (some_element b element) all ends later.1)
 
-lists : (text prefix : List ℕ) → All (λ b. is_blank b ≡ false) prefix
-    → ListsReferences (prefix ++ text) (listed_references (prefix ++ text))
-lists [] prefix all =
-    let text : prefix ++ [] ≡ prefix = append-nil prefix in
-    let cut = slice_split_none is_blank prefix all in
-    subst (λ t. ListsReferences t (listed_references t)) (sym text)
-    (subst (λ l. ListsReferences prefix (filter is_not_empty l)) (sym cut) (before_end prefix all))
+lists : (text prefix : List ℕ) → All (λ b. IsBlank b → ⊥) prefix → Listed (prefix ++ text)
+lists [] prefix all = after_element prefix [] all tt ([], no_text)
 lists (b ∷ text) prefix all =
     elim (cases_Bool (is_blank b)) [
-      | inl e ↦ subst (λ l. ListsReferences (prefix ++ b ∷ text) (filter is_not_empty l))
-          (sym (slice_split_at is_blank prefix b text all e))
-          (before_blank prefix b text (listed_references text) all e
-          (lists text [] (All-nil (λ c. is_blank c ≡ false))))
-      | inr e ↦ let longer = All-append (λ c. is_blank c ≡ false) prefix (b ∷ []) all
-          (All-cons (λ c. is_blank c ≡ false) b [] e (All-nil (λ c. is_blank c ≡ false))) in
-          subst (λ t. ListsReferences t (listed_references t)) (append_assoc prefix (b ∷ []) text)
-          (lists text (prefix ++ b ∷ []) longer)
+      | inl e ↦ let later = lists text [] (All-nil (λ c. IsBlank c → ⊥)) in
+          after_element prefix (b ∷ text) all e (later.0, blank e later.1)
+      | inr e ↦ subst Listed (append_assoc prefix (b ∷ []) text)
+          (lists text (prefix ++ b ∷ []) (All-push (λ c. IsBlank c → ⊥) prefix b all (no_blank b e)))
     ]
 
 elements_prefix : (element : List ℕ) → element ≢ [] → (elements : List (List ℕ))
@@ -99,8 +83,11 @@ are_elements (reference {element = element} {rest = rest} some all ends later) =
 
 pub references_listed : (text : List ℕ) (references : List (List ℕ))
     → (references ≡ listed_references text) ↔ ListsReferences text references
-references_listed text references =
-    (λ e. subst (ListsReferences text) (sym e) (lists text [] (All-nil (λ c. is_blank c ≡ false))), λ h. are_elements h)
+references_listed text references = (
+  λ e. let found = lists text [] (All-nil (λ c. IsBlank c → ⊥)) in
+      subst (ListsReferences text) (are_elements found.1 ∙ sym e) found.1,
+  λ h. are_elements h,
+)
 
 -- texts without the blanks at their ends
 
@@ -153,38 +140,26 @@ kept_append [] elements = refl
 kept_append (b ∷ element) elements =
     ap (λ l. l ++ elements) (some_kept b element []) ∙ sym (some_kept b element elements)
 
-comma_says : (b : ℕ) → (b == 44) ≡ true → b ≡ 44
-comma_says b e = eqb-true b 44 e
-
-lacks_comma : (text : List ℕ) → All (λ b. (b == 44) ≡ false) text → Lacks 44 text
-lacks_comma text all = λ k d below e. eqb-false _ 44 (all k d below) e
-
 no_comma : (text : List ℕ) → Lacks 44 text → All (λ b. (b == 44) ≡ false) text
 no_comma text lacks = λ k d below. ne_eqb _ 44 (lacks k d below)
 
 abbrev flags_in : List (List ℕ) → List (List ℕ)
 flags_in texts = filter is_not_empty (map trimmed texts)
 
-list_flags : (text prefix : List ℕ) → All (λ b. (b == 44) ≡ false) prefix
-    → ListsFlags (prefix ++ text) (listed_flags (prefix ++ text))
-list_flags [] prefix all =
-    let text : prefix ++ [] ≡ prefix = append-nil prefix in
-    let cut = slice_split_none (λ b. b == 44) prefix all in
-    subst (λ t. ListsFlags t (listed_flags t)) (sym text)
-    (subst (λ l. ListsFlags prefix (flags_in l)) (sym cut) (last (lacks_comma prefix all) (names prefix)))
-list_flags (b ∷ text) prefix all =
-    elim (cases_Bool ((b == 44))) [
-      | inl e ↦ let later = list_flags text [] (All-nil (λ c. (c == 44) ≡ false)) in
-          let here = more (lacks_comma prefix all) (names prefix) later in
-          subst (λ l. ListsFlags (prefix ++ b ∷ text) (flags_in l))
-          (sym (slice_split_at (λ b. b == 44) prefix b text all e))
-          (subst (λ a. ListsFlags (prefix ++ a ∷ text) (kept (trimmed prefix) (listed_flags text)))
-          (sym (comma_says b e)) (subst (ListsFlags (prefix ++ 44 ∷ text))
-          (kept_append (trimmed prefix) (listed_flags text)) here))
-      | inr e ↦ let longer = All-append (λ c. (c == 44) ≡ false) prefix (b ∷ []) all
-          (All-cons (λ c. (c == 44) ≡ false) b [] e (All-nil (λ c. (c == 44) ≡ false))) in
-          subst (λ t. ListsFlags t (listed_flags t)) (append_assoc prefix (b ∷ []) text)
-          (list_flags text (prefix ++ b ∷ []) longer)
+-- some flags that a text lists
+abbrev Named : List ℕ → Type 0
+Named text = (flags : List (List ℕ)) × ListsFlags text flags
+
+list_flags : (text prefix : List ℕ) → Lacks 44 prefix → Named (prefix ++ text)
+list_flags [] prefix lacks =
+    subst Named (sym (append-nil prefix)) (kept (trimmed prefix) [], last lacks (names prefix))
+list_flags (b ∷ text) prefix lacks =
+    elim (cases_Bool (b == 44)) [
+      | inl e ↦ let later = list_flags text [] (All-nil (λ c. c ≢ 44)) in
+          subst (λ a. Named (prefix ++ a ∷ text)) (sym (eqb-true b 44 e))
+          (kept (trimmed prefix) [] ++ later.0, more lacks (names prefix) later.1)
+      | inr e ↦ subst Named (append_assoc prefix (b ∷ []) text)
+          (list_flags text (prefix ++ b ∷ []) (All-push (λ c. c ≢ 44) prefix b lacks (eqb-false b 44 e)))
     ]
 
 named_is : {text : List ℕ} {here : List (List ℕ)} → NamesFlag text here → here ≡ kept (trimmed text) []
@@ -201,8 +176,11 @@ are_flags (more {text = text} {rest = rest} {here = here} {later = later} lacks 
     ∙ sym (ap flags_in (slice_split_at (λ b. b == 44) text 44 rest (no_comma text lacks) refl))
 
 pub flags_listed : (text : List ℕ) (flags : List (List ℕ)) → (flags ≡ listed_flags text) ↔ ListsFlags text flags
-flags_listed text flags =
-    (λ e. subst (ListsFlags text) (sym e) (list_flags text [] (All-nil (λ c. (c == 44) ≡ false))), λ h. are_flags h)
+flags_listed text flags = (
+  λ e. let found = list_flags text [] (All-nil (λ c. c ≢ 44)) in
+      subst (ListsFlags text) (are_flags found.1 ∙ sym e) found.1,
+  λ h. are_flags h,
+)
 
 -- the flags that are kept
 
@@ -255,35 +233,28 @@ are_named (repeated {named = named} {kept = flags} {flag = new} before there) = 
 abbrev keep : List (List ℕ) → List (List ℕ)
 keep named = fold with_flag [] named
 
-one_more : (named flags : List (List ℕ)) (element : List ℕ) → KeepsFlags named flags
-    → KeepsFlags (named ++ element ∷ []) (with_flag flags element)
+-- some flags that are kept of those that are named
+abbrev Kept : List (List ℕ) → Type 0
+Kept named = (flags : List (List ℕ)) × KeepsFlags named flags
+
+one_more : (named flags : List (List ℕ)) (element : List ℕ) → KeepsFlags named flags → Kept (named ++ element ∷ [])
 one_more named flags element before =
     elim (cases_Bool (is_fuzzy_flag element)) [
       | inl e ↦ let is = (bytes_eq-Decides element (codes "fuzzy")).0 e in
-          subst (KeepsFlags (named ++ element ∷ []))
-          (sym (cond-true (is_fuzzy_flag element || list_any (bytes_eq element) flags) flags (flags ++ element ∷ [])
-          (or_left _ _ e)))
-          (subst (λ w. KeepsFlags (named ++ w ∷ []) flags) (sym is) (fuzzy before))
+          (flags, subst (λ w. KeepsFlags (named ++ w ∷ []) flags) (sym is) (fuzzy before))
       | inr other ↦ elim (cases_Bool (list_any (bytes_eq element) flags)) [
-        | inl e ↦ subst (KeepsFlags (named ++ element ∷ []))
-            (sym (cond-true (is_fuzzy_flag element || list_any (bytes_eq element) flags) flags (flags ++ element ∷ [])
-            (or_right _ _ e)))
-            (repeated before ((are_named before element).0 (among_says flags element e)))
+        | inl e ↦ (flags, repeated before ((are_named before element).0 (among_says flags element e)))
         | inr absent ↦ let not_fuzzy : element ≢ codes "fuzzy" =
-            λ is. both_ways (is_fuzzy_flag element) other ((bytes_eq-Decides element (codes "fuzzy")).1 is) in
-            subst (KeepsFlags (named ++ element ∷ []))
-            (sym (cond-false (is_fuzzy_flag element || list_any (bytes_eq element) flags) flags
-            (flags ++ element ∷ []) (or_from _ _ other absent)))
-            (first before not_fuzzy (λ there. both_ways (list_any (bytes_eq element) flags) absent
-            (among_passes flags element ((are_named before element).1 there not_fuzzy))))
+            λ is. both_ways (is_fuzzy_flag element) other ((bytes_eq-Decides element (codes "fuzzy")).1 is) in (
+              flags ++ element ∷ [],
+              first before not_fuzzy (λ there. both_ways (list_any (bytes_eq element) flags) absent
+              (among_passes flags element ((are_named before element).1 there not_fuzzy))),
+            )
       ]
     ]
 
-keeps : (named : List (List ℕ)) → KeepsFlags named (keep named)
-keeps =
-    from_end (λ named. KeepsFlags named (keep named)) none
-    (λ named element before. subst (KeepsFlags (named ++ element ∷ [])) (sym (fold_push with_flag [] named element))
-    (one_more named (keep named) element before))
+keeps : (named : List (List ℕ)) → Kept named
+keeps = from_end Kept ([], none) (λ named element before. one_more named before.0 element before.1)
 
 kept_once : {named flags : List (List ℕ)} → KeepsFlags named flags → flags ≡ keep named
 kept_once none = refl
@@ -312,6 +283,7 @@ kept_once (repeated {named = named} {kept = flags} {flag = element} before there
 pub flags_kept : (comment_texts : List CommentText) (flags : List (List ℕ))
     → (flags ≡ flags_of comment_texts) ↔ KeepsFlags (all_listed_flags comment_texts) flags
 flags_kept comment_texts flags = (
-  λ e. subst (KeepsFlags (all_listed_flags comment_texts)) (sym e) (keeps (all_listed_flags comment_texts)),
+  λ e. let found = keeps (all_listed_flags comment_texts) in
+      subst (KeepsFlags (all_listed_flags comment_texts)) (kept_once found.1 ∙ sym e) found.1,
   λ h. kept_once h,
 )
