@@ -1,5 +1,5 @@
--- What the reader comes to is what items spell: what is left at each place completes the entry that was begun.
-use Rattle.std.proofs.Common.{◌≡◌, ℕ, ◌+◌, ◌<◌, Bool, true, false, ◌==◌, nat_lt, List, [], ◌∷◌, ◌++◌, Option, append_assoc, append-nil, refl, sym, ap, subst, subst₂, ◌∙◌, inl, inr, ◌⊎◌, arith}
+-- What the reader comes to is what items spell: each place awaits what makes, with the items before it, a whole list.
+use Rattle.std.proofs.Common.{◌≡◌, ℕ, ◌+◌, ◌<◌, Bool, true, false, ◌==◌, nat_lt, List, [], ◌∷◌, ◌++◌, Option, None, Some, append_assoc, append-nil, refl, sym, ap, subst, ◌∙◌, inl, inr, ◌⊎◌, arith}
 use Rattle.std.specs.Prelude.{if◌then◌else◌}
 use Rattle.std.specs.Bool.{beq}
 use Rattle.std.specs.Cmp.{booleans_Decides}
@@ -14,7 +14,7 @@ use Rattle.po_syntax.specs.Item.{Comment, Word, Str}
 use Rattle.po_entry.specs.Prelude.{TextEntry, CommentText, PreviousText, rank, with_head}
 use Rattle.po_entry.specs.Spelling as spell
 use Rattle.po_entry.specs.Spelling.{own_marks, previous_marks}
-use Rattle.po_reader.specs.Internal.Stage.{SoFar, Wanted, Id, Translation, Form, Gap, InHead, Before, AfterForm, Stage, Between, In, Stop, Entries, Fault, no_lines, only, with_own, with_text, with_entry}
+use Rattle.po_reader.specs.Internal.Stage.{SoFar, Wanted, Id, Translation, Form, Gap, InHead, Before, AfterForm, Stage, Between, In, Stop, Entries, Fault, no_lines, only, with_own, with_text, with_entry, with_comment, with_previous_text}
 use Rattle.po_reader.specs.Internal.Turn.{turn, turn_head, turn_own, turn_gap, opened, closed, with_keyword, comes_to, same_marks, is_form, is_wanted, unwanted, stray_string}
 use Rattle.po_reader.proofs.Turns.{never, same_marks_true}
 use Rattle.po_reader.proofs.PreviousOrder.{Rise, keywords, rise_order}
@@ -34,228 +34,133 @@ Completes (Form index) before items body =
     (form : List ℕ) × (forms : List (List ℕ)) × spell.SpellsForms before.obsolete index items (form ∷ forms)
     × (body ≡ record before { forms = before.forms ++ form ∷ forms })
 
--- what is left completes the entry, and then come others
-record OwnLeft (read : SoFar) (wanted : Wanted) (items : List TextItem) (entries : List TextEntry) : Type 0 where
-  own : List TextItem
-  rest : List TextItem
-  body : TextEntry
-  more : List TextEntry
-  split : items ≡ own ++ rest
-  completes : Completes wanted read.own own body
-  after : spell.SpellsEntries rest more
-  all : entries ≡ read.entries ++ with_head read.comment_texts read.previous body ∷ more
+-- From a place on, Whole says what items and entries make, with what was read, a whole list.
 
--- only comments are left; or the rest of a head, own lines, and other entries
-data HeadLeft (read : SoFar) (above : ℕ) : List TextItem → List TextEntry → Type 0 where
-  over : {items : List TextItem} {comment_texts : List CommentText} {entries : List TextEntry}
-      → spell.SpellsHead items comment_texts [] → above ≡ 0 → entries ≡ read.entries → HeadLeft read above items entries
-  entry : {items head own rest : List TextItem} {comment_texts : List CommentText} {previous : List PreviousText}
-      {body : TextEntry} {more entries : List TextEntry}
-      → spell.SpellsHead head comment_texts previous → Rise above (keywords previous) → spell.SpellsBody own body
-      → spell.SpellsEntries rest more → items ≡ head ++ (own ++ rest)
-      → entries ≡ read.entries ++ with_head (read.comment_texts ++ comment_texts) (read.previous ++ previous) body
-      ∷ more → HeadLeft read above items entries
+-- own lines are awaited that complete the entry, and then others
+abbrev AwaitsOwn : (List TextItem → List TextEntry → Type 0) → SoFar → Wanted → Type 0
+AwaitsOwn Whole read wanted =
+    (own rest : List TextItem) (body : TextEntry) (more : List TextEntry) → Completes wanted read.own own body
+    → spell.SpellsEntries rest more
+    → Whole (own ++ rest) (read.entries ++ with_head read.comment_texts read.previous body ∷ more)
 
-abbrev GapLeft : Gap → List TextItem → List TextEntry → Type 0
-GapLeft (InHead read above) items entries = HeadLeft read above items entries
-GapLeft (Before read wanted) items entries = OwnLeft read wanted items entries
-GapLeft (AfterForm read index) items entries =
-    OwnLeft read (Form index) items entries ⊎ HeadLeft (with_entry read) 0 items entries
+-- comments are awaited that are the last items; or the rest of a head, own lines, and other entries
+record AwaitsHead (Whole : List TextItem → List TextEntry → Type 0) (read : SoFar) (above : ℕ) : Type 0 where
+  over : (items : List TextItem) (comment_texts : List CommentText) → spell.SpellsHead items comment_texts []
+      → above ≡ 0 → Whole items read.entries
+  entry : (head own rest : List TextItem) (comment_texts : List CommentText) (previous : List PreviousText)
+      (body : TextEntry) (more : List TextEntry) → spell.SpellsHead head comment_texts previous
+      → Rise above (keywords previous) → spell.SpellsBody own body → spell.SpellsEntries rest more
+      → Whole (head ++ (own ++ rest))
+      (read.entries ++ with_head (read.comment_texts ++ comment_texts) (read.previous ++ previous) body ∷ more)
+
+abbrev AwaitsGap : (List TextItem → List TextEntry → Type 0) → Gap → Type 0
+AwaitsGap Whole (InHead read above) = AwaitsHead Whole read above
+AwaitsGap Whole (Before read wanted) = AwaitsOwn Whole read wanted
+AwaitsGap Whole (AfterForm read index) = AwaitsOwn Whole read (Form index) × AwaitsHead Whole (with_entry read) 0
 
 -- the strings that are left of a text, one at least where it has none yet
 abbrev StringsLeft : Bool → Marks → List TextItem → List ℕ → Type 0
 StringsLeft some marks own bytes = spell.SpellsStrings marks own bytes ⊎ ((some ≡ true) × (own ≡ []) × (bytes ≡ []))
 
-abbrev Left : Stage → List TextItem → List TextEntry → Type 0
-Left (Between gap) items entries = GapLeft gap items entries
-Left (In read keyword marks some text) items entries =
-    (own : List TextItem) × (rest : List TextItem) × (bytes : List ℕ) × (items ≡ own ++ rest)
-    × StringsLeft some marks own bytes × GapLeft (closed read keyword marks (text ++ bytes)) rest entries
-Left (Stop fault line) items entries = ⊥
+abbrev Awaits : (List TextItem → List TextEntry → Type 0) → Stage → Type 0
+Awaits Whole (Between gap) = AwaitsGap Whole gap
+Awaits Whole (In read keyword marks some text) =
+    (own : List TextItem) (bytes : List ℕ) → StringsLeft some marks own bytes
+    → AwaitsGap (λ items. Whole (own ++ items)) (closed read keyword marks (text ++ bytes))
+Awaits Whole (Stop fault line) = Unit {0}
 
--- a whole text that is left after its keyword
-text_left : (read : SoFar) (keyword : Keyword) (marks : Marks) (line : ℕ) (items : List TextItem)
-    (entries : List TextEntry) → Left (In read keyword marks false []) items entries
-    → (own : List TextItem) × (rest : List TextItem) × (text : List ℕ) × (Word keyword marks line ∷ items ≡ own ++ rest)
-    × spell.SpellsKeywordText keyword marks line own text × GapLeft (closed read keyword marks text) rest entries
-text_left read keyword marks line items entries (own, rest, bytes, split, inl strings, left) = (
-  Word keyword marks line ∷ own,
-  rest,
-  bytes,
-  ap (λ (x : List TextItem). Word keyword marks line ∷ x) split,
-  spell.keyword_text strings,
-  left,
-)
-text_left read keyword marks line items entries (own, rest, bytes, split, inr none, left) = absurd cc
+-- what comes to entries is what its place awaits
+abbrev Goes : ℕ → List TextItem → Type 1
+Goes end items =
+    (Whole : List TextItem → List TextEntry → Type 0) (stage : Stage) (entries : List TextEntry) → Awaits Whole stage
+    → comes_to end stage items ≡ Entries entries → Whole items entries
 
-joined : (items own rest last after : List TextItem) → items ≡ own ++ rest → rest ≡ last ++ after
-    → items ≡ (own ++ last) ++ after
-joined items own rest last after e f = e ∙ ap (λ (x : List TextItem). own ++ x) f ∙ sym (append_assoc own last after)
-
--- what is left after an entry that was read
-others_left : (entries all : List TextEntry) (items : List TextItem) → HeadLeft (only entries) 0 items all
-    → (more : List TextEntry) × spell.SpellsEntries items more × (all ≡ entries ++ more)
-others_left entries all items (over comments zero same) = ([], spell.comments comments, same ∙ sym (append-nil entries))
-others_left entries all items
-    (entry {head = head} {own = own} {rest = rest} {comment_texts = comment_texts} {previous = previous} {body = body}
-    {more = more} h rise b after split same) = (
-      with_head comment_texts previous body ∷ more,
-      subst (λ (x : List TextItem). spell.SpellsEntries x (with_head comment_texts previous body ∷ more))
-          (sym (split ∙ sym (append_assoc head own rest)))
-          (spell.entries (spell.entry h (rise_order previous rise) b) after),
-      same,
-    )
-
--- own lines that go on after a keyword's text
-more_left : (read later : SoFar) (wanted next : Wanted) (items own rest : List TextItem) (entries : List TextEntry)
-    → items ≡ own ++ rest → (left : OwnLeft later next rest entries)
-    → Completes wanted read.own (own ++ left.own) left.body → OwnLeft (with_own later read.own) wanted items entries
-more_left read later wanted next items own rest entries split left completes = record {
-  own = own ++ left.own;
-  rest = left.rest;
-  body = left.body;
-  more = left.more;
-  split = joined items own rest left.own left.rest split left.split;
-  completes = completes;
-  after = left.after;
-  all = left.all;
+-- after entries others are awaited
+entries_awaited : (Whole : List TextItem → List TextEntry → Type 0) (before : List TextEntry)
+    → ((rest : List TextItem) (more : List TextEntry) → spell.SpellsEntries rest more → Whole rest (before ++ more))
+    → AwaitsHead Whole (only before) 0
+entries_awaited Whole before each = record {
+  over = λ items comment_texts h zero. rw append-nil at (each items [] (spell.comments h));
+  entry = λ head own rest comment_texts previous body more h rise b others.
+      rw (append_assoc head own rest) at (each ((head ++ own) ++ rest) (with_head comment_texts previous body ∷ more)
+      (spell.entries (spell.entry h (rise_order previous rise) b) others));
 }
 
--- own lines that end with a form's text
-last_left : (read : SoFar) (wanted : Wanted) (items own rest : List TextItem) (body : TextEntry)
-    (entries : List TextEntry) → items ≡ own ++ rest → HeadLeft (with_entry (with_own read body)) 0 rest entries
-    → Completes wanted read.own own body
-    → OwnLeft read wanted items entries
-last_left read wanted items own rest body entries split left completes =
-    let others = others_left _ entries rest left in
-    record {
-      own = own;
-      rest = rest;
-      body = body;
-      more = others.0;
-      split = split;
-      completes = completes;
-      after = others.1;
-      all = others.2 ∙ append_assoc read.entries (_ ∷ []) others.0;
+module _ (Whole : List TextItem → List TextEntry → Type 0) (read : SoFar) where
+  module _ (above : ℕ) (w : AwaitsHead Whole read above) where
+    comment_awaited : (text : CommentText) (line : ℕ)
+        → AwaitsHead (λ items. Whole (Comment text.kind text.text line ∷ items)) (with_comment read text) above
+    comment_awaited text line = record {
+      over = λ items comment_texts h zero. w.over (Comment text.kind text.text line ∷ items) _
+          (spell.head_comment h) zero;
+      entry = λ head own rest comment_texts previous body more h rise b others.
+          rw (append_assoc read.comment_texts (text ∷ []) comment_texts)
+          (w.entry (Comment text.kind text.text line ∷ head) own rest _ previous body more (spell.head_comment h) rise
+          b others);
     }
 
--- after a keyword of own lines, what is left completes them from the keyword on
-after_keyword : (read : SoFar) (wanted : Wanted) (keyword : Keyword) (line : ℕ) (items : List TextItem)
-    (entries : List TextEntry) → is_wanted wanted keyword ≡ true
-    → Left (opened read read.own keyword line) items entries
-    → OwnLeft read wanted (Word keyword (own_marks read.own.obsolete) line ∷ items) entries
-after_keyword read Id MsgId line items entries w left =
-    let text = text_left (with_own read (with_keyword MsgId line read.own)) MsgId
-    (own_marks read.own.obsolete) line items entries left in
-    let own = text.5 in
-    more_left read _ Id Translation _ text.0 text.1 entries text.3 own (
-      line,
-      text.0,
-      text.2,
-      own.own,
-      own.completes.0,
-      own.completes.1,
-      refl,
-      text.4,
-      own.completes.2,
-      own.completes.3,
-    )
-after_keyword read Translation MsgStr line items entries w left =
-    let text = text_left read MsgStr (own_marks read.own.obsolete) line items entries left in
-    last_left read Translation _ text.0 text.1 (with_text MsgStr text.2 read.own) entries text.3 text.5
-    (_, _, spell.single text.4, refl)
-after_keyword read Translation MsgIdPlural line items entries w left =
-    let text = text_left read MsgIdPlural (own_marks read.own.obsolete) line items entries left in
-    let own = text.5 in
-    more_left read _ Translation (Form 0) _ text.0 text.1 entries text.3 own
-    (_, _, spell.plural text.4 own.completes.2, own.completes.3)
-after_keyword read (Form index) (MsgStrAt found) line items entries w left =
-    let text = text_left read (MsgStrAt found) (own_marks read.own.obsolete) line items entries left in
-    let same : found ≡ index = eqb-true found index w in
-    elim text.5 [
-      | inl own ↦
-          more_left read _ (Form index) (Form (found + 1)) _ text.0 text.1 entries text.3 own (
-            text.2,
-            own.completes.0 ∷ own.completes.1,
-            subst (λ i. spell.SpellsForms read.own.obsolete i (text.0 ++ own.own)
-                (text.2 ∷ own.completes.0 ∷ own.completes.1)) same (spell.more_forms text.4 own.completes.2),
-            own.completes.3 ∙ ap (λ forms. record (read.own) { forms = forms })
-                (append_assoc read.own.forms (text.2 ∷ []) (own.completes.0 ∷ own.completes.1)),
-          )
-      | inr head ↦
-          last_left read (Form index) _ text.0 text.1 (with_text (MsgStrAt found) text.2 read.own) entries text.3 head (
-            text.2,
-            [],
-            subst₂ (λ i (own : List TextItem). spell.SpellsForms read.own.obsolete i own (text.2 ∷ [])) same
-                (append-nil text.0) (spell.more_forms text.4 spell.no_form),
-            refl,
-          )
-    ]
-after_keyword read wanted keyword line items entries w left = absurd cc
+    previous_awaited : (keyword : Keyword) (obsolete : Bool) (line : ℕ) → above < rank keyword
+        → (own : List TextItem) (text : List ℕ)
+        → spell.SpellsKeywordText keyword (previous_marks obsolete) line own text
+        → AwaitsHead (λ items. Whole (own ++ items))
+        (with_previous_text read (record { keyword = keyword; text = text })) (rank keyword)
+    previous_awaited keyword obsolete line lt own text spelt = record {
+      over = λ items comment_texts h zero. absurd (omega (arith, lt, zero));
+      entry = λ head body rest comment_texts previous entry more h rise b others.
+          rw (append_assoc read.previous (record { keyword = keyword; text = text } ∷ []) previous)
+          (rw (append_assoc own head (body ++ rest)) at
+          (w.entry (own ++ head) body rest comment_texts _ entry more (spell.previous_text spelt h) (lt, rise) b
+          others));
+    }
 
--- what is left once these items are gone on from, at each place
-abbrev Goes : ℕ → List TextItem → Type 0
-Goes end items = (stage : Stage) (entries : List TextEntry) → comes_to end stage items ≡ Entries entries
-    → Left stage items entries
+    -- after a context, if there is one
+    body_awaited : (obsolete : Bool) (first : List TextItem) (context : Option (List ℕ))
+        → spell.SpellsContext obsolete first context
+        → AwaitsOwn (λ items. Whole (first ++ items))
+        (with_own read (record (no_lines obsolete) { context = context })) Id
+    body_awaited obsolete first context spelt own rest body more c others =
+        rw (append_assoc first own rest) at (rw (append-nil read.comment_texts, append-nil read.previous) at
+        (w.entry [] (first ++ own) rest [] [] body more spell.nothing tt
+        (rw (c.6, c.9, sym (append_assoc first c.1 c.3)) (spell.own_lines spelt c.7 c.8)) others))
 
-comment_left : (read : SoFar) (above : ℕ) (text : CommentText) (line : ℕ) (items : List TextItem)
-    (entries : List TextEntry)
-    → HeadLeft (record read { comment_texts = read.comment_texts ++ text ∷ [] }) above items entries
-    → HeadLeft read above (Comment text.kind text.text line ∷ items) entries
-comment_left read above text line items entries (over comments zero same) = over (spell.head_comment comments) zero same
-comment_left read above text line items entries (entry {comment_texts = comment_texts} h rise b after split same) =
-    entry (spell.head_comment h) rise b after (ap (λ (x : List TextItem). Comment text.kind text.text line ∷ x) split)
-    (rw (append_assoc read.comment_texts (text ∷ []) comment_texts) at same)
+  id_awaited : AwaitsOwn Whole read Id → (line : ℕ) (own : List TextItem) (text : List ℕ)
+      → spell.SpellsKeywordText MsgId (own_marks read.own.obsolete) line own text
+      → AwaitsOwn (λ items. Whole (own ++ items))
+      (with_own read (with_text MsgId text (with_keyword MsgId line read.own))) Translation
+  id_awaited w line own text spelt last rest body more c others =
+      rw (append_assoc own last rest) at
+      (w (own ++ last) rest body more (line, own, text, last, c.0, c.1, refl, spelt, c.2, c.3) others)
 
-previous_left : (read : SoFar) (above : ℕ) (keyword : Keyword) (obsolete : Bool) (line : ℕ)
-    (items own rest : List TextItem) (text : List ℕ) (entries : List TextEntry) → above < rank keyword
-    → items ≡ own ++ rest
-    → spell.SpellsKeywordText keyword (previous_marks obsolete) line own text
-    → HeadLeft (record read { previous = read.previous ++ record { keyword = keyword; text = text } ∷ [] })
-    (rank keyword) rest entries → HeadLeft read above items entries
-previous_left read above keyword obsolete line items own rest text entries lt split w (over comments zero same) =
-    absurd (omega (arith, lt, zero))
-previous_left read above keyword obsolete line items own rest text entries lt split w
-    (entry {head = head} {own = body} {rest = after} {previous = previous} h rise b more again same) =
-    entry (spell.previous_text w h) (lt, rise) b more (joined items own rest head (body ++ after) split again)
-    (rw (append_assoc read.previous (record { keyword = keyword; text = text } ∷ []) previous) at same)
+  single_awaited : AwaitsOwn Whole read Translation → (line : ℕ) (own : List TextItem) (text : List ℕ)
+      → spell.SpellsKeywordText MsgStr (own_marks read.own.obsolete) line own text
+      → AwaitsGap (λ items. Whole (own ++ items)) (closed read MsgStr (own_marks read.own.obsolete) text)
+  single_awaited w line own text spelt =
+      entries_awaited (λ items. Whole (own ++ items)) _
+      (λ rest more others. rw append_assoc (w own rest _ more (_, _, spell.single spelt, refl) others))
 
--- own lines that begin here are an entry, with the head that was read
-body_left : (read : SoFar) (above : ℕ) (items own rest : List TextItem) (body : TextEntry)
-    (more entries : List TextEntry) → items ≡ own ++ rest → spell.SpellsBody own body → spell.SpellsEntries rest more
-    → entries ≡ read.entries ++ with_head read.comment_texts read.previous body ∷ more
-    → HeadLeft read above items entries
-body_left read above items own rest body more entries split b after same =
-    entry {comment_texts = []} {previous = []} spell.nothing tt b after split
-    (rw (append-nil read.comment_texts, append-nil read.previous) same)
+  plural_awaited : AwaitsOwn Whole read Translation → (line : ℕ) (own : List TextItem) (text : List ℕ)
+      → spell.SpellsKeywordText MsgIdPlural (own_marks read.own.obsolete) line own text
+      → AwaitsOwn (λ items. Whole (own ++ items)) (with_own read (with_text MsgIdPlural text read.own)) (Form 0)
+  plural_awaited w line own text spelt last rest body more c others =
+      rw (append_assoc own last rest) at
+      (w (own ++ last) rest body more (_, _, spell.plural spelt c.2, c.3) others)
 
-id_left : (read : SoFar) (above line : ℕ) (obsolete : Bool) (items : List TextItem) (entries : List TextEntry)
-    → Left (opened read (no_lines obsolete) MsgId line) items entries
-    → HeadLeft read above (Word MsgId (own_marks obsolete) line ∷ items) entries
-id_left read above line obsolete items entries left =
-    let text = text_left (with_own read (record (no_lines obsolete) { line = line })) MsgId
-    (own_marks obsolete) line items entries left in
-    let own = text.5 in
-    body_left read above _ (text.0 ++ own.own) own.rest own.body own.more entries
-    (joined _ text.0 text.1 own.own own.rest text.3 own.split)
-    (subst (spell.SpellsBody (text.0 ++ own.own)) (sym own.completes.3)
-    (spell.own_lines spell.no_context text.4 own.completes.2)) own.after own.all
-
-context_left : (read : SoFar) (above line : ℕ) (obsolete : Bool) (items : List TextItem) (entries : List TextEntry)
-    → Left (opened read (no_lines obsolete) MsgCtxt line) items entries
-    → HeadLeft read above (Word MsgCtxt (own_marks obsolete) line ∷ items) entries
-context_left read above line obsolete items entries left =
-    let text = text_left (with_own read (no_lines obsolete)) MsgCtxt (own_marks obsolete) line items entries left in
-    let own = text.5 in
-    let parts = own.completes in
-    let lines : text.0 ++ own.own ≡ (text.0 ++ parts.1) ++ parts.3 =
-    ap (λ (x : List TextItem). text.0 ++ x) parts.6 ∙ sym (append_assoc text.0 parts.1 parts.3) in
-    let body : spell.SpellsBody ((text.0 ++ parts.1) ++ parts.3) own.body =
-    subst (spell.SpellsBody ((text.0 ++ parts.1) ++ parts.3)) (sym parts.9)
-    (spell.own_lines (spell.context text.4) parts.7 parts.8) in
-    body_left read above _ (text.0 ++ own.own) own.rest own.body own.more entries
-    (joined _ text.0 text.1 own.own own.rest text.3 own.split)
-    (subst (λ (x : List TextItem). spell.SpellsBody x own.body) (sym lines) body) own.after own.all
+  form_awaited : (index : ℕ) → AwaitsOwn Whole read (Form index) → (line : ℕ) (own : List TextItem) (text : List ℕ)
+      → spell.SpellsKeywordText (MsgStrAt index) (own_marks read.own.obsolete) line own text
+      → AwaitsGap (λ items. Whole (own ++ items))
+      (AfterForm (with_own read (with_text (MsgStrAt index) text read.own)) (index + 1))
+  form_awaited index w line own text spelt = (
+    λ last rest body more c others. rw (append_assoc own last rest) at
+        (w (own ++ last) rest body more (
+          text,
+          c.0 ∷ c.1,
+          spell.more_forms spelt c.2,
+          c.3 ∙ ap (λ forms. record (read.own) { forms = forms }) (append_assoc read.own.forms (text ∷ []) (c.0 ∷ c.1)),
+        ) others),
+    entries_awaited (λ items. Whole (own ++ items)) _
+        (λ rest more others. rw append_assoc (w own rest _ more
+        (text, [], rw append-nil at (spell.more_forms spelt spell.no_form), refl) others)),
+  )
 
 -- the test passes where the items would be refused otherwise
 only_if : (end : ℕ) (items : List TextItem) (entries : List TextEntry) (b : Bool) (stage : Stage) (fault : PoFault)
@@ -264,132 +169,145 @@ only_if : (end : ℕ) (items : List TextItem) (entries : List TextEntry) (b : Bo
 only_if end items entries true stage fault line e = (refl, e)
 only_if end items entries false stage fault line e = absurd (never end fault line items entries e)
 
-head_left : (end : ℕ) (item : TextItem) (items : List TextItem) → Goes end items
-    → (read : SoFar) (above : ℕ) (entries : List TextEntry)
-    → comes_to end (turn_head read above item) items ≡ Entries entries → HeadLeft read above (item ∷ items) entries
-head_left end (Comment kind text line) items goes read above entries e =
-    comment_left read above (record { kind = kind; text = text }) line items entries (goes _ entries e)
-head_left end (Str bytes marks line) items goes read above entries e = absurd (never end BadOrder line items entries e)
-head_left end (Word keyword marks line) items goes read above entries e =
-    word keyword marks.obsolete marks.previous e where
-      word : (keyword : Keyword) (o p : Bool)
-          → comes_to end (turn_head read above (Word keyword (record { obsolete = o; previous = p }) line)) items
-          ≡ Entries entries
-          → HeadLeft read above (Word keyword (record { obsolete = o; previous = p }) line ∷ items) entries
-      word keyword o true e =
-          let higher = only_if end items entries (nat_lt above (rank keyword))
-          (In read keyword (previous_marks o) false []) BadOrder line e in
-          let text = text_left read keyword (previous_marks o) line items entries (goes _ entries higher.1) in
-          previous_left read above keyword o line _ text.0 text.1 text.2 entries
-          (ltb-true _ _ higher.0) text.3 text.4 text.5
-      word MsgId o false e = id_left read above line o items entries (goes _ entries e)
-      word MsgCtxt o false e = context_left read above line o items entries (goes _ entries e)
-      word keyword o false e = absurd (never end BadOrder line items entries e)
+module _ (end : ℕ) (items : List TextItem) (goes : Goes end items) (Whole : List TextItem → List TextEntry → Type 0)
+    (entries : List TextEntry) where
+  -- a keyword, and what is awaited after its text
+  text_goes : (read : SoFar) (keyword : Keyword) (marks : Marks) (line : ℕ)
+      → ((own : List TextItem) (text : List ℕ) → spell.SpellsKeywordText keyword marks line own text
+      → AwaitsGap (λ items. Whole (own ++ items)) (closed read keyword marks text))
+      → comes_to end (In read keyword marks false []) items ≡ Entries entries
+      → Whole (Word keyword marks line ∷ items) entries
+  text_goes read keyword marks line each e =
+      goes (λ items. Whole (Word keyword marks line ∷ items)) (In read keyword marks false []) entries awaited e where
+        awaited : Awaits (λ items. Whole (Word keyword marks line ∷ items)) (In read keyword marks false [])
+        awaited own bytes (inl strings) = each (Word keyword marks line ∷ own) bytes (spell.keyword_text strings)
+        awaited own bytes (inr none) = absurd cc
 
-own_left : (end : ℕ) (item : TextItem) (items : List TextItem) → Goes end items
-    → (read : SoFar) (wanted : Wanted) (entries : List TextEntry)
-    → comes_to end (turn_own read wanted item) items ≡ Entries entries → OwnLeft read wanted (item ∷ items) entries
-own_left end (Comment kind text line) items goes read wanted entries e =
-    absurd (never end BadOrder line items entries e)
-own_left end (Str bytes marks line) items goes read wanted entries e = absurd (never end BadOrder line items entries e)
-own_left end (Word keyword marks line) items goes read wanted entries e = word marks.obsolete marks.previous e where
-  word : (o p : Bool) → comes_to end
-      (turn_own read wanted (Word keyword (record { obsolete = o; previous = p }) line)) items ≡ Entries entries
-      → OwnLeft read wanted (Word keyword (record { obsolete = o; previous = p }) line ∷ items) entries
-  word o true e = absurd (never end BadOrder line items entries e)
-  word o false e =
-      let fits = only_if end items entries (is_wanted wanted keyword)
-      (if beq read.own.obsolete o then opened read read.own keyword line else Stop MixedObsolete line)
-      (unwanted wanted keyword) line e in
-      let same = only_if end items entries (beq read.own.obsolete o)
-      (opened read read.own keyword line) MixedObsolete line fits.1 in
-      subst (λ b. OwnLeft read wanted (Word keyword (own_marks b) line ∷ items) entries)
-      ((booleans_Decides read.own.obsolete o).0 same.0)
-      (after_keyword read wanted keyword line items entries fits.0 (goes _ entries same.1))
+  head_goes : (read : SoFar) (above : ℕ) (item : TextItem) → AwaitsHead Whole read above
+      → comes_to end (turn_head read above item) items ≡ Entries entries → Whole (item ∷ items) entries
+  head_goes read above (Comment kind text line) w e =
+      goes (λ items. Whole (Comment kind text line ∷ items)) _ entries
+      (comment_awaited Whole read above w (record { kind = kind; text = text }) line) e
+  head_goes read above (Str bytes marks line) w e = absurd (never end BadOrder line items entries e)
+  head_goes read above (Word keyword marks line) w e = word keyword marks.obsolete marks.previous e where
+    word : (keyword : Keyword) (o p : Bool)
+        → comes_to end (turn_head read above (Word keyword (record { obsolete = o; previous = p }) line)) items
+        ≡ Entries entries → Whole (Word keyword (record { obsolete = o; previous = p }) line ∷ items) entries
+    word keyword o true e =
+        let higher = only_if end items entries (nat_lt above (rank keyword))
+        (In read keyword (previous_marks o) false []) BadOrder line e in
+        text_goes read keyword (previous_marks o) line
+        (previous_awaited Whole read above w keyword o line (ltb-true _ _ higher.0)) higher.1
+    word MsgId o false e =
+        text_goes _ MsgId (own_marks o) line
+        (id_awaited Whole (with_own read (no_lines o)) (body_awaited Whole read above w o [] None spell.no_context) line)
+        e
+    word MsgCtxt o false e =
+        text_goes _ MsgCtxt (own_marks o) line
+        (λ own text spelt. body_awaited Whole read above w o own (Some text) (spell.context spelt)) e
+    word keyword o false e = absurd (never end BadOrder line items entries e)
 
-gap_left : (end : ℕ) (item : TextItem) (items : List TextItem) → Goes end items → (gap : Gap) (entries : List TextEntry)
-    → comes_to end (turn_gap gap item) items ≡ Entries entries → GapLeft gap (item ∷ items) entries
-gap_left end item items goes (InHead read above) entries e = head_left end item items goes read above entries e
-gap_left end item items goes (Before read wanted) entries e = own_left end item items goes read wanted entries e
-gap_left end item items goes (AfterForm read index) entries e = chosen (is_form item) e where
-  chosen : (b : Bool) → comes_to end
-      (if b then turn_own read (Form index) item else turn_head (with_entry read) 0 item) items ≡ Entries entries
-      → OwnLeft read (Form index) (item ∷ items) entries ⊎ HeadLeft (with_entry read) 0 (item ∷ items) entries
-  chosen true e = inl (own_left end item items goes read (Form index) entries e)
-  chosen false e = inr (head_left end item items goes (with_entry read) 0 entries e)
+  -- a keyword that is wanted
+  wanted_goes : (read : SoFar) (wanted : Wanted) (keyword : Keyword) (line : ℕ) → is_wanted wanted keyword ≡ true
+      → AwaitsOwn Whole read wanted
+      → comes_to end (opened read read.own keyword line) items ≡ Entries entries
+      → Whole (Word keyword (own_marks read.own.obsolete) line ∷ items) entries
+  wanted_goes read Id MsgId line is w e = text_goes _ MsgId _ line (id_awaited Whole read w line) e
+  wanted_goes read Translation MsgStr line is w e = text_goes read MsgStr _ line (single_awaited Whole read w line) e
+  wanted_goes read Translation MsgIdPlural line is w e =
+      text_goes read MsgIdPlural _ line (plural_awaited Whole read w line) e
+  wanted_goes read (Form index) (MsgStrAt found) line is w e =
+      text_goes read (MsgStrAt found) _ line
+      (form_awaited Whole read found (rw (sym (eqb-true found index is)) at w) line) e
+  wanted_goes read wanted keyword line is w e = absurd cc
+
+  own_goes : (read : SoFar) (wanted : Wanted) (item : TextItem) → AwaitsOwn Whole read wanted
+      → comes_to end (turn_own read wanted item) items ≡ Entries entries → Whole (item ∷ items) entries
+  own_goes read wanted (Comment kind text line) w e = absurd (never end BadOrder line items entries e)
+  own_goes read wanted (Str bytes marks line) w e = absurd (never end BadOrder line items entries e)
+  own_goes read wanted (Word keyword marks line) w e = word marks.obsolete marks.previous e where
+    word : (o p : Bool) → comes_to end
+        (turn_own read wanted (Word keyword (record { obsolete = o; previous = p }) line)) items ≡ Entries entries
+        → Whole (Word keyword (record { obsolete = o; previous = p }) line ∷ items) entries
+    word o true e = absurd (never end BadOrder line items entries e)
+    word o false e =
+        let fits = only_if end items entries (is_wanted wanted keyword)
+        (if beq read.own.obsolete o then opened read read.own keyword line else Stop MixedObsolete line)
+        (unwanted wanted keyword) line e in
+        let same = only_if end items entries (beq read.own.obsolete o)
+        (opened read read.own keyword line) MixedObsolete line fits.1 in
+        subst (λ b. Whole (Word keyword (own_marks b) line ∷ items) entries)
+        ((booleans_Decides read.own.obsolete o).0 same.0) (wanted_goes read wanted keyword line fits.0 w same.1)
+
+  gap_goes : (gap : Gap) (item : TextItem) → AwaitsGap Whole gap
+      → comes_to end (turn_gap gap item) items ≡ Entries entries → Whole (item ∷ items) entries
+  gap_goes (InHead read above) item w e = head_goes read above item w e
+  gap_goes (Before read wanted) item w e = own_goes read wanted item w e
+  gap_goes (AfterForm read index) item w e = chosen (is_form item) e where
+    chosen : (b : Bool) → comes_to end
+        (if b then turn_own read (Form index) item else turn_head (with_entry read) 0 item) items ≡ Entries entries
+        → Whole (item ∷ items) entries
+    chosen true e = own_goes read (Form index) item w.0 e
+    chosen false e = head_goes (with_entry read) 0 item w.1 e
+
+  -- one more string of a text
+  string_goes : (read : SoFar) (keyword : Keyword) (marks found : Marks) (some : Bool) (text bytes : List ℕ) (line : ℕ)
+      → Awaits Whole (In read keyword marks some text)
+      → comes_to end (turn (In read keyword marks some text) (Str bytes found line)) items ≡ Entries entries
+      → Whole (Str bytes found line ∷ items) entries
+  string_goes read keyword marks found some text bytes line w e =
+      let same = only_if end items entries (same_marks marks found) (In read keyword marks true (text ++ bytes))
+      (stray_string marks found) line e in
+      subst (λ (m : Marks). Whole (Str bytes m line ∷ items) entries) (same_marks_true marks found same.0)
+      (goes (λ items. Whole (Str bytes marks line ∷ items)) _ entries awaited same.1) where
+        spelt : (own : List TextItem) (others : List ℕ) → StringsLeft true marks own others
+            → spell.SpellsStrings marks (Str bytes marks line ∷ own) (bytes ++ others)
+        spelt own others (inl strings) = spell.more strings
+        spelt own others (inr none) = rw (none.1, none.2, append-nil bytes) spell.last
+
+        awaited : Awaits (λ items. Whole (Str bytes marks line ∷ items)) (In read keyword marks true (text ++ bytes))
+        awaited own others strings =
+            subst (λ (t : List ℕ). AwaitsGap (λ items. Whole (Str bytes marks line ∷ (own ++ items)))
+            (closed read keyword marks t)) (sym (append_assoc text bytes others))
+            (w (Str bytes marks line ∷ own) (bytes ++ others) (inl (spelt own others strings)))
 
 -- where the items end
-gap_over : (end : ℕ) (gap : Gap) (entries : List TextEntry) → comes_to end (Between gap) [] ≡ Entries entries
-    → GapLeft gap [] entries
-gap_over end (InHead read above) entries e = chosen (above == 0) refl e where
+gap_over : (end : ℕ) (Whole : List TextItem → List TextEntry → Type 0) (gap : Gap) (entries : List TextEntry)
+    → AwaitsGap Whole gap → comes_to end (Between gap) [] ≡ Entries entries → Whole [] entries
+gap_over end Whole (InHead read above) entries w e = chosen (above == 0) refl e where
   chosen : (b : Bool) → (above == 0) ≡ b → (if b then Entries read.entries else Fault BadOrder end) ≡ Entries entries
-      → HeadLeft read above [] entries
-  chosen true zero e = over spell.nothing (eqb-true above 0 zero) cc
+      → Whole [] entries
+  chosen true zero e = subst (Whole []) (cc e) (w.over [] [] spell.nothing (eqb-true above 0 zero))
   chosen false zero e = absurd cc
-gap_over end (Before read wanted) entries e = absurd cc
-gap_over end (AfterForm read index) entries e = inr (over spell.nothing refl cc)
+gap_over end Whole (Before read wanted) entries w e = absurd cc
+gap_over end Whole (AfterForm read index) entries w e = subst (Whole []) (cc e) (w.1.over [] [] spell.nothing refl)
 
 -- a text to which nothing is added
-text_over : (read : SoFar) (keyword : Keyword) (marks : Marks) (text : List ℕ) (items : List TextItem)
-    (entries : List TextEntry) → GapLeft (closed read keyword marks text) items entries
-    → Left (In read keyword marks true text) items entries
-text_over read keyword marks text items entries left = (
-  [],
-  items,
-  [],
-  refl,
-  inr (refl, refl, refl),
-  subst (λ (t : List ℕ). GapLeft (closed read keyword marks t) items entries) (sym (append-nil text)) left,
-)
+text_over : (Whole : List TextItem → List TextEntry → Type 0) (read : SoFar) (keyword : Keyword) (marks : Marks)
+    (text : List ℕ) → Awaits Whole (In read keyword marks true text) → AwaitsGap Whole (closed read keyword marks text)
+text_over Whole read keyword marks text w =
+    subst (λ (t : List ℕ). AwaitsGap Whole (closed read keyword marks t)) (append-nil text)
+    (w [] [] (inr (refl, refl, refl)))
 
--- a string more of a text
-string_left : (read : SoFar) (keyword : Keyword) (marks : Marks) (some : Bool) (text bytes : List ℕ) (line : ℕ)
-    (items : List TextItem) (entries : List TextEntry) → Left (In read keyword marks true (text ++ bytes)) items entries
-    → Left (In read keyword marks some text) (Str bytes marks line ∷ items) entries
-string_left read keyword marks some text bytes line items entries (own, rest, others, split, strings, left) = (
-  Str bytes marks line ∷ own,
-  rest,
-  bytes ++ others,
-  ap (λ (x : List TextItem). Str bytes marks line ∷ x) split,
-  inl (spelt strings),
-  subst (λ (t : List ℕ). GapLeft (closed read keyword marks t) rest entries) (append_assoc text bytes others) left,
-) where
-  spelt : StringsLeft true marks own others → spell.SpellsStrings marks (Str bytes marks line ∷ own) (bytes ++ others)
-  spelt (inl others) = spell.more others
-  spelt (inr none) = rw (none.1, none.2, append-nil bytes) spell.last
-
-found_left : (end : ℕ) (items : List TextItem) → Goes end items
-    → (read : SoFar) (keyword : Keyword) (marks found : Marks) (some : Bool) (text bytes : List ℕ) (line : ℕ)
-    (entries : List TextEntry)
-    → comes_to end (turn (In read keyword marks some text) (Str bytes found line)) items ≡ Entries entries
-    → Left (In read keyword marks some text) (Str bytes found line ∷ items) entries
-found_left end items goes read keyword marks found some text bytes line entries e =
-    let same = only_if end items entries (same_marks marks found) (In read keyword marks true (text ++ bytes))
-    (stray_string marks found) line e in
-    subst (λ (m : Marks). Left (In read keyword marks some text) (Str bytes m line ∷ items) entries)
-    (same_marks_true marks found same.0)
-    (string_left read keyword marks some text bytes line items entries
-    (goes (In read keyword marks true (text ++ bytes)) entries same.1))
-
-left : (end : ℕ) (items : List TextItem) → Goes end items
-left end [] (Between gap) entries e = gap_over end gap entries e
-left end [] (In read keyword marks true text) entries e =
-    text_over read keyword marks text [] entries (gap_over end (closed read keyword marks text) entries e)
-left end [] (In read keyword marks false text) entries e = absurd cc
-left end [] (Stop fault line) entries e = cc
-left end (item ∷ items) (Between gap) entries e = gap_left end item items (left end items) gap entries e
-left end (item ∷ items) (Stop fault line) entries e = never end fault line items entries e
-left end (Str bytes found line ∷ items) (In read keyword marks some text) entries e =
-    found_left end items (left end items) read keyword marks found some text bytes line entries e
-left end (Comment kind bytes line ∷ items) (In read keyword marks true text) entries e =
-    text_over read keyword marks text (Comment kind bytes line ∷ items) entries
-    (gap_left end (Comment kind bytes line) items (left end items) (closed read keyword marks text) entries e)
-left end (Word other found line ∷ items) (In read keyword marks true text) entries e =
-    text_over read keyword marks text (Word other found line ∷ items) entries
-    (gap_left end (Word other found line) items (left end items) (closed read keyword marks text) entries e)
-left end (Comment kind bytes line ∷ items) (In read keyword marks false text) entries e =
+all_go : (end : ℕ) (items : List TextItem) → Goes end items
+all_go end [] Whole (Between gap) entries w e = gap_over end Whole gap entries w e
+all_go end [] Whole (In read keyword marks true text) entries w e =
+    gap_over end Whole (closed read keyword marks text) entries (text_over Whole read keyword marks text w) e
+all_go end [] Whole (In read keyword marks false text) entries w e = absurd cc
+all_go end [] Whole (Stop fault line) entries w e = absurd cc
+all_go end (item ∷ items) Whole (Between gap) entries w e = gap_goes end items (all_go end items) Whole entries gap item w e
+all_go end (item ∷ items) Whole (Stop fault line) entries w e = absurd (never end fault line items entries e)
+all_go end (Str bytes found line ∷ items) Whole (In read keyword marks some text) entries w e =
+    string_goes end items (all_go end items) Whole entries read keyword marks found some text bytes line w e
+all_go end (Comment kind bytes line ∷ items) Whole (In read keyword marks true text) entries w e =
+    gap_goes end items (all_go end items) Whole entries (closed read keyword marks text) (Comment kind bytes line)
+    (text_over Whole read keyword marks text w) e
+all_go end (Word other found line ∷ items) Whole (In read keyword marks true text) entries w e =
+    gap_goes end items (all_go end items) Whole entries (closed read keyword marks text) (Word other found line)
+    (text_over Whole read keyword marks text w) e
+all_go end (Comment kind bytes line ∷ items) Whole (In read keyword marks false text) entries w e =
     absurd (never end BadOrder line items entries e)
-left end (Word other found line ∷ items) (In read keyword marks false text) entries e =
+all_go end (Word other found line ∷ items) Whole (In read keyword marks false text) entries w e =
     absurd (never end BadOrder line items entries e)
 
 -- after these entries, the items spell those that the reader finds
@@ -397,9 +315,11 @@ pub runs_spelt : (end : ℕ) (before : List TextEntry) (items : List TextItem) (
     → comes_to end (Between (InHead (only before) 0)) items ≡ Entries all
     → (more : List TextEntry) × spell.SpellsEntries items more × (all ≡ before ++ more)
 runs_spelt end before items all e =
-    others_left before all items (left end items (Between (InHead (only before) 0)) all e)
+    all_go end items (λ items all. (more : List TextEntry) × spell.SpellsEntries items more × (all ≡ before ++ more))
+    (Between (InHead (only before) 0)) all (entries_awaited _ before (λ rest more h. (more, h, refl))) e
 
 pub whole_spelt : (end : ℕ) (items : List TextItem) (entries : List TextEntry)
     → comes_to end (Between (InHead (only []) 0)) items ≡ Entries entries → spell.SpellsEntries items entries
-whole_spelt end items entries e = let spelt =
-    runs_spelt end [] items entries e in subst (spell.SpellsEntries items) (sym spelt.2) spelt.1
+whole_spelt end items entries e =
+    all_go end items spell.SpellsEntries (Between (InHead (only []) 0)) entries
+    (entries_awaited spell.SpellsEntries [] (λ rest more h. h)) e
