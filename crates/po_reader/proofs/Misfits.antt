@@ -1,227 +1,168 @@
 -- What is wrong with an item that is refused.
-use Rattle.std.proofs.Common.{◌≡◌, ◌≢◌, ℕ, Bool, true, false, ◌&&◌, nat_lt, List, [], ◌∷◌, ◌++◌, refl, sym, ap, subst, ◌∙◌, true≢false}
+use Rattle.std.proofs.Common.{◌≡◌, ℕ, Bool, true, false, ◌&&◌, nat_lt, List, [], ◌∷◌, ◌++◌, refl, sym, ap, subst, ◌∙◌, true≢false}
 use Rattle.std.specs.Prelude.{if◌then◌else◌}
 use Rattle.std.proofs.lemmas.Bool.{eqb-true, eqb-false, eq-eqb, ne_eqb}
 use Rattle.std.specs.Bool.{beq}
 use Rattle.std.specs.Cmp.{bool_eq_equiv}
 use Rattle.po_syntax.specs.declared.fault.PoFault.{PoFault}
-use Rattle.po_syntax.specs.declared.fault.PoFault.TheVariants.{BadOrder, BadPluralIndex, MixedObsolete}
+use Rattle.po_syntax.specs.declared.fault.PoFault.TheVariants.{BadOrder, MixedObsolete}
 use Rattle.po_syntax.specs.declared.item.CommentKind.{CommentKind}
 use Rattle.po_syntax.specs.declared.item.Keyword.{Keyword}
-use Rattle.po_syntax.specs.declared.item.Keyword.TheVariants.{MsgStrAt}
+use Rattle.po_syntax.specs.declared.item.Keyword.TheVariants.{MsgCtxt, MsgId, MsgStrAt}
 use Rattle.po_syntax.specs.declared.item.Marks.{Marks}
 use Rattle.po_syntax.specs.Prelude.{TextItem, line_of}
 use Rattle.po_syntax.specs.Item.{Comment, Word, Str}
-use Rattle.po_entry.specs.Prelude.{rank, IsViable, IsOwn, IsWrongIndex, IsMixed, with_obsolete, Misfit}
+use Rattle.po_entry.specs.Prelude.{rank, IsViable, IsOwn, IsWrongIndex, with_obsolete, Misfit}
 use Rattle.po_entry.specs.Spelling.{own_marks, previous_marks}
 use Rattle.po_entry.specs.Faults.{index, mixed, order}
-use Rattle.po_reader.specs.Internal.Stage.{SoFar, Wanted, Id, Translation, Form, Gap, InHead, Before, AfterForm, Stage, Between, In, Stop, no_lines, with_entry}
-use Rattle.po_reader.specs.Internal.Turn.{turn, turn_gap, turn_head, turn_own, opened, closed, same_marks, stray_string, is_form, is_wanted, is_wrong_form, begins_body}
+use Rattle.po_reader.specs.Internal.Stage.{SoFar, Wanted, Form, Gap, InHead, Before, AfterForm, Stage, Between, In, Stop, with_entry}
+use Rattle.po_reader.specs.Internal.Turn.{turn, turn_gap, turn_own, opened, closed, same_marks, stray_string, is_form, is_wanted, unwanted}
 use Rattle.po_reader.proofs.Turns.{marked, goes_on}
-use Rattle.po_reader.proofs.SpeltRuns.{string_step}
+use Rattle.po_reader.proofs.SpeltRuns.{no_form, string_step}
 
 module _ (prefix : List TextItem) where
-  -- the item is refused with this fault, on its own line
-  abbrev pub Refused : TextItem → PoFault → ℕ → Type 0
-  Refused item fault line = Misfit prefix item fault × (line ≡ line_of item)
+  -- the item is taken, or refused with its misfit, on its own line
+  data Step (item : TextItem) : Stage → Type 0 where
+    taken : {next : Stage} → goes_on next ≡ true → Step item next
+    stopped : {fault : PoFault} → Misfit prefix item fault → Step item (Stop fault (line_of item))
 
-  refused : (item : TextItem) (found fault : PoFault) (line : ℕ) → Stop found (line_of item) ≡ Stop fault line
-      → Misfit prefix item found → Refused item fault line
-  refused item found fault line e misfit = let same : found ≡ fault = cc in (subst (Misfit prefix item) same misfit, cc)
+  -- the item could stand after the prefix
+  abbrev CanFollow : TextItem → Type 0
+  CanFollow item = IsViable (prefix ++ item ∷ [])
 
-  index_own : (item : TextItem) → IsWrongIndex prefix item → IsOwn item
-  index_own (Word (MsgStrAt found) marks line) w = w.0
-  index_own item w = absurd w
+  -- what could follow the prefix, by the step from its place
+  abbrev pub Could : Stage → Type 0
+  Could stage = (item : TextItem) → goes_on (turn stage item) ≡ true → CanFollow item
+
+  abbrev pub Never : Stage → Type 0
+  Never stage = (item : TextItem) → goes_on (turn stage item) ≡ false → CanFollow item → ⊥
+
+  -- and of own keywords on this line, by the step from a gap
+  abbrev CouldWord : Gap → ℕ → Type 0
+  CouldWord gap line =
+      (keyword : Keyword) (o : Bool) → goes_on (turn_gap gap (Word keyword (own_marks o) line)) ≡ true
+      → CanFollow (Word keyword (own_marks o) line)
+
+  abbrev NeverWord : Gap → ℕ → Type 0
+  NeverWord gap line =
+      (keyword : Keyword) (o : Bool) → goes_on (turn_gap gap (Word keyword (own_marks o) line)) ≡ false
+      → CanFollow (Word keyword (own_marks o) line) → ⊥
 
   -- an item that is no own one is out of order
   foreign : (item : TextItem) → (IsOwn item → ⊥) → Misfit prefix item BadOrder
-  foreign item not_own = order (λ w. not_own (index_own item w)) (λ w. not_own w.0)
+  foreign item not_own = order (λ w. not_own (own item w)) (λ w. not_own w.0) where
+    own : (item : TextItem) → IsWrongIndex prefix item → IsOwn item
+    own (Word (MsgStrAt found) marks line) w = w.0
+    own item w = absurd w
 
-  -- where a stage that goes on is one of two, and none is reached, the test fails
-  second_refused : (b : Bool) (stage other : Stage) (fault : PoFault) (at : ℕ) → goes_on stage ≡ true
-      → (if b then stage else other) ≡ Stop fault at → (b ≡ false) × (other ≡ Stop fault at)
-  second_refused true stage other fault at on e = absurd (true≢false (sym on ∙ ap goes_on e))
-  second_refused false stage other fault at on e = (refl, e)
+  -- an own keyword is out of order where no form could stand, nor it under any mark
+  stray_word : (keyword : Keyword) (obsolete : Bool) (line : ℕ)
+      → ((index : ℕ) (o : Bool) → CanFollow (Word (MsgStrAt index) (own_marks o) line) → ⊥)
+      → ((o : Bool) → CanFollow (Word keyword (own_marks o) line) → ⊥)
+      → Misfit prefix (Word keyword (own_marks obsolete) line) BadOrder
+  stray_word keyword obsolete line no_form no_mark =
+      order (no_index keyword no_mark) (λ w. no_mark w.1.0 w.1.1) where
+        no_index : (keyword : Keyword) → ((o : Bool) → CanFollow (Word keyword (own_marks o) line) → ⊥)
+            → IsWrongIndex prefix (Word keyword (own_marks obsolete) line) → ⊥
+        no_index (MsgStrAt found) _ w = no_form w.1 w.2 w.4
+        no_index keyword _ w = w
 
-  -- what own keywords could follow the prefix on this line, by the step from there, among forms or among other keywords
-  record Words (form : Bool) (line : ℕ) (step : TextItem → Stage) : Type 0 where
-    could : (keyword : Keyword) (obsolete : Bool) → is_form (Word keyword (own_marks obsolete) line) ≡ form
-        → goes_on (step (Word keyword (own_marks obsolete) line)) ≡ true
-        → IsViable (prefix ++ Word keyword (own_marks obsolete) line ∷ [])
-    never : (keyword : Keyword) (obsolete : Bool) → is_form (Word keyword (own_marks obsolete) line) ≡ form
-        → goes_on (step (Word keyword (own_marks obsolete) line)) ≡ false
-        → IsViable (prefix ++ Word keyword (own_marks obsolete) line ∷ []) → ⊥
+  -- taken by a test, or else refused
+  tested : (item : TextItem) (b : Bool) (next : Stage) (fault : PoFault) → goes_on next ≡ true
+      → (b ≡ false → Misfit prefix item fault) → Step item (if b then next else Stop fault (line_of item))
+  tested item true next fault on misfit = taken on
+  tested item false next fault on misfit = stopped (misfit refl)
 
-  one_form : (keyword : Keyword) (o p : Bool) (line : ℕ)
-      → is_form (Word keyword (own_marks o) line) ≡ is_form (Word keyword (own_marks p) line)
-  one_form (MsgStrAt number) o p line = refl
-  one_form keyword o p line = refl
+  -- a keyword that is wanted is refused for its mark
+  own_step : (read : SoFar) (wanted : Wanted) (keyword : Keyword) (obsolete : Bool) (line : ℕ)
+      → (goes_on (turn_own read wanted (Word keyword (own_marks read.own.obsolete) line)) ≡ true
+      → CanFollow (Word keyword (own_marks read.own.obsolete) line))
+      → (is_wanted wanted keyword ≡ true → IsWrongIndex prefix (Word keyword (own_marks obsolete) line) → ⊥)
+      → (is_wanted wanted keyword ≡ false
+      → Misfit prefix (Word keyword (own_marks obsolete) line) (unwanted wanted keyword))
+      → Step (Word keyword (own_marks obsolete) line) (turn_own read wanted (Word keyword (own_marks obsolete) line))
+  own_step read wanted keyword obsolete line could right other = by (is_wanted wanted keyword) refl where
+    by : (w : Bool) → is_wanted wanted keyword ≡ w
+        → Step (Word keyword (own_marks obsolete) line) (if w then (if beq read.own.obsolete obsolete
+        then opened read read.own keyword line else Stop MixedObsolete line) else Stop (unwanted wanted keyword) line)
+    by true w =
+        tested (Word keyword (own_marks obsolete) line) (beq read.own.obsolete obsolete)
+        (opened read read.own keyword line) MixedObsolete refl
+        (λ other. mixed (right w)
+        (refl, (read.own.obsolete, could (rw (w, bool_eq_equiv.refl read.own.obsolete) refl))))
+    by false w = stopped (other w)
 
-  no_index : (form : Bool) (line : ℕ) (step : TextItem → Stage) (keyword : Keyword) (obsolete : Bool)
-      → Words form line step → is_form (Word keyword (own_marks obsolete) line) ≡ form
-      → ((found other : ℕ) (o : Bool) → keyword ≡ MsgStrAt found → other ≢ found
-      → goes_on (step (Word (MsgStrAt other) (own_marks o) line)) ≡ false)
-      → IsWrongIndex prefix (Word keyword (own_marks obsolete) line) → ⊥
-  no_index form line step (MsgStrAt found) obsolete words is none w =
-      words.never (MsgStrAt w.1) w.2 is (none found w.1 w.2 refl w.3) w.4
-  no_index form line step keyword obsolete words is none w = w
+  form_step : (read : SoFar) (wanted : Wanted) (found : ℕ) (obsolete : Bool) (line : ℕ)
+      → ((index : ℕ) (o : Bool) → goes_on (turn_own read wanted (Word (MsgStrAt index) (own_marks o) line)) ≡ true
+      → CanFollow (Word (MsgStrAt index) (own_marks o) line))
+      → ((index : ℕ) (o : Bool) → goes_on (turn_own read wanted (Word (MsgStrAt index) (own_marks o) line)) ≡ false
+      → CanFollow (Word (MsgStrAt index) (own_marks o) line) → ⊥)
+      → Step (Word (MsgStrAt found) (own_marks obsolete) line)
+      (turn_own read wanted (Word (MsgStrAt found) (own_marks obsolete) line))
+  form_step read (Form n) found obsolete line could never =
+      own_step read (Form n) (MsgStrAt found) obsolete line (could found read.own.obsolete)
+      (λ is w. never w.1 w.2 (rw (ne_eqb w.1 n (λ e. w.3 (e ∙ sym (eqb-true found n is)))) refl) w.4)
+      (λ isnt. index (
+        refl,
+        n,
+        read.own.obsolete,
+        λ e. eqb-false found n isnt (sym e),
+        could n read.own.obsolete (rw (eq-eqb n n refl, bool_eq_equiv.refl read.own.obsolete) refl),
+      ))
+  form_step read wanted found obsolete line could never =
+      stopped (stray_word (MsgStrAt found) obsolete line (λ index o. never index o refl) (λ o. never found o refl))
 
-  no_mark : (form : Bool) (line : ℕ) (step : TextItem → Stage) (keyword : Keyword) (obsolete : Bool)
-      → Words form line step → is_form (Word keyword (own_marks obsolete) line) ≡ form
-      → ((o : Bool) → goes_on (step (Word keyword (own_marks o) line)) ≡ false)
-      → IsMixed prefix (Word keyword (own_marks obsolete) line) → ⊥
-  no_mark form line step keyword obsolete words is none w =
-      words.never keyword w.1.0 (one_form keyword w.1.0 obsolete line ∙ is) (none w.1.0) w.1.1
+  -- a keyword that is no form is never one of another index
+  in_order : (wanted : Wanted) (keyword : Keyword) → is_form (Word keyword (own_marks false) 0) ≡ false
+      → BadOrder ≡ unwanted wanted keyword
+  in_order (Form n) (MsgStrAt found) e = cc
+  in_order wanted keyword e = refl
 
-  shunned : (read : SoFar) (wanted : Wanted) (keyword : Keyword) (obsolete : Bool) (line : ℕ)
-      → is_wanted wanted keyword ≡ false
-      → goes_on (turn_own read wanted (Word keyword (own_marks obsolete) line)) ≡ false
-  shunned read wanted keyword obsolete line w = rw w refl
+  word_step : (gap : Gap) (keyword : Keyword) (obsolete : Bool) (line : ℕ) → CouldWord gap line → NeverWord gap line
+      → Step (Word keyword (own_marks obsolete) line) (turn_gap gap (Word keyword (own_marks obsolete) line))
+  word_step (AfterForm read n) (MsgStrAt found) obsolete line could never =
+      form_step read (Form n) found obsolete line (λ index. could (MsgStrAt index))
+      (λ index. never (MsgStrAt index))
+  word_step (Before read wanted) (MsgStrAt found) obsolete line could never =
+      form_step read wanted found obsolete line (λ index. could (MsgStrAt index))
+      (λ index. never (MsgStrAt index))
+  word_step (Before read wanted) keyword obsolete line could never =
+      own_step read wanted keyword obsolete line (could keyword read.own.obsolete) (λ is w. w)
+      (λ isnt. subst (Misfit prefix (Word keyword (own_marks obsolete) line)) (in_order wanted keyword refl)
+      (order (λ w. w) (λ w. never keyword w.1.0 (rw isnt refl) w.1.1)))
+  word_step (InHead read above) (MsgStrAt found) obsolete line could never =
+      stopped (stray_word (MsgStrAt found) obsolete line (λ index o. never (MsgStrAt index) o refl)
+      (λ o. never (MsgStrAt found) o refl))
+  word_step gap MsgCtxt obsolete line could never = taken refl
+  word_step gap MsgId obsolete line could never = taken refl
+  word_step gap keyword obsolete line could never =
+      stopped (order (λ w. w) (λ w. never keyword w.1.0 refl w.1.1))
 
-  -- where a form is wanted and stands, no other index would do
-  only_index : (wanted : Wanted) (found other : ℕ) → is_wanted wanted (MsgStrAt found) ≡ true → other ≢ found
-      → is_wanted wanted (MsgStrAt other) ≡ false
-  only_index Id found other w ne = refl
-  only_index Translation found other w ne = refl
-  only_index (Form n) found other w ne = ne_eqb other n (λ e. ne (e ∙ sym (eqb-true found n w)))
+  -- a keyword of a previous text
+  previous_misfit : (keyword : Keyword) (o : Bool) (line : ℕ)
+      → Misfit prefix (Word keyword (previous_marks o) line) BadOrder
+  previous_misfit keyword o line = foreign (Word keyword (previous_marks o) line) (λ own. true≢false own)
 
-  -- where no form is wanted, no index would do
-  other_wanted : (wanted : Wanted) (found other : ℕ) → is_wrong_form wanted (MsgStrAt found) ≡ false
-      → is_wanted wanted (MsgStrAt other) ≡ false
-  other_wanted Id found other f = refl
-  other_wanted Translation found other f = refl
-  other_wanted (Form n) found other f = cc
+  previous_step : (gap : Gap) (keyword : Keyword) (o : Bool) (line : ℕ)
+      → Step (Word keyword (previous_marks o) line) (turn_gap gap (Word keyword (previous_marks o) line))
+  previous_step (InHead read above) keyword o line =
+      tested (Word keyword (previous_marks o) line) (nat_lt above (rank keyword)) _ BadOrder refl
+      (λ low. previous_misfit keyword o line)
+  previous_step (Before read wanted) keyword o line = stopped (previous_misfit keyword o line)
+  previous_step (AfterForm read number) keyword o line =
+      rw (no_form keyword o line)
+      (tested (Word keyword (previous_marks o) line) (nat_lt 0 (rank keyword))
+      (In (with_entry read) keyword (previous_marks o) false []) BadOrder refl (λ low. previous_misfit keyword o line))
 
-  -- where another form is wanted, its index would do
-  other_index : (form : Bool) (line : ℕ) (read : SoFar) (wanted : Wanted) (keyword : Keyword) (obsolete : Bool)
-      → Words form line (turn_own read wanted)
-      → is_form (Word keyword (own_marks obsolete) line) ≡ form → is_wanted wanted keyword ≡ false
-      → is_wrong_form wanted keyword ≡ true → IsWrongIndex prefix (Word keyword (own_marks obsolete) line)
-  other_index form line read (Form n) (MsgStrAt found) obsolete words is w f = (
-    refl,
-    n,
-    read.own.obsolete,
-    λ e. eqb-false found n w (sym e),
-    words.could (MsgStrAt n) read.own.obsolete is
-        (rw (eq-eqb n n refl, bool_eq_equiv.refl read.own.obsolete) refl),
-  )
-  other_index form line read wanted keyword obsolete words is w f = absurd cc
+  comment_step : (gap : Gap) (kind : CommentKind) (text : List ℕ) (line : ℕ)
+      → Step (Comment kind text line) (turn_gap gap (Comment kind text line))
+  comment_step (Before read wanted) kind text line = stopped (foreign (Comment kind text line) (λ own. own))
+  comment_step gap kind text line = taken refl
 
-  own_refused : (form : Bool) (line : ℕ) (read : SoFar) (wanted : Wanted) (keyword : Keyword) (obsolete : Bool)
-      (fault : PoFault) (at : ℕ) → Words form line (turn_own read wanted)
-      → is_form (Word keyword (own_marks obsolete) line) ≡ form
-      → turn_own read wanted (Word keyword (own_marks obsolete) line) ≡ Stop fault at
-      → Refused (Word keyword (own_marks obsolete) line) fault at
-  own_refused form line read wanted keyword obsolete fault at words is e =
-      chosen (is_wanted wanted keyword) refl (is_wrong_form wanted keyword) refl e where
-        chosen : (w : Bool) → is_wanted wanted keyword ≡ w → (f : Bool) → is_wrong_form wanted keyword ≡ f
-            → (if w then (if beq read.own.obsolete obsolete then opened read read.own keyword line
-            else Stop MixedObsolete line) else Stop (if f then BadPluralIndex else BadOrder) line) ≡ Stop fault at
-            → Refused (Word keyword (own_marks obsolete) line) fault at
-        chosen true w f g e =
-            refused (Word keyword (own_marks obsolete) line) MixedObsolete fault at
-            (second_refused (beq read.own.obsolete obsolete) (opened read read.own keyword line)
-            (Stop MixedObsolete line) fault at refl e).1
-            (mixed (no_index form line (turn_own read wanted) keyword obsolete words is
-            (λ found other o same ne. shunned read wanted (MsgStrAt other) o line
-            (only_index wanted found other (subst (λ k. is_wanted wanted k ≡ true) same w) ne))) (
-              refl,
-              (
-                read.own.obsolete,
-                words.could keyword read.own.obsolete (one_form keyword read.own.obsolete obsolete line ∙ is)
-                    (rw (w, bool_eq_equiv.refl read.own.obsolete) refl),
-              ),
-            ))
-        chosen false w true g e =
-            refused (Word keyword (own_marks obsolete) line) BadPluralIndex fault at e
-            (index (other_index form line read wanted keyword obsolete words is w g))
-        chosen false w false g e =
-            refused (Word keyword (own_marks obsolete) line) BadOrder fault at e
-            (order (no_index form line (turn_own read wanted) keyword obsolete words is
-            (λ found other o same ne. shunned read wanted (MsgStrAt other) o line
-            (other_wanted wanted found other (subst (λ k. is_wrong_form wanted k ≡ false) same g))))
-            (no_mark form line (turn_own read wanted) keyword obsolete words is
-            (λ o. shunned read wanted keyword o line w)))
-
-  head_refused : (form : Bool) (line : ℕ) (read : SoFar) (above : ℕ) (keyword : Keyword) (obsolete : Bool)
-      (fault : PoFault) (at : ℕ) → Words form line (turn_head read above)
-      → is_form (Word keyword (own_marks obsolete) line) ≡ form
-      → turn_head read above (Word keyword (own_marks obsolete) line) ≡ Stop fault at
-      → Refused (Word keyword (own_marks obsolete) line) fault at
-  head_refused form line read above keyword obsolete fault at words is e =
-      let stray = second_refused (begins_body keyword) (opened read (no_lines obsolete) keyword line)
-      (Stop BadOrder line) fault at refl e in
-      refused (Word keyword (own_marks obsolete) line) BadOrder fault at stray.1
-      (order (no_index form line (turn_head read above) keyword obsolete words is (λ found other o same ne. refl))
-      (no_mark form line (turn_head read above) keyword obsolete words is (λ o. rw stray.0 refl)))
-
-  own_word : (gap : Gap) (keyword : Keyword) (obsolete : Bool) (line : ℕ) (fault : PoFault) (at : ℕ)
-      → ((form : Bool) → Words form line (turn_gap gap))
-      → turn_gap gap (Word keyword (own_marks obsolete) line) ≡ Stop fault at
-      → Refused (Word keyword (own_marks obsolete) line) fault at
-  own_word (InHead read above) keyword obsolete line fault at words e =
-      head_refused _ line read above keyword obsolete fault at (words _) refl e
-  own_word (Before read wanted) keyword obsolete line fault at words e =
-      own_refused _ line read wanted keyword obsolete fault at (words _) refl e
-  own_word (AfterForm read number) keyword obsolete line fault at words e =
-      chosen (is_form (Word keyword (own_marks obsolete) line)) refl e where
-        chosen : (b : Bool) → is_form (Word keyword (own_marks obsolete) line) ≡ b
-            → (if b then turn_own read (Form number) (Word keyword (own_marks obsolete) line)
-            else turn_head (with_entry read) 0 (Word keyword (own_marks obsolete) line)) ≡ Stop fault at
-            → Refused (Word keyword (own_marks obsolete) line) fault at
-        chosen true is e =
-            own_refused true line read (Form number) keyword obsolete fault at
-            (record {
-              could = λ k o f goes. (words true).could k o f (rw f goes);
-              never =
-                  λ k o f stops. (words true).never k o f (rw f stops);
-            }) is e
-        chosen false is e =
-            head_refused false line (with_entry read) 0 keyword obsolete fault at
-            (record {
-              could = λ k o f goes. (words false).could k o f (rw f goes);
-              never =
-                  λ k o f stops. (words false).never k o f (rw f stops);
-            }) is e
-
-  previous_in_head : (read : SoFar) (above : ℕ) (keyword : Keyword) (obsolete : Bool) (line : ℕ) (fault : PoFault)
-      (at : ℕ) → turn_head read above (Word keyword (previous_marks obsolete) line) ≡ Stop fault at
-      → Refused (Word keyword (previous_marks obsolete) line) fault at
-  previous_in_head read above keyword obsolete line fault at e =
-      refused (Word keyword (previous_marks obsolete) line) BadOrder fault at
-      (second_refused (nat_lt above (rank keyword)) (In read keyword (previous_marks obsolete) false [])
-      (Stop BadOrder line) fault at refl e).1
-      (foreign (Word keyword (previous_marks obsolete) line) (λ own. true≢false own))
-
-  no_form : (keyword : Keyword) (obsolete : Bool) (line : ℕ)
-      → is_form (Word keyword (previous_marks obsolete) line) ≡ false
-  no_form (MsgStrAt number) obsolete line = refl
-  no_form keyword obsolete line = refl
-
-  previous_word : (gap : Gap) (keyword : Keyword) (obsolete : Bool) (line : ℕ) (fault : PoFault) (at : ℕ)
-      → turn_gap gap (Word keyword (previous_marks obsolete) line) ≡ Stop fault at
-      → Refused (Word keyword (previous_marks obsolete) line) fault at
-  previous_word (InHead read above) keyword obsolete line fault at e =
-      previous_in_head read above keyword obsolete line fault at e
-  previous_word (Before read wanted) keyword obsolete line fault at e =
-      refused (Word keyword (previous_marks obsolete) line) BadOrder fault at e
-      (foreign (Word keyword (previous_marks obsolete) line) (λ own. true≢false own))
-  previous_word (AfterForm read number) keyword obsolete line fault at e =
-      previous_in_head (with_entry read) 0 keyword obsolete line fault at (rw (no_form keyword obsolete line) at e)
-
-  word_refused : (gap : Gap) (keyword : Keyword) (o p : Bool) (line : ℕ) (fault : PoFault) (at : ℕ)
-      → ((form : Bool) → Words form line (turn_gap gap))
-      → turn_gap gap (Word keyword (record { obsolete = o; previous = p }) line) ≡ Stop fault at
-      → Refused (Word keyword (record { obsolete = o; previous = p }) line) fault at
-  word_refused gap keyword o true line fault at words e = previous_word gap keyword o line fault at e
-  word_refused gap keyword o false line fault at words e = own_word gap keyword o line fault at words e
-
-  comment_refused : (gap : Gap) (kind : CommentKind) (text : List ℕ) (line : ℕ) (fault : PoFault) (at : ℕ)
-      → turn_gap gap (Comment kind text line) ≡ Stop fault at → Refused (Comment kind text line) fault at
-  comment_refused (InHead read above) kind text line fault at e = absurd cc
-  comment_refused (Before read wanted) kind text line fault at e =
-      refused (Comment kind text line) BadOrder fault at e (foreign (Comment kind text line) (λ own. own))
-  comment_refused (AfterForm read number) kind text line fault at e = absurd cc
+  any_word_step : (gap : Gap) (keyword : Keyword) (o p : Bool) (line : ℕ) → CouldWord gap line → NeverWord gap line
+      → Step (Word keyword (marked o p) line) (turn_gap gap (Word keyword (marked o p) line))
+  any_word_step gap keyword o true line could never = previous_step gap keyword o line
+  any_word_step gap keyword o false line could never = word_step gap keyword o line could never
 
   -- a string that no keyword precedes
   string_out : (gap : Gap) (bytes : List ℕ) (marks : Marks) (line : ℕ)
@@ -229,13 +170,6 @@ module _ (prefix : List TextItem) where
   string_out (InHead read above) bytes marks line = refl
   string_out (Before read wanted) bytes marks line = refl
   string_out (AfterForm read number) bytes marks line = refl
-
-  -- what could follow the prefix, by the step from its place
-  abbrev Could : Stage → Type 0
-  Could stage = (item : TextItem) → goes_on (turn stage item) ≡ true → IsViable (prefix ++ item ∷ [])
-
-  abbrev Never : Stage → Type 0
-  Never stage = (item : TextItem) → goes_on (turn stage item) ≡ false → IsViable (prefix ++ item ∷ []) → ⊥
 
   unlike : (read : SoFar) (keyword : Keyword) (marks : Marks) (text : List ℕ) (line : ℕ) (fault : PoFault) (same : Bool)
       → goes_on (if same && false then In read keyword marks true text else Stop fault line) ≡ false
@@ -245,10 +179,6 @@ module _ (prefix : List TextItem) where
   stray : (read : SoFar) (keyword : Keyword) (some : Bool) (text bytes : List ℕ) (line : ℕ) (a p b q : Bool)
       → Could (In read keyword (marked a p) some text) → Never (In read keyword (marked a p) some text)
       → Misfit prefix (Str bytes (marked b q) line) (stray_string (marked a p) (marked b q))
-  stray read keyword some text bytes line a true b true could never =
-      foreign (Str bytes (previous_marks b) line) (λ own. true≢false own)
-  stray read keyword some text bytes line a false b true could never =
-      foreign (Str bytes (previous_marks b) line) (λ own. true≢false own)
   stray read keyword some text bytes line a true b false could never =
       order (λ w. w) (λ w. never (Str bytes (own_marks w.1.0) line)
       (unlike read keyword (previous_marks a) (text ++ bytes) line _ (beq a w.1.0)) w.1.1)
@@ -261,58 +191,51 @@ module _ (prefix : List TextItem) where
               (ap goes_on (string_step read keyword (own_marks a) some text bytes line)),
         ),
       )
-
-  string_refused : (read : SoFar) (keyword : Keyword) (marks : Marks) (some : Bool) (text bytes : List ℕ)
-      (found : Marks) (line : ℕ) (fault : PoFault) (at : ℕ) → Could (In read keyword marks some text)
-      → Never (In read keyword marks some text)
-      → turn (In read keyword marks some text) (Str bytes found line) ≡ Stop fault at
-      → Refused (Str bytes found line) fault at
-  string_refused read keyword marks some text bytes found line fault at could never e =
-      refused (Str bytes found line) (stray_string marks found) fault at
-      (second_refused (same_marks marks found) (In read keyword marks true (text ++ bytes))
-      (Stop (stray_string marks found) line) fault at refl e).1
-      (stray read keyword some text bytes line marks.obsolete marks.previous found.obsolete found.previous could never)
+  stray read keyword some text bytes line a p b q could never =
+      foreign (Str bytes (previous_marks b) line) (λ own. true≢false own)
 
   -- a keyword where a string is wanted
   no_word : (read : SoFar) (keyword : Keyword) (marks : Marks) (text : List ℕ) (other : Keyword) (o p : Bool) (line : ℕ)
       → Never (In read keyword marks false text) → Misfit prefix (Word other (marked o p) line) BadOrder
-  no_word read keyword marks text other o true line never =
-      foreign (Word other (previous_marks o) line) (λ own. true≢false own)
+  no_word read keyword marks text other o true line never = previous_misfit other o line
   no_word read keyword marks text other o false line never =
-      order (λ w. wrong other w) (λ w. never (Word other (own_marks w.1.0) line) refl w.1.1) where
-        wrong : (other : Keyword) → IsWrongIndex prefix (Word other (own_marks o) line) → ⊥
-        wrong (MsgStrAt found) w = never (Word (MsgStrAt w.1) (own_marks w.2) line) refl w.4
-        wrong other w = w
+      stray_word other o line (λ index o. never (Word (MsgStrAt index) (own_marks o) line) refl)
+      (λ o. never (Word other (own_marks o) line) refl)
+
+  step : (stage : Stage) (item : TextItem) → goes_on stage ≡ true → Could stage → Never stage
+      → Step item (turn stage item)
+  step (Stop fault at) item on could never = absurd cc
+  step (Between gap) (Comment kind text line) on could never = comment_step gap kind text line
+  step (Between gap) (Word keyword marks line) on could never =
+      any_word_step gap keyword marks.obsolete marks.previous line
+      (λ k o. could (Word k (own_marks o) line)) (λ k o. never (Word k (own_marks o) line))
+  step (Between gap) (Str bytes marks line) on could never =
+      subst (Step (Str bytes marks line)) (sym (string_out gap bytes marks line))
+      (stopped (order (λ w. w) (λ w. never (with_obsolete w.1.0 (Str bytes marks line))
+      (ap goes_on (string_out gap bytes (marked w.1.0 marks.previous) line)) w.1.1)))
+  step (In read keyword marks some text) (Str bytes found line) on could never =
+      tested (Str bytes found line) (same_marks marks found) (In read keyword marks true (text ++ bytes))
+      (stray_string marks found) refl
+      (λ other. stray read keyword some text bytes line marks.obsolete marks.previous found.obsolete found.previous
+      could never)
+  step (In read keyword marks true text) (Comment kind bytes line) on could never =
+      comment_step (closed read keyword marks text) kind bytes line
+  step (In read keyword marks true text) (Word other found line) on could never =
+      any_word_step (closed read keyword marks text) other found.obsolete found.previous line
+      (λ k o. could (Word k (own_marks o) line)) (λ k o. never (Word k (own_marks o) line))
+  step (In read keyword marks false text) (Comment kind bytes line) on could never =
+      stopped (foreign (Comment kind bytes line) (λ own. own))
+  step (In read keyword marks false text) (Word other found line) on could never =
+      stopped (no_word read keyword marks text other found.obsolete found.previous line never)
+
+  -- the item is refused with this fault, on its own line
+  abbrev pub Refused : TextItem → PoFault → ℕ → Type 0
+  Refused item fault line = Misfit prefix item fault × (line ≡ line_of item)
 
   pub refused_at : (stage : Stage) (item : TextItem) (fault : PoFault) (at : ℕ) → goes_on stage ≡ true → Could stage
       → Never stage → turn stage item ≡ Stop fault at → Refused item fault at
-  refused_at (Stop other line) item fault at on could never e = absurd cc
-  refused_at (Between gap) (Comment kind text line) fault at on could never e =
-      comment_refused gap kind text line fault at e
-  refused_at (Between gap) (Word keyword marks line) fault at on could never e =
-      word_refused gap keyword marks.obsolete marks.previous line fault at
-      (λ form. record {
-        could = λ k o f. could (Word k (own_marks o) line);
-        never =
-            λ k o f. never (Word k (own_marks o) line);
-      }) e
-  refused_at (Between gap) (Str bytes marks line) fault at on could never e =
-      refused (Str bytes marks line) BadOrder fault at (sym (string_out gap bytes marks line) ∙ e)
-      (order (λ w. w) (λ w. never (with_obsolete w.1.0 (Str bytes marks line))
-      (ap goes_on (string_out gap bytes (record { obsolete = w.1.0; previous = marks.previous }) line)) w.1.1))
-  refused_at (In read keyword marks some text) (Str bytes found line) fault at on could never e =
-      string_refused read keyword marks some text bytes found line fault at could never e
-  refused_at (In read keyword marks true text) (Comment kind bytes line) fault at on could never e =
-      comment_refused (closed read keyword marks text) kind bytes line fault at e
-  refused_at (In read keyword marks true text) (Word other found line) fault at on could never e =
-      word_refused (closed read keyword marks text) other found.obsolete found.previous line fault at
-      (λ form. record {
-        could = λ k o f. could (Word k (own_marks o) line);
-        never =
-            λ k o f. never (Word k (own_marks o) line);
-      }) e
-  refused_at (In read keyword marks false text) (Comment kind bytes line) fault at on could never e =
-      refused (Comment kind bytes line) BadOrder fault at e (foreign (Comment kind bytes line) (λ own. own))
-  refused_at (In read keyword marks false text) (Word other found line) fault at on could never e =
-      refused (Word other found line) BadOrder fault at e
-      (no_word read keyword marks text other found.obsolete found.previous line never)
+  refused_at stage item fault at on could never e = by (step stage item on could never) e where
+    by : {next : Stage} → Step item next → next ≡ Stop fault at → Refused item fault at
+    by (taken goes) e = absurd (true≢false (sym goes ∙ ap goes_on e))
+    by (stopped {fault = found} misfit) e =
+        let same : found ≡ fault = cc in (subst (Misfit prefix item) same misfit, cc)
