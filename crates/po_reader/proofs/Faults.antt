@@ -1,5 +1,5 @@
 -- Items could become entries exactly where none of them is refused, and their fault is that of the first that is.
-use Rattle.std.proofs.Common.{◌≡◌, ℕ, Bool, true, false, List, [], ◌∷◌, ◌++◌, refl, sym, ap, ◌∙◌, subst, ap₂, subst₂, true≢false, ◌==◌, inl, inr, ◌⊎◌}
+use Rattle.std.proofs.Common.{◌≡◌, ℕ, Bool, true, false, List, [], ◌∷◌, ◌++◌, refl, sym, ap, ◌∙◌, subst, subst₂, append_assoc, append-nil, true≢false, ◌==◌, inl, inr, ◌⊎◌}
 use Rattle.std.proofs.lemmas.Bool.{eq-eqb}
 use Rattle.std.proofs.lemmas.List.Sums.{fold-append}
 use Rattle.std.specs.Prelude.{fold, if◌then◌else◌}
@@ -21,7 +21,7 @@ use Rattle.po_reader.proofs.SpeltRuns.{Comes, string_step, text_comes, spelt_run
 use Rattle.po_reader.proofs.RunsSpelt.{runs_spelt, whole_spelt}
 use Rattle.po_syntax.specs.declared.fault.PoFault.{PoFault}
 use Rattle.po_syntax.specs.declared.fault.PoFault.TheVariants.{BadOrder}
-use Rattle.po_reader.proofs.Misfits.{Refused, refused_at}
+use Rattle.po_reader.proofs.Misfits.{Step, taken, refused, step}
 
 -- from this gap on some items complete the entry, of which no string is the first
 abbrev Completed : Gap → Type 0
@@ -69,21 +69,21 @@ stage_completed (In read keyword marks some text) e =
     )
 
 -- where a list of items leads, after these entries
-abbrev pub led : List TextEntry → List TextItem → Stage
+abbrev led : List TextEntry → List TextItem → Stage
 led before items = fold turn (start before) items
 
-pub led_on : (end : ℕ) (before : List TextEntry) (items after : List TextItem)
+led_on : (end : ℕ) (before : List TextEntry) (items after : List TextItem)
     → comes_to end (start before) (items ++ after) ≡ comes_to end (led before items) after
 led_on end before items after = ap (outcome end) (fold-append turn (start before) items after)
 
-pub viable : (before : List TextEntry) (items : List TextItem) → goes_on (led before items) ≡ true → IsViable items
+viable : (before : List TextEntry) (items : List TextItem) → goes_on (led before items) ≡ true → IsViable items
 viable before items e =
     let more = stage_completed (led before items) e in
     let spelt = runs_spelt 0 before (items ++ more.0) more.1 (led_on 0 before items more.0 ∙ more.2) in
     (more.0, spelt.0, spelt.1)
 
 -- items that could become entries go on
-pub on_where_viable : (before : List TextEntry) (items : List TextItem) → IsViable items
+on_where_viable : (before : List TextEntry) (items : List TextItem) → IsViable items
     → goes_on (led before items) ≡ true
 on_where_viable before items (after, entries, spelt) = by (led before items) refl where
   by : (stage : Stage) → led before items ≡ stage → goes_on (led before items) ≡ true
@@ -111,14 +111,13 @@ misfit_once (order n o) (index w) = absurd (n w)
 misfit_once (order n o) (mixed p m) = absurd (o m)
 misfit_once (order n o) (order p q) = refl
 
--- what is wrong with the item that is refused after a prefix
-misfit_at : (before : List TextEntry) (prefix : List TextItem) (item : TextItem) (fault : PoFault) (line : ℕ)
-    → goes_on (led before prefix) ≡ true → turn (led before prefix) item ≡ Stop fault line
-    → Refused prefix item fault line
-misfit_at before prefix item fault line on e =
-    refused_at prefix (led before prefix) item fault line on
+-- one more item is taken, or refused with its misfit
+item_step : (before : List TextEntry) (prefix : List TextItem) (item : TextItem) → goes_on (led before prefix) ≡ true
+    → Step prefix item (turn (led before prefix) item)
+item_step before prefix item on =
+    step prefix (led before prefix) item on
     (λ other goes. viable before (prefix ++ other ∷ []) (ap goes_on (led_to before prefix other) ∙ goes))
-    (λ other stops. not_viable before (prefix ++ other ∷ []) (ap goes_on (led_to before prefix other) ∙ stops)) e
+    (λ other stops. not_viable before (prefix ++ other ∷ []) (ap goes_on (led_to before prefix other) ∙ stops))
 
 -- where no item is refused, the items come to entries, or end too early
 gap_ended : (end : ℕ) (gap : Gap)
@@ -139,29 +138,6 @@ stage_ended end (Between gap) on = gap_ended end gap
 stage_ended end (In read keyword marks true text) on = gap_ended end (closed read keyword marks text)
 stage_ended end (In read keyword marks false text) on = inr refl
 
--- no item is refused from this place on, or there is a first one that is
-data Settled (stage : Stage) : List TextItem → Type 0 where
-  all : {items : List TextItem} → goes_on (fold turn stage items) ≡ true → Settled stage items
-  first : (prefix : List TextItem) (item : TextItem) (rest : List TextItem) {fault : PoFault} {line : ℕ}
-      → goes_on (fold turn stage prefix) ≡ true → turn (fold turn stage prefix) item ≡ Stop fault line
-      → Settled stage (prefix ++ item ∷ rest)
-
-later : (stage : Stage) (item : TextItem) {items : List TextItem} → Settled (turn stage item) items
-    → Settled stage (item ∷ items)
-later stage item (all on) = all on
-later stage item (first prefix refused rest on e) = first (item ∷ prefix) refused rest on e
-
-item_settled : (stage : Stage) (item : TextItem) (items : List TextItem) → goes_on stage ≡ true
-    → (goes_on (turn stage item) ≡ true → Settled (turn stage item) items) → Settled stage (item ∷ items)
-item_settled stage item items on more = by (turn stage item) refl where
-  by : (next : Stage) → turn stage item ≡ next → Settled stage (item ∷ items)
-  by (Stop fault line) e = first [] item items on e
-  by next e = later stage item (more (ap goes_on e))
-
-settled : (stage : Stage) (items : List TextItem) → goes_on stage ≡ true → Settled stage items
-settled stage [] on = all on
-settled stage (item ∷ items) on = item_settled stage item items on (settled (turn stage item) items)
-
 -- what items come to after these entries
 abbrev After : List TextEntry → List TextItem → Outcome
 After before items = comes_to (last_line items) (start before) items
@@ -178,41 +154,56 @@ abbrev pub ItemsAre : List TextItem → Outcome → Type 0
 ItemsAre items (Entries entries) = SpellsEntries items entries
 ItemsAre items (Fault fault line) = ItemsFault items fault line
 
-items_are : {items : List TextItem} → Settled (start []) items → ItemsAre items (come_to items)
-items_are {items} (all on) = elim (stage_ended (last_line items) (led [] items) on) [
+-- where all items were taken
+ended_are : (items : List TextItem) → goes_on (led [] items) ≡ true → ItemsAre items (come_to items)
+ended_are items on = elim (stage_ended (last_line items) (led [] items) on) [
   | inl reads ↦ subst (ItemsAre items) (sym reads.1) (whole_spelt (last_line items) items reads.0 reads.1)
   | inr e ↦ subst (ItemsAre items) (sym e) (at_end (viable [] items on)
       (λ entries spelt. let reads = spelt_runs spelt (last_line items) [] in cc))
 ]
-items_are (first prefix item rest {fault = fault} {line = line} on e) =
-    let misfit = misfit_at [] prefix item fault line on e in
-    subst (ItemsAre (prefix ++ item ∷ rest))
-    (sym (refused_comes [] prefix item rest fault line e ∙ ap (λ l. Fault fault l) misfit.1))
-    (at rest (viable [] prefix on) (not_viable [] (prefix ++ item ∷ []) (ap goes_on (led_to [] prefix item ∙ e)))
-    misfit.0)
+
+next_are : (prefix : List TextItem) (item : TextItem) (items : List TextItem) → goes_on (led [] prefix) ≡ true
+    → (goes_on (led [] (prefix ++ item ∷ [])) ≡ true
+    → ItemsAre ((prefix ++ item ∷ []) ++ items) (come_to ((prefix ++ item ∷ []) ++ items)))
+    → ItemsAre (prefix ++ item ∷ items) (come_to (prefix ++ item ∷ items))
+next_are prefix item items on more = by (item_step [] prefix item on) refl where
+  by : {next : Stage} → Step prefix item next → turn (led [] prefix) item ≡ next
+      → ItemsAre (prefix ++ item ∷ items) (come_to (prefix ++ item ∷ items))
+  by (taken goes) is =
+      rw (append_assoc prefix (item ∷ []) items) at (more (ap goes_on (led_to [] prefix item ∙ is) ∙ goes))
+  by (refused {fault = fault} misfit) is =
+      subst (ItemsAre (prefix ++ item ∷ items)) (sym (refused_comes [] prefix item items fault (line_of item) is))
+      (at items (viable [] prefix on) (not_viable [] (prefix ++ item ∷ []) (ap goes_on (led_to [] prefix item ∙ is)))
+      misfit)
+
+items_are : (prefix items : List TextItem) → goes_on (led [] prefix) ≡ true
+    → ItemsAre (prefix ++ items) (come_to (prefix ++ items))
+items_are prefix [] on = rw append-nil (ended_are prefix on)
+items_are prefix (item ∷ items) on = next_are prefix item items on (items_are (prefix ++ item ∷ []) items)
 
 -- the fault of items is what they come to, whatever entries were read before them
 pub fault_comes : (before : List TextEntry) {items : List TextItem} {fault : PoFault} {line : ℕ}
     → ItemsFault items fault line → After before items ≡ Fault fault line
 fault_comes before (at {prefix = prefix} {item = item} rest {fault = fault} possible never misfit) =
-    turned (turn (led before prefix) item) refl where
-      turned : (stage : Stage) → turn (led before prefix) item ≡ stage
+    by (item_step before prefix item (on_where_viable before prefix possible)) refl where
+      by : {next : Stage} → Step prefix item next → turn (led before prefix) item ≡ next
           → After before (prefix ++ item ∷ rest) ≡ Fault fault (line_of item)
-      turned (Stop other place) is =
-          let refused = misfit_at before prefix item other place (on_where_viable before prefix possible) is in
-          refused_comes before prefix item rest other place is ∙ ap₂ Fault (misfit_once refused.0 misfit) refused.1
-      turned stage is = absurd
-          (never (viable before (prefix ++ item ∷ []) (ap goes_on (led_to before prefix item ∙ is))))
+      by (taken goes) is =
+          absurd (never (viable before (prefix ++ item ∷ []) (ap goes_on (led_to before prefix item ∙ is) ∙ goes)))
+      by (refused {fault = other} found) is =
+          refused_comes before prefix item rest other (line_of item) is
+          ∙ ap (λ f. Fault f (line_of item)) (misfit_once found misfit)
 fault_comes before {items} (at_end possible none) =
     elim (stage_ended (last_line items) (led before items) (on_where_viable before items possible)) [
-      | inl reads ↦ absurd (let spelt = runs_spelt (last_line items) before items reads.0 reads.1 in none spelt.0 spelt.1)
+      | inl reads ↦ absurd (let spelt = runs_spelt (last_line items) before items reads.0 reads.1 in
+          none spelt.0 spelt.1)
       | inr e ↦ e
     ]
 
 -- what items come to they are, and nothing else
 pub items_once : (items : List TextItem) → Once (ItemsAre items)
 items_once items =
-    record { outcome = come_to items; holds = items_are (settled (start []) items refl); only = only } where
+    record { outcome = come_to items; holds = items_are [] items refl; only = only } where
       only : (other : Outcome) → ItemsAre items other → other ≡ come_to items
       only (Entries entries) spelt = sym (spelt_runs spelt (last_line items) [])
       only (Fault fault line) wrong = sym (fault_comes [] wrong)

@@ -22,9 +22,9 @@ use Rattle.po_reader.proofs.SpeltRuns.{no_form, string_step}
 
 module _ (prefix : List TextItem) where
   -- the item is taken, or refused with its misfit, on its own line
-  data Step (item : TextItem) : Stage → Type 0 where
+  pub data Step (item : TextItem) : Stage → Type 0 where
     taken : {next : Stage} → goes_on next ≡ true → Step item next
-    stopped : {fault : PoFault} → Misfit prefix item fault → Step item (Stop fault (line_of item))
+    refused : {fault : PoFault} → Misfit prefix item fault → Step item (Stop fault (line_of item))
 
   -- the item could stand after the prefix
   abbrev CanFollow : TextItem → Type 0
@@ -71,7 +71,7 @@ module _ (prefix : List TextItem) where
   tested : (item : TextItem) (b : Bool) (next : Stage) (fault : PoFault) → goes_on next ≡ true
       → (b ≡ false → Misfit prefix item fault) → Step item (if b then next else Stop fault (line_of item))
   tested item true next fault on misfit = taken on
-  tested item false next fault on misfit = stopped (misfit refl)
+  tested item false next fault on misfit = refused (misfit refl)
 
   -- a keyword that is wanted is refused for its mark
   own_step : (read : SoFar) (wanted : Wanted) (keyword : Keyword) (obsolete : Bool) (line : ℕ)
@@ -90,7 +90,7 @@ module _ (prefix : List TextItem) where
         (opened read read.own keyword line) MixedObsolete refl
         (λ other. mixed (right w)
         (refl, (read.own.obsolete, could (rw (w, bool_eq_equiv.refl read.own.obsolete) refl))))
-    by false w = stopped (other w)
+    by false w = refused (other w)
 
   form_step : (read : SoFar) (wanted : Wanted) (found : ℕ) (obsolete : Bool) (line : ℕ)
       → ((index : ℕ) (o : Bool) → goes_on (turn_own read wanted (Word (MsgStrAt index) (own_marks o) line)) ≡ true
@@ -110,7 +110,7 @@ module _ (prefix : List TextItem) where
         could n read.own.obsolete (rw (eq-eqb n n refl, bool_eq_equiv.refl read.own.obsolete) refl),
       ))
   form_step read wanted found obsolete line could never =
-      stopped (stray_word (MsgStrAt found) obsolete line (λ index o. never index o refl) (λ o. never found o refl))
+      refused (stray_word (MsgStrAt found) obsolete line (λ index o. never index o refl) (λ o. never found o refl))
 
   -- a keyword that is no form is never one of another index
   in_order : (wanted : Wanted) (keyword : Keyword) → is_form (Word keyword (own_marks false) 0) ≡ false
@@ -131,12 +131,12 @@ module _ (prefix : List TextItem) where
       (λ isnt. subst (Misfit prefix (Word keyword (own_marks obsolete) line)) (in_order wanted keyword refl)
       (order (λ w. w) (λ w. never keyword w.1.0 (rw isnt refl) w.1.1)))
   word_step (InHead read above) (MsgStrAt found) obsolete line could never =
-      stopped (stray_word (MsgStrAt found) obsolete line (λ index o. never (MsgStrAt index) o refl)
+      refused (stray_word (MsgStrAt found) obsolete line (λ index o. never (MsgStrAt index) o refl)
       (λ o. never (MsgStrAt found) o refl))
   word_step gap MsgCtxt obsolete line could never = taken refl
   word_step gap MsgId obsolete line could never = taken refl
   word_step gap keyword obsolete line could never =
-      stopped (order (λ w. w) (λ w. never keyword w.1.0 refl w.1.1))
+      refused (order (λ w. w) (λ w. never keyword w.1.0 refl w.1.1))
 
   -- a keyword of a previous text
   previous_misfit : (keyword : Keyword) (o : Bool) (line : ℕ)
@@ -148,7 +148,7 @@ module _ (prefix : List TextItem) where
   previous_step (InHead read above) keyword o line =
       tested (Word keyword (previous_marks o) line) (nat_lt above (rank keyword)) _ BadOrder refl
       (λ low. previous_misfit keyword o line)
-  previous_step (Before read wanted) keyword o line = stopped (previous_misfit keyword o line)
+  previous_step (Before read wanted) keyword o line = refused (previous_misfit keyword o line)
   previous_step (AfterForm read number) keyword o line =
       rw (no_form keyword o line)
       (tested (Word keyword (previous_marks o) line) (nat_lt 0 (rank keyword))
@@ -156,7 +156,7 @@ module _ (prefix : List TextItem) where
 
   comment_step : (gap : Gap) (kind : CommentKind) (text : List ℕ) (line : ℕ)
       → Step (Comment kind text line) (turn_gap gap (Comment kind text line))
-  comment_step (Before read wanted) kind text line = stopped (foreign (Comment kind text line) (λ own. own))
+  comment_step (Before read wanted) kind text line = refused (foreign (Comment kind text line) (λ own. own))
   comment_step gap kind text line = taken refl
 
   any_word_step : (gap : Gap) (keyword : Keyword) (o p : Bool) (line : ℕ) → CouldWord gap line → NeverWord gap line
@@ -202,7 +202,7 @@ module _ (prefix : List TextItem) where
       stray_word other o line (λ index o. never (Word (MsgStrAt index) (own_marks o) line) refl)
       (λ o. never (Word other (own_marks o) line) refl)
 
-  step : (stage : Stage) (item : TextItem) → goes_on stage ≡ true → Could stage → Never stage
+  pub step : (stage : Stage) (item : TextItem) → goes_on stage ≡ true → Could stage → Never stage
       → Step item (turn stage item)
   step (Stop fault at) item on could never = absurd cc
   step (Between gap) (Comment kind text line) on could never = comment_step gap kind text line
@@ -211,7 +211,7 @@ module _ (prefix : List TextItem) where
       (λ k o. could (Word k (own_marks o) line)) (λ k o. never (Word k (own_marks o) line))
   step (Between gap) (Str bytes marks line) on could never =
       subst (Step (Str bytes marks line)) (sym (string_out gap bytes marks line))
-      (stopped (order (λ w. w) (λ w. never (with_obsolete w.1.0 (Str bytes marks line))
+      (refused (order (λ w. w) (λ w. never (with_obsolete w.1.0 (Str bytes marks line))
       (ap goes_on (string_out gap bytes (marked w.1.0 marks.previous) line)) w.1.1)))
   step (In read keyword marks some text) (Str bytes found line) on could never =
       tested (Str bytes found line) (same_marks marks found) (In read keyword marks true (text ++ bytes))
@@ -224,18 +224,6 @@ module _ (prefix : List TextItem) where
       any_word_step (closed read keyword marks text) other found.obsolete found.previous line
       (λ k o. could (Word k (own_marks o) line)) (λ k o. never (Word k (own_marks o) line))
   step (In read keyword marks false text) (Comment kind bytes line) on could never =
-      stopped (foreign (Comment kind bytes line) (λ own. own))
+      refused (foreign (Comment kind bytes line) (λ own. own))
   step (In read keyword marks false text) (Word other found line) on could never =
-      stopped (no_word read keyword marks text other found.obsolete found.previous line never)
-
-  -- the item is refused with this fault, on its own line
-  abbrev pub Refused : TextItem → PoFault → ℕ → Type 0
-  Refused item fault line = Misfit prefix item fault × (line ≡ line_of item)
-
-  pub refused_at : (stage : Stage) (item : TextItem) (fault : PoFault) (at : ℕ) → goes_on stage ≡ true → Could stage
-      → Never stage → turn stage item ≡ Stop fault at → Refused item fault at
-  refused_at stage item fault at on could never e = by (step stage item on could never) e where
-    by : {next : Stage} → Step item next → next ≡ Stop fault at → Refused item fault at
-    by (taken goes) e = absurd (true≢false (sym goes ∙ ap goes_on e))
-    by (stopped {fault = found} misfit) e =
-        let same : found ≡ fault = cc in (subst (Misfit prefix item) same misfit, cc)
+      refused (no_word read keyword marks text other found.obsolete found.previous line never)

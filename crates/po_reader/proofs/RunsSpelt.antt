@@ -1,5 +1,5 @@
 -- What the reader comes to is what items spell: each place awaits what makes, with the items before it, a whole list.
-use Rattle.std.proofs.Common.{◌≡◌, ℕ, ◌+◌, ◌<◌, Bool, true, false, ◌==◌, nat_lt, List, [], ◌∷◌, ◌++◌, Option, None, Some, append_assoc, append-nil, refl, sym, ap, subst, ◌∙◌, inl, inr, ◌⊎◌, arith}
+use Rattle.std.proofs.Common.{◌≡◌, ℕ, ◌<◌, Bool, true, false, ◌==◌, nat_lt, List, [], ◌∷◌, ◌++◌, Option, None, Some, append_assoc, append-nil, refl, sym, ap, subst, ◌∙◌, inl, inr, ◌⊎◌, arith}
 use Rattle.std.specs.Prelude.{if◌then◌else◌}
 use Rattle.std.specs.Bool.{beq}
 use Rattle.std.specs.Cmp.{booleans_Decides}
@@ -131,37 +131,6 @@ module _ (Whole : List TextItem → List TextEntry → Type 0) (read : SoFar) wh
       rw (append_assoc own last rest) at
       (w (own ++ last) rest body more (line, own, text, last, c.0, c.1, refl, spelt, c.2, c.3) others)
 
-  single_awaited : AwaitsOwn Whole read Translation → (line : ℕ) (own : List TextItem) (text : List ℕ)
-      → spell.SpellsKeywordText MsgStr (own_marks read.own.obsolete) line own text
-      → AwaitsGap (λ items. Whole (own ++ items)) (closed read MsgStr (own_marks read.own.obsolete) text)
-  single_awaited w line own text spelt =
-      entries_awaited (λ items. Whole (own ++ items)) _
-      (λ rest more others. rw append_assoc (w own rest _ more (_, _, spell.single spelt, refl) others))
-
-  plural_awaited : AwaitsOwn Whole read Translation → (line : ℕ) (own : List TextItem) (text : List ℕ)
-      → spell.SpellsKeywordText MsgIdPlural (own_marks read.own.obsolete) line own text
-      → AwaitsOwn (λ items. Whole (own ++ items)) (with_own read (with_text MsgIdPlural text read.own)) (Form 0)
-  plural_awaited w line own text spelt last rest body more c others =
-      rw (append_assoc own last rest) at
-      (w (own ++ last) rest body more (_, _, spell.plural spelt c.2, c.3) others)
-
-  form_awaited : (index : ℕ) → AwaitsOwn Whole read (Form index) → (line : ℕ) (own : List TextItem) (text : List ℕ)
-      → spell.SpellsKeywordText (MsgStrAt index) (own_marks read.own.obsolete) line own text
-      → AwaitsGap (λ items. Whole (own ++ items))
-      (AfterForm (with_own read (with_text (MsgStrAt index) text read.own)) (index + 1))
-  form_awaited index w line own text spelt = (
-    λ last rest body more c others. rw (append_assoc own last rest) at
-        (w (own ++ last) rest body more (
-          text,
-          c.0 ∷ c.1,
-          spell.more_forms spelt c.2,
-          c.3 ∙ ap (λ forms. record (read.own) { forms = forms }) (append_assoc read.own.forms (text ∷ []) (c.0 ∷ c.1)),
-        ) others),
-    entries_awaited (λ items. Whole (own ++ items)) _
-        (λ rest more others. rw append_assoc (w own rest _ more
-        (text, [], rw append-nil at (spell.more_forms spelt spell.no_form), refl) others)),
-  )
-
 -- the test passes where the items would be refused otherwise
 only_if : (end : ℕ) (items : List TextItem) (entries : List TextEntry) (b : Bool) (stage : Stage) (fault : PoFault)
     (line : ℕ) → comes_to end (if b then stage else Stop fault line) items ≡ Entries entries
@@ -194,13 +163,13 @@ module _ (end : ℕ) (items : List TextItem) (goes : Goes end items) (Whole : Li
         → comes_to end (turn_head read above (Word keyword (record { obsolete = o; previous = p }) line)) items
         ≡ Entries entries → Whole (Word keyword (record { obsolete = o; previous = p }) line ∷ items) entries
     word keyword o true e =
-        let higher = only_if end items entries (nat_lt above (rank keyword))
-        (In read keyword (previous_marks o) false []) BadOrder line e in
+        let higher = only_if end items entries (nat_lt above (rank keyword)) _ BadOrder line e in
         text_goes read keyword (previous_marks o) line
         (previous_awaited Whole read above w keyword o line (ltb-true _ _ higher.0)) higher.1
     word MsgId o false e =
         text_goes _ MsgId (own_marks o) line
-        (id_awaited Whole (with_own read (no_lines o)) (body_awaited Whole read above w o [] None spell.no_context) line)
+        (id_awaited Whole (with_own read (no_lines o))
+        (body_awaited Whole read above w o [] None spell.no_context) line)
         e
     word MsgCtxt o false e =
         text_goes _ MsgCtxt (own_marks o) line
@@ -213,12 +182,28 @@ module _ (end : ℕ) (items : List TextItem) (goes : Goes end items) (Whole : Li
       → comes_to end (opened read read.own keyword line) items ≡ Entries entries
       → Whole (Word keyword (own_marks read.own.obsolete) line ∷ items) entries
   wanted_goes read Id MsgId line is w e = text_goes _ MsgId _ line (id_awaited Whole read w line) e
-  wanted_goes read Translation MsgStr line is w e = text_goes read MsgStr _ line (single_awaited Whole read w line) e
+  wanted_goes read Translation MsgStr line is w e =
+      text_goes read MsgStr _ line (λ own text spelt. entries_awaited (λ items. Whole (own ++ items)) _
+      (λ rest more others. rw append_assoc (w own rest _ more (_, _, spell.single spelt, refl) others))) e
   wanted_goes read Translation MsgIdPlural line is w e =
-      text_goes read MsgIdPlural _ line (plural_awaited Whole read w line) e
+      text_goes read MsgIdPlural _ line (λ own text spelt last rest body more c others.
+      rw (append_assoc own last rest) at
+      (w (own ++ last) rest body more (_, _, spell.plural spelt c.2, c.3) others)) e
   wanted_goes read (Form index) (MsgStrAt found) line is w e =
-      text_goes read (MsgStrAt found) _ line
-      (form_awaited Whole read found (rw (sym (eqb-true found index is)) at w) line) e
+      let form = rw (sym (eqb-true found index is)) at w in
+      text_goes read (MsgStrAt found) _ line (λ own text spelt. (
+        λ last rest body more c others. rw (append_assoc own last rest) at
+            (form (own ++ last) rest body more (
+              text,
+              c.0 ∷ c.1,
+              spell.more_forms spelt c.2,
+              c.3 ∙ ap (λ forms. record (read.own) { forms = forms })
+                  (append_assoc read.own.forms (text ∷ []) (c.0 ∷ c.1)),
+            ) others),
+        entries_awaited (λ items. Whole (own ++ items)) _
+            (λ rest more others. rw append_assoc (form own rest _ more
+            (text, [], rw append-nil at (spell.more_forms spelt spell.no_form), refl) others)),
+      )) e
   wanted_goes read wanted keyword line is w e = absurd cc
 
   own_goes : (read : SoFar) (wanted : Wanted) (item : TextItem) → AwaitsOwn Whole read wanted
@@ -295,7 +280,8 @@ all_go end [] Whole (In read keyword marks true text) entries w e =
     gap_over end Whole (closed read keyword marks text) entries (text_over Whole read keyword marks text w) e
 all_go end [] Whole (In read keyword marks false text) entries w e = absurd cc
 all_go end [] Whole (Stop fault line) entries w e = absurd cc
-all_go end (item ∷ items) Whole (Between gap) entries w e = gap_goes end items (all_go end items) Whole entries gap item w e
+all_go end (item ∷ items) Whole (Between gap) entries w e =
+    gap_goes end items (all_go end items) Whole entries gap item w e
 all_go end (item ∷ items) Whole (Stop fault line) entries w e = absurd (never end fault line items entries e)
 all_go end (Str bytes found line ∷ items) Whole (In read keyword marks some text) entries w e =
     string_goes end items (all_go end items) Whole entries read keyword marks found some text bytes line w e
@@ -320,6 +306,5 @@ runs_spelt end before items all e =
 
 pub whole_spelt : (end : ℕ) (items : List TextItem) (entries : List TextEntry)
     → comes_to end (Between (InHead (only []) 0)) items ≡ Entries entries → spell.SpellsEntries items entries
-whole_spelt end items entries e =
-    all_go end items spell.SpellsEntries (Between (InHead (only []) 0)) entries
-    (entries_awaited spell.SpellsEntries [] (λ rest more h. h)) e
+whole_spelt end items entries e = let spelt =
+    runs_spelt end [] items entries e in subst (spell.SpellsEntries items) (sym spelt.2) spelt.1

@@ -17,7 +17,7 @@ use Rattle.po_entry.specs.Spelling as spell
 use Rattle.po_entry.specs.Validity as validity
 use Rattle.po_entry.specs.Faults as faults
 
-pub head_sound : {own : List TextItem} {comment_texts : List CommentText} {previous : List PreviousText}
+head_sound : {own : List TextItem} {comment_texts : List CommentText} {previous : List PreviousText}
     → spell.SpellsHead own comment_texts previous → All HoldsText own → All SoundCommentText comment_texts
 head_sound spell.nothing h = All-nil SoundCommentText
 head_sound (spell.head_comment {kind = kind} {text = text} {line = line} {items = items}

@@ -135,7 +135,8 @@ module _ (end : ℕ) (to : Outcome) where
       → spell.SpellsHead own comment_texts previous → (above : ℕ) → Rise above (keywords previous)
       → (read : SoFar) (rest : List TextItem)
       → ((last : ℕ) → HeadComes (and_head read comment_texts previous) last rest) → HeadComes read above (own ++ rest)
-  head_comes spell.nothing above rise read rest more = rw (append-nil, append-nil) at (more above)
+  head_comes spell.nothing above rise read rest more =
+      rw (append-nil read.comment_texts, append-nil read.previous) at (more above)
   head_comes (spell.head_comment {kind = kind} {text = text} {comment_texts = others} h) above rise read rest more =
       let comment : CommentText = record { kind = kind; text = text } in
       let next = head_comes h above rise (with_comment read comment) rest

@@ -4,14 +4,14 @@ use Rattle.std.specs.Bool.{beq}
 use Rattle.std.specs.Cmp.{bool_eq_equiv, booleans_Decides}
 use Rattle.std.proofs.lemmas.Bool.{and_parts, not-true, false≢true, eqb-true, eq-eqb}
 use Rattle.po_syntax.specs.declared.item.Marks.{Marks}
-use Rattle.po_reader.specs.Internal.Turn.{same_marks, closed, turn, comes_to, outcome, begins_string, begins_form, begins_word, begins_own, begins_body, EndsHead, opened, is_wanted}
+use Rattle.po_reader.specs.Internal.Turn.{same_marks, closed, turn, comes_to, outcome, begins_string, begins_form, begins_word, begins_own, EndsHead, opened, is_wanted}
 use Rattle.std.proofs.lemmas.List.Folds.{fold_stays}
 use Rattle.po_syntax.specs.declared.fault.PoFault.{PoFault}
 use Rattle.po_syntax.specs.declared.item.Keyword.{Keyword}
 use Rattle.po_syntax.specs.Prelude.{TextItem, line_of}
 use Rattle.po_syntax.specs.Item.{Comment, Word, Str}
 use Rattle.po_entry.specs.Prelude.{TextEntry, rank}
-use Rattle.po_reader.specs.Internal.Stage.{SoFar, Wanted, Id, Translation, Form, Outcome, InHead, Before, AfterForm, Stage, Between, In, Stop, Entries, Fault, no_lines, with_own, with_entry, with_previous_text}
+use Rattle.po_reader.specs.Internal.Stage.{SoFar, Wanted, Id, Translation, Form, Outcome, InHead, Before, AfterForm, Stage, Between, In, Stop, Entries, Fault, no_lines, with_entry, with_previous_text}
 use Rattle.po_reader.specs.Internal.Reads.{first_line}
 use Rattle.po_reader.specs.Prelude.{IsFaultOf}
 use Rattle.po_syntax.specs.declared.item.Keyword.TheVariants.{MsgCtxt, MsgId, MsgIdPlural, MsgStr, MsgStrAt}
@@ -132,21 +132,6 @@ pub context_begins : (end : ℕ) (items rest : List TextItem) (marks : Marks) (l
     ≡ comes_to end (opened read (no_lines marks.obsolete) MsgCtxt line) rest
 context_begins end items rest marks line is begins read above = let own : marks.previous ≡ false =
     not-true _ (and_parts _ _ (rw is at begins)).0 in rw (is, own) refl
-
-own_id : (keyword : Keyword) → (keyword ≡ MsgCtxt → ⊥) → begins_body keyword ≡ true → keyword ≡ MsgId
-own_id MsgId other e = refl
-own_id MsgCtxt other e = absurd (other refl)
-own_id keyword other e = cc
-
-pub id_begins : (end : ℕ) (items rest : List TextItem) (keyword : Keyword) (marks : Marks) (line : ℕ)
-    → items ≡ Word keyword marks line ∷ rest → (keyword ≡ MsgCtxt → ⊥) → begins_own items ≡ true
-    → (read : SoFar) (above : ℕ)
-    → comes_to end (Between (InHead read above)) items
-    ≡ comes_to end (Between (Before (with_own read (no_lines marks.obsolete)) Id)) items
-id_begins end items rest keyword marks line is other begins read above =
-    let both = and_parts _ _ (rw is at begins) in
-    let own : marks.previous ≡ false = not-true _ both.0 in
-    rw (is, own_id keyword other both.1, own, bool_eq_equiv.refl marks.obsolete) refl
 
 -- a previous text ends in its head
 pub previous_closed : (read : SoFar) (keyword : Keyword) (marks : Marks) (text : List ℕ) → marks.previous ≡ true
