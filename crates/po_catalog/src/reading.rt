@@ -1,13 +1,14 @@
 //! The catalogue of a text.
 
-ghost use Rattle.std.specs.Prelude.{◌≡◌, ◌≢◌, IfOk, IfErr};
+ghost use Rattle.std.specs.Prelude.{IfOk, IfErr};
+ghost use Rattle.po_syntax.specs.Prelude.{IsFaultOf};
 ghost use Rattle.po_entry.specs.Prelude.{ReadsText, IsReadFault};
 
 use crate::catalogue::Catalogue;
 use crate::stores::catalogue_of;
 use po_entry::{Drafts, Store};
 use po_reader::read_into;
-use po_syntax::{PoError, PoFault};
+use po_syntax::PoError;
 use std::alloc::Global;
 
 /// Reads a PO text as a catalogue (GNU gettext manual, "The Format of PO Files").
@@ -28,8 +29,7 @@ use std::alloc::Global;
 /// `OutOfMemory`, without a line, may come in place of any result.
 pub fn read(alloc: Global, text: &[u8]) -> Result<Catalogue, PoError>
     ensures found { IfOk result (λ entries. ReadsText text.now entries) }
-    ensures fault { IfErr result (λ e. e.kind ≢ PoFault.OutOfMemory → IsReadFault text.now e.kind e.line) }
-    ensures memory { IfErr result (λ e. e.kind ≡ PoFault.OutOfMemory → e.line ≡ 0) }
+    ensures fault { IfErr result (IsFaultOf (IsReadFault text.now)) }
 {
     let mut drafts = Drafts::new(alloc);
     let mut store = Store::new(alloc);

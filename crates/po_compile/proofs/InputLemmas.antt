@@ -28,7 +28,7 @@ use Rattle.mo_file.specs.declared.building.BuildError.TheVariants.{TooLarge, Not
 use Rattle.po_syntax.specs.declared.fault.PoError.{PoError}
 use Rattle.po_syntax.specs.declared.fault.PoFault.{PoFault}
 use Rattle.po_syntax.specs.declared.fault.PoFault.TheVariants.{OutOfMemory}
-use Rattle.po_reader.specs.Prelude.{IsFaultOf}
+use Rattle.po_syntax.specs.Prelude.{IsFaultOf}
 use Rattle.po_compile.specs.declared.options.Options.{Options}
 use Rattle.po_compile.specs.declared.row.Row.{Row}
 use Rattle.po_compile.proofs.FaultLemmas.{NoFirstDuplicate}

@@ -2,13 +2,12 @@
 -- are reported (manual, "The Format of PO Files").
 use Rattle.std.specs.Prelude.{◌≡◌, ◌≢◌, ℕ, Bool, false, List, [], ◌∷◌, ◌++◌, All}
 use Rattle.po_syntax.specs.declared.fault.PoFault.{PoFault}
-use Rattle.po_syntax.specs.declared.fault.PoFault.TheVariants.{BadOrder, BadPluralIndex, MixedObsolete, ForeignCharset, OutOfMemory}
+use Rattle.po_syntax.specs.declared.fault.PoFault.TheVariants.{BadOrder, BadPluralIndex, MixedObsolete, ForeignCharset}
 use Rattle.po_syntax.specs.declared.item.Keyword.TheVariants.{MsgStrAt}
 use Rattle.po_syntax.specs.Prelude.{TextItem, line_of, SpellsText, TextFault}
 use Rattle.po_syntax.specs.Item.{Comment, Word, Str}
 use Rattle.po_entry.specs.Spelling.{own_marks, SpellsEntries}
 use Rattle.po_entry.specs.TextEntry.{TextEntry}
-use Rattle.po_syntax.specs.declared.fault.PoError.{PoError}
 use Rattle.po_entry.specs.Header.{HasAdmittedCharset}
 use Rattle.po_entry.specs.Validity.{HasTexts, EntryTextFault}
 
@@ -66,10 +65,6 @@ pub data ItemsFault : List TextItem → PoFault → ℕ → Type 0 where
       → ItemsFault (prefix ++ item ∷ rest) fault (line_of item)
   at_end : {items : List TextItem} → IsViable items → ((entries : List TextEntry) → SpellsEntries items entries → ⊥)
       → ItemsFault items BadOrder (last_line items)
-
--- an error other than out of memory is such a stop
-abbrev pub IsStop : (PoFault → ℕ → Type 0) → PoError → Type 0
-IsStop Stops error = error.kind ≢ OutOfMemory → Stops error.kind error.line
 
 -- an entry fails with this fault, and has this line, and P holds of each entry before it
 pub data EntriesStop (P : TextEntry → Type 0) (Fails : TextEntry → PoFault → Type 0)

@@ -10,7 +10,7 @@ pub use Rattle.po_entry.specs.Header.{AdmitsCharset, EndsName, HasAdmittedCharse
 pub use Rattle.po_entry.specs.Validity.{EntryTextFault, HasTexts, IsCatalogueEntry, IsClean, IsEntry, IsFlag, IsReference, IsRefusedEntry, IsTranslatorComment, RefusesMessage, out_of_memory}
 pub use Rattle.po_entry.specs.Comments.{CommentText, EndsReference, HaveFuzzyFlag, HaveReferences, IsWithoutBlanks, KeepsFlags, ListsFlags, ListsReferences, NamesFlag, PreviousText, all_listed_flags, flags_of, fuzzy_of, is_fuzzy_flag, is_not_empty, listed_flags, listed_references, previous_of, rank, references_of, same_kind, texts_of, with_flag, with_previous}
 pub use Rattle.po_entry.specs.Spelling.{AreInOrder, AreSome, SpellsBody, SpellsContext, SpellsEntries, SpellsEntry, SpellsForms, SpellsHead, SpellsKeywordText, SpellsStrings, SpellsTranslation, with_head, ReadsItems, ReadsLeft, ReadsText}
-pub use Rattle.po_entry.specs.Faults.{CharsetFault, EntriesStop, IsMixed, IsOwn, IsReadFault, IsStop, IsViable, IsWrongIndex, ItemsFault, ItemsStop, Misfit, last_line, with_obsolete}
+pub use Rattle.po_entry.specs.Faults.{CharsetFault, EntriesStop, IsMixed, IsOwn, IsReadFault, IsViable, IsWrongIndex, ItemsFault, ItemsStop, Misfit, last_line, with_obsolete}
 pub use Rattle.po_entry.specs.Joined.{InputEntry, entries_of, in_input, is_live, is_live_header, joined, joined_entries, joined_from, kept_entries}
 pub use Rattle.po_entry.specs.Message.{Message, entry_message, entry_messages, first_ones, group_numbers, key_writes, keys_writes, same_message, with_new}
 unfoldable pub use Rattle.po_entry.specs.Message.{message_hash}

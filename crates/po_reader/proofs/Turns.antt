@@ -8,12 +8,11 @@ use Rattle.po_reader.specs.Internal.Turn.{same_marks, closed, turn, comes_to, ou
 use Rattle.std.proofs.lemmas.List.Folds.{fold_stays}
 use Rattle.po_syntax.specs.declared.fault.PoFault.{PoFault}
 use Rattle.po_syntax.specs.declared.item.Keyword.{Keyword}
-use Rattle.po_syntax.specs.Prelude.{TextItem, line_of}
+use Rattle.po_syntax.specs.Prelude.{TextItem, line_of, IsFaultOf}
 use Rattle.po_syntax.specs.Item.{Comment, Word, Str}
 use Rattle.po_entry.specs.Prelude.{TextEntry, rank}
 use Rattle.po_reader.specs.Internal.Stage.{SoFar, Wanted, Id, Translation, Form, Outcome, InHead, Before, AfterForm, Stage, Between, In, Stop, Entries, Fault, no_lines, with_entry, with_previous_text}
 use Rattle.po_reader.specs.Internal.Reads.{first_line}
-use Rattle.po_reader.specs.Prelude.{IsFaultOf}
 use Rattle.po_syntax.specs.declared.item.Keyword.TheVariants.{MsgCtxt, MsgId, MsgIdPlural, MsgStr, MsgStrAt}
 use Rattle.po_syntax.specs.declared.fault.PoError.{PoError}
 use Rattle.po_syntax.specs.declared.fault.PoFault.TheVariants.{BadOrder}

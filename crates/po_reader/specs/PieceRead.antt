@@ -1,11 +1,10 @@
 -- How a text is read piece by piece, and why what is left of it isn't read. Internal but for the functions that read
 -- pieces (manual, "The Format of PO Files").
 use Rattle.std.specs.Prelude.{Bool, true, false, List, [], ℕ, ◌≡◌, ◌≢◌, ◌<◌, ◌++◌, map, length}
-use Rattle.po_entry.specs.Prelude.{TextEntry, IsReadFault, IsStop, ItemsStop, ReadsLeft, ReadsText}
+use Rattle.po_entry.specs.Prelude.{TextEntry, IsReadFault, ItemsStop, ReadsLeft, ReadsText}
 use Rattle.po_syntax.specs.declared.fault.PoFault.{PoFault}
 use Rattle.po_syntax.specs.declared.fault.PoError.{PoError}
-use Rattle.po_syntax.specs.declared.fault.PoFault.TheVariants.{OutOfMemory}
-use Rattle.po_syntax.specs.Prelude.{LinesLeft, SpellsLeft, LeftStops, IsPiece, TextItem}
+use Rattle.po_syntax.specs.Prelude.{IsFaultOf, LinesLeft, SpellsLeft, LeftStops, IsPiece, TextItem}
 
 -- What is kept of the entries that are read: all, or all but their comments, references and flags
 -- (manual, "The Format of PO Files").
@@ -23,11 +22,6 @@ kept_entry false entry = without_comments entry
 abbrev pub kept_texts : Bool → List (List ℕ) → List (List ℕ)
 kept_texts true texts = texts
 kept_texts false texts = []
-
--- the error is such a fault, or out of memory, without a line
-pub record IsFaultOf (Has : PoFault → ℕ → Type 0) (error : PoError) : Type 0 where
-  pub fault : IsStop Has error
-  pub memory : error.kind ≡ OutOfMemory → error.line ≡ 0
 
 -- the error is the fault of the text, or out of memory, without a line
 abbrev pub IsTextError : List ℕ → PoError → Type 0

@@ -2,8 +2,8 @@
 //! catalogue.
 
 ghost use Rattle.std.specs.Prelude.{◌≡◌, ◌≢◌, ◌<◌, ◌≤◌, ◌^◌, [], List, All, length, map, vec_len, true, IfErr, IsUtf8, OnOk};
-ghost use Rattle.po_syntax.specs.Prelude.{HoldsText, OfString, views};
-ghost use Rattle.po_entry.specs.Prelude.{Lacks, TextEntry, quoted_texts, HasAdmittedCharset, AreLaid, CanLie, entries_in, IsCatalogueEntry, HasTexts, EntryTextFault, CharsetFault, EntriesStop, IsStop, ItemsStop, last_line};
+ghost use Rattle.po_syntax.specs.Prelude.{HoldsText, IsFaultOf, OfString, views};
+ghost use Rattle.po_entry.specs.Prelude.{Lacks, TextEntry, quoted_texts, HasAdmittedCharset, AreLaid, CanLie, entries_in, IsCatalogueEntry, HasTexts, EntryTextFault, CharsetFault, EntriesStop, ItemsStop, last_line};
 ghost use Rattle.po_reader.specs.Prelude.{kept_entry};
 ghost use Rattle.po_reader.specs.Internal.Keeping.{KeepsItems};
 ghost use Rattle.po_reader.specs.Internal.Reads.{ChecksStop, Reads, start, Fails};
@@ -31,8 +31,7 @@ pub(crate) fn read_items(
     ensures found { OnOk result (KeepsItems with_comments (views items.entry.items) (entries_in drafts.new)) }
     ensures lie { OnOk result (AreLaid drafts.new) }
     ensures valid { OnOk result (All IsCatalogueEntry (entries_in drafts.new)) }
-    ensures fault { IfErr result (IsStop (ItemsStop (views items.entry.items))) }
-    ensures memory { IfErr result (λ e. e.kind ≡ PoFault.OutOfMemory → e.line ≡ 0) }
+    ensures fault { IfErr result (IsFaultOf (ItemsStop (views items.entry.items))) }
 {
     lay_out_items(alloc, &items, with_comments, drafts)?;
     drop(items);

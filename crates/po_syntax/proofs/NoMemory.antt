@@ -1,9 +1,10 @@
--- No fault of a text is out of memory.
+-- No fault of a text is out of memory, and errors that are such faults.
 use Rattle.std.proofs.Common.{◌≢◌, inl, inr, ◌+◌, ℕ, List, [], ◌∷◌}
+use Rattle.po_syntax.specs.declared.fault.PoError.{PoError}
 use Rattle.po_syntax.specs.declared.fault.PoFault.{PoFault}
 use Rattle.po_syntax.specs.declared.fault.PoFault.TheVariants.{OutOfMemory}
 use Rattle.po_syntax.specs.LineFaults as fault
-use Rattle.po_syntax.specs.Prelude.{LinesStop, TextFault}
+use Rattle.po_syntax.specs.Prelude.{IsFaultOf, LinesStop, TextFault}
 use Rattle.po_syntax.specs.PoText.{stops}
 
 abbrev IsReported : PoFault → Type 0
@@ -57,3 +58,14 @@ lines_reported number (line ∷ lines) kind at (inr after) = lines_reported (num
 pub text_reported : (text : List ℕ) (kind : PoFault) (line : ℕ) → TextFault text kind line → kind ≢ OutOfMemory
 text_reported text kind line (stops small utf8 no_nul s) = lines_reported 1 _ kind line s
 text_reported text kind line _ = λ e. cc
+
+-- an error that is the text's fault
+pub is_text_fault : {text : List ℕ} {error : PoError} → TextFault text error.kind error.line
+    → IsFaultOf (TextFault text) error
+is_text_fault h = record { fault = λ other. h; memory = λ memory. absurd (text_reported _ _ _ h memory) }
+
+-- an error that is such a fault, where each of these is one of those
+pub IsFaultOf-weaker : {Has More : PoFault → ℕ → Type 0} {error : PoError}
+    → ((fault : PoFault) (line : ℕ) → Has fault line → More fault line) → IsFaultOf Has error
+    → IsFaultOf More error
+IsFaultOf-weaker more h = record { fault = λ other. more _ _ (h.fault other); memory = h.memory }

@@ -4,7 +4,8 @@ use Rattle.std.specs.Prelude.{◌≡◌, ◌≢◌, ℕ, ◌+◌, ◌^◌, ◌<�
 use Rattle.std.specs.List.{slice_split, starts_with}
 use Rattle.std.specs.Str.Lossy.{utf8_valid_len}
 use Rattle.po_syntax.specs.declared.fault.PoFault.{PoFault}
-use Rattle.po_syntax.specs.declared.fault.PoFault.TheVariants.{NotUtf8, ForbiddenByte, TooLarge}
+use Rattle.po_syntax.specs.declared.fault.PoFault.TheVariants.{NotUtf8, ForbiddenByte, TooLarge, OutOfMemory}
+use Rattle.po_syntax.specs.declared.fault.PoError.{PoError}
 use Rattle.po_syntax.specs.LineFaults.{LineFault}
 use Rattle.po_syntax.specs.Line.{HoldsItems}
 use Rattle.po_syntax.specs.Item.{TextItem}
@@ -60,3 +61,9 @@ pub data TextFault : List ℕ → PoFault → ℕ → Type 0 where
       → line ≡ line_number text index → TextFault text ForbiddenByte line
   stops : {text : List ℕ} {fault : PoFault} {line : ℕ} → IsSmall text → IsUtf8 text → All (λ b. b ≢ 0) text
       → LinesStop 1 (lines_of (without_byte_order_mark text)) fault line → TextFault text fault line
+
+-- The error is such a fault, with its line; or out of memory, without a line, which may come in place of
+-- any.
+pub record IsFaultOf (Has : PoFault → ℕ → Type 0) (error : PoError) : Type 0 where
+  pub fault : error.kind ≢ OutOfMemory → Has error.kind error.line
+  pub memory : error.kind ≡ OutOfMemory → error.line ≡ 0

@@ -2,7 +2,7 @@
 
 ghost use Rattle.std.specs.Prelude.{◌≡◌, ◌≢◌, ◌↔◌, ◌+◌, ◌<◌, ◌≤◌, ◌^◌, ◌∷◌, [], take, drop, List, ℕ, All, length, vec_len, true, false, IfOk, IfErr, IfSome, MatchOption, OnOk, OnErr, IsTrue};
 ghost use Rattle.po_syntax.specs.declared.fault.PoFault.{PoFault};
-ghost use Rattle.po_syntax.specs.Prelude.{IsCleanLine, LinesLeft, SpellsLeft, LeftStops, AreOfText, lines_len, lines_of_rest, BeginsAnew, EndsTranslation, IsPiece, IsString, IsTranslationWord, HoldsText, IsText, TextItem, view, views, LendsUtf8, LinesStop, SpellsText, TextFault, line_number, lines_of};
+ghost use Rattle.po_syntax.specs.Prelude.{IsCleanLine, IsFaultOf, LinesLeft, SpellsLeft, LeftStops, AreOfText, lines_len, lines_of_rest, BeginsAnew, EndsTranslation, IsPiece, IsString, IsTranslationWord, HoldsText, IsText, TextItem, view, views, LendsUtf8, LinesStop, SpellsText, TextFault, line_number, lines_of};
 ghost use Rattle.po_syntax.specs.Internal.PieceEnd.{IsCut};
 
 use crate::fault::{PoError, PoFault};
@@ -217,8 +217,7 @@ impl<'a> Pieces<'a> {
         ensures hold { IfOk result (λ items. All HoldsText (views items.items)) }
         ensures lent { IfOk result (λ items. All LendsUtf8 items.items) }
         ensures few { IfOk result (λ items. vec_len items ≤ 2 ^ 31) }
-        ensures fault { IfErr result (λ e. e.kind ≢ PoFault.OutOfMemory → LeftStops self.old e.kind e.line) }
-        ensures memory { IfErr result (λ e. e.kind ≡ PoFault.OutOfMemory → e.line ≡ 0) }
+        ensures fault { IfErr result (IsFaultOf (LeftStops self.old)) }
         ensures unchanged { OnErr result (self.new ≡ self.old) }
     {
         let mut items = Vec::with_capacity(alloc, FIRST_ROOM)?;
@@ -243,8 +242,7 @@ impl<'a> Pieces<'a> {
         ensures piece { IfOk result (λ end. IsPiece size self.now
             (record { text = self.now.text; number = end.line; lines = lines_of_rest end.rest }) (views items.new.items)) }
         ensures lent { OnOk result (All LendsUtf8 items.new.items) }
-        ensures fault { IfErr result (λ e. e.kind ≢ PoFault.OutOfMemory → LeftStops self.now e.kind e.line) }
-        ensures memory { IfErr result (λ e. e.kind ≡ PoFault.OutOfMemory → e.line ≡ 0) }
+        ensures fault { IfErr result (IsFaultOf (LeftStops self.now)) }
     {
         let end = match self.add_piece(alloc, size, items) {
             Ok(end) => end,
@@ -268,11 +266,8 @@ impl<'a> Pieces<'a> {
 
     /// The first fault of the text, if this is that of the lines that are left; or out of memory.
     fn first_fault(&self, error: PoError) -> PoError
-        requires fault { error.kind ≢ PoFault.OutOfMemory
-            → LinesStop self.now.number self.now.lines error.kind error.line }
-        requires memory { error.kind ≡ PoFault.OutOfMemory → error.line ≡ 0 }
-        ensures fault { result.kind ≢ PoFault.OutOfMemory → LeftStops self.now result.kind result.line }
-        ensures memory { result.kind ≡ PoFault.OutOfMemory → result.line ≡ 0 }
+        requires { IsFaultOf (LinesStop self.now.number self.now.lines) error }
+        ensures { IsFaultOf (LeftStops self.now) result }
     {
         match error.kind {
             PoFault::OutOfMemory => error,
@@ -292,9 +287,7 @@ impl<'a> Pieces<'a> {
         ensures cut { IfOk result (λ end. (cut : IsCut size end.len self.now
             (record { text = self.now.text; number = end.line; lines = lines_of_rest end.rest }) (views items.new.items))
             × (All IsCleanLine (take cut.read.count self.now.lines) → All LendsUtf8 items.new.items)) }
-        ensures fault { IfErr result (λ e. e.kind ≢ PoFault.OutOfMemory
-            → LinesStop self.now.number self.now.lines e.kind e.line) }
-        ensures memory { IfErr result (λ e. e.kind ≡ PoFault.OutOfMemory → e.line ≡ 0) }
+        ensures fault { IfErr result (IsFaultOf (LinesStop self.now.number self.now.lines)) }
     {
         let mut rest = self.rest;
         let mut line = self.line;
@@ -329,8 +322,7 @@ impl<'a> Pieces<'a> {
 pub fn items(alloc: Global, text: &[u8]) -> Result<Vec<Item<'_>>, PoError>
     ensures found { IfOk result (λ items. SpellsText text.now (views items.items)) }
     ensures lent { IfOk result (λ items. All LendsUtf8 items.items) }
-    ensures fault { IfErr result (λ e. e.kind ≢ PoFault.OutOfMemory → TextFault text.now e.kind e.line) }
-    ensures memory { IfErr result (λ e. e.kind ≡ PoFault.OutOfMemory → e.line ≡ 0) }
+    ensures fault { IfErr result (IsFaultOf (TextFault text.now)) }
     ensures few { IfOk result (λ items. vec_len items ≤ length text.now) }
 {
     let mut pieces = Pieces::of(text)?;

@@ -1,12 +1,11 @@
 -- Which entries the reader finds.
 use Rattle.std.specs.Prelude.{◌≡◌, ◌⊎◌, ℕ, All, List, [], ◌∷◌}
-use Rattle.po_syntax.specs.Prelude.{TextItem, line_of}
+use Rattle.po_syntax.specs.Prelude.{IsFaultOf, TextItem, line_of}
 use Rattle.po_entry.specs.Prelude.{TextEntry, CharsetFault, EntriesStop, last_line, HasAdmittedCharset, EntryTextFault, HasTexts}
 use Rattle.po_reader.specs.Internal.Stage.{Stage, Between, InHead, Outcome, Entries, Fault, only}
 use Rattle.po_syntax.specs.declared.fault.PoError.{PoError}
 use Rattle.po_syntax.specs.declared.fault.PoFault.{PoFault}
 use Rattle.po_reader.specs.Internal.Turn.{comes_to}
-use Rattle.po_reader.specs.PieceRead.{IsFaultOf}
 
 -- before a head, with these entries read
 abbrev pub start : List TextEntry → Stage

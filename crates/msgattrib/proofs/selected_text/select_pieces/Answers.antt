@@ -1,20 +1,18 @@
 use Rattle.std.proofs.Common.{◌≡◌, ◌∙◌, true, List, [], ◌++◌, ap, map}
-use Rattle.std.proofs.lemmas.Result.{err_from_is_err_and}
 use Rattle.po_entry.specs.Faults.IsReadFault.{in_text}
 use Rattle.po_entry.specs.Prelude.{TextEntry}
 use Rattle.po_reader.proofs.Heads.{all_kept}
 use Rattle.po_reader.proofs.PieceReading.{read_all, read_more, read_none}
 use Rattle.po_reader.specs.Prelude.{kept_entry}
+use Rattle.po_syntax.proofs.NoMemory.{IsFaultOf-weaker, is_text_fault}
+use Rattle.po_syntax.proofs.Results.{passed_on}
 use Rattle.msgattrib.proofs.SelectedLemmas.{piece_selected}
 use Rattle.msgattrib.proofs.selected_text.select_pieces.Goals as goal
 
 pub returns-in_err-pieces-clause-fault : goal.returns-in_err-pieces-clause-fault
 returns-in_err-pieces-clause-fault c =
-    let p = err_from_is_err_and c.from_residual.result c.from_residual.ensures.1 in
-    rw (p.1, p.2) (record {
-      fault = λ other. in_text c.in_err-pieces.ensures.fault;
-      memory = λ memory. absurd (c.in_err-pieces.ensures.memory memory);
-    })
+    passed_on c.from_residual.result _ c.from_residual.ensures.1
+    (IsFaultOf-weaker (λ fault line. in_text) (is_text_fault c.in_err-pieces.ensures.fault))
 
 pub loop-pieces-init : goal.loop-pieces-init
 loop-pieces-init c = record {

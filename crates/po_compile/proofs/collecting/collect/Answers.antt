@@ -3,6 +3,7 @@ use Rattle.std.proofs.lemmas.List.{map-append}
 use Rattle.po_entry.specs.Faults.IsReadFault.{in_text}
 use Rattle.po_reader.proofs.PieceReading.{read_all, read_more, read_none}
 use Rattle.po_reader.specs.Prelude.{without_comments}
+use Rattle.po_syntax.proofs.NoMemory.{IsFaultOf-weaker, is_text_fault}
 use Rattle.po_syntax.proofs.Results.{passed_on}
 use Rattle.po_compile.specs.Prelude.{live_messages}
 use Rattle.po_compile.proofs.LiveMessages.{uncommented}
@@ -11,10 +12,7 @@ use Rattle.po_compile.proofs.collecting.collect.Goals as goal
 pub returns-in_err-pieces-clause-fault : goal.returns-in_err-pieces-clause-fault
 returns-in_err-pieces-clause-fault c =
     passed_on c.from_residual.result _ c.from_residual.ensures.1
-    (record {
-      fault = λ other. in_text c.in_err-pieces.ensures.fault;
-      memory = λ memory. absurd (c.in_err-pieces.ensures.memory memory);
-    })
+    (IsFaultOf-weaker (λ fault line. in_text) (is_text_fault c.in_err-pieces.ensures.fault))
 
 pub loop-pieces-init : goal.loop-pieces-init
 loop-pieces-init c = record {

@@ -6,19 +6,15 @@ use Rattle.po_reader.proofs.Faults.{items_fault}
 use Rattle.po_reader.proofs.Results.{on_ok_always, on_ok_both}
 use Rattle.po_reader.proofs.SoundCatalogue.{admitted_one, kept_admitted, kept_lie, kept_no_nul, kept_stand, kept_stop, kept_texts, kept_utf8, texts_one, whole_fault, whole_foreign}
 use Rattle.po_reader.specs.Internal.Reads.{ChecksStop}
-use Rattle.std.proofs.lemmas.Result.{IfErr-weaker}
-use Rattle.po_syntax.proofs.Results.{passed_on}
+use Rattle.po_syntax.proofs.NoMemory.{IsFaultOf-weaker}
+use Rattle.po_syntax.proofs.Results.{err_both, passed_on}
 use Rattle.po_reader.proofs.items.read_items.Goals as goal
 
 pub returns-in_err-lay_out_items-clause-fault : goal.returns-in_err-lay_out_items-clause-fault
 returns-in_err-lay_out_items-clause-fault c =
     let stops = rw c.deref.ensures.value at c.in_err-lay_out_items.ensures.fault in
     passed_on c.from_residual.result _ c.from_residual.ensures.1
-    (λ other. in_items (items_fault [] _ _ _ (stops.fault other)))
-
-pub returns-in_err-lay_out_items-clause-memory : goal.returns-in_err-lay_out_items-clause-memory
-returns-in_err-lay_out_items-clause-memory c =
-    passed_on c.from_residual.result _ c.from_residual.ensures.1 c.in_err-lay_out_items.ensures.fault.memory
+    (IsFaultOf-weaker (λ fault line fails. in_items (items_fault [] _ _ _ fails)) stops)
 
 pub check_drafts-requires-clause-no_nul : goal.check_drafts-requires-clause-no_nul
 check_drafts-requires-clause-no_nul c =
@@ -74,13 +70,11 @@ returns-clause-fault c =
     let spelt = rw c.deref.ensures.value at c.in_ok-lay_out_items.ensures.found in
     let whole = whole_spelt _ _ _ spelt.1 in
     let same = spelt.2 (kept_lie kept whole c.requires.hold) in
-    IfErr-weaker c.check_drafts.result _ _ (λ e h other.
-    elim (subst (λ (es : List TextEntry). ChecksStop es e.kind e.line) same h) [
-      | inl stops ↦ in_texts whole (kept_stop kept (texts_one kept) (whole_fault kept) spelt.0 stops)
-      | inr (texts, stops) ↦ in_charset whole (kept_texts kept spelt.0 texts)
-          (kept_stop kept (admitted_one kept) (whole_foreign kept) spelt.0 stops)
-    ]) c.check_drafts.ensures.fault
-
-pub returns-clause-memory : goal.returns-clause-memory
-returns-clause-memory c =
-    IfErr-weaker c.check_drafts.result _ _ (λ e other memory. absurd (other memory)) c.check_drafts.ensures.other
+    err_both c.check_drafts.result (λ e h other. record {
+      fault = λ _. elim (subst (λ (es : List TextEntry). ChecksStop es e.kind e.line) same h) [
+        | inl stops ↦ in_texts whole (kept_stop kept (texts_one kept) (whole_fault kept) spelt.0 stops)
+        | inr (texts, stops) ↦ in_charset whole (kept_texts kept spelt.0 texts)
+            (kept_stop kept (admitted_one kept) (whole_foreign kept) spelt.0 stops)
+      ];
+      memory = λ memory. absurd (other memory);
+    }) c.check_drafts.ensures.fault c.check_drafts.ensures.other

@@ -1,15 +1,17 @@
 use Rattle.std.proofs.Common.{arith}
+use Rattle.std.proofs.lemmas.Result.{IfErr-weaker}
 use Rattle.po_reader.specs.PieceRead.IsLeftFault.{in_items, in_text}
 use Rattle.po_reader.specs.PieceRead.ReadsPiece.{all, piece}
 use Rattle.po_reader.proofs.PieceReading.{faults_over, items_kept, piece_faults}
-use Rattle.po_syntax.proofs.Results.{err_both, passed_on}
+use Rattle.po_syntax.proofs.NoMemory.{IsFaultOf-weaker}
+use Rattle.po_syntax.proofs.Results.{passed_on}
 use Rattle.po_reader.proofs.Results.{on_ok, on_ok_always}
 use Rattle.po_reader.proofs.reading.next_drafts.Goals as goal
 
 pub returns-in_err-items-clause-fault : goal.returns-in_err-items-clause-fault
 returns-in_err-items-clause-fault c =
     passed_on c.from_residual.result _ c.from_residual.ensures.1
-    (record { fault = λ other. in_text (c.in_err-items.ensures.fault other); memory = c.in_err-items.ensures.memory })
+    (IsFaultOf-weaker (λ fault line. in_text) c.in_err-items.ensures.fault)
 
 pub returns-in-Ok-clause-found : goal.returns-in-Ok-clause-found
 returns-in-Ok-clause-found c =
@@ -35,10 +37,7 @@ returns-in-Ok-clause-piece c = piece c.in_ok-items.ensures.piece
 pub returns-in_err-items-in_default-clause-fault : goal.returns-in_err-items-in_default-clause-fault
 returns-in_err-items-in_default-clause-fault c =
     passed_on c.from_residual-in_err-items-in_default.result _ c.from_residual-in_err-items-in_default.ensures.1
-    (record {
-      fault = λ other. in_text (rw c.copy-start.ensures at (c.in_err-items-in_default.ensures.fault other));
-      memory = c.in_err-items-in_default.ensures.memory;
-    })
+    (IsFaultOf-weaker (λ fault line. in_text) (rw c.copy-start.ensures at c.in_err-items-in_default.ensures.fault))
 
 pub returns-in_ok-items-in_default-clause-found : goal.returns-in_ok-items-in_default-clause-found
 returns-in_ok-items-in_default-clause-found c =
@@ -66,12 +65,11 @@ returns-in_ok-items-in_default-clause-fault c =
     let piece = rw c.copy-start.ensures at c.in_ok-items-in_default.ensures.piece in
     let spelt = c.pieces_are_cut_off.ensures.all _ _ _ _ piece
     (c.in_ok-items-in_default.ensures.whole (omega arith)) in
-    err_both c.read_items-in_default.result
-    (λ e h m. record { fault = λ other. in_items spelt (h other); memory = m })
-    c.read_items-in_default.ensures.fault c.read_items-in_default.ensures.memory
+    IfErr-weaker c.read_items-in_default.result _ _ (λ e. IsFaultOf-weaker (λ fault line. in_items spelt))
+    c.read_items-in_default.ensures.fault
 
 pub returns-in_ok-items-in_default-clause-piece : goal.returns-in_ok-items-in_default-clause-piece
 returns-in_ok-items-in_default-clause-piece c =
     on_ok_always c.read_items-in_default.result
-    (all c.in_ok-items.ensures.piece (c.in-Err.ensures.fault c.in_default.not-OutOfMemory)
+    (all c.in_ok-items.ensures.piece (c.in-Err.ensures.fault.fault c.in_default.not-OutOfMemory)
     (c.in_ok-items-in_default.ensures.whole (omega arith)))

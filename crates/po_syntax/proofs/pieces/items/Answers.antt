@@ -1,21 +1,16 @@
 use Rattle.std.proofs.Common.{◌≡◌, [], arith, IfOk}
 use Rattle.std.proofs.lemmas.List.{length-map}
-use Rattle.std.proofs.lemmas.Result.{IfOk-weaker, IfErr-weaker, err_from_is_err_and}
+use Rattle.std.proofs.lemmas.Result.{IfOk-weaker, IfErr-weaker}
 use Rattle.po_syntax.specs.Prelude.{view, views}
 use Rattle.po_syntax.proofs.Lines.{items-few}
+use Rattle.po_syntax.proofs.NoMemory.{IsFaultOf-weaker, is_text_fault}
 use Rattle.po_syntax.proofs.PieceLemmas.{piece_all}
-use Rattle.po_syntax.proofs.Results.{ok_both}
+use Rattle.po_syntax.proofs.Results.{ok_both, passed_on}
 use Rattle.po_syntax.proofs.pieces.items.Goals as goal
 
 pub returns-in_err-pieces-clause-fault : goal.returns-in_err-pieces-clause-fault
 returns-in_err-pieces-clause-fault c =
-    let p = err_from_is_err_and c.from_residual.result c.from_residual.ensures.1 in
-    rw (p.1, p.2) (λ other. c.in_err-pieces.ensures.fault)
-
-pub returns-in_err-pieces-clause-memory : goal.returns-in_err-pieces-clause-memory
-returns-in_err-pieces-clause-memory c =
-    let p = err_from_is_err_and c.from_residual.result c.from_residual.ensures.1 in
-    rw (p.1, p.2) (λ memory. absurd (c.in_err-pieces.ensures.memory memory))
+    passed_on c.from_residual.result _ c.from_residual.ensures.1 (is_text_fault c.in_err-pieces.ensures.fault)
 
 -- the text spells the items of a piece that is all of it
 pub returns-clause-found : goal.returns-clause-found
@@ -26,8 +21,7 @@ returns-clause-found c =
 
 pub returns-clause-fault : goal.returns-clause-fault
 returns-clause-fault c =
-    IfErr-weaker c.next.result _ _
-    (λ e h other. c.in_ok-pieces.ensures.stops e.kind e.line (h other)) c.next.ensures.fault
+    IfErr-weaker c.next.result _ _ (λ e. IsFaultOf-weaker c.in_ok-pieces.ensures.stops) c.next.ensures.fault
 
 pub returns-clause-few : goal.returns-clause-few
 returns-clause-few c =

@@ -1,4 +1,4 @@
-use Rattle.std.proofs.Common.{◌≡◌, ◌∙◌, ap, sym, subst, inl, inr, length, arith}
+use Rattle.std.proofs.Common.{◌≡◌, ◌∙◌, ap, sym, subst, inl, inr, length, arith, rules}
 use Rattle.po_syntax.specs.Prelude.{AreOfText, lines_of_rest, BeginsAnew, EndsTranslation}
 use Rattle.po_syntax.proofs.LinesRead.{can_end, cut_off, lent_before, line_stops, lines_begin, none_read, read_on}
 use Rattle.po_syntax.proofs.TextLeft.{len_few, read_few}
@@ -10,7 +10,10 @@ pub returns-in-Err-clause-fault : goal.returns-in-Err-clause-fault
 returns-in-Err-clause-fault c =
     let lines = ap lines_of_rest c.in-Some.is
     ∙ lines_begin c.in-Some.text.now c.first_line.result.0.now c.first_line.result.1 c.first_line.ensures.cut in
-    λ other. line_stops c.loop-rest.invariant.so_far.read lines (c.in-Err.ensures.fault other)
+    record {
+      fault = λ other. line_stops c.loop-rest.invariant.so_far.read lines (c.in-Err.ensures.fault other);
+      memory = search rules;
+    }
 
 pub loop-rest-init : goal.loop-rest-init
 loop-rest-init c =

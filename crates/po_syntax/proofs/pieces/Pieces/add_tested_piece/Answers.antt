@@ -1,6 +1,6 @@
 use Rattle.std.proofs.Common.{subst}
 use Rattle.po_syntax.specs.Prelude.{AreOfText}
-use Rattle.po_syntax.proofs.NoMemory.{text_reported}
+use Rattle.po_syntax.proofs.NoMemory.{is_text_fault}
 use Rattle.po_syntax.proofs.PieceLemmas.{clean_piece, has_fault, text_holds_other}
 use Rattle.po_syntax.proofs.pieces.Pieces.add_tested_piece.Goals as goal
 
@@ -13,9 +13,9 @@ unwrap-requires c =
     c.begins_with_text.ensures
     c.if-not-begins_with_text.true))
 
-pub returns-then-not-begins_with_text-clause-memory : goal.returns-then-not-begins_with_text-clause-memory
-returns-then-not-begins_with_text-clause-memory c = λ memory.
-    absurd (text_reported _ _ _ (rw c.unwrap.ensures at c.byte_fault.ensures) memory)
+pub returns-then-not-begins_with_text-clause-fault : goal.returns-then-not-begins_with_text-clause-fault
+returns-then-not-begins_with_text-clause-fault c =
+    rw (← c.self.view_is) (is_text_fault (rw c.unwrap.ensures at c.byte_fault.ensures))
 
 pub returns-clause-piece : goal.returns-clause-piece
 returns-clause-piece c =

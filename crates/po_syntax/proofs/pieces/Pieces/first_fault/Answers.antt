@@ -1,5 +1,5 @@
 use Rattle.po_syntax.specs.Prelude.{LeftStops}
-use Rattle.po_syntax.proofs.NoMemory.{text_reported}
+use Rattle.po_syntax.proofs.NoMemory.{is_text_fault}
 use Rattle.po_syntax.proofs.TextLeft.{first_of_text}
 use Rattle.po_syntax.proofs.pieces.Pieces.first_fault.Goals as goal
 
@@ -9,4 +9,4 @@ returns-in_default c =
     rw (c.unwrap_or.ensures, ← c.self.view_is)
     (first_of_text c.self.invariant c.byte_fault.result c.args.error c.byte_fault.ensures
     (rw (← c.self.view_is) at (c.requires.fault c.in_default.not-OutOfMemory))) in
-    record { fault = λ other. first; memory = λ memory. absurd (text_reported _ _ _ first memory) }
+    is_text_fault first
