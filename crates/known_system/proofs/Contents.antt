@@ -2,7 +2,7 @@
 use Rattle.std.proofs.Common.{◌≡◌, ℕ, ◌+◌, List, [], ◌++◌, Option, Some, None, Result, Ok, Err, codes, option_and_then, refl, sym, ap, ◌∙◌, subst, inl, inr, arith}
 use Rattle.std.specs.Io.KnownBytes.{Appends}
 use Rattle.runs.specs.Prelude.{FileCall, calls_of, logged, IsCutShort, IsOutputFault, MakesFile, OutputIs, SystemView, Takes, WriterView, link_limit, WritesRun, output_fault_text, writer, program_text, RunView, output_file, Writes}
-use Rattle.runs.specs.Outputs.{cut, delivered, made, to_file, unmade, unreported}
+use Rattle.runs.specs.OutputSystem.{cut, delivered, made, to_file, unmade, unreported}
 use Rattle.runs.specs.ToolRuns.{unwritten, written}
 use Rattle.runs.specs.declared.output_files.OutputFault.{OutputFault}
 use Rattle.runs.specs.declared.output_files.OutputFault.TheVariants.{CannotCreate, WriteFault, OutOfMemory}

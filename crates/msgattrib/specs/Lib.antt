@@ -3,6 +3,6 @@ pub mod Options
 pub mod Selected
 pub mod Msgattrib
 pub mod Internal
-pub mod SelectionLaws
+pub mod Laws
 pub mod Examples
 pub mod Prelude

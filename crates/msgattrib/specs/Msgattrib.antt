@@ -5,7 +5,8 @@ use Rattle.po_syntax.specs.declared.fault.PoFault.TheVariants.{Duplicate, OutOfM
 use Rattle.po_entry.specs.Prelude.{TextEntry, InputEntry, in_input, HasNoDuplicate, IsFirstDuplicate, IsTextFault, ReadsDistinct}
 use Rattle.msgattrib.specs.declared.selection.Selection.{Selection}
 use Rattle.msgattrib.specs.Selected.{selected}
-use Rattle.runs.specs.Prelude.{text_line, RunView, refusal, written_run}
+use Rattle.po_writer.specs.Prelude.{written_text}
+use Rattle.runs.specs.Prelude.{text_line, RunView, output_run, refusal}
 
 -- the line that reports a fault of a file
 abbrev pub error_line : List ℕ → PoError → List ℕ
@@ -37,7 +38,7 @@ pub record IsDone (text : List ℕ) (s : Selection) (run : RunView) : Type 0 whe
   pub entries : List TextEntry
   pub read : ReadsDistinct text entries
   pub distinct : HasNoDuplicate (selected s entries)
-  pub run_is : run ≡ written_run (selected s entries)
+  pub run_is : run ≡ output_run (written_text (selected s entries))
 
 -- what a run of msgattrib on a text comes to
 abbrev pub IsMsgattribRun : List ℕ → Selection → List ℕ → RunView → Type 0

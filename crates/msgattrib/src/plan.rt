@@ -5,7 +5,7 @@ ghost use Rattle.runs.specs.Prelude.{run_view};
 
 use crate::selected_text::selected_text;
 use crate::selection::Selection;
-use runs::{Run, ToolFault, refused_text, text_run};
+use runs::{Run, ToolFault, refused_text, written};
 use std::alloc::Global;
 
 /// What `msgattrib` writes and reports of a text with its name: the selected entries, changed as
@@ -22,7 +22,7 @@ pub fn plan_msgattrib(
     ensures memory { OnErr result (result ≡ Err ToolFault.OutOfMemory) }
 {
     match selected_text(alloc, text, selection) {
-        Ok(output) => Ok(text_run(alloc, output)),
+        Ok(output) => Ok(written(alloc, output)),
         Err(error) => Ok(refused_text(alloc, "msgattrib", name, error)?),
     }
 }

@@ -16,7 +16,7 @@ use Rattle.po_syntax.specs.declared.fault.PoError.{PoError}
 use Rattle.po_entry.specs.Prelude.{TextEntry, TextPrevious, no_previous, is_live}
 use Rattle.msgcat.specs.declared.input.MergeOptions.{MergeOptions}
 use Rattle.msgcat.specs.Prelude.{NamedEntry, collected, comment_of, ended, first_of, first_with, form_count, has_plural, has_previous, joined_form, joined_forms, marked, merged_entry, first_translated, texts_of, translations, with_others, is_below, is_wanted, AreLiveOf, DefinedByLive, EndsForm, FormsAreJoined, IsJoinedForm, JoinedIsFuzzy, KeptByCount, ObsoleteWhereNoneIsLive, PluralOfFirst, PreviousOfFirst, TextsInOrder, TextsOfAll, has_text, FaultIsOfNoLine}
-use Rattle.msgcat.specs.EntryLaws.{no_entry, live, obsolete, of_nothing, without_feed, with_feed, no_more, with_form, without_form}
+use Rattle.msgcat.specs.Laws.{no_entry, live, obsolete, of_nothing, without_feed, with_feed, no_more, with_form, without_form}
 use Rattle.msgcat.proofs.Sets.{has_others}
 use Rattle.po_entry.proofs.FuzzyFlags.{any_passing}
 

@@ -4,7 +4,7 @@ use Rattle.std.specs.Prelude.{slice_get}
 use Rattle.std.specs.List.{range_with_len}
 use Rattle.std.specs.Option.{option_map_or}
 use Rattle.msgcat.specs.Prelude.{NamedEntry, form_count, joined_form, joined_forms, marked}
-use Rattle.msgcat.specs.Internal.FormsLeft.{FormList, joined_at, joined_lists, most_forms, named_forms, rest_of, rests}
+use Rattle.msgcat.specs.Internal.JoinedTranslations.{FormList, joined_at, joined_lists, most_forms, named_forms, rest_of, rests}
 
 joined_named : (ts : List NamedEntry) (i : ℕ) → joined_at i (map named_forms ts) ≡ joined_form ts i
 joined_named [] i = refl

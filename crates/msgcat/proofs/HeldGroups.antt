@@ -10,7 +10,7 @@ use Rattle.std.proofs.lemmas.Simd.{map-map}
 use Rattle.po_entry.specs.Prelude.{first_ones as firsts_of, entry_message, entry_messages, same_message as one_message, is_live}
 use Rattle.msgcat.specs.Prelude.{IsGroup, message_numbers, named_messages, by_number, definitions, groups, same_message, with_number, indexes_by, Named, NamedEntry, all_entries, CanBeMerged, count_messages, unnamed, messages}
 use Rattle.msgcat.specs.Groups.{first_ones}
-use Rattle.msgcat.specs.Internal.EntriesAt.{entries_at, no_entry}
+use Rattle.msgcat.specs.Internal.Inputs.{entries_at, no_entry}
 use Rattle.msgcat.proofs.FirstOnes.{group_of}
 use Rattle.msgcat.proofs.GroupsMerged.{definitions_valid, groups_valid}
 use Rattle.msgcat.proofs.NumberedGroups.{by_number-mapped, groups_by_number}

@@ -4,7 +4,7 @@ use Rattle.std.specs.Prelude.{All, IsUtf8}
 use Rattle.std.proofs.lemmas.List.Elements.{All-map, All-append, All-weaker}
 use Rattle.po_entry.specs.Prelude.{Lacks, TextEntry, IsCatalogueEntry}
 use Rattle.msgcat.specs.Prelude.{Named, NamedEntry, named, all_entries, IsDefinition, StandInTurn}
-use Rattle.msgcat.specs.MergeLaws.{no_input, no_further, first_entry}
+use Rattle.msgcat.specs.Laws.{no_input, no_further, first_entry}
 
 pub definitions_more : (before : List NamedEntry) (name : List ℕ) (entries : List TextEntry) → All IsDefinition before
     → IsUtf8 name → Lacks 0 name → All IsCatalogueEntry entries

@@ -12,7 +12,7 @@ use Rattle.std.proofs.lemmas.List.Folds.{list_any_at, list_any_none}
 use Rattle.memchr.specs.Find.{IsFirstByte, is_byte}
 use Rattle.po_entry.specs.Prelude.{Lacks}
 use Rattle.runs.specs.Prelude.{named_file, named_files}
-use Rattle.msgcat.specs.Internal.NulNames.{IsFirstWithNul}
+use Rattle.msgcat.specs.Internal.Inputs.{IsFirstWithNul}
 use Rattle.msgcat.proofs.MsgcatLemmas.{Files}
 
 pub lacks : (name : List ℕ) → list_any (λ b. b == 0) name ≡ false → Lacks 0 name

@@ -14,7 +14,7 @@ use Rattle.po_syntax.specs.Facts.AllAppend.{All-left, All-right}
 use Rattle.po_entry.specs.Prelude.{TextEntry, IsCatalogueEntry}
 use Rattle.po_syntax.specs.Facts.Zips.{zip_get, zip_length, zip_more}
 use Rattle.msgcat.specs.Prelude.{Named, NamedEntry, all_entries, named, named_entries, named_entry, AreReadInputs, CanBeMerged, IsReadInput, no_input, unnamed}
-use Rattle.msgcat.specs.Internal.EntriesAt.{entries_at, name_of, no_entry}
+use Rattle.msgcat.specs.Internal.Inputs.{entries_at, name_of, no_entry}
 use Rattle.msgcat.specs.declared.definition.NamedEntry.{NamedEntry as BorrowedEntry}
 use Rattle.msgcat.specs.declared.input.ReadInput.{ReadInput}
 

@@ -19,7 +19,7 @@ use Rattle.po_entry.specs.Prelude.{Lacks, texts_eq, split_forms, translation_byt
 use Rattle.po_entry.specs.Facts.EqualityLaws.{texts_decide}
 use Rattle.msgcat.specs.Prelude.{IsDefinition, NamedEntry, named_entries, named_entry, same_forms, translations}
 use Rattle.msgcat.specs.declared.definition.NamedEntry.{NamedEntry as BorrowedEntry}
-use Rattle.msgcat.specs.Internal.SeenForms.{HasTranslations}
+use Rattle.msgcat.specs.Internal.JoinedTranslations.{HasTranslations}
 use Rattle.msgcat.proofs.Valid.{quoted_parts, translations_all}
 
 without : (text : List ℕ) → Lacks 0 text → All (λ b. (b == 0) ≡ false) text

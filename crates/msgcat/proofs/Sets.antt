@@ -7,7 +7,7 @@ use Rattle.std.proofs.lemmas.List.Folds.{list_any-append}
 use Rattle.std.proofs.lemmas.Slice.Eq.{bytes_eq-Decides}
 use Rattle.std.proofs.Math.Bool.{or_assoc, or-false, or-true}
 use Rattle.po_entry.specs.Prelude.{with_seen}
-use Rattle.msgcat.specs.Internal.SameTexts.{HaveSameTexts}
+use Rattle.msgcat.specs.Internal.Merging.{HaveSameTexts}
 use Rattle.msgcat.specs.Prelude.{with_others}
 
 -- what both have, the one has whatever is omitted of the other

@@ -18,7 +18,7 @@ use Rattle.po_entry.proofs.FuzzyFlags.{any_passing}
 use Rattle.po_entry.proofs.FirstOnes.{any_first_ones}
 use Rattle.msgcat.specs.declared.input.MergeOptions.{MergeOptions}
 use Rattle.msgcat.specs.Prelude.{NamedEntry, collected, form_count, joined_form, joined_forms, merged_entry, first_translated, same_forms, texts_of, translations, is_wanted, IsTranslated, IsUntranslated, TranslationsDiffer, JoinedWhereTheyDiffer, JoinedAsLongest, IsFirstTranslated, FormsOfFirst, CommentsOfFirst, HeadersAreKept}
-use Rattle.msgcat.specs.TranslationLaws.{translated, none}
+use Rattle.msgcat.specs.Laws.{translated, none}
 use Rattle.msgcat.proofs.EntryLaws.{find_none, first_is, texts_merged}
 use Rattle.msgcat.proofs.Valid.{at_least}
 use Rattle.msgcat.proofs.FirstOnes.{all_first_ones, Apart, apart_first_ones}

@@ -10,7 +10,7 @@ use Rattle.runs.specs.declared.program_fault.ProgramFault.{ProgramFault}
 use Rattle.runs.specs.declared.program_fault.ProgramFault.TheVariants.{CannotOpen, OutOfMemory}
 use Rattle.runs.specs.declared.run.Run.{Run}
 use Rattle.runs.specs.Prelude.{NamedFile, named_file, named_files, program_text, RunView, run_view}
-use Rattle.msgcat.specs.Internal.NulNames.{IsFirstWithNul}
+use Rattle.msgcat.specs.Internal.Inputs.{IsFirstWithNul}
 use Rattle.msgcat.specs.Prelude.{AreReadAs, HasNulName, IsUnread, IsUnreadBeforeNul}
 use Rattle.msgcat.proofs.MsgcatLemmas.{Files}
 use Rattle.msgcat.proofs.NulNames.{named_take}

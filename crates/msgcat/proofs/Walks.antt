@@ -6,7 +6,7 @@ use Rattle.std.proofs.lemmas.List.{get_or-map, length-map}
 use Rattle.std.proofs.lemmas.List.Elements.{All-head, All-tail}
 use Rattle.po_entry.specs.Prelude.{is_live, TextEntry}
 use Rattle.msgcat.specs.Prelude.{definitions, groups, IsChain, Named, NamedEntry, all_entries, named, HoldInputs, messages}
-use Rattle.msgcat.specs.Internal.EntriesAt.{entries_at, no_entry}
+use Rattle.msgcat.specs.Internal.Inputs.{entries_at, no_entry}
 use Rattle.msgcat.specs.declared.merge_inputs.MergeInputs.{MergeInputs}
 use Rattle.msgcat.proofs.HeldGroups.{entries_here, group_valid, groups_at, groups_counted, indexes_here, message_at}
 use Rattle.msgcat.proofs.LinkLemmas.{chain_on, chain_over, chain_some}

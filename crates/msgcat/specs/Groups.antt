@@ -1,8 +1,8 @@
 -- Entries grouped by their messages (manual, "Invoking the msgcat Program").
 pub use Rattle.po_entry.specs.Message.{with_new, first_ones}
-use Rattle.std.specs.Prelude.{Bool, ℕ, ◌==◌, List, [], ◌∷◌, map, filter, if◌then◌else◌, ◌≡◌, ◌<◌, ◌≤◌, get_or, length}
+use Rattle.std.specs.Prelude.{Bool, ℕ, ◌==◌, List, [], ◌∷◌, map, filter, if◌then◌else◌, ◌≡◌, ◌<◌, ◌≤◌, get_or, length, All, IsUtf8}
 use Rattle.std.specs.List.{list_any, range_with_len}
-use Rattle.po_entry.specs.Prelude.{is_live, entry_message, same_message as one_message}
+use Rattle.po_entry.specs.Prelude.{is_live, entry_message, same_message as one_message, group_numbers, Message, Lacks, IsEntry}
 use Rattle.msgcat.specs.Inputs.{NamedEntry}
 use Rattle.msgcat.specs.declared.links.Links.{Links}
 
@@ -49,3 +49,22 @@ pub record AreLinked (groups : List (List ℕ)) (links : Links) : Type 0 where
   pub many : length links.firsts.items ≡ length groups
   pub chains : (n : ℕ) → n < length groups
       → IsChain links.next.items (get_or links.firsts.items n 0) (get_or groups n [])
+
+-- an entry that can be merged with others of its message
+pub record IsDefinition (definition : NamedEntry) : Type 0 where
+  pub valid : IsEntry definition.entry
+  pub utf8 : IsUtf8 definition.name
+  pub no_nul : Lacks 0 definition.name
+
+-- a group has an entry, and its entries are valid
+pub record IsGroup (group : List NamedEntry) : Type 0 where
+  pub some : 0 < length group
+  pub valid : All IsDefinition group
+
+-- the messages of entries
+abbrev pub named_messages : List NamedEntry → List Message
+named_messages entries = map (λ e. entry_message e.entry) entries
+
+-- the number of the message of each entry
+abbrev pub message_numbers : List NamedEntry → List ℕ
+message_numbers entries = group_numbers one_message (named_messages entries)

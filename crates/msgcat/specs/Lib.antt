@@ -5,11 +5,8 @@ pub mod Groups
 pub mod Merged
 pub mod Msgcat
 pub mod WholeRun
-pub mod Grouping
 pub mod MergeInputs
 pub mod Internal
-pub mod MergeLaws
-pub mod EntryLaws
-pub mod TranslationLaws
+pub mod Laws
 pub mod Examples
 pub mod Prelude

@@ -2,9 +2,8 @@
 use Rattle.std.specs.Prelude.{◌≡◌, ◌<◌, ℕ, All, IsUtf8, List, [], ◌∷◌, get_or, length, map, take}
 use Rattle.std.specs.List.{AllZip}
 use Rattle.po_entry.specs.Prelude.{Lacks, HasAdmittedCharset, TextEntry, first_ones, same_message}
-use Rattle.msgcat.specs.Grouping.{IsDefinition, message_numbers, named_messages}
+use Rattle.msgcat.specs.Groups.{IsDefinition, message_numbers, named_messages, AreLinked, indexes_by}
 use Rattle.msgcat.specs.Inputs.{Named, NamedEntry, all_entries}
-use Rattle.msgcat.specs.Groups.{AreLinked, indexes_by}
 use Rattle.msgcat.specs.declared.input.ReadInput.{ReadInput}
 use Rattle.msgcat.specs.declared.merge_inputs.MergeInputs.{MergeInputs}
 

@@ -8,7 +8,8 @@ use Rattle.msgcat.specs.Inputs.{Named}
 use Rattle.msgcat.specs.Merged.{merged}
 use Rattle.msgcat.specs.declared.input.MergeOptions.{MergeOptions}
 use Rattle.runs.specs.declared.inputs.InputFault.TheVariants.{CannotOpen}
-use Rattle.runs.specs.Prelude.{text_line, input_fault_text, NamedFile, RunView, refusal, written_run}
+use Rattle.po_writer.specs.Prelude.{written_text}
+use Rattle.runs.specs.Prelude.{text_line, input_fault_text, NamedFile, RunView, output_run, refusal}
 
 -- a file is read as the catalogue of an input, in which no live entry repeats an earlier one
 pub record IsReadAs (file : NamedFile) (input : Named) : Type 0 where
@@ -62,7 +63,7 @@ pub record IsMerged (files : List NamedFile) (o : MergeOptions) (run : RunView) 
   pub inputs : List Named
   pub read : AreReadAs files inputs
   pub admitted : All HasAdmittedCharset (merged o inputs)
-  pub run_is : run ≡ written_run (merged o inputs)
+  pub run_is : run ≡ output_run (written_text (merged o inputs))
 
 -- what a run of msgcat comes to
 abbrev pub IsMsgcatRun : List NamedFile → MergeOptions → RunView → Type 0

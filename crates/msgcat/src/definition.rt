@@ -2,7 +2,7 @@
 
 ghost use Rattle.std.specs.Prelude.{◌≡◌, ◌<◌, ◌∷◌, [], IfNone, IfSome, List, ℕ, false, length, true};
 ghost use Rattle.msgcat.specs.Prelude.{definitions, named, named_entries, is_kept, is_wanted, first_with};
-ghost use Rattle.msgcat.specs.Internal.FirstParts.{has_part};
+ghost use Rattle.msgcat.specs.Internal.Merging.{has_part};
 
 use crate::input::MergeOptions;
 use po_entry::{EntryRef, has_translation};

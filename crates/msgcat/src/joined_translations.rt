@@ -3,7 +3,7 @@
 ghost use Rattle.std.specs.Prelude.{◌≡◌, ◌++◌, All, IfOk, OnOk, map};
 ghost use Rattle.po_entry.specs.Prelude.{texts};
 ghost use Rattle.msgcat.specs.Prelude.{IsDefinition, named_entries, marked, translations};
-ghost use Rattle.msgcat.specs.Internal.FormsLeft.{form_lists, joined_at, joined_lists, named_forms, rests};
+ghost use Rattle.msgcat.specs.Internal.JoinedTranslations.{form_lists, joined_at, joined_lists, named_forms, rests};
 
 use crate::definition::{NamedEntry, Part, has_part};
 use po_entry::FormIter;

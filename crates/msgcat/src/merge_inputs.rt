@@ -3,7 +3,7 @@
 ghost use Rattle.std.specs.Prelude.{◌≡◌, ◌<◌, ◌∷◌, [], IfErr, IfOk, IfSome, List, ℕ, get_or, length, option_to_list};
 ghost use Rattle.po_entry.specs.Prelude.{IsCatalogueEntry, first_ones, group_numbers, entry_messages, same_message};
 ghost use Rattle.msgcat.specs.Prelude.{groups, Named, all_entries, named, named_entries, AreReadInputs, HoldInputs, name_of_first, unnamed, IsMergeFault, merged_messages, messages, merged_entry};
-ghost use Rattle.msgcat.specs.Internal.EntriesAt.{name_of};
+ghost use Rattle.msgcat.specs.Internal.Inputs.{name_of};
 ghost use Rattle.msgcat.specs.declared.input.MergeOptions as asked;
 
 use crate::definition::{NamedEntry, kept_alone, kept_definitions};

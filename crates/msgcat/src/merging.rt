@@ -3,7 +3,7 @@
 ghost use Rattle.std.specs.Prelude.{◌≡◌, ◌<◌, ◌++◌, ◌∷◌, [], length, All, IfOk, IfErr, OnErr, OnOk};
 ghost use Rattle.po_entry.specs.Prelude.{entry_view, texts, IsCatalogueEntry};
 ghost use Rattle.msgcat.specs.Prelude.{IsDefinition, named_entries, merged_entry, first_translated, IsMergeFault, CanBeMerged};
-ghost use Rattle.msgcat.specs.Internal.Comments.{comments_alone};
+ghost use Rattle.msgcat.specs.Internal.Merging.{comments_alone};
 
 use crate::comments::comment_of;
 use crate::definition::{NamedEntry, Part, first_with};

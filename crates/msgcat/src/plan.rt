@@ -3,8 +3,7 @@
 ghost use Rattle.std.specs.Prelude.{◌≡◌, ◌≢◌, ◌⊎◌, All, Err, IfErr, IfOk, IfSome, List, MatchOption, None, OnErr, Some, []};
 ghost use Rattle.po_entry.specs.Prelude.{Lacks};
 ghost use Rattle.msgcat.specs.Prelude.{Named, AreReadAs, IsMsgcatRun, IsUnread};
-ghost use Rattle.msgcat.specs.Internal.ReadFiles.{IsReadingOf};
-ghost use Rattle.msgcat.specs.Internal.NulNames.{IsFirstWithNul};
+ghost use Rattle.msgcat.specs.Internal.Inputs.{IsReadingOf, IsFirstWithNul};
 ghost use Rattle.runs.specs.Prelude.{NamedFile, named_files, run_view};
 
 use crate::input::MergeOptions;
@@ -12,7 +11,7 @@ use crate::inputs::{FileFault, read_inputs};
 use crate::merge_inputs::MergeInputs;
 use crate::merged_text::merged_text;
 use memchr::memchr;
-use runs::{ProgramFault, Run, ToolFault, refused_text, text_run};
+use runs::{ProgramFault, Run, ToolFault, refused_text, written};
 use std::alloc::{AllocError, Global};
 
 /// The run of inputs, by their entries or by why one isn't read. The text is written over what
@@ -32,7 +31,7 @@ pub(crate) fn run_of_read(
         Err(fault) => return refused_text(alloc, "msgcat", fault.name, fault.error),
     };
     match merged_text(alloc, room, &inputs, options) {
-        Ok(text) => Ok(text_run(alloc, text)),
+        Ok(text) => Ok(written(alloc, text)),
         Err(error) => refused_text(alloc, "msgcat", inputs.first_name(), error),
     }
 }

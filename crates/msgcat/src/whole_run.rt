@@ -1,8 +1,8 @@
 //! msgcat as a whole: its inputs are read, and their run is written.
-ghost use Rattle.std.specs.Prelude.{◌≡◌, ◌≢◌, ◌⊎◌, ◌^◌, ◌<◌, All, Err, IfErr, IfOk, IfSome, List, None, Some, [], false, map};
+ghost use Rattle.std.specs.Prelude.{◌≡◌, ◌≢◌, ◌⊎◌, ◌^◌, ◌<◌, All, Err, IfErr, IfOk, IfSome, List, None, Some, [], map};
 ghost use Rattle.po_entry.specs.Prelude.{Lacks};
 ghost use Rattle.msgcat.specs.Prelude.{Named, AreReadAs, HasNulName, IsMsgcatRun, IsUnread, IsUnreadBeforeNul, RunsMsgcat};
-ghost use Rattle.runs.specs.Prelude.{AsksFirst, asked_by, named_inputs, program_text, run_view, asking};
+ghost use Rattle.runs.specs.Prelude.{AsksFirst, named_inputs, program_text, run_view, asking};
 
 use crate::input::MergeOptions;
 use crate::inputs::read_inputs;
@@ -62,7 +62,7 @@ pub fn run<'a, S: InputSource, F: OutputFiles, O: ByteOut, E: ByteOut>(
 
     // Each input is asked for in its turn, and standard input once at most.
     ensures asked { AsksFirst (S.asked source.old) (S.asked source.new)
-        (asked_by false (map (λ argument. argument.now) arguments.now)) }
+        (map (λ argument. argument.now) arguments.now) }
     ensures run { RunsMsgcat (asking (S.file source.old) (S.standard source.old) (S.asked source.old) (S.asked source.new) (S.refused source.new))
         options.now (map (λ argument. argument.now) arguments.now) output.now system.old system.new result }
 {

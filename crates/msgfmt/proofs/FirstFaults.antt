@@ -23,7 +23,7 @@ use Rattle.msgfmt.specs.declared.profile.End.TheVariants.{Beginning, Ending}
 use Rattle.msgfmt.specs.declared.profile.CheckFault.{CheckFault}
 use Rattle.msgfmt.specs.declared.profile.CheckFault.TheVariants.{NoRule, FormCount, LeadingNewline, TrailingNewline, Undefined, IndexOutside}
 use Rattle.msgfmt.specs.Prelude.{Reported, first_some, is_plural, is_header_entry, rule_fault, has_newline, differ, differs_from_msgid, entry_fault, value_fault, count_fault, counts_below, first_fault, HasNewline, Differ, DiffersAt, HasOtherCount, EntryFault, HasProfileFault, CountFault, HasPlural, IsFirst, NeedsNoOtherRule, FirstFault}
-use Rattle.msgfmt.specs.ProfileFaults.{count, leading, trailing, undefined, outside, no_rule, in_entry, at_count}
+use Rattle.msgfmt.specs.Laws.{count, leading, trailing, undefined, outside, no_rule, in_entry, at_count}
 
 -- what a test decides, and the choice by it
 

@@ -1,2 +1,2 @@
 -- What private functions and proofs cite; no clause of a public function does.
-pub mod Gathered
+pub mod Plan

@@ -1,7 +1,7 @@
 -- The definitions in reading order: each module stands on those above it.
 pub mod Profile
 pub mod Msgfmt
-pub mod ProfileFaults
+pub mod Laws
 pub mod Options
 pub mod WholeRun
 pub mod Internal

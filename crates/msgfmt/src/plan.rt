@@ -2,7 +2,7 @@
 ghost use Rattle.std.specs.Prelude.{◌≡◌, ◌^◌, ◌<◌, List, length, IfOk, OnErr, Err};
 ghost use Rattle.po_entry.specs.Prelude.{slice_texts, stats_line};
 ghost use Rattle.runs.specs.Prelude.{NamedFile, named_files, run_view};
-ghost use Rattle.msgfmt.specs.Internal.Gathered.{HoldInputs, IsGathered};
+ghost use Rattle.msgfmt.specs.Internal.Plan.{HoldInputs, IsGathered};
 ghost use Rattle.msgfmt.specs.Msgfmt as Spec;
 
 use crate::fault_lines::{failed_check_run, refused_run};

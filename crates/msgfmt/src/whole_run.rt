@@ -1,8 +1,8 @@
 //! msgfmt as a whole: the inputs of its command line are read, also where one can't be, and their
 //! run is planned and written.
-ghost use Rattle.std.specs.Prelude.{◌≡◌, ◌≢◌, ◌⊎◌, ◌^◌, ◌<◌, [], None, Some, Err, IfOk, IfErr, IfSome, OnOk, false, length, map};
+ghost use Rattle.std.specs.Prelude.{◌≡◌, ◌≢◌, ◌⊎◌, ◌^◌, ◌<◌, [], None, Some, Err, IfOk, IfErr, IfSome, OnOk, length, map};
 ghost use Rattle.msgfmt.specs.Prelude.{AreWrong, IsMsgfmtRun, IsRefused, NoneRefused, RunsMsgfmt};
-ghost use Rattle.runs.specs.Prelude.{AsksFirst, asked_by, named_inputs, run_view, asking};
+ghost use Rattle.runs.specs.Prelude.{AsksFirst, named_inputs, run_view, asking};
 
 use crate::options::MsgfmtOptions;
 use crate::plan::{gather, gathered_run};
@@ -83,7 +83,7 @@ pub fn run<'a, S: InputSource, F: OutputFiles, O: ByteOut, E: ByteOut>(
 
     // Each input is asked for in its turn, and standard input once at most.
     ensures asked { AsksFirst (S.asked source.old) (S.asked source.new)
-        (asked_by false (map (λ argument. argument.now) arguments.now)) }
+        (map (λ argument. argument.now) arguments.now) }
     ensures run { RunsMsgfmt (asking (S.file source.old) (S.standard source.old) (S.asked source.old) (S.asked source.new) (S.refused source.new))
         options.now (map (λ argument. argument.now) arguments.now) output.now system.old system.new result }
 {

@@ -7,7 +7,7 @@ use Rattle.std.proofs.lemmas.List.Elements.{All-cons, All-head, All-nil, All-tai
 use Rattle.mo_file.specs.Prelude.{is_nul, key_of, Message, context_of, forms, id_of, plural_of}
 use Rattle.po_entry.specs.Prelude.{Lacks}
 use Rattle.msgunfmt.specs.Prelude.{ContainsMsgid, IsAfterPart, ContainsKey, ContainsForms, IsEntryOf, taken_forms, unformatted}
-use Rattle.msgunfmt.specs.MessageParts.{msgid_alone, after_context, at_end, at_nul, key_alone, before_plural, first_part, each_part}
+use Rattle.msgunfmt.specs.Laws.{msgid_alone, after_context, at_end, at_nul, key_alone, before_plural, first_part, each_part}
 use Rattle.mo_file.proofs.CutLemmas.{before_all, before_is, context_cut, context_none, id_all, id_cut, first_all, first_cut, plural_cut, plural_none}
 
 -- a text has a first such byte, or none

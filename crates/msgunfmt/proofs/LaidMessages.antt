@@ -8,10 +8,9 @@ use Rattle.po_syntax.specs.Facts.AllAppend.{All-left, All-right}
 use Rattle.po_entry.specs.declared.drafts.Drafts.{Drafts}
 use Rattle.po_entry.specs.declared.row.Row.{Row}
 use Rattle.msgunfmt.specs.declared.fault.UnformatError.{UnformatError}
-use Rattle.msgunfmt.specs.Internal.Laid.{AppendsEntry, AppendsMessage, HasOneMore, HoldsMessage}
-use Rattle.msgunfmt.specs.Internal.Refused.{RefusesEntry, RefusesMessage}
+use Rattle.msgunfmt.specs.Internal.Unformatting.{AppendsEntry, AppendsMessage, HasOneMore, HoldsMessage, RefusesEntry, RefusesMessage}
 use Rattle.msgunfmt.specs.Prelude.{ContainsForms, ContainsKey, ContainsMsgid, entry_of_message, taken_forms, unformatted}
-use Rattle.msgunfmt.specs.MessageParts.{after_context, before_plural, each_part, first_part, key_alone, msgid_alone}
+use Rattle.msgunfmt.specs.Laws.{after_context, before_plural, each_part, first_part, key_alone, msgid_alone}
 use Rattle.mo_file.proofs.CutLemmas.{split_none}
 use Rattle.msgunfmt.proofs.EntryParts.{entries_are, parts_of}
 use Rattle.msgunfmt.proofs.MessageLemmas.{message_valid}

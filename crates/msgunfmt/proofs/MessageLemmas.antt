@@ -12,7 +12,7 @@ use Rattle.po_syntax.specs.Prelude.{IsComment, IsText}
 use Rattle.po_entry.specs.Validity.EntryTextFault.{not_utf8, forbidden}
 use Rattle.msgunfmt.specs.declared.fault.UnformatError.{UnformatError}
 use Rattle.msgunfmt.specs.declared.fault.UnformatError.TheVariants.{Mo, NotUtf8, ForbiddenByte, ForeignCharset, OutOfMemory}
-use Rattle.msgunfmt.specs.Internal.Refused.{RefusesEntry, RefusesMessages, error_at}
+use Rattle.msgunfmt.specs.Internal.Unformatting.{RefusesEntry, RefusesMessages, error_at}
 use Rattle.po_writer.specs.Prelude.{written_text}
 use Rattle.msgunfmt.specs.Prelude.{entry_of_message, taken_forms, unformatted, AreWrittenAs, HasForeignCharset}
 

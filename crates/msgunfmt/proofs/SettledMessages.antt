@@ -12,7 +12,7 @@ use Rattle.po_writer.specs.Prelude.{written_text}
 use Rattle.msgunfmt.specs.declared.fault.UnformatError.{UnformatError}
 use Rattle.msgunfmt.specs.declared.fault.UnformatError.TheVariants.{Mo, NotUtf8, ForbiddenByte, ForeignCharset, OutOfMemory}
 use Rattle.msgunfmt.specs.Prelude.{TextOrFault, entry_of_message, taken_forms, unformatted, AreWrittenAs, IsUnformatFault}
-use Rattle.msgunfmt.specs.Internal.Refused.{RefusesMessages}
+use Rattle.msgunfmt.specs.Internal.Unformatting.{RefusesMessages}
 use Rattle.po_entry.proofs.Settled.{all_settled, texts_or_fault, charset_settled}
 use Rattle.msgunfmt.proofs.MessageLemmas.{catalogue_entries, message_valid}
 

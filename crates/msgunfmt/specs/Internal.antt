@@ -1,3 +1,2 @@
 -- What private functions, proofs and laws cite; no clause of a public function does.
-pub mod Refused
-pub mod Laid
+pub mod Unformatting

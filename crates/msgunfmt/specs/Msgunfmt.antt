@@ -1,10 +1,9 @@
 -- What msgunfmt writes and reports (manual, "Invoking the msgunfmt Program").
-use Rattle.std.specs.Prelude.{◌≡◌, ◌≢◌, ◌⊎◌, nat_lt, ℕ, List, [], length, codes, decimal, ◌++◌, refl}
-use Rattle.mo_file.specs.Prelude.{Message}
+use Rattle.std.specs.Prelude.{◌≡◌, ◌≢◌, ◌⊎◌, ℕ, List, codes, decimal, ◌++◌, refl}
 use Rattle.msgunfmt.specs.Unformatted.{IsUnformatted, IsUnformatFault}
 use Rattle.msgunfmt.specs.declared.fault.UnformatError.{UnformatError}
 use Rattle.msgunfmt.specs.declared.fault.UnformatError.TheVariants.{Mo, NotUtf8, ForbiddenByte, ForeignCharset, OutOfMemory}
-use Rattle.runs.specs.Prelude.{fault_line, mo_text, NamedFile, RunView, refusal}
+use Rattle.runs.specs.Prelude.{fault_line, mo_text, NamedFile, RunView, output_run, refusal}
 
 -- why a file has no PO text
 abbrev pub unformat_text : UnformatError → List ℕ
@@ -18,14 +17,7 @@ unformat_text OutOfMemory = codes "out of memory"
 abbrev pub unformat_line : List ℕ → UnformatError → List ℕ
 unformat_line name error = fault_line (codes "msgunfmt") name 0 (unformat_text error)
 
--- the text, which is written where there is a message
-abbrev pub unformatted_run : List Message → List ℕ → RunView
-unformatted_run messages text = record { output = text; create = nat_lt 0 (length messages); messages = []; status = 0 }
-
--- the status is 0 of a file that has a text, and 1 of one that has none
-pub unformatted_status : (messages : List Message) (text : List ℕ) → (unformatted_run messages text).status ≡ 0
-unformatted_status messages text = refl
-
+-- the status of a file that has no text is 1, and `written_status` says that of any other
 pub refused_status : (name : List ℕ) (error : UnformatError) → (refusal (unformat_line name error)).status ≡ 1
 refused_status name error = refl
 
@@ -40,7 +32,7 @@ pub record HasNoText (file : NamedFile) (run : RunView) : Type 0 where
 pub record HasText (file : NamedFile) (run : RunView) : Type 0 where
   pub text : List ℕ
   pub unformatted : IsUnformatted file.bytes text
-  pub run_is : run ≡ unformatted_run unformatted.messages text
+  pub run_is : run ≡ output_run text
 
 -- what a run of msgunfmt comes to
 abbrev pub IsMsgunfmtRun : NamedFile → RunView → Type 0

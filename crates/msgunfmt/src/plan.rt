@@ -4,7 +4,6 @@ ghost use Rattle.msgunfmt.specs.Prelude.{IsMsgunfmtRun, unformat_text};
 ghost use Rattle.runs.specs.Prelude.{run_view};
 
 use crate::fault::UnformatError;
-use crate::laws::empty_text;
 use crate::unformatting::unformat;
 use runs::{Run, ToolFault, push_mo_text, push_numbered, reported, written};
 use std::alloc::{AllocError, Global};
@@ -35,10 +34,7 @@ pub fn plan_msgunfmt(alloc: Global, bytes: &[u8], name: &str) -> Result<Run, Too
     ensures memory { OnErr result (result ≡ Err ToolFault.OutOfMemory) }
 {
     match unformat(alloc, bytes) {
-        Ok(text) => {
-            empty_text();
-            Ok(written(alloc, text))
-        }
+        Ok(text) => Ok(written(alloc, text)),
         Err(error) => {
             if error == UnformatError::OutOfMemory {
                 return Err(ToolFault::OutOfMemory);

@@ -3,8 +3,7 @@
 ghost use Rattle.std.specs.Prelude.{◌≡◌, ◌<◌, [], All, IfErr, IfOk, MatchResult, OnOk, false, length, option_copied};
 ghost use Rattle.mo_file.specs.Prelude.{forms};
 ghost use Rattle.po_entry.specs.Prelude.{Lacks, quoted_texts};
-ghost use Rattle.msgunfmt.specs.Internal.Laid.{AppendsEntry, AppendsMessage, HoldsMessage};
-ghost use Rattle.msgunfmt.specs.Internal.Refused.{RefusesEntry, RefusesMessage, RefusesMessages, error_at};
+ghost use Rattle.msgunfmt.specs.Internal.Unformatting.{AppendsEntry, AppendsMessage, HoldsMessage, RefusesEntry, RefusesMessage, RefusesMessages, error_at};
 ghost use Rattle.msgunfmt.specs.Prelude.{taken_forms, AreWrittenAs, IsUnformatted, IsUnformatFault};
 
 use crate::fault::UnformatError;

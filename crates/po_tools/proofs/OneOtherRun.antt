@@ -1,7 +1,6 @@
 -- msgunfmt, msgattrib and msgcat have one run of their inputs.
 use Rattle.std.proofs.Common.{◌≡◌, ℕ, List, [], ◌∷◌, ◌++◌, map, refl, sym, ap, ap₂, subst, ◌∙◌, inl, inr}
 use Rattle.std.specs.Prelude.{All}
-use Rattle.mo_file.specs.Prelude.{OneMessageList, Message}
 use Rattle.po_syntax.specs.declared.fault.PoError.{PoError}
 use Rattle.po_syntax.specs.declared.fault.PoFault.TheVariants.{Duplicate}
 use Rattle.po_entry.specs.Prelude.{TextEntry, ReadsText, HasAdmittedCharset, InputEntry, in_input, entries_of, HasNoDuplicate, IsFirstDuplicate, IsTextFault}
@@ -9,8 +8,9 @@ use Rattle.po_compile.specs.Prelude.{OneTextFault, NoFaultWhereDistinct}
 use Rattle.msgcat.specs.Prelude.{Named, merged, AreReadAs, IsFileFault, msgcat_line}
 use Rattle.msgattrib.specs.Prelude.{selected, error_line}
 use Rattle.msgunfmt.specs.declared.fault.UnformatError.{UnformatError}
-use Rattle.msgunfmt.specs.Prelude.{NoFaultWhereUnformatted, OneText, OneUnformatFault, unformat_line, unformatted_run}
-use Rattle.runs.specs.Prelude.{NamedFile, refusal, written_run}
+use Rattle.msgunfmt.specs.Prelude.{NoFaultWhereUnformatted, OneText, OneUnformatFault, unformat_line}
+use Rattle.runs.specs.Prelude.{NamedFile, output_run, refusal}
+use Rattle.po_writer.specs.Prelude.{written_text}
 use Rattle.po_entry.proofs.DuplicateLemmas.{entries_of_input}
 use Rattle.po_tools.specs.Prelude.{OneMsgattribRun, OneMsgcatRun, OneMsgunfmtRun}
 
@@ -26,21 +26,16 @@ abbrev OneFirstDuplicate : Type 0
 OneFirstDuplicate = (entries : List InputEntry) (first later other last : InputEntry)
     → IsFirstDuplicate entries first later → IsFirstDuplicate entries other last → (first ≡ other) × (later ≡ last)
 
-pub msgunfmt_once : OneMessageList → NoFaultWhereUnformatted → OneText → OneUnformatFault → OneMsgunfmtRun
-msgunfmt_once unique no_fault one_text one_fault file run other (inl is) (inl also) =
+pub msgunfmt_once : NoFaultWhereUnformatted → OneText → OneUnformatFault → OneMsgunfmtRun
+msgunfmt_once no_fault one_text one_fault file run other (inl is) (inl also) =
     is.run_is ∙ ap (λ (e : UnformatError). refusal (unformat_line file.name e))
     (one_fault file.bytes is.error also.error is.fault also.fault is.not_memory also.not_memory) ∙ sym also.run_is
-msgunfmt_once unique no_fault one_text one_fault file run other (inl is) (inr also) =
+msgunfmt_once no_fault one_text one_fault file run other (inl is) (inr also) =
     absurd (is.not_memory (no_fault file.bytes also.text is.error also.unformatted is.fault))
-msgunfmt_once unique no_fault one_text one_fault file run other (inr is) (inl also) =
+msgunfmt_once no_fault one_text one_fault file run other (inr is) (inl also) =
     absurd (also.not_memory (no_fault file.bytes is.text also.error is.unformatted also.fault))
-msgunfmt_once unique no_fault one_text one_fault file run other (inr is) (inr also) =
-    let f = is.unformatted in
-    let g = also.unformatted in
-    let messages : f.messages ≡ g.messages =
-    (unique file.bytes f.order g.order f.messages g.messages f.valid g.valid).1 in
-    is.run_is ∙ ap₂ (λ (m : List Message) (t : List ℕ). unformatted_run m t) messages
-    (one_text file.bytes is.text also.text f g) ∙ sym also.run_is
+msgunfmt_once no_fault one_text one_fault file run other (inr is) (inr also) =
+    is.run_is ∙ ap output_run (one_text file.bytes is.text also.text is.unformatted also.unformatted) ∙ sym also.run_is
 
 pub msgattrib_once : OneReading → OneTextFault → NoFaultWhereDistinct → NoFirstDuplicate → OneFirstDuplicate
     → OneMsgattribRun
@@ -74,7 +69,7 @@ msgattrib_once one one_fault no_fault no_first one_first name text s run other (
     absurd (no_first (map (in_input 0) (selected s also.entries)) also.first also.later
     (subst HasNoDuplicate (sym (entries_of_input 0 (selected s also.entries))) distinct) also.duplicate)
 msgattrib_once one one_fault no_fault no_first one_first name text s run other (inr (inr is)) (inr (inr also)) =
-    is.run_is ∙ ap (λ (l : List TextEntry). written_run (selected s l))
+    is.run_is ∙ ap (λ (l : List TextEntry). output_run (written_text (selected s l)))
     (one text is.entries also.entries is.read.reads also.read.reads) ∙ sym also.run_is
 
 module _ (one : OneReading) (one_fault : OneTextFault) (no_fault : NoFaultWhereDistinct) where
@@ -156,5 +151,5 @@ module _ (one : OneReading) (one_fault : OneTextFault) (no_fault : NoFaultWhereD
       absurd (also.foreign (subst (λ list. All HasAdmittedCharset (merged o list))
       (same_inputs files is.inputs also.inputs is.read also.read) is.admitted))
   msgcat_once files o run other (inr (inr is)) (inr (inr also)) =
-      is.run_is ∙ ap (λ (l : List Named). written_run (merged o l))
+      is.run_is ∙ ap (λ (l : List Named). output_run (written_text (merged o l)))
       (same_inputs files is.inputs also.inputs is.read also.read) ∙ sym also.run_is

@@ -45,7 +45,6 @@ pub fn one_look_up_run()
 pub fn one_msgunfmt_run()
     ensures { OneMsgunfmtRun }
 {
-    one_message_list();
     no_fault_where_unformatted();
     one_text();
     one_unformat_fault();

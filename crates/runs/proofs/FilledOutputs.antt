@@ -8,7 +8,7 @@ use Rattle.runs.specs.declared.output_files.Rights.{Rights}
 use Rattle.runs.specs.Prelude.{Course, kept_mode, first_mode, Finishes, Fills, PathState, Files, put, with_bytes, with_mode, with_owner, IsNoLink, HasRights, FitsKind, IsWholeOrAsItWas, GivesNoMore, GivesNothingAway, KeepsMode, GivesNobodyMore, IsWhose}
 use Rattle.runs.specs.OutputFiles.{done, fails, ◌▸◌, makes, sets_owner, sets_mode, closes, renames, removes}
 use Rattle.runs.specs.OutputWriting.{whole, cut, late, replaced, unmoved, unwritten, replaces_none, with_rights, without_rights}
-use Rattle.runs.specs.OutputLaws.{nothing, link, file, file_at}
+use Rattle.runs.specs.Laws.{nothing, link, file, file_at}
 use Rattle.runs.proofs.OutputSteps.{same_or_other, put_there, put_elsewhere, same_path, taken_all, as_it_was, nothing_given, Ends, next, stopped}
 use Rattle.runs.proofs.RightsLemmas.{nobody_gets_more, private_gives_nobody_more}
 

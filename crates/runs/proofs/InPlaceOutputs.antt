@@ -7,7 +7,7 @@ use Rattle.runs.specs.declared.output_files.Owner.{Owner}
 use Rattle.runs.specs.Prelude.{Course, Puts, WritesStream, WritesInPlace, PathState, Files, put, put_stream, with_bytes, HasRights, GivesAll, GivesNothingAway}
 use Rattle.runs.specs.OutputFiles.{◌▸◌, opens, fails_to_open, takes_stream, lacks_stream}
 use Rattle.runs.specs.OutputWriting.{whole, cut, late, put as all_put, unput, lacking, taken as stream_taken, unopened, opened}
-use Rattle.runs.specs.OutputLaws.{file, file_at, stream_of}
+use Rattle.runs.specs.Laws.{file, file_at, stream_of}
 use Rattle.runs.proofs.OutputSteps.{same_or_other, put_there, put_elsewhere, no_fault, no_file, taken_all, same_rights, Ends, idle, stop}
 
 -- the target is written in place

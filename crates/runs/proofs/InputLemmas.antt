@@ -7,8 +7,9 @@ use Rattle.std.specs.List.{sum_by}
 use Rattle.std.specs.Borrow.{Bor}
 use Rattle.runs.specs.declared.inputs.Input.{Input}
 use Rattle.runs.specs.declared.inputs.InputFault.{InputFault}
-use Rattle.runs.specs.Prelude.{AreInputs, Asked, Asks, AsksFirst, ReadsAs, Reading, Stays, asked_arguments, asked_by, asked_for, input_fault_text, inputs_in, NamedFile, is_standard, shown_name}
+use Rattle.runs.specs.Prelude.{AreInputs, Asked, Asks, AsksAll, AsksFirst, ReadsAs, Reading, Stays, asked_arguments, asked_for, input_fault_text, inputs_in, NamedFile, is_standard, shown_name}
 use Rattle.runs.specs.Inputs.{gives, refuses, done, read, unread}
+use Rattle.runs.proofs.AskedInTurn.{asked_by, in_turn}
 
 abbrev pub arguments_now : List (Bor (List ℕ)) → List (List ℕ)
 arguments_now arguments = map (λ argument. argument.now) arguments
@@ -110,8 +111,10 @@ AsksBefore-more a b c arguments i d seen below p q =
     }
 
 pub AsksBefore-first : (a b : Option (List Asked)) (arguments : List (Bor (List ℕ))) (i : ℕ) (seen : Bool)
-    → AsksBefore a b arguments i seen → AsksFirst a b (asked_by false (arguments_now arguments))
+    → AsksBefore a b arguments i seen → AsksFirst a b (arguments_now arguments)
 AsksBefore-first a b arguments i seen p = record {
+  all = asked_by false (arguments_now arguments);
+  in_turn = in_turn (arguments_now arguments);
   asked = asked_by false (take i (arguments_now arguments));
   rest = asked_by seen (drop i (arguments_now arguments));
   asks = p.asks;
@@ -119,23 +122,27 @@ AsksBefore-first a b arguments i seen p = record {
       ∙ ap (asked_by false) (take-append-drop i (arguments_now arguments));
 }
 
+asks_all : {a b : Option (List Asked)} {arguments : List (List ℕ)} → Asks a b (asked_by false arguments)
+    → AsksAll a b arguments
+asks_all {arguments} asks = record { asked = asked_by false arguments; in_turn = in_turn arguments; asks = asks }
+
 -- where as many inputs were read, all before i were
 pub AsksBefore-read : (a b : Option (List Asked)) (arguments : List (Bor (List ℕ))) (i : ℕ) (seen : Bool)
     (inputs : List NamedFile) (fault : Option (List ℕ)) → fault ≡ None
     → length inputs ≡ i → AsksBefore a b arguments i seen
-    → Asks a b (asked_by false (asked_arguments (arguments_now arguments) inputs fault))
+    → AsksAll a b (asked_arguments (arguments_now arguments) inputs fault)
 AsksBefore-read a b arguments i seen inputs None none count p =
-    subst (λ n. Asks a b (asked_by false (take n (arguments_now arguments)))) (sym count) p.asks
+    subst (λ n. AsksAll a b (take n (arguments_now arguments))) (sym count) (asks_all p.asks)
 AsksBefore-read a b arguments i seen inputs (Some fault) none count p = absurd (grind (arith, none))
 
 -- and where the next can't be read, it was asked for too
 pub AsksBefore-unread : (a b : Option (List Asked)) (arguments : List (Bor (List ℕ))) (i : ℕ) (seen : Bool)
     (inputs : List NamedFile) (fault : Option (List ℕ)) (text : List ℕ)
     → fault ≡ Some text → length inputs ≡ i → AsksBefore a b arguments (i + 1) seen
-    → Asks a b (asked_by false (asked_arguments (arguments_now arguments) inputs fault))
+    → AsksAll a b (asked_arguments (arguments_now arguments) inputs fault)
 AsksBefore-unread a b arguments i seen inputs None text some count p = absurd (grind (arith, some))
 AsksBefore-unread a b arguments i seen inputs (Some fault) text some count p =
-    subst (λ n. Asks a b (asked_by false (take (n + 1) (arguments_now arguments)))) (sym count) p.asks
+    subst (λ n. AsksAll a b (take (n + 1) (arguments_now arguments))) (sym count) (asks_all p.asks)
 
 module _ (file : List ℕ → Reading → Type 0) (standard : Reading → Type 0) where
   -- whatever the arguments from i on add completes what the arguments before made

@@ -3,15 +3,12 @@ use Rattle.std.proofs.Common.{◌≡◌, ◌↔◌, ◌||◌, inl, inr, ℕ, Boo
 use Rattle.std.proofs.lemmas.Bool.{cases_Bool, cond-false}
 use Rattle.runs.specs.declared.inputs.InputFault.{InputFault}
 use Rattle.runs.specs.Prelude.{Reading, input_fault_text, AreInputs, NamedFile, named, AreInputsAfter, AreInputsInTurn, is_standard, shown_name}
-use Rattle.runs.specs.Inputs.{gives, refuses, done, read, unread}
-use Rattle.runs.specs.InputsLaw.{no_argument, another_file, unread_file, empty_text, nothing, a_file, no_file, standard_input, no_standard_input}
+use Rattle.runs.specs.Inputs.{gives, refuses, done, read, unread, no_argument, another_file, unread_file, empty_text, nothing, a_file, no_file, from_standard_input, no_standard_input}
+use Rattle.runs.proofs.OneInputs.{one_bytes}
 use Rattle.runs.proofs.AskedInTurn.{is_dash, no_dash, other}
 
 shown_file : (argument : List ℕ) → is_standard argument ≡ false → shown_name argument ≡ argument
 shown_file argument is = cond-false (is_standard argument) (codes "<stdin>") argument is
-
-given_bytes : {a b : List ℕ} → gives a ≡ gives b → a ≡ b
-given_bytes e = cc
 
 not_refused : {X : Type 0} {why : InputFault} {bytes : List ℕ} → refuses why ≡ gives bytes → X
 not_refused e = absurd cc
@@ -22,7 +19,7 @@ module _ (file : List ℕ → Reading → Type 0) (standard : Reading → Type 0
   inputs_after done = no_argument
   inputs_after (read {argument} {bytes} reads rest) = elim (cases_Bool (is_standard argument)) [
     | inl e ↦ let none : bytes ≡ [] =
-        given_bytes (rw e at reads) in rw (is_dash argument e, none) (empty_text (inputs_after rest))
+        one_bytes (rw e at reads) in rw (is_dash argument e, none) (empty_text (inputs_after rest))
     | inr e ↦ rw e (another_file (no_dash argument e) (rw e at reads) (inputs_after rest))
   ]
   inputs_after (unread {argument} why reads) = elim (cases_Bool (is_standard argument)) [
@@ -34,7 +31,8 @@ module _ (file : List ℕ → Reading → Type 0) (standard : Reading → Type 0
       → AreInputs file standard seen arguments inputs fault → AreInputsInTurn file standard arguments inputs fault
   in_turn unseen done = nothing
   in_turn unseen (read {argument} reads rest) = elim (cases_Bool (is_standard argument)) [
-    | inl e ↦ rw (is_dash argument e) (standard_input (rw (unseen, e) at reads) (inputs_after (rw (unseen, e) at rest)))
+    | inl e ↦ rw (is_dash argument e) (from_standard_input (rw (unseen, e) at reads)
+        (inputs_after (rw (unseen, e) at rest)))
     | inr e ↦ rw e (a_file (no_dash argument e) (rw (unseen, e) at reads) (in_turn (ap₂ (λ a b. a || b) unseen e) rest))
   ]
   in_turn unseen (unread {argument} why reads) = elim (cases_Bool (is_standard argument)) [
@@ -70,7 +68,7 @@ module _ (file : List ℕ → Reading → Type 0) (standard : Reading → Type 0
       subst (λ n. AreInputs file standard false (argument ∷ arguments) [] (Some (input_fault_text n why)))
       (shown_file argument e)
       (unread why (rw e reads))
-  turn_read (standard_input reads rest) = read reads (after_read rest)
+  turn_read (from_standard_input reads rest) = read reads (after_read rest)
   turn_read (no_standard_input why reads) = unread why reads
 
 pub inputs_in_turn : (file : List ℕ → Reading → Type 0) (standard : Reading → Type 0) (arguments : List (List ℕ))

@@ -1,5 +1,6 @@
 -- The lemmas in reading order: each module stands on those above it.
 pub mod DeviceLemmas
+mod AskedInTurn
 pub mod InputLemmas
 pub mod OutputLemmas
 pub mod ArgumentLemmas
@@ -10,7 +11,6 @@ mod OutputSteps
 mod InPlaceOutputs
 mod FilledOutputs
 mod WholeOutputs
-mod AskedInTurn
-mod InputsInTurn
 mod WrittenRuns
 mod OneInputs
+mod InputsInTurn

@@ -4,7 +4,7 @@ use Rattle.runs.specs.declared.inputs.InputFault.{InputFault}
 use Rattle.runs.specs.Prelude.{Reading, ReadsAs, input_fault_text, AreInputs, NamedFile, is_standard, shown_name, HasOneReading}
 use Rattle.runs.specs.Inputs.{gives, refuses, done, read, unread}
 
-one_bytes : {a b : List ℕ} → gives a ≡ gives b → a ≡ b
+pub one_bytes : {a b : List ℕ} → gives a ≡ gives b → a ≡ b
 one_bytes e = cc
 
 one_fault : {a b : InputFault} → refuses a ≡ refuses b → a ≡ b

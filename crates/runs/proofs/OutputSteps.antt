@@ -8,7 +8,7 @@ use Rattle.runs.specs.declared.output_files.OutputFault.{OutputFault}
 use Rattle.runs.specs.declared.output_files.Owner.{Owner}
 use Rattle.runs.specs.Prelude.{FileCall, Course, fault_of, PathState, Destination, Files, put, with_bytes, after_call, after, Always, Each, HasRights, IsNotOpening, IsWholeOrAsItWas, GivesNothingAway, KeepsMode, HasAll}
 use Rattle.runs.specs.OutputFiles.{fails, ◌▸◌}
-use Rattle.runs.specs.OutputLaws.{nothing, link, file, file_at, stream_of}
+use Rattle.runs.specs.Laws.{nothing, link, file, file_at, stream_of}
 
 pub same_or_other : (p q : List ℕ) → (p ≡ q) ⊎ (p ≢ q)
 same_or_other p q = elim (cases_Bool (bytes_eq p q)) [

@@ -8,7 +8,7 @@ use Rattle.std.proofs.lemmas.Nat.Bits.{bit_at_and, bit_at_or, bit_at-lt, bit_at_
 use Rattle.runs.specs.declared.output_files.Owner.{Owner}
 use Rattle.runs.specs.declared.output_files.Rights.{Rights}
 use Rattle.runs.specs.Prelude.{kept_bits, kept_mode, Deed, Class, bit_for, User, class_of, May, IsWhose, GivesNobodyMore, KeepsRights}
-use Rattle.runs.specs.OutputLaws.{reads, writes, runs, its_owner, its_group, others}
+use Rattle.runs.specs.Laws.{reads, writes, runs, its_owner, its_group, others}
 
 least_one : (a b : ℕ) → min a b ≡ 1 → a < 2 → b < 2 → (a ≡ 1) × (b ≡ 1)
 least_one a b e x y = (omega arith, omega arith)

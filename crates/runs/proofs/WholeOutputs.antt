@@ -8,7 +8,7 @@ use Rattle.runs.specs.declared.output_files.Rights.{Rights}
 use Rattle.runs.specs.Prelude.{FileCall, Course, fault_of, first_mode, beside, Puts, WritesStream, WritesInPlace, Finishes, Fills, Replaces, WritesFile, PathState, Destination, Files, after, Each, Among, IsNoLink, HasRights, GivesAll, Leads, IsBeside, IsReplaceable, IsWrittenInPlace, IsAllowed, IsWholeOrAsItWasThroughout}
 use Rattle.runs.specs.OutputFiles.{asks, reads_link, fails_to_read_link, numbers, fails_to_make}
 use Rattle.runs.specs.OutputWriting.{whole, cut, late, put as all_put, unput, lacking, taken as stream_taken, unopened, opened, replaced, unmoved, unwritten, replaces_none, with_rights, without_rights, unnamed, made, taken, all_taken, in_place, forbidden, failed, unknown, unread, no_memory, too_long, stream, stops, special, replaces, follows}
-use Rattle.runs.specs.OutputLaws.{file_at, stream_of, to_stream, to_file, along, special as is_special, forbidden as is_forbidden}
+use Rattle.runs.specs.Laws.{file_at, stream_of, to_stream, to_file, along, special as is_special, forbidden as is_forbidden}
 use Rattle.runs.proofs.OutputSteps.{no_fault, Ends, idle, stop}
 use Rattle.runs.proofs.NewPaths.{beside_is_another}
 use Rattle.runs.proofs.InPlaceOutputs.{writes_in_place, writes_stream}

@@ -3,9 +3,9 @@ use Rattle.std.proofs.Common.{◌≡◌, ℕ, List, None, Some, Option, Result, 
 use Rattle.runs.specs.declared.output_files.OutputFault.{OutputFault}
 use Rattle.runs.specs.declared.program_fault.ProgramFault.{ProgramFault}
 use Rattle.runs.specs.Prelude.{MakesFile, OutputIs, SystemView, WritesRun, link_limit, RunView, output_file, Writes, IsAllWritten, IsThere}
-use Rattle.runs.specs.Outputs.{cut, delivered, made, to_file, unmade, unreported}
+use Rattle.runs.specs.OutputSystem.{cut, delivered, made, to_file, unmade, unreported}
 use Rattle.runs.specs.ToolRuns.{unwritten, written}
-use Rattle.runs.specs.OutputLaws.{in_file, on_standard_output}
+use Rattle.runs.specs.Laws.{in_file, on_standard_output}
 use Rattle.runs.proofs.WholeOutputs.{whole_outputs}
 
 there : (run : RunView) (path : List ℕ) (before now : SystemView) → OutputIs run path before now None

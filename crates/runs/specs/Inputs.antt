@@ -1,6 +1,6 @@
 -- What the tools read: the inputs that the command line names, in order, up to the first that can't
 -- be read (manual, "Invoking the msgfmt Program": "If input file is `-`, standard input is read").
-use Rattle.std.specs.Prelude.{ℕ, List, map, ◌≡◌, ◌+◌, ◌++◌, ◌∷◌, ◌||◌, Bool, true, false, [], drop, length, take, Option, Some, None, codes}
+use Rattle.std.specs.Prelude.{ℕ, List, map, ◌≡◌, ◌+◌, ◌++◌, ◌∷◌, ◌||◌, Bool, true, false, [], drop, length, take, Option, Some, None, codes, ◌≢◌}
 use Rattle.std.specs.Borrow.{Bor}
 use Rattle.runs.specs.declared.inputs.Input.{Input}
 use Rattle.runs.specs.declared.inputs.Inputs.{Inputs}
@@ -83,18 +83,41 @@ asked_for argument false seen = file_of argument ∷ []
 asked_for argument true false = standard_input ∷ []
 asked_for argument true true = []
 
--- what arguments ask for, in their order, before which `-` was seen or not
-abbrev pub asked_by : Bool → List (List ℕ) → List Asked
-asked_by seen [] = []
-asked_by seen (argument ∷ arguments) =
-    asked_for argument (is_standard argument) seen ++ asked_by (seen || is_standard argument) arguments
+-- What arguments ask a source of inputs for, with a case for each: files by their names, in the
+-- order of the arguments, and standard input once, for the first `-`.
 
--- of these the first are asked for, in their order
-pub record AsksFirst (before after : Option (List Asked)) (all : List Asked) : Type 0 where
+-- the files among arguments, each but `-`
+pub data HaveFiles : List (List ℕ) → List (List ℕ) → Type 0 where
+  no_files : HaveFiles [] []
+  one_more_file : {argument : List ℕ} {arguments files : List (List ℕ)} → argument ≢ codes "-"
+      → HaveFiles arguments files
+      → HaveFiles (argument ∷ arguments) (argument ∷ files)
+  standard_again : {arguments files : List (List ℕ)} → HaveFiles arguments files
+      → HaveFiles (codes "-" ∷ arguments) files
+
+-- what arguments ask for: after standard input only files
+pub data AsksInTurn : List (List ℕ) → List Asked → Type 0 where
+  asks_nothing : AsksInTurn [] []
+  asks_file : {argument : List ℕ} {arguments : List (List ℕ)} {asked : List Asked} → argument ≢ codes "-"
+      → AsksInTurn arguments asked
+      → AsksInTurn (argument ∷ arguments) (file_of argument ∷ asked)
+  asks_standard : {arguments files : List (List ℕ)} → HaveFiles arguments files
+      → AsksInTurn (codes "-" ∷ arguments) (standard_input ∷ map file_of files)
+
+-- of what arguments ask for the first are asked for, in their order
+pub record AsksFirst (before after : Option (List Asked)) (arguments : List (List ℕ)) : Type 0 where
+  pub all : List Asked
+  pub in_turn : AsksInTurn arguments all
   pub asked : List Asked
   pub rest : List Asked
   pub asks : Asks before after asked
   pub first : asked ++ rest ≡ all
+
+-- all that arguments ask for is asked for, in their order
+pub record AsksAll (before after : Option (List Asked)) (arguments : List (List ℕ)) : Type 0 where
+  pub asked : List Asked
+  pub in_turn : AsksInTurn arguments asked
+  pub asks : Asks before after asked
 
 -- the arguments that are asked for where these inputs are read: theirs, and that of the one that can't be read
 abbrev pub asked_arguments : List (List ℕ) → List NamedFile → Option (List ℕ) → List (List ℕ)
@@ -110,3 +133,42 @@ inputs_in bytes (input ∷ inputs) =
 -- what contracts see of inputs
 abbrev pub named_inputs : Inputs → List NamedFile
 named_inputs inputs = inputs_in inputs.bytes.items inputs.texts.items
+
+-- The inputs of arguments, with a case for each: files by their names, standard input for the first
+-- `-`, and an empty text for each further one.
+
+-- the input of this name has these bytes
+abbrev pub named : List ℕ → List ℕ → NamedFile
+named name bytes = record { name = name; bytes = bytes }
+
+-- after standard input was read: inputs in the order of the arguments, up to the first that can't be
+-- read, and what is wrong with that
+pub data AreInputsAfter (file : List ℕ → Reading → Type 0) : List (List ℕ) → List NamedFile → Option (List ℕ)
+    → Type 0 where
+  no_argument : AreInputsAfter file [] [] None
+  another_file : {argument bytes : List ℕ} {arguments : List (List ℕ)} {inputs : List NamedFile}
+      {fault : Option (List ℕ)}
+      → argument ≢ codes "-" → file argument (gives bytes) → AreInputsAfter file arguments inputs fault
+      → AreInputsAfter file (argument ∷ arguments) (named argument bytes ∷ inputs) fault
+  unread_file : {argument : List ℕ} {arguments : List (List ℕ)} (why : InputFault) → argument ≢ codes "-"
+      → file argument (refuses why)
+      → AreInputsAfter file (argument ∷ arguments) [] (Some (input_fault_text argument why))
+  empty_text : {arguments : List (List ℕ)} {inputs : List NamedFile} {fault : Option (List ℕ)}
+      → AreInputsAfter file arguments inputs fault
+      → AreInputsAfter file (codes "-" ∷ arguments) (named (codes "<stdin>") [] ∷ inputs) fault
+
+-- the same from the first argument on
+pub data AreInputsInTurn (file : List ℕ → Reading → Type 0) (standard : Reading → Type 0)
+    : List (List ℕ) → List NamedFile → Option (List ℕ) → Type 0 where
+  nothing : AreInputsInTurn file standard [] [] None
+  a_file : {argument bytes : List ℕ} {arguments : List (List ℕ)} {inputs : List NamedFile} {fault : Option (List ℕ)}
+      → argument ≢ codes "-" → file argument (gives bytes) → AreInputsInTurn file standard arguments inputs fault
+      → AreInputsInTurn file standard (argument ∷ arguments) (named argument bytes ∷ inputs) fault
+  no_file : {argument : List ℕ} {arguments : List (List ℕ)} (why : InputFault) → argument ≢ codes "-"
+      → file argument (refuses why)
+      → AreInputsInTurn file standard (argument ∷ arguments) [] (Some (input_fault_text argument why))
+  from_standard_input : {bytes : List ℕ} {arguments : List (List ℕ)} {inputs : List NamedFile} {fault : Option (List ℕ)}
+      → standard (gives bytes) → AreInputsAfter file arguments inputs fault
+      → AreInputsInTurn file standard (codes "-" ∷ arguments) (named (codes "<stdin>") bytes ∷ inputs) fault
+  no_standard_input : {arguments : List (List ℕ)} (why : InputFault) → standard (refuses why)
+      → AreInputsInTurn file standard (codes "-" ∷ arguments) [] (Some (input_fault_text (codes "<stdin>") why))

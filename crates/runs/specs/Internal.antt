@@ -1,3 +1,2 @@
 -- What private functions, proofs and laws cite; no clause of a public function does.
-pub mod EmptyOutput
-pub mod Parts
+pub mod ProgramFault

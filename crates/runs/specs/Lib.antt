@@ -1,21 +1,18 @@
 -- The definitions in reading order: each module stands on those above it.
-pub mod Tools
+pub mod Tool
 pub mod Device
 pub mod Run
-pub mod ProgramFaults
+pub mod ProgramFault
 pub mod FaultText
 pub mod Inputs
-pub mod AskedLaw
-pub mod InputsLaw
 pub mod OutputFiles
 pub mod OutputPaths
-pub mod ArgumentValues
+pub mod Arguments
 pub mod Internal
-pub mod Limits
+pub mod WholeInput
 pub mod OutputWriting
-pub mod Outputs
-pub mod OutputLaws
-pub mod Delivered
+pub mod OutputSystem
+pub mod Laws
 pub mod ToolRuns
 pub mod Facts
 pub mod Prelude

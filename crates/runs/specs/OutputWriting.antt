@@ -10,8 +10,11 @@ use Rattle.runs.specs.declared.output_files.OutputFault.TheVariants.{CannotCreat
 use Rattle.runs.specs.declared.output_files.Owner.{Owner}
 use Rattle.runs.specs.declared.output_files.Rights.{Rights}
 use Rattle.runs.specs.OutputFiles.{FileCall, Course, done, fails, ◌▸◌, asks, reads_link, fails_to_read_link, numbers, makes, fails_to_make, sets_owner, sets_mode, opens, fails_to_open, takes_stream, lacks_stream, closes, renames, removes, kept_mode, first_mode}
-use Rattle.runs.specs.Limits.{further_names}
 use Rattle.runs.specs.OutputPaths.{NamesStream, NamesNoStream, link_target, beside}
+
+-- the names that are tried for a new file where the first is taken (this project's own)
+abbrev pub further_names : ℕ
+further_names = 999
 
 -- the output was put into a file or stream that had these bytes and is then closed by this call, and
 -- whether it took all

@@ -7,8 +7,6 @@ use Rattle.runs.specs.Device.{AppendsPrefix}
 use Rattle.runs.specs.declared.run.Run.{Run}
 use Rattle.runs.specs.declared.run.Ending.{Ending}
 use Rattle.runs.specs.declared.run.Ending.TheVariants.{Ran, Helped, Refused}
-use Rattle.po_entry.specs.Prelude.{TextEntry}
-use Rattle.po_writer.specs.Prelude.{written_text}
 
 -- What contracts see of a run: the bytes of its output, whether a file is made of them, what it
 -- writes on standard error, and its exit status.
@@ -30,6 +28,9 @@ refusal messages = record { output = []; create = false; messages = messages; st
 -- this output is written, to a file where it has a byte; the status is 0
 abbrev pub output_run : List ℕ → RunView
 output_run output = record { output = output; create = nat_lt 0 (length output); messages = []; status = 0 }
+
+pub written_status : (output : List ℕ) → (output_run output).status ≡ 0
+written_status output = refl
 
 -- From old to new, what went out is a prefix of the output and no message, or all of the output and
 -- a prefix of the messages.
@@ -67,17 +68,3 @@ exit_status (Ran (suc status)) = 1
 exit_status (Helped true) = 0
 exit_status (Helped false) = 1
 exit_status Refused = 1
-
--- The run of a tool that writes a catalogue (manual, "The Format of PO Files").
-
--- the text of the entries, and a file where there is an entry
-abbrev pub written_run : List TextEntry → RunView
-written_run entries = record {
-  output = written_text entries;
-  create = nat_lt 0 (length entries);
-  messages = [];
-  status = 0;
-}
-
-pub written_status : (entries : List TextEntry) → (written_run entries).status ≡ 0
-written_status entries = refl

@@ -2,9 +2,9 @@
 use Rattle.std.specs.Prelude.{◌≡◌, ℕ, List, [], Option, None, Result, Ok, Err, false}
 use Rattle.runs.specs.declared.program_fault.ProgramFault.{ProgramFault}
 use Rattle.runs.specs.declared.program_fault.ProgramFault.TheVariants.{OutOfMemory}
-use Rattle.runs.specs.Inputs.{Asked, Asks, AsksFirst, AreInputs, IsInputFault, Reading, ReadsAs, gives, asked_by, asked_arguments, NamedFile}
-use Rattle.runs.specs.Outputs.{SystemView, WritesRun, IsOutputFault}
-use Rattle.runs.specs.ProgramFaults.{program_text}
+use Rattle.runs.specs.Inputs.{Asked, AsksAll, AsksFirst, AreInputs, IsInputFault, Reading, ReadsAs, gives, asked_arguments, NamedFile}
+use Rattle.runs.specs.OutputSystem.{SystemView, WritesRun, IsOutputFault}
+use Rattle.runs.specs.ProgramFault.{program_text}
 use Rattle.runs.specs.Run.{RunView, is_standard, output_file, shown_name}
 
 -- a run is written, by the argument for its output, with its status; or it isn't, for this fault
@@ -39,7 +39,7 @@ pub record Planning : Type 1 where
 pub record ReadsInputs (source : Asking) (arguments : List (List ℕ)) (inputs : List NamedFile)
     (unread : Option (List ℕ)) : Type 0 where
   pub are : AreInputs source.file source.standard false arguments inputs unread
-  pub asks : Asks source.before source.after (asked_by false (asked_arguments arguments inputs unread))
+  pub asks : AsksAll source.before source.after (asked_arguments arguments inputs unread)
 
 -- what a tool of several inputs does, by the arguments for these and for its output
 pub data RunsInputs (source : Asking) (plan : Planning) (arguments : List (List ℕ)) (output : List ℕ)
@@ -53,7 +53,7 @@ pub data RunsInputs (source : Asking) (plan : Planning) (arguments : List (List 
       → ReadsInputs source arguments inputs unread → plan.has_no_run inputs unread (program_text fault)
       → after ≡ before → RunsInputs source plan arguments output before after (Err fault)
   -- reading takes more memory than there is, no input is one that can't be read, and nothing is written
-  no_memory_to_read : AsksFirst source.before source.after (asked_by false arguments) → (source.refused → ⊥)
+  no_memory_to_read : AsksFirst source.before source.after arguments → (source.refused → ⊥)
       → after ≡ before → RunsInputs source plan arguments output before after (Err OutOfMemory)
   -- planning what was read does, and nothing is written; where nothing was read, no input is one that
   -- can't be read

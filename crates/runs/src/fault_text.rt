@@ -1,11 +1,11 @@
-//! The texts of faults, the line that reports one, and the run of it.
-ghost use Rattle.std.specs.Prelude.{◌≡◌, ◌++◌, decimal, IfOk, OnOk};
-ghost use Rattle.runs.specs.Prelude.{fault_line, location, mo_text, po_text, refusal, run_view};
+//! The texts of faults, the line that reports one, and the run of a tool that refuses an input.
+ghost use Rattle.std.specs.Prelude.{◌≡◌, ◌≢◌, ◌++◌, decimal, IfOk, OnOk};
+ghost use Rattle.runs.specs.Prelude.{fault_line, location, mo_text, po_text, refusal, run_view, text_line};
 
-use crate::run::{Run, refused};
+use crate::run::Run;
 use itoa::Buffer;
 use mo_file::MoError;
-use po_syntax::PoFault;
+use po_syntax::{PoError, PoFault};
 use std::alloc::{AllocError, Global};
 
 /// Appends a text with a number in it.
@@ -78,7 +78,8 @@ pub fn push_location(out: &mut Vec<u8>, tool: &str, file: &str, line: u32) -> Re
     out.extend_from_slice(b": ")
 }
 
-/// The run of a tool that refuses an input: one line that reports the fault of this text.
+/// The run of a tool that refuses an input: nothing is written, and one line reports the fault of
+/// this text, with status 1.
 pub fn reported(
     alloc: Global,
     tool: &str,
@@ -92,5 +93,28 @@ pub fn reported(
     push_location(&mut messages, tool, name, line)?;
     messages.extend_from_slice(text)?;
     messages.extend_from_slice(b"\n")?;
-    Ok(refused(alloc, messages))
+    Ok(Run {
+        output: Vec::new(alloc),
+        create: false,
+        messages,
+        status: 1,
+    })
+}
+
+/// The run of a tool that refuses a text: one line that reports the fault.
+pub fn refused_text(
+    alloc: Global,
+    tool: &str,
+    name: &str,
+    error: PoError,
+) -> Result<Run, AllocError>
+    ensures run { IfOk result (λ run. (error.kind ≢ PoFault.OutOfMemory)
+        × (run_view run ≡ refusal (text_line tool.now name.now error))) }
+{
+    if error.kind == PoFault::OutOfMemory {
+        return Err(AllocError);
+    }
+    let mut text = Vec::new(alloc);
+    push_po_text(&mut text, error.kind)?;
+    reported(alloc, tool, name, error.line, &text)
 }

@@ -1,6 +1,6 @@
 //! The inputs of a tool, read in the order of the command line.
 ghost use Rattle.std.specs.Prelude.{◌≡◌, ◌≢◌, ◌↔◌, ◌⊎◌, ◌^◌, ◌+◌, ◌<◌, ◌≤◌, ◌∷◌, [], drop, take, vec_len, Err, IfErr, IfSome, IsErrOf, IsOk, OnErr, OnOk, map, option_map, false, true, None, Some, MatchResult, IfOk};
-ghost use Rattle.runs.specs.Prelude.{AreInputs, Asks, AsksFirst, IsInputFault, ReadsAs, Stays, asked_arguments, asked_by, asked_for, named_inputs, input_fault_text, named_files, program_text, is_standard, shown_name};
+ghost use Rattle.runs.specs.Prelude.{AreInputs, Asks, AsksAll, AsksFirst, IsInputFault, ReadsAs, Stays, asked_arguments, asked_for, named_inputs, input_fault_text, named_files, program_text, is_standard, shown_name};
 ghost use Rattle.runs.specs.Inputs.{gives, refuses};
 ghost use Rattle.runs.specs.declared.inputs.InputFault.TheVariants.{OutOfMemory};
 
@@ -105,12 +105,12 @@ impl<'a> Inputs<'a> {
 
         // Each is asked for in its turn, and standard input once at most.
         ensures asked { AsksFirst (S.asked source.old) (S.asked source.new)
-            (asked_by false (map (λ argument. argument.now) arguments.now)) }
+            (map (λ argument. argument.now) arguments.now) }
 
         // One is asked for only after all before it were read.
-        ensures asked_read { IfOk result (λ inputs. Asks (S.asked source.old) (S.asked source.new)
-            (asked_by false (asked_arguments (map (λ argument. argument.now) arguments.now)
-            (named_inputs inputs) (option_map program_text inputs.fault)))) }
+        ensures asked_read { IfOk result (λ inputs. AsksAll (S.asked source.old) (S.asked source.new)
+            (asked_arguments (map (λ argument. argument.now) arguments.now)
+            (named_inputs inputs) (option_map program_text inputs.fault))) }
 
         // What can't be read isn't told as out of memory.
         ensures fault { IfOk result (λ inputs. inputs.fault ≢ Some ProgramFault.OutOfMemory) }

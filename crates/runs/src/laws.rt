@@ -1,7 +1,7 @@
 //! Laws of inputs and outputs, each the contract of a function that does nothing: a call brings the
 //! law into a proof.
 ghost use Rattle.std.specs.Prelude.{◌≡◌, ◌↔◌, ◌⊎◌, ◌<◌, ◌^◌, ◌+◌, ◌++◌, ℕ, List, Option, codes, decimal, false, replicate, slice_index};
-ghost use Rattle.runs.specs.Prelude.{AsksInTurn, Course, kept_mode, AreInputs, Asked, asked_by, NamedFile, AreInputsInTurn, call_limit, further_names, input_limit, WritesFile, NamesStream, beside, link_target, IsWholeOrAsItWasThroughout, GivesNobodyMore, IsWhose, KeepsRights, IsAllWritten, SystemView, link_limit, RunView, output_file, HasOneReading, Writes};
+ghost use Rattle.runs.specs.Prelude.{Course, kept_mode, AreInputs, NamedFile, AreInputsInTurn, call_limit, further_names, input_limit, WritesFile, NamesStream, beside, link_target, IsWholeOrAsItWasThroughout, GivesNobodyMore, IsWhose, KeepsRights, IsAllWritten, SystemView, link_limit, RunView, output_file, HasOneReading, Writes};
 ghost use Rattle.runs.specs.declared.output_files.Owner.{Owner};
 ghost use Rattle.runs.specs.declared.output_files.Rights.{Rights};
 
@@ -78,13 +78,6 @@ pub fn inputs_stand_in_turn<S: InputSource>()
     ensures { (source : S) (arguments : List (List ℕ)) (inputs : List NamedFile) (fault : Option (List ℕ))
         → AreInputs (S.file source) (S.standard source) false arguments inputs fault
         ↔ AreInputsInTurn (S.file source) (S.standard source) arguments inputs fault }
-{}
-
-/// Arguments ask for the file of each name but `-`, in their order, and for standard input once, in
-/// the place of the first `-`.
-pub fn inputs_are_asked_in_turn()
-    ensures { (arguments : List (List ℕ)) (asked : List Asked)
-        → (asked ≡ asked_by false arguments) ↔ AsksInTurn arguments asked }
 {}
 
 /// Of an input 2,147,483,648 bytes are read at most, by 4,294,967,296 calls at most. To the file

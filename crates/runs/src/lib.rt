@@ -4,8 +4,7 @@
 //!
 //! The modules in reading order: `tool`, `tool_fault`, `device`, `failing` for tests,
 //! `whole_input`, `run`, `program_fault`, `fault_text`, `arguments`, `inputs`, `output_files`,
-//! `output_paths`, `output_writing`, `output_system`, `run_of_text` for msgattrib and msgcat,
-//! `laws`.
+//! `output_paths`, `output_writing`, `output_system`, `laws`.
 
 #![tactic(auto)]
 
@@ -21,7 +20,6 @@ mod output_system;
 mod output_writing;
 mod program_fault;
 mod run;
-mod run_of_text;
 mod tool;
 mod tool_fault;
 mod whole_input;
@@ -29,13 +27,14 @@ mod whole_input;
 pub use arguments::Arguments;
 pub use device::{ByteIn, ByteOut, Counted, put_all};
 pub use failing::Failing;
-pub use fault_text::{push_location, push_mo_text, push_numbered, push_po_text, reported};
+pub use fault_text::{
+    push_location, push_mo_text, push_numbered, push_po_text, refused_text, reported,
+};
 pub use inputs::{Input, InputFault, InputSource, Inputs, read_one};
 pub use output_files::{FileKind, MakeFault, OutputFault, OutputFiles, Owner, Rights};
 pub use output_system::OutputSystem;
 pub use program_fault::{ProgramFault, report_fault};
-pub use run::{Ending, Run, STANDARD, STDIN_NAME, deliver, refused, shown_name, written};
-pub use run_of_text::{refused_text, text_run};
+pub use run::{Ending, Run, STANDARD, STDIN_NAME, deliver, shown_name, written};
 pub use tool::{TOOLS, Tool};
 pub use tool_fault::ToolFault;
 pub use whole_input::{INPUT_LIMIT, read_input, read_whole};

@@ -26,7 +26,7 @@ pub struct OutputSystem<F: OutputFiles, O: ByteOut, E: ByteOut> {
 }
 
 impl<F: OutputFiles, O: ByteOut, E: ByteOut> Model for OutputSystem<F, O, E> {
-    ghost use Rattle.runs.specs.Outputs.{SystemView, system, writer};
+    ghost use Rattle.runs.specs.OutputSystem.{SystemView, system, writer};
 
     ghost Value = { SystemView };
 

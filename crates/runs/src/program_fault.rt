@@ -3,7 +3,7 @@ ghost use Rattle.std.specs.Prelude.{◌≡◌, ◌+◌, ◌^◌, ◌<◌, ◌≤
 ghost use Rattle.std.specs.Io.KnownBytes.{Appends};
 ghost use Rattle.std.specs.Option.{option_copied};
 ghost use Rattle.runs.specs.Prelude.{GivesFirst, program_line, program_text, stdin_text};
-ghost use Rattle.runs.specs.Internal.Parts.{joined};
+ghost use Rattle.runs.specs.Internal.ProgramFault.{joined};
 ghost use Rattle.runs.specs.declared.program_fault.ProgramFault.TheVariants.{OutOfMemory};
 
 use crate::device::{ByteOut, put_all};

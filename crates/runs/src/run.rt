@@ -2,7 +2,7 @@
 ghost use Rattle.std.specs.Prelude.{◌≡◌, ◌+◌, ◌^◌, ◌<◌, Err, OnOk, OnErr};
 ghost use Rattle.std.specs.Io.KnownBytes.{Appends};
 ghost use Rattle.std.specs.Option.{option_copied};
-ghost use Rattle.runs.specs.Prelude.{exit_status, run_view, output_file, output_run, refusal, shown_name, DeliversPrefix};
+ghost use Rattle.runs.specs.Prelude.{exit_status, run_view, output_file, output_run, shown_name, DeliversPrefix};
 
 use crate::device::{ByteOut, put_all};
 use crate::tool_fault::ToolFault;
@@ -58,19 +58,6 @@ pub fn written(alloc: Global, output: Vec<u8>) -> Run
         output,
         messages: Vec::new(alloc),
         status: 0,
-    }
-}
-
-/// The run of inputs that are refused: nothing is written, and these messages report why. It takes
-/// no memory.
-pub fn refused(alloc: Global, messages: Vec<u8>) -> Run
-    ensures { run_view result ≡ refusal messages.items }
-{
-    Run {
-        output: Vec::new(alloc),
-        create: false,
-        messages,
-        status: 1,
     }
 }
 

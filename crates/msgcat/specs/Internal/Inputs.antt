@@ -1,14 +1,16 @@
--- Inputs that are read piece by piece. Internal to this crate.
-use Rattle.std.specs.Prelude.{◌≡◌, ℕ, All, List, [], ◌∷◌, ◌++◌, MatchOption}
+-- Inputs that are read piece by piece, and the entries that they have. Internal to this crate.
+use Rattle.std.specs.Prelude.{◌≡◌, ℕ, All, List, [], ◌∷◌, ◌++◌, MatchOption, None, get_or, map, ◌⊎◌, MatchResult, Result, ◌<◌, length, take}
 use Rattle.std.specs.List.{AllZip}
-use Rattle.po_entry.specs.Prelude.{ReadsText, IsReadFault, TextEntry, HasNoDuplicate, Repeats, are_placed, group_numbers, entry_messages, same_message, is_live}
-use Rattle.msgcat.specs.Inputs.{Named, all_entries}
+use Rattle.po_entry.specs.Prelude.{ReadsText, IsReadFault, TextEntry, HasNoDuplicate, Repeats, are_placed, group_numbers, entry_messages, same_message, is_live, plain_entry, out_of_memory, Lacks}
+use Rattle.msgcat.specs.Inputs.{Named, all_entries, NamedEntry, named}
 use Rattle.po_entry.specs.declared.repeats.EntryPlace.{EntryPlace}
-use Rattle.msgcat.specs.MergeInputs.{AreReadInputs, IsReadInput, unnamed}
+use Rattle.msgcat.specs.MergeInputs.{AreReadInputs, IsReadInput, unnamed, HoldInputs}
 use Rattle.msgcat.specs.declared.input.ReadInput.{ReadInput}
 use Rattle.msgcat.specs.declared.inputs.FileFault.{FileFault}
 use Rattle.msgcat.specs.declared.inputs.ReadInputs.{ReadInputs}
 use Rattle.runs.specs.Prelude.{NamedFile}
+use Rattle.msgcat.specs.declared.merge_inputs.MergeInputs.{MergeInputs}
+use Rattle.msgcat.specs.Msgcat.{AreReadAs, IsFileFault}
 
 -- the entries of these inputs, and then those of a part of another
 abbrev pub with_part : List Named → List TextEntry → List TextEntry
@@ -56,3 +58,29 @@ pub record IsFirstRepeating (inputs : List Named) (fault : FileFault) : Type 0 w
   pub distinct : All (λ i. HasNoDuplicate i.entries) before
   pub name : fault.name.now ≡ input.name
   pub repeats : Repeats input.entries fault.error
+
+abbrev pub no_entry : NamedEntry
+no_entry = named [] (plain_entry None [] None [])
+
+-- the entries with these indexes
+abbrev pub entries_at : List NamedEntry → List ℕ → List NamedEntry
+entries_at entries indexes = map (λ index. get_or entries index no_entry) indexes
+
+-- the name of the input of the entry with this index
+abbrev pub name_of : List Named → ℕ → List ℕ
+name_of read index = (get_or (all_entries read) index no_entry).name
+
+-- the entries of all files, or why one isn't read
+abbrev pub IsReadingOf : List NamedFile → Result MergeInputs FileFault → Type 0
+IsReadingOf files read =
+    MatchResult read (λ held. (inputs : List Named) × AreReadAs files inputs × HoldInputs inputs held)
+    (λ fault. (fault.error ≡ out_of_memory) ⊎ IsFileFault files fault.name.now fault.error)
+
+-- the first file whose name has a NUL is at this place, and has this name
+pub record IsFirstWithNul (files : List NamedFile) (place : ℕ) (name : List ℕ) : Type 0 where
+  pub bytes : List ℕ
+  pub after : List NamedFile
+  pub inside : place < length files
+  pub order : files ≡ take place files ++ record { name = name; bytes = bytes } ∷ after
+  pub names : All (λ file. Lacks 0 file.name) (take place files)
+  pub nul : Lacks 0 name → ⊥

@@ -5,8 +5,8 @@ use Rattle.runs.specs.declared.inputs.Inputs.{Inputs}
 use Rattle.runs.specs.declared.program_fault.ProgramFault.{ProgramFault}
 use Rattle.runs.specs.declared.program_fault.ProgramFault.TheVariants.{OutOfMemory}
 use Rattle.runs.specs.Inputs.{IsInputFault, inputs_in, named_inputs, NamedFile}
-use Rattle.runs.specs.Outputs.{SystemView}
-use Rattle.runs.specs.ProgramFaults.{program_text}
+use Rattle.runs.specs.OutputSystem.{SystemView}
+use Rattle.runs.specs.ProgramFault.{program_text}
 use Rattle.runs.specs.Run.{RunView}
 use Rattle.runs.specs.ToolRuns.{Asking, Planning, ReadsInputs, RunsInput, RunsInputs, has_none, no_memory_to_plan, out_of_memory, unread}
 

@@ -1,5 +1,5 @@
 use Rattle.std.proofs.Common.{◌∙◌, ap, sym}
-use Rattle.msgcat.specs.Internal.FirstParts.{has_part}
+use Rattle.msgcat.specs.Internal.Merging.{has_part}
 use Rattle.msgcat.proofs.FirstParts.{found_here, none_here, none_left}
 use Rattle.msgcat.proofs.definition.first_with.Goals as goal
 

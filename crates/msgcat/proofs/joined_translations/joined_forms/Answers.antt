@@ -3,7 +3,7 @@ use Rattle.std.specs.List.{range_with_len}
 use Rattle.std.proofs.lemmas.List.{length-map, length_push, map-append}
 use Rattle.std.proofs.lemmas.List.FromFn.{map-range_with_len_more}
 use Rattle.po_entry.specs.Prelude.{texts}
-use Rattle.msgcat.specs.Internal.FormsLeft.{form_list, form_lists, joined_at, most_forms, rests}
+use Rattle.msgcat.specs.Internal.JoinedTranslations.{form_list, form_lists, joined_at, most_forms, rests}
 use Rattle.msgcat.proofs.FormsLeft.{joined_rests, none_left, one_less}
 use Rattle.msgcat.proofs.joined_translations.joined_forms.Goals as goal
 

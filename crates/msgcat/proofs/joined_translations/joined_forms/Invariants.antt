@@ -1,7 +1,7 @@
 use Rattle.std.proofs.Common.{◌≡◌, ◌+◌, ℕ, length, map}
 use Rattle.std.specs.List.{range_with_len}
 use Rattle.po_entry.specs.Prelude.{texts}
-use Rattle.msgcat.specs.Internal.FormsLeft.{form_lists, joined_at, most_forms}
+use Rattle.msgcat.specs.Internal.JoinedTranslations.{form_lists, joined_at, most_forms}
 use Rattle.msgcat.proofs.joined_translations.joined_forms.Given as goal
 
 -- the forms so far are joined, and the translations that are left make the others

@@ -6,8 +6,7 @@ use Rattle.std.specs.BTreeMap.{is_at}
 use Rattle.std.proofs.lemmas.Bool.{not-true, not-false}
 use Rattle.std.proofs.lemmas.List.{map-append}
 use Rattle.msgcat.specs.Prelude.{named_entry, named_entries, same_forms, translations}
-use Rattle.msgcat.specs.Internal.FormsLeft.{FormList, form_list, form_lists, named_forms}
-use Rattle.msgcat.specs.Internal.SeenForms.{HasTranslations}
+use Rattle.msgcat.specs.Internal.JoinedTranslations.{FormList, form_list, form_lists, named_forms, HasTranslations}
 use Rattle.msgcat.proofs.SeenForms.{one_translation_more, seen_here}
 use Rattle.msgcat.proofs.Steps.{translations_more}
 use Rattle.msgcat.proofs.joined_translations.translations.Goals as goal

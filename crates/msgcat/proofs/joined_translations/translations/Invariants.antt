@@ -1,7 +1,6 @@
 use Rattle.std.proofs.Common.{◌≡◌, map, take}
 use Rattle.msgcat.specs.Prelude.{named_entries, translations}
-use Rattle.msgcat.specs.Internal.FormsLeft.{form_lists, named_forms}
-use Rattle.msgcat.specs.Internal.SeenForms.{HasTranslations}
+use Rattle.msgcat.specs.Internal.JoinedTranslations.{form_lists, named_forms, HasTranslations}
 use Rattle.msgcat.proofs.joined_translations.translations.Given as goal
 
 -- the distinct translations so far are found, and the set has them

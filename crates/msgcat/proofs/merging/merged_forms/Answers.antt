@@ -3,7 +3,7 @@ use Rattle.std.specs.Prelude.{if◌then◌else◌}
 use Rattle.std.proofs.lemmas.Bool.{lt-ltb}
 use Rattle.std.proofs.lemmas.List.{length-map}
 use Rattle.msgcat.specs.Prelude.{named_entries, first_translated, is_joined, joined_forms, translations}
-use Rattle.msgcat.specs.Internal.FormsLeft.{form_list, joined_lists, named_forms}
+use Rattle.msgcat.specs.Internal.JoinedTranslations.{form_list, joined_lists, named_forms}
 use Rattle.msgcat.proofs.FormsLeft.{joined_lists_named}
 use Rattle.msgcat.proofs.merging.merged_forms.Goals as goal
 

@@ -5,7 +5,7 @@ use Rattle.std.proofs.lemmas.Result.{IfOk-weaker, MatchResult-from_both}
 use Rattle.po_entry.specs.Prelude.{Lacks}
 use Rattle.runs.specs.Facts.RunEnds.{none_read}
 use Rattle.runs.specs.Prelude.{named_inputs, named_files, run_view}
-use Rattle.msgcat.specs.Internal.ReadFiles.{IsReadingOf}
+use Rattle.msgcat.specs.Internal.Inputs.{IsReadingOf}
 use Rattle.msgcat.specs.Prelude.{IsMsgcatRun, IsUnread}
 use Rattle.msgcat.proofs.UnreadBefore.{name_told, names_before, none_before, place_is, refused_before, refused_whole, some_file}
 use Rattle.msgcat.proofs.whole_run.plan_msgcat_of.Goals as goal

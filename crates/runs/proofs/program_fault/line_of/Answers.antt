@@ -2,7 +2,7 @@ use Rattle.std.proofs.Common.{◌≡◌, ◌+◌, ◌<◌, ◌≤◌, ℕ, List,
 use Rattle.std.specs.Borrow.{Bor}
 use Rattle.std.proofs.lemmas.Bool.{cases_lt, false≢true}
 use Rattle.std.proofs.lemmas.List.Folds.{length-flat_map-take}
-use Rattle.runs.specs.Internal.Parts.{joined}
+use Rattle.runs.specs.Internal.ProgramFault.{joined}
 use Rattle.runs.proofs.DeviceLemmas.{on-err}
 use Rattle.runs.proofs.program_fault.line_of.Goals as goal
 

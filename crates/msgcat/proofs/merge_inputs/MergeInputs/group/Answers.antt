@@ -4,7 +4,7 @@ use Rattle.std.proofs.lemmas.List.{length-map}
 use Rattle.std.proofs.lemmas.List.Elements.{All-head, All-tail}
 use Rattle.msgcat.specs.declared.definition.NamedEntry.{NamedEntry as BorrowedEntry}
 use Rattle.msgcat.specs.Prelude.{definitions, groups, IsChain, NamedEntry, all_entries, named_entries, AreReadInputs}
-use Rattle.msgcat.specs.Internal.EntriesAt.{entries_at, no_entry}
+use Rattle.msgcat.specs.Internal.Inputs.{entries_at, no_entry}
 use Rattle.msgcat.proofs.HeldGroups.{entries_here, groups_at, groups_counted, indexes_here}
 use Rattle.msgcat.proofs.LinkLemmas.{chain_on, chain_over}
 use Rattle.msgcat.proofs.ReadInputs.{entry_is, entry_taken}

@@ -3,7 +3,7 @@ use Rattle.std.proofs.lemmas.Result.{err_from_is_err_and}
 use Rattle.std.specs.Io.KnownBytes.{Appends}
 use Rattle.std.specs.Result.{result_or}
 use Rattle.runs.specs.Prelude.{AppendsPrefix, fault_in, SystemView, WritesRun, MakesFile, OutputIs, RunView, DeliversPrefix}
-use Rattle.runs.specs.Outputs.{cut, delivered, made, to_file, unmade, unreported}
+use Rattle.runs.specs.OutputSystem.{cut, delivered, made, to_file, unmade, unreported}
 use Rattle.runs.specs.declared.output_files.OutputFault.TheVariants.{WriteFault}
 use Rattle.runs.specs.declared.tool_fault.ToolFault.{ToolFault}
 use Rattle.runs.proofs.output_system.OutputSystem.write_output.Goals as goal

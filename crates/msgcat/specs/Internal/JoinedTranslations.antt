@@ -1,11 +1,15 @@
--- Internal: the forms of translations that are left to join, as they are joined index by index.
-use Rattle.std.specs.Prelude.{ℕ, max, List, [], ◌∷◌, fold, length, map, slice_get}
-use Rattle.std.specs.List.{flat_map, range_with_len}
+-- The translations that are joined, and those that were seen so far. Internal to this crate.
+use Rattle.std.specs.Prelude.{ℕ, max, List, [], ◌∷◌, fold, length, map, slice_get, ◌≡◌, bytes_eq}
+use Rattle.std.specs.List.{flat_map, range_with_len, list_any}
 use Rattle.std.specs.Option.{option_map_or}
-use Rattle.po_entry.specs.Prelude.{forms_left}
+use Rattle.po_entry.specs.Prelude.{forms_left, translation_bytes}
 use Rattle.msgcat.specs.declared.joined_translations.FormsLeft.{FormsLeft}
 use Rattle.msgcat.specs.Inputs.{NamedEntry}
 use Rattle.msgcat.specs.Merged.{marked}
+use Rattle.std.specs.Ordering.{nat_cmp}
+use Rattle.std.specs.Cmp.Lexicographic.{slice_cmp}
+use Rattle.std.specs.Borrow.{Bor}
+use Rattle.std.specs.BTreeSet.{BTreeSet, contains}
 
 -- the name of an input, and forms
 pub record FormList : Type 0 where
@@ -42,3 +46,10 @@ rest_of name (form ∷ forms) = record { name = name; forms = forms } ∷ []
 -- the lists that have a form, each without its first
 abbrev pub rests : List FormList → List FormList
 rests lists = flat_map (λ l. rest_of l.name l.forms) lists
+
+-- the set has just the translations of these definitions
+abbrev pub HasTranslations : BTreeSet (Bor (List ℕ)) → List NamedEntry → Type 0
+HasTranslations seen found =
+    (q : Bor (List ℕ))
+    → contains (λ x y. slice_cmp nat_cmp x.now y.now) seen q
+    ≡ list_any (λ d. bytes_eq q.now (translation_bytes d.entry)) found

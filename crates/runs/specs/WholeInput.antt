@@ -1,8 +1,16 @@
--- What a tool delivers that reads one input; `IsRun` says which run an input has.
-use Rattle.std.specs.Prelude.{◌≡◌, ℕ, List, Option, IfSome, take}
+-- How much is read of an input at most (this project's own), and what a tool delivers that reads one
+-- input; `IsRun` says which run an input has.
+use Rattle.std.specs.Prelude.{◌^◌, ℕ, ◌≡◌, List, Option, IfSome, take}
 use Rattle.std.specs.Io.KnownBytes.{Appends}
-use Rattle.runs.specs.Limits.{input_limit}
 use Rattle.runs.specs.Run.{RunView, DeliversPrefix}
+
+-- the bytes that are read of an input
+abbrev pub input_limit : ℕ
+input_limit = 2 ^ 31
+
+-- the calls of a reader by which it is read
+abbrev pub call_limit : ℕ
+call_limit = 2 ^ 32
 
 -- the run of the input that is read, or of its first 2,147,483,648 bytes
 pub record IsRunOf (IsRun : List ℕ → RunView → Type 0) (remaining : Option (List ℕ)) (run : RunView) : Type 0 where

@@ -14,7 +14,7 @@ use Rattle.runs.specs.declared.output_files.FileKind.TheVariants.{Regular, Speci
 use Rattle.runs.specs.declared.output_files.MakeFault.TheVariants.{Forbidden}
 use Rattle.runs.specs.OutputFiles.{FileCall, Course, done, fails, ◌▸◌, fault_of, asks, reads_link, makes, fails_to_make, sets_owner, sets_mode, opens, takes_stream, closes, renames, removes, FileLog, calls_of, logged, kept_mode, first_mode}
 use Rattle.runs.specs.OutputPaths.{NamesStream, NamesNoStream, link_target}
-use Rattle.runs.specs.Outputs.{SystemView}
+use Rattle.runs.specs.OutputSystem.{SystemView}
 use Rattle.runs.specs.Run.{RunView}
 
 -- What a user may do with a file ("File Mode Bits" of the GNU coreutils manual), and what it means
