@@ -15,7 +15,8 @@ use Rattle.memchr.specs.Find.{is_byte}
 use Rattle.locale_names.specs.Prelude.{candidates, candidates_of_name, is_path_part, is_c_locale, language_parts, languages}
 use Rattle.locale_names.proofs.SearchLemmas.{nil-from_length}
 use Rattle.gettext.specs.declared.candidates.Environment.{Environment}
-use Rattle.gettext.specs.Prelude.{Lacks, environment_view, non_empty, locale_of, candidates_of, distinct, IsCLocale, CanStandInPath, Count, Lists, AreLanguages, FirstPlaces, AreCandidates}
+use Rattle.mo_file.specs.Prelude.{Lacks}
+use Rattle.gettext.specs.Prelude.{environment_view, non_empty, locale_of, candidates_of, distinct, IsCLocale, CanStandInPath, Count, Lists, AreLanguages, FirstPlaces, AreCandidates}
 use Rattle.gettext.specs.Candidates.{no_part, ends, omitted, counts, untranslated, no_path, the_locale, of_language}
 use Rattle.gettext.proofs.ChoiceLemmas.{says, from_text, from_no_text, locale_chosen}
 use Rattle.gettext.proofs.NameParts.{have_five, are_five}

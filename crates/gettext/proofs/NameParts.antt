@@ -8,7 +8,8 @@ use Rattle.std.proofs.lemmas.List.Elements.{All-nil, All-cons, All-head, All-tai
 use Rattle.memchr.specs.Find.{is_byte}
 use Rattle.locale_names.specs.Prelude.{before, from_first, candidates_of_name}
 use Rattle.locale_names.proofs.SearchLemmas.{byte-here, byte-later}
-use Rattle.gettext.specs.Prelude.{Lacks, IsEmptyOrBegins, HasFive, HaveFive}
+use Rattle.mo_file.specs.Prelude.{Lacks}
+use Rattle.gettext.specs.Prelude.{IsEmptyOrBegins, HasFive, HaveFive}
 use Rattle.gettext.specs.Candidates.{five, no_name, next_name}
 
 -- a text is cut at the first such byte

@@ -5,6 +5,7 @@ use Rattle.std.specs.Borrow.{Bor}
 use Rattle.std.specs.List.{list_any, join_with_byte}
 use Rattle.std.specs.Option.{option_or}
 use Rattle.std.specs.Str.{bytes_eq}
+use Rattle.mo_file.specs.Prelude.{Lacks}
 use Rattle.locale_names.specs.Prelude.{candidates}
 use Rattle.gettext.specs.declared.candidates.Environment.{Environment}
 use Rattle.gettext.specs.Environment.{EnvironmentView, HasText, HasNoText}
@@ -38,10 +39,6 @@ pub data IsLocale (env : EnvironmentView) : List ℕ → Type 0 where
   by_lang : {locale : List ℕ} → HasNoText env.lc_all → HasNoText env.lc_messages → HasText env.lang locale
       → IsLocale env locale
   no_locale : HasNoText env.lc_all → HasNoText env.lc_messages → HasNoText env.lang → IsLocale env []
-
--- the text is without this byte
-abbrev pub Lacks : ℕ → List ℕ → Type 0
-Lacks a text = All (λ b. b ≢ a) text
 
 -- nothing, or a text with this byte first
 abbrev pub IsEmptyOrBegins : ℕ → List ℕ → Type 0
