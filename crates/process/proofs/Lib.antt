@@ -1,5 +1,4 @@
 -- The lemmas in reading order: each module stands on those above it.
-pub mod Cuts
 pub mod ValueLists
 pub mod Outcomes
 pub mod SystemCallLemmas

@@ -5,7 +5,7 @@ use Rattle.runs.specs.Prelude.{input_limit}
 use Rattle.runs.specs.declared.inputs.InputFault.{InputFault}
 use Rattle.runs.specs.declared.inputs.InputFault.TheVariants.{CannotOpen, ReadFault, OutOfMemory}
 use Rattle.process.specs.Prelude.{ReadsFile}
-use Rattle.process.specs.FileReadings.{read as all_read, unread}
+use Rattle.process.specs.Reading.{read as all_read, unread}
 
 pub opened : {T : Type 0} {all : Option (List ℕ)} (opens : Option (Option (List ℕ)) → Type 0) (bytes : List ℕ)
     (result : Result T InputFault) → opens (Some all) → OnOk result (IfSome all (λ all. bytes ≡ take input_limit all))

@@ -1,11 +1,11 @@
 -- The definitions in reading order: each module stands on those above it.
 pub mod Answers
 pub mod SystemCalls
-pub mod FileReadings
+pub mod Reading
 pub mod OutputCalls
-pub mod Values
-pub mod Matched
+pub mod Value
+pub mod Options
 pub mod Endings
 pub mod Program
-pub mod Starts
+pub mod Starting
 pub mod Prelude

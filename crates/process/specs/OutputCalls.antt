@@ -7,7 +7,7 @@ use Rattle.runs.specs.declared.output_files.MakeFault.{MakeFault}
 use Rattle.runs.specs.declared.output_files.OutputFault.{OutputFault}
 use Rattle.runs.specs.declared.output_files.Owner.{Owner}
 use Rattle.process.specs.Answers.{is_for_writing, kind_of, make_fault, no_link}
-use Rattle.process.specs.FileReadings.{ReadsFile}
+use Rattle.process.specs.Reading.{ReadsFile}
 use Rattle.process.specs.SystemCalls.{SystemCall, appends, fails_to_create, fails_to_read_link, gives_mode, gives_owner, has_stream, leaves_open, opens_root, reads_link, draws, takes_errors, takes_output, tells_descriptor, tells_of, tells_owner}
 use Rattle.process.specs.declared.answers.Found.{Found}
 use Rattle.process.specs.declared.opened.Opened.{Opened}

@@ -1,9 +1,9 @@
 -- What contracts and proofs cite of the definitions of this crate. Declares nothing.
 pub use Rattle.process.specs.Answers.{is_for_writing, kind_of, make_fault, no_link, rights_of}
 pub use Rattle.process.specs.SystemCalls.{CallLog, Does, SystemCall, called}
-pub use Rattle.process.specs.FileReadings.{ReadsFile, ReadsInput}
+pub use Rattle.process.specs.Reading.{ReadsFile, ReadsInput}
 pub use Rattle.process.specs.OutputCalls.{GivesOwner, Holds, ReplacesClosed, TakesStream}
-pub use Rattle.process.specs.Values.{AreArguments, AreEntries, AreValues, Fills, HasNoText}
+pub use Rattle.process.specs.Value.{AreArguments, AreEntries, AreValues, Fills, HasNoText}
 pub use Rattle.process.specs.Endings.{GivesHelp, Puts, Reports}
 pub use Rattle.process.specs.Program.{AreRefused, EndsTool, Explains, IsFirst, IsFoundIn, NamesNone, NamesTool, RunsProgram, RunsWords}
-pub use Rattle.process.specs.Starts.{Starts}
+pub use Rattle.process.specs.Starting.{Starts}

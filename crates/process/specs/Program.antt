@@ -16,8 +16,8 @@ use Rattle.runs.specs.declared.run.Ending.TheVariants.{Refused}
 use Rattle.runs.specs.declared.tool.Tool.{Tool}
 use Rattle.runs.specs.declared.program_fault.ProgramFault.TheVariants.{OutOfMemory, NotText}
 use Rattle.process.specs.Endings.{Ends, GivesHelp, Puts, Reports}
-use Rattle.process.specs.Matched.{line_in}
-use Rattle.process.specs.Values.{AreArguments, HasNoText}
+use Rattle.process.specs.Options.{line_in}
+use Rattle.process.specs.Value.{AreArguments, HasNoText}
 
 -- a tool runs, and what it comes to is reported and is the ending
 pub record EndsTool (tool : Tool) (line : CommandLine) (answers : Answers) (refused : Type 0) (before after : Reached)

@@ -3,7 +3,7 @@ ghost use Rattle.std.specs.Prelude.{◌≡◌, ◌==◌, ◌<◌, ◌∷◌, [],
 ghost use Rattle.std.specs.List.{slice_split};
 
 /// The text before the first such byte, and that after it; where there is none, all of the text.
-#[tactic(auto, using(crate::proofs::Cuts::cut_none, crate::proofs::Cuts::cut_found))]
+#[tactic(auto, using(po_syntax::specs::Facts::Cuts::cut_none, po_syntax::specs::Facts::Cuts::cut_found))]
 pub(crate) fn cut(text: &[u8], end: u8) -> (&[u8], Option<&[u8]>)
     ensures cut { MatchOption result.1 (slice_split (λ byte. byte == end) text.now ≡ result.0.now ∷ [])
         (λ rest. slice_split (λ byte. byte == end) text.now

@@ -19,7 +19,7 @@ const FEW_ENTRIES: usize = 512;
 /// beginning of the room, and one for the text that has all entries of the environment.
 pub trait Process {
     ghost use Rattle.std.specs.Prelude.{ℕ, List, Option, IfOk};
-    ghost use Rattle.process.specs.Values.{Fills};
+    ghost use Rattle.process.specs.Value.{Fills};
 
     // What the argument of an index may be, or None after the last. The first has the index 1.
     ghost argument: { Self → ℕ → Option (List ℕ) → Type 0 };

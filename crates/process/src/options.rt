@@ -10,7 +10,7 @@ pub(crate) struct Options<'r, 'a>(pub(crate) &'r ArgMatches<'a>);
 impl<'r, 'a> Arguments for Options<'r, 'a> {
     ghost use Rattle.std.specs.Prelude.{◌≡◌};
     ghost use Rattle.clap.specs.Matches.{found_of, first_value, matched_of, one_text};
-    ghost use Rattle.process.specs.Matched.{IsFlag, IsNumber, given_texts};
+    ghost use Rattle.process.specs.Options.{IsFlag, IsNumber, given_texts};
 
     ghost flag = { λ options name value. IsFlag (one_text (found_of options.0.now) name) value };
 

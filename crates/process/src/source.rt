@@ -16,7 +16,7 @@ pub struct Source<'s, S>(pub &'s S);
 
 impl<'s, S: SystemCalls> InputSource for Source<'s, S> {
     ghost use Rattle.std.specs.Prelude.{None};
-    ghost use Rattle.process.specs.FileReadings.{ReadsFile, ReadsInput};
+    ghost use Rattle.process.specs.Reading.{ReadsFile, ReadsInput};
 
     ghost file = { λ source name reading. ReadsFile (S.opens source.0.now name) reading };
 
@@ -37,7 +37,6 @@ impl<'s, S: SystemCalls> InputSource for Source<'s, S> {
 
 impl<'s, S: SystemCalls> Process for Source<'s, S> {
     ghost use Rattle.std.specs.Prelude.{codes};
-    ghost use Rattle.process.specs.FileReadings.{ReadsFile};
     ghost use Rattle.runs.specs.Inputs.{gives};
 
     ghost argument = { λ source index value. S.argument source.0.now index value };
@@ -77,8 +76,7 @@ impl<'s, S: SystemCalls> VariableSource for Source<'s, S> {
 
 impl<'s, S: SystemCalls> EntrySource for Source<'s, S> {
     ghost use Rattle.std.specs.Prelude.{codes};
-    ghost use Rattle.process.specs.FileReadings.{ReadsFile};
-    ghost use Rattle.process.specs.Values.{AreEntries};
+    ghost use Rattle.process.specs.Value.{AreEntries};
     ghost use Rattle.runs.specs.Inputs.{gives};
 
     ghost entries = { λ source entries. AreEntries (S.entry source.0.now)

@@ -11,7 +11,7 @@ pub trait SystemCalls {
     ghost use Rattle.std.specs.Prelude.{◌≡◌, ◌∷◌, [], ℕ, List, Option, MatchResult, is_some, option_map};
     ghost use Rattle.std.specs.String.{string_bytes};
     ghost use Rattle.process.specs.SystemCalls.{CallLog, called, appends, creates, draws, empties, fails_to_create, fails_to_read_link, gives_mode, gives_owner, has_stream, leaves_open, opens_root, reads_link, removes, renames, takes_errors, takes_output, tells_descriptor, tells_of, tells_owner};
-    ghost use Rattle.process.specs.Values.{Fills};
+    ghost use Rattle.process.specs.Value.{Fills};
 
     /// An open file.
     type File: Read + Write + Drop;

@@ -11,7 +11,7 @@ const FIRST_CAPACITY: usize = 256;
 /// A value that a process may have: an argument, a variable, an entry of its environment.
 pub(crate) trait Value {
     ghost use Rattle.std.specs.Prelude.{ℕ, List, Option};
-    ghost use Rattle.process.specs.Values.{Fills};
+    ghost use Rattle.process.specs.Value.{Fills};
 
     // What the value may be, or None where there is none.
     ghost value: { Self → Option (List ℕ) → Type 0 };

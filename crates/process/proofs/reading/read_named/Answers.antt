@@ -1,5 +1,5 @@
 use Rattle.std.proofs.Common.{inr}
-use Rattle.process.specs.FileReadings.{unopened}
+use Rattle.process.specs.Reading.{unopened}
 use Rattle.process.proofs.ReadingLemmas.{opened}
 use Rattle.process.proofs.reading.read_named.Goals as goal
 

@@ -1,4 +1,4 @@
-use Rattle.process.specs.Starts.{is_closed, runs}
+use Rattle.process.specs.Starting.{is_closed, runs}
 use Rattle.process.proofs.starting.start.Goals as goal
 
 pub returns-in-Err : goal.returns-in-Err
