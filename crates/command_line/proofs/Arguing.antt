@@ -1,10 +1,9 @@
 -- Arguments and tools, as they are added one after another.
-use Rattle.std.proofs.Common.{◌≡◌, ℕ, suc, ◌+◌, ◌<◌, ◌==◌, false, ◌||◌, List, [], ◌∷◌, ◌++◌, length, map, take, get_or, refl}
-use Rattle.std.proofs.Common.{ap, ◌∙◌, sym, arith, append_assoc, Option, None, Some}
+use Rattle.std.proofs.Common.{◌≡◌, ℕ, suc, ◌+◌, ◌<◌, ◌==◌, false, ◌||◌, List, [], ◌∷◌, ◌++◌, length, map, take, get_or, refl, ap, ◌∙◌, sym, arith, append_assoc, Option, None, Some}
 use Rattle.std.proofs.lemmas.Bool.Decides.{nat_tests}
 use Rattle.std.proofs.Math.Bool.{or-false}
 use Rattle.std.proofs.lemmas.List.{map-append, take_more}
-use Rattle.std.specs.List.{AllZip}
+use Rattle.po_syntax.specs.Facts.Zips.{zip_more}
 use Rattle.clap.specs.Built.{AddsArg, AddsSubcommand, subcommand_names}
 use Rattle.clap.specs.Simple.{App, Shape, app_of, new_app, on_top, shape_of, with_rule, with_subcommand}
 use Rattle.clap.specs.Walk.{is_empty, rule_of}
@@ -14,14 +13,6 @@ use Rattle.clap.specs.declared.builder.command.Command.TheViews.{out-Command}
 use Rattle.command_line.specs.Prelude.{Argument, IsRuleOf, arguments_of, AddsArguments, IsToolCommand, IsToolShape, OffersTools, offered, offered_tools, top_of}
 use Rattle.runs.specs.Prelude.{tool_name}
 use Rattle.runs.specs.declared.tool.Tool.{Tool}
-
--- one pair more
-zip_more : {X Y : Type 0} (R : X → Y → Type 0) (xs : List X) (ys : List Y) (x : X) (y : Y) → AllZip R xs ys → R x y
-    → AllZip R (xs ++ x ∷ []) (ys ++ y ∷ [])
-zip_more R [] [] x y all holds = (holds, tt)
-zip_more R [] (z ∷ ys) x y all holds = absurd all
-zip_more R (z ∷ xs) [] x y all holds = absurd all
-zip_more R (z ∷ xs) (w ∷ ys) x y all holds = (all.0, zip_more R xs ys x y all.1 holds)
 
 -- one item more of a list, as `f` has it
 pub next_mapped : {X Y : Type 0} (f : X → Y) (xs : List X) (i : ℕ) (other : X) → i < length xs

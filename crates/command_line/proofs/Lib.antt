@@ -1,4 +1,3 @@
 mod Arguing
 mod Words
 mod LineSteps
-mod CutLines

@@ -5,7 +5,7 @@ use Rattle.std.specs.Str.Pattern.{EndsAtFirstMatch, FindsChar}
 use Rattle.std.proofs.lemmas.Str.Pattern.{NoCharPasses-char, drop_at_char}
 use Rattle.std.proofs.Math.Seq.{take-append-add}
 use Rattle.std.proofs.lemmas.List.{append_cancel_left, nil_from_length}
-use Rattle.command_line.specs.Prelude.{lines_with_ends}
+use Rattle.po_syntax.specs.Facts.LinesWithEnds.{lines_with_ends}
 
 abbrev NoFeed : List ℕ → Type 0
 NoFeed line = (i : ℕ) → i < length line → get_or line i 0 ≢ 10

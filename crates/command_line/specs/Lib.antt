@@ -1,9 +1,6 @@
 -- The definitions in reading order: each module stands on those above it.
-pub mod Arguments
-pub mod Offering
-pub mod SpelledOut
-pub mod OwnTip
-pub mod Reworded
-pub mod TextLines
+pub mod Commands
+pub mod Tips
+pub mod Usage
 pub mod Internal
 pub mod Prelude

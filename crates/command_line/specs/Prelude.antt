@@ -1,7 +1,4 @@
 -- What contracts and proofs cite of the definitions of this crate. Declares nothing.
-pub use Rattle.command_line.specs.Arguments.{Argument, IsRuleOf, arguments_of}
-pub use Rattle.command_line.specs.Offering.{AddsArguments, IsToolCommand, IsToolShape, OffersTools, offered, offered_tools, top_of}
-pub use Rattle.command_line.specs.SpelledOut.{spelled_out}
-pub use Rattle.command_line.specs.OwnTip.{before_quote, gnu_checks, gnu_options, is_among, manual_of, option_tip, own_tip, takes_files, tip_on, tool_tip, unknown_option, unknown_tool, word_after}
-pub use Rattle.command_line.specs.Reworded.{is_file_tip, is_left_out, lines_with_ends, reworded, reworded_line, single_spaced, spaced_line}
-pub use Rattle.command_line.specs.TextLines.{ContainsLines, LacksFeed, TextsAreCutIntoLines}
+pub use Rattle.command_line.specs.Commands.{Argument, IsRuleOf, arguments_of, AddsArguments, IsToolCommand, IsToolShape, OffersTools, offered, offered_tools, top_of}
+pub use Rattle.command_line.specs.Usage.{spelled_out, is_file_tip, is_left_out, reworded, reworded_line, single_spaced, spaced_line}
+pub use Rattle.command_line.specs.Tips.{before_quote, gnu_checks, gnu_options, is_among, manual_of, option_tip, own_tip, takes_files, tip_on, tool_tip, unknown_option, unknown_tool, word_after}

@@ -6,7 +6,7 @@ ghost use Rattle.clap.specs.Walk.{rule_of};
 ghost use Rattle.runs.specs.declared.tool.Tool.{Tool};
 ghost use Rattle.clap.specs.declared.builder.command.Command.TheViews.{out-Command};
 ghost use Rattle.command_line.specs.Prelude.{IsRuleOf, arguments_of, IsToolCommand, OffersTools, offered, offered_tools};
-ghost use Rattle.command_line.specs.Internal.Kind.{argument_of};
+ghost use Rattle.command_line.specs.Internal.{argument_of};
 
 use crate::help::{self, Help};
 use Kind::{ByteOrder, File, Files, Flag, Forms, Letter, Number, Output, ShortFlag, Text};

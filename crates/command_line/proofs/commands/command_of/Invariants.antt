@@ -1,5 +1,5 @@
 use Rattle.std.proofs.Common.{map, take}
-use Rattle.command_line.specs.Internal.Kind.{argument_of}
+use Rattle.command_line.specs.Internal.{argument_of}
 use Rattle.command_line.specs.Prelude.{AddsArguments}
 use Rattle.command_line.proofs.commands.command_of.Given as goal
 

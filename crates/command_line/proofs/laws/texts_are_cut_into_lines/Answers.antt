@@ -1,5 +1,5 @@
-use Rattle.command_line.proofs.CutLines.{cut_into_lines}
+use Rattle.po_syntax.specs.Facts.LinesWithEnds.{lines_are}
 use Rattle.command_line.proofs.laws.texts_are_cut_into_lines.Goals as goal
 
 pub returns : goal.returns
-returns c = cut_into_lines
+returns c = lines_are

@@ -3,7 +3,8 @@ use denote.Text.{Utf8}
 use denote.Shadow.{shadow}
 use Rattle.std.specs.List.{flat_map, zip}
 use Rattle.std.specs.Str.Iter.{split_inclusive_pattern, split_inclusive_text}
-use Rattle.command_line.specs.Prelude.{lines_with_ends, single_spaced, spaced_line}
+use Rattle.po_syntax.specs.Facts.LinesWithEnds.{lines_with_ends}
+use Rattle.command_line.specs.Prelude.{single_spaced, spaced_line}
 use Rattle.command_line.proofs.usage.single_spaced.Given as goal
 
 abbrev pub invariant-loop-line : goal.invariant-loop-line

@@ -1,14 +1,11 @@
--- The text of a usage fault, from clap's text of it.
+-- The text of a usage fault, from clap's text of it, and the command `help`, as the option that it
+-- stands for.
 use Rattle.std.specs.Prelude.{ℕ, Bool, ◌==◌, ◌&&◌, ◌||◌, if◌then◌else◌, List, [], ◌∷◌, Option, Some, None, nat_eq, codes}
-use Rattle.std.specs.List.{flat_map, onto_first, starts_with, zip}
+use Rattle.std.specs.List.{flat_map, starts_with, zip}
 use Rattle.std.specs.Str.{bytes_eq}
+use Rattle.po_syntax.specs.Facts.LinesWithEnds.{lines_with_ends}
 use Rattle.runs.specs.declared.tool.Tool.{Tool}
-use Rattle.command_line.specs.OwnTip.{own_tip, takes_files}
-
--- the lines of a text, each with the LF that ends it, if one does
-abbrev pub lines_with_ends : List ℕ → List (List ℕ)
-lines_with_ends [] = []
-lines_with_ends (b ∷ text) = if b == 10 then (10 ∷ []) ∷ lines_with_ends text else onto_first b (lines_with_ends text)
+use Rattle.command_line.specs.Tips.{own_tip, takes_files}
 
 -- clap's tip to pass an unknown option as a file, at a tool whose arguments are files
 abbrev pub is_file_tip : Option Tool → List ℕ → Bool
@@ -40,3 +37,11 @@ single_spaced text = flat_map spaced_line (zip ([] ∷ lines_with_ends text) (li
 -- the text of a usage fault, from clap's text of it
 abbrev pub reworded : Option Tool → List ℕ → List ℕ
 reworded tool text = single_spaced (flat_map (reworded_line tool (own_tip tool text)) (lines_with_ends text))
+
+-- `help` is `--help`, and `help TOOL` with anything after it is `TOOL --help`; the first word is the
+-- program's name
+abbrev pub spelled_out : List (List ℕ) → List (List ℕ)
+spelled_out (program ∷ word ∷ []) = program ∷ (if bytes_eq word (codes "help") then codes "--help" else word) ∷ []
+spelled_out (program ∷ word ∷ tool ∷ more) =
+    if bytes_eq word (codes "help") then program ∷ tool ∷ codes "--help" ∷ [] else program ∷ word ∷ tool ∷ more
+spelled_out words = words
