@@ -1,8 +1,8 @@
 //! What msgfmt writes and reports: the MO file of PO texts.
 ghost use Rattle.std.specs.Prelude.{◌≡◌, ◌^◌, ◌<◌, List, length, IfOk, OnErr, Err};
-ghost use Rattle.po_entry.specs.Prelude.{slice_texts, stats_line};
+ghost use Rattle.po_entry.specs.Prelude.{stats_line};
 ghost use Rattle.runs.specs.Prelude.{NamedFile, named_files, run_view};
-ghost use Rattle.msgfmt.specs.Internal.Plan.{HoldInputs, IsGathered};
+ghost use Rattle.msgfmt.specs.Internal.Plan.{IsGathered};
 ghost use Rattle.msgfmt.specs.Msgfmt as Spec;
 
 use crate::fault_lines::{failed_check_run, refused_run};
@@ -22,28 +22,6 @@ pub(crate) struct Gathered<'a> {
     collected: Result<Vec<Collected>, JoinError>,
 }
 
-/// The names of the inputs.
-fn names_of<'a>(alloc: Global, inputs: &[(&'a str, &[u8])]) -> Result<Vec<&'a str>, AllocError>
-    ensures { IfOk result (λ names. slice_texts names.items ≡ Spec.input_names (named_files inputs.now)) }
-{
-    let mut names = Vec::with_capacity(alloc, inputs.len())?;
-    for (name, _) in inputs {
-        names.push(*name)?;
-    }
-    Ok(names)
-}
-
-/// The texts of the inputs.
-fn texts_of<'a>(alloc: Global, inputs: &[(&str, &'a [u8])]) -> Result<Vec<&'a [u8]>, AllocError>
-    ensures { IfOk result (λ texts. slice_texts texts.items ≡ Spec.input_texts (named_files inputs.now)) }
-{
-    let mut texts = Vec::with_capacity(alloc, inputs.len())?;
-    for (_, text) in inputs {
-        texts.push(*text)?;
-    }
-    Ok(texts)
-}
-
 /// Gathers what the run of inputs needs of them.
 pub(crate) fn gather<'a>(
     alloc: Global,
@@ -53,12 +31,14 @@ pub(crate) fn gather<'a>(
     requires { length inputs.now < 2 ^ 32 }
     ensures { IfOk result (IsGathered use_fuzzy (named_files inputs.now)) }
 {
-    let names = names_of(alloc, inputs)?;
-    let texts = texts_of(alloc, inputs)?;
-    Ok(Gathered {
-        names,
-        collected: collect_all(alloc, &texts, use_fuzzy),
-    })
+    let mut names = Vec::with_capacity(alloc, inputs.len())?;
+    let mut texts = Vec::with_capacity(alloc, inputs.len())?;
+    for (name, text) in inputs {
+        names.push(*name)?;
+        texts.push(*text)?;
+    }
+    let collected = collect_all(alloc, &texts, use_fuzzy);
+    Ok(Gathered { names, collected })
 }
 
 /// The line that reports statistics.
@@ -101,25 +81,28 @@ fn compiled_run(
     })
 }
 
-/// The run of inputs with these names, whose live entries are collected.
+/// The run of inputs of which this is gathered. The compiled file is written over what `room`
+/// holds.
 ///
 /// The check comes first, so that what it takes of the memory is free again; its fault is reported
 /// only where the inputs are compiled.
-fn collected_run(
+pub(crate) fn gathered_run(
     alloc: Global,
-    names: &[&str],
-    collected: &[Collected],
+    gathered: Gathered<'_>,
     room: Vec<u8>,
     options: &MsgfmtOptions,
 ) -> Result<Run, AllocError>
-    requires few { length collected.now < 2 ^ 32 }
-    requires read { (inputs : List NamedFile) × HoldInputs options.now.use_fuzzy inputs (slice_texts names.now) collected.now }
-    ensures { IfOk result (λ run. (inputs : List NamedFile)
-        → HoldInputs options.now.use_fuzzy inputs (slice_texts names.now) collected.now
+    requires { (inputs : List NamedFile) × IsGathered options.now.use_fuzzy inputs gathered }
+    ensures { IfOk result (λ run. (inputs : List NamedFile) → IsGathered options.now.use_fuzzy inputs gathered.entry
         → Spec.IsMsgfmtRun inputs options.now (run_view run)) }
 {
+    let Gathered { names, collected } = gathered;
+    let collected = match collected {
+        Ok(collected) => collected,
+        Err(error) => return refused_run(alloc, &names, error),
+    };
     let checked = if options.profile_check {
-        check_collected(alloc, collected)
+        check_collected(alloc, &collected)
     } else {
         Ok(())
     };
@@ -127,33 +110,13 @@ fn collected_run(
         use_fuzzy: options.use_fuzzy,
         order: options.order,
     };
-    let compiled = match compile_collected(alloc, collected, room, compile_options) {
+    let compiled = match compile_collected(alloc, &collected, room, compile_options) {
         Ok(compiled) => compiled,
-        Err(error) => return refused_run(alloc, names, error),
+        Err(error) => return refused_run(alloc, &names, error),
     };
     match checked {
         Ok(()) => compiled_run(alloc, options, compiled),
-        Err((input, fault)) => failed_check_run(alloc, names, input, fault),
-    }
-}
-
-/// The run of inputs of which this is gathered. The compiled file is written over what `room`
-/// holds.
-pub(crate) fn gathered_run(
-    alloc: Global,
-    gathered: Gathered<'_>,
-    room: Vec<u8>,
-    options: &MsgfmtOptions,
-) -> Result<Run, AllocError>
-    requires few { length gathered.names.items < 2 ^ 32 }
-    requires read { (inputs : List NamedFile) × IsGathered options.now.use_fuzzy inputs gathered }
-    ensures { IfOk result (λ run. (inputs : List NamedFile) → IsGathered options.now.use_fuzzy inputs gathered.entry
-        → Spec.IsMsgfmtRun inputs options.now (run_view run)) }
-{
-    let Gathered { names, collected } = gathered;
-    match collected {
-        Ok(collected) => collected_run(alloc, &names, &collected, room, options),
-        Err(error) => refused_run(alloc, &names, error),
+        Err((input, fault)) => failed_check_run(alloc, &names, input, fault),
     }
 }
 

@@ -1,36 +1,20 @@
 //! msgfmt as a whole: the inputs of its command line are read, also where one can't be, and their
 //! run is planned and written.
-ghost use Rattle.std.specs.Prelude.{◌≡◌, ◌≢◌, ◌⊎◌, ◌^◌, ◌<◌, [], None, Some, Err, IfOk, IfErr, IfSome, OnOk, length, map};
+ghost use Rattle.std.specs.Prelude.{◌≡◌, ◌≢◌, ◌⊎◌, ◌^◌, ◌<◌, [], None, Some, Err, IfOk, IfErr, IfSome, OnOk, map};
 ghost use Rattle.msgfmt.specs.Prelude.{AreWrong, IsMsgfmtRun, IsRefused, NoneRefused, RunsMsgfmt};
 ghost use Rattle.runs.specs.Prelude.{AsksFirst, named_inputs, run_view, asking};
 
 use crate::options::MsgfmtOptions;
 use crate::plan::{gather, gathered_run};
 use runs::{ByteOut, InputSource, Inputs, OutputFiles, OutputSystem, ProgramFault, Run};
-use std::alloc::{AllocError, Global};
-
-/// What `msgfmt` writes and reports of the inputs that were read, as `plan_msgfmt` says it. The
-/// compiled file is written over their bytes.
-fn plan_inputs(
-    alloc: Global,
-    inputs: Inputs<'_>,
-    options: &MsgfmtOptions,
-) -> Result<Run, AllocError>
-    requires { length inputs.texts.items < 2 ^ 32 }
-    ensures { IfOk result (λ run. IsMsgfmtRun (named_inputs inputs.entry) options.now (run_view run)) }
-{
-    let borrowed = inputs.borrowed(alloc)?;
-    let gathered = gather(alloc, &borrowed, options.use_fuzzy)?;
-    drop(borrowed);
-    gathered_run(alloc, gathered, inputs.bytes, options)
-}
+use std::alloc::Global;
 
 /// What `msgfmt` comes to with the inputs that a command line names, each with its name, and the
 /// fault of the one after them that can't be read: the plan of all of them, or, where one can't be
-/// read, the refusal of those before it, or else that input's fault. The check of `--profile-check`
-/// is of all inputs together, so it isn't made of only some of them. The command line names one at
-/// least, and fewer than 4,294,967,296; else, and only then, it is `WrongArguments`. `OutOfMemory`
-/// may come in place of any result.
+/// read, the refusal of those before it, or else that input's fault. The file is written over the
+/// bytes of the inputs. The check of `--profile-check` is of all inputs together, so it isn't made
+/// of only some of them. The command line names one at least, and fewer than 4,294,967,296; else,
+/// and only then, it is `WrongArguments`. `OutOfMemory` may come in place of any result.
 pub fn plan_msgfmt_of<'a>(
     alloc: Global,
     inputs: Inputs<'a>,
@@ -56,14 +40,18 @@ pub fn plan_msgfmt_of<'a>(
     if inputs.texts.is_empty() {
         return Err(fault.unwrap_or(ProgramFault::WrongArguments));
     }
-    let Some(fault) = fault else {
-        return Ok(plan_inputs(alloc, inputs, options)?);
-    };
-    let unchecked = MsgfmtOptions {
-        profile_check: false,
+    let is_whole = fault.is_none();
+    let options = MsgfmtOptions {
+        profile_check: options.profile_check && is_whole,
         ..*options
     };
-    let run = plan_inputs(alloc, inputs, &unchecked)?;
+    let borrowed = inputs.borrowed(alloc)?;
+    let gathered = gather(alloc, &borrowed, options.use_fuzzy)?;
+    drop(borrowed);
+    let run = gathered_run(alloc, gathered, inputs.bytes, &options)?;
+    let Some(fault) = fault else {
+        return Ok(run);
+    };
     if run.status == 0 { Err(fault) } else { Ok(run) }
 }
 

@@ -1,49 +1,43 @@
-use Rattle.std.proofs.Common.{ap, arith, inl, length, sym, ◌∙◌}
-use Rattle.std.proofs.lemmas.List.{length-map}
+use Rattle.std.proofs.Common.{◌≡◌, ◌∙◌, ap, arith, false, inl, inr, length, sym, true, true≢false, ⊎_elim}
 use Rattle.std.proofs.lemmas.Result.{IfOk-weaker}
+use Rattle.std.specs.Prelude.{is_ok}
+use Rattle.po_compile.specs.Prelude.{AreCollected}
 use Rattle.po_entry.specs.Prelude.{slice_texts}
-use Rattle.msgfmt.specs.Prelude.{join_line}
+use Rattle.runs.specs.Prelude.{refusal}
+use Rattle.msgfmt.specs.Prelude.{check_line, input_texts, join_line}
 use Rattle.msgfmt.proofs.MsgfmtLemmas.{collected-count}
+use Rattle.msgfmt.proofs.plan.gathered_run.Goals.{then-options, else-options}
 use Rattle.msgfmt.proofs.plan.gathered_run.Goals as goal
-use Rattle.runs.specs.Prelude.{NamedFile, refusal}
 
-pub collected_run-requires-clause-few : goal.collected_run-requires-clause-few
-collected_run-requires-clause-few c =
-    let inputs = c.requires.read.0 in
-    let of = rw c.in-Ok.is at c.requires.read.1.collects in
+pub check_collected-checked-requires : goal.check_collected-checked-requires
+check_collected-checked-requires c =
+    let of = rw c.in-Ok.is at c.requires.1.collects in
     omega (
       arith,
-      c.requires.few,
-      ap length c.deref-in-Ok.ensures.value,
-      collected-count c.args.options.now.use_fuzzy inputs c.in-Ok.collected.items of,
-      length-map inputs (λ (file : NamedFile). file.name),
-      ap length c.requires.read.1.named,
-      length-map c.args.gathered.names.items (λ name. name.now),
+      c.requires.1.few,
+      ap length c.deref-then-options.ensures.value,
+      collected-count c.args.options.now.use_fuzzy c.requires.0 c.in-Ok.collected.items of,
     )
 
-pub collected_run-requires-clause-read : goal.collected_run-requires-clause-read
-collected_run-requires-clause-read c = (
-  c.requires.read.0,
-  record {
-    named = ap slice_texts c.deref.ensures.value ∙ c.requires.read.1.named;
-    collects = rw (sym c.deref-in-Ok.ensures.value) at (rw c.in-Ok.is at c.requires.read.1.collects);
-  },
-)
+pub compile_collected-requires-clause-few : goal.compile_collected-requires-clause-few
+compile_collected-requires-clause-few c =
+    let of = rw c.in-Ok.is at c.requires.1.collects in
+    omega (
+      arith,
+      c.requires.1.few,
+      ap length c.deref-2.ensures.value,
+      collected-count c.args.options.now.use_fuzzy c.requires.0 c.in-Ok.collected.items of,
+    )
 
-pub returns-in-Ok : goal.returns-in-Ok
-returns-in-Ok c =
-    IfOk-weaker c.collected_run.result _ _
-    (λ run planned inputs held. planned inputs (record {
-      named = ap slice_texts c.deref.ensures.value ∙ held.named;
-      collects = rw (sym c.deref-in-Ok.ensures.value) at (rw c.in-Ok.is at held.collects);
-    }))
-    c.collected_run.ensures
+pub compile_collected-requires-clause-read : goal.compile_collected-requires-clause-read
+compile_collected-requires-clause-read c =
+    (input_texts c.requires.0, rw (sym c.deref-2.ensures.value) at (rw c.in-Ok.is at c.requires.1.collects))
 
 pub returns-in-Err : goal.returns-in-Err
 returns-in-Err c =
     IfOk-weaker c.refused_run.result _ _
     (λ run reported inputs held.
-    let named = ap slice_texts c.deref-in-Err.ensures.value ∙ held.named in
+    let named = ap slice_texts c.deref.ensures.value ∙ held.named in
     inl (record {
       error = c.in-Err.error;
       fault = inl (rw c.in-Err.is at held.collects);
@@ -51,3 +45,70 @@ returns-in-Err c =
       run_is = reported.1 ∙ ap (λ names. refusal (join_line names c.in-Err.error)) named;
     }))
     c.refused_run.ensures
+
+pub returns-in-Err-compile_collected : goal.returns-in-Err-compile_collected
+returns-in-Err-compile_collected c =
+    IfOk-weaker c.refused_run-in-Err-compile_collected.result _ _
+    (λ run reported inputs held.
+    let named = ap slice_texts c.deref-in-Err-compile_collected.ensures.value ∙ held.named in
+    let fault = rw c.deref-2.ensures.value at c.in-Err-compile_collected.ensures.fault in
+    inl (record {
+      error = c.in-Err-compile_collected.error;
+      fault = fault (input_texts inputs) (rw c.in-Ok.is at held.collects);
+      not_memory = reported.0;
+      run_is = reported.1 ∙ ap (λ names. refusal (join_line names c.in-Err-compile_collected.error)) named;
+    }))
+    c.refused_run-in-Err-compile_collected.ensures
+
+pub returns-in-Ok-checked : goal.returns-in-Ok-checked
+returns-in-Ok-checked c =
+    IfOk-weaker c.compiled_run.result _ _
+    (λ run run_is inputs held.
+    let texts = input_texts inputs in
+    let read : AreCollected c.args.options.now.use_fuzzy texts c.in-Ok.collected.items =
+    rw c.in-Ok.is at held.collects in
+    let compiled = (rw c.deref-2.ensures.value at c.in-Ok-compile_collected.ensures.found) texts read in
+    let checked : c.args.options.now.profile_check ≡ true → _ = λ asked. elim c.if-options.branch [
+      | then-options w ↦
+          let fit = rw (sym w.checked-is ∙ c.in-Ok-checked.is) at w.check_collected-checked.ensures.fit in
+          (rw w.deref-then-options.ensures.value at fit) c.args.options.now.use_fuzzy read.catalogues read.held
+      | else-options w ↦ let wrong : true ≡ false = sym asked ∙ w.if-options.false in absurd (true≢false wrong)
+    ] in
+    inr (inr (record {
+      catalogues = read.catalogues;
+      read = compiled.0;
+      compiled = c.in-Ok-compile_collected.compiled;
+      is_compiled = compiled.1;
+      stats = (rw c.deref-2.ensures.value at c.in-Ok-compile_collected.ensures.statistics) texts read;
+      checked = checked;
+      run_is = run_is;
+    })))
+    c.compiled_run.ensures
+
+pub returns : goal.returns
+returns c =
+    IfOk-weaker c.failed_check_run.result _ _
+    (λ run reported inputs held.
+    let read : AreCollected c.args.options.now.use_fuzzy (input_texts inputs) c.in-Ok.collected.items =
+    rw c.in-Ok.is at held.collects in
+    let named = ap slice_texts c.deref-in-Err-checked.ensures.value ∙ held.named in
+    let compiled = (rw c.deref-2.ensures.value at c.in-Ok-compile_collected.ensures.found) (input_texts inputs) read in
+    elim c.if-options.branch [
+      | then-options w ↦ ⊎_elim (λ memory. absurd (reported.0 (ap (λ f. f.1) memory)))
+          (λ found. inr (inl (record {
+            catalogues = read.catalogues;
+            read = compiled.0;
+            compiled = c.in-Ok-compile_collected.compiled;
+            is_compiled = compiled.1;
+            asked = w.if-options.true;
+            fault = (c.in-Err-checked.input, c.in-Err-checked.fault);
+            checked = (rw w.deref-then-options.ensures.value at found) c.args.options.now.use_fuzzy read.catalogues
+                read.held;
+            run_is = reported.1
+                ∙ ap (λ names. refusal (check_line names (c.in-Err-checked.input, c.in-Err-checked.fault))) named;
+          })))
+          (rw (sym w.checked-is ∙ c.in-Err-checked.is) at w.check_collected-checked.ensures.unfit)
+      | else-options w ↦ let wrong : true ≡ false = ap is_ok (sym w.checked-is ∙ c.in-Err-checked.is) in absurd
+          (true≢false wrong)
+    ])
+    c.failed_check_run.ensures

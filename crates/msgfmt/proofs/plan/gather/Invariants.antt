@@ -1,0 +1,11 @@
+use Rattle.std.proofs.Common.{◌≡◌, take}
+use Rattle.po_entry.specs.Prelude.{slice_texts}
+use Rattle.runs.specs.Prelude.{named_files}
+use Rattle.msgfmt.specs.Prelude.{input_names, input_texts}
+use Rattle.msgfmt.proofs.plan.gather.Given as goal
+
+abbrev pub invariant-loop-name : goal.invariant-loop-name
+invariant-loop-name l = record {
+  named : slice_texts l.names.items ≡ input_names (named_files (take l.name-index l.inputs));
+  taken : slice_texts l.texts.items ≡ input_texts (named_files (take l.name-index l.inputs));
+}

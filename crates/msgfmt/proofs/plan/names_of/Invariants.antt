@@ -1,8 +1,0 @@
-use Rattle.std.proofs.Common.{◌≡◌, take}
-use Rattle.po_entry.specs.Prelude.{slice_texts}
-use Rattle.runs.specs.Prelude.{named_files}
-use Rattle.msgfmt.specs.Prelude.{input_names}
-use Rattle.msgfmt.proofs.plan.names_of.Given as goal
-
-abbrev pub invariant-loop-name : goal.invariant-loop-name
-invariant-loop-name l = slice_texts l.names.items ≡ input_names (named_files (take l.name-index l.inputs))
