@@ -3,7 +3,7 @@ use Rattle.std.proofs.Common.{ℕ, Bool, List, [], ◌∷◌, ◌++◌, Option}
 use Rattle.std.specs.Prelude.{All, fold, option_to_list}
 use Rattle.std.proofs.lemmas.List.Elements.{All-nil, All-cons, All-head, All-tail, All-append}
 use Rattle.po_syntax.specs.declared.item.Keyword.{Keyword}
-use Rattle.po_syntax.specs.declared.item.Keyword.TheVariants.{MsgCtxt, MsgId, MsgIdPlural, MsgStr, MsgStrAt}
+use Rattle.po_syntax.specs.declared.item.Keyword.TheVariants.{MsgCtxt, MsgId}
 use Rattle.po_syntax.specs.declared.item.Marks.{Marks}
 use Rattle.po_syntax.specs.Prelude.{OfString, TextItem}
 use Rattle.po_entry.specs.Prelude.{with_previous, CommentText, PreviousText, with_head, TextEntry, TextPrevious, no_previous, quoted_texts}
@@ -63,9 +63,7 @@ module _ (P : List ℕ → Type 0) (join : (xs ys : List ℕ) → P xs → P ys 
       → PreviousHold (with_previous word text fields)
   set MsgCtxt text fields holds h = (one text holds, h.1, h.2)
   set MsgId text fields holds h = (h.0, one text holds, h.2)
-  set MsgIdPlural text fields holds h = (h.0, h.1, one text holds)
-  set MsgStr text fields holds h = (h.0, h.1, one text holds)
-  set (MsgStrAt index) text fields holds h = (h.0, h.1, one text holds)
+  set word text fields holds h = (h.0, h.1, one text holds)
 
   all_set : (texts : List PreviousText) (fields : TextPrevious) → All (λ (p : PreviousText). P p.text) texts
       → PreviousHold fields

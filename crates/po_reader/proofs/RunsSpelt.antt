@@ -1,5 +1,5 @@
--- What the reader comes to is what items spell: each place awaits what makes, with the items before it, a whole list.
-use Rattle.std.proofs.Common.{◌≡◌, ℕ, ◌<◌, Bool, true, false, ◌==◌, nat_lt, List, [], ◌∷◌, ◌++◌, Option, None, Some, append_assoc, append-nil, refl, sym, ap, subst, ◌∙◌, inl, inr, ◌⊎◌, arith}
+-- What the reader comes to is what items spell: each place awaits what makes a whole with the items before it.
+use Rattle.std.proofs.Common.{◌≡◌, ℕ, ◌<◌, Bool, true, false, ◌==◌, nat_lt, List, [], ◌∷◌, ◌++◌, Option, None, Some, append_assoc, append-nil, refl, sym, subst, inl, inr, ◌⊎◌, arith}
 use Rattle.std.specs.Prelude.{if◌then◌else◌}
 use Rattle.std.specs.Bool.{beq}
 use Rattle.std.specs.Cmp.{booleans_Decides}
@@ -9,39 +9,38 @@ use Rattle.po_syntax.specs.declared.fault.PoFault.TheVariants.{BadOrder, MixedOb
 use Rattle.po_syntax.specs.declared.item.Keyword.{Keyword}
 use Rattle.po_syntax.specs.declared.item.Keyword.TheVariants.{MsgCtxt, MsgId, MsgIdPlural, MsgStr, MsgStrAt}
 use Rattle.po_syntax.specs.declared.item.Marks.{Marks}
-use Rattle.po_syntax.specs.Prelude.{TextItem}
+use Rattle.po_syntax.specs.Prelude.{TextItem, line_of}
 use Rattle.po_syntax.specs.Item.{Comment, Word, Str}
 use Rattle.po_entry.specs.Prelude.{TextEntry, CommentText, PreviousText, rank, with_head}
 use Rattle.po_entry.specs.Spelling as spell
 use Rattle.po_entry.specs.Spelling.{own_marks, previous_marks}
 use Rattle.po_reader.specs.Internal.Stage.{SoFar, Wanted, Id, Translation, Form, Gap, InHead, Before, AfterForm, Stage, Between, In, Stop, Entries, Fault, no_lines, only, with_own, with_text, with_entry, with_comment, with_previous_text}
 use Rattle.po_reader.specs.Internal.Turn.{turn, turn_head, turn_own, turn_gap, opened, closed, with_keyword, comes_to, same_marks, is_form, is_wanted, unwanted, stray_string}
-use Rattle.po_reader.proofs.Turns.{never, same_marks_true}
+use Rattle.po_reader.proofs.Turns.{marked, never, same_marks_true}
 use Rattle.po_reader.proofs.PreviousOrder.{Rise, keywords, rise_order}
 
--- these own items, where that is wanted, make this body of what was read of it
-abbrev Completes : Wanted → TextEntry → List TextItem → TextEntry → Type 0
-Completes Id before items body =
-    (line : ℕ) × (own : List TextItem) × (id : List ℕ) × (last : List TextItem) × (plural : Option (List ℕ))
-    × (forms : List (List ℕ))
-    × (items ≡ own ++ last) × spell.SpellsKeywordText MsgId (own_marks before.obsolete) line own id
-    × spell.SpellsTranslation before.obsolete last plural forms
-    × (body ≡ record before { line = line; id = id; plural = plural; forms = forms })
-Completes Translation before items body =
-    (plural : Option (List ℕ)) × (forms : List (List ℕ)) × spell.SpellsTranslation before.obsolete items plural forms
-    × (body ≡ record before { plural = plural; forms = forms })
-Completes (Form index) before items body =
-    (form : List ℕ) × (forms : List (List ℕ)) × spell.SpellsForms before.obsolete index items (form ∷ forms)
-    × (body ≡ record before { forms = before.forms ++ form ∷ forms })
-
--- From a place on, Whole says what items and entries make, with what was read, a whole list.
+-- Whole says of the items that are left at a place, and of all entries, that with what was read they make a whole.
 
 -- own lines are awaited that complete the entry, and then others
+abbrev AwaitsTranslation : (List TextItem → List TextEntry → Type 0) → SoFar → Type 0
+AwaitsTranslation Whole read =
+    (own rest : List TextItem) (plural : Option (List ℕ)) (forms : List (List ℕ)) (more : List TextEntry)
+    → spell.SpellsTranslation read.own.obsolete own plural forms → spell.SpellsEntries rest more
+    → Whole (own ++ rest) (read.entries
+    ++ with_head read.comment_texts read.previous (record read.own { plural = plural; forms = forms }) ∷ more)
+
 abbrev AwaitsOwn : (List TextItem → List TextEntry → Type 0) → SoFar → Wanted → Type 0
-AwaitsOwn Whole read wanted =
-    (own rest : List TextItem) (body : TextEntry) (more : List TextEntry) → Completes wanted read.own own body
-    → spell.SpellsEntries rest more
-    → Whole (own ++ rest) (read.entries ++ with_head read.comment_texts read.previous body ∷ more)
+AwaitsOwn Whole read Id =
+    (line : ℕ) (own : List TextItem) (text : List ℕ)
+    → spell.SpellsKeywordText MsgId (own_marks read.own.obsolete) line own text
+    → AwaitsTranslation (λ items. Whole (own ++ items))
+    (with_own read (with_text MsgId text (with_keyword MsgId line read.own)))
+AwaitsOwn Whole read Translation = AwaitsTranslation Whole read
+AwaitsOwn Whole read (Form index) =
+    (own rest : List TextItem) (form : List ℕ) (forms : List (List ℕ)) (more : List TextEntry)
+    → spell.SpellsForms read.own.obsolete index own (form ∷ forms) → spell.SpellsEntries rest more
+    → Whole (own ++ rest) (read.entries
+    ++ with_head read.comment_texts read.previous (record read.own { forms = read.own.forms ++ form ∷ forms }) ∷ more)
 
 -- comments are awaited that are the last items; or the rest of a head, own lines, and other entries
 record AwaitsHead (Whole : List TextItem → List TextEntry → Type 0) (read : SoFar) (above : ℕ) : Type 0 where
@@ -118,18 +117,18 @@ module _ (Whole : List TextItem → List TextEntry → Type 0) (read : SoFar) wh
         → spell.SpellsContext obsolete first context
         → AwaitsOwn (λ items. Whole (first ++ items))
         (with_own read (record (no_lines obsolete) { context = context })) Id
-    body_awaited obsolete first context spelt own rest body more c others =
-        rw (append_assoc first own rest) at (rw (append-nil read.comment_texts, append-nil read.previous) at
-        (w.entry [] (first ++ own) rest [] [] body more spell.nothing tt
-        (rw (c.6, c.9, sym (append_assoc first c.1 c.3)) (spell.own_lines spelt c.7 c.8)) others))
-
-  id_awaited : AwaitsOwn Whole read Id → (line : ℕ) (own : List TextItem) (text : List ℕ)
-      → spell.SpellsKeywordText MsgId (own_marks read.own.obsolete) line own text
-      → AwaitsOwn (λ items. Whole (own ++ items))
-      (with_own read (with_text MsgId text (with_keyword MsgId line read.own))) Translation
-  id_awaited w line own text spelt last rest body more c others =
-      rw (append_assoc own last rest) at
-      (w (own ++ last) rest body more (line, own, text, last, c.0, c.1, refl, spelt, c.2, c.3) others)
+    body_awaited obsolete first context spelt line own text id last rest plural forms more translation others =
+        let body : TextEntry = record (no_lines obsolete) {
+          context = context;
+          line = line;
+          id = text;
+          plural = plural;
+          forms = forms;
+        } in
+        rw (append_assoc (first ++ own) last rest, append_assoc first own (last ++ rest)) at
+        (rw (append-nil read.comment_texts, append-nil read.previous) at
+        (w.entry [] (first ++ own ++ last) rest [] [] body more spell.nothing tt
+        (spell.own_lines {entry = body} spelt id translation) others))
 
 -- the test passes where the items would be refused otherwise
 only_if : (end : ℕ) (items : List TextItem) (entries : List TextEntry) (b : Bool) (stage : Stage) (fault : PoFault)
@@ -160,17 +159,15 @@ module _ (end : ℕ) (items : List TextItem) (goes : Goes end items) (Whole : Li
   head_goes read above (Str bytes marks line) w e = absurd (never end BadOrder line items entries e)
   head_goes read above (Word keyword marks line) w e = word keyword marks.obsolete marks.previous e where
     word : (keyword : Keyword) (o p : Bool)
-        → comes_to end (turn_head read above (Word keyword (record { obsolete = o; previous = p }) line)) items
-        ≡ Entries entries → Whole (Word keyword (record { obsolete = o; previous = p }) line ∷ items) entries
+        → comes_to end (turn_head read above (Word keyword (marked o p) line)) items
+        ≡ Entries entries → Whole (Word keyword (marked o p) line ∷ items) entries
     word keyword o true e =
         let higher = only_if end items entries (nat_lt above (rank keyword)) _ BadOrder line e in
         text_goes read keyword (previous_marks o) line
         (previous_awaited Whole read above w keyword o line (ltb-true _ _ higher.0)) higher.1
     word MsgId o false e =
         text_goes _ MsgId (own_marks o) line
-        (id_awaited Whole (with_own read (no_lines o))
-        (body_awaited Whole read above w o [] None spell.no_context) line)
-        e
+        (body_awaited Whole read above w o [] None spell.no_context line) e
     word MsgCtxt o false e =
         text_goes _ MsgCtxt (own_marks o) line
         (λ own text spelt. body_awaited Whole read above w o own (Some text) (spell.context spelt)) e
@@ -181,48 +178,38 @@ module _ (end : ℕ) (items : List TextItem) (goes : Goes end items) (Whole : Li
       → AwaitsOwn Whole read wanted
       → comes_to end (opened read read.own keyword line) items ≡ Entries entries
       → Whole (Word keyword (own_marks read.own.obsolete) line ∷ items) entries
-  wanted_goes read Id MsgId line is w e = text_goes _ MsgId _ line (id_awaited Whole read w line) e
+  wanted_goes read Id MsgId line is w e = text_goes _ MsgId _ line (w line) e
   wanted_goes read Translation MsgStr line is w e =
       text_goes read MsgStr _ line (λ own text spelt. entries_awaited (λ items. Whole (own ++ items)) _
-      (λ rest more others. rw append_assoc (w own rest _ more (_, _, spell.single spelt, refl) others))) e
+      (λ rest more others. rw append_assoc (w own rest None (text ∷ []) more (spell.single spelt) others))) e
   wanted_goes read Translation MsgIdPlural line is w e =
-      text_goes read MsgIdPlural _ line (λ own text spelt last rest body more c others.
+      text_goes read MsgIdPlural _ line (λ own text spelt last rest form forms more spelt_forms others.
       rw (append_assoc own last rest) at
-      (w (own ++ last) rest body more (_, _, spell.plural spelt c.2, c.3) others)) e
+      (w (own ++ last) rest (Some text) (form ∷ forms) more (spell.plural spelt spelt_forms) others)) e
   wanted_goes read (Form index) (MsgStrAt found) line is w e =
-      let form = rw (sym (eqb-true found index is)) at w in
+      let first = rw (sym (eqb-true found index is)) at w in
       text_goes read (MsgStrAt found) _ line (λ own text spelt. (
-        λ last rest body more c others. rw (append_assoc own last rest) at
-            (form (own ++ last) rest body more (
-              text,
-              c.0 ∷ c.1,
-              spell.more_forms spelt c.2,
-              c.3 ∙ ap (λ forms. record (read.own) { forms = forms })
-                  (append_assoc read.own.forms (text ∷ []) (c.0 ∷ c.1)),
-            ) others),
-        entries_awaited (λ items. Whole (own ++ items)) _
-            (λ rest more others. rw append_assoc (form own rest _ more
-            (text, [], rw append-nil at (spell.more_forms spelt spell.no_form), refl) others)),
+        λ last rest form forms more spelt_forms others.
+            rw (append_assoc read.own.forms (text ∷ []) (form ∷ forms)) (rw (append_assoc own last rest) at
+            (first (own ++ last) rest text (form ∷ forms) more (spell.more_forms spelt spelt_forms) others)),
+        entries_awaited (λ items. Whole (own ++ items)) _ (λ rest more others. rw append_assoc
+            (first own rest text [] more (rw append-nil at (spell.more_forms spelt spell.no_form)) others)),
       )) e
   wanted_goes read wanted keyword line is w e = absurd cc
 
   own_goes : (read : SoFar) (wanted : Wanted) (item : TextItem) → AwaitsOwn Whole read wanted
       → comes_to end (turn_own read wanted item) items ≡ Entries entries → Whole (item ∷ items) entries
-  own_goes read wanted (Comment kind text line) w e = absurd (never end BadOrder line items entries e)
-  own_goes read wanted (Str bytes marks line) w e = absurd (never end BadOrder line items entries e)
   own_goes read wanted (Word keyword marks line) w e = word marks.obsolete marks.previous e where
     word : (o p : Bool) → comes_to end
-        (turn_own read wanted (Word keyword (record { obsolete = o; previous = p }) line)) items ≡ Entries entries
-        → Whole (Word keyword (record { obsolete = o; previous = p }) line ∷ items) entries
+        (turn_own read wanted (Word keyword (marked o p) line)) items ≡ Entries entries
+        → Whole (Word keyword (marked o p) line ∷ items) entries
     word o true e = absurd (never end BadOrder line items entries e)
     word o false e =
-        let fits = only_if end items entries (is_wanted wanted keyword)
-        (if beq read.own.obsolete o then opened read read.own keyword line else Stop MixedObsolete line)
-        (unwanted wanted keyword) line e in
-        let same = only_if end items entries (beq read.own.obsolete o)
-        (opened read read.own keyword line) MixedObsolete line fits.1 in
+        let fits = only_if end items entries (is_wanted wanted keyword) _ (unwanted wanted keyword) line e in
+        let same = only_if end items entries (beq read.own.obsolete o) _ MixedObsolete line fits.1 in
         subst (λ b. Whole (Word keyword (own_marks b) line ∷ items) entries)
         ((booleans_Decides read.own.obsolete o).0 same.0) (wanted_goes read wanted keyword line fits.0 w same.1)
+  own_goes read wanted item w e = absurd (never end BadOrder (line_of item) items entries e)
 
   gap_goes : (gap : Gap) (item : TextItem) → AwaitsGap Whole gap
       → comes_to end (turn_gap gap item) items ≡ Entries entries → Whole (item ∷ items) entries
@@ -241,8 +228,7 @@ module _ (end : ℕ) (items : List TextItem) (goes : Goes end items) (Whole : Li
       → comes_to end (turn (In read keyword marks some text) (Str bytes found line)) items ≡ Entries entries
       → Whole (Str bytes found line ∷ items) entries
   string_goes read keyword marks found some text bytes line w e =
-      let same = only_if end items entries (same_marks marks found) (In read keyword marks true (text ++ bytes))
-      (stray_string marks found) line e in
+      let same = only_if end items entries (same_marks marks found) _ (stray_string marks found) line e in
       subst (λ (m : Marks). Whole (Str bytes m line ∷ items) entries) (same_marks_true marks found same.0)
       (goes (λ items. Whole (Str bytes marks line ∷ items)) _ entries awaited same.1) where
         spelt : (own : List TextItem) (others : List ℕ) → StringsLeft true marks own others
@@ -285,16 +271,11 @@ all_go end (item ∷ items) Whole (Between gap) entries w e =
 all_go end (item ∷ items) Whole (Stop fault line) entries w e = absurd (never end fault line items entries e)
 all_go end (Str bytes found line ∷ items) Whole (In read keyword marks some text) entries w e =
     string_goes end items (all_go end items) Whole entries read keyword marks found some text bytes line w e
-all_go end (Comment kind bytes line ∷ items) Whole (In read keyword marks true text) entries w e =
-    gap_goes end items (all_go end items) Whole entries (closed read keyword marks text) (Comment kind bytes line)
+all_go end (item ∷ items) Whole (In read keyword marks true text) entries w e =
+    gap_goes end items (all_go end items) Whole entries (closed read keyword marks text) item
     (text_over Whole read keyword marks text w) e
-all_go end (Word other found line ∷ items) Whole (In read keyword marks true text) entries w e =
-    gap_goes end items (all_go end items) Whole entries (closed read keyword marks text) (Word other found line)
-    (text_over Whole read keyword marks text w) e
-all_go end (Comment kind bytes line ∷ items) Whole (In read keyword marks false text) entries w e =
-    absurd (never end BadOrder line items entries e)
-all_go end (Word other found line ∷ items) Whole (In read keyword marks false text) entries w e =
-    absurd (never end BadOrder line items entries e)
+all_go end (item ∷ items) Whole (In read keyword marks false text) entries w e =
+    absurd (never end BadOrder (line_of item) items entries e)
 
 -- after these entries, the items spell those that the reader finds
 pub runs_spelt : (end : ℕ) (before : List TextEntry) (items : List TextItem) (all : List TextEntry)

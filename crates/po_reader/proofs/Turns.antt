@@ -9,7 +9,7 @@ use Rattle.std.proofs.lemmas.List.Folds.{fold_stays}
 use Rattle.po_syntax.specs.declared.fault.PoFault.{PoFault}
 use Rattle.po_syntax.specs.declared.item.Keyword.{Keyword}
 use Rattle.po_syntax.specs.Prelude.{TextItem, line_of, IsFaultOf}
-use Rattle.po_syntax.specs.Item.{Comment, Word, Str}
+use Rattle.po_syntax.specs.Item.{Word, Str}
 use Rattle.po_entry.specs.Prelude.{TextEntry, rank}
 use Rattle.po_reader.specs.Internal.Stage.{SoFar, Wanted, Id, Translation, Form, Outcome, InHead, Before, AfterForm, Stage, Between, In, Stop, Entries, Fault, no_lines, with_entry, with_previous_text}
 use Rattle.po_reader.specs.Internal.Reads.{first_line}
@@ -49,10 +49,8 @@ never end fault line items entries e = let fails = stopped end fault line items 
 pub text_ends : (end : ℕ) (read : SoFar) (keyword : Keyword) (marks : Marks) (text : List ℕ) (rest : List TextItem)
     → begins_string rest ≡ false
     → comes_to end (In read keyword marks true text) rest ≡ comes_to end (Between (closed read keyword marks text)) rest
-text_ends end read keyword marks text [] e = refl
-text_ends end read keyword marks text (Comment kind bytes line ∷ rest) e = refl
-text_ends end read keyword marks text (Word other found line ∷ rest) e = refl
 text_ends end read keyword marks text (Str bytes found line ∷ rest) e = cc
+text_ends end read keyword marks text rest e = refl
 
 -- an entry ends where no further form stands
 pub forms_end : (end : ℕ) (read : SoFar) (index : ℕ) (rest : List TextItem) → begins_form rest ≡ false
@@ -67,19 +65,15 @@ pub no_string : (end : ℕ) (items : List TextItem) → begins_string items ≡ 
     → comes_to end (In read keyword marks some text) items ≡ Fault BadOrder (first_line end items)
 no_string end items none read keyword marks true text begins = absurd (false≢true (sym none ∙ begins refl))
 no_string end [] none read keyword marks false text begins = refl
-no_string end (Comment kind bytes line ∷ items) none read keyword marks false text begins =
-    stopped end BadOrder line items
-no_string end (Word other found line ∷ items) none read keyword marks false text begins =
-    stopped end BadOrder line items
 no_string end (Str bytes found line ∷ items) none read keyword marks false text begins = cc
+no_string end (item ∷ items) none read keyword marks false text begins = stopped end BadOrder (line_of item) items
 
 -- a keyword of own lines is wanted, and no keyword stands first
 pub no_keyword : (end : ℕ) (items : List TextItem) → begins_word items ≡ false → (read : SoFar) (wanted : Wanted)
     → comes_to end (Between (Before read wanted)) items ≡ Fault BadOrder (first_line end items)
 no_keyword end [] none read wanted = refl
-no_keyword end (Comment kind bytes line ∷ items) none read wanted = stopped end BadOrder line items
-no_keyword end (Str bytes found line ∷ items) none read wanted = stopped end BadOrder line items
 no_keyword end (Word other found line ∷ items) none read wanted = cc
+no_keyword end (item ∷ items) none read wanted = stopped end BadOrder (line_of item) items
 
 -- an item that is refused stands first
 pub first_refused : (end : ℕ) (items rest : List TextItem) (item : TextItem) (fault : PoFault) → items ≡ item ∷ rest
