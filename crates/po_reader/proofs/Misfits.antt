@@ -1,22 +1,22 @@
 -- What is wrong with an item that is refused.
-use Rattle.std.proofs.Common.{◌≡◌, ℕ, Bool, true, false, ◌&&◌, nat_lt, List, [], ◌∷◌, ◌++◌, refl, sym, ap, subst, ◌∙◌, true≢false}
+use Rattle.std.proofs.Common.{◌≡◌, ℕ, Bool, true, false, ◌&&◌, nat_lt, ◌==◌, List, [], ◌∷◌, ◌++◌, refl, sym, ap, subst, ◌∙◌, true≢false}
 use Rattle.std.specs.Prelude.{if◌then◌else◌}
 use Rattle.std.proofs.lemmas.Bool.{eqb-true, eqb-false, eq-eqb, ne_eqb}
 use Rattle.std.specs.Bool.{beq}
 use Rattle.std.specs.Cmp.{bool_eq_equiv}
 use Rattle.po_syntax.specs.declared.fault.PoFault.{PoFault}
-use Rattle.po_syntax.specs.declared.fault.PoFault.TheVariants.{BadOrder, MixedObsolete}
+use Rattle.po_syntax.specs.declared.fault.PoFault.TheVariants.{BadOrder, BadPluralIndex, MixedObsolete}
 use Rattle.po_syntax.specs.declared.item.CommentKind.{CommentKind}
 use Rattle.po_syntax.specs.declared.item.Keyword.{Keyword}
-use Rattle.po_syntax.specs.declared.item.Keyword.TheVariants.{MsgCtxt, MsgId, MsgStrAt}
+use Rattle.po_syntax.specs.declared.item.Keyword.TheVariants.{MsgCtxt, MsgId, MsgIdPlural, MsgStr, MsgStrAt}
 use Rattle.po_syntax.specs.declared.item.Marks.{Marks}
 use Rattle.po_syntax.specs.Prelude.{TextItem, line_of}
 use Rattle.po_syntax.specs.Item.{Comment, Word, Str}
 use Rattle.po_entry.specs.Prelude.{rank, IsViable, IsOwn, IsWrongIndex, with_obsolete, Misfit}
 use Rattle.po_entry.specs.Spelling.{own_marks, previous_marks}
 use Rattle.po_entry.specs.Faults.{index, mixed, order}
-use Rattle.po_reader.specs.Internal.Stage.{SoFar, Wanted, Form, Gap, InHead, Before, AfterForm, Stage, Between, In, Stop, with_entry}
-use Rattle.po_reader.specs.Internal.Turn.{turn, turn_gap, turn_own, opened, closed, same_marks, stray_string, is_form, is_wanted, unwanted}
+use Rattle.po_reader.specs.Internal.Stage.{SoFar, Id, Translation, Form, Gap, InHead, Before, AfterForm, Stage, Between, In, Stop, with_entry}
+use Rattle.po_reader.specs.Internal.Turn.{turn, turn_gap, turn_own, opened, closed, same_marks, stray_string}
 use Rattle.po_reader.proofs.Turns.{marked, goes_on}
 use Rattle.po_reader.proofs.SpeltRuns.{no_form, string_step}
 
@@ -74,67 +74,59 @@ module _ (prefix : List TextItem) where
   tested item false next fault on misfit = refused (misfit refl)
 
   -- a keyword that is wanted is refused for its mark
-  own_step : (read : SoFar) (wanted : Wanted) (keyword : Keyword) (obsolete : Bool) (line : ℕ)
-      → (goes_on (turn_own read wanted (Word keyword (own_marks read.own.obsolete) line)) ≡ true
-      → CanFollow (Word keyword (own_marks read.own.obsolete) line))
-      → (is_wanted wanted keyword ≡ true → IsWrongIndex prefix (Word keyword (own_marks obsolete) line) → ⊥)
-      → (is_wanted wanted keyword ≡ false
-      → Misfit prefix (Word keyword (own_marks obsolete) line) (unwanted wanted keyword))
-      → Step (Word keyword (own_marks obsolete) line) (turn_own read wanted (Word keyword (own_marks obsolete) line))
-  own_step read wanted keyword obsolete line could right other = by (is_wanted wanted keyword) refl where
-    by : (w : Bool) → is_wanted wanted keyword ≡ w
-        → Step (Word keyword (own_marks obsolete) line) (if w then (if beq read.own.obsolete obsolete
-        then opened read read.own keyword line else Stop MixedObsolete line) else Stop (unwanted wanted keyword) line)
-    by true w =
-        tested (Word keyword (own_marks obsolete) line) (beq read.own.obsolete obsolete)
-        (opened read read.own keyword line) MixedObsolete refl
-        (λ other. mixed (right w)
-        (refl, (read.own.obsolete, could (rw (w, bool_eq_equiv.refl read.own.obsolete) refl))))
-    by false w = refused (other w)
+  mixed_step : (read : SoFar) (keyword : Keyword) (obsolete : Bool) (line : ℕ)
+      → CanFollow (Word keyword (own_marks read.own.obsolete) line)
+      → (IsWrongIndex prefix (Word keyword (own_marks obsolete) line) → ⊥)
+      → Step (Word keyword (own_marks obsolete) line) (if beq read.own.obsolete obsolete
+      then opened read read.own keyword line else Stop MixedObsolete line)
+  mixed_step read keyword obsolete line follows right =
+      tested (Word keyword (own_marks obsolete) line) (beq read.own.obsolete obsolete) _ MixedObsolete refl
+      (λ other. mixed right (refl, (read.own.obsolete, follows)))
 
-  form_step : (read : SoFar) (wanted : Wanted) (found : ℕ) (obsolete : Bool) (line : ℕ)
-      → ((index : ℕ) (o : Bool) → goes_on (turn_own read wanted (Word (MsgStrAt index) (own_marks o) line)) ≡ true
+  -- where a form is wanted, one of another index is refused for its index
+  form_step : (read : SoFar) (n found : ℕ) (obsolete : Bool) (line : ℕ)
+      → ((index : ℕ) (o : Bool) → goes_on (turn_own read (Form n) (Word (MsgStrAt index) (own_marks o) line)) ≡ true
       → CanFollow (Word (MsgStrAt index) (own_marks o) line))
-      → ((index : ℕ) (o : Bool) → goes_on (turn_own read wanted (Word (MsgStrAt index) (own_marks o) line)) ≡ false
+      → ((index : ℕ) (o : Bool) → goes_on (turn_own read (Form n) (Word (MsgStrAt index) (own_marks o) line)) ≡ false
       → CanFollow (Word (MsgStrAt index) (own_marks o) line) → ⊥)
       → Step (Word (MsgStrAt found) (own_marks obsolete) line)
-      (turn_own read wanted (Word (MsgStrAt found) (own_marks obsolete) line))
-  form_step read (Form n) found obsolete line could never =
-      own_step read (Form n) (MsgStrAt found) obsolete line (could found read.own.obsolete)
-      (λ is w. never w.1 w.2 (rw (ne_eqb w.1 n (λ e. w.3 (e ∙ sym (eqb-true found n is)))) refl) w.4)
-      (λ isnt. index (
-        refl,
-        n,
-        read.own.obsolete,
-        λ e. eqb-false found n isnt (sym e),
-        could n read.own.obsolete (rw (eq-eqb n n refl, bool_eq_equiv.refl read.own.obsolete) refl),
-      ))
-  form_step read wanted found obsolete line could never =
-      refused (stray_word (MsgStrAt found) obsolete line (λ index o. never index o refl) (λ o. never found o refl))
+      (turn_own read (Form n) (Word (MsgStrAt found) (own_marks obsolete) line))
+  form_step read n found obsolete line could never = by (found == n) refl where
+    follows : (other : ℕ) → (other == n) ≡ true → CanFollow (Word (MsgStrAt other) (own_marks read.own.obsolete) line)
+    follows other is = could other read.own.obsolete (rw (is, bool_eq_equiv.refl read.own.obsolete) refl)
 
-  -- a keyword that is no form is never one of another index
-  in_order : (wanted : Wanted) (keyword : Keyword) → is_form (Word keyword (own_marks false) 0) ≡ false
-      → BadOrder ≡ unwanted wanted keyword
-  in_order (Form n) (MsgStrAt found) e = cc
-  in_order wanted keyword e = refl
+    by : (b : Bool) → (found == n) ≡ b → Step (Word (MsgStrAt found) (own_marks obsolete) line) (if b
+        then (if beq read.own.obsolete obsolete then opened read read.own (MsgStrAt found) line
+        else Stop MixedObsolete line) else Stop BadPluralIndex line)
+    by true is =
+        mixed_step read (MsgStrAt found) obsolete line (follows found is)
+        (λ w. never w.1 w.2 (rw (ne_eqb w.1 n (λ e. w.3 (e ∙ sym (eqb-true found n is)))) refl) w.4)
+    by false isnt =
+        refused (index (refl, n, read.own.obsolete, (λ e. eqb-false found n isnt (sym e)), follows n (eq-eqb n n refl)))
 
   word_step : (gap : Gap) (keyword : Keyword) (obsolete : Bool) (line : ℕ) → CouldWord gap line → NeverWord gap line
       → Step (Word keyword (own_marks obsolete) line) (turn_gap gap (Word keyword (own_marks obsolete) line))
   word_step (AfterForm read n) (MsgStrAt found) obsolete line could never =
-      form_step read (Form n) found obsolete line (λ index. could (MsgStrAt index))
-      (λ index. never (MsgStrAt index))
-  word_step (Before read wanted) (MsgStrAt found) obsolete line could never =
-      form_step read wanted found obsolete line (λ index. could (MsgStrAt index))
-      (λ index. never (MsgStrAt index))
-  word_step (Before read wanted) keyword obsolete line could never =
-      own_step read wanted keyword obsolete line (could keyword read.own.obsolete) (λ is w. w)
-      (λ isnt. subst (Misfit prefix (Word keyword (own_marks obsolete) line)) (in_order wanted keyword refl)
-      (order (λ w. w) (λ w. never keyword w.1.0 (rw isnt refl) w.1.1)))
-  word_step (InHead read above) (MsgStrAt found) obsolete line could never =
+      form_step read n found obsolete line (λ index. could (MsgStrAt index)) (λ index. never (MsgStrAt index))
+  word_step (Before read (Form n)) (MsgStrAt found) obsolete line could never =
+      form_step read n found obsolete line (λ index. could (MsgStrAt index)) (λ index. never (MsgStrAt index))
+  word_step (Before read Id) MsgId obsolete line could never =
+      mixed_step read MsgId obsolete line
+      (could MsgId read.own.obsolete (rw (bool_eq_equiv.refl read.own.obsolete) refl))
+      (λ w. w)
+  word_step (Before read Translation) MsgIdPlural obsolete line could never =
+      mixed_step read MsgIdPlural obsolete line
+      (could MsgIdPlural read.own.obsolete (rw (bool_eq_equiv.refl read.own.obsolete) refl)) (λ w. w)
+  word_step (Before read Translation) MsgStr obsolete line could never =
+      mixed_step read MsgStr obsolete line
+      (could MsgStr read.own.obsolete (rw (bool_eq_equiv.refl read.own.obsolete) refl)) (λ w. w)
+  word_step gap (MsgStrAt found) obsolete line could never =
       refused (stray_word (MsgStrAt found) obsolete line (λ index o. never (MsgStrAt index) o refl)
       (λ o. never (MsgStrAt found) o refl))
-  word_step gap MsgCtxt obsolete line could never = taken refl
-  word_step gap MsgId obsolete line could never = taken refl
+  word_step (InHead read above) MsgCtxt obsolete line could never = taken refl
+  word_step (InHead read above) MsgId obsolete line could never = taken refl
+  word_step (AfterForm read n) MsgCtxt obsolete line could never = taken refl
+  word_step (AfterForm read n) MsgId obsolete line could never = taken refl
   word_step gap keyword obsolete line could never =
       refused (order (λ w. w) (λ w. never keyword w.1.0 refl w.1.1))
 
