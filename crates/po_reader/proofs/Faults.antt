@@ -13,7 +13,7 @@ use Rattle.po_entry.specs.Prelude.{TextEntry, SpellsEntries, IsViable, Misfit, I
 use Rattle.po_entry.specs.Spelling.{own_marks, last, keyword_text}
 use Rattle.po_entry.specs.Faults.{index, mixed, order, at, at_end}
 use Rattle.po_reader.specs.Internal.Stage.{SoFar, Id, Translation, Form, Gap, InHead, Before, AfterForm, Stage, Between, In, Stop, Entries, no_lines, with_own, Outcome, Fault}
-use Rattle.po_reader.specs.Internal.Turn.{turn, turn_gap, outcome, comes_to, closed, with_keyword, ended}
+use Rattle.po_reader.specs.Internal.Turn.{turn, turn_gap, outcome, outcome_of, comes_to, closed, settled, settled_gap, with_keyword, ended}
 use Rattle.po_reader.specs.Internal.Reads.{start, come_to}
 use Rattle.po_syntax.proofs.OneString.{Once, same}
 use Rattle.po_reader.proofs.Turns.{goes_on, stopped, text_ends}
@@ -65,7 +65,7 @@ stage_completed (In read keyword marks some text) e =
       Str [] marks 0 ∷ more.0,
       more.1,
       ap (λ stage. comes_to 0 stage more.0) (string_step read keyword marks some text [] 0)
-          ∙ text_ends 0 read keyword marks (text ++ []) more.0 more.2.string ∙ more.2.comes,
+          ∙ ap outcome_of (text_ends 0 read keyword marks (text ++ []) more.0 more.2.string) ∙ more.2.comes,
     )
 
 -- where a list of items leads, after these entries
@@ -74,7 +74,8 @@ led before items = fold turn (start before) items
 
 led_on : (end : ℕ) (before : List TextEntry) (items after : List TextItem)
     → comes_to end (start before) (items ++ after) ≡ comes_to end (led before items) after
-led_on end before items after = ap (outcome end) (fold-append turn (start before) items after)
+led_on end before items after =
+    ap (λ stage. outcome end (settled stage)) (fold-append turn (start before) items after)
 
 viable : (before : List TextEntry) (items : List TextItem) → goes_on (led before items) ≡ true → IsViable items
 viable before items e =
@@ -132,10 +133,10 @@ gap_ended end (Before read wanted) = inr refl
 gap_ended end (AfterForm read number) = inl (_, refl)
 
 stage_ended : (end : ℕ) (stage : Stage) → goes_on stage ≡ true
-    → ((entries : List TextEntry) × (outcome end stage ≡ Entries entries)) ⊎ (outcome end stage ≡ Fault BadOrder end)
+    → ((entries : List TextEntry) × (comes_to end stage [] ≡ Entries entries)) ⊎ (comes_to end stage [] ≡ Fault BadOrder end)
 stage_ended end (Stop fault line) on = absurd cc
-stage_ended end (Between gap) on = gap_ended end gap
-stage_ended end (In read keyword marks true text) on = gap_ended end (closed read keyword marks text)
+stage_ended end (Between gap) on = gap_ended end (settled_gap gap)
+stage_ended end (In read keyword marks true text) on = gap_ended end (settled_gap (closed read keyword marks text))
 stage_ended end (In read keyword marks false text) on = inr refl
 
 -- what items come to after these entries

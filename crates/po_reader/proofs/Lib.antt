@@ -13,5 +13,6 @@ pub mod Laid
 pub mod SoundFields
 pub mod JoinedStrings
 pub mod SoundCatalogue
+pub mod DraftsRead
 pub mod Texts
 pub mod PieceReading

@@ -1,12 +1,13 @@
 -- Steps of the loops over drafts, and the last item of a text.
-use Rattle.std.proofs.Common.{◌≡◌, ℕ, ◌+◌, ◌-◌, ◌<◌, ◌≤◌, false, List, [], ◌∷◌, Some, length, map, take, drop, get_or, sym, ap, subst, arith, zero, suc, add-one, drop-cons}
+use Rattle.std.proofs.Common.{◌≡◌, ◌↔◌, ℕ, ◌+◌, ◌-◌, ◌<◌, ◌≤◌, false, List, [], ◌∷◌, Some, length, map, take, drop, get_or, sym, ap, subst, arith, zero, suc, add-one, drop-cons}
 use Rattle.std.specs.Prelude.{All, slice_get}
 use Rattle.std.proofs.lemmas.List.{take_all}
 use Rattle.std.proofs.lemmas.List.Elements.{All-push}
 use Rattle.po_syntax.specs.declared.item.Item.{Item}
-use Rattle.po_syntax.specs.Prelude.{line_of, view, views}
+use Rattle.po_syntax.specs.Prelude.{IsString, line_of, view, views}
 use Rattle.po_entry.specs.Prelude.{TextEntry, entry_at, last_line}
 use Rattle.po_entry.specs.declared.row.Row.{Row}
+use Rattle.po_reader.specs.Prelude.{EndsEntry}
 use Rattle.po_entry.proofs.RowLemmas.{taken_here}
 
 -- what stands where there is no row
@@ -54,3 +55,14 @@ pub some_length : (items : List Item) (item : Item) → Some item ≡ slice_get 
     → length items - 1 + 1 ≡ length items
 some_length [] item e = cc
 some_length (first ∷ items) item e = omega arith
+
+pub entry_at_end : (items : List Item) (n : ℕ) (item : Item) → n + 1 ≡ length items → Some item ≡ slice_get items n
+    → IsString (view item) ↔ EndsEntry (views items)
+entry_at_end [] n item e is = absurd (omega (arith, e))
+entry_at_end (first ∷ []) zero item e is = let same : item ≡ first = cc in rw same (λ h. (λ none. cc, h), λ h. h.1)
+entry_at_end (first ∷ []) (suc n) item e is = absurd (omega (arith, e))
+entry_at_end (first ∷ second ∷ items) zero item e is = absurd (omega (arith, e))
+entry_at_end (first ∷ second ∷ items) (suc n) item e is =
+    let less : n + 1 ≡ length (second ∷ items) = omega (arith, e) in
+    let more = entry_at_end (second ∷ items) n item less is in
+    (λ h. (λ none. cc, (more.0 h).1), λ h. more.1 (λ none. cc, h.1))

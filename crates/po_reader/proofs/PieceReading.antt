@@ -1,20 +1,27 @@
 -- A text that is read in pieces: a piece that reads, and the entries or the fault of what is left after it.
-use Rattle.std.proofs.Common.{◌≡◌, refl, sym, ap, ◌∙◌, ℕ, List, [], ◌∷◌, ◌++◌, ◌⊎◌, inl, inr, subst, Bool, append-nil, append_assoc}
+use Rattle.std.proofs.Common.{◌≡◌, refl, sym, ap, ◌∙◌, ℕ, List, [], ◌∷◌, ◌++◌, ◌⊎◌, inl, inr, subst, Bool, append-nil, append_assoc, fold, ◌≢◌, zero, suc, ◌+◌, ◌<◌, ◌≤◌, length, take, drop, length-drop, arith}
 use Rattle.std.specs.Prelude.{All}
 use Rattle.std.proofs.lemmas.List.Elements.{All-nil, All-head, All-tail, All-append}
 use Rattle.po_syntax.specs.declared.fault.PoFault.{PoFault}
-use Rattle.po_syntax.specs.Prelude.{EndsInString, IsNew, LeftAnew, IsCleanLine, LeftStops, LinesLeft, SpellsLeft, TextItem, SpellsText, SpellsLines, TextFault}
+use Rattle.po_syntax.specs.Prelude.{BeginsAnew, CanEnd, EndsInString, IsNew, IsPiece, LeftAnew, LineBeginsAnew, IsCleanLine, LeftStops, LinesLeft, SpellsLeft, TextItem, SpellsText, SpellsLines, TextFault}
 use Rattle.po_syntax.specs.Item.{Word, Str}
-use Rattle.po_entry.specs.Prelude.{TextEntry, HasAdmittedCharset, HasTexts, SpellsEntries, ReadsItems, ReadsText, ReadsLeft, ItemsStop, IsReadFault, ItemsFault, last_line}
+use Rattle.po_entry.specs.Prelude.{CommentText, TextEntry, HasAdmittedCharset, HasTexts, SpellsEntries, ReadsItems, ReadsText, ReadsLeft, ItemsStop, IsReadFault, ItemsFault, last_line}
 use Rattle.po_entry.proofs.JoinedPieces.{entries_joined}
+use Rattle.po_syntax.proofs.Lines.{some_length}
+use Rattle.po_syntax.proofs.PieceLemmas.{piece_all, piece_anew, piece_shorter, piece_spelt, piece_stops}
+use Rattle.po_syntax.proofs.Uniqueness.{line_once}
+use Rattle.std.proofs.lemmas.List.{drop_all}
+use Rattle.std.proofs.lemmas.List.Sums.{fold-append}
 use Rattle.po_reader.proofs.Faults.{fault_unread, items_fault, fault_comes, spelt_once}
-use Rattle.po_reader.specs.Internal.Turn.{comes_to}
-use Rattle.po_reader.specs.Internal.Reads.{start}
-use Rattle.po_reader.proofs.SpeltRuns.{IsApart, spelt_go_on}
+use Rattle.po_reader.specs.Internal.Turn.{IsApart, comes_to, outcome, reached, settled, turn}
+use Rattle.po_reader.specs.Internal.Reads.{in_head, start}
+use Rattle.po_reader.proofs.SpeltRuns.{spelt_go_on}
+use Rattle.po_reader.proofs.Turns.{settles}
+use Rattle.po_reader.specs.Internal.Stage.{Stage, Fault}
 use Rattle.po_reader.proofs.Texts.{read_or_stopped}
 use Rattle.po_syntax.specs.declared.item.Keyword.TheVariants.{MsgStrAt}
-use Rattle.po_reader.specs.Prelude.{ReadsOn, FaultsStay, IsLeftFault, IsReadSoFar}
-use Rattle.po_reader.specs.Internal.Keeping.{SpellsOn, KeepsReading, KeepsItems, StopsStay}
+use Rattle.po_reader.specs.Prelude.{EndsEntry, IsShorter, OpenPieces, ReadsOn, FaultsStay, IsLeftFault, IsReadSoFar}
+use Rattle.po_reader.specs.Internal.Keeping.{CanFollow, PiecesRead, SpellsOn, KeepsReading, KeepsItems, StopsStay}
 use Rattle.po_entry.specs.Spelling as spelling
 use Rattle.po_entry.specs.Faults as faults
 use Rattle.po_reader.specs.PieceRead as piece
@@ -120,14 +127,15 @@ whole_left : (text : List ℕ) (left : LinesLeft)
 whole_left text left spelt entries read =
     record { items = read.items; spelt = spelt read.items read.spelt; read = read.read }
 
+new_apart : (item : TextItem) (items : List TextItem) → IsNew item → IsApart (item ∷ items)
+new_apart (Word (MsgStrAt index) marks line) items new = absurd new
+new_apart (Str bytes marks line) items new = absurd new
+new_apart item items new = (refl, refl)
+
 -- lines that begin anew spell items that begin with neither a string nor a plural form
 apart : (left : LinesLeft) (items : List TextItem) → LeftAnew left → SpellsLeft left items → IsApart items
 apart left [] anew h = (refl, refl)
-apart left (item ∷ items) anew h = first item (anew item items h) where
-  first : (item : TextItem) → IsNew item → IsApart (item ∷ items)
-  first (Word (MsgStrAt index) marks line) new = absurd new
-  first (Str bytes marks line) new = absurd new
-  first item new = (refl, refl)
+apart left (item ∷ items) anew h = new_apart item items (anew item items h)
 
 -- the faults of what is left after a piece that reads
 pub piece_faults : (old new : LinesLeft) (items : List TextItem) (entries : List TextEntry) → SpellsOn old new items
@@ -183,3 +191,140 @@ read_more piece so_far on stay = record {
 pub read_all : {text : List ℕ} {left : LinesLeft} {before : List TextEntry} → IsReadSoFar text left before
     → left.lines ≡ [] → ReadsText text before
 read_all {left = left} so_far over = rw append-nil at (so_far.reads [] (left_over left over))
+
+-- where items after others lead, if those were read up to a place in a head
+pub lead_on : (end : ℕ) (before items : List TextItem) {place : Stage} → settled (fold turn (start []) before) ≡ place
+    → CanFollow before items → reached end (start []) (before ++ items) ≡ reached end place items
+lead_on end [] items leads follow = ap (λ (stage : Stage). reached end stage items) leads
+lead_on end (first ∷ before) items leads (inl none) = absurd cc
+lead_on end (first ∷ before) items leads (inr apart) =
+    ap (λ (stage : Stage). reached end stage []) (fold-append turn (start []) (first ∷ before) items)
+    ∙ settles end (fold turn (start []) (first ∷ before)) items apart
+    ∙ ap (λ (stage : Stage). reached end stage items) leads
+
+-- and their fault, if they have one
+pub fault_on : (before items : List TextItem) {entries : List TextEntry} {comment_texts : List CommentText}
+    → settled (fold turn (start []) before) ≡ in_head entries comment_texts → (fault : PoFault) (line : ℕ)
+    → comes_to (last_line items) (start []) (before ++ items) ≡ Fault fault line
+    → ItemsFault (before ++ items) fault line
+fault_on before [] {entries} {comment_texts} leads fault line e =
+    let none = rw append-nil at e in
+    let over = ap (outcome 0) leads in absurd cc
+fault_on before (item ∷ items) leads fault line e =
+    items_fault [] (before ++ item ∷ items) fault line
+    (ap (λ end. comes_to end (start []) (before ++ item ∷ items)) (last_after before item items) ∙ e)
+
+-- what a line spells that begins anew is no string and no plural form, if it is anything
+line_apart : (count number : ℕ) (lines : List (List ℕ)) (items : List TextItem) → LineBeginsAnew number lines
+    → SpellsLines number (take count lines) items → IsApart items
+line_apart count number lines [] anew h = (refl, refl)
+line_apart zero number lines (item ∷ items) anew h = absurd cc
+line_apart (suc count) number [] (item ∷ items) anew h = absurd anew
+line_apart (suc count) number (line ∷ lines) (item ∷ items) anew h =
+    first anew.0 anew.2 (line_once anew.1 h.2) where
+      first : (here : List TextItem) → BeginsAnew here → here ≡ h.0 → IsApart (item ∷ items)
+      first [] new same = absurd new
+      first (one ∷ here) new same =
+          let is : item ≡ one = let all = h.4 in cc in
+          new_apart item items (subst IsNew (sym is) new)
+
+-- no line spells nothing
+nothing_apart : (count number : ℕ) (lines : List (List ℕ)) (items : List TextItem) → lines ≡ []
+    → SpellsLines number (take count lines) items → IsApart items
+nothing_apart count number [] [] e h = (refl, refl)
+nothing_apart zero number [] (item ∷ items) e h = absurd cc
+nothing_apart (suc count) number [] (item ∷ items) e h = absurd cc
+nothing_apart count number (line ∷ lines) items e h = absurd cc
+
+-- a piece begins so after another
+next_apart : {size : ℕ} {old left new : LinesLeft} {items last : List TextItem} → IsPiece size old left items
+    → IsPiece size left new last → IsApart last
+next_apart {size} {old} {left} {new} {items} {last} before next = ended before.ends where
+  count : ℕ
+  count = before.read.count
+
+  spelt : SpellsLines (old.number + before.read.count) (take next.read.count (drop before.read.count old.lines)) last
+  spelt = subst (λ (l : LinesLeft). SpellsLines l.number (take next.read.count l.lines) last) before.read.rest
+      next.read.spelt
+
+  ended : (left.lines ≡ []) ⊎ CanEnd size old before.read.count → IsApart last
+  ended (inl over) = nothing_apart next.read.count (old.number + before.read.count)
+      (drop before.read.count old.lines) last
+      (sym (ap (λ (l : LinesLeft). l.lines) before.read.rest) ∙ over) spelt
+  ended (inr can) =
+      line_apart next.read.count (old.number + before.read.count) (drop before.read.count old.lines) last can.anew spelt
+
+pub open_follow : {size : ℕ} {old left new : LinesLeft} {items last : List TextItem} → OpenPieces size old left items
+    → IsPiece size left new last → CanFollow items last
+open_follow piece.none next = inl refl
+open_follow (piece.further others before other) next = inr (next_apart before next)
+
+-- pieces that were read, one after the other, and what is left after them
+open_spelt : {size : ℕ} {old new : LinesLeft} {items : List TextItem} → OpenPieces size old new items
+    → SpellsOn old new items
+open_spelt piece.none more h = h
+open_spelt (piece.further {left = left} {new = new} {items = items} {last = last} others before other) more h =
+    rw append_assoc (open_spelt others (last ++ more) (piece_spelt _ left new last more before h))
+
+pub open_stops : {size : ℕ} {old new : LinesLeft} {items : List TextItem} → OpenPieces size old new items
+    → StopsStay old new
+open_stops piece.none fault line h = h
+open_stops (piece.further {left = left} {new = new} {last = last} others before other) fault line h =
+    open_stops others fault line (piece_stops _ left new last fault line before h)
+
+piece_fewer : {size : ℕ} {old new : LinesLeft} {items : List TextItem} → IsPiece size old new items
+    → length new.lines ≤ length old.lines
+piece_fewer {old = old} one =
+    let is = ap (λ (l : LinesLeft). length l.lines) one.read.rest in
+    omega (arith, is, length-drop one.read.count old.lines)
+
+-- a piece that is followed by lines has some
+pub piece_lessens : {size : ℕ} {old new : LinesLeft} {items : List TextItem} → IsPiece size old new items
+    → new.lines ≢ [] → length new.lines < length old.lines
+piece_lessens {size} {old} {new} {items} one some =
+    piece_shorter size old new items one
+    (λ none. some (ap (λ (l : LinesLeft). l.lines) one.read.rest ∙ ap (drop one.read.count) none
+    ∙ drop_all one.read.count [] (omega arith)))
+
+open_fewer : {size : ℕ} {old new : LinesLeft} {items : List TextItem} → OpenPieces size old new items
+    → length new.lines ≤ length old.lines
+open_fewer piece.none = omega arith
+open_fewer (piece.further others before other) = omega (arith, piece_fewer before, open_fewer others)
+
+-- the last of some items is that of those after others
+ends_after : (front rest : List TextItem) → EndsEntry rest → EndsInString (front ++ rest)
+ends_after front [] ends = absurd (ends.0 refl)
+ends_after [] (item ∷ rest) ends = ends.1
+ends_after (first ∷ []) (item ∷ rest) ends = ends.1
+ends_after (first ∷ second ∷ front) (item ∷ rest) ends = ends_after (second ∷ front) (item ∷ rest) ends
+
+module _ {size : ℕ} {old new : LinesLeft} (read : PiecesRead size old new) where
+  pub pieces_spelt : SpellsOn old new (read.items ++ read.last)
+  pieces_spelt more h =
+      rw append_assoc (open_spelt read.others (read.last ++ more)
+      (piece_spelt size read.left new read.last more read.piece h))
+
+  pub pieces_stop : StopsStay old new
+  pieces_stop fault line h =
+      open_stops read.others fault line (piece_stops size read.left new read.last fault line read.piece h)
+
+  -- where no line is left, all that was left spells their items
+  pub pieces_all : new.lines ≡ [] → SpellsLeft old (read.items ++ read.last)
+  pieces_all over = open_spelt read.others read.last (piece_all size read.left new read.last read.piece over)
+
+  pub pieces_end : (new.lines ≡ []) ⊎ EndsEntry read.last
+      → (new.lines ≡ []) ⊎ EndsInString (read.items ++ read.last)
+  pieces_end (inl over) = inl over
+  pieces_end (inr ends) = inr (ends_after read.items read.last ends)
+
+  pub pieces_anew : LeftAnew new
+  pieces_anew = piece_anew size read.left new read.last read.piece
+
+  pub pieces_shorter : IsShorter old new
+  pieces_shorter some = chosen read.left.lines refl where
+    chosen : (lines : List (List ℕ)) → read.left.lines ≡ lines → length new.lines < length old.lines
+    chosen [] is = omega (arith, ap length is, piece_fewer read.piece, some_length old.lines some)
+    chosen (line ∷ lines) is =
+        let less : length new.lines < length read.left.lines =
+        piece_shorter size read.left new read.last read.piece (λ none. cc) in
+        omega (arith, less, open_fewer read.others)

@@ -1,5 +1,10 @@
 -- Facts of one result without a value, together.
-use Rattle.std.specs.Prelude.{Result, Ok, Err, OnOk}
+use Rattle.std.proofs.Common.{◌≡◌, ◌≢◌, ℕ, Option, Some, subst, sym}
+use Rattle.std.specs.Prelude.{Result, Ok, Err, IfErr, IfOk, MatchResult, OnOk}
+use Rattle.po_syntax.specs.declared.fault.PoError.{PoError}
+use Rattle.po_syntax.specs.declared.fault.PoFault.{PoFault}
+use Rattle.po_syntax.specs.declared.fault.PoFault.TheVariants.{OutOfMemory}
+use Rattle.po_syntax.specs.Prelude.{IsFaultOf}
 
 pub on_ok : {T E : Type 0} {P Q : Type 0} (r : Result T E) → (P → Q) → OnOk r P → OnOk r Q
 on_ok (Ok y) f p = f p
@@ -12,3 +17,18 @@ on_ok_always (Err e) p = tt
 pub on_ok_both : {T E : Type 0} {P Q R : Type 0} (r : Result T E) → (P → Q → R) → OnOk r P → OnOk r Q → OnOk r R
 on_ok_both (Ok y) f p q = f p q
 on_ok_both (Err e) f p q = tt
+
+-- of a fault that is given as found, or as out of memory
+pub found_one : (P : Option PoError → Type 0) (Q : PoError → Type 0) {error : PoError}
+    (r : Result (Option PoError) PoError)
+    → MatchResult r (λ found. (found ≡ Some error) × (error.kind ≢ OutOfMemory)) Q
+    → (error.kind ≢ OutOfMemory → P (Some error)) → IfOk r P
+found_one P Q (Ok found) is h = subst P (sym is.0) (h is.1)
+found_one P Q (Err e) is h = tt
+
+pub found_memory : (P : Option PoError → Type 0) (Has : PoFault → ℕ → Type 0) {error : PoError}
+    (r : Result (Option PoError) PoError) → (error.kind ≡ OutOfMemory → error.line ≡ 0)
+    → MatchResult r P (λ e. (e ≡ error) × (error.kind ≡ OutOfMemory)) → IfErr r (IsFaultOf Has)
+found_memory P Has (Ok found) memory is = tt
+found_memory P Has (Err e) memory is =
+    subst (IsFaultOf Has) (sym is.0) (record { fault = λ other. absurd (other is.1); memory = memory })

@@ -11,15 +11,11 @@ use Rattle.po_entry.specs.Prelude.{TextEntry, CommentText, PreviousText, rank}
 use Rattle.po_entry.specs.Spelling as spell
 use Rattle.po_entry.specs.Spelling.{own_marks}
 use Rattle.po_reader.specs.Internal.Stage.{SoFar, Id, Translation, Form, Gap, InHead, Before, AfterForm, Between, In, Outcome, Entries, no_lines, only, with_own, with_text, with_entry, with_comment, with_previous_text}
-use Rattle.po_reader.specs.Internal.Turn.{turn, turn_gap, closed, comes_to, begins_string, begins_form, is_form}
+use Rattle.po_reader.specs.Internal.Turn.{IsApart, turn, turn_gap, closed, comes_to, outcome_of, begins_string, begins_form, is_form}
 use Rattle.po_reader.specs.Internal.Reads.{start}
 use Rattle.po_entry.proofs.JoinedPieces.{ends_rest, no_comment_last}
 use Rattle.po_reader.proofs.Turns.{text_ends, forms_end, same_marks-refl}
 use Rattle.po_reader.proofs.PreviousOrder.{Rise, keywords, order_rises}
-
--- neither a string nor a plural form stands first
-abbrev pub IsApart : List TextItem → Type 0
-IsApart items = (begins_string items ≡ false) × (begins_form items ≡ false)
 
 pub string_step : (read : SoFar) (keyword : Keyword) (marks : Marks) (some : Bool) (text bytes : List ℕ) (line : ℕ)
     → turn (In read keyword marks some text) (Str bytes marks line) ≡ In read keyword marks true (text ++ bytes)
@@ -76,7 +72,7 @@ module _ (end : ℕ) (to : Outcome) where
       record {
         string = refl;
         comes = ap (λ next. comes_to end next (strings ++ rest)) opens ∙ strings_run s end read keyword false [] rest
-            ∙ text_ends end read keyword marks text rest more.string ∙ more.comes;
+            ∙ ap outcome_of (text_ends end read keyword marks text rest more.string) ∙ more.comes;
       }
 
   -- further forms, after one
@@ -87,7 +83,7 @@ module _ (end : ℕ) (to : Outcome) where
       → Comes (AfterForm read index) (own ++ rest)
   forms_come {index = index} spell.no_form read rest same more = record {
     string = more.on.string;
-    comes = forms_end end read index rest more.form ∙ (rw (append-nil read.own.forms) at more.on.comes);
+    comes = ap outcome_of (forms_end end read index rest more.form) ∙ (rw (append-nil read.own.forms) at more.on.comes);
   }
   forms_come {obsolete} {index}
       (spell.more_forms {own = own} {items = items} {form = form} {forms = forms} w f) read rest same more =

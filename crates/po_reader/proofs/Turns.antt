@@ -1,18 +1,19 @@
 -- Steps of the reader that hang on what the next item is.
+use Rattle.std.specs.Prelude.{◌==◌, if◌then◌else◌}
 use Rattle.std.proofs.Common.{◌≡◌, Bool, true, refl, ap₂, ◌≢◌, ℕ, false, List, [], ◌∷◌, sym, ap, ◌∙◌}
 use Rattle.std.specs.Bool.{beq}
 use Rattle.std.specs.Cmp.{bool_eq_equiv, booleans_Decides}
 use Rattle.std.proofs.lemmas.Bool.{and_parts, not-true, false≢true, eqb-true, eq-eqb}
 use Rattle.po_syntax.specs.declared.item.Marks.{Marks}
-use Rattle.po_reader.specs.Internal.Turn.{same_marks, closed, turn, comes_to, outcome, begins_string, begins_form, begins_word, begins_own, EndsHead, opened, is_wanted}
+use Rattle.po_reader.specs.Internal.Turn.{same_marks, closed, turn, comes_to, outcome, outcome_of, Reached, reached, settled, settled_gap, IsApart, begins_string, begins_form, begins_word, begins_own, begins_body, EndsHead, opened, is_wanted}
 use Rattle.std.proofs.lemmas.List.Folds.{fold_stays}
 use Rattle.po_syntax.specs.declared.fault.PoFault.{PoFault}
 use Rattle.po_syntax.specs.declared.item.Keyword.{Keyword}
 use Rattle.po_syntax.specs.Prelude.{TextItem, line_of, IsFaultOf}
 use Rattle.po_syntax.specs.Item.{Word, Str}
-use Rattle.po_entry.specs.Prelude.{TextEntry, rank}
-use Rattle.po_reader.specs.Internal.Stage.{SoFar, Wanted, Id, Translation, Form, Outcome, InHead, Before, AfterForm, Stage, Between, In, Stop, Entries, Fault, no_lines, with_entry, with_previous_text}
-use Rattle.po_reader.specs.Internal.Reads.{first_line}
+use Rattle.po_entry.specs.Prelude.{CommentText, PreviousText, TextEntry, rank}
+use Rattle.po_reader.specs.Internal.Stage.{SoFar, Wanted, Id, Translation, Form, InHead, Before, AfterForm, Gap, Stage, Between, In, Stop, Entries, Fault, after_head, no_lines, with_entry, with_previous_text}
+use Rattle.po_reader.specs.Internal.Reads.{first_line, in_head}
 use Rattle.po_syntax.specs.declared.item.Keyword.TheVariants.{MsgCtxt, MsgId, MsgIdPlural, MsgStr, MsgStrAt}
 use Rattle.po_syntax.specs.declared.fault.PoError.{PoError}
 use Rattle.po_syntax.specs.declared.fault.PoFault.TheVariants.{BadOrder}
@@ -39,7 +40,8 @@ goes_on stage = true
 -- after a refused item nothing is read
 pub stopped : (end : ℕ) (fault : PoFault) (line : ℕ) (items : List TextItem)
     → comes_to end (Stop fault line) items ≡ Fault fault line
-stopped end fault line items = ap (outcome end) (fold_stays turn (Stop fault line) (λ item. refl) items)
+stopped end fault line items =
+    ap (λ stage. outcome end (settled stage)) (fold_stays turn (Stop fault line) (λ item. refl) items)
 
 pub never : (end : ℕ) (fault : PoFault) (line : ℕ) (items : List TextItem) (entries : List TextEntry)
     → comes_to end (Stop fault line) items ≡ Entries entries → ⊥
@@ -48,13 +50,13 @@ never end fault line items entries e = let fails = stopped end fault line items 
 -- a text ends where no string stands
 pub text_ends : (end : ℕ) (read : SoFar) (keyword : Keyword) (marks : Marks) (text : List ℕ) (rest : List TextItem)
     → begins_string rest ≡ false
-    → comes_to end (In read keyword marks true text) rest ≡ comes_to end (Between (closed read keyword marks text)) rest
+    → reached end (In read keyword marks true text) rest ≡ reached end (Between (closed read keyword marks text)) rest
 text_ends end read keyword marks text (Str bytes found line ∷ rest) e = cc
 text_ends end read keyword marks text rest e = refl
 
 -- an entry ends where no further form stands
 pub forms_end : (end : ℕ) (read : SoFar) (index : ℕ) (rest : List TextItem) → begins_form rest ≡ false
-    → comes_to end (Between (AfterForm read index)) rest ≡ comes_to end (Between (InHead (with_entry read) 0)) rest
+    → reached end (Between (AfterForm read index)) rest ≡ reached end (Between (InHead (with_entry read) 0)) rest
 forms_end end read index [] e = refl
 forms_end end read index (item ∷ rest) e = rw e refl
 
@@ -84,22 +86,23 @@ first_refused end items rest item fault is stage e =
 
 -- an item that is taken stands first
 pub taken : (end : ℕ) (items rest : List TextItem) (item : TextItem) → items ≡ item ∷ rest → (stage next : Stage)
-    → turn stage item ≡ next → comes_to end stage items ≡ comes_to end next rest
-taken end items rest item is stage next e = rw is (ap (λ s. comes_to end s rest) e)
+    → turn stage item ≡ next → reached end stage items ≡ reached end next rest
+taken end items rest item is stage next e = rw is (ap (λ s. reached end s rest) e)
 
 -- what a later place comes to an earlier one does
-pub fails_from : {earlier later : Outcome} {error : PoError} → earlier ≡ later
-    → IsFaultOf (λ fault line. later ≡ Fault fault line) error
-    → IsFaultOf (λ fault line. earlier ≡ Fault fault line) error
-fails_from same fails = record { fault = λ other. same ∙ fails.fault other; memory = fails.memory }
+pub fails_from : {earlier later : Reached} {error : PoError} → earlier ≡ later
+    → IsFaultOf (λ fault line. outcome_of later ≡ Fault fault line) error
+    → IsFaultOf (λ fault line. outcome_of earlier ≡ Fault fault line) error
+fails_from same fails = record { fault = λ other. ap outcome_of same ∙ fails.fault other; memory = fails.memory }
 
-pub out_of_order : {earlier later : Outcome} {error : PoError} (at : ℕ) → earlier ≡ later
-    → error ≡ record { kind = BadOrder; line = at } → later ≡ Fault BadOrder at
-    → IsFaultOf (λ fault line. earlier ≡ Fault fault line) error
-out_of_order at same is fails = rw is (record { fault = λ other. same ∙ fails; memory = λ memory. absurd cc })
+pub out_of_order : {earlier later : Reached} {error : PoError} (at : ℕ) → earlier ≡ later
+    → error ≡ record { kind = BadOrder; line = at } → outcome_of later ≡ Fault BadOrder at
+    → IsFaultOf (λ fault line. outcome_of earlier ≡ Fault fault line) error
+out_of_order at same is fails =
+    rw is (record { fault = λ other. ap outcome_of same ∙ fails; memory = λ memory. absurd cc })
 
 pub form_follows : (end : ℕ) (read : SoFar) (index : ℕ) (rest : List TextItem) → begins_form rest ≡ true
-    → comes_to end (Between (AfterForm read index)) rest ≡ comes_to end (Between (Before read (Form index))) rest
+    → reached end (Between (AfterForm read index)) rest ≡ reached end (Between (Before read (Form index))) rest
 form_follows end read index [] e = cc
 form_follows end read index (item ∷ rest) e = rw e refl
 
@@ -121,8 +124,8 @@ id_wanted keyword e = cc
 -- own lines begin with a context, or with a msgid
 pub context_begins : (end : ℕ) (items rest : List TextItem) (marks : Marks) (line : ℕ)
     → items ≡ Word MsgCtxt marks line ∷ rest → begins_own items ≡ true → (read : SoFar) (above : ℕ)
-    → comes_to end (Between (InHead read above)) items
-    ≡ comes_to end (opened read (no_lines marks.obsolete) MsgCtxt line) rest
+    → reached end (Between (InHead read above)) items
+    ≡ reached end (opened read (no_lines marks.obsolete) MsgCtxt line) rest
 context_begins end items rest marks line is begins read above = let own : marks.previous ≡ false =
     not-true _ (and_parts _ _ (rw is at begins)).0 in rw (is, own) refl
 
@@ -132,12 +135,49 @@ pub previous_closed : (read : SoFar) (keyword : Keyword) (marks : Marks) (text :
     (rank keyword)
 previous_closed read keyword marks text e = rw e refl
 
--- a head that ends at the end of the items is followed by nothing
-pub head_over : (end above : ℕ) (items : List TextItem) (read : SoFar) → items ≡ [] → EndsHead above items
-    → comes_to end (Between (InHead read above)) items ≡ Entries read.entries
-head_over end above [] read none ends = rw (eq-eqb above 0 ends) refl
-head_over end above (item ∷ items) read none ends = cc
+-- a head that ends at the end of the items has no previous text there
+pub head_over : (end above : ℕ) (items : List TextItem) (entries : List TextEntry) (comment_texts : List CommentText)
+    (previous : List PreviousText) → items ≡ [] → EndsHead above items → (above ≡ 0 → previous ≡ [])
+    → (previous ≡ []) × (reached end (Between (InHead (after_head entries comment_texts previous) above)) items
+    ≡ record { end = end; stage = in_head entries comment_texts })
+head_over end above [] entries comment_texts previous none ends plain = (plain ends, rw (plain ends, ends) refl)
+head_over end above (item ∷ items) entries comment_texts previous none ends plain = cc
 
 pub own_lines_begin : (above : ℕ) (items : List TextItem) → EndsHead above items → items ≢ [] → begins_own items ≡ true
 own_lines_begin above [] ends some = absurd (some refl)
 own_lines_begin above (item ∷ items) ends some = ends
+
+-- items that begin with neither a string nor a form go on from the settled place
+gap_settles : (end : ℕ) (gap : Gap) (items : List TextItem) → IsApart items
+    → reached end (Between gap) items ≡ reached end (Between (settled_gap gap)) items
+gap_settles end (InHead read above) items apart = refl
+gap_settles end (Before read wanted) items apart = refl
+gap_settles end (AfterForm read index) items apart = forms_end end read index items apart.1
+
+pub settles : (end : ℕ) (stage : Stage) (items : List TextItem) → IsApart items
+    → reached end stage items ≡ reached end (settled stage) items
+settles end (Between gap) items apart = gap_settles end gap items apart
+settles end (Stop fault line) items apart = refl
+settles end (In read keyword marks true text) items apart =
+    text_ends end read keyword marks text items apart.0
+    ∙ gap_settles end (closed read keyword marks text) items apart
+settles end (In read keyword marks false text) items apart = refl
+
+-- where a head ends, or the items end too early for it
+pub own_ends : (above : ℕ) (items rest : List TextItem) (keyword : Keyword) (marks : Marks) (line : ℕ)
+    → items ≡ Word keyword marks line ∷ rest → marks.previous ≡ false → begins_body keyword ≡ true
+    → EndsHead above items
+own_ends above items rest keyword marks line is own body = rw (is, own, body) refl
+
+pub none_ends : (above : ℕ) (items : List TextItem) → items ≡ [] → above ≡ 0 → EndsHead above items
+none_ends above [] is zero = zero
+none_ends above (item ∷ items) is zero = absurd cc
+
+pub head_refused : (end above : ℕ) (items : List TextItem) (read : SoFar) → items ≡ [] → above ≢ 0
+    → comes_to end (Between (InHead read above)) items ≡ Fault BadOrder (first_line end items)
+head_refused end above (item ∷ items) read is some = absurd cc
+head_refused end above [] read is some = chosen (above == 0) refl where
+  chosen : (b : Bool) → (above == 0) ≡ b
+      → (if b then Entries read.entries else Fault BadOrder end) ≡ Fault BadOrder end
+  chosen true zero = absurd (some (eqb-true above 0 zero))
+  chosen false other = refl

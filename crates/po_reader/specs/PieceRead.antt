@@ -1,10 +1,10 @@
 -- How a text is read piece by piece, and why what is left of it isn't read. Internal but for the functions that read
 -- pieces (manual, "The Format of PO Files").
-use Rattle.std.specs.Prelude.{Bool, true, false, List, [], ℕ, ◌≡◌, ◌≢◌, ◌<◌, ◌++◌, map, length}
+use Rattle.std.specs.Prelude.{Bool, true, false, List, [], ℕ, ◌≡◌, ◌≢◌, ◌<◌, ◌⊎◌, ◌++◌, map, length}
 use Rattle.po_entry.specs.Prelude.{TextEntry, IsReadFault, ItemsStop, ReadsLeft, ReadsText}
 use Rattle.po_syntax.specs.declared.fault.PoFault.{PoFault}
 use Rattle.po_syntax.specs.declared.fault.PoError.{PoError}
-use Rattle.po_syntax.specs.Prelude.{IsFaultOf, LinesLeft, SpellsLeft, LeftStops, IsPiece, TextItem}
+use Rattle.po_syntax.specs.Prelude.{EndsInString, IsFaultOf, LinesLeft, SpellsLeft, LeftStops, IsPiece, TextItem}
 
 -- What is kept of the entries that are read: all, or all but their comments, references and flags
 -- (manual, "The Format of PO Files").
@@ -53,12 +53,25 @@ FaultsStay old new = (fault : PoFault) (line : ℕ) → IsLeftFault new fault li
 abbrev pub IsShorter : LinesLeft → LinesLeft → Type 0
 IsShorter old new = old.lines ≢ [] → length new.lines < length old.lines
 
--- what was read is the next piece of at least so many bytes; or it is all that is left, where the
--- items of that piece don't read
+-- there is a last item, and it is a quoted string
+abbrev pub EndsEntry : List TextItem → Type 0
+EndsEntry items = (items ≢ []) × EndsInString items
+
+-- from `old` on pieces of at least so many bytes each were read, none of which ends an entry, and these are
+-- their items
+pub data OpenPieces (size : ℕ) (old : LinesLeft) : LinesLeft → List TextItem → Type 0 where
+  none : OpenPieces size old old []
+  further : {left new : LinesLeft} {items last : List TextItem} → OpenPieces size old left items
+      → IsPiece size left new last → (EndsEntry last → ⊥) → OpenPieces size old new (items ++ last)
+
+-- What was read is the next pieces of at least so many bytes each, up to the first that ends an entry
+-- or the text; or it is all that is left, where the items of such pieces don't read.
 pub data ReadsPiece (size : ℕ) (old new : LinesLeft) : Type 0 where
-  piece : {items : List TextItem} → IsPiece size old new items → ReadsPiece size old new
-  all : {cut : LinesLeft} {items : List TextItem} {fault : PoFault} {line : ℕ} → IsPiece size old cut items
-      → ItemsStop items fault line → new.lines ≡ [] → ReadsPiece size old new
+  pieces : {left : LinesLeft} {items last : List TextItem} → OpenPieces size old left items
+      → IsPiece size left new last → (new.lines ≡ []) ⊎ EndsEntry last → ReadsPiece size old new
+  all : {left cut : LinesLeft} {items last : List TextItem} {fault : PoFault} {line : ℕ}
+      → OpenPieces size old left items → IsPiece size left cut last → ItemsStop (items ++ last) fault line
+      → new.lines ≡ [] → ReadsPiece size old new
 
 -- the error is the fault of what is left to be read, or out of memory, without a line
 abbrev pub IsLeftError : LinesLeft → PoError → Type 0

@@ -1,2 +1,2 @@
 -- What contracts and proofs cite of the definitions of this crate. Declares nothing.
-pub use Rattle.po_reader.specs.PieceRead.{AddsReading, FaultsStay, IsLeftError, IsLeftFault, IsReadSoFar, IsShorter, IsTextError, ReadsOn, ReadsPiece, kept_entry, kept_texts, without_comments}
+pub use Rattle.po_reader.specs.PieceRead.{AddsReading, EndsEntry, FaultsStay, IsLeftError, IsLeftFault, IsReadSoFar, IsShorter, IsTextError, OpenPieces, ReadsOn, ReadsPiece, kept_entry, kept_texts, without_comments}

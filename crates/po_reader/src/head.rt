@@ -5,7 +5,7 @@ ghost use Rattle.po_entry.specs.Prelude.{CommentText, PreviousText, rank, with_p
 ghost use Rattle.po_reader.specs.Internal.Stage.{Between, In, InHead, SoFar, after_head};
 ghost use Rattle.po_syntax.specs.declared.item.Keyword.{Keyword};
 ghost use Rattle.po_reader.specs.Internal.Turn.{begins_body, closed, EndsHead};
-ghost use Rattle.po_reader.specs.Internal.Reads.{comes, start, Fails};
+ghost use Rattle.po_reader.specs.Internal.Reads.{comes, in_head, Fails};
 ghost use Rattle.po_reader.specs.Internal.ReaderView.{HoldsHead, HoldsComments, with_kept_head};
 
 use crate::comment_texts::{add_references, distinct_flags, has_fuzzy};
@@ -15,12 +15,12 @@ use po_syntax::{CommentKind, Item, Keyword, Marks, PoError, PoFault};
 use std::alloc::{AllocError, Global};
 
 /// What stands before an entry's own lines.
-pub(crate) struct Head<'i> {
+pub(crate) struct Head<'a> {
     pub(crate) comments: TextList,
     pub(crate) extracted: TextList,
     pub(crate) references: TextList,
     /// The texts of its flag lines.
-    pub(crate) flags: Vec<&'i [u8]>,
+    pub(crate) flags: Vec<&'a [u8]>,
     /// Whether one of these lines has `fuzzy`.
     pub(crate) fuzzy: bool,
     pub(crate) previous: Previous,
@@ -107,10 +107,10 @@ fn begins_body(keyword: Keyword) -> bool
 }
 
 /// Adds a line of flags, where comments are wanted, and otherwise just whether it has `fuzzy`.
-fn add_flag_line<'i>(
-    head: &mut Head<'i>,
+fn add_flag_line<'a>(
+    head: &mut Head<'a>,
     with_comments: bool,
-    text: &'i [u8],
+    text: &'a [u8],
 ) -> Result<(), AllocError>
     ensures comment_texts { OnOk result ((comment_texts : List CommentText)
         → HoldsComments with_comments head.old comment_texts
@@ -128,11 +128,11 @@ fn add_flag_line<'i>(
 }
 
 /// Adds a comment to those of its kind, where it is wanted.
-fn add_comment<'i>(
-    head: &mut Head<'i>,
+fn add_comment<'a>(
+    head: &mut Head<'a>,
     with_comments: bool,
     kind: CommentKind,
-    text: &'i [u8],
+    text: &'a [u8],
 ) -> Result<(), AllocError>
     ensures comment_texts { OnOk result ((comment_texts : List CommentText)
         → HoldsComments with_comments head.old comment_texts
@@ -180,21 +180,23 @@ fn take_previous_text(
 }
 
 /// Takes what stands before an entry's own lines, or up to the end of the items, into a head that
-/// holds nothing: all of it, or without comments but for whether they have the flag `fuzzy`.
-pub(crate) fn take_head<'i>(
+/// may hold comments before these: all of it, or without comments but for whether they have the
+/// flag `fuzzy`.
+pub(crate) fn take_head<'a>(
     alloc: Global,
-    rest: &mut Cursor<'i, '_>,
+    rest: &mut Cursor<'_, 'a>,
     with_comments: bool,
-    head: &mut Head<'i>,
+    head: &mut Head<'a>,
 ) -> Result<(), PoError>
-    requires { HoldsHead with_comments head.old [] [] }
-    ensures found { OnOk result ((comment_texts : List CommentText) × (previous : List PreviousText)
-        × (above : ℕ) × HoldsHead with_comments head.new comment_texts previous
-        × ((entries : List TextEntry) → comes (start entries) rest.old
+    ensures found { OnOk result ((before : List CommentText) → (comment_texts : List CommentText)
+        × (previous : List PreviousText) × (above : ℕ)
+        × (HoldsHead with_comments head.old before [] → HoldsHead with_comments head.new comment_texts previous)
+        × ((entries : List TextEntry) → comes (in_head entries before) rest.old
         ≡ comes (Between (InHead (after_head entries comment_texts previous) above)) rest.new)
-        × EndsHead above rest.new.items) }
+        × EndsHead above rest.new.items × (above ≡ 0 → previous ≡ [])) }
     ensures fewer { OnOk result (length rest.new.items ≤ length rest.old.items) }
-    ensures fault { IfErr result (λ e. (entries : List TextEntry) → Fails (start entries) rest.old e) }
+    ensures fault { IfErr result (λ e. (entries : List TextEntry) (before : List CommentText)
+        → Fails (in_head entries before) rest.old e) }
 {
     let mut above = 0;
     loop {

@@ -1,25 +1,27 @@
 //! The entries of a text, a few at a time or all.
 
-ghost use Rattle.std.specs.Prelude.{◌≡◌, ◌++◌, All, List, IfErr, OnErr, OnOk};
-ghost use Rattle.po_entry.specs.Prelude.{ReadsText, TextEntry, AreLaid, entries_in, IsCatalogueEntry};
-ghost use Rattle.po_reader.specs.Prelude.{AddsReading, FaultsStay, IsLeftError, IsShorter, IsTextError, ReadsPiece};
-ghost use Rattle.po_reader.specs.Internal.Keeping.{KeepsReading};
+ghost use Rattle.std.specs.Prelude.{◌≡◌, ◌≢◌, ◌↔◌, ◌⊎◌, ◌<◌, ◌^◌, ◌++◌, [], All, List, Some, true, IfOk, IfErr, IsTrue, IsUtf8, MatchBool, MatchOption, MatchResult, OnErr, OnOk};
+ghost use Rattle.po_syntax.specs.Prelude.{IsFaultOf, IsString, LeftStops, LendsUtf8, OfString, view, views};
+ghost use Rattle.po_entry.specs.Prelude.{ItemsStop, ReadsText, TextEntry, AreLaid, entries_in, IsCatalogueEntry};
+ghost use Rattle.po_reader.specs.Prelude.{AddsReading, EndsEntry, FaultsStay, IsLeftError, IsShorter, IsTextError, ReadsPiece};
+ghost use Rattle.po_reader.specs.Internal.Keeping.{AreDraftsOf, KeepsReading, PiecesRead};
 
-use crate::items::read_items;
+use crate::head::Head;
+use crate::items::{check_drafts, lay_out_items};
 use po_entry::{Drafts, Store};
-use po_syntax::laws::pieces_are_cut_off;
-use po_syntax::{Pieces, PoError, PoFault, strings_are_utf8};
+use po_syntax::{Item, Pieces, PoError, PoFault, strings_are_utf8};
 use std::alloc::Global;
 
-/// Adds the entries of the next piece to a store, with their comments, references and flags or
-/// without: of at least this many bytes, or of all that is left. Where the lines that are left read
-/// as entries, they read as those of the piece and then those of the rest. The drafts are room for
-/// the entries before they are checked: what they held is dropped, and what they hold then is of no
-/// use but as room for the next piece.
+/// Adds the entries of the next pieces to a store, with their comments, references and flags or
+/// without: of pieces of at least this many bytes each, up to the first that ends where an entry
+/// does, or of all that is left. Where the lines that are left read as entries, they read as those
+/// of the pieces and then those of the rest. The drafts are room for the entries before they are
+/// checked: what they held is dropped, and what they hold then is of no use but as room for those
+/// of the next pieces.
 ///
-/// The first fault of a text may be on a line after the piece, as a line's fault comes before those
-/// of entries. So where a piece doesn't read, all that is left is read with it, and the fault is
-/// that of the whole. Then the store has the entries that it had.
+/// The first fault of a text may be on a line after the pieces, as a line's fault comes before
+/// those of entries. So where pieces don't read, all that is left is read with them, and the fault
+/// is that of the whole. Then the store has the entries that it had.
 pub fn next_store(
     alloc: Global,
     pieces: &mut Pieces<'_>,
@@ -40,8 +42,88 @@ pub fn next_store(
     Ok(())
 }
 
-/// Puts the entries of the next piece in place of the drafts, with their comments, references and
-/// flags or without. Each of them can stand in a catalogue.
+/// Whether an item is a quoted string.
+fn is_string(item: &Item<'_>) -> bool
+    ensures { IsTrue result ↔ IsString (view item.now) }
+{
+    matches!(item, Item::Str(..))
+}
+
+/// Whether there is a last item, and it is a quoted string.
+fn ends_entry(items: &[Item<'_>]) -> bool
+    ensures { IsTrue result ↔ EndsEntry (views items.now) }
+{
+    match items.last() {
+        Some(item) => is_string(item),
+        None => false,
+    }
+}
+
+/// Whether an entry ends with these items, or the text does.
+fn are_last(items: &[Item<'_>], pieces: &Pieces<'_>) -> bool
+    ensures { MatchBool result ((pieces.now.lines ≡ []) ⊎ EndsEntry (views items.now))
+        ((pieces.now.lines ≢ []) × (EndsEntry (views items.now) → ⊥)) }
+{
+    ends_entry(items) || pieces.are_over()
+}
+
+/// Whether the strings of these items are UTF-8 too.
+fn and_these(are_utf8: bool, items: &[Item<'_>]) -> bool
+    requires { All LendsUtf8 items.now }
+    ensures { result ≡ true → (are_utf8 ≡ true) × All (OfString IsUtf8) (views items.now) }
+{
+    are_utf8 && strings_are_utf8(items)
+}
+
+/// The fault of items, as one that is found; or out of memory.
+fn found_fault(error: PoError) -> Result<Option<PoError>, PoError>
+    ensures { MatchResult result (λ found. (found ≡ Some error) × (error.kind ≢ PoFault.OutOfMemory))
+        (λ e. (e ≡ error) × (error.kind ≡ PoFault.OutOfMemory)) }
+{
+    match error.kind {
+        PoFault::OutOfMemory => Err(error),
+        _ => Ok(Some(error)),
+    }
+}
+
+/// Puts the entries of the next pieces, up to one that ends an entry or the text, in place of the
+/// drafts, with their comments, references and flags or without. Each of them can stand in a
+/// catalogue. Gives the fault of the items of these pieces, if they have one.
+fn read_pieces(
+    alloc: Global,
+    pieces: &mut Pieces<'_>,
+    size: usize,
+    with_comments: bool,
+    drafts: &mut Drafts,
+) -> Result<Option<PoError>, PoError>
+    ensures found { IfOk result (λ found. (read : PiecesRead size pieces.old pieces.new) × MatchOption found
+        (((pieces.new.lines ≡ []) ⊎ EndsEntry read.last) × AreDraftsOf with_comments (read.items ++ read.last) drafts.new)
+        (λ e. IsFaultOf (ItemsStop (read.items ++ read.last)) e × (e.kind ≢ PoFault.OutOfMemory))) }
+    ensures whole { 2 ^ 31 < size → OnOk result (pieces.new.lines ≡ []) }
+    ensures fault { IfErr result (IsFaultOf (LeftStops pieces.old)) }
+{
+    drafts.clear();
+    let mut head = Head::new(alloc);
+    let mut are_utf8 = true;
+    'reading: loop {
+        let read = pieces.next(alloc, size)?;
+        let items = read.as_slice();
+        are_utf8 = and_these(are_utf8, items);
+        match lay_out_items(alloc, items, with_comments, &mut head, drafts) {
+            Ok(()) => {}
+            Err(error) => return found_fault(error),
+        }
+        if are_last(items, pieces) {
+            return match check_drafts(drafts, are_utf8) {
+                Ok(()) => Ok(None),
+                Err(error) => Ok(Some(error)),
+            };
+        }
+    }
+}
+
+/// Puts the entries of the next pieces in place of the drafts, as `read_pieces` says, or those of
+/// all that is left, where the items of these pieces have a fault.
 fn next_drafts(
     alloc: Global,
     pieces: &mut Pieces<'_>,
@@ -58,20 +140,15 @@ fn next_drafts(
     ensures fault { IfErr result (IsLeftError pieces.old) }
 {
     let start = pieces.copy();
-    let items = pieces.next(alloc, size)?;
-    let are_utf8 = strings_are_utf8(&items);
-    pieces_are_cut_off();
-    match read_items(alloc, items, are_utf8, with_comments, drafts) {
-        Ok(()) => Ok(()),
-        Err(error) => match error.kind {
-            PoFault::OutOfMemory => Err(error),
-            _ => {
-                *pieces = start;
-                let items = pieces.next(alloc, usize::MAX)?;
-                let are_utf8 = strings_are_utf8(&items);
-                read_items(alloc, items, are_utf8, with_comments, drafts)
+    match read_pieces(alloc, pieces, size, with_comments, drafts)? {
+        None => Ok(()),
+        Some(_) => {
+            *pieces = start;
+            match read_pieces(alloc, pieces, usize::MAX, with_comments, drafts)? {
+                None => Ok(()),
+                Some(error) => Err(error),
             }
-        },
+        }
     }
 }
 

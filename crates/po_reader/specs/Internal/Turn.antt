@@ -137,6 +137,21 @@ turn (In read keyword marks true text) item = turn_gap (closed read keyword mark
 turn (In read keyword marks false text) item = Stop BadOrder (line_of item)
 turn (Stop fault line) item = Stop fault line
 
+-- neither a string nor a plural form stands first
+abbrev pub IsApart : List TextItem → Type 0
+IsApart items = (begins_string items ≡ false) × (begins_form items ≡ false)
+
+-- a gap after which no plural form follows
+abbrev pub settled_gap : Gap → Gap
+settled_gap (AfterForm read index) = InHead (with_entry read) 0
+settled_gap gap = gap
+
+-- a place after which neither a string nor a plural form follows
+abbrev pub settled : Stage → Stage
+settled (Between gap) = Between (settled_gap gap)
+settled (In read keyword marks true text) = Between (settled_gap (closed read keyword marks text))
+settled stage = stage
+
 -- what it comes to where the items end here, with the line that is reported then
 abbrev pub ended : ℕ → Gap → Outcome
 ended end (InHead read above) = if above == 0 then Entries read.entries else Fault BadOrder end
@@ -149,6 +164,19 @@ outcome end (In read keyword marks true text) = ended end (closed read keyword m
 outcome end (In read keyword marks false text) = Fault BadOrder end
 outcome end (Stop fault line) = Fault fault line
 
+-- where items lead, if neither a string nor a plural form follows them, and the line that is reported
+-- where they end
+pub record Reached : Type 0 where
+  pub end : ℕ
+  pub stage : Stage
+
+abbrev pub reached : ℕ → Stage → List TextItem → Reached
+reached end stage items = record { end = end; stage = settled (fold turn stage items) }
+
+-- what it comes to where the items end there
+abbrev pub outcome_of : Reached → Outcome
+outcome_of there = outcome there.end there.stage
+
 -- from this place on, the items come to this
 abbrev pub comes_to : ℕ → Stage → List TextItem → Outcome
-comes_to end stage items = outcome end (fold turn stage items)
+comes_to end stage items = outcome_of (reached end stage items)

@@ -1,15 +1,18 @@
-use Rattle.std.proofs.Common.{◌∙◌, ap, refl, sym}
+use Rattle.std.proofs.Common.{◌∙◌, ap, sym}
 use Rattle.po_entry.specs.Spelling.{own_marks}
 use Rattle.po_reader.specs.Internal.Stage.{Before, Between, with_own}
 use Rattle.po_reader.specs.Internal.Turn.{with_keyword}
 use Rattle.po_reader.specs.Internal.ReaderView.{wanted_view}
 use Rattle.po_syntax.proofs.Results.{passed_on}
-use Rattle.po_reader.proofs.Turns.{fails_from, first_refused, no_keyword, out_of_order, taken}
+use Rattle.po_reader.proofs.Turns.{fails_from, first_refused, no_keyword, taken}
 use Rattle.po_reader.proofs.body.take_keyword_text.Goals as goal
 
 pub returns-in_default-clause-fault : goal.returns-in_default-clause-fault
 returns-in_default-clause-fault c = λ read same.
-    out_of_order _ refl c.refusal.ensures (no_keyword _ _ c.in_default.ensures read (wanted_view c.args.wanted))
+    rw c.refusal.ensures (record {
+      fault = λ other. no_keyword _ _ c.in_default.ensures read (wanted_view c.args.wanted);
+      memory = λ memory. absurd cc;
+    })
 
 pub returns-in-Some-keyword_fault-clause-fault : goal.returns-in-Some-keyword_fault-clause-fault
 returns-in-Some-keyword_fault-clause-fault c = λ read same.

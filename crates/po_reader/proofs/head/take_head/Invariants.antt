@@ -1,17 +1,18 @@
-use Rattle.std.proofs.Common.{◌≡◌, List, ◌≤◌, length}
+use Rattle.std.proofs.Common.{◌≡◌, List, [], ◌≤◌, length}
 use Rattle.po_entry.specs.Prelude.{CommentText, PreviousText, TextEntry}
 use Rattle.po_reader.specs.Internal.ReaderView.{HoldsHead}
 use Rattle.po_reader.specs.Internal.Stage.{Between, InHead, after_head}
-use Rattle.po_reader.specs.Internal.Reads.{comes, start}
+use Rattle.po_reader.specs.Internal.Reads.{comes, in_head}
 use Rattle.po_reader.proofs.head.take_head.Given as goal
 
 abbrev pub invariant-loop-kind : goal.invariant-loop-kind
 invariant-loop-kind l = record {
-  reads : (comment_texts : List CommentText) × (previous : List PreviousText)
-      × HoldsHead l.with_comments l.head comment_texts previous
+  reads : (before : List CommentText) → (comment_texts : List CommentText) × (previous : List PreviousText)
+      × (HoldsHead l.with_comments l.fn.head before [] → HoldsHead l.with_comments l.head comment_texts previous)
       × ((entries : List TextEntry)
-      → comes (start entries) l.fn.rest
-      ≡ comes (Between (InHead (after_head entries comment_texts previous) l.above)) l.rest);
+      → comes (in_head entries before) l.fn.rest
+      ≡ comes (Between (InHead (after_head entries comment_texts previous) l.above)) l.rest)
+      × (l.above ≡ 0 → previous ≡ []);
   fewer : length l.rest.items ≤ length l.fn.rest.items;
 }
 

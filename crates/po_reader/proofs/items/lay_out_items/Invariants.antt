@@ -1,18 +1,25 @@
-use Rattle.std.proofs.Common.{◌≡◌, List, ◌≤◌, length, map, All}
-use Rattle.po_syntax.specs.Prelude.{views}
-use Rattle.po_entry.specs.Prelude.{AreLaid, CanLie, entries_in, TextEntry}
-use Rattle.po_reader.specs.Internal.Reads.{come_to, comes, start}
+use Rattle.std.proofs.Common.{◌≡◌, List, [], ◌++◌, ◌≤◌, length, map, All}
+use Rattle.po_syntax.specs.Prelude.{TextItem, views}
+use Rattle.po_entry.specs.Prelude.{AreLaid, CanLie, CommentText, TextEntry, entries_in, last_line}
+use Rattle.po_reader.specs.Internal.Keeping.{CanFollow, ReadsUpTo}
+use Rattle.po_reader.specs.Internal.ReaderView.{HoldsHead}
+use Rattle.po_reader.specs.Internal.Reads.{comes, in_head, start}
+use Rattle.po_reader.specs.Internal.Turn.{reached}
 use Rattle.po_reader.specs.Prelude.{kept_entry}
 use Rattle.po_reader.proofs.items.lay_out_items.Given as goal
 
-abbrev pub invariant-loop-head : goal.invariant-loop-head
-invariant-loop-head l = record {
-  reads : (entries : List TextEntry) × (come_to (views l.items) ≡ comes (start entries) l.rest)
+abbrev pub invariant-loop-rest : goal.invariant-loop-rest
+invariant-loop-rest l = record {
+  reads : (before : List TextItem) → CanFollow before (views l.items)
+      → ReadsUpTo l.with_comments before l.fn.head l.fn.drafts
+      → (entries : List TextEntry) × (comment_texts : List CommentText)
+      × (reached (last_line (views l.items)) (start []) (before ++ views l.items)
+      ≡ comes (in_head entries comment_texts) l.rest)
+      × HoldsHead l.with_comments l.head comment_texts [] × AreLaid l.drafts
       × (All CanLie (map (kept_entry l.with_comments) entries)
       → entries_in l.drafts ≡ map (kept_entry l.with_comments) entries);
-  laid : AreLaid l.drafts;
   fewer : length l.rest.items ≤ length l.items;
 }
 
-abbrev pub decreases-loop-head : goal.decreases-loop-head
-decreases-loop-head l = length l.rest.items
+abbrev pub decreases-loop-rest : goal.decreases-loop-rest
+decreases-loop-rest l = length l.rest.items

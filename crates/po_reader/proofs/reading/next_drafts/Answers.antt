@@ -1,75 +1,62 @@
-use Rattle.std.proofs.Common.{arith}
-use Rattle.std.proofs.lemmas.Result.{IfErr-weaker}
+use Rattle.std.proofs.Common.{inl, arith}
 use Rattle.po_reader.specs.PieceRead.IsLeftFault.{in_items, in_text}
-use Rattle.po_reader.specs.PieceRead.ReadsPiece.{all, piece}
-use Rattle.po_reader.proofs.PieceReading.{faults_over, items_kept, piece_faults}
+use Rattle.po_reader.specs.PieceRead.ReadsPiece.{all, pieces}
 use Rattle.po_syntax.proofs.NoMemory.{IsFaultOf-weaker}
 use Rattle.po_syntax.proofs.Results.{passed_on}
-use Rattle.po_reader.proofs.Results.{on_ok, on_ok_always}
+use Rattle.po_reader.proofs.PieceReading.{faults_over, items_kept, piece_faults, pieces_all, pieces_anew, pieces_end, pieces_shorter, pieces_spelt, pieces_stop}
 use Rattle.po_reader.proofs.reading.next_drafts.Goals as goal
 
-pub returns-in_err-items-clause-fault : goal.returns-in_err-items-clause-fault
-returns-in_err-items-clause-fault c =
+pub returns-in_err-read_pieces-clause-fault : goal.returns-in_err-read_pieces-clause-fault
+returns-in_err-read_pieces-clause-fault c =
     passed_on c.from_residual.result _ c.from_residual.ensures.1
-    (IsFaultOf-weaker (λ fault line. in_text) c.in_err-items.ensures.fault)
+    (IsFaultOf-weaker (λ fault line. in_text) c.in_err-read_pieces.ensures.fault)
 
-pub returns-in-Ok-clause-found : goal.returns-in-Ok-clause-found
-returns-in-Ok-clause-found c =
-    let law = c.pieces_are_cut_off.ensures in
-    let piece = c.in_ok-items.ensures.piece in
-    items_kept c.args.with_comments _ _ _ _ (λ more. law.spelt _ _ _ _ more piece)
-    (law.ends _ _ _ _ piece) c.in-Ok.ensures.found
+pub returns-in_err-read_pieces-in-Some-clause-fault : goal.returns-in_err-read_pieces-in-Some-clause-fault
+returns-in_err-read_pieces-in-Some-clause-fault c =
+    passed_on c.from_residual-in_err-read_pieces-in-Some.result _
+    c.from_residual-in_err-read_pieces-in-Some.ensures.1
+    (IsFaultOf-weaker (λ fault line. in_text)
+    (rw c.copy-start.ensures at c.in_err-read_pieces-in-Some.ensures.fault))
 
-pub returns-in-Ok-clause-faults : goal.returns-in-Ok-clause-faults
-returns-in-Ok-clause-faults c =
-    let law = c.pieces_are_cut_off.ensures in
-    let piece = c.in_ok-items.ensures.piece in
-    let read = c.in-Ok.ensures.found in
-    piece_faults _ _ _ read.0 (λ more. law.spelt _ _ _ _ more piece) (λ fault line. law.stops _ _ _ _ fault line piece)
-    (law.ends _ _ _ _ piece) (law.anew _ _ _ _ piece) read.1
+pub returns-in-None-clause-found : goal.returns-in-None-clause-found
+returns-in-None-clause-found c =
+    let found = rw c.in-None.is at c.in_ok-read_pieces.ensures.found in
+    items_kept c.args.with_comments _ _ _ _ (pieces_spelt found.0) (pieces_end found.0 found.1.0) found.1.1.keeps
 
-pub returns-in-Ok-clause-fewer : goal.returns-in-Ok-clause-fewer
-returns-in-Ok-clause-fewer c = c.pieces_are_cut_off.ensures.shorter _ _ _ _ c.in_ok-items.ensures.piece
+pub returns-in-None-clause-piece : goal.returns-in-None-clause-piece
+returns-in-None-clause-piece c =
+    let found = rw c.in-None.is at c.in_ok-read_pieces.ensures.found in
+    pieces found.0.others found.0.piece found.1.0
 
-pub returns-in-Ok-clause-piece : goal.returns-in-Ok-clause-piece
-returns-in-Ok-clause-piece c = piece c.in_ok-items.ensures.piece
+pub returns-in-None-clause-faults : goal.returns-in-None-clause-faults
+returns-in-None-clause-faults c =
+    let found = rw c.in-None.is at c.in_ok-read_pieces.ensures.found in
+    piece_faults _ _ _ found.1.1.keeps.0 (pieces_spelt found.0) (pieces_stop found.0) (pieces_end found.0 found.1.0)
+    (pieces_anew found.0) found.1.1.keeps.1
 
-pub returns-in_err-items-in_default-clause-fault : goal.returns-in_err-items-in_default-clause-fault
-returns-in_err-items-in_default-clause-fault c =
-    passed_on c.from_residual-in_err-items-in_default.result _ c.from_residual-in_err-items-in_default.ensures.1
-    (IsFaultOf-weaker (λ fault line. in_text) (rw c.copy-start.ensures at c.in_err-items-in_default.ensures.fault))
+pub returns-in-None-clause-fewer : goal.returns-in-None-clause-fewer
+returns-in-None-clause-fewer c = pieces_shorter c.in_ok-read_pieces.ensures.found.0
 
-pub returns-in_ok-items-in_default-clause-found : goal.returns-in_ok-items-in_default-clause-found
-returns-in_ok-items-in_default-clause-found c =
-    let law = c.pieces_are_cut_off.ensures in
-    let piece = rw c.copy-start.ensures at c.in_ok-items-in_default.ensures.piece in
-    on_ok c.read_items-in_default.result
-    (λ h. items_kept c.args.with_comments _ _ _ _ (λ more. law.spelt _ _ _ _ more piece)
-    (law.ends _ _ _ _ piece) h) c.read_items-in_default.ensures.found
+pub returns-in-None-2-clause-found : goal.returns-in-None-2-clause-found
+returns-in-None-2-clause-found c =
+    let found = rw (c.in-None-2.is, c.copy-start.ensures) at c.in_ok-read_pieces-in-Some.ensures.found in
+    let over = c.in_ok-read_pieces-in-Some.ensures.whole (omega arith) in
+    items_kept c.args.with_comments _ _ _ _ (pieces_spelt found.0) (inl over) found.1.1.keeps
 
-pub returns-in_ok-items-in_default-clause-faults : goal.returns-in_ok-items-in_default-clause-faults
-returns-in_ok-items-in_default-clause-faults c =
-    let piece = rw c.copy-start.ensures at c.in_ok-items-in_default.ensures.piece in
-    on_ok_always c.read_items-in_default.result
-    (faults_over c.args.pieces.now c.next-in_default.new.self
-    (λ fault line. c.pieces_are_cut_off.ensures.stops _ _ _ _ fault line piece)
-    (c.in_ok-items-in_default.ensures.whole (omega arith)))
+pub returns-in-None-2-clause-piece : goal.returns-in-None-2-clause-piece
+returns-in-None-2-clause-piece c =
+    let found = rw c.in-Some.is at c.in_ok-read_pieces.ensures.found in
+    let over = c.in_ok-read_pieces-in-Some.ensures.whole (omega arith) in
+    all found.0.others found.0.piece (found.1.0.fault found.1.1) over
 
-pub returns-in_ok-items-in_default-clause-fewer : goal.returns-in_ok-items-in_default-clause-fewer
-returns-in_ok-items-in_default-clause-fewer c =
-    let piece = rw c.copy-start.ensures at c.in_ok-items-in_default.ensures.piece in
-    on_ok_always c.read_items-in_default.result (c.pieces_are_cut_off.ensures.shorter _ _ _ _ piece)
+pub returns-in-None-2-clause-faults : goal.returns-in-None-2-clause-faults
+returns-in-None-2-clause-faults c =
+    let found = rw (c.in-None-2.is, c.copy-start.ensures) at c.in_ok-read_pieces-in-Some.ensures.found in
+    let over = c.in_ok-read_pieces-in-Some.ensures.whole (omega arith) in
+    faults_over c.args.pieces.now _ (pieces_stop found.0) over
 
-pub returns-in_ok-items-in_default-clause-fault : goal.returns-in_ok-items-in_default-clause-fault
-returns-in_ok-items-in_default-clause-fault c =
-    let piece = rw c.copy-start.ensures at c.in_ok-items-in_default.ensures.piece in
-    let spelt = c.pieces_are_cut_off.ensures.all _ _ _ _ piece
-    (c.in_ok-items-in_default.ensures.whole (omega arith)) in
-    IfErr-weaker c.read_items-in_default.result _ _ (λ e. IsFaultOf-weaker (λ fault line. in_items spelt))
-    c.read_items-in_default.ensures.fault
-
-pub returns-in_ok-items-in_default-clause-piece : goal.returns-in_ok-items-in_default-clause-piece
-returns-in_ok-items-in_default-clause-piece c =
-    on_ok_always c.read_items-in_default.result
-    (all c.in_ok-items.ensures.piece (c.in-Err.ensures.fault.fault c.in_default.not-OutOfMemory)
-    (c.in_ok-items-in_default.ensures.whole (omega arith)))
+pub returns-in-Some-2-clause-fault : goal.returns-in-Some-2-clause-fault
+returns-in-Some-2-clause-fault c =
+    let found = rw (c.in-Some-2.is, c.copy-start.ensures) at c.in_ok-read_pieces-in-Some.ensures.found in
+    let over = c.in_ok-read_pieces-in-Some.ensures.whole (omega arith) in
+    IsFaultOf-weaker (λ fault line. in_items (pieces_all found.0 over)) found.1.0

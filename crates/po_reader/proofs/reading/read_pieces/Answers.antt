@@ -1,0 +1,139 @@
+use Rattle.std.proofs.Common.{◌++◌, [], IsUtf8, ap, map, refl, subst, sym}
+use Rattle.std.proofs.lemmas.List.Elements.{All-append, All-nil}
+use Rattle.std.specs.Prelude.{All}
+use Rattle.po_syntax.specs.Prelude.{HoldsText, OfString, views}
+use Rattle.po_entry.specs.Faults.ItemsStop.{in_items}
+use Rattle.po_entry.specs.Prelude.{entry_at}
+use Rattle.po_entry.specs.Rows.{LiesIn}
+use Rattle.po_reader.specs.PieceRead.OpenPieces.{none, further}
+use Rattle.po_syntax.proofs.NoMemory.{IsFaultOf-weaker}
+use Rattle.po_syntax.proofs.Results.{passed_on}
+use Rattle.po_reader.proofs.PieceReading.{open_follow, open_stops, piece_lessens}
+use Rattle.po_reader.proofs.Results.{found_memory, found_one}
+use Rattle.po_reader.proofs.DraftsRead.{drafts_no_nul, drafts_of, drafts_stop, drafts_utf8}
+use Rattle.po_reader.proofs.reading.read_pieces.Goals as goal
+use Rattle.po_reader.proofs.reading.read_pieces.Goals.{in-Ok-check_drafts, in-Err-check_drafts}
+
+pub reading-init : goal.reading-init
+reading-init c =
+    let bytes = c.clear.new.self.bytes.items in
+    record {
+      items = [];
+      others = none;
+      hold = All-nil HoldsText;
+      utf8 = λ _. All-nil (OfString IsUtf8);
+      read = record {
+        entries = [];
+        comment_texts = [];
+        leads = refl;
+        holds = c.new-head.ensures c.args.with_comments;
+        laid = subst (All (LiesIn bytes)) (sym c.clear.ensures) (All-nil (LiesIn bytes));
+        kept = λ can. ap (map (entry_at bytes)) c.clear.ensures;
+      };
+    }
+
+pub returns-in_err-read-clause-fault : goal.returns-in_err-read-clause-fault
+returns-in_err-read-clause-fault c =
+    passed_on c.from_residual.result _ c.from_residual.ensures.1
+    (IsFaultOf-weaker (open_stops c.reading.invariant.others) c.in_err-read.ensures.fault)
+
+pub returns-in-Err-clause-found : goal.returns-in-Err-clause-found
+returns-in-Err-clause-found c =
+    let done = c.reading.invariant in
+    let piece = c.in_ok-read.ensures.piece in
+    let fails = rw c.as_slice-items.ensures.value at c.in-Err.ensures.fault in
+    found_one _ _ c.found_fault.result c.found_fault.ensures (λ other. (
+      record {
+        left = c.reading.pieces;
+        items = done.items;
+        last = views c.in_ok-read.read.items;
+        others = done.others;
+        piece = piece;
+      },
+      (
+        IsFaultOf-weaker (λ fault line. in_items) (fails done.items (open_follow done.others piece) done.read),
+        other,
+      ),
+    ))
+
+pub returns-in-Err-clause-fault : goal.returns-in-Err-clause-fault
+returns-in-Err-clause-fault c =
+    let done = c.reading.invariant in
+    let fails = rw c.as_slice-items.ensures.value at c.in-Err.ensures.fault in
+    found_memory _ _ c.found_fault.result
+    (fails done.items (open_follow done.others c.in_ok-read.ensures.piece) done.read).memory c.found_fault.ensures
+
+pub check_drafts-requires-clause-lie : goal.check_drafts-requires-clause-lie
+check_drafts-requires-clause-lie c =
+    let done = c.reading.invariant in
+    let read = rw c.as_slice-items.ensures.value at c.in-Ok.ensures.found in
+    (read done.items (open_follow done.others c.in_ok-read.ensures.piece) done.read).laid
+
+pub check_drafts-requires-clause-no_nul : goal.check_drafts-requires-clause-no_nul
+check_drafts-requires-clause-no_nul c =
+    let done = c.reading.invariant in
+    let read = rw c.as_slice-items.ensures.value at c.in-Ok.ensures.found in
+    drafts_no_nul _ _ _ _ (read done.items (open_follow done.others c.in_ok-read.ensures.piece) done.read)
+    (All-append HoldsText done.items (views c.in_ok-read.read.items) done.hold c.in_ok-read.ensures.hold)
+
+pub check_drafts-requires-clause-utf8 : goal.check_drafts-requires-clause-utf8
+check_drafts-requires-clause-utf8 c = λ are.
+    let done = c.reading.invariant in
+    let last = views c.in_ok-read.read.items in
+    let read = rw c.as_slice-items.ensures.value at c.in-Ok.ensures.found in
+    let both = rw c.as_slice-items.ensures.value at (c.and_these-are_utf8.ensures are) in
+    drafts_utf8 _ _ _ _ (read done.items (open_follow done.others c.in_ok-read.ensures.piece) done.read)
+    (All-append HoldsText done.items last done.hold c.in_ok-read.ensures.hold)
+    (All-append (OfString IsUtf8) done.items last (done.utf8 both.0) both.1)
+
+pub returns-then-are_last-clause-found : goal.returns-then-are_last-clause-found
+returns-then-are_last-clause-found c =
+    let done = c.reading.invariant in
+    let last = views c.in_ok-read.read.items in
+    let piece = c.in_ok-read.ensures.piece in
+    let read = (rw c.as_slice-items.ensures.value at c.in-Ok.ensures.found) done.items
+    (open_follow done.others piece) done.read in
+    let hold = All-append HoldsText done.items last done.hold c.in_ok-read.ensures.hold in
+    let ends = rw c.as_slice-items.ensures.value at c.if-are_last.ensures in
+    elim c.match-check_drafts.branch [
+      | in-Ok-check_drafts w ↦
+          rw w.result-is (
+            record { left = c.reading.pieces; items = done.items; last = last; others = done.others; piece = piece },
+            (
+              ends,
+              drafts_of _ _ _ _ read hold w.in-Ok-check_drafts.ensures.texts w.in-Ok-check_drafts.ensures.charsets,
+            ),
+          )
+      | in-Err-check_drafts w ↦
+          let other = w.in-Err-check_drafts.ensures.other in
+          rw w.result-is (
+            record { left = c.reading.pieces; items = done.items; last = last; others = done.others; piece = piece },
+            (
+              record {
+                fault = λ _. drafts_stop _ _ _ _ read hold _ _ w.in-Err-check_drafts.ensures.fault;
+                memory = λ memory. absurd (other memory);
+              },
+              other,
+            ),
+          )
+    ]
+
+pub reading-smaller : goal.reading-smaller
+reading-smaller c = piece_lessens c.in_ok-read.ensures.piece c.if-are_last.ensures.0
+
+pub reading-preserved : goal.reading-preserved
+reading-preserved c =
+    let done = c.reading.invariant in
+    let last = views c.in_ok-read.read.items in
+    let piece = c.in_ok-read.ensures.piece in
+    let read = rw c.as_slice-items.ensures.value at c.in-Ok.ensures.found in
+    let open_end = rw c.as_slice-items.ensures.value at c.if-are_last.ensures.1 in
+    record {
+      items = done.items ++ last;
+      others = further done.others piece open_end;
+      hold = All-append HoldsText done.items last done.hold c.in_ok-read.ensures.hold;
+      utf8 = λ are.
+          let both = rw c.as_slice-items.ensures.value at (c.and_these-are_utf8.ensures are) in
+          All-append (OfString IsUtf8) done.items last (done.utf8 both.0) both.1;
+      read = read done.items (open_follow done.others piece) done.read;
+    }
