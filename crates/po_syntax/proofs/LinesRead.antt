@@ -9,7 +9,7 @@ use Rattle.std.proofs.lemmas.List.Elements.{All-nil, All-append, All-drop, All-h
 use Rattle.std.proofs.lemmas.List.Sums.{sum_by-take-drop, sum_by-cons}
 use Rattle.po_syntax.specs.declared.fault.PoFault.{PoFault}
 use Rattle.po_syntax.specs.declared.item.Item.{Item}
-use Rattle.po_syntax.specs.Prelude.{IsCleanLine, LinesLeft, lines_len, lines_of_rest, EndsTranslation, BeginsAnew, LineBeginsAnew, CanEnd, HasRead, LendsUtf8, LineFault, HoldsItems, SpellsLines, LinesStop, lines_of, TextItem, views}
+use Rattle.po_syntax.specs.Prelude.{IsCleanLine, LinesLeft, lines_len, lines_of_rest, BeginsAnew, LineBeginsAnew, CanEnd, HasRead, LendsUtf8, LineFault, HoldsItems, SpellsLines, LinesStop, lines_of, TextItem, views, EndsPiece}
 use Rattle.po_syntax.specs.Internal.{AddsLent}
 use Rattle.po_syntax.specs.Internal.PieceEnd.{IsCut}
 use Rattle.po_syntax.proofs.Uniqueness.{line_once, lines_once}
@@ -130,13 +130,16 @@ here_spelt {here = here} {line = line} read spelt =
 no_end : {size len : ℕ} {old now : LinesLeft} {items here : List TextItem} {line : List ℕ} {others : List (List ℕ)}
     (so_far : ReadSoFar size old now items len)
     → now.lines ≡ line ∷ others → HoldsItems now.number line here
-    → (size ≤ len → EndsTranslation items → BeginsAnew here → ⊥) → CanEnd size old so_far.read.count → ⊥
-no_end {size} {old = old} so_far e spelt none can =
+    → (size ≤ len → EndsPiece len items → BeginsAnew here → ⊥) → CanEnd size old so_far.read.count → ⊥
+no_end {size} {old = old} {items = items} so_far e spelt none can =
     let read = so_far.read in
-    let items = lines_once old.number (take read.count old.lines) can.spelt read.spelt in
+    let len_is = sym so_far.len_is in
+    let once = lines_once old.number (take read.count old.lines) can.spelt read.spelt in
     let anew = subst (LineBeginsAnew (old.number + read.count)) (next_line read e) can.anew in
     let same = line_once anew.1 (here_spelt read spelt) in
-    none (subst (λ (l : ℕ). size ≤ l) (sym so_far.len_is) can.large) (subst EndsTranslation items can.ends)
+    none (subst (λ (l : ℕ). size ≤ l) len_is can.large)
+    (subst (λ (l : ℕ). EndsPiece l items) len_is
+    (subst (EndsPiece (lines_len (take read.count old.lines))) once can.ends))
     (subst BeginsAnew same anew.2)
 
 -- the line that is read next, and those before it
@@ -154,7 +157,7 @@ line_utf8 {old = old} {line = line} {others = others} read e clean =
 pub read_on : {size len : ℕ} {old now : LinesLeft} {before after : List Item} {here : List TextItem} {line : List ℕ}
     {others : List (List ℕ)} → ReadLent size old now before len → views after ≡ views before ++ here
     → AddsLent line before after → now.lines ≡ line ∷ others → HoldsItems now.number line here
-    → (size ≤ len → EndsTranslation (views before) → BeginsAnew here → ⊥)
+    → (size ≤ len → EndsPiece len (views before) → BeginsAnew here → ⊥)
     → ReadLent size old (record { text = now.text; number = now.number + 1; lines = others }) after
     (len + (length line + 1))
 read_on {size} {old = old} {now = now} {before = before} {after = after} {here = here} {line = line}
@@ -198,14 +201,14 @@ cut_off so_far ends = let own = so_far.so_far in
 -- a piece can end before a line that begins anew
 pub can_end : {size len : ℕ} {old now : LinesLeft} {items here : List TextItem} {line : List ℕ}
     {others : List (List ℕ)} (so_far : ReadSoFar size old now items len)
-    → now.lines ≡ line ∷ others → HoldsItems now.number line here → size ≤ len → EndsTranslation items → BeginsAnew here
+    → now.lines ≡ line ∷ others → HoldsItems now.number line here → size ≤ len → EndsPiece len items → BeginsAnew here
     → CanEnd size old so_far.read.count
 can_end {size} {old = old} {items = items} {here = here} so_far e spelt large ends anew = let read =
     so_far.read in record {
       large = subst (λ (l : ℕ). size ≤ l) so_far.len_is large;
       items = items;
       spelt = read.spelt;
-      ends = ends;
+      ends = subst (λ (l : ℕ). EndsPiece l items) so_far.len_is ends;
       anew = subst (LineBeginsAnew (old.number + read.count)) (sym (next_line read e))
           (here, here_spelt read spelt, anew);
     }

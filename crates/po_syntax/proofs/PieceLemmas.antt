@@ -1,11 +1,12 @@
 -- What a piece of a text holds, and what is left after it.
 use Rattle.std.proofs.Common.{◌≡◌, ◌≢◌, ◌⊎◌, ◌↔◌, inl, inr, refl, sym, subst, ap, ℕ, zero, suc, ◌+◌, ◌<◌, ◌≤◌, ◌^◌, Bool, false, List, [], ◌∷◌, ◌++◌, append-nil, length, take, drop, length-drop, All, Option, Some, None, arith}
-use Rattle.std.specs.Prelude.{IsSome, IsTrue, MatchOption}
+use Rattle.std.specs.Prelude.{IsSome, IsTrue, MatchOption, slice_get}
 use Rattle.std.proofs.lemmas.List.{drop_all, take-append-drop}
 use Rattle.std.proofs.lemmas.List.Elements.{All-nil, All-append, All-head, All-tail}
 use Rattle.std.proofs.lemmas.List.Sums.{sum_by-take-drop, sum_by-take-le, sum_by-cons}
 use Rattle.po_syntax.specs.declared.fault.PoFault.{PoFault}
-use Rattle.po_syntax.specs.Prelude.{IsCleanLine, LinesLeft, SpellsLeft, LeftStops, AreOfText, lines_len, IsString, IsTranslation, EndsTranslation, IsNew, BeginsAnew, LineBeginsAnew, CanEnd, IsPiece, EndsInString, LeftAnew, HoldsText, IsText, TextItem, SpellsLines, TextFault}
+use Rattle.po_syntax.specs.declared.item.Item.{Item}
+use Rattle.po_syntax.specs.Prelude.{view, views, IsCommentItem, IsCleanLine, LinesLeft, SpellsLeft, LeftStops, AreOfText, lines_len, IsString, IsTranslation, IsNew, BeginsAnew, LineBeginsAnew, CanEnd, IsPiece, EndsInComment, EndsInString, EndsPiece, LeftAnew, HoldsText, IsText, TextItem, SpellsLines, TextFault}
 use Rattle.po_syntax.specs.Internal.PieceEnd.{IsCut}
 use Rattle.po_syntax.proofs.ItemTexts.{lines_texts}
 use Rattle.po_syntax.proofs.Lines.{lines-few, some_length}
@@ -107,13 +108,19 @@ ends_in_string (suc before) (item ∷ []) is = absurd (subst IsTranslation (drop
 ends_in_string (suc before) (item ∷ next ∷ items) is = ends_in_string before (next ∷ items) is
 
 pub piece_ends : (size : ℕ) (old new : LinesLeft) (items : List TextItem) → IsPiece size old new items
-    → (new.lines ≡ []) ⊎ EndsInString items
+    → (new.lines ≡ []) ⊎ EndsInString items ⊎ EndsInComment items
 piece_ends size old new items piece = ended piece.ends where
-  ended : (new.lines ≡ []) ⊎ CanEnd size old piece.read.count → (new.lines ≡ []) ⊎ EndsInString items
+  last : {len : ℕ} → EndsPiece len items → EndsInString items ⊎ EndsInComment items
+  last (inl translation) = inl (ends_in_string translation.0 items translation.1)
+  last (inr comment) = inr comment.1
+
+  ended : (new.lines ≡ []) ⊎ CanEnd size old piece.read.count
+      → (new.lines ≡ []) ⊎ EndsInString items ⊎ EndsInComment items
   ended (inl over) = inl over
   ended (inr can) =
       let same = lines_once old.number (take piece.read.count old.lines) can.spelt piece.read.spelt in
-      inr (subst EndsInString same (ends_in_string can.ends.0 can.items can.ends.1))
+      let len = lines_len (take piece.read.count old.lines) in
+      inr (last {len = len} (subst (EndsPiece len) same can.ends))
 
 -- where the items of a line begin anew, so does whatever the lines from it on spell
 line_anew : (number : ℕ) (lines : List (List ℕ)) (item : TextItem) (items : List TextItem) → LineBeginsAnew number lines
@@ -137,12 +144,14 @@ piece_anew size old new items piece item more h = ended piece.ends where
 pub piece_shorter : (size : ℕ) (old new : LinesLeft) (items : List TextItem) → IsPiece size old new items
     → old.lines ≢ [] → length new.lines < length old.lines
 piece_shorter size old new items piece some = ended piece.ends where
-  counted : (count : ℕ) (others : List TextItem) → SpellsLines old.number (take count old.lines) others
-      → EndsTranslation others → 0 < count
-  counted zero others spelt ends =
-      absurd (subst IsTranslation (drop_all ends.0 [] (omega arith))
-      (subst (λ (x : List TextItem). IsTranslation (drop ends.0 x)) spelt ends.1))
-  counted (suc count) others spelt ends = omega arith
+  nothing : {len : ℕ} → EndsPiece len [] → ⊥
+  nothing (inl ends) = subst IsTranslation (drop_all ends.0 [] (omega arith)) ends.1
+  nothing (inr ends) = ends.1
+
+  counted : (len count : ℕ) (others : List TextItem) → SpellsLines old.number (take count old.lines) others
+      → EndsPiece len others → 0 < count
+  counted len zero others spelt ends = absurd (nothing {len = len} (subst (EndsPiece len) spelt ends))
+  counted len (suc count) others spelt ends = omega arith
 
   ended : (new.lines ≡ []) ⊎ CanEnd size old piece.read.count → length new.lines < length old.lines
   ended (inl over) = rw over (some_length old.lines some)
@@ -152,6 +161,16 @@ piece_shorter size old new items piece some = ended piece.ends where
         arith,
         length_is,
         length-drop piece.read.count old.lines,
-        counted piece.read.count can.items can.spelt can.ends,
+        counted (lines_len (take piece.read.count old.lines)) piece.read.count can.items can.spelt can.ends,
         some_length old.lines some,
       )
+
+-- the last item, where it is a comment
+pub comment_at : (items : List Item) (n : ℕ) (item : Item) → n + 1 ≡ length items → Some item ≡ slice_get items n
+    → IsCommentItem (view item) ↔ EndsInComment (views items)
+comment_at [] n item e is = absurd (omega (arith, e))
+comment_at (first ∷ []) zero item e is = let same : item ≡ first = cc in rw same (λ h. h, λ h. h)
+comment_at (first ∷ []) (suc n) item e is = absurd (omega (arith, e))
+comment_at (first ∷ second ∷ items) zero item e is = absurd (omega (arith, e))
+comment_at (first ∷ second ∷ items) (suc n) item e is = let less : n + 1 ≡ length (second ∷ items) =
+    omega (arith, e) in comment_at (second ∷ items) n item less is

@@ -1,6 +1,6 @@
--- Where a piece of a text ends: at a line with which an entry begins anew after a translation
--- (manual, "The Format of PO Files").
-use Rattle.std.specs.Prelude.{◌≢◌, ℕ, List, All, IsUtf8, ◌≡◌, ◌+◌, ◌≤◌, [], length, take, drop, sum_by, Option, Some, None, ◌⊎◌, ◌<◌, ◌∷◌}
+-- Where a piece of a text ends: at a line with which an entry begins anew after a translation, or a
+-- long piece between the lines of an entry's head (manual, "The Format of PO Files").
+use Rattle.std.specs.Prelude.{◌≢◌, ℕ, List, All, IsUtf8, ◌≡◌, ◌+◌, ◌^◌, ◌≤◌, [], length, take, drop, sum_by, Option, Some, None, ◌⊎◌, ◌<◌, ◌∷◌}
 use Rattle.std.specs.Borrow.{Bor}
 use Rattle.po_syntax.specs.PoText.{IsSmall, SpellsLines, TextFault, lines_of, without_byte_order_mark}
 use Rattle.po_syntax.specs.Item.{TextItem, Comment, Word, Str}
@@ -82,6 +82,22 @@ IsTranslation (word ∷ strings) = IsTranslationWord word × (strings ≢ []) ×
 abbrev pub EndsTranslation : List TextItem → Type 0
 EndsTranslation items = (before : ℕ) × IsTranslation (drop before items)
 
+-- a comment
+abbrev pub IsCommentItem : TextItem → Type 0
+IsCommentItem (Comment kind text line) = Unit {0}
+IsCommentItem (Word keyword marks line) = ⊥
+IsCommentItem (Str bytes marks line) = ⊥
+
+-- the last item is a comment
+abbrev pub EndsInComment : List TextItem → Type 0
+EndsInComment [] = ⊥
+EndsInComment (item ∷ []) = IsCommentItem item
+EndsInComment (item ∷ next ∷ items) = EndsInComment (next ∷ items)
+
+-- what a piece of so many bytes can end with: a translation; or a comment, if it is a long piece
+abbrev pub EndsPiece : ℕ → List TextItem → Type 0
+EndsPiece len items = EndsTranslation items ⊎ ((2 ^ 16 ≤ len) × EndsInComment items)
+
 -- an item with which no entry goes on after its last string: neither a string nor `msgstr[i]`
 abbrev pub IsNew : TextItem → Type 0
 IsNew (Word (MsgStrAt index) marks line) = ⊥
@@ -98,13 +114,13 @@ abbrev pub LineBeginsAnew : ℕ → List (List ℕ) → Type 0
 LineBeginsAnew number [] = ⊥
 LineBeginsAnew number (line ∷ lines) = (here : List TextItem) × HoldsItems number line here × BeginsAnew here
 
--- A piece of at least this many bytes can end after so many of the lines that are left, as an entry ends
--- there: what these spell ends a translation, and the line after them begins anew.
+-- A piece of at least this many bytes can end after so many of the lines that are left: with what these
+-- spell a piece of their length can end, and the line after them begins anew.
 pub record CanEnd (size : ℕ) (left : LinesLeft) (count : ℕ) : Type 0 where
   pub large : size ≤ lines_len (take count left.lines)
   pub items : List TextItem
   pub spelt : SpellsLines left.number (take count left.lines) items
-  pub ends : EndsTranslation items
+  pub ends : EndsPiece (lines_len (take count left.lines)) items
   pub anew : LineBeginsAnew (left.number + count) (drop count left.lines)
 
 -- from `old` so many lines were read, which have these items, `new` is left, and after fewer lines no

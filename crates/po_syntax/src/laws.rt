@@ -2,7 +2,7 @@
 //! a proof.
 ghost use Rattle.std.specs.Prelude.{◌≡◌, ◌≢◌, ◌⊎◌, ◌<◌, ◌≤◌, ℕ, List, [], ◌∷◌, ◌++◌, length, All, IsUtf8};
 ghost use Rattle.po_syntax.specs.declared.fault.PoFault.{PoFault};
-ghost use Rattle.po_syntax.specs.Prelude.{SpellsString, HoldsText, TextItem, LineFault, HasFaultOnLine, ItemsAreOnTheirLines, MarkIsOmitted, LinesLeft, SpellsLeft, LeftStops, IsPiece, EndsInString, LeftAnew, SpellsText, TextFault, quoted, written_bytes, WritesQuoted, lettered_bytes, lettered_text, HoldsItems};
+ghost use Rattle.po_syntax.specs.Prelude.{SpellsString, HoldsText, TextItem, LineFault, HasFaultOnLine, ItemsAreOnTheirLines, MarkIsOmitted, LinesLeft, SpellsLeft, LeftStops, IsPiece, EndsInComment, EndsInString, LeftAnew, SpellsText, TextFault, quoted, written_bytes, WritesQuoted, lettered_bytes, lettered_text, HoldsItems};
 ghost use Rattle.po_syntax.specs.Internal.{OpeningQuote, token_at};
 
 /// A text spells at most one list of items.
@@ -124,7 +124,7 @@ pub fn pieces_are_cut_off()
     ensures stops { (size : ℕ) (old new : LinesLeft) (items : List TextItem) (fault : PoFault) (line : ℕ)
         → IsPiece size old new items → LeftStops new fault line → LeftStops old fault line }
     ensures ends { (size : ℕ) (old new : LinesLeft) (items : List TextItem)
-        → IsPiece size old new items → (new.lines ≡ []) ⊎ EndsInString items }
+        → IsPiece size old new items → (new.lines ≡ []) ⊎ EndsInString items ⊎ EndsInComment items }
     ensures anew { (size : ℕ) (old new : LinesLeft) (items : List TextItem)
         → IsPiece size old new items → LeftAnew new }
     ensures shorter { (size : ℕ) (old new : LinesLeft) (items : List TextItem)

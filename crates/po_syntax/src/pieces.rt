@@ -1,8 +1,9 @@
-//! The lines of a text, and their items, some entries at a time.
+//! The lines of a text, and their items: those of some entries at a time, or of a part of a long
+//! head.
 
 ghost use Rattle.std.specs.Prelude.{◌≡◌, ◌≢◌, ◌↔◌, ◌+◌, ◌<◌, ◌≤◌, ◌^◌, ◌∷◌, [], take, drop, List, ℕ, All, length, vec_len, true, false, IfOk, IfErr, IfSome, MatchOption, OnOk, OnErr, IsTrue};
 ghost use Rattle.po_syntax.specs.declared.fault.PoFault.{PoFault};
-ghost use Rattle.po_syntax.specs.Prelude.{IsCleanLine, IsFaultOf, LinesLeft, SpellsLeft, LeftStops, AreOfText, lines_len, lines_of_rest, BeginsAnew, EndsTranslation, IsPiece, IsString, IsTranslationWord, HoldsText, IsText, TextItem, view, views, LendsUtf8, LinesStop, SpellsText, TextFault, line_number, lines_of};
+ghost use Rattle.po_syntax.specs.Prelude.{IsCleanLine, IsFaultOf, LinesLeft, SpellsLeft, LeftStops, AreOfText, lines_len, lines_of_rest, BeginsAnew, EndsInComment, EndsPiece, EndsTranslation, IsCommentItem, IsPiece, IsString, IsTranslationWord, HoldsText, IsText, TextItem, view, views, LendsUtf8, LinesStop, SpellsText, TextFault, line_number, lines_of};
 ghost use Rattle.po_syntax.specs.Internal.PieceEnd.{IsCut};
 
 use crate::fault::{PoError, PoFault};
@@ -14,9 +15,9 @@ use simdutf8::is_utf8;
 use std::alloc::{AllocError, Global};
 use std::marker::Model;
 
-/// A PO text that is read in pieces, each of which ends where an entry does: what is left of it to
-/// be read, and the number of the first line of that, counted from 1 (manual, "The Format of PO
-/// Files").
+/// A PO text that is read in pieces, each of which ends where an entry does, or, if it is long, in
+/// an entry's head: what is left of it to be read, and the number of the first line of that,
+/// counted from 1 (manual, "The Format of PO Files").
 #[derive(Drop)]
 pub struct Pieces<'a> {
     text: &'a [u8],
@@ -45,6 +46,10 @@ struct PieceEnd<'a> {
 
 /// The longest text that is read, in bytes.
 const MAX_LEN: usize = 2_147_483_647;
+
+/// From how many bytes on a piece can end after a comment: so much of an entry's head is read at a
+/// time.
+const LONG: usize = 65_536;
 
 /// For how many items a piece has room at first.
 const FIRST_ROOM: usize = 64;
@@ -146,15 +151,39 @@ fn begins_anew(items: &[Item<'_>]) -> bool
     }
 }
 
-/// Whether an entry ends before the item of this index: after a translation, and before an item
-/// with which no entry goes on after its last string.
-fn ends_entry(items: &[Item<'_>], index: usize) -> bool
+/// Whether an item is a comment.
+fn is_comment(item: &Item<'_>) -> bool
+    ensures { IsTrue result ↔ IsCommentItem (view item.now) }
+{
+    matches!(item, Item::Comment(..))
+}
+
+/// Whether the last item is a comment.
+fn ends_in_comment(items: &[Item<'_>]) -> bool
+    ensures { IsTrue result ↔ EndsInComment (views items.now) }
+{
+    match items.last() {
+        Some(item) => is_comment(item),
+        None => false,
+    }
+}
+
+/// Whether a piece of so many bytes can end with these items.
+fn ends_piece(items: &[Item<'_>], len: usize) -> bool
+    ensures { IsTrue result ↔ EndsPiece len (views items.now) }
+{
+    ends_translation(items) || (len >= LONG && ends_in_comment(items))
+}
+
+/// Whether a piece of so many bytes can end before the item of this index: with the items before
+/// it, and before an item with which no entry goes on after its last string.
+fn can_end(items: &[Item<'_>], index: usize, len: usize) -> bool
     requires { index ≤ length items.now }
-    ensures { IsTrue result ↔ (EndsTranslation (take index (views items.now))
+    ensures { IsTrue result ↔ (EndsPiece len (take index (views items.now))
         × BeginsAnew (drop index (views items.now))) }
 {
     let (before, after) = items.split_at(index);
-    begins_anew(after) && ends_translation(before)
+    begins_anew(after) && ends_piece(before, len)
 }
 
 impl<'a> Pieces<'a> {
@@ -204,8 +233,8 @@ impl<'a> Pieces<'a> {
     }
 
     /// The items of the next piece: the fewest whole lines of at least this many bytes at whose end
-    /// an entry ends, as the next line begins another; or all that is left. So comments are in one
-    /// piece with the entry after them.
+    /// an entry ends, as the next line begins another; or all that is left. From 65,536 bytes on a
+    /// piece ends after a comment too, if what follows that is no string and no plural form.
     ///
     /// The bytes of a piece are tested with it. Where it holds one that isn't UTF-8, or a NUL, or a
     /// line with a fault, the whole text is refused, for the first of these in it: with `NotUtf8`,
@@ -300,7 +329,7 @@ impl<'a> Pieces<'a> {
                 Err(PoFault::OutOfMemory) => return Err(AllocError.into()),
                 Err(kind) => return Err(PoError { kind, line }),
             }
-            if len >= size && ends_entry(items, count) {
+            if len >= size && can_end(items, count, len) {
                 items.truncate(count);
                 break;
             }

@@ -1,10 +1,10 @@
 use Rattle.std.proofs.Common.{◌≡◌, ◌∙◌, ap, sym, subst, inl, inr, length, arith, rules}
-use Rattle.po_syntax.specs.Prelude.{AreOfText, lines_of_rest, BeginsAnew, EndsTranslation}
+use Rattle.po_syntax.specs.Prelude.{AreOfText, lines_of_rest, BeginsAnew, EndsPiece}
 use Rattle.po_syntax.proofs.LinesRead.{can_end, cut_off, lent_before, line_stops, lines_begin, none_read, read_on}
 use Rattle.po_syntax.proofs.TextLeft.{len_few, read_few}
 use Rattle.po_syntax.proofs.TranslationEnds.{cut_at}
 use Rattle.po_syntax.proofs.pieces.Pieces.add_piece.Goals as goal
-use Rattle.po_syntax.proofs.pieces.Pieces.add_piece.Goals.{else-len-size-via-then-len-size+else-ends_entry, else-len-size-via-else-len-size, in-Some+in-Ok+then-len-size+then-ends_entry, in_default}
+use Rattle.po_syntax.proofs.pieces.Pieces.add_piece.Goals.{else-len-size-via-then-len-size+else-can_end, else-len-size-via-else-len-size, in-Some+in-Ok+then-len-size+then-can_end, in_default}
 
 pub returns-in-Err-clause-fault : goal.returns-in-Err-clause-fault
 returns-in-Err-clause-fault c =
@@ -34,10 +34,10 @@ loop-rest-preserved c =
     ∙ lines_begin c.in-Some.text.now c.first_line.result.0.now c.first_line.result.1 c.first_line.ensures.cut in
     read_on c.loop-rest.invariant found.2 c.in-Ok.ensures.lent lines found.1
     (λ large ends anew. elim c.else-len-size.branch [
-      | else-len-size-via-then-len-size+else-ends_entry w ↦
-          let entry = rw w.deref.ensures.value at w.ends_entry.ensures.1 in
-          let is = entry (subst EndsTranslation (sym cut.0) ends, subst BeginsAnew (sym cut.1) anew) in
-          absurd (cc (is, w.if-ends_entry.false))
+      | else-len-size-via-then-len-size+else-can_end w ↦
+          let entry = rw w.deref.ensures.value at w.can_end.ensures.1 in
+          let is = entry (subst (EndsPiece c.loop-rest.len) (sym cut.0) ends, subst BeginsAnew (sym cut.1) anew) in
+          absurd (cc (is, w.if-can_end.false))
       | else-len-size-via-else-len-size w ↦ absurd (omega (arith, w.if-len-size.false))
     ])
 
@@ -49,19 +49,19 @@ overflow_add-len-in-Some c =
 
 pub returns-clause-cut : goal.returns-clause-cut
 returns-clause-cut c = elim c.match-rest.branch [
-  | in-Some+in-Ok+then-len-size+then-ends_entry w ↦
+  | in-Some+in-Ok+then-len-size+then-can_end w ↦
       let found = w.in-Ok.ensures.found in
       let own : w.len-count.result ≡ length c.loop-rest.items.items =
       omega (arith, w.len-count.ensures, c.loop-rest.items.ok.0) in
       let cut = cut_at c.loop-rest.items.items w.add_line.new.items.items found.0 w.len-count.result own found.2 in
       let lines = ap lines_of_rest w.in-Some.is
       ∙ lines_begin w.in-Some.text.now w.first_line.result.0.now w.first_line.result.1 w.first_line.ensures.cut in
-      let entry = rw w.deref.ensures.value at (w.ends_entry.ensures.0 w.if-ends_entry.true) in
+      let entry = rw w.deref.ensures.value at (w.can_end.ensures.0 w.if-can_end.true) in
       let kept : c.match-rest.items.items ≡ c.loop-rest.items.items =
       rw (w.items-is, w.truncate.ensures.items) (lent_before _ _ _ w.len-count.result own w.in-Ok.ensures.lent) in
       rw kept
       (cut_off c.loop-rest.invariant (inr (can_end c.loop-rest.invariant.so_far lines found.1
-      w.if-len-size.true (subst EndsTranslation cut.0 entry.0) (subst BeginsAnew cut.1 entry.1))))
+      w.if-len-size.true (subst (EndsPiece c.loop-rest.len) cut.0 entry.0) (subst BeginsAnew cut.1 entry.1))))
   | in_default w ↦
       rw w.items-is
       (cut_off c.loop-rest.invariant (inl (ap lines_of_rest w.in_default.is)))
