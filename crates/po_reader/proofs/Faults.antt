@@ -133,7 +133,8 @@ gap_ended end (Before read wanted) = inr refl
 gap_ended end (AfterForm read number) = inl (_, refl)
 
 stage_ended : (end : ℕ) (stage : Stage) → goes_on stage ≡ true
-    → ((entries : List TextEntry) × (comes_to end stage [] ≡ Entries entries)) ⊎ (comes_to end stage [] ≡ Fault BadOrder end)
+    → ((entries : List TextEntry) × (comes_to end stage [] ≡ Entries entries))
+    ⊎ (comes_to end stage [] ≡ Fault BadOrder end)
 stage_ended end (Stop fault line) on = absurd cc
 stage_ended end (Between gap) on = gap_ended end (settled_gap gap)
 stage_ended end (In read keyword marks true text) on = gap_ended end (settled_gap (closed read keyword marks text))
