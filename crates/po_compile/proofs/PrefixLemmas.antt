@@ -13,7 +13,7 @@ use Rattle.byteorder.specs.Endian.{big_from, big_number}
 use Rattle.byteorder.specs.Numbers.{big_from-cons}
 use Rattle.mo_file.specs.Prelude.{key_cmp}
 use Rattle.mo_file.proofs.RisingKeys.{equal_is_same}
-use Rattle.po_compile.specs.Internal.{digits, prefix_of, second_prefix_of}
+use Rattle.po_compile.specs.Internal.Prefix.{digits, prefix_of, second_prefix_of}
 
 abbrev pub Bytes : List ℕ → Type 0
 Bytes text = All (λ byte. byte < 256) text

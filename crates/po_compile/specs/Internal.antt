@@ -1,7 +1,8 @@
 -- What private functions, proofs and laws cite; no clause of a public function does: the rows of several
 -- inputs that are compiled, in the order of their joined list and sorted, and a message that stands
 -- twice (manual, "Invoking the msgfmt Program": several input files).
-use Rattle.std.specs.Prelude.{ℕ, zero, suc, ◌+◌, ◌*◌, ◌^◌, List, [], ◌∷◌, drop, ◌≤◌, ◌==◌, Bool, false, not, ◌&&◌, ◌||◌, ◌++◌, map, filter, length, ◌≢◌, AllPairs, IsPermutation, count_by, ◌≡◌, ◌⊎◌, ◌<◌, All, take, get_or}
+pub mod Prefix
+use Rattle.std.specs.Prelude.{ℕ, ◌+◌, List, [], ◌∷◌, ◌≤◌, ◌==◌, Bool, false, not, ◌&&◌, ◌||◌, ◌++◌, map, filter, length, ◌≢◌, AllPairs, IsPermutation, count_by, ◌≡◌, ◌⊎◌, ◌<◌, All, take, get_or}
 use Rattle.std.specs.List.{list_any}
 use Rattle.std.specs.List.Sorted.{IsSortedBy}
 use Rattle.std.specs.Ordering.{is_lt}
@@ -15,23 +16,6 @@ use Rattle.po_compile.specs.declared.row.Row.{Row}
 use Rattle.po_entry.specs.declared.duplicate.JoinError.{JoinError}
 use Rattle.po_syntax.specs.declared.fault.PoFault.TheVariants.{Duplicate}
 use Rattle.po_compile.specs.Accepted.{fault_of_input}
-
--- The beginning of a key as a number, which orders keys as they are ordered wherever two such numbers
--- differ.
-
--- the first bytes as so many digits of base 256; a shorter text goes on with zeros
-abbrev pub digits : ℕ → List ℕ → ℕ
-digits zero text = 0
-digits (suc n) [] = 0
-digits (suc n) (byte ∷ text) = byte * 256 ^ n + digits n text
-
--- the first sixteen bytes
-abbrev pub prefix_of : List ℕ → ℕ
-prefix_of key = digits 16 key
-
--- the sixteen bytes after them
-abbrev pub second_prefix_of : List ℕ → ℕ
-second_prefix_of key = digits 16 (drop 16 key)
 
 -- the message of a live entry of one of several inputs
 pub record InputMessage : Type 0 where

@@ -2,7 +2,7 @@
 
 ghost use Rattle.std.specs.Prelude.{◌≡◌, ◌<◌, All};
 ghost use Rattle.mo_file.specs.Prelude.{key_cmp, query_key};
-ghost use Rattle.po_compile.specs.Internal.{prefix_of, second_prefix_of};
+ghost use Rattle.po_compile.specs.Internal.Prefix.{prefix_of, second_prefix_of};
 
 use crate::status::Status;
 use byteorder::{BigEndian, ByteOrder};
