@@ -145,7 +145,7 @@ pub(crate) fn distinct_flags(alloc: Global, texts: &[&[u8]]) -> Result<TextList,
             return only_flag(alloc, flag);
         }
     }
-    let mut seen = SeenTexts::new(alloc, seeded_by(texts));
+    let mut seen = SeenTexts::with_capacity(alloc, texts.len(), seeded_by(texts))?;
     for text in texts {
         add_flags(&mut seen, text)?;
     }
