@@ -248,7 +248,7 @@ one_more named flags element before =
             λ is. both_ways (is_fuzzy_flag element) other ((bytes_eq-Decides element (codes "fuzzy")).1 is) in (
               flags ++ element ∷ [],
               first before not_fuzzy (λ there. both_ways (list_any (bytes_eq element) flags) absent
-              (among_passes flags element ((are_named before element).1 there not_fuzzy))),
+                  (among_passes flags element ((are_named before element).1 there not_fuzzy))),
             )
       ]
     ]
