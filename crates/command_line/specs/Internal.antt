@@ -1,5 +1,5 @@
--- What private functions, proofs and laws cite; no clause of a public function does: the argument that an
--- entry of a table stands for.
+-- The argument that an entry of a table stands for. Private functions, proofs and laws cite it; no clause
+-- of a public function does.
 use Rattle.std.specs.Prelude.{ℕ, List}
 use Rattle.command_line.specs.Commands.{Argument, one, some, any, flag, flag_or_letter, letter, text, number, byte_order}
 use Rattle.command_line.specs.declared.commands.Kind.{Kind}

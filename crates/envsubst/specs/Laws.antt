@@ -1,12 +1,10 @@
--- What a run of envsubst has written, by its text alone.
+-- What spells a reference, and a text with its references replaced, with a case each, and what a run of
+-- envsubst has written by that ("Invoking the envsubst program" of the GNU gettext manual).
 use Rattle.std.specs.Prelude.{◌≡◌, ℕ, ◌≤◌, List, [], ◌∷◌, ◌++◌, length, All, Option, Some, ◌≢◌, None, Contains, IsTrue}
 use Rattle.envsubst.specs.Reference.{is_letter, is_name_byte}
 use Rattle.envsubst.specs.Replacements.{Values}
 use Rattle.std.specs.List.{flat_map}
 use Rattle.envsubst.specs.Substituter.{substitution}
-
--- What spells a reference, and a text with its references replaced, with a case each ("Invoking the
--- envsubst program" of the GNU gettext manual).
 
 -- what a name begins with: an ASCII letter or `_`
 abbrev pub BeginsName : ℕ → Type 0
@@ -65,6 +63,8 @@ pub data HasValue (name : List ℕ) : List (List ℕ × List ℕ) → List ℕ �
 abbrev pub IsReplaced : Option (List (List ℕ)) → List ℕ → Type 0
 IsReplaced None name = Unit {0}
 IsReplaced (Some names) name = Contains names name
+
+-- What a run has written, by its text alone; and what calls write, however a text is cut.
 
 -- after what the writer took before, it took these bytes
 abbrev pub Took : List ℕ → Option (List ℕ) → Option (List ℕ) → Type 0

@@ -12,7 +12,7 @@ use Rattle.runs.specs.Prelude.{text_line, RunView, output_run, refusal}
 abbrev pub error_line : List ℕ → PoError → List ℕ
 error_line name error = text_line (codes "msgattrib") name error
 
--- the status of one that is refused is 1, and `written_status` says that of any other
+-- the status of one that is refused is 1; that of any other is 0 (`output_status`)
 pub refused_status : (name : List ℕ) (error : PoError) → (refusal (error_line name error)).status ≡ 1
 refused_status name error = refl
 

@@ -34,7 +34,7 @@ pub record IsFileFault (files : List NamedFile) (name : List ℕ) (error : PoErr
 abbrev pub msgcat_line : List ℕ → PoError → List ℕ
 msgcat_line name error = text_line (codes "msgcat") name error
 
--- the status of one that is refused is 1, and `written_status` says that of any other
+-- the status of one that is refused is 1; that of any other is 0 (`output_status`)
 pub refused_status : (name : List ℕ) (error : PoError) → (refusal (msgcat_line name error)).status ≡ 1
 refused_status name error = refl
 

@@ -1,4 +1,5 @@
--- Laws of the PO text of an MO file: a compiled file comes back as the same bytes.
+-- Laws of the PO text of an MO file: a compiled file comes back as the same bytes, and each entry is
+-- that of its message (manual, "Invoking the msgunfmt Program").
 use Rattle.std.specs.Prelude.{◌≡◌, ◌≢◌, ◌⊎◌, ◌↔◌, ℕ, Bool, List, [], ◌∷◌, All, ◌++◌, Option, None, Some}
 use Rattle.mo_file.specs.Prelude.{layout, Message}
 use Rattle.po_syntax.specs.Prelude.{IsSmall}

@@ -17,7 +17,7 @@ unformat_text OutOfMemory = codes "out of memory"
 abbrev pub unformat_line : List ℕ → UnformatError → List ℕ
 unformat_line name error = fault_line (codes "msgunfmt") name 0 (unformat_text error)
 
--- the status of a file that has no text is 1, and `written_status` says that of any other
+-- the status of a file that has no text is 1; that of one that has a text is 0 (`output_status`)
 pub refused_status : (name : List ℕ) (error : UnformatError) → (refusal (unformat_line name error)).status ≡ 1
 refused_status name error = refl
 

@@ -1,6 +1,6 @@
--- What private functions, proofs and laws cite; no clause of a public function does: the rows of several
--- inputs that are compiled, in the order of their joined list and sorted, and a message that stands
--- twice (manual, "Invoking the msgfmt Program": several input files).
+-- The rows of several inputs that are compiled, in the order of their joined list and sorted, and a message
+-- that stands twice (manual, "Invoking the msgfmt Program": several input files). Private functions,
+-- proofs and laws cite it; no clause of a public function does.
 pub mod Prefix
 use Rattle.std.specs.Prelude.{ℕ, ◌+◌, List, [], ◌∷◌, ◌≤◌, ◌==◌, Bool, false, not, ◌&&◌, ◌||◌, ◌++◌, map, filter, length, ◌≢◌, AllPairs, IsPermutation, count_by, ◌≡◌, ◌⊎◌, ◌<◌, All, take, get_or}
 use Rattle.std.specs.List.{list_any}

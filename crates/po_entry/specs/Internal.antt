@@ -1,4 +1,5 @@
--- What private functions, proofs and laws cite; no clause of a public function does.
+-- What a hash of a text that was seen is made of. Private functions, proofs and laws cite it; no clause of a
+-- public function does.
 use Rattle.std.specs.Prelude.{◌≡◌, true, ℕ, List, [], ◌∷◌}
 use Rattle.std.specs.Hash.{HashWrites}
 use Rattle.std.specs.Str.{bytes_eq}

@@ -3,7 +3,7 @@
 //! draft, and becomes an entry once its texts and charset are checked.
 //!
 //! [`read_into`] reads a text piece by piece into a store. A caller that doesn't keep all entries
-//! takes the pieces one by one: [`next_store`].
+//! takes them a few at a time: [`next_store`] reads pieces up to the end of an entry.
 //!
 //! The modules in reading order: `cursor`, `comment_texts`, `head`, `body`, `items`,
 //! `reading`, `laws`.

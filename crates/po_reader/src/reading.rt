@@ -158,7 +158,7 @@ pub const PIECE: usize = 1_024;
 
 /// Adds the entries of a PO text to a store, piece by piece (GNU gettext manual, "The Format of PO
 /// Files"). Refused with the text's first fault, and where an allocation failed; then the entries
-/// of the pieces before are added. The drafts are as for a piece.
+/// of the pieces before are added. The drafts are as for `next_store`.
 pub fn read_into(
     alloc: Global,
     text: &[u8],

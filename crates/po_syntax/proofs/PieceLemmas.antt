@@ -107,15 +107,17 @@ ends_in_string (suc before) [] is = tt
 ends_in_string (suc before) (item ∷ []) is = absurd (subst IsTranslation (drop_all before [] (omega arith)) is)
 ends_in_string (suc before) (item ∷ next ∷ items) is = ends_in_string before (next ∷ items) is
 
-pub piece_ends : (size : ℕ) (old new : LinesLeft) (items : List TextItem) → IsPiece size old new items
-    → (new.lines ≡ []) ⊎ EndsInString items ⊎ EndsInComment items
+pub piece_ends : (size : ℕ) (old new : LinesLeft) (items : List TextItem) (piece : IsPiece size old new items)
+    → (new.lines ≡ []) ⊎ EndsInString items
+    ⊎ ((2 ^ 16 ≤ lines_len (take piece.read.count old.lines)) × EndsInComment items)
 piece_ends size old new items piece = ended piece.ends where
-  last : {len : ℕ} → EndsPiece len items → EndsInString items ⊎ EndsInComment items
+  last : {len : ℕ} → EndsPiece len items → EndsInString items ⊎ ((2 ^ 16 ≤ len) × EndsInComment items)
   last (inl translation) = inl (ends_in_string translation.0 items translation.1)
-  last (inr comment) = inr comment.1
+  last (inr comment) = inr comment
 
   ended : (new.lines ≡ []) ⊎ CanEnd size old piece.read.count
-      → (new.lines ≡ []) ⊎ EndsInString items ⊎ EndsInComment items
+      → (new.lines ≡ []) ⊎ EndsInString items
+      ⊎ ((2 ^ 16 ≤ lines_len (take piece.read.count old.lines)) × EndsInComment items)
   ended (inl over) = inl over
   ended (inr can) =
       let same = lines_once old.number (take piece.read.count old.lines) can.spelt piece.read.spelt in

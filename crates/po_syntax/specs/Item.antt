@@ -1,5 +1,5 @@
--- What contracts see of an item of a PO text: its bytes are a list, wherever they are kept (manual,
--- "The Format of PO Files").
+-- What contracts see of an item of a PO text, its bytes being a list wherever they are kept; what items
+-- hold; which of their bytes are UTF-8; and the marks of lines (manual, "The Format of PO Files").
 use Rattle.std.specs.Prelude.{ℕ, List, map, ◌≡◌, ◌≢◌, ◌==◌, ◌∷◌, All, Contains, IsUtf8, codes, Bool, true, false}
 use Rattle.po_syntax.specs.declared.item.CommentKind.{CommentKind}
 use Rattle.po_syntax.specs.declared.item.Keyword.{Keyword}
@@ -41,8 +41,6 @@ view (code.Str bytes marks line) = Str (spelt_bytes bytes) marks line
 
 abbrev pub views : List Item → List TextItem
 views items = map view items
-
--- What the items of a text hold (manual, "The Format of PO Files").
 
 -- the text without the CRs at its end; a CR inside, or before another blank, stays
 abbrev pub trim_returns : List ℕ → List ℕ

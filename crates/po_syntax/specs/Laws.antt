@@ -1,5 +1,5 @@
--- The number of a line: one more than the LFs that stand before it (manual, "The Format of PO
--- Files").
+-- On which lines the items and the fault of a text stand, the number of a line being one more than the
+-- LFs before it, and that a byte order mark is omitted (manual, "The Format of PO Files").
 use Rattle.std.specs.Prelude.{◌≡◌, ◌≢◌, ℕ, ◌+◌, ◌^◌, ◌≤◌, List, [], ◌∷◌, ◌++◌, length, All, Contains}
 use Rattle.std.specs.Str.Lossy.{utf8_valid_len}
 use Rattle.po_syntax.specs.declared.fault.PoFault.{PoFault}

@@ -1,5 +1,5 @@
--- Where a piece of a text ends: at a line with which an entry begins anew after a translation, or a
--- long piece between the lines of an entry's head (manual, "The Format of PO Files").
+-- Where a piece of a text ends: before a line with which an entry begins anew, and after a translation
+-- or, where the piece is long, after a comment (manual, "The Format of PO Files").
 use Rattle.std.specs.Prelude.{◌≢◌, ℕ, List, All, IsUtf8, ◌≡◌, ◌+◌, ◌^◌, ◌≤◌, [], length, take, drop, sum_by, Option, Some, None, ◌⊎◌, ◌<◌, ◌∷◌}
 use Rattle.std.specs.Borrow.{Bor}
 use Rattle.po_syntax.specs.PoText.{IsSmall, SpellsLines, TextFault, lines_of, without_byte_order_mark}

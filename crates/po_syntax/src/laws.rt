@@ -1,8 +1,8 @@
 //! Laws of PO texts, each the contract of a function that does nothing: a call brings the law into
 //! a proof.
-ghost use Rattle.std.specs.Prelude.{◌≡◌, ◌≢◌, ◌⊎◌, ◌<◌, ◌≤◌, ℕ, List, [], ◌∷◌, ◌++◌, length, All, IsUtf8};
+ghost use Rattle.std.specs.Prelude.{◌≡◌, ◌≢◌, ◌⊎◌, ◌<◌, ◌≤◌, ℕ, List, [], ◌∷◌, ◌++◌, length, All, IsUtf8, ◌^◌, take};
 ghost use Rattle.po_syntax.specs.declared.fault.PoFault.{PoFault};
-ghost use Rattle.po_syntax.specs.Prelude.{SpellsString, HoldsText, TextItem, LineFault, HasFaultOnLine, ItemsAreOnTheirLines, MarkIsOmitted, LinesLeft, SpellsLeft, LeftStops, IsPiece, EndsInComment, EndsInString, LeftAnew, SpellsText, TextFault, quoted, written_bytes, WritesQuoted, lettered_bytes, lettered_text, HoldsItems};
+ghost use Rattle.po_syntax.specs.Prelude.{SpellsString, HoldsText, TextItem, LineFault, HasFaultOnLine, ItemsAreOnTheirLines, MarkIsOmitted, LinesLeft, SpellsLeft, LeftStops, IsPiece, EndsInComment, EndsInString, lines_len, LeftAnew, SpellsText, TextFault, quoted, written_bytes, WritesQuoted, lettered_bytes, lettered_text, HoldsItems};
 ghost use Rattle.po_syntax.specs.Internal.{OpeningQuote, token_at};
 
 /// A text spells at most one list of items.
@@ -115,7 +115,8 @@ pub fn quoted_form_holds_text()
 
 /// After a piece, what is left reads on: where it spells items, what was left before spells those
 /// of the piece and then these; its first fault is the first fault of what was left before; and it
-/// begins with no item with which an entry of the piece could go on.
+/// begins with no item with which an entry of the piece could go on. A piece ends in a string, or
+/// from 65,536 bytes on in a comment, or the text ends with it.
 pub fn pieces_are_cut_off()
     ensures spelt { (size : ℕ) (old new : LinesLeft) (items more : List TextItem)
         → IsPiece size old new items → SpellsLeft new more → SpellsLeft old (items ++ more) }
@@ -123,8 +124,9 @@ pub fn pieces_are_cut_off()
         → IsPiece size old new items → new.lines ≡ [] → SpellsLeft old items }
     ensures stops { (size : ℕ) (old new : LinesLeft) (items : List TextItem) (fault : PoFault) (line : ℕ)
         → IsPiece size old new items → LeftStops new fault line → LeftStops old fault line }
-    ensures ends { (size : ℕ) (old new : LinesLeft) (items : List TextItem)
-        → IsPiece size old new items → (new.lines ≡ []) ⊎ EndsInString items ⊎ EndsInComment items }
+    ensures ends { (size : ℕ) (old new : LinesLeft) (items : List TextItem) (piece : IsPiece size old new items)
+        → (new.lines ≡ []) ⊎ EndsInString items
+        ⊎ ((2 ^ 16 ≤ lines_len (take piece.read.count old.lines)) × EndsInComment items) }
     ensures anew { (size : ℕ) (old new : LinesLeft) (items : List TextItem)
         → IsPiece size old new items → LeftAnew new }
     ensures shorter { (size : ℕ) (old new : LinesLeft) (items : List TextItem)

@@ -29,8 +29,9 @@ refusal messages = record { output = []; create = false; messages = messages; st
 abbrev pub output_run : List ℕ → RunView
 output_run output = record { output = output; create = nat_lt 0 (length output); messages = []; status = 0 }
 
-pub written_status : (output : List ℕ) → (output_run output).status ≡ 0
-written_status output = refl
+-- the status of an output that is written is 0
+pub output_status : (output : List ℕ) → (output_run output).status ≡ 0
+output_status output = refl
 
 -- From old to new, what went out is a prefix of the output and no message, or all of the output and
 -- a prefix of the messages.

@@ -1,4 +1,4 @@
--- What is gathered of inputs before they are compiled.
+-- Internal to this crate: what is gathered of inputs before they are compiled.
 use Rattle.std.specs.Prelude.{◌≡◌, ◌<◌, ◌^◌, Bool, List, length, MatchResult}
 use Rattle.po_compile.specs.Prelude.{IsReadingFault, AreCollected}
 use Rattle.po_entry.specs.Prelude.{slice_texts}

@@ -1,4 +1,4 @@
--- Internal to this crate: faults while the messages of a file are taken one after another.
+-- Internal to this crate: the entry of a message, laid out and appended to a text, and why a message has none.
 use Rattle.std.specs.Prelude.{◌≡◌, ℕ, List, Some, slice_get, ◌↔◌, Bool, false, true, All, [], ◌∷◌, ◌++◌}
 use Rattle.mo_file.specs.Prelude.{Message}
 use Rattle.po_syntax.specs.declared.fault.PoFault.{PoFault}

@@ -1,4 +1,4 @@
--- The parts of a line.
+-- Internal to this crate: the bytes of a line, from its parts.
 use Rattle.std.specs.Prelude.{ℕ, List}
 use Rattle.std.specs.Borrow.{Bor}
 use Rattle.std.specs.List.{flat_map}
