@@ -3,6 +3,7 @@ use Rattle.std.proofs.Common.{◌≡◌, ℕ, suc, ◌+◌, ◌<◌, ◌==◌, f
 use Rattle.std.proofs.lemmas.Bool.Decides.{nat_tests}
 use Rattle.std.proofs.Math.Bool.{or-false}
 use Rattle.std.proofs.lemmas.List.{map-append, take_more}
+use Rattle.std.specs.List.{AllZip}
 use Rattle.po_syntax.specs.Facts.Zips.{zip_more}
 use Rattle.clap.specs.Built.{AddsArg, AddsSubcommand, subcommand_names}
 use Rattle.clap.specs.Simple.{App, Shape, app_of, new_app, on_top, shape_of, with_rule, with_subcommand}

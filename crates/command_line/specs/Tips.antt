@@ -1,6 +1,6 @@
 -- The tip on an option or a tool that GNU gettext alone has, if clap's text of a usage fault names
 -- one: this project's own words, since the manual leaves them open.
-use Rattle.std.specs.Prelude.{ℕ, Bool, true, false, ◌==◌, if◌then◌else◌, List, [], ◌∷◌, ◌++◌, length, drop, Option, Some, None, option_and_then, nat_eq, codes}
+use Rattle.std.specs.Prelude.{ℕ, Bool, map, true, false, ◌==◌, if◌then◌else◌, List, [], ◌∷◌, ◌++◌, length, drop, Option, Some, None, option_and_then, nat_eq, codes}
 use Rattle.std.specs.List.{before_first, list_any, starts_with}
 use Rattle.std.specs.Option.{option_or}
 use Rattle.std.specs.Str.{bytes_eq}

@@ -1,6 +1,6 @@
 -- The text of a usage fault, from clap's text of it, and the command `help`, as the option that it
 -- stands for.
-use Rattle.std.specs.Prelude.{ℕ, Bool, ◌==◌, ◌&&◌, ◌||◌, if◌then◌else◌, List, [], ◌∷◌, Option, Some, None, nat_eq, codes}
+use Rattle.std.specs.Prelude.{ℕ, Bool, ◌&&◌, ◌||◌, if◌then◌else◌, List, [], ◌∷◌, Option, Some, None, nat_eq, codes}
 use Rattle.std.specs.List.{flat_map, starts_with, zip}
 use Rattle.std.specs.Str.{bytes_eq}
 use Rattle.po_syntax.specs.Facts.LinesWithEnds.{lines_with_ends}
