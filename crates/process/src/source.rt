@@ -37,6 +37,7 @@ impl<'s, S: SystemCalls> InputSource for Source<'s, S> {
 
 impl<'s, S: SystemCalls> Process for Source<'s, S> {
     ghost use Rattle.std.specs.Prelude.{codes};
+    ghost use Rattle.process.specs.Reading.{ReadsFile};
     ghost use Rattle.runs.specs.Inputs.{gives};
 
     ghost argument = { λ source index value. S.argument source.0.now index value };
@@ -76,6 +77,7 @@ impl<'s, S: SystemCalls> VariableSource for Source<'s, S> {
 
 impl<'s, S: SystemCalls> EntrySource for Source<'s, S> {
     ghost use Rattle.std.specs.Prelude.{codes};
+    ghost use Rattle.process.specs.Reading.{ReadsFile};
     ghost use Rattle.process.specs.Value.{AreEntries};
     ghost use Rattle.runs.specs.Inputs.{gives};
 
