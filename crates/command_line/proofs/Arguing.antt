@@ -1,9 +1,7 @@
 -- Arguments and tools, as they are added one after another.
-use Rattle.std.proofs.Common.{◌≡◌, ℕ, suc, ◌+◌, ◌<◌, ◌==◌, false, ◌||◌, List, [], ◌∷◌, ◌++◌, length, map, take, get_or, refl, ap, ◌∙◌, sym, arith, append_assoc, Option, None, Some}
+use Rattle.command_line.proofs.Prelude.{AddsArguments, AllZip, Argument, IsRuleOf, IsToolCommand, IsToolShape, List, None, OffersTools, Option, Some, [], ap, append_assoc, arguments_of, arith, false, get_or, length, map, map-append, offered, offered_tools, refl, suc, sym, take, take_more, top_of, ℕ, ◌++◌, ◌+◌, ◌<◌, ◌==◌, ◌||◌, ◌∙◌, ◌∷◌, ◌≡◌}
 use Rattle.std.proofs.lemmas.Bool.Decides.{nat_tests}
 use Rattle.std.proofs.Math.Bool.{or-false}
-use Rattle.std.proofs.lemmas.List.{map-append, take_more}
-use Rattle.std.specs.List.{AllZip}
 use Rattle.po_syntax.specs.Facts.Zips.{zip_more}
 use Rattle.clap.specs.Built.{AddsArg, AddsSubcommand, subcommand_names}
 use Rattle.clap.specs.Simple.{App, Shape, app_of, new_app, on_top, shape_of, with_rule, with_subcommand}
@@ -11,7 +9,6 @@ use Rattle.clap.specs.Walk.{is_empty, rule_of}
 use Rattle.clap.specs.declared.builder.arg.Arg.{Arg}
 use Rattle.clap.specs.declared.builder.command.Command.{Command}
 use Rattle.clap.specs.declared.builder.command.Command.TheViews.{out-Command}
-use Rattle.command_line.specs.Prelude.{Argument, IsRuleOf, arguments_of, AddsArguments, IsToolCommand, IsToolShape, OffersTools, offered, offered_tools, top_of}
 use Rattle.runs.specs.Prelude.{tool_name}
 use Rattle.runs.specs.declared.tool.Tool.{Tool}
 

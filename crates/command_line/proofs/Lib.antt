@@ -1,3 +1,4 @@
+mod Prelude
 mod Arguing
 mod Words
 mod LineSteps

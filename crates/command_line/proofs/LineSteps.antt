@@ -1,11 +1,5 @@
 -- A text is taken line by line, as `split_inclusive` does at LF.
-use Rattle.std.proofs.Common.{◌≡◌, ◌≢◌, ◌∙◌, refl, sym, ap, subst, ℕ, ◌+◌, ◌<◌, suc, cond, List, [], ◌∷◌, ◌++◌, length, get_or, take, drop, Some, None, append_assoc, length-append, take-append-drop, ne_eqb, length-take, lit<, arith}
-use Rattle.std.specs.List.{onto_first}
-use Rattle.std.specs.Str.Pattern.{EndsAtFirstMatch, FindsChar}
-use Rattle.std.proofs.lemmas.Str.Pattern.{NoCharPasses-char, drop_at_char}
-use Rattle.std.proofs.Math.Seq.{take-append-add}
-use Rattle.std.proofs.lemmas.List.{append_cancel_left, nil_from_length}
-use Rattle.po_syntax.specs.Facts.LinesWithEnds.{lines_with_ends}
+use Rattle.command_line.proofs.Prelude.{EndsAtFirstMatch, FindsChar, List, NoCharPasses-char, None, Some, [], ap, append_assoc, append_cancel_left, arith, cond, drop, drop_at_char, get_or, length, length-append, length-take, lines_with_ends, lit<, ne_eqb, nil_from_length, onto_first, refl, subst, suc, sym, take, take-append-add, take-append-drop, ℕ, ◌++◌, ◌+◌, ◌<◌, ◌∙◌, ◌∷◌, ◌≡◌, ◌≢◌}
 
 abbrev NoFeed : List ℕ → Type 0
 NoFeed line = (i : ℕ) → i < length line → get_or line i 0 ≢ 10

@@ -1,11 +1,6 @@
 -- What `strip_prefix` at a text and `split_once` at a quote give.
-use Rattle.std.proofs.Common.{◌≡◌, ◌∙◌, sym, ap, subst, ℕ, true, false, List, take, Option, Some, None, MatchOption, arith}
+use Rattle.command_line.proofs.Prelude.{FindsTextPrefix, IsCharBoundary, IsSplitOnceResult, List, MatchOption, None, Option, Some, StripsPrefix, ap, arith, before_quote, false, split_once_first, starts_text, subst, sym, take, take-length, true, word_after, ℕ, ◌∙◌, ◌≡◌}
 use Rattle.std.specs.Borrow.{Bor}
-use Rattle.std.specs.Str.{IsCharBoundary}
-use Rattle.std.specs.Str.Pattern.{FindsTextPrefix, StripsPrefix}
-use Rattle.std.proofs.Math.Seq.{take-length}
-use Rattle.std.proofs.lemmas.Str.Pattern.{IsSplitOnceResult, split_once_first, starts_text}
-use Rattle.command_line.specs.Prelude.{before_quote, word_after}
 
 pub no_word : (beginning text : List ℕ) → FindsTextPrefix beginning text None → word_after beginning text ≡ None
 no_word beginning text none = rw (← starts_text false beginning text none)

@@ -1,8 +1,6 @@
 -- What envsubst does by its arguments.
-use Rattle.std.proofs.Common.{◌≡◌, ℕ, List, Option, Result, option_map, subst}
-use Rattle.std.specs.Borrow.{Bor}
-use Rattle.runs.specs.declared.tool_fault.ToolFault.{ToolFault}
-use Rattle.envsubst.specs.Prelude.{EndsAs, names_in, names_given, pairs_in, values_of, values_of_slices, variables_of, RunsEnvsubst}
+use Rattle.envsubst.proofs.Prelude.{Bor, EndsAs, List, Option, Result, RunsEnvsubst, ToolFault, names_given, names_in, pairs_in, subst, values_of, values_of_slices, variables_of, ℕ, ◌≡◌}
+use Rattle.std.proofs.Common.{option_map}
 use Rattle.envsubst.specs.ByArguments.{substituted}
 use Rattle.envsubst.specs.Arguments.{replaced}
 

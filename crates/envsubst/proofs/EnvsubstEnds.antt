@@ -1,9 +1,5 @@
 -- What a run of envsubst has written is what its text becomes, or after a fault a beginning of it.
-use Rattle.std.proofs.Common.{◌≡◌, inl, inr, ℕ, List, ◌++◌, Option, Some, None, Ok, Err, refl, sym, ap, ◌∙◌, subst, take, drop, take-append-drop}
-use Rattle.std.specs.Io.KnownBytes.{Appends}
-use Rattle.runs.specs.declared.tool_fault.ToolFault.{ToolFault}
-use Rattle.runs.specs.declared.tool_fault.ToolFault.TheVariants.{ReadFault, WriteFault, OutOfMemory}
-use Rattle.envsubst.specs.Prelude.{EndsAs, HasGoneOut, StopsWithin, StopsAtEnd, Took, TookAll, TookAllRead, TookBeginning, TookBeginningOfRead, Replaces, Stops, Values, substitution}
+use Rattle.envsubst.proofs.Prelude.{Appends, EndsAs, Err, HasGoneOut, List, None, Ok, Option, OutOfMemory, ReadFault, Replaces, Some, Stops, StopsAtEnd, StopsWithin, Took, TookAll, TookAllRead, TookBeginning, TookBeginningOfRead, ToolFault, Values, WriteFault, ap, drop, inl, inr, refl, subst, substitution, sym, take, take-append-drop, ℕ, ◌++◌, ◌∙◌, ◌≡◌}
 use Rattle.envsubst.proofs.ReplacedReferences.{references_replaced}
 
 replaced : (values : Values) (text result : List ℕ) → result ≡ substitution values text → Replaces values text result

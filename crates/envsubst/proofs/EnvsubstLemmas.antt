@@ -1,13 +1,6 @@
 -- Lemmas on a whole run of envsubst.
-use Rattle.std.proofs.Common.{◌≡◌, ℕ, ◌+◌, ◌<◌, List, [], ◌++◌, length, take, Option, Some, None, refl, sym, ap, subst, ◌∙◌, append-nil, append_assoc, drop, take-append-drop, ◌≤◌, ◌-◌, arith, inl, inr, Result, Ok, Err, OnOk, OnErr, IfSome, length-append}
-use Rattle.std.proofs.KnownBytes.{Appends-nil, Appends-trans, Consumes-nil, Consumes-trans, Consumes-kept}
+use Rattle.envsubst.proofs.Prelude.{Advances, Appends, Appends-nil, Appends-trans, AppendsPrefix, Consumes, Consumes-kept, Consumes-nil, Consumes-trans, EndsAs, Err, HasGoneOut, IfSome, IsAtEnd, Keeps, List, None, Ok, OnErr, OnOk, Option, OutOfMemory, ReadFault, Result, Some, Stops, StopsAtEnd, StopsWithin, Substitutes, ToolFault, Values, WriteFault, [], ap, append-nil, append_assoc, arith, drop, inl, inr, length, length-append, refl, subst, substitution, sym, take, take-append-drop, take_all, values_of, ℕ, ◌++◌, ◌+◌, ◌-◌, ◌<◌, ◌∙◌, ◌≡◌, ◌≤◌}
 use Rattle.std.proofs.Math.Seq.{take-add, take-append-add}
-use Rattle.std.proofs.lemmas.List.{take_all}
-use Rattle.std.specs.Io.KnownBytes.{Appends, Consumes, Keeps, IsAtEnd}
-use Rattle.runs.specs.declared.tool_fault.ToolFault.{ToolFault}
-use Rattle.runs.specs.declared.tool_fault.ToolFault.TheVariants.{ReadFault, WriteFault, OutOfMemory}
-use Rattle.runs.specs.Prelude.{AppendsPrefix}
-use Rattle.envsubst.specs.Prelude.{EndsAs, HasGoneOut, Substitutes, StopsAtEnd, StopsWithin, Advances, Stops, Values, values_of, substitution}
 use Rattle.envsubst.proofs.StreamLemmas.{Advances-none, Advances-trans, Advances-more, Stops-after}
 
 -- the bytes that were read have come out, but for those that are held

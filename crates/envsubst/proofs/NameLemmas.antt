@@ -1,13 +1,5 @@
 -- Lemmas on the names of the references in a text.
-use Rattle.std.proofs.Common.{◌≡◌, ℕ, ◌+◌, ◌<◌, ◌≤◌, eqb, inl, inr, List, [], ◌∷◌, length, drop, None, refl, sym, ap, ◌∙◌, arith}
-use Rattle.std.specs.List.{position_or_len, cons_option}
-use Rattle.std.specs.Option.{option_map}
-use Rattle.std.proofs.lemmas.Bool.{cond-false, cases_Bool}
-use Rattle.std.proofs.lemmas.List.{drop_all}
-use Rattle.memchr.specs.Find.{is_byte}
-use Rattle.locale_names.proofs.SearchLemmas.{byte-here, byte-later}
-use Rattle.envsubst.specs.Prelude.{reference_after, names_in}
-use Rattle.locale_names.proofs.SearchLemmas.{byte-next}
+use Rattle.envsubst.proofs.Prelude.{List, None, [], ap, arith, byte-here, byte-later, byte-next, cases_Bool, cond-false, cons_option, drop, drop_all, eqb, inl, inr, is_byte, length, names_in, option_map, position_or_len, reference_after, refl, sym, ℕ, ◌+◌, ◌<◌, ◌∙◌, ◌∷◌, ◌≡◌, ◌≤◌}
 
 -- no name begins before the first `$`
 names-prefix : (bs : List ℕ) → names_in bs ≡ names_in (drop (position_or_len (is_byte 36) bs) bs)

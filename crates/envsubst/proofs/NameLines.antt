@@ -1,8 +1,5 @@
 -- Names that are written one a line.
-use Rattle.std.proofs.Common.{◌≡◌, ℕ, ◌+◌, ◌<◌, ◌≤◌, List, [], ◌∷◌, ◌++◌, length, map, drop, get_or, sym, ap, ◌∙◌, append-nil, append_assoc, drop_of_length-le}
-use Rattle.std.proofs.lemmas.List.{drop_more}
-use Rattle.std.specs.Borrow.{Bor}
-use Rattle.std.specs.List.{flat_map}
+use Rattle.envsubst.proofs.Prelude.{Bor, List, [], ap, append-nil, append_assoc, drop, drop_more, drop_of_length-le, flat_map, get_or, length, map, sym, ℕ, ◌++◌, ◌+◌, ◌<◌, ◌∙◌, ◌∷◌, ◌≡◌, ◌≤◌}
 
 abbrev pub lines_of : List (Bor (List ℕ)) → List ℕ
 lines_of names = flat_map (λ name. name ++ 10 ∷ []) (map (λ name. name.now) names)

@@ -1,9 +1,5 @@
 -- A text without references stays as it is.
-use Rattle.std.proofs.Common.{◌≡◌, ℕ, Bool, true, false, eqb, cond, ◌⊎◌, inl, inr, List, [], ◌∷◌, Option, Some, None, refl, sym, ap, ◌∙◌, subst}
-use Rattle.std.specs.List.{cons_option}
-use Rattle.std.specs.Option.{option_map}
-use Rattle.std.proofs.lemmas.Bool.{cases_Bool, cond-true, cond-false, eqb-true}
-use Rattle.envsubst.specs.Prelude.{Reference, names_in, reference_after, Values, replacement_of, substitution, substitution_after}
+use Rattle.envsubst.proofs.Prelude.{List, None, Option, Reference, Some, Values, [], ap, cases_Bool, cond, cond-true, cons_option, eqb, eqb-true, inl, inr, names_in, option_map, reference_after, refl, replacement_of, subst, substitution, substitution_after, sym, ℕ, ◌∙◌, ◌∷◌, ◌≡◌}
 use Rattle.envsubst.proofs.SubstitutionLemmas.{plain, not-replaced}
 
 neither : {X : Type 0} (o : Option X) (l : List X) → cons_option o l ≡ [] → (o ≡ None) × (l ≡ [])

@@ -1,12 +1,5 @@
 -- Lemmas on names and references: what the byte after a begun reference makes of it.
-use Rattle.std.proofs.Common.{◌≡◌, ℕ, zero, suc, ◌+◌, ◌<◌, ◌≤◌, Bool, true, false, ◌&&◌, eqb, ltb, ◌⊎◌, inl, inr, List, [], ◌∷◌, ◌++◌, length, take, drop, Some, None, refl, sym, ap, ◌∙◌, append-nil, length-append, arith}
-use Rattle.std.specs.List.{list_all}
-use Rattle.std.proofs.lemmas.Bool.{and_parts, and_from, and_left, and_right, cond-true, cond-false, cond_both, both_ways, lt-ltb, le-ltb, ne_eqb, eqb-true, cases_Bool, false≢true, ltb-true}
-use Rattle.std.proofs.lemmas.Bool.Decides.{nat_tests}
-use Rattle.std.proofs.lemmas.List.{drop_at, drop-drop}
-use Rattle.std.proofs.lemmas.List.Sums.{take_while-cons}
-use Rattle.envsubst.specs.Prelude.{is_letter, is_name_byte, is_name, name_prefix, begins_with, bare_reference, braced_reference, reference_after, is_begun_name, is_undecided_after, is_undecided}
-use Rattle.envsubst.specs.Internal.Holding.{after_dollar}
+use Rattle.envsubst.proofs.Prelude.{Bool, List, None, Some, [], after_dollar, and_from, and_left, and_parts, and_right, ap, append-nil, arith, bare_reference, begins_with, both_ways, braced_reference, cases_Bool, cond-false, cond-true, cond_both, drop, drop-drop, drop_at, eqb, eqb-true, false, false≢true, inl, inr, is_begun_name, is_letter, is_name, is_name_byte, is_undecided, is_undecided_after, le-ltb, length, length-append, list_all, lt-ltb, ltb, ltb-true, name_prefix, nat_tests, ne_eqb, reference_after, refl, suc, sym, take, take_while-cons, true, zero, ℕ, ◌&&◌, ◌++◌, ◌+◌, ◌<◌, ◌∙◌, ◌∷◌, ◌≡◌, ◌≤◌, ◌⊎◌}
 
 -- neither `$` nor a brace is a name byte
 pub dollar-no_name : is_name_byte 36 ≡ false

@@ -1,12 +1,6 @@
 -- The substitution of a text is the text with its references replaced.
-use Rattle.std.proofs.Common.{◌≡◌, inl, inr, refl, sym, ap, ◌∙◌, subst, ℕ, zero, suc, false, ◌==◌, if◌then◌else◌, eqb, List, [], ◌∷◌, ◌++◌, drop, Option, Some, None}
-use Rattle.std.specs.Prelude.{◌↔◌}
-use Rattle.std.specs.List.{cons_option}
-use Rattle.std.specs.Option.{option_map}
-use Rattle.std.proofs.lemmas.Bool.{cases_Bool, cond_both, cond-false, eqb-true, eqb-false}
-use Rattle.std.proofs.lemmas.Option.{none-some}
-use Rattle.envsubst.specs.Prelude.{Reference, reference_after, names_in, Values, Replacement, replacement_of, substituted, substitution_after, substitution, SpellsReference, BeginsNoReplaced, Replaces, HoldsNames}
-use Rattle.envsubst.specs.Laws.{nothing, copied, replaced, no_text, no_reference, reference}
+use Rattle.envsubst.proofs.Prelude.{BeginsNoReplaced, HoldsNames, List, None, Option, Reference, Replacement, Replaces, Some, SpellsReference, Values, [], ap, cases_Bool, cond-false, cond_both, cons_option, copied, drop, eqb, eqb-false, eqb-true, false, if◌then◌else◌, inl, inr, names_in, no_reference, no_text, none-some, nothing, option_map, reference, reference_after, refl, replacement_of, subst, substituted, substitution, substitution_after, suc, sym, zero, ℕ, ◌++◌, ◌==◌, ◌↔◌, ◌∙◌, ◌∷◌, ◌≡◌}
+use Rattle.envsubst.specs.Laws.{replaced}
 use Rattle.envsubst.proofs.SpeltReferences.{reference_read, reference_spelt}
 use Rattle.envsubst.proofs.SubstitutionLemmas.{plain, not-replaced, replacement-some, replaced as is-replaced}
 

@@ -1,26 +1,15 @@
 -- Variables and names that are sorted: the same values, found by binary search.
-use Rattle.std.proofs.Common.{◌≡◌, ◌∙◌, refl, sym, ap, ap₂, inl, inr, ℕ, zero, suc, ◌+◌, ◌<◌, ◌≤◌, Bool, true, false, not, ◌&&◌, cond, List, [], ◌∷◌, length, drop, map, filter, get_or, Option, Some, None, option_map, IsPermutation, subst, arith}
+use Rattle.envsubst.proofs.Prelude.{All-from_get_or, AreNamesSorted, AreVariablesSorted, Bool, Bor, IsAllAdjacentAnswer, IsPermutation, List, None, Option, Some, [], ap, ap₂, arith, bytes_eq, cases_lt, cond, cond-false, cond-true, cond_both, drop, drop_all, false, filter, get_or, inl, inr, is_eq, is_ge, is_lt, is_replaced, length, list_any, list_any-IsPermutation, list_any_at, list_any_none, map, name_cmp, names_given, nat_list_cmp_total, not, ordering_index, ordering_reverse, pairs_in, refl, searchable_from_sorted, subst, suc, sym, true, value_of, values_of, zero, ℕ, ◌&&◌, ◌+◌, ◌<◌, ◌∙◌, ◌∷◌, ◌≡◌, ◌≤◌}
+use Rattle.std.proofs.Common.{option_map}
 use Rattle.std.proofs.Math.Path.{fun_ext}
-use Rattle.std.specs.Borrow.{Bor}
 use Rattle.std.specs.Global.{Vec}
-use Rattle.std.specs.List.{IsAllAdjacentAnswer, list_any}
 use Rattle.std.specs.List.Sorted.{IsStableBy, IsPartitionedBy, IsPartitionPoint, IsBinarySearchResult, IsSearchInRange, ties}
-use Rattle.std.specs.Ordering.{is_lt, is_eq, is_ge, ordering_index, ordering_reverse}
 use Rattle.std.specs.Result.{is_ok}
 use Rattle.std.specs.declared.result.Result.{Result}
 use Rattle.std.specs.declared.result.Result.TheVariants.{Ok, Err}
-use Rattle.std.specs.Str.{bytes_eq}
 use Rattle.std.specs.declared.cmp.Ordering.{Ordering}
 use Rattle.std.specs.declared.cmp.Ordering.TheVariants.{Less, Equal, Greater}
-use Rattle.std.proofs.lemmas.Bool.{cases_lt, cond_both, cond-true, cond-false}
-use Rattle.std.proofs.lemmas.Cmp.{nat_list_cmp_total}
-use Rattle.std.proofs.lemmas.List.{drop_all}
-use Rattle.std.proofs.lemmas.List.Elements.{All-from_get_or}
-use Rattle.std.proofs.lemmas.List.Folds.{list_any_at, list_any_none}
-use Rattle.std.proofs.lemmas.List.Sorted.{searchable_from_sorted, list_any-IsPermutation}
 use Rattle.std.proofs.lemmas.Map.Text.{is_eq-slice_cmp}
-use Rattle.envsubst.specs.Internal.Sorted.{name_cmp, AreNamesSorted, AreVariablesSorted}
-use Rattle.envsubst.specs.Prelude.{value_of, is_replaced, names_given, values_of, pairs_in}
 use Rattle.envsubst.proofs.VariableLemmas.{value_of-next, list_any-map}
 
 abbrev pub Name : Type 0

@@ -1,13 +1,6 @@
 -- Each reference is read where it is spelt, and what is read as one is spelt.
-use Rattle.std.proofs.Common.{◌≡◌, refl, sym, ap, ◌∙◌, subst, ℕ, suc, ◌+◌, true, ◌&&◌, List, [], ◌∷◌, ◌++◌, length, drop, All, Option, Some, None, arith}
+use Rattle.envsubst.proofs.Prelude.{All, Decides-by_and, IsInName, IsName, List, NoNameGoesOn, None, Option, Reference, Some, SpellsReference, [], and_from, and_parts, ap, arith, bare, bare_reference, begins_with, both_ways, braced, braced_reference, cond_both, drop, drop-drop, drop_at, eqb-true, false_from_ne_true, false≢true, is_begun_name, is_letter, is_name, is_name_byte, length, list_all, lt-ltb, ltb-true, name_prefix, reference_after, refl, subst, suc, sym, take_while-cons, true, ℕ, ◌&&◌, ◌++◌, ◌+◌, ◌∙◌, ◌∷◌, ◌≡◌}
 use Rattle.std.specs.Bool.{Decides}
-use Rattle.std.specs.List.{list_all}
-use Rattle.std.proofs.lemmas.Bool.Decides.{Decides-by_and}
-use Rattle.std.proofs.lemmas.Bool.{and_parts, and_from, cond_both, eqb-true, ltb-true, lt-ltb, both_ways, false_from_ne_true, false≢true}
-use Rattle.std.proofs.lemmas.List.{drop_at, drop-drop}
-use Rattle.std.proofs.lemmas.List.Sums.{take_while-cons}
-use Rattle.envsubst.specs.Prelude.{Reference, is_letter, is_name_byte, is_name, name_prefix, begins_with, bare_reference, braced_reference, reference_after, is_begun_name, IsInName, IsName, NoNameGoesOn, SpellsReference}
-use Rattle.envsubst.specs.Laws.{bare, braced}
 use Rattle.envsubst.proofs.ReferenceLemmas.{ends, closes, ending-some, after-closed, letter-name_byte}
 
 all_decides : (bytes : List ℕ) → Decides (list_all is_name_byte bytes) (All IsInName bytes)

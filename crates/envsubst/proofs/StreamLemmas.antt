@@ -1,12 +1,5 @@
 -- Lemmas on substitution piece by piece.
-use Rattle.std.proofs.Common.{◌≡◌, ℕ, ◌+◌, ◌-◌, ◌<◌, ◌≤◌, List, [], ◌∷◌, ◌++◌, length, take, drop, get_or, Option, refl, sym, ap, subst, ◌∙◌, append_assoc, take-append-drop, arith}
-use Rattle.std.specs.List.{position_or_len}
-use Rattle.std.proofs.lemmas.List.{drop-append-le, drop-drop, drop_more, take_rest}
-use Rattle.std.proofs.KnownBytes.{Appends-nil, Appends-trans}
-use Rattle.memchr.specs.Find.{is_byte}
-use Rattle.runs.specs.Prelude.{AppendsPrefix}
-use Rattle.envsubst.specs.Prelude.{Values, substitution, Advances, Stops, FeedCall, AreFeedCalls, pieces_of, written_in, held_after, FeedCallsAgree}
-use Rattle.locale_names.proofs.SearchLemmas.{byte-at}
+use Rattle.envsubst.proofs.Prelude.{Advances, Appends-nil, Appends-trans, AppendsPrefix, AreFeedCalls, FeedCall, FeedCallsAgree, List, Option, Stops, Values, [], ap, append_assoc, arith, byte-at, drop, drop-append-le, drop-drop, drop_more, get_or, held_after, is_byte, length, pieces_of, position_or_len, refl, subst, substitution, sym, take, take-append-drop, take_rest, written_in, ℕ, ◌++◌, ◌+◌, ◌-◌, ◌<◌, ◌∙◌, ◌∷◌, ◌≡◌, ◌≤◌}
 use Rattle.envsubst.proofs.SubstitutionLemmas.{plain-prefix}
 
 pub Advances-none : (values : Values) (text held : List ℕ) (old : Option (List ℕ)) → text ≡ held

@@ -1,17 +1,8 @@
 -- Lemmas on texts with their references replaced.
-use Rattle.std.proofs.Common.{◌≡◌, ℕ, zero, suc, ◌+◌, ◌≤◌, Bool, true, false, eqb, ◌⊎◌, inl, inr, List, [], ◌∷◌, ◌++◌, length, drop, take, Option, Some, None, refl, sym, ap, ◌∙◌, append-nil, arith}
-use Rattle.std.specs.List.{list_all, position_or_len}
-use Rattle.std.specs.Option.{option_map}
-use Rattle.std.proofs.lemmas.Bool.{and_parts, cond-false, cases_Bool, true≢false, false≢true}
-use Rattle.std.proofs.lemmas.List.{drop_at}
-use Rattle.memchr.specs.Find.{is_byte}
-use Rattle.locale_names.proofs.SearchLemmas.{byte-here, byte-later}
-use Rattle.envsubst.specs.Prelude.{is_name_byte, reference_after, Values, Replacement, replacement_of, substituted, substitution_after, substitution, is_begun_name}
-use Rattle.std.specs.Borrow.{Bor}
+use Rattle.envsubst.proofs.Prelude.{Bool, Bor, ComesOut, Decides, Ending, List, None, Option, Replacement, ReplacesName, Some, Values, [], after_dollar, and_parts, ap, append-nil, arith, byte-here, byte-later, cases_Bool, cond-false, drop, drop_at, eqb, false, false≢true, inl, inr, is_begun_name, is_byte, is_name_byte, length, list_all, option_map, position_or_len, reference_after, refl, replacement_of, substituted, substitution, substitution_after, suc, sym, take, true, true≢false, zero, ℕ, ◌++◌, ◌+◌, ◌∙◌, ◌∷◌, ◌≡◌, ◌≤◌, ◌⊎◌}
 use Rattle.envsubst.specs.declared.holding.Decision.TheVariants.{Ends, Closes, Copies}
 use Rattle.envsubst.specs.declared.holding.Effect.{Effect}
 use Rattle.envsubst.specs.declared.holding.Effect.TheVariants.{Held, Copied, Replaced}
-use Rattle.envsubst.specs.Internal.Holding.{after_dollar, Decides, ComesOut, ReplacesName, Ending}
 use Rattle.envsubst.proofs.ReferenceLemmas.{name_byte-not, begun-bytes, dollar-no_name, ending-none, ending-some, after-closed}
 
 -- skipped bytes leave the text after them

@@ -1,10 +1,5 @@
 -- Lemmas on variables that slices of slices hold.
-use Rattle.std.proofs.Common.{◌≡◌, ℕ, ◌+◌, ◌<◌, Bool, cond, ◌||◌, List, [], ◌∷◌, length, drop, map, get_or, refl, ap}
-use Rattle.std.specs.Borrow.{Bor}
-use Rattle.std.specs.List.{list_any}
-use Rattle.std.specs.Str.{bytes_eq}
-use Rattle.std.proofs.lemmas.List.{drop_more}
-use Rattle.envsubst.specs.Prelude.{value_of, pairs_in}
+use Rattle.envsubst.proofs.Prelude.{Bool, Bor, List, [], ap, bytes_eq, cond, drop, drop_more, get_or, length, list_any, map, pairs_in, refl, value_of, ℕ, ◌+◌, ◌<◌, ◌||◌, ◌∷◌, ◌≡◌}
 
 -- the variable at an index, and those after it
 pub value_of-next : (vars : List (Bor (List ℕ) × Bor (List ℕ))) (name : List ℕ) (i : ℕ)

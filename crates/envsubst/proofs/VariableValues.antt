@@ -1,16 +1,7 @@
 -- What references to a name become is the value that the variables give it, if the name is
 -- replaced.
-use Rattle.std.proofs.Common.{◌≡◌, ◌≢◌, ◌∙◌, refl, ap, subst, ℕ, true, List, [], ◌∷◌, ◌++◌, All, Option, Some, None}
-use Rattle.std.specs.Prelude.{◌↔◌, Contains}
-use Rattle.std.specs.Str.{bytes_eq}
-use Rattle.std.proofs.lemmas.Bool.{cond_both, cond-true, cond-false, false_from_ne_true}
-use Rattle.std.proofs.lemmas.Bool.Decides.{not_from_Decides}
-use Rattle.std.proofs.lemmas.List.Elements.{All-nil, All-cons, All-head, All-tail}
-use Rattle.std.proofs.lemmas.List.Folds.{Any-from_list_any, list_any-from_Any}
+use Rattle.envsubst.proofs.Prelude.{All, All-cons, All-head, All-nil, All-tail, Any-from_list_any, Contains, HasValue, IsReplaced, List, None, Option, Some, [], ap, bytes_eq, cond-false, cond-true, cond_both, false_from_ne_true, is_replaced, list_any-from_Any, none-some, not_from_Decides, refl, set, subst, true, unset, value_of, values_of, ℕ, ◌++◌, ◌↔◌, ◌∙◌, ◌∷◌, ◌≡◌, ◌≢◌}
 use Rattle.std.proofs.lemmas.Slice.Eq.{bytes_eq-Decides}
-use Rattle.std.proofs.lemmas.Option.{none-some}
-use Rattle.envsubst.specs.Prelude.{value_of, is_replaced, values_of, HasValue, IsReplaced}
-use Rattle.envsubst.specs.Laws.{unset, set}
 
 abbrev Variable : Type 0
 Variable = List ℕ × List ℕ

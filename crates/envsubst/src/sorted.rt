@@ -1,7 +1,5 @@
 //! Variables and names that are sorted, and so found by binary search.
-ghost use Rattle.std.specs.Prelude.{◌≡◌, ℕ, List, map, option_map, true, IfOk, IfSome};
-ghost use Rattle.std.specs.List.{list_any};
-ghost use Rattle.std.specs.Str.{bytes_eq};
+ghost use Rattle.std.specs.Prelude.{◌≡◌, ℕ, List, map, option_map, IfOk, IfSome};
 ghost use Rattle.envsubst.specs.Internal.Sorted.{AreNamesSorted, AreVariablesSorted};
 ghost use Rattle.envsubst.specs.Prelude.{is_replaced, names_given, pairs_in, value_of};
 

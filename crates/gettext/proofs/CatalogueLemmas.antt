@@ -1,10 +1,6 @@
 -- The catalogues of some paths, and those of the paths after them.
-use Rattle.std.proofs.Common.{◌≡◌, ◌+◌, ◌<◌, ◌≤◌, ℕ, List, [], ◌∷◌, ◌++◌, Option, None, Some, inl, inr, map, drop, get_or, length, drop_of_length-le, append-nil, append_assoc, ap, subst}
-use Rattle.std.proofs.lemmas.List.{drop_more}
-use Rattle.std.specs.Global.{Vec}
-use Rattle.gettext.specs.Prelude.{AreCatalogues, AsksAt, AsksPaths, IsCatalogueAt}
+use Rattle.gettext.proofs.Prelude.{AreCatalogues, Asked, AsksAt, AsksPaths, IsCatalogueAt, List, NamedFile, None, Option, Reading, Some, Stays, Vec, [], ap, append-nil, append_assoc, drop, drop_more, drop_of_length-le, get_or, inl, inr, length, map, subst, ℕ, ◌++◌, ◌+◌, ◌<◌, ◌∷◌, ◌≡◌, ◌≤◌}
 use Rattle.gettext.specs.Catalogues.{done, found, none, next, skipped}
-use Rattle.runs.specs.Prelude.{Asked, Reading, Stays, NamedFile}
 
 abbrev pub path_texts : List (Vec ℕ) → List (List ℕ)
 path_texts paths = map (λ path. path.items) paths

@@ -1,13 +1,5 @@
 -- Which variable or argument gives the locale, the folder and the text domain.
-use Rattle.std.proofs.Common.{◌≡◌, ◌⊎◌, ◌∙◌, refl, sym, ap, subst, inl, inr, ℕ, eqb, List, [], length, Option, Some, None}
-use Rattle.std.specs.Prelude.{◌↔◌}
-use Rattle.std.specs.Borrow.{Bor}
-use Rattle.std.specs.Option.{option_copied, option_or}
-use Rattle.std.proofs.lemmas.Bool.{cases_Bool, cond-true, cond-false}
-use Rattle.locale_names.proofs.SearchLemmas.{nil-from_length, some-from_length}
-use Rattle.gettext.specs.declared.candidates.Environment.{Environment}
-use Rattle.gettext.specs.Prelude.{EnvironmentView, environment_view, non_empty, locale_of, domain_of, folder_of, HasText, HasNoText, IsLocale, IsFolder, IsDomain}
-use Rattle.gettext.specs.Candidates.{by_lc_all, by_lc_messages, by_lang, no_locale}
+use Rattle.gettext.proofs.Prelude.{Bor, Environment, EnvironmentView, HasNoText, HasText, IsDomain, IsFolder, IsLocale, List, None, Option, Some, [], ap, by_lang, by_lc_all, by_lc_messages, cases_Bool, cond-false, cond-true, domain_of, environment_view, eqb, folder_of, inl, inr, length, locale_of, nil-from_length, no_locale, non_empty, option_copied, option_or, refl, some-from_length, subst, sym, ℕ, ◌↔◌, ◌∙◌, ◌≡◌, ◌⊎◌}
 use Rattle.gettext.specs.Paths.{by_textdomaindir, of_system, by_argument, by_option, by_textdomain, no_domain}
 
 none_some : (value : List ℕ) → None ≡ Some value → ⊥

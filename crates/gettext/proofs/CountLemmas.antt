@@ -1,13 +1,5 @@
 -- Lemmas on the numbers that decimal digits write.
-use Rattle.std.proofs.Common.{◌≡◌, ℕ, ◌+◌, ◌*◌, ◌<◌, ◌≤◌, ◌^◌, true, false, ◌&&◌, not, eqb, ltb, inl, inr, List, [], ◌∷◌, length, take, get_or, Option, Some, None, unwrap_or, refl, sym, ap, ◌∙◌, arith}
-use Rattle.std.specs.Char.{digit_value, is_digit}
-use Rattle.std.specs.Option.{SomeIff}
-use Rattle.std.specs.Str.Parse.{digits_value}
-use Rattle.std.proofs.lemmas.Bool.{cond-true, cond-false, lt-ltb, ltb-true, le-ltb, ne_eqb, and_parts, cases_Bool}
-use Rattle.std.proofs.lemmas.Int.Digits.{digits_value_more}
-use Rattle.std.proofs.lemmas.List.Folds.{list_all_at, list_all_more}
-use Rattle.std.proofs.lemmas.Str.Parse.{digits_value-take-le}
-use Rattle.gettext.specs.Prelude.{are_digits, is_count, count_in}
+use Rattle.gettext.proofs.Prelude.{List, None, Option, Some, SomeIff, [], and_parts, ap, are_digits, arith, cases_Bool, cond-false, cond-true, count_in, digit_value, digits_value, digits_value-take-le, digits_value_more, eqb, false, get_or, inl, inr, is_count, is_digit, le-ltb, length, list_all_at, list_all_more, lt-ltb, ltb, ltb-true, ne_eqb, not, refl, sym, take, true, unwrap_or, ℕ, ◌&&◌, ◌*◌, ◌+◌, ◌<◌, ◌^◌, ◌∙◌, ◌∷◌, ◌≡◌, ◌≤◌}
 
 -- a byte that is no digit is in no number
 pub other_byte : (text : List ℕ) (i : ℕ) → i < length text → 10 ≤ digit_value (get_or text i 0)

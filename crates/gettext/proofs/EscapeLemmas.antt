@@ -1,14 +1,5 @@
 -- Lemmas on texts with their escapes expanded.
-use Rattle.std.proofs.Common.{◌≡◌, ℕ, zero, suc, ◌+◌, ◌<◌, Bool, true, false, ◌||◌, cond, eqb, min, inl, inr, List, [], ◌∷◌, ◌++◌, append_assoc, append-nil, length, get_or, drop, take, Option, Some, None, is_none, refl, sym, ap, subst, ◌∙◌, arith}
-use Rattle.std.specs.List.{position_or_len, prefix_len, filter_map, list_any}
-use Rattle.std.proofs.Math.Bool.{or-false, or-true}
-use Rattle.std.proofs.lemmas.Bool.{cond-false, cases_Bool}
-use Rattle.std.proofs.lemmas.List.{drop_all, take_min}
-use Rattle.memchr.specs.Find.{is_byte}
-use Rattle.locale_names.proofs.SearchLemmas.{byte-here, byte-later}
-use Rattle.gettext.specs.declared.escape.Escape.{Escape}
-use Rattle.gettext.specs.Prelude.{is_octal, octal_prefix, octal_value, letter_escape, escape_after, given_bytes, given_bytes_after, expansion, has_no_newline}
-use Rattle.locale_names.proofs.SearchLemmas.{byte-at}
+use Rattle.gettext.proofs.Prelude.{Bool, Escape, List, None, Option, Some, [], ap, append-nil, append_assoc, arith, byte-at, byte-here, byte-later, cases_Bool, cond, cond-false, drop, drop_all, eqb, escape_after, expansion, false, filter_map, get_or, given_bytes, given_bytes_after, has_no_newline, inl, inr, is_byte, is_none, is_octal, length, letter_escape, list_any, min, octal_prefix, octal_value, or-false, or-true, position_or_len, prefix_len, refl, subst, suc, sym, take, take_min, true, zero, ℕ, ◌++◌, ◌+◌, ◌<◌, ◌||◌, ◌∙◌, ◌∷◌, ◌≡◌}
 
 -- skipped bytes leave the text after them
 given_bytes-skipped : (n : ℕ) (bs : List ℕ) → given_bytes_after n bs ≡ given_bytes_after 0 (drop n bs)

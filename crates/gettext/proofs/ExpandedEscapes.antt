@@ -1,12 +1,6 @@
 -- The expansion of a text is the text with its escapes expanded.
-use Rattle.std.proofs.Common.{◌≡◌, refl, sym, ap, ◌∙◌, subst, ℕ, zero, suc, Bool, eqb, List, [], ◌∷◌, drop, Option, Some, None, is_none}
-use Rattle.std.specs.Prelude.{◌↔◌}
-use Rattle.std.specs.List.{filter_map, list_any}
-use Rattle.std.proofs.lemmas.Bool.{cond_both, eqb-true, eqb-false, ne_eqb}
+use Rattle.gettext.proofs.Prelude.{Bool, Escape, Expands, IsNoEscape, List, None, Option, Some, SpellsByte, [], ap, cond_both, drop, eqb, eqb-false, eqb-true, escape, escape_after, expansion, filter_map, given_bytes, given_bytes_after, has_no_newline, is_none, list_any, ne_eqb, no_newline, nothing, plain, refl, stays, subst, suc, sym, zero, ℕ, ◌↔◌, ◌∙◌, ◌∷◌, ◌≡◌}
 use Rattle.std.proofs.lemmas.Option.{none-some}
-use Rattle.gettext.specs.declared.escape.Escape.{Escape}
-use Rattle.gettext.specs.Prelude.{escape_after, given_bytes, given_bytes_after, expansion, has_no_newline, SpellsByte, IsNoEscape, Expands}
-use Rattle.gettext.specs.Escape.{nothing, plain, escape, no_newline, stays}
 use Rattle.gettext.proofs.EscapeLemmas.{given_bytes-plain, given_bytes-stays, given_bytes-escape}
 use Rattle.gettext.proofs.SpeltEscapes.{byte_read, c_read, ByteSays, escape_spelt}
 

@@ -1,14 +1,9 @@
 -- The files that are left to open, how many catalogues a chain has, and the answers to the arguments.
-use Rattle.std.proofs.Common.{◌≡◌, ◌≤◌, ◌<◌, ◌+◌, ◌||◌, ℕ, Bool, false, List, [], ◌∷◌, ◌++◌, drop, get_or, map, length, flat_map, sym, ap, ◌∙◌, append_assoc, append-nil, drop_of_length-le, arith}
-use Rattle.std.proofs.Math.Bool.{or-false}
-use Rattle.std.proofs.lemmas.List.{drop_more, length-map}
-use Rattle.std.specs.Borrow.{Bor}
-use Rattle.std.specs.List.{join_with_byte, list_any}
+use Rattle.gettext.proofs.Prelude.{Bool, Bor, List, NamedFile, Opens, [], ap, append-nil, append_assoc, arith, drop, drop_more, drop_of_length-le, false, get_or, join_with_byte, length, length-map, list_any, map, named_file, named_files, opened, or-false, refused, sym, ℕ, ◌++◌, ◌+◌, ◌<◌, ◌||◌, ◌∙◌, ◌∷◌, ◌≡◌, ◌≤◌}
+use Rattle.std.proofs.Common.{flat_map}
 use Rattle.mo_lookup.specs.Prelude.{CatalogView}
 use Rattle.gettext.specs.declared.plan.Opened.{Opened}
-use Rattle.gettext.specs.Prelude.{Opens}
-use Rattle.gettext.specs.Plan.{none, opened, refused}
-use Rattle.runs.specs.Prelude.{NamedFile, named_file, named_files}
+use Rattle.gettext.specs.Plan.{none}
 use Rattle.gettext.specs.Internal.Plan.{OpensFile}
 
 -- whatever the files from i on add completes what the files before made

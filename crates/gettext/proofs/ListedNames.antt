@@ -1,23 +1,6 @@
 -- The languages that are asked for, and the candidates of an environment.
-use Rattle.std.proofs.Common.{◌≡◌, ◌∙◌, refl, sym, ap, subst, inl, inr, ℕ, Bool, true, false, not, ◌||◌, cond, eqb, List, [], ◌∷◌, length, filter, All, unwrap_or}
-use Rattle.std.specs.Prelude.{◌↔◌, codes, take_while}
-use Rattle.std.specs.List.{list_any, flat_map, slice_split, onto_first, join_with_byte}
-use Rattle.std.specs.Str.{bytes_eq}
-use Rattle.std.specs.Bool.{Decides}
-use Rattle.std.proofs.Math.Bool.{or-true}
-use Rattle.std.proofs.lemmas.Bool.{cases_Bool, cond-false, false_from_ne_true, ne_eqb, eqb-false}
-use Rattle.std.proofs.lemmas.Bool.Decides.{Decides-and, Decides-by_and, Decides-eqb, Decides-not, Decides-or, not_from_Decides}
-use Rattle.std.proofs.lemmas.List.Elements.{All-nil, All-cons, All-head, All-tail, All-weaker}
+use Rattle.gettext.proofs.Prelude.{All, All-cons, All-head, All-nil, All-tail, All-weaker, AreCandidates, AreLanguages, Bool, CanStandInPath, Count, Decides, Decides-and, Decides-by_and, Decides-eqb, Decides-not, Decides-or, Environment, FirstPlaces, IsCLocale, Lacks, List, Lists, [], ap, bytes_eq, bytes_eq-Decides, candidates, candidates_of, candidates_of_name, cases_Bool, codes, cond, cond-false, counts, distinct, ends, environment_view, eqb, eqb-false, false, false_from_ne_true, filter, flat_map, inl, inr, is_byte, is_c_locale, is_path_part, join_with_byte, language_parts, languages, length, list_any, locale_of, ne_eqb, nil-from_length, no_part, no_path, non_empty, not, not_from_Decides, of_language, omitted, onto_first, or-true, refl, slice_split, subst, sym, take_while, take_while-cons, the_locale, true, untranslated, unwrap_or, ℕ, ◌||◌, ◌↔◌, ◌∙◌, ◌∷◌, ◌≡◌}
 use Rattle.std.proofs.lemmas.List.Splits.{join_with_byte-slice_split, slice_split_none, slice_split_at, slice_split-cons_yes, slice_split-cons_no}
-use Rattle.std.proofs.lemmas.List.Sums.{take_while-cons}
-use Rattle.std.proofs.lemmas.Slice.Eq.{bytes_eq-Decides}
-use Rattle.memchr.specs.Find.{is_byte}
-use Rattle.locale_names.specs.Prelude.{candidates, candidates_of_name, is_path_part, is_c_locale, language_parts, languages}
-use Rattle.locale_names.proofs.SearchLemmas.{nil-from_length}
-use Rattle.gettext.specs.declared.candidates.Environment.{Environment}
-use Rattle.mo_file.specs.Prelude.{Lacks}
-use Rattle.gettext.specs.Prelude.{environment_view, non_empty, locale_of, candidates_of, distinct, IsCLocale, CanStandInPath, Count, Lists, AreLanguages, FirstPlaces, AreCandidates}
-use Rattle.gettext.specs.Candidates.{no_part, ends, omitted, counts, untranslated, no_path, the_locale, of_language}
 use Rattle.gettext.proofs.ChoiceLemmas.{says, from_text, from_no_text, locale_chosen}
 use Rattle.gettext.proofs.NameParts.{have_five, are_five}
 use Rattle.gettext.proofs.NamesOnce.{places_of, are_places, neither}

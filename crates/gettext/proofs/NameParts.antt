@@ -1,16 +1,6 @@
 -- The parts of a locale's name, and the names that it is asked for by.
-use Rattle.std.proofs.Common.{◌≡◌, ◌∙◌, refl, sym, ap, subst, inl, inr, ℕ, suc, eqb, List, [], ◌∷◌, ◌++◌, length, take, drop}
-use Rattle.std.specs.List.{position_or_len, flat_map}
+use Rattle.gettext.proofs.Prelude.{All-cons, All-head, All-nil, All-tail, HasFive, HaveFive, IsEmptyOrBegins, Lacks, List, [], ap, before, byte-here, byte-later, candidates_of_name, cases_Bool, drop, eq-eqb, eqb, eqb-false, eqb-true, five, flat_map, from_first, inl, inr, is_byte, length, ne_eqb, next_name, no_name, position_or_len, refl, subst, suc, sym, take, take-append-drop, ℕ, ◌++◌, ◌∙◌, ◌∷◌, ◌≡◌}
 use Rattle.std.proofs.Math.Seq.{take-append_seam, drop-append_seam}
-use Rattle.std.proofs.lemmas.Bool.{cases_Bool, eqb-true, eqb-false, eq-eqb, ne_eqb}
-use Rattle.std.proofs.lemmas.List.{take-append-drop}
-use Rattle.std.proofs.lemmas.List.Elements.{All-nil, All-cons, All-head, All-tail}
-use Rattle.memchr.specs.Find.{is_byte}
-use Rattle.locale_names.specs.Prelude.{before, from_first, candidates_of_name}
-use Rattle.locale_names.proofs.SearchLemmas.{byte-here, byte-later}
-use Rattle.mo_file.specs.Prelude.{Lacks}
-use Rattle.gettext.specs.Prelude.{IsEmptyOrBegins, HasFive, HaveFive}
-use Rattle.gettext.specs.Candidates.{five, no_name, next_name}
 
 -- a text is cut at the first such byte
 lacks : (a : ℕ) (text : List ℕ) → Lacks a (before a text)

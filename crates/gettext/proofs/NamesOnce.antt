@@ -1,15 +1,5 @@
 -- Each name stands at its first place alone.
-use Rattle.std.proofs.Common.{◌≡◌, ◌∙◌, refl, sym, ap, subst, inl, inr, ℕ, Bool, true, false, not, ◌||◌, ◌&&◌, List, [], ◌∷◌, ◌++◌, All, append-nil, append_assoc}
-use Rattle.std.specs.Prelude.{Contains}
-use Rattle.std.specs.List.{list_any, fold}
-use Rattle.std.specs.Str.{bytes_eq}
-use Rattle.std.specs.Bool.{Decides}
-use Rattle.std.proofs.lemmas.Bool.{cases_Bool, cond-true, cond-false, not-true}
-use Rattle.std.proofs.lemmas.Bool.Decides.{Decides-by_and, Decides-not}
-use Rattle.std.proofs.lemmas.List.Folds.{Any-from_list_any, list_any-from_Any}
-use Rattle.std.proofs.lemmas.Slice.Eq.{bytes_eq-Decides}
-use Rattle.gettext.specs.Prelude.{with_name, distinct, FirstPlaces}
-use Rattle.gettext.specs.Candidates.{no_more, repeated, first}
+use Rattle.gettext.proofs.Prelude.{All, Any-from_list_any, Bool, Contains, Decides, Decides-by_and, Decides-not, FirstPlaces, List, [], ap, append-nil, append_assoc, bytes_eq, bytes_eq-Decides, cases_Bool, cond-false, cond-true, distinct, false, first, fold, inl, inr, list_any, list_any-from_Any, no_more, not, not-true, refl, repeated, subst, sym, true, with_name, ℕ, ◌&&◌, ◌++◌, ◌||◌, ◌∙◌, ◌∷◌, ◌≡◌}
 
 abbrev is_in : List (List ℕ) → List ℕ → Bool
 is_in seen name = list_any (λ known. bytes_eq known name) seen

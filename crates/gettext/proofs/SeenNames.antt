@@ -1,18 +1,7 @@
 -- What a tree of names has, and names each kept once.
-use Rattle.std.proofs.Common.{◌≡◌, ℕ, ◌+◌, ◌<◌, Bool, true, false, cond, ◌||◌, List, [], ◌∷◌, ◌++◌, refl, sym, ap, ap₂, ◌∙◌, map, take, get_or, length}
-use Rattle.std.specs.List.{list_any}
-use Rattle.std.specs.Ordering.{nat_cmp}
-use Rattle.std.specs.Cmp.Lexicographic.{slice_cmp, texts_ties}
-use Rattle.std.specs.Str.{bytes_eq}
-use Rattle.std.specs.Borrow.{Bor}
-use Rattle.std.specs.Global.{Vec}
-use Rattle.std.specs.BTreeMap.{is_at}
+use Rattle.gettext.proofs.Prelude.{Bool, Bor, List, Vec, [], ap, ap₂, bytes_eq, cond, distinct, false, get_or, is_at, length, list_any, list_any-append, map, map-append, nat_cmp, or-false, refl, slice_cmp, sym, take, take_more, texts_ties, true, with_name, ℕ, ◌++◌, ◌+◌, ◌<◌, ◌||◌, ◌∙◌, ◌∷◌, ◌≡◌}
 use Rattle.std.specs.BTreeSet.{BTreeSet, contains}
 use Rattle.std.proofs.lemmas.Grind.{fold-append}
-use Rattle.std.proofs.lemmas.List.{take_more, map-append}
-use Rattle.std.proofs.lemmas.List.Folds.{list_any-append}
-use Rattle.std.proofs.Math.Bool.{or-false}
-use Rattle.gettext.specs.Prelude.{distinct, with_name}
 
 -- the tree has exactly these names
 abbrev pub HasNames : BTreeSet (Bor (List ℕ)) → List (List ℕ) → Type 0

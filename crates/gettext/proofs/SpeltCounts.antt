@@ -1,13 +1,6 @@
 -- The count that a text gives is that of its digits.
-use Rattle.std.proofs.Common.{◌≡◌, ◌∙◌, refl, sym, ap, subst, inl, inr, ℕ, ◌+◌, ◌*◌, ◌<◌, ◌≤◌, ◌^◌, true, false, ◌&&◌, not, eqb, ltb, List, [], ◌∷◌, length, arith}
-use Rattle.std.specs.Prelude.{◌↔◌}
-use Rattle.std.specs.Char.{digit_value, is_digit}
-use Rattle.std.specs.Str.Parse.{digits_value, digits_value_after}
-use Rattle.std.proofs.lemmas.Bool.{cases_Bool, cond_both, cond-true, cond-false, not-true, and_parts, and_from, both_ways, false_from_ne_true, lt-ltb, ltb-true, ltb-false}
+use Rattle.gettext.proofs.Prelude.{GivesCount, List, SpellsAfter, SpellsNumber, [], and_from, and_parts, ap, are_digits, arith, both_ways, cases_Bool, cond-false, cond-true, cond_both, count_in, digit_from_value, digit_value, digits_value, digits_value_after, eqb, false, false_from_ne_true, inl, inr, is_count, is_digit, length, lt-ltb, ltb, ltb-false, ltb-true, nil-from_length, not, not-true, refl, some-from_length, subst, sym, true, ℕ, ◌&&◌, ◌*◌, ◌+◌, ◌<◌, ◌^◌, ◌↔◌, ◌∙◌, ◌∷◌, ◌≡◌, ◌≤◌}
 use Rattle.std.proofs.lemmas.Str.{digit_value_digit}
-use Rattle.std.proofs.lemmas.Str.Parse.{digit_from_value}
-use Rattle.locale_names.proofs.SearchLemmas.{nil-from_length, some-from_length}
-use Rattle.gettext.specs.Prelude.{are_digits, is_count, count_in, SpellsAfter, SpellsNumber, GivesCount}
 use Rattle.gettext.specs.Count.{no_digit, digit, number, other}
 
 -- the byte of a digit

@@ -1,11 +1,6 @@
 -- Each escape is read where it is spelt, and what is read as one is spelt.
-use Rattle.std.proofs.Common.{◌≡◌, refl, sym, ap, ◌∙◌, subst, inl, inr, ℕ, zero, suc, ◌+◌, ◌-◌, ◌*◌, ◌%◌, ◌<◌, ◌≤◌, ◌==◌, true, false, List, [], ◌∷◌, length, take, drop, Option, Some, None, arith}
+use Rattle.gettext.proofs.Prelude.{Escape, List, NoOctalFirst, None, Option, Some, SpellsByte, [], alert, and_from, and_parts, ap, arith, backslash, backspace, carriage_return, cases_Bool, cond-false, cond-true, cond_both, drop, eqb-true, escape_after, false, false_from_ne_true, false≢true, form_feed, inl, inr, is_octal, le-leb, leb-true, length, letter, letter_escape, line_feed, octal_prefix, octal_value, one_digit, refl, subst, suc, sym, tab, take, take_while-cons, three_digits, true, two_digits, vertical_tab, zero, ℕ, ◌%◌, ◌*◌, ◌+◌, ◌-◌, ◌<◌, ◌==◌, ◌∙◌, ◌∷◌, ◌≡◌, ◌≤◌}
 use Rattle.std.specs.List.{take_while}
-use Rattle.std.proofs.lemmas.Bool.{and_parts, and_from, cases_Bool, cond_both, cond-true, cond-false, eqb-true, leb-true, le-leb, false_from_ne_true, false≢true}
-use Rattle.std.proofs.lemmas.List.Sums.{take_while-cons}
-use Rattle.gettext.specs.declared.escape.Escape.{Escape}
-use Rattle.gettext.specs.Prelude.{is_octal, octal_prefix, octal_value, letter, letter_escape, escape_after, NoOctalFirst, SpellsByte}
-use Rattle.gettext.specs.Escape.{alert, backspace, form_feed, line_feed, carriage_return, tab, vertical_tab, backslash, one_digit, two_digits, three_digits}
 
 octal_digit : (a : ℕ) → a < 8 → is_octal (48 + a) ≡ true
 octal_digit a l = and_from _ _ (le-leb 48 (48 + a) (omega arith)) (le-leb (48 + a) 55 (omega (arith, l)))

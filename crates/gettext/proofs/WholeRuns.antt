@@ -1,9 +1,6 @@
 -- The run of the catalogues that are read.
-use Rattle.std.proofs.Common.{◌≡◌, ◌∙◌, ℕ, List, ap, subst, take}
-use Rattle.std.specs.Borrow.{Bor}
-use Rattle.gettext.specs.Prelude.{catalogue_files, IsLookUpRun, Request, catalogue_limit}
+use Rattle.gettext.proofs.Prelude.{Bor, IsLookUpRun, List, Request, RunView, ap, catalogue_files, catalogue_limit, named_files, subst, take, ℕ, ◌∙◌, ◌≡◌}
 use Rattle.gettext.specs.declared.catalogues.CatalogueFile.{CatalogueFile}
-use Rattle.runs.specs.Prelude.{named_files, RunView}
 
 pub of_found : (request : Request) (run : RunView) (given borrowed : List (Bor (List ℕ) × Bor (List ℕ)))
     (read found : List CatalogueFile) → given ≡ borrowed

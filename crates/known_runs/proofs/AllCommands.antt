@@ -1,16 +1,9 @@
 -- What is common to all commands: what a known system holds before a run and after it.
-use Rattle.std.proofs.Common.{◌≡◌, ℕ, List, [], Option, Some, None, IfSome, option_map, Result, Err, refl, sym, subst}
-use Rattle.std.proofs.lemmas.Slice.Eq.{bytes_eq-Decides}
+use Rattle.known_runs.proofs.Prelude.{Contents, End, Err, Holds, IfSome, Links, List, None, Option, OutOfMemory, Place, ProgramFault, ReaderView, Result, RunsInMemory, RunsTool, Some, SystemView, [], answers_in, bytes_at, bytes_eq-Decides, contents, end, end_of, folder, line_in, links_by_path, nothing, option_map, reached, reader_of, refl, replay, stored, subst, sym, system, system_after, system_before, writer, ℕ, ◌≡◌}
 use Rattle.std.specs.Global.{Vec}
-use Rattle.runs.specs.Prelude.{SystemView, system, writer}
-use Rattle.runs.specs.declared.program_fault.ProgramFault.{ProgramFault}
-use Rattle.runs.specs.declared.program_fault.ProgramFault.TheVariants.{OutOfMemory}
 use Rattle.runs.specs.declared.tool.Tool.{Tool}
-use Rattle.po_tools.specs.Prelude.{ReaderView, RunsTool, reached, reader_of}
 use Rattle.known_system.specs.declared.files.KnownFiles.{KnownFiles}
 use Rattle.known_system.specs.declared.source.KnownSource.{KnownSource}
-use Rattle.known_system.specs.Prelude.{Contents, Holds, contents, links_by_path, stored, Links, Place, bytes_at, folder, nothing, replay}
-use Rattle.known_runs.specs.Prelude.{End, end, end_of, RunsInMemory, answers_in, line_in, system_after, system_before}
 use Rattle.known_runs.specs.declared.in_memory.Ended.{Ended}
 use Rattle.known_runs.specs.declared.in_memory.Reached.{Reached}
 use Rattle.known_runs.specs.declared.words.Words.{Words}

@@ -1,14 +1,8 @@
 -- What a command comes to that writes a file.
-use Rattle.std.proofs.Common.{◌≡◌, ℕ, Bool, true, false, List, [], ◌++◌, is_some, Option, Some, None, Result, Err, refl, sym, ap, ◌∙◌, subst, inl}
-use Rattle.std.proofs.lemmas.Bool.{false≢true}
-use Rattle.runs.specs.Prelude.{Reading, NamedFile, ReadsAs, SystemView, program_text, RunView, output_file, is_standard}
-use Rattle.runs.specs.Inputs.{gives, refuses, unread}
+use Rattle.known_runs.proofs.Prelude.{Bool, Contents, End, EndsInFile, Err, IsFileFault, Leads, Leaves, Links, List, NamedFile, None, Option, ProgramFault, Reading, ReadsAs, Result, RunView, Some, SystemView, [], ap, bytes_at, bytes_of, end, failed, false, false≢true, follows, gives, inl, is_some, is_standard, left, output_file, program_text, refl, refuses, subst, sym, there, true, unread, ℕ, ◌++◌, ◌∙◌, ◌≡◌}
 use Rattle.runs.specs.ToolRuns as tools
-use Rattle.runs.specs.declared.program_fault.ProgramFault.{ProgramFault}
-use Rattle.known_system.specs.Prelude.{Contents, Leaves, IsFileFault, Leads, Links, bytes_at, bytes_of}
-use Rattle.known_system.specs.Contents.{filed as filed_there, left, printed as printed_there, there, follows}
-use Rattle.known_runs.specs.Prelude.{End, end, EndsInFile}
-use Rattle.known_runs.specs.Ends.{filed, printed, failed}
+use Rattle.known_system.specs.Contents.{filed as filed_there, printed as printed_there}
+use Rattle.known_runs.specs.Ends.{filed, printed}
 
 -- without links a path leads to itself
 pub leads_there : (links : Links) → links ≡ [] → {limit : ℕ} {path target : List ℕ} → Leads links limit path target

@@ -1,31 +1,17 @@
 -- What a look-up in a catalogue comes to that is compiled from a text.
-use Rattle.std.proofs.Common.{arith, suc, zero, ◌<◌, ◌&&◌, nat_lt, slice_index, if◌then◌else◌, ◌≡◌, ◌^◌, ◌-◌, ℕ, Bool, true, false, List, [], ◌∷◌, ◌++◌, take, append-nil, is_some, Option, Some, None, Result, Ok, Err, codes, refl, sym, ap, ◌∙◌, subst, inl, inr}
-use Rattle.std.proofs.lemmas.Bool.{false≢true, ltb-true}
+use Rattle.known_runs.proofs.Prelude.{Answers, Bool, CatalogView, CommandLine, Compiled, Contents, End, EndsLookUp, Err, IsCatalogView, IsCompiledFrom, Leaves, List, NamedFile, None, Ok, Option, OutOfMemory, ProgramFault, Query, Reached, Reading, Result, RunView, RunsLookUpLine, Some, SystemView, Writes, [], answered, answers_of, ap, append-nil, arith, chain_answered, codes, compiled_list, counted, end, false, false≢true, filed, fits_none, forms_found, gives, hello_mo, if◌then◌else◌, inl, inr, is_some, joined_entries, left, line_of, looks_up, ltb-true, meant, message, nat_lt, option_copied, option_map_or, plain, printed, refl, refuses, slice_index, status_or_memory, subst, suc, sym, take, true, untranslated, zero, ℕ, ◌&&◌, ◌++◌, ◌-◌, ◌<◌, ◌^◌, ◌∙◌, ◌∷◌, ◌≡◌}
 use Rattle.std.proofs.lemmas.Str.{IsUtf8-from_ascii}
 use Rattle.std.specs.Borrow.{Bor}
-use Rattle.std.specs.Option.{option_copied, option_map_or}
 use Rattle.gettext.specs.Prelude.{AreCatalogues, GivenDomain, Searching, given_domain, searching, IsEnvironment, environment_view, Opens, GettextRequest, NgettextRequest, IsLookUpRun, gettext_output, ngettext_output, output_of, output_run, with_name, paths_of, AsksGettext, AsksNgettext, CommandView, IsGettextRequest, IsNgettextRequest, GettextUsage, NgettextUsage, gettext_usage, ngettext_usage, RunsLookUp}
 use Rattle.gettext.specs.Catalogues.{done, found, skipped}
 use Rattle.gettext.specs.Plan.{none, opened, refused}
 use Rattle.gettext.specs.Arguments.{asks_messages, asks_plural_form, fits_no_gettext, fits_no_ngettext}
-use Rattle.po_tools.specs.Prelude.{Answers, CommandLine, Reached, RunsLookUpLine, answers_of, line_of}
-use Rattle.po_tools.specs.ToolRun.{fits_none, looks_up}
 use Rattle.gettext.specs.WholeRun.{runs, no_memory}
 use Rattle.gettext.specs.declared.candidates.Environment.{Environment}
 use Rattle.locale_names.specs.Prelude.{before as part_before, candidates_of_name, from_first, is_c_locale, language_parts}
 use Rattle.mo_file.specs.Prelude.{NoFaultOfMoFile, OneMessageList, IsMoFile}
-use Rattle.mo_lookup.specs.Prelude.{CatalogView, IsCatalogView, answered as catalog_answered, forms_found, chain_answered, untranslated, Query}
-use Rattle.po_compile.specs.Prelude.{compiled_list, meant}
-use Rattle.po_compile.specs.declared.options.Compiled.{Compiled}
-use Rattle.po_entry.specs.Prelude.{joined_entries}
-use Rattle.runs.specs.Prelude.{Reading, NamedFile, SystemView, RunView, Writes}
-use Rattle.runs.specs.Inputs.{gives, refuses}
-use Rattle.runs.specs.declared.program_fault.ProgramFault.{ProgramFault}
-use Rattle.runs.specs.declared.program_fault.ProgramFault.TheVariants.{OutOfMemory}
-use Rattle.known_system.specs.Prelude.{Contents, Leaves}
-use Rattle.known_system.specs.Contents.{filed, left, printed}
-use Rattle.known_runs.specs.Prelude.{End, end, EndsLookUp, counted, hello_mo, message, status_or_memory, IsCompiledFrom, plain}
-use Rattle.known_runs.specs.LookUps.{answered, failed}
+use Rattle.mo_lookup.specs.Prelude.{answered as catalog_answered}
+use Rattle.known_runs.specs.LookUps.{failed}
 
 -- every byte is below 128
 abbrev low : List ℕ → Bool

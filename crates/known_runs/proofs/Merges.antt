@@ -1,16 +1,8 @@
 -- What `msgcat a.po b.po -o c.po` comes to.
-use Rattle.std.proofs.Common.{◌≡◌, ℕ, false, List, [], ◌∷◌, ◌++◌, is_some, suc, zero, arith, Option, Some, None, Result, codes, refl, sym, ap, ◌∙◌, subst, inl, inr}
-use Rattle.std.proofs.lemmas.Bool.{false≢true}
-use Rattle.std.specs.Option.{unwrap_or}
-use Rattle.msgcat.specs.Prelude.{IsMsgcatRun, AreMergeOptions, or_zero, HaveNoRun, IsRunOf, RunsMsgcat}
-use Rattle.po_entry.specs.Prelude.{Lacks}
+use Rattle.known_runs.proofs.Prelude.{AreInputs, AreMergeOptions, Asking, Contents, EndsInFile, IsMsgcatRun, IsTextOr, Lacks, Leaves, List, NamedFile, None, Option, ProgramFault, Reading, Result, RunView, RunsMsgcat, Some, SystemView, Writes, [], all_messages, ap, arith, bytes_at, codes, done, end, false, false≢true, gives, has_none, inl, inr, is_some, no_memory_to_plan, no_memory_to_read, or_zero, program_text, read, refl, refuses, runs, subst, suc, sym, two_files, unread, unwrap_or, zero, ℕ, ◌++◌, ◌∙◌, ◌∷◌, ◌≡◌}
+use Rattle.msgcat.specs.Prelude.{HaveNoRun, IsRunOf}
 use Rattle.msgcat.specs.declared.input.MergeOptions.{MergeOptions}
-use Rattle.runs.specs.Prelude.{IsTextOr, AreInputs, Reading, NamedFile, SystemView, program_text, RunView, Asking, Writes}
-use Rattle.runs.specs.Inputs.{gives, refuses, read, unread, done}
-use Rattle.runs.specs.ToolRuns.{runs, has_none, no_memory_to_read, no_memory_to_plan}
-use Rattle.runs.specs.declared.program_fault.ProgramFault.{ProgramFault}
-use Rattle.known_system.specs.Prelude.{Contents, Leaves, bytes_at}
-use Rattle.known_runs.specs.Prelude.{EndsInFile, end, all_messages, named, two_files}
+use Rattle.known_runs.specs.Prelude.{named}
 use Rattle.known_runs.proofs.Files.{fails, run_ends}
 
 -- the inputs are the two files

@@ -1,21 +1,6 @@
 -- What `msgfmt a.po -o a.mo` comes to.
-use Rattle.std.proofs.Common.{◌≡◌, ◌≢◌, ℕ, Bool, true, false, List, [], length, is_some, nat_lt, ◌∷◌, ◌++◌, Option, Some, None, Result, Ok, Err, codes, refl, sym, ap, ◌∙◌, subst, inl, inr, arith}
-use Rattle.std.proofs.lemmas.Bool.{false≢true, ltb-false, ltb-true}
-use Rattle.std.specs.Option.{unwrap_or}
-use Rattle.mo_file.specs.declared.byte_order.Order.TheVariants.{Little}
-use Rattle.msgfmt.specs.declared.options.MsgfmtOptions.{MsgfmtOptions}
-use Rattle.msgfmt.specs.Prelude.{IsMsgfmtRun, compile_options, compiled_run, join_line, AreMsgfmtOptions, default_output, order_of, HaveNoRun, IsRunOf, RunsMsgfmt}
-use Rattle.po_compile.specs.Prelude.{IsCompileFault, IsCompilation}
-use Rattle.po_entry.specs.Prelude.{joined_entries}
-use Rattle.po_compile.specs.declared.options.Compiled.{Compiled}
-use Rattle.runs.specs.Prelude.{IsTextOr, AreInputs, Reading, NamedFile, SystemView, link_limit, program_text, RunView, output_file, refusal, Asking, Writes}
-use Rattle.runs.specs.Inputs.{gives, refuses, read, unread, done}
-use Rattle.runs.specs.ToolRuns.{runs, has_none, no_memory_to_read, no_memory_to_plan}
-use Rattle.runs.specs.declared.program_fault.ProgramFault.{ProgramFault}
-use Rattle.known_system.specs.Prelude.{Contents, Leaves, IsFileFault, Leads, Place, bytes_at}
-use Rattle.known_system.specs.Contents.{filed, left, printed}
-use Rattle.known_runs.specs.Prelude.{End, end, EndsMsgfmt, IsCompiledFrom, plain}
-use Rattle.known_runs.specs.Msgfmt.{compiled, empty, refused, failed}
+use Rattle.known_runs.proofs.Prelude.{AreInputs, AreMsgfmtOptions, Asking, Bool, Compiled, Contents, End, EndsMsgfmt, Err, HaveNoRun, IsCompilation, IsCompileFault, IsCompiledFrom, IsFileFault, IsMsgfmtRun, IsRunOf, IsTextOr, Leads, Leaves, List, Little, MsgfmtOptions, NamedFile, None, Ok, Option, Place, ProgramFault, Reading, Result, RunView, RunsMsgfmt, Some, SystemView, Writes, [], ap, arith, bytes_at, codes, compile_options, compiled, compiled_run, default_output, done, empty, end, false, false≢true, filed, gives, has_none, inl, inr, is_some, join_line, joined_entries, left, length, link_limit, ltb-false, ltb-true, nat_lt, no_memory_to_plan, no_memory_to_read, order_of, output_file, plain, printed, program_text, read, refl, refusal, refused, refuses, runs, subst, sym, true, unread, unwrap_or, ℕ, ◌++◌, ◌∙◌, ◌∷◌, ◌≡◌, ◌≢◌}
+use Rattle.known_runs.specs.Msgfmt.{failed}
 
 -- the only input is the text
 module _ (text : List ℕ) (file : List ℕ → Reading → Type 0) (standard : Reading → Type 0)

@@ -1,22 +1,9 @@
 -- Commands have one end.
-use Rattle.std.proofs.Common.{arith, nat_lt, ◌<◌, if◌then◌else◌, ◌≡◌, ℕ, Bool, true, false, List, [], ◌∷◌, Option, Some, None, Ok, codes, refl, sym, ap, ◌∙◌, subst, inl, inr}
-use Rattle.std.proofs.lemmas.Bool.{ltb-false}
-use Rattle.mo_file.specs.declared.byte_order.Order.TheVariants.{Little}
-use Rattle.mo_lookup.specs.Prelude.{Query}
-use Rattle.msgfmt.specs.declared.options.MsgfmtOptions.{MsgfmtOptions}
-use Rattle.msgfmt.specs.Prelude.{IsDone, IsMsgfmtRun, compiled_run, join_line}
+use Rattle.known_runs.proofs.Prelude.{Bool, CataloguesAreOne, Compiled, End, EndsInFile, EndsLookUp, EndsMsgfmt, EndsSubstituted, HasStatus, IsCompiledFrom, IsDone, IsMsgfmtRun, List, Little, MsgfmtOptions, NamedFile, None, Ok, OneEnd, OneMsgfmtRun, Option, Query, RunView, Some, TextEntry, Values, [], answered, ap, arith, codes, compiled, compiled_list, compiled_run, cut, empty, end, failed, false, header_of, if◌then◌else◌, inl, inr, join_line, joined_entries, ltb-false, meant, nat_lt, refl, refusal, refused, stats_of, subst, substituted, sym, true, ℕ, ◌<◌, ◌∙◌, ◌∷◌, ◌≡◌}
 use Rattle.plural_rule.specs.Prelude.{RuleView, IsRuleOf, expression_limit}
-use Rattle.po_compile.specs.Prelude.{compiled_list, CataloguesAreOne, header_of, meant}
-use Rattle.po_compile.specs.declared.options.Compiled.{Compiled}
-use Rattle.po_entry.specs.Prelude.{TextEntry, joined_entries, stats_of}
-use Rattle.po_tools.specs.Prelude.{OneMsgfmtRun}
-use Rattle.runs.specs.Prelude.{NamedFile, RunView, refusal}
-use Rattle.envsubst.specs.Prelude.{Values}
-use Rattle.known_runs.specs.Prelude.{End, EndsInFile, end, HasStatus, OneEnd, EndsLookUp, EndsMsgfmt, IsCompiledFrom, EndsSubstituted}
-use Rattle.known_runs.specs.Ends.{filed, printed, failed}
-use Rattle.known_runs.specs.LookUps.{answered, failed as no_memory}
-use Rattle.known_runs.specs.Msgfmt.{compiled, empty, refused, failed as unwritten}
-use Rattle.known_runs.specs.Substitutions.{substituted, cut}
+use Rattle.known_runs.specs.Ends.{filed, printed}
+use Rattle.known_runs.specs.LookUps.{failed as no_memory}
+use Rattle.known_runs.specs.Msgfmt.{failed as unwritten}
 
 pub in_file : {IsRun : RunView → Type 0} → ((run other : RunView) → IsRun run → IsRun other → run ≡ other)
     → {path : List ℕ} {old : Option (List ℕ)} → OneEnd (EndsInFile IsRun path old)

@@ -1,18 +1,9 @@
 -- What envsubst comes to over a known standard input and a known environment.
-use Rattle.std.proofs.Common.{◌≡◌, ◌+◌, ℕ, Bool, true, false, List, [], ◌++◌, is_some, Option, Some, None, option_map, Result, Ok, Err, refl, sym, ap, ◌∙◌, subst, arith}
-use Rattle.std.proofs.lemmas.Bool.{false≢true}
-use Rattle.std.specs.Option.{option_to_list}
-use Rattle.envsubst.specs.Prelude.{RunsEnvsubst, EndsAs, HasGoneOut, StopsWithin, write_failures, names_in, Values, substitution, values_of, EnvsubstUsage, envsubst_usage, variables_of}
+use Rattle.known_runs.proofs.Prelude.{Answers, AnswersStatus, Asked, Bool, CommandLine, EndsAs, EndsSubstituted, EnvsubstUsage, Err, FileLog, HasGoneOut, IsStatusOrInputFault, List, None, Ok, Option, ProgramFault, Reached, Reading, Result, RunsEnvsubst, RunsEnvsubstLine, Some, StopsWithin, Substitutes, Values, WriterView, [], answers_of, ap, arith, cut, end, envsubst_usage, false, false≢true, is_some, line_of, names_in, no_envsubst, option_map, option_to_list, reached, reader_of, refl, runs_envsubst, subst, substituted, substitution, sym, system, true, values_by, values_of, variables_of, write_failures, writer, ℕ, ◌++◌, ◌+◌, ◌∙◌, ◌≡◌}
 use Rattle.envsubst.specs.ByArguments.{named, substituted as replaced_all, unread}
 use Rattle.envsubst.specs.Arguments.{replaced}
-use Rattle.po_tools.specs.Prelude.{Answers, AnswersStatus, CommandLine, Reached, RunsEnvsubstLine, Substitutes, answers_of, line_of, reached, reader_of}
-use Rattle.po_tools.specs.ToolRun.{runs_envsubst, no_envsubst}
-use Rattle.runs.specs.Prelude.{FileLog, Asked, Reading, WriterView, system, writer}
-use Rattle.runs.specs.declared.program_fault.ProgramFault.{ProgramFault}
 use Rattle.runs.specs.declared.tool_fault.ToolFault.{ToolFault}
 use Rattle.runs.specs.declared.tool_fault.ToolFault.TheVariants.{ReadFault, WriteFault, OutOfMemory}
-use Rattle.known_runs.specs.Prelude.{end, EndsSubstituted, IsStatusOrInputFault, values_by}
-use Rattle.known_runs.specs.Substitutions.{substituted, cut}
 
 module _ (values : Values) (text : List ℕ) where
   -- what was written is a beginning of the whole

@@ -1,13 +1,6 @@
 -- What `msgattrib a.po -o b.po` and `msgunfmt a.mo -o a.po` come to.
-use Rattle.std.proofs.Common.{◌≡◌, ℕ, Bool, false, List, [], Option, Some, Result, codes, refl, ap, ◌∙◌, subst}
-use Rattle.std.specs.Option.{unwrap_or}
-use Rattle.msgattrib.specs.Prelude.{IsMsgattribRun, IsEither, IsSelection}
+use Rattle.known_runs.proofs.Prelude.{Asking, Bool, Contents, End, EndsInFile, IsEither, IsMsgattribRun, IsSelection, IsTextOr, Leaves, List, NamedFile, Option, ProgramFault, Reading, Result, RunView, RunsInput, Some, SystemView, Writes, [], all_as_they_are, ap, bytes_at, codes, end, false, gives, is_standard, refl, subst, unwrap_or, ℕ, ◌∙◌, ◌≡◌}
 use Rattle.msgattrib.specs.declared.selection.Selection.{Selection}
-use Rattle.runs.specs.Prelude.{IsTextOr, Reading, NamedFile, SystemView, RunView, is_standard, Asking, RunsInput, Writes}
-use Rattle.runs.specs.Inputs.{gives}
-use Rattle.runs.specs.declared.program_fault.ProgramFault.{ProgramFault}
-use Rattle.known_system.specs.Prelude.{Contents, Leaves, bytes_at}
-use Rattle.known_runs.specs.Prelude.{End, EndsInFile, end, all_as_they_are}
 use Rattle.known_runs.proofs.Files.{one_ends}
 
 neither : {name other : List ℕ} {value : Bool} → IsEither (λ name flag. flag ≡ false) name other value → value ≡ false

@@ -1,19 +1,7 @@
 -- What msgfmt comes to where its output may be a link.
-use Rattle.std.proofs.Common.{◌≡◌, ◌≢◌, ◌⊎◌, ◌&&◌, not, if◌then◌else◌, ℕ, zero, suc, Bool, true, false, List, [], ◌∷◌, Option, Some, None, Result, Err, codes, refl, sym, ap, ◌∙◌, subst, inl, inr}
-use Rattle.std.proofs.lemmas.Slice.Eq.{bytes_eq-Decides}
-use Rattle.std.specs.Option.{unwrap_or}
+use Rattle.known_runs.proofs.Prelude.{AreMsgfmtOptions, Asking, Bool, Contents, EndsThroughLinks, Err, IsTextOr, Leads, Leaves, Links, List, MsgfmtOptions, None, Option, OutOfMemory, Place, ProgramFault, Reading, Result, RunView, RunsMsgfmt, Some, SystemView, Writes, [], ap, bytes_at, bytes_eq-Decides, bytes_of, codes, default_output, elsewhere, end, false, filed, follows, gives, has_none, if◌then◌else◌, inl, inr, is_free, is_standard, led, left, link_limit, link_target, no_memory_to_plan, no_memory_to_read, not, output_file, printed, refl, runs, subst, suc, sym, there, true, unwrap_or, zero, ℕ, ◌&&◌, ◌∙◌, ◌∷◌, ◌≡◌, ◌≢◌, ◌⊎◌}
 use Rattle.std.specs.Str.{bytes_eq}
-use Rattle.msgfmt.specs.declared.options.MsgfmtOptions.{MsgfmtOptions}
-use Rattle.msgfmt.specs.Prelude.{AreMsgfmtOptions, default_output, RunsMsgfmt}
-use Rattle.runs.specs.Prelude.{IsTextOr, Reading, link_target, SystemView, link_limit, RunView, is_standard, output_file, Asking, Writes}
-use Rattle.runs.specs.Inputs.{gives}
-use Rattle.runs.specs.ToolRuns.{runs, has_none, no_memory_to_read, no_memory_to_plan}
-use Rattle.runs.specs.declared.program_fault.ProgramFault.{ProgramFault}
-use Rattle.runs.specs.declared.program_fault.ProgramFault.TheVariants.{OutOfMemory}
-use Rattle.known_system.specs.Prelude.{Contents, Leaves, Leads, Links, Place, bytes_at, is_free, bytes_of}
-use Rattle.known_system.specs.Contents.{filed, left, printed, there, follows}
-use Rattle.known_runs.specs.Prelude.{end, EndsThroughLinks}
-use Rattle.known_runs.specs.Msgfmt.{led, elsewhere, failed}
+use Rattle.known_runs.specs.Msgfmt.{failed}
 use Rattle.known_runs.proofs.Msgfmts.{line_ends}
 
 -- a path leads to one place

@@ -1,5 +1,4 @@
 //! A tool over a known system.
-ghost use Rattle.std.specs.Prelude.{◌≡◌, Some, []};
 ghost use Rattle.known_runs.specs.Prelude.{RunsInMemory};
 
 use crate::words::Words;

@@ -1,14 +1,10 @@
 -- What writing a run leaves in a known system.
-use Rattle.std.proofs.Common.{◌≡◌, ℕ, ◌+◌, List, [], ◌++◌, Option, Some, None, Result, Ok, Err, codes, option_and_then, refl, sym, ap, ◌∙◌, subst, inl, inr, arith}
+use Rattle.known_system.proofs.Prelude.{Contents, Err, Folder, Holds, IsFileFault, Leaves, Left, Links, List, MakesFile, None, Ok, Option, OutputFault, OutputIs, Place, Result, RunView, Some, SystemView, Takes, WriterView, Writes, WritesRun, ap, arith, calls_of, contents, filed, folder, inl, inr, kept, left, link_limit, logged, nothing, option_and_then, output_fault_text, output_file, printed, program_text, refl, replay, subst, sym, whole, writer, ℕ, ◌++◌, ◌+◌, ◌∙◌, ◌≡◌}
 use Rattle.std.specs.Io.KnownBytes.{Appends}
-use Rattle.runs.specs.Prelude.{FileCall, calls_of, logged, IsCutShort, IsOutputFault, MakesFile, OutputIs, SystemView, Takes, WriterView, link_limit, WritesRun, output_fault_text, writer, program_text, RunView, output_file, Writes}
 use Rattle.runs.specs.OutputSystem.{cut, delivered, made, to_file, unmade, unreported}
 use Rattle.runs.specs.ToolRuns.{unwritten, written}
-use Rattle.runs.specs.declared.output_files.OutputFault.{OutputFault}
 use Rattle.runs.specs.declared.output_files.OutputFault.TheVariants.{CannotCreate, WriteFault, OutOfMemory}
 use Rattle.runs.specs.declared.program_fault.ProgramFault.{ProgramFault}
-use Rattle.known_system.specs.Prelude.{Contents, contents, Holds, IsFileFault, Leaves, Left, Folder, Links, Place, bytes_at, folder, nothing, replay}
-use Rattle.known_system.specs.Contents.{filed, left, printed, whole, kept}
 use Rattle.known_system.proofs.Lefts.{left_by}
 use Rattle.known_system.proofs.Replays.{replay_all}
 

@@ -1,15 +1,9 @@
 -- What the calls leave by which an output is made.
-use Rattle.std.proofs.Common.{arith, ◌+◌, ◌≡◌, ℕ, suc, Bool, true, false, not, List, [], ◌∷◌, ◌&&◌, ◌||◌, is_some, Option, Some, None, option_and_then, refl, sym, ap, ◌∙◌, subst, if◌then◌else◌}
-use Rattle.std.proofs.lemmas.Slice.Eq.{bytes_eq-Decides}
-use Rattle.std.specs.Str.{bytes_eq}
-use Rattle.runs.specs.declared.output_files.OutputFault.{OutputFault}
+use Rattle.known_system.proofs.Prelude.{Bool, Course, Fills, Finishes, Folder, Leads, Left, Links, List, None, Option, OutputFault, Place, Replaces, Some, WritesFile, [], ap, arith, bytes_at, bytes_eq-Decides, bytes_of, calls_of, false, fault_of, first_mode, folder, if◌then◌else◌, is_at, is_free, is_link, is_some, kept, link_target, makes, not, option_and_then, refl, renames, replay, step, subst, suc, sym, there, true, unless_at, whole, ℕ, ◌&&◌, ◌+◌, ◌||◌, ◌∙◌, ◌∷◌, ◌≡◌}
 use Rattle.runs.specs.declared.output_files.Rights.{Rights}
-use Rattle.runs.specs.Prelude.{Course, calls_of, fault_of, first_mode, Finishes, Fills, Replaces, WritesFile, link_target}
-use Rattle.runs.specs.OutputFiles.{makes, renames}
 use Rattle.runs.specs.OutputWriting.{whole as all_taken_in, cut, late, unopened, opened, replaced, unmoved, unwritten, replaces_none, with_rights, without_rights, unnamed, made as made_new, taken, all_taken, in_place, forbidden, failed, unknown, unread, no_memory, too_long, lacking, taken as stream_taken, stream, stops, special, replaces, follows}
 use Rattle.known_system.proofs.Replays.{ends}
-use Rattle.known_system.specs.Prelude.{Leads, Left, Links, Place, Folder, bytes_at, folder, is_at, is_free, is_link, is_linked, replay, step, unless_at, bytes_of}
-use Rattle.known_system.specs.Contents.{there, follows as leads_on, whole, kept}
+use Rattle.known_system.specs.Contents.{follows as leads_on}
 
 same : (s t : Folder) → Some s ≡ Some t → s ≡ t
 same s t is = cc

@@ -1,7 +1,5 @@
 -- One call more.
-use Rattle.std.proofs.Common.{◌≡◌, List, [], ◌∷◌, ◌++◌, Option, Some, None, option_and_then, refl, ◌∙◌}
-use Rattle.runs.specs.Prelude.{FileCall}
-use Rattle.known_system.specs.Prelude.{Folder, replay, step}
+use Rattle.known_system.proofs.Prelude.{FileCall, Folder, List, None, Option, Some, [], option_and_then, refl, replay, step, ◌++◌, ◌∙◌, ◌∷◌, ◌≡◌}
 
 pub ends : (o : Option Folder) → option_and_then (replay []) o ≡ o
 ends None = refl

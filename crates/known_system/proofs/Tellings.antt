@@ -1,9 +1,5 @@
 -- What calls leave that tell of links.
-use Rattle.std.proofs.Common.{◌≡◌, ℕ, List, [], ◌∷◌, ◌++◌, append-nil, append_assoc, Option, Some, None, option_and_then, refl, sym, ap, ◌∙◌}
-use Rattle.std.proofs.lemmas.Slice.Eq.{bytes_eq-Decides}
-use Rattle.runs.specs.Prelude.{FileCall}
-use Rattle.runs.specs.OutputFiles.{numbers, reads_link}
-use Rattle.known_system.specs.Prelude.{links_by_path, tellings, Links, Place, folder, linked, nothing, replay, telling, bytes_of}
+use Rattle.known_system.proofs.Prelude.{FileCall, Links, List, None, Place, Some, [], ap, append-nil, append_assoc, bytes_eq-Decides, bytes_of, folder, linked, links_by_path, nothing, numbers, option_and_then, reads_link, refl, replay, sym, telling, tellings, ℕ, ◌++◌, ◌∙◌, ◌∷◌, ◌≡◌}
 use Rattle.known_system.specs.declared.stored.Link.{Link}
 use Rattle.known_system.proofs.Replays.{replay_all, replay_more}
 

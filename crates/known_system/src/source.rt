@@ -1,5 +1,5 @@
 //! What a system in memory is asked for: files, standard input, and the environment.
-ghost use Rattle.std.specs.Prelude.{◌≡◌, [], Some, map, option_map};
+ghost use Rattle.std.specs.Prelude.{◌≡◌, [], Some, option_map};
 ghost use Rattle.runs.specs.Inputs.{gives};
 ghost use Rattle.known_system.specs.Prelude.{bytes_of, entry_texts, reading_of, texts_by_name};
 

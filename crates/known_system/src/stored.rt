@@ -1,6 +1,6 @@
 //! A file in memory, with its path, and links.
 ghost use Rattle.std.specs.Option.{option_copied};
-ghost use Rattle.std.specs.Prelude.{◌≡◌, ◌↔◌, IsTrue};
+ghost use Rattle.std.specs.Prelude.{◌≡◌};
 ghost use Rattle.std.specs.String.{string_bytes};
 ghost use Rattle.known_system.specs.Prelude.{links_by_path, stored, is_at, is_free, unless_at, with_path, with_bytes, bytes_of};
 

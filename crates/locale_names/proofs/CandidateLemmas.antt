@@ -1,12 +1,8 @@
 -- Lemmas on the names that are still to be given.
-use Rattle.std.proofs.Common.{◌≡◌, ℕ, suc, drop-cons, ◌==◌, ◌+◌, ◌≤◌, true, false, cond, List, [], ◌∷◌, ◌++◌, length, drop, Option, Some, None, MatchOption, slice_get, refl, sym, ap, ◌∙◌, arith}
-use Rattle.std.specs.List.{flat_map}
-use Rattle.std.proofs.lemmas.Bool.{cond-true, cond-false}
-use Rattle.std.proofs.lemmas.List.{drop-drop, drop_all}
+use Rattle.locale_names.proofs.Prelude.{List, MatchOption, None, Option, Some, [], ap, arith, before, candidates, candidates_of_name, cond, cond-false, cond-true, drop, drop-cons, drop-drop, drop_all, false, flat_map, from_first, is_untranslated, language_parts, languages, length, names_from, names_left, refl, slice_get, suc, sym, text_of, true, ℕ, ◌++◌, ◌+◌, ◌==◌, ◌∙◌, ◌∷◌, ◌≡◌, ◌≤◌}
 use Rattle.std.proofs.lemmas.Option.{slice_get_within, get_or_from_slice_get}
 use Rattle.locale_names.specs.declared.name.Candidate.{Candidate}
 use Rattle.locale_names.specs.declared.position.Position.{Position}
-use Rattle.locale_names.specs.Prelude.{names_from, names_left, text_of, before, candidates, candidates_of_name, from_first, is_untranslated, language_parts, languages}
 
 next-of : (names : List (List ℕ)) (n : ℕ) (text : List ℕ) → slice_get names n ≡ Some text
     → drop n names ≡ text ∷ drop (n + 1) names

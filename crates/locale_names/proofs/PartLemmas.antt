@@ -1,13 +1,7 @@
 -- Lemmas on the parts of LANGUAGE.
-use Rattle.std.proofs.Common.{◌≡◌, ℕ, ◌+◌, ◌<◌, Bool, true, false, not, cond, eqb, inl, inr, List, [], ◌∷◌, length, take, drop, filter, refl, sym, ap, ◌∙◌, arith}
+use Rattle.locale_names.proofs.Prelude.{Bool, List, [], ap, arith, cases_Bool, cond, drop, drop_all, eqb, false, filter, inl, inr, is_byte, is_c_locale, is_path_part, language_parts, length, not, onto_first, position_or_len, refl, slice_split, sym, take, take_while-cons, true, ℕ, ◌+◌, ◌<◌, ◌∙◌, ◌∷◌, ◌≡◌}
 use Rattle.std.specs.Prelude.{take_while}
-use Rattle.std.specs.List.{slice_split, position_or_len, onto_first}
-use Rattle.std.proofs.lemmas.Bool.{cases_Bool}
-use Rattle.std.proofs.lemmas.List.{drop_all}
 use Rattle.std.proofs.lemmas.List.Splits.{slice_split_first, slice_split-cons_no}
-use Rattle.std.proofs.lemmas.List.Sums.{take_while-cons}
-use Rattle.memchr.specs.Find.{is_byte}
-use Rattle.locale_names.specs.Prelude.{is_c_locale, is_path_part, language_parts}
 use Rattle.locale_names.proofs.SearchLemmas.{byte-here, byte-later}
 
 -- the parts of a text, up to the first separator and after it

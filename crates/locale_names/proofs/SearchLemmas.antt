@@ -1,9 +1,5 @@
 -- Lemmas on the first index of a byte in a text.
-use Rattle.std.proofs.Common.{◌≡◌, refl, ℕ, suc, ◌+◌, ◌<◌, true, false, not, cond, eqb, inl, inr, List, [], ◌∷◌, length, drop, Option, Some, None, unwrap_or, sym, ap, subst, ◌∙◌, arith}
-use Rattle.std.specs.List.{position_or_len}
-use Rattle.std.proofs.lemmas.Bool.{both_ways, cases_Bool, eqb-true, false_from_ne_true}
-use Rattle.std.proofs.lemmas.List.Sums.{position_or_len_is}
-use Rattle.memchr.specs.Find.{IsFirstByte, is_byte}
+use Rattle.locale_names.proofs.Prelude.{IsFirstByte, List, None, Option, Some, [], ap, arith, both_ways, cases_Bool, cond, drop, eqb, eqb-true, false, false_from_ne_true, inl, inr, is_byte, length, not, position_or_len, position_or_len_is, refl, subst, suc, sym, true, unwrap_or, ℕ, ◌+◌, ◌<◌, ◌∙◌, ◌∷◌, ◌≡◌}
 
 -- what a search finds is the index of the first one, or the end
 pub first-or_len : (a : ℕ) (bs : List ℕ) (r : Option ℕ) → IsFirstByte (is_byte a) bs r

@@ -1,15 +1,5 @@
 -- A message that is added to messages in order.
-use Rattle.std.proofs.Common.{◌≡◌, ◌≢◌, ℕ, zero, suc, ◌⊎◌, List, [], ◌∷◌, refl, sym, ap, ◌∙◌, inl, inr, subst, arith, Contains, IsPermutation}
-use Rattle.std.specs.declared.cmp.Ordering.{Ordering}
-use Rattle.std.specs.declared.cmp.Ordering.TheVariants.{Less, Equal, Greater}
-use Rattle.std.specs.Ordering.{ordering_reverse}
-use Rattle.std.proofs.lemmas.Cmp.{nat_list_cmp_total, tied_itself}
-use Rattle.std.proofs.lemmas.List.{get_or_default}
-use Rattle.std.proofs.lemmas.List.Sorted.{IsPermutation-cons, IsPermutation-middle, IsPermutation-refl, IsPermutation-trans}
-use Rattle.std.proofs.lemmas.Map.Lookups.{exact_bytes}
-use Rattle.mo_file.specs.Prelude.{AreRising, key_cmp, key_of, keys, Message}
-use Rattle.mo_file.proofs.RisingKeys.{rising_between}
-use Rattle.mo_expand.specs.Prelude.{IsInOrder, with_message, MessageIsAddedInOrder}
+use Rattle.mo_expand.proofs.Prelude.{AreRising, Contains, Equal, Greater, IsInOrder, IsPermutation, IsPermutation-cons, IsPermutation-middle, IsPermutation-refl, IsPermutation-trans, Less, List, Message, MessageIsAddedInOrder, Ordering, [], ap, arith, exact_bytes, get_or_default, inl, inr, key_cmp, key_of, keys, nat_list_cmp_total, ordering_reverse, refl, rising_between, subst, suc, sym, tied_itself, with_message, zero, ℕ, ◌∙◌, ◌∷◌, ◌≡◌, ◌≢◌, ◌⊎◌}
 use Rattle.mo_expand.proofs.ListingLemmas.{with_message-cons, with_message-none}
 use Rattle.mo_expand.proofs.RisingLemmas.{rising-rest, rising-with_message}
 

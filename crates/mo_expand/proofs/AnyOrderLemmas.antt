@@ -1,10 +1,6 @@
 -- What is known of a file whose keys are in any order: where its tables and its strings end.
-use Rattle.std.proofs.Common.{◌≡◌, ℕ, ◌+◌, ◌*◌, ◌<◌, ◌≤◌, List, length, inl, inr, sym, ap, ◌∙◌, subst}
-use Rattle.mo_file.specs.declared.byte_order.Order.{Order}
-use Rattle.mo_file.specs.declared.fault.MoError.TheVariants.{TooShort, TableOutside, StringOutside}
-use Rattle.mo_file.specs.Prelude.{HasMagicOf, message_count, originals_table, translations_table, Message, end_at, messages_of}
+use Rattle.mo_expand.proofs.Prelude.{HasMagicOf, IsFileInAnyOrder, List, Message, Order, StringOutside, TableOutside, TooShort, ap, end_at, inl, inr, length, message_count, messages_of, originals_table, subst, sym, translations_table, ℕ, ◌*◌, ◌+◌, ◌<◌, ◌∙◌, ◌≡◌, ◌≤◌}
 use Rattle.mo_file.proofs.FaultLemmas.{HasMagicOf-unique, not_below}
-use Rattle.mo_expand.specs.Prelude.{IsFileInAnyOrder}
 
 -- what holds of the messages that a file has in the byte order that it shows
 pub shown : (bytes : List ℕ) (order : Order) (P : Order → List Message → Type 0) → HasMagicOf order bytes

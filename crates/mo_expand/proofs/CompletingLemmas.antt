@@ -1,10 +1,5 @@
 -- System-dependent messages that are added to a list in turn.
-use Rattle.std.proofs.Common.{◌≡◌, ℕ, suc, ◌+◌, ◌-◌, ◌<◌, ◌≤◌, List, ◌∷◌, length, map, take, Option, None, Some, refl, sym, ap, ◌∙◌, arith}
-use Rattle.std.specs.List.{range_with_len, sum_by, slice_range}
-use Rattle.std.proofs.lemmas.List.{take-take}
-use Rattle.std.proofs.lemmas.List.Sums.{sum_by-cons}
-use Rattle.mo_file.specs.Prelude.{Message}
-use Rattle.mo_expand.specs.Prelude.{with_message, with_messages, strings_len}
+use Rattle.mo_expand.proofs.Prelude.{List, Message, None, Option, Some, ap, arith, length, map, range_with_len, refl, slice_range, strings_len, suc, sum_by, sum_by-cons, sym, take, take-take, with_message, with_messages, ℕ, ◌+◌, ◌-◌, ◌<◌, ◌∙◌, ◌∷◌, ◌≡◌, ◌≤◌}
 use Rattle.mo_expand.proofs.JoiningLemmas.{slice_range-before, length-slice_range}
 
 -- the messages that are left, of which the first is that of an index

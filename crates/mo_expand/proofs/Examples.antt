@@ -1,8 +1,6 @@
 -- The example of the laws, computed.
-use Rattle.std.proofs.Common.{refl}
+use Rattle.mo_expand.proofs.Prelude.{ExampleIsCompleted, ExampleNeedsItsText, joined, refl, word_at}
 use Rattle.mo_file.specs.declared.byte_order.Order.TheVariants.{Little, Big}
-use Rattle.mo_file.specs.Prelude.{word_at}
-use Rattle.mo_expand.specs.Prelude.{joined, ExampleIsCompleted, ExampleNeedsItsText}
 
 pub example_is_completed : ExampleIsCompleted
 unfolding joined word_at

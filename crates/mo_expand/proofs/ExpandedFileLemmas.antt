@@ -1,11 +1,5 @@
 -- An expanded file is valid.
-use Rattle.std.proofs.Common.{ℕ, ◌+◌, List, refl, subst, sym}
-use Rattle.mo_file.specs.Prelude.{AreRising, keys, Message, IsMoFile}
-use Rattle.mo_file.specs.declared.byte_order.Order.{Order}
-use Rattle.mo_file.specs.declared.fault.MoError.TheVariants.{NotSorted}
-use Rattle.mo_file.proofs.ViewLemmas.{AreRising-messages_of}
-use Rattle.mo_file.proofs.RoundTripLemmas.{layout_is_mo_file}
-use Rattle.mo_expand.specs.Prelude.{ExpandedFileIsMoFile, system_messages, with_messages}
+use Rattle.mo_expand.proofs.Prelude.{AreRising, AreRising-messages_of, ExpandedFileIsMoFile, IsMoFile, List, Message, NotSorted, Order, keys, layout_is_mo_file, refl, subst, sym, system_messages, with_messages, ℕ, ◌+◌}
 use Rattle.mo_expand.proofs.RisingLemmas.{rising-with_messages}
 
 pub rising : (order : Order) (bytes : List ℕ) (messages : List Message) → IsMoFile order bytes messages

@@ -1,19 +1,10 @@
 -- Writing the segments of a string.
-use Rattle.std.proofs.Common.{◌≡◌, ℕ, suc, ◌+◌, ◌-◌, ◌<◌, ◌≤◌, List, ◌++◌, length, take, drop, Option, None, Some, [], unwrap_or, append_assoc, refl, sym, ap, ◌∙◌, subst, arith, length-take, length-drop, length-append}
-use Rattle.std.specs.List.{slice_range}
-use Rattle.std.specs.Prelude.{Err, Ok, is_some, option_map, true}
-use Rattle.std.proofs.lemmas.Bool.{false≢true}
+use Rattle.mo_expand.proofs.Prelude.{Err, HasText, IsExpanded, IsJoining, IsPut, IsTried, IsWritten, List, None, Ok, Option, Order, PlatformText, Some, [], ap, append_assoc, arith, drop, drop-drop, drop-take, false≢true, from_segment, is_some, join, joined, length, length-append, length-drop, length-take, message_from, none-some, option_map, refl, slice_range, subst, suc, sym, take, take-take, unwrap_or, with_rest, word_at, ℕ, ◌++◌, ◌+◌, ◌-◌, ◌<◌, ◌∙◌, ◌≡◌, ◌≤◌}
+use Rattle.std.specs.Prelude.{true}
 use Rattle.std.specs.Option.{ok_or}
 use Rattle.std.proofs.Math.Seq.{take-add}
-use Rattle.std.proofs.lemmas.Option.{none-some}
-use Rattle.std.proofs.lemmas.List.{drop-drop, drop-take, take-take}
 use Rattle.mo_expand.specs.declared.joining.Missing.TheVariants.{Full}
 use Rattle.mo_expand.specs.declared.joining.Segment.{Segment}
-use Rattle.mo_file.specs.declared.byte_order.Order.{Order}
-use Rattle.mo_file.specs.Prelude.{word_at}
-use Rattle.mo_expand.specs.declared.platform_text.PlatformText.{PlatformText}
-use Rattle.mo_expand.specs.Prelude.{joined, from_segment, join, message_from, IsExpanded}
-use Rattle.mo_expand.specs.Internal.Joining.{HasText, IsJoining, IsPut, IsTried, IsWritten, with_rest}
 
 pub joined-none : (order : Order) (bytes : List ℕ) (texts : List PlatformText) (at start : ℕ)
     → joined order bytes texts 0 at start ≡ None

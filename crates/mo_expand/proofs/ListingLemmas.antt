@@ -1,13 +1,5 @@
 -- Messages in a list, and the place of one that is added.
-use Rattle.std.proofs.Common.{◌≡◌, ℕ, zero, suc, ◌+◌, ◌-◌, ◌<◌, ◌≤◌, List, [], ◌∷◌, ◌++◌, length, take, drop, Some, get_or, append_assoc, length-append, length-take, length-drop, refl, sym, ap, ◌∙◌, arith}
-use Rattle.std.specs.Prelude.{slice_get, slice_set}
-use Rattle.std.specs.List.{copy_within}
-use Rattle.std.proofs.lemmas.List.{take_more, take_more_set, take-map, take-take, take_at, drop-take, set_at, map-append, drop-map}
-use Rattle.std.proofs.lemmas.Option.{none-some}
-use Rattle.std.specs.declared.cmp.Ordering.{Ordering}
-use Rattle.mo_file.specs.Prelude.{key_of, key_cmp, Message, originals, translations, borrowed_message, messages_of_borrowed}
-use Rattle.mo_file.specs.declared.pairs.BorrowedPair.{BorrowedPair}
-use Rattle.mo_expand.specs.Prelude.{beside, with_message}
+use Rattle.mo_expand.proofs.Prelude.{BorrowedPair, List, Message, Ordering, Some, [], ap, append_assoc, arith, beside, borrowed_message, copy_within, drop, drop-map, drop-take, get_or, key_cmp, key_of, length, length-append, length-drop, length-take, map-append, messages_of_borrowed, none-some, originals, refl, set_at, slice_get, slice_set, suc, sym, take, take-map, take-take, take_at, take_more, take_more_set, translations, with_message, zero, ℕ, ◌++◌, ◌+◌, ◌-◌, ◌<◌, ◌∙◌, ◌∷◌, ◌≡◌, ◌≤◌}
 
 pub with_message-cons : (m other : Message) (others : List Message) (o : Ordering)
     → key_cmp (key_of other.original) (key_of m.original) ≡ o

@@ -1,21 +1,6 @@
 -- Messages in order: they are the only ones, and under each key the same is found.
-use Rattle.std.proofs.Common.{◌≡◌, ℕ, zero, suc, ◌<◌, ◌≤◌, ◌⊎◌, Bool, true, false, List, [], ◌∷◌, Option, None, Some, get_or, refl, sym, ap, ap₂, ◌∙◌, inl, inr, subst, arith, All, Contains, find}
-use Rattle.std.specs.List.{position_or_len}
-use Rattle.std.specs.Str.{bytes_eq}
-use Rattle.std.specs.declared.cmp.Ordering.TheVariants.{Less}
-use Rattle.std.proofs.lemmas.Bool.{cases_lt}
-use Rattle.std.proofs.lemmas.Cmp.{nat_list_cmp_total}
-use Rattle.std.proofs.lemmas.List.{get_or-map, get_or_default, length-map}
-use Rattle.std.proofs.lemmas.List.Elements.{All-contains}
+use Rattle.mo_expand.proofs.Prelude.{All, All-contains, All-permutation, AreRising, Bool, Contains, Contains-permutation, HaveDistinctKeys, IsInOrder, IsPermutation-refl, IsPermutation-sym, Less, List, Message, MoFileIsInOrder, None, OneOrder, Option, SameMessageUnderKey, Some, SortedFileIsMoFile, [], ap, ap₂, arith, bytes_eq, bytes_eq-Decides, cases_lt, fails_before_first, false, find, get_or, get_or-map, get_or_default, get_or_from_slice_get, inl, inr, key_cmp, key_of, keys, layout_is_mo_file, length-map, less_is_other, nat_list_cmp_total, none-some, passes_at_first, position_or_len, refl, rising_between, slice_get-get_or, slice_get_within, subst, suc, sym, true, zero, ℕ, ◌<◌, ◌∙◌, ◌∷◌, ◌≡◌, ◌≤◌, ◌⊎◌}
 use Rattle.std.proofs.lemmas.List.Folds.{find_at}
-use Rattle.std.proofs.lemmas.List.Sorted.{All-permutation, Contains-permutation, IsPermutation-refl, IsPermutation-sym}
-use Rattle.std.proofs.lemmas.List.Sums.{fails_before_first, passes_at_first}
-use Rattle.std.proofs.lemmas.Option.{get_or_from_slice_get, none-some, slice_get-get_or, slice_get_within}
-use Rattle.std.proofs.lemmas.Slice.Eq.{bytes_eq-Decides}
-use Rattle.mo_file.specs.Prelude.{AreRising, key_cmp, key_of, keys, Message}
-use Rattle.mo_file.proofs.RisingKeys.{less_is_other, rising_between}
-use Rattle.mo_file.proofs.RoundTripLemmas.{layout_is_mo_file}
-use Rattle.mo_expand.specs.Prelude.{HaveDistinctKeys, IsInOrder, MoFileIsInOrder, OneOrder, SameMessageUnderKey, SortedFileIsMoFile}
 use Rattle.mo_expand.proofs.ExpandedFileLemmas.{rising}
 use Rattle.mo_expand.proofs.RisingLemmas.{rising-rest}
 use Rattle.mo_expand.proofs.SortedFileLemmas.{distinct-permuted}

@@ -1,10 +1,5 @@
 -- Messages in rising order of their keys, of which one is added.
-use Rattle.std.proofs.Common.{◌≡◌, ℕ, zero, suc, ◌+◌, ◌<◌, List, [], ◌∷◌, length, Option, None, Some, refl, subst, arith}
-use Rattle.std.specs.declared.cmp.Ordering.{Ordering}
-use Rattle.std.specs.declared.cmp.Ordering.TheVariants.{Less, Equal, Greater}
-use Rattle.mo_file.specs.Prelude.{AreRising, key_at, key_cmp, key_of, keys, Message}
-use Rattle.mo_file.proofs.RisingKeys.{greater_is_less}
-use Rattle.mo_expand.specs.Prelude.{beside, with_message, with_messages}
+use Rattle.mo_expand.proofs.Prelude.{AreRising, Equal, Greater, Less, List, Message, None, Option, Ordering, Some, [], arith, beside, greater_is_less, key_at, key_cmp, key_of, keys, length, refl, subst, suc, with_message, with_messages, zero, ℕ, ◌+◌, ◌<◌, ◌∷◌, ◌≡◌}
 
 -- a key is below the first of others, if there is one
 abbrev IsBelow : List ℕ → List (List ℕ) → Type 0

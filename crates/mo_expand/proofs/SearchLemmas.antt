@@ -1,17 +1,5 @@
 -- The search for the place of a message in a list whose keys rise.
-use Rattle.std.proofs.Common.{◌≡◌, ℕ, zero, suc, ◌+◌, ◌-◌, ◌<◌, ◌≤◌, List, [], ◌∷◌, ◌++◌, length, take, drop, get_or, ap, ◌∙◌, subst, arith}
-use Rattle.std.specs.declared.cmp.Ordering.{Ordering}
-use Rattle.std.specs.declared.cmp.Ordering.TheVariants.{Less, Equal, Greater}
-use Rattle.std.specs.List.Sorted.{IsNonDecreasingBy, IsPartitionPoint, IsSortedBy}
-use Rattle.std.specs.Ordering.{is_lt, ordering_index, ordering_reverse}
-use Rattle.std.proofs.lemmas.Cmp.{nat_list_cmp_total}
-use Rattle.std.proofs.lemmas.List.Sorted.{searchable_from_sorted}
-use Rattle.std.proofs.lemmas.List.{length-map}
-use Rattle.std.proofs.lemmas.Map.Lookups.{exact_bytes}
-use Rattle.mo_file.specs.Prelude.{AreRising, key_at, key_cmp, key_of, keys, Message, borrowed_message, messages_of_borrowed}
-use Rattle.mo_file.specs.declared.pairs.BorrowedPair.{BorrowedPair}
-use Rattle.mo_file.proofs.RisingKeys.{key-by, length-keys, rising_between}
-use Rattle.mo_expand.specs.Prelude.{with_message}
+use Rattle.mo_expand.proofs.Prelude.{AreRising, BorrowedPair, Equal, Greater, IsNonDecreasingBy, IsPartitionPoint, IsSortedBy, Less, List, Message, Ordering, [], ap, arith, borrowed_message, drop, exact_bytes, get_or, is_lt, key-by, key_at, key_cmp, key_of, keys, length, length-keys, length-map, messages_of_borrowed, nat_list_cmp_total, ordering_index, ordering_reverse, rising_between, searchable_from_sorted, subst, suc, take, with_message, zero, ℕ, ◌++◌, ◌+◌, ◌<◌, ◌∙◌, ◌∷◌, ◌≡◌, ◌≤◌}
 use Rattle.mo_expand.proofs.ListingLemmas.{with_message-cons, with_message-none}
 
 reversed : (x y : List ℕ) (o : Ordering) → key_cmp x y ≡ o → key_cmp y x ≡ ordering_reverse o

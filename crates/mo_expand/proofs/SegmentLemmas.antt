@@ -1,13 +1,5 @@
 -- The text of a string is that of its segments.
-use Rattle.std.proofs.Common.{◌≡◌, ℕ, zero, suc, ◌+◌, ◌-◌, ◌*◌, ◌≤◌, ◌⊎◌, ◌==◌, Bool, true, false, List, ◌++◌, length, get_or, Option, None, Some, refl, sym, ap, ◌∙◌, inl, inr, subst, arith}
-use Rattle.std.specs.Prelude.{nat_le, nat_lt, slice_get, slice_index_or, option_and_then, if◌then◌else◌}
-use Rattle.std.proofs.lemmas.Bool.{and_from, and_parts, cases_lt, cond-false, cond-true, eqb-true, eqb-false, eq-eqb, ne_eqb, leb-true, le-leb, ltb-true, lt-ltb}
-use Rattle.std.proofs.lemmas.List.{get_or_past}
-use Rattle.std.proofs.lemmas.Option.{get_or_from_slice_get, none-some, same_Some, slice_get-get_or}
-use Rattle.mo_file.specs.declared.byte_order.Order.{Order}
-use Rattle.mo_file.specs.Prelude.{word_at}
-use Rattle.mo_expand.specs.declared.platform_text.PlatformText.{PlatformText}
-use Rattle.mo_expand.specs.Prelude.{text_of, inserted, join, joined, name_of, part, terminated_part, AreSegments, IsBeforeNul, IsName, IsPart, TextIsItsSegments}
+use Rattle.mo_expand.proofs.Prelude.{AreSegments, Bool, IsBeforeNul, IsName, IsPart, List, None, Option, Order, PlatformText, Some, TextIsItsSegments, and_from, and_parts, ap, arith, cases_lt, cond-false, cond-true, eq-eqb, eqb-false, eqb-true, false, get_or, get_or_from_slice_get, get_or_past, if◌then◌else◌, inl, inr, inserted, join, joined, le-leb, leb-true, length, lt-ltb, ltb-true, name_of, nat_le, nat_lt, ne_eqb, none-some, option_and_then, part, refl, same_Some, slice_get, slice_get-get_or, slice_index_or, subst, suc, sym, terminated_part, text_of, true, word_at, zero, ℕ, ◌*◌, ◌++◌, ◌+◌, ◌-◌, ◌==◌, ◌∙◌, ◌≡◌, ◌≤◌, ◌⊎◌}
 use Rattle.mo_expand.specs.Laws.AreSegments.{last, before}
 
 pub if-some : {A : Type 0} (b : Bool) (x : Option A) (t : A) → (if b then x else None) ≡ Some t

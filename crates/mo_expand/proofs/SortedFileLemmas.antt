@@ -1,17 +1,7 @@
 -- Messages in order: what the answers of a sort and of its check say of their keys.
-use Rattle.std.proofs.Common.{◌≡◌, ◌≢◌, sym, subst, ℕ, List, AllPairs, IsPermutation}
-use Rattle.std.specs.Ordering.{is_lt}
-use Rattle.std.specs.List.Sorted.{IsSortedBy}
-use Rattle.std.specs.Str.{bytes_eq}
-use Rattle.std.proofs.lemmas.Cmp.{nat_list_eq_equiv}
-use Rattle.std.proofs.lemmas.List.Sorted.{IsPermutation-map}
+use Rattle.mo_expand.proofs.Prelude.{AllPairs, AreRising, BorrowedPair, HaveDistinctKeys, IsPermutation, IsPermutation-map, IsSortedBy, List, Message, borrowed_message, bytes_eq, bytes_eq-Decides, is_lt, key_by, key_cmp, key_of, keys, keys-by, messages_of_borrowed, nat_list_eq_equiv, rising-from_sorted, subst, sym, ℕ, ◌≡◌, ◌≢◌}
 use Rattle.std.proofs.lemmas.Map.Keys.{IsDistinct-IsPermutation}
 use Rattle.std.proofs.lemmas.Map.Made.{AllPairs-from_IsDistinct, IsDistinct-from_AllPairs}
-use Rattle.std.proofs.lemmas.Slice.Eq.{bytes_eq-Decides}
-use Rattle.mo_file.specs.Prelude.{AreRising, key_cmp, key_of, keys, Message, borrowed_message, messages_of_borrowed}
-use Rattle.mo_file.specs.declared.pairs.BorrowedPair.{BorrowedPair}
-use Rattle.mo_file.proofs.RisingKeys.{key_by, keys-by, rising-from_sorted}
-use Rattle.mo_expand.specs.Prelude.{HaveDistinctKeys}
 
 -- the key of a message in a list
 abbrev pub listed_key : BorrowedPair → List ℕ

@@ -1,15 +1,5 @@
 -- Which system-dependent messages a file has, and which text of a platform counts.
-use Rattle.std.proofs.Common.{◌≡◌, ◌≢◌, ℕ, zero, suc, ◌+◌, ◌*◌, ◌%◌, ◌<◌, ◌≤◌, ◌&&◌, Bool, true, false, List, [], ◌∷◌, length, Option, None, Some, refl, ap, ap₂, ◌∙◌, arith}
-use Rattle.std.specs.Prelude.{nat_le, nat_lt, if◌then◌else◌}
-use Rattle.std.specs.Str.{bytes_eq}
-use Rattle.std.proofs.lemmas.Bool.{and_from, and_parts, cond-false, cond-true, false_from_ne_true, leb-true, le-leb, ltb-true, lt-ltb}
-use Rattle.std.proofs.lemmas.List.Elements.{All-head, All-tail}
-use Rattle.std.proofs.lemmas.Option.{none-some, same_Some}
-use Rattle.std.proofs.lemmas.Slice.Eq.{bytes_eq-Decides}
-use Rattle.mo_file.specs.declared.byte_order.Order.{Order}
-use Rattle.mo_file.specs.Prelude.{revision, Message, word_at}
-use Rattle.mo_expand.specs.declared.platform_text.PlatformText.{PlatformText}
-use Rattle.mo_expand.specs.Prelude.{message_from, system_count, text_at, FirstTextCounts, IsSystemNumber, MessageIsItsStrings}
+use Rattle.mo_expand.proofs.Prelude.{All-head, All-tail, Bool, FirstTextCounts, IsSystemNumber, List, Message, MessageIsItsStrings, None, Option, Order, PlatformText, Some, [], and_from, and_parts, ap, ap₂, arith, bytes_eq, bytes_eq-Decides, cond-false, cond-true, false, false_from_ne_true, if◌then◌else◌, le-leb, leb-true, length, lt-ltb, ltb-true, message_from, nat_le, nat_lt, none-some, refl, revision, same_Some, suc, system_count, text_at, true, word_at, zero, ℕ, ◌%◌, ◌&&◌, ◌*◌, ◌+◌, ◌<◌, ◌∙◌, ◌∷◌, ◌≡◌, ◌≢◌, ◌≤◌}
 use Rattle.mo_expand.proofs.SegmentLemmas.{if-some}
 
 pub first_text_counts : FirstTextCounts

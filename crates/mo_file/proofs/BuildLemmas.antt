@@ -1,12 +1,5 @@
 -- Building: the length of a layout, and the keys of pairs.
-use Rattle.std.proofs.Common.{◌≡◌, ℕ, ◌+◌, ◌*◌, List, [], ◌∷◌, ◌++◌, length}
-use Rattle.std.proofs.Common.{map, take, refl, sym, ◌∙◌, ap, arith, length-append}
-use Rattle.std.specs.List.{sum_by}
-use Rattle.std.proofs.lemmas.List.{length-map}
-use Rattle.std.proofs.lemmas.List.Sums.{sum_by-cons}
-use Rattle.mo_file.specs.declared.byte_order.Order.{Order}
-use Rattle.mo_file.specs.declared.byte_order.Order.TheVariants.{Little, Big}
-use Rattle.mo_file.specs.Prelude.{magic, word_bytes, Message, originals, translations, layout, header, table, terminated, strings_of}
+use Rattle.mo_file.proofs.Prelude.{Big, List, Little, Message, Order, [], ap, arith, header, layout, length, length-append, length-map, magic, map, originals, refl, strings_of, sum_by, sum_by-cons, sym, table, take, terminated, translations, word_bytes, ℕ, ◌*◌, ◌++◌, ◌+◌, ◌∙◌, ◌∷◌, ◌≡◌}
 use Rattle.mo_file.specs.declared.pairs.Part.TheVariants.{Original, Translation}
 
 abbrev message_len : Message → ℕ

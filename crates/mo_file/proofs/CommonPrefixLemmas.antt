@@ -1,12 +1,7 @@
 -- The common prefix of two texts, by the lanes of two vectors.
-use Rattle.std.proofs.Common.{◌≡◌, ℕ, ◌+◌, ◌-◌, ◌%◌, ◌^◌, ◌<◌, ◌≤◌, ◌==◌, ◌||◌, Bool, true, false, cond, not, bit_or, List, map, length, get_or, replicate, refl, sym, ap, ◌∙◌, arith}
-use Rattle.std.proofs.lemmas.Bool.{not-true, not-false}
+use Rattle.mo_file.proofs.Prelude.{Bool, IsCommonPrefixIn, List, ap, arith, bit_or, cond, differs_or_stops_at, false, first_set, get_or, length, length-map, map, not, not-false, not-true, prefix_len, prefix_len-le-length, prefix_len_passes, prefix_len_stops, refl, replicate, sym, true, ℕ, ◌%◌, ◌+◌, ◌-◌, ◌<◌, ◌==◌, ◌^◌, ◌||◌, ◌∙◌, ◌≡◌, ◌≤◌}
 use Rattle.std.proofs.lemmas.Simd.{mask_l-mod, length-chunk, get_or-chunk, length-zip2, get_or-zip2, length-replicate, get_or-replicate, first_set_mask_l}
-use Rattle.std.proofs.lemmas.List.{length-map}
-use Rattle.std.proofs.lemmas.List.Sums.{prefix_len-le-length, prefix_len_passes, prefix_len_stops}
-use Rattle.std.specs.List.{prefix_len}
 use lib.Lanes.{chunk, zip2, mask_l, top}
-use Rattle.mo_file.specs.Internal.CommonPrefix.{IsCommonPrefixIn, differs_or_stops_at, first_set}
 
 module _ (stop : ℕ) (or ne eq : ℕ → ℕ → ℕ)
     (tops : (a b : ℕ) → top 7 (or (ne a b) (eq a stop)) ≡ (not (a == b) || a == stop))

@@ -1,17 +1,13 @@
 -- What stands before the first byte of a kind, and after it.
-use Rattle.std.proofs.Common.{◌≡◌, ◌≢◌, ℕ, ◌+◌, ◌<◌, ◌==◌, Bool, true, false, cond, List, [], ◌∷◌, ◌++◌, Option, None, Some, MatchOption, IfSome, refl, sym, ap, ◌∙◌, length, get_or, take, drop, slice_get, arith, append_assoc, length-append, All}
-use Rattle.std.specs.List.{list_any, before_first, after_first, position_or_len, slice_split}
+use Rattle.mo_file.proofs.Prelude.{All, Bool, IfSome, IsCut, Lacks, List, MatchOption, None, Option, Some, [], after_first, ap, append_assoc, arith, before_first, cond, context_of, drop, drop_at, false, false_from_ne_true, forms, get_or, get_or_append_left, get_or_at, id_of, is_eot, length, length-append, list_any, plural_of, position_or_len, position_or_len_is, refl, slice_split, sym, take, take_all, true, ℕ, ◌++◌, ◌+◌, ◌<◌, ◌==◌, ◌∙◌, ◌∷◌, ◌≡◌, ◌≢◌}
+use Rattle.std.proofs.Common.{slice_get}
 use Rattle.std.specs.Borrow.{Bor}
 use Rattle.std.proofs.Math.Seq.{take-append_seam}
-use Rattle.std.proofs.lemmas.Bool.{false_from_ne_true}
 use Rattle.std.proofs.lemmas.Bool.Decides.{Decides-eqb}
-use Rattle.std.proofs.lemmas.List.{drop_at, get_or_append_left, get_or_at, take_all}
 use Rattle.std.proofs.lemmas.List.Elements.{All-weaker}
 use Rattle.std.proofs.lemmas.List.Folds.{list_any_at, list_any_none}
 use Rattle.std.proofs.lemmas.List.Splits.{slice_split_none, slice_split_at}
-use Rattle.std.proofs.lemmas.List.Sums.{position_or_len_is}
 use Rattle.std.specs.Prelude.{slice_index_or}
-use Rattle.mo_file.specs.Prelude.{IsCut, Lacks, context_of, forms, id_of, is_eot, plural_of}
 
 module _ (byte : ℕ) where
   abbrev is : ℕ → Bool

@@ -1,14 +1,5 @@
 -- Faults: one byte order is shown, and which fault comes first.
-use Rattle.std.proofs.lemmas.Bool.{cases_lt}
-use Rattle.std.proofs.Common.{◌≡◌, ◌⊎◌, ℕ, ◌+◌, ◌*◌, ◌<◌, ◌≤◌, List, length, Option, None, Some, MatchOption, unwrap_or, refl, sym, ◌∙◌, ap, subst, arith, inl, inr}
-use Rattle.mo_file.specs.declared.byte_order.Order.{Order}
-use Rattle.mo_file.specs.declared.byte_order.Order.TheVariants.{Little, Big}
-use Rattle.mo_file.specs.declared.fault.MoError.{MoError}
-use Rattle.mo_file.specs.declared.fault.MoError.TheVariants.{TooShort, BadMagic, BadRevision, TableOutside}
-use Rattle.mo_file.specs.declared.fault.MoError.TheVariants.{StringOutside, NoTerminator, NotSorted}
-use Rattle.mo_file.specs.declared.file_header.FileHeader.{FileHeader}
-use Rattle.mo_file.specs.Prelude.{HasMagicOf, message_count, originals_table, revision, translations_table, Message, IsMoFile, HasFault, HasFaultIn, IsBefore, IsFirstFault, IsNotRising}
-use Rattle.mo_file.specs.Internal.Checking.{AreRisingBelow, HasStrings, IsChecked, IsHeader}
+use Rattle.mo_file.proofs.Prelude.{AreRisingBelow, BadMagic, BadRevision, Big, FileHeader, HasFault, HasFaultIn, HasMagicOf, HasStrings, IsBefore, IsChecked, IsFirstFault, IsHeader, IsMoFile, IsNotRising, List, Little, MatchOption, Message, MoError, NoTerminator, None, NotSorted, Option, Order, Some, StringOutside, TableOutside, TooShort, ap, arith, cases_lt, inl, inr, length, message_count, originals_table, refl, revision, subst, sym, translations_table, unwrap_or, ℕ, ◌*◌, ◌+◌, ◌<◌, ◌∙◌, ◌≡◌, ◌≤◌, ◌⊎◌}
 
 pub not_below : (a b : ℕ) → ¬ (a < b) → b ≤ a
 not_below a b not = elim (cases_lt a b) [ inl below ↦ absurd (not below) | inr at ↦ omega (arith, at) ]

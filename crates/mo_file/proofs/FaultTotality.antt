@@ -1,13 +1,6 @@
 -- Every byte string is a valid file or has a first fault, and one first fault at most.
-use Rattle.std.proofs.Common.{◌≡◌, ◌≢◌, ◌⊎◌, ℕ, zero, suc, ◌+◌, ◌-◌, ◌*◌, ◌/◌, ◌<◌, ◌==◌, List, [], ◌∷◌, Option, None, Some, length, take, slice_get, cond, refl, sym, ◌∙◌, ap, subst, arith, inl, inr, ⊎_elim}
-use Rattle.std.proofs.lemmas.Bool.{cases_lt, cases_order}
-use Rattle.std.specs.declared.cmp.Ordering.{Ordering}
-use Rattle.std.specs.declared.cmp.Ordering.TheVariants.{Less, Equal, Greater}
-use Rattle.mo_file.specs.declared.byte_order.Order.{Order}
-use Rattle.mo_file.specs.declared.byte_order.Order.TheVariants.{Little, Big}
-use Rattle.mo_file.specs.declared.fault.MoError.{MoError}
-use Rattle.mo_file.specs.declared.fault.MoError.TheVariants.{TooShort, BadMagic, BadRevision, TableOutside, StringOutside, NoTerminator, NotSorted}
-use Rattle.mo_file.specs.Prelude.{HasMagicOf, magic, revision, message_count, originals_table, translations_table, end_at, original_at, messages_of, key_of, key_cmp, Message, IsMoFile, HasFault, HasFaultIn, IsFirstFault, IsNotRising, IsOutside, IsUnterminated, kind, index}
+use Rattle.mo_file.proofs.Prelude.{BadMagic, BadRevision, Big, Equal, Greater, HasFault, HasFaultIn, HasMagicOf, IsFirstFault, IsMoFile, IsNotRising, IsOutside, IsUnterminated, Less, List, Little, Message, MoError, NoTerminator, None, NotSorted, Option, Order, Ordering, Some, StringOutside, TableOutside, TooShort, [], ap, arith, cases_lt, cases_order, cond, end_at, index, inl, inr, key_cmp, key_of, kind, length, magic, message_count, messages_of, original_at, originals_table, refl, revision, subst, suc, sym, take, translations_table, zero, ℕ, ⊎_elim, ◌*◌, ◌+◌, ◌-◌, ◌/◌, ◌<◌, ◌==◌, ◌∙◌, ◌∷◌, ◌≡◌, ◌≢◌, ◌⊎◌}
+use Rattle.std.proofs.Common.{slice_get}
 use Rattle.mo_file.proofs.FaultLemmas.{HasFaultIn-shown}
 
 -- a fact holds or it doesn't

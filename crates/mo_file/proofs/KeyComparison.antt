@@ -1,16 +1,7 @@
 -- How the keys of two texts compare, by where their common prefix ends.
-use Rattle.std.proofs.Common.{◌≡◌, ◌≢◌, Option, None, Some, ℕ, zero, suc, ◌+◌, ◌-◌, ◌<◌, ◌≤◌, ◌==◌, ◌||◌, Bool, true, false, cond, not, List, [], ◌∷◌, ◌++◌, length, take, drop, get_or, refl, sym, ap, ◌∙◌, arith, inl, inr}
-use Rattle.std.specs.Ordering.{nat_cmp, ordering_then}
-use Rattle.std.specs.declared.cmp.Ordering.{Ordering}
-use Rattle.std.specs.declared.cmp.Ordering.TheVariants.{Less, Equal, Greater}
+use Rattle.mo_file.proofs.Prelude.{AreEqualBetween, Bool, Equal, Greater, IsCommonPrefix, Less, List, None, Option, Ordering, Some, [], ap, append-nil, arith, cases_eq, cases_lt, cond, drop, drop_all, eq-eqb, false, get_or, get_or-drop, inl, inr, is_nul, key_cmp, key_of, length, length-drop, nat_cmp, ne_eqb, not, ordering_then, prefix_len, refl, slice_get, slice_range, suc, sym, take, take_all, true, unwrap_or-slice_get, zero, ℕ, ◌++◌, ◌+◌, ◌-◌, ◌<◌, ◌==◌, ◌||◌, ◌∙◌, ◌∷◌, ◌≡◌, ◌≢◌, ◌≤◌}
 use Rattle.std.specs.Cmp.{nat_cmp_is}
-use Rattle.std.specs.List.{prefix_len, slice_get, slice_range}
-use Rattle.std.proofs.lemmas.Bool.{cases_eq, cases_lt, eq-eqb, ne_eqb}
 use Rattle.std.specs.Option.{unwrap_or}
-use Rattle.std.proofs.lemmas.Option.{unwrap_or-slice_get}
-use Rattle.std.proofs.lemmas.List.{append-nil, drop_all, get_or-drop, length-drop, take_all}
-use Rattle.mo_file.specs.Prelude.{is_nul, key_of, key_cmp}
-use Rattle.mo_file.specs.Internal.CommonPrefix.{AreEqualBetween, IsCommonPrefix}
 
 key_of-cut : (a : ℕ) (xs : List ℕ) (b : Bool) → (a == 0) ≡ b
     → key_of (a ∷ xs) ≡ take (cond (not b) (1 + prefix_len (λ x. not (is_nul x)) xs) 0) (a ∷ xs)

@@ -1,14 +1,7 @@
 -- Reading what is laid out: where a part of a file stands, one word, one descriptor of a table with
 -- its string.
-use Rattle.std.proofs.Common.{◌≡◌, ℕ, zero, suc, ◌+◌, ◌*◌, ◌-◌, ◌^◌, ◌<◌, List, [], ◌∷◌, ◌++◌}
-use Rattle.std.proofs.Common.{length, take, drop, Some, refl, ◌∙◌, ap, arith, append_assoc, length-append}
-use Rattle.std.specs.List.{slice_get, slice_range}
-use Rattle.std.proofs.lemmas.List.{take_at, drop_at, length-take-le}
-use Rattle.std.proofs.lemmas.Option.{slice_get_within}
+use Rattle.mo_file.proofs.Prelude.{Big, List, Little, Order, Some, [], ap, append_assoc, arith, drop, drop_at, end_at, length, length-append, length-take-le, offset_at, refl, slice_get, slice_get_within, slice_range, string_at, suc, table, take, take_at, terminated, word_at, word_bytes, zero, ℕ, ◌*◌, ◌++◌, ◌+◌, ◌-◌, ◌<◌, ◌^◌, ◌∙◌, ◌∷◌, ◌≡◌}
 use Rattle.byteorder.specs.Numbers.{big_number-reads_back, little_number-reads_back}
-use Rattle.mo_file.specs.declared.byte_order.Order.{Order}
-use Rattle.mo_file.specs.declared.byte_order.Order.TheVariants.{Little, Big}
-use Rattle.mo_file.specs.Prelude.{word_at, word_bytes, end_at, offset_at, string_at, table, terminated}
 use Rattle.mo_file.proofs.BuildLemmas.{length-word_bytes, length-table}
 
 -- a part of a file stands at an offset

@@ -1,14 +1,8 @@
 -- Keys that rise: which of them is below which, and when those of a list rise.
-use Rattle.std.proofs.Common.{◌≡◌, ◌≢◌, ◌↔◌, ℕ, zero, suc, ◌+◌, ◌-◌, ◌<◌, Bool, true, false, IsTrue, List, [], ◌∷◌, length, map, get_or, refl, sym, ap, ap₂, ◌∙◌, subst, arith, AllPairs}
-use Rattle.std.specs.List.{IsAllAdjacentAnswer}
+use Rattle.mo_file.proofs.Prelude.{AllPairs, AreRising, Bool, Equal, Greater, IsAllAdjacentAnswer, IsTrue, Less, List, Message, Ordering, [], ap, ap₂, arith, false, get_or, get_or-map, is_lt, key_at, key_cmp, key_of, keys, length, length-map, map, ordering_reverse, refl, subst, suc, sym, true, zero, ℕ, ◌+◌, ◌-◌, ◌<◌, ◌↔◌, ◌∙◌, ◌∷◌, ◌≡◌, ◌≢◌}
 use Rattle.std.specs.List.Sorted.{IsSortedBy}
-use Rattle.std.specs.Ordering.{is_lt, ordering_reverse}
-use Rattle.std.specs.declared.cmp.Ordering.{Ordering}
-use Rattle.std.specs.declared.cmp.Ordering.TheVariants.{Less, Equal, Greater}
 use Rattle.std.proofs.lemmas.Cmp.{nat_list_cmp_total, tied_itself}
-use Rattle.std.proofs.lemmas.List.{get_or-map, length-map}
 use Rattle.std.proofs.lemmas.Map.Lookups.{exact_bytes}
-use Rattle.mo_file.specs.Prelude.{AreRising, key_at, key_cmp, key_of, keys, Message}
 
 pub equal_is_same : (x y : List ℕ) → key_cmp x y ≡ Equal → x ≡ y
 equal_is_same x y equal = exact_bytes x y equal

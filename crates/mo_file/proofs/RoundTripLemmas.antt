@@ -1,14 +1,6 @@
 -- What is laid out is a valid file, of whatever revision it is.
-use Rattle.std.proofs.Common.{◌≡◌, ℕ, suc, ◌+◌, ◌*◌, ◌/◌, ◌^◌, ◌<◌, ◌≤◌, List, [], ◌∷◌, ◌++◌, length, take, drop, Some, refl, sym, ◌∙◌, ap, subst, arith, append_assoc, length-append, inl, inr}
-use Rattle.std.specs.List.{slice_get}
-use Rattle.std.specs.Option.{option_map}
-use Rattle.std.proofs.lemmas.List.{append-nil, length-map, take_at, drop_at}
-use Rattle.std.proofs.lemmas.Option.{slice_get-map, slice_get_cases, slice_get_past}
-use Rattle.mo_file.specs.declared.byte_order.Order.{Order}
-use Rattle.mo_file.specs.declared.file_header.FileHeader.{FileHeader}
-use Rattle.mo_file.specs.Prelude.{word_bytes, HasMagicOf, hash_size, magic, revision, message_count, originals_table, translations_table, Message, originals, translations, AreRising, keys, messages_of, message_at, layout, originals_offset, table, terminated, translations_offset, IsKnownMajor, layout_of_revision, KnownRevisionsAreValid, LayoutIsMoFile, NoHashTableIsLaidOut, IsMoFile}
+use Rattle.mo_file.proofs.Prelude.{AreRising, AreRisingBelow, FileHeader, HasMagicOf, HasStrings, IsHeader, IsKnownMajor, IsMoFile, KnownRevisionsAreValid, LayoutIsMoFile, List, Message, NoHashTableIsLaidOut, Order, Some, [], ap, append-nil, append_assoc, arith, drop, drop_at, hash_size, inl, inr, keys, layout, layout_of_revision, length, length-append, length-map, magic, message_at, message_count, messages_of, option_map, originals, originals_offset, originals_table, refl, revision, slice_get, slice_get-map, slice_get_cases, slice_get_past, subst, suc, sym, table, take, take_at, terminated, translations, translations_offset, translations_table, word_bytes, ℕ, ◌*◌, ◌++◌, ◌+◌, ◌/◌, ◌<◌, ◌^◌, ◌∙◌, ◌∷◌, ◌≡◌, ◌≤◌}
 use Rattle.mo_file.specs.Laws.{zeroth, first}
-use Rattle.mo_file.specs.Internal.Checking.{AreRisingBelow, HasStrings, IsHeader}
 use Rattle.mo_file.proofs.BuildLemmas.{length-layout, length-magic, length-table, length-word_bytes}
 use Rattle.mo_file.proofs.FaultLemmas.{faultless}
 use Rattle.mo_file.proofs.LayoutLemmas.{IsString, IsString-laid_out, StandsAt, word_at-StandsAt}

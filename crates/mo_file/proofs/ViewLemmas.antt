@@ -1,16 +1,6 @@
 -- The messages of a file: how many they are, what stands at an index, and that their keys rise.
-use Rattle.std.proofs.Common.{◌≡◌, ◌≢◌, ℕ, ◌+◌, ◌<◌, ◌≤◌, List, [], length, map, Option, None, Some, refl, ◌∙◌, ap, arith, inl, inr}
-use Rattle.std.specs.List.{slice_get, slice_range}
-use Rattle.std.specs.Option.{option_map}
-use Rattle.std.specs.declared.cmp.Ordering.{Ordering}
-use Rattle.std.specs.declared.cmp.Ordering.TheVariants.{Less, Equal, Greater}
-use Rattle.std.proofs.lemmas.List.{length-map}
+use Rattle.mo_file.proofs.Prelude.{AreRising, AreRisingBelow, Equal, FileHeader, Greater, IsChecked, IsStringAt, Less, List, Message, None, Option, Order, Ordering, Some, [], ap, arith, end_at, get_or_from_slice_get, inl, inr, key_at, key_of, keys, length, length-map, map, message_at, message_count, messages_of, offset_at, option_map, original_at, refl, slice_get, slice_get-get_or, slice_get-map, slice_get_within, slice_range, string_at, translation_at, ℕ, ◌+◌, ◌<◌, ◌∙◌, ◌≡◌, ◌≢◌, ◌≤◌}
 use Rattle.std.proofs.lemmas.List.FromFn.{length-map-range_with_len, get_or-map-range_with_len}
-use Rattle.std.proofs.lemmas.Option.{slice_get_within, slice_get-map, slice_get-get_or, get_or_from_slice_get}
-use Rattle.mo_file.specs.declared.byte_order.Order.{Order}
-use Rattle.mo_file.specs.Prelude.{Message, key_of, keys, key_at, AreRising, message_count, end_at, message_at, messages_of, offset_at, original_at, string_at, translation_at, IsStringAt}
-use Rattle.mo_file.specs.declared.file_header.FileHeader.{FileHeader}
-use Rattle.mo_file.specs.Internal.Checking.{AreRisingBelow, IsChecked}
 use Rattle.mo_file.proofs.KeyComparison.{some_nul}
 
 not_unequal : (order : Ordering) → ¬ (order ≢ Less) → order ≡ Less

@@ -1,8 +1,7 @@
 -- The bound of a search: it doesn't depend on the allowance of its recursion, rises, and is a
 -- logarithm.
-use Rattle.std.proofs.Common.{ℕ, zero, suc, ◌≡◌, ◌+◌, ◌-◌, ◌*◌, ◌/◌, ◌^◌, ◌<◌, ◌≤◌, refl, ap, arith, max, one-add}
+use Rattle.mo_lookup.proofs.Prelude.{ap, arith, halvings_within, max, one-add, refl, search_bound, suc, zero, ℕ, ◌*◌, ◌+◌, ◌-◌, ◌/◌, ◌<◌, ◌^◌, ◌≡◌, ◌≤◌}
 use Rattle.std.proofs.Math.Nat.{pow-succ'}
-use Rattle.mo_lookup.specs.Prelude.{halvings_within, search_bound}
 
 within_same : (most more n : ℕ) → n ≤ most → n ≤ more → halvings_within most n ≡ halvings_within more n
 within_same zero zero n _ _ = refl

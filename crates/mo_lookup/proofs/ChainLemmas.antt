@@ -1,15 +1,8 @@
 -- The first catalogue of a chain that translates a query.
-use Rattle.std.proofs.Common.{◌≡◌, ℕ, suc, ◌+◌, ◌*◌, ◌<◌, ◌≤◌, Bool, true, false, List, [], ◌∷◌, ◌++◌, Option, None, Some, inl, inr, if◌then◌else◌, min, length, length-append, take, drop, get_or, slice_get, refl, sym, ◌∙◌, ap, arith}
+use Rattle.mo_lookup.proofs.Prelude.{AnswerView, Bool, CatalogView, ChainAsksAll, ChainAsksNone, ChainAsksUpToFirst, List, Message, None, NoneHas, Option, Query, Some, [], answer, answered, answering_nodes, ap, arith, asked, can_be_key, cases_Bool, chain_answered, chain_bound, chain_comparisons, drop, drop_all, find, find_at, forms_found, get_or, inl, inr, is_some, length, length-append, min, option_map_or, position_or_len, refl, slice_get, slice_get-get_or, slice_get_past, suc, sym, take, translated, translates, true, untranslated, ℕ, ◌*◌, ◌++◌, ◌+◌, ◌<◌, ◌∙◌, ◌∷◌, ◌≡◌, ◌≤◌}
+use Rattle.std.proofs.Common.{if◌then◌else◌}
 use Rattle.std.proofs.Math.Seq.{drop-cons}
-use Rattle.std.proofs.lemmas.List.{drop_all}
-use Rattle.std.proofs.lemmas.List.Folds.{find_at}
-use Rattle.std.proofs.lemmas.Option.{slice_get-get_or, slice_get_past}
-use Rattle.std.specs.List.{find, position_or_len}
-use Rattle.std.specs.Option.{is_some, option_map_or}
 use Rattle.plural_rule.specs.Prelude.{nodes, RuleView}
-use Rattle.mo_file.specs.Prelude.{Message}
-use Rattle.mo_lookup.specs.Prelude.{ChainAsksAll, ChainAsksNone, ChainAsksUpToFirst, NoneHas, Query, can_be_key, AnswerView, answer, translated, untranslated, CatalogView, answered, forms_found, answering_nodes, asked, chain_answered, chain_bound, chain_comparisons, translates}
-use Rattle.std.proofs.lemmas.Bool.{cases_Bool}
 
 translated-found : (fs : List (List ℕ)) (rule : RuleView) (plural : Option (List ℕ × ℕ)) →
     (translated fs rule plural).found ≡ true

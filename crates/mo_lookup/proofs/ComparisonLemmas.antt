@@ -1,10 +1,6 @@
 -- The comparisons of a binary search: among a range of keys, and at most the bound.
-use Rattle.std.proofs.Common.{ℕ, zero, suc, ◌≡◌, ◌+◌, ◌-◌, ◌/◌, ◌<◌, ◌≤◌, List, [], ◌∷◌, length, take, drop, refl, sym, ap, ◌∙◌, arith}
-use Rattle.std.specs.declared.cmp.Ordering.{Ordering}
-use Rattle.std.specs.declared.cmp.Ordering.TheVariants.{Less, Equal, Greater}
-use Rattle.std.proofs.lemmas.List.{length-take, length-drop, get_or-take, get_or-drop, take-take, drop-take, drop-drop}
-use Rattle.mo_file.specs.Prelude.{key_at, key_cmp}
-use Rattle.mo_lookup.specs.Prelude.{search_bound, half, keys_left, comparisons_within, comparisons}
+use Rattle.mo_lookup.proofs.Prelude.{Equal, Greater, Less, List, Ordering, [], ap, arith, comparisons, comparisons_within, drop, drop-drop, drop-take, get_or-drop, get_or-take, half, key_at, key_cmp, keys_left, length, length-take, refl, search_bound, suc, sym, take, take-take, zero, ℕ, ◌+◌, ◌-◌, ◌/◌, ◌<◌, ◌∙◌, ◌∷◌, ◌≡◌, ◌≤◌}
+use Rattle.std.proofs.lemmas.List.{length-drop}
 use Rattle.mo_lookup.proofs.BoundLemmas.{search_bound-halves, search_bound-rises}
 
 half-short : (order : Ordering) (ks : List (List ℕ)) → length (half order ks) ≤ length ks / 2

@@ -1,15 +1,7 @@
 -- The forms of a translation, by its NULs.
-use Rattle.std.proofs.Common.{◌≡◌, ◌⊎◌, ℕ, zero, suc, ◌+◌, ◌-◌, ◌<◌, ◌≤◌, ◌==◌, true, false, List, [], ◌∷◌, Option, None, Some, min, length, take, drop, get_or, slice_get, refl, sym, ◌∙◌, ap, inl, inr, arith, length-drop}
-use Rattle.std.proofs.lemmas.List.{drop-drop, get_or-drop, take_rest}
-use Rattle.std.proofs.lemmas.Bool.{cases_eq, false_from_ne_true, ne_eqb, lt-ltb, le-ltb}
-use Rattle.std.specs.List.{position_or_len, slice_range}
-use Rattle.std.proofs.lemmas.List.Sums.{position_or_len_is}
+use Rattle.mo_lookup.proofs.Prelude.{All-from_get_or, IsFormAt, List, None, NoneBefore, Nowhere, Option, Passes, Some, [], ap, arith, cases_eq, drop, drop-drop, false, false_from_ne_true, form_at, forms, get_or, get_or-drop, get_or_from_slice_get, inl, inr, is_byte, is_nul, le-ltb, length, length-drop, lt-ltb, min, ne_eqb, position_or_len, position_or_len_is, refl, selected_form, slice_get, slice_get-get_or, slice_get_within, suc, sym, take, take_rest, true, zero, ℕ, ◌+◌, ◌-◌, ◌<◌, ◌==◌, ◌∙◌, ◌∷◌, ◌≡◌, ◌≤◌, ◌⊎◌}
+use Rattle.std.specs.List.{slice_range}
 use Rattle.std.proofs.lemmas.List.Splits.{slice_split_first, slice_split_none, length-slice_split}
-use Rattle.std.proofs.lemmas.List.Elements.{All-from_get_or}
-use Rattle.std.proofs.lemmas.Option.{get_or_from_slice_get, slice_get-get_or, slice_get_within}
-use Rattle.memchr.specs.Find.{NoneBefore, Nowhere, Passes, is_byte}
-use Rattle.mo_file.specs.Prelude.{is_nul, forms}
-use Rattle.mo_lookup.specs.Prelude.{form_at, selected_form, IsFormAt}
 
 -- a translation with a NUL: its first form stands before it, the others are the forms of what
 -- stands after it

@@ -1,13 +1,7 @@
 -- Where a form of a translation stands in the file.
-use Rattle.std.proofs.Common.{◌≡◌, refl, ℕ, ◌+◌, ◌-◌, ◌<◌, ◌≤◌, ◌==◌, Bool, true, false, ◌⊎◌, List, [], Option, None, Some, length, take, drop, slice_get, slice_range, unwrap_or, subst, sym, ap, ◌∙◌, inl, inr, arith, length-drop}
-use Rattle.std.proofs.lemmas.List.{drop-drop, get_or-drop, get_or-take, length-take, take-take}
+use Rattle.mo_lookup.proofs.Prelude.{Bool, FileView, IsFormAt, IsPlace, IsStringAt, IsTranslationAt, List, None, Option, Query, Some, [], ap, arith, drop, drop-drop, false, get_or-drop, get_or-take, get_or_from_slice_get, if◌then◌else◌, inl, inr, length, length-drop, length-take, located_view, option_map_or, refl, slice_get, slice_get-get_or, slice_get_within, slice_range, subst, sym, take, take-take, translations, true, untranslated_place, untranslated_text, unwrap_or, ℕ, ◌+◌, ◌-◌, ◌<◌, ◌==◌, ◌∙◌, ◌≡◌, ◌≤◌, ◌⊎◌}
 use Rattle.std.proofs.lemmas.Slice.{between_is}
-use Rattle.std.proofs.lemmas.Option.{get_or_from_slice_get, slice_get-get_or, slice_get_within}
-use Rattle.mo_file.specs.Prelude.{FileView, IsStringAt, IsTranslationAt, translations}
-use Rattle.std.specs.Prelude.{if◌then◌else◌}
-use Rattle.mo_lookup.specs.Prelude.{untranslated_text, IsFormAt, IsPlace, located_view, untranslated_place, Query}
 use Rattle.mo_lookup.specs.declared.place.Located.{Located}
-use Rattle.std.specs.Option.{option_map_or}
 use Rattle.mo_lookup.specs.declared.place.Place.TheVariants.{Id, Plural}
 
 -- a part without its first bytes

@@ -1,14 +1,5 @@
 -- A text has no separator where none is found in it, and then it lacks NUL and EOT.
-use Rattle.std.proofs.Common.{◌≡◌, ℕ, ◌<◌, ◌==◌, Bool, true, false, not, List, Option, None, Some, length, get_or, slice_get, refl, sym, ap, ◌∙◌, arith}
-use Rattle.std.specs.Prelude.{◌↔◌}
-use Rattle.std.specs.Option.{is_some}
-use Rattle.std.proofs.lemmas.List.Elements.{All-from_get_or}
-use Rattle.std.proofs.lemmas.List.Folds.{list_any_at, list_any_none}
-use Rattle.std.proofs.lemmas.Bool.{and_from, and_parts, false_from_ne_true, ne_eqb, not-true, or_from, or_right}
-use Rattle.std.proofs.lemmas.Option.{get_or_from_slice_get, slice_get-get_or, slice_get_within}
-use Rattle.std.specs.List.{list_any}
-use Rattle.mo_lookup.specs.Prelude.{LacksNulAndEot, is_separator, has_no_separator, can_be_key}
-use Rattle.memchr.specs.Find.{IsFirstByte, is_byte}
+use Rattle.mo_lookup.proofs.Prelude.{All-from_get_or, Bool, IsFirstByte, LacksNulAndEot, List, None, Option, Some, and_from, and_parts, ap, arith, can_be_key, false, false_from_ne_true, get_or, get_or_from_slice_get, has_no_separator, is_byte, is_separator, is_some, length, list_any, list_any_at, list_any_none, ne_eqb, not, not-true, or_from, or_right, refl, slice_get, slice_get-get_or, slice_get_within, sym, true, ℕ, ◌<◌, ◌==◌, ◌↔◌, ◌∙◌, ◌≡◌}
 
 -- a text where no NUL is found has no separator where no EOT is found either
 pub no_separator_by_eot : (text : List ℕ) (nul eot : Option ℕ) (no_nul no_eot : Bool) →

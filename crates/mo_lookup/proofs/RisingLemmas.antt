@@ -1,10 +1,6 @@
 -- Keys that rise strictly: what one comparison says of all keys before or after it.
-use Rattle.std.proofs.Common.{ℕ, ◌≡◌, ◌≢◌, ◌+◌, ◌<◌, ◌≤◌, List, length, sym, subst, inl, inr, arith}
-use Rattle.std.specs.declared.cmp.Ordering.TheVariants.{Less, Greater}
+use Rattle.mo_lookup.proofs.Prelude.{AreRising, Greater, Less, List, arith, cases_lt, greater_is_less, inl, inr, key_at, key_cmp, length, less_is_other, rising_between, subst, sym, ℕ, ◌+◌, ◌<◌, ◌≡◌, ◌≢◌, ◌≤◌}
 use Rattle.std.proofs.lemmas.Cmp.{nat_list_cmp_total}
-use Rattle.std.proofs.lemmas.Bool.{cases_lt}
-use Rattle.mo_file.specs.Prelude.{AreRising, key_at, key_cmp}
-use Rattle.mo_file.proofs.RisingKeys.{greater_is_less, less_is_other, rising_between}
 
 -- where key m is below another key, none up to m is that key
 pub none_up_to : (ks : List (List ℕ)) (key : List ℕ) (m : ℕ) → AreRising ks → m < length ks

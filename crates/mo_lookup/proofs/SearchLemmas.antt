@@ -1,12 +1,7 @@
 -- The binary search: what holds of a range of keys, at its start and after each comparison.
-use Rattle.std.proofs.Common.{◌≡◌, ◌≢◌, ℕ, ◌+◌, ◌-◌, ◌/◌, ◌^◌, ◌<◌, ◌≤◌, List, Some, length, sym, ◌∙◌, arith}
-use Rattle.std.specs.declared.cmp.Ordering.{Ordering}
-use Rattle.std.specs.declared.cmp.Ordering.TheVariants.{Less, Equal, Greater}
-use Rattle.mo_file.specs.Prelude.{AreRising, key_at, key_cmp}
-use Rattle.mo_lookup.specs.Prelude.{search_bound, comparisons, IsIndexOf}
+use Rattle.mo_lookup.proofs.Prelude.{AreRising, Equal, Greater, IsIndexOf, Less, List, Ordering, Some, arith, comparisons, equal_is_same, key_at, key_cmp, length, search_bound, sym, ℕ, ◌+◌, ◌-◌, ◌/◌, ◌<◌, ◌^◌, ◌∙◌, ◌≡◌, ◌≢◌, ◌≤◌}
 use Rattle.mo_lookup.proofs.BoundLemmas.{search_bound-at_most_32}
 use Rattle.mo_lookup.proofs.ComparisonLemmas.{AreCompared, AreCompared-less, AreCompared-greater, AreCompared-equal, AreCompared-none, comparisons-bound}
-use Rattle.mo_file.proofs.RisingKeys.{equal_is_same}
 use Rattle.mo_lookup.proofs.RisingLemmas.{none_up_to, none_from}
 
 -- no key outside the range from low to high is the one, and what was counted leaves the comparisons

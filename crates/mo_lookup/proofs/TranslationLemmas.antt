@@ -1,19 +1,7 @@
 -- The translation under a key, by the index of the key among rising keys.
-use Rattle.std.specs.Prelude.{MatchOption}
-use Rattle.std.proofs.Common.{◌≡◌, ◌≢◌, ℕ, ◌<◌, true, false, List, [], ◌∷◌, Option, None, Some, length, subst, get_or, slice_get, sym, ◌∙◌, ap, inl, inr, arith}
-use Rattle.std.specs.declared.cmp.Ordering.TheVariants.{Less, Equal}
-use Rattle.std.specs.List.{position_or_len}
-use Rattle.std.specs.Option.{option_map, option_map_or, option_and_then}
+use Rattle.mo_lookup.proofs.Prelude.{AreRising, Equal, IsIndexOf, Less, List, MatchOption, Message, None, Option, Some, [], ap, arith, cases_lt, equal_is_same, false, false_from_ne_true, find_at, form_at, forms, get_or, get_or-map, header_text, inl, inr, key_at, key_cmp, key_of, keys, length, length-map, less_is_other, option_and_then, option_map, option_map_or, position_or_len, position_or_len_is, rising_between, slice_get, slice_get-map, slice_get_past, subst, sym, translation_under, translations, true, ℕ, ◌<◌, ◌∙◌, ◌∷◌, ◌≡◌, ◌≢◌}
 use Rattle.std.specs.Str.{bytes_eq}
-use Rattle.std.proofs.lemmas.List.{get_or-map, length-map}
-use Rattle.std.proofs.lemmas.List.Sums.{position_or_len_is}
-use Rattle.std.proofs.lemmas.List.Folds.{find_at}
-use Rattle.std.proofs.lemmas.Option.{slice_get-map, slice_get_past}
 use Rattle.std.proofs.lemmas.Slice.Eq.{bytes_eq-Decides}
-use Rattle.std.proofs.lemmas.Bool.{cases_lt, false_from_ne_true}
-use Rattle.mo_file.specs.Prelude.{Message, translations, AreRising, key_of, keys, key_at, key_cmp, forms}
-use Rattle.mo_lookup.specs.Prelude.{IsIndexOf, form_at, header_text, translation_under}
-use Rattle.mo_file.proofs.RisingKeys.{equal_is_same, less_is_other, rising_between}
 
 -- what is read after the end of a list of messages
 no_message : Message

@@ -1,9 +1,5 @@
 -- Entries of which one is changed in its place, or in a copy behind them.
-use Rattle.std.proofs.Common.{◌≡◌, ◌≢◌, ◌∙◌, sym, ℕ, ◌+◌, zero, suc, ◌<◌, Bool, List, [], ◌∷◌, ◌++◌, length, get_or, refl, ap, arith, inl, inr}
-use Rattle.std.proofs.lemmas.List.{get_or_append_left, get_or_push, length_push}
-use Rattle.po_entry.specs.Prelude.{TextEntry, changed_at, set_fuzzy, set_obsolete}
-use Rattle.msgattrib.specs.declared.selection.Selection.{Selection}
-use Rattle.msgattrib.specs.Prelude.{IsChangedAt, changed}
+use Rattle.msgattrib.proofs.Prelude.{Bool, IsChangedAt, List, Selection, TextEntry, [], ap, arith, changed, changed_at, get_or, get_or_append_left, get_or_push, inl, inr, length, length_push, refl, set_fuzzy, set_obsolete, suc, sym, zero, ℕ, ◌++◌, ◌+◌, ◌<◌, ◌∙◌, ◌∷◌, ◌≡◌, ◌≢◌}
 
 pub same_length : (f : TextEntry → TextEntry) (index : ℕ) (entries : List TextEntry)
     → length (changed_at f index entries) ≡ length entries

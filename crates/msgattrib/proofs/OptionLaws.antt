@@ -1,12 +1,6 @@
 -- What each option keeps, removes and changes.
-use Rattle.std.proofs.Common.{◌≡◌, ◌≢◌, ◌⊎◌, ℕ, Bool, true, false, not, ◌&&◌, ◌||◌, ◌==◌, List, [], ◌∷◌, All, map, length, refl, sym, ap, ◌∙◌, inl, inr, arith, if◌then◌else◌}
-use Rattle.std.proofs.Math.Bool.{and-false, and-true}
+use Rattle.msgattrib.proofs.Prelude.{All, All-map, All-weaker, AllButHeader, Bool, ClearsFuzzy, ClearsObsolete, ClearsPrevious, Empties, FormsStay, IsUnwanted, KeepsFuzzy, KeepsObsolete, KeepsTranslated, KeepsUntranslated, List, MarksStay, RemovesFuzzy, RemovesObsolete, RestStays, Selection, SetsFuzzy, SetsObsolete, TextEntry, [], and-false, and-true, ap, arith, false, filter_passes, first_form, fuzzy_after, has_translation, if_given, if◌then◌else◌, inl, inr, is_header, is_kept, is_live_header, kept, length, length-map, map, meets, not, refl, sym, true, ℕ, ◌&&◌, ◌==◌, ◌||◌, ◌∙◌, ◌∷◌, ◌≡◌, ◌≢◌, ◌⊎◌}
 use Rattle.std.proofs.lemmas.Bool.{and_parts, false≢true, ne_eqb, not-false, not-true, or_parts}
-use Rattle.std.proofs.lemmas.List.{length-map}
-use Rattle.std.proofs.lemmas.List.Elements.{All-map, All-weaker, filter_passes}
-use Rattle.po_entry.specs.Prelude.{TextEntry, is_header, first_form, is_live_header, has_translation}
-use Rattle.msgattrib.specs.declared.selection.Selection.{Selection}
-use Rattle.msgattrib.specs.Prelude.{fuzzy_after, if_given, is_kept, meets, AllButHeader, ClearsFuzzy, ClearsObsolete, ClearsPrevious, Empties, FormsStay, IsUnwanted, KeepsFuzzy, KeepsObsolete, KeepsTranslated, KeepsUntranslated, MarksStay, RemovesFuzzy, RemovesObsolete, RestStays, SetsFuzzy, SetsObsolete, kept}
 
 given : (option condition : Bool) → if_given option condition ≡ true → option ≡ true → condition ≡ true
 given true condition h is = h

@@ -1,17 +1,11 @@
 -- What is selected of the entries of a text.
-use Rattle.std.proofs.Common.{◌≡◌, ◌≢◌, refl, sym, ap, ap₂, subst, ◌∙◌, ℕ, ◌+◌, ◌<◌, Bool, true, false, ◌&&◌, ◌||◌, List, [], ◌∷◌, ◌++◌, AllPairs, map, filter, inl, inr, get_or, length, take, append_assoc}
-use Rattle.std.proofs.lemmas.List.{map-append, take_more}
-use Rattle.std.proofs.lemmas.List.Elements.{filter-append, filter_agree}
+use Rattle.msgattrib.proofs.Prelude.{AddsParts, AllDiffer, AllPairs, AreSelected, Bool, HasNoDuplicate, HaveNoDuplicate, IsDuplicateFaultOf, IsMsgattribRun, IsSameMessage, IsSelectionFault, List, ReadsText, Selection, TextEntry, [], ap, append_assoc, ap₂, changed, entry_message, error_line, false, filter, filter-append, filter_agree, get_or, hashes_of, inl, inr, is_kept, is_live, length, map, map-append, may_repeat, message_hash, refl, selected, stays_live, subst, sym, take, take_more, true, ℕ, ◌&&◌, ◌++◌, ◌+◌, ◌<◌, ◌||◌, ◌∙◌, ◌∷◌, ◌≡◌, ◌≢◌}
 use Rattle.std.proofs.lemmas.List.Kept.{AllPairs-filter}
 use Rattle.po_syntax.specs.declared.fault.PoError.{PoError}
 use Rattle.po_syntax.specs.declared.fault.PoFault.TheVariants.{OutOfMemory}
-use Rattle.po_entry.specs.Prelude.{ReadsText, TextEntry, AllDiffer, HasNoDuplicate, IsDuplicateFaultOf, IsSameMessage, is_live, entry_message, message_hash}
 use Rattle.po_entry.specs.Facts.FirstRepeats.{pairs_map, pairs_of_map}
 use Rattle.po_syntax.specs.Facts.Mapped.{filter_map, filter_twice}
 use Rattle.po_reader.proofs.Texts.{text_once}
-use Rattle.msgattrib.specs.declared.selection.Selection.{Selection}
-use Rattle.msgattrib.specs.Prelude.{changed, is_kept, selected, IsMsgattribRun, error_line}
-use Rattle.msgattrib.specs.Internal.SelectedText.{AddsParts, AreSelected, HaveNoDuplicate, IsSelectionFault, hashes_of, may_repeat, stays_live}
 use Rattle.po_writer.specs.Prelude.{AreParts}
 use Rattle.po_writer.specs.declared.parts.TextParts.{TextParts}
 use Rattle.runs.specs.Prelude.{refusal, run_view}

@@ -1,13 +1,8 @@
 -- What is selected: all where nothing is given, the same again by conditions alone, entries that
 -- can stand in a catalogue, and a live header always.
-use Rattle.std.proofs.Common.{◌≡◌, Bool, true, false, not, ◌&&◌, List, [], ◌∷◌, map, filter, refl, if◌then◌else◌}
+use Rattle.msgattrib.proofs.Prelude.{All-filter, All-head, All-map, All-tail, All-weaker, Bool, ChangesNothing, IsCatalogueEntry, IsEntry, List, Selection, TextEntry, [], and-false, and-true, changed, every_entry, false, filter, filter_passes, fuzzy_after, if◌then◌else◌, is_emptied, is_header, is_kept, is_live_header, map, no_previous, not, obsolete_after, or-true, refl, selected, true, ◌&&◌, ◌∷◌, ◌≡◌}
 use Rattle.std.specs.Prelude.{All}
-use Rattle.std.proofs.Math.Bool.{and-false, and-true, or-true}
-use Rattle.std.proofs.lemmas.List.Elements.{All-head, All-tail, All-filter, All-map, All-weaker, filter_passes}
-use Rattle.po_entry.specs.Prelude.{TextEntry, no_previous, is_header, IsEntry, IsCatalogueEntry, is_live_header}
 use Rattle.po_entry.proofs.Changes.{IsEntry-emptied, IsEntry-without_previous}
-use Rattle.msgattrib.specs.declared.selection.Selection.{Selection}
-use Rattle.msgattrib.specs.Prelude.{ChangesNothing, changed, every_entry, fuzzy_after, is_emptied, is_kept, obsolete_after, selected}
 
 -- a flag that isn't taken away empties nothing
 not_emptied : (empty fuzzy header : Bool) → (empty && fuzzy && not (fuzzy && true) && header) ≡ false

@@ -1,7 +1,7 @@
 -- Entries that were selected and changed by hand (manual, "Invoking the msgattrib Program").
 -- tests/mutants/msgattrib/definitions has a wrong form of each definition, which they refuse.
-use Rattle.std.specs.Prelude.{◌≡◌, refl, true, false, List, [], ◌∷◌, Some, None, codes}
-use Rattle.po_entry.specs.Prelude.{TextEntry, plain_entry, no_previous}
+use Rattle.std.specs.Prelude.{◌≡◌, refl, true, [], ◌∷◌, Some, None, codes}
+use Rattle.po_entry.specs.Prelude.{TextEntry, plain_entry}
 use Rattle.msgattrib.specs.Selected.{selected, every_entry}
 use Rattle.msgattrib.specs.declared.selection.Selection.{Selection}
 

@@ -7,7 +7,6 @@ ghost use Rattle.std.specs.Prelude.{◌≡◌, ◌<◌, ◌++◌, ◌∷◌, [],
 ghost use Rattle.po_entry.specs.Prelude.{ReadsText, TextEntry, IsCatalogueEntry};
 ghost use Rattle.po_reader.specs.Prelude.{IsTextError};
 ghost use Rattle.msgattrib.specs.Prelude.{OthersStay, selected};
-ghost use Rattle.po_writer.specs.Prelude.{AreParts};
 ghost use Rattle.msgattrib.specs.Internal.SelectedText.{AddsParts, HaveNoDuplicate, IsSelectedText, IsSelectedWhole, IsSelectionFault, hashes_of};
 
 use crate::selection::Selection;

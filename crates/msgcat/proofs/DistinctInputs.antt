@@ -1,12 +1,5 @@
 -- Inputs among whose entries no message stands twice.
-use Rattle.std.proofs.Common.{◌≡◌, Bool, cond, false, subst, List, [], ◌∷◌, refl, sym, ap, ap₂, ◌∙◌, map, filter, get_or}
-use Rattle.std.specs.Prelude.{All}
-use Rattle.std.proofs.lemmas.List.Folds.{list_any_none}
-use Rattle.std.proofs.lemmas.List.Elements.{All-nil, All-cons, All-head, All-tail}
-use Rattle.po_entry.specs.Prelude.{TextEntry, IsSameMessage, AllDiffer}
-use Rattle.po_syntax.specs.Facts.Filters.{none_pass}
-use Rattle.msgcat.specs.declared.input.MergeOptions.{MergeOptions}
-use Rattle.msgcat.specs.Prelude.{Named, NamedEntry, all_entries, same_message, definitions, merged_entry, is_kept, merged_messages, keep_all, DistinctInputsStay}
+use Rattle.msgcat.proofs.Prelude.{All, All-cons, All-head, All-nil, All-tail, AllDiffer, Bool, DistinctInputsStay, IsSameMessage, List, MergeOptions, Named, NamedEntry, TextEntry, [], all_entries, ap, ap₂, cond, definitions, false, filter, get_or, is_kept, keep_all, list_any_none, map, merged_entry, merged_messages, none_pass, refl, same_message, subst, sym, ◌∙◌, ◌∷◌, ◌≡◌}
 use Rattle.msgcat.proofs.FirstOnes.{Apart, group_of}
 use Rattle.msgcat.proofs.Messages.{same_message_laws}
 use Rattle.msgcat.proofs.SameInput.{Stays, differ_head, differ_tail, differs, entry_stays, firsts_of_apart}

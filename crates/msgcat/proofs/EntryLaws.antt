@@ -1,24 +1,9 @@
 -- The parts of a merged entry, and which messages are kept.
-use Rattle.std.proofs.Common.{◌≡◌, ◌≢◌, ◌⊎◌, inl, inr, ◌↔◌, ℕ, ◌<◌, Bool, true, false, cond, not, ◌&&◌, ◌||◌, nat_lt, List, [], ◌∷◌, ◌++◌, Option, Some, None, refl, sym, ap, ap₂, ◌∙◌, filter, find, fold, length, get_or, slice_get, arith, append_assoc, bytes_eq, subst, is_some, nat_eq, All}
-use Rattle.std.specs.Prelude.{if◌then◌else◌}
-use Rattle.std.specs.List.{list_any, ends_with}
-use Rattle.std.specs.Option.{option_map_or, option_or}
-use Rattle.std.proofs.lemmas.Bool.{and_parts, or_parts, eqb-true, eqb-false, lt-ltb, ltb-true, not-false, not-true, cond_both}
-use Rattle.std.proofs.lemmas.List.Elements.{filter_agree, All-contains, All-weaker}
-use Rattle.std.proofs.lemmas.List.Folds.{find-append, list_any-append, list_any_none}
+use Rattle.msgcat.proofs.Prelude.{All-contains, All-weaker, AreLiveOf, Bool, CommentKind, DefinedByLive, EndsForm, FaultIsOfNoLine, FormsAreJoined, IsJoinedForm, JoinedIsFuzzy, KeptByCount, List, MergeOptions, NamedEntry, None, ObsoleteWhereNoneIsLive, Option, PluralOfFirst, PoError, PreviousOfFirst, Some, TextEntry, TextPrevious, TextsInOrder, TextsOfAll, Translator, [], and_parts, any_passing, ap, append_assoc, ap₂, arith, collected, comment_of, cond, cond_both, ended, ends_with, eqb-false, eqb-true, false, filter, filter_agree, find, find-append, first_of, first_translated, first_with, fold, fold_push, form_count, get_or, get_or-map-range_with_len, has_plural, has_previous, has_text, if◌then◌else◌, inl, inr, is_below, is_live, is_some, is_wanted, joined_form, joined_forms, length, length-map-range_with_len, list_any, list_any-append, list_any_none, live, lt-ltb, ltb-true, marked, merged_entry, nat_eq, nat_lt, no_more, no_previous, not, not-false, not-true, obsolete, of_nothing, option_map_or, option_or, or-false, or_assoc, or_parts, refl, slice_get, subst, sym, texts_of, translations, true, with_feed, with_form, with_others, without_feed, without_form, ℕ, ◌&&◌, ◌++◌, ◌<◌, ◌||◌, ◌↔◌, ◌∙◌, ◌∷◌, ◌≡◌, ◌≢◌, ◌⊎◌}
+use Rattle.std.proofs.Common.{bytes_eq, All}
 use Rattle.std.proofs.lemmas.List.Prefix.{end_rest}
-use Rattle.std.proofs.lemmas.List.FromFn.{get_or-map-range_with_len, length-map-range_with_len}
-use Rattle.std.proofs.Math.Bool.{or-false, or_assoc}
-use Rattle.std.proofs.lemmas.List.Sums.{fold_push}
-use Rattle.po_syntax.specs.declared.item.CommentKind.{CommentKind}
-use Rattle.po_syntax.specs.declared.item.CommentKind.TheVariants.{Translator}
-use Rattle.po_syntax.specs.declared.fault.PoError.{PoError}
-use Rattle.po_entry.specs.Prelude.{TextEntry, TextPrevious, no_previous, is_live}
-use Rattle.msgcat.specs.declared.input.MergeOptions.{MergeOptions}
-use Rattle.msgcat.specs.Prelude.{NamedEntry, collected, comment_of, ended, first_of, first_with, form_count, has_plural, has_previous, joined_form, joined_forms, marked, merged_entry, first_translated, texts_of, translations, with_others, is_below, is_wanted, AreLiveOf, DefinedByLive, EndsForm, FormsAreJoined, IsJoinedForm, JoinedIsFuzzy, KeptByCount, ObsoleteWhereNoneIsLive, PluralOfFirst, PreviousOfFirst, TextsInOrder, TextsOfAll, has_text, FaultIsOfNoLine}
-use Rattle.msgcat.specs.Laws.{no_entry, live, obsolete, of_nothing, without_feed, with_feed, no_more, with_form, without_form}
+use Rattle.msgcat.specs.Laws.{no_entry}
 use Rattle.msgcat.proofs.Sets.{has_others}
-use Rattle.po_entry.proofs.FuzzyFlags.{any_passing}
 
 -- the texts of one kind of a merged entry
 pub texts_merged : (o : MergeOptions) (kind : CommentKind) (ds : List NamedEntry)

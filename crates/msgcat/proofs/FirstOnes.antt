@@ -1,15 +1,5 @@
 -- The first ones of a list, where being alike is an equivalence.
-use Rattle.std.proofs.Common.{◌≡◌, ℕ, ◌+◌, Bool, true, false, cond, not, ◌||◌, List, [], ◌∷◌, ◌++◌, refl, sym, ap, ap₂, ◌∙◌, map, filter, fold, get_or}
-use Rattle.std.specs.Prelude.{All, if◌then◌else◌}
-use Rattle.std.specs.List.{list_any, position_or_len}
-use Rattle.std.specs.Cmp.{IsEquivalence}
-use Rattle.std.proofs.lemmas.List.Folds.{list_any-append, list_any_at}
-use Rattle.std.proofs.lemmas.List.{map-append}
-use Rattle.std.proofs.lemmas.List.Elements.{All-head, All-nil, All-push, All-tail}
-use Rattle.std.proofs.lemmas.Bool.{cond_both, or_parts, false_from_ne_true, false≢true}
-use Rattle.std.proofs.Math.Bool.{or-false}
-use Rattle.po_syntax.specs.Facts.Mapped.{any_map}
-use Rattle.msgcat.specs.Groups.{with_new, first_ones}
+use Rattle.msgcat.proofs.Prelude.{All, All-head, All-nil, All-push, All-tail, Bool, IsEquivalence, List, [], any_map, ap, ap₂, cond, cond_both, false, false_from_ne_true, false≢true, filter, first_ones, fold, get_or, if◌then◌else◌, list_any, list_any-append, list_any_at, map, map-append, not, or-false, or_parts, position_or_len, refl, sym, true, with_new, ℕ, ◌++◌, ◌+◌, ◌||◌, ◌∙◌, ◌∷◌, ◌≡◌}
 
 -- no two elements are alike
 abbrev pub Apart : {X : Type 0} → (X → X → Bool) → List X → Type 0

@@ -1,11 +1,6 @@
 -- The first definition that has a part, looked for one after another.
-use Rattle.std.proofs.Common.{◌≡◌, ℕ, suc, ◌+◌, ◌<◌, ◌≤◌, Bool, true, false, cond, find, List, ◌∷◌, Option, Some, sym, ap, ◌∙◌, arith, drop, get_or, length}
-use Rattle.std.specs.Option.{option_map_or}
-use Rattle.std.proofs.Math.Seq.{drop-cons}
-use Rattle.std.proofs.lemmas.List.{drop_all}
-use Rattle.po_entry.specs.Prelude.{TextEntry}
+use Rattle.msgcat.proofs.Prelude.{Bool, List, NamedEntry, Option, Some, TextEntry, ap, arith, cond, drop, drop-cons, drop_all, false, find, first_of, first_with, get_or, length, named_entries, named_entry, option_map_or, suc, sym, true, ℕ, ◌+◌, ◌<◌, ◌∙◌, ◌∷◌, ◌≡◌, ◌≤◌}
 use Rattle.msgcat.specs.declared.definition.NamedEntry.{NamedEntry as BorrowedEntry}
-use Rattle.msgcat.specs.Prelude.{NamedEntry, named_entries, named_entry, first_of, first_with}
 use Rattle.msgcat.proofs.OneDefinition.{first_is}
 
 module _ (has : TextEntry → Bool) (ds : List BorrowedEntry) (i : ℕ) (d : BorrowedEntry) where

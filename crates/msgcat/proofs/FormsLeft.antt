@@ -1,10 +1,6 @@
 -- The forms of translations, joined index by index, and what is left of them.
-use Rattle.std.proofs.Common.{◌≡◌, ℕ, suc, zero, pred, ◌+◌, ◌<◌, ◌≤◌, max, List, [], ◌∷◌, ◌++◌, refl, ap, ◌∙◌, arith, fold, length, map}
+use Rattle.msgcat.proofs.Prelude.{FormList, List, NamedEntry, [], ap, arith, fold, form_count, joined_at, joined_form, joined_forms, joined_lists, length, map, marked, max, most_forms, named_forms, option_map_or, pred, range_with_len, refl, rest_of, rests, suc, zero, ℕ, ◌++◌, ◌+◌, ◌<◌, ◌∙◌, ◌∷◌, ◌≡◌, ◌≤◌}
 use Rattle.std.specs.Prelude.{slice_get}
-use Rattle.std.specs.List.{range_with_len}
-use Rattle.std.specs.Option.{option_map_or}
-use Rattle.msgcat.specs.Prelude.{NamedEntry, form_count, joined_form, joined_forms, marked}
-use Rattle.msgcat.specs.Internal.JoinedTranslations.{FormList, joined_at, joined_lists, most_forms, named_forms, rest_of, rests}
 
 joined_named : (ts : List NamedEntry) (i : ℕ) → joined_at i (map named_forms ts) ≡ joined_form ts i
 joined_named [] i = refl

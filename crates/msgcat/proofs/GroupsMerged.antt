@@ -1,19 +1,5 @@
 -- The groups of valid entries, and what is merged of them.
-use Rattle.std.proofs.Common.{◌≡◌, ℕ, ◌+◌, ◌<◌, Bool, true, false, cond, ◌||◌, List, [], ◌∷◌, ◌++◌, refl, sym, ap, ap₂, ◌∙◌, subst, map, filter, take, get_or, length, arith, zero, suc, inl, inr}
-use Rattle.std.specs.Prelude.{All}
-use Rattle.std.specs.List.{list_any}
-use Rattle.std.proofs.lemmas.Bool.{cond_both, false≢true}
-use Rattle.std.proofs.lemmas.List.{take_more, map-append}
-use Rattle.std.proofs.lemmas.List.Folds.{list_any_at}
-use Rattle.std.proofs.lemmas.List.Elements.{All-head, All-filter, All-map, filter-append}
-use Rattle.po_syntax.specs.declared.fault.PoError.{PoError}
-use Rattle.po_syntax.specs.declared.fault.PoFault.TheVariants.{ForeignCharset}
-use Rattle.po_syntax.specs.Facts.AllAppend.{All-left, All-right}
-use Rattle.po_entry.specs.Prelude.{HasAdmittedCharset, TextEntry, is_live}
-use Rattle.po_entry.proofs.FirstOnes.{any_first_ones}
-use Rattle.msgcat.specs.declared.input.MergeOptions.{MergeOptions}
-use Rattle.msgcat.specs.Prelude.{NamedEntry, same_message, groups, definitions, definitions_by, IsDefinition, IsGroup, merged_entry, is_kept, merged_messages, IsMergeFault}
-use Rattle.msgcat.specs.Groups.{first_ones}
+use Rattle.msgcat.proofs.Prelude.{All, All-filter, All-head, All-left, All-map, All-right, Bool, ForeignCharset, HasAdmittedCharset, IsDefinition, IsGroup, IsMergeFault, List, MergeOptions, NamedEntry, PoError, TextEntry, [], any_first_ones, ap, ap₂, arith, cond, cond_both, definitions, definitions_by, false, false≢true, filter, filter-append, first_ones, get_or, groups, inl, inr, is_kept, is_live, length, list_any, list_any_at, map, map-append, merged_entry, merged_messages, refl, same_message, subst, suc, sym, take, take_more, true, zero, ℕ, ◌++◌, ◌+◌, ◌<◌, ◌||◌, ◌∙◌, ◌∷◌, ◌≡◌}
 use Rattle.msgcat.proofs.FirstOnes.{group_of}
 use Rattle.msgcat.proofs.Messages.{same_message_laws}
 

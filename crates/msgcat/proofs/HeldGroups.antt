@@ -1,16 +1,6 @@
 -- The groups of the entries of inputs, by the indexes of their entries.
-use Rattle.std.proofs.Common.{◌≡◌, sym, ap, ◌∙◌, subst, ℕ, ◌<◌, ◌==◌, Bool, true, false, List, [], ◌∷◌, arith, length, get_or, map}
-use Rattle.std.specs.Prelude.{All, if◌then◌else◌}
-use Rattle.std.specs.List.{position_or_len, range_with_len}
-use Rattle.std.proofs.lemmas.List.{get_or-map, length-map}
-use Rattle.std.proofs.lemmas.List.Elements.{All-cons, All-filter, All-head, All-map, All-nil, All-tail}
-use Rattle.std.proofs.lemmas.List.FromFn.{get_or-range_with_len, length-range_with_len}
-use Rattle.std.proofs.lemmas.Bool.{cond_both}
-use Rattle.std.proofs.lemmas.Simd.{map-map}
-use Rattle.po_entry.specs.Prelude.{first_ones as firsts_of, entry_message, entry_messages, same_message as one_message, is_live}
-use Rattle.msgcat.specs.Prelude.{IsGroup, message_numbers, named_messages, by_number, definitions, groups, same_message, with_number, indexes_by, Named, NamedEntry, all_entries, CanBeMerged, count_messages, unnamed, messages}
-use Rattle.msgcat.specs.Groups.{first_ones}
-use Rattle.msgcat.specs.Internal.Inputs.{entries_at, no_entry}
+use Rattle.msgcat.proofs.Prelude.{All, All-cons, All-filter, All-head, All-map, All-nil, All-tail, Bool, CanBeMerged, IsGroup, List, Named, NamedEntry, [], all_entries, ap, arith, by_number, cond_both, count_messages, definitions, entries_at, entry_message, entry_messages, false, first_ones, get_or, get_or-map, get_or-range_with_len, groups, if◌then◌else◌, indexes_by, is_live, length, length-map, length-range_with_len, map, map-map, message_numbers, messages, named_messages, no_entry, position_or_len, range_with_len, same_message, subst, sym, true, unnamed, with_number, ℕ, ◌<◌, ◌==◌, ◌∙◌, ◌∷◌, ◌≡◌}
+use Rattle.po_entry.specs.Prelude.{first_ones as firsts_of, same_message as one_message}
 use Rattle.msgcat.proofs.FirstOnes.{group_of}
 use Rattle.msgcat.proofs.GroupsMerged.{definitions_valid, groups_valid}
 use Rattle.msgcat.proofs.NumberedGroups.{by_number-mapped, groups_by_number}

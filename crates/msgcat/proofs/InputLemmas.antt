@@ -1,23 +1,8 @@
 -- Inputs that are read, and the first duplicate in one of them.
-use Rattle.std.proofs.Common.{◌≡◌, sym, ap, ◌∙◌, subst, ℕ, ◌+◌, ◌<◌, ◌≤◌, filter, List, [], ◌∷◌, ◌++◌, append-nil, append_assoc, arith, length, get_or, take, drop, map, inl, inr}
-use Rattle.std.specs.Prelude.{All}
-use Rattle.std.specs.List.{AllZip}
-use Rattle.std.proofs.Math.Seq.{take-append_seam, drop-append_seam}
-use Rattle.std.proofs.lemmas.List.{drop-map, length-map, map-append, take-append-drop, take-map, take_all, take_more}
-use Rattle.std.proofs.lemmas.List.Elements.{All-head, All-nil, All-push, All-tail}
-use Rattle.po_syntax.specs.declared.fault.PoFault.TheVariants.{Duplicate}
-use Rattle.po_syntax.specs.Facts.AllAppend.{All-left, All-right}
-use Rattle.po_entry.specs.Prelude.{ReadsText, TextEntry, AllDiffer, HasNoDuplicate, AreNumbered, IsNumbered, RepeatsOnLines, are_placed, number_in, place_of, group_numbers, entry_messages, same_message, is_live}
-use Rattle.msgcat.specs.Prelude.{Named, all_entries, IsReadInput, unnamed, AreReadAs, IsFileFault}
-use Rattle.po_syntax.specs.Facts.Zips.{zip_at, zip_length, zip_more, zip_split}
-use Rattle.msgcat.specs.Internal.Inputs.{AreReadUpTo, IsFaultOfFirst, IsFirstRepeating, IsTextOf, with_part}
-use Rattle.po_entry.specs.declared.repeats.EntryPlace.{EntryPlace}
-use Rattle.msgcat.specs.declared.input.ReadInput.{ReadInput}
-use Rattle.msgcat.specs.declared.inputs.FileFault.{FileFault}
-use Rattle.msgcat.specs.declared.inputs.ReadInputs.{ReadInputs}
+use Rattle.msgcat.proofs.Prelude.{All, All-head, All-left, All-nil, All-push, All-right, All-tail, AllDiffer, AllZip, AreNumbered, AreReadAs, AreReadUpTo, Duplicate, EntryPlace, FileFault, HasNoDuplicate, IsFaultOfFirst, IsFileFault, IsFirstRepeating, IsNumbered, IsReadInput, IsTextOf, List, Named, NamedFile, ReadInput, ReadInputs, ReadsText, RepeatsOnLines, TextEntry, [], all_entries, ap, append-nil, append_assoc, are_placed, arith, drop, drop-append_seam, drop-map, entry_messages, filter, get_or, group_numbers, inl, inr, is_live, length, length-map, map, map-append, number_in, place_of, subst, sym, take, take-append-drop, take-append_seam, take-map, take_all, take_more, unnamed, with_part, zip_at, zip_length, zip_more, zip_split, ℕ, ◌++◌, ◌+◌, ◌<◌, ◌∙◌, ◌∷◌, ◌≡◌, ◌≤◌}
+use Rattle.po_entry.specs.Prelude.{same_message}
 use Rattle.po_entry.proofs.NumberLemmas.{are_numbered, repeats_of}
 use Rattle.msgcat.proofs.ReadInputs.{entries_first}
-use Rattle.runs.specs.Prelude.{NamedFile}
 
 -- the entries of an input, and those after them
 with_first : (input : Named) (rest : List Named) (part : List TextEntry)

@@ -1,17 +1,6 @@
 -- The lines of definitions, which change nothing but the line of what they are merged to.
-use Rattle.std.proofs.Common.{◌≡◌, refl, sym, ap, ap₂, ◌∙◌, ℕ, Bool, not, ◌&&◌, ◌||◌, List, [], ◌∷◌, Option, Some, None, filter, find, fold, length, map, max, nat_lt}
-use Rattle.std.specs.Prelude.{option_map, slice_get, if◌then◌else◌}
-use Rattle.std.specs.List.{AllZip, range_with_len}
-use Rattle.std.specs.Option.{option_map_or}
-use Rattle.std.proofs.lemmas.List.{length-map}
-use Rattle.std.proofs.lemmas.List.Folds.{flat_map-map, fold-map}
-use Rattle.po_syntax.specs.declared.item.CommentKind.{CommentKind}
-use Rattle.po_syntax.specs.declared.item.CommentKind.TheVariants.{Translator, Extracted, Reference, Flags}
-use Rattle.po_entry.specs.Prelude.{TextEntry, with_line, has_translation}
-use Rattle.po_syntax.specs.Facts.Mapped.{filter_map, find_map}
-use Rattle.msgcat.specs.declared.input.MergeOptions.{MergeOptions}
-use Rattle.msgcat.specs.Prelude.{IsSameButLine, LinesAreNotMerged, NamedEntry, named, comment_of, first_of, first_translated, first_with, has_plural, has_previous, is_joined, joined_form, joined_forms, marked, merged_entry, same_forms, texts_of, translations, with_others}
-use Rattle.msgcat.specs.Groups.{first_ones}
+use Rattle.msgcat.proofs.Prelude.{AllZip, Bool, CommentKind, Extracted, Flags, IsSameButLine, LinesAreNotMerged, List, MergeOptions, NamedEntry, None, Option, Reference, Some, TextEntry, Translator, [], ap, ap₂, comment_of, filter, filter_map, find, find_map, first_of, first_ones, first_translated, first_with, flat_map-map, fold, fold-map, has_plural, has_previous, has_translation, if◌then◌else◌, is_joined, joined_form, joined_forms, length, length-map, map, marked, max, merged_entry, named, nat_lt, not, option_map_or, range_with_len, refl, same_forms, sym, texts_of, translations, with_line, with_others, ℕ, ◌&&◌, ◌||◌, ◌∙◌, ◌∷◌, ◌≡◌}
+use Rattle.std.specs.Prelude.{option_map, slice_get}
 use Rattle.msgcat.proofs.FirstOnes.{first_ones-map}
 
 abbrev unlined : NamedEntry → NamedEntry

@@ -1,12 +1,5 @@
 -- Links between the indexes of entries of one message, from the last entry on.
-use Rattle.std.proofs.Common.{◌≡◌, ◌≢◌, ◌⊎◌, refl, sym, ap, ◌∙◌, subst, ℕ, suc, ◌+◌, ◌<◌, ◌≤◌, ◌==◌, Bool, true, false, List, [], ◌∷◌, arith, drop, get_or, set, length, inl, inr}
-use Rattle.std.specs.Prelude.{if◌then◌else◌}
-use Rattle.std.specs.List.{range_with_len}
-use Rattle.std.proofs.Math.Seq.{drop-cons}
-use Rattle.std.proofs.lemmas.Bool.Decides.{eqb_tells}
-use Rattle.std.proofs.lemmas.List.{get_or-set_other, get_or-set_same, length-set}
-use Rattle.std.proofs.lemmas.List.FromFn.{get_or-map-range_with_len, length-map-range_with_len}
-use Rattle.msgcat.specs.Prelude.{with_number, AreLinked, IsChain, indexes_by}
+use Rattle.msgcat.proofs.Prelude.{AreLinked, Bool, IsChain, List, [], ap, arith, drop, drop-cons, eqb_tells, false, get_or, get_or-map-range_with_len, get_or-set_other, get_or-set_same, if◌then◌else◌, indexes_by, inl, inr, length, length-map-range_with_len, length-set, range_with_len, refl, set, subst, suc, sym, true, with_number, ℕ, ◌+◌, ◌<◌, ◌==◌, ◌∙◌, ◌∷◌, ◌≡◌, ◌≢◌, ◌≤◌, ◌⊎◌}
 use Rattle.msgcat.specs.declared.links.Links.{Links}
 
 -- a chain of later indexes stays as an earlier one is linked

@@ -1,10 +1,6 @@
 -- The entries of valid inputs are valid, and stand in turn.
-use Rattle.std.proofs.Common.{ℕ, List, [], ◌∷◌, ◌++◌, map}
-use Rattle.std.specs.Prelude.{All, IsUtf8}
-use Rattle.std.proofs.lemmas.List.Elements.{All-map, All-append, All-weaker}
-use Rattle.po_entry.specs.Prelude.{Lacks, TextEntry, IsCatalogueEntry}
-use Rattle.msgcat.specs.Prelude.{Named, NamedEntry, named, all_entries, IsDefinition, StandInTurn}
-use Rattle.msgcat.specs.Laws.{no_input, no_further, first_entry}
+use Rattle.msgcat.proofs.Prelude.{All, All-append, All-map, All-weaker, IsCatalogueEntry, IsDefinition, IsUtf8, Lacks, List, Named, NamedEntry, StandInTurn, TextEntry, [], all_entries, first_entry, map, named, no_further, ℕ, ◌++◌, ◌∷◌}
+use Rattle.msgcat.specs.Laws.{no_input}
 
 pub definitions_more : (before : List NamedEntry) (name : List ℕ) (entries : List TextEntry) → All IsDefinition before
     → IsUtf8 name → Lacks 0 name → All IsCatalogueEntry entries

@@ -1,18 +1,10 @@
 -- What is written of merged messages.
-use Rattle.std.proofs.Common.{◌≡◌, ◌≢◌, ◌⊎◌, inl, inr, ◌+◌, ◌<◌, length, subst, take, Bool, true, false, not, ℕ, List, [], ◌∷◌, ◌++◌, append-nil, ap, ◌∙◌, refl, sym, filter, get_or, map}
+use Rattle.msgcat.proofs.Prelude.{All, All-append, All-cons, All-nil, All-weaker, Bool, HasAdmittedCharset, IsPartWritten, IsTextOfMerged, List, MergeOptions, NamedEntry, TextEntry, [], all_pass, ap, append-nil, cond_both, false, filter, filter-append, fold-append, get_or, if◌then◌else◌, inl, inr, is_kept, is_of_part, length, map, merged_entry, merged_messages, none_pass, not, refl, subst, sym, take, true, ℕ, ◌++◌, ◌+◌, ◌<◌, ◌∙◌, ◌∷◌, ◌≡◌, ◌≢◌, ◌⊎◌}
 use Rattle.std.specs.Bool.{beq}
-use Rattle.std.specs.Prelude.{All, fold, if◌then◌else◌}
-use Rattle.std.proofs.lemmas.Bool.{cond_both}
-use Rattle.std.proofs.lemmas.List.Elements.{All-append, All-cons, All-nil, All-weaker, filter-append}
-use Rattle.std.proofs.lemmas.List.Sums.{fold-append}
-use Rattle.po_syntax.specs.Facts.Filters.{all_pass, none_pass}
-use Rattle.po_entry.specs.Prelude.{HasAdmittedCharset, TextEntry}
+use Rattle.std.specs.Prelude.{fold}
 use Rattle.po_writer.specs.Prelude.{with_entry, arranged}
 use Rattle.po_writer.proofs.Separated.{joined}
-use Rattle.msgcat.specs.declared.input.MergeOptions.{MergeOptions}
-use Rattle.msgcat.specs.Prelude.{NamedEntry, merged_entry, is_kept, merged_messages}
 use Rattle.msgcat.proofs.GroupsMerged.{messages_more}
-use Rattle.msgcat.specs.Internal.MergedText.{IsPartWritten, IsTextOfMerged, is_of_part}
 
 of_own : (obsolete part : Bool) → obsolete ≡ part → (if part then obsolete else not obsolete) ≡ true
 of_own obsolete true is = is

@@ -1,11 +1,5 @@
 -- What is merged of each message of valid inputs.
-use Rattle.std.proofs.Common.{ℕ, Bool, List, [], ◌∷◌, sym, subst, map, filter, arith, get_or}
-use Rattle.std.specs.Prelude.{All, Contains, if◌then◌else◌}
-use Rattle.std.proofs.lemmas.List.{get_or-map, length-map}
-use Rattle.std.proofs.lemmas.List.Elements.{All-nil, All-head, All-tail, All-append, All-filter, All-map, All-weaker}
-use Rattle.po_entry.specs.Prelude.{IsEntry, has_translation}
-use Rattle.msgcat.specs.declared.input.MergeOptions.{MergeOptions}
-use Rattle.msgcat.specs.Prelude.{Named, NamedEntry, named, all_entries, groups, definitions, IsDefinition, IsGroup, merged_entry, joined_forms, translations, first_translated, is_kept, messages, IsInput, OneDefinitionStays, MergedAreEntries, MergedCanStand, FormsAreOfOne}
+use Rattle.msgcat.proofs.Prelude.{All, All-append, All-filter, All-head, All-map, All-nil, All-tail, All-weaker, Bool, Contains, FormsAreOfOne, IsDefinition, IsEntry, IsGroup, IsInput, List, MergeOptions, MergedAreEntries, MergedCanStand, Named, NamedEntry, OneDefinitionStays, [], all_entries, arith, definitions, filter, first_translated, get_or, get_or-map, groups, has_translation, if◌then◌else◌, is_kept, joined_forms, length-map, map, merged_entry, messages, named, subst, sym, translations, ℕ, ◌∷◌}
 use Rattle.msgcat.proofs.ListedInputs.{definitions_more}
 use Rattle.msgcat.proofs.Valid.{merged_is_entry, first_with_keeps}
 use Rattle.msgcat.proofs.GroupsMerged.{definitions_valid, groups_valid}

@@ -1,10 +1,6 @@
 -- What one message is merged to, by its number.
-use Rattle.std.proofs.Common.{◌≡◌, ℕ, ◌<◌, not, true, false, List, [], ◌∷◌, sym, ap, ◌∙◌, get_or, length, subst}
-use Rattle.std.specs.Prelude.{All, IfNone, IfSome, None, Option, Some, option_to_list}
-use Rattle.std.specs.List.{list_any}
-use Rattle.po_entry.specs.Prelude.{is_live, TextEntry}
-use Rattle.msgcat.specs.declared.input.MergeOptions.{MergeOptions}
-use Rattle.msgcat.specs.Prelude.{IsGroup, definitions, groups, Named, NamedEntry, all_entries, named, merged_entry, is_kept, merged_messages, messages, CanBeMerged}
+use Rattle.msgcat.proofs.Prelude.{All, CanBeMerged, IfNone, IfSome, IsGroup, List, MergeOptions, Named, NamedEntry, TextEntry, [], all_entries, ap, definitions, false, get_or, groups, is_kept, is_live, length, list_any, merged_entry, merged_messages, messages, named, not, option_to_list, subst, sym, true, ℕ, ◌<◌, ◌∙◌, ◌∷◌, ◌≡◌}
+use Rattle.std.specs.Prelude.{None, Option, Some}
 use Rattle.msgcat.proofs.EntryLaws.{obsolete_where_none_is_live}
 use Rattle.msgcat.proofs.GroupsMerged.{dropped_one, kept_one}
 use Rattle.msgcat.proofs.HeldGroups.{group_valid, message_at, message_can, message_valid}

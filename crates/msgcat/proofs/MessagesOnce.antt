@@ -1,21 +1,6 @@
 -- Each message that is kept stands once among the merged entries.
-use Rattle.std.proofs.Common.{◌≡◌, ℕ, ◌<◌, Bool, true, false, cond, ◌&&◌, ◌||◌, List, [], ◌∷◌, Option, None, refl, sym, ap, ap₂, ◌∙◌, map, filter, length, get_or, arith}
-use Rattle.std.specs.Prelude.{All, bytes_eq}
-use Rattle.std.specs.List.{list_any}
-use Rattle.std.specs.Option.{option_eq}
-use Rattle.std.proofs.Math.Bool.{and-false}
-use Rattle.std.proofs.lemmas.Bool.{and_parts, cond_both, false≢true}
-use Rattle.std.proofs.lemmas.Slice.Eq.{bytes_eq-Decides}
-use Rattle.std.proofs.lemmas.List.Folds.{list_any-append, list_any_at}
+use Rattle.msgcat.proofs.Prelude.{All, All-filter, All-head, All-map, All-tail, All-weaker, AllDiffer, Bool, IsSameMessage, KeptMessagesStand, List, MergeOptions, MessagesStandOnce, Named, NamedEntry, None, Option, TextEntry, [], all_entries, and-false, and_parts, any_first_ones, any_map, ap, ap₂, arith, bytes_eq, bytes_eq-Decides, cond, cond_both, contexts_are, definitions, false, false≢true, filter, filter_agree, filter_passes, first_ones, get_or, has_message, is_kept, is_live, is_of_message, length, list_any, list_any-append, list_any_at, map, merged_entry, merged_messages, named, option_eq, plain_entry, refl, same_message, sym, true, ℕ, ◌&&◌, ◌<◌, ◌||◌, ◌∙◌, ◌∷◌, ◌≡◌}
 use Rattle.std.proofs.lemmas.List.Kept.{AllPairs-cons}
-use Rattle.std.proofs.lemmas.List.Elements.{All-head, All-tail, All-filter, All-map, All-weaker, filter_agree, filter_passes}
-use Rattle.po_entry.specs.Prelude.{TextEntry, plain_entry, is_live, IsSameMessage, AllDiffer, is_of_message}
-use Rattle.po_syntax.specs.Facts.Mapped.{any_map}
-use Rattle.po_entry.proofs.FirstOnes.{any_first_ones}
-use Rattle.po_entry.proofs.MessageIndex.{contexts_are}
-use Rattle.msgcat.specs.declared.input.MergeOptions.{MergeOptions}
-use Rattle.msgcat.specs.Prelude.{Named, NamedEntry, named, all_entries, same_message, definitions, merged_entry, is_kept, merged_messages, has_message, MessagesStandOnce, KeptMessagesStand}
-use Rattle.msgcat.specs.Groups.{first_ones}
 use Rattle.msgcat.proofs.FirstOnes.{Apart, group_of, apart_first_ones}
 use Rattle.msgcat.proofs.Messages.{same_message_laws}
 use Rattle.msgcat.proofs.Valid.{first_keeps}

@@ -1,14 +1,6 @@
 -- Files that are read as the catalogues of inputs, and the run of a header that can't stand in a catalogue.
-use Rattle.std.proofs.Common.{◌≡◌, ℕ, ◌<◌, List, [], ◌∷◌, Some, refl, sym, ap, ◌∙◌, subst, get_or, slice_get, length, arith}
-use Rattle.std.specs.Prelude.{All}
-use Rattle.std.specs.List.{AllZip}
-use Rattle.po_entry.specs.Prelude.{Lacks}
-use Rattle.std.specs.Borrow.{Bor}
+use Rattle.msgcat.proofs.Prelude.{All, AllZip, AreReadAs, Bor, IsReadInput, Lacks, List, Named, NamedFile, ReadInput, Some, [], ap, arith, first_name, get_or, get_or_default, length, length-map, name_of_first, named_file, named_files, refl, slice_get, subst, sym, ℕ, ◌<◌, ◌∙◌, ◌∷◌, ◌≡◌}
 use Rattle.std.proofs.Math.ListN.{get_or-map}
-use Rattle.std.proofs.lemmas.List.{get_or_default, length-map}
-use Rattle.runs.specs.Prelude.{NamedFile, named_file, named_files}
-use Rattle.msgcat.specs.Prelude.{Named, IsReadInput, name_of_first, AreReadAs, first_name}
-use Rattle.msgcat.specs.declared.input.ReadInput.{ReadInput}
 
 abbrev pub Files : Type 0
 Files = List (Bor (List ℕ) × Bor (List ℕ))

@@ -1,18 +1,7 @@
 -- Names that hold NUL, and names that don't.
-use Rattle.std.proofs.Common.{◌≡◌, ℕ, zero, suc, ◌<◌, List, [], ◌∷◌, ◌++◌, Option, None, Some, true, false, ◌||◌, ◌==◌, eqb, refl, subst, sym, ap, ◌∙◌, drop, get_or, length, take, inl, inr, arith}
-use Rattle.std.specs.Prelude.{All}
-use Rattle.std.specs.Borrow.{Bor}
-use Rattle.std.specs.List.{list_any}
+use Rattle.msgcat.proofs.Prelude.{All, All-cons, All-from_get_or, All-head, All-nil, All-tail, Bor, IsFirstWithNul, Lacks, List, None, Option, Some, [], ap, arith, cases_Bool, drop, drop-cons, eqb, eqb-false, eqb-true, false, false_from_ne_true, get_or, inl, inr, length, length-map, list_any, list_any_at, list_any_none, map-append, named_file, named_files, or_parts, refl, subst, suc, sym, take, take-append-drop, true, zero, ℕ, ◌++◌, ◌<◌, ◌==◌, ◌||◌, ◌∙◌, ◌∷◌, ◌≡◌}
 use Rattle.std.specs.Option.{is_some}
-use Rattle.std.proofs.lemmas.Bool.{cases_Bool, eqb-true, eqb-false, false_from_ne_true, or_parts}
-use Rattle.std.proofs.Math.Seq.{drop-cons}
-use Rattle.std.proofs.lemmas.List.{length-map, map-append, take-append-drop}
-use Rattle.std.proofs.lemmas.List.Elements.{All-nil, All-cons, All-head, All-tail, All-from_get_or}
-use Rattle.std.proofs.lemmas.List.Folds.{list_any_at, list_any_none}
 use Rattle.memchr.specs.Find.{IsFirstByte, is_byte}
-use Rattle.po_entry.specs.Prelude.{Lacks}
-use Rattle.runs.specs.Prelude.{named_file, named_files}
-use Rattle.msgcat.specs.Internal.Inputs.{IsFirstWithNul}
 use Rattle.msgcat.proofs.MsgcatLemmas.{Files}
 
 pub lacks : (name : List ℕ) → list_any (λ b. b == 0) name ≡ false → Lacks 0 name

@@ -1,16 +1,6 @@
 -- The groups of entries, by the numbers of their messages.
-use Rattle.std.proofs.Common.{◌≡◌, ℕ, ◌+◌, ◌<◌, Bool, true, false, cond, not, ◌==◌, List, [], ◌∷◌, ◌++◌, refl, sym, ap, ap₂, ◌∙◌, length, map, filter, get_or, zero, suc, arith, append_assoc, length-append, inl, inr}
-use Rattle.std.specs.List.{position_or_len, range_with_len}
-use Rattle.std.proofs.lemmas.Bool.{ne_eqb, eq-eqb}
-use Rattle.std.proofs.lemmas.Bool.Decides.{eqb_tells}
-use Rattle.std.proofs.lemmas.List.{get_or_at, length-map}
-use Rattle.std.proofs.lemmas.Simd.{map-map}
-use Rattle.std.proofs.lemmas.List.Elements.{filter_agree}
-use Rattle.std.specs.Cmp.{IsEquivalence}
-use Rattle.msgcat.specs.Prelude.{NamedEntry, message_numbers, named_messages, by_number, same_message, with_number, GroupsByNumber}
-use Rattle.po_syntax.specs.Facts.Mapped.{cond_ap}
-use Rattle.po_entry.specs.Prelude.{first_ones as firsts_of, Message, entry_message, same_message as one_message}
-use Rattle.msgcat.specs.Groups.{first_ones}
+use Rattle.msgcat.proofs.Prelude.{Bool, GroupsByNumber, IsEquivalence, List, Message, NamedEntry, [], ap, append_assoc, ap₂, arith, by_number, cond, cond_ap, entry_message, eq-eqb, eqb_tells, false, filter, filter_agree, first_ones, get_or, get_or_at, inl, inr, length, length-append, length-map, map, map-map, message_numbers, named_messages, ne_eqb, not, position_or_len, range_with_len, refl, same_message, suc, sym, true, with_number, zero, ℕ, ◌++◌, ◌+◌, ◌<◌, ◌==◌, ◌∙◌, ◌∷◌, ◌≡◌}
+use Rattle.po_entry.specs.Prelude.{first_ones as firsts_of, same_message as one_message}
 use Rattle.msgcat.proofs.FirstOnes.{Apart, group_of, apart_first_ones, first_ones-map, place-map, none_all}
 use Rattle.msgcat.proofs.Messages.{same_message_laws}
 

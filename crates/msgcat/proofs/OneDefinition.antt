@@ -1,18 +1,6 @@
 -- A message with one definition is merged to that entry.
-use Rattle.std.proofs.Common.{◌≡◌, ℕ, ◌<◌, Bool, false, not, ◌||◌, List, [], ◌∷◌, ◌++◌, append-nil, fold, refl, sym, ap, ap₂, ◌∙◌, get_or, length, arith}
-use Rattle.std.specs.Prelude.{All, Contains, bytes_eq, if◌then◌else◌}
-use Rattle.std.specs.List.{list_any}
-use Rattle.std.proofs.lemmas.Bool.{cond_both, false_from_ne_true}
-use Rattle.std.proofs.lemmas.List.Elements.{All-cons, All-contains, All-head, All-nil, All-tail}
-use Rattle.std.proofs.lemmas.List.Folds.{list_any_at}
-use Rattle.std.proofs.lemmas.Slice.Eq.{bytes_eq-Decides}
-use Rattle.po_syntax.specs.declared.item.CommentKind.{CommentKind}
-use Rattle.po_syntax.specs.declared.item.CommentKind.TheVariants.{Translator, Extracted, Reference, Flags}
-use Rattle.po_entry.specs.Prelude.{TextEntry, has_translation}
+use Rattle.msgcat.proofs.Prelude.{All, All-cons, All-contains, All-head, All-nil, All-tail, Bool, CommentKind, Contains, Extracted, Flags, List, MergeOptions, NamedEntry, Reference, TextEntry, Translator, [], all_pass, ap, append-nil, ap₂, arith, bytes_eq, bytes_eq-Decides, collected, comment_of, cond_both, false, false_from_ne_true, first_of, first_translated, first_with, fold, get_or, has_plural, has_previous, has_translation, if◌then◌else◌, is_joined, joined_forms, length, list_any, list_any_at, merged_entry, named_entries, named_entry, none_pass, not, refl, sym, texts_of, translations, with_others, ℕ, ◌++◌, ◌<◌, ◌||◌, ◌∙◌, ◌∷◌, ◌≡◌}
 use Rattle.msgcat.specs.declared.definition.NamedEntry.{NamedEntry as BorrowedEntry}
-use Rattle.msgcat.specs.declared.input.MergeOptions.{MergeOptions}
-use Rattle.msgcat.specs.Prelude.{NamedEntry, named_entry, named_entries, first_of, first_with, has_previous, has_plural, first_translated, texts_of, with_others, collected, comment_of, translations, is_joined, joined_forms, merged_entry}
-use Rattle.po_syntax.specs.Facts.Filters.{all_pass, none_pass}
 use Rattle.msgcat.proofs.TranslationLaws.{joined_where_they_differ}
 use Rattle.msgcat.proofs.Valid.{first_keeps, first_with_keeps}
 

@@ -1,22 +1,7 @@
 -- The entries of inputs, one after the other, by their indexes among those of all inputs.
-use Rattle.std.proofs.Common.{inl, inr, ◌≡◌, refl, sym, ap, ap₂, ◌∙◌, subst, ℕ, ◌+◌, ◌-◌, ◌<◌, ◌≤◌, List, [], ◌∷◌, ◌++◌, append-nil, append_assoc, arith, get_or, length, length-append, map, take}
-use Rattle.std.specs.Prelude.{All}
-use Rattle.std.specs.List.{AllZip, range_with_len}
-use Rattle.std.proofs.Math.ListN.{get_or-append}
-use Rattle.std.proofs.Math.Seq.{get_or-append_seam, take-append_seam}
-use Rattle.std.proofs.lemmas.Bool.{cases_order}
-use Rattle.std.proofs.lemmas.List.{get_or-map, length-map, map-append, take-append-le, take_all, take_more}
-use Rattle.std.proofs.lemmas.List.Elements.{All-append, All-map, All-nil}
-use Rattle.std.proofs.lemmas.Grind.{flat_map-append}
+use Rattle.msgcat.proofs.Prelude.{All, All-append, All-left, All-map, All-nil, All-right, AllZip, AreReadInputs, CanBeMerged, IsCatalogueEntry, IsReadInput, List, Named, NamedEntry, ReadInput, TextEntry, [], all_entries, ap, append-nil, append_assoc, ap₂, arith, cases_order, entries_at, fill_by_all, flat_map-append, get_or, get_or-append, get_or-append_seam, get_or-map, inl, inr, length, length-append, length-map, map, map-append, name_of, named, named_entries, named_entry, no_entry, no_input, range_with_len, refl, subst, sym, take, take-append-le, take-append_seam, take_all, take_more, unnamed, zip_get, zip_length, zip_more, ℕ, ◌++◌, ◌+◌, ◌-◌, ◌<◌, ◌∙◌, ◌∷◌, ◌≡◌, ◌≤◌}
 use Rattle.std.proofs.lemmas.List.Concat.{get_or-flat_map}
-use Rattle.std.proofs.lemmas.List.FromFn.{fill_by_all}
-use Rattle.po_syntax.specs.Facts.AllAppend.{All-left, All-right}
-use Rattle.po_entry.specs.Prelude.{TextEntry, IsCatalogueEntry}
-use Rattle.po_syntax.specs.Facts.Zips.{zip_get, zip_length, zip_more}
-use Rattle.msgcat.specs.Prelude.{Named, NamedEntry, all_entries, named, named_entries, named_entry, AreReadInputs, CanBeMerged, IsReadInput, no_input, unnamed}
-use Rattle.msgcat.specs.Internal.Inputs.{entries_at, name_of, no_entry}
 use Rattle.msgcat.specs.declared.definition.NamedEntry.{NamedEntry as BorrowedEntry}
-use Rattle.msgcat.specs.declared.input.ReadInput.{ReadInput}
 
 abbrev no_named : Named
 no_named = record { name = []; entries = [] }

@@ -1,17 +1,5 @@
 -- An input in which no message stands twice, alone and together with itself.
-use Rattle.std.proofs.Common.{◌≡◌, ℕ, Bool, true, false, cond, ◌&&◌, ◌||◌, nat_lt, length, subst, List, [], ◌∷◌, ◌++◌, refl, sym, ap, ap₂, ◌∙◌, map, filter, fold, get_or, arith, append-nil, append_assoc, zero, suc}
-use Rattle.std.specs.Prelude.{All, if◌then◌else◌}
-use Rattle.std.specs.List.{list_any}
-use Rattle.std.proofs.lemmas.List.Folds.{list_any-append, list_any_none}
-use Rattle.std.proofs.lemmas.List.Sums.{fold-append}
-use Rattle.std.proofs.lemmas.List.Elements.{All-nil, All-cons, All-head, All-tail, All-map, All-weaker, filter-append}
-use Rattle.std.proofs.lemmas.Bool.{cond_both, false_from_ne_true, false≢true, lt-ltb}
-use Rattle.std.proofs.Math.Bool.{or-true}
-use Rattle.po_entry.specs.Prelude.{TextEntry, is_header, is_live, IsSameMessage, AllDiffer}
-use Rattle.msgcat.specs.declared.input.MergeOptions.{MergeOptions}
-use Rattle.msgcat.specs.Prelude.{Named, NamedEntry, named, same_message, definitions, merged_entry, is_kept, is_wanted, merged_messages, keep_all, OneInputStays, WithItself}
-use Rattle.msgcat.specs.Groups.{with_new, first_ones}
-use Rattle.po_syntax.specs.Facts.Filters.{all_pass, none_pass}
+use Rattle.msgcat.proofs.Prelude.{All, All-cons, All-head, All-map, All-nil, All-tail, All-weaker, AllDiffer, Bool, IsSameMessage, List, MergeOptions, Named, NamedEntry, OneInputStays, TextEntry, WithItself, [], all_pass, ap, append-nil, append_assoc, ap₂, arith, cond, cond_both, definitions, false, false_from_ne_true, false≢true, filter, filter-append, first_ones, fold, fold-append, get_or, if◌then◌else◌, is_header, is_kept, is_live, is_wanted, keep_all, length, list_any, list_any-append, list_any_none, lt-ltb, map, merged_entry, merged_messages, named, nat_lt, none_pass, or-true, refl, same_message, subst, suc, sym, true, with_new, zero, ℕ, ◌&&◌, ◌++◌, ◌||◌, ◌∙◌, ◌∷◌, ◌≡◌}
 use Rattle.msgcat.proofs.FirstOnes.{Apart, group_of, none_all}
 use Rattle.msgcat.proofs.Messages.{same_message_laws}
 use Rattle.msgcat.proofs.MessagesOnce.{same_is}

@@ -1,25 +1,10 @@
 -- Sets of translations, which tell whether a definition has forms that were seen.
-use Rattle.std.proofs.Common.{◌≡◌, Bool, true, false, cond, ◌||◌, List, [], ◌∷◌, ◌++◌, ℕ, refl, sym, ap, ap₂, inl, inr, ◌∙◌, ◌==◌, ◌<◌, arith, get_or, subst, take}
-use Rattle.std.specs.Prelude.{All, bytes_eq, length}
-use Rattle.std.specs.Borrow.{Bor}
-use Rattle.std.specs.BTreeMap.{is_at}
+use Rattle.msgcat.proofs.Prelude.{All, All-head, All-tail, All-take, All-weaker, Bool, Bor, HasTranslations, IsDefinition, IsText, Lacks, List, NamedEntry, [], ap, ap₂, arith, bytes_eq, bytes_eq-Decides, cases_Bool, cond, false, false_from_ne_true, false≢true, get_or, get_or-map, inl, inr, is_at, join_with_byte, length-map, list_any, list_any-append, named_entries, named_entry, nat_cmp, nat_list_eq_equiv, ne_eqb, or-false, or-true, refl, same_forms, slice_cmp, split_forms, subst, sym, take, take-map, texts_eq, texts_ties, translation_bytes, translations, true, ℕ, ◌++◌, ◌<◌, ◌==◌, ◌||◌, ◌∙◌, ◌∷◌, ◌≡◌}
+use Rattle.std.specs.Prelude.{length}
 use Rattle.std.specs.BTreeSet.{BTreeSet, contains}
-use Rattle.std.specs.Cmp.Lexicographic.{nat_list_eq_equiv, slice_cmp, texts_ties}
-use Rattle.std.specs.List.{join_with_byte, list_any}
-use Rattle.std.specs.Ordering.{nat_cmp}
-use Rattle.std.proofs.Math.Bool.{or-false, or-true}
-use Rattle.std.proofs.lemmas.Bool.{cases_Bool, false_from_ne_true, false≢true, ne_eqb}
-use Rattle.std.proofs.lemmas.List.{get_or-map, length-map, take-map}
-use Rattle.std.proofs.lemmas.List.Elements.{All-head, All-tail, All-take, All-weaker}
-use Rattle.std.proofs.lemmas.List.Folds.{list_any-append}
 use Rattle.std.proofs.lemmas.List.Splits.{slice_split_at, slice_split_none}
-use Rattle.std.proofs.lemmas.Slice.Eq.{bytes_eq-Decides}
-use Rattle.po_syntax.specs.Prelude.{IsText}
-use Rattle.po_entry.specs.Prelude.{Lacks, texts_eq, split_forms, translation_bytes}
 use Rattle.po_entry.specs.Facts.EqualityLaws.{texts_decide}
-use Rattle.msgcat.specs.Prelude.{IsDefinition, NamedEntry, named_entries, named_entry, same_forms, translations}
 use Rattle.msgcat.specs.declared.definition.NamedEntry.{NamedEntry as BorrowedEntry}
-use Rattle.msgcat.specs.Internal.JoinedTranslations.{HasTranslations}
 use Rattle.msgcat.proofs.Valid.{quoted_parts, translations_all}
 
 without : (text : List ℕ) → Lacks 0 text → All (λ b. (b == 0) ≡ false) text

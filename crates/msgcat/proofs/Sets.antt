@@ -1,14 +1,6 @@
 -- Texts that were seen, and those that come out.
-use Rattle.std.proofs.Common.{◌≡◌, ℕ, ◌+◌, ◌<◌, ◌≤◌, Bool, true, false, cond, not, ◌||◌, List, [], ◌∷◌, ◌++◌, append_assoc, append-nil, refl, sym, ap, ap₂, inl, inr, ◌∙◌, filter, length, arith}
-use Rattle.std.specs.List.{list_any, position_or_len}
-use Rattle.std.proofs.lemmas.Bool.{cases_Bool}
+use Rattle.msgcat.proofs.Prelude.{Bool, HaveSameTexts, List, [], ap, append-nil, append_assoc, ap₂, arith, bytes_eq-Decides, cases_Bool, cond, false, filter, inl, inr, length, list_any, list_any-append, not, or-false, or-true, or_assoc, position_or_len, refl, sym, true, with_others, with_seen, ℕ, ◌++◌, ◌+◌, ◌<◌, ◌||◌, ◌∙◌, ◌∷◌, ◌≡◌, ◌≤◌}
 use Rattle.std.specs.Str.{bytes_eq}
-use Rattle.std.proofs.lemmas.List.Folds.{list_any-append}
-use Rattle.std.proofs.lemmas.Slice.Eq.{bytes_eq-Decides}
-use Rattle.std.proofs.Math.Bool.{or_assoc, or-false, or-true}
-use Rattle.po_entry.specs.Prelude.{with_seen}
-use Rattle.msgcat.specs.Internal.Merging.{HaveSameTexts}
-use Rattle.msgcat.specs.Prelude.{with_others}
 
 -- what both have, the one has whatever is omitted of the other
 pub has_others : (q : List ℕ) (done ts : List (List ℕ))

@@ -1,14 +1,6 @@
 -- What is translated stays translated.
-use Rattle.std.proofs.Common.{◌≡◌, ◌≢◌, ℕ, ◌<◌, Bool, true, false, cond, not, ◌||◌, nat_lt, List, [], ◌∷◌, ◌++◌, Some, refl, sym, ap, ◌∙◌, filter, find, get_or, length, slice_get, arith, All}
-use Rattle.std.specs.Prelude.{Contains, if◌then◌else◌}
-use Rattle.std.specs.List.{list_any}
-use Rattle.std.specs.Option.{option_map_or}
-use Rattle.std.proofs.lemmas.Bool.{and_parts, false≢true, ltb-true, or_left, or_right}
-use Rattle.std.proofs.lemmas.List.Elements.{All-nil, All-cons, All-contains, All-head, All-weaker}
-use Rattle.std.proofs.lemmas.List.FromFn.{get_or-map-range_with_len, length-map-range_with_len}
-use Rattle.po_entry.specs.Prelude.{TextEntry, first_form, is_live, has_translation}
-use Rattle.msgcat.specs.declared.input.MergeOptions.{MergeOptions}
-use Rattle.msgcat.specs.Prelude.{NamedEntry, definitions, first_of, first_translated, form_count, is_joined, joined_form, joined_forms, marked, merged_entry, translations, IsTranslated, TranslatedStays}
+use Rattle.msgcat.proofs.Prelude.{All-cons, All-contains, All-head, All-nil, All-weaker, Bool, Contains, IsTranslated, List, MergeOptions, NamedEntry, Some, TextEntry, TranslatedStays, [], and_parts, ap, arith, cond, definitions, false, false≢true, filter, find, first_form, first_of, first_translated, form_count, get_or, get_or-map-range_with_len, has_translation, if◌then◌else◌, is_joined, is_live, joined_form, joined_forms, length, length-map-range_with_len, list_any, ltb-true, marked, merged_entry, nat_lt, not, option_map_or, or_left, or_right, refl, slice_get, sym, translations, true, ℕ, ◌++◌, ◌<◌, ◌||◌, ◌∙◌, ◌∷◌, ◌≡◌, ◌≢◌}
+use Rattle.std.proofs.Common.{All}
 use Rattle.msgcat.proofs.TranslationLaws.{IsOne, each_is, has, has_is, is_has, joined_as_longest}
 
 -- the live translated ones of a group are among its definitions

@@ -1,14 +1,6 @@
 -- What one more text or definition adds.
-use Rattle.std.proofs.Common.{◌≡◌, ℕ, ◌+◌, ◌<◌, Bool, true, false, cond, List, [], ◌∷◌, ◌++◌, sym, ap, ◌∙◌, filter, take, get_or, length, append-nil}
-use Rattle.std.specs.Prelude.{if◌then◌else◌}
-use Rattle.std.specs.List.{list_any}
-use Rattle.std.proofs.lemmas.List.{take_more, map-append}
-use Rattle.std.proofs.lemmas.List.Elements.{filter-append}
-use Rattle.std.proofs.lemmas.List.Sums.{fold_push}
-use Rattle.po_entry.specs.Prelude.{TextEntry, has_translation}
+use Rattle.msgcat.proofs.Prelude.{Bool, List, NamedEntry, TextEntry, [], ap, append-nil, collected, cond, false, filter, filter-append, first_ones, fold_push, get_or, has_translation, if◌then◌else◌, length, list_any, map-append, named_entries, named_entry, same_forms, sym, take, take_more, translations, true, with_new, with_others, ℕ, ◌++◌, ◌+◌, ◌<◌, ◌∙◌, ◌∷◌, ◌≡◌}
 use Rattle.msgcat.specs.declared.definition.NamedEntry.{NamedEntry as BorrowedEntry}
-use Rattle.msgcat.specs.Prelude.{NamedEntry, named_entry, named_entries, with_others, collected, same_forms, translations}
-use Rattle.msgcat.specs.Groups.{with_new, first_ones}
 
 pub named_more : (ds : List BorrowedEntry) (i : ℕ) (d : BorrowedEntry) → i < length ds → d ≡ get_or ds i d
     → named_entries (take (i + 1) ds) ≡ named_entries (take i ds) ++ named_entry d ∷ []

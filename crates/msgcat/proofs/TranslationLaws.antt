@@ -1,24 +1,6 @@
 -- When translations are joined, and which definition's forms a merged entry has.
-use Rattle.std.proofs.Common.{◌≡◌, ◌≢◌, ◌==◌, ℕ, ◌<◌, ◌≤◌, Bool, true, false, not, ◌&&◌, ◌||◌, nat_lt, max, List, [], ◌∷◌, Option, None, refl, sym, ap, ap₂, ◌∙◌, filter, fold, get_or, length, arith, is_none, ◌⊎◌, inl, inr}
-use Rattle.std.specs.Prelude.{All, Contains, if◌then◌else◌}
-use Rattle.std.specs.List.{list_any}
-use Rattle.std.specs.Option.{option_map_or}
-use Rattle.std.specs.Cmp.{IsEquivalence, on_equiv}
-use Rattle.std.specs.Cmp.Lexicographic.{lists_equiv, nat_list_eq_equiv}
-use Rattle.std.proofs.lemmas.Bool.{and_parts, lt-ltb, ltb-true, ltb-false, ne_eqb, not-true, or_parts, false≢true}
-use Rattle.std.proofs.lemmas.List.Elements.{All-nil, All-cons, All-head, All-tail, All-contains, All-contains_itself, All-filter, All-weaker, filter_passes}
-use Rattle.std.proofs.lemmas.List.Folds.{list_any_none}
+use Rattle.msgcat.proofs.Prelude.{All, All-cons, All-contains, All-contains_itself, All-filter, All-head, All-nil, All-tail, All-weaker, Bool, CommentKind, CommentsOfFirst, Contains, FormsOfFirst, HeadersAreKept, IsEquivalence, IsFirstTranslated, IsTranslated, IsUntranslated, JoinedAsLongest, JoinedWhereTheyDiffer, List, MergeOptions, NamedEntry, None, Option, TextEntry, TranslationsDiffer, [], and_parts, any_first_ones, any_passing, ap, ap₂, arith, bytes_eq-Decides, collected, false, false≢true, filter, filter_passes, first_form, first_translated, fold, form_count, get_or, has_translation, if◌then◌else◌, inl, inr, is_header, is_none, is_wanted, joined_form, joined_forms, length, length-map-range_with_len, list_any, list_any_none, lists_equiv, lt-ltb, ltb-false, ltb-true, max, merged_entry, nat_list_eq_equiv, nat_lt, ne_eqb, none, not, not-true, on_equiv, option_map_or, or-false, or_parts, refl, same_forms, slice_eq-Decides, sym, texts_eq, texts_of, translated, translations, true, ℕ, ◌&&◌, ◌<◌, ◌==◌, ◌||◌, ◌∙◌, ◌∷◌, ◌≡◌, ◌≢◌, ◌≤◌, ◌⊎◌}
 use Rattle.std.proofs.lemmas.Map.Views.{any-filter_same, list_any-from_Contains}
-use Rattle.std.proofs.Math.Bool.{or-false}
-use Rattle.std.proofs.lemmas.List.FromFn.{length-map-range_with_len}
-use Rattle.std.proofs.lemmas.Slice.Eq.{bytes_eq-Decides, slice_eq-Decides}
-use Rattle.po_syntax.specs.declared.item.CommentKind.{CommentKind}
-use Rattle.po_entry.specs.Prelude.{TextEntry, texts_eq, is_header, first_form, has_translation}
-use Rattle.po_entry.proofs.FuzzyFlags.{any_passing}
-use Rattle.po_entry.proofs.FirstOnes.{any_first_ones}
-use Rattle.msgcat.specs.declared.input.MergeOptions.{MergeOptions}
-use Rattle.msgcat.specs.Prelude.{NamedEntry, collected, form_count, joined_form, joined_forms, merged_entry, first_translated, same_forms, texts_of, translations, is_wanted, IsTranslated, IsUntranslated, TranslationsDiffer, JoinedWhereTheyDiffer, JoinedAsLongest, IsFirstTranslated, FormsOfFirst, CommentsOfFirst, HeadersAreKept}
-use Rattle.msgcat.specs.Laws.{translated, none}
 use Rattle.msgcat.proofs.EntryLaws.{find_none, first_is, texts_merged}
 use Rattle.msgcat.proofs.Valid.{at_least}
 use Rattle.msgcat.proofs.FirstOnes.{all_first_ones, Apart, apart_first_ones}

@@ -1,17 +1,7 @@
 -- Refusals of the files before one whose name holds NUL.
-use Rattle.std.proofs.Common.{◌≡◌, ◌≢◌, ◌⊎◌, ℕ, List, [], ◌∷◌, ◌++◌, Result, Ok, Err, IfOk, IfErr, ap, append_assoc, arith, drop, get_or, inl, inr, length, refl, subst, sym, take, ◌∙◌}
-use Rattle.std.specs.Prelude.{All}
-use Rattle.std.specs.Borrow.{Bor}
-use Rattle.std.proofs.lemmas.List.{length-map, length-take-le}
-use Rattle.std.proofs.lemmas.List.Elements.{All-head, All-tail}
-use Rattle.po_entry.specs.Prelude.{Lacks}
+use Rattle.msgcat.proofs.Prelude.{All, All-head, All-tail, AreReadAs, Bor, CannotOpen, Err, HasNulName, IfErr, IfOk, IsFirstWithNul, IsUnread, IsUnreadBeforeNul, Lacks, List, NamedFile, Ok, OutOfMemory, ProgramFault, Result, RunView, [], ap, append_assoc, arith, drop, get_or, inl, inr, length, length-map, length-take-le, named_file, named_files, program_text, refl, run_view, subst, sym, take, ℕ, ◌++◌, ◌∙◌, ◌∷◌, ◌≡◌, ◌≢◌, ◌⊎◌}
 use Rattle.msgcat.specs.Inputs as merge
-use Rattle.runs.specs.declared.program_fault.ProgramFault.{ProgramFault}
-use Rattle.runs.specs.declared.program_fault.ProgramFault.TheVariants.{CannotOpen, OutOfMemory}
 use Rattle.runs.specs.declared.run.Run.{Run}
-use Rattle.runs.specs.Prelude.{NamedFile, named_file, named_files, program_text, RunView, run_view}
-use Rattle.msgcat.specs.Internal.Inputs.{IsFirstWithNul}
-use Rattle.msgcat.specs.Prelude.{AreReadAs, HasNulName, IsUnread, IsUnreadBeforeNul}
 use Rattle.msgcat.proofs.MsgcatLemmas.{Files}
 use Rattle.msgcat.proofs.NulNames.{named_take}
 

@@ -1,23 +1,7 @@
 -- What valid definitions are merged to is valid.
-use Rattle.std.proofs.Common.{◌≡◌, ℕ, ◌<◌, ◌≤◌, Bool, true, false, not, ◌&&◌, ◌==◌, List, [], ◌∷◌, ◌++◌, Option, Some, None, refl, sym, ap, ◌∙◌, filter, fold, find, length, arith, codes, inl, inr, zero, suc, nat_lt, nat_eq, max, get_or, ◌||◌}
-use Rattle.std.specs.Prelude.{All, Contains, IfSome, option_to_list, slice_get, is_some, bytes_eq, if◌then◌else◌}
-use Rattle.std.specs.List.{list_any, list_all, range_with_len, ends_with}
-use Rattle.std.specs.Option.{option_map_or}
-use Rattle.std.specs.Str.{IsAscii}
-use Rattle.std.proofs.lemmas.Bool.{and_parts, cond_both, false_from_ne_true, ltb-true, false≢true, eqb-false, not-true}
+use Rattle.msgcat.proofs.Prelude.{All, All-append, All-cons, All-contains, All-contains_itself, All-filter, All-head, All-left, All-map, All-nil, All-right, All-tail, All-weaker, AreDistinct, Bool, CommentKind, Contains, Contains-append_cases, Contains-append_right, Contains-get_or, Extracted, Flags, IfSome, IsAscii, IsComment, IsDefinition, IsEntry, IsFlag, IsReference, IsText, IsTranslatorComment, Lacks, List, MergeOptions, NamedEntry, None, Option, Reference, Some, TextEntry, Translator, [], and_parts, ap, arith, bytes_eq, bytes_eq-Decides, codes, collected, comment_of, cond_both, ended, ends_with, eqb-false, false, false_from_ne_true, false≢true, filter, filter_passes, find, first_of, first_translated, first_with, fold, form_count, get_or, has_plural, has_previous, has_translation, if◌then◌else◌, inl, inr, is_joined, joined_form, joined_forms, length, length-map, length-range_with_len, list_all, list_any, list_any_at, ltb-true, marked, max, merged_entry, nat_eq, nat_lt, not, not-true, option_map_or, option_to_list, previous_texts, range_with_len, refl, same_forms, suc, sym, texts_of, translations, true, with_others, zero, ℕ, ◌&&◌, ◌++◌, ◌<◌, ◌==◌, ◌||◌, ◌∙◌, ◌∷◌, ◌≡◌, ◌≤◌}
+use Rattle.std.specs.Prelude.{slice_get, is_some}
 use Rattle.std.proofs.lemmas.Str.{IsUtf8-nil, IsUtf8-append, IsUtf8-from_ascii}
-use Rattle.std.proofs.lemmas.Slice.Eq.{bytes_eq-Decides}
-use Rattle.std.proofs.lemmas.List.{length-map}
-use Rattle.std.proofs.lemmas.List.FromFn.{length-range_with_len}
-use Rattle.std.proofs.lemmas.List.Folds.{list_any_at}
-use Rattle.std.proofs.lemmas.List.Elements.{All-nil, All-cons, All-head, All-tail, All-append, All-filter, All-weaker, All-contains, All-contains_itself, All-map, filter_passes, Contains-get_or, Contains-append_right, Contains-append_cases}
-use Rattle.po_syntax.specs.declared.item.CommentKind.{CommentKind}
-use Rattle.po_syntax.specs.declared.item.CommentKind.TheVariants.{Translator, Extracted, Reference, Flags}
-use Rattle.po_entry.specs.Prelude.{Lacks, AreDistinct, TextEntry, previous_texts, IsEntry, IsTranslatorComment, IsReference, IsFlag, has_translation}
-use Rattle.po_syntax.specs.Facts.AllAppend.{All-left, All-right}
-use Rattle.po_syntax.specs.Prelude.{IsText, IsComment}
-use Rattle.msgcat.specs.declared.input.MergeOptions.{MergeOptions}
-use Rattle.msgcat.specs.Prelude.{NamedEntry, IsDefinition, first_of, first_with, has_previous, has_plural, first_translated, texts_of, with_others, collected, comment_of, same_forms, translations, is_joined, ended, marked, joined_form, form_count, joined_forms, merged_entry}
 use Rattle.msgcat.proofs.FirstOnes.{all_first_ones}
 
 -- the first definition that has something

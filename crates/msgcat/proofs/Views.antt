@@ -1,11 +1,6 @@
 -- Tests of definitions, as the code holds them and as contracts see them.
-use Rattle.std.proofs.Common.{◌≡◌, Bool, true, false, List, sym, ap, ◌∙◌, filter}
-use Rattle.std.specs.Prelude.{if◌then◌else◌}
-use Rattle.std.specs.List.{list_any}
-use Rattle.po_entry.specs.Prelude.{TextEntry, is_live}
-use Rattle.po_syntax.specs.Facts.Mapped.{any_map, filter_map}
+use Rattle.msgcat.proofs.Prelude.{Bool, List, NamedEntry, TextEntry, any_map, ap, definitions, false, filter, filter_map, if◌then◌else◌, is_live, list_any, named_entries, named_entry, sym, true, ◌∙◌, ◌≡◌}
 use Rattle.msgcat.specs.declared.definition.NamedEntry.{NamedEntry as BorrowedEntry}
-use Rattle.msgcat.specs.Prelude.{definitions, NamedEntry, named_entry, named_entries}
 
 pub any_named : (p : TextEntry → Bool) (ds : List BorrowedEntry)
     → list_any (λ d. p d.entry) ds ≡ list_any (λ d. p d.entry) (named_entries ds)

@@ -1,12 +1,5 @@
 -- The entries of a message, one after the other by their links.
-use Rattle.std.proofs.Common.{◌≡◌, refl, sym, ap, ◌∙◌, subst, ℕ, ◌<◌, ◌≤◌, Bool, true, false, cond, not, ◌||◌, List, [], ◌∷◌, arith, length, get_or}
-use Rattle.std.specs.Prelude.{All, if◌then◌else◌}
-use Rattle.std.specs.List.{list_any}
-use Rattle.std.proofs.lemmas.List.{get_or-map, length-map}
-use Rattle.std.proofs.lemmas.List.Elements.{All-head, All-tail}
-use Rattle.po_entry.specs.Prelude.{is_live, TextEntry}
-use Rattle.msgcat.specs.Prelude.{definitions, groups, IsChain, Named, NamedEntry, all_entries, named, HoldInputs, messages}
-use Rattle.msgcat.specs.Internal.Inputs.{entries_at, no_entry}
+use Rattle.msgcat.proofs.Prelude.{All, All-head, All-tail, Bool, HoldInputs, IsChain, List, Named, NamedEntry, TextEntry, [], all_entries, ap, arith, cond, definitions, entries_at, false, get_or, get_or-map, groups, if◌then◌else◌, is_live, length, length-map, list_any, messages, named, no_entry, not, refl, subst, sym, true, ℕ, ◌<◌, ◌||◌, ◌∙◌, ◌∷◌, ◌≡◌, ◌≤◌}
 use Rattle.msgcat.specs.declared.merge_inputs.MergeInputs.{MergeInputs}
 use Rattle.msgcat.proofs.HeldGroups.{entries_here, group_valid, groups_at, groups_counted, indexes_here, message_at}
 use Rattle.msgcat.proofs.LinkLemmas.{chain_on, chain_over, chain_some}

@@ -1,13 +1,6 @@
 -- What msgcat does, by the way in which it ends.
-use Rattle.std.proofs.Common.{◌≡◌, ◌≢◌, ◌⊎◌, List, None, Some, Option, option_map, refl, ap, inl, inr}
-use Rattle.std.specs.Prelude.{All}
-use Rattle.po_entry.specs.Prelude.{Lacks}
-use Rattle.runs.specs.declared.program_fault.ProgramFault.{ProgramFault}
-use Rattle.runs.specs.declared.program_fault.ProgramFault.TheVariants.{OutOfMemory}
-use Rattle.runs.specs.Prelude.{NamedFile, program_text, RunView}
+use Rattle.msgcat.proofs.Prelude.{All, AreReadAs, HasNulName, HaveNoRun, IsMsgcatRun, IsRunOf, IsUnread, IsUnreadBeforeNul, Lacks, List, MergeOptions, NamedFile, None, Option, OutOfMemory, ProgramFault, RunView, Some, ap, inl, inr, option_map, program_text, refl, ◌≡◌, ◌≢◌, ◌⊎◌}
 use Rattle.msgcat.specs.Inputs as merge
-use Rattle.msgcat.specs.declared.input.MergeOptions.{MergeOptions}
-use Rattle.msgcat.specs.Prelude.{AreReadAs, HasNulName, IsMsgcatRun, IsUnread, IsUnreadBeforeNul, HaveNoRun, IsRunOf}
 
 pub planned : (inputs : List NamedFile) (o : MergeOptions) (run : RunView) (next : Option ProgramFault)
     → (next ≡ None → IsMsgcatRun inputs o run) → (next ≢ None → IsUnread inputs run) → IsUnreadBeforeNul inputs run

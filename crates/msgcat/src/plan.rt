@@ -1,6 +1,6 @@
 //! What msgcat writes and reports: the text of the catalogue that PO texts are merged to; and what
 //! it comes to where an input can't be read.
-ghost use Rattle.std.specs.Prelude.{◌≡◌, ◌≢◌, ◌⊎◌, All, Err, IfErr, IfOk, IfSome, List, MatchOption, None, OnErr, Some, []};
+ghost use Rattle.std.specs.Prelude.{◌≡◌, ◌⊎◌, All, Err, IfErr, IfOk, List, MatchOption, None, OnErr, Some, []};
 ghost use Rattle.po_entry.specs.Prelude.{Lacks};
 ghost use Rattle.msgcat.specs.Prelude.{Named, AreReadAs, IsMsgcatRun, IsUnread};
 ghost use Rattle.msgcat.specs.Internal.Inputs.{IsReadingOf, IsFirstWithNul};

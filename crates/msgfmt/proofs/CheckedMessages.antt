@@ -1,18 +1,8 @@
 -- The check of messages is that of the entries that are compiled to them.
-use Rattle.std.proofs.Common.{◌≡◌, ℕ, if◌then◌else◌, Bool, true, false, refl, sym, ap, ap₂, ◌∙◌, subst, cond, List, [], ◌∷◌, map, find, Option, None, Some, All, MatchOption}
+use Rattle.msgfmt.proofs.Prelude.{All, All-cons, All-filter, All-head, All-nil, All-tail, AreChecked, Bool, CompiledMessage, Default, Header, InputEntry, IsCatalogueEntry, IsChecked, IsEntry, IsRuleOf, List, MatchOption, NoHeader, None, Option, Reported, RuleView, Some, Source, TextEntry, TextsComeBack, [], ap, ap₂, checked_message, checked_messages, compiled_inputs, compiled_message, compiled_view, cond, count_fault, counts_below, entries_of, entry_fault, expression_limit, false, find, first_fault, first_form, first_some, forms, id_of, if◌then◌else◌, is_compiled, is_header_entry, is_plural, is_some, joined, joined_entries, key_of, map, option_or, original_of, plain_entry, plural_of, refl, rule_fault, subst, sym, taken_entry, translation_of, true, with_line, ℕ, ◌∙◌, ◌∷◌, ◌≡◌}
 use Rattle.std.specs.Borrow.{Bor}
-use Rattle.std.specs.Option.{is_some, option_map, option_or}
-use Rattle.std.proofs.lemmas.List.Elements.{All-cons, All-filter, All-head, All-nil, All-tail}
-use Rattle.mo_file.specs.Prelude.{key_of, forms, id_of, plural_of}
-use Rattle.plural_rule.specs.Prelude.{IsRuleOf, RuleView, expression_limit}
-use Rattle.plural_rule.specs.declared.rule.Source.{Source}
-use Rattle.plural_rule.specs.declared.rule.Source.TheVariants.{Header, Default}
-use Rattle.po_entry.specs.Prelude.{TextEntry, plain_entry, with_line, first_form, IsCatalogueEntry, IsEntry, InputEntry, entries_of, joined, joined_entries}
+use Rattle.std.specs.Option.{option_map}
 use Rattle.po_syntax.specs.Facts.Mapped.{find_map}
-use Rattle.po_compile.specs.Prelude.{compiled_inputs, compiled_message, compiled_view, is_compiled, original_of, translation_of, TextsComeBack}
-use Rattle.po_compile.specs.declared.messages.CompiledMessage.{CompiledMessage}
-use Rattle.msgfmt.specs.Prelude.{AreChecked, IsChecked, Reported, checked_message, checked_messages, count_fault, counts_below, entry_fault, first_fault, first_some, is_header_entry, is_plural, rule_fault, taken_entry}
-use Rattle.msgfmt.specs.declared.profile.CheckFault.TheVariants.{NoHeader}
 
 -- what the check sees of an entry
 abbrev seen : InputEntry → InputEntry

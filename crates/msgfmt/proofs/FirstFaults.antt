@@ -1,28 +1,18 @@
 -- The first fault that the check of a profile finds is the first that there is.
-use Rattle.std.proofs.Common.{◌≡◌, ◌≢◌, ◌⊎◌, inl, inr, ◌∙◌, refl, sym, ap, subst, ℕ, suc, ◌+◌, ◌-◌, ◌<◌, Bool, true, false, not, ◌&&◌, ◌||◌, ◌==◌, if◌then◌else◌, nat_lt, List, [], ◌∷◌, ◌++◌, length, length-append, length-take, get_or, get_or-take, take, drop, append-nil, find, All, Option, Some, None, arith}
-use Rattle.std.specs.Prelude.{◌↔◌}
+use Rattle.msgfmt.proofs.Prelude.{All, All-cons, All-head, All-nil, All-tail, Bool, CountFault, Default, Differ, DiffersAt, EntryFault, FirstFault, FormCount, HasNewline, HasOtherCount, HasPlural, HasProfileFault, Header, IndexOutside, InputEntry, IsFirst, LeadingNewline, List, NeedsNoOtherRule, NoRule, None, Option, Reported, RuleView, Some, Source, TextEntry, TrailingNewline, Undefined, [], ap, append-nil, arith, count_fault, counts_below, differ, differs_from_msgid, drop, entry_fault, false, find, first_fault, first_some, get_or, get_or-take, has_newline, if◌then◌else◌, inl, inr, is_header_entry, is_plural, is_some, length, length-append, length-take, nat_lt, not, option_map_or, option_or, option_to_list, range_with_len, refl, rule_fault, slice_get, subst, suc, sym, take, true, value, value_fault, ℕ, ◌&&◌, ◌++◌, ◌+◌, ◌-◌, ◌<◌, ◌==◌, ◌||◌, ◌↔◌, ◌∙◌, ◌∷◌, ◌≡◌, ◌≢◌, ◌⊎◌}
 use Rattle.std.specs.Bool.{Decides}
-use Rattle.std.specs.List.{range_with_len, slice_get}
-use Rattle.std.specs.Option.{is_some, option_or, option_to_list, option_map_or}
 use Rattle.std.proofs.Math.ListN.{get_or-append}
 use Rattle.std.proofs.Math.Seq.{get_or-append_seam}
 use Rattle.std.proofs.lemmas.Bool.{eqb-true, ltb-false, le-ltb, false_from_ne_true, false≢true}
 use Rattle.std.proofs.lemmas.Bool.Decides.{Decides-and, Decides-or, Decides-not, Decides-eqb}
-use Rattle.std.proofs.lemmas.List.Elements.{All-nil, All-cons, All-head, All-tail}
 use Rattle.std.proofs.lemmas.List.Folds.{Any-from_list_any, list_any-from_Any}
 use Rattle.std.proofs.lemmas.List.FromFn.{get_or-range_with_len, length-range_with_len}
 use Rattle.std.proofs.lemmas.Option.{none-some}
 use Rattle.po_syntax.specs.Facts.Runs.{from_end}
-use Rattle.po_entry.specs.Prelude.{TextEntry, InputEntry}
 use Rattle.std.proofs.Math.Seq.{split_at}
-use Rattle.plural_rule.specs.Prelude.{value, RuleView}
-use Rattle.plural_rule.specs.declared.rule.Source.{Source}
-use Rattle.plural_rule.specs.declared.rule.Source.TheVariants.{Header, Default}
 use Rattle.msgfmt.specs.declared.profile.End.{End}
 use Rattle.msgfmt.specs.declared.profile.End.TheVariants.{Beginning, Ending}
 use Rattle.msgfmt.specs.declared.profile.CheckFault.{CheckFault}
-use Rattle.msgfmt.specs.declared.profile.CheckFault.TheVariants.{NoRule, FormCount, LeadingNewline, TrailingNewline, Undefined, IndexOutside}
-use Rattle.msgfmt.specs.Prelude.{Reported, first_some, is_plural, is_header_entry, rule_fault, has_newline, differ, differs_from_msgid, entry_fault, value_fault, count_fault, counts_below, first_fault, HasNewline, Differ, DiffersAt, HasOtherCount, EntryFault, HasProfileFault, CountFault, HasPlural, IsFirst, NeedsNoOtherRule, FirstFault}
 use Rattle.msgfmt.specs.Laws.{count, leading, trailing, undefined, outside, no_rule, in_entry, at_count}
 
 -- what a test decides, and the choice by it

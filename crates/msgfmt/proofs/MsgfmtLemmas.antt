@@ -1,13 +1,7 @@
 -- What a run of msgfmt comes to, by the way in which it ends.
-use Rattle.std.proofs.Common.{◌≡◌, ◌≢◌, Bool, true, false, List, length, sym, ap, subst, ◌∙◌, inl, inr, arith}
-use Rattle.std.proofs.lemmas.List.{length-map}
+use Rattle.msgfmt.proofs.Prelude.{AreCollected, Bool, IsCompilation, IsCompileFault, IsMsgfmtRun, IsRefused, List, LiveMessage, MsgfmtOptions, NamedFile, NoneRefused, ReadsText, RunView, ap, arith, compile_options, false, inl, input_texts, inr, joined_entries, length, length-map, live_messages, subst, sym, true, ◌∙◌, ◌≡◌, ◌≢◌}
 use Rattle.std.proofs.lemmas.Slice.Zip.{AllZip-long}
-use Rattle.po_entry.specs.Prelude.{ReadsText, joined_entries}
-use Rattle.po_compile.specs.Prelude.{IsCompileFault, LiveMessage, live_messages, AreCollected, IsCompilation}
 use Rattle.po_compile.specs.declared.options.Options.{Options}
-use Rattle.msgfmt.specs.declared.options.MsgfmtOptions.{MsgfmtOptions}
-use Rattle.msgfmt.specs.Prelude.{NoneRefused, IsMsgfmtRun, IsRefused, compile_options, input_texts}
-use Rattle.runs.specs.Prelude.{NamedFile, RunView}
 
 -- each input is collected
 pub collected-count : (use_fuzzy : Bool) (inputs : List NamedFile) (collected : List (List LiveMessage))

@@ -1,8 +1,5 @@
 -- The first fault in a range of counts.
-use Rattle.std.proofs.Common.{◌≡◌, ℕ, ◌+◌, ◌-◌, ◌<◌, suc, Option, refl, arith}
-use Rattle.std.specs.List.{range_with_len}
-use Rattle.std.specs.Option.{option_or}
-use Rattle.msgfmt.specs.Prelude.{first_some}
+use Rattle.msgfmt.proofs.Prelude.{Option, arith, first_some, option_or, range_with_len, refl, suc, ℕ, ◌+◌, ◌-◌, ◌<◌, ◌≡◌}
 
 -- a range begins with its first count
 pub first_some-range : {B : Type 0} (f : ℕ → Option B) (c n : ℕ) → c < n

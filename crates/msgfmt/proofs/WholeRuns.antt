@@ -1,10 +1,6 @@
 -- What msgfmt does, by the way in which it ends.
-use Rattle.std.proofs.Common.{◌≡◌, ◌≢◌, ◌⊎◌, List, None, Some, Option, option_map, refl, ap, inl, inr, ⊎_elim}
-use Rattle.runs.specs.declared.program_fault.ProgramFault.{ProgramFault}
+use Rattle.msgfmt.proofs.Prelude.{AreWrong, HaveNoRun, IsMsgfmtRun, IsRefused, IsRunOf, List, MsgfmtOptions, NamedFile, None, NoneRefused, Option, ProgramFault, RunView, Some, ap, inl, inr, option_map, program_text, refl, ⊎_elim, ◌≡◌, ◌≢◌, ◌⊎◌}
 use Rattle.runs.specs.declared.program_fault.ProgramFault.TheVariants.{OutOfMemory, WrongArguments}
-use Rattle.runs.specs.Prelude.{NamedFile, program_text, RunView}
-use Rattle.msgfmt.specs.declared.options.MsgfmtOptions.{MsgfmtOptions}
-use Rattle.msgfmt.specs.Prelude.{AreWrong, IsMsgfmtRun, IsRefused, NoneRefused, HaveNoRun, IsRunOf}
 
 pub planned : (inputs : List NamedFile) (o : MsgfmtOptions) (run : RunView) (next : Option ProgramFault)
     → (next ≡ None → IsMsgfmtRun inputs o run) → (next ≢ None → IsRefused inputs o run)

@@ -1,14 +1,6 @@
 -- The parts of a message, from what cuts its strings.
-use Rattle.std.proofs.Common.{append-nil, ◌≡◌, ◌≢◌, ℕ, ◌==◌, Bool, true, false, List, [], ◌∷◌, ◌++◌, Option, None, Some, refl, sym, ap, ◌∙◌, subst, take, All}
-use Rattle.std.specs.List.{AllZip, join_with_byte, onto_first}
+use Rattle.msgunfmt.proofs.Prelude.{All, All-cons, All-head, All-nil, All-tail, AllZip, Bool, ContainsForms, ContainsKey, ContainsMsgid, IsAfterPart, IsEntryOf, Lacks, List, Message, None, Option, Some, [], after_context, ap, append-nil, at_end, at_nul, before_all, before_is, before_plural, context_cut, context_none, context_of, each_part, false, first_all, first_cut, first_part, forms, id_all, id_cut, id_of, is_nul, join_with_byte, join_with_byte-slice_split, key_alone, key_of, msgid_alone, onto_first, plural_cut, plural_none, plural_of, refl, slice_split-cons_no, slice_split-cons_yes, subst, sym, take, taken_forms, true, unformatted, ℕ, ◌++◌, ◌==◌, ◌∙◌, ◌∷◌, ◌≡◌, ◌≢◌}
 use Rattle.std.proofs.lemmas.Bool.Decides.{Decides-eqb}
-use Rattle.std.proofs.lemmas.List.Splits.{join_with_byte-slice_split, slice_split-cons_no, slice_split-cons_yes}
-use Rattle.std.proofs.lemmas.List.Elements.{All-cons, All-head, All-nil, All-tail}
-use Rattle.mo_file.specs.Prelude.{is_nul, key_of, Message, context_of, forms, id_of, plural_of}
-use Rattle.po_entry.specs.Prelude.{Lacks}
-use Rattle.msgunfmt.specs.Prelude.{ContainsMsgid, IsAfterPart, ContainsKey, ContainsForms, IsEntryOf, taken_forms, unformatted}
-use Rattle.msgunfmt.specs.Laws.{msgid_alone, after_context, at_end, at_nul, key_alone, before_plural, first_part, each_part}
-use Rattle.mo_file.proofs.CutLemmas.{before_all, before_is, context_cut, context_none, id_all, id_cut, first_all, first_cut, plural_cut, plural_none}
 
 -- a text has a first such byte, or none
 data Cut (byte : ℕ) : List ℕ → Type 0 where

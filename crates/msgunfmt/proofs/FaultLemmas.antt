@@ -1,15 +1,6 @@
 -- A file has one text at most, and then no fault.
-use Rattle.std.proofs.Common.{◌≡◌, ℕ, List, [], ◌∷◌, ap, refl, sym, ◌∙◌, subst, get_or}
-use Rattle.std.proofs.lemmas.List.Elements.{All-weaker}
-use Rattle.std.proofs.lemmas.Option.{get_or_from_slice_get, slice_get_within}
-use Rattle.mo_file.specs.Prelude.{OneMessageList, Message}
-use Rattle.po_syntax.specs.declared.fault.PoFault.{PoFault}
+use Rattle.msgunfmt.proofs.Prelude.{All-weaker, AreWrittenAs, EmptyText, ForbiddenByte, ForeignCharset, HasAdmittedCharset, HasFirstEntryTextFault, HasForeignCharset, IsCatalogueEntry, IsFileOf, List, Message, Mo, NoFaultWhereUnformatted, NotUtf8, OneMessageList, OneText, OutOfMemory, PoFault, TextEntry, [], ap, get_or, get_or_from_slice_get, no_texts_fault, refl, slice_get_within, subst, sym, unformatted, written_text, ℕ, ◌∙◌, ◌∷◌, ◌≡◌}
 use Rattle.po_syntax.specs.declared.fault.PoFault.TheVariants.{NotUtf8 as BadText, ForbiddenByte as BadByte}
-use Rattle.po_entry.specs.Prelude.{TextEntry, HasAdmittedCharset, IsCatalogueEntry}
-use Rattle.po_entry.proofs.TextsFaults.{no_texts_fault}
-use Rattle.po_writer.specs.Prelude.{written_text}
-use Rattle.msgunfmt.specs.declared.fault.UnformatError.TheVariants.{Mo, NotUtf8, ForbiddenByte, ForeignCharset, OutOfMemory}
-use Rattle.msgunfmt.specs.Prelude.{EmptyText, NoFaultWhereUnformatted, OneText, unformatted, AreWrittenAs, HasFirstEntryTextFault, HasForeignCharset, IsFileOf}
 use Rattle.msgunfmt.proofs.MessageLemmas.{texts_of}
 
 -- messages that are written have no fault in their texts

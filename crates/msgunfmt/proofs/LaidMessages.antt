@@ -1,17 +1,8 @@
 -- The entry of a message, as it is laid out.
-use Rattle.std.proofs.Common.{◌≡◌, ◌≢◌, ◌↔◌, ◌∙◌, ℕ, ◌<◌, Bool, true, List, [], ◌∷◌, ◌++◌, Option, Some, sym, ap, ap₂, subst, get_or, length, map, take, slice_get, arith, All}
+use Rattle.msgunfmt.proofs.Prelude.{Adds, All, All-append, All-cons, All-head, All-left, All-nil, All-right, All-tail, AppendsEntry, AppendsMessage, AreLaid, Bool, CanLie, ContainsForms, ContainsKey, ContainsMsgid, HasAdmittedCharset, HasOneMore, HasTexts, HoldsMessage, Lacks, LiesIn, List, Message, Option, RefusesEntry, RefusesMessage, Some, TextEntry, UnformatError, [], after_context, ap, ap₂, arith, before_plural, context_of, each_part, entries_in, entry_at, entry_of_message, first_part, forms, get_or, id_of, key_alone, key_of, length, map, message_entry, msgid_alone, plain_entry, plural_of, quoted_texts, row_of, slice_get, split_none, subst, sym, take, taken_forms, true, unformatted, ℕ, ◌++◌, ◌<◌, ◌↔◌, ◌∙◌, ◌∷◌, ◌≡◌, ◌≢◌}
 use Rattle.std.specs.Prelude.{option_to_list}
-use Rattle.std.proofs.lemmas.List.Elements.{All-append, All-cons, All-head, All-nil, All-tail}
-use Rattle.mo_file.specs.Prelude.{key_of, Message, context_of, forms, id_of, plural_of}
-use Rattle.po_entry.specs.Prelude.{Lacks, HasAdmittedCharset, Adds, AreLaid, CanLie, LiesIn, entries_in, entry_at, message_entry, row_of, TextEntry, plain_entry, quoted_texts, HasTexts}
-use Rattle.po_syntax.specs.Facts.AllAppend.{All-left, All-right}
 use Rattle.po_entry.specs.declared.drafts.Drafts.{Drafts}
 use Rattle.po_entry.specs.declared.row.Row.{Row}
-use Rattle.msgunfmt.specs.declared.fault.UnformatError.{UnformatError}
-use Rattle.msgunfmt.specs.Internal.Unformatting.{AppendsEntry, AppendsMessage, HasOneMore, HoldsMessage, RefusesEntry, RefusesMessage}
-use Rattle.msgunfmt.specs.Prelude.{ContainsForms, ContainsKey, ContainsMsgid, entry_of_message, taken_forms, unformatted}
-use Rattle.msgunfmt.specs.Laws.{after_context, before_plural, each_part, first_part, key_alone, msgid_alone}
-use Rattle.mo_file.proofs.CutLemmas.{split_none}
 use Rattle.msgunfmt.proofs.EntryParts.{entries_are, parts_of}
 use Rattle.msgunfmt.proofs.MessageLemmas.{message_valid}
 

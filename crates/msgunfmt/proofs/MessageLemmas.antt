@@ -1,20 +1,5 @@
 -- The entries of messages, one after another, and what is wrong with one.
-use Rattle.std.proofs.Common.{◌≡◌, ℕ, ◌+◌, ◌<◌, Bool, true, false, List, [], ◌∷◌, ◌++◌, ◌&&◌, ◌↔◌, zero, suc, Option, None, Some, IfSome, refl, sym, ap, ◌∙◌, subst, length, get_or, take, slice_get, arith, All}
-use Rattle.std.proofs.lemmas.List.{length-map, take_more, take_all}
-use Rattle.std.proofs.lemmas.List.Elements.{All-nil, All-more, All-map, All-take, All-weaker}
-use Rattle.std.proofs.lemmas.Option.{get_or_from_slice_get, slice_get_within}
-use Rattle.std.specs.Prelude.{IsUtf8}
-use Rattle.std.proofs.lemmas.List.Splits.{length-slice_split}
-use Rattle.mo_file.specs.Prelude.{is_nul, key_of, Message, originals, translations, context_of, forms, id_of, plural_of}
-use Rattle.po_syntax.specs.declared.fault.PoFault.{PoFault}
-use Rattle.po_entry.specs.Prelude.{TextEntry, plain_entry, quoted_texts, Lacks, HasAdmittedCharset, HasTexts, IsCatalogueEntry, IsEntry, IsFlag, IsReference, IsTranslatorComment, EntryTextFault}
-use Rattle.po_syntax.specs.Prelude.{IsComment, IsText}
-use Rattle.po_entry.specs.Validity.EntryTextFault.{not_utf8, forbidden}
-use Rattle.msgunfmt.specs.declared.fault.UnformatError.{UnformatError}
-use Rattle.msgunfmt.specs.declared.fault.UnformatError.TheVariants.{Mo, NotUtf8, ForbiddenByte, ForeignCharset, OutOfMemory}
-use Rattle.msgunfmt.specs.Internal.Unformatting.{RefusesEntry, RefusesMessages, error_at}
-use Rattle.po_writer.specs.Prelude.{written_text}
-use Rattle.msgunfmt.specs.Prelude.{entry_of_message, taken_forms, unformatted, AreWrittenAs, HasForeignCharset}
+use Rattle.msgunfmt.proofs.Prelude.{All, All-map, All-more, All-nil, All-take, All-weaker, AreWrittenAs, Bool, EntryTextFault, ForbiddenByte, ForeignCharset, HasAdmittedCharset, HasForeignCharset, HasTexts, IfSome, IsCatalogueEntry, IsComment, IsEntry, IsFlag, IsReference, IsText, IsTranslatorComment, IsUtf8, Lacks, List, Message, Mo, None, NotUtf8, Option, OutOfMemory, PoFault, RefusesEntry, RefusesMessages, Some, TextEntry, UnformatError, [], ap, arith, context_of, entry_of_message, error_at, false, forbidden, forms, get_or, get_or_from_slice_get, id_of, is_nul, key_of, length, length-map, length-slice_split, not_utf8, originals, plain_entry, plural_of, quoted_texts, refl, slice_get, slice_get_within, subst, suc, sym, take, take_all, take_more, taken_forms, translations, true, unformatted, written_text, zero, ℕ, ◌&&◌, ◌++◌, ◌+◌, ◌<◌, ◌↔◌, ◌∙◌, ◌∷◌, ◌≡◌}
 
 -- the texts of an entry can stand in it
 pub texts_of : (entry : TextEntry) → IsEntry entry → HasTexts entry

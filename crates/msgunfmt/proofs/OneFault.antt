@@ -1,16 +1,7 @@
 -- A file has one fault at most, beside out of memory.
-use Rattle.std.proofs.Common.{◌≡◌, ℕ, ◌<◌, List, Some, arith, ap, refl, sym, ◌∙◌, subst, get_or, take, length, inl, inr}
-use Rattle.std.proofs.lemmas.Bool.{cases_lt}
-use Rattle.std.proofs.lemmas.List.{get_or-take, length-take}
-use Rattle.std.proofs.lemmas.Option.{get_or_from_slice_get, slice_get_within}
-use Rattle.mo_file.specs.Prelude.{OneMessageList, OneFirstFault, Message}
+use Rattle.msgunfmt.proofs.Prelude.{EntryTextFault, ForbiddenByte, ForeignCharset, HasFirstEntryTextFault, HasForeignCharset, HasTexts, IsFileOf, IsUnformatFault, List, Message, Mo, NotUtf8, OneFirstFault, OneMessageList, OneUnformatFault, OutOfMemory, PoFault, Some, ap, arith, cases_lt, get_or, get_or-take, get_or_from_slice_get, inl, inr, length, length-take, no_texts_fault, one_texts_fault, refl, slice_get_within, subst, sym, take, unformatted, ℕ, ◌<◌, ◌∙◌, ◌≡◌}
 use Rattle.mo_file.specs.declared.fault.MoError.{MoError}
-use Rattle.po_syntax.specs.declared.fault.PoFault.{PoFault}
 use Rattle.po_syntax.specs.declared.fault.PoFault.TheVariants.{NotUtf8 as BadText, ForbiddenByte as BadByte}
-use Rattle.po_entry.specs.Prelude.{HasTexts, EntryTextFault}
-use Rattle.po_entry.proofs.TextsFaults.{no_texts_fault, one_texts_fault}
-use Rattle.msgunfmt.specs.declared.fault.UnformatError.TheVariants.{Mo, NotUtf8, ForbiddenByte, ForeignCharset, OutOfMemory}
-use Rattle.msgunfmt.specs.Prelude.{OneUnformatFault, unformatted, HasFirstEntryTextFault, HasForeignCharset, IsFileOf, IsUnformatFault}
 use Rattle.msgunfmt.proofs.FaultLemmas.{moved}
 
 -- a message before the first one with such a fault has none

@@ -1,22 +1,13 @@
 -- A compiled file comes back from its PO text.
-use Rattle.std.proofs.Common.{◌≡◌, append_assoc, ℕ, Bool, true, false, ◌&&◌, ◌||◌, not, cond, List, [], ◌∷◌, ◌++◌, Option, None, Some, refl, sym, ap, ◌∙◌, subst, length, get_or, map, filter, arith, All, IsPermutation, option_to_list}
-use Rattle.std.specs.List.{AllZip}
+use Rattle.msgunfmt.proofs.Prelude.{All, All-filter, All-head, All-map, All-right, All-tail, All-weaker, AllDiffer, AllZip, Bool, CompilesTo, HasNoDuplicate, IsCatalogueEntry, IsEntry, IsPermutation, IsSmall, IsText, List, Message, None, Option, ReadsDistinct, ReadsText, Some, TextEntry, UnformatThenCompile, [], and_parts, ap, append_assoc, arith, arranged, cond, entry_of_message, false, filter, filter_passes, forms, get_or, has_translation, id_of, is_header, is_live, joined_entries, key_of, layout, length, length-map, map, not, option_to_list, plural_of, previous_texts, quoted_texts, refl, subst, sym, take_all, taken_forms, true, unformatted, with_line, written_text, ℕ, ◌&&◌, ◌++◌, ◌||◌, ◌∙◌, ◌∷◌, ◌≡◌}
 use Rattle.std.proofs.Math.ListN.{get_or-map}
-use Rattle.std.proofs.lemmas.Bool.{and_parts}
-use Rattle.std.proofs.lemmas.List.{length-map, take_all}
-use Rattle.std.proofs.lemmas.List.Elements.{All-filter, All-head, All-map, All-tail, All-weaker, filter_passes}
 use Rattle.std.proofs.lemmas.List.Folds.{map_fixed}
 use Rattle.std.proofs.lemmas.List.Sorted.{All-permutation, IsPermutation-refl}
 use Rattle.std.proofs.lemmas.Simd.{map-map}
-use Rattle.mo_file.specs.Prelude.{key_of, layout, Message, forms, id_of, plural_of}
-use Rattle.po_syntax.specs.Prelude.{IsSmall, IsText}
-use Rattle.po_entry.specs.Prelude.{TextEntry, previous_texts, quoted_texts, with_line, plain_entry as bare_entry, is_header, ReadsText, IsCatalogueEntry, IsEntry, AllDiffer, HasNoDuplicate, ReadsDistinct, is_live, joined_entries, has_translation}
-use Rattle.po_syntax.specs.Facts.AllAppend.{All-right}
-use Rattle.po_writer.specs.Prelude.{arranged, written_text}
+use Rattle.po_entry.specs.Prelude.{plain_entry as bare_entry}
 use Rattle.po_compile.specs.Prelude.{compiled_list, is_compiled, AreMessagesOf, message_of, original_of, translation_of, HasSmallLayout, IsCompilation, AreAccepted, LookUpMeansEntries, MessagesAreOne, ComesBack, JoinedEntriesCanStand, MessagesDiffer, OneTextIsRead, TextsComeBack}
 use Rattle.po_compile.specs.declared.options.Compiled.{Compiled}
 use Rattle.po_compile.specs.declared.options.Options.{Options}
-use Rattle.msgunfmt.specs.Prelude.{CompilesTo, UnformatThenCompile, entry_of_message, taken_forms, unformatted}
 use Rattle.msgunfmt.proofs.MessageLemmas.{plain_valid}
 
 -- the texts of an entry alone

@@ -1,18 +1,6 @@
 -- All bytes have a text or a fault.
-use Rattle.std.proofs.Common.{◌≡◌, ◌≢◌, ◌⊎◌, ℕ, ◌<◌, suc, List, [], ◌∷◌, Option, None, Some, refl, length, take, slice_get, arith, All, inl, inr}
-use Rattle.std.proofs.lemmas.List.Elements.{All-cons, All-head, All-nil, All-tail}
-use Rattle.std.proofs.lemmas.List.Splits.{length-slice_split}
-use Rattle.mo_file.specs.Prelude.{is_nul, key_of, IsMoFile, MoFileOrFault, Message, context_of, forms, id_of, plural_of}
+use Rattle.msgunfmt.proofs.Prelude.{All, All-cons, All-head, All-nil, All-tail, AreWrittenAs, EntryTextFault, ForbiddenByte, ForeignCharset, HasAdmittedCharset, HasTexts, IsEntry, IsMoFile, IsUnformatFault, List, Message, Mo, MoFileOrFault, NotUtf8, OutOfMemory, PoFault, RefusesMessages, Some, TextEntry, TextOrFault, UnformatError, [], entry_of_message, forbidden, inl, inr, not_utf8, refl, slice_get, suc, take, unformatted, written_text, ℕ, ◌∷◌, ◌≡◌, ◌≢◌, ◌⊎◌}
 use Rattle.mo_file.specs.declared.byte_order.Order.{Order}
-use Rattle.po_syntax.specs.declared.fault.PoFault.{PoFault}
-use Rattle.po_entry.specs.Prelude.{TextEntry, quoted_texts, HasAdmittedCharset, HasTexts, IsEntry, EntryTextFault}
-use Rattle.po_syntax.specs.Prelude.{IsText}
-use Rattle.po_entry.specs.Validity.EntryTextFault.{not_utf8, forbidden}
-use Rattle.po_writer.specs.Prelude.{written_text}
-use Rattle.msgunfmt.specs.declared.fault.UnformatError.{UnformatError}
-use Rattle.msgunfmt.specs.declared.fault.UnformatError.TheVariants.{Mo, NotUtf8, ForbiddenByte, ForeignCharset, OutOfMemory}
-use Rattle.msgunfmt.specs.Prelude.{TextOrFault, entry_of_message, taken_forms, unformatted, AreWrittenAs, IsUnformatFault}
-use Rattle.msgunfmt.specs.Internal.Unformatting.{RefusesMessages}
 use Rattle.po_entry.proofs.Settled.{all_settled, texts_or_fault, charset_settled}
 use Rattle.msgunfmt.proofs.MessageLemmas.{catalogue_entries, message_valid}
 

@@ -1,14 +1,6 @@
 -- Tokens that spell a tree are read as that tree.
-use Rattle.std.proofs.Common.{◌≡◌, ℕ, suc, ◌<◌, ◌≤◌, ◌^◌, true, nat_le, List, [], ◌∷◌, ◌++◌, Some, option_and_then, refl, sym, ap, subst, ◌∙◌, append_assoc, append-nil, arith}
-use Rattle.std.proofs.lemmas.Bool.{le-leb, leb-true, lt-leb, lt-ltb, ne_eqb}
-use Rattle.plural_rule.specs.declared.operator.Operator.{Operator}
-use Rattle.plural_rule.specs.declared.operator.Operator.TheVariants.{Or}
-use Rattle.plural_rule.specs.declared.token.Token.{Token}
-use Rattle.plural_rule.specs.declared.token.Token.TheVariants.{Binary as BinaryToken, Question, Colon, Close}
-use Rattle.plural_rule.specs.Prelude.{Tree, Spells, level}
-use Rattle.plural_rule.specs.Evaluator.{Not, Binary, Conditional}
-use Rattle.plural_rule.specs.Parser.{tighter, conditional, binary, negation, parentheses, count, numeral}
-use Rattle.plural_rule.specs.Internal.Parser.{Waiting, WaitNot, WaitOpen, WaitBinary, WaitQuestion, WaitColon, Operand, Want, Have, reduce, at_colon, at_close, alone, outcome_from, outcome}
+use Rattle.plural_rule.proofs.Prelude.{Binary, Close, Colon, Conditional, Have, List, Not, Operand, Operator, Or, Question, Some, Spells, Token, Tree, WaitBinary, WaitColon, WaitNot, WaitOpen, WaitQuestion, Waiting, Want, [], alone, ap, append-nil, append_assoc, arith, at_close, at_colon, binary, conditional, count, le-leb, leb-true, level, lt-leb, lt-ltb, nat_le, ne_eqb, negation, numeral, option_and_then, outcome, outcome_from, parentheses, reduce, refl, subst, suc, sym, tighter, true, ℕ, ◌++◌, ◌<◌, ◌^◌, ◌∙◌, ◌∷◌, ◌≡◌, ◌≤◌}
+use Rattle.plural_rule.specs.declared.token.Token.TheVariants.{Binary as BinaryToken}
 
 -- every operator's level is from 1 to 6
 pub level-range : (op : Operator) → (1 ≤ level op) × (level op ≤ 6)

@@ -1,12 +1,6 @@
 -- An expression evaluates to its value, and to no other number.
-use Rattle.std.proofs.Common.{◌≡◌, ℕ, ◌==◌, true, false, suc, inl, inr, Option, Some, None, option_and_then, option_map, refl, arith}
-use Rattle.std.specs.Prelude.{◌↔◌}
-use Rattle.std.proofs.lemmas.Bool.{cases_Bool, not-true, not-false, eqb-true, eqb-false, eq-eqb, ne_eqb, lt-ltb, le-ltb, le-leb, lt-leb}
-use Rattle.std.proofs.lemmas.Bool.Decides.{eqb_tells, leb_tells}
-use Rattle.plural_rule.specs.declared.operator.Operator.{Operator}
-use Rattle.plural_rule.specs.declared.operator.Operator.TheVariants.{Or, And, Equal, NotEqual, Less, Greater, AtMost, AtLeast, Add, Subtract, Multiply, Divide, Remainder}
-use Rattle.plural_rule.specs.Prelude.{Tree, needs_right, short_circuit_value, combined, truth, binary_value, chosen, value, Evaluates}
-use Rattle.plural_rule.specs.Evaluator.{Count, Number, Not, Binary, Conditional, count, numeral, not_zero, not_other, or_first, or_second, or_neither, and_first, and_second, and_both, equal, equal_not, unequal, unequal_not, less, less_not, greater, greater_not, at_most, at_most_not, at_least, at_least_not, sum, difference, product, quotient, remainder, then_case, else_case}
+use Rattle.plural_rule.proofs.Prelude.{Add, And, AtLeast, AtMost, Binary, Conditional, Count, Divide, Equal, Evaluates, Greater, Less, Multiply, None, Not, NotEqual, Number, Operator, Option, Or, Remainder, Some, Subtract, Tree, and_both, and_first, and_second, arith, at_least, at_least_not, at_most, at_most_not, binary_value, cases_Bool, chosen, combined, difference, else_case, eq-eqb, eqb-false, eqb-true, eqb_tells, equal, equal_not, false, greater, greater_not, inl, inr, le-leb, le-ltb, leb_tells, less, less_not, lt-leb, lt-ltb, ne_eqb, needs_right, not-false, not-true, not_other, not_zero, option_and_then, option_map, or_first, or_neither, or_second, product, quotient, refl, remainder, short_circuit_value, suc, sum, then_case, true, truth, unequal, unequal_not, value, ℕ, ◌==◌, ◌↔◌, ◌≡◌}
+use Rattle.plural_rule.specs.Evaluator.{count, numeral}
 
 -- the value, as a record, which shows the tree and the number
 record Has (n : ℕ) (t : Tree) (v : ℕ) : Type 0 where

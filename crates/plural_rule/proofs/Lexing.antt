@@ -1,15 +1,6 @@
 -- What a text spells begins with at most one longest token.
-use Rattle.std.proofs.Common.{◌≡◌, ◌≢◌, ℕ, ◌==◌, true, false, ◌⊎◌, inl, inr, List, [], ◌∷◌, ◌++◌, refl, sym, ap, subst, ◌∙◌, append-nil, arith, if◌then◌else◌}
-use Rattle.std.proofs.lemmas.Bool.{false≢true}
-use Rattle.std.proofs.lemmas.Bool.Decides.{nat_tests}
-use Rattle.plural_rule.specs.declared.operator.Operator.{Operator}
-use Rattle.plural_rule.specs.declared.operator.Operator.TheVariants.{Or, And, Equal, NotEqual, Less, Greater, AtMost, AtLeast, Add, Subtract, Multiply, Divide, Remainder}
-use Rattle.plural_rule.specs.declared.token.Token.{Token}
-use Rattle.plural_rule.specs.declared.token.Token.TheVariants.{Count, Number, Not, Binary, Question, Colon, Open, Close}
-use Rattle.std.specs.Str.Parse.{AllDigits, digits_value}
-use Rattle.std.specs.Char.{is_ascii_digit}
-use Rattle.plural_rule.specs.Prelude.{is_blank, operator_bytes, IsSpelling, IsLongest, Lexes}
-use Rattle.plural_rule.specs.Lexer.{end, blank, token}
+use Rattle.plural_rule.proofs.Prelude.{Add, AllDigits, And, AtLeast, AtMost, Close, Colon, Divide, Equal, Greater, IsLongest, IsSpelling, Less, Lexes, List, Multiply, NotEqual, Open, Operator, Or, Question, Remainder, Subtract, Token, [], ap, append-nil, arith, blank, digits_value, end, false, false≢true, if◌then◌else◌, inl, inr, is_ascii_digit, is_blank, nat_tests, operator_bytes, refl, subst, sym, token, true, ℕ, ◌++◌, ◌==◌, ◌∙◌, ◌∷◌, ◌≡◌, ◌≢◌, ◌⊎◌}
+use Rattle.plural_rule.specs.declared.token.Token.TheVariants.{Count, Number, Not, Binary}
 use Rattle.plural_rule.proofs.Numerals.{below_ten_digit}
 
 -- what is known of bytes that spell a token, by a function of the bytes

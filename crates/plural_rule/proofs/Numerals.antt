@@ -1,12 +1,7 @@
 -- Numbers that decimal digits spell.
-use Rattle.std.proofs.Common.{◌≡◌, ℕ, zero, suc, ◌+◌, ◌*◌, ◌<◌, ◌≤◌, true, List, [], ◌∷◌, length, take, get_or, refl, sym, arith, Some}
-use Rattle.std.specs.Char.{digit_value, is_ascii_digit}
-use Rattle.std.specs.Str.Parse.{AllDigits, digits_value}
-use Rattle.std.proofs.lemmas.Int.Digits.{digits_value_more}
+use Rattle.plural_rule.proofs.Prelude.{AllDigits, List, Some, [], arith, digit_value, digits_number, digits_value, digits_value_more, get_or, is_ascii_digit, length, nat_tests, refl, suc, sym, take, true, zero, ℕ, ◌*◌, ◌+◌, ◌<◌, ◌∷◌, ◌≡◌, ◌≤◌}
 use Rattle.std.proofs.lemmas.Str.{digit_value_digit}
 use Rattle.std.proofs.lemmas.Str.Parse.{digits_value-take-le, digit_from_value}
-use Rattle.std.proofs.lemmas.Bool.Decides.{nat_tests}
-use Rattle.plural_rule.specs.Prelude.{digits_number}
 
 -- the value of all digits is at least that of the first
 pub digits_value-grows : (digits : List ℕ) (i : ℕ) → i < length digits

@@ -1,22 +1,6 @@
 -- The parser between two tokens of a text.
-use Rattle.std.proofs.Common.{◌≡◌, ◌≢◌, ℕ, suc, ◌+◌, ◌^◌, ◌<◌, ◌≤◌, Bool, false, nat_lt, inl, inr, List, [], ◌∷◌, length, take, drop, Option, Some, None, option_and_then, refl, sym, ap, ◌∙◌, arith, subst, take-append-drop}
-use Rattle.std.specs.Prelude.{MatchOption, ⊤}
-use Rattle.std.specs.List.{prefix_len}
-use Rattle.std.specs.Str.Parse.{digits_value}
-use Rattle.std.proofs.lemmas.Int.Digits.{digits_value-lt}
-use Rattle.std.proofs.lemmas.List.{length-take-le}
-use Rattle.plural_rule.specs.declared.operator.Operator.{Operator}
-use Rattle.plural_rule.specs.declared.operator.Operator.TheVariants.{Or, And}
-use Rattle.std.proofs.lemmas.Bool.{false≢true, cases_Bool, cases_lt, le-ltb, ltb-false}
-use Rattle.plural_rule.specs.declared.token.Token.{Token}
+use Rattle.plural_rule.proofs.Prelude.{And, Answers, Bool, HasNoToken, Have, Held, HoldsExpression, HoldsTree, Instruction, IsTokenAt, IsTooLarge, Lexes, List, MatchOption, None, Operator, Option, Or, Parser, Represents, Some, Spelt, State, Token, Tree, Want, [], ap, arith, blank, cases_Bool, cases_lt, digits_value, digits_value-lt, drop, end, expression_limit, false, false≢true, finish, held, inl, inr, is_blank, le-ltb, length, length-take-le, ltb-false, most_added, nat_lt, operator_bytes, option_and_then, outcome_from, prefix_len, refl, step, subst, suc, sym, take, take-append-drop, token, without_blanks, ℕ, ⊤, ◌+◌, ◌<◌, ◌^◌, ◌∙◌, ◌∷◌, ◌≡◌, ◌≢◌, ◌≤◌}
 use Rattle.plural_rule.specs.declared.token.Token.TheVariants.{Number as NumberToken, Binary as BinaryToken}
-use Rattle.plural_rule.specs.Prelude.{Tree, is_blank, operator_bytes, Lexes, Spelt, without_blanks, expression_limit}
-use Rattle.plural_rule.specs.Lexer.{end, blank, token}
-use Rattle.plural_rule.specs.Internal.Lexer.{IsTokenAt, IsTooLarge, HasNoToken}
-use Rattle.plural_rule.specs.Internal.Parser.{State, Want, Have, step, finish, outcome_from}
-use Rattle.plural_rule.specs.Internal.ParserState.{Held, held, Represents, Answers, HoldsTree, HoldsExpression, most_added}
-use Rattle.plural_rule.specs.declared.instruction.Instruction.{Instruction}
-use Rattle.plural_rule.specs.declared.parser_state.Parser.{Parser}
 use Rattle.plural_rule.proofs.Complete.{complete}
 use Rattle.plural_rule.proofs.Sound.{sound}
 use Rattle.plural_rule.proofs.Lexing.{first_byte, Lexes-token, Lexes-blank, Lexes-nothing}

@@ -1,17 +1,8 @@
 -- The parser's instructions and stack after one step.
-use Rattle.std.proofs.Common.{◌≡◌, ℕ, zero, suc, ◌+◌, ◌-◌, ◌/◌, ◌%◌, ◌^◌, ◌<◌, ◌≤◌, true, false, nat_lt, inl, inr, List, [], ◌∷◌, ◌++◌, length, take, slice_set, slice_index_or, Some, None, refl, sym, ap, ◌∙◌, arith, subst, length-append}
-use Rattle.std.proofs.Math.Seq.{set-append_seam, get_or-append_seam, take-set-lt}
-use Rattle.std.proofs.lemmas.List.{length-take, length-take-le, get_or-take}
-use Rattle.std.proofs.lemmas.Bool.{cases_Bool, lt-ltb}
-use Rattle.plural_rule.specs.declared.instruction.Instruction.{Instruction}
-use Rattle.plural_rule.specs.declared.parser_state.Parser.{Parser}
+use Rattle.plural_rule.proofs.Prelude.{Answers, Binary, Conditional, Count, Held, Instruction, IsOperand, IsWaiting, List, None, Not, Number, Operand, Parser, Some, Tree, WaitBinary, WaitColon, WaitNot, WaitOpen, WaitQuestion, Waiting, [], ap, arith, at_close, at_colon, begun, binary_instruction, binds, branch-append, branch_instruction, cases_Bool, choose_instruction, completed, completed_program, count_instruction, counted, edited, entries_in, false, first_of, get_or-append_seam, get_or-take, held, inl, inr, is_lazy, jump_instruction, length, length-append, length-program, length-take-le, low_instruction, lt-ltb, nat_lt, not_instruction, number_instruction, pending, pendings, program, program-append, program_then, reduce, reduce_by, refl, set-append_seam, size, skipping, slice_index_or, slice_set, start_after, subst, suc, sym, take, take-set-lt, true, waiting_then, wide_instruction, with_skip, zero, ℕ, ◌%◌, ◌++◌, ◌+◌, ◌-◌, ◌/◌, ◌<◌, ◌^◌, ◌∙◌, ◌∷◌, ◌≡◌, ◌≤◌}
+use Rattle.std.proofs.lemmas.List.{length-take}
 use Rattle.plural_rule.specs.declared.pending.Pending.{Pending}
 use Rattle.plural_rule.specs.declared.pending.Pending.TheVariants.{Open as OpenPending, Question as QuestionPending, Colon as ColonPending}
-use Rattle.plural_rule.specs.Prelude.{Tree, count_instruction, number_instruction, wide_instruction, low_instruction, not_instruction, binary_instruction, branch_instruction, choose_instruction, jump_instruction, program, program_then, program-append, branch-append, size, length-program, is_lazy}
-use Rattle.plural_rule.specs.Evaluator.{Count, Number, Not, Binary, Conditional}
-use Rattle.plural_rule.specs.Internal.Parser.{Waiting, WaitNot, WaitOpen, WaitBinary, WaitQuestion, WaitColon, Operand, completed, reduce, reduce_by, at_colon, at_close}
-use Rattle.plural_rule.specs.Internal.ParserState.{waiting_then, start_after, pending, pendings, Held, held, IsWaiting, IsOperand, Answers, counted, edited, begun, with_skip, skipping, completed_program, first_of}
-use Rattle.plural_rule.specs.Internal.Pending.{binds, entries_in}
 use Rattle.plural_rule.proofs.Programs.{size-some}
 
 -- an instruction in the middle

@@ -1,17 +1,9 @@
 -- The program of a tree: how it runs, and how many nodes begin in it.
-use Rattle.std.proofs.Common.{◌≡◌, ℕ, zero, suc, ◌+◌, ◌-◌, ◌*◌, ◌/◌, ◌%◌, ◌^◌, ◌<◌, ◌≤◌, true, false, nat_lt, ◌==◌, inl, inr, List, [], ◌∷◌, length, drop, get_or, set, Option, Some, None, option_and_then, option_map, refl, sym, ap, ◌∙◌, drop-cons, add-one, arith}
-use Rattle.std.proofs.Math.Seq.{drop-nil}
-use Rattle.std.proofs.lemmas.Bool.{cases_Bool, lt-ltb, ltb-true, eq-eqb, eqb-false}
-use Rattle.std.proofs.lemmas.List.{drop-drop, get_or-set_same, get_or-set_other}
+use Rattle.plural_rule.proofs.Prelude.{And, Binary, Conditional, Count, Instruction, List, Next, None, Not, Number, Operator, Option, Or, Outcome, Some, Tree, [], act, action_of, add-one, ap, arith, begins, binary_instruction, binary_value, branch_instruction, branch_then, cases_Bool, choose_instruction, chosen, combined, count_instruction, drop, drop-cons, drop-drop, drop-nil, drop-program, eq-eqb, eqb-false, false, get_or, get_or-set_other, get_or-set_same, go_on, inl, inr, is_lazy, jump_instruction, left_by, length, length-program, low_instruction, low_of, lt-ltb, ltb-true, nat_lt, needs_right, nodes, not_instruction, number_instruction, operator_of-code, option_and_then, option_map, program, program_then, refl, run, set, short_circuit_value, size, stored, suc, sym, true, truth, value, visited, visited_right, wide_instruction, with_value, zero, ℕ, ◌%◌, ◌*◌, ◌+◌, ◌-◌, ◌/◌, ◌<◌, ◌==◌, ◌^◌, ◌∙◌, ◌∷◌, ◌≡◌, ◌≤◌}
 use Rattle.std.proofs.lemmas.Nat.{div-add-mod'}
-use Rattle.plural_rule.specs.declared.operator.Operator.{Operator}
-use Rattle.plural_rule.specs.declared.operator.Operator.TheVariants.{Or, And}
-use Rattle.plural_rule.specs.declared.instruction.Instruction.{Instruction}
 use Rattle.plural_rule.specs.declared.instruction.Action.{Action}
 use Rattle.plural_rule.specs.declared.instruction.Action.TheVariants.{Binary as BinaryAction, Branch as BranchAction}
-use Rattle.plural_rule.specs.Prelude.{operator_of-code, action_of, count_instruction, number_instruction, wide_instruction, low_instruction, not_instruction, binary_instruction, branch_instruction, choose_instruction, jump_instruction, begins, Tree, nodes, needs_right, short_circuit_value, combined, truth, binary_value, chosen, value, visited, visited_right, is_lazy, branch_then, size, program, program_then, length-program, drop-program, low_of}
-use Rattle.plural_rule.specs.Evaluator.{Count, Number, Not, Binary, Conditional}
-use Rattle.plural_rule.specs.Internal.Evaluator.{Next, act, with_value, left_by, Outcome, outcome, go_on, run, stored}
+use Rattle.plural_rule.specs.Internal.Evaluator.{outcome}
 
 pub nodes-le-size : (t : Tree) → nodes t ≤ size t
 nodes-le-size Count = omega arith

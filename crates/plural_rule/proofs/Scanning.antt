@@ -1,18 +1,7 @@
 -- The token at the beginning of a text.
-use Rattle.std.proofs.Common.{◌≡◌, ◌≢◌, ℕ, suc, ◌-◌, ◌^◌, ◌<◌, ◌≤◌, true, false, inl, inr, List, [], ◌∷◌, ◌++◌, length, drop, get_or, refl, sym, ap, ◌∙◌, arith, subst, take-append-drop, length-drop, drop-cons}
-use Rattle.std.specs.Prelude.{take_while}
-use Rattle.std.specs.List.{prefix_len}
-use Rattle.std.proofs.lemmas.Bool.{false≢true, cases_Bool, cond-true, cond-false}
-use Rattle.std.proofs.lemmas.List.Sums.{prefix_len_stops, prefix_len-le-length, take_while-cons}
+use Rattle.plural_rule.proofs.Prelude.{AllDigits, BeginsWithDouble, HasNoDouble, HasNoToken, IsLongest, IsSpelling, IsTokenAt, IsTooLarge, List, Operator, Or, Token, [], ap, arith, cases_Bool, cond-false, cond-true, digits_value, drop, drop-cons, false, false≢true, get_or, inl, inr, is_ascii_digit, length, length-drop, operator_bytes, prefix_len, prefix_len-le-length, prefix_len_stops, refl, subst, suc, sym, take-append-drop, take_while, take_while-cons, true, ℕ, ◌++◌, ◌-◌, ◌<◌, ◌^◌, ◌∙◌, ◌∷◌, ◌≡◌, ◌≢◌, ◌≤◌}
 use Rattle.std.proofs.lemmas.List.Folds.{length-prefix_len}
-use Rattle.plural_rule.specs.declared.operator.Operator.{Operator}
-use Rattle.plural_rule.specs.declared.operator.Operator.TheVariants.{Or}
-use Rattle.plural_rule.specs.declared.token.Token.{Token}
 use Rattle.plural_rule.specs.declared.token.Token.TheVariants.{Number, Binary}
-use Rattle.std.specs.Str.Parse.{AllDigits, digits_value}
-use Rattle.std.specs.Char.{is_ascii_digit}
-use Rattle.plural_rule.specs.Prelude.{operator_bytes, IsSpelling, IsLongest}
-use Rattle.plural_rule.specs.Internal.Lexer.{IsTokenAt, IsTooLarge, HasNoToken, BeginsWithDouble, HasNoDouble}
 use Rattle.plural_rule.proofs.Numerals.{digit_below_ten, below_ten_digit}
 use Rattle.plural_rule.proofs.Lexing.{one_prefix, first_byte, operator-facts, spelling-not_blank}
 

@@ -1,13 +1,6 @@
 -- Tokens that are read as a tree spell that tree.
-use Rattle.std.proofs.Common.{◌≡◌, ℕ, zero, suc, ◌+◌, ◌-◌, ◌≤◌, ◌^◌, ◌==◌, nat_le, nat_lt, inl, inr, List, [], ◌∷◌, ◌++◌, Option, Some, None, option_and_then, sym, append_assoc, append-nil, arith, subst}
-use Rattle.std.proofs.lemmas.Bool.{cases_Bool, leb-true, leb-false, ltb-true, eqb-true}
-use Rattle.plural_rule.specs.declared.operator.Operator.{Operator}
-use Rattle.plural_rule.specs.declared.token.Token.{Token}
-use Rattle.plural_rule.specs.declared.token.Token.TheVariants.{Count as CountToken, Number as NumberToken, Not as NotToken, Binary as BinaryToken, Question, Colon, Open, Close}
-use Rattle.plural_rule.specs.Prelude.{Tree, Spells, level}
-use Rattle.plural_rule.specs.Evaluator.{Not, Binary, Conditional}
-use Rattle.plural_rule.specs.Parser.{tighter, conditional, binary, negation, parentheses, count, numeral}
-use Rattle.plural_rule.specs.Internal.Parser.{Waiting, WaitNot, WaitOpen, WaitBinary, WaitQuestion, WaitColon, State, Want, Have, reduce, at_colon, at_close, step, alone, finish, outcome_from, outcome}
+use Rattle.plural_rule.proofs.Prelude.{Binary, Close, Colon, Conditional, Have, List, None, Not, Open, Operator, Option, Question, Some, Spells, State, Token, Tree, WaitBinary, WaitColon, WaitNot, WaitOpen, WaitQuestion, Waiting, Want, [], alone, append-nil, append_assoc, arith, at_close, at_colon, binary, cases_Bool, conditional, count, eqb-true, finish, inl, inr, leb-false, leb-true, level, ltb-true, nat_le, nat_lt, negation, numeral, option_and_then, outcome, outcome_from, parentheses, reduce, step, subst, suc, sym, tighter, zero, ℕ, ◌++◌, ◌+◌, ◌-◌, ◌==◌, ◌^◌, ◌∷◌, ◌≡◌, ◌≤◌}
+use Rattle.plural_rule.specs.declared.token.Token.TheVariants.{Count as CountToken, Number as NumberToken, Not as NotToken, Binary as BinaryToken}
 use Rattle.plural_rule.proofs.Complete.{Fits, level-range}
 
 -- the tokens that a stack stands for

@@ -1,17 +1,9 @@
 -- Laws of visits and of the rule of a header.
-use Rattle.std.proofs.Common.{◌≡◌, ◌≢◌, ℕ, ◌+◌, ◌<◌, ◌≤◌, ◌==◌, inl, inr, List, length, Option, Some, None, refl, sym, ap, subst, ◌∙◌, arith}
-use Rattle.std.specs.Prelude.{◌↔◌}
-use Rattle.std.proofs.lemmas.Bool.{cases_Bool}
-use Rattle.plural_rule.specs.declared.operator.Operator.{Operator}
+use Rattle.plural_rule.proofs.Prelude.{Binary, Conditional, Count, Default, Gives, Header, IsReadable, IsReason, IsRuleOf, IsWithin, List, NoExpression, NoNumber, None, Not, Number, Operator, Option, RuleView, Some, Spelt, TooLong, Tree, Unreadable, ap, arith, cases_Bool, chosen, default_rule, expression_of, inl, inr, length, needs_right, nodes, nplurals_of, outcome, refl, subst, sym, value, visited, visited_right, ℕ, ◌+◌, ◌<◌, ◌==◌, ◌↔◌, ◌∙◌, ◌≡◌, ◌≢◌, ◌≤◌}
 use Rattle.plural_rule.specs.declared.rule.Source.{Source}
-use Rattle.plural_rule.specs.declared.rule.Source.TheVariants.{Header, Default}
 use Rattle.plural_rule.specs.declared.rule.Reason.{Reason}
-use Rattle.plural_rule.specs.declared.rule.Reason.TheVariants.{NoNumber, NoExpression, Unreadable, TooLong}
-use Rattle.plural_rule.specs.Prelude.{Tree, nodes, needs_right, chosen, value, visited, visited_right, Spelt, nplurals_of, expression_of, RuleView, IsReadable, IsReason, Gives, IsRuleOf, IsWithin, default_rule}
-use Rattle.plural_rule.specs.Evaluator.{Count, Number, Not, Binary, Conditional}
 use Rattle.plural_rule.proofs.Complete.{complete}
 use Rattle.plural_rule.proofs.Lexing.{one_list}
-use Rattle.plural_rule.specs.Internal.Parser.{outcome}
 
 pub one_tree : (text : List ℕ) (t u : Tree) → Spelt t text → Spelt u text → t ≡ u
 one_tree text t u (ts, lexes, spells) (us, lexes', spells') =

@@ -1,8 +1,6 @@
 -- The entries of a joined list, which the code borrows.
-use Rattle.std.proofs.Common.{◌≡◌, ◌∙◌, ◌<◌, ◌+◌, ◌++◌, ◌∷◌, [], ℕ, List, All, ap, arith, get_or, length, subst, sym, take}
-use Rattle.std.proofs.lemmas.List.{get_or-map, length-map, map_more, map_push}
-use Rattle.po_entry.specs.Prelude.{TextEntry, InputEntry, entries_of}
-use Rattle.po_catalog.specs.Prelude.{input_entries, input_entry}
+use Rattle.po_catalog.proofs.Prelude.{InputEntry, List, TextEntry, [], ap, arith, entries_of, get_or, get_or-map, input_entries, input_entry, length, length-map, map_more, map_push, subst, sym, take, ℕ, ◌++◌, ◌+◌, ◌<◌, ◌∙◌, ◌∷◌, ◌≡◌}
+use Rattle.std.proofs.Common.{All}
 use Rattle.po_catalog.specs.declared.joining.InputEntry.{InputEntry as BorrowedEntry}
 
 -- what holds of all entries holds of each

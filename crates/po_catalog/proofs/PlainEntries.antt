@@ -1,10 +1,5 @@
 -- An entry without comments and flags is valid where its texts are.
-use Rattle.std.proofs.Common.{◌≡◌, ℕ, ◌<◌, List, [], ◌∷◌, Option, Some, None, IsUtf8, length, refl}
-use Rattle.std.specs.Borrow.{Bor}
-use Rattle.std.specs.Prelude.{All, option_copied}
-use Rattle.std.proofs.lemmas.List.{length-map}
-use Rattle.std.proofs.lemmas.List.Elements.{All-nil, All-cons, All-head, All-tail}
-use Rattle.po_entry.specs.Prelude.{Lacks, borrowed_entry, quoted_texts, HasTexts, IsEntry}
+use Rattle.po_catalog.proofs.Prelude.{All, All-cons, All-head, All-nil, All-tail, Bor, HasTexts, IsEntry, IsUtf8, Lacks, List, None, Option, Some, [], borrowed_entry, length, length-map, option_copied, quoted_texts, refl, ℕ, ◌<◌, ◌∷◌, ◌≡◌}
 use Rattle.po_syntax.specs.Prelude.{IsText}
 
 all_texts : (texts : List (List ℕ)) → All IsUtf8 texts → All (Lacks 0) texts → All IsText texts

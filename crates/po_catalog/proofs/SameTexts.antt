@@ -1,9 +1,7 @@
 -- Vectors are the same where their texts are.
-use Rattle.std.proofs.Common.{◌≡◌, ℕ, List, [], ◌∷◌, refl}
-use Rattle.std.specs.Prelude.{bytes_eq}
+use Rattle.po_catalog.proofs.Prelude.{List, [], bytes_eq, refl, texts, texts_eq, ℕ, ◌∷◌, ◌≡◌}
 use Rattle.std.specs.Global.{Vec}
 use lib.Pointwise.{pointwise}
-use Rattle.po_entry.specs.Prelude.{texts, texts_eq}
 
 pub same_vectors : (xs ys : List (Vec ℕ))
     → pointwise (λ (x y : Vec ℕ). bytes_eq x.items y.items) xs ys ≡ texts_eq (texts xs) (texts ys)

@@ -1,9 +1,6 @@
 -- A loop over slices that tests each text: a step, the end, and an early answer.
-use Rattle.std.proofs.Common.{◌+◌, ◌<◌, ◌≤◌, ℕ, List, All, get_or, length, take}
-use Rattle.std.specs.Borrow.{Bor}
-use Rattle.std.proofs.lemmas.List.{get_or-map, length-map, take_all}
-use Rattle.std.proofs.lemmas.List.Elements.{All-get_or, All-map, All-more}
-use Rattle.po_entry.specs.Prelude.{slice_texts}
+use Rattle.po_catalog.proofs.Prelude.{All-get_or, All-map, All-more, Bor, List, get_or, get_or-map, length, length-map, slice_texts, take, take_all, ℕ, ◌+◌, ◌<◌, ◌≤◌}
+use Rattle.std.proofs.Common.{All}
 
 pub tested_more : (P : List ℕ → Type 0) (xs : List (Bor (List ℕ))) (i : ℕ) (d : Bor (List ℕ)) → i < length xs
     → All (λ s. P s.now) (take i xs) → P (get_or xs i d).now → All (λ s. P s.now) (take (i + 1) xs)

@@ -1,6 +1,6 @@
 //! A catalogue: the entries of a PO file, in its order.
 
-ghost use Rattle.std.specs.Prelude.{◌≡◌, IfOk, IfErr, OnOk, OnErr, All, [], ◌∷◌, ◌++◌};
+ghost use Rattle.std.specs.Prelude.{◌≡◌, IfErr, OnOk, OnErr, All, [], ◌∷◌, ◌++◌};
 ghost use Rattle.po_entry.specs.Prelude.{HasAdmittedCharset, IsCatalogueEntry, IsRefusedEntry};
 
 use crate::entry::Entry;

@@ -1,11 +1,5 @@
 -- The test of an entry says whether it is to be compiled.
-use Rattle.std.proofs.Common.{◌≡◌, ◌∙◌, refl, ap, ℕ, ◌==◌, ◌&&◌, ◌||◌, Bool, true, false, not, List, [], ◌∷◌, length, Option, None, Some, inl, inr, arith}
-use Rattle.std.specs.Prelude.{is_none}
-use Rattle.std.specs.Bool.{Decides}
-use Rattle.std.proofs.lemmas.Bool.Decides.{Decides-and, Decides-like, not_from_Decides}
-use Rattle.std.proofs.lemmas.Bool.{and_parts, or_cases, or_left, or_right, cond_both, eqb-true, false≢true, ne_eqb, not-true, not_from_false}
-use Rattle.po_entry.specs.Prelude.{TextEntry, first_form, is_header, has_translation}
-use Rattle.po_compile.specs.Prelude.{IsTranslated, MayBeUsed, IsToBeCompiled, KeepsCompiled, compiled_list, is_compiled}
+use Rattle.po_compile.proofs.Prelude.{Bool, Decides, Decides-and, Decides-like, IsToBeCompiled, IsTranslated, KeepsCompiled, List, MayBeUsed, None, Option, Some, TextEntry, [], and_parts, ap, arith, compiled_list, cond_both, eqb-true, false, false≢true, first_form, has_translation, inl, inr, is_compiled, is_header, is_none, length, ne_eqb, not, not-true, not_from_Decides, not_from_false, or_cases, or_left, or_right, refl, true, ℕ, ◌&&◌, ◌==◌, ◌||◌, ◌∙◌, ◌∷◌, ◌≡◌}
 use Rattle.po_compile.specs.Laws.{not_fuzzy, asked_for, header, none, compiled, omitted}
 
 translated_says : (entry : TextEntry) → has_translation entry ≡ true → IsTranslated entry

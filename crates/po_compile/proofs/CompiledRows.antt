@@ -1,9 +1,5 @@
 -- The messages of rows that are compiled, row by row.
-use Rattle.std.proofs.Common.{◌≡◌, ◌+◌, ◌<◌, ◌++◌, ◌∷◌, [], ◌∙◌, ℕ, Bool, true, false, List, ap, append-nil, cond, filter, get_or, length, map, sym, take}
-use Rattle.std.proofs.lemmas.List.{map-append, take_more}
-use Rattle.std.proofs.lemmas.List.Elements.{filter-append}
-use Rattle.po_compile.specs.Internal.{InputMessage, row_view}
-use Rattle.po_compile.specs.declared.row.Row.{Row}
+use Rattle.po_compile.proofs.Prelude.{Bool, InputMessage, List, Row, [], ap, append-nil, cond, false, filter, filter-append, get_or, length, map, map-append, row_view, sym, take, take_more, true, ℕ, ◌++◌, ◌+◌, ◌<◌, ◌∙◌, ◌∷◌, ◌≡◌}
 
 abbrev compiled : List InputMessage → List InputMessage
 compiled messages = filter (λ (m : InputMessage). m.message.status.compiled) messages

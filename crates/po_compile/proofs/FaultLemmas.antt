@@ -1,21 +1,6 @@
 -- Texts are accepted or have a fault, and only one: what they read as, what refuses them, and that there
 -- is always one of both.
-use Rattle.std.proofs.Common.{◌≡◌, ℕ, ◌≤◌, ◌^◌, List, [], ◌∷◌, ◌++◌, refl, sym, ◌∙◌, subst, length, map, inl, inr, arith, suc, ap, ◌≢◌, ◌⊎◌, ap₂, append-nil, length-append, get_or, le_antisymm}
-use Rattle.std.proofs.Math.Seq.{get_or-append_seam}
-use Rattle.std.proofs.lemmas.List.{get_or_append_left}
-use Rattle.po_syntax.specs.Facts.Zips.{zip_get, zip_length}
-use Rattle.std.specs.List.{AllZip}
-use Rattle.mo_file.specs.Prelude.{layout}
-use Rattle.po_syntax.specs.declared.fault.PoError.{PoError}
-use Rattle.po_syntax.specs.declared.fault.PoFault.{PoFault}
-use Rattle.po_entry.specs.Prelude.{TextEntry, ReadsText, IsReadFault, InputEntry, in_input, joined, joined_entries, entries_of, HasNoDuplicate, IsFirstDuplicate, join_out_of_memory, duplicate_fault, ReadsDistinct, IsTextFault, IsEntry}
-use Rattle.po_entry.specs.declared.duplicate.JoinError.{JoinError}
-use Rattle.po_entry.proofs.DuplicateLemmas.{entries_of_input}
-use Rattle.po_compile.specs.Prelude.{AreRead, AreAccepted, IsFaultOfInput, HasJoinedDuplicate, IsTooLarge, IsCompileFault, compiled_list, AreMessagesOf, MessagesAreOne, OneCompileFault, AcceptedOrFault, layout_fault}
-use Rattle.po_compile.specs.declared.options.Options.{Options}
-use Rattle.std.proofs.lemmas.Bool.{cases_lt}
-use Rattle.std.proofs.lemmas.List.Elements.{All-weaker}
-use Rattle.po_syntax.specs.declared.fault.PoFault.TheVariants.{OutOfMemory}
+use Rattle.po_compile.proofs.Prelude.{AcceptedOrFault, All-weaker, AllZip, AreAccepted, AreMessagesOf, AreRead, HasJoinedDuplicate, HasNoDuplicate, InputEntry, IsCompileFault, IsEntry, IsFaultOfInput, IsFirstDuplicate, IsReadFault, IsTextFault, IsTooLarge, JoinError, List, MessagesAreOne, OneCompileFault, Options, OutOfMemory, PoError, PoFault, ReadsDistinct, ReadsText, TextEntry, [], ap, append-nil, ap₂, arith, cases_lt, compiled_list, duplicate_fault, entries_of, entries_of_input, get_or, get_or-append_seam, get_or_append_left, in_input, inl, inr, join_out_of_memory, joined, joined_entries, layout, layout_fault, le_antisymm, length, length-append, map, refl, subst, suc, sym, zip_get, zip_length, ℕ, ◌++◌, ◌^◌, ◌∙◌, ◌∷◌, ◌≡◌, ◌≢◌, ◌≤◌, ◌⊎◌}
 use Rattle.po_compile.proofs.ReadingLemmas.{EntriesCanStand, read_valid}
 use Rattle.po_compile.proofs.MeaningLemmas.{LacksSeparators, entry_lacks_separators}
 use Rattle.po_compile.proofs.MessageOrder.{compiled_differ, compiled_valid, messages_exist}

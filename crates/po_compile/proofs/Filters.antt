@@ -1,10 +1,6 @@
 -- Filters, one after another, of lists that are mapped, and of lists that are permuted.
-use Rattle.std.proofs.Common.{◌≡◌, refl, sym, ◌∙◌, Bool, true, false, ◌&&◌, cond, List, [], ◌∷◌, filter, subst, ℕ, zero, suc, ◌<◌, ◌++◌, append_assoc, length, get_or, set, arith, IsPermutation}
-use Rattle.std.proofs.lemmas.List.Elements.{filter_agree}
-use Rattle.po_syntax.specs.Facts.Mapped.{filter_twice}
-use Rattle.std.specs.List.{swap}
+use Rattle.po_compile.proofs.Prelude.{Bool, IsPermutation, IsPermutation-append_comm, IsPermutation-append_left, IsPermutation-append_right, IsPermutation-keeps, IsPermutation-refl, IsPermutation-trans, List, [], append_assoc, arith, cond, false, filter, filter_agree, filter_twice, get_or, length, refl, set, subst, suc, swap, sym, true, zero, ℕ, ◌&&◌, ◌++◌, ◌<◌, ◌∙◌, ◌∷◌, ◌≡◌}
 use Rattle.std.proofs.lemmas.List.Edits.{swap_is}
-use Rattle.std.proofs.lemmas.List.Sorted.{IsPermutation-refl, IsPermutation-trans, IsPermutation-append_left, IsPermutation-append_right, IsPermutation-append_comm, IsPermutation-keeps}
 
 within : (a b : Bool) → (a ≡ false → b ≡ false) → a && b ≡ b
 within true b only = refl

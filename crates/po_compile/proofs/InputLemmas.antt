@@ -1,22 +1,6 @@
 -- The inputs that are collected, and why they are refused: the repeats of messages that are collected are
 -- the duplicates of the texts.
-use Rattle.std.proofs.Common.{◌≡◌, ◌⊎◌, sym, ap, ap₂, ◌∙◌, subst, inl, inr, ℕ, ◌<◌, suc, Bool, List, [], ◌∷◌, ◌++◌, append_assoc, append-nil, length, length-take, get_or, take, drop, map, arith, All, ◌≢◌, refl, length-append}
-use Rattle.std.specs.List.{AllZip}
-use Rattle.std.proofs.lemmas.Bool.{cases_Bool}
-use Rattle.std.proofs.lemmas.Bool.Decides.{not_from_Decides}
-use Rattle.std.proofs.lemmas.Slice.Eq.{bytes_eq-Decides}
-use Rattle.std.specs.Str.{bytes_eq}
-use Rattle.mo_file.specs.Prelude.{query_key, Message, IsBuildFault}
-use Rattle.std.proofs.lemmas.List.{get_or-map, length-map, take-map, map-append}
-use Rattle.std.proofs.lemmas.List.Elements.{All-filter, All-push}
-use Rattle.po_entry.specs.Prelude.{ReadsText, TextEntry, IsCatalogueEntry, out_of_memory, IsSameMessage, IsFirstDuplicate, duplicate_fault, join_out_of_memory, live_entries, IsFirstRepeat, IsTextFault, ReadsDistinct, InputEntry, entries_of, in_input, is_live, joined, joined_entries, IsReadFault}
-use Rattle.po_entry.specs.Facts.FirstRepeats.{all_of_both, none_or_first_repeat, none_repeats, one_repeat, pairs_map, repeat_by, repeat_map}
-use Rattle.po_syntax.specs.Facts.Zips.{zip_get, zip_length, zip_more, zip_take}
-use Rattle.po_entry.specs.declared.duplicate.JoinError.{JoinError}
-use Rattle.po_entry.proofs.DuplicateLemmas.{entries_of_input, live_of_entries}
-use Rattle.po_compile.specs.Prelude.{IsFaultOfInput, IsReadingFault, fault_input, AreRead, IsCompileFault, fault_of_only_input, HoldCatalogues, LiveMessage, live_messages, AreCollected, compiled_list, AreMessagesOf, IsReportedFault}
-use Rattle.po_compile.specs.Internal.{EachApart, HaveOneKey, IsRepeat, IsRepeatFault, IsRepeatInInput, repeat_fault, AllApart, InputMessage, all_messages, in_input_message, input_keys, input_message, AreSortedRows, compiled_of, row_view, row_key}
-use Rattle.std.proofs.Math.Seq.{split_at}
+use Rattle.po_compile.proofs.Prelude.{All, All-filter, All-push, AllApart, AllZip, AreCollected, AreMessagesOf, AreRead, AreSortedRows, Bool, EachApart, HaveOneKey, HoldCatalogues, InputEntry, InputMessage, IsBuildFault, IsCatalogueEntry, IsCompileFault, IsFaultOf, IsFaultOfInput, IsFirstDuplicate, IsFirstRepeat, IsReadFault, IsReadingFault, IsRepeat, IsRepeatFault, IsRepeatInInput, IsReportedFault, IsSameMessage, IsTextFault, JoinError, List, LiveMessage, Message, Options, OutOfMemory, PoError, PoFault, ReadsDistinct, ReadsText, Row, TextEntry, [], all_messages, all_of_both, ap, append-nil, append_assoc, ap₂, arith, bytes_eq, bytes_eq-Decides, cases_Bool, compiled_list, compiled_of, drop, duplicate_fault, entries_of, entries_of_input, fault_input, fault_of_only_input, get_or, get_or-map, in_input, in_input_message, inl, input_keys, input_message, inr, is_live, join_out_of_memory, joined, joined_entries, length, length-append, length-map, length-take, live_entries, live_messages, live_of_entries, map, map-append, none_or_first_repeat, none_repeats, not_from_Decides, one_repeat, out_of_memory, pairs_map, query_key, refl, repeat_by, repeat_fault, repeat_map, row_key, row_view, split_at, subst, suc, sym, take, take-map, zip_get, zip_length, zip_more, zip_take, ℕ, ◌++◌, ◌<◌, ◌∙◌, ◌∷◌, ◌≡◌, ◌≢◌, ◌⊎◌}
 use Rattle.po_compile.proofs.JoinedRows.{all_are, joined_valid, of_input}
 use Rattle.po_compile.proofs.KeysApart.{joined_distinct, read_distinct, rising_apart, sorted_keys}
 use Rattle.po_compile.proofs.MeaningLemmas.{entry_lacks_separators}
@@ -25,12 +9,6 @@ use Rattle.po_compile.proofs.TextLemmas.{query_key_is_one}
 use Rattle.std.proofs.lemmas.Slice.Zip.{AllZip-long}
 use Rattle.mo_file.specs.declared.building.BuildError.{BuildError}
 use Rattle.mo_file.specs.declared.building.BuildError.TheVariants.{TooLarge, NotSorted, OutOfMemory as NoMemory}
-use Rattle.po_syntax.specs.declared.fault.PoError.{PoError}
-use Rattle.po_syntax.specs.declared.fault.PoFault.{PoFault}
-use Rattle.po_syntax.specs.declared.fault.PoFault.TheVariants.{OutOfMemory}
-use Rattle.po_syntax.specs.Prelude.{IsFaultOf}
-use Rattle.po_compile.specs.declared.options.Options.{Options}
-use Rattle.po_compile.specs.declared.row.Row.{Row}
 use Rattle.po_compile.proofs.FaultLemmas.{NoFirstDuplicate}
 use Rattle.po_compile.proofs.ReadingLemmas.{EntriesCanStand, distinct_of_one}
 

@@ -1,19 +1,6 @@
 -- The rows of the joined list, input by input.
-use Rattle.std.proofs.Common.{◌≡◌, ℕ, ◌+◌, ◌==◌, Bool, true, false, not, ◌&&◌, ◌||◌, cond, List, [], ◌∷◌, ◌++◌, Option, None, Some, refl, sym, ap, ap₂, subst, ◌∙◌, append_assoc, length, filter, map, arith, All}
-use Rattle.std.specs.Prelude.{is_none}
-use Rattle.std.specs.List.{list_any}
-use Rattle.std.proofs.lemmas.Bool.{ne_eqb}
-use Rattle.std.proofs.lemmas.List.{map-append}
-use Rattle.std.proofs.lemmas.List.Elements.{All-append, All-head, All-nil, All-tail, filter-append, filter_agree}
-use Rattle.std.proofs.lemmas.Simd.{map-map}
-use Rattle.mo_file.specs.Prelude.{query_key}
-use Rattle.po_entry.specs.Prelude.{TextEntry, is_header, IsCatalogueEntry, InputEntry, entries_of, in_input, is_live, is_live_header, joined, joined_entries, joined_from, kept_entries, live_entries}
+use Rattle.po_compile.proofs.Prelude.{All, All-append, All-head, All-nil, All-tail, Bool, InputEntry, InputMessage, IsCatalogueEntry, List, LiveMessage, None, Option, Some, TextEntry, [], all_messages, all_pass, ap, append_assoc, ap₂, arith, cond, entries_of, entries_of_input, false, filter, filter-append, filter_agree, filter_map, filter_twice, has_no_key, in_input, in_input_message, input_message, is_header, is_joined, is_live, is_live_header, is_none, joined, joined_entries, joined_from, joined_messages, kept_entries, length, list_any, live_entries, live_message, live_messages, map, map-append, map-map, ne_eqb, not, query_key, refl, subst, sym, true, ℕ, ◌&&◌, ◌++◌, ◌+◌, ◌==◌, ◌||◌, ◌∙◌, ◌∷◌, ◌≡◌}
 use Rattle.po_entry.proofs.JoiningLemmas.{kept_valid}
-use Rattle.po_entry.proofs.DuplicateLemmas.{entries_of_input}
-use Rattle.po_compile.specs.Prelude.{LiveMessage, live_message, live_messages}
-use Rattle.po_compile.specs.Internal.{InputMessage, all_messages, has_no_key, in_input_message, input_message, is_joined, joined_messages}
-use Rattle.po_syntax.specs.Facts.Mapped.{filter_map, filter_twice}
-use Rattle.po_syntax.specs.Facts.Filters.{all_pass}
 
 -- one more row, or none, before those that are left
 pub rows_more : (input : ℕ) (headed : Bool) (old new : List InputMessage) (row : InputMessage) (m : LiveMessage)

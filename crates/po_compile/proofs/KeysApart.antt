@@ -1,37 +1,12 @@
 -- Keys that rise, keys that are apart, and the entries that have them.
-use Rattle.std.proofs.Common.{◌≡◌, ◌≢◌, refl, sym, ap, ap₂, ◌∙◌, subst, ℕ, ◌+◌, ◌<◌, Bool, false, List, [], ◌∷◌, filter, length, get_or, map, arith, AllPairs, ◌≤◌, suc, true, ◌==◌, ◌||◌, ◌++◌, length-append, All, IsPermutation}
-use Rattle.std.specs.Ordering.{is_lt, ordering_reverse}
+use Rattle.po_compile.proofs.Prelude.{All, All-cons, All-from_all_within, All-head, All-map, All-nil, All-tail, All-weaker, AllApart, AllDiffer, AllPairs, AllPairs-cons, AllPairs-filter, AllWithin, AllZip, AreRising, Bool, EachApart, Equal, Greater, HasNoDuplicate, HasOneHeader, HoldsAt, InputEntry, InputMessage, IsAllAdjacentAnswer, IsPermutation, IsPermutation-filter_both, IsPermutation-map, IsPermutation-sym, IsTrue, Less, List, LiveMessage, MatchBool, Ordering, ReadsDistinct, ReadsText, Row, TextEntry, [], all_messages, all_pass, ap, ap₂, arith, bytes_eq, bytes_eq-Decides, entries_of, exact_bytes, false, filter, filter_passes, get_or, get_or-map, get_or_append_left, get_or_default, has_no_key, in_input_message, input_keys, input_message, is_joined, is_less, is_live, is_lt, isnt_less, joined, joined_entries, joined_messages, key_cmp, length, length-append, length-map, less_is_other, list_any, live_entries, live_message, live_messages, live_of_entries, map, map-append, map-map, message_keys, nat_list_cmp_total, nat_list_eq_equiv, not-true, ordering_reverse, pairs_of_map, query_key, refl, rising_between, row_key, row_view, subst, suc, sym, true, ℕ, ◌++◌, ◌+◌, ◌<◌, ◌==◌, ◌||◌, ◌↔◌, ◌∙◌, ◌∷◌, ◌≡◌, ◌≢◌, ◌≤◌}
 use Rattle.std.specs.List.Sorted.{IsSortedBy}
-use Rattle.std.specs.Bool.{MatchBool}
-use Rattle.std.specs.List.{AllWithin, HoldsAt, IsAllAdjacentAnswer, AllZip, list_any}
-use Rattle.std.specs.Prelude.{◌↔◌, IsTrue}
-use Rattle.po_entry.specs.Facts.FirstRepeats.{pairs_of_map}
-use Rattle.std.specs.declared.cmp.Ordering.{Ordering}
-use Rattle.std.specs.declared.cmp.Ordering.TheVariants.{Less, Equal, Greater}
-use Rattle.std.proofs.lemmas.Bool.{not-true}
-use Rattle.std.proofs.lemmas.Cmp.{nat_list_cmp_total, nat_list_eq_equiv}
-use Rattle.std.proofs.lemmas.List.{get_or-map, get_or_default, length-map, get_or_append_left, map-append}
-use Rattle.std.proofs.lemmas.List.Kept.{AllPairs-filter, AllPairs-cons}
-use Rattle.std.proofs.lemmas.Map.Lookups.{exact_bytes}
-use Rattle.mo_file.specs.Prelude.{AreRising, key_cmp, query_key}
-use Rattle.mo_file.proofs.RisingKeys.{is_less, isnt_less, less_is_other, rising_between}
-use Rattle.po_compile.specs.Internal.{AllApart, HasOneHeader, InputMessage, all_messages, has_no_key, in_input_message, input_keys, input_message, is_joined, joined_messages, message_keys, row_view, row_key, EachApart}
-use Rattle.std.specs.Str.{bytes_eq}
 use Rattle.std.proofs.Math.ListN.{get_or-map as map_at}
-use Rattle.std.proofs.lemmas.List.Elements.{All-nil, All-cons, All-head, All-tail, All-map, All-weaker, All-from_all_within, filter_passes}
-use Rattle.std.proofs.lemmas.List.Sorted.{IsPermutation-filter_both, IsPermutation-map, IsPermutation-sym}
 use Rattle.std.proofs.lemmas.Map.Keys.{IsDistinct-IsPermutation}
 use Rattle.std.proofs.lemmas.Map.Made.{AllPairs-from_IsDistinct, IsDistinct-from_AllPairs}
-use Rattle.std.proofs.lemmas.Simd.{map-map}
-use Rattle.std.proofs.lemmas.Slice.Eq.{bytes_eq-Decides}
-use Rattle.po_entry.specs.Prelude.{ReadsText, TextEntry, ReadsDistinct, AllDiffer, HasNoDuplicate, live_entries, InputEntry, entries_of, is_live, joined, joined_entries}
-use Rattle.po_compile.specs.Prelude.{LiveMessage, live_message, live_messages}
-use Rattle.po_compile.specs.declared.row.Row.{Row}
-use Rattle.po_syntax.specs.Facts.Filters.{all_pass}
 use Rattle.po_compile.proofs.Filters.{first_of}
 use Rattle.po_compile.proofs.JoinedRows.{all_are}
 use Rattle.po_entry.proofs.HeaderLaws.{empty_is}
-use Rattle.po_entry.proofs.DuplicateLemmas.{live_of_entries}
 
 -- keys that rise are different
 pub rising_apart : (ks : List (List ℕ)) → AreRising ks → AllApart ks

@@ -1,4 +1,5 @@
 -- The lemmas in reading order: each module stands on those above it.
+mod Prelude
 pub mod TextLemmas
 pub mod Filters
 pub mod LiveMessages

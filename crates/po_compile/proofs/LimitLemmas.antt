@@ -1,15 +1,6 @@
 -- Entries that are compiled can be asked for, and files are below 4 GiB.
-use Rattle.std.proofs.Common.{◌≡◌, ◌≢◌, ℕ, ◌<◌, ◌≤◌, Bool, true, not, ◌&&◌, ◌||◌, List, [], ◌∷◌, Option, None, Some, refl, ap, ap₂, ◌∙◌, subst, length, arith}
+use Rattle.po_compile.proofs.Prelude.{All-filter, All-head, All-tail, All-weaker, AreMessagesOf, Bool, CataloguesAreOne, CompiledCanBeKeys, IsCatalogueEntry, JoinedEntriesCanStand, Lacks, LayoutsAreLimited, List, Message, MessagesAreOne, None, Option, Options, Some, TextEntry, [], ap, ap₂, arith, can_be_key, compiled_list, has_no_separator, is_compiled, is_separator, joined_entries, layout, length, list_any, ne_eqb, not, refl, subst, true, unwrap_or, ℕ, ◌&&◌, ◌<◌, ◌||◌, ◌∙◌, ◌∷◌, ◌≡◌, ◌≢◌, ◌≤◌}
 use Rattle.std.specs.Prelude.{IfSome}
-use Rattle.std.specs.List.{list_any}
-use Rattle.std.specs.Option.{unwrap_or}
-use Rattle.std.proofs.lemmas.Bool.{ne_eqb}
-use Rattle.std.proofs.lemmas.List.Elements.{All-filter, All-head, All-tail, All-weaker}
-use Rattle.mo_file.specs.Prelude.{layout, Message}
-use Rattle.mo_lookup.specs.Prelude.{can_be_key, has_no_separator, is_separator}
-use Rattle.po_entry.specs.Prelude.{Lacks, TextEntry, IsCatalogueEntry, joined_entries}
-use Rattle.po_compile.specs.Prelude.{compiled_list, is_compiled, AreMessagesOf, CataloguesAreOne, MessagesAreOne, CompiledCanBeKeys, JoinedEntriesCanStand, LayoutsAreLimited}
-use Rattle.po_compile.specs.declared.options.Options.{Options}
 use Rattle.po_compile.proofs.MeaningLemmas.{entry_lacks_separators}
 
 no_separator : (text : List ℕ) → Lacks 0 text → Lacks 4 text → has_no_separator text ≡ true

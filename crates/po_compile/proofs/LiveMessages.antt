@@ -1,14 +1,6 @@
 -- The messages of live entries.
-use Rattle.std.proofs.Common.{◌≡◌, nat_lt, refl, sym, ap, ◌∙◌, ℕ, get_or, Bool, true, false, ◌||◌, cond, List, [], ◌∷◌, length, filter, map, arith}
-use Rattle.std.specs.List.{list_any}
+use Rattle.po_compile.proofs.Prelude.{Bool, List, LiveMessage, TextEntry, [], ap, arith, cond, false, filter, filter_map, get_or, is_live, length, length-map, list_any, live_message, live_messages, lt-ltb, map, map-map, nat_lt, refl, sym, true, without_comments, ℕ, ◌||◌, ◌∙◌, ◌∷◌, ◌≡◌}
 use Rattle.std.proofs.Math.ListN.{get_or-map}
-use Rattle.std.proofs.lemmas.Bool.{lt-ltb}
-use Rattle.std.proofs.lemmas.List.{length-map}
-use Rattle.std.proofs.lemmas.Simd.{map-map}
-use Rattle.po_entry.specs.Prelude.{TextEntry, is_live}
-use Rattle.po_syntax.specs.Facts.Mapped.{filter_map}
-use Rattle.po_reader.specs.Prelude.{without_comments}
-use Rattle.po_compile.specs.Prelude.{LiveMessage, live_message, live_messages}
 
 -- one is there where some are
 pub any_counted : {X : Type 0} (p : X → Bool) (xs : List X) → nat_lt 0 (length (filter p xs)) ≡ list_any p xs

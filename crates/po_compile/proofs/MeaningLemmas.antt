@@ -1,32 +1,11 @@
 -- The messages of entries mean these entries: the one message under a key is found in whatever order the
 -- messages stand, and is taken apart again.
-use Rattle.std.proofs.Common.{◌≡◌, ◌≢◌, ◌⊎◌, ℕ, ◌<◌, ◌≤◌, Bool, true, false, cond, List, [], ◌∷◌, Option, None, Some, refl, sym, ap, ap₂, ◌∙◌, inl, inr, length, get_or, arith, All, Contains, find, map, IsPermutation, ◌==◌, ◌++◌, subst, IfSome, option_to_list, append-nil}
-use Rattle.std.specs.Str.{bytes_eq}
-use Rattle.std.proofs.lemmas.Bool.{cases_lt, and_parts, not-true, or_parts}
-use Rattle.std.proofs.lemmas.List.{get_or_default, length-map}
-use Rattle.std.proofs.lemmas.List.Elements.{All-cons, All-nil, All-contains, All-head, All-tail, All-weaker}
-use Rattle.std.proofs.lemmas.List.Folds.{find_at}
-use Rattle.std.proofs.lemmas.List.Sums.{fails_before_first, passes_at_first}
-use Rattle.std.proofs.lemmas.Option.{get_or_from_slice_get, none-some, slice_get-get_or, slice_get_within}
-use Rattle.std.proofs.lemmas.List.Sorted.{All-permutation, Contains-permutation, IsPermutation-map, IsPermutation-sym}
-use Rattle.std.proofs.lemmas.Slice.Eq.{bytes_eq-Decides}
-use Rattle.mo_file.specs.Prelude.{Message, AreRising, key_cmp, key_of, keys, query_key, context_of, forms, id_of, plural_of}
-use Rattle.mo_file.proofs.RisingKeys.{less_is_other}
+use Rattle.po_compile.proofs.Prelude.{All, All-cons, All-contains, All-head, All-nil, All-permutation, All-tail, All-weaker, AreMessagesOf, AreRising, Bool, Contains, Contains-permutation, Decides, Decides-and, Decides-eqb, Decides-like, IfSome, IsEntry, IsPermutation, IsPermutation-map, IsPermutation-sym, IsText, Lacks, List, Message, MessagesDiffer, MessagesHaveParts, MessagesMeanEntries, None, Option, Query, Some, TextEntry, TextsComeBack, [], and_parts, answer, ap, append-nil, ap₂, arith, bytes_eq, bytes_eq-Decides, can_be_key, cases_lt, cond, context_of, fails_before_first, false, find, find_at, find_map, first_all, first_form, form_at, forms, get_or, get_or_default, get_or_from_slice_get, has_no_separator, header_of, header_text, id_of, inl, inr, is_of_message, is_separator, join_with_byte, key_cmp, key_of, keys, length, length-map, less_is_other, list_any, map, message_of, none-some, not-true, one_answer, option_eq, option_map, option_map_or, option_to_list, or_parts, original_of, passes_at_first, plural_cut, plural_none, plural_of, plural_part, position_or_len, query_key, refl, slice_get-get_or, slice_get_within, subst, sym, translation_of, translation_under, true, unwrap_or, ℕ, ◌++◌, ◌<◌, ◌==◌, ◌∙◌, ◌∷◌, ◌≡◌, ◌≢◌, ◌≤◌, ◌⊎◌}
 use Rattle.po_compile.proofs.KeysApart.{below_from_rising, apart_permuted, rising_apart}
-use Rattle.std.specs.Bool.{Decides, one_answer}
-use Rattle.std.specs.List.{list_any, join_with_byte, position_or_len}
-use Rattle.std.specs.Option.{option_map, option_map_or, option_eq, unwrap_or}
-use Rattle.std.proofs.lemmas.Bool.Decides.{Decides-eqb, Decides-and, Decides-like}
-use Rattle.mo_lookup.specs.Prelude.{form_at, answer, Query, can_be_key, has_no_separator, is_separator, translation_under, header_text}
-use Rattle.mo_file.proofs.CutLemmas.{first_all, plural_cut, plural_none}
 use Rattle.plural_rule.specs.Prelude.{IsRuleOf, expression_limit}
-use Rattle.po_entry.specs.Prelude.{TextEntry, Lacks, first_form, IsEntry, is_of_message}
 use Rattle.po_entry.proofs.QuotedParts.{quoted_parts}
-use Rattle.po_syntax.specs.Prelude.{IsText}
-use Rattle.po_compile.specs.Prelude.{original_of, translation_of, message_of, AreMessagesOf, plural_part, header_of, MessagesMeanEntries, MessagesHaveParts, MessagesDiffer, TextsComeBack}
 use Rattle.po_compile.proofs.TextLemmas.{context_back, id_back, key_of-plural_part, query_key_lacks, query_key_is_one, slice_split-join}
 use Rattle.std.proofs.Math.ListN.{get_or-map}
-use Rattle.po_syntax.specs.Facts.Mapped.{find_map}
 
 -- what a search finds is in the list and passes the test
 pub record IsFound {X : Type 0} (test : X → Bool) (xs : List X) (x : X) : Type 0 where

@@ -1,23 +1,11 @@
 -- The list of the messages of entries in rising order: there is one where no two entries are of one
 -- message, and it is the only one.
-use Rattle.std.proofs.Common.{◌≢◌, ℕ, Bool, ◌&&◌, ◌||◌, not, ◌≤◌, length-append, List, [], ◌∷◌, ◌++◌, sym, ◌∙◌, subst, length, map, filter, arith, All, ◌≡◌, ◌⊎◌, zero, suc, refl, ap, AllPairs, Contains, ⊎_elim, inl, inr, get_or, IsPermutation}
-use Rattle.std.proofs.lemmas.List.{length-map}
-use Rattle.std.proofs.lemmas.List.Elements.{All-weaker, All-filter, All-nil, All-cons, All-head, All-tail, All-map}
-use Rattle.std.proofs.lemmas.List.Kept.{AllPairs-filter, AllPairs-cons}
-use Rattle.mo_file.specs.Prelude.{Message, originals, translations, key_of, key_cmp, layout, header, table, terminated, originals_offset, translations_offset}
-use Rattle.po_entry.specs.Prelude.{TextEntry, is_header, IsEntry, IsCatalogueEntry, has_translation, is_live, IsSameMessage, AllDiffer, HasNoDuplicate}
+use Rattle.po_compile.proofs.Prelude.{All, All-cons, All-filter, All-head, All-map, All-nil, All-permutation, All-tail, All-weaker, AllDiffer, AllPairs, AllPairs-cons, AllPairs-filter, AreMessagesOf, Bool, Contains, Contains-permutation, Equal, Greater, HasNoDuplicate, IsCatalogueEntry, IsEntry, IsPermutation, IsPermutation-cons, IsPermutation-middle, IsPermutation-refl, IsPermutation-sym, IsPermutation-trans, IsSameMessage, Less, List, Message, MessagesAreOne, Ordering, TextEntry, [], ap, arith, compiled_list, exact_bytes, filter, filter_twice, get_or, has_translation, inl, inr, is_compiled, is_header, is_live, key_cmp, key_of, layout, length, length-append, length-map, map, message_of, nat_list_cmp_total, not, ordering_reverse, original_of, originals, originals_offset, refl, subst, suc, sym, table, terminated, tied_itself, translations, translations_offset, zero, ℕ, ⊎_elim, ◌&&◌, ◌++◌, ◌||◌, ◌∙◌, ◌∷◌, ◌≡◌, ◌≢◌, ◌≤◌, ◌⊎◌}
+use Rattle.mo_file.specs.Prelude.{header}
 use Rattle.mo_file.specs.declared.byte_order.Order.{Order}
-use Rattle.po_compile.specs.Prelude.{is_compiled, compiled_list, original_of, message_of, AreMessagesOf, MessagesAreOne}
-use Rattle.po_syntax.specs.Facts.Mapped.{filter_twice}
 use Rattle.po_compile.proofs.TextLemmas.{query_key_is_one}
 use Rattle.po_compile.proofs.MeaningLemmas.{LacksSeparators, key_of-original}
-use Rattle.std.specs.declared.cmp.Ordering.TheVariants.{Less, Equal, Greater}
-use Rattle.std.proofs.lemmas.Cmp.{nat_list_cmp_total, tied_itself}
-use Rattle.std.proofs.lemmas.List.Sorted.{Contains-permutation, IsPermutation-sym, IsPermutation-trans, All-permutation, IsPermutation-refl, IsPermutation-cons, IsPermutation-middle}
 use Rattle.po_compile.proofs.KeysApart.{below_from_rising, rising_from_below}
-use Rattle.std.specs.declared.cmp.Ordering.{Ordering}
-use Rattle.std.proofs.lemmas.Map.Lookups.{exact_bytes}
-use Rattle.std.specs.Ordering.{ordering_reverse}
 
 -- entries of different messages have different keys
 pub keys_differ : (e f : TextEntry) → LacksSeparators e → LacksSeparators f → ¬ IsSameMessage e f

@@ -1,17 +1,6 @@
 -- One entry more changes no answer to a query for another message.
-use Rattle.std.proofs.Common.{◌≡◌, Bool, true, false, cond, List, ◌∷◌, ◌++◌, Option, None, Some, refl, sym, ap, ◌∙◌, find}
-use Rattle.std.specs.Prelude.{if◌then◌else◌}
-use Rattle.std.specs.Bool.{Decides}
-use Rattle.std.specs.Option.{option_eq, option_map, option_or}
-use Rattle.std.specs.Str.{bytes_eq}
-use Rattle.std.proofs.lemmas.Bool.Decides.{Decides-and}
-use Rattle.std.proofs.lemmas.List.Elements.{All-append, All-tail}
-use Rattle.std.proofs.lemmas.List.Folds.{find-append}
-use Rattle.std.proofs.lemmas.Slice.Eq.{bytes_eq-Decides}
-use Rattle.mo_lookup.specs.Prelude.{answer, Query, can_be_key}
+use Rattle.po_compile.proofs.Prelude.{All-append, All-tail, Bool, Decides, Decides-and, IsEntry, List, MessagesMeanEntries, None, OneMoreChangesNoOther, Option, Query, Some, TextEntry, answer, ap, bytes_eq, bytes_eq-Decides, can_be_key, cond, definition, false, find, find-append, if◌then◌else◌, is_of_message, option_eq, option_map, option_or, refl, sym, true, ◌++◌, ◌∙◌, ◌∷◌, ◌≡◌}
 use Rattle.po_syntax.specs.Facts.AllAppend.{All-left, All-right}
-use Rattle.po_entry.specs.Prelude.{TextEntry, IsEntry, is_of_message}
-use Rattle.po_compile.specs.Prelude.{MessagesMeanEntries, definition, OneMoreChangesNoOther}
 use Rattle.po_compile.proofs.MeaningLemmas.{option_decides}
 
 of_other : (query : Query) (entry : TextEntry) → ¬ ((entry.context ≡ query.context) × (entry.id ≡ query.id))

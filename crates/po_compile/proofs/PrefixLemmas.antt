@@ -1,18 +1,10 @@
 -- Keys are ordered by their prefixes, where these differ.
-use Rattle.std.proofs.Common.{◌≡◌, ◌≢◌, refl, sym, ap, ap₂, ◌∙◌, ℕ, zero, suc, ◌+◌, ◌*◌, ◌^◌, ◌<◌, ◌≤◌, List, [], ◌∷◌, ◌++◌, drop, length, take, replicate, arith, All}
+use Rattle.po_compile.proofs.Prelude.{All, All-head, All-tail, Equal, Greater, Less, List, MatchOrdering, Ordering, [], ap, ap₂, arith, drop, drop-nil, equal_is_same, key_cmp, length, nat_cmp, nat_list_cmp_total, ordering_reverse, ordering_then, ranked, refl, replicate, suc, sym, take, zero, ℕ, ◌*◌, ◌++◌, ◌+◌, ◌<◌, ◌^◌, ◌∙◌, ◌∷◌, ◌≡◌, ◌≢◌, ◌≤◌}
 use Rattle.std.proofs.Math.Nat.{mul-le-mul_right, one-le-pow}
 use Rattle.std.proofs.lemmas.Nat.{pow-add}
-use Rattle.std.proofs.Math.Seq.{drop-nil}
-use Rattle.std.specs.Ordering.{nat_cmp, ordering_then, ordering_reverse, MatchOrdering}
-use Rattle.std.specs.declared.cmp.Ordering.{Ordering}
-use Rattle.std.specs.declared.cmp.Ordering.TheVariants.{Less, Equal, Greater}
 use Rattle.std.specs.Cmp.{nat_cmp_is}
-use Rattle.std.proofs.lemmas.Cmp.{ranked, nat_list_cmp_total}
-use Rattle.std.proofs.lemmas.List.Elements.{All-head, All-tail}
 use Rattle.byteorder.specs.Endian.{big_from, big_number}
 use Rattle.byteorder.specs.Numbers.{big_from-cons}
-use Rattle.mo_file.specs.Prelude.{key_cmp}
-use Rattle.mo_file.proofs.RisingKeys.{equal_is_same}
 use Rattle.po_compile.specs.Internal.Prefix.{digits, prefix_of, second_prefix_of}
 
 abbrev pub Bytes : List ℕ → Type 0

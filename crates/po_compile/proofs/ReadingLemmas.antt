@@ -1,17 +1,5 @@
 -- Reading several texts, one after another: their entries are valid, and so is their joined list.
-use Rattle.std.proofs.Common.{◌≡◌, ◌≢◌, ◌⊎◌, ℕ, ◌+◌, ◌<◌, ◌≤◌, suc, List, [], ◌∷◌, ◌++◌, refl, sym, ap, ◌∙◌, subst, length, get_or, take, drop, map, arith, inl, inr, ⊎_elim, append-nil, length-take, ◌^◌, All}
-use Rattle.std.specs.Borrow.{Bor}
-use Rattle.std.specs.List.{AllZip}
-use Rattle.std.proofs.Math.Seq.{drop-cons}
-use Rattle.std.proofs.lemmas.List.{take_more, take-append-drop, map-append, length-map}
-use Rattle.po_syntax.specs.declared.fault.PoError.{PoError}
-use Rattle.po_syntax.specs.declared.fault.PoFault.{PoFault}
-use Rattle.po_syntax.specs.declared.fault.PoFault.TheVariants.{OutOfMemory}
-use Rattle.po_entry.specs.Prelude.{TextEntry, slice_texts, joined_entries, entries_of, in_input, HasNoDuplicate, ReadsDistinct, IsTextFault, out_of_memory, IsCatalogueEntry, ReadsText}
-use Rattle.po_entry.proofs.DuplicateLemmas.{entries_of_input}
-use Rattle.po_compile.specs.Prelude.{AreRead, IsReadingFault, fault_input, fault_of_input, compiled_list, LookUpMeansEntries, MessagesAreOne, MessagesMeanEntries}
-use Rattle.std.proofs.lemmas.List.Elements.{All-nil, All-cons}
-use Rattle.mo_file.specs.Prelude.{layout, LayoutIsMoFile}
+use Rattle.po_compile.proofs.Prelude.{All, All-cons, All-nil, AllZip, AreRead, Bor, HasNoDuplicate, IsCatalogueEntry, IsReadingFault, IsTextFault, LayoutIsMoFile, List, LookUpMeansEntries, MessagesAreOne, MessagesMeanEntries, OutOfMemory, PoError, PoFault, ReadsDistinct, ReadsText, TextEntry, [], ap, append-nil, arith, compiled_list, drop, drop-cons, entries_of, entries_of_input, fault_input, fault_of_input, get_or, in_input, inl, inr, joined_entries, layout, length, length-map, length-take, map, map-append, out_of_memory, refl, slice_texts, subst, suc, sym, take, take-append-drop, take_more, ℕ, ⊎_elim, ◌++◌, ◌+◌, ◌<◌, ◌^◌, ◌∙◌, ◌∷◌, ◌≡◌, ◌≢◌, ◌≤◌, ◌⊎◌}
 use Rattle.po_compile.proofs.JoinedRows.{joined_valid}
 use Rattle.po_compile.proofs.MessageOrder.{compiled_valid}
 

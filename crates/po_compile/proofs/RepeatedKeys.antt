@@ -1,21 +1,7 @@
 -- The first key that stands twice.
-use Rattle.std.proofs.Common.{◌≡◌, ◌≢◌, sym, ap, ap₂, ◌∙◌, AllPairs, drop, subst, ℕ, ◌+◌, ◌<◌, suc, Bool, true, false, not, List, [], ◌∷◌, ◌++◌, length, length-take, filter, get_or, get_or-take, take, map, arith, append-nil, refl}
-use Rattle.std.specs.Borrow.{Bor}
-use Rattle.std.specs.Prelude.{if◌then◌else◌}
-use Rattle.std.specs.List.{list_any, position_or_len}
-use Rattle.std.specs.Str.{bytes_eq}
-use Rattle.std.proofs.lemmas.List.{get_or_default, get_or-map, length-map, map-append, take-map, take_more}
+use Rattle.po_compile.proofs.Prelude.{AllApart, AllPairs, Bool, Bor, HaveOneKey, InputMessage, IsFirstRepeat, IsRepeatAt, List, LiveMessage, [], all_messages, all_pass, ap, append-nil, ap₂, arith, bytes_eq, bytes_eq-Decides, drop, false, filter, get_or, get_or-map, get_or-take, get_or_default, if◌then◌else◌, in_input_message, input_keys, is_joined, length, length-map, length-take, list_any, map, map-append, map-map, message_keys, not, pairs_of_map, passes_at_first, position_or_len, prefix_len-le-length, prefix_len_passes, refl, slice_texts, split_at, subst, suc, sym, take, take-map, take_more, true, with_seen, ℕ, ◌++◌, ◌+◌, ◌<◌, ◌∙◌, ◌∷◌, ◌≡◌, ◌≢◌}
 use Rattle.std.proofs.lemmas.List.Quantifiers.{all_pairs_push}
-use Rattle.std.proofs.lemmas.List.Sums.{passes_at_first, prefix_len-le-length, prefix_len_passes}
-use Rattle.std.proofs.lemmas.Simd.{map-map}
-use Rattle.std.proofs.lemmas.Slice.Eq.{bytes_eq-Decides}
-use Rattle.po_entry.specs.Prelude.{with_seen, slice_texts, IsFirstRepeat}
-use Rattle.po_entry.specs.Facts.FirstRepeats.{pairs_of_map}
 use Rattle.po_entry.proofs.FirstOnes.{found_within}
-use Rattle.po_compile.specs.Prelude.{LiveMessage}
-use Rattle.po_compile.specs.Internal.{HaveOneKey, IsRepeatAt, AllApart, InputMessage, all_messages, in_input_message, input_keys, is_joined, message_keys}
-use Rattle.std.proofs.Math.Seq.{split_at}
-use Rattle.po_syntax.specs.Facts.Filters.{all_pass}
 
 abbrev pub no_key : Bor (List ℕ)
 no_key = record { ref_ptr = (0, 0); now = [] }

@@ -1,19 +1,7 @@
 -- Rows that are sorted, of which those that are compiled are the messages.
-use Rattle.std.proofs.Common.{◌≡◌, refl, sym, ap, ap₂, ◌∙◌, subst, Bool, false, List, [], ◌∷◌, ℕ, ◌<◌, arith, get_or, length, filter, map, All, IsPermutation, count_by}
-use Rattle.std.proofs.lemmas.List.{get_or-map, length-map}
-use Rattle.std.proofs.lemmas.List.Elements.{All-filter, All-head, All-map, All-tail, filter_agree}
-use Rattle.std.proofs.lemmas.List.Sorted.{All-permutation, IsPermutation-map, length_permutation}
-use Rattle.std.proofs.lemmas.List.Sums.{length-filter}
-use Rattle.std.proofs.lemmas.Simd.{map-map}
-use Rattle.mo_file.specs.Prelude.{AreRising, key_of, keys, Message}
-use Rattle.po_entry.specs.Prelude.{TextEntry, IsCatalogueEntry, live_entries, InputEntry, entries_of, is_live, joined, joined_entries, stats_of, is_translated, is_fuzzy, is_untranslated}
-use Rattle.po_compile.specs.Prelude.{HoldCatalogues, LiveMessage, live_message, live_messages, compiled_inputs, compiled_message, is_compiled, compiled_list, AreMessagesOf, message_of}
-use Rattle.po_compile.specs.Internal.{AreSortedRows, InputMessage, all_messages, compiled_of, counts_fuzzy, counts_of, counts_translated, counts_untranslated, input_message, row_view, view_of_message}
-use Rattle.po_compile.specs.declared.row.Row.{Row}
-use Rattle.po_syntax.specs.Facts.Mapped.{filter_map}
+use Rattle.po_compile.proofs.Prelude.{All, All-filter, All-head, All-map, All-permutation, All-tail, AreMessagesOf, AreRising, AreSortedRows, Bool, HoldCatalogues, InputEntry, InputMessage, IsCatalogueEntry, IsPermutation, IsPermutation-map, List, LiveMessage, Message, Row, TextEntry, [], all_messages, ap, ap₂, arith, compiled_inputs, compiled_list, compiled_message, compiled_of, count_by, counts_fuzzy, counts_of, counts_translated, counts_untranslated, entries_of, false, filter, filter_agree, filter_map, get_or, get_or-map, input_message, is_compiled, is_fuzzy, is_live, is_translated, is_untranslated, joined, joined_entries, key_of, keys, length, length-filter, length-map, length_permutation, live_entries, live_message, live_messages, live_of_entries, map, map-map, message_of, refl, row_view, stats_of, subst, sym, view_of_message, ℕ, ◌<◌, ◌∙◌, ◌∷◌, ◌≡◌}
 use Rattle.po_compile.proofs.Filters.{IsPermutation-filter, filter_within}
 use Rattle.po_compile.proofs.JoinedRows.{all_are, joined_valid}
-use Rattle.po_entry.proofs.DuplicateLemmas.{live_of_entries}
 use Rattle.po_compile.proofs.MeaningLemmas.{entry_lacks_separators, key_of-original}
 use Rattle.po_compile.proofs.KeysApart.{rising_filter}
 

@@ -1,12 +1,5 @@
 -- Keys, originals and translations take apart again what they are made of.
-use Rattle.std.proofs.Common.{◌≡◌, ◌≢◌, ℕ, ◌+◌, List, [], ◌∷◌, ◌++◌, Option, None, Some, append-nil, refl, sym, ap, ◌∙◌, length, get_or, arith, length-append, All, IfSome}
-use Rattle.std.proofs.lemmas.List.{get_or-append-add}
-use Rattle.std.proofs.lemmas.List.Elements.{All-head, All-tail, All-cons, All-append}
-use Rattle.std.specs.List.{slice_split, join_with_byte}
-use Rattle.mo_file.specs.Prelude.{is_nul, key_of, query_key, context_of, id_of}
-use Rattle.mo_file.proofs.CutLemmas.{before_all, before_is, context_cut, context_none, id_all, id_cut, split_cut, split_none}
-use Rattle.po_entry.specs.Prelude.{Lacks}
-use Rattle.po_compile.specs.Prelude.{plural_part}
+use Rattle.po_compile.proofs.Prelude.{All, All-append, All-cons, All-head, All-tail, IfSome, Lacks, List, None, Option, Some, [], ap, append-nil, arith, before_all, before_is, context_cut, context_none, context_of, get_or, get_or-append-add, id_all, id_cut, id_of, is_nul, join_with_byte, key_of, length, length-append, plural_part, query_key, refl, slice_split, split_cut, split_none, sym, ℕ, ◌++◌, ◌+◌, ◌∙◌, ◌∷◌, ◌≡◌, ◌≢◌}
 
 pub key_of-plural_part : (key : List ℕ) (plural : Option (List ℕ)) → Lacks 0 key
     → key_of (key ++ plural_part plural) ≡ key

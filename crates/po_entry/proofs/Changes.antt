@@ -1,12 +1,5 @@
 -- An entry stays one when its forms are emptied, or its previous texts go.
-use Rattle.std.proofs.Common.{ℕ, List, [], ◌∷◌, ◌++◌, map}
-use Rattle.std.specs.Prelude.{All, option_to_list}
-use Rattle.std.proofs.lemmas.List.Elements.{All-nil, All-cons, All-append}
-use Rattle.std.proofs.lemmas.List.{length-map}
-use Rattle.std.proofs.lemmas.Str.{IsUtf8-nil}
-use Rattle.po_entry.specs.Prelude.{TextEntry, previous_texts, no_previous, IsEntry}
-use Rattle.po_syntax.specs.Prelude.{IsText}
-use Rattle.po_syntax.specs.Facts.AllAppend.{All-left}
+use Rattle.po_entry.proofs.Prelude.{All, All-append, All-cons, All-left, All-nil, IsEntry, IsText, IsUtf8-nil, List, TextEntry, [], length-map, map, no_previous, option_to_list, previous_texts, ℕ, ◌++◌, ◌∷◌}
 use Rattle.po_entry.proofs.QuotedParts.{quoted_parts}
 
 -- the texts of the quoted strings but the forms

@@ -1,16 +1,8 @@
 -- The charset that is found in a header's text is the one that it names.
-use Rattle.std.proofs.Common.{◌≡◌, ◌⊎◌, inl, inr, ◌∙◌, refl, sym, ap, subst, ℕ, suc, ◌≤◌, Bool, true, false, not, nat_eq, List, [], ◌∷◌, ◌++◌, drop, get_or, length, codes, All, arith}
+use Rattle.po_entry.proofs.Prelude.{All-head, All-tail, Bool, EndsName, FailsFirst, IsAfterName, IsAround, List, NamesCharset, [], after_charset, ap, append_cancel_left, arith, at_byte, at_end, before_first, cases_Bool, charset_of, codes, cond-false, cond-true, drop, drop_at, ends_name, false, false≢true, get_or, inl, inr, length, named, nat_eq, not, not-true, parts_of, position_or_len, refl, starts_is, starts_with, subst, suc, sym, true, unnamed, ℕ, ◌++◌, ◌∙◌, ◌∷◌, ◌≡◌, ◌≤◌, ◌⊎◌}
+use Rattle.std.proofs.Common.{All}
 use Rattle.std.specs.Prelude.{◌↔◌}
-use Rattle.std.specs.List.{starts_with, before_first, position_or_len}
-use Rattle.std.proofs.lemmas.Bool.{cases_Bool, cond-true, cond-false, false≢true, not-true}
 use Rattle.std.proofs.lemmas.Bool.Decides.{Decides-eqb}
-use Rattle.std.proofs.lemmas.List.{append_cancel_left, drop_at}
-use Rattle.std.proofs.lemmas.List.Elements.{All-head, All-tail}
-use Rattle.std.proofs.lemmas.Slice.Eq.{starts_is}
-use Rattle.po_syntax.specs.Prelude.{FailsFirst}
-use Rattle.po_syntax.specs.Facts.Runs.{parts_of}
-use Rattle.po_entry.specs.Prelude.{after_charset, ends_name, charset_of, EndsName, IsAfterName, IsAround, NamesCharset}
-use Rattle.po_entry.specs.Header.{at_end, at_byte, unnamed, named}
 
 -- no `charset=` stands in the text before this many bytes
 abbrev IsEarliest : List ℕ → ℕ → Type 0

@@ -1,12 +1,6 @@
 -- Tests of several texts, one after another.
-use Rattle.std.proofs.Common.{◌≡◌, ℕ, ◌+◌, ◌<◌, ◌≤◌, Bool, true, false, ◌&&◌, List, [], ◌∷◌, ◌++◌, Option, Some, None, length, take, get_or, refl, sym, subst}
-use Rattle.std.proofs.lemmas.Bool.{false≢true}
-use Rattle.std.specs.Prelude.{All, IsTrue, ◌↔◌, IfSome, option_to_list}
-use Rattle.std.specs.Global.{Vec}
-use Rattle.std.proofs.lemmas.List.Elements.{All-nil, All-cons, All-head, All-append, All-get_or, All-more, All-map}
-use Rattle.std.proofs.lemmas.List.{length-map, take_all, get_or-map}
-use Rattle.po_entry.specs.Prelude.{texts}
-use Rattle.po_syntax.specs.Facts.AllAppend.{All-left, All-right}
+use Rattle.po_entry.proofs.Prelude.{All, All-append, All-cons, All-get_or, All-head, All-left, All-map, All-more, All-nil, All-right, Bool, IfSome, List, None, Option, Some, Vec, [], false, false≢true, get_or, get_or-map, length, length-map, option_to_list, refl, subst, sym, take, take_all, texts, true, ℕ, ◌&&◌, ◌++◌, ◌+◌, ◌<◌, ◌∷◌, ◌≡◌, ◌≤◌}
+use Rattle.std.specs.Prelude.{IsTrue, ◌↔◌}
 
 -- two lists pass where both do
 pub both : {X : Type 0} (P : X → Type 0) (xs ys : List X) (a b : Bool) → (IsTrue a ↔ All P xs) → (IsTrue b ↔ All P ys)

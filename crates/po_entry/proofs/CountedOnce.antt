@@ -1,7 +1,6 @@
 -- Each live entry but the header is counted once.
-use Rattle.std.proofs.Common.{◌≡◌, ℕ, ◌+◌, ◌<◌, Bool, true, false, cond, not, ◌&&◌, ◌==◌, List, [], ◌∷◌, refl, ap, ◌∙◌, filter, length, arith, bytes_eq}
-use Rattle.std.proofs.Math.Bool.{and_assoc, and_comm}
-use Rattle.po_entry.specs.Prelude.{TextEntry, first_form, has_translation, is_counted, is_fuzzy, is_translated, is_untranslated, CountsAddUp, EmptyAreUntranslated, FlaggedAreFuzzy, has_empty_first_form, live_messages}
+use Rattle.po_entry.proofs.Prelude.{Bool, CountsAddUp, EmptyAreUntranslated, FlaggedAreFuzzy, List, TextEntry, [], and_assoc, and_comm, ap, arith, cond, false, filter, first_form, has_empty_first_form, has_translation, is_counted, is_fuzzy, is_translated, is_untranslated, length, live_messages, not, refl, true, ℕ, ◌&&◌, ◌+◌, ◌<◌, ◌==◌, ◌∙◌, ◌∷◌, ◌≡◌}
+use Rattle.std.proofs.Common.{bytes_eq}
 
 one_more : (counted has fuzzy : Bool) (e : TextEntry) (ts fs us all : List TextEntry)
     → length ts + length fs + length us ≡ length all

@@ -1,9 +1,5 @@
 -- The first duplicate is the first live entry whose number an earlier live one has.
-use Rattle.std.proofs.Common.{◌≡◌, List, [], ◌∷◌, ℕ, refl, sym, ap, subst, map, filter, AllPairs, ⊎_elim, Result, Ok, Err, MatchResult, IsOkUnless}
-use Rattle.po_entry.specs.Prelude.{TextEntry, InputEntry, is_live, in_input, entries_of, IsSameMessage, AllDiffer, HasNoDuplicate, live_entries, IsFirstDuplicate, IsDuplicateFault, join_out_of_memory}
-use Rattle.po_entry.specs.Facts.FirstRepeats.{none_repeats, pairs_map, pairs_of_map}
-use Rattle.po_syntax.specs.Facts.Mapped.{filter_map}
-use Rattle.po_entry.specs.declared.duplicate.JoinError.{JoinError}
+use Rattle.po_entry.proofs.Prelude.{AllDiffer, AllPairs, Err, HasNoDuplicate, InputEntry, IsDuplicateFault, IsFirstDuplicate, IsOkUnless, IsSameMessage, JoinError, List, MatchResult, Ok, Result, TextEntry, [], ap, entries_of, filter, filter_map, in_input, is_live, join_out_of_memory, live_entries, map, none_repeats, pairs_map, pairs_of_map, refl, subst, sym, ℕ, ⊎_elim, ◌∷◌, ◌≡◌}
 
 pub live_of_entries : (xs : List InputEntry) → filter is_live (entries_of xs) ≡ entries_of (live_entries xs)
 live_of_entries xs = filter_map is_live (λ (e : InputEntry). e.entry) xs

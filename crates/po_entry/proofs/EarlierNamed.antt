@@ -1,8 +1,5 @@
 -- The two entries of a duplicate, where they stand in the list.
-use Rattle.std.proofs.Common.{◌≡◌, inl, inr, Bool, true, false, cond, List, [], ◌∷◌, ◌++◌, refl, sym, subst, ap, ◌∙◌, filter, append_assoc}
-use Rattle.std.proofs.lemmas.Bool.{not-true}
-use Rattle.po_entry.specs.Prelude.{IsFirstDuplicate, duplicate_fault, NamesEarlier, FaultNamesEarlier, InputEntry, is_live}
-use Rattle.po_entry.specs.declared.duplicate.JoinError.{JoinError}
+use Rattle.po_entry.proofs.Prelude.{Bool, FaultNamesEarlier, InputEntry, IsFirstDuplicate, JoinError, List, NamesEarlier, [], ap, append_assoc, cond, duplicate_fault, false, filter, inl, inr, is_live, not-true, refl, subst, sym, true, ◌++◌, ◌∙◌, ◌∷◌, ◌≡◌}
 
 -- where an element that passes a test stands, and what passes it before and after
 record StandsAt {X : Type 0} (p : X → Bool) (xs before : List X) (x : X) (after : List X) : Type 0 where

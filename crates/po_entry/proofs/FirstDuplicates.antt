@@ -1,10 +1,5 @@
 -- Each list of entries has no duplicate, or one first duplicate.
-use Rattle.std.proofs.Common.{◌≡◌, ℕ, List, Option, Some, None, refl, sym, ap, ◌∙◌, subst, inl, inr, ◌⊎◌}
-use Rattle.std.proofs.lemmas.Bool.{cases_Bool, false≢true}
-use Rattle.std.proofs.lemmas.Slice.Eq.{bytes_eq-Decides}
-use Rattle.std.specs.Str.{bytes_eq}
-use Rattle.po_entry.specs.Prelude.{TextEntry, IsSameMessage, AllDiffer, HasNoDuplicate, live_entries, IsFirstDuplicate, InputEntry, entries_of}
-use Rattle.po_entry.specs.Facts.FirstRepeats.{none_or_first_repeat, one_repeat, pairs_map}
+use Rattle.po_entry.proofs.Prelude.{AllDiffer, HasNoDuplicate, InputEntry, IsFirstDuplicate, IsSameMessage, List, None, Option, Some, TextEntry, ap, bytes_eq, bytes_eq-Decides, cases_Bool, entries_of, false≢true, inl, inr, live_entries, none_or_first_repeat, one_repeat, pairs_map, refl, subst, sym, ℕ, ◌∙◌, ◌≡◌, ◌⊎◌}
 use Rattle.po_entry.proofs.DuplicateLemmas.{live_of_entries}
 
 text_is : (a b : List ℕ) → (a ≡ b) ⊎ (a ≡ b → ⊥)

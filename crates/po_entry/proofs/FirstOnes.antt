@@ -1,15 +1,6 @@
 -- The first ones of a list and their numbers, where being alike is an equivalence.
-use Rattle.std.proofs.Common.{◌≡◌, ℕ, ◌+◌, ◌<◌, Bool, true, false, cond, not, ◌||◌, List, [], ◌∷◌, ◌++◌, refl, sym, ap, ap₂, ◌∙◌, length, map, fold, All, take, drop, get_or, suc, append_assoc, append-nil, length-take, arith}
-use Rattle.std.proofs.Math.Seq.{drop-cons}
-use Rattle.std.specs.Prelude.{if◌then◌else◌}
-use Rattle.std.specs.List.{list_any, position_or_len}
-use Rattle.std.specs.Cmp.{IsEquivalence}
-use Rattle.std.proofs.lemmas.List.Folds.{list_any-append, list_any_at, position_or_len_push}
-use Rattle.std.proofs.lemmas.List.{map-append, length-map, get_or_at, get_or-map, take-append-drop}
-use Rattle.std.proofs.lemmas.List.Sums.{fold_push, passes_at_first}
-use Rattle.std.proofs.lemmas.List.Elements.{All-head, All-map, All-tail}
-use Rattle.std.proofs.Math.Bool.{or-false, or-true, or_assoc}
-use Rattle.po_entry.specs.Prelude.{with_new, first_ones, group_numbers}
+use Rattle.po_entry.proofs.Prelude.{All-head, All-map, All-tail, Bool, IsEquivalence, List, [], ap, append-nil, append_assoc, ap₂, arith, cond, drop, drop-cons, false, first_ones, fold, fold_push, get_or, get_or-map, get_or_at, group_numbers, if◌then◌else◌, length, length-map, length-take, list_any, list_any-append, list_any_at, map, map-append, not, or-false, or-true, or_assoc, passes_at_first, position_or_len, position_or_len_push, refl, suc, sym, take, take-append-drop, true, with_new, ℕ, ◌++◌, ◌+◌, ◌<◌, ◌||◌, ◌∙◌, ◌∷◌, ◌≡◌}
+use Rattle.std.proofs.Common.{All}
 
 module _ {X : Type 0} (p : X → Bool) where
   pub found_within : (xs : List X) → list_any p xs ≡ true → position_or_len p xs < length xs

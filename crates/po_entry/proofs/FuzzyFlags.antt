@@ -1,18 +1,6 @@
 -- Where an entry's comments make it fuzzy, and which charsets are admitted.
-use Rattle.std.proofs.Common.{◌≡◌, ◌↔◌, ℕ, ◌<◌, Bool, true, false, ◌||◌, List, [], ◌∷◌, refl, sym, ap, ◌∙◌, subst, map, suc, zero, get_or, codes, bytes_eq, arith}
-use Rattle.std.specs.Prelude.{All, Contains, Decides}
-use Rattle.std.specs.List.{list_any}
-use Rattle.std.specs.Char.{to_ascii_lowercase}
-use Rattle.std.proofs.lemmas.Bool.{false≢true, or_left, or_right}
-use Rattle.std.proofs.lemmas.List.Folds.{list_any-append, list_any_at}
-use Rattle.std.proofs.lemmas.List.Elements.{All-nil, All-cons, All-weaker}
-use Rattle.std.proofs.lemmas.Map.Views.{Contains-from_any}
-use Rattle.std.proofs.lemmas.Slice.Eq.{bytes_eq-Decides}
-use Rattle.po_syntax.specs.declared.item.CommentKind.{CommentKind}
-use Rattle.po_syntax.specs.declared.item.CommentKind.TheVariants.{Translator, Extracted, Reference, Flags}
-use Rattle.po_entry.specs.Prelude.{CommentText, all_listed_flags, fuzzy_of, is_fuzzy_flag, listed_flags, ListsFlags, HaveFuzzyFlag, NamesAdmitted, IsAdmittedName}
-use Rattle.po_entry.specs.Comments.{here, later}
-use Rattle.po_entry.specs.Header.{no_name, utf_8, utf8, us_ascii, ascii, template}
+use Rattle.po_entry.proofs.Prelude.{All, All-cons, All-nil, All-weaker, Bool, CommentKind, CommentText, Contains, Contains-from_any, Decides, Extracted, Flags, HaveFuzzyFlag, IsAdmittedName, List, ListsFlags, NamesAdmitted, Reference, Translator, [], all_listed_flags, ap, arith, ascii, bytes_eq-Decides, codes, false, false≢true, fuzzy_of, get_or, here, is_fuzzy_flag, later, list_any, list_any-append, list_any_at, listed_flags, map, no_name, or_left, or_right, refl, subst, suc, sym, template, to_ascii_lowercase, true, us_ascii, utf8, utf_8, zero, ℕ, ◌<◌, ◌||◌, ◌↔◌, ◌∙◌, ◌∷◌, ◌≡◌}
+use Rattle.std.proofs.Common.{bytes_eq}
 use Rattle.po_entry.proofs.ListedElements.{flags_listed}
 
 module _ {X : Type 0} (p : X → Bool) where

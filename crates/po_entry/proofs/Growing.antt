@@ -1,8 +1,5 @@
 -- A buffer that grows.
-use Rattle.std.proofs.Common.{sym, ap, ◌∙◌, ℕ, ◌≤◌, List, ◌++◌, length, length-take, take, arith}
-use Rattle.std.proofs.Math.Seq.{take-append_seam}
-use Rattle.std.proofs.lemmas.List.{take-take}
-use Rattle.po_entry.specs.Prelude.{Grows}
+use Rattle.po_entry.proofs.Prelude.{Grows, List, ap, arith, length, length-take, sym, take, take-append_seam, take-take, ℕ, ◌++◌, ◌∙◌, ◌≤◌}
 
 pub no_shorter : (old new : List ℕ) → Grows old new → length old ≤ length new
 no_shorter old new grows = omega (arith, ap length grows, length-take (length old) new)

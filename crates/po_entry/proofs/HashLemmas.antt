@@ -1,12 +1,7 @@
 -- Numbers of which no two are the same rise where they are sorted.
-use Rattle.std.proofs.Common.{◌≡◌, ◌≢◌, ◌↔◌, refl, sym, ℕ, Bool, true, false, List, AllPairs, Decides, IsPermutation, IsSorted, IsTrue, eqb, nat_lt, arith}
-use Rattle.std.specs.Cmp.{nat_eq_equiv}
-use Rattle.std.specs.List.{IsAllAdjacentAnswer}
-use Rattle.std.specs.List.Sorted.{IsStrictlyIncreasing}
+use Rattle.po_entry.proofs.Prelude.{AllPairs, AllPairs-from_increasing, Bool, IsAllAdjacentAnswer, IsNonDecreasingBy-from_sort, IsPermutation, IsPermutation-sym, IsSorted, IsStrictlyIncreasing, IsTrue, List, arith, eq-eqb, eqb, eqb-true, false, lt-ltb, ltb-true, nat_eq_equiv, nat_lt, refl, sym, true, ℕ, ◌↔◌, ◌≡◌, ◌≢◌}
+use Rattle.std.proofs.Common.{Decides}
 use Rattle.std.specs.Ordering.{nat_cmp}
-use Rattle.std.proofs.lemmas.Bool.{eq-eqb, eqb-true, ltb-true, lt-ltb}
-use Rattle.std.proofs.lemmas.List.Kept.{AllPairs-from_increasing}
-use Rattle.std.proofs.lemmas.List.Sorted.{IsNonDecreasingBy-from_sort, IsPermutation-sym}
 use Rattle.std.proofs.lemmas.Map.Keys.{IsDistinct-IsPermutation, IsStrictlyIncreasing-from_distinct}
 use Rattle.std.proofs.lemmas.Map.Made.{AllPairs-from_IsDistinct, IsDistinct-from_AllPairs}
 

@@ -1,11 +1,6 @@
 -- Which entries are headers, whose charsets are admitted, and the references of several lines.
-use Rattle.std.proofs.Common.{◌≡◌, ℕ, true, cond, ◌==◌, List, [], ◌∷◌, Option, Some, None, refl, sym, ap, ◌∙◌, subst, map, filter, length, is_none}
-use Rattle.std.specs.Prelude.{Decides, flat_map}
-use Rattle.std.proofs.lemmas.Bool.{and_parts, false≢true}
-use Rattle.po_syntax.specs.declared.item.CommentKind.{CommentKind}
-use Rattle.po_syntax.specs.declared.item.CommentKind.TheVariants.{Translator, Extracted, Reference, Flags}
-use Rattle.po_entry.specs.Prelude.{AdmitsCharset, IsHeaderEntry, NamesCharset, IsAdmittedName, charset_of, first_form, is_header, HaveReferences, listed_references, references_of, same_kind, CommentText, TextEntry}
-use Rattle.po_entry.specs.Comments.{no_comment, references, other_kind}
+use Rattle.po_entry.proofs.Prelude.{AdmitsCharset, CommentKind, CommentText, Decides, Extracted, Flags, HaveReferences, IsAdmittedName, IsHeaderEntry, List, NamesCharset, None, Option, Reference, Some, TextEntry, Translator, [], and_parts, ap, charset_of, cond, false≢true, filter, first_form, is_header, is_none, length, listed_references, map, no_comment, other_kind, references, references_of, refl, same_kind, subst, sym, true, ℕ, ◌==◌, ◌∙◌, ◌∷◌, ◌≡◌}
+use Rattle.std.specs.Prelude.{flat_map}
 use Rattle.po_entry.proofs.CharsetNames.{charset_named}
 use Rattle.po_entry.proofs.FuzzyFlags.{admitted}
 use Rattle.po_entry.proofs.Headers.{nonempty}

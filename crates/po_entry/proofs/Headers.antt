@@ -1,12 +1,6 @@
 -- Names of charsets, and the first form of an entry.
-use Rattle.std.proofs.Common.{◌≡◌, ℕ, Bool, true, false, ◌||◌, ◌==◌, nat_lt, List, [], ◌∷◌, ◌++◌, Some, None, length, take, map, refl, sym, ap, ◌∙◌, arith, inl, inr, ◌≤◌, cond}
-use Rattle.std.specs.Prelude.{IsTrue, ◌↔◌, Contains, slice_get, position}
-use Rattle.std.specs.List.{position_or_len, before_first}
-use Rattle.std.specs.Global.{Vec}
-use Rattle.std.proofs.lemmas.List.{take_all}
-use Rattle.std.proofs.lemmas.Bool.{false≢true, ltb-false, eqb-true}
-use Rattle.std.proofs.lemmas.List.Elements.{Contains-push, Contains-push_cases, Contains-append_left}
-use Rattle.po_entry.specs.Prelude.{texts, first_form}
+use Rattle.po_entry.proofs.Prelude.{Bool, Contains, Contains-append_left, Contains-push, Contains-push_cases, List, None, Some, Vec, [], ap, arith, before_first, cond, eqb-true, false, false≢true, first_form, inl, inr, length, ltb-false, map, nat_lt, position, position_or_len, refl, slice_get, sym, take, take_all, texts, true, ℕ, ◌++◌, ◌==◌, ◌||◌, ◌∙◌, ◌∷◌, ◌≡◌, ◌≤◌}
+use Rattle.std.specs.Prelude.{IsTrue, ◌↔◌}
 
 -- one more name that may be meant
 pub one_more_name : (names : List (List ℕ)) (name x : List ℕ) (a b : Bool) → (IsTrue a ↔ Contains names x)

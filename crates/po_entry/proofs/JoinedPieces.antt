@@ -1,7 +1,5 @@
 -- The items of two pieces of a text, joined, where those of the first end in a string.
-use Rattle.std.proofs.Common.{◌≡◌, refl, List, [], ◌∷◌, ◌++◌, append_assoc}
-use Rattle.po_syntax.specs.Prelude.{EndsInString, TextItem}
-use Rattle.po_entry.specs.Prelude.{CommentText, TextEntry, SpellsHead, SpellsEntries}
+use Rattle.po_entry.proofs.Prelude.{CommentText, EndsInString, List, SpellsEntries, SpellsHead, TextEntry, TextItem, [], append_assoc, refl, ◌++◌, ◌∷◌, ◌≡◌}
 use Rattle.po_entry.specs.Spelling.{nothing, head_comment, comments, entries}
 
 -- what is left of items that end in a string ends in it

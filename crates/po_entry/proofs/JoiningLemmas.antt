@@ -1,9 +1,6 @@
 -- The entries of a joined list are valid, as those of its inputs are.
-use Rattle.std.proofs.Common.{◌≡◌, ◌<◌, ◌+◌, ◌||◌, ℕ, Bool, true, false, not, List, ◌∷◌, ◌++◌, append_assoc, drop, get_or, length, map, All, sym, ap, ap₂, ◌∙◌, subst}
-use Rattle.std.specs.List.{list_any}
-use Rattle.std.proofs.lemmas.List.{drop_more, map-append}
-use Rattle.std.proofs.lemmas.List.Elements.{All-append, All-filter}
-use Rattle.po_entry.specs.Prelude.{TextEntry, IsCatalogueEntry, InputEntry, in_input, is_live_header, joined_from, kept_entries, entries_of}
+use Rattle.po_entry.proofs.Prelude.{All-append, All-filter, Bool, InputEntry, IsCatalogueEntry, List, TextEntry, ap, append_assoc, ap₂, drop, drop_more, entries_of, false, get_or, in_input, is_live_header, joined_from, kept_entries, length, list_any, map, map-append, not, subst, sym, true, ℕ, ◌++◌, ◌+◌, ◌<◌, ◌||◌, ◌∙◌, ◌∷◌, ◌≡◌}
+use Rattle.std.proofs.Common.{All}
 use Rattle.po_entry.proofs.DuplicateLemmas.{entries_of_input}
 
 pub kept_valid : (headed : Bool) (entries : List TextEntry) → All IsCatalogueEntry entries

@@ -1,14 +1,5 @@
 -- The numbers of messages by the keys of their entries.
-use Rattle.std.proofs.Common.{◌≡◌, ◌≢◌, ◌<◌, get_or, take, refl, sym, ap, ap₂, ◌∙◌, Bool, true, false, cond, not, ◌||◌, ℕ, ◌+◌, Option, Some, None, List, [], ◌∷◌, ◌++◌, length, map, fold, subst}
-use Rattle.std.specs.Prelude.{All, IfSome, if◌then◌else◌}
-use Rattle.std.specs.List.{list_any, position_or_len}
-use Rattle.std.specs.Str.{bytes_eq}
-use Rattle.std.specs.Cmp.Lexicographic.{nat_list_eq_equiv}
-use Rattle.std.proofs.lemmas.List.{length-map, map-append, take_more}
-use Rattle.std.proofs.lemmas.List.Elements.{All-head, All-nil, All-push, All-tail}
-use Rattle.std.proofs.lemmas.Slice.Eq.{bytes_eq-Decides}
-use Rattle.po_entry.specs.Prelude.{Lacks, key_bytes, TextEntry, IsCatalogueEntry, first_ones, group_numbers, with_new, Message, entry_message, entry_messages, same_message}
-use Rattle.po_entry.specs.Facts.EqualityLaws.{answer}
+use Rattle.po_entry.proofs.Prelude.{All, All-head, All-nil, All-push, All-tail, Bool, IfSome, IsCatalogueEntry, Lacks, List, Message, None, Option, Some, TextEntry, [], answer, ap, ap₂, bytes_eq, bytes_eq-Decides, cond, entry_message, entry_messages, false, first_ones, fold, get_or, group_numbers, if◌then◌else◌, key_bytes, length, length-map, list_any, map, map-append, nat_list_eq_equiv, not, position_or_len, refl, same_message, subst, sym, take, take_more, true, with_new, ℕ, ◌++◌, ◌+◌, ◌<◌, ◌||◌, ◌∙◌, ◌∷◌, ◌≡◌, ◌≢◌}
 use Rattle.po_entry.proofs.FirstOnes.{firsts_push, numbers_push}
 use Rattle.po_entry.proofs.MessageIndex.{message_made, messages_are, same_message_laws}
 

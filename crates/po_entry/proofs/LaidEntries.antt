@@ -1,12 +1,6 @@
 -- The bytes of an entry, read by its row, mean the entry.
-use Rattle.std.proofs.Common.{◌≡◌, refl, sym, ap, ap₂, ◌∙◌, ℕ, suc, ◌<◌, ◌≤◌, ◌^◌, ◌==◌, ◌&&◌, List, [], ◌∷◌, ◌++◌, append_assoc, append-nil, length, length-append, take, drop, Option, None, Some, arith, Bool, true, false}
-use Rattle.std.specs.Prelude.{All, is_some, is_none, option_to_list, if◌then◌else◌}
-use Rattle.std.specs.List.{flat_map, slice_split}
-use Rattle.std.proofs.Math.Seq.{drop-append_seam, take-append_seam}
-use Rattle.std.proofs.lemmas.Bool.{false≢true, ne_eqb}
-use Rattle.std.proofs.lemmas.List.Elements.{All-head, All-tail, All-append, All-nil, All-cons}
-use Rattle.std.proofs.lemmas.List.Splits.{slice_split_none, slice_split_at}
-use Rattle.po_entry.specs.Prelude.{Lacks, TextEntry, quoted_texts, length_bytes, measured, texts_in, EndsContext, PluralFollows, after_nul, context_in, context_length, entry_of, forms_in, further_texts, has_no_head, head_bytes, head_parts, is_empty_list, key_bytes, optional_bytes, optional_in, own_bytes, part_at, plural_in, previous_in, row_of, texts_after, CanLie}
+use Rattle.po_entry.proofs.Prelude.{All, All-append, All-cons, All-head, All-nil, All-tail, Bool, CanLie, EndsContext, Lacks, List, None, Option, PluralFollows, Some, TextEntry, [], after_nul, ap, append-nil, append_assoc, ap₂, arith, context_in, context_length, drop, drop-append_seam, entry_of, false, false≢true, flat_map, forms_in, further_texts, has_no_head, head_bytes, head_parts, if◌then◌else◌, is_empty_list, is_some, key_bytes, length, length-append, length_bytes, measured, ne_eqb, option_to_list, optional_bytes, optional_in, own_bytes, part_at, plural_in, previous_in, quoted_texts, refl, row_of, slice_split, slice_split_at, slice_split_none, suc, sym, take, take-append_seam, texts_after, texts_in, true, ℕ, ◌&&◌, ◌++◌, ◌<◌, ◌==◌, ◌^◌, ◌∙◌, ◌∷◌, ◌≡◌, ◌≤◌}
+use Rattle.std.specs.Prelude.{is_none}
 use Rattle.po_entry.proofs.QuotedParts.{quoted_parts}
 use Rattle.po_entry.proofs.TextListLemmas.{no_texts, texts_laid}
 

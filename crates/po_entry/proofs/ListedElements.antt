@@ -1,19 +1,8 @@
 -- The references and flags that are found in comment lines are those that the lines list.
-use Rattle.std.proofs.Common.{◌≡◌, ◌==◌, ◌≢◌, inl, inr, ◌∙◌, refl, sym, ap, subst, ℕ, true, false, not, ◌||◌, cond, List, [], ◌∷◌, ◌++◌, append_assoc, append-nil, length, get_or, take, map, filter, fold, codes, bytes_eq, All, arith}
-use Rattle.std.specs.Prelude.{◌↔◌, Contains}
-use Rattle.std.specs.List.{list_any, prefix_len}
-use Rattle.std.proofs.lemmas.Bool.{cases_Bool, or_from, or_left, or_right, cond-true, cond-false, eqb-true, eqb-false, ne_eqb, both_ways, false_from_ne_true}
-use Rattle.std.proofs.lemmas.List.Elements.{All-append, All-nil, All-push, Contains-append_left, Contains-push, Contains-push_cases}
-use Rattle.std.proofs.lemmas.List.Folds.{list_any_at}
-use Rattle.std.proofs.lemmas.List.Splits.{slice_split_none, slice_split_at, slice_split-cons_yes}
-use Rattle.std.proofs.lemmas.List.Sums.{fold_push}
-use Rattle.std.proofs.lemmas.Map.Views.{Contains-from_any}
-use Rattle.std.proofs.lemmas.Slice.Eq.{bytes_eq-Decides}
-use Rattle.po_syntax.specs.Facts.Runs.{parts_of, end_parts, kept_is, from_end}
-use Rattle.po_syntax.specs.Prelude.{is_blank, IsBlank, skip_blanks, FailsFirst, without_end}
+use Rattle.po_entry.proofs.Prelude.{All-append, All-nil, All-push, CommentText, Contains, Contains-append_left, Contains-from_any, Contains-push, Contains-push_cases, EndsReference, FailsFirst, IsBlank, IsWithoutBlanks, KeepsFlags, Lacks, List, ListsFlags, ListsReferences, NamesFlag, [], all_listed_flags, ap, append-nil, append_assoc, arith, blank, both_ways, bytes_eq-Decides, cases_Bool, codes, cond, cond-false, cond-true, end_parts, eqb-false, eqb-true, false, false_from_ne_true, filter, first, flag, flags_of, fold, fold_push, from_end, fuzzy, get_or, inl, inr, is_blank, is_fuzzy_flag, is_not_empty, kept_is, last, length, list_any, list_any_at, listed_flags, listed_references, map, more, ne_eqb, no_flag, no_text, none, not, or_from, or_left, or_right, parts_of, prefix_len, reference, refl, repeated, skip_blanks, slice_split-cons_yes, slice_split_at, slice_split_none, subst, sym, take, trimmed, true, with_flag, without_end, ℕ, ◌++◌, ◌==◌, ◌||◌, ◌∙◌, ◌∷◌, ◌≡◌, ◌≢◌}
+use Rattle.std.proofs.Common.{bytes_eq, All}
+use Rattle.std.specs.Prelude.{◌↔◌}
 use Rattle.po_syntax.proofs.SpeltKeywords.{skip_prefix}
-use Rattle.po_entry.specs.Prelude.{Lacks, trimmed, CommentText, is_not_empty, listed_references, listed_flags, all_listed_flags, is_fuzzy_flag, with_flag, flags_of, EndsReference, ListsReferences, IsWithoutBlanks, NamesFlag, ListsFlags, KeepsFlags}
-use Rattle.po_entry.specs.Comments.{no_text, blank, reference, no_flag, flag, last, more, none, first, fuzzy, repeated}
 
 no_blank : (b : ℕ) → is_blank b ≡ false → IsBlank b → ⊥
 no_blank b e h = both_ways (is_blank b) e h

@@ -1,10 +1,5 @@
 -- What holds of each element of a list that is written.
-use Rattle.std.proofs.Common.{◌≡◌, ℕ, ◌+◌, ◌<◌, List, [], ◌∷◌, ◌++◌, Bool, true, false, length, take, set, map, refl, arith, add-one}
-use Rattle.std.specs.Global.{Vec}
-use Rattle.std.proofs.Math.Seq.{take-suc-set}
-use Rattle.po_entry.specs.Prelude.{texts}
-use Rattle.std.specs.Prelude.{All, if◌then◌else◌}
-use Rattle.std.proofs.lemmas.List.Elements.{All-head, All-tail, All-push}
+use Rattle.po_entry.proofs.Prelude.{All, All-head, All-push, All-tail, Bool, List, Vec, [], add-one, arith, false, if◌then◌else◌, length, map, refl, set, take, take-suc-set, texts, true, ℕ, ◌++◌, ◌+◌, ◌<◌, ◌∷◌, ◌≡◌}
 
 -- what a push that may be refused leaves
 pub All-pushed : {X : Type 0} (P : X → Type 0) (ok : Bool) (xs : List X) (x : X) → All P xs → P x

@@ -1,14 +1,6 @@
 -- When messages are the same, and what their numbers tell of it.
-use Rattle.std.proofs.Common.{◌≡◌, ◌↔◌, ℕ, ◌<◌, true, List, Option, Some, None, refl, sym, ap, ap₂, ◌∙◌, length, get_or}
+use Rattle.po_entry.proofs.Prelude.{IsEquivalence, List, Message, None, Option, Some, and_equiv, and_parts, ap, ap₂, bytes_eq, bytes_eq-Decides, first_ones, get_or, get_or-map, group_numbers, length, nat_list_eq_equiv, on_equiv, options_equiv, position_or_len, refl, same_message, sym, true, ℕ, ◌<◌, ◌↔◌, ◌∙◌, ◌≡◌}
 use Rattle.std.specs.Option.{option_eq}
-use Rattle.std.specs.Str.{bytes_eq}
-use Rattle.std.specs.List.{position_or_len}
-use Rattle.std.specs.Cmp.{IsEquivalence, and_equiv, on_equiv}
-use Rattle.std.specs.Cmp.Lexicographic.{options_equiv, nat_list_eq_equiv}
-use Rattle.std.proofs.lemmas.List.{get_or-map}
-use Rattle.std.proofs.lemmas.Slice.Eq.{bytes_eq-Decides}
-use Rattle.std.proofs.lemmas.Bool.{and_parts}
-use Rattle.po_entry.specs.Prelude.{first_ones, group_numbers, Message, same_message}
 use Rattle.po_entry.proofs.FirstOnes.{one_number}
 
 pub same_message_laws : IsEquivalence same_message

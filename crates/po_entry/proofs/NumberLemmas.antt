@@ -1,17 +1,8 @@
 -- Entries by the numbers of their messages: which are of one message, and the first that repeats an earlier one.
-use Rattle.std.proofs.Common.{◌≡◌, ◌≢◌, ◌<◌, sym, ap, ◌∙◌, subst, ℕ, Bool, false, filter, length, List, get_or, map, arith, All, AllPairs}
-use Rattle.std.specs.List.{position_or_len}
-use Rattle.std.proofs.lemmas.List.{get_or-map, length-map}
+use Rattle.po_entry.proofs.Prelude.{All-filter, AllPairs, AreNumbered, Bool, DifferUpTo, Duplicate, EntryPlace, InputEntry, IsFirstDuplicate, IsFirstRepeat, IsNumbered, IsSameMessage, List, Message, Repeats, RepeatsAt, RepeatsOnLines, TextEntry, all_of_both, ap, are_placed, arith, entry_message, entry_messages, false, filter, filter_map, first_ones, get_or, get_or-map, group_numbers, in_input, is_live, is_looked_at, length, length-map, list_any_at, live_entries, map, number_in, passes_at_first, place_of, position_or_len, repeat_by, repeat_map, same_message, subst, sym, ℕ, ◌<◌, ◌∙◌, ◌≡◌, ◌≢◌}
+use Rattle.std.proofs.Common.{All}
 use Rattle.std.proofs.lemmas.Simd.{map-map}
-use Rattle.std.proofs.lemmas.List.Elements.{All-filter}
-use Rattle.std.proofs.lemmas.List.Folds.{list_any_at}
-use Rattle.std.proofs.lemmas.List.Sums.{passes_at_first}
 use Rattle.po_syntax.specs.declared.fault.PoError.{PoError}
-use Rattle.po_syntax.specs.declared.fault.PoFault.TheVariants.{Duplicate}
-use Rattle.po_entry.specs.Prelude.{TextEntry, IsFirstDuplicate, IsSameMessage, live_entries, AreNumbered, IsNumbered, Repeats, RepeatsOnLines, are_placed, is_looked_at, number_in, place_of, DifferUpTo, IsFirstRepeat, RepeatsAt, first_ones, group_numbers, Message, entry_message, entry_messages, same_message, InputEntry, in_input, is_live}
-use Rattle.po_entry.specs.Facts.FirstRepeats.{all_of_both, repeat_by, repeat_map}
-use Rattle.po_syntax.specs.Facts.Mapped.{filter_map}
-use Rattle.po_entry.specs.declared.repeats.EntryPlace.{EntryPlace}
 use Rattle.po_entry.proofs.FirstOnes.{any_first_ones, found_within}
 use Rattle.po_entry.proofs.RepeatLemmas.{all_differ, repeat_of}
 use Rattle.po_entry.proofs.MessageIndex.{message_made, messages_are, same_message_laws}

@@ -1,13 +1,7 @@
 -- The joined list omits the live headers of each input that is after one with a live header, and no
 -- other entry.
-use Rattle.std.proofs.Common.{◌≡◌, ℕ, ◌+◌, ◌<◌, ◌≤◌, Bool, true, false, not, ◌&&◌, ◌||◌, nat_lt, List, [], ◌∷◌, ◌++◌, map, filter, All, refl, sym, ap, ◌∙◌, append_assoc, arith}
-use Rattle.std.specs.List.{list_any}
-use Rattle.std.proofs.Math.Bool.{and-false, and-true, or-false}
-use Rattle.std.proofs.lemmas.Bool.{lt-ltb, le-ltb}
-use Rattle.std.proofs.lemmas.List.Elements.{All-append, All-head, All-map, All-nil, All-tail, All-weaker, filter-append, filter_agree}
-use Rattle.std.proofs.lemmas.List.Folds.{list_any-append}
-use Rattle.po_entry.specs.Prelude.{TextEntry, InputEntry, in_input, is_live_header, kept_entries, joined_from, entries_from, entries_of_inputs, has_header_before, is_omitted, OmitsLaterHeaders}
-use Rattle.po_syntax.specs.Facts.Mapped.{any_map, filter_map}
+use Rattle.po_entry.proofs.Prelude.{All-append, All-head, All-map, All-nil, All-tail, All-weaker, Bool, InputEntry, List, OmitsLaterHeaders, TextEntry, [], and-false, and-true, any_map, ap, append_assoc, arith, entries_from, entries_of_inputs, false, filter, filter-append, filter_agree, filter_map, has_header_before, in_input, is_live_header, is_omitted, joined_from, kept_entries, le-ltb, list_any, list_any-append, lt-ltb, map, nat_lt, not, or-false, refl, sym, true, ℕ, ◌&&◌, ◌++◌, ◌+◌, ◌<◌, ◌||◌, ◌∙◌, ◌∷◌, ◌≡◌, ◌≤◌}
+use Rattle.std.proofs.Common.{All}
 
 abbrev keeps : List InputEntry → InputEntry → Bool
 keeps entries e = not (is_omitted entries e)

@@ -1,13 +1,6 @@
 -- What an MO file has of an entry, cut from the bytes of the entry's own texts.
-use Rattle.std.proofs.Common.{◌≡◌, refl, sym, ap, ◌∙◌, ℕ, zero, suc, ◌+◌, ◌<◌, ◌≤◌, ◌==◌, Bool, true, false, List, [], ◌∷◌, ◌++◌, append_assoc, append-nil, length, length-append, length-take, take, drop, Option, None, Some, arith}
+use Rattle.po_entry.proofs.Prelude.{Bool, EndsContext, List, None, Option, PluralFollows, Some, [], after_nul, ap, append-nil, append_assoc, arith, context_in, drop, false, false≢true, flat_map, forms_in, forms_of, join_with_byte, join_with_byte-slice_split, key_bytes, length, length-append, length-slice_split, length-take, option_copied, option_to_list, optional_bytes, plural_in, refl, split_forms, suc, sym, take, take-append-drop, take-append_seam, take-take, texts_after, true, unwrap_or, zero, ℕ, ◌++◌, ◌+◌, ◌<◌, ◌==◌, ◌∙◌, ◌∷◌, ◌≡◌, ◌≤◌}
 use Rattle.std.specs.Borrow.{Bor}
-use Rattle.std.specs.List.{flat_map, join_with_byte}
-use Rattle.std.specs.Prelude.{option_copied, option_to_list, unwrap_or}
-use Rattle.std.proofs.Math.Seq.{take-append_seam}
-use Rattle.std.proofs.lemmas.Bool.{false≢true}
-use Rattle.std.proofs.lemmas.List.{take-append-drop, take-take}
-use Rattle.std.proofs.lemmas.List.Splits.{join_with_byte-slice_split, length-slice_split}
-use Rattle.po_entry.specs.Prelude.{EndsContext, PluralFollows, after_nul, context_in, forms_in, forms_of, key_bytes, optional_bytes, plural_in, split_forms, texts_after}
 
 pub key_cut : (context key : ℕ) (own : List ℕ) → context ≤ key → EndsContext context own
     → take key own ≡ key_bytes (context_in context own) (drop context (take key own))

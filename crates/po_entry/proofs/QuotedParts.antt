@@ -1,7 +1,6 @@
 -- What holds of the quoted texts of an entry, part by part.
-use Rattle.std.specs.Prelude.{All, List, ℕ, [], ◌∷◌, ◌++◌, option_to_list}
-use Rattle.po_syntax.specs.Facts.AllAppend.{All-left, All-right}
-use Rattle.po_entry.specs.Prelude.{TextEntry, previous_texts, quoted_texts}
+use Rattle.po_entry.proofs.Prelude.{All, All-left, All-right, TextEntry, option_to_list, previous_texts, quoted_texts}
+use Rattle.std.specs.Prelude.{List, ℕ, [], ◌∷◌, ◌++◌}
 
 pub record QuotedParts (P : List ℕ → Type 0) (entry : TextEntry) : Type 0 where
   pub previous : All P (previous_texts entry.previous)

@@ -1,10 +1,5 @@
 -- The first of things that has the number of an earlier one.
-use Rattle.std.proofs.Common.{◌≡◌, ◌≢◌, sym, ap, ap₂, ◌∙◌, subst, ℕ, ◌<◌, ◌≤◌, Bool, true, cond, filter, List, ◌∷◌, ◌++◌, length, length-take, get_or, get_or-take, suc, take, drop, arith, AllPairs, map}
-use Rattle.std.proofs.Math.Seq.{drop-cons}
-use Rattle.std.proofs.lemmas.List.{get_or-map, take-append-drop, take_all}
-use Rattle.std.proofs.lemmas.List.Elements.{filter-append, filter_passes}
-use Rattle.std.proofs.lemmas.List.Kept.{AllPairs-filter}
-use Rattle.po_entry.specs.Prelude.{DifferUpTo, IsFirstRepeat, RepeatsAt}
+use Rattle.po_entry.proofs.Prelude.{AllPairs, AllPairs-filter, Bool, DifferUpTo, IsFirstRepeat, List, RepeatsAt, ap, ap₂, arith, cond, drop, drop-cons, filter, filter-append, filter_passes, get_or, get_or-map, get_or-take, length, length-take, map, subst, suc, sym, take, take-append-drop, take_all, true, ℕ, ◌++◌, ◌<◌, ◌∙◌, ◌∷◌, ◌≡◌, ◌≢◌, ◌≤◌}
 
 -- an element that passes a test, among those that do
 passing_at : {X : Type 0} (p : X → Bool) (xs : List X) (i : ℕ) (d : X) → i < length xs → p (get_or xs i d) ≡ true

@@ -1,12 +1,6 @@
 -- Rows of a buffer that grows.
-use Rattle.std.proofs.Common.{◌≡◌, refl, sym, ap, ap₂, ◌∙◌, subst, ℕ, zero, suc, ◌+◌, ◌<◌, ◌≤◌, ◌^◌, List, [], ◌∷◌, ◌++◌, append_assoc, length, length-append, length-drop, take, drop, map, filter, not, set, Result, Ok, Err, OnErr, arith, Bool, true, false, cond}
-use Rattle.std.specs.Prelude.{All, get_or, is_some}
-use Rattle.std.specs.List.{flat_map}
-use Rattle.std.proofs.Math.Seq.{drop-append-add, drop-append_seam, take-append_seam}
-use Rattle.std.proofs.lemmas.List.{take-append-le, drop-append-le, take_all, take-append-drop, map-append, length-map, get_or-map, take_more}
-use Rattle.std.proofs.lemmas.List.Elements.{All-nil, All-cons, All-head, All-tail, All-push, All-append, All-map}
-use Rattle.po_entry.specs.Prelude.{TextEntry, Adds, AreLaid, CanLie, EndsContext, Grows, PluralFollows, after_nul, context_length, further_texts, key_bytes, entries_in, changed_at, set_fuzzy, set_obsolete, LiesIn, entry_at, entry_bytes, head_at, head_bytes, moved, own_at, own_bytes, row_of, IsCatalogueEntry}
-use Rattle.po_entry.specs.declared.row.Row.{Row}
+use Rattle.po_entry.proofs.Prelude.{Adds, All, All-append, All-cons, All-head, All-map, All-nil, All-push, All-tail, AreLaid, Bool, CanLie, EndsContext, Err, Grows, IsCatalogueEntry, LiesIn, List, Ok, OnErr, PluralFollows, Result, Row, TextEntry, [], after_nul, ap, append_assoc, ap₂, arith, changed_at, cond, context_length, drop, drop-append-add, drop-append-le, drop-append_seam, entries_in, entry_at, entry_bytes, false, filter, flat_map, further_texts, get_or-map, head_at, head_bytes, is_some, key_bytes, length, length-append, length-drop, length-map, map, map-append, moved, not, own_at, own_bytes, refl, row_of, set, set_fuzzy, set_obsolete, subst, suc, sym, take, take-append-drop, take-append-le, take-append_seam, take_all, take_more, true, zero, ℕ, ◌++◌, ◌+◌, ◌<◌, ◌^◌, ◌∙◌, ◌∷◌, ◌≡◌, ◌≤◌}
+use Rattle.std.specs.Prelude.{get_or}
 use Rattle.po_entry.specs.declared.drafts.Drafts.{Drafts}
 use Rattle.po_entry.proofs.Growing.{grows_by, no_shorter}
 use Rattle.po_entry.proofs.LaidEntries.{context_fits, eot_laid, key_fits, means, nul_laid}

@@ -1,11 +1,6 @@
 -- The texts that were seen, and the keys of their index.
-use Rattle.std.proofs.Common.{◌≡◌, ℕ, ◌+◌, Bool, true, false, cond, not, List, [], ◌∷◌, ◌++◌, ◌||◌, refl, sym, ap, ◌∙◌, map}
-use Rattle.std.specs.List.{list_any, position_or_len}
-use Rattle.std.specs.Str.{bytes_eq}
-use Rattle.std.proofs.lemmas.List.{map-append}
+use Rattle.po_entry.proofs.Prelude.{Bool, List, SeenText, [], ap, bytes_eq, cond, false, list_any, map, map-append, not, position_or_len, refl, sym, true, with_seen, ℕ, ◌++◌, ◌+◌, ◌||◌, ◌∙◌, ◌∷◌, ◌≡◌}
 use Rattle.indexmap.specs.IndexSet.{insert_key}
-use Rattle.po_entry.specs.Prelude.{with_seen}
-use Rattle.po_entry.specs.declared.seen_texts.SeenText.{SeenText}
 
 abbrev pub bytes_of : SeenText → List ℕ
 bytes_of text = text.bytes.now

@@ -1,15 +1,6 @@
 -- It is known of the texts and of the charset of an entry whether they are admitted.
-use Rattle.std.proofs.Common.{◌≢◌, ℕ, List, [], ◌∷◌, Option, Some, None, map, codes, IsUtf8, inl, inr, ◌⊎◌, sym, ◌∙◌}
-use Rattle.std.specs.Prelude.{All, Contains, IfSome, bytes_eq}
-use Rattle.std.specs.List.{list_any}
-use Rattle.std.specs.Str.{is_utf8}
-use Rattle.std.proofs.lemmas.Bool.{cases_Bool, cases_eq, false≢true}
-use Rattle.std.proofs.lemmas.List.Elements.{All-nil, All-cons, All-head, All-tail}
-use Rattle.std.proofs.lemmas.Str.{IsUtf8-from_is_utf8, is_utf8-from_IsUtf8}
-use Rattle.std.specs.Char.{to_ascii_lowercase}
-use Rattle.po_syntax.specs.declared.fault.PoFault.{PoFault}
-use Rattle.po_syntax.specs.declared.fault.PoFault.TheVariants.{NotUtf8, ForbiddenByte}
-use Rattle.po_entry.specs.Prelude.{TextEntry, quoted_texts, Lacks, HasAdmittedCharset, charset_of, first_form, is_header, HasTexts, IsClean, EntryTextFault}
+use Rattle.po_entry.proofs.Prelude.{All, All-cons, All-head, All-nil, All-tail, Contains, EntryTextFault, ForbiddenByte, HasAdmittedCharset, HasTexts, IfSome, IsClean, IsUtf8, IsUtf8-from_is_utf8, Lacks, List, None, NotUtf8, Option, PoFault, Some, TextEntry, [], cases_Bool, cases_eq, charset_of, codes, false≢true, first_form, inl, inr, is_header, is_utf8, is_utf8-from_IsUtf8, list_any, map, quoted_texts, sym, to_ascii_lowercase, ℕ, ◌∙◌, ◌∷◌, ◌≢◌, ◌⊎◌}
+use Rattle.std.specs.Prelude.{bytes_eq}
 use Rattle.po_entry.proofs.ListedElements.{among_says, among_passes}
 use Rattle.po_entry.specs.Validity.{not_utf8, forbidden}
 

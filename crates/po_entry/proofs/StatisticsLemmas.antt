@@ -1,8 +1,5 @@
 -- Counts of entries stay below the number of entries.
-use Rattle.std.proofs.Common.{◌≡◌, ℕ, ◌≤◌, Bool, List, length, arith, filter, ap, take, length-take}
-use Rattle.std.proofs.lemmas.List.Sums.{length-filter, count_by-le-length}
-use Rattle.po_entry.specs.Prelude.{TextEntry, stats_of, is_translated, is_fuzzy, is_untranslated}
-use Rattle.po_entry.specs.declared.stats.Stats.{Stats}
+use Rattle.po_entry.proofs.Prelude.{Bool, List, Stats, TextEntry, ap, arith, count_by-le-length, filter, is_fuzzy, is_translated, is_untranslated, length, length-filter, length-take, stats_of, take, ℕ, ◌≡◌, ◌≤◌}
 
 filtered_is_short : (test : TextEntry → Bool) (entries : List TextEntry) → length (filter test entries) ≤ length entries
 filtered_is_short test entries = omega (arith, length-filter test entries, count_by-le-length test entries)

@@ -1,13 +1,9 @@
 -- Texts in one buffer, each behind its length.
-use Rattle.std.proofs.Common.{◌≡◌, ◌∙◌, refl, sym, ap, ap₂, ℕ, zero, suc, ◌≤◌, ◌<◌, ◌^◌, inl, inr, List, [], ◌∷◌, ◌++◌, Some, length, length-append, length-drop, take, drop, append-nil, All, arith}
-use Rattle.std.specs.List.{flat_map}
-use Rattle.std.proofs.lemmas.Bool.{cases_lt, le-ltb, lt-ltb}
-use Rattle.std.proofs.lemmas.List.{drop_at, take_at}
+use Rattle.po_entry.proofs.Prelude.{All-head, All-nil, All-push, All-tail, AreTexts, List, Some, [], ap, append-nil, ap₂, arith, cases_lt, cut_texts, drop, drop_at, flat_map, inl, inr, le-ltb, length, length-append, length-drop, lt-ltb, measured, refl, suc, sym, take, take_at, text_before, text_length, texts_in, zero, ℕ, ◌++◌, ◌<◌, ◌^◌, ◌∙◌, ◌∷◌, ◌≡◌, ◌≤◌}
+use Rattle.std.proofs.Common.{All}
 use Rattle.std.proofs.lemmas.List.Concat.{flat_map-append}
-use Rattle.std.proofs.lemmas.List.Elements.{All-nil, All-head, All-tail, All-push}
 use Rattle.byteorder.specs.Endian.{little_bytes, little_number}
 use Rattle.byteorder.specs.Numbers.{little_number-reads_back, length-bytes_low_first}
-use Rattle.po_entry.specs.Prelude.{AreTexts, cut_texts, measured, text_before, text_length, texts_in}
 
 abbrev IsShort : List ℕ → Type 0
 IsShort text = length text < 2 ^ 64

@@ -1,10 +1,6 @@
 -- The texts of an entry have one fault at most, none where they can stand in it, and never out of
 -- memory.
-use Rattle.std.proofs.Common.{◌≡◌, ◌≢◌, refl}
-use Rattle.po_syntax.specs.declared.fault.PoFault.{PoFault}
-use Rattle.po_syntax.specs.declared.fault.PoFault.TheVariants.{OutOfMemory}
-use Rattle.po_entry.specs.Prelude.{TextEntry, HasTexts, EntryTextFault}
-use Rattle.po_entry.specs.Validity.EntryTextFault.{not_utf8, forbidden}
+use Rattle.po_entry.proofs.Prelude.{EntryTextFault, HasTexts, OutOfMemory, PoFault, TextEntry, forbidden, not_utf8, refl, ◌≡◌, ◌≢◌}
 
 pub no_texts_fault : {entry : TextEntry} {kind : PoFault} → HasTexts entry → EntryTextFault entry kind → ⊥
 no_texts_fault texts (not_utf8 some) = some texts.utf8

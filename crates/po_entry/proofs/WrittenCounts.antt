@@ -1,11 +1,7 @@
 -- The line of the statistics, count by count.
-use Rattle.std.proofs.Common.{◌≡◌, ◌==◌, ℕ, Bool, true, false, List, [], ◌∷◌, ◌++◌, refl, sym, ap, ◌∙◌, subst, codes, decimal, append-nil, arith}
-use Rattle.std.specs.Prelude.{if◌then◌else◌}
-use Rattle.std.proofs.lemmas.Bool.{eqb-true, eqb-false}
+use Rattle.po_entry.proofs.Prelude.{Bool, List, Stats, WritesCount, WritesFurther, WritesStatistics, [], ap, append-nil, arith, codes, counted, decimal, eqb-false, eqb-true, false, further, if◌then◌else◌, refl, stats_line, subst, sym, true, ℕ, ◌++◌, ◌==◌, ◌∙◌, ◌∷◌, ◌≡◌}
 use Rattle.std.proofs.lemmas.Fmt.{decimal_digit}
-use Rattle.po_entry.specs.Prelude.{counted, further, stats_line, WritesCount, WritesFurther, WritesStatistics}
 use Rattle.po_entry.specs.Laws.{one, other, omitted, written}
-use Rattle.po_entry.specs.declared.stats.Stats.{Stats}
 
 count_written : (count : ℕ) (noun : List ℕ) → WritesCount count noun (counted count (32 ∷ noun))
 count_written count noun = by (count == 1) refl where

@@ -1,15 +1,7 @@
 -- The drafts of items that were read: what they hold, and what is wrong with them.
-use Rattle.std.proofs.Common.{◌≡◌, ℕ, Bool, List, All, IsUtf8, map, inl, inr, subst, sym, ap}
-use Rattle.po_syntax.specs.declared.fault.PoFault.{PoFault}
-use Rattle.po_syntax.specs.Prelude.{HoldsText, OfString, TextItem}
+use Rattle.po_reader.proofs.Prelude.{AreDraftsOf, Bool, ChecksStop, HasAdmittedCharset, HasTexts, Head, HoldsText, IsCatalogueEntry, IsUtf8, ItemsStop, Lacks, List, OfString, PoFault, ReadsUpTo, SpellsEntries, TextEntry, TextItem, ap, entries_in, in_charset, in_texts, inl, inr, kept_entry, map, outcome, quoted_texts, subst, sym, ℕ, ◌≡◌}
+use Rattle.std.proofs.Common.{All}
 use Rattle.po_entry.specs.declared.drafts.Drafts.{Drafts}
-use Rattle.po_entry.specs.Faults.ItemsStop.{in_texts, in_charset}
-use Rattle.po_entry.specs.Prelude.{HasAdmittedCharset, HasTexts, IsCatalogueEntry, ItemsStop, Lacks, SpellsEntries, TextEntry, entries_in, quoted_texts}
-use Rattle.po_reader.specs.declared.head.Head.{Head}
-use Rattle.po_reader.specs.Internal.Keeping.{AreDraftsOf, ReadsUpTo}
-use Rattle.po_reader.specs.Internal.Reads.{ChecksStop}
-use Rattle.po_reader.specs.Internal.Turn.{outcome}
-use Rattle.po_reader.specs.Prelude.{kept_entry}
 use Rattle.po_reader.proofs.RunsSpelt.{whole_spelt}
 use Rattle.po_reader.proofs.SoundCatalogue.{admitted_one, kept_admitted, kept_lie, kept_no_nul, kept_stand, kept_stop, kept_texts, kept_utf8, texts_one, whole_fault, whole_foreign}
 

@@ -1,26 +1,10 @@
 -- Items could become entries exactly where none of them is refused, and their fault is that of the first that is.
-use Rattle.std.proofs.Common.{◌≡◌, ℕ, Bool, true, false, List, [], ◌∷◌, ◌++◌, refl, sym, ap, ◌∙◌, subst, subst₂, append_assoc, append-nil, true≢false, ◌==◌, inl, inr, ◌⊎◌}
-use Rattle.std.proofs.lemmas.Bool.{eq-eqb}
-use Rattle.std.proofs.lemmas.List.Sums.{fold-append}
-use Rattle.std.specs.Prelude.{fold, if◌then◌else◌}
-use Rattle.std.specs.Cmp.{bool_eq_equiv}
-use Rattle.po_syntax.specs.declared.item.Keyword.{Keyword}
-use Rattle.po_syntax.specs.declared.item.Marks.{Marks}
-use Rattle.po_syntax.specs.declared.item.Keyword.TheVariants.{MsgId, MsgStr, MsgStrAt}
-use Rattle.po_syntax.specs.Prelude.{TextItem, line_of}
-use Rattle.po_syntax.specs.Item.{Word, Str}
-use Rattle.po_entry.specs.Prelude.{TextEntry, SpellsEntries, IsViable, Misfit, ItemsFault, last_line}
-use Rattle.po_entry.specs.Spelling.{own_marks, last, keyword_text}
-use Rattle.po_entry.specs.Faults.{index, mixed, order, at, at_end}
-use Rattle.po_reader.specs.Internal.Stage.{SoFar, Id, Translation, Form, Gap, InHead, Before, AfterForm, Stage, Between, In, Stop, Entries, no_lines, with_own, Outcome, Fault}
-use Rattle.po_reader.specs.Internal.Turn.{turn, turn_gap, outcome, outcome_of, comes_to, closed, settled, settled_gap, with_keyword, ended}
-use Rattle.po_reader.specs.Internal.Reads.{start, come_to}
-use Rattle.po_syntax.proofs.OneString.{Once, same}
+use Rattle.po_reader.proofs.Prelude.{AfterForm, BadOrder, Before, Between, Bool, Entries, Fault, Form, Gap, Id, In, InHead, IsViable, ItemsFault, Keyword, List, Marks, Misfit, MsgId, MsgStr, MsgStrAt, Outcome, PoFault, SoFar, SpellsEntries, Stage, Stop, Str, TextEntry, TextItem, Translation, Word, [], ap, append-nil, append_assoc, at, at_end, bool_eq_equiv, closed, come_to, comes_to, ended, eq-eqb, false, fold-append, if◌then◌else◌, index, inl, inr, keyword_text, last, last_line, line_of, mixed, no_lines, order, outcome, outcome_of, own_marks, refl, settled, settled_gap, start, subst, subst₂, sym, true, true≢false, turn, turn_gap, with_keyword, with_own, ℕ, ◌++◌, ◌==◌, ◌∙◌, ◌∷◌, ◌≡◌, ◌⊎◌}
+use Rattle.std.specs.Prelude.{fold}
+use Rattle.po_syntax.specs.Facts.Once.{Once, same}
 use Rattle.po_reader.proofs.Turns.{goes_on, stopped, text_ends}
 use Rattle.po_reader.proofs.SpeltRuns.{Comes, string_step, text_comes, spelt_runs}
 use Rattle.po_reader.proofs.RunsSpelt.{runs_spelt, whole_spelt}
-use Rattle.po_syntax.specs.declared.fault.PoFault.{PoFault}
-use Rattle.po_syntax.specs.declared.fault.PoFault.TheVariants.{BadOrder}
 use Rattle.po_reader.proofs.Misfits.{Step, taken, refused, step}
 
 -- from this gap on some items complete the entry, of which no string is the first

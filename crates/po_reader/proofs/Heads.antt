@@ -1,14 +1,5 @@
 -- What a head holds, as comments and previous texts are added, and what is kept of it.
-use Rattle.std.proofs.Common.{◌≡◌, List, [], ◌∷◌, ◌++◌, sym, ap, ◌∙◌, Bool, true, false, map, fold, refl}
-use Rattle.std.specs.List.{flat_map}
-use Rattle.std.proofs.lemmas.List.Sums.{fold_push}
-use Rattle.po_entry.specs.Prelude.{no_previous, slice_texts, TextPrevious, TextEntry, CommentText, PreviousText, flags_of, listed_flags, texts_of, with_flag, with_previous, with_head}
-use Rattle.po_reader.specs.declared.head.Head.{Head}
-use Rattle.po_reader.specs.Internal.ReaderView.{HoldsHead, with_kept_head}
-use Rattle.std.specs.Prelude.{All}
-use Rattle.std.proofs.lemmas.List.Elements.{All-nil, All-cons, All-head, All-tail}
-use Rattle.po_syntax.specs.declared.item.CommentKind.TheVariants.{Flags}
-use Rattle.po_reader.specs.Prelude.{kept_entry, kept_texts}
+use Rattle.po_reader.proofs.Prelude.{All, All-cons, All-head, All-nil, All-tail, Bool, CommentText, Flags, Head, HoldsHead, List, PreviousText, TextEntry, TextPrevious, [], ap, false, flags_of, flat_map, fold, fold_push, kept_entry, kept_texts, listed_flags, map, no_previous, refl, slice_texts, sym, texts_of, true, with_flag, with_head, with_kept_head, with_previous, ◌++◌, ◌∙◌, ◌∷◌, ◌≡◌}
 
 none_kept : (all : Bool) → [] ≡ kept_texts all []
 none_kept true = refl

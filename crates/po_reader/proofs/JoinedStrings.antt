@@ -1,13 +1,6 @@
 -- What holds of strings, and of any two that are joined, holds of the texts of the entries that they spell.
-use Rattle.std.proofs.Common.{ℕ, Bool, List, [], ◌∷◌, ◌++◌, Option}
-use Rattle.std.specs.Prelude.{All, fold, option_to_list}
-use Rattle.std.proofs.lemmas.List.Elements.{All-nil, All-cons, All-head, All-tail, All-append}
-use Rattle.po_syntax.specs.declared.item.Keyword.{Keyword}
-use Rattle.po_syntax.specs.declared.item.Keyword.TheVariants.{MsgCtxt, MsgId}
-use Rattle.po_syntax.specs.declared.item.Marks.{Marks}
-use Rattle.po_syntax.specs.Prelude.{OfString, TextItem}
-use Rattle.po_entry.specs.Prelude.{with_previous, CommentText, PreviousText, with_head, TextEntry, TextPrevious, no_previous, quoted_texts}
-use Rattle.po_syntax.specs.Facts.AllAppend.{All-left, All-right}
+use Rattle.po_reader.proofs.Prelude.{All, All-append, All-cons, All-head, All-left, All-nil, All-right, All-tail, Bool, CommentText, Keyword, List, Marks, MsgCtxt, MsgId, OfString, Option, PreviousText, TextEntry, TextItem, TextPrevious, [], no_previous, option_to_list, quoted_texts, with_head, with_previous, ℕ, ◌++◌, ◌∷◌}
+use Rattle.std.specs.Prelude.{fold}
 use Rattle.po_entry.specs.Spelling as spell
 
 module _ (P : List ℕ → Type 0) (join : (xs ys : List ℕ) → P xs → P ys → P (xs ++ ys)) where

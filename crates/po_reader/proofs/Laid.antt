@@ -1,9 +1,7 @@
 -- How the own texts of an entry are laid out, one after the other.
-use Rattle.std.proofs.Common.{◌≡◌, ◌∙◌, refl, sym, ap, ℕ, ◌-◌, List, [], ◌∷◌, ◌++◌, append_assoc, append-nil, length, length-append, Option, None, Some, arith}
-use Rattle.std.specs.List.{flat_map}
+use Rattle.po_reader.proofs.Prelude.{List, None, Option, Some, TextEntry, [], after_nul, ap, append-nil, append_assoc, arith, context_bytes, context_length, flat_map, further_texts, key_bytes, length, own_bytes, refl, sym, ℕ, ◌++◌, ◌-◌, ◌∙◌, ◌∷◌, ◌≡◌}
+use Rattle.std.proofs.Common.{length-append}
 use Rattle.std.proofs.lemmas.List.Concat.{flat_map-append}
-use Rattle.po_entry.specs.Prelude.{after_nul, context_length, further_texts, key_bytes, own_bytes, TextEntry}
-use Rattle.po_reader.specs.Internal.ReaderView.{context_bytes}
 
 -- a text after a NUL
 one_more : (old pushed new text : List ℕ) → pushed ≡ old ++ 0 ∷ [] → new ≡ pushed ++ text → new ≡ old ++ 0 ∷ text

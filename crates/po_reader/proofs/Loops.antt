@@ -1,14 +1,6 @@
 -- Steps of the loops over drafts, and the last item of a text.
-use Rattle.std.proofs.Common.{◌≡◌, ◌↔◌, ℕ, ◌+◌, ◌-◌, ◌<◌, ◌≤◌, false, List, [], ◌∷◌, Some, length, map, take, drop, get_or, sym, ap, subst, arith, zero, suc, add-one, drop-cons}
-use Rattle.std.specs.Prelude.{All, slice_get}
-use Rattle.std.proofs.lemmas.List.{take_all}
-use Rattle.std.proofs.lemmas.List.Elements.{All-push}
+use Rattle.po_reader.proofs.Prelude.{All, All-push, EndsEntry, IsString, List, Row, Some, TextEntry, [], add-one, ap, arith, drop, drop-cons, entry_at, false, get_or, last_line, length, line_of, map, slice_get, subst, suc, sym, take, take_all, taken_here, view, views, zero, ℕ, ◌+◌, ◌-◌, ◌<◌, ◌↔◌, ◌∷◌, ◌≡◌, ◌≤◌}
 use Rattle.po_syntax.specs.declared.item.Item.{Item}
-use Rattle.po_syntax.specs.Prelude.{IsString, line_of, view, views}
-use Rattle.po_entry.specs.Prelude.{TextEntry, entry_at, last_line}
-use Rattle.po_entry.specs.declared.row.Row.{Row}
-use Rattle.po_reader.specs.Prelude.{EndsEntry}
-use Rattle.po_entry.proofs.RowLemmas.{taken_here}
 
 -- what stands where there is no row
 abbrev pub no_row : Row

@@ -1,22 +1,5 @@
 -- What is wrong with an item that is refused.
-use Rattle.std.proofs.Common.{◌≡◌, ℕ, Bool, true, false, ◌&&◌, nat_lt, ◌==◌, List, [], ◌∷◌, ◌++◌, refl, sym, ap, subst, ◌∙◌, true≢false}
-use Rattle.std.specs.Prelude.{if◌then◌else◌}
-use Rattle.std.proofs.lemmas.Bool.{eqb-true, eqb-false, eq-eqb, ne_eqb}
-use Rattle.std.specs.Bool.{beq}
-use Rattle.std.specs.Cmp.{bool_eq_equiv}
-use Rattle.po_syntax.specs.declared.fault.PoFault.{PoFault}
-use Rattle.po_syntax.specs.declared.fault.PoFault.TheVariants.{BadOrder, BadPluralIndex, MixedObsolete}
-use Rattle.po_syntax.specs.declared.item.CommentKind.{CommentKind}
-use Rattle.po_syntax.specs.declared.item.Keyword.{Keyword}
-use Rattle.po_syntax.specs.declared.item.Keyword.TheVariants.{MsgCtxt, MsgId, MsgIdPlural, MsgStr, MsgStrAt}
-use Rattle.po_syntax.specs.declared.item.Marks.{Marks}
-use Rattle.po_syntax.specs.Prelude.{TextItem, line_of}
-use Rattle.po_syntax.specs.Item.{Comment, Word, Str}
-use Rattle.po_entry.specs.Prelude.{rank, IsViable, IsOwn, IsWrongIndex, with_obsolete, Misfit}
-use Rattle.po_entry.specs.Spelling.{own_marks, previous_marks}
-use Rattle.po_entry.specs.Faults.{index, mixed, order}
-use Rattle.po_reader.specs.Internal.Stage.{SoFar, Id, Translation, Form, Gap, InHead, Before, AfterForm, Stage, Between, In, Stop, with_entry}
-use Rattle.po_reader.specs.Internal.Turn.{turn, turn_gap, turn_own, opened, closed, same_marks, stray_string}
+use Rattle.po_reader.proofs.Prelude.{AfterForm, BadOrder, BadPluralIndex, Before, Between, Bool, Comment, CommentKind, Form, Gap, Id, In, InHead, IsOwn, IsViable, IsWrongIndex, Keyword, List, Marks, Misfit, MixedObsolete, MsgCtxt, MsgId, MsgIdPlural, MsgStr, MsgStrAt, PoFault, SoFar, Stage, Stop, Str, TextItem, Translation, Word, [], ap, beq, bool_eq_equiv, closed, eq-eqb, eqb-false, eqb-true, false, if◌then◌else◌, index, line_of, mixed, nat_lt, ne_eqb, opened, order, own_marks, previous_marks, rank, refl, same_marks, stray_string, subst, sym, true, true≢false, turn, turn_gap, turn_own, with_entry, with_obsolete, ℕ, ◌&&◌, ◌++◌, ◌==◌, ◌∙◌, ◌∷◌, ◌≡◌}
 use Rattle.po_reader.proofs.Turns.{marked, goes_on}
 use Rattle.po_reader.proofs.SpeltRuns.{no_form, string_step}
 

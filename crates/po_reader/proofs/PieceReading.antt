@@ -1,27 +1,11 @@
 -- A text that is read in pieces: a piece that reads, and the entries or the fault of what is left after it.
-use Rattle.std.proofs.Common.{◌≡◌, refl, sym, ap, ◌∙◌, ℕ, List, [], ◌∷◌, ◌++◌, ◌⊎◌, inl, inr, subst, Bool, append-nil, append_assoc, fold, ◌≢◌, zero, suc, ◌+◌, ◌<◌, ◌≤◌, length, take, drop, length-drop, arith}
-use Rattle.std.specs.Prelude.{All}
-use Rattle.std.proofs.lemmas.List.Elements.{All-nil, All-head, All-tail, All-append}
-use Rattle.po_syntax.specs.declared.fault.PoFault.{PoFault}
-use Rattle.po_syntax.specs.Prelude.{BeginsAnew, CanEnd, EndsInString, IsNew, IsPiece, LeftAnew, LineBeginsAnew, IsCleanLine, LeftStops, LinesLeft, SpellsLeft, TextItem, SpellsText, SpellsLines, TextFault}
-use Rattle.po_syntax.specs.Item.{Word, Str}
-use Rattle.po_entry.specs.Prelude.{CommentText, TextEntry, HasAdmittedCharset, HasTexts, SpellsEntries, ReadsItems, ReadsText, ReadsLeft, ItemsStop, IsReadFault, ItemsFault, last_line}
-use Rattle.po_entry.proofs.JoinedPieces.{entries_joined}
+use Rattle.po_reader.proofs.Prelude.{All, All-append, All-head, All-nil, All-tail, BeginsAnew, Bool, CanEnd, CanFollow, CommentText, EndsEntry, EndsInString, Fault, FaultsStay, HasAdmittedCharset, HasTexts, IsApart, IsCleanLine, IsLeftFault, IsNew, IsPiece, IsReadFault, IsReadSoFar, IsShorter, ItemsFault, ItemsStop, KeepsItems, KeepsReading, LeftAnew, LeftStops, LineBeginsAnew, LinesLeft, List, MsgStrAt, OpenPieces, PiecesRead, PoFault, ReadsItems, ReadsLeft, ReadsOn, ReadsText, SpellsEntries, SpellsLeft, SpellsLines, SpellsOn, SpellsText, Stage, StopsStay, Str, TextEntry, TextFault, TextItem, Word, [], ap, append-nil, append_assoc, arith, comes_to, drop, drop_all, entries_joined, fold, fold-append, in_head, inl, inr, last_line, length, length-drop, line_once, outcome, reached, refl, settled, start, subst, suc, sym, take, turn, zero, ℕ, ◌++◌, ◌+◌, ◌<◌, ◌∙◌, ◌∷◌, ◌≡◌, ◌≢◌, ◌≤◌, ◌⊎◌}
 use Rattle.po_syntax.proofs.Lines.{some_length}
 use Rattle.po_syntax.proofs.PieceLemmas.{piece_all, piece_anew, piece_shorter, piece_spelt, piece_stops}
-use Rattle.po_syntax.proofs.Uniqueness.{line_once}
-use Rattle.std.proofs.lemmas.List.{drop_all}
-use Rattle.std.proofs.lemmas.List.Sums.{fold-append}
 use Rattle.po_reader.proofs.Faults.{fault_unread, items_fault, fault_comes, spelt_once}
-use Rattle.po_reader.specs.Internal.Turn.{IsApart, comes_to, outcome, reached, settled, turn}
-use Rattle.po_reader.specs.Internal.Reads.{in_head, start}
 use Rattle.po_reader.proofs.SpeltRuns.{spelt_go_on}
 use Rattle.po_reader.proofs.Turns.{settles}
-use Rattle.po_reader.specs.Internal.Stage.{Stage, Fault}
 use Rattle.po_reader.proofs.Texts.{read_or_stopped}
-use Rattle.po_syntax.specs.declared.item.Keyword.TheVariants.{MsgStrAt}
-use Rattle.po_reader.specs.Prelude.{EndsEntry, IsShorter, OpenPieces, ReadsOn, FaultsStay, IsLeftFault, IsReadSoFar}
-use Rattle.po_reader.specs.Internal.Keeping.{CanFollow, PiecesRead, SpellsOn, KeepsReading, KeepsItems, StopsStay}
 use Rattle.po_entry.specs.Spelling as spelling
 use Rattle.po_entry.specs.Faults as faults
 use Rattle.po_reader.specs.PieceRead as piece

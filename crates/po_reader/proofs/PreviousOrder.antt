@@ -1,9 +1,5 @@
 -- Previous texts are in their order exactly where the ranks of their keywords rise.
-use Rattle.std.proofs.Common.{ℕ, ◌<◌, List, [], ◌∷◌, map, arith}
-use Rattle.po_syntax.specs.declared.item.Keyword.{Keyword}
-use Rattle.po_syntax.specs.declared.item.Keyword.TheVariants.{MsgCtxt, MsgId, MsgIdPlural, MsgStr}
-use Rattle.po_entry.specs.Prelude.{PreviousText, rank, AreSome, AreInOrder}
-use Rattle.po_entry.specs.Spelling.{none, with, without}
+use Rattle.po_reader.proofs.Prelude.{AreInOrder, AreSome, Keyword, List, MsgCtxt, MsgId, MsgIdPlural, MsgStr, PreviousText, [], arith, map, none, rank, with, without, ℕ, ◌<◌, ◌∷◌}
 
 -- the ranks of the keywords rise from above this one
 abbrev pub Rise : ℕ → List Keyword → Type 0

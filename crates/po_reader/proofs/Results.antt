@@ -1,10 +1,5 @@
 -- Facts of one result without a value, together.
-use Rattle.std.proofs.Common.{◌≡◌, ◌≢◌, ℕ, Option, Some, subst, sym}
-use Rattle.std.specs.Prelude.{Result, Ok, Err, IfErr, IfOk, MatchResult, OnOk}
-use Rattle.po_syntax.specs.declared.fault.PoError.{PoError}
-use Rattle.po_syntax.specs.declared.fault.PoFault.{PoFault}
-use Rattle.po_syntax.specs.declared.fault.PoFault.TheVariants.{OutOfMemory}
-use Rattle.po_syntax.specs.Prelude.{IsFaultOf}
+use Rattle.po_reader.proofs.Prelude.{Err, IfErr, IfOk, IsFaultOf, MatchResult, Ok, OnOk, Option, OutOfMemory, PoError, PoFault, Result, Some, subst, sym, ℕ, ◌≡◌, ◌≢◌}
 
 pub on_ok_always : {T E : Type 0} {P : Type 0} (r : Result T E) → P → OnOk r P
 on_ok_always (Ok y) p = p

@@ -1,21 +1,6 @@
 -- What the reader comes to is what items spell: each place awaits what makes a whole with the items before it.
-use Rattle.std.proofs.Common.{◌≡◌, ℕ, ◌<◌, Bool, true, false, ◌==◌, nat_lt, List, [], ◌∷◌, ◌++◌, Option, None, Some, append_assoc, append-nil, refl, sym, subst, inl, inr, ◌⊎◌, arith}
-use Rattle.std.specs.Prelude.{if◌then◌else◌}
-use Rattle.std.specs.Bool.{beq}
-use Rattle.std.specs.Cmp.{booleans_Decides}
-use Rattle.std.proofs.lemmas.Bool.{ltb-true, eqb-true}
-use Rattle.po_syntax.specs.declared.fault.PoFault.{PoFault}
-use Rattle.po_syntax.specs.declared.fault.PoFault.TheVariants.{BadOrder, MixedObsolete}
-use Rattle.po_syntax.specs.declared.item.Keyword.{Keyword}
-use Rattle.po_syntax.specs.declared.item.Keyword.TheVariants.{MsgCtxt, MsgId, MsgIdPlural, MsgStr, MsgStrAt}
-use Rattle.po_syntax.specs.declared.item.Marks.{Marks}
-use Rattle.po_syntax.specs.Prelude.{TextItem, line_of}
-use Rattle.po_syntax.specs.Item.{Comment, Word, Str}
-use Rattle.po_entry.specs.Prelude.{TextEntry, CommentText, PreviousText, rank, with_head}
+use Rattle.po_reader.proofs.Prelude.{AfterForm, BadOrder, Before, Between, Bool, Comment, CommentText, Entries, Fault, Form, Gap, Id, In, InHead, Keyword, List, Marks, MixedObsolete, MsgCtxt, MsgId, MsgIdPlural, MsgStr, MsgStrAt, None, Option, PoFault, PreviousText, SoFar, Some, Stage, Stop, Str, TextEntry, TextItem, Translation, Wanted, Word, [], append-nil, append_assoc, arith, beq, booleans_Decides, closed, comes_to, eqb-true, false, if◌then◌else◌, inl, inr, is_form, is_wanted, line_of, ltb-true, nat_lt, no_lines, only, opened, own_marks, previous_marks, rank, refl, same_marks, stray_string, subst, sym, true, turn, turn_gap, turn_head, turn_own, unwanted, with_comment, with_entry, with_head, with_keyword, with_own, with_previous_text, with_text, ℕ, ◌++◌, ◌<◌, ◌==◌, ◌∷◌, ◌≡◌, ◌⊎◌}
 use Rattle.po_entry.specs.Spelling as spell
-use Rattle.po_entry.specs.Spelling.{own_marks, previous_marks}
-use Rattle.po_reader.specs.Internal.Stage.{SoFar, Wanted, Id, Translation, Form, Gap, InHead, Before, AfterForm, Stage, Between, In, Stop, Entries, Fault, no_lines, only, with_own, with_text, with_entry, with_comment, with_previous_text}
-use Rattle.po_reader.specs.Internal.Turn.{turn, turn_head, turn_own, turn_gap, opened, closed, with_keyword, comes_to, same_marks, is_form, is_wanted, unwanted, stray_string}
 use Rattle.po_reader.proofs.Turns.{marked, never, same_marks_true}
 use Rattle.po_reader.proofs.PreviousOrder.{Rise, keywords, rise_order}
 

@@ -1,8 +1,6 @@
 -- The flags of a text, one after another.
-use Rattle.std.proofs.Common.{◌≡◌, ℕ, Bool, ◌==◌, List, [], ◌∷◌, Option, None, Some, MatchOption, ap, map, filter}
+use Rattle.po_reader.proofs.Prelude.{Bool, List, MatchOption, None, Option, Some, [], ap, filter, is_not_empty, listed_flags, map, slice_split, trimmed, ℕ, ◌==◌, ◌∷◌, ◌≡◌}
 use Rattle.std.specs.Borrow.{Bor}
-use Rattle.std.specs.List.{slice_split}
-use Rattle.po_entry.specs.Prelude.{trimmed, is_not_empty, listed_flags}
 use Rattle.po_reader.specs.Internal.Elements.{with_element}
 
 abbrev is_comma : ℕ → Bool

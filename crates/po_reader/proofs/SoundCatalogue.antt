@@ -1,18 +1,8 @@
 -- The entries that the items of a text spell are entries, if they can have their texts; kept with their comments or without.
-use Rattle.std.proofs.Common.{◌≡◌, ◌≢◌, ℕ, ◌<◌, Bool, List, Option, None, length, refl, ◌∙◌, arith, [], ◌++◌, get_or, map, true, false, ◌∷◌, IsUtf8}
-use Rattle.std.specs.Prelude.{All}
-use Rattle.std.proofs.lemmas.List.Elements.{All-nil, All-append, All-cons, All-head, All-tail, All-weaker, All-map}
-use Rattle.std.proofs.lemmas.Str.{IsUtf8-append}
-use Rattle.po_syntax.specs.Prelude.{IsCommentOf, HoldsText, IsComment, OfString, TextItem}
-use Rattle.po_syntax.specs.Item.{Comment, Str, Word}
-use Rattle.po_entry.specs.Prelude.{CommentText, PreviousText, texts_of, references_of, all_listed_flags, flags_of, CanLie, TextEntry, quoted_texts, AreDistinct, Lacks, HasTexts, IsCatalogueEntry, IsEntry, IsTranslatorComment, IsReference, IsFlag, EntryTextFault, with_head, SpellsEntries, HasAdmittedCharset}
-use Rattle.po_syntax.specs.Facts.AllAppend.{All-right, All-left}
-use Rattle.po_syntax.specs.declared.item.CommentKind.TheVariants.{Translator, Extracted, Reference, Flags}
+use Rattle.po_reader.proofs.Prelude.{All, All-append, All-cons, All-head, All-left, All-map, All-nil, All-right, All-tail, All-weaker, AreDistinct, Bool, CanLie, Comment, CommentText, EntryTextFault, Extracted, Flags, HasAdmittedCharset, HasTexts, HoldsText, IsCatalogueEntry, IsComment, IsCommentOf, IsEntry, IsFlag, IsReference, IsTranslatorComment, IsUtf8, IsUtf8-append, Lacks, List, None, OfString, Option, PoFault, PreviousText, Reference, SpellsEntries, Str, TextEntry, TextItem, Translator, Word, [], all_listed_flags, arith, false, flags_of, get_or, kept_entry, length, map, quoted_texts, references_of, refl, texts_of, true, with_head, ℕ, ◌++◌, ◌<◌, ◌∙◌, ◌∷◌, ◌≡◌, ◌≢◌}
 use Rattle.po_reader.proofs.Heads.{all_unmapped}
 use Rattle.po_reader.proofs.JoinedStrings.{entry_texts, entries_texts}
 use Rattle.po_reader.proofs.SoundFields.{SoundCommentText, SoundFlagElement, SoundFlags, kind_sound, references_sound, all_flag_elements_sound, flags_sound}
-use Rattle.po_syntax.specs.declared.fault.PoFault.{PoFault}
-use Rattle.po_reader.specs.Prelude.{kept_entry}
 use Rattle.po_entry.specs.Spelling as spell
 use Rattle.po_entry.specs.Validity as validity
 use Rattle.po_entry.specs.Faults as faults

@@ -1,22 +1,11 @@
 -- The fields that the comments of a text make: their bytes stay UTF-8 where a line is cut and trimmed.
-use Rattle.std.proofs.Common.{◌≡◌, ℕ, Bool, true, List, [], ◌∷◌, ◌++◌, take, drop, subst, sym, ap, ◌∙◌, append-nil, append_assoc, ◌+◌, ◌<◌, false, ◌==◌, length, get_or, refl, arith, inl, inr, suc, ◌≢◌, ◌||◌, map, codes}
-use Rattle.std.specs.Prelude.{All, Contains, if◌then◌else◌, filter, flat_map, fold, bytes_eq}
-use Rattle.std.specs.List.{prefix_len, slice_split, list_any}
-use Rattle.std.proofs.lemmas.List.Elements.{All-nil, All-head, All-tail, All-cons, All-append, All-push, All-map, All-filter, filter_passes, Contains-push_cases}
-use Rattle.po_syntax.specs.Prelude.{FailsFirst, without_end, is_blank, skip_blanks, IsCleanLine, IsText, IsCommentOf}
+use Rattle.po_reader.proofs.Prelude.{All, All-append, All-cons, All-filter, All-head, All-left, All-map, All-nil, All-push, All-right, All-tail, AreDistinct, Bool, CommentKind, CommentText, Contains, Contains-push_cases, Extracted, FailsFirst, Flags, IsCharBoundary-after_ascii, IsCharBoundary-before_ascii, IsCleanLine, IsCommentOf, IsFlag, IsReference, IsText, IsUtf8-drop, IsUtf8-take, Lacks, List, Reference, Translator, [], ap, append-nil, append_assoc, arith, bytes_eq, cases_Bool, codes, drop, eqb-false, eqb-true, false, false≢true, filter_passes, get_or, if◌then◌else◌, inl, inr, is_blank, is_fuzzy_flag, is_not_empty, length, length-append, list_any, list_any_at, listed_flags, listed_references, map, not-true, prefix_len, refl, same_kind, skip_blanks, slice_split, subst, suc, sym, take, texts_of, trimmed, true, with_flag, without_end, ℕ, ◌++◌, ◌+◌, ◌<◌, ◌==◌, ◌||◌, ◌∙◌, ◌∷◌, ◌≡◌, ◌≢◌}
+use Rattle.std.specs.Prelude.{filter, flat_map, fold}
 use Rattle.po_syntax.specs.Facts.Runs.{parts_of, run_length, end_parts, kept_is}
 use Rattle.po_syntax.proofs.SpeltKeywords.{of_blank}
-use Rattle.po_syntax.specs.Facts.AllAppend.{All-left, All-right}
 use Rattle.std.proofs.Math.Seq.{take-append_seam, drop-append_seam, get_or-append_seam}
-use Rattle.std.proofs.lemmas.List.{length-append}
 use Rattle.std.proofs.lemmas.List.Splits.{slice_split_none, slice_split_at}
-use Rattle.std.proofs.lemmas.Str.{IsUtf8-take, IsUtf8-drop, IsCharBoundary-before_ascii, IsCharBoundary-after_ascii}
-use Rattle.std.proofs.lemmas.Bool.{cases_Bool, eqb-true, not-true, eqb-false, false≢true}
-use Rattle.std.proofs.lemmas.List.Folds.{list_any_at}
 use Rattle.std.proofs.lemmas.Slice.Eq.{bytes_eq-Decides}
-use Rattle.po_syntax.specs.declared.item.CommentKind.{CommentKind}
-use Rattle.po_syntax.specs.declared.item.CommentKind.TheVariants.{Translator, Extracted, Reference, Flags}
-use Rattle.po_entry.specs.Prelude.{Lacks, trimmed, AreDistinct, CommentText, same_kind, texts_of, is_not_empty, listed_references, listed_flags, is_fuzzy_flag, with_flag, IsReference, IsFlag}
 
 -- what holds of a text that is cut at a byte that passes the test holds of both parts
 abbrev Cuts : (List ℕ → Type 0) → (ℕ → Bool) → Type 0

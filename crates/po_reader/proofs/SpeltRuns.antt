@@ -1,19 +1,6 @@
 -- What items spell is what the reader comes to.
-use Rattle.std.proofs.Common.{◌≡◌, ℕ, Bool, true, false, List, [], ◌∷◌, ◌++◌, Option, Some, append_assoc, append-nil, refl, sym, ap, ◌∙◌}
-use Rattle.std.proofs.lemmas.Bool.{lt-ltb, eq-eqb}
-use Rattle.std.specs.Cmp.{bool_eq_equiv}
-use Rattle.po_syntax.specs.declared.item.Keyword.{Keyword}
-use Rattle.po_syntax.specs.declared.item.Keyword.TheVariants.{MsgIdPlural, MsgStrAt}
-use Rattle.po_syntax.specs.declared.item.Marks.{Marks}
-use Rattle.po_syntax.specs.Prelude.{TextItem, EndsInString}
-use Rattle.po_syntax.specs.Item.{Word, Str}
-use Rattle.po_entry.specs.Prelude.{TextEntry, CommentText, PreviousText, rank}
+use Rattle.po_reader.proofs.Prelude.{AfterForm, Before, Between, Bool, CommentText, EndsInString, Entries, Form, Gap, Id, In, InHead, IsApart, Keyword, List, Marks, MsgIdPlural, MsgStrAt, Option, Outcome, PreviousText, SoFar, Some, Str, TextEntry, TextItem, Translation, Word, [], ap, append-nil, append_assoc, begins_form, begins_string, bool_eq_equiv, closed, comes_to, ends_rest, eq-eqb, false, is_form, lt-ltb, no_comment_last, no_lines, only, outcome_of, rank, refl, start, sym, true, turn, turn_gap, with_comment, with_entry, with_own, with_previous_text, with_text, ℕ, ◌++◌, ◌∙◌, ◌∷◌, ◌≡◌}
 use Rattle.po_entry.specs.Spelling as spell
-use Rattle.po_entry.specs.Spelling.{own_marks}
-use Rattle.po_reader.specs.Internal.Stage.{SoFar, Id, Translation, Form, Gap, InHead, Before, AfterForm, Between, In, Outcome, Entries, no_lines, only, with_own, with_text, with_entry, with_comment, with_previous_text}
-use Rattle.po_reader.specs.Internal.Turn.{IsApart, turn, turn_gap, closed, comes_to, outcome_of, begins_string, begins_form, is_form}
-use Rattle.po_reader.specs.Internal.Reads.{start}
-use Rattle.po_entry.proofs.JoinedPieces.{ends_rest, no_comment_last}
 use Rattle.po_reader.proofs.Turns.{text_ends, forms_end, same_marks-refl}
 use Rattle.po_reader.proofs.PreviousOrder.{Rise, keywords, order_rises}
 

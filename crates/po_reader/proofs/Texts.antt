@@ -1,18 +1,10 @@
 -- What a text reads as, and its first fault: one of both, and one alone.
-use Rattle.std.proofs.Common.{ℕ, List, [], ◌∷◌, inl, inr, ◌⊎◌, refl, ◌≡◌, subst, sym, ◌∙◌, ◌≢◌, get_or}
-use Rattle.std.specs.Prelude.{All}
-use Rattle.std.proofs.lemmas.List.Elements.{All-nil, All-cons, All-head, All-tail}
-use Rattle.po_syntax.specs.declared.fault.PoFault.{PoFault}
-use Rattle.po_entry.specs.Prelude.{TextEntry, HasAdmittedCharset, HasTexts, IsCatalogueEntry, EntryTextFault, ReadsItems, ReadsText, SpellsEntries, ItemsFault, Misfit}
+use Rattle.po_reader.proofs.Prelude.{All, All-cons, All-head, All-nil, All-tail, EntryTextFault, ForeignCharset, HasAdmittedCharset, HasTexts, IsCatalogueEntry, ItemsFault, List, Misfit, OutOfMemory, PoFault, ReadsItems, ReadsText, SpellsEntries, TextEntry, TextItem, [], at, at_end, fault_once, get_or, index, inl, inr, mixed, order, refl, subst, sym, text_reported, ℕ, ◌∙◌, ◌∷◌, ◌≡◌, ◌≢◌, ◌⊎◌}
 use Rattle.po_entry.proofs.Settled.{texts_or_fault, charset_settled}
-use Rattle.po_syntax.specs.Prelude.{TextItem}
 use Rattle.po_entry.proofs.TextsFaults.{no_texts_fault, one_texts_fault, texts_fault_reported}
 use Rattle.po_reader.proofs.Faults.{fault_unread, spelt_once, items_end, items_fault_once}
-use Rattle.po_syntax.proofs.Uniqueness.{text_once as items_once, text_not_faulty as no_fault, fault_once}
-use Rattle.po_syntax.specs.declared.fault.PoFault.TheVariants.{ForeignCharset, OutOfMemory}
+use Rattle.po_syntax.proofs.Uniqueness.{text_once as items_once, text_not_faulty as no_fault}
 use Rattle.po_syntax.proofs.Totality.{text_ends as items_or_fault}
-use Rattle.po_entry.specs.Faults.{index, mixed, order, at, at_end}
-use Rattle.po_syntax.proofs.NoMemory.{text_reported}
 use Rattle.po_reader.proofs.SoundCatalogue.{entries_sound, entry_valid}
 use Rattle.po_syntax.proofs.ItemTexts.{text_items as hold}
 use Rattle.po_entry.specs.Faults as fault

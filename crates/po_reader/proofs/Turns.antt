@@ -1,22 +1,6 @@
 -- Steps of the reader that hang on what the next item is.
-use Rattle.std.specs.Prelude.{◌==◌, if◌then◌else◌}
-use Rattle.std.proofs.Common.{◌≡◌, Bool, true, refl, ap₂, ◌≢◌, ℕ, false, List, [], ◌∷◌, sym, ap, ◌∙◌}
-use Rattle.std.specs.Bool.{beq}
-use Rattle.std.specs.Cmp.{bool_eq_equiv, booleans_Decides}
-use Rattle.std.proofs.lemmas.Bool.{and_parts, not-true, false≢true, eqb-true, eq-eqb}
-use Rattle.po_syntax.specs.declared.item.Marks.{Marks}
-use Rattle.po_reader.specs.Internal.Turn.{same_marks, closed, turn, comes_to, outcome, outcome_of, Reached, reached, settled, settled_gap, IsApart, begins_string, begins_form, begins_word, begins_own, begins_body, EndsHead, opened, is_wanted}
-use Rattle.std.proofs.lemmas.List.Folds.{fold_stays}
-use Rattle.po_syntax.specs.declared.fault.PoFault.{PoFault}
-use Rattle.po_syntax.specs.declared.item.Keyword.{Keyword}
-use Rattle.po_syntax.specs.Prelude.{TextItem, line_of, IsFaultOf}
-use Rattle.po_syntax.specs.Item.{Word, Str}
-use Rattle.po_entry.specs.Prelude.{CommentText, PreviousText, TextEntry, rank}
-use Rattle.po_reader.specs.Internal.Stage.{SoFar, Wanted, Id, Translation, Form, InHead, Before, AfterForm, Gap, Stage, Between, In, Stop, Entries, Fault, after_head, no_lines, with_entry, with_previous_text}
-use Rattle.po_reader.specs.Internal.Reads.{first_line, in_head}
-use Rattle.po_syntax.specs.declared.item.Keyword.TheVariants.{MsgCtxt, MsgId, MsgIdPlural, MsgStr, MsgStrAt}
-use Rattle.po_syntax.specs.declared.fault.PoError.{PoError}
-use Rattle.po_syntax.specs.declared.fault.PoFault.TheVariants.{BadOrder}
+use Rattle.po_reader.proofs.Prelude.{AfterForm, BadOrder, Before, Between, Bool, CommentText, EndsHead, Entries, Fault, Form, Gap, Id, In, InHead, IsApart, IsFaultOf, Keyword, List, Marks, MsgCtxt, MsgId, MsgIdPlural, MsgStr, MsgStrAt, PoError, PoFault, PreviousText, Reached, SoFar, Stage, Stop, Str, TextEntry, TextItem, Translation, Wanted, Word, [], after_head, and_parts, ap, ap₂, begins_body, begins_form, begins_own, begins_string, begins_word, beq, bool_eq_equiv, booleans_Decides, closed, comes_to, eqb-true, false, false≢true, first_line, fold_stays, if◌then◌else◌, in_head, is_wanted, line_of, no_lines, not-true, opened, outcome, outcome_of, rank, reached, refl, same_marks, settled, settled_gap, sym, true, turn, with_entry, with_previous_text, ℕ, ◌∙◌, ◌∷◌, ◌≡◌, ◌≢◌}
+use Rattle.std.specs.Prelude.{◌==◌}
 
 abbrev pub marked : Bool → Bool → Marks
 marked obsolete previous = record { obsolete = obsolete; previous = previous }

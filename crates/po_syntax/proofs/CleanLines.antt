@@ -1,14 +1,6 @@
 -- The lines of a text: UTF-8 without NUL and LF, as the text is UTF-8 without NUL.
-use Rattle.std.proofs.Common.{◌≡◌, ◌≢◌, sym, ◌==◌, ℕ, ◌<◌, ◌≤◌, not, List, [], ◌∷◌, length, take, drop, All, IsUtf8, None, Some, position, nat_eq, arith, inl, inr}
-use Rattle.std.specs.List.{position_or_len, starts_with}
-use Rattle.std.proofs.lemmas.Bool.{cond_both, cases_lt, not-true, eqb-false, cond-true, lt-ltb}
-use Rattle.std.proofs.lemmas.List.{take-append-drop}
-use Rattle.std.proofs.lemmas.List.Elements.{All-drop}
-use Rattle.std.proofs.lemmas.List.Sums.{prefix_len_passes}
-use Rattle.std.proofs.lemmas.Slice.Eq.{bytes_eq-Decides}
-use Rattle.std.proofs.lemmas.Str.{IsUtf8-past_char}
+use Rattle.po_syntax.proofs.Prelude.{All, All-drop, IsCleanLine, IsUtf8, IsUtf8-past_char, List, None, Some, [], arith, bytes_eq-Decides, cases_lt, cond-true, cond_both, drop, eqb-false, inl, inr, length, lines_of, lt-ltb, nat_eq, not, not-true, position, position_or_len, prefix_len_passes, starts_with, sym, take, take-append-drop, without_byte_order_mark, ℕ, ◌<◌, ◌==◌, ◌∷◌, ◌≡◌, ◌≢◌, ◌≤◌}
 use lib.Utf8.{encode}
-use Rattle.po_syntax.specs.Prelude.{IsCleanLine, lines_of, without_byte_order_mark}
 use Rattle.po_syntax.proofs.CleanTexts.{lines_of_text}
 
 -- a text lacks a byte that is found nowhere in it

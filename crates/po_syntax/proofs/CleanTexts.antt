@@ -1,15 +1,6 @@
 -- Where a text is UTF-8 without NUL, its lines are, and the other way round.
-use Rattle.std.proofs.Common.{◌≡◌, ◌≢◌, ◌↔◌, ◌∙◌, refl, ap, subst, ℕ, zero, suc, ◌+◌, List, [], ◌∷◌, ◌++◌, length, take, drop, All, IsUtf8, nat_eq, arith}
-use Rattle.std.specs.List.{starts_with}
-use Rattle.std.proofs.Math.Seq.{take-append_seam, drop-append_seam, take-append-add}
-use Rattle.std.proofs.lemmas.Bool.{cond_both}
-use Rattle.std.proofs.lemmas.List.{take_all, take-append-drop}
-use Rattle.std.proofs.lemmas.List.Elements.{All-nil, All-cons, All-append, All-head, All-tail, All-take, All-drop}
-use Rattle.std.proofs.lemmas.List.Sums.{sum_by-cons}
-use Rattle.std.proofs.lemmas.Slice.Eq.{bytes_eq-Decides}
-use Rattle.std.proofs.lemmas.Str.{IsUtf8-append, IsUtf8-nil}
+use Rattle.po_syntax.proofs.Prelude.{All, All-append, All-cons, All-drop, All-head, All-nil, All-tail, All-take, IsCleanLine, IsText, IsUtf8, IsUtf8-append, IsUtf8-nil, List, [], all_lines, ap, arith, bytes_eq-Decides, cond_both, drop, drop-append_seam, length, lines_len, lines_of, marked_text, nat_eq, refl, starts_with, subst, suc, sum_by-cons, take, take-append-add, take-append-drop, take-append_seam, take_all, without_byte_order_mark, zero, ℕ, ◌++◌, ◌+◌, ◌↔◌, ◌∙◌, ◌∷◌, ◌≡◌, ◌≢◌}
 use lib.Utf8.{encode}
-use Rattle.po_syntax.specs.Prelude.{IsCleanLine, all_lines, lines_len, IsText, marked_text, lines_of, without_byte_order_mark}
 use Rattle.po_syntax.proofs.LineNumbers.{Cut, only_line, first_line, cut, text_after_mark}
 use Rattle.po_syntax.proofs.Lines.{lines_len-lines_of}
 use Rattle.po_syntax.proofs.Utf8Rests.{before-utf8, rest-utf8}

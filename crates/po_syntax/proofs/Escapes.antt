@@ -1,16 +1,7 @@
 -- What is read after a backslash is what spells its byte, or has a fault.
-use Rattle.std.proofs.Common.{◌≡◌, ◌==◌, ◌⊎◌, inl, inr, refl, sym, subst, ℕ, zero, suc, ◌+◌, ◌<◌, ◌≤◌, Bool, true, false, cond, nat_lt, List, [], ◌∷◌, ◌++◌, length, length-append, take, drop, Option, Some, None, arith}
-use Rattle.std.specs.Char.{digit_value, is_digit}
-use Rattle.std.specs.Str.Parse.{AllDigits, digits_value}
-use Rattle.std.proofs.lemmas.List.{take-append-drop, length-take}
-use Rattle.std.proofs.lemmas.Bool.{cond_both, eqb-true, eqb-false, ltb-true, ltb-false}
-use Rattle.po_syntax.specs.declared.fault.PoFault.{PoFault}
-use Rattle.po_syntax.specs.declared.fault.PoFault.TheVariants.{BadEscape, ForbiddenByte}
-use Rattle.po_syntax.specs.Prelude.{EscapeFault, NumberFault, NoDigitFirst, letter_value, SpellsEscape, SpellsString}
-use Rattle.po_syntax.specs.LineFaults.{at_end, no_escape, octal as octal_fault, no_digit, hexadecimal_digits, nul, large}
-use Rattle.po_syntax.specs.Internal.{Step, End, Byte, Stop, digit_count, number_step, letter_step, escape_at}
+use Rattle.po_syntax.proofs.Prelude.{AllDigits, BadEscape, Bool, Byte, End, EscapeFault, ForbiddenByte, List, NoDigitFirst, None, NumberFault, Option, PoFault, Some, SpellsEscape, SpellsString, Step, Stop, [], arith, at_end, closed, cond, cond_both, digit_count, digit_value, digits_value, drop, eqb-false, eqb-true, escape, escape_at, false, hexadecimal, hexadecimal_digits, inl, inr, is_digit, large, length, length-append, length-take, letter, letter_step, letter_value, ltb-false, ltb-true, nat_lt, no_digit, no_escape, number_step, octal, plain, refl, subst, suc, sym, take, take-append-drop, true, zero, ℕ, ◌++◌, ◌+◌, ◌<◌, ◌==◌, ◌∷◌, ◌≡◌, ◌≤◌, ◌⊎◌}
+use Rattle.po_syntax.specs.LineFaults.{octal as octal_fault, nul}
 use Rattle.po_syntax.proofs.SpeltEscapes.{by_byte}
-use Rattle.po_syntax.specs.Escape.{letter, octal, hexadecimal, closed, plain, escape}
 
 -- the first n bytes are digits, at most so many, and no digit follows where there are fewer
 abbrev ArePrefix : ℕ → ℕ → List ℕ → ℕ → Type 0

@@ -1,14 +1,5 @@
 -- A keyword with a fault is read as that fault.
-use Rattle.std.proofs.Common.{◌≡◌, ◌≢◌, ◌==◌, ◌||◌, ◌∙◌, refl, ap, subst, ℕ, ◌^◌, ◌<◌, ◌≤◌, true, false, List, [], ◌∷◌, ◌++◌, drop, codes, bytes_eq, All}
-use Rattle.std.specs.Str.Parse.{IsNumeral, digits_value}
-use Rattle.std.proofs.lemmas.Bool.{both_ways, or_parts, cond-true, cond-false, ne_eqb, lt-ltb, le-ltb, false_from_ne_true}
-use Rattle.std.proofs.lemmas.List.Elements.{All-head}
-use Rattle.std.proofs.lemmas.Slice.Eq.{bytes_eq-Decides}
-use Rattle.po_syntax.specs.declared.fault.PoFault.{PoFault}
-use Rattle.po_syntax.specs.declared.fault.PoFault.TheVariants.{BadToken, BadPluralIndex}
-use Rattle.po_syntax.specs.Prelude.{NoDigitFirst, IsNoKeyword, IndexFault, KeywordFault, is_word_byte, is_blank, IsBlank, FailsFirst}
-use Rattle.po_syntax.specs.LineFaults.{no_index, large_index, not_closed_index, no_keyword, in_index}
-use Rattle.po_syntax.specs.Internal.{WrongToken, close_token, index_token, bracket_token, keyword_token, first_token, token_at}
+use Rattle.po_syntax.proofs.Prelude.{All, All-head, BadPluralIndex, BadToken, FailsFirst, IndexFault, IsBlank, IsNoKeyword, IsNumeral, KeywordFault, List, NoDigitFirst, PoFault, WrongToken, [], ap, both_ways, bracket_token, bytes_eq, bytes_eq-Decides, close_token, codes, cond-false, cond-true, digits_value, drop, false, false_from_ne_true, first_token, in_index, index_token, is_blank, is_word_byte, keyword_token, large_index, le-ltb, lt-ltb, ne_eqb, no_index, no_keyword, not_closed_index, or_parts, refl, subst, token_at, true, ℕ, ◌++◌, ◌<◌, ◌==◌, ◌^◌, ◌||◌, ◌∙◌, ◌∷◌, ◌≡◌, ◌≢◌, ◌≤◌}
 use Rattle.po_syntax.proofs.SpeltEscapes.{count_all}
 use Rattle.po_syntax.proofs.SpeltKeywords.{index_at, skip_prefix, m_read, word_prefix, ends_before_bracket, blank_no_word, digits_no_blank}
 

@@ -1,23 +1,11 @@
 -- What the comments and strings of clean lines hold.
-use Rattle.std.proofs.Common.{rules, ◌≡◌, ◌≢◌, ◌∙◌, refl, sym, ap, drop, subst, ℕ, zero, suc, ◌+◌, ◌<◌, ◌-◌, ◌==◌, true, List, [], ◌∷◌, ◌++◌, length, get_or, take, All, Contains, codes, arith, append-nil, IsUtf8}
-use Rattle.std.specs.List.{suffix_len}
-use Rattle.std.proofs.lemmas.Bool.{both_ways, eqb-true}
-use Rattle.std.proofs.lemmas.List.{take-append-drop}
-use Rattle.std.proofs.lemmas.List.Elements.{All-append, All-cons, All-head, All-nil, All-take, All-tail}
-use Rattle.po_syntax.specs.declared.item.Marks.{Marks}
-use Rattle.po_syntax.specs.declared.item.CommentKind.{CommentKind}
+use Rattle.po_syntax.proofs.Prelude.{All, All-append, All-cons, All-head, All-nil, All-tail, All-take, CommentKind, Contains, HoldsItems, HoldsText, HoldsTokens, IsAscii, IsAscii-cons, IsBlank, IsCleanLine, IsCommentOf, IsUtf8, List, Marks, SpellsComment, SpellsEscape, SpellsLines, SpellsString, SpellsText, TextItem, [], ap, append-nil, arith, blank, both_ways, closed, codes, comment, drop, end, end_parts, eqb-true, escape, extracted, flags, get_or, hexadecimal, indented, is_mark, kept_is, keyword, length, letter, live, obsolete, obsolete_comment, obsolete_previous, octal, plain, previous, reference, refl, rules, string, subst, suc, suffix_len, sym, take, take-append-drop, translator, trim_returns, true, without_end, zero, ℕ, ◌++◌, ◌+◌, ◌-◌, ◌<◌, ◌==◌, ◌∙◌, ◌∷◌, ◌≡◌, ◌≢◌}
 use Rattle.po_syntax.specs.declared.item.CommentKind.TheVariants.{Translator}
-use Rattle.po_syntax.specs.Prelude.{SpellsEscape, SpellsString, IsBlank, without_end, trim_returns, IsCommentOf, HoldsText, TextItem, SpellsLines, SpellsText, is_mark, SpellsComment, HoldsTokens, HoldsItems, IsCleanLine}
-use Rattle.po_syntax.specs.Escape.{letter, octal, hexadecimal, closed, plain, escape}
-use Rattle.po_syntax.specs.Line.{extracted, reference, flags, translator, end, blank, keyword, string, indented, comment, obsolete_comment, live, previous, obsolete, obsolete_previous}
 use Rattle.po_syntax.proofs.CleanLines.{clean_lines}
 use Rattle.po_syntax.proofs.SpeltEscapes.{of_each_letter}
 use Rattle.po_syntax.proofs.Tokens.{keyword_rest}
 use Rattle.po_syntax.proofs.Utf8Rests.{blank_low, rest-utf8}
-use Rattle.std.specs.Str.{IsAscii}
-use Rattle.std.proofs.lemmas.Str.Ascii.{IsAscii-cons}
 use Rattle.simdutf8.proofs.StepsLemmas.{IsUtf8-append_ascii}
-use Rattle.po_syntax.specs.Facts.Runs.{end_parts, kept_is}
 
 returns_ascii : (run : List ℕ) → All (λ b. (b == 13) ≡ true) run → IsAscii run
 returns_ascii [] h = λ k. omega arith

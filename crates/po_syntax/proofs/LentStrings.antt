@@ -1,19 +1,10 @@
 -- Of strings that are UTF-8 as the text is, and others, all are UTF-8 exactly where those others are.
-use Rattle.std.proofs.Common.{◌≡◌, ◌∙◌, refl, sym, ap, Bool, true, false, ◌&&◌, List, [], ◌∷◌, ◌++◌, append_assoc, ℕ, All, IsUtf8}
-use Rattle.std.specs.Prelude.{◌↔◌, IsTrue}
-use Rattle.std.specs.List.{list_all}
-use Rattle.std.specs.Str.{is_utf8}
+use Rattle.po_syntax.proofs.Prelude.{AddsLent, All, All-cons, All-head, All-nil, All-push, All-tail, Bool, IsTrue, IsUtf8, IsUtf8-from_is_utf8, Item, LendsUtf8, List, Marks, OfString, [], ap, append_assoc, false, false≢true, is_utf8, is_utf8-from_IsUtf8, list_all, owns_utf8, refl, sym, true, view, views, ℕ, ◌&&◌, ◌++◌, ◌∙◌, ◌∷◌, ◌≡◌}
+use Rattle.std.specs.Prelude.{◌↔◌}
 use Rattle.std.specs.Global.{Vec}
-use Rattle.std.proofs.lemmas.Bool.{false≢true}
-use Rattle.std.proofs.lemmas.List.Elements.{All-nil, All-cons, All-push, All-head, All-tail}
-use Rattle.std.proofs.lemmas.Str.{IsUtf8-from_is_utf8, is_utf8-from_IsUtf8}
-use Rattle.po_syntax.specs.declared.item.Item.{Item}
 use Rattle.po_syntax.specs.declared.item.Item.TheVariants.{Comment, Word, Str}
-use Rattle.po_syntax.specs.declared.item.Marks.{Marks}
 use Rattle.po_syntax.specs.declared.item.SpeltBytes.{SpeltBytes}
 use Rattle.po_syntax.specs.declared.item.SpeltBytes.TheVariants.{Plain, Escaped, Numbered}
-use Rattle.po_syntax.specs.Internal.{AddsLent}
-use Rattle.po_syntax.specs.Prelude.{OfString, view, views, LendsUtf8, owns_utf8}
 
 tested : (bytes : List ℕ) (found : Bool) → (IsTrue found ↔ IsUtf8 bytes) → found ≡ is_utf8 bytes
 tested bytes true h = sym (is_utf8-from_IsUtf8 bytes (h.0 refl))

@@ -1,23 +1,9 @@
 -- Items and faults are on the lines that they name, and a byte order mark is no part of a text.
-use Rattle.std.proofs.Common.{◌≡◌, ◌≢◌, ◌==◌, inl, inr, ℕ, zero, suc, ◌+◌, ◌<◌, false, cond, nat_eq, List, [], ◌∷◌, ◌++◌, append_assoc, append-nil, length, length-append, length-take, get_or, take, drop, Some, All, IsUtf8, refl, sym, subst, ap, ◌∙◌, arith}
-use Rattle.std.specs.List.{position, onto_first, starts_with, count_by}
-use Rattle.std.specs.Str.Lossy.{utf8_valid_len}
-use Rattle.std.proofs.lemmas.Bool.{cond_both, eqb-true, eqb-false}
-use Rattle.std.proofs.lemmas.List.{get_or-take, take-append-drop}
-use Rattle.std.proofs.lemmas.List.Quantifiers.{position-Some}
-use Rattle.std.proofs.lemmas.Grind.{get_or_default_zero}
-use Rattle.std.proofs.Math.Seq.{drop-cons}
-use Rattle.std.proofs.lemmas.List.Elements.{All-nil, All-cons, All-append, All-contains_itself, All-head, All-tail}
-use Rattle.std.proofs.lemmas.List.Splits.{slice_split-cons_no}
+use Rattle.po_syntax.proofs.Prelude.{All, All-append, All-cons, All-contains_itself, All-head, All-nil, All-tail, BeginsLine, ForbiddenByte, HasFaultOnLine, HasFeeds, HasLine, HoldsItems, HoldsTokens, IsOnItsLine, IsText, IsUtf8, IsUtf8-append, ItemsAreOnTheirLines, LineFault, LinesStop, List, MarkIsOmitted, Marks, NotUtf8, PoFault, Some, SpellsLines, TextFault, TextItem, [], ap, append-nil, append_assoc, arith, bytes_eq-Decides, cond, cond_both, count_by, drop, drop-cons, eqb-false, eqb-true, false, get_or, get_or-take, get_or_default_zero, inl, inr, length, length-append, line_number, line_of, lines_of, marked_text, nat_eq, onto_first, position-Some, refl, slice_split-cons_no, starts_with, subst, suc, sum_by-cons, sym, take, take-append-drop, utf8_valid_len, utf8_valid_len_le, without_byte_order_mark, zero, ℕ, ◌++◌, ◌+◌, ◌<◌, ◌==◌, ◌∙◌, ◌∷◌, ◌≡◌, ◌≢◌}
+use Rattle.std.proofs.Common.{length-take}
+use Rattle.std.specs.List.{position}
 use lib.Utf8.{encode}
-use Rattle.std.proofs.lemmas.Slice.Eq.{bytes_eq-Decides}
-use Rattle.std.proofs.lemmas.Str.{IsUtf8-append, utf8_valid_len_le}
-use Rattle.std.proofs.lemmas.List.Sums.{sum_by-cons}
 use Rattle.po_syntax.proofs.SpeltEscapes.{by_byte}
-use Rattle.po_syntax.specs.declared.fault.PoFault.{PoFault}
-use Rattle.po_syntax.specs.declared.fault.PoFault.TheVariants.{NotUtf8, ForbiddenByte}
-use Rattle.po_syntax.specs.declared.item.Marks.{Marks}
-use Rattle.po_syntax.specs.Prelude.{IsText, TextItem, line_of, LineFault, HasFeeds, BeginsLine, HasLine, IsOnItsLine, ItemsAreOnTheirLines, HasFaultOnLine, marked_text, MarkIsOmitted, line_number, lines_of, LinesStop, SpellsLines, TextFault, without_byte_order_mark, HoldsItems, HoldsTokens}
 use Rattle.po_syntax.specs.Laws.{none, feed, other, at_start, after_feed, at_end, before_feed, no_line, not_utf8, nul, in_line}
 use Rattle.po_syntax.specs.PoText as text_faults
 use Rattle.po_syntax.specs.Line as spelt

@@ -1,12 +1,5 @@
 -- A text spells at most one item for each of its bytes.
-use Rattle.std.proofs.Common.{◌≡◌, ◌≢◌, refl, ◌<◌, ◌==◌, ap, ℕ, ◌+◌, ◌≤◌, List, [], ◌∷◌, length, length-append, drop, length-drop, arith}
-use Rattle.std.specs.List.{onto_first}
-use Rattle.std.proofs.lemmas.Bool.{cond_both}
-use Rattle.std.proofs.lemmas.List.Splits.{length-slice_split}
-use Rattle.std.proofs.lemmas.List.Sums.{sum_by-cons}
-use Rattle.po_syntax.specs.Prelude.{lines_len, HoldsTokens, HoldsItems, SpellsLines, lines_of, without_byte_order_mark, TextItem}
-use Rattle.po_syntax.specs.declared.item.Marks.{Marks}
-use Rattle.po_syntax.specs.Line.{end, blank, keyword, string, indented, live, previous, obsolete, obsolete_previous}
+use Rattle.po_syntax.proofs.Prelude.{HoldsItems, HoldsTokens, List, Marks, SpellsLines, TextItem, [], ap, arith, blank, cond_both, drop, end, indented, keyword, length, length-append, length-drop, length-slice_split, lines_len, lines_of, live, obsolete, obsolete_previous, onto_first, previous, refl, string, sum_by-cons, without_byte_order_mark, ℕ, ◌+◌, ◌<◌, ◌==◌, ◌∷◌, ◌≡◌, ◌≢◌, ◌≤◌}
 use Rattle.po_syntax.proofs.Escapes.{string_shorter}
 use Rattle.po_syntax.proofs.Tokens.{rest_shorter}
 

@@ -1,17 +1,5 @@
 -- The lines of a piece, which are read one after the other.
-use Rattle.std.proofs.Common.{◌≡◌, ◌⊎◌, ◌∙◌, inl, inr, refl, sym, subst, ap, ℕ, zero, suc, ◌+◌, ◌≤◌, List, [], ◌∷◌, ◌++◌, append-nil, append_assoc, length, take, drop, All, IsUtf8, Option, Some, None, arith}
-use Rattle.std.specs.Borrow.{Bor}
-use Rattle.std.specs.Prelude.{MatchOption}
-use Rattle.std.proofs.Math.Seq.{take-append_seam}
-use Rattle.std.proofs.lemmas.Bool.{cases_lt}
-use Rattle.std.proofs.lemmas.List.{drop-take, take-take}
-use Rattle.std.proofs.lemmas.List.Elements.{All-nil, All-append, All-drop, All-head, All-take}
-use Rattle.std.proofs.lemmas.List.Sums.{sum_by-take-drop, sum_by-cons}
-use Rattle.po_syntax.specs.declared.fault.PoFault.{PoFault}
-use Rattle.po_syntax.specs.declared.item.Item.{Item}
-use Rattle.po_syntax.specs.Prelude.{IsCleanLine, LinesLeft, lines_len, lines_of_rest, BeginsAnew, LineBeginsAnew, CanEnd, HasRead, LendsUtf8, LineFault, HoldsItems, SpellsLines, LinesStop, lines_of, TextItem, views, EndsPiece}
-use Rattle.po_syntax.specs.Internal.{AddsLent}
-use Rattle.po_syntax.specs.Internal.PieceEnd.{IsCut}
+use Rattle.po_syntax.proofs.Prelude.{AddsLent, All, All-append, All-drop, All-head, All-nil, All-take, BeginsAnew, Bor, CanEnd, EndsPiece, HasRead, HoldsItems, IsCleanLine, IsCut, IsUtf8, Item, LendsUtf8, LineBeginsAnew, LineFault, LinesLeft, LinesStop, List, MatchOption, None, Option, PoFault, Some, SpellsLines, TextItem, [], ap, append-nil, append_assoc, arith, cases_lt, drop, drop-take, inl, inr, length, lines_len, lines_of, lines_of_rest, refl, subst, suc, sum_by-cons, sum_by-take-drop, sym, take, take-append_seam, take-take, views, zero, ℕ, ◌++◌, ◌+◌, ◌∙◌, ◌∷◌, ◌≡◌, ◌≤◌, ◌⊎◌}
 use Rattle.po_syntax.proofs.Uniqueness.{line_once, lines_once}
 use Rattle.po_syntax.proofs.TranslationEnds.{drop_rest, some_line}
 

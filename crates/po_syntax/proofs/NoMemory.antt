@@ -1,11 +1,6 @@
 -- No fault of a text is out of memory, and errors that are such faults.
-use Rattle.std.proofs.Common.{◌≢◌, inl, inr, ◌+◌, ℕ, List, [], ◌∷◌}
-use Rattle.po_syntax.specs.declared.fault.PoError.{PoError}
-use Rattle.po_syntax.specs.declared.fault.PoFault.{PoFault}
-use Rattle.po_syntax.specs.declared.fault.PoFault.TheVariants.{OutOfMemory}
+use Rattle.po_syntax.proofs.Prelude.{IsFaultOf, LinesStop, List, OutOfMemory, PoError, PoFault, TextFault, [], inl, inr, stops, ℕ, ◌+◌, ◌∷◌, ◌≢◌}
 use Rattle.po_syntax.specs.LineFaults as fault
-use Rattle.po_syntax.specs.Prelude.{IsFaultOf, LinesStop, TextFault}
-use Rattle.po_syntax.specs.PoText.{stops}
 
 abbrev IsReported : PoFault → Type 0
 IsReported kind = kind ≢ OutOfMemory

@@ -1,10 +1,5 @@
 -- The digits that a number is read from.
-use Rattle.std.proofs.Common.{ℕ, ◌<◌, ◌≤◌, List, length, take, All, arith}
-use Rattle.std.specs.Char.{digit_value, is_digit}
-use Rattle.std.proofs.lemmas.List.{get_or-take, length-take}
-use Rattle.std.proofs.lemmas.List.Sums.{prefix_len_passes, prefix_len-le-length}
-use Rattle.std.proofs.lemmas.Bool.{ltb-true}
-use Rattle.po_syntax.specs.Internal.{digit_count}
+use Rattle.po_syntax.proofs.Prelude.{All, List, arith, digit_count, digit_value, get_or-take, is_digit, length, length-take, ltb-true, prefix_len-le-length, prefix_len_passes, take, ℕ, ◌<◌, ◌≤◌}
 
 -- each of the digits that a text begins with is one
 pub digits_all : (base count : ℕ) (text : List ℕ) → count ≤ digit_count base text

@@ -1,18 +1,9 @@
 -- A line holds one list of items or has one fault, and not both.
-use Rattle.std.proofs.Common.{◌≡◌, ◌∙◌, ◌==◌, ◌||◌, refl, sym, ap, subst, ℕ, true, false, Bool, List, [], ◌∷◌, ◌++◌, All, Result, Ok, Err, arith}
-use Rattle.std.proofs.lemmas.Bool.{cond-false, ne_eqb, or_parts}
-use Rattle.po_syntax.specs.declared.fault.PoFault.{PoFault}
-use Rattle.po_syntax.specs.declared.fault.PoFault.TheVariants.{BadToken}
-use Rattle.po_syntax.specs.declared.item.Keyword.{Keyword}
-use Rattle.po_syntax.specs.declared.item.Marks.{Marks}
-use Rattle.po_syntax.specs.Prelude.{is_blank, IsBlank, skip_blanks, FailsFirst, trim_returns, TextItem, TokensFault, LineFault, SpellsKeyword, HoldsTokens, own_marks, HoldsItems}
-use Rattle.po_syntax.specs.Internal.{Shape, CommentLine, Tokens, NoShape, obsolete_shape, tilde_shape, hash_shape, first_shape, shape_of, Token, LineEnd, OpeningQuote, KeywordToken, WrongToken, first_token, token_at}
-use Rattle.po_syntax.specs.Item.{Comment, Word, Str}
+use Rattle.po_syntax.proofs.Prelude.{All, BadToken, Bool, Comment, CommentLine, Err, FailsFirst, HoldsItems, HoldsTokens, IsBlank, Keyword, KeywordToken, LineEnd, LineFault, List, Marks, NoShape, Ok, Once, OpeningQuote, PoFault, Result, Shape, SpellsKeyword, Str, TextItem, Token, Tokens, TokensFault, Word, WrongToken, [], ap, arith, blank, comment, cond-false, end, false, first_shape, first_token, hash_shape, indented, is_blank, keyword, live, ne_eqb, obsolete, obsolete_comment, obsolete_previous, obsolete_shape, or_parts, own_marks, previous, refl, shape_of, skip_blanks, string, subst, sym, tilde_shape, token_at, trim_returns, true, ℕ, ◌++◌, ◌==◌, ◌||◌, ◌∙◌, ◌∷◌, ◌≡◌}
 use Rattle.po_syntax.specs.LineFaults as faulty
-use Rattle.po_syntax.specs.Line.{end, blank, keyword, string, indented, comment, obsolete_comment, live, previous, obsolete, obsolete_previous}
 use Rattle.po_syntax.proofs.Escapes.{string_shorter}
 use Rattle.po_syntax.proofs.FaultyLines.{keyword_stops, no_token_stops}
-use Rattle.po_syntax.proofs.OneString.{Once, Reads, ends, goes_on, reads_once, Reading, StringIs, string_once}
+use Rattle.po_syntax.proofs.OneString.{Reads, ends, goes_on, reads_once, Reading, StringIs, string_once}
 use Rattle.po_syntax.proofs.SpeltKeywords.{over_blanks, over_skipped, skips, skip_prefix, keyword_read, TokenSays, first_says}
 use Rattle.po_syntax.proofs.SpeltLines.{ShapeSays, shape_says, comment_read, comment_hash, tilde_comment, blank_skipped}
 use Rattle.po_syntax.proofs.Tokens.{keyword-shorter, quote-shorter}

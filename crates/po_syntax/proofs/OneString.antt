@@ -1,22 +1,7 @@
 -- After an opening quote a text spells one string or has one fault, and not both.
-use Rattle.std.proofs.Common.{◌≡◌, ◌==◌, refl, ℕ, ◌<◌, false, List, [], ◌∷◌, length, Result, Ok, Err, arith, ◌∙◌, sym, ap, zero, suc, ◌+◌}
-use Rattle.std.proofs.lemmas.Bool.{eqb-false, ne_eqb}
-use Rattle.po_syntax.specs.declared.fault.PoFault.{PoFault}
-use Rattle.po_syntax.specs.Prelude.{SpellsString, StringFault}
-use Rattle.po_syntax.specs.Escape.{closed, plain, escape}
-use Rattle.po_syntax.specs.Internal.{Step, End, Byte, Stop, escape_at, step_at}
-use Rattle.po_syntax.specs.LineFaults.{not_closed, in_escape, after_plain, after_escape}
+use Rattle.po_syntax.proofs.Prelude.{Byte, End, Err, List, Ok, Once, PoFault, Result, SpellsString, Step, Stop, StringFault, [], after_escape, after_plain, ap, arith, closed, eqb-false, escape, escape_at, false, in_escape, length, ne_eqb, not_closed, plain, refl, same, step_at, suc, sym, zero, ℕ, ◌+◌, ◌<◌, ◌==◌, ◌∙◌, ◌∷◌, ◌≡◌}
 use Rattle.po_syntax.proofs.Escapes.{EscapeSays, escape_says, escape_shorter}
 use Rattle.po_syntax.proofs.SpeltEscapes.{by_byte, escape_read, escape_stops}
-
--- it holds of this outcome, and of no other
-pub record Once {O : Type 0} (Is : O → Type 0) : Type 0 where
-  pub outcome : O
-  pub holds : Is outcome
-  pub only : (other : O) → Is other → other ≡ outcome
-
-pub same : {O : Type 0} {Is : O → Type 0} → Once Is → {one other : O} → Is one → Is other → one ≡ other
-same once {one = one} {other = other} is also = once.only one is ∙ sym (once.only other also)
 
 -- it holds of one outcome, or of those that come of a shorter text
 pub data Reads {O : Type 0} (Is : List ℕ → O → Type 0) (text : List ℕ) : Type 0 where

@@ -1,13 +1,5 @@
 -- What a piece of a text holds, and what is left after it.
-use Rattle.std.proofs.Common.{◌≡◌, ◌≢◌, ◌⊎◌, ◌↔◌, inl, inr, refl, sym, subst, ap, ℕ, zero, suc, ◌+◌, ◌<◌, ◌≤◌, ◌^◌, Bool, false, List, [], ◌∷◌, ◌++◌, append-nil, length, take, drop, length-drop, All, Option, Some, None, arith}
-use Rattle.std.specs.Prelude.{IsSome, IsTrue, MatchOption, slice_get}
-use Rattle.std.proofs.lemmas.List.{drop_all, take-append-drop}
-use Rattle.std.proofs.lemmas.List.Elements.{All-nil, All-append, All-head, All-tail}
-use Rattle.std.proofs.lemmas.List.Sums.{sum_by-take-drop, sum_by-take-le, sum_by-cons}
-use Rattle.po_syntax.specs.declared.fault.PoFault.{PoFault}
-use Rattle.po_syntax.specs.declared.item.Item.{Item}
-use Rattle.po_syntax.specs.Prelude.{view, views, IsCommentItem, IsCleanLine, LinesLeft, SpellsLeft, LeftStops, AreOfText, lines_len, IsString, IsTranslation, IsNew, BeginsAnew, LineBeginsAnew, CanEnd, IsPiece, EndsInComment, EndsInString, EndsPiece, LeftAnew, HoldsText, IsText, TextItem, SpellsLines, TextFault}
-use Rattle.po_syntax.specs.Internal.PieceEnd.{IsCut}
+use Rattle.po_syntax.proofs.Prelude.{All, All-append, All-head, All-nil, All-tail, AreOfText, BeginsAnew, Bool, CanEnd, EndsInComment, EndsInString, EndsPiece, HoldsText, IsCleanLine, IsCommentItem, IsCut, IsNew, IsPiece, IsSome, IsString, IsText, IsTranslation, IsTrue, Item, LeftAnew, LeftStops, LineBeginsAnew, LinesLeft, List, MatchOption, None, Option, PoFault, Some, SpellsLeft, SpellsLines, TextFault, TextItem, [], ap, append-nil, arith, drop, drop_all, false, inl, inr, length, length-drop, lines_len, refl, slice_get, subst, suc, sum_by-cons, sum_by-take-drop, sum_by-take-le, sym, take, take-append-drop, view, views, zero, ℕ, ◌++◌, ◌+◌, ◌<◌, ◌^◌, ◌↔◌, ◌∷◌, ◌≡◌, ◌≢◌, ◌≤◌, ◌⊎◌}
 use Rattle.po_syntax.proofs.ItemTexts.{lines_texts}
 use Rattle.po_syntax.proofs.Lines.{lines-few, some_length}
 use Rattle.po_syntax.proofs.Uniqueness.{line_once, lines_once}

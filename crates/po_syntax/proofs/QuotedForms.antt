@@ -1,11 +1,7 @@
 -- What is written for a byte spells that byte.
-use Rattle.std.proofs.Common.{rules, ◌≡◌, ◌≢◌, refl, subst, inl, Some, None, ◌/◌, ◌%◌, ℕ, suc, ◌+◌, ◌<◌, List, [], ◌∷◌, ◌++◌, append_assoc, All, arith}
-use Rattle.std.specs.Char.{digit_value}
-use Rattle.std.specs.Str.Parse.{digits_value}
-use Rattle.std.proofs.lemmas.Str.{digit_value-digit_char}
-use Rattle.po_syntax.specs.Prelude.{escape_letter, letter_value, SpellsString, written_bytes, WritesByte}
-use Rattle.po_syntax.specs.Escape.{letter as letter_escape, octal, closed, plain as plain_byte, escape}
-use Rattle.po_syntax.specs.Quoting.{letter, delete, control, plain}
+use Rattle.po_syntax.proofs.Prelude.{All, List, None, Some, SpellsString, WritesByte, [], append_assoc, arith, closed, control, delete, digit_value, digit_value-digit_char, digits_value, escape, escape_letter, inl, letter_value, octal, refl, rules, subst, suc, written_bytes, ℕ, ◌%◌, ◌++◌, ◌+◌, ◌/◌, ◌<◌, ◌∷◌, ◌≡◌, ◌≢◌}
+use Rattle.po_syntax.specs.Escape.{letter as letter_escape, plain as plain_byte}
+use Rattle.po_syntax.specs.Quoting.{letter, plain}
 use Rattle.po_syntax.proofs.SpeltEscapes.{of_each_byte}
 use Rattle.po_syntax.proofs.WrittenForms.{digit_is, byte_written}
 

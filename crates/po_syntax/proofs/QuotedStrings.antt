@@ -1,13 +1,5 @@
 -- A run of bytes that stand for themselves inside a quoted string.
-use Rattle.std.proofs.Common.{◌≡◌, ◌≢◌, ◌==◌, ◌⊎◌, inl, inr, ℕ, zero, suc, ◌<◌, ◌≤◌, false, List, [], ◌∷◌, ◌++◌, length, get_or, take, drop, Option, Some, None, unwrap_or, sym, subst, arith}
-use Rattle.std.proofs.lemmas.Bool.{or_parts, eqb-false, false_from_ne_true}
-use Rattle.memchr.specs.Find.{IsFirstByte, is_byte2}
-use Rattle.po_syntax.specs.declared.fault.PoFault.{PoFault}
-use Rattle.po_syntax.specs.declared.fault.PoFault.TheVariants.{UnterminatedString}
-use Rattle.po_syntax.specs.Prelude.{SpellsString, StringFault}
-use Rattle.po_syntax.specs.Escape.{closed, plain}
-use Rattle.po_syntax.specs.Internal.{Step, escape_at}
-use Rattle.po_syntax.specs.LineFaults.{not_closed, after_plain}
+use Rattle.po_syntax.proofs.Prelude.{IsFirstByte, List, None, Option, PoFault, Some, SpellsString, Step, StringFault, UnterminatedString, [], after_plain, arith, closed, drop, eqb-false, escape_at, false, false_from_ne_true, get_or, inl, inr, is_byte2, length, not_closed, or_parts, plain, subst, suc, sym, take, unwrap_or, zero, ℕ, ◌++◌, ◌<◌, ◌==◌, ◌∷◌, ◌≡◌, ◌≢◌, ◌≤◌, ◌⊎◌}
 use Rattle.po_syntax.proofs.Escapes.{EscapeSays, escape_says}
 
 -- a byte that is neither a quote nor a backslash stands for itself

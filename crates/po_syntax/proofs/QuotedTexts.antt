@@ -1,15 +1,7 @@
 -- The quoted form of a UTF-8 text is UTF-8, and holds no byte below space.
-use Rattle.std.proofs.Common.{rules, ◌≡◌, ◌/◌, ◌%◌, sym, refl, subst, inl, inr, ℕ, ◌+◌, ◌<◌, ◌≤◌, true, List, [], ◌∷◌, ◌++◌, append-nil, length, get_or, All, IsUtf8, arith}
-use Rattle.std.specs.Str.{IsAscii}
+use Rattle.po_syntax.proofs.Prelude.{All, All-append, All-cons, All-head, All-tail, IsAscii, IsAscii-cons, IsUtf8, IsUtf8-append, IsUtf8-from_ascii, IsUtf8-nil, List, WritesByte, [], and_parts, append-nil, arith, cases_lt, control, delete, encode_ascii, flat_map-append, get_or, inl, inr, inside_one, is_raw, le-ltb, length, ne_eqb, quoted, refl, rules, subst, sym, take_all, true, written_byte, written_bytes, ℕ, ◌%◌, ◌++◌, ◌+◌, ◌/◌, ◌<◌, ◌∷◌, ◌≡◌, ◌≤◌}
 use lib.Utf8.{encode, encodes, scalars, scalar}
-use Rattle.std.proofs.lemmas.Bool.{cases_lt, le-ltb, ne_eqb, and_parts}
-use Rattle.std.proofs.lemmas.Grind.{flat_map-append}
-use Rattle.std.proofs.lemmas.List.{take_all}
-use Rattle.std.proofs.lemmas.List.Elements.{All-append, All-cons, All-head, All-tail}
-use Rattle.std.proofs.lemmas.Str.{IsUtf8-nil, IsUtf8-append, IsUtf8-from_ascii, encode_ascii, inside_one}
-use Rattle.std.proofs.lemmas.Str.Ascii.{IsAscii-cons}
-use Rattle.po_syntax.specs.Prelude.{is_raw, written_byte, written_bytes, quoted, WritesByte}
-use Rattle.po_syntax.specs.Quoting.{letter, delete, control, plain}
+use Rattle.po_syntax.specs.Quoting.{letter, plain}
 use Rattle.po_syntax.proofs.RawRuns.{written_run}
 use Rattle.po_syntax.proofs.SpeltEscapes.{of_each_byte}
 use Rattle.po_syntax.proofs.WrittenForms.{byte_written}

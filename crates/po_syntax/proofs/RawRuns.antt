@@ -1,11 +1,5 @@
 -- Bytes that are written as they are.
-use Rattle.std.proofs.Common.{◌≡◌, ◌==◌, ◌||◌, ℕ, zero, suc, ◌+◌, ◌<◌, ◌≤◌, Bool, true, false, cond, nat_lt, List, [], ◌∷◌, ◌++◌, length, get_or, take, append-nil, arith, refl, sym, ap, ◌∙◌, subst}
-use Rattle.std.specs.List.{prefix_len}
-use Rattle.std.proofs.lemmas.Bool.{or_parts, not-true, ltb-false, ne_eqb}
-use Rattle.std.proofs.lemmas.Grind.{flat_map-append}
-use Rattle.std.proofs.lemmas.List.{length_push, nil_from_length, take_more}
-use Rattle.std.proofs.lemmas.List.Sums.{prefix_len_passes, prefix_len-le-length}
-use Rattle.po_syntax.specs.Prelude.{is_control, is_raw, written_byte, written_bytes}
+use Rattle.po_syntax.proofs.Prelude.{Bool, List, [], ap, append-nil, arith, cond, false, flat_map-append, get_or, is_control, is_raw, length, length_push, ltb-false, nat_lt, ne_eqb, nil_from_length, not-true, or_parts, prefix_len, prefix_len-le-length, prefix_len_passes, refl, subst, suc, sym, take, take_more, true, written_byte, written_bytes, zero, ℕ, ◌++◌, ◌+◌, ◌<◌, ◌==◌, ◌||◌, ◌∙◌, ◌∷◌, ◌≡◌, ◌≤◌}
 
 written_raw : (b : ℕ) → is_raw b ≡ true → written_byte b ≡ b ∷ []
 unfolding written_byte

@@ -1,14 +1,5 @@
 -- What a search for a byte finds, in terms of lists.
-use Rattle.std.proofs.Common.{◌≡◌, ◌≢◌, ℕ, ◌<◌, Bool, List, [], ◌∷◌, length, take, drop, Option, Some, None, unwrap_or, position, All, arith}
-use Rattle.std.specs.List.{position_or_len}
-use Rattle.std.proofs.lemmas.List.Sums.{position_or_len_is}
-use Rattle.std.proofs.lemmas.List.Splits.{slice_split_none, slice_split_first}
-use Rattle.std.proofs.lemmas.Bool.{cond-true, cond-false, eqb-false, lt-ltb, le-ltb, false_from_ne_true}
-use Rattle.std.proofs.lemmas.Grind.{get_or_default_zero}
-use Rattle.std.proofs.lemmas.List.{drop-drop}
-use Rattle.memchr.specs.Find.{IsFirstByte, is_byte}
-use Rattle.po_syntax.specs.Prelude.{lines_of}
-use Rattle.po_syntax.specs.PoText.{too_large, not_utf8, nul}
+use Rattle.po_syntax.proofs.Prelude.{All, Bool, IsFirstByte, List, None, Option, Some, [], arith, cond-false, cond-true, drop, drop-drop, eqb-false, false_from_ne_true, get_or_default_zero, is_byte, le-ltb, length, lines_of, lt-ltb, not_utf8, nul, position, position_or_len, position_or_len_is, slice_split_first, slice_split_none, take, too_large, unwrap_or, ℕ, ◌<◌, ◌∷◌, ◌≡◌, ◌≢◌}
 
 -- the index found, or the length where none is
 pub found_or_len : (test : ℕ → Bool) (text : List ℕ) (found : Option ℕ) → IsFirstByte test text found

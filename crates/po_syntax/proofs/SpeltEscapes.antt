@@ -1,14 +1,6 @@
 -- Each escape is read as the byte that it spells, or as its fault.
-use Rattle.std.proofs.Common.{rules, ◌≡◌, ◌∙◌, ◌==◌, ◌⊎◌, inl, inr, refl, sym, ap, subst, Bool, true, false, cond, Some, option_map, find, ℕ, zero, suc, ◌≤◌, List, [], ◌∷◌, ◌++◌, length, take, arith}
-use Rattle.std.specs.Char.{digit_value, is_digit}
-use Rattle.std.specs.Str.Parse.{AllDigits, IsNumeral, digits_value}
-use Rattle.std.proofs.Math.Seq.{take-append_seam, drop-append_seam}
-use Rattle.std.proofs.lemmas.Bool.{cond_both, cond-false, eqb-true, ne_eqb, lt-ltb, le-ltb}
-use Rattle.po_syntax.specs.declared.fault.PoFault.{PoFault}
-use Rattle.po_syntax.specs.Internal.{Byte, Stop, digit_count, numbered, number_step, letter_step, escape_at}
-use Rattle.po_syntax.specs.Prelude.{NoDigitFirst, IsByteNumber, escape_letters, letter_value, escape_letter, SpellsEscape, NumberFault, EscapeFault}
-use Rattle.po_syntax.specs.Escape.{letter, octal, hexadecimal}
-use Rattle.po_syntax.specs.LineFaults.{nul, large, at_end, no_escape, octal as octal_fault, no_digit, hexadecimal_digits}
+use Rattle.po_syntax.proofs.Prelude.{AllDigits, Bool, Byte, EscapeFault, IsByteNumber, IsNumeral, List, NoDigitFirst, NumberFault, PoFault, Some, SpellsEscape, Stop, [], ap, arith, at_end, cond, cond-false, cond_both, digit_count, digit_value, digits_value, drop-append_seam, eqb-true, escape_at, escape_letter, escape_letters, false, find, hexadecimal, hexadecimal_digits, inl, inr, is_digit, large, le-ltb, length, letter, letter_step, letter_value, lt-ltb, ne_eqb, no_digit, no_escape, number_step, numbered, octal, option_map, refl, rules, subst, suc, sym, take, take-append_seam, true, zero, ℕ, ◌++◌, ◌==◌, ◌∙◌, ◌∷◌, ◌≡◌, ◌≤◌, ◌⊎◌}
+use Rattle.po_syntax.specs.LineFaults.{nul, octal as octal_fault}
 
 -- what holds where a byte is this one, and where it is another
 pub by_byte : {A : Type 0} (P : ℕ → A → Type 0) (b k : ℕ) {x y : A} → P k x → ((b == k) ≡ false → P b y)

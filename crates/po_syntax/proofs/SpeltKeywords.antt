@@ -1,24 +1,6 @@
 -- Each keyword is read where it is spelt, and what is read as one is spelt, or has a fault.
-use Rattle.std.proofs.Common.{◌≡◌, ◌∙◌, refl, sym, ap, subst, ℕ, suc, ◌+◌, ◌^◌, ◌<◌, ◌==◌, ◌||◌, Bool, true, false, if◌then◌else◌, nat_lt, List, [], ◌∷◌, ◌++◌, length, take, drop, codes, bytes_eq, All, arith}
-use Rattle.std.specs.Char.{digit_value, is_digit}
-use Rattle.std.specs.List.{prefix_len, list_all}
-use Rattle.std.specs.Str.Parse.{IsNumeral, digits_value}
-use Rattle.std.proofs.Math.Numerals.{one-add}
-use Rattle.std.proofs.Math.Seq.{take-append_seam, drop-append_seam}
-use Rattle.std.proofs.lemmas.Bool.{cond_both, cond-true, or_from, both_ways, cond-false, eqb-true, eqb-false, ne_eqb, ltb-true, ltb-false, lt-ltb, false_from_ne_true}
-use Rattle.std.proofs.lemmas.List.{take-append-drop}
-use Rattle.std.proofs.lemmas.List.Elements.{All-cons, All-head, All-tail}
-use Rattle.std.proofs.lemmas.List.Sums.{AllPass-from_list_all}
-use Rattle.std.proofs.lemmas.Slice.Eq.{bytes_eq-Decides}
-use Rattle.po_syntax.specs.declared.fault.PoFault.TheVariants.{BadPluralIndex, BadToken}
-use Rattle.po_syntax.specs.declared.item.Keyword.{Keyword}
+use Rattle.po_syntax.proofs.Prelude.{All, All-cons, All-head, All-tail, AllPass-from_list_all, BadPluralIndex, BadToken, Bool, FailsFirst, IndexFault, IsBlank, IsNumeral, Keyword, KeywordFault, KeywordToken, LineEnd, List, NoDigitFirst, OpeningQuote, PoFault, SpellsKeyword, Token, TokensFault, WrongToken, [], ap, arith, both_ways, bracket_token, bytes_eq, bytes_eq-Decides, close_token, codes, cond-false, cond-true, cond_both, digit_count, digit_value, digits_value, drop, drop-append_seam, eqb-false, eqb-true, false, false_from_ne_true, first_token, form, if◌then◌else◌, in_index, in_keyword, index_token, is_blank, is_digit, is_word_byte, keyword_token, large_index, length, list_all, lt-ltb, ltb-false, ltb-true, msgctxt, msgid, msgid_plural, msgstr, nat_lt, ne_eqb, no_index, no_keyword, no_token, not_closed_index, one-add, or_from, parts_of, prefix_len, refl, run_length, skip_blanks, subst, suc, sym, take, take-append-drop, take-append_seam, token_at, true, word_token, ℕ, ◌++◌, ◌+◌, ◌<◌, ◌==◌, ◌^◌, ◌||◌, ◌∙◌, ◌∷◌, ◌≡◌}
 use Rattle.po_syntax.specs.declared.item.Keyword.TheVariants.{MsgCtxt, MsgId, MsgIdPlural, MsgStr, MsgStrAt}
-use Rattle.po_syntax.specs.Prelude.{NoDigitFirst, IndexFault, KeywordFault, TokensFault, is_word_byte, SpellsKeyword, is_blank, IsBlank, skip_blanks, FailsFirst}
-use Rattle.po_syntax.specs.declared.fault.PoFault.{PoFault}
-use Rattle.po_syntax.specs.LineFaults.{no_index, large_index, not_closed_index, no_keyword, in_index, no_token, in_keyword}
-use Rattle.po_syntax.specs.Internal.{digit_count, Token, LineEnd, OpeningQuote, KeywordToken, WrongToken, close_token, index_token, bracket_token, keyword_token, word_token, first_token, token_at}
-use Rattle.po_syntax.specs.Facts.Runs.{parts_of, run_length}
-use Rattle.po_syntax.specs.Token.{msgctxt, msgid, msgid_plural, msgstr, form}
 use Rattle.po_syntax.proofs.Escapes.{all_digits, positive}
 use Rattle.po_syntax.proofs.SpeltEscapes.{by_byte, count_all}
 

@@ -1,18 +1,6 @@
 -- The shape of a line says what items it holds, or which fault it has.
-use Rattle.std.proofs.Common.{◌≡◌, ◌⊎◌, inl, inr, ◌==◌, ◌||◌, ◌∙◌, refl, sym, ap, subst, ℕ, ◌+◌, true, false, List, [], ◌∷◌, ◌++◌, drop, All}
-use Rattle.std.specs.List.{prefix_len}
-use Rattle.std.proofs.Math.Numerals.{one-add}
-use Rattle.std.proofs.lemmas.Bool.{both_ways, or_from, or_parts, cond-true, cond-false}
-use Rattle.std.proofs.lemmas.List.Elements.{All-head}
-use Rattle.po_syntax.specs.declared.fault.PoFault.{PoFault}
-use Rattle.po_syntax.specs.declared.fault.PoFault.TheVariants.{BadToken}
-use Rattle.po_syntax.specs.declared.item.CommentKind.{CommentKind}
-use Rattle.po_syntax.specs.declared.item.Marks.{Marks}
-use Rattle.po_syntax.specs.Internal.{Shape, CommentLine, Tokens, NoShape, comment_shape, obsolete_shape, tilde_shape, hash_shape, first_shape}
-use Rattle.po_syntax.specs.Prelude.{trim_returns, TextItem, TokensFault, BeginsTokens, LineFault, HoldsTokens, SpellsComment, previous_marks, HoldsItems, is_blank, IsBlank, skip_blanks, FailsFirst}
-use Rattle.po_syntax.specs.Item.{Comment}
-use Rattle.po_syntax.specs.LineFaults.{previous_again, obsolete_again, live as fault_live, previous as fault_previous, obsolete as fault_obsolete, obsolete_previous as fault_obsolete_previous}
-use Rattle.po_syntax.specs.Line.{blank, extracted, reference, flags, translator, comment, obsolete_comment, live, previous, obsolete, obsolete_previous}
+use Rattle.po_syntax.proofs.Prelude.{All, All-head, BadToken, BeginsTokens, Comment, CommentKind, CommentLine, FailsFirst, HoldsItems, HoldsTokens, IsBlank, LineFault, List, Marks, NoShape, PoFault, Shape, SpellsComment, TextItem, Tokens, TokensFault, [], ap, blank, both_ways, comment, comment_shape, cond-false, cond-true, drop, extracted, false, first_shape, flags, hash_shape, inl, inr, is_blank, live, obsolete, obsolete_again, obsolete_comment, obsolete_previous, obsolete_shape, one-add, or_from, or_parts, prefix_len, previous, previous_again, previous_marks, reference, refl, skip_blanks, subst, sym, tilde_shape, translator, trim_returns, true, ℕ, ◌++◌, ◌+◌, ◌==◌, ◌||◌, ◌∙◌, ◌∷◌, ◌≡◌, ◌⊎◌}
+use Rattle.po_syntax.specs.LineFaults.{live as fault_live, previous as fault_previous, obsolete as fault_obsolete, obsolete_previous as fault_obsolete_previous}
 use Rattle.po_syntax.proofs.SpeltEscapes.{by_byte}
 use Rattle.po_syntax.proofs.SpeltKeywords.{of_blank, over_blanks, skips, skip_prefix}
 

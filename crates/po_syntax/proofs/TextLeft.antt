@@ -1,14 +1,6 @@
 -- What is left of a text, after some lines that are clean and spell items.
-use Rattle.std.proofs.Common.{◌≡◌, ◌≢◌, ◌↔◌, ◌∙◌, refl, sym, subst, ap, ℕ, zero, suc, ◌+◌, ◌≤◌, ◌^◌, true, List, [], ◌∷◌, ◌++◌, length, take, drop, length-drop, All, Option, Some, None, arith}
-use Rattle.std.specs.Borrow.{Bor}
-use Rattle.std.specs.Prelude.{is_some, unwrap_or, MatchOption}
-use Rattle.std.proofs.lemmas.List.{drop-drop, drop-take, take_all, take-take, take-append-drop}
-use Rattle.std.proofs.lemmas.Str.{IsUtf8-nil}
-use Rattle.std.proofs.lemmas.List.Elements.{All-nil, All-append, All-drop, All-take}
-use Rattle.std.proofs.lemmas.List.Sums.{sum_by-take-drop, sum_by-take-le, sum_by-cons}
-use Rattle.po_syntax.specs.declared.fault.PoError.{PoError}
-use Rattle.po_syntax.specs.declared.fault.PoFault.{PoFault}
-use Rattle.po_syntax.specs.Prelude.{IsCleanLine, LinesLeft, LeftStops, AreOfText, all_lines, lines_len, lines_of_rest, HasRead, IsText, TextItem, SpellsLines, LinesStop, TextFault, without_byte_order_mark}
+use Rattle.po_syntax.proofs.Prelude.{All, All-append, All-drop, All-nil, All-take, AreOfText, Bor, HasRead, IsCleanLine, IsText, IsUtf8-nil, LeftStops, LinesLeft, LinesStop, List, MatchOption, None, Option, PoError, PoFault, Some, SpellsLines, TextFault, TextItem, [], all_lines, ap, arith, drop, drop-drop, drop-take, is_some, length, length-drop, lines_len, lines_of_rest, refl, subst, suc, sum_by-cons, sum_by-take-drop, sum_by-take-le, sym, take, take-append-drop, take-take, take_all, true, without_byte_order_mark, zero, ℕ, ◌++◌, ◌+◌, ◌^◌, ◌↔◌, ◌∙◌, ◌∷◌, ◌≡◌, ◌≢◌, ◌≤◌}
+use Rattle.std.specs.Prelude.{unwrap_or}
 use Rattle.po_syntax.proofs.CleanTexts.{first_lines_clean}
 use Rattle.po_syntax.proofs.CleanLines.{clean_lines}
 use Rattle.po_syntax.proofs.Lines.{lines_some, lines_len-lines_of, without_byte_order_mark-le}

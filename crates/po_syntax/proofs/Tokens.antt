@@ -1,10 +1,5 @@
 -- Each token leaves a rest of the text that is shorter.
-use Rattle.std.proofs.Common.{◌≡◌, refl, ap, ℕ, ◌<◌, ◌≤◌, List, [], ◌∷◌, ◌++◌, append_assoc, length, length-append, length-drop, codes, subst, arith}
-use Rattle.std.specs.List.{prefix_len}
-use Rattle.po_syntax.specs.declared.item.Keyword.{Keyword}
-use Rattle.po_syntax.specs.Prelude.{SpellsKeyword, is_blank, skip_blanks}
-use Rattle.po_syntax.specs.Token.{msgctxt, msgid, msgid_plural, msgstr, form}
-use Rattle.po_syntax.specs.Internal.{Token, OpeningQuote, KeywordToken, token_at}
+use Rattle.po_syntax.proofs.Prelude.{Keyword, KeywordToken, List, OpeningQuote, SpellsKeyword, Token, [], ap, append_assoc, arith, codes, form, is_blank, length, length-append, length-drop, msgctxt, msgid, msgid_plural, msgstr, prefix_len, refl, skip_blanks, subst, token_at, ℕ, ◌++◌, ◌<◌, ◌∷◌, ◌≡◌, ◌≤◌}
 use Rattle.po_syntax.proofs.SpeltKeywords.{TokenSays, first_says}
 
 -- the text is some bytes, and this rest

@@ -1,13 +1,5 @@
 -- Each text spells items or has a first fault.
-use Rattle.std.proofs.Common.{◌≡◌, ◌∙◌, ◌==◌, ◌^◌, refl, sym, Bool, true, false, IsUtf8, position, inl, inr, ◌⊎◌, ℕ, ◌+◌, List, [], ◌∷◌, ◌++◌, length, Option, Some, None, Ok, Err}
-use Rattle.std.specs.Str.{is_utf8}
-use Rattle.std.specs.Str.Lossy.{utf8_valid_len}
-use Rattle.std.proofs.lemmas.Str.{IsUtf8-from_is_utf8, is_utf8-from_IsUtf8}
-use Rattle.std.proofs.lemmas.Bool.{cases_lt, false≢true}
-use Rattle.po_syntax.specs.declared.fault.PoFault.{PoFault}
-use Rattle.po_syntax.specs.declared.fault.PoFault.TheVariants.{NotUtf8, ForbiddenByte, TooLarge}
-use Rattle.po_syntax.specs.Prelude.{IsSmall, line_number, without_byte_order_mark, lines_of, SpellsLines, LinesStop, SpellsText, TextFault, LineFault, HoldsItems, TextItem}
-use Rattle.po_syntax.specs.PoText.{too_large, not_utf8, nul, stops}
+use Rattle.po_syntax.proofs.Prelude.{Bool, Err, ForbiddenByte, HoldsItems, IsSmall, IsUtf8, IsUtf8-from_is_utf8, LineFault, LinesStop, List, None, NotUtf8, Ok, Option, PoFault, Some, SpellsLines, SpellsText, TextFault, TextItem, TooLarge, [], cases_lt, false, false≢true, inl, inr, is_utf8, is_utf8-from_IsUtf8, length, line_number, lines_of, not_utf8, nul, position, refl, stops, sym, too_large, true, utf8_valid_len, without_byte_order_mark, ℕ, ◌++◌, ◌+◌, ◌==◌, ◌^◌, ◌∙◌, ◌∷◌, ◌≡◌, ◌⊎◌}
 use Rattle.po_syntax.proofs.CleanLines.{no_nul_all}
 use Rattle.po_syntax.proofs.OneLine.{Outcome, LineIs, line_once}
 

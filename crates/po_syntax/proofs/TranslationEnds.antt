@@ -1,12 +1,5 @@
 -- Where items end a translation: its keyword and strings.
-use Rattle.std.proofs.Common.{◌≡◌, ◌⊎◌, ◌↔◌, ◌∙◌, inl, inr, refl, sym, subst, ap, ℕ, zero, suc, ◌+◌, ◌-◌, ◌<◌, ◌≤◌, List, [], ◌∷◌, ◌++◌, length, get_or, take, drop, length-drop, All, arith}
-use Rattle.std.proofs.Math.Seq.{take-append_seam, drop-append_seam, drop-cons}
-use Rattle.std.proofs.lemmas.Bool.{cases_lt}
-use Rattle.std.proofs.lemmas.List.{drop-drop, drop_all, length-map}
-use Rattle.std.proofs.lemmas.List.Elements.{All-cons, All-drop, All-head}
-use Rattle.po_syntax.specs.declared.item.Item.{Item}
-use Rattle.po_syntax.specs.Prelude.{IsString, IsTranslationWord, IsTranslation, EndsTranslation, TextItem, view, views}
-use Rattle.po_syntax.specs.Item.{Comment, Word, Str}
+use Rattle.po_syntax.proofs.Prelude.{All, All-cons, All-drop, All-head, Comment, EndsTranslation, IsString, IsTranslation, IsTranslationWord, Item, List, Str, TextItem, Word, [], ap, arith, cases_lt, drop, drop-append_seam, drop-cons, drop-drop, drop_all, get_or, inl, inr, length, length-drop, length-map, refl, subst, suc, sym, take, take-append_seam, view, views, zero, ℕ, ◌++◌, ◌+◌, ◌-◌, ◌<◌, ◌↔◌, ◌∙◌, ◌∷◌, ◌≡◌, ◌≤◌, ◌⊎◌}
 
 -- items that are cut off again
 pub cut_at : (before after : List Item) (here : List TextItem) (own : ℕ) → own ≡ length before

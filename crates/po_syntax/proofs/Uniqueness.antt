@@ -1,12 +1,7 @@
 -- A text spells at most one list of items, or has at most one first fault, and not both.
-use Rattle.std.proofs.Common.{◌≡◌, ◌∙◌, sym, ap, refl, inl, inr, Ok, Err, Some, ◌≢◌, ◌==◌, position, All, ℕ, ◌+◌, List, [], ◌∷◌, arith}
-use Rattle.std.proofs.lemmas.Bool.{eqb-true}
-use Rattle.std.proofs.lemmas.List.Quantifiers.{position-Some}
-use Rattle.po_syntax.specs.declared.fault.PoFault.{PoFault}
-use Rattle.po_syntax.specs.Prelude.{SpellsLines, LinesStop, SpellsText, TextFault, SpellsString, LineFault, HoldsItems, TextItem}
-use Rattle.po_syntax.specs.PoText.{too_large, not_utf8, nul, stops}
+use Rattle.po_syntax.proofs.Prelude.{All, Err, HoldsItems, LineFault, LinesStop, List, Ok, PoFault, Some, SpellsLines, SpellsString, SpellsText, TextFault, TextItem, [], ap, arith, eqb-true, inl, inr, not_utf8, nul, position, position-Some, refl, same, stops, sym, too_large, ℕ, ◌+◌, ◌==◌, ◌∙◌, ◌∷◌, ◌≡◌, ◌≢◌}
 use Rattle.po_syntax.proofs.OneLine.{line_once as once_of_line}
-use Rattle.po_syntax.proofs.OneString.{same, string_once}
+use Rattle.po_syntax.proofs.OneString.{string_once}
 
 pub strings_once : {text bytes rest others end : List ℕ} → SpellsString text bytes rest → SpellsString text others end
     → (bytes ≡ others) × (rest ≡ end)

@@ -1,19 +1,6 @@
 -- What is left of a UTF-8 line after its marks, a token or a string is UTF-8, and so is what stands
 -- before a quote: a text is cut beside an ASCII byte.
-use Rattle.std.proofs.Common.{rules, ◌≡◌, ◌∙◌, refl, sym, ap, subst, ◌==◌, Bool, true, false, nat_lt, ℕ, ◌+◌, ◌<◌, ◌≤◌, Some, List, [], ◌∷◌, ◌++◌, append_assoc, length, length-append, get_or, drop, codes, All, IsUtf8, arith}
-use Rattle.std.proofs.Math.Seq.{take-append_seam, drop-append_seam}
-use Rattle.std.specs.Char.{digit_value}
-use Rattle.std.specs.Str.Parse.{AllDigits}
-use Rattle.std.proofs.lemmas.Bool.{cond_both, le-ltb, ltb-true, ltb-false}
-use Rattle.std.proofs.lemmas.List.Elements.{All-head, All-tail}
-use Rattle.std.proofs.lemmas.Str.Ascii.{IsAscii-cons, IsAscii-nil}
-use Rattle.std.proofs.lemmas.Str.{IsUtf8-append, IsUtf8-drop, IsUtf8-from_ascii, IsUtf8-take, IsCharBoundary-after_ascii, IsCharBoundary-before_ascii}
-use Rattle.po_syntax.specs.declared.item.Keyword.{Keyword}
-use Rattle.po_syntax.specs.declared.item.Marks.{Marks}
-use Rattle.po_syntax.specs.Prelude.{IsBlank, skip_blanks, letter_value, SpellsEscape, SpellsString, SpellsKeyword}
-use Rattle.po_syntax.specs.Escape.{letter, octal, hexadecimal, closed, plain, escape}
-use Rattle.po_syntax.specs.Internal.{Shape, CommentLine, Tokens, NoShape, comment_shape, obsolete_shape, tilde_shape, hash_shape, first_shape, shape_of, OpeningQuote, KeywordToken, token_at}
-use Rattle.po_syntax.specs.Token.{msgctxt, msgid, msgid_plural, msgstr, form}
+use Rattle.po_syntax.proofs.Prelude.{All, All-head, All-tail, AllDigits, Bool, CommentLine, IsAscii-cons, IsAscii-nil, IsBlank, IsCharBoundary-after_ascii, IsCharBoundary-before_ascii, IsUtf8, IsUtf8-append, IsUtf8-drop, IsUtf8-from_ascii, IsUtf8-take, Keyword, KeywordToken, List, Marks, NoShape, OpeningQuote, Shape, Some, SpellsEscape, SpellsKeyword, SpellsString, Tokens, [], ap, append_assoc, arith, closed, codes, comment_shape, cond_both, digit_value, drop, drop-append_seam, escape, false, first_shape, form, get_or, hash_shape, hexadecimal, le-ltb, length, length-append, letter, letter_value, ltb-false, ltb-true, msgctxt, msgid, msgid_plural, msgstr, nat_lt, obsolete_shape, octal, plain, refl, rules, shape_of, skip_blanks, subst, sym, take-append_seam, tilde_shape, token_at, true, ℕ, ◌++◌, ◌+◌, ◌<◌, ◌==◌, ◌∙◌, ◌∷◌, ◌≡◌, ◌≤◌}
 use Rattle.po_syntax.proofs.SpeltEscapes.{by_byte, of_each_letter}
 use Rattle.po_syntax.proofs.SpeltKeywords.{of_blank, skips}
 use Rattle.po_syntax.proofs.SpeltLines.{CommentSays, comment_says}

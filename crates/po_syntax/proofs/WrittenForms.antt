@@ -1,10 +1,7 @@
 -- The quoted form of bytes, byte by byte: four bytes for each at most, and the two quotes.
-use Rattle.std.proofs.Common.{◌≡◌, ◌==◌, ◌||◌, Option, Some, None, ◌/◌, ◌%◌, ℕ, ◌+◌, ◌<◌, Bool, true, false, if◌then◌else◌, nat_lt, List, [], ◌∷◌, ◌++◌, append_assoc, refl, sym, subst, arith}
-use Rattle.std.specs.Char.{digit_char}
-use Rattle.std.proofs.lemmas.Bool.{cond_both, cond-true, eqb-true, eqb-false, lt-ltb, ltb-true, ltb-false, or_parts}
+use Rattle.po_syntax.proofs.Prelude.{Bool, List, None, Option, Some, WritesByte, WritesQuoted, WritesString, [], append_assoc, arith, byte, closing_quote, cond-true, cond_both, control, delete, digit_char, eqb-false, eqb-true, escape_letter, false, if◌then◌else◌, is_control, lt-ltb, ltb-false, ltb-true, nat_lt, octal_escape, or_parts, quoted, refl, subst, sym, true, written_byte, written_bytes, ℕ, ◌%◌, ◌++◌, ◌+◌, ◌/◌, ◌<◌, ◌==◌, ◌||◌, ◌∷◌, ◌≡◌}
 use Rattle.std.specs.Option.{option_map_or}
-use Rattle.po_syntax.specs.Prelude.{escape_letter, is_control, octal_escape, quoted, written_byte, written_bytes, WritesByte, WritesString, WritesQuoted}
-use Rattle.po_syntax.specs.Quoting.{letter, delete, control, plain, closing_quote, byte}
+use Rattle.po_syntax.specs.Quoting.{letter, plain}
 
 pub digit_is : (d : ℕ) → d < 10 → digit_char d ≡ 48 + d
 digit_is d less = cond-true (nat_lt d 10) (48 + d) (87 + d) (lt-ltb d 10 less)

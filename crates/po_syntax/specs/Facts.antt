@@ -5,4 +5,5 @@ pub mod Cuts
 pub mod Filters
 pub mod LinesWithEnds
 pub mod Mapped
+pub mod Once
 pub mod Zips

@@ -1,12 +1,6 @@
 -- What conditions keep of a text compiles as what they keep of its compiled entries.
-use Rattle.std.proofs.Common.{◌≡◌, Bool, true, false, cond, not, ◌&&◌, ◌||◌, List, [], ◌∷◌, filter, refl, ap, ◌∙◌}
-use Rattle.std.specs.Prelude.{All}
-use Rattle.std.proofs.lemmas.List.Elements.{All-head, All-tail, All-weaker, filter_passes}
-use Rattle.po_entry.specs.Prelude.{TextEntry, is_header, is_live, has_translation}
-use Rattle.po_compile.specs.Prelude.{compiled_list, is_compiled}
-use Rattle.msgattrib.specs.Prelude.{ChangesNothing, every_entry, is_kept, selected}
+use Rattle.po_tools.proofs.Prelude.{All, All-head, All-tail, All-weaker, Bool, ChangesNothing, CompiledAreKept, CompilesAlike, KeptCompilesAlike, List, TextEntry, [], ap, compiled_list, cond, every_entry, false, filter, filter_passes, has_translation, is_compiled, is_header, is_kept, is_live, not, refl, selected, true, ◌&&◌, ◌||◌, ◌∙◌, ◌∷◌, ◌≡◌}
 use Rattle.msgattrib.specs.declared.selection.Selection.{Selection}
-use Rattle.po_tools.specs.Prelude.{CompiledAreKept, CompilesAlike, KeptCompilesAlike}
 
 step : {X : Type 0} (a b : Bool) (x : X) (p q : X → Bool) (xs : List X) → p x ≡ a → q x ≡ b
     → filter p (filter q xs) ≡ filter q (filter p xs)

@@ -1,10 +1,6 @@
 -- What a chain finds, a longer one finds too.
-use Rattle.std.proofs.Common.{◌≡◌, true, Option, Some, None, refl, ap, ◌∙◌, find}
-use Rattle.std.specs.Option.{option_map_or, option_or}
-use Rattle.std.proofs.lemmas.Bool.{false≢true}
+use Rattle.po_tools.proofs.Prelude.{AnswerView, CatalogView, LongerChainAnswersAlike, None, Option, Query, Some, answered, ap, false≢true, find, option_map_or, option_or, refl, translates, true, untranslated, ◌∙◌, ◌≡◌}
 use Rattle.std.proofs.lemmas.List.Folds.{find-append}
-use Rattle.mo_lookup.specs.Prelude.{AnswerView, untranslated, CatalogView, answered, translates, Query}
-use Rattle.po_tools.specs.Prelude.{LongerChainAnswersAlike}
 
 -- what is answered by the catalogue that is found
 abbrev by_found : Query → Option CatalogView → AnswerView

@@ -1,18 +1,10 @@
 -- msgunfmt, msgattrib and msgcat have one run of their inputs.
-use Rattle.std.proofs.Common.{◌≡◌, ℕ, List, [], ◌∷◌, ◌++◌, map, refl, sym, ap, ap₂, subst, ◌∙◌, inl, inr}
-use Rattle.std.specs.Prelude.{All}
+use Rattle.po_tools.proofs.Prelude.{All, AreReadAs, HasAdmittedCharset, HasNoDuplicate, InputEntry, IsFileFault, IsFirstDuplicate, IsTextFault, List, Named, NamedFile, NoFaultWhereDistinct, NoFaultWhereUnformatted, OneMsgattribRun, OneMsgcatRun, OneMsgunfmtRun, OneText, OneTextFault, OneUnformatFault, ReadsText, TextEntry, [], ap, ap₂, entries_of, error_line, in_input, inl, inr, map, merged, msgcat_line, refl, refusal, selected, subst, sym, unformat_line, written_text, ℕ, ◌++◌, ◌∙◌, ◌∷◌, ◌≡◌}
 use Rattle.po_syntax.specs.declared.fault.PoError.{PoError}
 use Rattle.po_syntax.specs.declared.fault.PoFault.TheVariants.{Duplicate}
-use Rattle.po_entry.specs.Prelude.{TextEntry, ReadsText, HasAdmittedCharset, InputEntry, in_input, entries_of, HasNoDuplicate, IsFirstDuplicate, IsTextFault}
-use Rattle.po_compile.specs.Prelude.{OneTextFault, NoFaultWhereDistinct}
-use Rattle.msgcat.specs.Prelude.{Named, merged, AreReadAs, IsFileFault, msgcat_line}
-use Rattle.msgattrib.specs.Prelude.{selected, error_line}
 use Rattle.msgunfmt.specs.declared.fault.UnformatError.{UnformatError}
-use Rattle.msgunfmt.specs.Prelude.{NoFaultWhereUnformatted, OneText, OneUnformatFault, unformat_line}
-use Rattle.runs.specs.Prelude.{NamedFile, output_run, refusal}
-use Rattle.po_writer.specs.Prelude.{written_text}
+use Rattle.runs.specs.Prelude.{output_run}
 use Rattle.po_entry.proofs.DuplicateLemmas.{entries_of_input}
-use Rattle.po_tools.specs.Prelude.{OneMsgattribRun, OneMsgcatRun, OneMsgunfmtRun}
 
 abbrev OneReading : Type 0
 OneReading = (text : List ℕ) (entries others : List TextEntry) → ReadsText text entries → ReadsText text others

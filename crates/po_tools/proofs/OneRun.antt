@@ -1,20 +1,10 @@
 -- A tool has one run of its inputs.
-use Rattle.std.proofs.Common.{◌≡◌, ℕ, List, [], ◌∷◌, ◌++◌, Option, None, Some, MatchOption, codes, find, length, refl, sym, ap, subst, ◌∙◌, inl, inr}
-use Rattle.mo_file.specs.Prelude.{OneMessageList, NoFaultOfMoFile, OneFirstFault, Message, layout}
+use Rattle.po_tools.proofs.Prelude.{AreAccepted, AreChecked, AreRead, CatalogView, CataloguesAreOne, InputEntry, IsCatalogView, IsCompilation, IsRefused, JoinError, List, MatchOption, Message, MessagesAreOne, MsgfmtOptions, NamedFile, NoFaultOfMoFile, NoFaultWhereAccepted, NoHeader, None, OneCompileFault, OneFirstFault, OneMessageList, OneMsgfmtRun, Option, Reported, RunView, Some, TextEntry, [], ap, check_line, compile_options, compiled_inputs, compiled_list, compiled_run, fault_line, find, first_fault, first_form, header_text, inl, input_names, input_texts, inr, is_header_entry, join_line, joined, joined_entries, layout, length, mo_text, refl, refusal, stats_of, subst, sym, ℕ, ◌++◌, ◌∙◌, ◌∷◌, ◌≡◌}
 use Rattle.mo_file.specs.declared.fault.MoError.{MoError}
 use Rattle.plural_rule.specs.Prelude.{RuleView, IsRuleOf, expression_limit}
-use Rattle.mo_lookup.specs.Prelude.{IsCatalogView, CatalogView, header_text}
-use Rattle.po_entry.specs.Prelude.{TextEntry, first_form, InputEntry, joined, joined_entries, stats_of}
-use Rattle.po_entry.specs.declared.duplicate.JoinError.{JoinError}
-use Rattle.po_compile.specs.Prelude.{AreAccepted, AreRead, compiled_list, IsCompilation, CataloguesAreOne, MessagesAreOne, NoFaultWhereAccepted, OneCompileFault, compiled_inputs}
 use Rattle.po_compile.specs.declared.options.Compiled.{Compiled}
-use Rattle.msgfmt.specs.declared.options.MsgfmtOptions.{MsgfmtOptions}
-use Rattle.msgfmt.specs.declared.profile.CheckFault.TheVariants.{NoHeader}
-use Rattle.runs.specs.Prelude.{fault_line, mo_text, NamedFile, RunView, refusal}
 use Rattle.gettext.specs.Prelude.{IsLookUpRun, Opens, Request, output_of, output_run, tool_of}
 use Rattle.gettext.specs.Plan.Opens.{none, opened, refused}
-use Rattle.msgfmt.specs.Prelude.{AreChecked, IsRefused, check_line, compile_options, compiled_run, input_names, input_texts, join_line, Reported, first_fault, is_header_entry}
-use Rattle.po_tools.specs.Prelude.{OneMsgfmtRun}
 
 abbrev OneRule : Type 0
 OneRule = (limit : ℕ) (header : List ℕ) (rule other : RuleView) → IsRuleOf limit header rule

@@ -1,18 +1,9 @@
 -- Texts among whose entries no message stands twice: what msgcat writes of them compiles as all of them.
-use Rattle.std.proofs.Common.{◌≡◌, ℕ, ◌+◌, Bool, true, false, not, ◌&&◌, ◌||◌, List, [], ◌∷◌, ◌++◌, refl, sym, ap, ap₂, ◌∙◌, subst, map}
-use Rattle.std.specs.Prelude.{All}
+use Rattle.po_tools.proofs.Prelude.{All, All-cons, All-head, All-nil, All-tail, All-weaker, AllDiffer, Bool, DistinctInputsStay, InputEntry, IsSameMessage, IsSmall, List, MsgcatOfSeveral, Named, NamedEntry, OneInputStays, ReadsText, TextEntry, [], all_entries, ap, ap₂, compiled_list, entries_of, false, false_from_ne_true, false≢true, in_input, is_header, is_live, is_live_header, joined_from, map, message_of, named, not, refl, subst, sym, true, written_text, ℕ, ◌&&◌, ◌++◌, ◌+◌, ◌||◌, ◌∙◌, ◌∷◌, ◌≡◌}
 use Rattle.std.specs.List.{list_any}
-use Rattle.std.proofs.lemmas.Bool.{false_from_ne_true, false≢true}
-use Rattle.std.proofs.lemmas.List.Elements.{All-nil, All-cons, All-head, All-tail, All-weaker}
-use Rattle.po_syntax.specs.Prelude.{IsSmall}
-use Rattle.po_entry.specs.Prelude.{TextEntry, ReadsText, is_header, AllDiffer, IsSameMessage, InputEntry, entries_of, in_input, is_live, is_live_header, joined_from}
 use Rattle.po_syntax.specs.Facts.Filters.{all_pass}
 use Rattle.po_entry.proofs.HeaderLaws.{header_decided}
-use Rattle.msgcat.specs.Prelude.{Named, NamedEntry, all_entries, named, DistinctInputsStay, OneInputStays}
 use Rattle.msgcat.proofs.SameInput.{differ_head, differ_tail}
-use Rattle.po_writer.specs.Prelude.{written_text}
-use Rattle.po_compile.specs.Prelude.{compiled_list, message_of}
-use Rattle.po_tools.specs.Prelude.{MsgcatOfSeveral}
 use Rattle.po_tools.proofs.WrittenAgain.{OneReading, WrittenReads, read_alike}
 
 abbrev unnamed : List Named → List TextEntry

@@ -1,16 +1,6 @@
 -- What msgfmt wrote comes back by msgunfmt and msgfmt.
-use Rattle.std.proofs.Common.{◌≡◌, ℕ, true, false, cond, nat_lt, inl, inr, List, [], ◌∷◌, length, sym, ap, ◌∙◌, subst}
-use Rattle.std.proofs.lemmas.Bool.{false≢true}
-use Rattle.mo_file.specs.Prelude.{OneMessageList, Message, IsMoFile}
+use Rattle.po_tools.proofs.Prelude.{CompilesTo, IsDone, IsMoFile, IsMsgfmtRun, IsMsgunfmtRun, IsSmall, IsUnformatFault, IsUnformatted, JoinError, List, Message, MsgfmtOptions, NamedFile, NoFaultWhereAccepted, NoFaultWhereUnformatted, OneMessageList, OneText, RunView, ThereAndBack, UnformatThenCompile, [], ap, compile_options, cond, false, false≢true, inl, input_texts, inr, length, nat_lt, subst, sym, true, ℕ, ◌∙◌, ◌∷◌, ◌≡◌}
 use Rattle.mo_file.specs.declared.byte_order.Order.{Order}
-use Rattle.po_syntax.specs.Prelude.{IsSmall}
-use Rattle.po_compile.specs.Prelude.{NoFaultWhereAccepted}
-use Rattle.po_entry.specs.declared.duplicate.JoinError.{JoinError}
-use Rattle.msgunfmt.specs.Prelude.{CompilesTo, NoFaultWhereUnformatted, OneText, UnformatThenCompile, IsUnformatted, IsUnformatFault, IsMsgunfmtRun}
-use Rattle.msgfmt.specs.declared.options.MsgfmtOptions.{MsgfmtOptions}
-use Rattle.msgfmt.specs.Prelude.{IsDone, IsMsgfmtRun, compile_options, input_texts}
-use Rattle.runs.specs.Prelude.{NamedFile, RunView}
-use Rattle.po_tools.specs.Prelude.{ThereAndBack}
 
 done : (inputs : List NamedFile) (o : MsgfmtOptions) (run : RunView) → IsMsgfmtRun inputs o run → run.create ≡ true
     → IsDone inputs o run

@@ -1,20 +1,9 @@
 -- What msgcat wrote is written again by msgcat, and compiled as the text that it was written of.
-use Rattle.std.proofs.Common.{◌≡◌, ◌≢◌, inl, inr, ℕ, ◌<◌, zero, suc, Bool, true, false, cond, not, List, [], ◌∷◌, ◌++◌, refl, sym, ap, ap₂, ◌∙◌, subst, map, filter, length, get_or, arith}
-use Rattle.std.specs.Prelude.{All, Contains}
-use Rattle.std.proofs.lemmas.Bool.{cases_lt, not-true, false≢true}
-use Rattle.std.proofs.lemmas.List.{get_or_default, append-nil}
-use Rattle.std.proofs.lemmas.List.Elements.{All-nil, All-cons, All-head, All-tail, All-append, All-weaker, All-filter, All-contains_itself, filter-append, filter_passes}
+use Rattle.po_tools.proofs.Prelude.{All, All-append, All-cons, All-contains_itself, All-filter, All-head, All-nil, All-tail, All-weaker, AllDiffer, AreReadAs, Bool, Contains, HasAdmittedCharset, IsCatalogueEntry, IsInput, IsMerged, IsMsgcatRun, IsReadAs, IsSameMessage, IsSmall, IsText, IsTextFault, List, MergedCanStand, MessagesStandOnce, MsgcatAgain, MsgcatCompilesAlike, Named, NamedFile, NoFaultWhereDistinct, OneInputStays, ReadsText, RunView, TextEntry, [], ap, append-nil, ap₂, arith, arranged, cases_lt, compiled_list, cond, false, false≢true, filter, filter-append, filter_passes, get_or, get_or_default, inl, inr, is_compiled, is_live, keep_all, length, map, merged, message_of, not, not-true, refl, subst, suc, sym, true, with_line, written_text, zero, ℕ, ◌++◌, ◌<◌, ◌∙◌, ◌∷◌, ◌≡◌, ◌≢◌}
 use Rattle.std.proofs.lemmas.List.Kept.{AllPairs-cons, AllPairs-filter}
 use Rattle.std.proofs.lemmas.Simd.{map-map}
-use Rattle.po_syntax.specs.Prelude.{IsText, IsSmall}
-use Rattle.po_entry.specs.Prelude.{TextEntry, with_line, HasAdmittedCharset, ReadsText, IsCatalogueEntry, IsTextFault, AllDiffer, IsSameMessage, is_live}
 use Rattle.po_entry.specs.Facts.FirstRepeats.{pairs_map, pairs_of_map}
-use Rattle.msgcat.specs.Prelude.{Named, merged, IsInput, MergedCanStand, MessagesStandOnce, OneInputStays, keep_all, AreReadAs, IsMerged, IsMsgcatRun, IsReadAs}
 use Rattle.msgcat.specs.declared.input.MergeOptions.{MergeOptions}
-use Rattle.po_writer.specs.Prelude.{arranged, written_text}
-use Rattle.po_compile.specs.Prelude.{compiled_list, is_compiled, message_of, NoFaultWhereDistinct}
-use Rattle.runs.specs.Prelude.{NamedFile, RunView}
-use Rattle.po_tools.specs.Prelude.{MsgcatAgain, MsgcatCompilesAlike}
 
 abbrev pub OneReading : Type 0
 OneReading = (text : List ℕ) (entries others : List TextEntry) → ReadsText text entries → ReadsText text others

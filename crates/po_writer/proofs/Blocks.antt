@@ -1,9 +1,5 @@
 -- Blocks of whole lines, and the items that they spell wherever they stand in a text.
-use Rattle.std.proofs.Common.{◌≢◌, ◌==◌, refl, ℕ, ◌+◌, ◌<◌, false, List, [], ◌∷◌, ◌++◌, ◌≡◌, append_assoc, arith}
-use Rattle.std.proofs.lemmas.Bool.{ne_eqb}
-use Rattle.std.proofs.lemmas.List.Elements.{All-weaker}
-use Rattle.std.proofs.lemmas.List.Splits.{slice_split_at}
-use Rattle.po_syntax.specs.Prelude.{SpellsLines, lines_of, HoldsItems, IsText, TextItem}
+use Rattle.po_writer.proofs.Prelude.{All-weaker, HoldsItems, IsText, List, SpellsLines, TextItem, [], append_assoc, arith, false, lines_of, ne_eqb, refl, slice_split_at, ℕ, ◌++◌, ◌+◌, ◌<◌, ◌==◌, ◌∷◌, ◌≡◌, ◌≢◌}
 use Rattle.po_writer.proofs.Utf8.{IsLine, text-empty, text-feed, text-append}
 
 -- the lines of a text, from this number on, spell these items

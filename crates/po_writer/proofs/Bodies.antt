@@ -1,15 +1,7 @@
 -- An entry's previous texts and own lines spell just these.
-use Rattle.std.proofs.Common.{◌≡◌, ◌^◌, refl, subst, ℕ, ◌+◌, ◌<◌, Bool, List, [], ◌∷◌, ◌++◌, length, codes, decimal, Option, Some, None, All, arith, length-append}
-use Rattle.std.specs.Prelude.{IfSome}
-use Rattle.std.proofs.lemmas.List.{append-nil}
-use Rattle.std.proofs.lemmas.List.Elements.{All-head, All-tail}
-use Rattle.po_syntax.specs.declared.item.Keyword.{Keyword}
-use Rattle.po_syntax.specs.declared.item.Keyword.TheVariants.{MsgCtxt, MsgId, MsgIdPlural, MsgStr, MsgStrAt}
-use Rattle.po_syntax.specs.Prelude.{IsText, TextItem}
-use Rattle.po_entry.specs.Prelude.{TextEntry, TextPrevious, with_line, PreviousText, previous_of, SpellsHead, AreInOrder, SpellsContext, SpellsKeywordText, SpellsForms, SpellsTranslation, SpellsBody}
-use Rattle.po_entry.specs.Spelling.{own_marks, previous_marks, none, with, without}
+use Rattle.po_writer.proofs.Prelude.{All, All-head, All-tail, AreInOrder, Bool, IfSome, IsText, Keyword, List, MsgCtxt, MsgId, MsgIdPlural, MsgStr, MsgStrAt, None, Option, PreviousText, Some, SpellsBody, SpellsContext, SpellsForms, SpellsHead, SpellsKeywordText, SpellsTranslation, TextEntry, TextItem, TextPrevious, [], append-nil, arith, codes, decimal, form_lines, keyword_lines, length, length-append, optional_lines, own_lines, own_marks, previous_lines, previous_marks, previous_of, refl, subst, translation_lines, with, with_line, without, ℕ, ◌++◌, ◌+◌, ◌<◌, ◌^◌, ◌∷◌, ◌≡◌}
+use Rattle.po_entry.specs.Spelling.{none}
 use Rattle.po_entry.specs.Spelling as spell
-use Rattle.po_writer.specs.Prelude.{keyword_lines, optional_lines, own_lines, previous_lines, form_lines, translation_lines}
 use Rattle.po_writer.proofs.Blocks.{Block, empty_block, two_blocks, weaker_block}
 use Rattle.po_writer.proofs.KeywordTexts.{TextPart, IsLinePrefix, IsLineKeyword, text_block}
 use Rattle.po_writer.proofs.Numbered.{context_written, id_written, plural_written, single_written, numbered}

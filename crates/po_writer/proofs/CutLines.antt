@@ -1,13 +1,7 @@
 -- A text is written line by line.
-use Rattle.std.proofs.Common.{◌≡◌, ◌≢◌, ◌∙◌, refl, sym, ap, subst, ℕ, ◌<◌, cond, nat_lt, List, [], ◌∷◌, ◌++◌, drop, length, length-append, append-nil, append_assoc, inl, inr, arith}
-use Rattle.std.specs.List.{concat, flat_map}
+use Rattle.po_writer.proofs.Prelude.{All-nil, ContainsLines, EachEndsInItsOnlyFeed, Lacks, List, WritesText, [], ap, append_assoc, arith, concat, cond, cond-true, drop, each_line, ended, flat_map, inl, inr, last, length, length-append, lines_are, lines_with_ends, lt-ltb, nat_lt, none, one_ended_line, one_line, refl, string_line, subst, sym, text_lines, ℕ, ◌++◌, ◌<◌, ◌∙◌, ◌∷◌, ◌≡◌, ◌≢◌}
+use Rattle.std.proofs.Common.{append-nil}
 use Rattle.std.proofs.lemmas.List.Concat.{concat_is}
-use Rattle.std.proofs.lemmas.Bool.{cond-true, lt-ltb}
-use Rattle.std.proofs.lemmas.List.Elements.{All-nil}
-use Rattle.po_entry.specs.Prelude.{Lacks}
-use Rattle.po_syntax.specs.Facts.LinesWithEnds.{ContainsLines, lines_are, lines_with_ends, none, last, ended}
-use Rattle.po_writer.specs.Prelude.{WritesText, EachEndsInItsOnlyFeed, string_line, text_lines}
-use Rattle.po_writer.specs.Laws.{one_line, one_ended_line, each_line}
 
 -- what is written of a text with these lines
 abbrev written : List ℕ → List ℕ → List (List ℕ) → List ℕ

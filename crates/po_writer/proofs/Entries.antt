@@ -1,19 +1,8 @@
 -- A written entry reads as the entry, but for its line.
-use Rattle.std.proofs.Common.{◌≡◌, ◌==◌, ◌∙◌, ◌^◌, not, refl, ap, subst, ℕ, ◌<◌, Bool, true, false, List, [], ◌∷◌, ◌++◌, length, length-append, fold, codes, Option, All, option_to_list, arith}
-use Rattle.std.specs.List.{flat_map, list_any}
-use Rattle.std.proofs.lemmas.List.{append-nil}
-use Rattle.std.proofs.lemmas.List.Elements.{All-cons, All-head, All-weaker}
-use Rattle.std.proofs.lemmas.Bool.{ne_eqb, not-true}
-use Rattle.std.proofs.lemmas.List.Sums.{AllPass-from_list_all}
-use Rattle.po_syntax.specs.declared.item.CommentKind.{CommentKind}
-use Rattle.po_syntax.specs.declared.item.CommentKind.TheVariants.{Translator, Extracted, Reference, Flags}
-use Rattle.po_syntax.specs.Prelude.{TextItem, IsText, IsComment}
-use Rattle.po_entry.specs.Prelude.{TextEntry, with_line, IsTranslatorComment, IsReference, IsFlag, IsEntry, texts_of, references_of, all_listed_flags, fuzzy_of, flags_of, listed_references, listed_flags, is_fuzzy_flag, with_flag, CommentText, with_head, SpellsHead, SpellsEntry}
-use Rattle.po_syntax.specs.Facts.AllAppend.{All-left, All-right}
-use Rattle.po_entry.specs.Spelling.{own_marks, previous_marks, entry}
+use Rattle.po_writer.proofs.Prelude.{All, All-cons, All-head, All-left, All-right, All-weaker, AllPass-from_list_all, Bool, CommentKind, CommentText, Extracted, Flags, IsComment, IsEntry, IsFlag, IsReference, IsText, IsTranslatorComment, List, Option, Reference, SpellsEntry, SpellsHead, TextEntry, TextItem, Translator, [], all_flags, all_listed_flags, ap, append-nil, arith, codes, comment_lines, elements_line, entry, entry_lines, false, flags_of, flat_map, fuzzy_of, is_fuzzy_flag, length, length-append, list_any, listed_flags, listed_references, ne_eqb, not, not-true, option_to_list, own_lines, own_marks, own_prefix, previous_lines, previous_marks, previous_prefix, references_of, refl, subst, texts_of, true, with_flag, with_head, with_line, ℕ, ◌++◌, ◌<◌, ◌==◌, ◌^◌, ◌∙◌, ◌∷◌, ◌≡◌}
+use Rattle.std.proofs.Common.{fold}
 use Rattle.po_entry.proofs.Checks.{on_option}
 use Rattle.po_entry.proofs.QuotedParts.{quoted_parts}
-use Rattle.po_writer.specs.Prelude.{all_flags, comment_lines, elements_line, previous_lines, previous_prefix, own_lines, own_prefix, entry_lines}
 use Rattle.po_writer.proofs.Utf8.{line-append, plain_line}
 use Rattle.po_writer.proofs.Blocks.{Block, two_blocks, weaker_block}
 use Rattle.po_writer.proofs.Tokens.{no_prefix, previous_live, previous_obsolete, own_obsolete}

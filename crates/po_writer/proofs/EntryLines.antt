@@ -1,9 +1,7 @@
 -- An entry is written line by line, and entries one after another.
-use Rattle.std.proofs.Common.{◌≡◌, ℕ, ◌+◌, Bool, true, false, cond, not, List, [], ◌∷◌, ◌++◌, Option, None, Some, refl, sym, ap, ◌∙◌, subst, length, filter, codes, decimal, append_assoc, append-nil, arith}
-use Rattle.std.specs.List.{flat_map}
-use Rattle.po_entry.specs.Prelude.{TextEntry, IsEntry}
-use Rattle.po_writer.specs.Prelude.{WritesComments, WritesFurther, WritesElements, WritesFlags, IsPreviousPrefix, IsOwnPrefix, WritesKeyword, WritesOptional, WritesForms, WritesTranslation, WritesEntry, HasParts, IsArranged, FollowEntries, StandInOrder, all_flags, arranged, comment_lines, elements_line, entry_lines, form_lines, in_order, keyword_lines, optional_lines, own_prefix, previous_prefix, translation_lines}
-use Rattle.po_writer.specs.Laws.{no_comments, comment, line_end, next_element, no_line, line, plain, fuzzy, previous_live, previous_obsolete, own_live, own_obsolete, written, absent, present, no_forms, form, only, with_plural, previous, own, entry, live_before, no_entries, live_first, obsolete_first, no_further, after_empty_line, no_text, first_entry}
+use Rattle.po_writer.proofs.Prelude.{Bool, FollowEntries, HasParts, IsArranged, IsEntry, IsOwnPrefix, IsPreviousPrefix, List, None, Option, Some, StandInOrder, TextEntry, WritesComments, WritesElements, WritesEntry, WritesFlags, WritesForms, WritesFurther, WritesKeyword, WritesOptional, WritesTranslation, [], absent, after_empty_line, all_flags, ap, append_assoc, arith, arranged, codes, comment_lines, cond, decimal, elements_line, entry_lines, false, filter, first_entry, flat_map, form, form_lines, fuzzy, in_order, keyword_lines, length, line, line_end, live_before, live_first, next_element, no_comments, no_entries, no_forms, no_further, no_line, no_text, not, obsolete_first, only, optional_lines, own, own_live, own_obsolete, own_prefix, plain, present, previous_live, previous_obsolete, previous_prefix, refl, subst, sym, translation_lines, true, with_plural, written, ℕ, ◌++◌, ◌+◌, ◌∙◌, ◌∷◌, ◌≡◌}
+use Rattle.std.proofs.Common.{append-nil}
+use Rattle.po_writer.specs.Laws.{comment, previous, entry}
 use Rattle.po_writer.proofs.CutLines.{texts_are_written}
 
 comments_written : (mark : List ℕ) (texts : List (List ℕ)) → WritesComments mark texts (comment_lines mark texts)

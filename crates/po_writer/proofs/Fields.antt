@@ -1,16 +1,8 @@
 -- The comments of a written entry give its fields back.
-use Rattle.std.proofs.Common.{◌≡◌, ◌∙◌, ◌||◌, refl, sym, ap, ap₂, ℕ, ◌<◌, Bool, true, false, cond, List, [], ◌∷◌, ◌++◌, append_assoc, length, map, filter, fold, bytes_eq, codes, All, Contains, slice_index_or}
-use Rattle.std.specs.List.{flat_map, list_any}
-use Rattle.std.proofs.lemmas.List.{append-nil, map-append, get_or_default}
-use Rattle.std.proofs.lemmas.List.Elements.{All-head, All-tail, filter-append}
+use Rattle.po_writer.proofs.Prelude.{All, All-head, All-tail, AreDistinct, Bool, CommentKind, CommentText, Contains, Extracted, Flags, IsReference, List, Reference, Translator, [], all_flags, ap, append-nil, append_assoc, ap₂, bytes_eq, codes, cond, elements_line, false, false_from_ne_true, filter, filter-append, flat_map, get_or_default, is_fuzzy_flag, length, list_any, listed_flags, listed_references, map, map-append, nothing, refl, same_kind, slice_index_or, sym, texts_of, true, with_flag, ℕ, ◌++◌, ◌<◌, ◌||◌, ◌∙◌, ◌∷◌, ◌≡◌}
+use Rattle.std.proofs.Common.{fold}
 use Rattle.std.proofs.lemmas.List.Folds.{list_any-append, list_any_none}
-use Rattle.std.proofs.lemmas.Bool.{false_from_ne_true}
 use Rattle.std.proofs.lemmas.Slice.Eq.{bytes_eq-Decides}
-use Rattle.po_syntax.specs.declared.item.CommentKind.{CommentKind}
-use Rattle.po_syntax.specs.declared.item.CommentKind.TheVariants.{Translator, Extracted, Reference, Flags}
-use Rattle.po_entry.specs.Prelude.{AreDistinct, CommentText, same_kind, texts_of, listed_flags, listed_references, is_fuzzy_flag, with_flag, IsReference}
-use Rattle.po_entry.specs.Spelling.{nothing}
-use Rattle.po_writer.specs.Prelude.{elements_line, all_flags}
 use Rattle.po_writer.proofs.Utf8.{IsLine, line-append, plain_line}
 use Rattle.po_writer.proofs.Blocks.{Block, BeginsLow, empty_block}
 use Rattle.po_writer.proofs.Heads.{HeadPart, head_comments, IsCommentLine, comment_block}

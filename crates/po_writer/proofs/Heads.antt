@@ -1,16 +1,6 @@
 -- The comments and previous texts that stand before an entry's own lines.
-use Rattle.std.proofs.Common.{◌≡◌, ◌==◌, ◌||◌, refl, sym, subst, ℕ, true, List, [], ◌∷◌, ◌++◌, append_assoc, codes, All, Contains, arith}
-use Rattle.std.proofs.lemmas.Bool.{eqb-true, false_from_ne_true}
-use Rattle.std.proofs.lemmas.List.Elements.{All-head, All-tail}
-use Rattle.po_syntax.specs.declared.item.CommentKind.{CommentKind}
-use Rattle.po_syntax.specs.declared.item.CommentKind.TheVariants.{Translator, Extracted, Reference, Flags}
-use Rattle.po_syntax.specs.Prelude.{trim_returns, TextItem, is_mark, SpellsComment, HoldsItems}
-use Rattle.po_syntax.specs.Item.{Comment}
-use Rattle.po_syntax.specs.Line.{extracted, reference, flags, translator, comment}
+use Rattle.po_writer.proofs.Prelude.{All, All-head, All-tail, Comment, CommentKind, CommentText, Contains, Extracted, Flags, HoldsItems, IsTranslatorComment, List, PreviousText, Reference, SpellsComment, SpellsHead, TextItem, Translator, [], append_assoc, arith, codes, comment, comment_lines, eqb-true, extracted, false_from_ne_true, flags, head_comment, is_mark, nothing, previous_text, reference, refl, subst, sym, translator, trim_returns, true, ℕ, ◌++◌, ◌==◌, ◌||◌, ◌∷◌, ◌≡◌}
 use Rattle.po_syntax.proofs.SpeltKeywords.{or_step}
-use Rattle.po_entry.specs.Prelude.{CommentText, PreviousText, SpellsHead, IsTranslatorComment}
-use Rattle.po_entry.specs.Spelling.{nothing, head_comment, previous_text}
-use Rattle.po_writer.specs.Prelude.{comment_lines}
 use Rattle.po_writer.proofs.Utf8.{IsLine}
 use Rattle.po_writer.proofs.Blocks.{Block, BeginsLow, empty_block, two_blocks, line_block}
 

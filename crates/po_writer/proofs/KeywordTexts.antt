@@ -1,17 +1,6 @@
 -- A keyword with its text, on one line or more, spells the keyword and strings that give the text.
-use Rattle.std.proofs.Common.{◌≡◌, ◌∙◌, nat_lt, refl, sym, ap, subst, ℕ, List, [], ◌∷◌, ◌++◌, append_assoc, length, All, arith}
-use Rattle.std.specs.List.{flat_map}
-use Rattle.std.proofs.lemmas.List.{append-nil}
-use Rattle.std.proofs.lemmas.List.Elements.{All-head, All-tail}
-use Rattle.std.proofs.lemmas.Bool.{cond_both}
-use Rattle.po_syntax.specs.declared.item.Keyword.{Keyword}
-use Rattle.po_syntax.specs.declared.item.Marks.{Marks}
-use Rattle.po_syntax.specs.Prelude.{IsText, TextItem, quoted}
-use Rattle.po_syntax.specs.Item.{Word, Str}
-use Rattle.po_entry.specs.Prelude.{SpellsStrings, SpellsKeywordText}
-use Rattle.po_entry.specs.Spelling.{last, more, keyword_text}
-use Rattle.po_syntax.specs.Facts.LinesWithEnds.{lines_with_ends, lines_are}
-use Rattle.po_writer.specs.Prelude.{string_line, keyword_lines}
+use Rattle.po_writer.proofs.Prelude.{All, All-head, All-tail, IsText, Keyword, List, Marks, SpellsKeywordText, SpellsStrings, Str, TextItem, Word, [], ap, append-nil, append_assoc, arith, cond_both, flat_map, keyword_lines, keyword_text, length, lines_are, lines_with_ends, more, nat_lt, quoted, refl, string_line, subst, sym, ℕ, ◌++◌, ◌∙◌, ◌∷◌, ◌≡◌}
+use Rattle.po_entry.specs.Spelling.{last}
 use Rattle.po_writer.proofs.CutLines.{flat_lines}
 use Rattle.po_writer.proofs.Utf8.{IsLine, line-append, quoted_line, text_some, text_lines, text-empty, plain_line}
 use Rattle.po_writer.proofs.Blocks.{Block, BeginsLow, low-append, empty_block, two_blocks, weaker_block, line_block}

@@ -1,9 +1,6 @@
 -- The lines of a text, each with the LF that ends it.
-use Rattle.std.proofs.Common.{◌≡◌, ◌==◌, nat_lt, not, if◌then◌else◌, refl, sym, ℕ, zero, suc, ◌+◌, ◌<◌, Bool, true, false, List, [], ◌∷◌, length, take, drop, Some, None, arith, add-one}
-use Rattle.std.specs.List.{onto_first}
-use Rattle.std.proofs.lemmas.Bool.{false_from_ne_true, eqb-true, lt-ltb, ne_eqb}
+use Rattle.po_writer.proofs.Prelude.{Bool, List, None, Some, [], add-one, arith, drop, eqb-true, false, false_from_ne_true, if◌then◌else◌, length, lines_with_ends, lt-ltb, nat_lt, ne_eqb, not, onto_first, refl, suc, sym, take, true, zero, ℕ, ◌+◌, ◌<◌, ◌==◌, ◌∷◌, ◌≡◌}
 use Rattle.memchr.specs.Find.{IsFirstByte, Passes, is_byte}
-use Rattle.po_syntax.specs.Facts.LinesWithEnds.{lines_with_ends}
 
 abbrev NoFeedBelow : List ℕ → ℕ → Type 0
 NoFeedBelow text end = (k : ℕ) → k < end → Passes (is_byte 10) text k → ⊥

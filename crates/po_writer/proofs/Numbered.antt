@@ -1,11 +1,8 @@
 -- The keywords of an entry's lines, that of a plural form with its index.
-use Rattle.std.proofs.Common.{◌≡◌, ◌^◌, refl, sym, subst, ℕ, ◌<◌, ◌≤◌, List, [], ◌∷◌, ◌++◌, append_assoc, codes, decimal, All, arith}
+use Rattle.po_writer.proofs.Prelude.{All, All-cons, All-nil, IsBlank, List, MsgCtxt, MsgId, MsgIdPlural, MsgStr, MsgStrAt, SpellsKeyword, [], append_assoc, arith, codes, decimal, refl, subst, sym, ℕ, ◌++◌, ◌<◌, ◌^◌, ◌∷◌, ◌≡◌, ◌≤◌}
 use Rattle.std.specs.Str.Parse.{AllDigits, IsNumeral, digits_value}
 use Rattle.std.proofs.lemmas.Fmt.{decimal_is_IsNumeral}
 use Rattle.std.proofs.lemmas.Str.Parse.{digit_from_value}
-use Rattle.std.proofs.lemmas.List.Elements.{All-nil, All-cons}
-use Rattle.po_syntax.specs.declared.item.Keyword.TheVariants.{MsgCtxt, MsgId, MsgIdPlural, MsgStr, MsgStrAt}
-use Rattle.po_syntax.specs.Prelude.{IsBlank, SpellsKeyword}
 use Rattle.po_syntax.specs.Token.{form}
 use Rattle.po_writer.proofs.KeywordTexts.{IsLineKeyword}
 use Rattle.po_writer.proofs.Tokens.{context_keyword, id_keyword, plural_keyword, single_keyword}

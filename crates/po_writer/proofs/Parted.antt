@@ -1,12 +1,6 @@
 -- A written text in two parts.
-use Rattle.std.proofs.Common.{◌≡◌, ◌∙◌, sym, ap, ◌<◌, ◌==◌, List, [], ◌∷◌, ◌++◌, Bool, true, false, cond, not, filter, length, append-nil, append_assoc, arith, vec_len}
-use Rattle.std.specs.Prelude.{fold}
-use Rattle.std.proofs.lemmas.List.Elements.{filter-append}
-use Rattle.std.proofs.lemmas.List.Sums.{fold-append}
-use Rattle.std.proofs.lemmas.Bool.{eqb-true, eqb-false}
-use Rattle.po_entry.specs.Prelude.{TextEntry}
-use Rattle.po_writer.specs.Prelude.{with_entry, in_order, written_text, AreAdded, AreParts}
-use Rattle.po_writer.specs.declared.parts.TextParts.{TextParts}
+use Rattle.po_writer.proofs.Prelude.{AreAdded, AreParts, Bool, List, TextEntry, TextParts, [], ap, append_assoc, arith, cond, eqb-false, eqb-true, false, filter, filter-append, fold, fold-append, in_order, length, not, sym, true, vec_len, with_entry, written_text, ◌++◌, ◌<◌, ◌==◌, ◌∙◌, ◌∷◌, ◌≡◌}
+use Rattle.std.proofs.Common.{append-nil}
 use Rattle.po_writer.proofs.Separated.{further, joined, some_text}
 
 -- further entries after those of a part

@@ -1,13 +1,6 @@
 -- What is written of the arranged entries, whatever their lines are, is what is written of the
 -- entries.
-use Rattle.std.proofs.Common.{◌≡◌, ◌∙◌, not, refl, sym, ap, Bool, true, false, cond, List, [], ◌∷◌, ◌++◌, map, filter}
-use Rattle.std.specs.List.{flat_map, join_by}
-use Rattle.std.proofs.lemmas.List.{append-nil, map-append}
-use Rattle.std.proofs.lemmas.List.Elements.{All-weaker, filter-append, filter_passes}
-use Rattle.std.proofs.lemmas.Bool.{not-true, not_from_true}
-use Rattle.po_syntax.specs.Facts.Filters.{all_pass, none_pass}
-use Rattle.po_entry.specs.Prelude.{TextEntry, with_line}
-use Rattle.po_writer.specs.Prelude.{entry_lines, arranged, written_text}
+use Rattle.po_writer.proofs.Prelude.{All-weaker, Bool, List, TextEntry, [], all_pass, ap, append-nil, arranged, cond, entry_lines, false, filter, filter-append, filter_passes, flat_map, join_by, map, map-append, none_pass, not, not-true, not_from_true, refl, sym, true, with_line, written_text, ◌++◌, ◌∙◌, ◌∷◌, ◌≡◌}
 
 -- the entries without their lines
 abbrev pub unnumbered : List TextEntry → List TextEntry

@@ -1,14 +1,5 @@
 -- The entries written one after the other are the written text.
-use Rattle.std.proofs.Common.{◌≡◌, ◌∙◌, refl, sym, ap, ℕ, ◌<◌, List, [], ◌∷◌, ◌++◌, Bool, true, false, cond, not, filter, length, length-append, append_assoc, codes, arith, All}
-use Rattle.std.specs.Prelude.{fold}
-use Rattle.std.specs.List.{flat_map, join_by}
-use Rattle.std.proofs.lemmas.List.{append-nil}
-use Rattle.std.proofs.lemmas.List.Elements.{All-push}
-use Rattle.std.proofs.lemmas.List.Sums.{fold_push}
-use Rattle.std.proofs.lemmas.Bool.{ne_eqb}
-use Rattle.po_syntax.specs.Facts.Filters.{all_pass, none_pass}
-use Rattle.po_entry.specs.Prelude.{TextEntry}
-use Rattle.po_writer.specs.Prelude.{with_entry, own_prefix, optional_lines, keyword_lines, text_lines, translation_lines, own_lines, entry_lines, arranged, written_text}
+use Rattle.po_writer.proofs.Prelude.{All, All-push, Bool, List, TextEntry, [], all_pass, ap, append-nil, append_assoc, arith, arranged, codes, cond, entry_lines, false, filter, flat_map, fold, fold_push, join_by, keyword_lines, length, length-append, ne_eqb, none_pass, not, optional_lines, own_lines, own_prefix, refl, sym, text_lines, translation_lines, true, with_entry, written_text, ℕ, ◌++◌, ◌<◌, ◌∙◌, ◌∷◌, ◌≡◌}
 
 some_after : (xs ys : List ℕ) → 0 < length ys → 0 < length (xs ++ ys)
 some_after xs ys h = omega (arith, length-append xs ys)

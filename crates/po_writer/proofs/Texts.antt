@@ -1,15 +1,6 @@
 -- The written text of a list of entries reads as the arranged list, but for the lines.
-use Rattle.std.proofs.Common.{◌≡◌, ◌^◌, not, refl, ap, ℕ, ◌<◌, List, [], ◌∷◌, ◌++◌, length, length-append, map, filter, All, arith}
-use Rattle.std.specs.List.{flat_map, join_by}
-use Rattle.std.specs.Str.{IsUtf8}
-use Rattle.std.proofs.lemmas.List.{append-nil}
-use Rattle.std.proofs.lemmas.List.Elements.{All-nil, All-cons, All-head, All-tail, All-append, All-weaker, All-filter}
-use Rattle.std.proofs.lemmas.Bool.{ne_eqb}
-use Rattle.po_syntax.specs.Prelude.{IsSmall, SpellsText, without_byte_order_mark, TextItem, IsText}
-use Rattle.po_syntax.specs.Line.{end, live}
-use Rattle.po_entry.specs.Prelude.{Lacks, TextEntry, with_line, quoted_texts, HasAdmittedCharset, IsEntry, IsCatalogueEntry, HasTexts, SpellsEntries, ReadsText}
-use Rattle.po_entry.specs.Spelling.{nothing, comments, entries as joined_entries}
-use Rattle.po_writer.specs.Prelude.{entry_lines, arranged, written_text}
+use Rattle.po_writer.proofs.Prelude.{All, All-append, All-cons, All-filter, All-head, All-nil, All-tail, All-weaker, HasAdmittedCharset, HasTexts, IsCatalogueEntry, IsEntry, IsSmall, IsText, IsUtf8, Lacks, List, ReadsText, SpellsEntries, SpellsText, TextEntry, TextItem, [], ap, append-nil, arith, arranged, comments, end, entry_lines, filter, flat_map, join_by, length, length-append, live, map, ne_eqb, not, nothing, quoted_texts, refl, with_line, without_byte_order_mark, written_text, ℕ, ◌++◌, ◌<◌, ◌^◌, ◌∷◌, ◌≡◌}
+use Rattle.po_entry.specs.Spelling.{entries as joined_entries}
 use Rattle.po_writer.proofs.Utf8.{plain_line}
 use Rattle.po_writer.proofs.Blocks.{Spells, Block, BeginsLow, empty_block, two_blocks, line_block}
 use Rattle.po_writer.proofs.Entries.{EntryPart, entry_block}

@@ -1,12 +1,6 @@
 -- What a written line spells: the marks of its prefix, its keyword and its string.
-use Rattle.std.proofs.Common.{refl, ℕ, ◌<◌, false, true, List, [], ◌∷◌, ◌++◌, codes, All}
-use Rattle.po_syntax.specs.declared.item.Keyword.{Keyword}
-use Rattle.po_syntax.specs.declared.item.Keyword.TheVariants.{MsgCtxt, MsgId, MsgIdPlural, MsgStr}
-use Rattle.po_syntax.specs.declared.item.Marks.{Marks}
-use Rattle.po_syntax.specs.Prelude.{quoted, written_bytes, SpellsKeyword, HoldsTokens, own_marks, previous_marks, HoldsItems, TextItem}
-use Rattle.po_syntax.specs.Token.{msgctxt, msgid, msgid_plural, msgstr}
-use Rattle.po_syntax.specs.Line.{end, blank, keyword, string, live, previous, obsolete, obsolete_previous}
-use Rattle.po_syntax.specs.Item.{Word, Str}
+use Rattle.po_writer.proofs.Prelude.{All, HoldsItems, HoldsTokens, Keyword, List, Marks, MsgCtxt, MsgId, MsgIdPlural, MsgStr, SpellsKeyword, Str, TextItem, Word, [], blank, codes, end, false, keyword, live, msgctxt, msgid, msgid_plural, msgstr, obsolete, obsolete_previous, previous, quoted, refl, string, true, written_bytes, ℕ, ◌++◌, ◌<◌, ◌∷◌}
+use Rattle.po_syntax.specs.Prelude.{own_marks, previous_marks}
 use Rattle.po_syntax.proofs.QuotedForms.{bytes_spell}
 
 -- after the prefix, tokens stand under these marks

@@ -1,19 +1,10 @@
 -- Texts that may stand on a line, as the written bytes of UTF-8 may.
-use Rattle.std.proofs.Common.{◌≡◌, ◌≢◌, ◌&&◌, ◌/◌, ◌%◌, nat_lt, sym, subst, ℕ, ◌+◌, ◌<◌, ◌≤◌, Bool, true, false, cond, List, [], ◌∷◌, ◌++◌, All, get_or, length, length-append, append_assoc, arith, ⊎_elim}
-use Rattle.std.specs.List.{list_all}
-use Rattle.std.specs.Str.{IsUtf8, encode_utf8_all, all_scalars}
+use Rattle.po_writer.proofs.Prelude.{All, All-append, All-cons, All-left, All-nil, All-right, AllPass-from_list_all, Bool, ContainsLines, IsText, IsUtf8, Lacks, List, [], all_scalars, and_parts, append_assoc, arith, cond, cond_both, encode_utf8_all, ended, false, get_or, last, length, length-append, list_all, ltb-true, nat_lt, none, quoted, subst, sym, true, ℕ, ⊎_elim, ◌%◌, ◌&&◌, ◌++◌, ◌+◌, ◌/◌, ◌<◌, ◌∷◌, ◌≡◌, ◌≢◌, ◌≤◌}
 use Rattle.std.proofs.Math.Utf8.{encode, scalar_cases}
 use Rattle.std.proofs.Math.Seq.{take-append_seam, drop-append_seam, get_or-append_seam}
 use Rattle.std.proofs.lemmas.Str.{IsUtf8-append, IsUtf8-nil, IsUtf8-from_ascii, IsUtf8-take, IsUtf8-drop, IsCharBoundary-after_ascii}
 use Rattle.std.proofs.lemmas.Str.Ascii.{IsAscii-from_all, IsAscii-cons, IsAscii-nil}
-use Rattle.std.proofs.lemmas.List.Elements.{All-nil, All-cons, All-append}
-use Rattle.std.proofs.lemmas.Bool.{cond_both, ltb-true, and_parts}
-use Rattle.std.proofs.lemmas.List.Sums.{AllPass-from_list_all}
-use Rattle.po_syntax.specs.Prelude.{IsText, quoted}
 use Rattle.po_syntax.proofs.QuotedTexts.{quoted_utf8, quoted_shown}
-use Rattle.po_entry.specs.Prelude.{Lacks}
-use Rattle.po_syntax.specs.Facts.AllAppend.{All-left, All-right}
-use Rattle.po_syntax.specs.Facts.LinesWithEnds.{ContainsLines, none, last, ended}
 
 abbrev IsByte : ℕ → Type 0
 IsByte b = b < 256

@@ -1,14 +1,7 @@
 -- A line of elements between separators gives the elements back.
-use Rattle.std.proofs.Common.{◌≡◌, ◌≢◌, ◌∙◌, ◌==◌, refl, sym, ap, subst, ℕ, suc, ◌+◌, ◌<◌, false, List, [], ◌∷◌, ◌++◌, append_assoc, append-nil, length, length-append, drop, map, filter, All, arith}
-use Rattle.std.specs.List.{flat_map, slice_split, prefix_len}
-use Rattle.std.proofs.lemmas.List.{same_from_push}
-use Rattle.std.proofs.lemmas.List.Elements.{All-nil, All-cons, All-head, All-tail}
-use Rattle.std.proofs.lemmas.List.Splits.{slice_split_at, slice_split_none}
-use Rattle.std.proofs.lemmas.Bool.{ne_eqb, or_parts}
+use Rattle.po_writer.proofs.Prelude.{All, All-cons, All-head, All-nil, All-right, All-tail, IsReference, List, [], ap, append_assoc, arith, drop, false, filter, flat_map, is_blank, is_not_empty, length, length-append, listed_flags, listed_references, map, ne_eqb, or_parts, prefix_len, refl, same_from_push, skip_blanks, slice_split, slice_split_at, slice_split_none, subst, suc, sym, trim_returns, trimmed, without_end, ℕ, ◌++◌, ◌+◌, ◌<◌, ◌==◌, ◌∙◌, ◌∷◌, ◌≡◌, ◌≢◌}
+use Rattle.std.proofs.Common.{append-nil}
 use Rattle.po_syntax.specs.Facts.Runs.{FailsLast, from_end, end_parts, kept_is}
-use Rattle.po_syntax.specs.Prelude.{trim_returns, is_blank, skip_blanks, without_end}
-use Rattle.po_entry.specs.Prelude.{trimmed, listed_references, listed_flags, is_not_empty, IsReference}
-use Rattle.po_syntax.specs.Facts.AllAppend.{All-right}
 use Rattle.po_writer.proofs.Utf8.{IsLine, line-append}
 
 -- the text may stand on a line, holds a byte, and ends with no blank

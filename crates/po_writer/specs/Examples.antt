@@ -1,6 +1,6 @@
 -- A text that was written by hand (manual, "The Format of PO Files"), of two entries.
 -- tests/mutants/po_writer/definitions has a wrong form of each definition, which it refuses.
-use Rattle.std.specs.Prelude.{◌≡◌, refl, true, List, [], ◌∷◌, ◌++◌, Some, None, codes}
+use Rattle.std.specs.Prelude.{◌≡◌, refl, true, [], ◌∷◌, ◌++◌, Some, None, codes}
 use Rattle.std.specs.Fmt.{digits}
 use Rattle.po_syntax.specs.Prelude.{written_byte}
 use Rattle.po_entry.specs.Prelude.{TextEntry, plain_entry}

@@ -1,4 +1,5 @@
 -- The lemmas in reading order: each module stands on those above it.
+mod Prelude
 pub mod ValueLists
 pub mod Outcomes
 pub mod SystemCallLemmas

@@ -1,8 +1,6 @@
 -- What a writer took, by the result of the call.
-use Rattle.std.proofs.Common.{◌≡◌, ◌⊎◌, ◌+◌, inl, inr, ℕ, List, Result, Ok, Err, OnOk, OnErr}
+use Rattle.process.proofs.Prelude.{AppendsPrefix, Err, List, Ok, OnErr, OnOk, Puts, Result, Takes, WriterView, inl, inr, ℕ, ◌+◌, ◌≡◌, ◌⊎◌}
 use Rattle.std.specs.Io.KnownBytes.{Appends}
-use Rattle.runs.specs.Prelude.{AppendsPrefix, Takes, WriterView}
-use Rattle.process.specs.Prelude.{Puts}
 
 pub put : {T E : Type 0} (result : Result T E) (bytes : List ℕ) (before after : WriterView)
     → OnOk result (Appends before.bytes after.bytes bytes) → OnErr result (AppendsPrefix before.bytes after.bytes bytes)

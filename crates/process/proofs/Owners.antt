@@ -1,5 +1,5 @@
 -- When two owners are the same.
-use Rattle.std.proofs.Common.{ℕ, ◌≡◌, ◌≢◌, ◌==◌, ◌&&◌, true, false, refl, ap, sym, ◌∙◌}
+use Rattle.process.proofs.Prelude.{ap, false, refl, sym, true, ℕ, ◌&&◌, ◌==◌, ◌∙◌, ◌≡◌, ◌≢◌}
 use Rattle.std.proofs.lemmas.Bool.{and_parts, eq-eqb, eqb-true, false≢true}
 use Rattle.runs.specs.declared.output_files.Owner.{Owner}
 

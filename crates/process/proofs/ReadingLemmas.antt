@@ -1,11 +1,9 @@
 -- What reading a file comes to that was opened.
-use Rattle.std.proofs.Common.{◌≡◌, ◌≢◌, ◌⊎◌, inl, inr, refl, List, ℕ, Option, Some, Result, Ok, Err, OnOk, IfSome, MatchResult, take}
+use Rattle.process.proofs.Prelude.{Err, IfSome, List, MatchResult, Ok, OnOk, Option, ReadsFile, Result, Some, inl, input_limit, inr, refl, take, unread, ℕ, ◌≡◌, ◌≢◌, ◌⊎◌}
 use Rattle.runs.specs.Inputs.{gives, refuses}
-use Rattle.runs.specs.Prelude.{input_limit}
 use Rattle.runs.specs.declared.inputs.InputFault.{InputFault}
 use Rattle.runs.specs.declared.inputs.InputFault.TheVariants.{CannotOpen, ReadFault, OutOfMemory}
-use Rattle.process.specs.Prelude.{ReadsFile}
-use Rattle.process.specs.Reading.{read as all_read, unread}
+use Rattle.process.specs.Reading.{read as all_read}
 
 pub opened : {T : Type 0} {all : Option (List ℕ)} (opens : Option (Option (List ℕ)) → Type 0) (bytes : List ℕ)
     (result : Result T InputFault) → opens (Some all) → OnOk result (IfSome all (λ all. bytes ≡ take input_limit all))

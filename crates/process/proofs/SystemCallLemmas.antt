@@ -1,6 +1,5 @@
 -- How the calls of a function join to those of its caller.
-use Rattle.std.proofs.Common.{◌≡◌, ℕ, suc, Bool, List, [], ◌∷◌, ◌++◌, Some, None, refl, sym, ap, ◌∙◌, subst, append_assoc, append-nil}
-use Rattle.process.specs.Prelude.{Holds, CallLog, Does, SystemCall, called}
+use Rattle.process.proofs.Prelude.{Bool, CallLog, Does, Holds, List, None, Some, SystemCall, [], ap, append-nil, append_assoc, called, refl, subst, suc, sym, ℕ, ◌++◌, ◌∙◌, ◌∷◌, ◌≡◌}
 
 called-twice : (first rest : List SystemCall) (log : CallLog)
     → called rest (called first log) ≡ called (first ++ rest) log

@@ -1,7 +1,6 @@
 -- One value more after those that are there.
-use Rattle.std.proofs.Common.{◌≡◌, ℕ, suc, ◌+◌, List, [], ◌∷◌, ◌++◌, length, map, Option, Some, arith, subst, ap, ◌∙◌, length-append}
+use Rattle.process.proofs.Prelude.{AreValues, List, Option, Some, [], ap, arith, length, length-append, map, subst, suc, ℕ, ◌++◌, ◌+◌, ◌∙◌, ◌∷◌, ◌≡◌}
 use Rattle.std.proofs.lemmas.List.{length-map, map-append}
-use Rattle.process.specs.Prelude.{AreValues}
 
 values_then : (may_be : ℕ → Option (List ℕ) → Type 0) (first : ℕ) (texts : List (List ℕ)) (text : List ℕ)
     → AreValues may_be first texts → may_be (first + length texts) (Some text)

@@ -1,6 +1,6 @@
 //! The arguments, which are text, and the environment's variables, whose values are bytes and
 //! needn't be text.
-ghost use Rattle.std.specs.Prelude.{◌≡◌, ◌==◌, ◌⊎◌, ◌+◌, ◌++◌, ◌∷◌, [], ℕ, None, codes, length, map, string_bytes, true, vec_len, IfErr, IfOk, OnOk, option_map};
+ghost use Rattle.std.specs.Prelude.{◌≡◌, ◌==◌, ◌⊎◌, ℕ, None, length, map, string_bytes, true, IfErr, IfOk, OnOk, option_map};
 ghost use Rattle.std.specs.List.{slice_split};
 ghost use Rattle.process.specs.Prelude.{AreArguments, AreEntries, AreValues, HasNoText};
 

@@ -1,8 +1,6 @@
 -- Arguments that fit a usage are taken, and others are a fault.
-use Rattle.std.proofs.Common.{◌≡◌, Option, Some, None, Result, ok_or, option_map, refl, sym, subst}
-use Rattle.runs.specs.declared.program_fault.ProgramFault.{ProgramFault}
+use Rattle.runs.proofs.Prelude.{IsTaken, None, Option, ProgramFault, Result, Some, ok_or, option_map, refl, subst, sym, ◌≡◌}
 use Rattle.runs.specs.declared.program_fault.ProgramFault.TheVariants.{WrongArguments}
-use Rattle.runs.specs.Prelude.{IsTaken}
 
 pub taken_of : {T U : Type 0} (view : T → U) (given : Option T) (usage : Option U) (result : Result T ProgramFault)
     → result ≡ ok_or given WrongArguments → option_map view given ≡ usage → IsTaken view usage result

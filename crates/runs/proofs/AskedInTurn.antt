@@ -1,10 +1,5 @@
 -- What arguments ask for, by the cases of a relation.
-use Rattle.std.proofs.Common.{◌≡◌, ◌≢◌, ◌++◌, ◌||◌, inl, inr, ℕ, Bool, true, false, List, [], ◌∷◌, map, refl, ap, codes}
-use Rattle.std.proofs.lemmas.Bool.{cases_Bool, false_from_ne_true}
-use Rattle.std.proofs.lemmas.Bool.Decides.{not_from_Decides}
-use Rattle.std.proofs.lemmas.Slice.Eq.{bytes_eq-Decides}
-use Rattle.runs.specs.Prelude.{HaveFiles, AsksInTurn, Asked, asked_for, is_standard}
-use Rattle.runs.specs.Inputs.{no_files, one_more_file, standard_again, asks_nothing, asks_file, asks_standard, file_of}
+use Rattle.runs.proofs.Prelude.{Asked, AsksInTurn, Bool, HaveFiles, List, [], ap, asked_for, asks_file, asks_nothing, asks_standard, bytes_eq-Decides, cases_Bool, codes, false, false_from_ne_true, file_of, inl, inr, is_standard, map, no_files, not_from_Decides, one_more_file, refl, standard_again, true, ℕ, ◌++◌, ◌||◌, ◌∷◌, ◌≡◌, ◌≢◌}
 
 pub is_dash : (argument : List ℕ) → is_standard argument ≡ true → argument ≡ codes "-"
 is_dash argument is = (bytes_eq-Decides argument (codes "-")).0 is

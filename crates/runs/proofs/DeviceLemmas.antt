@@ -1,10 +1,7 @@
 -- Lemmas on what writers and readers do piece by piece.
-use Rattle.std.proofs.Common.{◌≡◌, ℕ, zero, suc, ◌+◌, ◌-◌, ◌<◌, ◌≤◌, List, [], ◌++◌, length, take, drop, Option, Some, None, IfSome, Result, Ok, Err, OnErr, sym, ap, subst, ◌∙◌, refl, ◌∷◌, append-nil, arith, length-take-le}
-use Rattle.std.proofs.lemmas.List.{append_assoc, drop-take, take-take, take_rest, take_all, take_at}
-use Rattle.std.proofs.Math.Seq.{take-add}
+use Rattle.runs.proofs.Prelude.{Appends, Consumes, Err, Gives, GivesFirst, IfSome, IsAtEnd, List, None, Ok, OnErr, Option, Result, Some, [], ap, append-nil, arith, drop, drop-take, length, length-take-le, refl, subst, suc, sym, take, take-add, take-take, take_all, take_at, take_rest, zero, ℕ, ◌++◌, ◌+◌, ◌-◌, ◌<◌, ◌∙◌, ◌∷◌, ◌≡◌, ◌≤◌}
+use Rattle.std.proofs.lemmas.List.{append_assoc}
 use Rattle.std.proofs.KnownBytes.{Appends-trans, Consumes-trans}
-use Rattle.runs.specs.Prelude.{Gives, GivesFirst}
-use Rattle.std.specs.Io.KnownBytes.{Appends, Consumes, IsAtEnd}
 
 -- the first n + k of xs: the first n, then the first k of what `&xs[n..]` is
 pub take-rest : (n k : ℕ) (xs : List ℕ) → take (n + k) xs ≡ take n xs ++ take k (take (length xs - n) (drop n xs))

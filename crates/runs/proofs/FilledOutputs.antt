@@ -1,14 +1,6 @@
 -- What an output comes to that a new file takes.
-use Rattle.std.proofs.Common.{◌≡◌, ◌≢◌, inl, inr, ℕ, true, false, List, [], Option, Some, None, refl, sym, ap, ◌∙◌, subst}
-use Rattle.runs.specs.declared.output_files.FileKind.TheVariants.{Regular}
-use Rattle.runs.specs.declared.output_files.OutputFault.{OutputFault}
-use Rattle.runs.specs.declared.output_files.OutputFault.TheVariants.{CannotCreate, WriteFault}
-use Rattle.runs.specs.declared.output_files.Owner.{Owner}
-use Rattle.runs.specs.declared.output_files.Rights.{Rights}
-use Rattle.runs.specs.Prelude.{Course, kept_mode, first_mode, Finishes, Fills, PathState, Files, put, with_bytes, with_mode, with_owner, IsNoLink, HasRights, FitsKind, IsWholeOrAsItWas, GivesNoMore, GivesNothingAway, KeepsMode, GivesNobodyMore, IsWhose}
-use Rattle.runs.specs.OutputFiles.{done, fails, ◌▸◌, makes, sets_owner, sets_mode, closes, renames, removes}
-use Rattle.runs.specs.OutputWriting.{whole, cut, late, replaced, unmoved, unwritten, replaces_none, with_rights, without_rights}
-use Rattle.runs.specs.Laws.{nothing, link, file, file_at}
+use Rattle.runs.proofs.Prelude.{CannotCreate, Course, Files, Fills, Finishes, FitsKind, GivesNoMore, GivesNobodyMore, GivesNothingAway, HasRights, IsNoLink, IsWholeOrAsItWas, IsWhose, KeepsMode, List, None, Option, OutputFault, Owner, PathState, Regular, Rights, Some, WriteFault, [], ap, closes, cut, fails, false, file, file_at, first_mode, inl, inr, kept_mode, late, link, makes, nothing, put, refl, removes, renames, replaced, replaces_none, sets_mode, sets_owner, subst, sym, true, unmoved, unwritten, whole, with_bytes, with_mode, with_owner, with_rights, without_rights, ℕ, ◌∙◌, ◌≡◌, ◌≢◌, ◌▸◌}
+use Rattle.runs.specs.OutputFiles.{done}
 use Rattle.runs.proofs.OutputSteps.{same_or_other, put_there, put_elsewhere, same_path, taken_all, as_it_was, nothing_given, Ends, next, stopped}
 use Rattle.runs.proofs.RightsLemmas.{nobody_gets_more, private_gives_nobody_more}
 

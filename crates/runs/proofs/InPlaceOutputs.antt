@@ -1,13 +1,6 @@
 -- What an output comes to that is written in place, or to an open stream.
-use Rattle.std.proofs.Common.{◌≡◌, ◌≢◌, ◌==◌, inl, inr, ℕ, List, [], Option, Some, None, refl, sym, ap, ◌∙◌, subst}
-use Rattle.std.proofs.lemmas.Bool.{cond-true, cond-false, eq-eqb, ne_eqb}
-use Rattle.std.specs.Io.KnownBytes.{Appends}
-use Rattle.runs.specs.declared.output_files.OutputFault.TheVariants.{CannotCreate}
-use Rattle.runs.specs.declared.output_files.Owner.{Owner}
-use Rattle.runs.specs.Prelude.{Course, Puts, WritesStream, WritesInPlace, PathState, Files, put, put_stream, with_bytes, HasRights, GivesAll, GivesNothingAway}
-use Rattle.runs.specs.OutputFiles.{◌▸◌, opens, fails_to_open, takes_stream, lacks_stream}
-use Rattle.runs.specs.OutputWriting.{whole, cut, late, put as all_put, unput, lacking, taken as stream_taken, unopened, opened}
-use Rattle.runs.specs.Laws.{file, file_at, stream_of}
+use Rattle.runs.proofs.Prelude.{Appends, CannotCreate, Course, Files, GivesAll, GivesNothingAway, HasRights, List, None, Option, Owner, PathState, Puts, Some, WritesInPlace, WritesStream, [], ap, cond-false, cond-true, cut, eq-eqb, fails_to_open, file, file_at, inl, inr, lacking, lacks_stream, late, ne_eqb, opened, opens, put, put_stream, refl, stream_of, subst, sym, takes_stream, unopened, unput, whole, with_bytes, ℕ, ◌==◌, ◌∙◌, ◌≡◌, ◌≢◌, ◌▸◌}
+use Rattle.runs.specs.OutputWriting.{put as all_put, taken as stream_taken}
 use Rattle.runs.proofs.OutputSteps.{same_or_other, put_there, put_elsewhere, no_fault, no_file, taken_all, same_rights, Ends, idle, stop}
 
 -- the target is written in place

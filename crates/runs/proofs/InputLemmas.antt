@@ -1,14 +1,6 @@
 -- The arguments that are left to read, and what they add to the inputs before.
-use Rattle.std.proofs.Common.{◌∙◌, sym, ◌≡◌, ◌≤◌, ◌<◌, ◌+◌, ◌||◌, ℕ, Bool, true, false, List, [], ◌∷◌, ◌++◌, Option, None, Some, refl, take, drop, take-append-drop, get_or, map, length, ap, subst, append_assoc, append-nil, drop_of_length-le, arith, ◌-◌}
-use Rattle.std.proofs.lemmas.List.{drop-append-le, drop_more, length-drop, map-append, take-append-le, take-map, take_more}
-use Rattle.std.proofs.Math.Seq.{take-length}
-use Rattle.std.proofs.lemmas.List.Sums.{sum_by-append}
-use Rattle.std.specs.List.{sum_by}
-use Rattle.std.specs.Borrow.{Bor}
+use Rattle.runs.proofs.Prelude.{AreInputs, Asked, Asks, AsksAll, AsksFirst, Bool, Bor, InputFault, List, NamedFile, None, Option, Reading, ReadsAs, Some, Stays, [], ap, append-nil, append_assoc, arith, asked_arguments, asked_for, done, drop, drop-append-le, drop_more, drop_of_length-le, false, get_or, gives, input_fault_text, inputs_in, is_standard, length, length-drop, map, map-append, read, refl, refuses, shown_name, subst, sum_by, sum_by-append, sym, take, take-append-drop, take-append-le, take-length, take-map, take_more, true, unread, ℕ, ◌++◌, ◌+◌, ◌-◌, ◌<◌, ◌||◌, ◌∙◌, ◌∷◌, ◌≡◌, ◌≤◌}
 use Rattle.runs.specs.declared.inputs.Input.{Input}
-use Rattle.runs.specs.declared.inputs.InputFault.{InputFault}
-use Rattle.runs.specs.Prelude.{AreInputs, Asked, Asks, AsksAll, AsksFirst, ReadsAs, Reading, Stays, asked_arguments, asked_for, input_fault_text, inputs_in, NamedFile, is_standard, shown_name}
-use Rattle.runs.specs.Inputs.{gives, refuses, done, read, unread}
 use Rattle.runs.proofs.AskedInTurn.{asked_by, in_turn}
 
 abbrev pub arguments_now : List (Bor (List ℕ)) → List (List ℕ)

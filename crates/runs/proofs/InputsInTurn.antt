@@ -1,9 +1,6 @@
 -- The inputs of arguments, by the cases of a relation.
-use Rattle.std.proofs.Common.{◌≡◌, ◌↔◌, ◌||◌, inl, inr, ℕ, Bool, true, false, List, [], ◌∷◌, Option, Some, refl, ap₂, subst, codes}
-use Rattle.std.proofs.lemmas.Bool.{cases_Bool, cond-false}
-use Rattle.runs.specs.declared.inputs.InputFault.{InputFault}
-use Rattle.runs.specs.Prelude.{Reading, input_fault_text, AreInputs, NamedFile, named, AreInputsAfter, AreInputsInTurn, is_standard, shown_name}
-use Rattle.runs.specs.Inputs.{gives, refuses, done, read, unread, no_argument, another_file, unread_file, empty_text, nothing, a_file, no_file, from_standard_input, no_standard_input}
+use Rattle.runs.proofs.Prelude.{AreInputs, AreInputsAfter, AreInputsInTurn, Bool, InputFault, List, NamedFile, Option, Reading, Some, [], a_file, another_file, ap₂, cases_Bool, codes, cond-false, done, empty_text, false, from_standard_input, gives, inl, input_fault_text, inr, is_standard, named, no_argument, no_file, no_standard_input, read, refl, refuses, shown_name, subst, true, unread, unread_file, ℕ, ◌||◌, ◌↔◌, ◌∷◌, ◌≡◌}
+use Rattle.runs.specs.Inputs.{nothing}
 use Rattle.runs.proofs.OneInputs.{one_bytes}
 use Rattle.runs.proofs.AskedInTurn.{is_dash, no_dash, other}
 

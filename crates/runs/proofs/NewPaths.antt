@@ -1,20 +1,11 @@
 -- The path of a new file is another than that of the file beside which it is made: their last
 -- components differ in length.
-use Rattle.std.proofs.Common.{◌≡◌, ◌≢◌, ◌≤◌, ℕ, ◌+◌, ◌^◌, ◌<◌, Bool, true, false, not, cond, ◌||◌, ◌==◌, List, [], ◌∷◌, ◌++◌, length, length-append, length-drop, get_or, get_or-drop, filter, Option, Some, None, zero, suc, drop, take, nat_lt, inl, inr, refl, sym, ap, ap₂, subst, ◌∙◌, codes, decimal, arith}
-use Rattle.std.specs.List.{All}
-use Rattle.std.specs.Option.{IfSome, is_some, option_map, option_flatten, unwrap_or}
-use Rattle.std.specs.Path.{slash, cur_dir, later_pieces, is_name, path_names, path_components, path_join, split_last_component, parent_and_last, rsplit_once, rfind_below, trim_trailing, first_piece, is_dot_at, normal_name, path_parent, path_file_name, without_file_name, path_with_file_name}
-use Rattle.std.specs.Str.{bytes_eq}
-use Rattle.std.specs.Str.Parse.{AllDigits}
-use Rattle.std.proofs.lemmas.Bool.{and_right, cases_lt, cond_both, cond-false, cond-true, eqb-false, false_from_ne_true, ltb-true, ne_eqb, eq-eqb, false≢true}
-use Rattle.std.proofs.lemmas.Fmt.{decimal_is_IsNumeral, length-decimal-le}
-use Rattle.std.proofs.lemmas.List.{length_push, same_from_push}
-use Rattle.std.proofs.lemmas.List.Folds.{list_any_at}
+use Rattle.runs.proofs.Prelude.{All, AllDigits, Bool, List, None, Option, Some, [], and_right, ap, ap₂, arith, beside, bytes_eq, bytes_eq-Decides, cases_lt, codes, cond, cond-false, cond-true, cond_both, cur_dir, decimal, decimal_is_IsNumeral, drop, eq-eqb, eqb-false, false, false_from_ne_true, false≢true, filter, first_piece, get_or, get_or-drop, inl, inr, is_dot_at, is_name, is_some, later_pieces, length, length-append, length-decimal-le, length_push, list_any_at, ltb-true, nat_lt, ne_eqb, new_name, normal_name, not, option_flatten, own_name, parent_and_last, path_components, path_file_name, path_join, path_names, path_parent, path_with_file_name, refl, rfind_below, rsplit_once, same_from_push, slash, split_last_component, subst, suc, sym, take, trim_trailing, true, unwrap_or, without_file_name, zero, ℕ, ◌++◌, ◌+◌, ◌<◌, ◌==◌, ◌^◌, ◌||◌, ◌∙◌, ◌∷◌, ◌≡◌, ◌≢◌, ◌≤◌}
+use Rattle.std.proofs.Common.{length-drop}
+use Rattle.std.specs.Option.{IfSome, option_map}
 use Rattle.std.proofs.lemmas.List.Elements.{All-nil, All-cons, All-append, All-from_get_or, All-head, All-tail}
 use Rattle.std.proofs.lemmas.Paths.{path_components_file_name, path_components_join, path_join_relative}
-use Rattle.std.proofs.lemmas.Slice.Eq.{bytes_eq-Decides}
 use Rattle.std.proofs.lemmas.Str.Parse.{digit_from_value}
-use Rattle.runs.specs.Prelude.{beside, new_name, own_name}
 
 -- no byte is a slash
 abbrev LacksSlash : List ℕ → Type 0

@@ -1,8 +1,5 @@
 -- Where a system reads each thing as one, arguments have one list of inputs.
-use Rattle.std.proofs.Common.{◌≡◌, ◌||◌, ℕ, Bool, true, false, List, [], ◌∷◌, Option, Some, refl, sym, ◌∙◌, ap, ap₂}
-use Rattle.runs.specs.declared.inputs.InputFault.{InputFault}
-use Rattle.runs.specs.Prelude.{Reading, ReadsAs, input_fault_text, AreInputs, NamedFile, is_standard, shown_name, HasOneReading}
-use Rattle.runs.specs.Inputs.{gives, refuses, done, read, unread}
+use Rattle.runs.proofs.Prelude.{AreInputs, Bool, HasOneReading, InputFault, List, NamedFile, Option, Reading, ReadsAs, Some, [], ap, ap₂, done, false, gives, input_fault_text, is_standard, read, refl, refuses, shown_name, sym, true, unread, ℕ, ◌||◌, ◌∙◌, ◌∷◌, ◌≡◌}
 
 pub one_bytes : {a b : List ℕ} → gives a ≡ gives b → a ≡ b
 one_bytes e = cc

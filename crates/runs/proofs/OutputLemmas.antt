@@ -1,18 +1,7 @@
 -- How the calls of a function join to those of its caller.
-use Rattle.std.proofs.Common.{◌≡◌, ◌+◌, ◌<◌, ◌^◌, ◌&&◌, true, false, ℕ, Bool, List, [], ◌∷◌, ◌++◌, Option, Some, None, Result, Ok, Err, OnOk, OnErr, is_ok, refl, sym, ap, ◌∙◌, subst, append_assoc, append-nil}
-use Rattle.std.specs.Io.KnownBytes.{Appends}
-use Rattle.std.specs.Result.{IsErrAnd}
-use Rattle.runs.specs.Prelude.{AppendsPrefix, FileCall, FileLog, Course, calls_of, fault_in, logged, Runs, first_mode, kept_mode, Closes, Fills, Finishes, NewFile, Replaces, WritesFile, NamesNoStream, link_target, beside}
-use Rattle.runs.specs.declared.tool_fault.ToolFault.{ToolFault}
-use Rattle.runs.specs.declared.output_files.OutputFault.{OutputFault}
-use Rattle.runs.specs.declared.output_files.OutputFault.TheVariants.{OutOfMemory}
-use Rattle.runs.specs.declared.output_files.FileKind.TheVariants.{Regular}
+use Rattle.runs.proofs.Prelude.{Appends, AppendsPrefix, Bool, Closes, Course, Err, Exists, FileCall, FileLog, Fills, Finishes, IsErrAnd, List, NamesNoStream, NewFile, None, Ok, OnErr, OnOk, Option, OutOfMemory, OutputFault, Owner, Regular, Replaces, Result, Rights, Runs, Some, ToolFault, WritesFile, [], ap, append-nil, append_assoc, asks, beside, calls_of, closes, cut, fails, fails_to_make, false, fault_in, first_mode, follows, is_ok, kept_mode, late, link_target, logged, made, makes, numbers, reads_link, refl, sets_mode, sets_owner, subst, sym, taken, true, whole, with_rights, ℕ, ◌&&◌, ◌++◌, ◌+◌, ◌<◌, ◌^◌, ◌∙◌, ◌∷◌, ◌≡◌, ◌▸◌}
 use Rattle.runs.specs.declared.output_files.MakeFault.{MakeFault}
-use Rattle.runs.specs.declared.output_files.MakeFault.TheVariants.{Exists}
-use Rattle.runs.specs.declared.output_files.Owner.{Owner}
-use Rattle.runs.specs.declared.output_files.Rights.{Rights}
-use Rattle.runs.specs.OutputFiles.{done, fails, ◌▸◌, asks, reads_link, numbers, makes, fails_to_make, closes, sets_mode, sets_owner}
-use Rattle.runs.specs.OutputWriting.{whole, cut, late, made, taken, with_rights, follows}
+use Rattle.runs.specs.OutputFiles.{done}
 
 pub logged-twice : (first rest : List FileCall) (log : FileLog)
     → logged rest (logged first log) ≡ logged (first ++ rest) log

@@ -1,14 +1,5 @@
 -- What the calls by which an output is made come to, one by one.
-use Rattle.std.proofs.Common.{◌≡◌, ◌≢◌, ◌⊎◌, inl, inr, ℕ, List, [], Option, Some, None, refl, sym, ap, ◌∙◌, subst, arith}
-use Rattle.std.proofs.lemmas.Bool.{cases_Bool, cond-true, cond-false}
-use Rattle.std.proofs.lemmas.Slice.Eq.{bytes_eq-Decides}
-use Rattle.std.specs.Io.KnownBytes.{Appends}
-use Rattle.std.specs.Str.{bytes_eq}
-use Rattle.runs.specs.declared.output_files.OutputFault.{OutputFault}
-use Rattle.runs.specs.declared.output_files.Owner.{Owner}
-use Rattle.runs.specs.Prelude.{FileCall, Course, fault_of, PathState, Destination, Files, put, with_bytes, after_call, after, Always, Each, HasRights, IsNotOpening, IsWholeOrAsItWas, GivesNothingAway, KeepsMode, HasAll}
-use Rattle.runs.specs.OutputFiles.{fails, ◌▸◌}
-use Rattle.runs.specs.Laws.{nothing, link, file, file_at, stream_of}
+use Rattle.runs.proofs.Prelude.{Always, Appends, Course, Destination, Each, FileCall, Files, GivesNothingAway, HasAll, HasRights, IsNotOpening, IsWholeOrAsItWas, KeepsMode, List, None, Option, OutputFault, Owner, PathState, Some, [], after, after_call, ap, arith, bytes_eq, bytes_eq-Decides, cases_Bool, cond-false, cond-true, fails, fault_of, file, file_at, inl, inr, link, nothing, put, refl, stream_of, subst, sym, with_bytes, ℕ, ◌∙◌, ◌≡◌, ◌≢◌, ◌⊎◌, ◌▸◌}
 
 pub same_or_other : (p q : List ℕ) → (p ≡ q) ⊎ (p ≢ q)
 same_or_other p q = elim (cases_Bool (bytes_eq p q)) [

@@ -1,14 +1,9 @@
 -- What is kept of a mode, bit by bit.
-use Rattle.std.proofs.Common.{◌≡◌, ◌≢◌, ◌+◌, ◌*◌, ◌/◌, ◌%◌, ◌^◌, ◌<◌, ◌≤◌, ◌==◌, ℕ, Bool, true, false, Option, Some, None, cond, min, max, refl, sym, ap, ap₂, ◌∙◌, subst, arith}
+use Rattle.runs.proofs.Prelude.{Bool, Class, Deed, GivesNobodyMore, IsWhose, KeepsRights, May, None, Option, Owner, Rights, Some, User, ap, ap₂, arith, bit_for, class_of, cond, cond-false, eq-eqb, eqb-true, false, its_group, its_owner, kept_bits, kept_mode, max, min, ne_eqb, others, reads, refl, runs, subst, sym, true, writes, ℕ, ◌%◌, ◌*◌, ◌+◌, ◌/◌, ◌<◌, ◌==◌, ◌^◌, ◌∙◌, ◌≡◌, ◌≢◌, ◌≤◌}
 use Rattle.std.specs.Int.{bit_at}
 use Rattle.std.specs.Int.RustNames.{bit_and, bit_or}
-use Rattle.std.proofs.lemmas.Bool.{cond-false, eqb-true, ne_eqb, eq-eqb}
 use Rattle.std.proofs.lemmas.Nat.{and_le_r, and_mask, or_lt, shr-shr}
 use Rattle.std.proofs.lemmas.Nat.Bits.{bit_at_and, bit_at_or, bit_at-lt, bit_at_above, bit_at_cat_low, bit_at_cat_high, bit_at_mask_inside, bit_at_mask_below}
-use Rattle.runs.specs.declared.output_files.Owner.{Owner}
-use Rattle.runs.specs.declared.output_files.Rights.{Rights}
-use Rattle.runs.specs.Prelude.{kept_bits, kept_mode, Deed, Class, bit_for, User, class_of, May, IsWhose, GivesNobodyMore, KeepsRights}
-use Rattle.runs.specs.Laws.{reads, writes, runs, its_owner, its_group, others}
 
 least_one : (a b : ℕ) → min a b ≡ 1 → a < 2 → b < 2 → (a ≡ 1) × (b ≡ 1)
 least_one a b e x y = (omega arith, omega arith)

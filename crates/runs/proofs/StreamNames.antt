@@ -1,10 +1,6 @@
 -- Which paths name an open stream.
-use Rattle.std.proofs.Common.{◌≡◌, ◌≢◌, ◌↔◌, ◌⊎◌, inl, inr, ◌<◌, ◌^◌, ℕ, List, ◌++◌, Option, Some, None, MatchOption, get_or, refl, sym, ap, ◌∙◌, subst, codes, decimal, arith}
-use Rattle.std.proofs.lemmas.Fmt.{decimal_is_IsNumeral}
-use Rattle.std.specs.Str.Parse.{digits_value}
+use Rattle.runs.proofs.Prelude.{List, MatchOption, NamesNoStream, NamesStream, None, Option, Some, ap, arith, codes, decimal, decimal_is_IsNumeral, digits_value, get_or, inl, inr, of_device, of_process, refl, standard_error, standard_output, subst, sym, ℕ, ◌++◌, ◌<◌, ◌^◌, ◌↔◌, ◌∙◌, ◌≡◌, ◌≢◌, ◌⊎◌}
 use Rattle.std.specs.Str.Pattern.{FindsTextPrefix, StripsPrefix}
-use Rattle.runs.specs.Prelude.{NamesStream, NamesNoStream}
-use Rattle.runs.specs.OutputPaths.{standard_output, standard_error, of_device, of_process}
 
 -- what a text begins with
 begins : (prefix path rest : List ℕ) → StripsPrefix (FindsTextPrefix prefix) path rest → path ≡ prefix ++ rest

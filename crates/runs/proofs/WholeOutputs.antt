@@ -1,14 +1,7 @@
 -- An output file is there whole, or as it was, and gives nobody more than before.
-use Rattle.std.proofs.Common.{◌≡◌, ◌≢◌, ◌⊎◌, inl, inr, ℕ, List, Option, Some, None, refl, sym, subst, rules}
-use Rattle.runs.specs.declared.output_files.FileKind.TheVariants.{Regular, Special, Unknown}
-use Rattle.runs.specs.declared.output_files.MakeFault.TheVariants.{Exists, Forbidden, Failed}
-use Rattle.runs.specs.declared.output_files.OutputFault.TheVariants.{CannotCreate, OutOfMemory}
-use Rattle.runs.specs.declared.output_files.Owner.{Owner}
-use Rattle.runs.specs.declared.output_files.Rights.{Rights}
-use Rattle.runs.specs.Prelude.{FileCall, Course, fault_of, first_mode, beside, Puts, WritesStream, WritesInPlace, Finishes, Fills, Replaces, WritesFile, PathState, Destination, Files, after, Each, Among, IsNoLink, HasRights, GivesAll, Leads, IsBeside, IsReplaceable, IsWrittenInPlace, IsAllowed, IsWholeOrAsItWasThroughout}
-use Rattle.runs.specs.OutputFiles.{asks, reads_link, fails_to_read_link, numbers, fails_to_make}
-use Rattle.runs.specs.OutputWriting.{whole, cut, late, put as all_put, unput, lacking, taken as stream_taken, unopened, opened, replaced, unmoved, unwritten, replaces_none, with_rights, without_rights, unnamed, made, taken, all_taken, in_place, forbidden, failed, unknown, unread, no_memory, too_long, stream, stops, special, replaces, follows}
-use Rattle.runs.specs.Laws.{file_at, stream_of, to_stream, to_file, along, special as is_special, forbidden as is_forbidden}
+use Rattle.runs.proofs.Prelude.{Among, CannotCreate, Course, Destination, Each, Exists, Failed, FileCall, Files, Fills, Finishes, Forbidden, GivesAll, HasRights, IsAllowed, IsBeside, IsNoLink, IsReplaceable, IsWholeOrAsItWasThroughout, IsWrittenInPlace, Leads, List, None, Option, OutOfMemory, Owner, PathState, Puts, Regular, Replaces, Rights, Some, Special, Unknown, WritesFile, WritesInPlace, WritesStream, after, all_taken, along, asks, beside, cut, failed, fails_to_make, fails_to_read_link, fault_of, file_at, first_mode, follows, forbidden, in_place, inl, inr, lacking, late, made, no_memory, numbers, opened, reads_link, refl, replaced, replaces, replaces_none, rules, special, stops, stream, stream_of, subst, sym, taken, to_stream, too_long, unknown, unmoved, unnamed, unopened, unput, unwritten, whole, with_rights, without_rights, ℕ, ◌≡◌, ◌≢◌, ◌⊎◌}
+use Rattle.runs.specs.OutputWriting.{put as all_put, taken as stream_taken, unread}
+use Rattle.runs.specs.Laws.{to_file, special as is_special, forbidden as is_forbidden}
 use Rattle.runs.proofs.OutputSteps.{no_fault, Ends, idle, stop}
 use Rattle.runs.proofs.NewPaths.{beside_is_another}
 use Rattle.runs.proofs.InPlaceOutputs.{writes_in_place, writes_stream}

@@ -1,11 +1,7 @@
 -- After a run that was written, all of it is there.
-use Rattle.std.proofs.Common.{◌≡◌, ℕ, List, None, Some, Option, Result, Ok, IfOk, refl, sym, inl, inr}
-use Rattle.runs.specs.declared.output_files.OutputFault.{OutputFault}
-use Rattle.runs.specs.declared.program_fault.ProgramFault.{ProgramFault}
-use Rattle.runs.specs.Prelude.{MakesFile, OutputIs, SystemView, WritesRun, link_limit, RunView, output_file, Writes, IsAllWritten, IsThere}
-use Rattle.runs.specs.OutputSystem.{cut, delivered, made, to_file, unmade, unreported}
-use Rattle.runs.specs.ToolRuns.{unwritten, written}
-use Rattle.runs.specs.Laws.{in_file, on_standard_output}
+use Rattle.runs.proofs.Prelude.{IfOk, IsAllWritten, IsThere, List, MakesFile, None, Ok, Option, OutputFault, OutputIs, ProgramFault, Result, RunView, Some, SystemView, Writes, WritesRun, delivered, in_file, inl, inr, link_limit, on_standard_output, output_file, refl, sym, to_file, unmade, unreported, written, ℕ, ◌≡◌}
+use Rattle.runs.specs.OutputSystem.{cut, made}
+use Rattle.runs.specs.ToolRuns.{unwritten}
 use Rattle.runs.proofs.WholeOutputs.{whole_outputs}
 
 there : (run : RunView) (path : List ℕ) (before now : SystemView) → OutputIs run path before now None

@@ -1,5 +1,5 @@
 //! The inputs of a tool, read in the order of the command line.
-ghost use Rattle.std.specs.Prelude.{◌≡◌, ◌≢◌, ◌↔◌, ◌⊎◌, ◌^◌, ◌+◌, ◌<◌, ◌≤◌, ◌∷◌, [], drop, take, vec_len, Err, IfErr, IfSome, IsErrOf, IsOk, OnErr, OnOk, map, option_map, false, true, None, Some, MatchResult, IfOk};
+ghost use Rattle.std.specs.Prelude.{◌≡◌, ◌≢◌, ◌↔◌, ◌⊎◌, ◌<◌, ◌∷◌, [], drop, take, vec_len, Err, IfErr, IsErrOf, IsOk, OnErr, OnOk, map, option_map, false, true, None, Some, MatchResult, IfOk};
 ghost use Rattle.runs.specs.Prelude.{AreInputs, Asks, AsksAll, AsksFirst, IsInputFault, ReadsAs, Stays, asked_arguments, asked_for, named_inputs, input_fault_text, named_files, program_text, is_standard, shown_name};
 ghost use Rattle.runs.specs.Inputs.{gives, refuses};
 ghost use Rattle.runs.specs.declared.inputs.InputFault.TheVariants.{OutOfMemory};

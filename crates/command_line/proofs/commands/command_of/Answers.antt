@@ -1,5 +1,4 @@
-use Rattle.std.proofs.Common.{◌≡◌, rules, take, take_all}
-use Rattle.command_line.specs.Internal.{argument_of}
+use Rattle.command_line.proofs.Prelude.{argument_of, rules, take, take_all, ◌≡◌}
 use Rattle.command_line.proofs.Arguing.{next_mapped, one_argument_more, tool_command}
 use Rattle.command_line.proofs.commands.command_of.Goals as goal
 

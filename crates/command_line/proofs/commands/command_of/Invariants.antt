@@ -1,6 +1,4 @@
-use Rattle.std.proofs.Common.{map, take}
-use Rattle.command_line.specs.Internal.{argument_of}
-use Rattle.command_line.specs.Prelude.{AddsArguments}
+use Rattle.command_line.proofs.Prelude.{AddsArguments, argument_of, map, take}
 use Rattle.command_line.proofs.commands.command_of.Given as goal
 
 abbrev pub invariant-loop-argument : goal.invariant-loop-argument

@@ -1,4 +1,4 @@
-use Rattle.std.proofs.lemmas.Result.{IfOk-weaker}
+use Rattle.command_line.proofs.Prelude.{IfOk-weaker}
 use Rattle.command_line.proofs.Arguing.{names_offered}
 use Rattle.command_line.proofs.commands.program.Goals as goal
 

@@ -1,4 +1,4 @@
-use Rattle.std.proofs.lemmas.Result.{IfOk-weaker}
+use Rattle.command_line.proofs.Prelude.{IfOk-weaker}
 use Rattle.command_line.proofs.Arguing.{one_tool_more}
 use Rattle.command_line.proofs.commands.with_tool.Goals as goal
 

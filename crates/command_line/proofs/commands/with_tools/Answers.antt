@@ -1,4 +1,4 @@
-use Rattle.std.proofs.Common.{take}
+use Rattle.command_line.proofs.Prelude.{take}
 use Rattle.command_line.proofs.Arguing.{next_tool}
 use Rattle.command_line.proofs.commands.with_tools.Goals as goal
 

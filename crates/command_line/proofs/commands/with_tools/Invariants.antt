@@ -1,5 +1,4 @@
-use Rattle.std.proofs.Common.{take}
-use Rattle.command_line.specs.Prelude.{OffersTools}
+use Rattle.command_line.proofs.Prelude.{OffersTools, take}
 use Rattle.command_line.proofs.commands.with_tools.Given as goal
 
 abbrev pub invariant-loop-tool : goal.invariant-loop-tool

@@ -1,5 +1,4 @@
-use Rattle.std.proofs.Common.{lit<, rules}
-use Rattle.std.specs.Str.{bytes_eq}
+use Rattle.command_line.proofs.Prelude.{bytes_eq, lit<, rules}
 use Rattle.std.proofs.lemmas.Iterator.Search.{any_from_yields_List}
 use Rattle.std.proofs.lemmas.Iterator.Splits.{YieldsList-from_str_split}
 use Rattle.command_line.proofs.tips.has_word.Goals as goal

@@ -1,5 +1,4 @@
-use Rattle.std.proofs.Common.{append_assoc, ◌∙◌}
-use Rattle.std.proofs.lemmas.Result.{IfOk-weaker}
+use Rattle.command_line.proofs.Prelude.{IfOk-weaker, append_assoc, ◌∙◌}
 use Rattle.command_line.proofs.tips.tip_on.Goals as goal
 
 pub returns : goal.returns

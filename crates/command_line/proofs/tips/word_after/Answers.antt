@@ -1,5 +1,4 @@
-use Rattle.std.proofs.Common.{◌∙◌, ap, sym, Some}
-use Rattle.std.specs.Option.{option_copied}
+use Rattle.command_line.proofs.Prelude.{Some, ap, option_copied, sym, ◌∙◌}
 use Rattle.command_line.proofs.Words.{no_word, word}
 use Rattle.command_line.proofs.tips.word_after.Goals as goal
 

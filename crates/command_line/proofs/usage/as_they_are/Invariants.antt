@@ -1,4 +1,4 @@
-use Rattle.std.proofs.Common.{◌≡◌, map, string_bytes, take}
+use Rattle.command_line.proofs.Prelude.{map, string_bytes, take, ◌≡◌}
 use Rattle.command_line.proofs.usage.as_they_are.Given as goal
 
 abbrev pub invariant-loop-argument : goal.invariant-loop-argument

@@ -1,6 +1,4 @@
-use Rattle.std.proofs.Common.{◌≡◌, ◌∙◌, sym, true, codes}
-use Rattle.std.proofs.lemmas.Str.Pattern.{starts_text}
-use Rattle.command_line.specs.Prelude.{takes_files}
+use Rattle.command_line.proofs.Prelude.{codes, starts_text, sym, takes_files, true, ◌∙◌, ◌≡◌}
 use Rattle.command_line.proofs.usage.is_file_tip.Goals as goal
 
 pub returns-then-takes_files : goal.returns-then-takes_files

@@ -1,6 +1,4 @@
-use Rattle.std.proofs.Common.{◌≡◌, ◌∙◌, sym, false, nat_eq, codes}
-use Rattle.std.specs.List.{starts_with}
-use Rattle.std.proofs.lemmas.Str.Pattern.{starts_text}
+use Rattle.command_line.proofs.Prelude.{codes, false, nat_eq, starts_text, starts_with, sym, ◌∙◌, ◌≡◌}
 use Rattle.command_line.proofs.usage.is_left_out.Goals as goal
 
 pub returns-else-starts_with : goal.returns-else-starts_with

@@ -1,6 +1,4 @@
-use Rattle.std.proofs.Common.{◌≡◌, ◌++◌, ◌∙◌, ap, string_bytes}
-use Rattle.std.specs.Option.{option_copied}
-use Rattle.command_line.specs.Prelude.{own_tip, reworded_line}
+use Rattle.command_line.proofs.Prelude.{ap, option_copied, own_tip, reworded_line, string_bytes, ◌++◌, ◌∙◌, ◌≡◌}
 use Rattle.command_line.proofs.LineSteps.{appended, step}
 use Rattle.command_line.proofs.usage.reworded.Goals as goal
 

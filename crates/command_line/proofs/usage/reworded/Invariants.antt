@@ -1,8 +1,4 @@
-use Rattle.std.proofs.Common.{◌≡◌, ◌++◌, option_map, string_bytes}
-use Rattle.std.specs.List.{flat_map}
-use Rattle.std.specs.Str.Iter.{split_inclusive_pattern, split_inclusive_text}
-use Rattle.po_syntax.specs.Facts.LinesWithEnds.{lines_with_ends}
-use Rattle.command_line.specs.Prelude.{own_tip, reworded_line}
+use Rattle.command_line.proofs.Prelude.{flat_map, lines_with_ends, option_map, own_tip, reworded_line, split_inclusive_pattern, split_inclusive_text, string_bytes, ◌++◌, ◌≡◌}
 use Rattle.command_line.proofs.usage.reworded.Given as goal
 
 abbrev pub invariant-loop-line : goal.invariant-loop-line

@@ -1,4 +1,4 @@
-use Rattle.std.proofs.Common.{◌++◌, ◌∙◌, ap, rules, string_bytes}
+use Rattle.command_line.proofs.Prelude.{ap, rules, string_bytes, ◌++◌, ◌∙◌}
 use Rattle.command_line.proofs.LineSteps.{appended, step}
 use Rattle.command_line.proofs.usage.single_spaced.Goals as goal
 

@@ -1,10 +1,6 @@
-use Rattle.std.proofs.Common.{◌≡◌, string_bytes, ◌∷◌, ◌++◌}
+use Rattle.command_line.proofs.Prelude.{flat_map, lines_with_ends, single_spaced, spaced_line, split_inclusive_pattern, split_inclusive_text, string_bytes, zip, ◌++◌, ◌∷◌, ◌≡◌}
 use denote.Text.{Utf8}
 use denote.Shadow.{shadow}
-use Rattle.std.specs.List.{flat_map, zip}
-use Rattle.std.specs.Str.Iter.{split_inclusive_pattern, split_inclusive_text}
-use Rattle.po_syntax.specs.Facts.LinesWithEnds.{lines_with_ends}
-use Rattle.command_line.specs.Prelude.{single_spaced, spaced_line}
 use Rattle.command_line.proofs.usage.single_spaced.Given as goal
 
 abbrev pub invariant-loop-line : goal.invariant-loop-line

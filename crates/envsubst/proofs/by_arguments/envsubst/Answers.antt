@@ -1,9 +1,4 @@
-use Rattle.std.proofs.Common.{◌≡◌, map, refl, ap, ◌∙◌}
-use Rattle.std.proofs.lemmas.Result.{err_from_is_err_and}
-use Rattle.std.specs.Option.{option_copied}
-use Rattle.runs.specs.declared.tool_fault.ToolFault.TheVariants.{OutOfMemory}
-use Rattle.envsubst.specs.Prelude.{pairs_in, variables_of}
-use Rattle.envsubst.specs.ByArguments.{named, unread}
+use Rattle.envsubst.proofs.Prelude.{OutOfMemory, ap, err_from_is_err_and, map, named, option_copied, pairs_in, refl, unread, variables_of, ◌∙◌, ◌≡◌}
 use Rattle.envsubst.proofs.ArgumentLemmas.{replaces}
 use Rattle.envsubst.proofs.SortedLemmas.{given-names}
 use Rattle.envsubst.proofs.by_arguments.envsubst.Goals as goal

@@ -1,5 +1,4 @@
-use Rattle.std.proofs.Common.{◌∷◌, drop, sym, ap, ◌∙◌}
-use Rattle.std.proofs.lemmas.List.{take_rest}
+use Rattle.envsubst.proofs.Prelude.{ap, drop, sym, take_rest, ◌∙◌, ◌∷◌}
 use Rattle.envsubst.proofs.ReferenceLemmas.{undecided-dollar, undecided-braced, undecided-bare}
 use Rattle.envsubst.proofs.holding.begun.Goals as goal
 

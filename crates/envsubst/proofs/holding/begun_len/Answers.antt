@@ -1,5 +1,4 @@
-use Rattle.std.proofs.Common.{sym}
-use Rattle.std.proofs.lemmas.List.{take_rest}
+use Rattle.envsubst.proofs.Prelude.{sym, take_rest}
 use Rattle.envsubst.proofs.ReferenceLemmas.{bare-taken, braced-taken}
 use Rattle.envsubst.proofs.holding.begun_len.Goals as goal
 

@@ -1,4 +1,4 @@
-use Rattle.std.proofs.Common.{sym}
+use Rattle.envsubst.proofs.Prelude.{sym}
 use Rattle.envsubst.proofs.ReferenceLemmas.{run-begun}
 use Rattle.envsubst.proofs.holding.begun_name_len.Goals as goal
 

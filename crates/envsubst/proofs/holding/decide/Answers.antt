@@ -1,8 +1,4 @@
-use Rattle.std.proofs.Common.{◌∷◌, ◌++◌, sym, ap, ◌∙◌, length, arith}
-use Rattle.std.proofs.lemmas.Bool.{ne_eqb}
-use Rattle.envsubst.specs.Prelude.{reference_after}
-use Rattle.envsubst.specs.Internal.Holding.{after_dollar}
-use Rattle.locale_names.proofs.SearchLemmas.{nil-from_length, some-from_length}
+use Rattle.envsubst.proofs.Prelude.{after_dollar, ap, arith, length, ne_eqb, nil-from_length, reference_after, some-from_length, sym, ◌++◌, ◌∙◌, ◌∷◌}
 use Rattle.envsubst.proofs.ReferenceLemmas.{begun-undecided, begun-more, brace-undecided, not-begun, not-short, ends, closes, not-closed, letter-name_byte}
 use Rattle.envsubst.proofs.holding.decide.Goals as goal
 

@@ -1,6 +1,4 @@
-use Rattle.std.proofs.Common.{◌∷◌, inl, inr, sym, ap, ◌∙◌}
-use Rattle.envsubst.specs.Internal.Holding.{after_dollar}
-use Rattle.locale_names.proofs.SearchLemmas.{nil-from_length, some-from_length}
+use Rattle.envsubst.proofs.Prelude.{after_dollar, ap, inl, inr, nil-from_length, some-from_length, sym, ◌∙◌, ◌∷◌}
 use Rattle.envsubst.proofs.SubstitutionLemmas.{ends-empty, ends-copied, ends-name}
 use Rattle.envsubst.proofs.holding.ending.Goals as goal
 

@@ -1,5 +1,4 @@
-use Rattle.std.proofs.Common.{arith}
-use Rattle.envsubst.specs.Internal.Sorted.{values_of_replacements}
+use Rattle.envsubst.proofs.Prelude.{arith, values_of_replacements}
 use Rattle.envsubst.proofs.StreamLemmas.{begun-out}
 use Rattle.envsubst.proofs.holding.first_step.Goals as goal
 

@@ -1,5 +1,4 @@
-use Rattle.std.proofs.Common.{ap, ◌∙◌, arith}
-use Rattle.envsubst.specs.Prelude.{is_undecided}
+use Rattle.envsubst.proofs.Prelude.{ap, arith, is_undecided, ◌∙◌}
 use Rattle.envsubst.proofs.ReferenceLemmas.{dollar-undecided}
 use Rattle.envsubst.proofs.StreamLemmas.{plain-out, dollar-first}
 use Rattle.envsubst.proofs.holding.plain_step.Goals as goal

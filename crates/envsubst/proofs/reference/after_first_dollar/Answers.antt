@@ -1,4 +1,4 @@
-use Rattle.std.proofs.lemmas.List.{take_rest}
+use Rattle.envsubst.proofs.Prelude.{take_rest}
 use Rattle.envsubst.proofs.NameLemmas.{names-next, names-none}
 use Rattle.envsubst.proofs.reference.after_first_dollar.Goals as goal
 

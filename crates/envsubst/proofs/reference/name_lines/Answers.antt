@@ -1,5 +1,4 @@
-use Rattle.std.proofs.Common.{[], ◌∷◌, ◌++◌, ap, ◌∙◌}
-use Rattle.std.specs.List.{flat_map}
+use Rattle.envsubst.proofs.Prelude.{[], ap, flat_map, ◌++◌, ◌∙◌, ◌∷◌}
 use Rattle.envsubst.proofs.NameLines.{lines-all, lines-next, lines_of}
 use Rattle.envsubst.proofs.reference.name_lines.Goals as goal
 

@@ -1,5 +1,4 @@
-use Rattle.std.proofs.Common.{◌≡◌, [], ◌∷◌, ◌++◌, map, drop}
-use Rattle.std.specs.List.{flat_map}
+use Rattle.envsubst.proofs.Prelude.{[], drop, flat_map, map, ◌++◌, ◌∷◌, ◌≡◌}
 use Rattle.envsubst.proofs.reference.name_lines.Given as goal
 
 abbrev pub invariant-loop-name : goal.invariant-loop-name

@@ -1,7 +1,4 @@
-use Rattle.std.proofs.Common.{◌<◌, length, take, sym, ap, ◌∙◌, arith}
-use Rattle.std.proofs.lemmas.List.{take_all}
-use Rattle.std.proofs.lemmas.List.Sums.{prefix_len_is}
-use Rattle.envsubst.specs.Prelude.{is_name_byte}
+use Rattle.envsubst.proofs.Prelude.{ap, arith, is_name_byte, length, prefix_len_is, sym, take, take_all, ◌<◌, ◌∙◌}
 use Rattle.envsubst.proofs.reference.name_prefix.Goals as goal
 
 pub returns-then-not-is_name_byte : goal.returns-then-not-is_name_byte

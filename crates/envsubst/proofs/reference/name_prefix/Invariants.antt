@@ -1,5 +1,4 @@
-use Rattle.std.proofs.Common.{◌≡◌, ◌<◌, ℕ, true, get_or}
-use Rattle.envsubst.specs.Prelude.{is_name_byte}
+use Rattle.envsubst.proofs.Prelude.{get_or, is_name_byte, true, ℕ, ◌<◌, ◌≡◌}
 use Rattle.envsubst.proofs.reference.name_prefix.Given as goal
 
 abbrev pub invariant-loop-len : goal.invariant-loop-len

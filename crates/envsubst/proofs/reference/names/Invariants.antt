@@ -1,5 +1,4 @@
-use Rattle.std.proofs.Common.{◌≡◌, ◌++◌, map, length}
-use Rattle.envsubst.specs.Prelude.{names_in}
+use Rattle.envsubst.proofs.Prelude.{length, map, names_in, ◌++◌, ◌≡◌}
 use Rattle.envsubst.proofs.reference.names.Given as goal
 
 abbrev pub invariant-loop-after : goal.invariant-loop-after

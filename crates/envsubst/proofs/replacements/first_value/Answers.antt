@@ -1,7 +1,4 @@
-use Rattle.std.proofs.Common.{sym, ap, ◌∙◌}
-use Rattle.std.proofs.lemmas.Bool.{cond-true, cond-false}
-use Rattle.std.proofs.lemmas.List.{drop_all}
-use Rattle.envsubst.specs.Prelude.{value_of, pairs_in}
+use Rattle.envsubst.proofs.Prelude.{ap, cond-false, cond-true, drop_all, pairs_in, sym, value_of, ◌∙◌}
 use Rattle.envsubst.proofs.VariableLemmas.{value_of-next}
 use Rattle.envsubst.proofs.replacements.first_value.Goals as goal
 

@@ -1,5 +1,4 @@
-use Rattle.std.proofs.Common.{◌≡◌, drop}
-use Rattle.envsubst.specs.Prelude.{value_of, pairs_in}
+use Rattle.envsubst.proofs.Prelude.{drop, pairs_in, value_of, ◌≡◌}
 use Rattle.envsubst.proofs.replacements.first_value.Given as goal
 
 abbrev pub invariant-loop-known : goal.invariant-loop-known

@@ -1,9 +1,4 @@
-use Rattle.std.proofs.Common.{rules, sym, ap, ◌∙◌}
-use Rattle.std.specs.Ordering.{is_lt}
-use Rattle.std.proofs.lemmas.Cmp.{nat_list_cmp_total}
-use Rattle.std.proofs.lemmas.List.Sorted.{answers_always, ranks_by}
-use Rattle.envsubst.specs.Internal.Sorted.{name_cmp}
-use Rattle.envsubst.specs.Prelude.{is_replaced, names_given}
+use Rattle.envsubst.proofs.Prelude.{answers_always, ap, is_lt, is_replaced, name_cmp, names_given, nat_list_cmp_total, ranks_by, rules, sym, ◌∙◌}
 use Rattle.envsubst.proofs.SortedLemmas.{same-names}
 use Rattle.envsubst.proofs.sorted.sorted_names.Goals as goal
 

@@ -1,6 +1,4 @@
-use Rattle.std.proofs.Common.{[], sym, ap, ◌∙◌, rules}
-use Rattle.std.specs.Str.{bytes_eq}
-use Rattle.std.proofs.lemmas.List.Sorted.{IsPartitionPoint-from_clause}
+use Rattle.envsubst.proofs.Prelude.{IsPartitionPoint-from_clause, [], ap, bytes_eq, rules, sym, ◌∙◌}
 use Rattle.envsubst.proofs.SortedLemmas.{Variable, below, partitioned, value-found, value-none, value-other}
 use Rattle.envsubst.proofs.sorted.sorted_value.Goals as goal
 

@@ -1,8 +1,4 @@
-use Rattle.std.proofs.Common.{rules}
-use Rattle.std.specs.Ordering.{is_lt}
-use Rattle.std.proofs.lemmas.Cmp.{nat_list_cmp_total}
-use Rattle.std.proofs.lemmas.List.Sorted.{answers_always, ranks_by}
-use Rattle.envsubst.specs.Internal.Sorted.{name_cmp}
+use Rattle.envsubst.proofs.Prelude.{answers_always, is_lt, name_cmp, nat_list_cmp_total, ranks_by, rules}
 use Rattle.envsubst.proofs.SortedLemmas.{stable-values}
 use Rattle.envsubst.proofs.sorted.sorted_variables.Goals as goal
 

@@ -1,6 +1,4 @@
-use Rattle.std.proofs.Common.{get_or, ◌++◌, drop, sym, ap, ◌∙◌, arith}
-use Rattle.envsubst.specs.Prelude.{is_undecided}
-use Rattle.runs.proofs.DeviceLemmas.{on-err}
+use Rattle.envsubst.proofs.Prelude.{ap, arith, drop, get_or, is_undecided, on-err, sym, ◌++◌, ◌∙◌}
 use Rattle.envsubst.proofs.ReferenceLemmas.{nothing-undecided, undecided-room}
 use Rattle.envsubst.proofs.StreamLemmas.{Stops-out, Stops-seen, first-taken}
 use Rattle.envsubst.proofs.substituter.advance.Goals as goal

@@ -1,6 +1,4 @@
-use Rattle.std.proofs.Common.{◌≤◌, ◌-◌, length, take, drop, ◌∙◌, length-drop, arith}
-use Rattle.std.proofs.lemmas.List.{take_rest}
-use Rattle.runs.proofs.DeviceLemmas.{on-err}
+use Rattle.envsubst.proofs.Prelude.{arith, drop, length, length-drop, on-err, take, take_rest, ◌-◌, ◌∙◌, ◌≤◌}
 use Rattle.envsubst.proofs.StreamLemmas.{pass-advances, pass-stops}
 use Rattle.envsubst.proofs.substituter.pass.Goals as goal
 

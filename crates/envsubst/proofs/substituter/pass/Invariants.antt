@@ -1,6 +1,4 @@
-use Rattle.std.proofs.Common.{◌≡◌, ◌≤◌, ◌+◌, ◌-◌, ◌*◌, ◌++◌, min, true, length, drop}
-use Rattle.envsubst.specs.Prelude.{is_undecided, Advances}
-use Rattle.envsubst.specs.Internal.Sorted.{values_of_replacements}
+use Rattle.envsubst.proofs.Prelude.{Advances, drop, is_undecided, length, min, true, values_of_replacements, ◌*◌, ◌++◌, ◌+◌, ◌-◌, ◌≡◌, ◌≤◌}
 use Rattle.envsubst.proofs.substituter.pass.Given as goal
 
 abbrev pub invariant-loop-at : goal.invariant-loop-at

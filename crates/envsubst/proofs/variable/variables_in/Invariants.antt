@@ -1,5 +1,4 @@
-use Rattle.std.proofs.Common.{◌≡◌, map, take}
-use Rattle.envsubst.specs.Prelude.{pairs_in, variables_of}
+use Rattle.envsubst.proofs.Prelude.{map, pairs_in, take, variables_of, ◌≡◌}
 use Rattle.envsubst.proofs.variable.variables_in.Given as goal
 
 abbrev pub invariant-loop-entry : goal.invariant-loop-entry

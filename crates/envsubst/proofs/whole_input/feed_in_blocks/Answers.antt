@@ -1,6 +1,4 @@
-use Rattle.std.proofs.Common.{◌+◌, arith, ◌∙◌}
-use Rattle.std.proofs.KnownBytes.{Appends-nil}
-use Rattle.runs.proofs.DeviceLemmas.{on-err}
+use Rattle.envsubst.proofs.Prelude.{Appends-nil, arith, on-err, ◌+◌, ◌∙◌}
 use Rattle.envsubst.proofs.EnvsubstLemmas.{Gathers-out, Gathers-part, Gathers-piece, Gathers-stopped, same-values}
 use Rattle.envsubst.proofs.whole_input.feed_in_blocks.Goals as goal
 

@@ -1,5 +1,4 @@
-use Rattle.std.proofs.Common.{◌≡◌, ◌≤◌, ◌-◌, ◌++◌, length, take, false}
-use Rattle.envsubst.specs.Prelude.{values_of_substituter}
+use Rattle.envsubst.proofs.Prelude.{false, length, take, values_of_substituter, ◌++◌, ◌-◌, ◌≡◌, ◌≤◌}
 use Rattle.envsubst.proofs.EnvsubstLemmas.{Gathers}
 use Rattle.envsubst.proofs.whole_input.feed_in_blocks.Given as goal
 

@@ -1,4 +1,4 @@
-use Rattle.std.proofs.Common.{◌<◌}
+use Rattle.envsubst.proofs.Prelude.{◌<◌}
 use Rattle.envsubst.proofs.whole_input.part_len.Given as goal
 
 abbrev pub invariant-loop-value : goal.invariant-loop-value

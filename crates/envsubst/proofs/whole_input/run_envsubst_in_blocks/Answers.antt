@@ -1,6 +1,4 @@
-use Rattle.std.proofs.Common.{subst, ap, ◌∙◌}
-use Rattle.std.proofs.lemmas.Result.{err_from_is_err_and}
-use Rattle.envsubst.specs.Prelude.{EndsAs, value_of, is_replaced, names_given, pairs_in}
+use Rattle.envsubst.proofs.Prelude.{EndsAs, ap, err_from_is_err_and, is_replaced, names_given, pairs_in, subst, value_of, ◌∙◌}
 use Rattle.envsubst.proofs.EnvsubstLemmas.{stops-unread}
 use Rattle.envsubst.proofs.SortedLemmas.{given-names, same-replacements}
 use Rattle.envsubst.proofs.whole_input.run_envsubst_in_blocks.Goals as goal

@@ -1,5 +1,4 @@
-use Rattle.std.proofs.Common.{◌≡◌, ◌≤◌, ◌+◌, length, [], false, None, IfSome}
-use Rattle.envsubst.specs.Prelude.{values_of, pairs_in, names_given}
+use Rattle.envsubst.proofs.Prelude.{IfSome, None, [], false, length, names_given, pairs_in, values_of, ◌+◌, ◌≡◌, ◌≤◌}
 use Rattle.envsubst.proofs.EnvsubstLemmas.{GaveEach, HasFed}
 use Rattle.envsubst.proofs.whole_input.substitute_all.Given as goal
 

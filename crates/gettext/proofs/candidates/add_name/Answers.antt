@@ -1,5 +1,4 @@
-use Rattle.std.proofs.Common.{◌++◌, ◌∷◌, [], map, ap, ◌∙◌}
-use Rattle.std.proofs.lemmas.List.{map-append}
+use Rattle.gettext.proofs.Prelude.{[], ap, map, map-append, ◌++◌, ◌∙◌, ◌∷◌}
 use Rattle.gettext.proofs.candidates.add_name.Goals as goal
 
 pub returns : goal.returns

@@ -1,11 +1,4 @@
-use Rattle.std.proofs.Common.{◌≡◌, ◌++◌, ◌∷◌, [], true, false, map, ap, sym, subst, ◌∙◌}
-use Rattle.std.specs.List.{list_any}
-use Rattle.std.specs.Ordering.{nat_cmp}
-use Rattle.std.specs.Cmp.Lexicographic.{slice_cmp}
-use Rattle.std.specs.Str.{bytes_eq}
-use Rattle.std.specs.BTreeMap.{is_at}
-use Rattle.std.proofs.lemmas.Bool.{not-true, not-false}
-use Rattle.std.proofs.lemmas.List.{map-append}
+use Rattle.gettext.proofs.Prelude.{[], ap, bytes_eq, false, is_at, list_any, map, map-append, nat_cmp, not-false, not-true, slice_cmp, subst, sym, true, ◌++◌, ◌∙◌, ◌∷◌, ◌≡◌}
 use Rattle.gettext.proofs.SeenNames.{HasNames, one_name_more, distinct_more}
 use Rattle.gettext.proofs.candidates.distinct.Goals as goal
 

@@ -1,5 +1,4 @@
-use Rattle.std.proofs.Common.{◌≡◌, map, take}
-use Rattle.gettext.specs.Prelude.{distinct}
+use Rattle.gettext.proofs.Prelude.{distinct, map, take, ◌≡◌}
 use Rattle.gettext.proofs.SeenNames.{HasNames}
 use Rattle.gettext.proofs.candidates.distinct.Given as goal
 

@@ -1,4 +1,4 @@
-use Rattle.std.proofs.Common.{refl, rules}
+use Rattle.gettext.proofs.Prelude.{refl, rules}
 use Rattle.locale_names.proofs.CandidateLemmas.{from-start}
 use Rattle.gettext.proofs.candidates.locale_candidates.Goals as goal
 

@@ -1,6 +1,4 @@
-use Rattle.std.proofs.Common.{◌≡◌, ◌++◌, [], map, length, unwrap_or}
-use Rattle.locale_names.specs.Prelude.{names_from, candidates}
-use Rattle.gettext.specs.Prelude.{locale_of, non_empty}
+use Rattle.gettext.proofs.Prelude.{[], candidates, length, locale_of, map, names_from, non_empty, unwrap_or, ◌++◌, ◌≡◌}
 use Rattle.gettext.proofs.candidates.locale_candidates.Given as goal
 
 -- the names so far, and those that are still to be given

@@ -1,7 +1,4 @@
-use Rattle.std.proofs.Common.{◌∙◌, ap, sym, take}
-use Rattle.std.proofs.lemmas.List.{take-map, take_all}
-use Rattle.gettext.specs.Prelude.{catalogue_files}
-use Rattle.runs.specs.Prelude.{named_file, named_files}
+use Rattle.gettext.proofs.Prelude.{ap, catalogue_files, named_file, named_files, sym, take, take-map, take_all, ◌∙◌}
 use Rattle.gettext.proofs.catalogues.borrowed_catalogues.Goals as goal
 
 pub returns-clause-borrowed : goal.returns-clause-borrowed

@@ -1,6 +1,4 @@
-use Rattle.std.proofs.Common.{◌≡◌, take}
-use Rattle.gettext.specs.Prelude.{catalogue_files}
-use Rattle.runs.specs.Prelude.{named_files}
+use Rattle.gettext.proofs.Prelude.{catalogue_files, named_files, take, ◌≡◌}
 use Rattle.gettext.proofs.catalogues.borrowed_catalogues.Given as goal
 
 abbrev pub invariant-loop-catalogue : goal.invariant-loop-catalogue

@@ -1,7 +1,4 @@
-use Rattle.std.proofs.Common.{◌≡◌, None, Some, ap, subst, ◌∙◌, ◌∷◌, [], get_or}
-use Rattle.std.specs.Option.{option_map}
-use Rattle.std.proofs.lemmas.List.{map-append}
-use Rattle.gettext.specs.Prelude.{AsksAt, IsCatalogueAt, catalogue_file, catalogue_files}
+use Rattle.gettext.proofs.Prelude.{AsksAt, IsCatalogueAt, None, Some, [], ap, catalogue_file, catalogue_files, get_or, map-append, option_map, subst, ◌∙◌, ◌∷◌, ◌≡◌}
 use Rattle.gettext.proofs.CatalogueLemmas.{asked-all, asked-more, asked-none, catalogue_as_before, completes-all, completes-found, completes-none, completes-skipped}
 use Rattle.runs.proofs.InputLemmas.{stays_itself, stays_on}
 use Rattle.gettext.proofs.catalogues.read_catalogues.Goals as goal

@@ -1,5 +1,4 @@
-use Rattle.runs.specs.Prelude.{Stays}
-use Rattle.gettext.specs.Prelude.{catalogue_files}
+use Rattle.gettext.proofs.Prelude.{Stays, catalogue_files}
 use Rattle.gettext.proofs.CatalogueLemmas.{AskedPaths, CompletesPaths}
 use Rattle.gettext.proofs.catalogues.read_catalogues.Given as goal
 

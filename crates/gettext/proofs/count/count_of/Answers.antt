@@ -1,6 +1,5 @@
 use Rattle.gettext.proofs.CountLemmas.{count-none, count-some}
-use Rattle.locale_names.proofs.SearchLemmas.{nil-from_length, some-from_length}
-use Rattle.std.proofs.Common.{sym, ◌∙◌}
+use Rattle.gettext.proofs.Prelude.{nil-from_length, some-from_length, sym, ◌∙◌}
 use Rattle.gettext.proofs.count.count_of.Goals as goal
 
 pub returns-then-is_empty : goal.returns-then-is_empty

@@ -1,8 +1,4 @@
-use Rattle.std.proofs.Common.{◌≡◌, false, take, ap, ◌∙◌, arith}
-use Rattle.std.specs.Str.Parse.{digits_value}
-use Rattle.std.proofs.lemmas.Int.Digits.{digits_value_more}
-use Rattle.std.proofs.lemmas.List.{take_all}
-use Rattle.gettext.specs.Prelude.{are_digits}
+use Rattle.gettext.proofs.Prelude.{ap, are_digits, arith, digits_value, digits_value_more, false, take, take_all, ◌∙◌, ◌≡◌}
 use Rattle.gettext.proofs.CountLemmas.{other_byte, more_digits, grows}
 use Rattle.gettext.proofs.count.decimal.Goals as goal
 

@@ -1,6 +1,4 @@
-use Rattle.std.proofs.Common.{◌≡◌, ◌<◌, ◌^◌, true, take}
-use Rattle.std.specs.Str.Parse.{digits_value}
-use Rattle.gettext.specs.Prelude.{are_digits}
+use Rattle.gettext.proofs.Prelude.{are_digits, digits_value, take, true, ◌<◌, ◌^◌, ◌≡◌}
 use Rattle.gettext.proofs.count.decimal.Given as goal
 
 abbrev pub invariant-loop-digit : goal.invariant-loop-digit

@@ -1,7 +1,5 @@
-use Rattle.std.proofs.Common.{sym, ◌∙◌}
-use Rattle.std.proofs.lemmas.Bool.{cond-true, cond-false}
+use Rattle.gettext.proofs.Prelude.{cond-false, cond-true, nil-from_length, some-from_length, sym, ◌∙◌}
 use Rattle.gettext.proofs.EscapeLemmas.{escape-first, escape-none, octal-escape}
-use Rattle.locale_names.proofs.SearchLemmas.{nil-from_length, some-from_length}
 use Rattle.gettext.proofs.escape.escape_after.Goals as goal
 
 pub returns-then-is_empty-clause-escape : goal.returns-then-is_empty-clause-escape

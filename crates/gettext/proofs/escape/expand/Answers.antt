@@ -1,5 +1,4 @@
-use Rattle.std.proofs.Common.{◌<◌, length, sym, ◌∙◌, arith}
-use Rattle.std.proofs.lemmas.List.{take_rest}
+use Rattle.gettext.proofs.Prelude.{arith, length, sym, take_rest, ◌<◌, ◌∙◌}
 use Rattle.gettext.proofs.EscapeLemmas.{end-bytes, end-newline, stays-bytes, stays-newline, byte-bytes, byte-newline, none-bytes, none-newline}
 use Rattle.gettext.proofs.escape.expand.Goals as goal
 

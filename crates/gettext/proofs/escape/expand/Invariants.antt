@@ -1,5 +1,4 @@
-use Rattle.std.proofs.Common.{◌≡◌, ◌||◌, ◌++◌, length}
-use Rattle.gettext.specs.Prelude.{expansion, has_no_newline}
+use Rattle.gettext.proofs.Prelude.{expansion, has_no_newline, length, ◌++◌, ◌||◌, ◌≡◌}
 use Rattle.gettext.proofs.escape.expand.Given as goal
 
 abbrev pub invariant-loop-bytes : goal.invariant-loop-bytes

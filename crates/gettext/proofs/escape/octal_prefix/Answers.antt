@@ -1,6 +1,4 @@
-use Rattle.std.proofs.Common.{◌<◌, length, take, sym, ap, ◌∙◌, arith}
-use Rattle.std.proofs.lemmas.List.Sums.{prefix_len_is}
-use Rattle.gettext.specs.Prelude.{is_octal}
+use Rattle.gettext.proofs.Prelude.{ap, arith, is_octal, length, prefix_len_is, sym, take, ◌<◌, ◌∙◌}
 use Rattle.gettext.proofs.EscapeLemmas.{octal_prefix-taken}
 use Rattle.gettext.proofs.escape.octal_prefix.Goals as goal
 

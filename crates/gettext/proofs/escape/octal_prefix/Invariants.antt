@@ -1,5 +1,4 @@
-use Rattle.std.proofs.Common.{◌≡◌, ◌<◌, ℕ, true, get_or}
-use Rattle.gettext.specs.Prelude.{is_octal}
+use Rattle.gettext.proofs.Prelude.{get_or, is_octal, true, ℕ, ◌<◌, ◌≡◌}
 use Rattle.gettext.proofs.escape.octal_prefix.Given as goal
 
 abbrev pub invariant-loop-len : goal.invariant-loop-len

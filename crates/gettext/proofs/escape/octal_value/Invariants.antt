@@ -1,5 +1,5 @@
-use Rattle.std.proofs.Common.{◌≡◌, ◌<◌, take, fold}
-use Rattle.gettext.specs.Prelude.{with_octal}
+use Rattle.gettext.proofs.Prelude.{take, with_octal, ◌<◌, ◌≡◌}
+use Rattle.std.proofs.Common.{fold}
 use Rattle.gettext.proofs.escape.octal_value.Given as goal
 
 abbrev pub invariant-loop-digit : goal.invariant-loop-digit

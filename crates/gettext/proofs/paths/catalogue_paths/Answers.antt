@@ -1,6 +1,4 @@
-use Rattle.std.proofs.Common.{◌≡◌, Some, append-nil, drop_of_length-le, map, rules, sym}
-use Rattle.std.specs.Option.{option_copied}
-use Rattle.gettext.specs.Prelude.{domain_of, path_of}
+use Rattle.gettext.proofs.Prelude.{Some, append-nil, domain_of, drop_of_length-le, map, option_copied, path_of, rules, sym, ◌≡◌}
 use Rattle.gettext.proofs.paths.catalogue_paths.Goals as goal
 
 pub returns-clause-paths : goal.returns-clause-paths

@@ -1,5 +1,4 @@
-use Rattle.std.proofs.Common.{◌≡◌, ◌++◌, map, drop}
-use Rattle.gettext.specs.Prelude.{path_of}
+use Rattle.gettext.proofs.Prelude.{drop, map, path_of, ◌++◌, ◌≡◌}
 use Rattle.gettext.proofs.paths.catalogue_paths.Given as goal
 
 abbrev pub invariant-loop-locale : goal.invariant-loop-locale

@@ -1,6 +1,4 @@
-use Rattle.std.proofs.Common.{[], ◌∷◌, sym, ◌∙◌, append-nil, append_assoc}
-use Rattle.gettext.specs.Plan.{opened, refused}
-use Rattle.runs.specs.Prelude.{fault_line, mo_text}
+use Rattle.gettext.proofs.Prelude.{[], append-nil, append_assoc, fault_line, mo_text, opened, refused, sym, ◌∙◌, ◌∷◌}
 use Rattle.gettext.proofs.plan.open_file.Goals as goal
 
 pub returns-in-None : goal.returns-in-None

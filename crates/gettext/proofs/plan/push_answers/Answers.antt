@@ -1,4 +1,4 @@
-use Rattle.gettext.specs.Prelude.{omits_newline, argument_answer, gettext_view}
+use Rattle.gettext.proofs.Prelude.{argument_answer, gettext_view, omits_newline}
 use Rattle.gettext.proofs.GettextLemmas.{answers-reported, omitted-reported}
 use Rattle.gettext.proofs.plan.push_answers.Goals as goal
 

@@ -1,6 +1,4 @@
-use Rattle.std.proofs.Common.{◌≡◌, ◌++◌, ◌||◌, drop, map}
-use Rattle.std.specs.List.{list_any}
-use Rattle.gettext.specs.Prelude.{omits_newline, argument_answer, gettext_view}
+use Rattle.gettext.proofs.Prelude.{argument_answer, drop, gettext_view, list_any, map, omits_newline, ◌++◌, ◌||◌, ◌≡◌}
 use Rattle.gettext.proofs.GettextLemmas.{further}
 use Rattle.gettext.proofs.plan.push_answers.Given as goal
 

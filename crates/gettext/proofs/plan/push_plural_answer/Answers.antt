@@ -1,5 +1,4 @@
-use Rattle.std.proofs.Common.{◌≡◌, ap, rules, ◌∙◌}
-use Rattle.gettext.specs.Prelude.{expansion}
+use Rattle.gettext.proofs.Prelude.{ap, expansion, rules, ◌∙◌, ◌≡◌}
 use Rattle.gettext.proofs.plan.push_plural_answer.Goals as goal
 
 pub returns-clause-answer : goal.returns-clause-answer

@@ -1,4 +1,4 @@
-use Rattle.std.proofs.Common.{refl}
+use Rattle.gettext.proofs.Prelude.{refl}
 use Rattle.std.proofs.lemmas.Result.{err_from_is_err_and}
 use Rattle.gettext.specs.WholeRun.{no_memory, runs}
 use Rattle.gettext.proofs.WholeRuns.{of_found}

@@ -1,11 +1,4 @@
-use Rattle.std.proofs.Common.{ℕ, List, [], Result, option_map, codes, refl, ap, ◌∙◌, inl}
-use Rattle.std.specs.String.{string_bytes}
-use Rattle.runs.specs.Prelude.{RunView}
-use Rattle.runs.specs.declared.program_fault.ProgramFault.{ProgramFault}
-use Rattle.msgattrib.specs.Prelude.{IsMsgattribRun}
-use Rattle.known_runs.specs.Prelude.{EndsInFile, all_as_they_are}
-use Rattle.known_runs.specs.Ends.{failed}
-use Rattle.known_system.specs.Prelude.{contents, bytes_of, reading_of, texts_by_name}
+use Rattle.known_runs.proofs.Prelude.{EndsInFile, IsMsgattribRun, List, ProgramFault, Result, RunView, [], all_as_they_are, ap, bytes_of, codes, contents, failed, inl, option_map, reading_of, refl, string_bytes, texts_by_name, ℕ, ◌∙◌}
 use Rattle.known_runs.proofs.AllCommands.{arrives, held_at, holds_after, holds_before, holds_now, unstarted_ends}
 use Rattle.known_runs.proofs.Selections.{all_selected, line_ends, selection_is}
 use Rattle.known_runs.proofs.commands.msgattrib_in_memory.Goals as goal

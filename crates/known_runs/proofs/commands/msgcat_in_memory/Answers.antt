@@ -1,11 +1,4 @@
-use Rattle.std.proofs.Common.{ℕ, List, [], Result, option_map, codes, refl, ap, ◌∙◌, inl}
-use Rattle.std.specs.String.{string_bytes}
-use Rattle.runs.specs.Prelude.{RunView}
-use Rattle.runs.specs.declared.program_fault.ProgramFault.{ProgramFault}
-use Rattle.msgcat.specs.Prelude.{IsMsgcatRun}
-use Rattle.known_runs.specs.Prelude.{EndsInFile, all_messages, two_files}
-use Rattle.known_runs.specs.Ends.{failed}
-use Rattle.known_system.specs.Prelude.{contents, bytes_of, reading_of, texts_by_name}
+use Rattle.known_runs.proofs.Prelude.{EndsInFile, IsMsgcatRun, List, ProgramFault, Result, RunView, [], all_messages, ap, bytes_of, codes, contents, failed, inl, option_map, reading_of, refl, string_bytes, texts_by_name, two_files, ℕ, ◌∙◌}
 use Rattle.known_runs.proofs.AllCommands.{arrives, held_at, holds_after, holds_before, holds_now, unstarted_ends}
 use Rattle.known_runs.proofs.Merges.{line_ends}
 use Rattle.known_runs.proofs.commands.msgcat_in_memory.Goals as goal

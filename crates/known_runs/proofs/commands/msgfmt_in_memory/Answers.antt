@@ -1,10 +1,5 @@
-use Rattle.std.proofs.Common.{ℕ, List, [], Result, option_map, codes, refl, ap, ◌∙◌, inl}
-use Rattle.std.specs.String.{string_bytes}
-use Rattle.runs.specs.Prelude.{RunView}
-use Rattle.runs.specs.declared.program_fault.ProgramFault.{ProgramFault}
-use Rattle.known_runs.specs.Prelude.{EndsMsgfmt}
+use Rattle.known_runs.proofs.Prelude.{EndsMsgfmt, List, ProgramFault, Result, RunView, [], ap, bytes_of, codes, contents, inl, option_map, reading_of, refl, string_bytes, texts_by_name, ℕ, ◌∙◌}
 use Rattle.known_runs.specs.Msgfmt.{failed}
-use Rattle.known_system.specs.Prelude.{contents, bytes_of, reading_of, texts_by_name}
 use Rattle.known_runs.proofs.AllCommands.{arrives, held_at, holds_after, holds_before, holds_now, unstarted_ends}
 use Rattle.known_runs.proofs.Files.{leads_there}
 use Rattle.known_runs.proofs.Msgfmts.{line_ends}

@@ -1,9 +1,4 @@
-use Rattle.std.proofs.Common.{ℕ, List, [], Result, option_map, codes, refl, ap, ◌∙◌}
-use Rattle.std.specs.String.{string_bytes}
-use Rattle.runs.specs.Prelude.{RunView}
-use Rattle.runs.specs.declared.program_fault.ProgramFault.{ProgramFault}
-use Rattle.known_runs.specs.Prelude.{EndsThroughLinks}
-use Rattle.known_system.specs.Prelude.{contents, links_by_path, bytes_of, reading_of, texts_by_name}
+use Rattle.known_runs.proofs.Prelude.{EndsThroughLinks, List, ProgramFault, Result, RunView, [], ap, bytes_of, codes, contents, links_by_path, option_map, reading_of, refl, string_bytes, texts_by_name, ℕ, ◌∙◌}
 use Rattle.known_runs.proofs.AllCommands.{arrives, held_at, holds_after, holds_before, holds_now, unstarted_ends}
 use Rattle.known_runs.proofs.ThroughLinks.{through_links, unstarted_so}
 use Rattle.known_runs.proofs.commands.msgfmt_through_links_in_memory.Goals as goal

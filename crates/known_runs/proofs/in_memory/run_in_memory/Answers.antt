@@ -1,4 +1,4 @@
-use Rattle.std.proofs.Common.{refl}
+use Rattle.known_runs.proofs.Prelude.{refl}
 use Rattle.known_runs.proofs.AllCommands.{ran}
 use Rattle.known_runs.proofs.in_memory.run_in_memory.Goals as goal
 

@@ -1,7 +1,4 @@
-use Rattle.std.proofs.Common.{◌≡◌, ℕ, List, [], map, None, codes, refl, sym, ap, ◌∙◌, subst}
-use Rattle.runs.specs.Inputs.{gives}
-use Rattle.known_system.specs.Prelude.{contents, bytes_of, entry_texts, reading_of, texts_by_name}
-use Rattle.known_runs.specs.Prelude.{end, EndsLookUp, counted, hello_mo, operands_of, text_of}
+use Rattle.known_runs.proofs.Prelude.{EndsLookUp, List, None, [], ap, bytes_of, codes, contents, counted, end, entry_texts, gives, hello_mo, map, operands_of, reading_of, refl, subst, sym, text_of, texts_by_name, ℕ, ◌∙◌, ◌≡◌}
 use Rattle.known_runs.proofs.AllCommands.{holds_after, holds_before, holds_now}
 use Rattle.known_runs.proofs.LookUps.{ngettext_ends}
 use Rattle.known_runs.proofs.look_ups.ngettext_in_memory.Goals as goal

@@ -1,7 +1,4 @@
-use Rattle.std.proofs.Common.{ap, map, ◌∙◌}
-use Rattle.std.specs.Option.{option_copied}
-use Rattle.known_system.specs.Prelude.{entry_texts}
-use Rattle.known_runs.specs.Prelude.{text_of}
+use Rattle.known_runs.proofs.Prelude.{ap, entry_texts, map, option_copied, text_of, ◌∙◌}
 use Rattle.known_runs.proofs.Replacing.{envsubst_ends}
 use Rattle.known_runs.proofs.substitutions.envsubst_in_memory.Goals as goal
 

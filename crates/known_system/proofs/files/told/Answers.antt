@@ -1,7 +1,4 @@
-use Rattle.std.proofs.Common.{List, [], ◌∷◌, ◌++◌, ap, ◌∙◌}
-use Rattle.runs.specs.Prelude.{FileCall}
-use Rattle.runs.specs.OutputFiles.{numbers}
-use Rattle.known_system.specs.Prelude.{nothing, replay}
+use Rattle.known_system.proofs.Prelude.{FileCall, List, [], ap, nothing, numbers, replay, ◌++◌, ◌∙◌, ◌∷◌}
 use Rattle.known_system.proofs.Tellings.{told_all}
 use Rattle.known_system.proofs.files.told.Goals as goal
 

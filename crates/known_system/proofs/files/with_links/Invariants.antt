@@ -1,5 +1,4 @@
-use Rattle.std.proofs.Common.{◌≡◌, ◌++◌, take}
-use Rattle.known_system.specs.Prelude.{tellings}
+use Rattle.known_system.proofs.Prelude.{take, tellings, ◌++◌, ◌≡◌}
 use Rattle.known_system.proofs.files.with_links.Given as goal
 
 abbrev pub invariant-loop-link : goal.invariant-loop-link

@@ -1,5 +1,4 @@
-use Rattle.std.proofs.Common.{◌≡◌, drop}
-use Rattle.known_system.specs.Prelude.{bytes_of, texts_by_name}
+use Rattle.known_system.proofs.Prelude.{bytes_of, drop, texts_by_name, ◌≡◌}
 use Rattle.known_system.proofs.source.bytes_of.Given as goal
 
 abbrev pub invariant-loop-one : goal.invariant-loop-one

@@ -1,5 +1,4 @@
-use Rattle.std.proofs.Common.{◌≡◌, drop}
-use Rattle.known_system.specs.Prelude.{links_by_path, bytes_of}
+use Rattle.known_system.proofs.Prelude.{bytes_of, drop, links_by_path, ◌≡◌}
 use Rattle.known_system.proofs.stored.link_at.Given as goal
 
 abbrev pub invariant-loop-link : goal.invariant-loop-link

@@ -1,4 +1,4 @@
-use Rattle.std.proofs.Common.{arith}
+use Rattle.locale_names.proofs.Prelude.{arith}
 use Rattle.locale_names.proofs.PartLemmas.{parts-last, parts-next}
 use Rattle.locale_names.proofs.language.first_part.Goals as goal
 

@@ -1,6 +1,4 @@
-use Rattle.std.proofs.Common.{sym, ap, ◌∙◌, arith}
-use Rattle.std.proofs.lemmas.List.{drop_all}
-use Rattle.locale_names.specs.Prelude.{language_parts}
+use Rattle.locale_names.proofs.Prelude.{ap, arith, drop_all, language_parts, sym, ◌∙◌}
 use Rattle.locale_names.proofs.PartLemmas.{parts-none}
 use Rattle.locale_names.proofs.language.next_language.Goals as goal
 

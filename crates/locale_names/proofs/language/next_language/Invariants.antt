@@ -1,5 +1,4 @@
-use Rattle.std.proofs.Common.{◌≡◌, ◌≤◌, ◌-◌, drop, length}
-use Rattle.locale_names.specs.Prelude.{language_parts}
+use Rattle.locale_names.proofs.Prelude.{drop, language_parts, length, ◌-◌, ◌≡◌, ◌≤◌}
 use Rattle.locale_names.proofs.language.next_language.Given as goal
 
 abbrev pub invariant-loop-at : goal.invariant-loop-at

@@ -1,4 +1,4 @@
-use Rattle.std.proofs.Common.{◌∙◌}
+use Rattle.locale_names.proofs.Prelude.{◌∙◌}
 use Rattle.locale_names.proofs.SearchLemmas.{first-or_len}
 use Rattle.locale_names.proofs.name.len_before.Goals as goal
 

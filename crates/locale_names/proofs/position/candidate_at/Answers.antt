@@ -1,4 +1,4 @@
-use Rattle.std.proofs.Common.{sym, ◌∙◌}
+use Rattle.locale_names.proofs.Prelude.{sym, ◌∙◌}
 use Rattle.locale_names.proofs.CandidateLemmas.{barred-from, from-start}
 use Rattle.locale_names.proofs.position.candidate_at.Goals as goal
 

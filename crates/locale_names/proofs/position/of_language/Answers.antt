@@ -1,7 +1,4 @@
-use Rattle.std.proofs.Common.{ap, ◌∙◌, arith}
-use Rattle.std.specs.List.{flat_map}
-use Rattle.std.proofs.lemmas.List.{drop_all, take_rest}
-use Rattle.locale_names.specs.Prelude.{candidates_of_name, language_parts}
+use Rattle.locale_names.proofs.Prelude.{ap, arith, candidates_of_name, drop_all, flat_map, language_parts, take_rest, ◌∙◌}
 use Rattle.locale_names.proofs.CandidateLemmas.{first-given, language-passed, next-given, no-language-left}
 use Rattle.locale_names.proofs.PartLemmas.{parts-none}
 use Rattle.locale_names.proofs.position.of_language.Goals as goal

@@ -1,5 +1,4 @@
-use Rattle.std.proofs.Common.{[], ◌∷◌, sym, ap, ◌∙◌}
-use Rattle.locale_names.specs.Prelude.{names_left, text_of}
+use Rattle.locale_names.proofs.Prelude.{[], ap, names_left, sym, text_of, ◌∙◌, ◌∷◌}
 use Rattle.locale_names.proofs.CandidateLemmas.{from-language, from-locale, from-start, matched-left, one-given, past-five}
 use Rattle.locale_names.proofs.position.translated_candidate_at.Goals as goal
 

@@ -1,7 +1,4 @@
-use Rattle.std.proofs.Common.{◌<◌, ◌≤◌, ◌∙◌, ap, sym, refl, Some, length, arith}
-use Rattle.std.proofs.lemmas.List.{take_all}
-use Rattle.mo_file.specs.Prelude.{message_count, messages_of_borrowed}
-use Rattle.mo_file.proofs.ViewLemmas.{length-messages_of, map-messages_of-at}
+use Rattle.mo_expand.proofs.Prelude.{Some, ap, arith, length, length-messages_of, map-messages_of-at, message_count, messages_of_borrowed, refl, sym, take_all, ◌<◌, ◌∙◌, ◌≤◌}
 use Rattle.mo_expand.proofs.AnyOrderLemmas.{has_header, original-inside, originals-inside, translation-inside, translations-inside}
 use Rattle.mo_expand.proofs.ListingLemmas.{listed-next}
 use Rattle.mo_expand.proofs.any_order.list_all.Goals as goal

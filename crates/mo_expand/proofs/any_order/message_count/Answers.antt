@@ -1,5 +1,4 @@
-use Rattle.std.proofs.Common.{◌≡◌, length, arith, ◌∙◌, sym}
-use Rattle.mo_file.proofs.ViewLemmas.{length-messages_of}
+use Rattle.mo_expand.proofs.Prelude.{arith, length, length-messages_of, sym, ◌∙◌, ◌≡◌}
 use Rattle.mo_expand.proofs.AnyOrderLemmas.{has_header, shown}
 use Rattle.mo_expand.proofs.any_order.message_count.Goals as goal
 

@@ -1,5 +1,4 @@
-use Rattle.std.proofs.Common.{refl}
-use Rattle.mo_file.specs.Prelude.{string_at}
+use Rattle.mo_expand.proofs.Prelude.{refl, string_at}
 use Rattle.mo_expand.proofs.any_order.string_at.Goals as goal
 
 pub returns : goal.returns

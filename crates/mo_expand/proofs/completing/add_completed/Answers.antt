@@ -1,7 +1,4 @@
-use Rattle.std.proofs.Common.{◌≡◌, ◌<◌, ◌∙◌, ap, sym, subst, arith, take}
-use Rattle.std.specs.List.{slice_range}
-use Rattle.mo_file.specs.Prelude.{AreRising, keys, messages_of_borrowed}
-use Rattle.mo_expand.specs.Prelude.{system_count, system_message, strings_len, with_message}
+use Rattle.mo_expand.proofs.Prelude.{AreRising, ap, arith, keys, messages_of_borrowed, slice_range, strings_len, subst, sym, system_count, system_message, take, with_message, ◌<◌, ◌∙◌, ◌≡◌}
 use Rattle.mo_expand.proofs.CompletingLemmas.{added, passed, none_left, room-next, room-full, split-message, split-len}
 use Rattle.mo_expand.proofs.RisingLemmas.{rising-with_message}
 use Rattle.mo_expand.proofs.completing.add_completed.Goals.{in-Ok, in-Err-Absent}

@@ -1,7 +1,4 @@
-use Rattle.std.proofs.Common.{◌≡◌, ◌+◌, ◌-◌, ◌≤◌, length, map, take}
-use Rattle.std.specs.List.{range_with_len, sum_by}
-use Rattle.mo_file.specs.Prelude.{AreRising, keys, messages_of_borrowed}
-use Rattle.mo_expand.specs.Prelude.{system_count, system_message, expanded_messages, with_messages, strings_len, system_messages}
+use Rattle.mo_expand.proofs.Prelude.{AreRising, expanded_messages, keys, length, map, messages_of_borrowed, range_with_len, strings_len, sum_by, system_count, system_message, system_messages, take, with_messages, ◌+◌, ◌-◌, ◌≡◌, ◌≤◌}
 use Rattle.mo_expand.proofs.completing.add_completed.Given as goal
 
 abbrev pub invariant-loop-index : goal.invariant-loop-index

@@ -1,5 +1,4 @@
-use Rattle.std.proofs.Common.{◌≡◌, ◌∙◌, sym, rules}
-use Rattle.mo_expand.specs.Prelude.{message_from, system_message, text_at}
+use Rattle.mo_expand.proofs.Prelude.{message_from, rules, sym, system_message, text_at, ◌∙◌, ◌≡◌}
 use Rattle.mo_expand.proofs.JoiningLemmas.{full-there}
 use Rattle.mo_expand.proofs.expanding.expand_in.Goals as goal
 

@@ -1,6 +1,4 @@
-use Rattle.std.proofs.Common.{◌≡◌, suc, ◌-◌, ◌+◌, None, Some, ap, sym, ◌∙◌, arith}
-use Rattle.std.specs.Prelude.{is_some}
-use Rattle.mo_expand.specs.Prelude.{joined}
+use Rattle.mo_expand.proofs.Prelude.{ap, arith, is_some, joined, suc, sym, ◌+◌, ◌-◌, ◌∙◌, ◌≡◌}
 use Rattle.mo_expand.proofs.JoiningLemmas.{joined-none, joined-step, is_some-before}
 use Rattle.mo_expand.proofs.joining.has_text.Goals as goal
 

@@ -1,6 +1,4 @@
-use Rattle.std.proofs.Common.{◌≡◌, ◌+◌, ◌-◌, ◌*◌, ◌^◌, ◌≤◌}
-use Rattle.std.specs.Prelude.{is_some}
-use Rattle.mo_expand.specs.Prelude.{joined, text_at}
+use Rattle.mo_expand.proofs.Prelude.{is_some, joined, text_at, ◌*◌, ◌+◌, ◌-◌, ◌^◌, ◌≡◌, ◌≤◌}
 use Rattle.mo_expand.proofs.joining.has_text.Given as goal
 
 abbrev pub invariant-loop-i : goal.invariant-loop-i

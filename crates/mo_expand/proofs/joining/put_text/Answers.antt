@@ -1,6 +1,4 @@
-use Rattle.std.proofs.Common.{◌≡◌, suc, ◌-◌, ◌+◌, None, Some, subst, sym, arith}
-use Rattle.mo_expand.specs.Internal.Joining.{IsJoining}
-use Rattle.mo_expand.specs.Prelude.{joined, text_at}
+use Rattle.mo_expand.proofs.Prelude.{IsJoining, None, Some, arith, joined, subst, suc, sym, text_at, ◌+◌, ◌-◌, ◌≡◌}
 use Rattle.mo_expand.proofs.JoiningLemmas.{joining-step, joining-last, joining-goes_on, joining-is_full_before, joining-has_ended}
 use Rattle.mo_expand.proofs.joining.put_text.Goals as goal
 

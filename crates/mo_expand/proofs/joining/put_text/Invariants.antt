@@ -1,6 +1,4 @@
-use Rattle.std.proofs.Common.{◌+◌, ◌-◌, ◌*◌, ◌^◌, ◌≤◌}
-use Rattle.mo_expand.specs.Prelude.{joined, text_at}
-use Rattle.mo_expand.specs.Internal.Joining.{IsJoining}
+use Rattle.mo_expand.proofs.Prelude.{IsJoining, joined, text_at, ◌*◌, ◌+◌, ◌-◌, ◌^◌, ◌≤◌}
 use Rattle.mo_expand.proofs.joining.put_text.Given as goal
 
 abbrev pub invariant-loop-i : goal.invariant-loop-i

@@ -1,7 +1,5 @@
-use Rattle.std.proofs.Common.{◌+◌, ◌≤◌, ◌∙◌, ap, take, sym, arith, length-take, rules}
-use Rattle.std.specs.Prelude.{slice_set}
+use Rattle.mo_expand.proofs.Prelude.{ap, arith, key_cmp, key_of, length-take, messages_of_borrowed, rules, slice_set, sym, take, ◌+◌, ◌∙◌, ◌≤◌}
 use Rattle.std.proofs.lemmas.Fn.{always_returns_same}
-use Rattle.mo_file.specs.Prelude.{key_cmp, key_of, messages_of_borrowed}
 use Rattle.mo_expand.proofs.ListingLemmas.{inserted}
 use Rattle.mo_expand.proofs.SearchLemmas.{listed-found, listed-place}
 use Rattle.mo_expand.proofs.listing.insert.Goals as goal

@@ -1,4 +1,4 @@
-use Rattle.std.proofs.Common.{arith}
+use Rattle.mo_expand.proofs.Prelude.{arith}
 use Rattle.mo_expand.proofs.ListingLemmas.{listed-next}
 use Rattle.mo_expand.proofs.listing.list_own.Goals as goal
 

@@ -1,5 +1,4 @@
-use Rattle.std.proofs.Common.{◌≡◌, take}
-use Rattle.mo_file.specs.Prelude.{messages_of_borrowed}
+use Rattle.mo_expand.proofs.Prelude.{messages_of_borrowed, take, ◌≡◌}
 use Rattle.mo_expand.proofs.listing.list_own.Given as goal
 
 abbrev pub invariant-loop-i : goal.invariant-loop-i

@@ -1,5 +1,4 @@
-use Rattle.std.proofs.Common.{◌≡◌, drop}
-use Rattle.mo_expand.specs.Prelude.{text_of}
+use Rattle.mo_expand.proofs.Prelude.{drop, text_of, ◌≡◌}
 use Rattle.mo_expand.proofs.platform_text.text_of.Given as goal
 
 abbrev pub invariant-loop-it : goal.invariant-loop-it

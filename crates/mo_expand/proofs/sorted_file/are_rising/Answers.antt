@@ -1,8 +1,4 @@
-use Rattle.std.proofs.Common.{◌↔◌, IsTrue, rules, subst, sym}
-use Rattle.std.specs.Ordering.{is_lt}
-use Rattle.std.proofs.lemmas.List.Sorted.{answers_always}
-use Rattle.mo_file.specs.Prelude.{AreRising, borrowed_message, key_cmp}
-use Rattle.mo_file.proofs.RisingKeys.{keys-by, rising-answered}
+use Rattle.mo_expand.proofs.Prelude.{AreRising, IsTrue, answers_always, borrowed_message, is_lt, key_cmp, keys-by, rising-answered, rules, subst, sym, ◌↔◌}
 use Rattle.mo_expand.proofs.SortedFileLemmas.{listed_key}
 use Rattle.mo_expand.proofs.sorted_file.are_rising.Goals as goal
 

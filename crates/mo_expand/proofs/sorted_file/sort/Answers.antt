@@ -1,9 +1,4 @@
-use Rattle.std.proofs.Common.{rules}
-use Rattle.std.specs.Ordering.{is_lt}
-use Rattle.std.proofs.lemmas.Cmp.{nat_list_cmp_total, on_total}
-use Rattle.std.proofs.lemmas.List.Sorted.{answers_always, ranks_by}
-use Rattle.mo_file.specs.Prelude.{key_cmp}
-use Rattle.mo_file.specs.declared.pairs.BorrowedPair.{BorrowedPair}
+use Rattle.mo_expand.proofs.Prelude.{BorrowedPair, answers_always, is_lt, key_cmp, nat_list_cmp_total, on_total, ranks_by, rules}
 use Rattle.mo_expand.proofs.SortedFileLemmas.{listed_key}
 use Rattle.mo_expand.proofs.sorted_file.sort.Goals as goal
 

@@ -1,7 +1,4 @@
-use Rattle.std.proofs.Common.{rules, ◌≡◌, ◌<◌, length, refl, arith, length-take}
-use Rattle.mo_file.specs.Prelude.{messages_of_borrowed}
-use Rattle.mo_file.proofs.ViewLemmas.{length-messages_of}
-use Rattle.mo_expand.specs.Prelude.{HaveDistinctKeys, HaveTooLargeFile, IsFileOfSorted}
+use Rattle.mo_expand.proofs.Prelude.{HaveDistinctKeys, HaveTooLargeFile, IsFileOfSorted, arith, length, length-messages_of, length-take, messages_of_borrowed, refl, rules, ◌<◌, ◌≡◌}
 use Rattle.mo_expand.proofs.AnyOrderLemmas.{has_header, shown}
 use Rattle.mo_expand.proofs.SortedFileLemmas.{not_distinct, sorted-messages}
 use Rattle.mo_expand.proofs.sorted_file.sort_file.Goals as goal

@@ -1,5 +1,4 @@
-use Rattle.std.proofs.Common.{arith, refl}
-use Rattle.std.proofs.lemmas.List.{take_all}
+use Rattle.mo_file.proofs.Prelude.{arith, refl, take_all}
 use Rattle.mo_file.proofs.BuildLemmas.{length-layout-pairs}
 use Rattle.mo_file.proofs.building.file_len.Goals as goal
 

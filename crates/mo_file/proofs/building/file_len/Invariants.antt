@@ -1,5 +1,4 @@
-use Rattle.std.proofs.Common.{◌≡◌, ◌+◌, ◌-◌, ◌^◌, min, take}
-use Rattle.std.specs.List.{sum_by}
+use Rattle.mo_file.proofs.Prelude.{min, sum_by, take, ◌+◌, ◌-◌, ◌^◌, ◌≡◌}
 use Rattle.mo_file.proofs.BuildLemmas.{pair_len}
 use Rattle.mo_file.proofs.building.file_len.Given as goal
 

@@ -1,4 +1,4 @@
-use Rattle.std.proofs.Common.{arith, ◌∙◌}
+use Rattle.mo_file.proofs.Prelude.{arith, ◌∙◌}
 use Rattle.mo_file.proofs.FaultLemmas.{first_unsorted}
 use Rattle.mo_file.proofs.checking.check_keys.Goals as goal
 

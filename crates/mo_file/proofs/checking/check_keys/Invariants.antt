@@ -1,6 +1,4 @@
-use Rattle.std.proofs.Common.{◌≡◌, ◌+◌}
-use Rattle.mo_file.specs.Prelude.{key_of, original_at}
-use Rattle.mo_file.specs.Internal.Checking.{AreRisingBelow}
+use Rattle.mo_file.proofs.Prelude.{AreRisingBelow, key_of, original_at, ◌+◌, ◌≡◌}
 use Rattle.mo_file.proofs.checking.check_keys.Given as goal
 
 abbrev pub invariant-loop-i : goal.invariant-loop-i

@@ -1,6 +1,4 @@
-use Rattle.std.proofs.Common.{ℕ, ◌<◌}
-use Rattle.mo_file.specs.Prelude.{IsOutside, IsUnterminated}
-use Rattle.mo_file.specs.Internal.Checking.{IsFirstBelow}
+use Rattle.mo_file.proofs.Prelude.{IsFirstBelow, IsOutside, IsUnterminated, ℕ, ◌<◌}
 use Rattle.mo_file.proofs.checking.check_strings.Given as goal
 
 abbrev pub invariant-loop-i : goal.invariant-loop-i

@@ -1,4 +1,4 @@
-use Rattle.std.proofs.Common.{◌==◌}
+use Rattle.mo_file.proofs.Prelude.{◌==◌}
 use Rattle.mo_file.proofs.CommonPrefixLemmas.{common_prefix_in, set_where}
 use Rattle.mo_file.proofs.common_prefix.common_prefix_at.Goals as goal
 

@@ -1,5 +1,4 @@
-use Rattle.std.proofs.Common.{◌-◌, ◌≤◌}
-use Rattle.mo_file.specs.Internal.CommonPrefix.{AreEqualBetween}
+use Rattle.mo_file.proofs.Prelude.{AreEqualBetween, ◌-◌, ◌≤◌}
 use Rattle.mo_file.proofs.common_prefix.common_prefix_within.Given as goal
 
 abbrev pub invariant-groups : goal.invariant-groups

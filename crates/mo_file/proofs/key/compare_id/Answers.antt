@@ -1,4 +1,4 @@
-use Rattle.std.proofs.Common.{sym, arith}
+use Rattle.mo_file.proofs.Prelude.{arith, sym}
 use Rattle.mo_file.proofs.KeyComparison.{decided_before_end, decided_at_end}
 use Rattle.mo_file.proofs.key.compare_id.Goals as goal
 

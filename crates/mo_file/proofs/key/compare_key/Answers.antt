@@ -1,4 +1,5 @@
-use Rattle.std.proofs.Common.{sym, ◌∙◌, ap, nat_cmp, arith}
+use Rattle.mo_file.proofs.Prelude.{ap, arith, sym, ◌∙◌}
+use Rattle.std.proofs.Common.{nat_cmp}
 use Rattle.mo_file.proofs.KeyComparison.{decided_within, decided_equal, decided_unequal}
 use Rattle.mo_file.proofs.key.compare_key.Goals as goal
 

@@ -1,4 +1,4 @@
-use Rattle.std.proofs.Common.{sym}
+use Rattle.mo_file.proofs.Prelude.{sym}
 use Rattle.mo_file.proofs.KeyComparison.{decided_keys}
 use Rattle.mo_file.proofs.key.compare_originals.Goals as goal
 

@@ -1,5 +1,4 @@
-use Rattle.std.proofs.Common.{refl}
-use Rattle.mo_file.specs.Prelude.{word_bytes}
+use Rattle.mo_file.proofs.Prelude.{refl, word_bytes}
 use Rattle.mo_file.proofs.laws.files_are_laid_out.Goals as goal
 
 pub returns-clause-little : goal.returns-clause-little

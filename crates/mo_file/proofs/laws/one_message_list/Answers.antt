@@ -1,5 +1,4 @@
-use Rattle.std.proofs.Common.{sym, ◌∙◌, ap}
-use Rattle.mo_file.specs.Prelude.{messages_of}
+use Rattle.mo_file.proofs.Prelude.{ap, messages_of, sym, ◌∙◌}
 use Rattle.mo_file.proofs.FaultLemmas.{HasMagicOf-unique}
 use Rattle.mo_file.proofs.laws.one_message_list.Goals as goal
 

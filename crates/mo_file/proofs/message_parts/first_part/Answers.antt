@@ -1,5 +1,4 @@
-use Rattle.std.proofs.Common.{ap, ◌∙◌, take}
-use Rattle.mo_file.specs.Prelude.{forms}
+use Rattle.mo_file.proofs.Prelude.{ap, forms, take, ◌∙◌}
 use Rattle.mo_file.proofs.CutLemmas.{first_all, first_cut, first_taken}
 use Rattle.mo_file.proofs.message_parts.first_part.Goals as goal
 

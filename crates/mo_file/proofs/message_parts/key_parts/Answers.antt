@@ -1,5 +1,4 @@
-use Rattle.std.proofs.Common.{ap, sym, ◌∙◌}
-use Rattle.mo_file.specs.Prelude.{context_of, id_of}
+use Rattle.mo_file.proofs.Prelude.{ap, context_of, id_of, sym, ◌∙◌}
 use Rattle.mo_file.proofs.CutLemmas.{context_cut, context_none, id_all, id_cut}
 use Rattle.mo_file.proofs.message_parts.key_parts.Goals as goal
 

@@ -1,5 +1,4 @@
-use Rattle.std.proofs.Common.{ap, sym, ◌∙◌}
-use Rattle.mo_file.specs.Prelude.{key_of, plural_of}
+use Rattle.mo_file.proofs.Prelude.{ap, key_of, plural_of, sym, ◌∙◌}
 use Rattle.mo_file.proofs.CutLemmas.{before_all, before_is, plural_cut, plural_none}
 use Rattle.mo_file.proofs.message_parts.original_parts.Goals as goal
 

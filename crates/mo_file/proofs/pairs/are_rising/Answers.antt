@@ -1,7 +1,5 @@
-use Rattle.std.proofs.Common.{◌↔◌, IsTrue, rules, subst, sym}
-use Rattle.std.specs.Ordering.{is_lt}
+use Rattle.mo_file.proofs.Prelude.{AreRising, IsTrue, is_lt, key_cmp, message, rules, subst, sym, ◌↔◌}
 use Rattle.std.proofs.lemmas.List.Sorted.{answers_always}
-use Rattle.mo_file.specs.Prelude.{AreRising, key_cmp, message}
 use Rattle.mo_file.proofs.RisingKeys.{key_by, keys-by, rising-answered}
 use Rattle.mo_file.proofs.pairs.are_rising.Goals as goal
 

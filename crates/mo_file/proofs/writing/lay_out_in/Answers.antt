@@ -1,4 +1,4 @@
-use Rattle.std.proofs.Common.{arith}
+use Rattle.mo_file.proofs.Prelude.{arith}
 use Rattle.mo_file.proofs.BuildLemmas.{length-layout-strings, laid-out}
 use Rattle.mo_file.proofs.writing.lay_out_in.Goals as goal
 

@@ -1,4 +1,4 @@
-use Rattle.std.proofs.Common.{◌∙◌, refl}
+use Rattle.mo_file.proofs.Prelude.{refl, ◌∙◌}
 use Rattle.mo_file.proofs.BuildLemmas.{word_bytes-magic}
 use Rattle.mo_file.proofs.writing.put_header.Goals as goal
 

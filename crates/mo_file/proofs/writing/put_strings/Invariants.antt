@@ -1,5 +1,4 @@
-use Rattle.std.proofs.Common.{◌≡◌, ◌+◌, ◌++◌, length, map, take, drop}
-use Rattle.mo_file.specs.Prelude.{terminated, strings_of}
+use Rattle.mo_file.proofs.Prelude.{drop, length, map, strings_of, take, terminated, ◌++◌, ◌+◌, ◌≡◌}
 use Rattle.mo_file.proofs.writing.put_strings.Given as goal
 
 abbrev pub invariant-loop-pair : goal.invariant-loop-pair

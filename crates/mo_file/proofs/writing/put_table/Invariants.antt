@@ -1,5 +1,4 @@
-use Rattle.std.proofs.Common.{◌≡◌, ◌+◌, ◌*◌, ◌++◌, length, map, take, drop}
-use Rattle.mo_file.specs.Prelude.{table, terminated, strings_of}
+use Rattle.mo_file.proofs.Prelude.{drop, length, map, strings_of, table, take, terminated, ◌*◌, ◌++◌, ◌+◌, ◌≡◌}
 use Rattle.mo_file.proofs.writing.put_table.Given as goal
 
 abbrev pub invariant-loop-pair : goal.invariant-loop-pair

@@ -1,7 +1,4 @@
-use Rattle.std.proofs.Common.{◌≡◌, ◌+◌, ◌-◌, suc, ◌∷◌, [], drop, slice_get, sym, ap, ◌∙◌, arith}
-use Rattle.std.proofs.lemmas.Option.{slice_get_past}
-use Rattle.mo_lookup.specs.Prelude.{form_at}
-use Rattle.mo_file.specs.Prelude.{forms}
+use Rattle.mo_lookup.proofs.Prelude.{[], ap, arith, drop, form_at, forms, slice_get, slice_get_past, suc, sym, ◌+◌, ◌-◌, ◌∙◌, ◌∷◌, ◌≡◌}
 use Rattle.mo_lookup.proofs.FormLemmas.{form-zero, second-at, second-none}
 use Rattle.mo_lookup.proofs.forms.form.Goals as goal
 

@@ -1,5 +1,4 @@
-use Rattle.std.proofs.Common.{◌≡◌, ◌-◌, ◌≤◌, drop, length, slice_get}
-use Rattle.mo_file.specs.Prelude.{forms}
+use Rattle.mo_lookup.proofs.Prelude.{drop, forms, length, slice_get, ◌-◌, ◌≡◌, ◌≤◌}
 use Rattle.mo_lookup.proofs.forms.form.Given as goal
 
 abbrev pub invariant-loop : goal.invariant-loop

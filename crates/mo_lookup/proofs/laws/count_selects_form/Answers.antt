@@ -1,4 +1,4 @@
-use Rattle.std.proofs.Common.{refl}
+use Rattle.mo_lookup.proofs.Prelude.{refl}
 use Rattle.mo_lookup.proofs.FormLemmas.{selected-there, selected-first, first-there}
 use Rattle.mo_lookup.proofs.laws.count_selects_form.Goals as goal
 

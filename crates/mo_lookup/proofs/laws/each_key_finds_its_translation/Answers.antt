@@ -1,5 +1,4 @@
-use Rattle.std.proofs.Common.{refl}
-use Rattle.mo_file.specs.Prelude.{key_at, keys}
+use Rattle.mo_lookup.proofs.Prelude.{key_at, keys, refl}
 use Rattle.mo_lookup.proofs.TranslationLemmas.{under-found}
 use Rattle.mo_lookup.proofs.laws.each_key_finds_its_translation.Goals as goal
 

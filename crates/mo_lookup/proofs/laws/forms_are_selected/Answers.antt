@@ -1,5 +1,5 @@
-use Rattle.std.proofs.Common.{◌≡◌, ◌≤◌, ℕ, List, Some, min, length, arith, refl, lt-ltb, le-ltb}
-use Rattle.mo_lookup.specs.Prelude.{form_at, selected_form}
+use Rattle.mo_lookup.proofs.Prelude.{List, Some, arith, form_at, length, min, refl, selected_form, ℕ, ◌≡◌, ◌≤◌}
+use Rattle.std.proofs.Common.{lt-ltb, le-ltb}
 use Rattle.mo_lookup.proofs.laws.forms_are_selected.Goals as goal
 
 beyond : (forms : List (List ℕ)) (nplurals index : ℕ) → min nplurals (length forms) ≤ index

@@ -1,5 +1,4 @@
-use Rattle.std.proofs.Common.{[]}
-use Rattle.std.proofs.lemmas.Option.{get_or_from_slice_get}
+use Rattle.mo_lookup.proofs.Prelude.{[], get_or_from_slice_get}
 use Rattle.mo_lookup.proofs.FormLemmas.{get_or-none}
 use Rattle.mo_lookup.proofs.laws.forms_stand_at_their_index.Goals as goal
 

@@ -1,5 +1,4 @@
-use Rattle.std.proofs.Common.{refl}
-use Rattle.std.proofs.lemmas.Bool.{ne_eqb}
+use Rattle.mo_lookup.proofs.Prelude.{ne_eqb, refl}
 use Rattle.mo_lookup.proofs.laws.untranslated_texts_are_answered.Goals as goal
 
 pub returns-clause-without_plural : goal.returns-clause-without_plural

@@ -1,4 +1,4 @@
-use Rattle.std.proofs.Common.{◌≡◌, ℕ, ◌+◌, ◌-◌, arith, refl, rules, sym}
+use Rattle.mo_lookup.proofs.Prelude.{arith, refl, rules, sym, ℕ, ◌+◌, ◌-◌, ◌≡◌}
 use Rattle.plural_rule.specs.declared.rule.Source.TheVariants.{Header}
 use Rattle.mo_lookup.proofs.PlaceLemmas.{form-placed}
 use Rattle.mo_lookup.proofs.lookup.locate.Goals as goal

@@ -1,5 +1,4 @@
-use Rattle.std.proofs.Common.{sym, ap, ◌∙◌, arith, slice_get}
-use Rattle.mo_file.specs.Prelude.{translations}
+use Rattle.mo_lookup.proofs.Prelude.{ap, arith, slice_get, sym, translations, ◌∙◌}
 use Rattle.mo_lookup.proofs.TranslationLemmas.{listed-header-first, listed-header-none}
 use Rattle.mo_lookup.proofs.opening.header_text.Goals as goal
 

@@ -1,4 +1,4 @@
-use Rattle.std.proofs.Common.{◌∙◌, arith}
+use Rattle.mo_lookup.proofs.Prelude.{arith, ◌∙◌}
 use Rattle.mo_lookup.proofs.SearchLemmas.{IsSearch-counted, IsSearch-compared, IsSearch-found, IsSearch-greater, IsSearch-last, IsSearch-less, IsSearch-none}
 use Rattle.mo_lookup.proofs.search.find.Goals as goal
 

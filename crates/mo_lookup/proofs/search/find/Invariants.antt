@@ -1,6 +1,4 @@
-use Rattle.std.proofs.Common.{◌≡◌, ◌-◌, ◌≤◌}
-use Rattle.std.specs.Option.{option_copied}
-use Rattle.mo_file.specs.Prelude.{query_key}
+use Rattle.mo_lookup.proofs.Prelude.{option_copied, query_key, ◌-◌, ◌≡◌, ◌≤◌}
 use Rattle.mo_lookup.proofs.SearchLemmas.{IsSearch}
 use Rattle.mo_lookup.proofs.search.find.Given as goal
 

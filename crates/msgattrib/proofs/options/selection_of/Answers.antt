@@ -1,4 +1,4 @@
-use Rattle.std.proofs.Common.{refl}
+use Rattle.msgattrib.proofs.Prelude.{refl}
 use Rattle.msgattrib.proofs.options.selection_of.Goals as goal
 
 pub returns : goal.returns

@@ -1,7 +1,4 @@
-use Rattle.std.proofs.Common.{◌≡◌, ◌<◌, ◌∙◌, ℕ, List, [], ◌∷◌, ◌++◌, ap, arith, get_or, length, subst, sym}
-use Rattle.po_entry.specs.Prelude.{TextEntry}
-use Rattle.msgattrib.specs.Prelude.{selected}
-use Rattle.msgattrib.specs.Internal.SelectedText.{AddsParts, hashes_of}
+use Rattle.msgattrib.proofs.Prelude.{AddsParts, List, TextEntry, [], ap, arith, get_or, hashes_of, length, selected, subst, sym, ℕ, ◌++◌, ◌<◌, ◌∙◌, ◌∷◌, ◌≡◌}
 use Rattle.msgattrib.proofs.SelectedLemmas.{hashes_go_on, parts_go_on}
 use Rattle.msgattrib.proofs.selected_text.add_entries.Goals as goal
 

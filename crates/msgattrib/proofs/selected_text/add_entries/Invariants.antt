@@ -1,7 +1,4 @@
-use Rattle.std.proofs.Common.{◌≡◌, ℕ, ◌<◌, ◌≤◌, ◌++◌, get_or, length, take}
-use Rattle.po_entry.specs.Prelude.{TextEntry}
-use Rattle.msgattrib.specs.Prelude.{selected}
-use Rattle.msgattrib.specs.Internal.SelectedText.{AddsParts, hashes_of}
+use Rattle.msgattrib.proofs.Prelude.{AddsParts, TextEntry, get_or, hashes_of, length, selected, take, ℕ, ◌++◌, ◌<◌, ◌≡◌, ◌≤◌}
 use Rattle.msgattrib.proofs.selected_text.add_entries.Given as goal
 
 abbrev pub invariant-loop-index : goal.invariant-loop-index

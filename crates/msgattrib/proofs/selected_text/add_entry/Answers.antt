@@ -1,5 +1,4 @@
-use Rattle.std.proofs.Common.{◌++◌, ◌∙◌, List, ap, append-nil, subst, sym}
-use Rattle.po_entry.specs.Prelude.{TextEntry, IsCatalogueEntry}
+use Rattle.msgattrib.proofs.Prelude.{IsCatalogueEntry, List, TextEntry, ap, append-nil, subst, sym, ◌++◌, ◌∙◌}
 use Rattle.msgattrib.proofs.SelectionLaws.{changed_can_stand}
 use Rattle.msgattrib.proofs.SelectedLemmas.{one_left_out}
 use Rattle.msgattrib.proofs.selected_text.add_entry.Goals as goal

@@ -1,6 +1,4 @@
-use Rattle.std.proofs.Common.{subst}
-use Rattle.std.proofs.lemmas.Result.{err_from_is_err_and}
-use Rattle.po_entry.specs.Prelude.{HasNoDuplicate, IsDuplicateFaultOf}
+use Rattle.msgattrib.proofs.Prelude.{HasNoDuplicate, IsDuplicateFaultOf, err_from_is_err_and, subst}
 use Rattle.msgattrib.proofs.SelectedLemmas.{repeating, repeating_selected, still_distinct}
 use Rattle.msgattrib.proofs.selected_text.check_duplicates.Goals as goal
 

@@ -1,5 +1,4 @@
-use Rattle.std.proofs.Common.{◌++◌, ◌∙◌, ap, subst, sym}
-use Rattle.po_entry.specs.Prelude.{ReadsText}
+use Rattle.msgattrib.proofs.Prelude.{ReadsText, ap, subst, sym, ◌++◌, ◌∙◌}
 use Rattle.msgattrib.proofs.selected_text.read_text.Goals as goal
 
 pub returns-clause-read : goal.returns-clause-read

@@ -1,6 +1,4 @@
-use Rattle.std.proofs.Common.{◌<◌, ◌≤◌, ◌++◌, ◌∙◌, [], ◌∷◌, ap, arith, length}
-use Rattle.std.proofs.lemmas.List.{take_all}
-use Rattle.msgattrib.specs.Prelude.{selected}
+use Rattle.msgattrib.proofs.Prelude.{[], ap, arith, length, selected, take_all, ◌++◌, ◌<◌, ◌∙◌, ◌∷◌, ◌≤◌}
 use Rattle.msgattrib.proofs.SelectedLemmas.{selected_goes_on}
 use Rattle.msgattrib.proofs.selected_text.select_entries.Goals as goal
 

@@ -1,5 +1,4 @@
-use Rattle.std.proofs.Common.{◌≡◌, take}
-use Rattle.msgattrib.specs.Prelude.{selected}
+use Rattle.msgattrib.proofs.Prelude.{selected, take, ◌≡◌}
 use Rattle.msgattrib.proofs.selected_text.select_entries.Given as goal
 
 -- those of the entries so far that are selected

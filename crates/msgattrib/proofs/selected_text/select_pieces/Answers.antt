@@ -1,9 +1,7 @@
-use Rattle.std.proofs.Common.{◌≡◌, ◌∙◌, true, List, [], ◌++◌, ap, map}
+use Rattle.msgattrib.proofs.Prelude.{List, TextEntry, [], ap, kept_entry, map, true, ◌++◌, ◌∙◌, ◌≡◌}
 use Rattle.po_entry.specs.Faults.IsReadFault.{in_text}
-use Rattle.po_entry.specs.Prelude.{TextEntry}
 use Rattle.po_reader.proofs.Heads.{all_kept}
 use Rattle.po_reader.proofs.PieceReading.{read_all, read_more, read_none}
-use Rattle.po_reader.specs.Prelude.{kept_entry}
 use Rattle.po_syntax.proofs.NoMemory.{IsFaultOf-weaker, is_text_fault}
 use Rattle.po_syntax.proofs.Results.{passed_on}
 use Rattle.msgattrib.proofs.SelectedLemmas.{piece_selected}

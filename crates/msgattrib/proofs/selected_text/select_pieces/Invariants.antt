@@ -1,7 +1,4 @@
-use Rattle.std.proofs.Common.{◌≡◌, List, [], length}
-use Rattle.po_entry.specs.Prelude.{TextEntry}
-use Rattle.po_reader.specs.Prelude.{IsReadSoFar}
-use Rattle.msgattrib.specs.Internal.SelectedText.{AreSelected}
+use Rattle.msgattrib.proofs.Prelude.{AreSelected, IsReadSoFar, List, TextEntry, [], length, ◌≡◌}
 use Rattle.msgattrib.proofs.selected_text.select_pieces.Given as goal
 
 abbrev pub invariant-loop-pieces : goal.invariant-loop-pieces

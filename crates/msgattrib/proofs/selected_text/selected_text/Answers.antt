@@ -1,4 +1,4 @@
-use Rattle.std.proofs.Common.{◌≢◌, AllPairs, subst}
+use Rattle.msgattrib.proofs.Prelude.{AllPairs, subst, ◌≢◌}
 use Rattle.msgattrib.proofs.SelectedLemmas.{no_duplicate}
 use Rattle.msgattrib.proofs.selected_text.selected_text.Goals.{else-not-all_differ, then-not-all_differ+in_ok-check_duplicates}
 use Rattle.msgattrib.proofs.selected_text.selected_text.Goals as goal

@@ -1,5 +1,4 @@
-use Rattle.std.proofs.Common.{sym, ap₂, ◌∙◌}
-use Rattle.msgcat.specs.Prelude.{texts_of, with_others}
+use Rattle.msgcat.proofs.Prelude.{ap₂, sym, texts_of, with_others, ◌∙◌}
 use Rattle.msgcat.proofs.Steps.{collected_more}
 use Rattle.msgcat.proofs.comments.collected.Goals as goal
 

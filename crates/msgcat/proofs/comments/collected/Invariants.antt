@@ -1,6 +1,4 @@
-use Rattle.std.proofs.Common.{◌≡◌, take}
-use Rattle.msgcat.specs.Prelude.{named_entries, collected, texts_of}
-use Rattle.msgcat.specs.Internal.Merging.{HaveSameTexts}
+use Rattle.msgcat.proofs.Prelude.{HaveSameTexts, collected, named_entries, take, texts_of, ◌≡◌}
 use Rattle.msgcat.proofs.comments.collected.Given as goal
 
 -- the texts of the definitions so far are collected, and they were seen

@@ -1,6 +1,5 @@
-use Rattle.std.proofs.Common.{◌≡◌, fold}
+use Rattle.msgcat.proofs.Prelude.{fold, texts_left, ◌≡◌}
 use Rattle.std.specs.Hash.DefaultHasher.{write}
-use Rattle.po_entry.specs.Prelude.{texts_left}
 use Rattle.msgcat.proofs.comments.digest_texts.Given as goal
 
 -- the texts that are left are what is to be digested

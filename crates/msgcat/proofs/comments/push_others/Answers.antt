@@ -1,5 +1,4 @@
-use Rattle.std.proofs.Common.{ap, arith}
-use Rattle.po_entry.specs.Prelude.{texts_left}
+use Rattle.msgcat.proofs.Prelude.{ap, arith, texts_left}
 use Rattle.msgcat.proofs.Sets.{all_taken, new_taken, none_taken, old_passed}
 use Rattle.msgcat.proofs.comments.push_others.Goals as goal
 

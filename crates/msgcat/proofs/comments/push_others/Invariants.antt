@@ -1,5 +1,4 @@
-use Rattle.std.proofs.Common.{◌≡◌, length}
-use Rattle.po_entry.specs.Prelude.{texts_left}
+use Rattle.msgcat.proofs.Prelude.{length, texts_left, ◌≡◌}
 use Rattle.msgcat.proofs.Sets.{AreTaken}
 use Rattle.msgcat.proofs.comments.push_others.Given as goal
 

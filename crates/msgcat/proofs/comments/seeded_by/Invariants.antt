@@ -1,7 +1,4 @@
-use Rattle.std.proofs.Common.{◌≡◌, take}
-use Rattle.std.specs.List.{flat_map}
-use Rattle.po_entry.specs.Prelude.{digest_of}
-use Rattle.msgcat.specs.Prelude.{named_entries, texts_of}
+use Rattle.msgcat.proofs.Prelude.{digest_of, flat_map, named_entries, take, texts_of, ◌≡◌}
 use Rattle.msgcat.proofs.comments.seeded_by.Given as goal
 
 -- the texts of the definitions so far are digested

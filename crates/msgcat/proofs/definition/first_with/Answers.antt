@@ -1,5 +1,4 @@
-use Rattle.std.proofs.Common.{◌∙◌, ap, sym}
-use Rattle.msgcat.specs.Internal.Merging.{has_part}
+use Rattle.msgcat.proofs.Prelude.{ap, has_part, sym, ◌∙◌}
 use Rattle.msgcat.proofs.FirstParts.{found_here, none_here, none_left}
 use Rattle.msgcat.proofs.definition.first_with.Goals as goal
 

@@ -1,6 +1,4 @@
-use Rattle.std.proofs.Common.{◌≡◌, drop, find}
-use Rattle.msgcat.specs.Prelude.{named_entries}
-use Rattle.msgcat.specs.Internal.Merging.{has_part}
+use Rattle.msgcat.proofs.Prelude.{drop, find, has_part, named_entries, ◌≡◌}
 use Rattle.msgcat.proofs.definition.first_with.Given as goal
 
 -- no definition so far has the part

@@ -1,9 +1,5 @@
-use Rattle.std.proofs.Common.{◌≡◌, ◌∙◌, false, refl, rules, sym, true}
-use Rattle.std.specs.List.{list_any}
+use Rattle.msgcat.proofs.Prelude.{YieldsList-from_slice, any_from_yields_List, false, is_live, list_any, refl, rules, sym, true, ◌∙◌, ◌≡◌}
 use Rattle.std.proofs.lemmas.Fn.{filter_same}
-use Rattle.std.proofs.lemmas.Iterator.{YieldsList-from_slice}
-use Rattle.std.proofs.lemmas.Iterator.Search.{any_from_yields_List}
-use Rattle.po_entry.specs.Prelude.{is_live}
 use Rattle.msgcat.specs.declared.definition.NamedEntry.{NamedEntry}
 use Rattle.msgcat.proofs.Views.{all_left, live_left}
 use Rattle.msgcat.proofs.definition.keep_definitions.Goals as goal

@@ -1,11 +1,5 @@
-use Rattle.std.proofs.Common.{◌≡◌, ◌∙◌, ◌||◌, ap, ap₂, Bool, false, length, rules, sym}
-use Rattle.std.specs.List.{list_any}
-use Rattle.std.proofs.lemmas.Iterator.{YieldsList-from_slice}
-use Rattle.std.proofs.lemmas.Iterator.Search.{any_from_yields_List}
-use Rattle.std.proofs.lemmas.List.{length-map}
-use Rattle.po_entry.specs.Prelude.{is_header}
+use Rattle.msgcat.proofs.Prelude.{Bool, YieldsList-from_slice, any_from_yields_List, ap, ap₂, false, is_header, is_kept, is_wanted, length, length-map, list_any, named_entries, named_entry, rules, sym, ◌||◌, ◌∙◌, ◌≡◌}
 use Rattle.msgcat.specs.declared.definition.NamedEntry.{NamedEntry}
-use Rattle.msgcat.specs.Prelude.{named_entries, named_entry, is_kept, is_wanted}
 use Rattle.msgcat.proofs.Views.{any_named}
 use Rattle.msgcat.proofs.definition.kept_definitions.Goals as goal
 use Rattle.msgcat.proofs.definition.kept_definitions.Goals.{then-has_header-via-then-has_header, then-has_header-via-else-has_header+then-is_wanted}

@@ -1,9 +1,4 @@
-use Rattle.std.proofs.Common.{◌+◌, ◌∙◌, ap, arith, filter, get_or, inr, length, refl, subst, sym}
-use Rattle.std.specs.Prelude.{MatchOption}
-use Rattle.std.proofs.lemmas.List.{get_or_default, length-drop, length-take}
-use Rattle.po_entry.specs.Prelude.{AllDiffer, AreNumbered, RepeatsOnLines, is_live}
-use Rattle.msgcat.specs.Internal.Inputs.{with_part}
-use Rattle.msgcat.specs.Prelude.{no_input}
+use Rattle.msgcat.proofs.Prelude.{AllDiffer, AreNumbered, MatchOption, RepeatsOnLines, ap, arith, filter, get_or, get_or_default, inr, is_live, length, length-drop, length-take, no_input, refl, subst, sym, with_part, ◌+◌, ◌∙◌}
 use Rattle.msgcat.proofs.InputLemmas.{AreLeft, all_left, left_after, none_left, own, own_count, own_numbered, own_places, repeating}
 use Rattle.msgcat.proofs.inputs.check_inputs.Goals as goal
 

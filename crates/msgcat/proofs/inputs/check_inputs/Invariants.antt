@@ -1,7 +1,4 @@
-use Rattle.std.proofs.Common.{◌-◌, ◌≤◌, List, length}
-use Rattle.po_entry.specs.Prelude.{TextEntry, AreUpTo}
-use Rattle.msgcat.specs.Prelude.{Named}
-use Rattle.msgcat.specs.Internal.Inputs.{AreNumberedInputs}
+use Rattle.msgcat.proofs.Prelude.{AreNumberedInputs, AreUpTo, List, Named, TextEntry, length, ◌-◌, ◌≤◌}
 use Rattle.msgcat.proofs.InputLemmas.{AreLeft}
 use Rattle.msgcat.proofs.inputs.check_inputs.Given as goal
 

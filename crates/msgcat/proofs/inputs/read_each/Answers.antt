@@ -1,15 +1,8 @@
-use Rattle.std.proofs.Common.{◌≡◌, ◌≢◌, rules, [], ◌++◌, ◌∷◌, ◌-◌, ◌<◌, ◌≤◌, ◌∙◌, ap, append-nil, arith, drop, get_or, length, length-append, refl, subst, suc, sym, take}
-use Rattle.std.specs.List.{AllZip}
-use Rattle.std.proofs.Math.Seq.{drop-cons}
-use Rattle.std.proofs.lemmas.List.{length-map, take-append-drop, take_all}
+use Rattle.msgcat.proofs.Prelude.{AllZip, IsTextOf, Named, NamedEntry, NamedFile, ReadsText, [], all_entries, ap, append-nil, arith, drop, drop-cons, get_or, length, length-append, length-map, named_file, named_files, refl, rules, subst, suc, sym, take, take-append-drop, take_all, unnamed, ◌++◌, ◌-◌, ◌<◌, ◌∙◌, ◌∷◌, ◌≡◌, ◌≢◌, ◌≤◌}
 use Rattle.po_syntax.specs.declared.fault.PoFault.TheVariants.{OutOfMemory}
-use Rattle.po_entry.specs.Prelude.{ReadsText}
-use Rattle.msgcat.specs.Prelude.{Named, NamedEntry, all_entries, unnamed}
-use Rattle.msgcat.specs.Internal.Inputs.{IsTextOf}
 use Rattle.msgcat.proofs.ReadInputs.{entries_more, inputs_more}
 use Rattle.msgcat.proofs.InputLemmas.{text_more}
 use Rattle.msgcat.proofs.MsgcatLemmas.{file_at, name_lacks, no_file}
-use Rattle.runs.specs.Prelude.{NamedFile, named_file, named_files}
 use Rattle.msgcat.proofs.inputs.read_each.Goals as goal
 
 pub returns-in-Err-clause-read : goal.returns-in-Err-clause-read

@@ -1,8 +1,4 @@
-use Rattle.std.proofs.Common.{◌≡◌, List, take}
-use Rattle.std.specs.List.{AllZip}
-use Rattle.msgcat.specs.Prelude.{Named, all_entries, AreReadInputs, unnamed}
-use Rattle.msgcat.specs.Internal.Inputs.{IsTextOf}
-use Rattle.runs.specs.Prelude.{named_files}
+use Rattle.msgcat.proofs.Prelude.{AllZip, AreReadInputs, IsTextOf, List, Named, all_entries, named_files, take, unnamed, ◌≡◌}
 use Rattle.msgcat.proofs.inputs.read_each.Given as goal
 
 -- the inputs so far are read

@@ -1,16 +1,6 @@
-use Rattle.std.proofs.Common.{ℕ, ◌≡◌, ◌⊎◌, ◌∙◌, [], List, ap, inl, inr, subst, sym}
-use Rattle.std.specs.Prelude.{MatchOption}
-use Rattle.std.specs.List.{AllZip}
-use Rattle.std.proofs.lemmas.Result.{err_from_is_err_and}
-use Rattle.po_entry.specs.Prelude.{out_of_memory, group_numbers, entry_messages, same_message, is_live, are_placed}
-use Rattle.msgcat.specs.Prelude.{all_entries, IsReadInput, unnamed, IsFileFault}
-use Rattle.msgcat.specs.Internal.Inputs.{AreNumberedInputs, AreReadUpTo, IsFaultOfFirst, IsFirstRepeating}
-use Rattle.po_entry.specs.declared.repeats.EntryPlace.{EntryPlace}
-use Rattle.msgcat.specs.declared.input.ReadInput.{ReadInput}
-use Rattle.msgcat.specs.declared.inputs.FileFault.{FileFault}
-use Rattle.msgcat.specs.declared.inputs.ReadInputs.{ReadInputs}
+use Rattle.msgcat.proofs.Prelude.{AllZip, AreNumberedInputs, AreReadUpTo, EntryPlace, FileFault, IsFaultOfFirst, IsFileFault, IsFirstRepeating, IsReadInput, List, MatchOption, NamedFile, ReadInput, ReadInputs, [], all_entries, ap, are_placed, entry_messages, err_from_is_err_and, group_numbers, inl, inr, is_live, named_files, out_of_memory, subst, sym, unnamed, ℕ, ◌∙◌, ◌≡◌, ◌⊎◌}
+use Rattle.po_entry.specs.Prelude.{same_message}
 use Rattle.msgcat.proofs.InputLemmas.{all_read, no_part, repeating_fault, text_fault}
-use Rattle.runs.specs.Prelude.{NamedFile, named_files}
 use Rattle.msgcat.proofs.inputs.read_inputs.Goals as goal
 
 either : (files : List NamedFile) (read : ReadInputs) (up_to : AreReadUpTo files read) (fault : FileFault)

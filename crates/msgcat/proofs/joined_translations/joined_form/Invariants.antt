@@ -1,5 +1,4 @@
-use Rattle.std.proofs.Common.{◌≡◌, length, take}
-use Rattle.msgcat.specs.Internal.JoinedTranslations.{form_lists, joined_at, rests}
+use Rattle.msgcat.proofs.Prelude.{form_lists, joined_at, length, rests, take, ◌≡◌}
 use Rattle.msgcat.proofs.joined_translations.joined_form.Given as goal
 
 -- the next forms of the translations so far are joined, and what is left of them stands there

@@ -1,9 +1,4 @@
-use Rattle.std.proofs.Common.{◌≡◌, ◌∙◌, ◌+◌, ◌<◌, ◌++◌, ◌∷◌, [], List, ℕ, ap, ap₂, arith, length, map, rules, suc, sym}
-use Rattle.std.specs.List.{range_with_len}
-use Rattle.std.proofs.lemmas.List.{length-map, length_push, map-append}
-use Rattle.std.proofs.lemmas.List.FromFn.{map-range_with_len_more}
-use Rattle.po_entry.specs.Prelude.{texts}
-use Rattle.msgcat.specs.Internal.JoinedTranslations.{form_list, form_lists, joined_at, most_forms, rests}
+use Rattle.msgcat.proofs.Prelude.{List, [], ap, ap₂, arith, form_list, form_lists, joined_at, length, length-map, length_push, map, map-append, map-range_with_len_more, most_forms, range_with_len, rests, rules, suc, sym, texts, ℕ, ◌++◌, ◌+◌, ◌<◌, ◌∙◌, ◌∷◌, ◌≡◌}
 use Rattle.msgcat.proofs.FormsLeft.{joined_rests, none_left, one_less}
 use Rattle.msgcat.proofs.joined_translations.joined_forms.Goals as goal
 

@@ -1,7 +1,4 @@
-use Rattle.std.proofs.Common.{◌≡◌, ◌+◌, ℕ, length, map}
-use Rattle.std.specs.List.{range_with_len}
-use Rattle.po_entry.specs.Prelude.{texts}
-use Rattle.msgcat.specs.Internal.JoinedTranslations.{form_lists, joined_at, most_forms}
+use Rattle.msgcat.proofs.Prelude.{form_lists, joined_at, length, map, most_forms, range_with_len, texts, ℕ, ◌+◌, ◌≡◌}
 use Rattle.msgcat.proofs.joined_translations.joined_forms.Given as goal
 
 -- the forms so far are joined, and the translations that are left make the others

@@ -1,6 +1,4 @@
-use Rattle.std.proofs.Common.{◌≡◌, ℕ, List, [], ◌∷◌, ◌++◌, ap, ap₂, ◌∙◌, append_assoc, codes, sym}
-use Rattle.std.specs.Prelude.{if◌then◌else◌}
-use Rattle.msgcat.specs.Prelude.{ended}
+use Rattle.msgcat.proofs.Prelude.{List, [], ap, append_assoc, ap₂, codes, ended, if◌then◌else◌, sym, ℕ, ◌++◌, ◌∙◌, ◌∷◌, ◌≡◌}
 use Rattle.msgcat.proofs.joined_translations.push_marked.Goals as goal
 
 four : (o a n b e : List ℕ) → (((o ++ a) ++ n) ++ b) ++ e ≡ o ++ (((a ++ n) ++ b) ++ e)

@@ -1,12 +1,4 @@
-use Rattle.std.proofs.Common.{◌≡◌, ◌+◌, List, ℕ, sym, ap, ap₂, ◌∙◌, refl, ◌++◌, ◌∷◌, [], subst, take, map, true, false}
-use Rattle.std.specs.List.{list_any}
-use Rattle.std.specs.Ordering.{nat_cmp}
-use Rattle.std.specs.Cmp.Lexicographic.{slice_cmp}
-use Rattle.std.specs.BTreeMap.{is_at}
-use Rattle.std.proofs.lemmas.Bool.{not-true, not-false}
-use Rattle.std.proofs.lemmas.List.{map-append}
-use Rattle.msgcat.specs.Prelude.{named_entry, named_entries, same_forms, translations}
-use Rattle.msgcat.specs.Internal.JoinedTranslations.{FormList, form_list, form_lists, named_forms, HasTranslations}
+use Rattle.msgcat.proofs.Prelude.{FormList, HasTranslations, List, [], ap, ap₂, false, form_list, form_lists, is_at, list_any, map, map-append, named_entries, named_entry, named_forms, nat_cmp, not-false, not-true, refl, same_forms, slice_cmp, subst, sym, take, translations, true, ℕ, ◌++◌, ◌+◌, ◌∙◌, ◌∷◌, ◌≡◌}
 use Rattle.msgcat.proofs.SeenForms.{one_translation_more, seen_here}
 use Rattle.msgcat.proofs.Steps.{translations_more}
 use Rattle.msgcat.proofs.joined_translations.translations.Goals as goal

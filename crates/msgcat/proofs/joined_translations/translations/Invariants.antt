@@ -1,6 +1,4 @@
-use Rattle.std.proofs.Common.{◌≡◌, map, take}
-use Rattle.msgcat.specs.Prelude.{named_entries, translations}
-use Rattle.msgcat.specs.Internal.JoinedTranslations.{form_lists, named_forms, HasTranslations}
+use Rattle.msgcat.proofs.Prelude.{HasTranslations, form_lists, map, named_entries, named_forms, take, translations, ◌≡◌}
 use Rattle.msgcat.proofs.joined_translations.translations.Given as goal
 
 -- the distinct translations so far are found, and the set has them

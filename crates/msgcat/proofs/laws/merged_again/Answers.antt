@@ -1,5 +1,5 @@
 use Rattle.msgcat.proofs.laws.merged_again.Goals as goal
-use Rattle.msgcat.specs.Prelude.{merged}
+use Rattle.msgcat.proofs.Prelude.{merged}
 
 pub returns : goal.returns
 returns c = λ o inputs use_first name.

@@ -1,5 +1,4 @@
-use Rattle.std.proofs.Common.{◌+◌, ◌<◌, ◌≡◌, arith, length, subst, take}
-use Rattle.msgcat.specs.Prelude.{all_entries}
+use Rattle.msgcat.proofs.Prelude.{all_entries, arith, length, subst, take, ◌+◌, ◌<◌, ◌≡◌}
 use Rattle.msgcat.proofs.ReadInputs.{begins_first, name_found}
 use Rattle.msgcat.proofs.merge_inputs.name_at.Goals as goal
 

@@ -1,5 +1,4 @@
-use Rattle.std.proofs.Common.{◌<◌, ◌≤◌, ◌-◌, List, get_or, length, take}
-use Rattle.msgcat.specs.Prelude.{Named, all_entries, AreReadInputs, no_input}
+use Rattle.msgcat.proofs.Prelude.{AreReadInputs, List, Named, all_entries, get_or, length, no_input, take, ◌-◌, ◌<◌, ◌≤◌}
 use Rattle.msgcat.proofs.merge_inputs.name_at.Given as goal
 
 -- the entry stands in one of these inputs

@@ -1,4 +1,4 @@
-use Rattle.msgcat.specs.Prelude.{merged}
+use Rattle.msgcat.proofs.Prelude.{merged}
 use Rattle.msgcat.proofs.MergedLemmas.{both_written}
 use Rattle.msgcat.proofs.merged_text.merged_text.Goals as goal
 

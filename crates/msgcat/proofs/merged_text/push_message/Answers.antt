@@ -1,7 +1,4 @@
-use Rattle.std.proofs.Common.{[], ◌∙◌, ap, subst, sym}
-use Rattle.std.specs.Prelude.{All, IfSome, option_to_list}
-use Rattle.std.proofs.lemmas.List.Elements.{All-cons, All-nil}
-use Rattle.po_entry.specs.Prelude.{HasAdmittedCharset, IsCatalogueEntry}
+use Rattle.msgcat.proofs.Prelude.{All, All-cons, All-nil, HasAdmittedCharset, IfSome, IsCatalogueEntry, [], ap, option_to_list, subst, sym, ◌∙◌}
 use Rattle.msgcat.proofs.merged_text.push_message.Goals as goal
 
 pub returns-in_ok-push_separated-in-Some-clause-admitted : goal.returns-in_ok-push_separated-in-Some-clause-admitted

@@ -1,6 +1,4 @@
-use Rattle.std.proofs.Common.{◌<◌, ◌∙◌, ap, arith, inl, inr, length}
-use Rattle.std.proofs.lemmas.Result.{err_from_is_err_and}
-use Rattle.msgcat.specs.Prelude.{messages}
+use Rattle.msgcat.proofs.Prelude.{ap, arith, err_from_is_err_and, inl, inr, length, messages, ◌<◌, ◌∙◌}
 use Rattle.msgcat.proofs.GroupsMerged.{fault_of_one}
 use Rattle.msgcat.proofs.MergedLemmas.{message_more, other_mark, same_mark}
 use Rattle.msgcat.proofs.merged_text.push_messages.Goals as goal

@@ -1,6 +1,4 @@
-use Rattle.std.proofs.Common.{List, take}
-use Rattle.msgcat.specs.Prelude.{Named, HoldInputs, merged_messages, messages}
-use Rattle.msgcat.specs.Internal.MergedText.{IsPartWritten}
+use Rattle.msgcat.proofs.Prelude.{HoldInputs, IsPartWritten, List, Named, merged_messages, messages, take}
 use Rattle.msgcat.proofs.merged_text.push_messages.Given as goal
 
 -- what the messages so far are merged to is written

@@ -1,8 +1,4 @@
-use Rattle.std.proofs.Common.{◌≡◌, ◌<◌, ◌∙◌, arith, length, subst, sym}
-use Rattle.std.proofs.lemmas.Bool.{false≢true}
-use Rattle.std.proofs.lemmas.List.{length-map}
-use Rattle.po_entry.specs.Prelude.{entry_view, HasAdmittedCharset, IsEntry}
-use Rattle.msgcat.specs.Prelude.{named_entries, named_entry, merged_entry}
+use Rattle.msgcat.proofs.Prelude.{HasAdmittedCharset, IsEntry, arith, entry_view, false≢true, length, length-map, merged_entry, named_entries, named_entry, subst, sym, ◌<◌, ◌∙◌, ◌≡◌}
 use Rattle.msgcat.proofs.GroupsMerged.{foreign_one}
 use Rattle.msgcat.proofs.Valid.{merged_is_entry}
 use Rattle.msgcat.proofs.merging.merge_definitions.Goals as goal

@@ -1,7 +1,4 @@
-use Rattle.std.proofs.Common.{◌≡◌, ◌<◌, ◌-◌, ◌++◌, ◌∷◌, [], ◌∙◌, ap, arith, get_or, length, subst, sym}
-use Rattle.std.proofs.Math.Seq.{get_or-append_seam}
-use Rattle.std.proofs.lemmas.List.{get_or-map, length-map, length_push}
-use Rattle.msgcat.specs.Prelude.{named_entries, named_entry, merged_entry, CanBeMerged}
+use Rattle.msgcat.proofs.Prelude.{CanBeMerged, [], ap, arith, get_or, get_or-append_seam, get_or-map, length, length-map, length_push, merged_entry, named_entries, named_entry, subst, sym, ◌++◌, ◌-◌, ◌<◌, ◌∙◌, ◌∷◌, ◌≡◌}
 use Rattle.msgcat.proofs.OneDefinition.{one_of}
 use Rattle.msgcat.proofs.merging.merged_entry.Goals as goal
 

@@ -1,9 +1,4 @@
-use Rattle.std.proofs.Common.{◌≡◌, ◌∙◌, ◌<◌, ◌&&◌, Bool, ap, ap₂, arith, length, not, sym, true}
-use Rattle.std.specs.Prelude.{if◌then◌else◌}
-use Rattle.std.proofs.lemmas.Bool.{lt-ltb}
-use Rattle.std.proofs.lemmas.List.{length-map}
-use Rattle.msgcat.specs.Prelude.{named_entries, first_translated, is_joined, joined_forms, translations}
-use Rattle.msgcat.specs.Internal.JoinedTranslations.{form_list, joined_lists, named_forms}
+use Rattle.msgcat.proofs.Prelude.{Bool, ap, ap₂, arith, first_translated, form_list, if◌then◌else◌, is_joined, joined_forms, joined_lists, length, length-map, lt-ltb, named_entries, named_forms, not, sym, translations, true, ◌&&◌, ◌<◌, ◌∙◌, ◌≡◌}
 use Rattle.msgcat.proofs.FormsLeft.{joined_lists_named}
 use Rattle.msgcat.proofs.merging.merged_forms.Goals as goal
 

@@ -1,10 +1,4 @@
-use Rattle.std.proofs.Common.{[], ◌∷◌, ◌==◌, ap, get_or, subst, sym, take, ◌∙◌}
-use Rattle.std.specs.Prelude.{All}
-use Rattle.std.specs.List.{list_any}
-use Rattle.std.proofs.lemmas.List.{map-append, take_all, take_more}
-use Rattle.std.proofs.lemmas.List.Elements.{All-push}
-use Rattle.po_entry.specs.Prelude.{Lacks}
-use Rattle.runs.specs.Prelude.{named_file, named_files}
+use Rattle.msgcat.proofs.Prelude.{All, All-push, Lacks, [], ap, get_or, list_any, map-append, named_file, named_files, subst, sym, take, take_all, take_more, ◌==◌, ◌∙◌, ◌∷◌}
 use Rattle.msgcat.proofs.MsgcatLemmas.{no_file}
 use Rattle.msgcat.proofs.NulNames.{first_nul, holds, lacks, nul_is_found}
 use Rattle.msgcat.proofs.plan.first_with_nul.Goals as goal

@@ -1,7 +1,4 @@
-use Rattle.std.proofs.Common.{take}
-use Rattle.std.specs.Prelude.{All}
-use Rattle.po_entry.specs.Prelude.{Lacks}
-use Rattle.runs.specs.Prelude.{named_files}
+use Rattle.msgcat.proofs.Prelude.{All, Lacks, named_files, take}
 use Rattle.msgcat.proofs.plan.first_with_nul.Given as goal
 
 -- no name so far holds NUL

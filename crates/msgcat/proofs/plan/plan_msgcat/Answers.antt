@@ -1,5 +1,4 @@
-use Rattle.std.proofs.lemmas.Result.{MatchResult-from_both}
-use Rattle.runs.specs.Prelude.{named_files}
+use Rattle.msgcat.proofs.Prelude.{MatchResult-from_both, named_files}
 use Rattle.msgcat.proofs.plan.plan_msgcat.Goals as goal
 
 pub run_of_read-requires : goal.run_of_read-requires

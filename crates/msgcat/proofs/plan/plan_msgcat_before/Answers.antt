@@ -1,6 +1,4 @@
-use Rattle.std.proofs.Common.{◌≡◌, ◌==◌, ℕ, List, [], ◌∷◌, length, false, sym, ◌∙◌}
-use Rattle.std.specs.Borrow.{Bor}
-use Rattle.runs.specs.Prelude.{named_files}
+use Rattle.msgcat.proofs.Prelude.{Bor, List, [], false, length, named_files, sym, ℕ, ◌==◌, ◌∙◌, ◌∷◌, ◌≡◌}
 use Rattle.msgcat.proofs.plan.plan_msgcat_before.Goals as goal
 
 some_file : (files : List (Bor (List ℕ) × Bor (List ℕ))) → (length files == 0) ≡ false → named_files files ≡ [] → ⊥

@@ -1,7 +1,4 @@
-use Rattle.std.proofs.Common.{◌∙◌, ap, inl, inr}
-use Rattle.std.proofs.lemmas.Result.{IfOk-weaker}
-use Rattle.runs.specs.Prelude.{refusal}
-use Rattle.msgcat.specs.Prelude.{first_name, msgcat_line}
+use Rattle.msgcat.proofs.Prelude.{IfOk-weaker, ap, first_name, inl, inr, msgcat_line, refusal, ◌∙◌}
 use Rattle.msgcat.proofs.MsgcatLemmas.{first_named}
 use Rattle.msgcat.proofs.plan.run_of_read.Goals as goal
 

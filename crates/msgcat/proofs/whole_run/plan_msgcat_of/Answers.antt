@@ -1,12 +1,4 @@
-use Rattle.std.proofs.Common.{Ok, ap, inl, subst, ◌∙◌}
-use Rattle.std.specs.Prelude.{All}
-use Rattle.std.proofs.lemmas.Bool.{false≢true}
-use Rattle.std.proofs.lemmas.Result.{IfOk-weaker, MatchResult-from_both}
-use Rattle.po_entry.specs.Prelude.{Lacks}
-use Rattle.runs.specs.Facts.RunEnds.{none_read}
-use Rattle.runs.specs.Prelude.{named_inputs, named_files, run_view}
-use Rattle.msgcat.specs.Internal.Inputs.{IsReadingOf}
-use Rattle.msgcat.specs.Prelude.{IsMsgcatRun, IsUnread}
+use Rattle.msgcat.proofs.Prelude.{All, IfOk-weaker, IsMsgcatRun, IsReadingOf, IsUnread, Lacks, MatchResult-from_both, Ok, ap, false≢true, inl, named_files, named_inputs, none_read, run_view, subst, ◌∙◌}
 use Rattle.msgcat.proofs.UnreadBefore.{name_told, names_before, none_before, place_is, refused_before, refused_whole, some_file}
 use Rattle.msgcat.proofs.whole_run.plan_msgcat_of.Goals as goal
 

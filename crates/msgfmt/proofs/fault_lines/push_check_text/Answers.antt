@@ -1,5 +1,4 @@
-use Rattle.std.proofs.Common.{◌≡◌, ap, rules}
-use Rattle.msgfmt.specs.Prelude.{check_text}
+use Rattle.msgfmt.proofs.Prelude.{ap, check_text, rules, ◌≡◌}
 use Rattle.msgfmt.proofs.fault_lines.push_check_text.Goals as goal
 use Rattle.msgfmt.proofs.fault_lines.push_check_text.Goals.{in-NoHeader, in-NoRule, in-FormCount, in-LeadingNewline, in-TrailingNewline, in-OutOfMemory}
 

@@ -1,4 +1,4 @@
-use Rattle.std.proofs.Common.{◌≡◌, ◌++◌, ◌∷◌, OnOk, ap, ap₂, ◌∙◌, append-nil, append_assoc, codes, decimal, subst}
+use Rattle.msgfmt.proofs.Prelude.{OnOk, ap, append-nil, append_assoc, ap₂, codes, decimal, subst, ◌++◌, ◌∙◌, ◌∷◌, ◌≡◌}
 use Rattle.msgfmt.proofs.fault_lines.push_duplicate.Goals as goal
 
 pub returns : goal.returns

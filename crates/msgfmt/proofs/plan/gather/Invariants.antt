@@ -1,7 +1,4 @@
-use Rattle.std.proofs.Common.{◌≡◌, take}
-use Rattle.po_entry.specs.Prelude.{slice_texts}
-use Rattle.runs.specs.Prelude.{named_files}
-use Rattle.msgfmt.specs.Prelude.{input_names, input_texts}
+use Rattle.msgfmt.proofs.Prelude.{input_names, input_texts, named_files, slice_texts, take, ◌≡◌}
 use Rattle.msgfmt.proofs.plan.gather.Given as goal
 
 abbrev pub invariant-loop-name : goal.invariant-loop-name

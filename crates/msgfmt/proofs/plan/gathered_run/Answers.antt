@@ -1,10 +1,4 @@
-use Rattle.std.proofs.Common.{◌≡◌, ◌∙◌, ap, arith, false, inl, inr, length, sym, true, true≢false, ⊎_elim}
-use Rattle.std.proofs.lemmas.Result.{IfOk-weaker}
-use Rattle.std.specs.Prelude.{is_ok}
-use Rattle.po_compile.specs.Prelude.{AreCollected}
-use Rattle.po_entry.specs.Prelude.{slice_texts}
-use Rattle.runs.specs.Prelude.{refusal}
-use Rattle.msgfmt.specs.Prelude.{check_line, input_texts, join_line}
+use Rattle.msgfmt.proofs.Prelude.{AreCollected, IfOk-weaker, ap, arith, check_line, false, inl, input_texts, inr, is_ok, join_line, length, refusal, slice_texts, sym, true, true≢false, ⊎_elim, ◌∙◌, ◌≡◌}
 use Rattle.msgfmt.proofs.MsgfmtLemmas.{collected-count}
 use Rattle.msgfmt.proofs.plan.gathered_run.Goals.{then-options, else-options}
 use Rattle.msgfmt.proofs.plan.gathered_run.Goals as goal

@@ -1,4 +1,4 @@
-use Rattle.runs.specs.Prelude.{named_files}
+use Rattle.msgfmt.proofs.Prelude.{named_files}
 use Rattle.msgfmt.proofs.plan.plan_msgfmt.Goals as goal
 
 pub returns-clause-run : goal.returns-clause-run

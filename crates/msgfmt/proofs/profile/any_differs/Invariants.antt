@@ -1,7 +1,4 @@
-use Rattle.std.proofs.Common.{◌≡◌, length}
-use Rattle.std.specs.List.{list_any}
-use Rattle.mo_file.specs.Prelude.{forms}
-use Rattle.msgfmt.specs.Prelude.{differ, has_newline}
+use Rattle.msgfmt.proofs.Prelude.{differ, forms, has_newline, length, list_any, ◌≡◌}
 use Rattle.msgfmt.proofs.profile.any_differs.Given as goal
 
 -- the forms that are left decide

@@ -1,4 +1,4 @@
-use Rattle.std.proofs.Common.{inr}
+use Rattle.msgfmt.proofs.Prelude.{inr}
 use Rattle.msgfmt.proofs.CheckedMessages.{checked}
 use Rattle.msgfmt.proofs.profile.check_collected.Goals as goal
 

@@ -1,5 +1,4 @@
-use Rattle.std.proofs.Common.{◌≡◌, ◌-◌, None, refl, sym, ◌∙◌, arith}
-use Rattle.msgfmt.specs.Prelude.{count_fault, counts_below}
+use Rattle.msgfmt.proofs.Prelude.{None, arith, count_fault, counts_below, refl, sym, ◌-◌, ◌∙◌, ◌≡◌}
 use Rattle.msgfmt.proofs.Profiles.{first_some-range}
 use Rattle.msgfmt.proofs.profile.first_count_fault.Goals as goal
 

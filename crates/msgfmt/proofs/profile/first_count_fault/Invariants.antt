@@ -1,6 +1,4 @@
-use Rattle.std.proofs.Common.{◌≡◌, ◌-◌}
-use Rattle.std.specs.List.{range_with_len}
-use Rattle.msgfmt.specs.Prelude.{count_fault, first_some, counts_below}
+use Rattle.msgfmt.proofs.Prelude.{count_fault, counts_below, first_some, range_with_len, ◌-◌, ◌≡◌}
 use Rattle.msgfmt.proofs.profile.first_count_fault.Given as goal
 
 -- the counts that are left decide

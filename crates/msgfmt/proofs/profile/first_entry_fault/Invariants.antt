@@ -1,5 +1,4 @@
-use Rattle.std.proofs.Common.{◌≡◌, drop}
-use Rattle.msgfmt.specs.Prelude.{checked_messages, entry_fault, first_some}
+use Rattle.msgfmt.proofs.Prelude.{checked_messages, drop, entry_fault, first_some, ◌≡◌}
 use Rattle.msgfmt.proofs.profile.first_entry_fault.Given as goal
 
 -- the messages that are left decide

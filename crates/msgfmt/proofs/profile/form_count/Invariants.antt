@@ -1,5 +1,4 @@
-use Rattle.std.proofs.Common.{◌≡◌, ◌+◌, ◌≤◌, length}
-use Rattle.mo_file.specs.Prelude.{forms}
+use Rattle.msgfmt.proofs.Prelude.{forms, length, ◌+◌, ◌≡◌, ◌≤◌}
 use Rattle.msgfmt.proofs.profile.form_count.Given as goal
 
 -- the forms that are left are counted

@@ -1,9 +1,5 @@
-use Rattle.std.proofs.Common.{rules}
-use Rattle.std.proofs.lemmas.Iterator.{YieldsList-from_slice}
-use Rattle.std.proofs.lemmas.Iterator.Search.{find_from_yields_List}
-use Rattle.msgfmt.specs.Prelude.{checked_message, is_header_entry}
+use Rattle.msgfmt.proofs.Prelude.{CompiledMessage, YieldsList-from_slice, checked_message, find_from_yields_List, is_header_entry, rules}
 use Rattle.msgfmt.proofs.CheckedMessages.{found_checked}
-use Rattle.po_compile.specs.declared.messages.CompiledMessage.{CompiledMessage}
 use Rattle.msgfmt.proofs.profile.header_of.Goals as goal
 
 pub returns : goal.returns

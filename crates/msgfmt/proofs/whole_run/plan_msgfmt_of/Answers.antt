@@ -1,10 +1,5 @@
-use Rattle.std.proofs.Common.{◌≡◌, ◌<◌, ◌==◌, ◌∙◌, [], Bool, List, Option, Some, ap, arith, false, inl, inr, length, not, refl, subst, sym, true, true≢false, ⊎_elim}
-use Rattle.std.proofs.lemmas.List.{length-map}
+use Rattle.msgfmt.proofs.Prelude.{AreWrong, Bool, IsMsgfmtRun, List, NamedFile, Option, ProgramFault, Some, [], ap, arith, false, inl, inr, length, length-map, named_count, named_file, named_files, named_inputs, not, refl, run_view, subst, sym, true, true≢false, ⊎_elim, ◌<◌, ◌==◌, ◌∙◌, ◌≡◌}
 use Rattle.runs.specs.declared.inputs.Inputs.{Inputs}
-use Rattle.runs.specs.declared.program_fault.ProgramFault.{ProgramFault}
-use Rattle.runs.specs.Facts.RunEnds.{named_count}
-use Rattle.runs.specs.Prelude.{NamedFile, named_file, named_files, named_inputs, run_view}
-use Rattle.msgfmt.specs.Prelude.{AreWrong, IsMsgfmtRun}
 use Rattle.msgfmt.proofs.MsgfmtLemmas.{refused, taken}
 use Rattle.msgfmt.proofs.whole_run.plan_msgfmt_of.Goals.{then-options, else-options}
 use Rattle.msgfmt.proofs.whole_run.plan_msgfmt_of.Goals as goal

@@ -1,8 +1,5 @@
-use Rattle.std.proofs.Common.{refl}
-use Rattle.std.proofs.lemmas.Result.{err_from_is_err_and}
-use Rattle.runs.specs.Prelude.{named_inputs, run_view}
+use Rattle.msgfmt.proofs.Prelude.{err_from_is_err_and, inputs_ended, named_inputs, none_unread, refl, run_view}
 use Rattle.runs.specs.ToolRuns.{no_memory_to_read, runs}
-use Rattle.runs.specs.Facts.RunEnds.{inputs_ended, none_unread}
 use Rattle.msgfmt.proofs.WholeRuns.{no_run, planned}
 use Rattle.msgfmt.proofs.whole_run.run.Goals as goal
 

@@ -1,8 +1,4 @@
-use Rattle.std.proofs.Common.{◌≡◌, ap, sym, ◌∙◌, take, arith, length}
-use Rattle.std.proofs.lemmas.Result.{err_from_is_err_and}
-use Rattle.po_entry.specs.Prelude.{IsEntry}
-use Rattle.po_writer.specs.Prelude.{written_text}
-use Rattle.msgunfmt.specs.Prelude.{unformatted}
+use Rattle.msgunfmt.proofs.Prelude.{IsEntry, ap, arith, err_from_is_err_and, length, sym, take, unformatted, written_text, ◌∙◌, ◌≡◌}
 use Rattle.msgunfmt.proofs.MessageLemmas.{admitted_more, all_more, all_written, foreign_more, live_messages, one_more, refused_messages, some_foreign}
 use Rattle.msgunfmt.proofs.unformatting.append_entries.Goals as goal
 

@@ -1,7 +1,4 @@
-use Rattle.std.proofs.Common.{◌≡◌, true, false, take, All}
-use Rattle.po_entry.specs.Prelude.{HasAdmittedCharset, IsEntry}
-use Rattle.po_writer.specs.Prelude.{written_text}
-use Rattle.msgunfmt.specs.Prelude.{unformatted}
+use Rattle.msgunfmt.proofs.Prelude.{All, HasAdmittedCharset, IsEntry, false, take, true, unformatted, written_text, ◌≡◌}
 use Rattle.msgunfmt.proofs.unformatting.append_entries.Given as goal
 
 -- the entries so far are written, and it is known whether each charset is admitted

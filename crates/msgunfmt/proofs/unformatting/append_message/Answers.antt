@@ -1,8 +1,4 @@
-use Rattle.std.proofs.Common.{◌≡◌}
-use Rattle.std.proofs.lemmas.Result.{IfErr-weaker, IfOk-weaker, err_from_is_err_and}
-use Rattle.mo_file.specs.Prelude.{Message}
-use Rattle.msgunfmt.specs.Internal.Unformatting.{AppendsEntry, AppendsMessage, RefusesEntry, RefusesMessage}
-use Rattle.msgunfmt.specs.Prelude.{entry_of_message}
+use Rattle.msgunfmt.proofs.Prelude.{AppendsEntry, AppendsMessage, IfErr-weaker, IfOk-weaker, Message, RefusesEntry, RefusesMessage, entry_of_message, err_from_is_err_and, ◌≡◌}
 use Rattle.msgunfmt.proofs.LaidMessages.{appended, laid_entry, no_nul, refused}
 use Rattle.msgunfmt.proofs.MessageLemmas.{entry_of}
 use Rattle.msgunfmt.proofs.unformatting.append_message.Goals as goal

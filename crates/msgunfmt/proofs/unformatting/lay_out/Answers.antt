@@ -1,8 +1,4 @@
-use Rattle.std.proofs.Common.{subst}
-use Rattle.std.proofs.lemmas.Result.{on_ok_weaker}
-use Rattle.mo_file.specs.Prelude.{Message}
-use Rattle.po_entry.specs.Prelude.{Adds, TextEntry}
-use Rattle.msgunfmt.specs.Prelude.{entry_of_message}
+use Rattle.msgunfmt.proofs.Prelude.{Adds, Message, TextEntry, entry_of_message, on_ok_weaker, subst}
 use Rattle.msgunfmt.proofs.LaidMessages.{held, of_parts}
 use Rattle.msgunfmt.proofs.unformatting.lay_out.Goals as goal
 

@@ -1,6 +1,4 @@
-use Rattle.std.proofs.Common.{ap, sym, ◌∙◌, option_copied}
-use Rattle.mo_file.specs.Prelude.{forms}
-use Rattle.msgunfmt.specs.Prelude.{taken_forms}
+use Rattle.msgunfmt.proofs.Prelude.{ap, forms, option_copied, sym, taken_forms, ◌∙◌}
 use Rattle.msgunfmt.proofs.LaidMessages.{first_alone}
 use Rattle.msgunfmt.proofs.unformatting.taken_part.Goals as goal
 

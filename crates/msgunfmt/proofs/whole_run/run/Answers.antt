@@ -1,5 +1,4 @@
-use Rattle.std.proofs.Common.{Err, ap, refl}
-use Rattle.std.proofs.lemmas.Result.{err_from_is_err_and}
+use Rattle.msgunfmt.proofs.Prelude.{Err, ap, err_from_is_err_and, refl}
 use Rattle.runs.specs.ToolRuns.{out_of_memory, runs_one}
 use Rattle.runs.specs.Facts.RunEnds.{input_ended}
 use Rattle.msgunfmt.proofs.whole_run.run.Goals as goal

@@ -1,9 +1,6 @@
-use Rattle.std.proofs.Common.{◌≡◌, ℕ, ◌≤◌, Option, Some, None, ◌+◌, ◌-◌, ◌∷◌, [], List, length, drop, ap, ◌∙◌, sym, arith, length-drop, ◌<◌}
-use Rattle.std.proofs.lemmas.List.{drop_all}
-use Rattle.plural_rule.specs.Prelude.{Tree, value, visited, nodes, program, tree_of, size, length-program}
-use Rattle.plural_rule.specs.declared.instruction.Instruction.{Instruction}
+use Rattle.plural_rule.proofs.Prelude.{Instruction, List, None, Option, Outcome, Some, Tree, [], ap, arith, drop, drop_all, length, length-drop, length-program, nodes, program, run, size, stored, sym, tree_of, value, visited, ℕ, ◌+◌, ◌-◌, ◌<◌, ◌∙◌, ◌∷◌, ◌≡◌, ◌≤◌}
 use Rattle.plural_rule.proofs.Uniqueness.{visited_le_nodes}
-use Rattle.plural_rule.specs.Internal.Evaluator.{run, stored, Outcome, outcome}
+use Rattle.plural_rule.specs.Internal.Evaluator.{outcome}
 use Rattle.plural_rule.proofs.Programs.{nodes-le-size, stored-cons, starts, skips, ready}
 use Rattle.plural_rule.proofs.evaluator.evaluate_within.Goals as goal
 

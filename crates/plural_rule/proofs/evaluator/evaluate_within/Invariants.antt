@@ -1,6 +1,5 @@
-use Rattle.std.proofs.Common.{◌≡◌, ◌-◌, ◌*◌, ◌^◌, ◌<◌, ◌≤◌, ◌∷◌, ◌+◌, length, drop, Some}
-use Rattle.plural_rule.specs.Prelude.{tree_of}
-use Rattle.plural_rule.specs.Internal.Evaluator.{run, stored, outcome}
+use Rattle.plural_rule.proofs.Prelude.{Some, drop, length, run, stored, tree_of, ◌*◌, ◌+◌, ◌-◌, ◌<◌, ◌^◌, ◌∷◌, ◌≡◌, ◌≤◌}
+use Rattle.plural_rule.specs.Internal.Evaluator.{outcome}
 use Rattle.plural_rule.proofs.evaluator.evaluate_within.Given as goal
 
 abbrev pub invariant-loop-index : goal.invariant-loop-index

@@ -1,4 +1,4 @@
-use Rattle.std.proofs.Common.{arith}
+use Rattle.plural_rule.proofs.Prelude.{arith}
 use Rattle.plural_rule.proofs.Programs.{stored-more}
 use Rattle.plural_rule.proofs.evaluator.keep.Goals as goal
 

@@ -1,5 +1,4 @@
-use Rattle.plural_rule.specs.Prelude.{action_of, count_instruction}
-use Rattle.std.proofs.Common.{ap, get_or, ◌+◌, [], ◌∷◌, ◌∙◌, refl, sym}
+use Rattle.plural_rule.proofs.Prelude.{[], action_of, ap, count_instruction, get_or, refl, sym, ◌+◌, ◌∙◌, ◌∷◌}
 use Rattle.plural_rule.proofs.Programs.{acts, fused, operator-begins, operator-within}
 use Rattle.plural_rule.proofs.evaluator.step.Goals as goal
 use Rattle.plural_rule.proofs.evaluator.step.Goals.{in-Count, in-Number}

@@ -1,6 +1,4 @@
-use Rattle.std.proofs.Common.{◌≡◌, ◌+◌, ◌-◌, ◌≤◌, Some, length, take, drop, ap, ◌∙◌, sym, rules, arith, inl, inr, length-take, length-drop}
-use Rattle.std.proofs.lemmas.Bool.{cases_lt, true≢false}
-use Rattle.memchr.specs.Find.{OccursAt}
+use Rattle.plural_rule.proofs.Prelude.{OccursAt, Some, ap, arith, cases_lt, drop, inl, inr, length, length-drop, length-take, rules, sym, take, true≢false, ◌+◌, ◌-◌, ◌∙◌, ◌≡◌, ◌≤◌}
 use Rattle.plural_rule.proofs.Searches.{none-before, ends-text, ends-part, found-within, after_first-none, after_first-some, rest_from}
 use Rattle.plural_rule.proofs.header.after_first.Goals as goal
 

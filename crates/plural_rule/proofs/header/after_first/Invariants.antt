@@ -1,5 +1,4 @@
-use Rattle.std.proofs.Common.{◌≤◌, length, ℕ, ◌+◌, ◌-◌}
-use Rattle.memchr.specs.Find.{OccursAt}
+use Rattle.plural_rule.proofs.Prelude.{OccursAt, length, ℕ, ◌+◌, ◌-◌, ◌≤◌}
 use Rattle.plural_rule.proofs.header.after_first.Given as goal
 
 abbrev pub invariant-loop-before : goal.invariant-loop-before

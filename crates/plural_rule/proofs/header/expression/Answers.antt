@@ -1,7 +1,5 @@
-use Rattle.std.proofs.Common.{Some, ap, ◌∙◌}
+use Rattle.plural_rule.proofs.Prelude.{Some, ap, before_first, is_end, ◌∙◌}
 use Rattle.std.specs.Prelude.{option_map}
-use Rattle.std.specs.List.{before_first}
-use Rattle.plural_rule.specs.Prelude.{is_end}
 use Rattle.plural_rule.proofs.Searches.{before_first_some, before_first_none}
 use Rattle.plural_rule.proofs.header.expression.Goals as goal
 

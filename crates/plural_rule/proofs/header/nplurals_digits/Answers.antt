@@ -1,7 +1,5 @@
-use Rattle.std.proofs.Common.{◌≡◌, ◌<◌, length, ap, ◌∙◌, sym, rules}
-use Rattle.std.specs.Prelude.{option_and_then, take_while}
-use Rattle.std.specs.Char.{is_ascii_digit}
-use Rattle.plural_rule.specs.Prelude.{without_blanks, leading_number, digits_number}
+use Rattle.plural_rule.proofs.Prelude.{ap, digits_number, is_ascii_digit, leading_number, length, rules, sym, take_while, without_blanks, ◌<◌, ◌∙◌, ◌≡◌}
+use Rattle.std.specs.Prelude.{option_and_then}
 use Rattle.plural_rule.proofs.Numerals.{digits_number-some}
 use Rattle.plural_rule.proofs.Scanning.{AllDigits-take_while}
 use Rattle.plural_rule.proofs.header.nplurals_digits.Goals as goal

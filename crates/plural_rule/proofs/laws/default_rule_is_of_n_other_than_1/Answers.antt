@@ -1,13 +1,5 @@
-use Rattle.std.proofs.Common.{◌≡◌, ◌==◌, ◌∷◌, ◌∙◌, [], List, false, codes, get_or, refl, sym, ap, arith}
-use Rattle.std.proofs.lemmas.Bool.{ne_eqb, false≢true}
-use Rattle.plural_rule.specs.declared.operator.Operator.{Operator}
-use Rattle.plural_rule.specs.declared.operator.Operator.TheVariants.{Or, NotEqual}
-use Rattle.plural_rule.specs.declared.token.Token.{Token}
+use Rattle.plural_rule.proofs.Prelude.{Binary, Count, HasNoDouble, Lexes, List, NotEqual, Number, Operator, Or, Spelt, Token, [], ap, arith, blank, codes, end, false, false≢true, get_or, ne_eqb, operator_bytes, refl, sym, token, ◌==◌, ◌∙◌, ◌∷◌, ◌≡◌}
 use Rattle.plural_rule.specs.declared.token.Token.TheVariants.{Count as CountToken, Number as NumberToken, Binary as BinaryToken}
-use Rattle.plural_rule.specs.Evaluator.{Binary, Count, Number}
-use Rattle.plural_rule.specs.Prelude.{Spelt, Lexes, operator_bytes}
-use Rattle.plural_rule.specs.Lexer.{end, blank, token}
-use Rattle.plural_rule.specs.Internal.Lexer.{HasNoDouble}
 use Rattle.plural_rule.proofs.Scanning.{double-token, numeral-token, single-token}
 use Rattle.plural_rule.proofs.Sound.{sound}
 use Rattle.plural_rule.proofs.laws.default_rule_is_of_n_other_than_1.Goals as goal

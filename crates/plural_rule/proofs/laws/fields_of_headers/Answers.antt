@@ -1,4 +1,4 @@
-use Rattle.std.proofs.Common.{refl}
+use Rattle.plural_rule.proofs.Prelude.{refl}
 use Rattle.plural_rule.proofs.laws.fields_of_headers.Goals as goal
 
 pub returns-clause-nplurals : goal.returns-clause-nplurals

@@ -1,8 +1,4 @@
-use Rattle.std.proofs.Common.{◌≡◌, ◌≢◌, ℕ, true, refl, arith}
-use Rattle.std.proofs.lemmas.Bool.{eq-eqb, ne_eqb}
-use Rattle.plural_rule.specs.declared.operator.Operator.{Operator}
-use Rattle.plural_rule.specs.declared.operator.Operator.TheVariants.{And, Or}
-use Rattle.plural_rule.specs.Prelude.{needs_right}
+use Rattle.plural_rule.proofs.Prelude.{And, Operator, Or, arith, eq-eqb, ne_eqb, needs_right, refl, true, ℕ, ◌≡◌, ◌≢◌}
 use Rattle.plural_rule.proofs.laws.needed_nodes_are_visited.Goals as goal
 
 always-needed : (op : Operator) (x : ℕ) → op ≢ Or → op ≢ And → needs_right op x ≡ true

@@ -1,7 +1,4 @@
-use Rattle.std.proofs.Common.{◌≡◌, take, ap, ◌∙◌, arith}
-use Rattle.std.specs.Str.Parse.{digits_value}
-use Rattle.std.proofs.lemmas.Int.Digits.{digits_value_more}
-use Rattle.std.proofs.lemmas.List.{take_all}
+use Rattle.plural_rule.proofs.Prelude.{ap, arith, digits_value, digits_value_more, take, take_all, ◌∙◌, ◌≡◌}
 use Rattle.plural_rule.proofs.Numerals.{digits_value-grows, digit-value}
 use Rattle.plural_rule.proofs.lexer.decimal_value.Goals as goal
 

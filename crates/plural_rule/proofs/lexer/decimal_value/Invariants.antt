@@ -1,5 +1,4 @@
-use Rattle.std.proofs.Common.{◌≡◌, ◌<◌, ◌^◌, take}
-use Rattle.std.specs.Str.Parse.{digits_value}
+use Rattle.plural_rule.proofs.Prelude.{digits_value, take, ◌<◌, ◌^◌, ◌≡◌}
 use Rattle.plural_rule.proofs.lexer.decimal_value.Given as goal
 
 abbrev pub invariant-loop-digit : goal.invariant-loop-digit

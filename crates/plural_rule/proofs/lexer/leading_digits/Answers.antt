@@ -1,7 +1,4 @@
-use Rattle.std.proofs.Common.{take, ap, ◌∙◌, sym, arith, length}
-use Rattle.std.proofs.lemmas.List.{take_all}
-use Rattle.std.proofs.lemmas.List.Sums.{prefix_len_is}
-use Rattle.std.specs.Char.{is_ascii_digit}
+use Rattle.plural_rule.proofs.Prelude.{ap, arith, is_ascii_digit, length, prefix_len_is, sym, take, take_all, ◌∙◌}
 use Rattle.plural_rule.proofs.lexer.leading_digits.Goals as goal
 
 pub returns-then-not-is_ascii_digit : goal.returns-then-not-is_ascii_digit

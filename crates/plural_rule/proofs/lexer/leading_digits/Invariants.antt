@@ -1,5 +1,4 @@
-use Rattle.std.proofs.Common.{◌≡◌, ℕ, ◌<◌, true, get_or}
-use Rattle.std.specs.Char.{is_ascii_digit}
+use Rattle.plural_rule.proofs.Prelude.{get_or, is_ascii_digit, true, ℕ, ◌<◌, ◌≡◌}
 use Rattle.plural_rule.proofs.lexer.leading_digits.Given as goal
 
 abbrev pub invariant-loop-index : goal.invariant-loop-index

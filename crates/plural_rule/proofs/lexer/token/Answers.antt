@@ -1,6 +1,4 @@
-use Rattle.std.proofs.Common.{ap, sym, ◌∙◌, ◌^◌, ◌≤◌, arith}
-use Rattle.std.specs.Str.Parse.{digits_value}
-use Rattle.std.specs.Char.{is_ascii_digit}
+use Rattle.plural_rule.proofs.Prelude.{ap, arith, digits_value, is_ascii_digit, sym, ◌^◌, ◌∙◌, ◌≤◌}
 use Rattle.plural_rule.proofs.Scanning.{first_byte-get, AllDigits-take_while, numeral-token, numeral-none, double-token, single-token, no-single}
 use Rattle.plural_rule.proofs.lexer.token.Goals as goal
 

@@ -1,7 +1,4 @@
-use Rattle.std.proofs.Common.{drop, ap, ◌∙◌, sym, arith}
-use Rattle.std.proofs.lemmas.Bool.Decides.{nat_tests}
-use Rattle.std.proofs.lemmas.List.Sums.{prefix_len_is}
-use Rattle.plural_rule.specs.Prelude.{is_blank}
+use Rattle.plural_rule.proofs.Prelude.{ap, arith, drop, is_blank, nat_tests, prefix_len_is, sym, ◌∙◌}
 use Rattle.plural_rule.proofs.Searches.{rest_from}
 use Rattle.plural_rule.proofs.lexer.without_blanks.Goals as goal
 

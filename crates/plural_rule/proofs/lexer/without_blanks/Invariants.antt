@@ -1,5 +1,4 @@
-use Rattle.std.proofs.Common.{◌≡◌, ℕ, ◌<◌, true, get_or}
-use Rattle.plural_rule.specs.Prelude.{is_blank}
+use Rattle.plural_rule.proofs.Prelude.{get_or, is_blank, true, ℕ, ◌<◌, ◌≡◌}
 use Rattle.plural_rule.proofs.lexer.without_blanks.Given as goal
 
 abbrev pub invariant-loop-index : goal.invariant-loop-index

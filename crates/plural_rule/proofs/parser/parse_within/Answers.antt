@@ -1,7 +1,4 @@
-use Rattle.std.proofs.Common.{◌≡◌, ◌≢◌, ℕ, ◌<◌, ◌≤◌, ◌+◌, ◌-◌, List, [], ◌∷◌, length, take, drop, length-drop, refl, ap, arith, rules}
-use Rattle.std.proofs.lemmas.List.{take_all}
-use Rattle.plural_rule.specs.Internal.ParserState.{held, most_added}
-use Rattle.plural_rule.specs.Internal.Pending.{weight, entries_in}
+use Rattle.plural_rule.proofs.Prelude.{List, [], ap, arith, drop, entries_in, held, length, length-drop, most_added, refl, rules, take, take_all, weight, ℕ, ◌+◌, ◌-◌, ◌<◌, ◌∷◌, ◌≡◌, ◌≢◌, ◌≤◌}
 use Rattle.plural_rule.proofs.ParserRun.{Reached, reached-start, reached-token, reached-end, no-token, no-index, most-added}
 use Rattle.plural_rule.proofs.parser.parse_within.Goals as goal
 

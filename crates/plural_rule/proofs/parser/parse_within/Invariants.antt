@@ -1,6 +1,4 @@
-use Rattle.std.proofs.Common.{◌+◌, ◌≤◌, length}
-use Rattle.plural_rule.specs.Internal.ParserState.{held}
-use Rattle.plural_rule.specs.Internal.Pending.{weight, entries_in}
+use Rattle.plural_rule.proofs.Prelude.{entries_in, held, length, weight, ◌+◌, ◌≤◌}
 use Rattle.plural_rule.proofs.ParserRun.{Reached}
 use Rattle.plural_rule.proofs.parser.parse_within.Given as goal
 

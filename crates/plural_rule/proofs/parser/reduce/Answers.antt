@@ -1,7 +1,4 @@
-use Rattle.std.proofs.Common.{sym, ap, ◌∙◌, arith}
-use Rattle.plural_rule.specs.Internal.Pending.{weight}
-use Rattle.plural_rule.specs.Internal.ParserState.{held}
-use Rattle.plural_rule.specs.Internal.Parser.{reduce}
+use Rattle.plural_rule.proofs.Prelude.{ap, arith, held, reduce, sym, weight, ◌∙◌}
 use Rattle.plural_rule.proofs.ParserSteps.{short, Reduces-more, Reduces-stop, Reduces-end}
 use Rattle.plural_rule.proofs.parser.reduce.Goals as goal
 

@@ -1,7 +1,4 @@
-use Rattle.std.proofs.Common.{List}
-use Rattle.plural_rule.specs.Prelude.{Tree}
-use Rattle.plural_rule.specs.Internal.Parser.{Waiting, reduce}
-use Rattle.plural_rule.specs.Internal.ParserState.{held, IsOperand, Grows}
+use Rattle.plural_rule.proofs.Prelude.{Grows, IsOperand, List, Tree, Waiting, held, reduce}
 use Rattle.plural_rule.proofs.ParserSteps.{Reduces}
 use Rattle.plural_rule.proofs.parser.reduce.Given as goal
 

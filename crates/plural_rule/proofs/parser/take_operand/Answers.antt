@@ -1,9 +1,4 @@
-use Rattle.std.proofs.Common.{◌≡◌, ◌≤◌, ◌^◌, ◌∷◌, ◌∙◌, true, nat_lt, length, arith, refl, sym, ap}
-use Rattle.std.proofs.lemmas.Bool.{lt-ltb}
-use Rattle.std.proofs.lemmas.List.{length-take-le}
-use Rattle.plural_rule.specs.Internal.ParserState.{held}
-use Rattle.plural_rule.specs.Internal.Pending.{weight}
-use Rattle.plural_rule.specs.Evaluator.{Count, Number}
+use Rattle.plural_rule.proofs.Prelude.{Count, Number, ap, arith, held, length, length-take-le, lt-ltb, nat_lt, refl, sym, true, weight, ◌^◌, ◌∙◌, ◌∷◌, ◌≡◌, ◌≤◌}
 use Rattle.plural_rule.specs.declared.pending.Pending.TheVariants.{Not, Open}
 use Rattle.plural_rule.proofs.ParserSteps.{first-operand}
 use Rattle.plural_rule.proofs.parser.take_operand.Goals as goal

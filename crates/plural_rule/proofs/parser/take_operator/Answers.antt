@@ -1,13 +1,6 @@
-use Rattle.std.proofs.Common.{◌≡◌, ◌+◌, ◌%◌, inl, inr, [], ◌∷◌, ◌++◌, length, arith, refl, ap, ◌∙◌}
-use Rattle.std.proofs.lemmas.Bool.{cases_Bool}
-use Rattle.plural_rule.specs.declared.operator.Operator.{Operator}
+use Rattle.plural_rule.proofs.Prelude.{Operator, Parser, WaitBinary, WaitQuestion, [], ap, arith, branch_then, cases_Bool, choose_instruction, entries_in, held, inl, inr, is_lazy, jump_instruction, length, most_added, refl, weight, ◌%◌, ◌++◌, ◌+◌, ◌∙◌, ◌∷◌, ◌≡◌}
 use Rattle.plural_rule.specs.declared.token.Token.TheVariants.{Binary}
-use Rattle.plural_rule.specs.Prelude.{choose_instruction, jump_instruction, branch_then, is_lazy}
-use Rattle.plural_rule.specs.Internal.Parser.{WaitBinary, WaitQuestion}
 use Rattle.plural_rule.specs.declared.pending.Pending.TheVariants.{Colon}
-use Rattle.plural_rule.specs.declared.parser_state.Parser.{Parser}
-use Rattle.plural_rule.specs.Internal.Pending.{entries_in, weight}
-use Rattle.plural_rule.specs.Internal.ParserState.{held, most_added}
 use Rattle.plural_rule.proofs.ParserSteps.{short, waits, answers-colon, answers-close}
 use Rattle.plural_rule.proofs.parser.take_operator.Goals as goal
 

@@ -1,5 +1,4 @@
-use Rattle.std.proofs.Common.{refl, arith}
-use Rattle.plural_rule.specs.Internal.ParserState.{counted}
+use Rattle.plural_rule.proofs.Prelude.{arith, counted, refl}
 use Rattle.plural_rule.proofs.ParserSteps.{edited-within}
 use Rattle.plural_rule.proofs.parser_state.begin.Goals as goal
 

@@ -1,6 +1,4 @@
-use Rattle.std.proofs.Common.{◌≡◌, ◌+◌, ◌-◌, length, take, if◌then◌else◌, refl, sym, ◌∙◌, arith}
-use Rattle.plural_rule.specs.Prelude.{is_lazy}
-use Rattle.plural_rule.specs.Internal.ParserState.{skipping}
+use Rattle.plural_rule.proofs.Prelude.{arith, if◌then◌else◌, is_lazy, length, refl, skipping, sym, take, ◌+◌, ◌-◌, ◌∙◌, ◌≡◌}
 use Rattle.plural_rule.proofs.parser_state.complete.Goals as goal
 use Rattle.plural_rule.proofs.parser_state.complete.Goals.{then-is_lazy, else-is_lazy}
 

@@ -1,6 +1,4 @@
-use Rattle.std.proofs.Common.{◌≡◌, ◌∙◌, ◌+◌, ◌-◌, ap₂, refl, arith, length, take}
-use Rattle.std.proofs.lemmas.List.{length-take-le}
-use Rattle.plural_rule.specs.Internal.ParserState.{skipping, with_skip}
+use Rattle.plural_rule.proofs.Prelude.{ap₂, arith, length, length-take-le, refl, skipping, take, with_skip, ◌+◌, ◌-◌, ◌∙◌, ◌≡◌}
 use Rattle.plural_rule.proofs.ParserSteps.{edited-within}
 use Rattle.plural_rule.proofs.parser_state.skip_operand.Goals as goal
 

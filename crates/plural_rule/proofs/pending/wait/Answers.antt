@@ -1,5 +1,4 @@
-use Rattle.std.proofs.Common.{map, ap, ◌∙◌, ◌∷◌}
-use Rattle.plural_rule.specs.Internal.Pending.{pending_of, entries_in}
+use Rattle.plural_rule.proofs.Prelude.{ap, entries_in, map, pending_of, ◌∙◌, ◌∷◌}
 use Rattle.plural_rule.proofs.Programs.{stored-more}
 use Rattle.plural_rule.proofs.pending.wait.Goals as goal
 

@@ -1,5 +1,4 @@
-use Rattle.std.proofs.Common.{◌≡◌, ◌++◌}
-use Rattle.po_entry.specs.Prelude.{texts, texts_left}
+use Rattle.po_catalog.proofs.Prelude.{texts, texts_left, ◌++◌, ◌≡◌}
 use Rattle.po_catalog.proofs.copies.list_of.Given as goal
 
 abbrev pub invariant-loop-text : goal.invariant-loop-text

@@ -1,10 +1,5 @@
-use Rattle.std.proofs.Common.{◌≡◌, ◌∙◌, ◌<◌, ℕ, ap, arith, get_or, length, subst, sym}
-use Rattle.std.specs.Prelude.{MatchOption}
-use Rattle.std.proofs.lemmas.List.{get_or-map, length-map}
-use Rattle.po_entry.specs.Prelude.{TextEntry, InputEntry, is_live, is_looked_at, number_in, DifferUpTo, RepeatsAt}
-use Rattle.po_catalog.specs.Prelude.{input_entries, input_entry}
+use Rattle.po_catalog.proofs.Prelude.{DifferUpTo, InputEntry, MatchOption, RepeatsAt, TextEntry, ap, arith, get_or, get_or-map, input_entries, input_entry, is_live, is_looked_at, length, length-map, live_differ, number_in, subst, sym, ℕ, ◌<◌, ◌∙◌, ◌≡◌}
 use Rattle.po_catalog.specs.declared.joining.InputEntry.{InputEntry as BorrowedEntry}
-use Rattle.po_entry.proofs.DuplicateLemmas.{live_differ}
 use Rattle.po_entry.proofs.NumberLemmas.{are_numbered, as_many, first_twice, none_twice}
 use Rattle.po_catalog.proofs.duplicate.first_pair.Goals as goal
 

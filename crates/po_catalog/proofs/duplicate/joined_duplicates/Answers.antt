@@ -1,7 +1,5 @@
-use Rattle.std.proofs.Common.{All, subst, sym, ap, ◌∙◌}
-use Rattle.po_entry.specs.Prelude.{IsCatalogueEntry, entries_of, HasNoDuplicate}
-use Rattle.po_catalog.specs.Prelude.{input_entries}
-use Rattle.po_entry.proofs.DuplicateLemmas.{only_memory}
+use Rattle.po_catalog.proofs.Prelude.{HasNoDuplicate, IsCatalogueEntry, ap, entries_of, input_entries, only_memory, subst, sym, ◌∙◌}
+use Rattle.std.proofs.Common.{All}
 use Rattle.po_catalog.proofs.duplicate.joined_duplicates.Goals as goal
 
 pub first_duplicate-requires : goal.first_duplicate-requires

@@ -1,6 +1,4 @@
-use Rattle.std.proofs.Common.{◌≡◌, ◌++◌, map, take}
-use Rattle.po_entry.specs.Prelude.{in_input, kept_entries}
-use Rattle.po_catalog.specs.Prelude.{input_entries}
+use Rattle.po_catalog.proofs.Prelude.{in_input, input_entries, kept_entries, map, take, ◌++◌, ◌≡◌}
 use Rattle.po_catalog.proofs.joining.add_entries.Given as goal
 
 -- what is there is what was there, and what is kept of the entries so far

@@ -1,8 +1,6 @@
-use Rattle.std.proofs.Common.{◌∙◌, ap, get_or, rules, sym}
+use Rattle.po_catalog.proofs.Prelude.{ap, get_or, input_entries, is_live_header, rules, sym, ◌∙◌}
 use Rattle.std.proofs.lemmas.Iterator.{YieldsList-from_slice}
 use Rattle.std.proofs.lemmas.Iterator.Search.{any_from_yields_List}
-use Rattle.po_entry.specs.Prelude.{is_live_header}
-use Rattle.po_catalog.specs.Prelude.{input_entries}
 use Rattle.po_entry.proofs.JoiningLemmas.{valid_more, whole_more}
 use Rattle.po_catalog.proofs.joining.joined.Goals as goal
 

@@ -1,6 +1,5 @@
-use Rattle.std.proofs.Common.{◌≡◌, ◌++◌, drop, All}
-use Rattle.po_entry.specs.Prelude.{IsCatalogueEntry, joined, joined_from, entries_of}
-use Rattle.po_catalog.specs.Prelude.{input_entries}
+use Rattle.po_catalog.proofs.Prelude.{IsCatalogueEntry, drop, entries_of, input_entries, joined, joined_from, ◌++◌, ◌≡◌}
+use Rattle.std.proofs.Common.{All}
 use Rattle.po_catalog.proofs.joining.joined.Given as goal
 
 -- what is there, and what the inputs that are left add, is the whole list

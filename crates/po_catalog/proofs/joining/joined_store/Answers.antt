@@ -1,5 +1,4 @@
-use Rattle.std.proofs.Common.{◌∙◌, ◌++◌, ◌∷◌, [], List, ap, sym}
-use Rattle.po_entry.specs.Prelude.{TextEntry, IsCatalogueEntry}
+use Rattle.po_catalog.proofs.Prelude.{IsCatalogueEntry, List, TextEntry, [], ap, sym, ◌++◌, ◌∙◌, ◌∷◌}
 use Rattle.po_catalog.proofs.Borrowed.{borrowed_holds, borrowed_more}
 use Rattle.po_catalog.proofs.joining.joined_store.Goals as goal
 

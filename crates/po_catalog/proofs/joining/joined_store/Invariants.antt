@@ -1,6 +1,4 @@
-use Rattle.std.proofs.Common.{◌≡◌, take}
-use Rattle.po_entry.specs.Prelude.{entries_of}
-use Rattle.po_catalog.specs.Prelude.{input_entries}
+use Rattle.po_catalog.proofs.Prelude.{entries_of, input_entries, take, ◌≡◌}
 use Rattle.po_catalog.proofs.joining.joined_store.Given as goal
 
 abbrev pub invariant-loop-member : goal.invariant-loop-member

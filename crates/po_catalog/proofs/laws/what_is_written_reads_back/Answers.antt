@@ -1,6 +1,4 @@
-use Rattle.std.proofs.Common.{◌≡◌, List, map, ap, ◌∙◌}
-use Rattle.po_entry.specs.Prelude.{TextEntry, with_line}
-use Rattle.po_writer.specs.Prelude.{written_text}
+use Rattle.po_catalog.proofs.Prelude.{List, TextEntry, ap, map, with_line, written_text, ◌∙◌, ◌≡◌}
 use Rattle.po_catalog.proofs.laws.what_is_written_reads_back.Goals as goal
 
 pub returns : goal.returns

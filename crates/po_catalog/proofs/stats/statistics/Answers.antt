@@ -1,4 +1,4 @@
-use Rattle.std.proofs.Common.{arith}
+use Rattle.po_catalog.proofs.Prelude.{arith}
 use Rattle.po_entry.proofs.StatisticsLemmas.{counts_of_first}
 use Rattle.po_catalog.proofs.stats.statistics.Goals as goal
 

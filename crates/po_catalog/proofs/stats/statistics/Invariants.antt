@@ -1,5 +1,4 @@
-use Rattle.std.proofs.Common.{◌≡◌, take}
-use Rattle.po_entry.specs.Prelude.{stats_of}
+use Rattle.po_catalog.proofs.Prelude.{stats_of, take, ◌≡◌}
 use Rattle.po_catalog.proofs.stats.statistics.Given as goal
 
 abbrev pub invariant-loop-entry : goal.invariant-loop-entry

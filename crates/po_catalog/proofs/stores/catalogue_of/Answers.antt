@@ -1,8 +1,4 @@
-use Rattle.std.proofs.Common.{sym, ◌∙◌, ◌≡◌, ◌++◌, ◌∷◌, [], List, ap₂, subst, get_or}
-use Rattle.std.specs.Prelude.{All}
-use Rattle.std.proofs.lemmas.List.{take_more}
-use Rattle.std.proofs.lemmas.List.Elements.{All-push}
-use Rattle.po_entry.specs.Prelude.{TextEntry, IsCatalogueEntry}
+use Rattle.po_catalog.proofs.Prelude.{All, All-push, IsCatalogueEntry, List, TextEntry, [], ap₂, get_or, subst, sym, take_more, ◌++◌, ◌∙◌, ◌∷◌, ◌≡◌}
 use Rattle.po_catalog.proofs.stores.catalogue_of.Goals as goal
 
 pub loop-index-preserved : goal.loop-index-preserved

@@ -1,7 +1,5 @@
-use Rattle.std.proofs.Common.{◌≡◌, ◌≤◌, take, length}
-use Rattle.std.specs.Prelude.{All}
+use Rattle.po_catalog.proofs.Prelude.{All, IsCatalogueEntry, length, take, ◌≡◌, ◌≤◌}
 use Rattle.std.specs.Vec.{vec_capacity}
-use Rattle.po_entry.specs.Prelude.{IsCatalogueEntry}
 use Rattle.po_catalog.proofs.stores.catalogue_of.Given as goal
 
 abbrev pub invariant-loop-index : goal.invariant-loop-index

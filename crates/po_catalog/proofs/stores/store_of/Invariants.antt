@@ -1,4 +1,4 @@
-use Rattle.std.proofs.Common.{◌≡◌, take}
+use Rattle.po_catalog.proofs.Prelude.{take, ◌≡◌}
 use Rattle.po_catalog.proofs.stores.store_of.Given as goal
 
 abbrev pub invariant-loop-entry : goal.invariant-loop-entry

@@ -1,5 +1,4 @@
-use Rattle.std.proofs.Common.{◌≡◌, take}
-use Rattle.po_entry.specs.Prelude.{texts, slice_texts}
+use Rattle.po_catalog.proofs.Prelude.{slice_texts, take, texts, ◌≡◌}
 use Rattle.po_catalog.proofs.text_list.copy_slices.Given as goal
 
 abbrev pub invariant-loop-text : goal.invariant-loop-text

@@ -1,6 +1,4 @@
-use Rattle.std.proofs.Common.{◌≡◌, [], arith, ◌<◌, length}
-use Rattle.std.proofs.lemmas.List.{take_all}
-use Rattle.po_entry.proofs.Lists.{all_empty, All-written}
+use Rattle.po_catalog.proofs.Prelude.{All-written, [], all_empty, arith, length, take_all, ◌<◌, ◌≡◌}
 use Rattle.po_catalog.proofs.text_list.empty_texts.Goals as goal
 
 pub loop-text-preserved : goal.loop-text-preserved

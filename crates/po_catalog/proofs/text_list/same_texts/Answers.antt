@@ -1,4 +1,4 @@
-use Rattle.std.proofs.Common.{◌∙◌}
+use Rattle.po_catalog.proofs.Prelude.{◌∙◌}
 use Rattle.po_catalog.proofs.SameTexts.{same_vectors}
 use Rattle.po_catalog.proofs.text_list.same_texts.Goals as goal
 

@@ -1,5 +1,4 @@
-use Rattle.po_entry.specs.Prelude.{Meets}
-use Rattle.po_entry.proofs.Checks.{both, of_one}
+use Rattle.po_catalog.proofs.Prelude.{Meets, both, of_one}
 use Rattle.po_catalog.proofs.texts.all_meet.Goals as goal
 
 pub returns : goal.returns

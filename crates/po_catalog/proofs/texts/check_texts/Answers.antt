@@ -1,5 +1,4 @@
-use Rattle.std.proofs.Common.{sym, ◌∙◌}
-use Rattle.std.proofs.lemmas.Bool.{false≢true}
+use Rattle.po_catalog.proofs.Prelude.{false≢true, sym, ◌∙◌}
 use Rattle.po_entry.specs.Validity.EntryTextFault.{not_utf8, forbidden}
 use Rattle.po_catalog.proofs.texts.check_texts.Goals as goal
 

@@ -1,6 +1,4 @@
-use Rattle.std.proofs.Common.{sym, ◌∙◌, refl}
-use Rattle.std.proofs.lemmas.Bool.{false≢true}
-use Rattle.po_entry.specs.Prelude.{Meets}
+use Rattle.po_catalog.proofs.Prelude.{Meets, false≢true, refl, sym, ◌∙◌}
 use Rattle.po_catalog.proofs.TestedSlices.{tested_more, tested_all, tested_one}
 use Rattle.po_catalog.proofs.texts.forms_meet.Goals as goal
 

@@ -1,6 +1,4 @@
-use Rattle.std.proofs.Common.{take}
-use Rattle.std.specs.Prelude.{All}
-use Rattle.po_entry.specs.Prelude.{Meets}
+use Rattle.po_catalog.proofs.Prelude.{All, Meets, take}
 use Rattle.po_catalog.proofs.texts.forms_meet.Given as goal
 
 abbrev pub invariant-loop-form : goal.invariant-loop-form

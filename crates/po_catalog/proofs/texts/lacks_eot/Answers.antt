@@ -1,5 +1,4 @@
-use Rattle.po_entry.specs.Prelude.{Lacks}
-use Rattle.po_entry.proofs.Checks.{on_option, two}
+use Rattle.po_catalog.proofs.Prelude.{Lacks, on_option, two}
 use Rattle.po_catalog.proofs.texts.lacks_eot.Goals as goal
 
 pub returns : goal.returns

@@ -1,7 +1,4 @@
-use Rattle.std.proofs.Common.{◌∙◌, ◌++◌, ◌∷◌, [], ap, subst, sym, take}
-use Rattle.std.proofs.lemmas.List.{take_more}
-use Rattle.po_entry.specs.Prelude.{TextEntry}
-use Rattle.po_writer.specs.Prelude.{AreParts}
+use Rattle.po_catalog.proofs.Prelude.{AreParts, TextEntry, [], ap, subst, sym, take, take_more, ◌++◌, ◌∙◌, ◌∷◌}
 use Rattle.po_catalog.proofs.writing.add_entries.Goals as goal
 
 pub loop-index-preserved : goal.loop-index-preserved

@@ -1,5 +1,4 @@
-use Rattle.std.proofs.Common.{take}
-use Rattle.po_writer.specs.Prelude.{AreParts}
+use Rattle.po_catalog.proofs.Prelude.{AreParts, take}
 use Rattle.po_catalog.proofs.writing.add_entries.Given as goal
 
 abbrev pub invariant-loop-index : goal.invariant-loop-index

@@ -1,11 +1,7 @@
-use Rattle.std.proofs.Common.{[], ◌++◌, sym, ap, ◌∙◌, map}
-use Rattle.std.proofs.lemmas.List.{map-append}
+use Rattle.po_compile.proofs.Prelude.{[], ap, live_messages, map, map-append, passed_on, sym, without_comments, ◌++◌, ◌∙◌}
 use Rattle.po_entry.specs.Faults.IsReadFault.{in_text}
 use Rattle.po_reader.proofs.PieceReading.{read_all, read_more, read_none}
-use Rattle.po_reader.specs.Prelude.{without_comments}
 use Rattle.po_syntax.proofs.NoMemory.{IsFaultOf-weaker, is_text_fault}
-use Rattle.po_syntax.proofs.Results.{passed_on}
-use Rattle.po_compile.specs.Prelude.{live_messages}
 use Rattle.po_compile.proofs.LiveMessages.{uncommented}
 use Rattle.po_compile.proofs.collecting.collect.Goals as goal
 

@@ -1,6 +1,4 @@
-use Rattle.std.proofs.Common.{◌≡◌, List, length, map}
-use Rattle.po_entry.specs.Prelude.{TextEntry}
-use Rattle.po_reader.specs.Prelude.{without_comments, IsReadSoFar}
+use Rattle.po_compile.proofs.Prelude.{IsReadSoFar, List, TextEntry, length, map, without_comments, ◌≡◌}
 use Rattle.po_compile.proofs.collecting.collect.Given as goal
 
 abbrev pub invariant-loop-pieces : goal.invariant-loop-pieces

@@ -1,10 +1,4 @@
-use Rattle.std.proofs.Common.{ap, sym, subst, ℕ, List, length, arith}
-use Rattle.std.specs.Borrow.{Bor}
-use Rattle.std.proofs.lemmas.List.{length-map}
-use Rattle.std.proofs.lemmas.Result.{MatchResult-from_both, IfOk-weaker, IfErr-weaker}
-use Rattle.po_entry.specs.Prelude.{slice_texts}
-use Rattle.po_syntax.proofs.Results.{ok_both}
-use Rattle.po_compile.specs.Prelude.{AreCompiled, IsCompileFault, AreCollected}
+use Rattle.po_compile.proofs.Prelude.{AreCollected, AreCompiled, Bor, IfErr-weaker, IfOk-weaker, IsCompileFault, List, MatchResult-from_both, ap, arith, length, length-map, ok_both, slice_texts, subst, sym, ℕ}
 use Rattle.po_compile.proofs.InputLemmas.{collected_count}
 use Rattle.po_compile.proofs.compiling.compile_all.Goals as goal
 

@@ -1,10 +1,4 @@
-use Rattle.std.proofs.Common.{refl, sym, ap, ◌∙◌, subst, inl, arith, length, ◌<◌, ◌^◌}
-use Rattle.std.proofs.lemmas.List.{length-map}
-use Rattle.std.proofs.lemmas.Result.{err_from_is_err_and}
-use Rattle.mo_file.specs.Prelude.{IsBuildFault, layout, IsMoFile, borrowed_message, messages_of_borrowed}
-use Rattle.po_entry.specs.Prelude.{joined_entries}
-use Rattle.po_compile.specs.Prelude.{compiled_list}
-use Rattle.po_compile.specs.Internal.{counts_of}
+use Rattle.po_compile.proofs.Prelude.{IsBuildFault, IsMoFile, ap, arith, borrowed_message, compiled_list, counts_of, err_from_is_err_and, inl, joined_entries, layout, length, length-map, messages_of_borrowed, refl, subst, sym, ◌<◌, ◌^◌, ◌∙◌}
 use Rattle.po_compile.proofs.InputLemmas.{build_refused, inputs_refused, pairs_are, sorted_read}
 use Rattle.po_compile.proofs.JoinedRows.{joined_valid}
 use Rattle.po_compile.proofs.MessageOrder.{compiled_valid, count_below_layout}

@@ -1,10 +1,4 @@
-use Rattle.std.proofs.Common.{refl, ap, sym, subst, ◌∙◌, ℕ, ◌+◌, suc, List, [], ◌∷◌, ◌++◌, length, length-take, get_or, take, drop, arith}
-use Rattle.std.specs.Borrow.{Bor}
-use Rattle.std.proofs.lemmas.List.{length-map, take_all}
-use Rattle.std.proofs.lemmas.Result.{err_from_is_err_and}
-use Rattle.po_entry.specs.Prelude.{slice_texts}
-use Rattle.po_compile.specs.Prelude.{IsReadingFault, AreCollected}
-use Rattle.po_compile.specs.Internal.{EachApart}
+use Rattle.po_compile.proofs.Prelude.{AreCollected, Bor, EachApart, IsReadingFault, List, [], ap, arith, drop, err_from_is_err_and, get_or, length, length-map, length-take, refl, slice_texts, subst, suc, sym, take, take_all, ℕ, ◌++◌, ◌+◌, ◌∙◌, ◌∷◌}
 use Rattle.po_compile.proofs.InputLemmas.{collected_count, collected_more, each_refused, text_fault}
 use Rattle.po_compile.proofs.KeysApart.{read_distinct}
 use Rattle.po_compile.proofs.ReadingLemmas.{more_texts, no_text, refused_input, split_texts}

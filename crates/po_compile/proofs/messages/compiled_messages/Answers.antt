@@ -1,7 +1,4 @@
-use Rattle.std.proofs.Common.{◌++◌, ◌∷◌, [], ap, ap₂, sym, ◌∙◌, ℕ, List, filter, map}
-use Rattle.std.proofs.lemmas.List.{map-append, take_all}
-use Rattle.po_compile.specs.Prelude.{CompiledView, compiled_view}
-use Rattle.po_compile.specs.Internal.{InputMessage, all_messages, row_view, view_of_message}
+use Rattle.po_compile.proofs.Prelude.{CompiledView, InputMessage, List, [], all_messages, ap, ap₂, compiled_view, filter, map, map-append, row_view, sym, take_all, view_of_message, ℕ, ◌++◌, ◌∙◌, ◌∷◌}
 use Rattle.po_compile.proofs.CompiledRows.{one_kept, one_omitted}
 use Rattle.po_compile.proofs.JoinedRows.{joined_valid}
 use Rattle.po_compile.proofs.SortedRows.{compiled_views}

@@ -1,6 +1,4 @@
-use Rattle.std.proofs.Common.{◌≡◌, take, map, filter}
-use Rattle.po_compile.specs.Prelude.{compiled_view}
-use Rattle.po_compile.specs.Internal.{InputMessage, row_view, view_of_message}
+use Rattle.po_compile.proofs.Prelude.{InputMessage, compiled_view, filter, map, row_view, take, view_of_message, ◌≡◌}
 use Rattle.po_compile.proofs.messages.compiled_messages.Given as goal
 
 abbrev pub invariant-loop-row : goal.invariant-loop-row

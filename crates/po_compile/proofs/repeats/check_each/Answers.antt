@@ -1,9 +1,4 @@
-use Rattle.std.proofs.Common.{[], refl, ap, subst, inl, inr, ⊎_elim, ◌∙◌, map}
-use Rattle.std.proofs.lemmas.List.{get_or_default, take_all}
-use Rattle.std.proofs.lemmas.List.Elements.{All-more}
-use Rattle.po_entry.specs.declared.duplicate.JoinError.{JoinError}
-use Rattle.po_compile.specs.Prelude.{fault_of_input}
-use Rattle.po_compile.specs.Internal.{EachApart, IsRepeat, AllApart, all_messages, in_input_message, input_keys, message_keys}
+use Rattle.po_compile.proofs.Prelude.{All-more, AllApart, EachApart, IsRepeat, JoinError, [], all_messages, ap, fault_of_input, get_or_default, in_input_message, inl, input_keys, inr, map, message_keys, refl, subst, take_all, ⊎_elim, ◌∙◌}
 use Rattle.po_compile.proofs.RepeatedKeys.{only_keys, only_messages}
 use Rattle.po_compile.proofs.repeats.check_each.Goals as goal
 

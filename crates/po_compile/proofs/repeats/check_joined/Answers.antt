@@ -1,8 +1,5 @@
-use Rattle.std.proofs.Common.{◌≡◌, ap, sym, subst, ◌∙◌, arith, inr, get_or, length}
+use Rattle.po_compile.proofs.Prelude.{AllApart, InputMessage, IsRepeatAt, MatchOption-at_none, MatchOption-at_some, all_messages, ap, arith, get_or, input_keys, inr, length, length-map, row_view, subst, sym, ◌∙◌, ◌≡◌}
 use Rattle.std.proofs.Math.ListN.{get_or-map}
-use Rattle.std.proofs.lemmas.List.{length-map}
-use Rattle.std.proofs.lemmas.Option.{MatchOption-at_none, MatchOption-at_some}
-use Rattle.po_compile.specs.Internal.{IsRepeatAt, AllApart, InputMessage, all_messages, input_keys, row_view}
 use Rattle.po_compile.proofs.RepeatedKeys.{repeat_found}
 use Rattle.po_compile.proofs.repeats.check_joined.Goals as goal
 

@@ -1,5 +1,4 @@
-use Rattle.std.proofs.Common.{◌+◌, get_or, sym, take}
-use Rattle.po_entry.specs.Prelude.{slice_texts, key_writes}
+use Rattle.po_compile.proofs.Prelude.{get_or, key_writes, slice_texts, sym, take, ◌+◌}
 use Rattle.po_entry.proofs.Digests.{digest_more}
 use Rattle.po_compile.proofs.RepeatedKeys.{keys_more, no_key}
 use Rattle.po_compile.proofs.repeats.digest_of.Goals as goal

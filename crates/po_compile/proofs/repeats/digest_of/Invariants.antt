@@ -1,6 +1,4 @@
-use Rattle.std.proofs.Common.{◌≡◌, take}
-use Rattle.std.specs.List.{flat_map}
-use Rattle.po_entry.specs.Prelude.{digest_of, slice_texts, key_writes}
+use Rattle.po_compile.proofs.Prelude.{digest_of, flat_map, key_writes, slice_texts, take, ◌≡◌}
 use Rattle.po_compile.proofs.repeats.digest_of.Given as goal
 
 -- the keys so far are digested

@@ -1,6 +1,4 @@
-use Rattle.std.proofs.Common.{arith, get_or}
-use Rattle.std.proofs.lemmas.List.{length-map}
-use Rattle.po_entry.specs.Prelude.{slice_texts}
+use Rattle.po_compile.proofs.Prelude.{arith, get_or, length-map, slice_texts}
 use Rattle.po_compile.proofs.RepeatedKeys.{is_key, key_of, no_key, one_more, repeated}
 use Rattle.po_compile.proofs.repeats.first_repeat.Goals as goal
 

@@ -1,4 +1,4 @@
-use Rattle.po_entry.specs.Prelude.{slice_texts}
+use Rattle.po_compile.proofs.Prelude.{slice_texts}
 use Rattle.po_compile.proofs.RepeatedKeys.{AreSeen}
 use Rattle.po_compile.proofs.repeats.first_repeat.Given as goal
 

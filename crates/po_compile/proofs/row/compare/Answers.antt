@@ -1,7 +1,4 @@
-use Rattle.std.proofs.Common.{◌≡◌, sym, ◌∙◌}
-use Rattle.std.specs.declared.cmp.Ordering.TheVariants.{Equal}
-use Rattle.std.proofs.lemmas.Cmp.{ranked}
-use Rattle.po_compile.specs.Internal.{row_key}
+use Rattle.po_compile.proofs.Prelude.{Equal, ranked, row_key, sym, ◌∙◌, ◌≡◌}
 use Rattle.po_compile.proofs.PrefixLemmas.{prefix_decides, second_decides}
 use Rattle.po_compile.proofs.row.compare.Goals as goal
 

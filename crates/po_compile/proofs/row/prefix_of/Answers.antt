@@ -1,5 +1,4 @@
-use Rattle.std.proofs.Common.{◌∙◌, ap, take}
-use Rattle.std.proofs.lemmas.List.{take_min}
+use Rattle.po_compile.proofs.Prelude.{ap, take, take_min, ◌∙◌}
 use Rattle.po_compile.proofs.PrefixLemmas.{prefix_read}
 use Rattle.po_compile.proofs.row.prefix_of.Goals as goal
 

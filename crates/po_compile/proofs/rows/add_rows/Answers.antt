@@ -1,7 +1,4 @@
-use Rattle.std.proofs.Common.{◌<◌, ◌+◌, ◌∷◌, ◌++◌, ap, sym, ◌∙◌, arith, List, drop, filter, length, map}
-use Rattle.std.proofs.lemmas.List.{at_drop_more}
-use Rattle.po_compile.specs.Prelude.{LiveMessage, live_message}
-use Rattle.po_compile.specs.Internal.{InputMessage, in_input_message, is_joined, row_view}
+use Rattle.po_compile.proofs.Prelude.{InputMessage, List, LiveMessage, ap, arith, at_drop_more, drop, filter, in_input_message, is_joined, length, live_message, map, row_view, sym, ◌++◌, ◌+◌, ◌<◌, ◌∙◌, ◌∷◌}
 use Rattle.po_compile.proofs.JoinedRows.{rows_more}
 use Rattle.po_compile.proofs.LiveMessages.{as_many, message_at}
 use Rattle.po_compile.proofs.rows.add_rows.Goals as goal

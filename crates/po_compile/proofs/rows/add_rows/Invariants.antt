@@ -1,5 +1,4 @@
-use Rattle.std.proofs.Common.{◌≡◌, ◌++◌, drop, filter, map}
-use Rattle.po_compile.specs.Internal.{in_input_message, is_joined, row_view}
+use Rattle.po_compile.proofs.Prelude.{drop, filter, in_input_message, is_joined, map, row_view, ◌++◌, ◌≡◌}
 use Rattle.po_compile.proofs.rows.add_rows.Given as goal
 
 abbrev pub invariant-loop-index : goal.invariant-loop-index

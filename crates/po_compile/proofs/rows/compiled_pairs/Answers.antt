@@ -1,8 +1,5 @@
-use Rattle.std.proofs.Common.{ℕ, List, ◌++◌, ◌∷◌, [], ◌∙◌, ap, ap₂, sym}
-use Rattle.std.proofs.lemmas.List.{map-append}
-use Rattle.mo_file.specs.Prelude.{borrowed_message, messages_of_borrowed}
+use Rattle.po_compile.proofs.Prelude.{InputMessage, List, [], ap, ap₂, borrowed_message, map-append, messages_of_borrowed, row_view, sym, ℕ, ◌++◌, ◌∙◌, ◌∷◌}
 use Rattle.po_compile.proofs.CompiledRows.{one_kept, one_omitted}
-use Rattle.po_compile.specs.Internal.{InputMessage, row_view}
 use Rattle.po_compile.proofs.rows.compiled_pairs.Goals as goal
 use Rattle.po_compile.proofs.rows.compiled_pairs.Goals.{then-row+in_ok-push, else-row}
 

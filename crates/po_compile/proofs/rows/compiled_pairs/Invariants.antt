@@ -1,6 +1,4 @@
-use Rattle.std.proofs.Common.{◌≡◌, take, map}
-use Rattle.mo_file.specs.Prelude.{messages_of_borrowed}
-use Rattle.po_compile.specs.Internal.{compiled_of, row_view}
+use Rattle.po_compile.proofs.Prelude.{compiled_of, map, messages_of_borrowed, row_view, take, ◌≡◌}
 use Rattle.po_compile.proofs.rows.compiled_pairs.Given as goal
 
 abbrev pub invariant-loop-row : goal.invariant-loop-row

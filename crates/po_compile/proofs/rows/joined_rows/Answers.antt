@@ -1,7 +1,4 @@
-use Rattle.std.proofs.Common.{◌≡◌, ◌∷◌, ap, sym, ◌∙◌, ◌+◌, ◌||◌, ◌++◌, nat_lt, append_assoc, drop, filter, map}
-use Rattle.std.specs.List.{list_any}
-use Rattle.std.proofs.lemmas.List.{at_drop_more}
-use Rattle.po_compile.specs.Internal.{has_no_key, in_input_message, is_joined, joined_messages, row_view}
+use Rattle.po_compile.proofs.Prelude.{ap, append_assoc, at_drop_more, drop, filter, has_no_key, in_input_message, is_joined, joined_messages, list_any, map, nat_lt, row_view, sym, ◌++◌, ◌+◌, ◌||◌, ◌∙◌, ◌∷◌, ◌≡◌}
 use Rattle.po_compile.proofs.LiveMessages.{any_counted}
 use Rattle.po_compile.proofs.rows.joined_rows.Goals.{then-headed, else-headed}
 use Rattle.po_compile.proofs.rows.joined_rows.Goals as goal

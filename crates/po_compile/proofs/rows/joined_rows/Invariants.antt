@@ -1,5 +1,4 @@
-use Rattle.std.proofs.Common.{◌≡◌, ◌++◌, drop, map}
-use Rattle.po_compile.specs.Internal.{all_messages, joined_messages, row_view}
+use Rattle.po_compile.proofs.Prelude.{all_messages, drop, joined_messages, map, row_view, ◌++◌, ◌≡◌}
 use Rattle.po_compile.proofs.rows.joined_rows.Given as goal
 
 abbrev pub invariant-loop-input : goal.invariant-loop-input

@@ -1,8 +1,4 @@
-use Rattle.std.proofs.Common.{rules}
-use Rattle.std.specs.Ordering.{is_lt}
-use Rattle.std.proofs.lemmas.List.Sorted.{answers_always}
-use Rattle.mo_file.specs.Prelude.{key_cmp}
-use Rattle.po_compile.specs.Internal.{row_key}
+use Rattle.po_compile.proofs.Prelude.{answers_always, is_lt, key_cmp, row_key, rules}
 use Rattle.po_compile.proofs.KeysApart.{rising_answered}
 use Rattle.po_compile.proofs.sorting.are_rising.Goals as goal
 

@@ -1,6 +1,5 @@
-use Rattle.std.proofs.Common.{rules}
+use Rattle.po_compile.proofs.Prelude.{HasOneHeader, rules}
 use Rattle.std.proofs.lemmas.Iterator.{YieldsList-from_slice, cases_from_all}
-use Rattle.po_compile.specs.Internal.{HasOneHeader}
 use Rattle.po_compile.proofs.KeysApart.{headers_counted}
 use Rattle.po_compile.proofs.sorting.have_one_header.Goals as goal
 

@@ -1,10 +1,4 @@
-use Rattle.std.proofs.Common.{rules}
-use Rattle.std.specs.Ordering.{is_lt}
-use Rattle.std.proofs.lemmas.Cmp.{nat_list_cmp_total, on_total}
-use Rattle.std.proofs.lemmas.List.Sorted.{answers_always, ranks_by}
-use Rattle.mo_file.specs.Prelude.{key_cmp}
-use Rattle.po_compile.specs.declared.row.Row.{Row}
-use Rattle.po_compile.specs.Internal.{row_key}
+use Rattle.po_compile.proofs.Prelude.{Row, answers_always, is_lt, key_cmp, nat_list_cmp_total, on_total, ranks_by, row_key, rules}
 use Rattle.po_compile.proofs.sorting.sort_rows.Goals as goal
 
 pub returns-clause-sorted : goal.returns-clause-sorted

@@ -1,5 +1,4 @@
-use Rattle.std.proofs.Common.{map}
-use Rattle.po_compile.specs.Internal.{row_key}
+use Rattle.po_compile.proofs.Prelude.{map, row_key}
 use Rattle.po_compile.proofs.KeysApart.{all_apart, inputs_apart, one_header_each, rising_apart, rising_from_sorted, sorted_all, sorted_apart}
 use Rattle.po_compile.proofs.sorting.sorted_rows.Goals.{else-are_rising-via-then-are_rising+else-have_one_header, else-are_rising-via-else-are_rising}
 use Rattle.po_compile.proofs.sorting.sorted_rows.Goals as goal

@@ -1,5 +1,4 @@
-use Rattle.std.proofs.Common.{◌≡◌, length}
-use Rattle.po_entry.specs.Prelude.{after_charset}
+use Rattle.po_entry.proofs.Prelude.{after_charset, length, ◌≡◌}
 use Rattle.po_entry.proofs.charset.after_charset.Given as goal
 
 abbrev pub invariant-loop-next : goal.invariant-loop-next

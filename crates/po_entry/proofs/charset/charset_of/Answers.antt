@@ -1,4 +1,4 @@
-use Rattle.po_entry.specs.Prelude.{ends_name}
+use Rattle.po_entry.proofs.Prelude.{ends_name}
 use Rattle.po_entry.proofs.Headers.{before_found, before_none}
 use Rattle.po_entry.proofs.charset.charset_of.Goals as goal
 

@@ -1,5 +1,4 @@
-use Rattle.std.proofs.Common.{[], ◌∷◌, map, codes}
-use Rattle.std.specs.Char.{to_ascii_lowercase}
+use Rattle.po_entry.proofs.Prelude.{[], codes, map, to_ascii_lowercase, ◌∷◌}
 use Rattle.po_entry.proofs.Headers.{one_more_name, no_name}
 use Rattle.po_entry.proofs.charset.is_admitted_name.Goals as goal
 

@@ -1,7 +1,5 @@
-use Rattle.std.proofs.Common.{◌∙◌, ap, inr, length, map, subst, sym}
-use Rattle.std.specs.Prelude.{MatchOption, filter}
-use Rattle.std.proofs.lemmas.List.{length-map}
-use Rattle.po_entry.specs.Prelude.{AllDiffer, HasNoDuplicate, RepeatsOnLines, number_in, place_of, in_input, is_live}
+use Rattle.po_entry.proofs.Prelude.{AllDiffer, HasNoDuplicate, MatchOption, RepeatsOnLines, ap, in_input, inr, is_live, length, length-map, map, number_in, place_of, subst, sym, ◌∙◌}
+use Rattle.std.specs.Prelude.{filter}
 use Rattle.po_entry.proofs.DuplicateLemmas.{distinct_has_no_first, entries_of_input}
 use Rattle.po_entry.proofs.NumberLemmas.{are_numbered, repeats_of}
 use Rattle.po_entry.proofs.duplicate.check_duplicates.Goals as goal

@@ -1,5 +1,4 @@
-use Rattle.std.proofs.Common.{◌∙◌, ap, take}
-use Rattle.po_entry.specs.Prelude.{own_at}
+use Rattle.po_entry.proofs.Prelude.{ap, own_at, take, ◌∙◌}
 use Rattle.po_entry.proofs.OwnTexts.{key_cut}
 use Rattle.po_entry.proofs.entry_ref.key.Goals as goal
 

@@ -1,5 +1,4 @@
-use Rattle.std.proofs.Common.{◌∙◌, ◌+◌, ◌++◌, sym, ap, length, take, arith}
-use Rattle.po_entry.specs.Prelude.{optional_bytes, own_at, plural_in, split_forms, texts_after}
+use Rattle.po_entry.proofs.Prelude.{ap, arith, length, optional_bytes, own_at, plural_in, split_forms, sym, take, texts_after, ◌++◌, ◌+◌, ◌∙◌}
 use Rattle.po_entry.proofs.OwnTexts.{key_alone, key_cut, plural_cut}
 use Rattle.po_entry.proofs.entry_ref.original.Goals as goal
 

@@ -1,5 +1,4 @@
-use Rattle.std.proofs.Common.{◌≡◌, ◌+◌, ◌-◌, ℕ, suc, [], List, slice_index_or, sym, ap, ◌∙◌, arith}
-use Rattle.po_entry.specs.Prelude.{texts_in}
+use Rattle.po_entry.proofs.Prelude.{List, [], ap, arith, slice_index_or, suc, sym, texts_in, ℕ, ◌+◌, ◌-◌, ◌∙◌, ◌≡◌}
 use Rattle.po_entry.proofs.entry_ref.part.Goals as goal
 
 abbrev at : List (List ℕ) → ℕ → List ℕ

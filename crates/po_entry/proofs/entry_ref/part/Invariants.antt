@@ -1,5 +1,4 @@
-use Rattle.std.proofs.Common.{◌≡◌, ◌+◌, ℕ, [], slice_index_or}
-use Rattle.po_entry.specs.Prelude.{texts_in}
+use Rattle.po_entry.proofs.Prelude.{[], slice_index_or, texts_in, ℕ, ◌+◌, ◌≡◌}
 use Rattle.po_entry.proofs.entry_ref.part.Given as goal
 
 abbrev pub invariant-loop : goal.invariant-loop

@@ -1,5 +1,4 @@
-use Rattle.std.proofs.Common.{◌∙◌, ap, refl, sym}
-use Rattle.po_entry.specs.Prelude.{own_at, split_forms}
+use Rattle.po_entry.proofs.Prelude.{ap, own_at, refl, split_forms, sym, ◌∙◌}
 use Rattle.po_entry.proofs.OwnTexts.{forms_alone, forms_cut}
 use Rattle.po_entry.proofs.entry_ref.translation.Goals as goal
 

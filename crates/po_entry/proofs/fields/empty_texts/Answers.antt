@@ -1,5 +1,4 @@
-use Rattle.std.proofs.Common.{◌≡◌, [], arith, ◌<◌, length}
-use Rattle.std.proofs.lemmas.List.{take_all}
+use Rattle.po_entry.proofs.Prelude.{[], arith, length, take_all, ◌<◌, ◌≡◌}
 use Rattle.po_entry.proofs.Lists.{all_empty, All-written}
 use Rattle.po_entry.proofs.fields.empty_texts.Goals as goal
 

@@ -1,5 +1,4 @@
-use Rattle.std.proofs.Common.{◌≡◌, [], take}
-use Rattle.std.specs.Prelude.{All}
+use Rattle.po_entry.proofs.Prelude.{All, [], take, ◌≡◌}
 use Rattle.po_entry.proofs.fields.empty_texts.Given as goal
 
 abbrev pub invariant-loop-text : goal.invariant-loop-text

@@ -1,6 +1,4 @@
-use Rattle.std.proofs.Common.{◌↔◌, IsTrue, nat_lt, rules, subst}
-use Rattle.std.specs.List.Sorted.{IsStrictlyIncreasing}
-use Rattle.std.proofs.lemmas.List.Sorted.{answers_always}
+use Rattle.po_entry.proofs.Prelude.{IsStrictlyIncreasing, IsTrue, answers_always, nat_lt, rules, subst, ◌↔◌}
 use Rattle.po_entry.proofs.HashLemmas.{differ_from_rising, rising_answered, rising_from_differ}
 use Rattle.po_entry.proofs.hashes.all_differ.Goals as goal
 

@@ -1,6 +1,4 @@
-use Rattle.std.proofs.Common.{ap}
-use Rattle.std.specs.Hash.DefaultHasher.{finish, initial, write}
-use Rattle.po_entry.specs.Prelude.{message_hash}
+use Rattle.po_entry.proofs.Prelude.{ap, finish, initial, message_hash, write}
 use Rattle.po_entry.proofs.hashes.message_hash.Goals as goal
 
 pub returns : goal.returns

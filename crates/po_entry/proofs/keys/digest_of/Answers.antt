@@ -1,6 +1,4 @@
-use Rattle.std.proofs.Common.{◌+◌, ◌<◌, ◌∙◌, ◌∷◌, ◌++◌, [], arith, ap, length, sym, take}
-use Rattle.std.proofs.lemmas.List.{take_more}
-use Rattle.po_entry.specs.Prelude.{key_bytes, key_writes}
+use Rattle.po_entry.proofs.Prelude.{[], ap, arith, key_bytes, key_writes, length, sym, take, take_more, ◌++◌, ◌+◌, ◌<◌, ◌∙◌, ◌∷◌}
 use Rattle.po_entry.proofs.Digests.{digest_more}
 use Rattle.po_entry.proofs.keys.digest_of.Goals as goal
 

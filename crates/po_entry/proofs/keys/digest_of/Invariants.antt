@@ -1,5 +1,4 @@
-use Rattle.std.proofs.Common.{◌≡◌, take}
-use Rattle.po_entry.specs.Prelude.{digest_of, keys_writes}
+use Rattle.po_entry.proofs.Prelude.{digest_of, keys_writes, take, ◌≡◌}
 use Rattle.po_entry.proofs.keys.digest_of.Given as goal
 
 -- the keys so far are digested

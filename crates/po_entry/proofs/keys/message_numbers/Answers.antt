@@ -1,5 +1,4 @@
-use Rattle.std.proofs.Common.{◌<◌, ◌≤◌, ◌∙◌, arith, length, subst, sym}
-use Rattle.std.proofs.lemmas.List.{take_all}
+use Rattle.po_entry.proofs.Prelude.{arith, length, subst, sym, take_all, ◌<◌, ◌∙◌, ◌≤◌}
 use Rattle.po_entry.proofs.KeyLemmas.{AreSeen, all_counted, all_numbered, seen_more}
 use Rattle.po_entry.proofs.keys.message_numbers.Goals as goal
 

@@ -1,4 +1,4 @@
-use Rattle.std.proofs.Common.{take}
+use Rattle.po_entry.proofs.Prelude.{take}
 use Rattle.po_entry.proofs.KeyLemmas.{AreSeen}
 use Rattle.po_entry.proofs.keys.message_numbers.Given as goal
 

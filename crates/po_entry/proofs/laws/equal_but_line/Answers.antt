@@ -1,4 +1,4 @@
-use Rattle.po_entry.specs.Facts.EqualityLaws.{entry_decide}
+use Rattle.po_entry.proofs.Prelude.{entry_decide}
 use Rattle.po_entry.proofs.laws.equal_but_line.Goals as goal
 
 pub returns : goal.returns

@@ -1,4 +1,4 @@
-use Rattle.po_entry.specs.Prelude.{same_message}
+use Rattle.po_entry.proofs.Prelude.{same_message}
 use Rattle.po_entry.proofs.FirstOnes.{number_at}
 use Rattle.po_entry.proofs.MessageIndex.{same_message_laws}
 use Rattle.po_entry.proofs.laws.messages_are_numbered_in_order.Goals as goal

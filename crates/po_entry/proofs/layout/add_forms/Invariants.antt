@@ -1,6 +1,4 @@
-use Rattle.std.proofs.Common.{◌≡◌, ◌++◌, take}
-use Rattle.std.specs.List.{flat_map}
-use Rattle.po_entry.specs.Prelude.{Grows, after_nul, texts}
+use Rattle.po_entry.proofs.Prelude.{Grows, after_nul, flat_map, take, texts, ◌++◌, ◌≡◌}
 use Rattle.po_entry.proofs.layout.add_forms.Given as goal
 
 abbrev pub invariant-loop-form : goal.invariant-loop-form

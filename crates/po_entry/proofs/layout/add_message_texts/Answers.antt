@@ -1,5 +1,5 @@
-use Rattle.std.proofs.Common.{◌++◌, ◌∙◌, ap, sym, option_copied}
-use Rattle.po_entry.specs.Prelude.{split_forms}
+use Rattle.po_entry.proofs.Prelude.{ap, split_forms, sym, ◌++◌, ◌∙◌}
+use Rattle.std.proofs.Common.{option_copied}
 use Rattle.po_entry.proofs.OwnTexts.{forms_laid, own_laid}
 use Rattle.po_entry.proofs.layout.add_message_texts.Goals as goal
 

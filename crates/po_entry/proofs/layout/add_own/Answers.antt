@@ -1,6 +1,4 @@
-use Rattle.std.proofs.Common.{◌≡◌, ◌++◌, rules}
-use Rattle.std.specs.List.{flat_map}
-use Rattle.po_entry.specs.Prelude.{entry_view, after_nul, key_bytes, optional_bytes}
+use Rattle.po_entry.proofs.Prelude.{after_nul, entry_view, flat_map, key_bytes, optional_bytes, rules, ◌++◌, ◌≡◌}
 use Rattle.po_entry.proofs.OwnTexts.{own_laid}
 use Rattle.po_entry.proofs.layout.add_own.Goals as goal
 

@@ -1,9 +1,4 @@
-use Rattle.std.proofs.Common.{◌≡◌, ℕ, ◌+◌, ◌<◌, ◌≤◌, ◌++◌, ◌∷◌, [], ◌∙◌, ap, ap₂, arith, length, not, subst, sym, take, Bool}
-use Rattle.std.specs.Prelude.{All}
-use Rattle.std.proofs.lemmas.List.{map-append, take_all, take_more}
-use Rattle.std.proofs.lemmas.List.Elements.{All-push}
-use Rattle.po_entry.specs.Prelude.{TextEntry, IsCatalogueEntry, is_live, are_placed, place_of}
-use Rattle.po_entry.specs.declared.repeats.EntryPlace.{EntryPlace}
+use Rattle.po_entry.proofs.Prelude.{All, All-push, Bool, EntryPlace, IsCatalogueEntry, TextEntry, [], ap, ap₂, are_placed, arith, is_live, length, map-append, not, place_of, subst, sym, take, take_all, take_more, ℕ, ◌++◌, ◌+◌, ◌<◌, ◌∙◌, ◌∷◌, ◌≡◌, ◌≤◌}
 use Rattle.po_entry.proofs.places.places_of.Goals as goal
 
 abbrev place : ℕ → Bool → EntryPlace

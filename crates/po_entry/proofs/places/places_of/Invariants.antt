@@ -1,6 +1,4 @@
-use Rattle.std.proofs.Common.{◌≡◌, take}
-use Rattle.std.specs.Prelude.{All}
-use Rattle.po_entry.specs.Prelude.{IsCatalogueEntry, is_live, are_placed}
+use Rattle.po_entry.proofs.Prelude.{All, IsCatalogueEntry, are_placed, is_live, take, ◌≡◌}
 use Rattle.po_entry.proofs.places.places_of.Given as goal
 
 -- where the entries so far stand

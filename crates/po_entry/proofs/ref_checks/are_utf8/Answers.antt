@@ -1,8 +1,4 @@
-use Rattle.std.proofs.Common.{sym, ◌∙◌, subst, IsUtf8}
-use Rattle.std.specs.Prelude.{All}
-use Rattle.std.proofs.lemmas.Bool.{false≢true}
-use Rattle.std.proofs.lemmas.List.Elements.{All-cons, All-head, All-tail}
-use Rattle.po_entry.specs.Prelude.{forms_left}
+use Rattle.po_entry.proofs.Prelude.{All, All-cons, All-head, All-tail, IsUtf8, false≢true, forms_left, subst, sym, ◌∙◌}
 use Rattle.po_entry.proofs.ref_checks.are_utf8.Goals as goal
 
 pub loop-form-init : goal.loop-form-init

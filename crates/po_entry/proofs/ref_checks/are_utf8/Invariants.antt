@@ -1,5 +1,5 @@
-use Rattle.std.specs.Prelude.{All, IsUtf8}
-use Rattle.po_entry.specs.Prelude.{forms_left}
+use Rattle.po_entry.proofs.Prelude.{All, forms_left}
+use Rattle.std.specs.Prelude.{IsUtf8}
 use Rattle.po_entry.proofs.ref_checks.are_utf8.Given as goal
 
 abbrev pub invariant-loop-form : goal.invariant-loop-form

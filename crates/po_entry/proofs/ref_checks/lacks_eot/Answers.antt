@@ -1,4 +1,4 @@
-use Rattle.po_entry.specs.Prelude.{Lacks}
+use Rattle.po_entry.proofs.Prelude.{Lacks}
 use Rattle.po_entry.proofs.Checks.{of_option, on_option, two}
 use Rattle.po_entry.proofs.ref_checks.lacks_eot.Goals as goal
 

@@ -1,6 +1,4 @@
-use Rattle.std.proofs.Common.{◌≡◌, ◌+◌, ◌<◌, ℕ, get_or, true}
-use Rattle.po_entry.specs.Prelude.{is_looked_at, AreUpTo, DifferUpTo}
-use Rattle.po_entry.specs.declared.repeats.EntryPlace.{EntryPlace}
+use Rattle.po_entry.proofs.Prelude.{AreUpTo, DifferUpTo, EntryPlace, get_or, is_looked_at, true, ℕ, ◌+◌, ◌<◌, ◌≡◌}
 use Rattle.po_entry.proofs.repeats.first_repeat.Given as goal
 
 -- the live entries so far differ, and the table has their indexes and no others of this list

@@ -1,4 +1,4 @@
-use Rattle.std.proofs.Common.{◌≡◌, ◌+◌, ◌-◌, ℕ, get_or, length}
+use Rattle.po_entry.proofs.Prelude.{get_or, length, ℕ, ◌+◌, ◌-◌, ◌≡◌}
 use Rattle.po_entry.proofs.repeats.keep_index.Given as goal
 
 -- each number has the index that it had

@@ -1,8 +1,4 @@
-use Rattle.std.proofs.Common.{◌≡◌, ◌<◌, [], ◌∷◌, List, None, ap, ap₂, arith, false, get_or, length, map, refl, subst}
-use Rattle.std.specs.Prelude.{MatchOption}
-use Rattle.std.proofs.lemmas.List.{get_or_default}
-use Rattle.po_entry.specs.Prelude.{TextEntry, plain_entry, is_looked_at, DifferUpTo, RepeatsAt}
-use Rattle.po_entry.specs.declared.repeats.EntryPlace.{EntryPlace}
+use Rattle.po_entry.proofs.Prelude.{DifferUpTo, EntryPlace, List, MatchOption, None, RepeatsAt, TextEntry, [], ap, ap₂, arith, false, get_or, get_or_default, is_looked_at, length, map, plain_entry, refl, subst, ◌<◌, ◌∷◌, ◌≡◌}
 use Rattle.po_entry.proofs.NumberLemmas.{as_many, first_twice, none_twice, place_at}
 use Rattle.po_entry.proofs.repeats.repeated_lines.Goals as goal
 

@@ -1,4 +1,4 @@
-use Rattle.std.proofs.Common.{◌≡◌, ◌++◌, map}
+use Rattle.po_entry.proofs.Prelude.{map, ◌++◌, ◌≡◌}
 use Rattle.po_entry.proofs.SeenTextLemmas.{bytes_of}
 use Rattle.po_entry.proofs.seen_texts.list_of.Given as goal
 

@@ -1,6 +1,5 @@
-use Rattle.std.proofs.Common.{◌≡◌, ◌+◌, ◌≤◌, ◌++◌, map, take, length}
+use Rattle.po_entry.proofs.Prelude.{length, map, moved, take, ◌++◌, ◌+◌, ◌≡◌, ◌≤◌}
 use Rattle.std.specs.Vec.{vec_capacity, vec_len}
-use Rattle.po_entry.specs.Prelude.{moved}
 use Rattle.po_entry.proofs.store.add_rows.Given as goal
 
 abbrev pub invariant-loop-row : goal.invariant-loop-row

@@ -1,5 +1,4 @@
-use Rattle.std.proofs.Common.{◌∙◌, refl}
-use Rattle.std.proofs.lemmas.List.{drop_min, take_min}
+use Rattle.po_entry.proofs.Prelude.{drop_min, refl, take_min, ◌∙◌}
 use Rattle.po_entry.proofs.TextListLemmas.{texts_first}
 use Rattle.po_entry.proofs.text_list.first_text.Goals as goal
 

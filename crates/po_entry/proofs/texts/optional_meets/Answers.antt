@@ -1,4 +1,4 @@
-use Rattle.po_entry.specs.Prelude.{Meets}
+use Rattle.po_entry.proofs.Prelude.{Meets}
 use Rattle.po_entry.proofs.Checks.{of_one}
 use Rattle.po_entry.proofs.texts.optional_meets.Goals as goal
 

@@ -1,7 +1,4 @@
-use Rattle.std.proofs.Common.{◌≡◌, ◌∙◌, ◌++◌, ◌∷◌, ◌-◌, [], ℕ, List, ap, ap₂, append_assoc, length, refl}
-use Rattle.po_entry.specs.Prelude.{head_bytes, own_bytes, row_of, TextEntry}
-use Rattle.po_entry.specs.declared.row.Row.{Row}
-use Rattle.po_reader.specs.Internal.ReaderView.{with_kept_head}
+use Rattle.po_reader.proofs.Prelude.{List, Row, TextEntry, [], ap, append_assoc, ap₂, head_bytes, length, own_bytes, refl, row_of, with_kept_head, ℕ, ◌++◌, ◌-◌, ◌∙◌, ◌∷◌, ◌≡◌}
 use Rattle.po_reader.proofs.Laid.{part_len}
 use Rattle.po_reader.proofs.body.take_body.Goals as goal
 

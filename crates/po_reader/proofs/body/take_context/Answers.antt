@@ -1,7 +1,4 @@
-use Rattle.std.proofs.Common.{◌∙◌, ◌++◌, ◌∷◌, [], List, ℕ, Some, ap, append_assoc}
-use Rattle.po_syntax.specs.declared.item.Keyword.TheVariants.{MsgCtxt}
-use Rattle.po_reader.specs.Internal.Stage.{with_own, no_lines}
-use Rattle.po_syntax.proofs.Results.{passed_on}
+use Rattle.po_reader.proofs.Prelude.{List, MsgCtxt, Some, [], ap, append_assoc, no_lines, passed_on, with_own, ℕ, ◌++◌, ◌∙◌, ◌∷◌}
 use Rattle.po_reader.proofs.Turns.{fails_from, context_begins}
 use Rattle.po_reader.proofs.body.take_context.Goals as goal
 

@@ -1,6 +1,4 @@
-use Rattle.std.proofs.Common.{sym, ◌∙◌, ◌++◌, ◌∷◌, [], arith}
-use Rattle.po_reader.specs.Internal.Stage.{with_forms}
-use Rattle.po_syntax.proofs.Results.{passed_on}
+use Rattle.po_reader.proofs.Prelude.{[], arith, passed_on, sym, with_forms, ◌++◌, ◌∙◌, ◌∷◌}
 use Rattle.po_reader.proofs.Laid.{form_laid}
 use Rattle.po_reader.proofs.Turns.{fails_from, form_follows, form_wanted, forms_end}
 use Rattle.po_reader.proofs.body.take_forms.Goals as goal

@@ -1,8 +1,4 @@
-use Rattle.std.proofs.Common.{◌≡◌, [], ◌++◌, ◌+◌, ◌≤◌, ℕ, List, length}
-use Rattle.std.specs.List.{flat_map}
-use Rattle.po_entry.specs.Prelude.{after_nul}
-use Rattle.po_reader.specs.Internal.Stage.{SoFar, Between, Before, Form, with_forms}
-use Rattle.po_reader.specs.Internal.Reads.{comes}
+use Rattle.po_reader.proofs.Prelude.{Before, Between, Form, List, SoFar, [], after_nul, comes, flat_map, length, with_forms, ℕ, ◌++◌, ◌+◌, ◌≡◌, ◌≤◌}
 use Rattle.po_reader.proofs.body.take_forms.Given as goal
 
 abbrev pub invariant-loop-rest : goal.invariant-loop-rest

@@ -1,9 +1,4 @@
-use Rattle.std.proofs.Common.{◌∙◌, ap, sym}
-use Rattle.po_entry.specs.Spelling.{own_marks}
-use Rattle.po_reader.specs.Internal.Stage.{Before, Between, with_own}
-use Rattle.po_reader.specs.Internal.Turn.{with_keyword}
-use Rattle.po_reader.specs.Internal.ReaderView.{wanted_view}
-use Rattle.po_syntax.proofs.Results.{passed_on}
+use Rattle.po_reader.proofs.Prelude.{Before, Between, ap, own_marks, passed_on, sym, wanted_view, with_keyword, with_own, ◌∙◌}
 use Rattle.po_reader.proofs.Turns.{fails_from, first_refused, no_keyword, taken}
 use Rattle.po_reader.proofs.body.take_keyword_text.Goals as goal
 

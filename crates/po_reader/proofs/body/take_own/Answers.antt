@@ -1,9 +1,4 @@
-use Rattle.std.proofs.Common.{◌∙◌, ◌-◌, ap₂, refl, length}
-use Rattle.po_syntax.specs.declared.item.Keyword.TheVariants.{MsgId}
-use Rattle.po_entry.specs.Prelude.{TextEntry}
-use Rattle.po_reader.specs.Internal.Stage.{with_own, with_context, with_text, no_lines}
-use Rattle.po_reader.specs.Internal.Turn.{with_keyword}
-use Rattle.po_syntax.proofs.Results.{passed_on}
+use Rattle.po_reader.proofs.Prelude.{MsgId, TextEntry, ap₂, length, no_lines, passed_on, refl, with_context, with_keyword, with_own, with_text, ◌-◌, ◌∙◌}
 use Rattle.po_reader.proofs.Laid.{context_len, key_laid, own_laid, part_len}
 use Rattle.po_reader.proofs.Turns.{fails_from, id_wanted}
 use Rattle.po_reader.proofs.body.take_own.Goals as goal

@@ -1,7 +1,4 @@
-use Rattle.std.proofs.Common.{◌∙◌, ◌∷◌, [], None, Some, refl}
-use Rattle.po_syntax.specs.declared.item.Keyword.TheVariants.{MsgIdPlural}
-use Rattle.po_reader.specs.Internal.Stage.{with_own, with_text}
-use Rattle.po_syntax.proofs.Results.{passed_on}
+use Rattle.po_reader.proofs.Prelude.{MsgIdPlural, None, Some, [], passed_on, refl, with_own, with_text, ◌∙◌, ◌∷◌}
 use Rattle.po_reader.proofs.Laid.{only_form_laid, plural_laid}
 use Rattle.po_reader.proofs.Turns.{fails_from, single_wanted}
 use Rattle.po_reader.proofs.body.take_translation.Goals as goal

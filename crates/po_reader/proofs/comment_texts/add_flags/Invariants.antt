@@ -1,5 +1,4 @@
-use Rattle.std.proofs.Common.{◌≡◌, fold, length}
-use Rattle.po_entry.specs.Prelude.{listed_flags, with_flag}
+use Rattle.po_reader.proofs.Prelude.{fold, length, listed_flags, with_flag, ◌≡◌}
 use Rattle.po_reader.proofs.comment_texts.add_flags.Given as goal
 
 abbrev pub invariant-loop-seen : goal.invariant-loop-seen

@@ -1,5 +1,4 @@
-use Rattle.std.proofs.Common.{◌≡◌, ◌++◌, length}
-use Rattle.po_entry.specs.Prelude.{listed_references}
+use Rattle.po_reader.proofs.Prelude.{length, listed_references, ◌++◌, ◌≡◌}
 use Rattle.po_reader.proofs.comment_texts.add_references.Given as goal
 
 abbrev pub invariant-loop-list : goal.invariant-loop-list

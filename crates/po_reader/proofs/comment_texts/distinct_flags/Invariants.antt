@@ -1,6 +1,4 @@
-use Rattle.std.proofs.Common.{◌≡◌, [], drop, fold}
-use Rattle.std.specs.List.{flat_map}
-use Rattle.po_entry.specs.Prelude.{listed_flags, with_flag, slice_texts}
+use Rattle.po_reader.proofs.Prelude.{[], drop, flat_map, fold, listed_flags, slice_texts, with_flag, ◌≡◌}
 use Rattle.po_reader.proofs.comment_texts.distinct_flags.Given as goal
 
 -- the flags that were seen, with those of the texts that are left

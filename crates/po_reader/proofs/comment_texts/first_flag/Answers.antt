@@ -1,4 +1,4 @@
-use Rattle.std.proofs.Common.{◌==◌}
+use Rattle.po_reader.proofs.Prelude.{◌==◌}
 use Rattle.po_reader.proofs.SeenFlags.{first_flags}
 use Rattle.po_reader.proofs.comment_texts.first_flag.Goals as goal
 

@@ -1,6 +1,4 @@
-use Rattle.std.proofs.Common.{◌≡◌, length}
-use Rattle.std.specs.List.{list_any}
-use Rattle.po_entry.specs.Prelude.{is_fuzzy_flag, listed_flags}
+use Rattle.po_reader.proofs.Prelude.{is_fuzzy_flag, length, list_any, listed_flags, ◌≡◌}
 use Rattle.po_reader.proofs.comment_texts.has_fuzzy.Given as goal
 
 -- the flags before the rest aren't `fuzzy`

@@ -1,5 +1,4 @@
-use Rattle.std.proofs.Common.{◌≡◌, take}
-use Rattle.po_entry.specs.Prelude.{digest_of, slice_texts}
+use Rattle.po_reader.proofs.Prelude.{digest_of, slice_texts, take, ◌≡◌}
 use Rattle.po_reader.proofs.comment_texts.seeded_by.Given as goal
 
 -- the texts so far are digested

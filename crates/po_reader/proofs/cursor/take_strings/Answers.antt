@@ -1,7 +1,4 @@
-use Rattle.std.proofs.Common.{◌≡◌, ◌++◌, true, false, rules, sym, ap, refl, ◌∙◌, List, ℕ, append_assoc}
-use Rattle.po_reader.specs.Internal.Stage.{Fault, In}
-use Rattle.po_reader.specs.Internal.Turn.{begins_string}
-use Rattle.po_reader.specs.Internal.Reads.{line_at}
+use Rattle.po_reader.proofs.Prelude.{Fault, In, List, ap, append_assoc, begins_string, false, line_at, refl, rules, sym, true, ℕ, ◌++◌, ◌∙◌, ◌≡◌}
 use Rattle.po_reader.proofs.Turns.{fails_from, first_refused, no_string, out_of_order, taken, text_ends}
 use Rattle.po_reader.proofs.cursor.take_strings.Goals as goal
 

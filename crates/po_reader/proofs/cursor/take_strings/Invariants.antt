@@ -1,8 +1,4 @@
-use Rattle.std.proofs.Common.{◌≡◌, Bool, true, false, [], ◌≤◌, ◌++◌, ℕ, List, length}
-use Rattle.po_syntax.specs.declared.item.Keyword.{Keyword}
-use Rattle.po_reader.specs.Internal.Stage.{SoFar, In}
-use Rattle.po_reader.specs.Internal.Turn.{begins_string}
-use Rattle.po_reader.specs.Internal.Reads.{comes}
+use Rattle.po_reader.proofs.Prelude.{Bool, In, Keyword, List, SoFar, [], begins_string, comes, false, length, true, ℕ, ◌++◌, ◌≡◌, ◌≤◌}
 use Rattle.po_reader.proofs.cursor.take_strings.Given as goal
 
 abbrev pub invariant-loop-bytes : goal.invariant-loop-bytes

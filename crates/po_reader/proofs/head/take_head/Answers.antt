@@ -1,9 +1,4 @@
-use Rattle.std.proofs.Common.{refl, sym, ap, ◌++◌, ◌∷◌, [], ◌∙◌, false, arith}
-use Rattle.std.proofs.lemmas.Bool.{le-ltb, lt-ltb}
-use Rattle.po_entry.specs.Prelude.{CommentText, PreviousText}
-use Rattle.po_reader.specs.Internal.Stage.{after_head, Between, In, InHead}
-use Rattle.po_reader.specs.Internal.Reads.{comes}
-use Rattle.po_syntax.proofs.Results.{passed_on}
+use Rattle.po_reader.proofs.Prelude.{Between, CommentText, In, InHead, PreviousText, [], after_head, ap, arith, comes, false, le-ltb, lt-ltb, passed_on, refl, sym, ◌++◌, ◌∙◌, ◌∷◌}
 use Rattle.po_reader.proofs.Heads.{holds_previous}
 use Rattle.po_reader.proofs.Turns.{fails_from, first_refused, head_refused, none_ends, out_of_order, own_ends, previous_closed, taken}
 use Rattle.po_reader.proofs.head.take_head.Goals as goal

@@ -1,8 +1,4 @@
-use Rattle.std.proofs.Common.{◌≡◌, List, [], ◌≤◌, length}
-use Rattle.po_entry.specs.Prelude.{CommentText, PreviousText, TextEntry}
-use Rattle.po_reader.specs.Internal.ReaderView.{HoldsHead}
-use Rattle.po_reader.specs.Internal.Stage.{Between, InHead, after_head}
-use Rattle.po_reader.specs.Internal.Reads.{comes, in_head}
+use Rattle.po_reader.proofs.Prelude.{Between, CommentText, HoldsHead, InHead, List, PreviousText, TextEntry, [], after_head, comes, in_head, length, ◌≡◌, ◌≤◌}
 use Rattle.po_reader.proofs.head.take_head.Given as goal
 
 abbrev pub invariant-loop-kind : goal.invariant-loop-kind

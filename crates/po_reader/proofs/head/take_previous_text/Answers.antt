@@ -1,4 +1,4 @@
-use Rattle.std.proofs.Common.{◌≡◌, ◌∙◌, ◌++◌, List, ℕ, ap}
+use Rattle.po_reader.proofs.Prelude.{List, ap, ℕ, ◌++◌, ◌∙◌, ◌≡◌}
 use Rattle.po_reader.proofs.head.take_previous_text.Goals as goal
 
 pub returns-clause-found : goal.returns-clause-found

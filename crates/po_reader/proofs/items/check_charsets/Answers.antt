@@ -1,8 +1,4 @@
-use Rattle.std.proofs.Common.{sym, ◌∙◌, refl}
-use Rattle.std.proofs.lemmas.Bool.{false≢true}
-use Rattle.po_entry.specs.Faults.{foreign}
-use Rattle.po_entry.specs.Faults.EntriesStop.{here, later}
-use Rattle.po_entry.specs.Prelude.{HasAdmittedCharset}
+use Rattle.po_reader.proofs.Prelude.{HasAdmittedCharset, false≢true, foreign, here, later, refl, sym, ◌∙◌}
 use Rattle.po_reader.proofs.Loops.{asked_all, asked_more, rest_here}
 use Rattle.po_reader.proofs.items.check_charsets.Goals as goal
 

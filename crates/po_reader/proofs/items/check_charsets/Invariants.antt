@@ -1,7 +1,4 @@
-use Rattle.std.proofs.Common.{ℕ, drop, take, map}
-use Rattle.std.specs.Prelude.{All}
-use Rattle.po_syntax.specs.declared.fault.PoFault.{PoFault}
-use Rattle.po_entry.specs.Prelude.{entry_at, entries_in, CharsetFault, EntriesStop, HasAdmittedCharset}
+use Rattle.po_reader.proofs.Prelude.{All, CharsetFault, EntriesStop, HasAdmittedCharset, PoFault, drop, entries_in, entry_at, map, take, ℕ}
 use Rattle.po_reader.proofs.items.check_charsets.Given as goal
 
 abbrev pub invariant-loop-row : goal.invariant-loop-row

@@ -1,6 +1,5 @@
-use Rattle.std.proofs.Common.{inl, inr}
+use Rattle.po_reader.proofs.Prelude.{inl, inr, passed_on}
 use Rattle.std.proofs.lemmas.Result.{IfErr-weaker}
-use Rattle.po_syntax.proofs.Results.{passed_on}
 use Rattle.po_reader.proofs.Results.{on_ok_always}
 use Rattle.po_reader.proofs.Texts.{texts_reported}
 use Rattle.po_reader.proofs.items.check_drafts.Goals as goal

@@ -1,7 +1,5 @@
-use Rattle.std.proofs.Common.{All, IsUtf8, refl}
-use Rattle.po_entry.specs.Prelude.{Lacks, quoted_texts, HasTexts}
-use Rattle.po_entry.specs.Faults.EntriesStop.{here, later}
-use Rattle.po_entry.proofs.RowLemmas.{entry_here}
+use Rattle.po_reader.proofs.Prelude.{HasTexts, IsUtf8, Lacks, entry_here, here, later, quoted_texts, refl}
+use Rattle.std.proofs.Common.{All}
 use Rattle.po_reader.proofs.Loops.{asked_all, asked_more, no_row, rest_here}
 use Rattle.po_reader.proofs.items.check_texts.Goals as goal
 

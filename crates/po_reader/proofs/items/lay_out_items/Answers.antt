@@ -1,15 +1,5 @@
-use Rattle.std.proofs.Common.{[], ◌∷◌, ◌++◌, ◌∙◌, List, All, ap, sym, subst, map, arith}
-use Rattle.std.proofs.lemmas.List.{length-map, map_push}
-use Rattle.std.proofs.lemmas.List.Elements.{All-head}
-use Rattle.po_syntax.specs.Facts.AllAppend.{All-left, All-right}
-use Rattle.po_syntax.specs.Prelude.{view, views}
-use Rattle.po_entry.specs.Prelude.{TextEntry, Adds, CanLie, with_head}
-use Rattle.po_reader.specs.Prelude.{kept_entry}
-use Rattle.po_reader.specs.Internal.ReaderView.{HoldsHead}
-use Rattle.po_reader.specs.Internal.Stage.{after_head}
-use Rattle.po_reader.specs.Internal.Turn.{Reached}
-use Rattle.po_syntax.proofs.NoMemory.{IsFaultOf-weaker}
-use Rattle.po_syntax.proofs.Results.{passed_on}
+use Rattle.po_reader.proofs.Prelude.{Adds, All-head, All-left, All-right, CanLie, HoldsHead, IsFaultOf-weaker, List, Reached, TextEntry, [], after_head, ap, arith, kept_entry, length-map, map, map_push, passed_on, subst, sym, view, views, with_head, ◌++◌, ◌∙◌, ◌∷◌}
+use Rattle.std.proofs.Common.{All}
 use Rattle.po_reader.proofs.Heads.{kept_from}
 use Rattle.po_reader.proofs.PieceReading.{fault_on, lead_on}
 use Rattle.po_reader.proofs.Turns.{fails_from, head_over, own_lines_begin}

@@ -1,11 +1,5 @@
-use Rattle.std.proofs.Common.{◌≡◌, List, [], ◌++◌, ◌≤◌, length, map, All}
-use Rattle.po_syntax.specs.Prelude.{TextItem, views}
-use Rattle.po_entry.specs.Prelude.{AreLaid, CanLie, CommentText, TextEntry, entries_in, last_line}
-use Rattle.po_reader.specs.Internal.Keeping.{CanFollow, ReadsUpTo}
-use Rattle.po_reader.specs.Internal.ReaderView.{HoldsHead}
-use Rattle.po_reader.specs.Internal.Reads.{comes, in_head, start}
-use Rattle.po_reader.specs.Internal.Turn.{reached}
-use Rattle.po_reader.specs.Prelude.{kept_entry}
+use Rattle.po_reader.proofs.Prelude.{AreLaid, CanFollow, CanLie, CommentText, HoldsHead, List, ReadsUpTo, TextEntry, TextItem, [], comes, entries_in, in_head, kept_entry, last_line, length, map, reached, start, views, ◌++◌, ◌≡◌, ◌≤◌}
+use Rattle.std.proofs.Common.{All}
 use Rattle.po_reader.proofs.items.lay_out_items.Given as goal
 
 abbrev pub invariant-loop-rest : goal.invariant-loop-rest

@@ -1,7 +1,6 @@
-use Rattle.std.proofs.Common.{[]}
+use Rattle.po_reader.proofs.Prelude.{[], last_line}
 use Rattle.po_reader.proofs.SpeltRuns.{spelt_runs}
 use Rattle.po_reader.proofs.RunsSpelt.{whole_spelt}
-use Rattle.po_entry.specs.Prelude.{last_line}
 use Rattle.po_reader.proofs.laws.entries_are_spelt.Goals as goal
 
 pub returns : goal.returns

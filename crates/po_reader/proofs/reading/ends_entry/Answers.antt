@@ -1,4 +1,4 @@
-use Rattle.std.proofs.Common.{◌-◌, ◌<◌, length, arith}
+use Rattle.po_reader.proofs.Prelude.{arith, length, ◌-◌, ◌<◌}
 use Rattle.po_reader.proofs.Loops.{entry_at_end}
 use Rattle.po_reader.proofs.reading.ends_entry.Goals as goal
 

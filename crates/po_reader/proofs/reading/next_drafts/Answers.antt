@@ -1,8 +1,6 @@
-use Rattle.std.proofs.Common.{inl, arith}
+use Rattle.po_reader.proofs.Prelude.{IsFaultOf-weaker, arith, inl, passed_on}
 use Rattle.po_reader.specs.PieceRead.IsLeftFault.{in_items, in_text}
 use Rattle.po_reader.specs.PieceRead.ReadsPiece.{all, pieces}
-use Rattle.po_syntax.proofs.NoMemory.{IsFaultOf-weaker}
-use Rattle.po_syntax.proofs.Results.{passed_on}
 use Rattle.po_reader.proofs.PieceReading.{faults_over, items_kept, piece_faults, pieces_all, pieces_anew, pieces_end, pieces_shorter, pieces_spelt, pieces_stop}
 use Rattle.po_reader.proofs.reading.next_drafts.Goals as goal
 

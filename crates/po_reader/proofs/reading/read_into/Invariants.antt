@@ -1,6 +1,4 @@
-use Rattle.std.proofs.Common.{◌≡◌, List, ◌++◌, length}
-use Rattle.po_entry.specs.Prelude.{TextEntry}
-use Rattle.po_reader.specs.Prelude.{IsReadSoFar}
+use Rattle.po_reader.proofs.Prelude.{IsReadSoFar, List, TextEntry, length, ◌++◌, ◌≡◌}
 use Rattle.po_reader.proofs.reading.read_into.Given as goal
 
 -- the entries so far are added

@@ -1,13 +1,6 @@
-use Rattle.std.proofs.Common.{◌++◌, [], IsUtf8, ap, map, refl, subst, sym}
-use Rattle.std.proofs.lemmas.List.Elements.{All-append, All-nil}
-use Rattle.std.specs.Prelude.{All}
-use Rattle.po_syntax.specs.Prelude.{HoldsText, OfString, views}
-use Rattle.po_entry.specs.Faults.ItemsStop.{in_items}
-use Rattle.po_entry.specs.Prelude.{entry_at}
+use Rattle.po_reader.proofs.Prelude.{All, All-append, All-nil, HoldsText, IsFaultOf-weaker, IsUtf8, OfString, [], ap, entry_at, in_items, map, passed_on, refl, subst, sym, views, ◌++◌}
 use Rattle.po_entry.specs.Rows.{LiesIn}
 use Rattle.po_reader.specs.PieceRead.OpenPieces.{none, further}
-use Rattle.po_syntax.proofs.NoMemory.{IsFaultOf-weaker}
-use Rattle.po_syntax.proofs.Results.{passed_on}
 use Rattle.po_reader.proofs.PieceReading.{open_follow, open_stops, piece_lessens}
 use Rattle.po_reader.proofs.Results.{found_memory, found_one}
 use Rattle.po_reader.proofs.DraftsRead.{drafts_no_nul, drafts_of, drafts_stop, drafts_utf8}

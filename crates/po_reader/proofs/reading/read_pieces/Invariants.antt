@@ -1,8 +1,4 @@
-use Rattle.std.proofs.Common.{◌≡◌, true, List, IsUtf8, length}
-use Rattle.std.specs.Prelude.{All}
-use Rattle.po_syntax.specs.Prelude.{HoldsText, OfString, TextItem}
-use Rattle.po_reader.specs.Internal.Keeping.{ReadsUpTo}
-use Rattle.po_reader.specs.Prelude.{OpenPieces}
+use Rattle.po_reader.proofs.Prelude.{All, HoldsText, IsUtf8, List, OfString, OpenPieces, ReadsUpTo, TextItem, length, true, ◌≡◌}
 use Rattle.po_reader.proofs.reading.read_pieces.Given as goal
 
 abbrev pub invariant-reading : goal.invariant-reading

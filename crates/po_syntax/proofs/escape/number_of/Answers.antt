@@ -1,9 +1,6 @@
-use Rattle.std.proofs.Common.{◌≡◌, ℕ, ◌+◌, ◌*◌, ◌<◌, ◌≤◌, List, length, take, get_or, sym, arith}
-use Rattle.std.specs.Char.{digit_value}
-use Rattle.std.specs.Str.Parse.{digits_value}
+use Rattle.po_syntax.proofs.Prelude.{List, arith, digit_value, digits_value, get_or, length, sym, take, take_all, ℕ, ◌*◌, ◌+◌, ◌<◌, ◌≡◌, ◌≤◌}
 use Rattle.std.proofs.lemmas.Int.Digits.{digits_value_more}
 use Rattle.std.proofs.lemmas.Str.Parse.{digits_value-take-le}
-use Rattle.std.proofs.lemmas.List.{take_all}
 use Rattle.po_syntax.proofs.escape.number_of.Goals as goal
 
 -- one more digit

@@ -1,5 +1,4 @@
-use Rattle.std.proofs.Common.{◌≡◌, ◌<◌, ◌^◌, take}
-use Rattle.std.specs.Str.Parse.{digits_value}
+use Rattle.po_syntax.proofs.Prelude.{digits_value, take, ◌<◌, ◌^◌, ◌≡◌}
 use Rattle.po_syntax.proofs.escape.number_of.Given as goal
 
 abbrev pub invariant-loop-digit : goal.invariant-loop-digit

@@ -1,7 +1,4 @@
-use Rattle.std.proofs.Common.{rules, tests}
-use Rattle.std.proofs.lemmas.Iterator.{YieldsList-from_slice}
-use Rattle.std.proofs.lemmas.Iterator.Search.{all_from_yields_List}
-use Rattle.po_syntax.specs.Prelude.{owns_utf8}
+use Rattle.po_syntax.proofs.Prelude.{YieldsList-from_slice, all_from_yields_List, owns_utf8, rules, tests}
 use Rattle.po_syntax.proofs.LentStrings.{all_owned}
 use Rattle.po_syntax.proofs.item.strings_are_utf8.Goals as goal
 

@@ -1,6 +1,4 @@
-use Rattle.std.proofs.Common.{refl}
-use Rattle.po_syntax.specs.Escape.{letter, closed, escape}
-use Rattle.po_syntax.specs.Prelude.{written_byte}
+use Rattle.po_syntax.proofs.Prelude.{closed, escape, letter, refl, written_byte}
 use Rattle.po_syntax.proofs.laws.letters_are_escaped.Goals as goal
 
 pub returns-clause-read : goal.returns-clause-read

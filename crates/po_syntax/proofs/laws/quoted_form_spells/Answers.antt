@@ -1,6 +1,4 @@
-use Rattle.std.proofs.Common.{[], ◌∷◌, ◌++◌, append_assoc, refl}
-use Rattle.po_syntax.specs.Prelude.{written_bytes}
-use Rattle.po_syntax.specs.Internal.{first_token}
+use Rattle.po_syntax.proofs.Prelude.{[], append_assoc, first_token, refl, written_bytes, ◌++◌, ◌∷◌}
 use Rattle.po_syntax.proofs.QuotedForms.{bytes_spell}
 use Rattle.po_syntax.proofs.laws.quoted_form_spells.Goals as goal
 

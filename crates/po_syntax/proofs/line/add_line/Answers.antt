@@ -1,10 +1,4 @@
-use Rattle.std.proofs.Common.{◌≡◌, ◌∙◌, refl, ap, [], ◌∷◌, Ok, Err}
-use Rattle.std.proofs.lemmas.List.{map_push}
-use Rattle.std.proofs.lemmas.List.Elements.{All-cons, All-nil}
-use Rattle.std.proofs.lemmas.Result.{on_ok_weaker, IfErr-weaker}
-use Rattle.po_syntax.specs.Internal.{CommentLine, Tokens, shape_of, shape_view}
-use Rattle.po_syntax.specs.Prelude.{trim_returns, LendsUtf8}
-use Rattle.po_syntax.specs.Item.{Comment}
+use Rattle.po_syntax.proofs.Prelude.{All-cons, All-nil, Comment, CommentLine, Err, IfErr-weaker, LendsUtf8, Ok, Tokens, [], ap, map_push, on_ok_weaker, refl, shape_of, shape_view, trim_returns, ◌∙◌, ◌∷◌, ◌≡◌}
 use Rattle.po_syntax.proofs.OneLine.{line_at}
 use Rattle.po_syntax.proofs.Utf8Rests.{tokens-utf8}
 use Rattle.po_syntax.proofs.line.add_line.Goals as goal

@@ -1,10 +1,5 @@
-use Rattle.std.proofs.Common.{◌≡◌, ◌∙◌, refl, ap, [], ◌∷◌, ◌++◌, append_assoc, append-nil, Ok, Err, arith}
-use Rattle.std.proofs.lemmas.List.{map_push}
-use Rattle.std.proofs.lemmas.Result.{err_from_is_err_and}
-use Rattle.po_syntax.specs.Prelude.{SpellsString, spelt_bytes}
+use Rattle.po_syntax.proofs.Prelude.{Err, KeywordToken, LineEnd, Ok, OpeningQuote, SpellsString, Str, Word, [], ap, append-nil, append_assoc, arith, err_from_is_err_and, map_push, refl, spelt_bytes, token_at, token_view, ◌++◌, ◌∙◌, ◌∷◌, ◌≡◌}
 use Rattle.po_syntax.proofs.LentStrings.{one_more}
-use Rattle.po_syntax.specs.Item.{Word, Str}
-use Rattle.po_syntax.specs.Internal.{LineEnd, OpeningQuote, KeywordToken, token_at, token_view}
 use Rattle.po_syntax.proofs.Escapes.{string_shorter}
 use Rattle.po_syntax.proofs.OneLine.{tokens_at}
 use Rattle.po_syntax.proofs.Tokens.{keyword-shorter, quote-shorter}

@@ -1,7 +1,4 @@
-use Rattle.std.proofs.Common.{◌≡◌, ◌++◌, List, length, IsUtf8}
-use Rattle.po_syntax.specs.declared.fault.PoFault.{PoFault}
-use Rattle.po_syntax.specs.Internal.{AddsLent}
-use Rattle.po_syntax.specs.Prelude.{TokensFault, HoldsTokens, TextItem, views}
+use Rattle.po_syntax.proofs.Prelude.{AddsLent, HoldsTokens, IsUtf8, List, PoFault, TextItem, TokensFault, length, views, ◌++◌, ◌≡◌}
 use Rattle.po_syntax.proofs.line.add_tokens.Given as goal
 
 abbrev pub invariant-loop-inside : goal.invariant-loop-inside

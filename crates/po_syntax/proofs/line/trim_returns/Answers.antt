@@ -1,9 +1,5 @@
-use Rattle.std.proofs.Common.{rules, tests, ◌∙◌, ◌==◌, refl}
-use Rattle.std.specs.Prelude.{reverse}
+use Rattle.po_syntax.proofs.Prelude.{YieldsList-from_take_while, count_from_yields_List, length-prefix_len, refl, reverse, rules, tests, ◌==◌, ◌∙◌}
 use Rattle.std.proofs.lemmas.Iterator.Adapters.{YieldsList-from_rev_slice}
-use Rattle.std.proofs.lemmas.Iterator.Consumers.{count_from_yields_List}
-use Rattle.std.proofs.lemmas.Iterator.Search.{YieldsList-from_take_while}
-use Rattle.std.proofs.lemmas.List.Folds.{length-prefix_len}
 use Rattle.po_syntax.proofs.line.trim_returns.Goals as goal
 
 pub returns : goal.returns

@@ -1,6 +1,5 @@
-use Rattle.std.proofs.Common.{◌≤◌, length, drop}
+use Rattle.po_syntax.proofs.Prelude.{IsString, drop, length, views, ◌≤◌}
 use Rattle.std.specs.Prelude.{All}
-use Rattle.po_syntax.specs.Prelude.{IsString, views}
 use Rattle.po_syntax.proofs.pieces.before_strings.Given as goal
 
 abbrev pub invariant-loop-count : goal.invariant-loop-count

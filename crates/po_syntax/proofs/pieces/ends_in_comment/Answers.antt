@@ -1,4 +1,4 @@
-use Rattle.std.proofs.Common.{◌-◌, ◌<◌, length, arith}
+use Rattle.po_syntax.proofs.Prelude.{arith, length, ◌-◌, ◌<◌}
 use Rattle.po_syntax.proofs.PieceLemmas.{comment_at}
 use Rattle.po_syntax.proofs.pieces.ends_in_comment.Goals as goal
 

@@ -1,7 +1,4 @@
-use Rattle.std.proofs.Common.{◌<◌, ◌≤◌, inl, inr, length, arith}
-use Rattle.std.proofs.lemmas.Bool.{ltb-true}
-use Rattle.std.proofs.lemmas.List.{length-map}
-use Rattle.po_syntax.specs.Prelude.{view, views}
+use Rattle.po_syntax.proofs.Prelude.{arith, inl, inr, length, length-map, ltb-true, view, views, ◌<◌, ◌≤◌}
 use Rattle.po_syntax.proofs.TranslationEnds.{ends_at, ends_nowhere}
 use Rattle.po_syntax.proofs.pieces.ends_translation.Goals as goal
 

@@ -1,7 +1,5 @@
-use Rattle.std.proofs.Common.{◌≡◌, [], arith, IfOk}
-use Rattle.std.proofs.lemmas.List.{length-map}
-use Rattle.std.proofs.lemmas.Result.{IfOk-weaker, IfErr-weaker}
-use Rattle.po_syntax.specs.Prelude.{view, views}
+use Rattle.po_syntax.proofs.Prelude.{IfErr-weaker, IfOk-weaker, [], arith, length-map, view, views, ◌≡◌}
+use Rattle.std.proofs.Common.{IfOk}
 use Rattle.po_syntax.proofs.Lines.{items-few}
 use Rattle.po_syntax.proofs.NoMemory.{IsFaultOf-weaker, is_text_fault}
 use Rattle.po_syntax.proofs.PieceLemmas.{piece_all}

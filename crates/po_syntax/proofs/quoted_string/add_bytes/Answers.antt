@@ -1,10 +1,4 @@
-use Rattle.std.proofs.Common.{◌∙◌, ap, sym, subst, IsUtf8, [], ◌∷◌, ◌++◌, append_assoc, append-nil, length, length-append, arith}
-use Rattle.std.proofs.lemmas.Result.{err_from_is_err_and}
-use Rattle.po_syntax.specs.Prelude.{SpellsString, StringFault}
-use Rattle.po_syntax.specs.Escape.{escape}
-use Rattle.po_syntax.specs.LineFaults.{in_escape, after_escape}
-use Rattle.std.proofs.lemmas.Bool.{and_parts, ltb-true}
-use Rattle.std.proofs.lemmas.Str.{IsUtf8-append}
+use Rattle.po_syntax.proofs.Prelude.{IsUtf8, IsUtf8-append, SpellsString, StringFault, [], after_escape, and_parts, ap, append-nil, append_assoc, arith, err_from_is_err_and, escape, in_escape, length, length-append, ltb-true, subst, sym, ◌++◌, ◌∙◌, ◌∷◌}
 use Rattle.po_syntax.proofs.Escapes.{escape_shorter}
 use Rattle.po_syntax.proofs.Utf8Rests.{before-utf8, escape_rest-utf8, rest-utf8, spelt_more}
 use Rattle.po_syntax.proofs.QuotedStrings.{closes, backslash, stops_at_end, escape_is}

@@ -1,6 +1,4 @@
-use Rattle.std.proofs.Common.{◌≡◌, ℕ, ◌++◌, List, length, true, IsUtf8}
-use Rattle.po_syntax.specs.declared.fault.PoFault.{PoFault}
-use Rattle.po_syntax.specs.Prelude.{SpellsString, StringFault}
+use Rattle.po_syntax.proofs.Prelude.{IsUtf8, List, PoFault, SpellsString, StringFault, length, true, ℕ, ◌++◌, ◌≡◌}
 use Rattle.po_syntax.proofs.quoted_string.add_bytes.Given as goal
 
 abbrev pub invariant-loop-mark : goal.invariant-loop-mark

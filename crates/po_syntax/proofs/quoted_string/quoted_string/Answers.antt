@@ -1,4 +1,4 @@
-use Rattle.std.proofs.Common.{◌∙◌, [], ◌++◌, ap, append-nil, IsUtf8, subst, sym, arith}
+use Rattle.po_syntax.proofs.Prelude.{IsUtf8, [], ap, append-nil, arith, subst, sym, ◌++◌, ◌∙◌}
 use Rattle.po_syntax.proofs.QuotedStrings.{closes, stops_at_end}
 use Rattle.po_syntax.proofs.Utf8Rests.{before-utf8}
 use Rattle.po_syntax.proofs.quoted_string.quoted_string.Goals as goal

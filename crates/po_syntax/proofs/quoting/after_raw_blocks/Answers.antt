@@ -1,7 +1,5 @@
-use Rattle.std.proofs.Common.{◌≡◌, ◌+◌, ◌++◌, length, sym, ap, ap₂, ◌∙◌, arith, List, ℕ}
-use Rattle.std.specs.List.{prefix_len}
-use Rattle.std.proofs.lemmas.List.{length-append, take-append-drop}
-use Rattle.po_syntax.specs.Prelude.{is_raw}
+use Rattle.po_syntax.proofs.Prelude.{List, ap, ap₂, arith, is_raw, length, prefix_len, sym, take-append-drop, ℕ, ◌++◌, ◌+◌, ◌∙◌, ◌≡◌}
+use Rattle.std.proofs.lemmas.List.{length-append}
 use Rattle.po_syntax.proofs.RawRuns.{raw_append}
 use Rattle.po_syntax.proofs.quoting.after_raw_blocks.Goals as goal
 

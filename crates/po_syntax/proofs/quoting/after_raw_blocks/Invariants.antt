@@ -1,6 +1,4 @@
-use Rattle.std.proofs.Common.{◌≡◌, ◌+◌, ◌≤◌, length}
-use Rattle.std.specs.List.{prefix_len}
-use Rattle.po_syntax.specs.Prelude.{is_raw}
+use Rattle.po_syntax.proofs.Prelude.{is_raw, length, prefix_len, ◌+◌, ◌≡◌, ◌≤◌}
 use Rattle.po_syntax.proofs.quoting.after_raw_blocks.Given as goal
 
 abbrev pub invariant-loop-block : goal.invariant-loop-block

@@ -1,6 +1,4 @@
-use Rattle.std.proofs.Common.{◌≡◌, length, take, true}
-use Rattle.std.specs.List.{prefix_len}
-use Rattle.po_syntax.specs.Prelude.{is_raw}
+use Rattle.po_syntax.proofs.Prelude.{is_raw, length, prefix_len, take, true, ◌≡◌}
 use Rattle.po_syntax.proofs.quoting.is_raw_block.Given as goal
 
 abbrev pub invariant-loop-byte : goal.invariant-loop-byte

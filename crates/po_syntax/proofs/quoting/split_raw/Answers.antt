@@ -1,9 +1,4 @@
-use Rattle.std.proofs.Common.{rules, tests, ◌∙◌, arith}
-use Rattle.std.proofs.lemmas.Iterator.{YieldsList-from_slice}
-use Rattle.std.proofs.lemmas.Iterator.Consumers.{count_from_yields_List}
-use Rattle.std.proofs.lemmas.Iterator.Search.{YieldsList-from_take_while}
-use Rattle.std.proofs.lemmas.List.Folds.{length-prefix_len}
-use Rattle.po_syntax.specs.Prelude.{is_raw}
+use Rattle.po_syntax.proofs.Prelude.{YieldsList-from_slice, YieldsList-from_take_while, arith, count_from_yields_List, is_raw, length-prefix_len, rules, tests, ◌∙◌}
 use Rattle.po_syntax.proofs.RawRuns.{written_prefix}
 use Rattle.po_syntax.proofs.quoting.split_raw.Goals as goal
 

@@ -1,5 +1,4 @@
-use Rattle.std.proofs.Common.{◌∙◌, ◌++◌, ap, append_assoc, arith, length, length-append, sym}
-use Rattle.po_syntax.specs.Prelude.{written_byte, written_bytes}
+use Rattle.po_syntax.proofs.Prelude.{ap, append_assoc, arith, length, length-append, sym, written_byte, written_bytes, ◌++◌, ◌∙◌}
 use Rattle.po_syntax.proofs.RawRuns.{byte_after_run, run_alone}
 use Rattle.po_syntax.proofs.quoting.write_quoted.Goals as goal
 

@@ -1,6 +1,5 @@
-use Rattle.std.proofs.Common.{◌≡◌, ◌≤◌, ◌+◌, ℕ, List, ◌∷◌, ◌++◌, length}
+use Rattle.po_syntax.proofs.Prelude.{List, length, quoted, written_bytes, ℕ, ◌++◌, ◌+◌, ◌∷◌, ◌≡◌, ◌≤◌}
 use Rattle.std.specs.Vec.{vec_len, vec_capacity}
-use Rattle.po_syntax.specs.Prelude.{quoted, written_bytes}
 use Rattle.po_syntax.proofs.quoting.write_quoted.Given as goal
 
 abbrev pub invariant-loop-byte : goal.invariant-loop-byte

@@ -1,14 +1,5 @@
-use Rattle.std.proofs.Common.{◌≡◌, ℕ, true, false, List, [], ◌∷◌, ◌++◌, length, take, drop, Some, None, sym, ap, subst, ◌∙◌}
-use Rattle.std.specs.Prelude.{bytes_eq, slice_get}
-use Rattle.std.specs.List.{list_all, prefix_len}
-use Rattle.std.proofs.lemmas.Bool.{false_from_ne_true}
-use Rattle.std.proofs.lemmas.List.{take-append-drop}
-use Rattle.std.proofs.lemmas.List.Folds.{length-prefix_len}
-use Rattle.std.proofs.lemmas.List.Sums.{AllPass-from_list_all}
-use Rattle.std.proofs.lemmas.Slice.Eq.{bytes_eq-Decides}
-use Rattle.po_syntax.specs.Prelude.{FailsFirst, is_word_byte}
-use Rattle.po_syntax.specs.Facts.Runs.{parts_of, run_length}
-use Rattle.po_syntax.specs.Internal.{after_first_word, first_word}
+use Rattle.po_syntax.proofs.Prelude.{AllPass-from_list_all, FailsFirst, List, None, Some, [], after_first_word, ap, bytes_eq-Decides, drop, false, false_from_ne_true, first_word, is_word_byte, length, length-prefix_len, list_all, parts_of, prefix_len, run_length, slice_get, subst, sym, take, take-append-drop, true, ℕ, ◌++◌, ◌∙◌, ◌∷◌, ◌≡◌}
+use Rattle.std.specs.Prelude.{bytes_eq}
 use Rattle.po_syntax.proofs.token.after_word.Goals as goal
 use Rattle.po_syntax.proofs.token.after_word.Goals.{in_default-via-in-Some+else-is_word_byte, in_default-via-in_default}
 

@@ -1,9 +1,4 @@
-use Rattle.std.proofs.Common.{rules, tests, ◌∙◌, refl}
-use Rattle.std.proofs.lemmas.Iterator.{YieldsList-from_slice}
-use Rattle.std.proofs.lemmas.Iterator.Consumers.{count_from_yields_List}
-use Rattle.std.proofs.lemmas.Iterator.Search.{YieldsList-from_take_while}
-use Rattle.std.proofs.lemmas.List.Folds.{length-prefix_len}
-use Rattle.po_syntax.specs.Prelude.{is_blank}
+use Rattle.po_syntax.proofs.Prelude.{YieldsList-from_slice, YieldsList-from_take_while, count_from_yields_List, is_blank, length-prefix_len, refl, rules, tests, ◌∙◌}
 use Rattle.po_syntax.proofs.token.skip_blanks.Goals as goal
 
 pub returns : goal.returns

@@ -1,4 +1,4 @@
-use Rattle.std.proofs.Common.{◌≡◌, ◌++◌, take}
+use Rattle.po_tools.proofs.Prelude.{take, ◌++◌, ◌≡◌}
 use Rattle.po_tools.proofs.catalogues.add_all.Given as goal
 
 abbrev pub invariant-loop-entry : goal.invariant-loop-entry

@@ -1,8 +1,5 @@
-use Rattle.std.proofs.Common.{arith}
+use Rattle.po_tools.proofs.Prelude.{All-set, IsCatalogueEntry, arith, changed}
 use Rattle.std.proofs.lemmas.List.Edits.{map_over_more}
-use Rattle.std.proofs.lemmas.List.Elements.{All-set}
-use Rattle.po_entry.specs.Prelude.{IsCatalogueEntry}
-use Rattle.msgattrib.specs.Prelude.{changed}
 use Rattle.po_tools.proofs.catalogues.change_all.Goals as goal
 
 pub loop-entry-preserved : goal.loop-entry-preserved

@@ -1,7 +1,4 @@
-use Rattle.std.proofs.Common.{◌≡◌, ◌++◌, map, take, drop}
-use Rattle.std.specs.Prelude.{All}
-use Rattle.po_entry.specs.Prelude.{IsCatalogueEntry}
-use Rattle.msgattrib.specs.Prelude.{changed}
+use Rattle.po_tools.proofs.Prelude.{All, IsCatalogueEntry, changed, drop, map, take, ◌++◌, ◌≡◌}
 use Rattle.po_tools.proofs.catalogues.change_all.Given as goal
 
 abbrev pub invariant-loop-entry : goal.invariant-loop-entry

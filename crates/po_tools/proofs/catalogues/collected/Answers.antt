@@ -1,7 +1,5 @@
-use Rattle.std.proofs.Common.{refl, arith, ap, sym, subst, ◌∙◌, ◌+◌, ◌++◌, ◌∷◌, [], take, All}
-use Rattle.std.proofs.lemmas.List.{take_more}
-use Rattle.po_entry.specs.Prelude.{IsCatalogueEntry}
-use Rattle.po_compile.specs.Prelude.{HoldCatalogues, live_messages}
+use Rattle.po_tools.proofs.Prelude.{HoldCatalogues, IsCatalogueEntry, [], ap, arith, live_messages, refl, subst, sym, take, take_more, ◌++◌, ◌+◌, ◌∙◌, ◌∷◌}
+use Rattle.std.proofs.Common.{All}
 use Rattle.po_compile.proofs.InputLemmas.{held_more}
 use Rattle.po_tools.proofs.catalogues.collected.Goals as goal
 

@@ -1,5 +1,4 @@
-use Rattle.std.proofs.Common.{take}
-use Rattle.po_compile.specs.Prelude.{HoldCatalogues}
+use Rattle.po_tools.proofs.Prelude.{HoldCatalogues, take}
 use Rattle.po_tools.proofs.catalogues.collected.Given as goal
 
 abbrev pub invariant-loop-catalogue : goal.invariant-loop-catalogue

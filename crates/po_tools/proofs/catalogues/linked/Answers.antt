@@ -1,7 +1,4 @@
-use Rattle.std.proofs.Common.{◌∙◌}
-use Rattle.std.proofs.lemmas.Result.{IfOk-weaker}
-use Rattle.msgcat.specs.Prelude.{HoldInputs}
-use Rattle.po_tools.specs.Prelude.{inputs_view}
+use Rattle.po_tools.proofs.Prelude.{HoldInputs, IfOk-weaker, inputs_view, ◌∙◌}
 use Rattle.po_tools.proofs.catalogues.linked.Goals as goal
 
 pub of-requires : goal.of-requires

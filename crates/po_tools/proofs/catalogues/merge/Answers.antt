@@ -1,11 +1,6 @@
-use Rattle.std.proofs.Common.{◌<◌, ◌∙◌, ◌∷◌, ◌++◌, [], append-nil, ap, ap₂, arith, length, List, refl, subst, sym, take}
-use Rattle.std.specs.Prelude.{All, IfSome, option_to_list}
-use Rattle.std.proofs.lemmas.List.Elements.{All-nil, All-push}
-use Rattle.std.proofs.lemmas.Result.{err_from_is_err_and}
-use Rattle.po_entry.specs.Prelude.{TextEntry, IsCatalogueEntry}
-use Rattle.msgcat.specs.Prelude.{merged_messages, messages}
+use Rattle.po_tools.proofs.Prelude.{All, All-nil, All-push, IfSome, IsCatalogueEntry, List, TextEntry, [], ap, ap₂, arith, err_from_is_err_and, inputs_view, length, merged_messages, messages, option_to_list, refl, subst, sym, take, ◌++◌, ◌<◌, ◌∙◌, ◌∷◌}
+use Rattle.std.proofs.Common.{append-nil}
 use Rattle.msgcat.proofs.GroupsMerged.{fault_of_one, messages_more}
-use Rattle.po_tools.specs.Prelude.{inputs_view}
 use Rattle.po_tools.proofs.catalogues.merge.Goals.{in-Some+in_ok-copy+in_ok-push, in_default}
 use Rattle.po_tools.proofs.catalogues.merge.Goals as goal
 

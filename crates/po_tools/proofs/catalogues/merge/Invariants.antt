@@ -1,8 +1,4 @@
-use Rattle.std.proofs.Common.{◌≡◌, take}
-use Rattle.std.specs.Prelude.{All}
-use Rattle.po_entry.specs.Prelude.{IsCatalogueEntry}
-use Rattle.msgcat.specs.Prelude.{merged_messages, messages}
-use Rattle.po_tools.specs.Prelude.{inputs_view}
+use Rattle.po_tools.proofs.Prelude.{All, IsCatalogueEntry, inputs_view, merged_messages, messages, take, ◌≡◌}
 use Rattle.po_tools.proofs.catalogues.merge.Given as goal
 
 -- the messages so far are merged

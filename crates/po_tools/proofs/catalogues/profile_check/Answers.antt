@@ -1,9 +1,4 @@
-use Rattle.std.proofs.Common.{◌≡◌, ◌⊎◌, None, Some, ap, arith, inl, inr, length, subst, sym, ⊎_elim}
-use Rattle.std.proofs.lemmas.Result.{IfErr-weaker, MatchResult-from_both, on_ok_weaker}
-use Rattle.std.proofs.lemmas.List.{length-map}
-use Rattle.po_compile.specs.Prelude.{HoldCatalogues, live_messages}
-use Rattle.msgfmt.specs.Prelude.{AreChecked}
-use Rattle.msgfmt.specs.declared.profile.CheckFault.TheVariants.{OutOfMemory}
+use Rattle.po_tools.proofs.Prelude.{AreChecked, HoldCatalogues, IfErr-weaker, MatchResult-from_both, None, OutOfMemory, Some, ap, arith, inl, inr, length, length-map, live_messages, on_ok_weaker, subst, sym, ⊎_elim, ◌≡◌, ◌⊎◌}
 use Rattle.po_tools.proofs.catalogues.profile_check.Goals as goal
 
 pub check_collected-requires : goal.check_collected-requires

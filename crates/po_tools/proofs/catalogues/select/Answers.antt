@@ -1,9 +1,6 @@
-use Rattle.std.proofs.Common.{◌≡◌, arith, filter, rules}
+use Rattle.po_tools.proofs.Prelude.{All-filter, IsCatalogueEntry, arith, filter, is_kept, rules, ◌≡◌}
 use Rattle.std.proofs.lemmas.Fn.{filter_same}
 use Rattle.std.proofs.lemmas.Grind.{common_steps}
-use Rattle.std.proofs.lemmas.List.Elements.{All-filter}
-use Rattle.po_entry.specs.Prelude.{IsCatalogueEntry}
-use Rattle.msgattrib.specs.Prelude.{is_kept}
 use Rattle.po_tools.proofs.catalogues.select.Goals as goal
 
 pub change_all-requires : goal.change_all-requires

@@ -1,9 +1,5 @@
-use Rattle.std.proofs.Common.{◌≡◌, ◌+◌, ◌∙◌, ◌∷◌, ◌++◌, [], ap, ap₂, arith, length, List, refl, subst, sym, take}
-use Rattle.std.proofs.lemmas.List.{length-map, map-append, take_all, take_more}
-use Rattle.po_entry.specs.Prelude.{Lacks, TextEntry}
-use Rattle.msgcat.specs.Prelude.{NamedEntry, all_entries}
+use Rattle.po_tools.proofs.Prelude.{AreStored, Lacks, List, NamedEntry, TextEntry, [], all_entries, ap, ap₂, arith, input_view, inputs_view, length, length-map, map-append, refl, subst, sym, take, take_all, take_more, ◌++◌, ◌+◌, ◌∙◌, ◌∷◌, ◌≡◌}
 use Rattle.msgcat.proofs.ReadInputs.{entries_more, inputs_more}
-use Rattle.po_tools.specs.Prelude.{AreStored, input_view, inputs_view}
 use Rattle.po_tools.specs.declared.catalogues.Named.{Named as NamedCatalogue}
 use Rattle.po_tools.proofs.catalogues.stored.Goals as goal
 

@@ -1,5 +1,4 @@
-use Rattle.std.proofs.Common.{take}
-use Rattle.po_tools.specs.Prelude.{AreStored, inputs_view}
+use Rattle.po_tools.proofs.Prelude.{AreStored, inputs_view, take}
 use Rattle.po_tools.proofs.catalogues.stored.Given as goal
 
 -- the inputs so far are stored

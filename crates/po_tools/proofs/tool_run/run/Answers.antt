@@ -1,10 +1,5 @@
-use Rattle.std.proofs.Common.{◌≡◌, ℕ, List, None, Some, Option, ap, codes, refl, rules}
-use Rattle.std.proofs.lemmas.Result.{err_from_is_err_and}
+use Rattle.po_tools.proofs.Prelude.{IsTextOr, List, None, Option, Some, ap, codes, default_output, err_from_is_err_and, fits_none, looks_up, option_copied, refl, rules, unwrap_or, ℕ, ◌≡◌}
 use Rattle.std.specs.Borrow.{Bor}
-use Rattle.std.specs.Option.{option_copied, unwrap_or}
-use Rattle.msgfmt.specs.Prelude.{default_output}
-use Rattle.runs.specs.Prelude.{IsTextOr}
-use Rattle.po_tools.specs.ToolRun.{fits_none, looks_up}
 use Rattle.po_tools.proofs.tool_run.run.Goals as goal
 
 -- the text that is given, or another

@@ -1,6 +1,4 @@
-use Rattle.std.proofs.Common.{ap, Err, Ok, refl}
-use Rattle.std.proofs.lemmas.Result.{err_from_is_err_and}
-use Rattle.po_tools.specs.ToolRun.{no_envsubst, runs_envsubst}
+use Rattle.po_tools.proofs.Prelude.{Err, Ok, ap, err_from_is_err_and, no_envsubst, refl, runs_envsubst}
 use Rattle.po_tools.proofs.tool_run.substitute.Goals as goal
 
 pub returns-in_err-arguments : goal.returns-in_err-arguments

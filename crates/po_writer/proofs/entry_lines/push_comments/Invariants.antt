@@ -1,6 +1,4 @@
-use Rattle.std.proofs.Common.{◌≡◌, ◌++◌}
-use Rattle.po_entry.specs.Prelude.{texts_left}
-use Rattle.po_writer.specs.Prelude.{comment_lines}
+use Rattle.po_writer.proofs.Prelude.{comment_lines, texts_left, ◌++◌, ◌≡◌}
 use Rattle.po_writer.proofs.entry_lines.push_comments.Given as goal
 
 abbrev pub invariant-loop-comment : goal.invariant-loop-comment

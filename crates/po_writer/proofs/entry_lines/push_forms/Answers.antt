@@ -1,6 +1,4 @@
-use Rattle.std.proofs.Common.{◌≡◌, ◌∙◌, ap, sym, List, ℕ, ◌+◌, ◌≤◌, ◌++◌, ◌∷◌, append_assoc, codes, decimal, length, length-append, arith, rules}
-use Rattle.po_entry.specs.Prelude.{forms_left}
-use Rattle.po_writer.specs.Prelude.{form_lines, keyword_lines}
+use Rattle.po_writer.proofs.Prelude.{List, ap, append_assoc, arith, codes, decimal, form_lines, forms_left, keyword_lines, length, length-append, rules, sym, ℕ, ◌++◌, ◌+◌, ◌∙◌, ◌∷◌, ◌≡◌, ◌≤◌}
 use Rattle.po_writer.proofs.Separated.{keyword_some}
 use Rattle.po_writer.proofs.entry_lines.push_forms.Goals as goal
 

@@ -1,6 +1,4 @@
-use Rattle.std.proofs.Common.{◌≡◌, ◌≤◌, ◌++◌, length}
-use Rattle.po_entry.specs.Prelude.{forms_left}
-use Rattle.po_writer.specs.Prelude.{form_lines}
+use Rattle.po_writer.proofs.Prelude.{form_lines, forms_left, length, ◌++◌, ◌≡◌, ◌≤◌}
 use Rattle.po_writer.proofs.entry_lines.push_forms.Given as goal
 
 abbrev pub invariant-loop-form : goal.invariant-loop-form

@@ -1,6 +1,4 @@
-use Rattle.std.proofs.Common.{◌≡◌, ◌++◌}
-use Rattle.std.specs.List.{flat_map}
-use Rattle.po_entry.specs.Prelude.{texts_left}
+use Rattle.po_writer.proofs.Prelude.{flat_map, texts_left, ◌++◌, ◌≡◌}
 use Rattle.po_writer.proofs.entry_lines.push_further.Given as goal
 
 abbrev pub invariant-loop-element : goal.invariant-loop-element

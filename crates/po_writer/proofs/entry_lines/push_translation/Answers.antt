@@ -1,6 +1,4 @@
-use Rattle.std.proofs.Common.{◌≡◌, ◌∙◌, ap, ap₂, List, ℕ, ◌++◌, append_assoc, Option, Some, codes}
-use Rattle.std.proofs.lemmas.Result.{on_ok_weaker}
-use Rattle.po_writer.specs.Prelude.{form_lines, keyword_lines, translation_lines}
+use Rattle.po_writer.proofs.Prelude.{List, Option, Some, ap, append_assoc, ap₂, codes, form_lines, keyword_lines, on_ok_weaker, translation_lines, ℕ, ◌++◌, ◌∙◌, ◌≡◌}
 use Rattle.po_writer.proofs.entry_lines.push_translation.Goals as goal
 
 with_plural : (old key new prefix text : List ℕ) (plural : Option (List ℕ)) (left forms : List (List ℕ))

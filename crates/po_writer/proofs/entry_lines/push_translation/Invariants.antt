@@ -1,7 +1,4 @@
-use Rattle.std.proofs.Common.{◌≡◌, ◌++◌, codes}
-use Rattle.std.specs.List.{flat_map}
-use Rattle.po_entry.specs.Prelude.{forms_left}
-use Rattle.po_writer.specs.Prelude.{keyword_lines}
+use Rattle.po_writer.proofs.Prelude.{codes, flat_map, forms_left, keyword_lines, ◌++◌, ◌≡◌}
 use Rattle.po_writer.proofs.entry_lines.push_translation.Given as goal
 
 abbrev pub invariant-loop-form : goal.invariant-loop-form

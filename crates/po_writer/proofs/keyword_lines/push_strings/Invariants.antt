@@ -1,7 +1,4 @@
-use Rattle.std.proofs.Common.{◌≡◌, ◌++◌, length}
-use Rattle.std.specs.List.{flat_map}
-use Rattle.po_syntax.specs.Facts.LinesWithEnds.{lines_with_ends}
-use Rattle.po_writer.specs.Prelude.{string_line}
+use Rattle.po_writer.proofs.Prelude.{flat_map, length, lines_with_ends, string_line, ◌++◌, ◌≡◌}
 use Rattle.po_writer.proofs.keyword_lines.push_strings.Given as goal
 
 abbrev pub invariant-loop-rest : goal.invariant-loop-rest

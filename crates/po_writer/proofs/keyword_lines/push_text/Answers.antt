@@ -1,5 +1,4 @@
-use Rattle.std.proofs.Common.{◌≡◌, true, not, nat_lt, append_assoc, length, sym, ap, ◌∙◌, rules}
-use Rattle.po_syntax.specs.Facts.LinesWithEnds.{lines_with_ends}
+use Rattle.po_writer.proofs.Prelude.{ap, append_assoc, length, lines_with_ends, nat_lt, not, rules, sym, true, ◌∙◌, ◌≡◌}
 use Rattle.po_writer.proofs.LinesWithEnds.{several}
 use Rattle.po_writer.proofs.keyword_lines.push_text.Goals as goal
 

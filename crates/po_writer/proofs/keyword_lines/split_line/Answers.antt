@@ -1,5 +1,4 @@
-use Rattle.std.proofs.Common.{refl, length, arith}
-use Rattle.std.proofs.lemmas.List.{take_all, drop_all}
+use Rattle.po_writer.proofs.Prelude.{arith, drop_all, length, refl, take_all}
 use Rattle.po_writer.proofs.LinesWithEnds.{first_line, whole_line}
 use Rattle.po_writer.proofs.keyword_lines.split_line.Goals as goal
 

@@ -1,6 +1,4 @@
-use Rattle.std.proofs.Common.{ap, ◌∙◌}
-use Rattle.std.proofs.lemmas.Result.{on_ok_weaker}
-use Rattle.po_writer.specs.Prelude.{with_entry}
+use Rattle.po_writer.proofs.Prelude.{ap, on_ok_weaker, with_entry, ◌∙◌}
 use Rattle.po_writer.proofs.Separated.{one_more}
 use Rattle.po_writer.proofs.text.append.Goals as goal
 

@@ -1,5 +1,4 @@
-use Rattle.std.proofs.Common.{◌≡◌, length}
-use Rattle.process.specs.Prelude.{is_for_writing}
+use Rattle.process.proofs.Prelude.{is_for_writing, length, ◌≡◌}
 use Rattle.process.proofs.answers.is_for_writing.Given as goal
 
 -- no line before the rest begins with `flags:`

@@ -1,4 +1,4 @@
-use Rattle.runs.specs.Prelude.{writer}
+use Rattle.process.proofs.Prelude.{writer}
 use Rattle.process.proofs.Outcomes.{told}
 use Rattle.process.proofs.endings.report.Goals as goal
 

@@ -1,4 +1,4 @@
-use Rattle.std.proofs.Common.{rules, codes, string_bytes}
+use Rattle.process.proofs.Prelude.{codes, rules, string_bytes}
 use Rattle.process.proofs.ValueLists.{values_pushed_after}
 use Rattle.process.proofs.environment.arguments.Goals as goal
 

@@ -1,5 +1,4 @@
-use Rattle.std.proofs.Common.{◌≡◌, ◌∷◌, ◌+◌, ◌-◌, ◌^◌, ℕ, List, codes, length, map, string_bytes}
-use Rattle.process.specs.Prelude.{AreValues}
+use Rattle.process.proofs.Prelude.{AreValues, List, codes, length, map, string_bytes, ℕ, ◌+◌, ◌-◌, ◌^◌, ◌∷◌, ◌≡◌}
 use Rattle.process.proofs.environment.arguments.Given as goal
 
 abbrev pub invariant-loop-arguments : goal.invariant-loop-arguments

@@ -1,4 +1,4 @@
-use Rattle.std.proofs.Common.{rules}
+use Rattle.process.proofs.Prelude.{rules}
 use Rattle.process.proofs.ValueLists.{values_pushed}
 use Rattle.process.proofs.environment.push_entries.Goals as goal
 

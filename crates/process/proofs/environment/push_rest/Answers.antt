@@ -1,4 +1,4 @@
-use Rattle.std.proofs.Common.{rules, refl}
+use Rattle.process.proofs.Prelude.{refl, rules}
 use Rattle.process.proofs.ValueLists.{values_pushed}
 use Rattle.process.proofs.environment.push_rest.Goals as goal
 

@@ -1,5 +1,4 @@
-use Rattle.std.proofs.Common.{◌-◌, ◌^◌, length, map}
-use Rattle.process.specs.Prelude.{AreValues}
+use Rattle.process.proofs.Prelude.{AreValues, length, map, ◌-◌, ◌^◌}
 use Rattle.process.proofs.environment.push_rest.Given as goal
 
 abbrev pub invariant-loop-entry : goal.invariant-loop-entry

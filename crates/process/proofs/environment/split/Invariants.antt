@@ -1,4 +1,4 @@
-use Rattle.std.proofs.Common.{◌≡◌, ◌==◌, ◌++◌, length, map}
+use Rattle.process.proofs.Prelude.{length, map, ◌++◌, ◌==◌, ◌≡◌}
 use Rattle.std.specs.List.{slice_split}
 use Rattle.process.proofs.environment.split.Given as goal
 

@@ -1,5 +1,4 @@
-use Rattle.std.proofs.Common.{sym, ◌∙◌}
-use Rattle.process.specs.OutputCalls.{unwritten, appended}
+use Rattle.process.proofs.Prelude.{appended, sym, unwritten, ◌∙◌}
 use Rattle.process.proofs.SystemCallLemmas.{nothing, once}
 use Rattle.process.proofs.files.append_to.Goals as goal
 

@@ -1,5 +1,4 @@
-use Rattle.std.proofs.Common.{sym, ◌∙◌}
-use Rattle.process.specs.OutputCalls.{untold, had, given, group_given}
+use Rattle.process.proofs.Prelude.{given, group_given, had, sym, untold, ◌∙◌}
 use Rattle.process.proofs.Owners.{same_owner, other_owner}
 use Rattle.process.proofs.SystemCallLemmas.{once, then}
 use Rattle.process.proofs.files.give_owner.Goals as goal

@@ -1,5 +1,5 @@
-use Rattle.std.proofs.Common.{refl}
-use Rattle.process.specs.Program.{helps, refuses}
+use Rattle.process.proofs.Prelude.{helps, refl}
+use Rattle.process.specs.Program.{refuses}
 use Rattle.process.proofs.program.explain.Goals as goal
 
 pub returns-then-use_stderr-clause-text : goal.returns-then-use_stderr-clause-text

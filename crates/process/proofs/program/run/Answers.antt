@@ -1,12 +1,9 @@
-use Rattle.std.proofs.Common.{◌≡◌, ◌⊎◌, inl, inr, map, refl, string_bytes, ℕ, List, Option, None, Result}
+use Rattle.process.proofs.Prelude.{HasNoText, List, None, Option, Reports, Result, RunsProgram, WriterView, inl, inr, lacks_text, lacks_words, map, refl, string_bytes, words, ℕ, ◌≡◌, ◌⊎◌}
 use Rattle.command_line.specs.Prelude.{spelled_out}
 use Rattle.po_tools.specs.Prelude.{Answers, Reached}
-use Rattle.runs.specs.Prelude.{WriterView}
 use Rattle.runs.specs.declared.program_fault.ProgramFault.{ProgramFault}
 use Rattle.runs.specs.declared.program_fault.ProgramFault.TheVariants.{NotText, OutOfMemory}
 use Rattle.runs.specs.declared.run.Ending.TheVariants.{Refused}
-use Rattle.process.specs.Prelude.{Reports, RunsProgram, HasNoText}
-use Rattle.process.specs.Program.{lacks_text, lacks_words, words}
 use Rattle.process.proofs.program.run.Goals as goal
 
 -- arguments that can't be had, by the fault that is reported

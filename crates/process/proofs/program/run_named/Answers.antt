@@ -1,5 +1,4 @@
-use Rattle.std.proofs.Common.{refl}
-use Rattle.process.specs.Program.{names_none, runs}
+use Rattle.process.proofs.Prelude.{names_none, refl, runs}
 use Rattle.process.proofs.program.run_named.Goals as goal
 
 pub returns-in-Some : goal.returns-in-Some

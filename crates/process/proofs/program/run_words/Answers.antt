@@ -1,5 +1,4 @@
-use Rattle.std.proofs.Common.{refl}
-use Rattle.process.specs.Program.{explains, lacks_memory}
+use Rattle.process.proofs.Prelude.{explains, lacks_memory, refl}
 use Rattle.process.proofs.program.run_words.Goals as goal
 
 pub returns-in-Ok : goal.returns-in-Ok

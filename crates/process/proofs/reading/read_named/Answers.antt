@@ -1,5 +1,4 @@
-use Rattle.std.proofs.Common.{inr}
-use Rattle.process.specs.Reading.{unopened}
+use Rattle.process.proofs.Prelude.{inr, unopened}
 use Rattle.process.proofs.ReadingLemmas.{opened}
 use Rattle.process.proofs.reading.read_named.Goals as goal
 

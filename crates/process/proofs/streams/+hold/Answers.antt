@@ -1,5 +1,5 @@
-use Rattle.std.proofs.Common.{◌≡◌, ◌-◌, suc, arith}
-use Rattle.process.specs.OutputCalls.{enough, unopened, above, held}
+use Rattle.process.proofs.Prelude.{above, arith, enough, held, suc, ◌-◌, ◌≡◌}
+use Rattle.process.specs.OutputCalls.{unopened}
 use Rattle.process.proofs.SystemCallLemmas.{held_so, nothing, once, so, then}
 use Rattle.process.proofs.streams.+hold.Goals as goal
 

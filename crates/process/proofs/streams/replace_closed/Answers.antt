@@ -1,4 +1,4 @@
-use Rattle.process.specs.OutputCalls.{all_open, no_input, no_output, no_errors}
+use Rattle.process.proofs.Prelude.{all_open, no_errors, no_input, no_output}
 use Rattle.process.proofs.SystemCallLemmas.{once, so, then}
 use Rattle.process.proofs.streams.replace_closed.Goals as goal
 

@@ -1,4 +1,4 @@
-use Rattle.std.proofs.Common.{◌<◌, ◌-◌, ◌^◌}
+use Rattle.process.proofs.Prelude.{◌-◌, ◌<◌, ◌^◌}
 use Rattle.process.proofs.value.ask.Given as goal
 
 abbrev pub invariant-loop-room : goal.invariant-loop-room

@@ -1,6 +1,5 @@
-use Rattle.std.proofs.Common.{◌≡◌, ◌≤◌, ◌-◌, length, take, drop, ap, arith, length-drop}
-use Rattle.std.proofs.lemmas.Bool.Decides.{nat_tests}
-use Rattle.std.proofs.lemmas.List.{take_rest}
+use Rattle.runs.proofs.Prelude.{ap, arith, drop, length, nat_tests, take, take_rest, ◌-◌, ◌≡◌, ◌≤◌}
+use Rattle.std.proofs.Common.{length-drop}
 use Rattle.runs.proofs.DeviceLemmas.{Appends-rest, Gives-next}
 use Rattle.runs.proofs.device.put_all.Goals as goal
 

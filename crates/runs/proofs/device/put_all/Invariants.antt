@@ -1,6 +1,4 @@
-use Rattle.std.proofs.Common.{length, take, [], ◌-◌, ◌≡◌, ◌<◌, ◌≤◌}
-use Rattle.std.specs.Io.KnownBytes.{Appends}
-use Rattle.runs.specs.Prelude.{GivesFirst}
+use Rattle.runs.proofs.Prelude.{Appends, GivesFirst, [], length, take, ◌-◌, ◌<◌, ◌≡◌, ◌≤◌}
 use Rattle.runs.proofs.device.put_all.Given as goal
 
 abbrev pub invariant-loop-at : goal.invariant-loop-at

@@ -1,5 +1,4 @@
-use Rattle.std.proofs.Common.{ap, ◌∙◌, inl, inr}
-use Rattle.runs.specs.Prelude.{input_fault_text}
+use Rattle.runs.proofs.Prelude.{ap, inl, input_fault_text, inr, ◌∙◌}
 use Rattle.runs.proofs.inputs.read_one.Goals as goal
 
 pub returns-clause-fault : goal.returns-clause-fault

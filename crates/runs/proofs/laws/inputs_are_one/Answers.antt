@@ -1,4 +1,4 @@
-use Rattle.std.proofs.Common.{false}
+use Rattle.runs.proofs.Prelude.{false}
 use Rattle.runs.proofs.OneInputs.{one_list}
 use Rattle.runs.proofs.laws.inputs_are_one.Goals as goal
 

@@ -1,6 +1,4 @@
-use Rattle.std.proofs.Common.{refl}
-use Rattle.std.specs.Path.{path_with_file_name, path_join, path_file_name, path_parent, split_last_component, rsplit_once, trim_trailing}
-use Rattle.std.proofs.lemmas.Bool.{cond-true, eq-eqb}
+use Rattle.runs.proofs.Prelude.{cond-true, eq-eqb, path_file_name, path_join, path_parent, path_with_file_name, refl, rsplit_once, split_last_component, trim_trailing}
 use Rattle.runs.proofs.laws.links_lead_from_their_folder.Goals as goal
 
 pub returns : goal.returns

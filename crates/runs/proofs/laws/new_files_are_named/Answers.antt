@@ -1,5 +1,4 @@
-use Rattle.std.proofs.Common.{refl}
-use Rattle.std.specs.Path.{path_with_file_name, path_join, path_file_name, path_parent, split_last_component, rsplit_once, trim_trailing}
+use Rattle.runs.proofs.Prelude.{path_file_name, path_join, path_parent, path_with_file_name, refl, rsplit_once, split_last_component, trim_trailing}
 use Rattle.runs.proofs.laws.new_files_are_named.Goals as goal
 
 pub returns : goal.returns

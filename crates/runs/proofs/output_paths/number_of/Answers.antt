@@ -1,7 +1,4 @@
-use Rattle.std.proofs.Common.{◌≡◌, true, false, decimal, Some, None, sym, ap, ◌∙◌, arith}
-use Rattle.std.specs.Result.{result_ok}
-use Rattle.std.proofs.lemmas.Fmt.{parse-decimal}
-use Rattle.std.proofs.lemmas.Slice.Eq.{bytes_eq-Decides}
+use Rattle.runs.proofs.Prelude.{None, Some, ap, arith, bytes_eq-Decides, decimal, false, parse-decimal, result_ok, sym, true, ◌∙◌, ◌≡◌}
 use Rattle.runs.proofs.output_paths.number_of.Goals as goal
 
 pub returns-in_err-number : goal.returns-in_err-number

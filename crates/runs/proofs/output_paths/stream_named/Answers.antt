@@ -1,8 +1,4 @@
-use Rattle.std.proofs.Common.{◌≡◌, ◌≢◌, ℕ, Bool, true, false, List, sym, ◌∙◌, subst, codes}
-use Rattle.std.specs.Str.{bytes_eq}
-use Rattle.std.proofs.lemmas.Slice.Eq.{bytes_eq-Decides}
-use Rattle.runs.specs.Prelude.{NamesStream}
-use Rattle.runs.specs.OutputPaths.{standard_output, standard_error}
+use Rattle.runs.proofs.Prelude.{Bool, List, NamesStream, bytes_eq, bytes_eq-Decides, codes, false, standard_error, standard_output, subst, sym, true, ℕ, ◌∙◌, ◌≡◌, ◌≢◌}
 use Rattle.runs.proofs.StreamNames.{no_stream, device_number, process_number}
 use Rattle.runs.proofs.output_paths.stream_named.Goals as goal
 

@@ -1,6 +1,4 @@
-use Rattle.std.proofs.Common.{◌≡◌, ◌∙◌, ◌+◌, ◌-◌, arith}
-use Rattle.runs.specs.declared.output_files.MakeFault.TheVariants.{Exists, Forbidden, Failed}
-use Rattle.runs.specs.OutputWriting.{unnamed, all_taken, in_place, forbidden, failed}
+use Rattle.runs.proofs.Prelude.{Exists, Failed, Forbidden, all_taken, arith, failed, forbidden, in_place, unnamed, ◌+◌, ◌-◌, ◌∙◌, ◌≡◌}
 use Rattle.runs.proofs.OutputLemmas.{after-made, after-taken, after-unmade, done-for, is-fault, is-no-memory}
 use Rattle.runs.proofs.output_writing.+replace.Goals as goal
 

@@ -1,5 +1,5 @@
-use Rattle.std.proofs.Common.{◌≡◌, ◌∙◌, ◌+◌, ◌-◌, arith}
-use Rattle.runs.specs.OutputWriting.{lacking, taken, stream, stops, special, replaces, unknown, unread, no_memory, too_long}
+use Rattle.runs.proofs.Prelude.{arith, lacking, no_memory, replaces, special, stops, stream, taken, too_long, unknown, ◌+◌, ◌-◌, ◌∙◌, ◌≡◌}
+use Rattle.runs.specs.OutputWriting.{unread}
 use Rattle.runs.proofs.OutputLemmas.{after-call, after-link, done-for, is-fault, is-no-memory}
 use Rattle.runs.proofs.output_writing.+write_file.Goals as goal
 

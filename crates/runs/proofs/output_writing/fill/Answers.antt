@@ -1,7 +1,4 @@
-use Rattle.std.proofs.Common.{ℕ, List, Option}
-use Rattle.runs.specs.Prelude.{FileLog, Runs, Finishes}
-use Rattle.runs.specs.OutputWriting.{replaced, replaces_none, unmoved, unwritten, without_rights}
-use Rattle.runs.specs.declared.output_files.OutputFault.{OutputFault}
+use Rattle.runs.proofs.Prelude.{FileLog, Finishes, List, Option, OutputFault, Runs, replaced, replaces_none, unmoved, unwritten, without_rights, ℕ}
 use Rattle.runs.proofs.OutputLemmas.{after-call, after-rights, done-for, is-done, is-fault}
 use Rattle.runs.proofs.output_writing.fill.Goals as goal
 use Rattle.runs.proofs.output_writing.fill.Goals.{in-Some+else-not-set_mode, in_default}

@@ -1,4 +1,5 @@
-use Rattle.runs.specs.OutputWriting.{put as all_put, unput}
+use Rattle.runs.proofs.Prelude.{unput}
+use Rattle.runs.specs.OutputWriting.{put as all_put}
 use Rattle.runs.proofs.OutputLemmas.{after-call, is-done, is-fault}
 use Rattle.runs.proofs.output_writing.put.Goals as goal
 

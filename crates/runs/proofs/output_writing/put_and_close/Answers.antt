@@ -1,4 +1,4 @@
-use Rattle.std.proofs.Common.{true, false}
+use Rattle.runs.proofs.Prelude.{false, true}
 use Rattle.runs.proofs.OutputLemmas.{put-closed}
 use Rattle.runs.proofs.output_writing.put_and_close.Goals as goal
 

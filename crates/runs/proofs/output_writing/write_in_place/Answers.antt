@@ -1,4 +1,4 @@
-use Rattle.runs.specs.OutputWriting.{unopened, opened}
+use Rattle.runs.proofs.Prelude.{opened, unopened}
 use Rattle.runs.proofs.OutputLemmas.{after-call, done-for, is-fault}
 use Rattle.runs.proofs.output_writing.write_in_place.Goals as goal
 

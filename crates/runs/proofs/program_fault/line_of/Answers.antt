@@ -1,8 +1,4 @@
-use Rattle.std.proofs.Common.{◌≡◌, ◌+◌, ◌<◌, ◌≤◌, ℕ, List, ap, get_or, inl, inr, length, take, arith}
-use Rattle.std.specs.Borrow.{Bor}
-use Rattle.std.proofs.lemmas.Bool.{cases_lt, false≢true}
-use Rattle.std.proofs.lemmas.List.Folds.{length-flat_map-take}
-use Rattle.runs.specs.Internal.ProgramFault.{joined}
+use Rattle.runs.proofs.Prelude.{Bor, List, ap, arith, cases_lt, false≢true, get_or, inl, inr, joined, length, length-flat_map-take, take, ℕ, ◌+◌, ◌<◌, ◌≡◌, ◌≤◌}
 use Rattle.runs.proofs.DeviceLemmas.{on-err}
 use Rattle.runs.proofs.program_fault.line_of.Goals as goal
 

@@ -1,5 +1,4 @@
-use Rattle.std.proofs.Common.{◌≡◌, take}
-use Rattle.runs.specs.Internal.ProgramFault.{joined}
+use Rattle.runs.proofs.Prelude.{joined, take, ◌≡◌}
 use Rattle.runs.proofs.program_fault.line_of.Given as goal
 
 abbrev pub invariant-loop-part : goal.invariant-loop-part

@@ -1,4 +1,4 @@
-use Rattle.std.proofs.Common.{◌≡◌, ℕ, List, [], ◌∷◌, ◌++◌, ap, append_assoc, codes}
+use Rattle.runs.proofs.Prelude.{List, [], ap, append_assoc, codes, ℕ, ◌++◌, ◌∷◌, ◌≡◌}
 use Rattle.runs.proofs.program_fault.parts_of.Goals as goal
 use Rattle.runs.proofs.program_fault.parts_of.Goals.{in-None, in-Some}
 

@@ -1,6 +1,4 @@
-use Rattle.std.proofs.Common.{◌≡◌, take}
-use Rattle.std.specs.Io.KnownBytes.{Appends}
-use Rattle.runs.specs.Internal.ProgramFault.{joined}
+use Rattle.runs.proofs.Prelude.{Appends, joined, take, ◌≡◌}
 use Rattle.runs.proofs.program_fault.put_parts.Given as goal
 
 abbrev pub invariant-loop-part : goal.invariant-loop-part

@@ -1,6 +1,4 @@
-use Rattle.std.proofs.Common.{◌≡◌, ◌≤◌, ◌+◌, length, rules, arith, ◌-◌, drop, subst, sym, take, ◌∙◌}
-use Rattle.std.proofs.lemmas.List.{drop-drop, drop-take, length-drop, places, take_all}
-use Rattle.std.specs.Io.KnownBytes.{Consumes}
+use Rattle.runs.proofs.Prelude.{Consumes, arith, drop, drop-drop, drop-take, length, length-drop, places, rules, subst, sym, take, take_all, ◌+◌, ◌-◌, ◌∙◌, ◌≡◌, ◌≤◌}
 use Rattle.runs.proofs.DeviceLemmas.{filled-end, filled-more, front-after, front-before, taken-full}
 use Rattle.runs.proofs.whole_input.read_whole.Goals as goal
 

@@ -1,5 +1,4 @@
-use Rattle.std.proofs.Common.{◌≡◌, ◌+◌, ◌≤◌, ◌-◌, drop, take, vec_len}
-use Rattle.std.specs.Io.KnownBytes.{Consumes}
+use Rattle.runs.proofs.Prelude.{Consumes, drop, take, vec_len, ◌+◌, ◌-◌, ◌≡◌, ◌≤◌}
 use Rattle.runs.proofs.whole_input.read_whole.Given as goal
 
 abbrev pub invariant-loop-count : goal.invariant-loop-count

@@ -1,5 +1,4 @@
-use Rattle.std.proofs.Common.{map}
-use Rattle.envsubst.specs.Prelude.{envsubst_arguments}
+use Rattle.envsubst.proofs.Prelude.{envsubst_arguments, map}
 use Rattle.runs.proofs.ArgumentLemmas.{taken_of}
 use Rattle.envsubst.proofs.arguments.EnvsubstArguments.given.Goals as goal
 

@@ -1,7 +1,4 @@
-use Rattle.std.proofs.Common.{IfSome, subst, sym, ap, ◌∙◌}
-use Rattle.std.specs.Str.{bytes_eq}
-use Rattle.envsubst.specs.Internal.Sorted.{AreNamesSorted}
-use Rattle.envsubst.specs.Prelude.{is_replaced, names_given}
+use Rattle.envsubst.proofs.Prelude.{AreNamesSorted, IfSome, ap, bytes_eq, is_replaced, names_given, subst, sym, ◌∙◌}
 use Rattle.envsubst.proofs.SortedLemmas.{searched-name}
 use Rattle.envsubst.proofs.VariableLemmas.{list_any-map}
 use Rattle.envsubst.proofs.replacements.Replacements.is_replaced.Goals as goal

@@ -1,7 +1,4 @@
-use Rattle.std.proofs.Common.{IfSome, subst, sym, ◌∙◌, rules}
-use Rattle.std.specs.Ordering.{is_ge}
-use Rattle.std.proofs.lemmas.List.Sorted.{answers_always}
-use Rattle.envsubst.specs.Internal.Sorted.{AreNamesSorted, name_cmp}
+use Rattle.envsubst.proofs.Prelude.{AreNamesSorted, IfSome, answers_always, is_ge, name_cmp, rules, subst, sym, ◌∙◌}
 use Rattle.envsubst.proofs.SortedLemmas.{names-sorted, variables-sorted}
 use Rattle.envsubst.proofs.replacements.Replacements.new.Goals as goal
 use Rattle.envsubst.proofs.replacements.Replacements.new.Goals.{in-Some, in-None}

@@ -1,5 +1,4 @@
-use Rattle.std.proofs.Common.{◌≤◌, length, subst}
-use Rattle.envsubst.specs.Prelude.{SubstituterView}
+use Rattle.envsubst.proofs.Prelude.{SubstituterView, length, subst, ◌≤◌}
 use Rattle.envsubst.proofs.ReferenceLemmas.{undecided-length}
 use Rattle.envsubst.proofs.substituter.Substituter.feed.Goals as goal
 

@@ -1,5 +1,4 @@
-use Rattle.std.proofs.Common.{ap, ◌∙◌}
-use Rattle.envsubst.specs.Prelude.{is_undecided}
+use Rattle.envsubst.proofs.Prelude.{ap, is_undecided, ◌∙◌}
 use Rattle.envsubst.proofs.ReferenceLemmas.{nothing-undecided}
 use Rattle.envsubst.proofs.substituter.Substituter.new.Goals as goal
 

@@ -1,7 +1,4 @@
-use Rattle.std.proofs.Common.{ap, refl, sym, ◌∙◌}
-use Rattle.std.specs.Option.{option_map}
-use Rattle.gettext.specs.Arguments.{asks_messages, fits_no_gettext}
-use Rattle.gettext.specs.Prelude.{messages_given}
+use Rattle.gettext.proofs.Prelude.{ap, asks_messages, fits_no_gettext, messages_given, option_map, refl, sym, ◌∙◌}
 use Rattle.gettext.proofs.arguments.LookUpCommand.of_gettext.Goals as goal
 
 pub returns-in_default : goal.returns-in_default

@@ -1,7 +1,4 @@
-use Rattle.std.proofs.Common.{ap, refl, sym, ◌∙◌}
-use Rattle.std.specs.Option.{option_map}
-use Rattle.gettext.specs.Arguments.{asks_plural_form, fits_no_ngettext}
-use Rattle.gettext.specs.Prelude.{plural_form_given}
+use Rattle.gettext.proofs.Prelude.{ap, asks_plural_form, fits_no_ngettext, option_map, plural_form_given, refl, sym, ◌∙◌}
 use Rattle.gettext.proofs.arguments.LookUpCommand.of_ngettext.Goals as goal
 
 pub returns-in_default : goal.returns-in_default

@@ -1,4 +1,4 @@
-use Rattle.std.proofs.Common.{None, refl}
+use Rattle.known_system.proofs.Prelude.{None, refl}
 use Rattle.known_system.proofs.files.KnownFiles.holding.Goals as goal
 
 pub invariant_of-result : goal.invariant_of-result

@@ -1,7 +1,5 @@
-use Rattle.std.proofs.Common.{List, ap, sym, ◌∙◌}
+use Rattle.known_system.proofs.Prelude.{FileCall, List, ap, links_by_path, nothing, replay, stored, sym, ◌∙◌}
 use Rattle.std.specs.Option.{option_copied}
-use Rattle.runs.specs.Prelude.{FileCall}
-use Rattle.known_system.specs.Prelude.{links_by_path, stored, nothing, replay}
 use Rattle.known_system.proofs.Tellings.{answers_link}
 use Rattle.known_system.proofs.files.KnownFilesOutputFiles.link.Goals as goal
 

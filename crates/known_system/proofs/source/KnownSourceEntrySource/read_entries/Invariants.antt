@@ -1,5 +1,4 @@
-use Rattle.std.proofs.Common.{◌≡◌, map, take}
-use Rattle.known_system.specs.Prelude.{entry_texts}
+use Rattle.known_system.proofs.Prelude.{entry_texts, map, take, ◌≡◌}
 use Rattle.known_system.proofs.source.KnownSourceEntrySource.read_entries.Given as goal
 
 abbrev pub invariant-loop-entry : goal.invariant-loop-entry

@@ -1,5 +1,4 @@
-use Rattle.std.proofs.Common.{arith, refl, ℕ, ◌+◌, ◌<◌}
-use Rattle.mo_file.specs.Prelude.{word_at, word_bytes, messages_of}
+use Rattle.mo_file.proofs.Prelude.{arith, messages_of, refl, word_at, word_bytes, ℕ, ◌+◌, ◌<◌}
 use Rattle.mo_file.proofs.view.MoView.empty.Goals as goal
 
 none_below : (i : ℕ) → i < 0 → ⊥

@@ -1,4 +1,4 @@
-use Rattle.std.proofs.Common.{sym, ◌∙◌}
+use Rattle.mo_file.proofs.Prelude.{sym, ◌∙◌}
 use Rattle.mo_file.proofs.ViewLemmas.{length-messages_of, AreRising-messages_of}
 use Rattle.mo_file.proofs.view.MoView.len.Goals as goal
 

@@ -1,8 +1,4 @@
-use Rattle.std.proofs.Common.{◌≡◌, List, ◌∙◌, ap, arith, sym}
-use Rattle.mo_file.specs.declared.byte_order.Order.{Order}
-use Rattle.mo_file.specs.declared.fault.MoError.TheVariants.{TooShort}
-use Rattle.mo_file.specs.Internal.Checking.{IsChecked}
-use Rattle.mo_file.specs.Prelude.{Message, IsMoFile, messages_of}
+use Rattle.mo_file.proofs.Prelude.{IsChecked, IsMoFile, List, Message, Order, TooShort, ap, arith, messages_of, sym, ◌∙◌, ◌≡◌}
 use Rattle.mo_file.proofs.FaultLemmas.{not_below, of-valid}
 use Rattle.mo_file.proofs.view.MoView.open_checked.Goals as goal
 use Rattle.mo_file.proofs.view.MoView.open_checked.Goals.{in-Little, in-Big}

@@ -1,4 +1,4 @@
-use Rattle.std.proofs.Common.{arith, ◌∙◌, ap, Some}
+use Rattle.mo_file.proofs.Prelude.{Some, ap, arith, ◌∙◌}
 use Rattle.mo_file.proofs.ViewLemmas.{length-messages_of, map-messages_of-at, original-stands, string-within}
 use Rattle.mo_file.proofs.view.MoView.original.Goals as goal
 

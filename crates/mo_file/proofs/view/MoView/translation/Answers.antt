@@ -1,6 +1,4 @@
-use Rattle.std.proofs.Common.{◌∙◌, ap, sym, Some}
-use Rattle.std.specs.List.{slice_range}
-use Rattle.mo_file.specs.Prelude.{FileView}
+use Rattle.mo_file.proofs.Prelude.{FileView, Some, ap, slice_range, sym, ◌∙◌}
 use Rattle.mo_file.proofs.view.MoView.translation.Goals as goal
 
 pub returns : goal.returns

@@ -1,4 +1,4 @@
-use Rattle.std.proofs.Common.{arith}
+use Rattle.mo_file.proofs.Prelude.{arith}
 use Rattle.mo_file.proofs.ViewLemmas.{length-messages_of, map-messages_of-at, translation-stands}
 use Rattle.mo_file.proofs.view.MoView.translation_range.Goals as goal
 

@@ -1,5 +1,4 @@
-use Rattle.std.proofs.Common.{◌≡◌, ◌∙◌, refl}
-use Rattle.mo_lookup.specs.Prelude.{located_view, AnswerView, query}
+use Rattle.mo_lookup.proofs.Prelude.{AnswerView, located_view, query, refl, ◌∙◌, ◌≡◌}
 use Rattle.mo_lookup.proofs.PlaceLemmas.{untranslated_view}
 use Rattle.mo_lookup.proofs.catalog.Catalog.look_counted.Goals.{in-Translation, in-Id}
 use Rattle.mo_lookup.proofs.catalog.Catalog.look_counted.Goals as goal

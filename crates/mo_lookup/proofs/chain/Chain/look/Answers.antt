@@ -1,5 +1,4 @@
-use Rattle.std.proofs.Common.{None, Some, ◌∙◌, arith}
-use Rattle.mo_lookup.specs.Prelude.{query}
+use Rattle.mo_lookup.proofs.Prelude.{None, Some, arith, query, ◌∙◌}
 use Rattle.mo_lookup.proofs.ChainLemmas.{HaveNot-all, chain_answered-is, first-found, found-translates, nodes-answering, none-found}
 use Rattle.mo_lookup.proofs.chain.Chain.look.Goals as goal
 

@@ -1,4 +1,4 @@
-use Rattle.mo_lookup.specs.Prelude.{query}
+use Rattle.mo_lookup.proofs.Prelude.{query}
 use Rattle.mo_lookup.proofs.ChainLemmas.{HaveNot}
 use Rattle.mo_lookup.proofs.chain.Chain.look.Given as goal
 

@@ -1,6 +1,4 @@
-use Rattle.std.proofs.Common.{◌≡◌, subst}
-use Rattle.po_entry.specs.Prelude.{set_fuzzy, set_obsolete}
-use Rattle.msgattrib.specs.Prelude.{changed}
+use Rattle.msgattrib.proofs.Prelude.{changed, set_fuzzy, set_obsolete, subst, ◌≡◌}
 use Rattle.msgattrib.proofs.ChangedEntries.{changed_in_place, same_length}
 use Rattle.msgattrib.proofs.selection.Selection.change_at.Goals as goal
 

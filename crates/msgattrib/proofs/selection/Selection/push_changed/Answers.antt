@@ -1,6 +1,4 @@
-use Rattle.std.proofs.Common.{[], ◌∷◌, ◌++◌, ◌∙◌, ap, subst, sym}
-use Rattle.po_entry.specs.Prelude.{TextEntry, IsCatalogueEntry}
-use Rattle.msgattrib.specs.Prelude.{changed}
+use Rattle.msgattrib.proofs.Prelude.{IsCatalogueEntry, TextEntry, [], ap, changed, subst, sym, ◌++◌, ◌∙◌, ◌∷◌}
 use Rattle.msgattrib.proofs.ChangedEntries.{changed_in_copy}
 use Rattle.msgattrib.proofs.SelectionLaws.{changed_can_stand}
 use Rattle.msgattrib.proofs.selection.Selection.push_changed.Goals as goal

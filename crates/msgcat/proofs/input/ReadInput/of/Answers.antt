@@ -1,6 +1,4 @@
-use Rattle.std.proofs.Common.{subst}
-use Rattle.std.specs.Prelude.{IsUtf8}
-use Rattle.po_entry.specs.Prelude.{Lacks}
+use Rattle.msgcat.proofs.Prelude.{IsUtf8, Lacks, subst}
 use Rattle.msgcat.proofs.input.ReadInput.of.Goals as goal
 
 pub returns-clause-known : goal.returns-clause-known

@@ -1,5 +1,4 @@
-use Rattle.std.proofs.Common.{◌≡◌, ◌+◌, ◌-◌, ◌<◌, ◌∙◌, arith, get_or, length, refl, set, subst, suc, sym}
-use Rattle.std.proofs.lemmas.Grind.{get_or_default_zero}
+use Rattle.msgcat.proofs.Prelude.{arith, get_or, get_or_default_zero, length, refl, set, subst, suc, sym, ◌+◌, ◌-◌, ◌<◌, ◌∙◌, ◌≡◌}
 use Rattle.msgcat.proofs.LinkLemmas.{AreLinkedFrom, all_linked, linked_more}
 use Rattle.msgcat.proofs.links.Links.of.Goals as goal
 

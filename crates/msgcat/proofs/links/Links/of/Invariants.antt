@@ -1,4 +1,4 @@
-use Rattle.std.proofs.Common.{◌-◌, length}
+use Rattle.msgcat.proofs.Prelude.{length, ◌-◌}
 use Rattle.msgcat.proofs.LinkLemmas.{AreLinkedFrom}
 use Rattle.msgcat.proofs.links.Links.of.Given as goal
 

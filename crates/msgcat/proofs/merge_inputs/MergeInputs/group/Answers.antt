@@ -1,10 +1,6 @@
-use Rattle.std.proofs.Common.{All, [], ◌≡◌, ◌<◌, ◌≤◌, ◌++◌, ◌∙◌, ap, append-nil, arith, get_or, length, subst, sym}
-use Rattle.std.proofs.lemmas.Grind.{get_or_default_zero}
-use Rattle.std.proofs.lemmas.List.{length-map}
-use Rattle.std.proofs.lemmas.List.Elements.{All-head, All-tail}
+use Rattle.msgcat.proofs.Prelude.{All-head, All-tail, AreReadInputs, IsChain, NamedEntry, [], all_entries, ap, append-nil, arith, definitions, entries_at, get_or, get_or_default_zero, groups, length, length-map, named_entries, no_entry, subst, sym, ◌++◌, ◌<◌, ◌∙◌, ◌≡◌, ◌≤◌}
+use Rattle.std.proofs.Common.{All}
 use Rattle.msgcat.specs.declared.definition.NamedEntry.{NamedEntry as BorrowedEntry}
-use Rattle.msgcat.specs.Prelude.{definitions, groups, IsChain, NamedEntry, all_entries, named_entries, AreReadInputs}
-use Rattle.msgcat.specs.Internal.Inputs.{entries_at, no_entry}
 use Rattle.msgcat.proofs.HeldGroups.{entries_here, groups_at, groups_counted, indexes_here}
 use Rattle.msgcat.proofs.LinkLemmas.{chain_on, chain_over}
 use Rattle.msgcat.proofs.ReadInputs.{entry_is, entry_taken}

@@ -1,6 +1,5 @@
-use Rattle.std.proofs.Common.{◌≡◌, ◌-◌, ◌++◌, ◌<◌, ℕ, All, List, [], get_or, length}
-use Rattle.msgcat.specs.Prelude.{groups, IsChain, Named, all_entries, named_entries, HoldInputs, messages}
-use Rattle.msgcat.specs.Internal.Inputs.{entries_at}
+use Rattle.msgcat.proofs.Prelude.{HoldInputs, IsChain, List, Named, [], all_entries, entries_at, get_or, groups, length, messages, named_entries, ℕ, ◌++◌, ◌-◌, ◌<◌, ◌≡◌}
+use Rattle.std.proofs.Common.{All}
 use Rattle.msgcat.proofs.merge_inputs.MergeInputs.group.Given as goal
 
 -- the entries so far are listed, and the others are linked

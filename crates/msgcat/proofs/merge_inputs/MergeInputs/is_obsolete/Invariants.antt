@@ -1,6 +1,4 @@
-use Rattle.std.proofs.Common.{◌≡◌, ◌-◌, ◌<◌, ℕ, List, [], get_or, length}
-use Rattle.msgcat.specs.Prelude.{groups, Named, all_entries, HoldInputs, messages}
-use Rattle.msgcat.specs.Internal.Inputs.{entries_at}
+use Rattle.msgcat.proofs.Prelude.{HoldInputs, List, Named, [], all_entries, entries_at, get_or, groups, length, messages, ℕ, ◌-◌, ◌<◌, ◌≡◌}
 use Rattle.msgcat.proofs.Walks.{AreLeft, any_live}
 use Rattle.msgcat.proofs.merge_inputs.MergeInputs.is_obsolete.Given as goal
 

@@ -1,6 +1,4 @@
-use Rattle.std.proofs.Common.{◌∷◌, [], ◌∙◌, ap, subst}
-use Rattle.std.proofs.lemmas.Result.{err_from_is_err_and}
-use Rattle.msgcat.specs.Prelude.{named_entries, IsMergeFault}
+use Rattle.msgcat.proofs.Prelude.{IsMergeFault, [], ap, err_from_is_err_and, named_entries, subst, ◌∙◌, ◌∷◌}
 use Rattle.msgcat.proofs.MergedOnes.{alone_merged, kept_can, kept_message}
 use Rattle.msgcat.proofs.merge_inputs.MergeInputs.merge_message.Goals as goal
 

@@ -1,6 +1,4 @@
-use Rattle.std.proofs.Common.{arith}
-use Rattle.std.proofs.lemmas.List.{length-map}
-use Rattle.msgcat.specs.Prelude.{definitions, groups, all_entries}
+use Rattle.msgcat.proofs.Prelude.{all_entries, arith, definitions, groups, length-map}
 use Rattle.msgcat.proofs.HeldGroups.{groups_counted}
 use Rattle.msgcat.proofs.merge_inputs.MergeInputs.message_count.Goals as goal
 

@@ -1,9 +1,5 @@
-use Rattle.std.proofs.Common.{◌≡◌, ◌∙◌, ap, length, subst}
-use Rattle.std.specs.Prelude.{All}
-use Rattle.po_entry.specs.Prelude.{IsCatalogueEntry, first_ones, group_numbers, entry_messages, same_message}
-use Rattle.po_entry.proofs.FirstOnes.{numbers_below}
-use Rattle.po_entry.proofs.MessageIndex.{same_message_laws}
-use Rattle.msgcat.specs.Prelude.{named_messages, all_entries, AreLinked, indexes_by, count_messages}
+use Rattle.msgcat.proofs.Prelude.{All, AreLinked, IsCatalogueEntry, all_entries, ap, count_messages, entry_messages, group_numbers, indexes_by, length, named_messages, numbers_below, same_message_laws, subst, ◌∙◌, ◌≡◌}
+use Rattle.po_entry.specs.Prelude.{first_ones, same_message}
 use Rattle.msgcat.proofs.HeldGroups.{messages_of}
 use Rattle.msgcat.proofs.ReadInputs.{all_can}
 use Rattle.msgcat.proofs.merge_inputs.MergeInputs.of.Goals as goal

@@ -1,6 +1,4 @@
-use Rattle.std.proofs.Common.{◌≡◌, ◌<◌, ◌≤◌, ◌∙◌, arith, get_or, length, subst, sym}
-use Rattle.std.proofs.lemmas.Grind.{get_or_default_zero}
-use Rattle.msgcat.specs.Internal.Inputs.{no_entry}
+use Rattle.msgcat.proofs.Prelude.{arith, get_or, get_or_default_zero, length, no_entry, subst, sym, ◌<◌, ◌∙◌, ◌≡◌, ◌≤◌}
 use Rattle.msgcat.proofs.Walks.{AreLeft, all_left, first_inside, first_links, indexes, only_one, stored}
 use Rattle.msgcat.proofs.merge_inputs.MergeInputs.only_entry.Goals as goal
 

@@ -1,9 +1,5 @@
-use Rattle.std.proofs.Common.{◌≡◌, ℕ, ◌+◌, ◌*◌, ◌/◌, ◌%◌, refl, ap, ◌∙◌, arith}
-use Rattle.plural_rule.specs.declared.operator.Operator.{Operator}
-use Rattle.plural_rule.specs.declared.operator.Operator.TheVariants.{Or}
+use Rattle.plural_rule.proofs.Prelude.{Operator, Or, ap, arith, operator_code, pending_by, pending_of, refl, ℕ, ◌%◌, ◌*◌, ◌+◌, ◌/◌, ◌∙◌, ◌≡◌}
 use Rattle.plural_rule.specs.declared.pending.Pending.TheVariants.{Binary}
-use Rattle.plural_rule.specs.Prelude.{operator_code}
-use Rattle.plural_rule.specs.Internal.Pending.{pending_by, pending_of}
 use Rattle.plural_rule.proofs.pending.Pending.code.Goals as goal
 
 coded : (kind first : ℕ) → pending_of (4096 * kind + first % 4096) ≡ pending_by kind (first % 4096)

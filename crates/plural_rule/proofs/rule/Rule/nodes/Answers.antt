@@ -1,8 +1,4 @@
-use Rattle.std.proofs.Common.{◌≡◌, [], length, slice_index_or, refl, ap, drop, drop-cons, add-one, arith}
-use Rattle.std.proofs.lemmas.Bool.{lt-ltb, le-ltb}
-use Rattle.std.proofs.lemmas.List.{drop_all}
-use Rattle.plural_rule.specs.Prelude.{begins, nodes, length-program}
-use Rattle.plural_rule.specs.declared.instruction.Instruction.{Instruction}
+use Rattle.plural_rule.proofs.Prelude.{Instruction, [], add-one, ap, arith, begins, drop, drop-cons, drop_all, le-ltb, length, length-program, lt-ltb, nodes, refl, slice_index_or, ◌≡◌}
 use Rattle.plural_rule.proofs.Programs.{all_begin, all_begin-program, nodes-positive, nodes-le-size}
 use Rattle.plural_rule.proofs.rule.Rule.nodes.Goals as goal
 use Rattle.plural_rule.proofs.rule.Rule.nodes.Goals.{then-instruction-lt3, else-instruction-lt3}

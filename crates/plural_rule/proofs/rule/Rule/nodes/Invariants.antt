@@ -1,5 +1,4 @@
-use Rattle.std.proofs.Common.{◌≡◌, ◌+◌, ◌*◌, ◌^◌, ◌≤◌, drop}
-use Rattle.plural_rule.specs.Prelude.{nodes}
+use Rattle.plural_rule.proofs.Prelude.{drop, nodes, ◌*◌, ◌+◌, ◌^◌, ◌≡◌, ◌≤◌}
 use Rattle.plural_rule.proofs.Programs.{all_begin}
 use Rattle.plural_rule.proofs.rule.Rule.nodes.Given as goal
 

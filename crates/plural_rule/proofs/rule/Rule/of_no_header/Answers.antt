@@ -1,8 +1,4 @@
-use Rattle.std.proofs.Common.{◌≡◌, List, refl, ap, sym, ◌∙◌}
-use Rattle.plural_rule.specs.declared.instruction.Instruction.{Instruction}
-use Rattle.plural_rule.specs.declared.rule.Source.TheVariants.{Default}
-use Rattle.plural_rule.specs.declared.rule.Reason.TheVariants.{NoNumber}
-use Rattle.plural_rule.specs.Prelude.{Tree, default_rule, program, tree_of, tree_of-program}
+use Rattle.plural_rule.proofs.Prelude.{Default, Instruction, List, NoNumber, Tree, ap, default_rule, program, refl, sym, tree_of, tree_of-program, ◌∙◌, ◌≡◌}
 use Rattle.plural_rule.proofs.rule.Rule.of_no_header.Goals as goal
 
 tree_is : (code : List Instruction) (t : Tree) → code ≡ program 0 t → tree_of code ≡ t

@@ -1,7 +1,4 @@
-use Rattle.std.proofs.Common.{◌≡◌, List, sym, ap, subst, ◌∙◌}
-use Rattle.plural_rule.specs.declared.instruction.Instruction.{Instruction}
-use Rattle.plural_rule.specs.declared.rule.Source.TheVariants.{Default}
-use Rattle.plural_rule.specs.Prelude.{Tree, IsReadable, default_rule, expression_limit, program, tree_of, tree_of-program}
+use Rattle.plural_rule.proofs.Prelude.{Default, Instruction, IsReadable, List, Tree, ap, default_rule, expression_limit, program, subst, sym, tree_of, tree_of-program, ◌∙◌, ◌≡◌}
 use Rattle.plural_rule.proofs.rule.Rule.parse_into.Goals as goal
 
 tree_is : (code : List Instruction) (t : Tree) → code ≡ program 0 t → tree_of code ≡ t

@@ -1,8 +1,5 @@
-use Rattle.std.proofs.Common.{sym, ◌∙◌, inl, refl}
-use Rattle.std.proofs.lemmas.Bool.{false≢true}
+use Rattle.po_catalog.proofs.Prelude.{All-pushed, IsCatalogueEntry, false≢true, inl, refl, sym, ◌∙◌}
 use Rattle.po_reader.proofs.Results.{on_ok_always}
-use Rattle.po_entry.specs.Prelude.{IsCatalogueEntry}
-use Rattle.po_entry.proofs.Lists.{All-pushed}
 use Rattle.po_catalog.proofs.catalogue.Catalogue.push.Goals as goal
 
 pub invariant_of-self : goal.invariant_of-self

@@ -1,4 +1,4 @@
-use Rattle.po_entry.proofs.Changes.{IsEntry-without_previous}
+use Rattle.po_catalog.proofs.Prelude.{IsEntry-without_previous}
 use Rattle.po_catalog.proofs.entry.Entry.clear_previous.Goals as goal
 
 pub invariant_of-self : goal.invariant_of-self

@@ -1,7 +1,4 @@
-use Rattle.std.proofs.Common.{◌≡◌, ◌∙◌, map, []}
-use Rattle.std.proofs.lemmas.List.{with_items_is}
-use Rattle.po_entry.specs.Prelude.{texts}
-use Rattle.po_entry.proofs.Changes.{IsEntry-emptied}
+use Rattle.po_catalog.proofs.Prelude.{IsEntry-emptied, [], map, texts, with_items_is, ◌∙◌, ◌≡◌}
 use Rattle.po_catalog.proofs.entry.Entry.empty_forms.Goals as goal
 
 pub invariant_of-self : goal.invariant_of-self

@@ -1,9 +1,5 @@
-use Rattle.std.proofs.Common.{◌≡◌, ◌<◌, ◌≤◌, ◌+◌, ap, ap₂, sym, ◌∙◌, arith, rules, cond, count_by, Bool, length, take}
-use Rattle.std.proofs.lemmas.List.{take_all}
+use Rattle.po_compile.proofs.Prelude.{Bool, ap, ap₂, arith, cond, count_by, has_no_key, length, length-filter, live_message, rules, sym, take, take_all, ◌+◌, ◌<◌, ◌∙◌, ◌≡◌, ◌≤◌}
 use Rattle.std.proofs.lemmas.List.Filters.{length-filter_more}
-use Rattle.std.proofs.lemmas.List.Sums.{length-filter}
-use Rattle.po_compile.specs.Prelude.{live_message}
-use Rattle.po_compile.specs.Internal.{has_no_key}
 use Rattle.po_compile.proofs.JoinedRows.{header_seen}
 use Rattle.po_compile.proofs.LiveMessages.{as_many, message_at}
 use Rattle.po_compile.proofs.collecting.Collected.header_count.Goals as goal

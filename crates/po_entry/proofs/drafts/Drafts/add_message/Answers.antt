@@ -1,5 +1,4 @@
-use Rattle.std.proofs.Common.{◌++◌, ◌∷◌, [], ◌∙◌, ap, refl}
-use Rattle.po_entry.specs.declared.row.Row.{Row}
+use Rattle.po_entry.proofs.Prelude.{Row, [], ap, refl, ◌++◌, ◌∙◌, ◌∷◌}
 use Rattle.po_entry.proofs.RowLemmas.{always, keeps}
 use Rattle.po_entry.proofs.drafts.Drafts.add_message.Goals as goal
 

@@ -1,8 +1,4 @@
-use Rattle.std.proofs.Common.{sym, ◌∙◌, IsUtf8}
-use Rattle.std.specs.Prelude.{All}
-use Rattle.std.proofs.lemmas.Bool.{false≢true}
-use Rattle.po_entry.specs.Prelude.{quoted_texts}
-use Rattle.po_entry.specs.Validity.EntryTextFault.{not_utf8, forbidden}
+use Rattle.po_entry.proofs.Prelude.{All, IsUtf8, false≢true, forbidden, not_utf8, quoted_texts, sym, ◌∙◌}
 use Rattle.po_entry.proofs.entry_ref.EntryRef.check_texts.Goals as goal
 use Rattle.po_entry.proofs.entry_ref.EntryRef.check_texts.Goals.{else-not-are_utf8-via-then-not-are_utf8+else-not-is_all_utf8, else-not-are_utf8-via-else-not-are_utf8}
 

@@ -1,5 +1,4 @@
-use Rattle.std.proofs.Common.{◌≡◌, ◌++◌}
-use Rattle.po_entry.specs.Prelude.{forms_left, texts}
+use Rattle.po_entry.proofs.Prelude.{forms_left, texts, ◌++◌, ◌≡◌}
 use Rattle.po_entry.proofs.entry_ref.FormIter.copy.Given as goal
 
 abbrev pub invariant-loop-form : goal.invariant-loop-form

@@ -1,4 +1,4 @@
-use Rattle.std.proofs.Common.{sym, ◌∙◌}
+use Rattle.po_entry.proofs.Prelude.{sym, ◌∙◌}
 use Rattle.po_entry.proofs.Headers.{first_text}
 use Rattle.po_entry.proofs.fields.Fields.has_admitted_charset.Goals as goal
 

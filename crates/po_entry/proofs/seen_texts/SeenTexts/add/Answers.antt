@@ -1,6 +1,5 @@
-use Rattle.std.proofs.Common.{ap, ◌∙◌, map}
+use Rattle.po_entry.proofs.Prelude.{SeenText, ap, map, ◌∙◌}
 use Rattle.po_entry.proofs.SeenTextLemmas.{bytes_of, index_of_key, key_added}
-use Rattle.po_entry.specs.declared.seen_texts.SeenText.{SeenText}
 use Rattle.po_entry.proofs.seen_texts.SeenTexts.add.Goals as goal
 
 pub returns-clause-seen : goal.returns-clause-seen

@@ -1,8 +1,4 @@
-use Rattle.std.proofs.Common.{◌++◌, ◌∙◌, ap, ap₂, sym, subst, map, length, List, ℕ}
-use Rattle.std.specs.Prelude.{All}
-use Rattle.std.proofs.lemmas.List.Elements.{All-append}
-use Rattle.po_entry.specs.Prelude.{TextEntry, entry_at, entries_in, moved, IsCatalogueEntry}
-use Rattle.po_entry.specs.declared.row.Row.{Row}
+use Rattle.po_entry.proofs.Prelude.{All, All-append, IsCatalogueEntry, List, Row, TextEntry, ap, ap₂, entries_in, entry_at, length, map, moved, subst, sym, ℕ, ◌++◌, ◌∙◌}
 use Rattle.po_entry.proofs.RowLemmas.{appended}
 use Rattle.po_entry.proofs.store.Store.append.Goals as goal
 

@@ -1,7 +1,5 @@
-use Rattle.std.proofs.Common.{◌≡◌, ◌<◌, ap, length, map, arith, subst}
-use Rattle.po_entry.specs.Prelude.{entry_at, IsCatalogueEntry}
+use Rattle.po_entry.proofs.Prelude.{IsCatalogueEntry, ap, arith, common_steps, entry_at, length, map, subst, ◌<◌, ◌≡◌}
 use Rattle.std.specs.Prelude.{get_or}
-use Rattle.std.proofs.lemmas.Grind.{common_steps}
 use Rattle.po_entry.proofs.store.Store.get.Goals as goal
 
 pub returns-clause-valid : goal.returns-clause-valid

@@ -1,9 +1,5 @@
-use Rattle.std.proofs.Common.{◌≡◌, ◌∙◌, sym, ap, subst, map, filter, not, rules, Bool}
-use Rattle.std.specs.Prelude.{All}
+use Rattle.po_entry.proofs.Prelude.{All, All-filter, Bool, IsCatalogueEntry, LiesIn, Row, ap, entry_at, filter, map, not, rules, subst, sym, ◌∙◌, ◌≡◌}
 use Rattle.std.proofs.lemmas.Fn.{filter_same}
-use Rattle.std.proofs.lemmas.List.Elements.{All-filter}
-use Rattle.po_entry.specs.Prelude.{LiesIn, entry_at, IsCatalogueEntry}
-use Rattle.po_entry.specs.declared.row.Row.{Row}
 use Rattle.po_entry.proofs.RowLemmas.{filtered, kept_live}
 use Rattle.po_entry.proofs.store.Store.keep_live.Goals as goal
 

@@ -1,7 +1,4 @@
-use Rattle.std.proofs.Common.{◌<◌, ◌^◌, ◌++◌, ◌∷◌, [], ◌∙◌, ap, refl, sym, subst, List, length, arith}
-use Rattle.std.specs.Prelude.{All}
-use Rattle.po_entry.specs.Prelude.{entry_view, TextEntry, IsCatalogueEntry}
-use Rattle.po_entry.specs.declared.row.Row.{Row}
+use Rattle.po_entry.proofs.Prelude.{All, IsCatalogueEntry, List, Row, TextEntry, [], ap, arith, entry_view, length, refl, subst, sym, ◌++◌, ◌<◌, ◌^◌, ◌∙◌, ◌∷◌}
 use Rattle.po_entry.proofs.RowLemmas.{Pushed, always, keeps, pushed}
 use Rattle.po_entry.proofs.store.Store.push.Goals as goal
 

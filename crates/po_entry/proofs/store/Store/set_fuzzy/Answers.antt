@@ -1,8 +1,4 @@
-use Rattle.std.proofs.Common.{◌<◌, ◌∙◌, sym, ap, length, map, subst, arith}
-use Rattle.std.specs.Prelude.{All}
-use Rattle.std.proofs.lemmas.List.{length-map}
-use Rattle.po_entry.specs.Prelude.{LiesIn, changed_at, entry_at, set_fuzzy, IsCatalogueEntry}
-use Rattle.po_entry.specs.declared.row.Row.{Row}
+use Rattle.po_entry.proofs.Prelude.{All, IsCatalogueEntry, LiesIn, Row, ap, arith, changed_at, entry_at, length, length-map, map, set_fuzzy, subst, sym, ◌<◌, ◌∙◌}
 use Rattle.po_entry.proofs.RowLemmas.{all_changed, all_set, fuzzy_lies, fuzzy_stands, written}
 use Rattle.po_entry.proofs.store.Store.set_fuzzy.Goals as goal
 

@@ -1,4 +1,4 @@
-use Rattle.std.proofs.Common.{append_assoc, arith}
+use Rattle.po_entry.proofs.Prelude.{append_assoc, arith}
 use Rattle.po_entry.proofs.TextListLemmas.{more_AreTexts, texts_more}
 use Rattle.po_entry.proofs.text_list.TextList.push.Goals as goal
 

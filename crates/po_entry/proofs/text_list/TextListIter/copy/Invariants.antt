@@ -1,5 +1,4 @@
-use Rattle.std.proofs.Common.{◌≡◌, ◌++◌}
-use Rattle.po_entry.specs.Prelude.{texts_left}
+use Rattle.po_entry.proofs.Prelude.{texts_left, ◌++◌, ◌≡◌}
 use Rattle.po_entry.proofs.text_list.TextListIter.copy.Given as goal
 
 abbrev pub invariant-loop-text : goal.invariant-loop-text

@@ -1,4 +1,4 @@
-use Rattle.std.proofs.Common.{refl}
+use Rattle.po_reader.proofs.Prelude.{refl}
 use Rattle.po_reader.proofs.Heads.{holds_nothing}
 use Rattle.po_reader.proofs.head.Head.new.Goals as goal
 

@@ -1,5 +1,4 @@
-use Rattle.std.proofs.Common.{◌≡◌, ◌∙◌, ap, sym, subst, inl, inr, length, arith, rules}
-use Rattle.po_syntax.specs.Prelude.{AreOfText, lines_of_rest, BeginsAnew, EndsPiece}
+use Rattle.po_syntax.proofs.Prelude.{AreOfText, BeginsAnew, EndsPiece, ap, arith, inl, inr, length, lines_of_rest, rules, subst, sym, ◌∙◌, ◌≡◌}
 use Rattle.po_syntax.proofs.LinesRead.{can_end, cut_off, lent_before, line_stops, lines_begin, none_read, read_on}
 use Rattle.po_syntax.proofs.TextLeft.{len_few, read_few}
 use Rattle.po_syntax.proofs.TranslationEnds.{cut_at}

@@ -1,5 +1,4 @@
-use Rattle.std.proofs.Common.{length}
-use Rattle.po_syntax.specs.Prelude.{lines_of_rest}
+use Rattle.po_syntax.proofs.Prelude.{length, lines_of_rest}
 use Rattle.po_syntax.proofs.LinesRead.{ReadLent}
 use Rattle.po_syntax.proofs.pieces.Pieces.add_piece.Given as goal
 

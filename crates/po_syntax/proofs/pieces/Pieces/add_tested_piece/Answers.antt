@@ -1,5 +1,4 @@
-use Rattle.std.proofs.Common.{subst}
-use Rattle.po_syntax.specs.Prelude.{AreOfText}
+use Rattle.po_syntax.proofs.Prelude.{AreOfText, subst}
 use Rattle.po_syntax.proofs.NoMemory.{is_text_fault}
 use Rattle.po_syntax.proofs.PieceLemmas.{clean_piece, has_fault, text_holds_other}
 use Rattle.po_syntax.proofs.pieces.Pieces.add_tested_piece.Goals as goal

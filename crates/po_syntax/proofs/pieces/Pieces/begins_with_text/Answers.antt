@@ -1,5 +1,4 @@
-use Rattle.std.proofs.Common.{◌≡◌, refl, take}
-use Rattle.std.proofs.lemmas.List.{take_min}
+use Rattle.po_syntax.proofs.Prelude.{refl, take, take_min, ◌≡◌}
 use Rattle.po_syntax.proofs.TextLeft.{rest_text}
 use Rattle.po_syntax.proofs.pieces.Pieces.begins_with_text.Goals as goal
 

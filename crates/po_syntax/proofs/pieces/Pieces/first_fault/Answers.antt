@@ -1,4 +1,4 @@
-use Rattle.po_syntax.specs.Prelude.{LeftStops}
+use Rattle.po_syntax.proofs.Prelude.{LeftStops}
 use Rattle.po_syntax.proofs.NoMemory.{is_text_fault}
 use Rattle.po_syntax.proofs.TextLeft.{first_of_text}
 use Rattle.po_syntax.proofs.pieces.Pieces.first_fault.Goals as goal

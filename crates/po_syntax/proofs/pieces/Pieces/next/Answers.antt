@@ -1,6 +1,4 @@
-use Rattle.std.proofs.Common.{◌≡◌, ap, subst, arith}
-use Rattle.std.proofs.lemmas.List.{length-map}
-use Rattle.po_syntax.specs.Prelude.{AreOfText, LinesLeft, view}
+use Rattle.po_syntax.proofs.Prelude.{AreOfText, LinesLeft, ap, arith, length-map, subst, view, ◌≡◌}
 use Rattle.po_syntax.proofs.PieceLemmas.{piece_few, piece_hold, piece_whole}
 use Rattle.po_syntax.proofs.TextLeft.{read_of_text}
 use Rattle.po_syntax.proofs.pieces.Pieces.next.Goals as goal

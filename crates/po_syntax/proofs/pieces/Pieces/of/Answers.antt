@@ -1,6 +1,4 @@
-use Rattle.std.proofs.Common.{◌≡◌, [], refl, rules, arith}
-use Rattle.std.proofs.lemmas.List.Elements.{All-nil}
-use Rattle.po_syntax.specs.Prelude.{IsCleanLine, without_byte_order_mark}
+use Rattle.po_syntax.proofs.Prelude.{All-nil, IsCleanLine, [], arith, refl, rules, without_byte_order_mark, ◌≡◌}
 use Rattle.po_syntax.proofs.CleanTexts.{text_of_clean_lines}
 use Rattle.po_syntax.proofs.pieces.Pieces.of.Goals as goal
 

@@ -1,6 +1,4 @@
-use Rattle.std.proofs.Common.{[], ◌∷◌, sym, refl}
-use Rattle.std.proofs.lemmas.Result.{on_ok_weaker}
-use Rattle.po_writer.specs.declared.parts.TextParts.{TextParts}
+use Rattle.po_writer.proofs.Prelude.{TextParts, [], on_ok_weaker, refl, sym, ◌∷◌}
 use Rattle.po_writer.proofs.Parted.{added_parts, live_added, obsolete_added}
 use Rattle.po_writer.proofs.parts.TextParts.add.Goals as goal
 

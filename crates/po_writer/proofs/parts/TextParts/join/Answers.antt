@@ -1,4 +1,4 @@
-use Rattle.std.proofs.Common.{sym}
+use Rattle.po_writer.proofs.Prelude.{sym}
 use Rattle.po_writer.proofs.Parted.{both_parts, live_alone}
 use Rattle.po_writer.proofs.parts.TextParts.join.Goals as goal
 

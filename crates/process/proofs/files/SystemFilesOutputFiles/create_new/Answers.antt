@@ -1,4 +1,4 @@
-use Rattle.process.specs.OutputCalls.{unmade}
+use Rattle.process.proofs.Prelude.{unmade}
 use Rattle.process.proofs.SystemCallLemmas.{once}
 use Rattle.process.proofs.files.SystemFilesOutputFiles.create_new.Goals as goal
 

@@ -1,4 +1,4 @@
-use Rattle.process.specs.OutputCalls.{told}
+use Rattle.process.proofs.Prelude.{told}
 use Rattle.process.proofs.SystemCallLemmas.{once}
 use Rattle.process.proofs.files.SystemFilesOutputFiles.kind.Goals as goal
 

@@ -1,5 +1,5 @@
-use Rattle.std.proofs.Common.{sym, ◌∙◌}
-use Rattle.process.specs.OutputCalls.{there, not_there, unread}
+use Rattle.process.proofs.Prelude.{not_there, sym, there, ◌∙◌}
+use Rattle.process.specs.OutputCalls.{unread}
 use Rattle.process.proofs.SystemCallLemmas.{once}
 use Rattle.process.proofs.files.SystemFilesOutputFiles.link.Goals as goal
 

@@ -1,5 +1,4 @@
-use Rattle.std.proofs.Common.{refl}
-use Rattle.process.specs.OutputCalls.{random, counted}
+use Rattle.process.proofs.Prelude.{counted, random, refl}
 use Rattle.process.proofs.SystemCallLemmas.{once}
 use Rattle.process.proofs.files.SystemFilesOutputFiles.number.Goals as goal
 

@@ -1,4 +1,4 @@
-use Rattle.process.specs.OutputCalls.{input, output, errors}
+use Rattle.process.proofs.Prelude.{errors, input, output}
 use Rattle.process.proofs.SystemCallLemmas.{nothing, once}
 use Rattle.process.proofs.files.SystemFilesOutputFiles.stream.Goals as goal
 

@@ -1,5 +1,4 @@
-use Rattle.std.proofs.Common.{◌≡◌, ◌++◌, drop}
-use Rattle.runs.specs.Prelude.{inputs_in, named_inputs, named_files}
+use Rattle.runs.proofs.Prelude.{drop, inputs_in, named_files, named_inputs, ◌++◌, ◌≡◌}
 use Rattle.runs.proofs.inputs.Inputs.borrowed.Given as goal
 
 abbrev pub invariant-loop-input : goal.invariant-loop-input

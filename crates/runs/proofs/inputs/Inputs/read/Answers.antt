@@ -1,9 +1,4 @@
-use Rattle.std.proofs.Common.{◌≡◌, ◌||◌, ◌+◌, Bool, List, Some, length, drop, vec_len, rules, arith, length-append, refl, sym, subst, ◌∙◌, ap, ⊎_elim}
-use Rattle.std.proofs.lemmas.Bool.{false≢true}
-use Rattle.runs.specs.Prelude.{inputs_in, NamedFile}
-use Rattle.std.proofs.lemmas.List.{length-take, places}
-use Rattle.std.proofs.lemmas.List.Sums.{sum_by-append}
-use Rattle.std.specs.List.{sum_by}
+use Rattle.runs.proofs.Prelude.{Bool, List, NamedFile, Some, ap, arith, drop, false≢true, inputs_in, length, length-append, length-take, places, refl, rules, subst, sum_by, sum_by-append, sym, vec_len, ⊎_elim, ◌+◌, ◌||◌, ◌∙◌, ◌≡◌}
 use Rattle.runs.proofs.InputLemmas.{AsksBefore, AsksBefore-read, AsksBefore-unread, AsksBefore-first, AsksBefore-more, AsksBefore-none, Completes, Completes-none, Completes-read, Completes-unread, Completes-all, inputs-before, inputs-more, reads_as_before, stays_itself, stays_on}
 use Rattle.runs.proofs.inputs.Inputs.read.Goals as goal
 use Rattle.runs.proofs.inputs.Inputs.read.Goals.{then-is_stdin_read, else-is_stdin_read}

@@ -1,6 +1,4 @@
-use Rattle.std.proofs.Common.{◌≡◌, length, true, vec_len}
-use Rattle.runs.specs.Prelude.{Stays, inputs_in}
-use Rattle.std.specs.List.{sum_by}
+use Rattle.runs.proofs.Prelude.{Stays, inputs_in, length, sum_by, true, vec_len, ◌≡◌}
 use Rattle.runs.proofs.InputLemmas.{AsksBefore, Completes}
 use Rattle.runs.proofs.inputs.Inputs.read.Given as goal
 

@@ -1,5 +1,5 @@
-use Rattle.std.proofs.Common.{refl}
-use Rattle.runs.specs.ToolRuns.{written, unwritten}
+use Rattle.runs.proofs.Prelude.{refl, written}
+use Rattle.runs.specs.ToolRuns.{unwritten}
 use Rattle.runs.proofs.output_system.OutputSystem.write.Goals as goal
 
 pub returns-in-Ok : goal.returns-in-Ok

@@ -1,11 +1,6 @@
-use Rattle.std.proofs.Common.{◌≡◌, ◌+◌, ℕ, List, None, Result, Ok, Err, OnOk, OnErr, refl}
+use Rattle.runs.proofs.Prelude.{Appends, AppendsPrefix, DeliversPrefix, Err, List, MakesFile, None, Ok, OnErr, OnOk, OutputIs, Result, RunView, SystemView, ToolFault, WriteFault, WritesRun, delivered, fault_in, refl, result_or, to_file, unmade, unreported, ℕ, ◌+◌, ◌≡◌}
 use Rattle.std.proofs.lemmas.Result.{err_from_is_err_and}
-use Rattle.std.specs.Io.KnownBytes.{Appends}
-use Rattle.std.specs.Result.{result_or}
-use Rattle.runs.specs.Prelude.{AppendsPrefix, fault_in, SystemView, WritesRun, MakesFile, OutputIs, RunView, DeliversPrefix}
-use Rattle.runs.specs.OutputSystem.{cut, delivered, made, to_file, unmade, unreported}
-use Rattle.runs.specs.declared.output_files.OutputFault.TheVariants.{WriteFault}
-use Rattle.runs.specs.declared.tool_fault.ToolFault.{ToolFault}
+use Rattle.runs.specs.OutputSystem.{cut, made}
 use Rattle.runs.proofs.output_system.OutputSystem.write_output.Goals as goal
 
 delivers : {run : RunView} {before after : SystemView} (r : Result (Unit {0}) ToolFault) → after.files ≡ before.files

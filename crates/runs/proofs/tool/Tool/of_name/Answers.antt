@@ -1,9 +1,5 @@
-use Rattle.std.proofs.Common.{◌≡◌, ◌≢◌, ◌<◌, ℕ, List, length, rules, arith, Option, Some, None, MatchOption}
-use Rattle.std.specs.Borrow.{Bor}
-use Rattle.std.specs.List.{AllWithin, HoldsAt}
-use Rattle.std.specs.Option.{option_copied}
+use Rattle.runs.proofs.Prelude.{AllWithin, Bor, HoldsAt, List, MatchOption, None, Option, Some, arith, every_tool, length, option_copied, rules, tool_name, ℕ, ◌<◌, ◌≡◌, ◌≢◌}
 use Rattle.std.proofs.lemmas.Iterator.{YieldsList-from_slice, first_from_find}
-use Rattle.runs.specs.Prelude.{every_tool, tool_name}
 use Rattle.runs.specs.declared.tool.Tool.{Tool}
 use Rattle.runs.specs.declared.tool.Tool.TheVariants.{Msgfmt, Msgunfmt, Msgattrib, Msgcat, Gettext, Ngettext, Envsubst}
 use Rattle.runs.proofs.tool.Tool.of_name.Goals as goal
