@@ -1,5 +1,5 @@
 -- What a look-up in a catalogue comes to that is compiled from a text.
-use Rattle.known_runs.proofs.Prelude.{Answers, Bool, CatalogView, CommandLine, Compiled, Contents, End, EndsLookUp, Err, IsCatalogView, IsCompiledFrom, Leaves, List, NamedFile, None, Ok, Option, OutOfMemory, ProgramFault, Query, Reached, Reading, Result, RunView, RunsLookUpLine, Some, SystemView, Writes, [], answered, answers_of, ap, append-nil, arith, chain_answered, codes, compiled_list, counted, end, false, false≢true, filed, fits_none, forms_found, gives, hello_mo, if◌then◌else◌, inl, inr, is_some, joined_entries, left, line_of, looks_up, ltb-true, meant, message, nat_lt, option_copied, option_map_or, plain, printed, refl, refuses, slice_index, status_or_memory, subst, suc, sym, take, true, untranslated, zero, ℕ, ◌&&◌, ◌++◌, ◌-◌, ◌<◌, ◌^◌, ◌∙◌, ◌∷◌, ◌≡◌}
+use Rattle.known_runs.proofs.Prelude.{Answers, Bool, CatalogView, CommandLine, Compiled, Contents, End, EndsLookUp, Err, IsCatalogView, IsCompiledFrom, Leaves, List, NamedFile, None, Ok, Option, OutOfMemory, ProgramFault, Query, Reached, Reading, Result, RunView, RunsLookUpLine, Some, SystemView, Writes, [], and_parts, answered, answers_of, ap, append-nil, arith, chain_answered, codes, compiled_list, counted, end, false, false≢true, filed, fits_none, forms_found, gives, hello_mo, if◌then◌else◌, inl, inr, is_some, joined_entries, left, line_of, looks_up, ltb-true, meant, message, nat_lt, option_copied, option_map_or, plain, printed, refl, refuses, slice_index, status_or_memory, subst, suc, sym, take, true, untranslated, zero, ℕ, ◌&&◌, ◌++◌, ◌-◌, ◌<◌, ◌^◌, ◌∙◌, ◌∷◌, ◌≡◌}
 use Rattle.std.proofs.lemmas.Str.{IsUtf8-from_ascii}
 use Rattle.std.specs.Borrow.{Bor}
 use Rattle.gettext.specs.Prelude.{AreCatalogues, GivenDomain, Searching, given_domain, searching, IsEnvironment, environment_view, Opens, GettextRequest, NgettextRequest, IsLookUpRun, gettext_output, ngettext_output, output_of, output_run, with_name, paths_of, AsksGettext, AsksNgettext, CommandView, IsGettextRequest, IsNgettextRequest, GettextUsage, NgettextUsage, gettext_usage, ngettext_usage, RunsLookUp}
@@ -18,14 +18,10 @@ abbrev low : List ℕ → Bool
 low [] = true
 low (b ∷ bs) = nat_lt b 128 && low bs
 
-both : (x y : Bool) → (x && y) ≡ true → (x ≡ true) × (y ≡ true)
-both true y is = (refl, is)
-both false y is = cc
-
 ascii_by : (bs : List ℕ) → low bs ≡ true → (i : ℕ) → slice_index bs i < 128
 ascii_by [] is i = omega arith
-ascii_by (b ∷ bs) is zero = ltb-true b 128 (both (nat_lt b 128) (low bs) is).0
-ascii_by (b ∷ bs) is (suc i) = ascii_by bs (both (nat_lt b 128) (low bs) is).1 i
+ascii_by (b ∷ bs) is zero = ltb-true b 128 (and_parts (nat_lt b 128) (low bs) is).0
+ascii_by (b ∷ bs) is (suc i) = ascii_by bs (and_parts (nat_lt b 128) (low bs) is).1 i
 
 -- the catalogue's path is the only one
 paths_by : (all messages lang language domain folder : Option (Bor (List ℕ)))

@@ -7,5 +7,5 @@ pub use Rattle.po_reader.specs.Prelude.{IsReadSoFar, kept_entry}
 pub use Rattle.std.proofs.Common.{All, AllPairs, Bool, Err, List, [], ap, append-nil, append_assoc, ap₂, arith, false, filter, get_or, if◌then◌else◌, inl, inr, length, map, not, refl, subst, suc, sym, take, true, zero, ℕ, ◌&&◌, ◌++◌, ◌+◌, ◌<◌, ◌==◌, ◌||◌, ◌∙◌, ◌∷◌, ◌≡◌, ◌≢◌, ◌≤◌, ◌⊎◌}
 pub use Rattle.std.proofs.Math.Bool.{and-false, and-true, or-true}
 pub use Rattle.std.proofs.lemmas.List.{get_or_append_left, get_or_push, length-map, length_push, map-append, take_all, take_more}
-pub use Rattle.std.proofs.lemmas.List.Elements.{All-filter, All-head, All-map, All-tail, All-weaker, filter-append, filter_agree, filter_passes}
+pub use Rattle.std.proofs.lemmas.List.Elements.{All-filter, All-map, All-weaker, filter-append, filter_agree, filter_passes}
 pub use Rattle.std.proofs.lemmas.Result.{err_from_is_err_and}

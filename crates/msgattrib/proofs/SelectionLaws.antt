@@ -1,6 +1,7 @@
 -- What is selected: all where nothing is given, the same again by conditions alone, entries that
 -- can stand in a catalogue, and a live header always.
-use Rattle.msgattrib.proofs.Prelude.{All-filter, All-head, All-map, All-tail, All-weaker, Bool, ChangesNothing, IsCatalogueEntry, IsEntry, List, Selection, TextEntry, [], and-false, and-true, changed, every_entry, false, filter, filter_passes, fuzzy_after, if◌then◌else◌, is_emptied, is_header, is_kept, is_live_header, map, no_previous, not, obsolete_after, or-true, refl, selected, true, ◌&&◌, ◌∷◌, ◌≡◌}
+use Rattle.msgattrib.proofs.Prelude.{All-filter, All-map, All-weaker, Bool, ChangesNothing, IsCatalogueEntry, IsEntry, List, Selection, TextEntry, [], and-false, and-true, changed, every_entry, false, filter, filter_passes, fuzzy_after, if◌then◌else◌, is_emptied, is_header, is_kept, is_live_header, map, no_previous, not, obsolete_after, or-true, refl, selected, true, ◌&&◌, ◌∷◌, ◌≡◌}
+use Rattle.po_syntax.specs.Facts.Filters.{all_pass}
 use Rattle.std.specs.Prelude.{All}
 use Rattle.po_entry.proofs.Changes.{IsEntry-emptied, IsEntry-without_previous}
 
@@ -32,12 +33,6 @@ all_kept : (entries : List TextEntry) → filter (is_kept every_entry) entries �
 all_kept [] = refl
 all_kept (e ∷ entries) = rw (or-true (is_live_header e), all_kept entries) refl
 
-passing_kept : (p : TextEntry → Bool) (entries : List TextEntry) → All (λ e. p e ≡ true) entries
-    → filter p entries ≡ entries
-passing_kept p [] h = refl
-passing_kept p (e ∷ entries) h =
-    rw (All-head (λ e. p e ≡ true) e entries h, passing_kept p entries (All-tail (λ e. p e ≡ true) e entries h)) refl
-
 pub nothing_given : (entries : List TextEntry) → selected every_entry entries ≡ entries
 nothing_given entries =
     let none : ChangesNothing every_entry =
@@ -55,7 +50,7 @@ pub selected_once : (s : Selection) (entries : List TextEntry) → ChangesNothin
     → selected s (selected s entries) ≡ selected s entries
 selected_once s entries h =
     rw (all_unchanged s (filter (is_kept s) entries) h)
-    (rw (passing_kept (is_kept s) (filter (is_kept s) entries) (filter_passes (is_kept s) entries))
+    (rw (all_pass (is_kept s) (filter (is_kept s) entries) (filter_passes (is_kept s) entries))
     (all_unchanged s (filter (is_kept s) entries) h))
 
 pub kept_as_they_are : (s : Selection) (entries : List TextEntry) → ChangesNothing s

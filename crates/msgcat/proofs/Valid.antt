@@ -1,5 +1,6 @@
 -- What valid definitions are merged to is valid.
 use Rattle.msgcat.proofs.Prelude.{All, All-append, All-cons, All-contains, All-contains_itself, All-filter, All-head, All-left, All-map, All-nil, All-right, All-tail, All-weaker, AreDistinct, Bool, CommentKind, Contains, Contains-append_cases, Contains-append_right, Contains-get_or, Extracted, Flags, IfSome, IsAscii, IsComment, IsDefinition, IsEntry, IsFlag, IsReference, IsText, IsTranslatorComment, Lacks, List, MergeOptions, NamedEntry, None, Option, Reference, Some, TextEntry, Translator, [], and_parts, ap, arith, bytes_eq, bytes_eq-Decides, codes, collected, comment_of, cond_both, ended, ends_with, eqb-false, false, false_from_ne_true, false≢true, filter, filter_passes, find, first_of, first_translated, first_with, fold, form_count, get_or, has_plural, has_previous, has_translation, if◌then◌else◌, inl, inr, is_joined, joined_form, joined_forms, length, length-map, length-range_with_len, list_all, list_any, list_any_at, ltb-true, marked, max, merged_entry, nat_eq, nat_lt, not, not-true, option_map_or, option_to_list, previous_texts, range_with_len, refl, same_forms, suc, sym, texts_of, translations, true, with_others, zero, ℕ, ◌&&◌, ◌++◌, ◌<◌, ◌==◌, ◌||◌, ◌∙◌, ◌∷◌, ◌≡◌, ◌≤◌}
+use Rattle.po_writer.proofs.Utf8.{text-append}
 use Rattle.std.specs.Prelude.{slice_get, is_some}
 use Rattle.std.proofs.lemmas.Str.{IsUtf8-nil, IsUtf8-append, IsUtf8-from_ascii}
 use Rattle.msgcat.proofs.FirstOnes.{all_first_ones}
@@ -132,19 +133,15 @@ ascii_text (b ∷ text) h =
       one c l zero = l
       one c l (suc i) = omega arith
 
-IsText-append : (a b : List ℕ) → IsText a → IsText b → IsText (a ++ b)
-IsText-append a b h g = record
-    { utf8 = IsUtf8-append a b h.utf8 g.utf8; no_nul = All-append (λ c. c ≡ 0 → ⊥) a b h.no_nul g.no_nul }
-
 ended_text : (form : List ℕ) → IsText form → IsText (ended form)
 ended_text form h = cond_both (ends_with nat_eq form (10 ∷ [])) form (form ++ 10 ∷ []) IsText (λ _. h)
-    (λ _. IsText-append form (10 ∷ []) h (ascii_text (10 ∷ []) refl))
+    (λ _. text-append form (10 ∷ []) h (ascii_text (10 ∷ []) refl))
 
 marked_text : (name form : List ℕ) → IsText name → IsText form → IsText (marked name form)
 marked_text name form h g =
-    IsText-append (codes "#-#-#-#-#  " ++ name ++ codes "  #-#-#-#-#\n") (ended form)
-    (IsText-append (codes "#-#-#-#-#  " ++ name) (codes "  #-#-#-#-#\n")
-    (IsText-append (codes "#-#-#-#-#  ") name (ascii_text (codes "#-#-#-#-#  ") refl) h)
+    text-append (codes "#-#-#-#-#  " ++ name ++ codes "  #-#-#-#-#\n") (ended form)
+    (text-append (codes "#-#-#-#-#  " ++ name) (codes "  #-#-#-#-#\n")
+    (text-append (codes "#-#-#-#-#  ") name (ascii_text (codes "#-#-#-#-#  ") refl) h)
     (ascii_text (codes "  #-#-#-#-#\n") refl))
     (ended_text form g)
 
@@ -158,7 +155,7 @@ joined_text : (ts : List NamedEntry) (i : ℕ) → All IsDefinition ts → IsTex
 joined_text [] i h = ascii_text [] refl
 joined_text (t ∷ ts) i h =
     let d = All-head IsDefinition t ts h in
-    IsText-append (option_map_or (marked t.name) (slice_get t.entry.forms i) []) (joined_form ts i)
+    text-append (option_map_or (marked t.name) (slice_get t.entry.forms i) []) (joined_form ts i)
     (piece_text t.name t.entry.forms i (record { utf8 = d.utf8; no_nul = d.no_nul })
     (quoted_parts t.entry d.valid).forms) (joined_text ts i (All-tail IsDefinition t ts h))
 

@@ -1,6 +1,5 @@
 -- Keys that rise, keys that are apart, and the entries that have them.
-use Rattle.po_compile.proofs.Prelude.{All, All-cons, All-from_all_within, All-head, All-map, All-nil, All-tail, All-weaker, AllApart, AllDiffer, AllPairs, AllPairs-cons, AllPairs-filter, AllWithin, AllZip, AreRising, Bool, EachApart, Equal, Greater, HasNoDuplicate, HasOneHeader, HoldsAt, InputEntry, InputMessage, IsAllAdjacentAnswer, IsPermutation, IsPermutation-filter_both, IsPermutation-map, IsPermutation-sym, IsTrue, Less, List, LiveMessage, MatchBool, Ordering, ReadsDistinct, ReadsText, Row, TextEntry, [], all_messages, all_pass, ap, ap₂, arith, bytes_eq, bytes_eq-Decides, entries_of, exact_bytes, false, filter, filter_passes, get_or, get_or-map, get_or_append_left, get_or_default, has_no_key, in_input_message, input_keys, input_message, is_joined, is_less, is_live, is_lt, isnt_less, joined, joined_entries, joined_messages, key_cmp, length, length-append, length-map, less_is_other, list_any, live_entries, live_message, live_messages, live_of_entries, map, map-append, map-map, message_keys, nat_list_cmp_total, nat_list_eq_equiv, not-true, ordering_reverse, pairs_of_map, query_key, refl, rising_between, row_key, row_view, subst, suc, sym, true, ℕ, ◌++◌, ◌+◌, ◌<◌, ◌==◌, ◌||◌, ◌↔◌, ◌∙◌, ◌∷◌, ◌≡◌, ◌≢◌, ◌≤◌}
-use Rattle.std.specs.List.Sorted.{IsSortedBy}
+use Rattle.po_compile.proofs.Prelude.{All, All-cons, All-from_all_within, All-head, All-map, All-nil, All-tail, All-weaker, AllApart, AllDiffer, AllPairs, AllPairs-cons, AllPairs-filter, AllWithin, AllZip, AreRising, Bool, EachApart, HasNoDuplicate, HasOneHeader, HoldsAt, InputEntry, InputMessage, IsPermutation, IsPermutation-filter_both, IsPermutation-map, IsPermutation-sym, IsTrue, Less, List, LiveMessage, MatchBool, ReadsDistinct, ReadsText, Row, TextEntry, [], all_messages, all_pass, ap, ap₂, arith, bytes_eq, bytes_eq-Decides, entries_of, false, filter, filter_passes, get_or, get_or-map, get_or_append_left, get_or_default, has_no_key, in_input_message, input_keys, input_message, is_joined, is_live, joined, joined_entries, joined_messages, key_cmp, length, length-append, length-map, less_is_other, list_any, live_entries, live_message, live_messages, live_of_entries, map, map-append, map-map, message_keys, nat_list_eq_equiv, not-true, pairs_of_map, query_key, refl, rising_between, row_key, row_view, subst, suc, sym, true, ℕ, ◌++◌, ◌+◌, ◌<◌, ◌==◌, ◌||◌, ◌↔◌, ◌∙◌, ◌∷◌, ◌≡◌, ◌≢◌, ◌≤◌}
 use Rattle.std.proofs.Math.ListN.{get_or-map as map_at}
 use Rattle.std.proofs.lemmas.Map.Keys.{IsDistinct-IsPermutation}
 use Rattle.std.proofs.lemmas.Map.Made.{AllPairs-from_IsDistinct, IsDistinct-from_AllPairs}
@@ -14,11 +13,6 @@ rising_apart ks rising i j d below inside =
     less_is_other (get_or ks i d) (get_or ks j d)
     (ap₂ key_cmp (get_or_default ks i d [] (omega (arith, below, inside))) (get_or_default ks j d [] inside)
     ∙ rising_between ks rising i j below inside)
-
-not_above : (o : Ordering) → is_lt (ordering_reverse o) ≡ false → o ≢ Equal → o ≡ Less
-not_above Less h other = refl
-not_above Equal h other = absurd (other refl)
-not_above Greater h other = cc
 
 module _ {X : Type 0} (key : X → List ℕ) where
   -- the key of the first is below that of the second
@@ -43,51 +37,6 @@ module _ {X : Type 0} (key : X → List ℕ) where
 
   pub rising_filter : (p : X → Bool) (xs : List X) → AreRising (map key xs) → AreRising (map key (filter p xs))
   rising_filter p xs rising = rising_from_below (filter p xs) (AllPairs-filter Below p xs (below_from_rising xs rising))
-
-  -- sorted keys rise where they are different
-  pub rising_from_sorted : (xs : List X) → IsSortedBy (λ a b. is_lt (key_cmp (key a) (key b))) xs
-      → AllApart (map key xs) → AreRising (map key xs)
-  rising_from_sorted xs sorted apart = record {
-    next = λ i inside.
-        let long = length-map xs key in
-        let within : i + 1 < length xs = omega (arith, inside, long) in
-        let d = first_of xs (omega (arith, within)) in
-        let here = get_or-map key xs i d [] (omega (arith, within)) in
-        let next = get_or-map key xs (i + 1) d [] within in
-        let a = key (get_or xs i d) in
-        let b = key (get_or xs (i + 1) d) in
-        ap₂ key_cmp here next
-        ∙ not_above (key_cmp a b)
-        (subst (λ o. is_lt o ≡ false) (nat_list_cmp_total.antisymm b a) (sorted i d (omega arith) within))
-        (λ equal. apart i (i + 1) [] (omega arith) (omega (arith, inside)) (here ∙ exact_bytes a b equal ∙ sym next));
-  }
-
-  -- whether the keys rise, by what is answered of each two neighbours
-  pub rising_answered : (xs : List X) (r : Bool)
-      → IsAllAdjacentAnswer (λ a b answer. answer ≡ is_lt (key_cmp (key a) (key b))) xs r
-      → IsTrue r ↔ AreRising (map key xs)
-  rising_answered xs true answers = (
-    λ _. record {
-      next = λ i inside.
-          let long = length-map xs key in
-          let d = first_of xs (omega (arith, inside, long)) in
-          ap₂ key_cmp (get_or-map key xs i d [] (omega (arith, inside, long)))
-          (get_or-map key xs (i + 1) d [] (omega (arith, inside, long)))
-          ∙ is_less _ (answers i d (omega (arith, inside, long)));
-    },
-    λ _. refl,
-  )
-  rising_answered xs false answers = (
-    λ no. absurd (cc),
-    λ rising.
-        let i = answers.0 in
-        let within = answers.1 in
-        let long = length-map xs key in
-        let d = first_of xs (omega (arith, within)) in
-        absurd (isnt_less _ (answers.2 d)
-        (ap₂ key_cmp (sym (get_or-map key xs i d [] (omega (arith, within))))
-        (sym (get_or-map key xs (i + 1) d [] within)) ∙ rising.next i (omega (arith, within, long)))),
-  )
 
 pub apart_permuted : (ks ls : List (List ℕ)) → IsPermutation ks ls → AllApart ks → AllApart ls
 apart_permuted ks ls permuted apart =

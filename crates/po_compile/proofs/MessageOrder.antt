@@ -1,6 +1,7 @@
 -- The list of the messages of entries in rising order: there is one where no two entries are of one
 -- message, and it is the only one.
-use Rattle.po_compile.proofs.Prelude.{All, All-cons, All-filter, All-head, All-map, All-nil, All-permutation, All-tail, All-weaker, AllDiffer, AllPairs, AllPairs-cons, AllPairs-filter, AreMessagesOf, Bool, Contains, Contains-permutation, Equal, Greater, HasNoDuplicate, IsCatalogueEntry, IsEntry, IsPermutation, IsPermutation-cons, IsPermutation-middle, IsPermutation-refl, IsPermutation-sym, IsPermutation-trans, IsSameMessage, Less, List, Message, MessagesAreOne, Ordering, TextEntry, [], ap, arith, compiled_list, exact_bytes, filter, filter_twice, get_or, has_translation, inl, inr, is_compiled, is_header, is_live, key_cmp, key_of, layout, length, length-append, length-map, map, message_of, nat_list_cmp_total, not, ordering_reverse, original_of, originals, originals_offset, refl, subst, suc, sym, table, terminated, tied_itself, translations, translations_offset, zero, ℕ, ⊎_elim, ◌&&◌, ◌++◌, ◌||◌, ◌∙◌, ◌∷◌, ◌≡◌, ◌≢◌, ◌≤◌, ◌⊎◌}
+use Rattle.po_compile.proofs.Prelude.{All, All-cons, All-filter, All-head, All-map, All-nil, All-permutation, All-tail, All-weaker, AllDiffer, AllPairs, AllPairs-cons, AllPairs-filter, AreMessagesOf, Bool, Contains, Contains-permutation, Equal, Greater, HasNoDuplicate, IsCatalogueEntry, IsEntry, IsPermutation, IsPermutation-cons, IsPermutation-middle, IsPermutation-refl, IsPermutation-sym, IsPermutation-trans, IsSameMessage, Less, List, Message, MessagesAreOne, Ordering, TextEntry, [], ap, arith, compiled_list, filter, filter_twice, get_or, has_translation, inl, inr, is_compiled, is_header, is_live, key_cmp, key_of, layout, length, length-append, length-map, map, message_of, nat_list_cmp_total, not, ordering_reverse, original_of, originals, originals_offset, refl, subst, suc, sym, table, terminated, tied_itself, translations, translations_offset, zero, ℕ, ⊎_elim, ◌&&◌, ◌++◌, ◌||◌, ◌∙◌, ◌∷◌, ◌≡◌, ◌≢◌, ◌≤◌, ◌⊎◌}
+use Rattle.std.proofs.lemmas.Map.Lookups.{exact_bytes}
 use Rattle.mo_file.specs.Prelude.{header}
 use Rattle.mo_file.specs.declared.byte_order.Order.{Order}
 use Rattle.po_compile.proofs.TextLemmas.{query_key_is_one}

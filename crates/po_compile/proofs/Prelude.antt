@@ -1,6 +1,6 @@
 -- What the proofs of this crate cite of std, of the crates below and of its own definitions. Declares nothing.
 pub use Rattle.mo_file.proofs.CutLemmas.{before_all, before_is, context_cut, context_none, first_all, id_all, id_cut, plural_cut, plural_none, split_cut, split_none}
-pub use Rattle.mo_file.proofs.RisingKeys.{equal_is_same, is_less, isnt_less, less_is_other, rising_between}
+pub use Rattle.mo_file.proofs.RisingKeys.{equal_is_same, less_is_other, rising-answered, rising-from_sorted, rising_between}
 pub use Rattle.mo_file.specs.Prelude.{AreRising, IsBuildFault, IsMoFile, LayoutIsMoFile, Message, borrowed_message, context_of, forms, id_of, is_nul, key_cmp, key_of, keys, layout, messages_of_borrowed, originals, originals_offset, plural_of, query_key, table, terminated, translations, translations_offset}
 pub use Rattle.mo_lookup.specs.Prelude.{Query, answer, can_be_key, form_at, has_no_separator, header_text, is_separator, translation_under}
 pub use Rattle.po_compile.specs.Internal.{AllApart, AreSortedRows, EachApart, HasOneHeader, HaveOneKey, InputMessage, IsRepeat, IsRepeatAt, IsRepeatFault, IsRepeatInInput, all_messages, compiled_of, counts_fuzzy, counts_of, counts_translated, counts_untranslated, has_no_key, in_input_message, input_keys, input_message, is_joined, joined_messages, message_keys, repeat_fault, row_key, row_view, view_of_message}
@@ -31,14 +31,13 @@ pub use Rattle.std.proofs.lemmas.List.Folds.{find-append, find_at}
 pub use Rattle.std.proofs.lemmas.List.Kept.{AllPairs-cons, AllPairs-filter}
 pub use Rattle.std.proofs.lemmas.List.Sorted.{All-permutation, Contains-permutation, IsPermutation-append_comm, IsPermutation-append_left, IsPermutation-append_right, IsPermutation-cons, IsPermutation-filter_both, IsPermutation-keeps, IsPermutation-map, IsPermutation-middle, IsPermutation-refl, IsPermutation-sym, IsPermutation-trans, answers_always, length_permutation, ranks_by}
 pub use Rattle.std.proofs.lemmas.List.Sums.{fails_before_first, length-filter, passes_at_first, prefix_len-le-length, prefix_len_passes}
-pub use Rattle.std.proofs.lemmas.Map.Lookups.{exact_bytes}
 pub use Rattle.std.proofs.lemmas.Option.{MatchOption-at_none, MatchOption-at_some, get_or_from_slice_get, none-some, slice_get-get_or, slice_get_within}
 pub use Rattle.std.proofs.lemmas.Result.{IfErr-weaker, IfOk-weaker, MatchResult-from_both, err_from_is_err_and}
 pub use Rattle.std.proofs.lemmas.Simd.{map-map}
 pub use Rattle.std.proofs.lemmas.Slice.Eq.{bytes_eq-Decides}
 pub use Rattle.std.specs.Bool.{Decides, MatchBool, one_answer}
 pub use Rattle.std.specs.Borrow.{Bor}
-pub use Rattle.std.specs.List.{AllWithin, AllZip, HoldsAt, IsAllAdjacentAnswer, flat_map, join_with_byte, list_any, position_or_len, slice_split, swap}
+pub use Rattle.std.specs.List.{AllWithin, AllZip, HoldsAt, flat_map, join_with_byte, list_any, position_or_len, slice_split, swap}
 pub use Rattle.std.specs.Option.{option_eq, option_map, option_map_or, option_or, unwrap_or}
 pub use Rattle.std.specs.Ordering.{MatchOrdering, is_lt, nat_cmp, ordering_reverse, ordering_then}
 pub use Rattle.std.specs.Prelude.{IsTrue, if◌then◌else◌, is_none, ◌↔◌}

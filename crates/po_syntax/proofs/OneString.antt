@@ -1,5 +1,5 @@
 -- After an opening quote a text spells one string or has one fault, and not both.
-use Rattle.po_syntax.proofs.Prelude.{Byte, End, Err, List, Ok, Once, PoFault, Result, SpellsString, Step, Stop, StringFault, [], after_escape, after_plain, ap, arith, closed, eqb-false, escape, escape_at, false, in_escape, length, ne_eqb, not_closed, plain, refl, same, step_at, suc, sym, zero, ℕ, ◌+◌, ◌<◌, ◌==◌, ◌∙◌, ◌∷◌, ◌≡◌}
+use Rattle.po_syntax.proofs.Prelude.{Byte, End, Err, List, Ok, Once, PoFault, Result, SpellsString, Step, Stop, StringFault, [], after_escape, after_plain, ap, arith, closed, eqb-false, escape, escape_at, false, in_escape, length, ne_eqb, not_closed, plain, refl, step_at, suc, zero, ℕ, ◌+◌, ◌<◌, ◌==◌, ◌∙◌, ◌∷◌, ◌≡◌}
 use Rattle.po_syntax.proofs.Escapes.{EscapeSays, escape_says, escape_shorter}
 use Rattle.po_syntax.proofs.SpeltEscapes.{by_byte, escape_read, escape_stops}
 

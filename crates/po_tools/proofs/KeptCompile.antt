@@ -1,5 +1,5 @@
 -- What conditions keep of a text compiles as what they keep of its compiled entries.
-use Rattle.po_tools.proofs.Prelude.{All, All-head, All-tail, All-weaker, Bool, ChangesNothing, CompiledAreKept, CompilesAlike, KeptCompilesAlike, List, TextEntry, [], ap, compiled_list, cond, every_entry, false, filter, filter_passes, has_translation, is_compiled, is_header, is_kept, is_live, not, refl, selected, true, ◌&&◌, ◌||◌, ◌∙◌, ◌∷◌, ◌≡◌}
+use Rattle.po_tools.proofs.Prelude.{All-weaker, Bool, ChangesNothing, CompiledAreKept, CompilesAlike, KeptCompilesAlike, List, TextEntry, [], all_pass, ap, compiled_list, cond, every_entry, false, filter, filter_passes, has_translation, is_compiled, is_header, is_kept, is_live, not, refl, selected, true, ◌&&◌, ◌||◌, ◌∙◌, ◌∷◌, ◌≡◌}
 use Rattle.msgattrib.specs.declared.selection.Selection.{Selection}
 
 step : {X : Type 0} (a b : Bool) (x : X) (p q : X → Bool) (xs : List X) → p x ≡ a → q x ≡ b
@@ -13,11 +13,6 @@ step false false x p q xs pa qb h = h
 commute : {X : Type 0} (p q : X → Bool) (xs : List X) → filter p (filter q xs) ≡ filter q (filter p xs)
 commute p q [] = refl
 commute p q (x ∷ xs) = step (p x) (q x) x p q xs refl refl (commute p q xs)
-
-all_pass : {X : Type 0} (p : X → Bool) (xs : List X) → All (λ x. p x ≡ true) xs → filter p xs ≡ xs
-all_pass p [] h = refl
-all_pass p (x ∷ xs) h =
-    rw (All-head (λ x. p x ≡ true) x xs h) (ap (λ l. x ∷ l) (all_pass p xs (All-tail (λ x. p x ≡ true) x xs h)))
 
 -- an entry that is compiled is live, translated, and not fuzzy but where it is the header
 lived : (live trans fuzzy header : Bool) → (live && (trans && (false || not fuzzy || header))) ≡ true

@@ -10,6 +10,7 @@ pub use Rattle.msgunfmt.specs.Prelude.{CompilesTo, IsMsgunfmtRun, IsUnformatFaul
 pub use Rattle.po_compile.specs.Prelude.{AreAccepted, AreRead, CataloguesAreOne, HoldCatalogues, IsCompilation, MessagesAreOne, NoFaultWhereAccepted, NoFaultWhereDistinct, OneCompileFault, OneTextFault, compiled_inputs, compiled_list, is_compiled, live_messages, message_of}
 pub use Rattle.po_entry.specs.Prelude.{AllDiffer, HasAdmittedCharset, HasNoDuplicate, InputEntry, IsCatalogueEntry, IsFirstDuplicate, IsSameMessage, IsTextFault, Lacks, ReadsText, TextEntry, entries_of, first_form, has_translation, in_input, is_header, is_live, is_live_header, joined, joined_entries, joined_from, stats_of, with_line}
 pub use Rattle.po_entry.specs.declared.duplicate.JoinError.{JoinError}
+pub use Rattle.po_syntax.specs.Facts.Filters.{all_pass}
 pub use Rattle.po_syntax.specs.Prelude.{IsSmall, IsText}
 pub use Rattle.po_tools.specs.Prelude.{AreStored, CompiledAreKept, CompilesAlike, KeptCompilesAlike, LongerChainAnswersAlike, MsgcatAgain, MsgcatCompilesAlike, MsgcatOfSeveral, OneMsgattribRun, OneMsgcatRun, OneMsgfmtRun, OneMsgunfmtRun, ThereAndBack, input_view, inputs_view}
 pub use Rattle.po_tools.specs.ToolRun.{fits_none, looks_up, no_envsubst, runs_envsubst}

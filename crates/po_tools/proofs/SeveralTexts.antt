@@ -1,7 +1,6 @@
 -- Texts among whose entries no message stands twice: what msgcat writes of them compiles as all of them.
-use Rattle.po_tools.proofs.Prelude.{All, All-cons, All-head, All-nil, All-tail, All-weaker, AllDiffer, Bool, DistinctInputsStay, InputEntry, IsSameMessage, IsSmall, List, MsgcatOfSeveral, Named, NamedEntry, OneInputStays, ReadsText, TextEntry, [], all_entries, ap, ap₂, compiled_list, entries_of, false, false_from_ne_true, false≢true, in_input, is_header, is_live, is_live_header, joined_from, map, message_of, named, not, refl, subst, sym, true, written_text, ℕ, ◌&&◌, ◌++◌, ◌+◌, ◌||◌, ◌∙◌, ◌∷◌, ◌≡◌}
+use Rattle.po_tools.proofs.Prelude.{All, All-cons, All-head, All-nil, All-tail, All-weaker, AllDiffer, Bool, DistinctInputsStay, InputEntry, IsSameMessage, IsSmall, List, MsgcatOfSeveral, Named, NamedEntry, OneInputStays, ReadsText, TextEntry, [], all_entries, all_pass, ap, ap₂, compiled_list, entries_of, false, false_from_ne_true, false≢true, in_input, is_header, is_live, is_live_header, joined_from, map, message_of, named, not, refl, subst, sym, true, written_text, ℕ, ◌&&◌, ◌++◌, ◌+◌, ◌||◌, ◌∙◌, ◌∷◌, ◌≡◌}
 use Rattle.std.specs.List.{list_any}
-use Rattle.po_syntax.specs.Facts.Filters.{all_pass}
 use Rattle.po_entry.proofs.HeaderLaws.{header_decided}
 use Rattle.msgcat.proofs.SameInput.{differ_head, differ_tail}
 use Rattle.po_tools.proofs.WrittenAgain.{OneReading, WrittenReads, read_alike}

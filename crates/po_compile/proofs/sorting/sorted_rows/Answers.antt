@@ -1,5 +1,5 @@
-use Rattle.po_compile.proofs.Prelude.{map, row_key}
-use Rattle.po_compile.proofs.KeysApart.{all_apart, inputs_apart, one_header_each, rising_apart, rising_from_sorted, sorted_all, sorted_apart}
+use Rattle.po_compile.proofs.Prelude.{map, rising-from_sorted, row_key}
+use Rattle.po_compile.proofs.KeysApart.{all_apart, inputs_apart, one_header_each, rising_apart, sorted_all, sorted_apart}
 use Rattle.po_compile.proofs.sorting.sorted_rows.Goals.{else-are_rising-via-then-are_rising+else-have_one_header, else-are_rising-via-else-are_rising}
 use Rattle.po_compile.proofs.sorting.sorted_rows.Goals as goal
 
@@ -23,7 +23,7 @@ unreachable-requires c =
     let inputs = c.args.inputs.now in
     let rows = c.in_ok-rows.rows.items in
     let sorted = c.sort_rows.new.rows.items in
-    let rising = rising_from_sorted row_key sorted c.sort_rows.ensures.sorted
+    let rising = rising-from_sorted row_key sorted c.sort_rows.ensures.sorted
     (sorted_apart inputs rows sorted c.in_ok-rows.ensures c.sort_rows.ensures.permutation
     c.in_ok-check_joined.ensures.apart) in
     elim c.else-are_rising.branch [
