@@ -1,5 +1,6 @@
 -- What is common to all commands: what a known system holds before a run and after it.
-use Rattle.known_runs.proofs.Prelude.{Contents, End, Err, Holds, IfSome, Links, List, None, Option, OutOfMemory, Place, ProgramFault, ReaderView, Result, RunsInMemory, RunsTool, Some, SystemView, [], answers_in, bytes_at, bytes_eq-Decides, contents, end, end_of, folder, line_in, links_by_path, nothing, option_map, reached, reader_of, refl, replay, stored, subst, sym, system, system_after, system_before, writer, ℕ, ◌≡◌}
+use Rattle.known_runs.proofs.Prelude.{Contents, End, Err, Holds, IfSome, Links, List, None, Option, OutOfMemory, Place, ProgramFault, ReaderView, Result, RunsInMemory, RunsTool, Some, SystemView, [], answers_in, bytes_at, contents, end, end_of, folder, line_in, links_by_path, nothing, option_map, reached, reader_of, refl, replay, stored, subst, sym, system, system_after, system_before, writer, ℕ, ◌≡◌}
+use Rattle.known_system.proofs.Lefts.{at_its_path}
 use Rattle.std.specs.Global.{Vec}
 use Rattle.runs.specs.declared.tool.Tool.{Tool}
 use Rattle.known_system.specs.declared.files.KnownFiles.{KnownFiles}
@@ -66,13 +67,10 @@ holds_after r = record {
 abbrev pub held_at : {T : Type 0} → (T → List ℕ) → List ℕ → Option T → Place
 held_at view path held = option_map (λ b. (path, view b)) held
 
-there : (path bytes : List ℕ) → bytes_at path (Some (path, bytes)) ≡ Some bytes
-there path bytes = rw ((bytes_eq-Decides path path).1 refl) refl
-
 was_held : {T : Type 0} (view : T → List ℕ) (path : List ℕ) (held : Option T) (at : List ℕ) → path ≡ at
     → bytes_at at (held_at view path held) ≡ option_map view held
 was_held view path None at is = refl
-was_held view path (Some b) at is = rw is (there at (view b))
+was_held view path (Some b) at is = rw is (at_its_path at (view b))
 
 read_back : (r : Reached) (path : List ℕ) (found : Option (List ℕ))
     → IfSome (replay r.files.history.calls nothing) (λ folder. found ≡ bytes_at path folder.held)

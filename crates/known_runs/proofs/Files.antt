@@ -11,6 +11,10 @@ leads_there links none (there is) = refl
 leads_there links none {path = path} (follows {text} is leads) =
     let e : None ≡ Some text = sym (ap (λ l. bytes_of l path) none) ∙ is in cc
 
+-- what follows on nothing is all
+pub after : {later before more : List ℕ} → before ≡ [] → later ≡ before ++ more → later ≡ more
+after none same = same ∙ rw none refl
+
 module _ (IsRun : RunView → Type 0) (path : List ℕ) (named : is_standard path ≡ false)
     (old new : Contents) (links : old.links ≡ []) (out : old.out ≡ []) (err : old.err ≡ []) where
   abbrev was : Option (List ℕ)
@@ -23,9 +27,6 @@ module _ (IsRun : RunView → Type 0) (path : List ℕ) (named : is_standard pat
       → bytes_at path new.held ≡ file → new.out ≡ shown → new.err ≡ told
       → EndsInFile IsRun path was (end result file shown told) → EndsInFile IsRun path was (now result)
   ends file shown told f o e is = rw (f, o, e) is
-
-  after : {later before more : List ℕ} → before ≡ [] → later ≡ before ++ more → later ≡ more
-  after none same = same ∙ rw none refl
 
   pub fails : (fault : ProgramFault) → IsFileFault path (program_text fault) → new ≡ old
       → EndsInFile IsRun path was (now (Err fault))

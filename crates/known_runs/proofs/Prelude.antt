@@ -25,6 +25,5 @@ pub use Rattle.runs.specs.declared.program_fault.ProgramFault.{ProgramFault}
 pub use Rattle.runs.specs.declared.program_fault.ProgramFault.TheVariants.{OutOfMemory}
 pub use Rattle.std.proofs.Common.{Bool, Err, IfSome, List, None, Ok, Option, Result, Some, [], ap, append-nil, arith, codes, false, if◌then◌else◌, inl, inr, is_some, length, map, nat_lt, not, option_map, refl, slice_index, subst, suc, sym, take, true, zero, ℕ, ◌&&◌, ◌++◌, ◌+◌, ◌-◌, ◌<◌, ◌^◌, ◌∙◌, ◌∷◌, ◌≡◌, ◌≢◌, ◌⊎◌}
 pub use Rattle.std.proofs.lemmas.Bool.{and_parts, false≢true, ltb-false, ltb-true}
-pub use Rattle.std.proofs.lemmas.Slice.Eq.{bytes_eq-Decides}
 pub use Rattle.std.specs.Option.{option_copied, option_map_or, option_to_list, unwrap_or}
 pub use Rattle.std.specs.String.{string_bytes}

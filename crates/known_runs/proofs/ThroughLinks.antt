@@ -1,5 +1,6 @@
 -- What msgfmt comes to where its output may be a link.
-use Rattle.known_runs.proofs.Prelude.{AreMsgfmtOptions, Asking, Bool, Contents, EndsThroughLinks, Err, IsTextOr, Leads, Leaves, Links, List, MsgfmtOptions, None, Option, OutOfMemory, Place, ProgramFault, Reading, Result, RunView, RunsMsgfmt, Some, SystemView, Writes, [], ap, bytes_at, bytes_eq-Decides, bytes_of, codes, default_output, elsewhere, end, false, filed, follows, gives, has_none, if◌then◌else◌, inl, inr, is_free, is_standard, led, left, link_limit, link_target, no_memory_to_plan, no_memory_to_read, not, output_file, printed, refl, runs, subst, suc, sym, there, true, unwrap_or, zero, ℕ, ◌&&◌, ◌∙◌, ◌∷◌, ◌≡◌, ◌≢◌, ◌⊎◌}
+use Rattle.known_runs.proofs.Prelude.{AreMsgfmtOptions, Asking, Bool, Contents, EndsThroughLinks, Err, IsTextOr, Leads, Leaves, Links, List, MsgfmtOptions, None, Option, OutOfMemory, Place, ProgramFault, Reading, Result, RunView, RunsMsgfmt, Some, SystemView, Writes, [], ap, bytes_at, bytes_of, codes, default_output, elsewhere, end, false, filed, follows, gives, has_none, if◌then◌else◌, inl, inr, is_free, is_standard, led, left, link_limit, link_target, no_memory_to_plan, no_memory_to_read, not, output_file, printed, refl, runs, subst, suc, sym, there, true, unwrap_or, zero, ℕ, ◌&&◌, ◌∙◌, ◌∷◌, ◌≡◌, ◌≢◌, ◌⊎◌}
+use Rattle.std.proofs.lemmas.Slice.Eq.{bytes_eq-Decides}
 use Rattle.std.specs.Str.{bytes_eq}
 use Rattle.known_runs.specs.Msgfmt.{failed}
 use Rattle.known_runs.proofs.Msgfmts.{line_ends}

@@ -8,7 +8,7 @@ use Rattle.known_system.specs.Contents.{follows as leads_on}
 same : (s t : Folder) → Some s ≡ Some t → s ≡ t
 same s t is = cc
 
-at_its_path : (path bytes : List ℕ) → bytes_at path (Some (path, bytes)) ≡ Some bytes
+pub at_its_path : (path bytes : List ℕ) → bytes_at path (Some (path, bytes)) ≡ Some bytes
 at_its_path path bytes = rw ((bytes_eq-Decides path path).1 refl) refl
 
 not_at : (path : List ℕ) (place : Place) → is_at place path ≡ false → unless_at path place ≡ place

@@ -53,7 +53,7 @@ not_above Less h other = refl
 not_above Equal h other = absurd (other refl)
 not_above Greater h other = cc
 
-first_of : {X : Type 0} (xs : List X) → 0 < length xs → X
+pub first_of : {X : Type 0} (xs : List X) → 0 < length xs → X
 first_of [] some = absurd (omega (arith, some))
 first_of (x ∷ xs) some = x
 

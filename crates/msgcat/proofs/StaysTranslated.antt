@@ -1,5 +1,6 @@
 -- What is translated stays translated.
-use Rattle.msgcat.proofs.Prelude.{All-cons, All-contains, All-head, All-nil, All-weaker, Bool, Contains, IsTranslated, List, MergeOptions, NamedEntry, Some, TextEntry, TranslatedStays, [], and_parts, ap, arith, cond, definitions, false, false≢true, filter, find, first_form, first_of, first_translated, form_count, get_or, get_or-map-range_with_len, has_translation, if◌then◌else◌, is_joined, is_live, joined_form, joined_forms, length, length-map-range_with_len, list_any, ltb-true, marked, merged_entry, nat_lt, not, option_map_or, or_left, or_right, refl, slice_get, sym, translations, true, ℕ, ◌++◌, ◌<◌, ◌||◌, ◌∙◌, ◌∷◌, ◌≡◌, ◌≢◌}
+use Rattle.msgcat.proofs.Prelude.{All-cons, All-contains, All-head, All-nil, All-weaker, Bool, Contains, IsTranslated, List, MergeOptions, NamedEntry, Some, TextEntry, TranslatedStays, [], and_parts, ap, arith, cond, definitions, false, false≢true, filter, find, first_form, first_of, first_translated, form_count, get_or, get_or-map-range_with_len, has_translation, if◌then◌else◌, is_joined, is_live, joined_form, joined_forms, length, list_any, ltb-true, marked, merged_entry, nat_lt, not, option_map_or, or_left, or_right, refl, slice_get, sym, translations, true, ℕ, ◌++◌, ◌<◌, ◌||◌, ◌∙◌, ◌∷◌, ◌≡◌, ◌≢◌}
+use Rattle.msgcat.proofs.Valid.{count_joined}
 use Rattle.std.proofs.Common.{All}
 use Rattle.msgcat.proofs.TranslationLaws.{IsOne, each_is, has, has_is, is_has, joined_as_longest}
 
@@ -87,14 +88,11 @@ joined_some o ds joined =
     let some = some_form longest.longest.entry.forms longest.translated in
     let count : length (joined_forms ts) ≡ length longest.longest.entry.forms =
     ap length (sym forms) ∙ sym longest.as_many in
-    let below : 0 < form_count ts = omega (arith, some, count, joined_count ts) in
+    let below : 0 < form_count ts = omega (arith, some, count, count_joined ts) in
     let form : first_form (merged_entry o ds).forms ≡ joined_form ts 0 =
     ap first_form forms ∙ first_is (joined_forms ts)
     ∙ get_or-map-range_with_len (joined_form ts) 0 (form_count ts) 0 0 [] below (omega arith) in
     λ e. first_joined ds ts more (each_is ds) (sym form ∙ e)
-  where
-    joined_count : (ts : List NamedEntry) → length (joined_forms ts) ≡ form_count ts
-    joined_count ts = length-map-range_with_len (joined_form ts) 0 (form_count ts)
 
 translated_some : (o : MergeOptions) (ds : List NamedEntry) → list_any has ds ≡ true
     → first_form (merged_entry o ds).forms ≢ []

@@ -1,5 +1,5 @@
 -- What valid definitions are merged to is valid.
-use Rattle.msgcat.proofs.Prelude.{All, All-append, All-cons, All-contains, All-contains_itself, All-filter, All-head, All-left, All-map, All-nil, All-right, All-tail, All-weaker, AreDistinct, Bool, CommentKind, Contains, Contains-append_cases, Contains-append_right, Contains-get_or, Extracted, Flags, IfSome, IsAscii, IsComment, IsDefinition, IsEntry, IsFlag, IsReference, IsText, IsTranslatorComment, Lacks, List, MergeOptions, NamedEntry, None, Option, Reference, Some, TextEntry, Translator, [], and_parts, ap, arith, bytes_eq, bytes_eq-Decides, codes, collected, comment_of, cond_both, ended, ends_with, eqb-false, false, false_from_ne_true, false≢true, filter, filter_passes, find, first_of, first_translated, first_with, fold, form_count, get_or, has_plural, has_previous, has_translation, if◌then◌else◌, inl, inr, is_joined, joined_form, joined_forms, length, length-map, length-range_with_len, list_all, list_any, list_any_at, ltb-true, marked, max, merged_entry, nat_eq, nat_lt, not, not-true, option_map_or, option_to_list, previous_texts, range_with_len, refl, same_forms, suc, sym, texts_of, translations, true, with_others, zero, ℕ, ◌&&◌, ◌++◌, ◌<◌, ◌==◌, ◌||◌, ◌∙◌, ◌∷◌, ◌≡◌, ◌≤◌}
+use Rattle.msgcat.proofs.Prelude.{All, All-append, All-cons, All-contains, All-contains_itself, All-filter, All-head, All-left, All-map, All-nil, All-right, All-tail, All-weaker, AreDistinct, Bool, CommentKind, Contains, Contains-append_cases, Contains-append_right, Contains-get_or, Extracted, Flags, IfSome, IsAscii, IsComment, IsDefinition, IsEntry, IsFlag, IsReference, IsText, IsTranslatorComment, Lacks, List, MergeOptions, NamedEntry, None, Option, Reference, Some, TextEntry, Translator, [], and_parts, ap, arith, bytes_eq, bytes_eq-Decides, codes, collected, comment_of, cond_both, ended, ends_with, eqb-false, false, false_from_ne_true, false≢true, filter, filter_passes, find, first_of, first_translated, first_with, fold, form_count, get_or, has_plural, has_previous, has_translation, if◌then◌else◌, inl, inr, is_joined, joined_form, joined_forms, length, length-map-range_with_len, list_all, list_any, list_any_at, ltb-true, marked, max, merged_entry, nat_eq, nat_lt, not, not-true, option_map_or, option_to_list, previous_texts, range_with_len, refl, same_forms, suc, sym, texts_of, translations, true, with_others, zero, ℕ, ◌&&◌, ◌++◌, ◌<◌, ◌==◌, ◌||◌, ◌∙◌, ◌∷◌, ◌≡◌, ◌≤◌}
 use Rattle.po_writer.proofs.Utf8.{text-append}
 use Rattle.std.specs.Prelude.{slice_get, is_some}
 use Rattle.std.proofs.lemmas.Str.{IsUtf8-nil, IsUtf8-append, IsUtf8-from_ascii}
@@ -186,9 +186,8 @@ some_forms [] some h = absurd (omega (arith, some))
 some_forms (t ∷ ts) some h = let here = All-head (λ x. 0 < length x.entry.forms) t ts h in let more =
     at_least (max 0 (length t.entry.forms)) ts in omega (arith, here, more)
 
-count_joined : (ts : List NamedEntry) → length (joined_forms ts) ≡ form_count ts
-count_joined ts = length-map (range_with_len 0 (form_count ts)) (joined_form ts)
-    ∙ length-range_with_len 0 (form_count ts)
+pub count_joined : (ts : List NamedEntry) → length (joined_forms ts) ≡ form_count ts
+count_joined ts = length-map-range_with_len (joined_form ts) 0 (form_count ts)
 
 found_has : (has : TextEntry → Bool) (ds : List NamedEntry) (e : TextEntry) → list_any (λ d. has d.entry) ds ≡ true
     → has (option_map_or (λ (d : NamedEntry). d.entry) (find (λ d. has d.entry) ds) e) ≡ true

@@ -84,7 +84,8 @@ module _ (entries : List InputEntry) (rule : RuleView) where
       (faults_seen rule.nplurals entries)
       ∙ ap (in_order (rule_fault rule.source plural) (first_some f entries)) (some_seen plural)
 
-abbrev CheckedBy : List InputEntry → Option Reported → Option InputEntry → Type 0
+-- what a header found or not found says of the check's fault
+abbrev pub CheckedBy : List InputEntry → Option Reported → Option InputEntry → Type 0
 CheckedBy entries fault header =
     MatchOption header (fault ≡ Some (0, NoHeader))
     (λ header. (rule : RuleView) × IsRuleOf expression_limit (first_form header.entry.forms) rule

@@ -6,10 +6,6 @@ within : (a b : Bool) → (a ≡ false → b ≡ false) → a && b ≡ b
 within true b only = refl
 within false b only = sym (only refl)
 
-pub first_of : {X : Type 0} (xs : List X) → 0 < length xs → X
-first_of [] some = absurd (omega arith)
-first_of (x ∷ xs) some = x
-
 module _ {X : Type 0} where
   -- what passes the second test passes the first
   pub filter_within : (p q : X → Bool) → ((x : X) → p x ≡ false → q x ≡ false) → (xs : List X)

@@ -1,6 +1,6 @@
 -- What the proofs of this crate cite of std, of the crates below and of its own definitions. Declares nothing.
 pub use Rattle.mo_file.proofs.CutLemmas.{before_all, before_is, context_cut, context_none, first_all, id_all, id_cut, plural_cut, plural_none, split_cut, split_none}
-pub use Rattle.mo_file.proofs.RisingKeys.{equal_is_same, less_is_other, rising-answered, rising-from_sorted, rising_between}
+pub use Rattle.mo_file.proofs.RisingKeys.{equal_is_same, first_of, less_is_other, rising-answered, rising-from_sorted, rising_between}
 pub use Rattle.mo_file.specs.Prelude.{AreRising, IsBuildFault, IsMoFile, LayoutIsMoFile, Message, borrowed_message, context_of, forms, id_of, is_nul, key_cmp, key_of, keys, layout, messages_of_borrowed, originals, originals_offset, plural_of, query_key, table, terminated, translations, translations_offset}
 pub use Rattle.mo_lookup.specs.Prelude.{Query, answer, can_be_key, form_at, has_no_separator, header_text, is_separator, translation_under}
 pub use Rattle.po_compile.specs.Internal.{AllApart, AreSortedRows, EachApart, HasOneHeader, HaveOneKey, InputMessage, IsRepeat, IsRepeatAt, IsRepeatFault, IsRepeatInInput, all_messages, compiled_of, counts_fuzzy, counts_of, counts_translated, counts_untranslated, has_no_key, in_input_message, input_keys, input_message, is_joined, joined_messages, message_keys, repeat_fault, row_key, row_view, view_of_message}

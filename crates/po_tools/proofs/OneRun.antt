@@ -1,5 +1,6 @@
 -- A tool has one run of its inputs.
-use Rattle.po_tools.proofs.Prelude.{AreAccepted, AreChecked, AreRead, CatalogView, CataloguesAreOne, InputEntry, IsCatalogView, IsCompilation, IsRefused, JoinError, List, MatchOption, Message, MessagesAreOne, MsgfmtOptions, NamedFile, NoFaultOfMoFile, NoFaultWhereAccepted, NoHeader, None, OneCompileFault, OneFirstFault, OneMessageList, OneMsgfmtRun, Option, Reported, RunView, Some, TextEntry, [], ap, check_line, compile_options, compiled_inputs, compiled_list, compiled_run, fault_line, find, first_fault, first_form, header_text, inl, input_names, input_texts, inr, is_header_entry, join_line, joined, joined_entries, layout, length, mo_text, refl, refusal, stats_of, subst, sym, ℕ, ◌++◌, ◌∙◌, ◌∷◌, ◌≡◌}
+use Rattle.po_tools.proofs.Prelude.{AreAccepted, AreChecked, AreRead, CatalogView, CataloguesAreOne, InputEntry, IsCatalogView, IsCompilation, IsRefused, JoinError, List, Message, MessagesAreOne, MsgfmtOptions, NamedFile, NoFaultOfMoFile, NoFaultWhereAccepted, None, OneCompileFault, OneFirstFault, OneMessageList, OneMsgfmtRun, Option, Reported, RunView, Some, TextEntry, [], ap, check_line, compile_options, compiled_inputs, compiled_list, compiled_run, fault_line, find, first_fault, first_form, header_text, inl, input_names, input_texts, inr, is_header_entry, join_line, joined, joined_entries, layout, length, mo_text, refl, refusal, stats_of, subst, sym, ℕ, ◌++◌, ◌∙◌, ◌∷◌, ◌≡◌}
+use Rattle.msgfmt.proofs.CheckedMessages.{CheckedBy}
 use Rattle.mo_file.specs.declared.fault.MoError.{MoError}
 use Rattle.plural_rule.specs.Prelude.{RuleView, IsRuleOf, expression_limit}
 use Rattle.po_compile.specs.declared.options.Compiled.{Compiled}
@@ -59,13 +60,6 @@ module _ (unique : OneMessageList) (no_fault : NoFaultOfMoFile) (one_fault : One
       let same = one_chain (tool_of request) files is.chain also.chain is.reported also.reported is.opens also.opens in
       is.run_is ∙ ap (λ (chain : List CatalogView). output_run (output_of chain request) is.reported) same.0
       ∙ ap (λ (reported : List ℕ). output_run (output_of also.chain request) reported) same.1 ∙ sym also.run_is
-
--- what a header found or not found says of the check's fault
-abbrev CheckedBy : List InputEntry → Option Reported → Option InputEntry → Type 0
-CheckedBy entries fault found =
-    MatchOption found (fault ≡ Some (0, NoHeader))
-    (λ header. (rule : RuleView) × IsRuleOf expression_limit (first_form header.entry.forms) rule
-    × (fault ≡ first_fault entries rule))
 
 check_once : OneRule → (entries : List InputEntry) (fault other : Option Reported) (found : Option InputEntry)
     → CheckedBy entries fault found

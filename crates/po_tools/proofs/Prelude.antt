@@ -5,7 +5,6 @@ pub use Rattle.msgattrib.specs.Prelude.{ChangesNothing, changed, error_line, eve
 pub use Rattle.msgcat.specs.Prelude.{AreReadAs, DistinctInputsStay, HoldInputs, IsFileFault, IsInput, IsMerged, IsMsgcatRun, IsReadAs, MergedCanStand, MessagesStandOnce, Named, NamedEntry, OneInputStays, all_entries, keep_all, merged, merged_messages, messages, msgcat_line, named}
 pub use Rattle.msgfmt.specs.Prelude.{AreChecked, IsDone, IsMsgfmtRun, IsRefused, Reported, check_line, compile_options, compiled_run, default_output, first_fault, input_names, input_texts, is_header_entry, join_line}
 pub use Rattle.msgfmt.specs.declared.options.MsgfmtOptions.{MsgfmtOptions}
-pub use Rattle.msgfmt.specs.declared.profile.CheckFault.TheVariants.{NoHeader, OutOfMemory}
 pub use Rattle.msgunfmt.specs.Prelude.{CompilesTo, IsMsgunfmtRun, IsUnformatFault, IsUnformatted, NoFaultWhereUnformatted, OneText, OneUnformatFault, UnformatThenCompile, unformat_line}
 pub use Rattle.po_compile.specs.Prelude.{AreAccepted, AreRead, CataloguesAreOne, HoldCatalogues, IsCompilation, MessagesAreOne, NoFaultWhereAccepted, NoFaultWhereDistinct, OneCompileFault, OneTextFault, compiled_inputs, compiled_list, is_compiled, live_messages, message_of}
 pub use Rattle.po_entry.specs.Prelude.{AllDiffer, HasAdmittedCharset, HasNoDuplicate, InputEntry, IsCatalogueEntry, IsFirstDuplicate, IsSameMessage, IsTextFault, Lacks, ReadsText, TextEntry, entries_of, first_form, has_translation, in_input, is_header, is_live, is_live_header, joined, joined_entries, joined_from, stats_of, with_line}
@@ -16,7 +15,7 @@ pub use Rattle.po_tools.specs.Prelude.{AreStored, CompiledAreKept, CompilesAlike
 pub use Rattle.po_tools.specs.ToolRun.{fits_none, looks_up, no_envsubst, runs_envsubst}
 pub use Rattle.po_writer.specs.Prelude.{arranged, written_text}
 pub use Rattle.runs.specs.Prelude.{IsTextOr, NamedFile, RunView, fault_line, mo_text, refusal}
-pub use Rattle.std.proofs.Common.{Bool, Err, List, MatchOption, None, Ok, Option, Some, [], ap, ap₂, arith, codes, cond, drop, false, filter, find, get_or, inl, inr, length, map, nat_lt, not, refl, rules, subst, suc, sym, take, true, zero, ℕ, ⊎_elim, ◌&&◌, ◌++◌, ◌+◌, ◌<◌, ◌||◌, ◌∙◌, ◌∷◌, ◌≡◌, ◌≢◌, ◌⊎◌}
+pub use Rattle.std.proofs.Common.{Bool, Err, List, None, Ok, Option, Some, [], ap, ap₂, arith, codes, cond, drop, false, filter, find, get_or, inl, inr, length, map, nat_lt, not, refl, rules, subst, suc, sym, take, true, zero, ℕ, ⊎_elim, ◌&&◌, ◌++◌, ◌+◌, ◌<◌, ◌||◌, ◌∙◌, ◌∷◌, ◌≡◌, ◌≢◌, ◌⊎◌}
 pub use Rattle.std.proofs.lemmas.Bool.{cases_lt, false_from_ne_true, false≢true, not-true}
 pub use Rattle.std.proofs.lemmas.List.{append-nil, get_or_default, length-map, map-append, take_all, take_more}
 pub use Rattle.std.proofs.lemmas.List.Elements.{All-append, All-cons, All-contains_itself, All-filter, All-head, All-nil, All-push, All-set, All-tail, All-weaker, filter-append, filter_passes}

@@ -1,4 +1,5 @@
-use Rattle.po_tools.proofs.Prelude.{AreChecked, HoldCatalogues, IfErr-weaker, MatchResult-from_both, None, OutOfMemory, Some, ap, arith, inl, inr, length, length-map, live_messages, on_ok_weaker, subst, sym, ⊎_elim, ◌≡◌, ◌⊎◌}
+use Rattle.po_tools.proofs.Prelude.{AreChecked, HoldCatalogues, IfErr-weaker, MatchResult-from_both, None, Some, ap, arith, inl, inr, length, length-map, live_messages, on_ok_weaker, subst, sym, ⊎_elim, ◌≡◌, ◌⊎◌}
+use Rattle.msgfmt.specs.declared.profile.CheckFault.TheVariants.{OutOfMemory}
 use Rattle.po_tools.proofs.catalogues.profile_check.Goals as goal
 
 pub check_collected-requires : goal.check_collected-requires
