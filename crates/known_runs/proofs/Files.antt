@@ -12,8 +12,8 @@ leads_there links none {path = path} (follows {text} is leads) =
     let e : None ≡ Some text = sym (ap (λ l. bytes_of l path) none) ∙ is in cc
 
 -- what follows on nothing is all
-pub after : {later before more : List ℕ} → before ≡ [] → later ≡ before ++ more → later ≡ more
-after none same = same ∙ rw none refl
+pub after_none : {later before more : List ℕ} → before ≡ [] → later ≡ before ++ more → later ≡ more
+after_none none same = same ∙ rw none refl
 
 module _ (IsRun : RunView → Type 0) (path : List ℕ) (named : is_standard path ≡ false)
     (old new : Contents) (links : old.links ≡ []) (out : old.out ≡ []) (err : old.err ≡ []) where
@@ -41,14 +41,14 @@ module _ (IsRun : RunView → Type 0) (path : List ℕ) (named : is_standard pat
       let none : output_file run path ≡ None = rw makes refl in
       absurd (false≢true (ap is_some (sym none ∙ names)))
   by_create run false makes is (printed_there names stay same o e) =
-      ends was run.output run.messages (ap (bytes_at path) same) (after out o) (after err e) (printed is makes)
+      ends was run.output run.messages (ap (bytes_at path) same) (after_none out o) (after_none err e) (printed is makes)
   by_create run true makes is (filed_there {path = p} {target} names leads free at stay o e) =
       let its : output_file run path ≡ Some path = rw (makes, named) refl in
       let paths : Some p ≡ Some path = sym names ∙ its in
       let its_path : p ≡ path = cc in
       let there : target ≡ path = leads_there old.links links leads ∙ its_path in
       ends (Some run.output) [] run.messages (subst (λ q. bytes_at q new.held ≡ Some run.output) there at) (o ∙ out)
-      (after err e) (filed is makes)
+      (after_none err e) (filed is makes)
   by_create run true makes is (printed_there names stay same o e) =
       let its : output_file run path ≡ Some path = rw (makes, named) refl in
       absurd (false≢true (ap is_some (sym names ∙ its)))

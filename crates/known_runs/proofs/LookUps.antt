@@ -1,6 +1,6 @@
 -- What a look-up in a catalogue comes to that is compiled from a text.
 use Rattle.known_runs.proofs.Prelude.{Answers, Bool, CatalogView, CommandLine, Compiled, Contents, End, EndsLookUp, Err, IsCatalogView, IsCompiledFrom, Leaves, List, NamedFile, None, Ok, Option, OutOfMemory, ProgramFault, Query, Reached, Reading, Result, RunView, RunsLookUpLine, Some, SystemView, Writes, [], and_parts, answered, answers_of, ap, append-nil, arith, chain_answered, codes, compiled_list, counted, end, false, false≢true, filed, fits_none, forms_found, gives, hello_mo, if◌then◌else◌, inl, inr, is_some, joined_entries, left, line_of, looks_up, ltb-true, meant, message, nat_lt, option_copied, option_map_or, plain, printed, refl, refuses, slice_index, status_or_memory, subst, suc, sym, take, true, untranslated, zero, ℕ, ◌&&◌, ◌++◌, ◌-◌, ◌<◌, ◌^◌, ◌∙◌, ◌∷◌, ◌≡◌}
-use Rattle.known_runs.proofs.Files.{after}
+use Rattle.known_runs.proofs.Files.{after_none}
 use Rattle.std.proofs.lemmas.Str.{IsUtf8-from_ascii}
 use Rattle.std.specs.Borrow.{Bor}
 use Rattle.gettext.specs.Prelude.{AreCatalogues, GivenDomain, Searching, given_domain, searching, IsEnvironment, environment_view, Opens, GettextRequest, NgettextRequest, IsLookUpRun, gettext_output, ngettext_output, output_of, output_run, with_name, paths_of, AsksGettext, AsksNgettext, CommandView, IsGettextRequest, IsNgettextRequest, GettextUsage, NgettextUsage, gettext_usage, ngettext_usage, RunsLookUp}
@@ -125,7 +125,7 @@ module _ (text bytes : List ℕ) (query : Query) (made : Compiled) (from : IsCom
         → {result : Result ℕ ProgramFault} → Leaves (output_run shown reported) (codes "-") old new result
         → EndsLookUp text query (now result)
     run_ends shown reported answers (printed names stay held o e) =
-        ends (Ok 0) shown reported (after out o) (after err e) answers
+        ends (Ok 0) shown reported (after_none out o) (after_none err e) answers
     run_ends shown reported answers (filed names leads free at stay o e) = cc
     run_ends shown reported answers (left names why kept) = cc
 
