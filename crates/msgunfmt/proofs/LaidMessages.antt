@@ -1,5 +1,5 @@
 -- The entry of a message, as it is laid out.
-use Rattle.msgunfmt.proofs.Prelude.{Adds, All, All-append, All-cons, All-head, All-left, All-nil, All-right, All-tail, AppendsEntry, AppendsMessage, AreLaid, Bool, CanLie, ContainsForms, ContainsKey, ContainsMsgid, HasAdmittedCharset, HasOneMore, HasTexts, HoldsMessage, Lacks, LiesIn, List, Message, Option, RefusesEntry, RefusesMessage, Some, TextEntry, UnformatError, [], after_context, ap, ap₂, arith, before_plural, context_of, each_part, entries_in, entry_at, entry_of_message, first_part, forms, get_or, id_of, key_alone, key_of, length, map, message_entry, msgid_alone, plain_entry, plural_of, quoted_texts, row_of, slice_get, split_none, subst, sym, take, taken_forms, true, unformatted, ℕ, ◌++◌, ◌<◌, ◌↔◌, ◌∙◌, ◌∷◌, ◌≡◌, ◌≢◌}
+use Rattle.msgunfmt.proofs.Prelude.{Adds, All, All-append, All-cons, All-head, All-left, All-nil, All-right, All-tail, AppendsEntry, AppendsMessage, AreLaid, Bool, CanLie, ContainsForms, ContainsKey, ContainsMsgid, HasAdmittedCharset, HasTexts, HoldsMessage, Lacks, LiesIn, List, Message, Option, RefusesEntry, RefusesMessage, Some, TextEntry, UnformatError, [], after_context, ap, ap₂, arith, before_plural, context_of, each_part, entries_in, entry_at, entry_of_message, first_part, forms, get_or, id_of, key_alone, key_of, length, map, message_entry, msgid_alone, plain_entry, plural_of, quoted_texts, row_of, slice_get, split_none, subst, sym, take, taken_forms, true, unformatted, with_entry, ℕ, ◌++◌, ◌<◌, ◌↔◌, ◌∙◌, ◌∷◌, ◌≡◌, ◌≢◌}
 use Rattle.std.specs.Prelude.{option_to_list}
 use Rattle.po_entry.specs.declared.drafts.Drafts.{Drafts}
 use Rattle.po_entry.specs.declared.row.Row.{Row}
@@ -101,7 +101,7 @@ appended messages i m entry old new at is is_admitted a = record {
   is_entry = at;
   valid = message_valid m (subst HasTexts is a.texts);
   admitted = subst (λ (e : TextEntry). (is_admitted ≡ true) ↔ HasAdmittedCharset e) is a.admitted;
-  text = subst (λ (e : TextEntry). HasOneMore e old new) is a.text;
+  text = subst (λ (e : TextEntry). new ≡ with_entry old e) is a.text;
 }
 
 pub refused : (messages : List Message) (i : ℕ) (m : Message) (entry : TextEntry)

@@ -79,6 +79,13 @@ refused_messages messages entry i at before (ForbiddenByte j) why =
 refused_messages messages entry i at before ForeignCharset why = absurd why
 refused_messages messages entry i at before OutOfMemory why = tt
 
+all_live : (messages : List Message) → All (λ e. e.obsolete ≡ false) (unformatted messages)
+all_live messages = All-map (λ (e : TextEntry). e.obsolete ≡ false) entry_of_message messages (λ i d below. refl)
+
+pub live_messages : (n : ℕ) (messages : List Message) → All (λ e. e.obsolete ≡ false) (take n (unformatted messages))
+live_messages n messages =
+    All-take (λ (e : TextEntry). e.obsolete ≡ false) n (unformatted messages) (all_live messages)
+
 module _ (messages : List Message) (i : ℕ) (entry : TextEntry)
     (at : slice_get (unformatted messages) i ≡ Some entry) where
   inside : i < length (unformatted messages)
@@ -96,6 +103,9 @@ module _ (messages : List Message) (i : ℕ) (entry : TextEntry)
       → All P (take (i + 1) (unformatted messages))
   all_more P before last = All-more P (unformatted messages) i entry inside before (subst P (sym here) last)
 
+  pub live_message : entry.obsolete ≡ false
+  live_message = subst (λ (e : TextEntry). e.obsolete ≡ false) here (all_live messages i entry inside)
+
   -- what doesn't hold of the entry doesn't hold of all
   pub not_all : (P : TextEntry → Type 0) → (P entry → ⊥) → All P (unformatted messages) → ⊥
   not_all P not all = not (subst P here (all i entry inside))
@@ -103,11 +113,6 @@ module _ (messages : List Message) (i : ℕ) (entry : TextEntry)
 pub all_taken : (messages : List Message) → take (length messages) (unformatted messages) ≡ unformatted messages
 all_taken messages = take_all (length messages) (unformatted messages)
     (omega (arith, length-map messages entry_of_message))
-
-pub live_messages : (n : ℕ) (messages : List Message) → All (λ e. e.obsolete ≡ false) (take n (unformatted messages))
-live_messages n messages =
-    All-take (λ (e : TextEntry). e.obsolete ≡ false) n (unformatted messages)
-    (All-map (λ (e : TextEntry). e.obsolete ≡ false) entry_of_message messages (λ i d below. refl))
 
 pub catalogue_entries : (entries : List TextEntry) → All IsEntry entries → All HasAdmittedCharset entries
     → All IsCatalogueEntry entries

@@ -11,7 +11,8 @@ use mo_file::{Meter, MoView, first_part, key_parts, original_parts};
 use po_entry::laws::drafts_are_added;
 use po_entry::{Drafts, EntryRef};
 use po_syntax::PoFault;
-use po_writer::append;
+use po_writer::laws::live_entry_is_added;
+use po_writer::push_separated;
 use std::alloc::{AllocError, Global};
 
 /// What of a translation has forms: with a plural all of it, without one its first part.
@@ -48,14 +49,13 @@ fn error_at(i: u32, fault: PoFault) -> UnformatError
 /// Appends the entry of message i to the text, and returns whether its charset is admitted.
 fn append_entry(text: &mut Vec<u8>, entry: &EntryRef<'_>, i: u32) -> Result<bool, UnformatError>
     requires no_nul { All (Lacks 0) (quoted_texts entry.now) }
-    requires live { entry.now.obsolete ≡ false }
     ensures appended { IfOk result (AppendsEntry entry.now text.old.items text.new.items) }
     ensures fault { IfErr result (RefusesEntry entry.now i) }
 {
     if let Err(fault) = entry.check_texts(false) {
         return Err(error_at(i, fault));
     }
-    append(text, entry)?;
+    push_separated(text, entry)?;
     Ok(entry.has_admitted_charset())
 }
 
@@ -87,6 +87,7 @@ fn append_entries(alloc: Global, view: &MoView<'_>, text: &mut Vec<u8>) -> Resul
 {
     let mut drafts = Drafts::new(alloc);
     let mut is_admitted = true;
+    live_entry_is_added();
     for i in 0..view.len() {
         is_admitted &= append_message(text, &mut drafts, view, i)?;
     }

@@ -1,11 +1,11 @@
 //! Laws of the written text, each the contract of a function that does nothing: a call brings the
 //! law into a proof.
-ghost use Rattle.std.specs.Prelude.{◌≡◌, ℕ, List, [], All, false, map};
+ghost use Rattle.std.specs.Prelude.{◌≡◌, ◌++◌, ◌∷◌, ℕ, List, [], All, false, map};
 ghost use Rattle.std.specs.List.{concat};
 ghost use Rattle.po_syntax.specs.Prelude.{IsSmall};
 ghost use Rattle.po_entry.specs.Prelude.{TextEntry, with_line, IsCatalogueEntry, IsEntry, ReadsText};
 ghost use Rattle.po_syntax.specs.Facts.LinesWithEnds.{lines_with_ends};
-ghost use Rattle.po_writer.specs.Prelude.{IsArranged, StandInOrder, WritesEntry, EachEndsInItsOnlyFeed, TextsAreWritten, arranged, entry_lines, in_order, written_text};
+ghost use Rattle.po_writer.specs.Prelude.{IsArranged, StandInOrder, WritesEntry, EachEndsInItsOnlyFeed, TextsAreWritten, arranged, entry_lines, in_order, with_entry, written_text};
 
 /// The lines of a text, joined, are the text. Each but the last ends in its only LF; the last may
 /// have none, and then it isn't empty.
@@ -53,6 +53,13 @@ pub fn written_text_reads()
 pub fn written_text_again()
     ensures { (entries read : List TextEntry) → map (with_line 0) read ≡ map (with_line 0) (arranged entries)
         → written_text read ≡ written_text entries }
+{}
+
+/// A live entry after live ones is written after an empty line, or where the text begins.
+#[tactic(auto, using(crate::proofs::Separated::one_more))]
+pub fn live_entry_is_added()
+    ensures { (entries : List TextEntry) (entry : TextEntry) → All (λ e. e.obsolete ≡ false) entries
+        → entry.obsolete ≡ false → with_entry (written_text entries) entry ≡ written_text (entries ++ entry ∷ []) }
 {}
 
 /// If all entries are live, they are arranged as they stand.

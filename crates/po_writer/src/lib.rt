@@ -15,4 +15,4 @@ mod parts;
 mod text;
 
 pub use crate::parts::TextParts;
-pub use crate::text::{append, push_separated};
+pub use crate::text::push_separated;

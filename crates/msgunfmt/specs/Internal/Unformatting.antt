@@ -1,5 +1,5 @@
 -- Internal to this crate: the entry of a message, laid out and appended to a text, and why a message has none.
-use Rattle.std.specs.Prelude.{◌≡◌, ℕ, List, Some, slice_get, ◌↔◌, Bool, false, true, All, [], ◌∷◌, ◌++◌}
+use Rattle.std.specs.Prelude.{◌≡◌, ℕ, List, Some, slice_get, ◌↔◌, Bool, true, [], ◌∷◌}
 use Rattle.mo_file.specs.Prelude.{Message}
 use Rattle.po_syntax.specs.declared.fault.PoFault.{PoFault}
 use Rattle.po_syntax.specs.declared.fault.PoFault.TheVariants.{NotUtf8 as BadText, ForbiddenByte as BadByte}
@@ -9,7 +9,7 @@ use Rattle.msgunfmt.specs.declared.fault.UnformatError.TheVariants.{Mo, NotUtf8,
 use Rattle.msgunfmt.specs.Unformatted.{unformatted, HasFirstEntryTextFault, HasForeignCharset, entry_of_message}
 use Rattle.po_entry.specs.declared.drafts.Drafts.{Drafts}
 use Rattle.po_entry.specs.declared.row.Row.{Row}
-use Rattle.po_writer.specs.Prelude.{written_text}
+use Rattle.po_writer.specs.Prelude.{with_entry}
 
 -- the error for the entry of message i, by what is wrong with its texts
 abbrev pub error_at : ℕ → PoFault → UnformatError
@@ -45,17 +45,11 @@ pub record HoldsMessage (m : Message) (drafts : Drafts) : Type 0 where
   pub lies : LiesIn drafts.bytes.items row
   pub entry : entry_at drafts.bytes.items row ≡ entry_of_message m
 
--- a text of live entries has this one more
-abbrev pub HasOneMore : TextEntry → List ℕ → List ℕ → Type 0
-HasOneMore entry old new =
-    (entries : List TextEntry) → All (λ e. e.obsolete ≡ false) entries → old ≡ written_text entries
-    → new ≡ written_text (entries ++ entry ∷ [])
-
 -- the entry is appended to a text, and whether its charset is admitted
 pub record AppendsEntry (entry : TextEntry) (old new : List ℕ) (is_admitted : Bool) : Type 0 where
   pub texts : HasTexts entry
   pub admitted : (is_admitted ≡ true) ↔ HasAdmittedCharset entry
-  pub text : HasOneMore entry old new
+  pub text : new ≡ with_entry old entry
 
 -- the same of the entry of message i
 pub record AppendsMessage (messages : List Message) (i : ℕ) (old new : List ℕ) (is_admitted : Bool) : Type 0 where
@@ -63,4 +57,4 @@ pub record AppendsMessage (messages : List Message) (i : ℕ) (old new : List �
   pub is_entry : slice_get (unformatted messages) i ≡ Some entry
   pub valid : IsEntry entry
   pub admitted : (is_admitted ≡ true) ↔ HasAdmittedCharset entry
-  pub text : HasOneMore entry old new
+  pub text : new ≡ with_entry old entry

@@ -1,5 +1,5 @@
-use Rattle.msgunfmt.proofs.Prelude.{IsEntry, ap, arith, err_from_is_err_and, length, sym, take, unformatted, written_text, ◌∙◌, ◌≡◌}
-use Rattle.msgunfmt.proofs.MessageLemmas.{admitted_more, all_more, all_written, foreign_more, live_messages, one_more, refused_messages, some_foreign}
+use Rattle.msgunfmt.proofs.Prelude.{IsEntry, ap, arith, err_from_is_err_and, length, sym, take, unformatted, with_entry, written_text, ◌∙◌, ◌≡◌}
+use Rattle.msgunfmt.proofs.MessageLemmas.{admitted_more, all_more, all_written, foreign_more, live_message, live_messages, one_more, refused_messages, some_foreign}
 use Rattle.msgunfmt.proofs.unformatting.append_entries.Goals as goal
 
 pub returns-in_err-is_admitted-clause-fault : goal.returns-in_err-is_admitted-clause-fault
@@ -16,7 +16,9 @@ loop-i-preserved c =
     let at = more.is_entry in
     let before = c.loop-i.invariant in
     record {
-      written = more.text (take i (unformatted messages)) (live_messages i messages) before.written
+      written = more.text ∙ ap (λ text. with_entry text more.entry) before.written
+          ∙ c.live_entry_is_added.ensures (take i (unformatted messages)) more.entry (live_messages i messages)
+          (live_message messages i more.entry at)
           ∙ ap written_text (sym (one_more messages i more.entry at));
       valid = all_more messages i more.entry at IsEntry before.valid more.valid;
       admitted = admitted_more messages i more.entry at c.loop-i.is_admitted _ more.admitted before.admitted;
