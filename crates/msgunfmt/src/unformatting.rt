@@ -48,7 +48,7 @@ fn error_at(i: u32, fault: PoFault) -> UnformatError
 
 /// Appends the entry of message i to the text, and returns whether its charset is admitted.
 fn append_entry(text: &mut Vec<u8>, entry: &EntryRef<'_>, i: u32) -> Result<bool, UnformatError>
-    requires no_nul { All (Lacks 0) (quoted_texts entry.now) }
+    requires { All (Lacks 0) (quoted_texts entry.now) }
     ensures appended { IfOk result (AppendsEntry entry.now text.old.items text.new.items) }
     ensures fault { IfErr result (RefusesEntry entry.now i) }
 {

@@ -12,8 +12,8 @@ returns-in_err-lay_out-clause-fault c =
     let p = err_from_is_err_and c.from_residual.result c.from_residual.ensures.1 in
     rw (p.1, p.2) (entry_of_message m, at, tt)
 
-pub append_entry-requires-clause-no_nul : goal.append_entry-requires-clause-no_nul
-append_entry-requires-clause-no_nul c =
+pub append_entry-requires : goal.append_entry-requires-clause-no_nul
+append_entry-requires c =
     let m : Message =
     record { original = c.original-original.result.now; translation = c.translation-translation.result.now } in
     no_nul m c.of-entry.result (laid_entry m c.lay_out.new.drafts c.deref.result.now c.index.result.now
