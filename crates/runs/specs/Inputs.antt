@@ -2,6 +2,7 @@
 -- be read (manual, "Invoking the msgfmt Program": "If input file is `-`, standard input is read").
 use Rattle.std.specs.Prelude.{ℕ, List, map, ◌≡◌, ◌+◌, ◌++◌, ◌∷◌, ◌||◌, Bool, true, false, [], drop, length, take, Option, Some, None, codes, ◌≢◌}
 use Rattle.std.specs.Borrow.{Bor}
+use Rattle.std.proofs.Common.{refl}
 use Rattle.runs.specs.declared.inputs.Input.{Input}
 use Rattle.runs.specs.declared.inputs.Inputs.{Inputs}
 use Rattle.runs.specs.declared.inputs.InputFault.{InputFault}
@@ -172,3 +173,10 @@ pub data AreInputsInTurn (file : List ℕ → Reading → Type 0) (standard : Re
       → AreInputsInTurn file standard (codes "-" ∷ arguments) (named (codes "<stdin>") bytes ∷ inputs) fault
   no_standard_input : {arguments : List (List ℕ)} (why : InputFault) → standard (refuses why)
       → AreInputsInTurn file standard (codes "-" ∷ arguments) [] (Some (input_fault_text (codes "<stdin>") why))
+
+-- With the arguments `-`, `a` and `-`, standard input is asked for, then the file `a`, and nothing else.
+pub asked_in_turn : (asked : List Asked) → AsksInTurn (codes "-" ∷ codes "a" ∷ codes "-" ∷ []) asked
+    → asked ≡ standard_input ∷ file_of (codes "a") ∷ []
+asked_in_turn _ (asks_file other asks) = absurd (other refl)
+asked_in_turn _ (asks_standard (one_more_file other (one_more_file again none))) = absurd (again refl)
+asked_in_turn _ (asks_standard (one_more_file other (standard_again no_files))) = refl
