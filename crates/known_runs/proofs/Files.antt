@@ -41,7 +41,8 @@ module _ (IsRun : RunView → Type 0) (path : List ℕ) (named : is_standard pat
       let none : output_file run path ≡ None = rw makes refl in
       absurd (false≢true (ap is_some (sym none ∙ names)))
   by_create run false makes is (printed_there names stay same o e) =
-      ends was run.output run.messages (ap (bytes_at path) same) (after_none out o) (after_none err e) (printed is makes)
+      ends was run.output run.messages (ap (bytes_at path) same) (after_none out o) (after_none err e)
+      (printed is makes)
   by_create run true makes is (filed_there {path = p} {target} names leads free at stay o e) =
       let its : output_file run path ≡ Some path = rw (makes, named) refl in
       let paths : Some p ≡ Some path = sym names ∙ its in
