@@ -1,5 +1,5 @@
-use Rattle.plural_rule.proofs.Prelude.{ap, arith, held, reduce, sym, weight, ◌∙◌}
-use Rattle.plural_rule.proofs.ParserSteps.{short, Reduces-more, Reduces-stop, Reduces-end}
+use Rattle.plural_rule.proofs.Prelude.{[], ap, arith, held, reduce, sym, weight, ◌∙◌}
+use Rattle.plural_rule.proofs.ParserSteps.{short, goes}
 use Rattle.plural_rule.proofs.parser.reduce.Goals as goal
 
 pub loop-top-preserved : goal.loop-top-preserved
@@ -12,21 +12,21 @@ loop-top-preserved c =
       room = rw c.new-parser.ensures (omega (arith, ap weight popped, done.2, room.0), omega (arith, room.1));
       reduces = λ waiting tree h.
           rw (c.new-parser.ensures, done.0, done.1)
-          (Reduces-more c.args.next_level (held c.loop-top.room c.args.codes.now before) _ c.in-Some.top
-          (reduce c.args.next_level waiting tree) (c.loop-top.invariant.reduces waiting tree h) popped
-          (short before.len c.loop-top.room (omega (arith, room.0, c.requires.room.0)))
-          (sym c.binds.ensures ∙ c.if-not-binds.false));
+          ((goes c.args.next_level (held c.loop-top.room c.args.codes.now before) _
+          (reduce c.args.next_level waiting tree) popped (c.loop-top.invariant.reduces waiting tree h)).0
+          (sym c.binds.ensures ∙ c.if-not-binds.false)
+          (short before.len c.loop-top.room (omega (arith, room.0, c.requires.room.0))));
     }
 
 pub returns-then-not-binds-clause-reduced : goal.returns-then-not-binds-clause-reduced
 returns-then-not-binds-clause-reduced c waiting tree h =
-    Reduces-stop c.args.next_level (held c.loop-top.room c.args.codes.now c.loop-top.parser) _ c.in-Some.top
-    (reduce c.args.next_level waiting tree)
-    (c.loop-top.invariant.reduces waiting tree h) c.in-Some.ensures.0 (sym c.binds.ensures ∙ c.if-not-binds.true)
+    (goes c.args.next_level (held c.loop-top.room c.args.codes.now c.loop-top.parser) _
+    (reduce c.args.next_level waiting tree) c.in-Some.ensures.0 (c.loop-top.invariant.reduces waiting tree h)).1
+    (sym c.binds.ensures ∙ c.if-not-binds.true)
 
 pub returns-clause-reduced : goal.returns-clause-reduced
 returns-clause-reduced c waiting tree h =
-    Reduces-end c.args.next_level (held c.loop-top.room c.args.codes.now c.loop-top.parser)
+    goes c.args.next_level (held c.loop-top.room c.args.codes.now c.loop-top.parser) []
     (reduce c.args.next_level waiting tree) c.in_default.ensures (c.loop-top.invariant.reduces waiting tree h)
 
 pub complete-len-requires : goal.complete-len-requires

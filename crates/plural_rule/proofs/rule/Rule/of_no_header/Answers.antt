@@ -1,8 +1,6 @@
-use Rattle.plural_rule.proofs.Prelude.{Default, Instruction, List, NoNumber, Tree, ap, default_rule, program, refl, sym, tree_of, tree_of-program, ◌∙◌, ◌≡◌}
+use Rattle.plural_rule.proofs.Prelude.{Default, NoNumber, ap, default_rule, program, refl, sym, ◌∙◌}
+use Rattle.plural_rule.proofs.Programs.{tree_is}
 use Rattle.plural_rule.proofs.rule.Rule.of_no_header.Goals as goal
-
-tree_is : (code : List Instruction) (t : Tree) → code ≡ program 0 t → tree_of code ≡ t
-tree_is code t e = ap tree_of e ∙ tree_of-program t
 
 pub invariant_of-result : goal.invariant_of-result
 invariant_of-result c =

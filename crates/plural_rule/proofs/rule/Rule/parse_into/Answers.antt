@@ -1,8 +1,6 @@
-use Rattle.plural_rule.proofs.Prelude.{Default, Instruction, IsReadable, List, Tree, ap, default_rule, expression_limit, program, subst, sym, tree_of, tree_of-program, ◌∙◌, ◌≡◌}
+use Rattle.plural_rule.proofs.Prelude.{Default, Instruction, IsReadable, List, Tree, ap, default_rule, expression_limit, program, subst, sym, tree_of, ◌∙◌, ◌≡◌}
+use Rattle.plural_rule.proofs.Programs.{tree_is}
 use Rattle.plural_rule.proofs.rule.Rule.parse_into.Goals as goal
-
-tree_is : (code : List Instruction) (t : Tree) → code ≡ program 0 t → tree_of code ≡ t
-tree_is code t e = ap tree_of e ∙ tree_of-program t
 
 program_is : (code : List Instruction) (t : Tree) → code ≡ program 0 t → code ≡ program 0 (tree_of code)
 program_is code t e = e ∙ ap (program 0) (sym (tree_is code t e))
