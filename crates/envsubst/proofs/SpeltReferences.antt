@@ -1,7 +1,7 @@
 -- Each reference is read where it is spelt, and what is read as one is spelt.
-use Rattle.envsubst.proofs.Prelude.{All, Decides-by_and, IsInName, IsName, List, NoNameGoesOn, None, Option, Reference, Some, SpellsReference, [], and_from, and_parts, ap, arith, bare, bare_reference, begins_with, both_ways, braced, braced_reference, cond_both, drop, drop-drop, drop_at, eqb-true, false_from_ne_true, false≢true, is_begun_name, is_letter, is_name, is_name_byte, length, list_all, lt-ltb, ltb-true, name_prefix, reference_after, refl, subst, suc, sym, take_while-cons, true, ℕ, ◌&&◌, ◌++◌, ◌+◌, ◌∙◌, ◌∷◌, ◌≡◌}
+use Rattle.envsubst.proofs.Prelude.{All, Decides-by_and, IsInName, IsName, List, NoNameGoesOn, None, Option, Reference, Some, SpellsReference, [], and_from, and_parts, ap, bare, bare_reference, begins_with, braced, braced_reference, cond_both, drop, drop_at, false_from_ne_true, false≢true, is_begun_name, is_letter, is_name, is_name_byte, length, list_all, lt-ltb, ltb-true, name_prefix, reference_after, refl, subst, sym, true, ℕ, ◌&&◌, ◌++◌, ◌+◌, ◌∙◌, ◌∷◌, ◌≡◌}
 use Rattle.std.specs.Bool.{Decides}
-use Rattle.envsubst.proofs.ReferenceLemmas.{ends, closes, ending-some, after-closed, letter-name_byte}
+use Rattle.envsubst.proofs.ReferenceLemmas.{name_prefix-stop, begins, run_at, two_more, ends, closes, after-closed, letter-name_byte}
 
 all_decides : (bytes : List ℕ) → Decides (list_all is_name_byte bytes) (All IsInName bytes)
 all_decides bytes = Decides-by_and is_name_byte IsInName (λ text. list_all is_name_byte text)
@@ -36,10 +36,10 @@ pub record IsRead (text name rest : List ℕ) : Type 0 where
 
 bare_read : (name rest : List ℕ) → IsName name → NoNameGoesOn rest
     → reference_after (name ++ rest) ≡ Some (record { name = name; size = length name })
-bare_read name [] h ended = ending-some name (name_begun name h) (name_some name h)
-bare_read name (b ∷ rest) h ended =
-    ends name b rest (name_begun name h) (name_some name h)
-    (false_from_ne_true (is_name_byte b) (λ passes. ended passes))
+bare_read name rest h ended = ends name rest (name_begun name h) (name_some name h) (stops rest ended) where
+  stops : (rest : List ℕ) → NoNameGoesOn rest → name_prefix rest ≡ []
+  stops [] ended = refl
+  stops (b ∷ rest) ended = name_prefix-stop b rest (false_from_ne_true (is_name_byte b) ended)
 
 pub reference_read : {text name rest : List ℕ} → SpellsReference text name rest → IsRead text name rest
 reference_read (bare {name = name} {rest = rest} h ended) = record {
@@ -57,20 +57,6 @@ reference_read (braced {name = name} {rest = rest} h) = record {
   after = after-closed name 125 rest;
 }
 
--- a text is the longest run of name bytes, and a rest
-abbrev RunAt : List ℕ → List ℕ → Type 0
-RunAt bytes run = (list_all is_name_byte run ≡ true) × NoNameGoesOn (drop (length run) bytes)
-    × (run ++ drop (length run) bytes ≡ bytes)
-
-run_at : (bytes : List ℕ) → RunAt bytes (name_prefix bytes)
-run_at [] = (refl, tt, refl)
-run_at (b ∷ bytes) =
-    let later = run_at bytes in
-    subst (RunAt (b ∷ bytes)) (sym (take_while-cons is_name_byte b bytes))
-    (cond_both (is_name_byte b) (b ∷ name_prefix bytes) [] (RunAt (b ∷ bytes))
-    (λ passes. (and_from _ _ passes later.0, later.1, ap (λ l. b ∷ l) later.2))
-    (λ fails. (refl, λ h. both_ways (is_name_byte b) fails h, refl)))
-
 -- what is read as a reference is spelt
 abbrev Says : List ℕ → Option Reference → Type 0
 Says bytes None = Unit {0}
@@ -85,14 +71,6 @@ bare_says bytes =
     run.2 (bare (name_says (name_prefix bytes) named run.0) run.1))
     (λ _. tt)
 
-closed_by : (rest : List ℕ) → begins_with 125 rest ≡ true → rest ≡ 125 ∷ drop 1 rest
-closed_by [] h = absurd (false≢true h)
-closed_by (b ∷ rest) h = ap (λ a. a ∷ rest) (eqb-true b 125 h)
-
-two_more : (n : ℕ) (b : ℕ) (bytes : List ℕ) → drop (n + 2) (b ∷ bytes) ≡ drop 1 (drop n bytes)
-two_more n b bytes =
-    let two : n + 2 ≡ suc (n + 1) = omega arith in ap (λ (k : ℕ). drop k (b ∷ bytes)) two ∙ sym (drop-drop 1 n bytes)
-
 braced_says : (bytes : List ℕ) → Says (123 ∷ bytes) (braced_reference bytes)
 unfolding braced_reference
 braced_says bytes =
@@ -102,21 +80,17 @@ braced_says bytes =
     cond_both (is_name name && begins_with 125 rest) _ None (Says (123 ∷ bytes))
     (λ both.
     let p = and_parts (is_name name) (begins_with 125 rest) both in
-    let closed = closed_by rest p.1 in
+    let closed = begins 125 rest p.1 in
     subst (λ end. SpellsReference (36 ∷ 123 ∷ bytes) name end) (sym (two_more (length name) 123 bytes))
     (subst (λ text. SpellsReference (36 ∷ 123 ∷ text) name (drop 1 rest)) (ap (λ l. name ++ l) (sym closed) ∙ run.2)
     (braced (name_says name p.0 run.0))))
     (λ _. tt)
 
-opened_by : (bytes : List ℕ) → begins_with 123 bytes ≡ true → 123 ∷ drop 1 bytes ≡ bytes
-opened_by [] h = absurd (false≢true h)
-opened_by (b ∷ bytes) h = ap (λ a. a ∷ bytes) (sym (eqb-true b 123 h))
-
 says : (bytes : List ℕ) → Says bytes (reference_after bytes)
 unfolding reference_after
 says bytes =
     cond_both (begins_with 123 bytes) (braced_reference (drop 1 bytes)) (bare_reference bytes) (Says bytes)
-    (λ opened. subst (λ text. Says text (braced_reference (drop 1 bytes))) (opened_by bytes opened)
+    (λ opened. subst (λ text. Says text (braced_reference (drop 1 bytes))) (sym (begins 123 bytes opened))
     (braced_says (drop 1 bytes)))
     (λ _. bare_says bytes)
 

@@ -3,7 +3,7 @@ use Rattle.envsubst.proofs.Prelude.{Bool, Bor, ComesOut, Decides, Ending, List, 
 use Rattle.envsubst.specs.declared.holding.Decision.TheVariants.{Ends, Closes, Copies}
 use Rattle.envsubst.specs.declared.holding.Effect.{Effect}
 use Rattle.envsubst.specs.declared.holding.Effect.TheVariants.{Held, Copied, Replaced}
-use Rattle.envsubst.proofs.ReferenceLemmas.{name_byte-not, begun-bytes, dollar-no_name, ending-none, ending-some, after-closed}
+use Rattle.envsubst.proofs.ReferenceLemmas.{name_byte-not, begun-bytes, no_name_byte, ends, ending-none, after-closed}
 
 -- skipped bytes leave the text after them
 pub skipped : (values : Values) (n : ℕ) (bs : List ℕ) → substitution_after values n bs ≡ substitution values (drop n bs)
@@ -51,7 +51,7 @@ pub plain-run : (values : Values) (bs rest : List ℕ) → list_all is_name_byte
 plain-run values [] rest h = refl
 plain-run values (b ∷ bs) rest h =
     let p = and_parts (is_name_byte b) (list_all is_name_byte bs) h in
-    plain values b (bs ++ rest) (name_byte-not 36 b dollar-no_name p.0) ∙ ap (λ l. b ∷ l) (plain-run values bs rest p.1)
+    plain values b (bs ++ rest) (name_byte-not 36 b no_name_byte.0 p.0) ∙ ap (λ l. b ∷ l) (plain-run values bs rest p.1)
 
 -- a begun reference, and what comes after it
 pub after-append : (is_braced : Bool) (name xs : List ℕ)
@@ -177,10 +177,10 @@ pub ends-name : (values : Values) (held name : List ℕ) (o : Option (Bor (List 
     → is_begun_name name ≡ true → (name ≡ [] → ⊥) → option_map (λ v. v.now) o ≡ values name → Ending values held o
 ends-name values held name None e h some is =
     alone values held (held-copied values false held name [] e h
-    (replacement-none values name (length name) _ (ending-some name h some) (sym is)))
+    (replacement-none values name (length name) _ (ends name [] h some refl) (sym is)))
 ends-name values held name (Some value) e h some is =
     ap (substitution values) (sym (append-nil held))
-    ∙ held-replaced values false held name [] value.now (length name) e (ending-some name h some) (sym is)
+    ∙ held-replaced values false held name [] value.now (length name) e (ends name [] h some refl) (sym is)
     ∙ ap (λ l. value.now ++ l)
     (ends-empty values _ (drop_at name [] (length name) refl) ∙ drop_at name [] (length name) refl)
     ∙ append-nil value.now

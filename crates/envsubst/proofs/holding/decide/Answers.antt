@@ -1,5 +1,5 @@
 use Rattle.envsubst.proofs.Prelude.{after_dollar, ap, arith, length, ne_eqb, nil-from_length, reference_after, some-from_length, sym, ◌++◌, ◌∙◌, ◌∷◌}
-use Rattle.envsubst.proofs.ReferenceLemmas.{begun-undecided, begun-more, brace-undecided, not-begun, not-short, ends, closes, not-closed, letter-name_byte}
+use Rattle.envsubst.proofs.ReferenceLemmas.{name_prefix-stop, begun-undecided, begun-more, brace-undecided, not-begun, not-short, ends, closes, not-closed, letter-name_byte}
 use Rattle.envsubst.proofs.holding.decide.Goals as goal
 
 pub returns-then-is_letter : goal.returns-then-is_letter
@@ -36,8 +36,8 @@ returns-else-name-lt-LONGEST_NAME c = λ rest.
 pub returns-then-not-is_braced-2 : goal.returns-then-not-is_braced-2
 returns-then-not-is_braced-2 c = (
   c.if-not-is_braced-2.true,
-  λ rest. ends _ _ rest c.requires (some-from_length _ (sym c.if-is_empty.ensures))
-      (sym c.if-is_name_byte.ensures),
+  λ rest. ends _ (c.args.next ∷ rest) c.requires (some-from_length _ (sym c.if-is_empty.ensures))
+      (name_prefix-stop _ rest (sym c.if-is_name_byte.ensures)),
 )
 
 pub returns-then-next-eq125 : goal.returns-then-next-eq125
@@ -53,4 +53,5 @@ pub returns-else-next-eq125 : goal.returns-else-next-eq125
 returns-else-next-eq125 c =
     let name = c.args.name.now in λ rest.
     ap (λ b. reference_after (after_dollar b (name ++ c.args.next ∷ rest))) c.if-not-is_braced-2.false
-    ∙ not-closed name c.args.next rest c.requires (sym c.if-is_name_byte.ensures) (ne_eqb _ _ c.if-next-eq125.false)
+    ∙ not-closed name (c.args.next ∷ rest) c.requires (name_prefix-stop _ rest (sym c.if-is_name_byte.ensures))
+    (ne_eqb _ _ c.if-next-eq125.false)
