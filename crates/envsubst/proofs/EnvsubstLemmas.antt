@@ -1,6 +1,5 @@
 -- Lemmas on a whole run of envsubst.
-use Rattle.envsubst.proofs.Prelude.{Advances, Appends, Appends-nil, Appends-trans, AppendsPrefix, Consumes, Consumes-kept, Consumes-nil, Consumes-trans, EndsAs, Err, HasGoneOut, IfSome, IsAtEnd, Keeps, List, None, Ok, OnErr, OnOk, Option, OutOfMemory, ReadFault, Result, Some, Stops, StopsAtEnd, StopsWithin, Substitutes, ToolFault, Values, WriteFault, [], ap, append-nil, append_assoc, arith, drop, inl, inr, length, length-append, refl, subst, substitution, sym, take, take-append-drop, take_all, values_of, ℕ, ◌++◌, ◌+◌, ◌-◌, ◌<◌, ◌∙◌, ◌≡◌, ◌≤◌}
-use Rattle.std.proofs.Math.Seq.{take-add, take-append-add}
+use Rattle.envsubst.proofs.Prelude.{Advances, Appends, Appends-nil, Appends-trans, AppendsPrefix, Consumes, Consumes-kept, Consumes-nil, Consumes-trans, EndsAs, Err, HasGoneOut, IfSome, IsAtEnd, Keeps, List, None, Ok, OnErr, OnOk, Option, OutOfMemory, ReadFault, Result, Some, Stops, StopsAtEnd, StopsWithin, Substitutes, ToolFault, Values, WriteFault, [], ap, append-nil, append_assoc, arith, drop, inl, inr, length, length-append, refl, subst, substitution, sym, take, take-add, take-append-add, take-append-drop, take_all, values_of, ℕ, ◌++◌, ◌+◌, ◌-◌, ◌<◌, ◌∙◌, ◌≡◌, ◌≤◌}
 use Rattle.envsubst.proofs.StreamLemmas.{Advances-none, Advances-trans, Advances-more, Stops-after}
 
 -- the bytes that were read have come out, but for those that are held

@@ -1,6 +1,6 @@
 -- The parser's instructions and stack after one step.
-use Rattle.plural_rule.proofs.Prelude.{Answers, Binary, Conditional, Count, Held, Instruction, IsOperand, IsWaiting, List, None, Not, Number, Operand, Parser, Some, Tree, WaitBinary, WaitColon, WaitNot, WaitOpen, WaitQuestion, Waiting, [], ap, ap₂, arith, at_close, at_colon, begun, binds, branch-append, branch_instruction, cases_Bool, choose_instruction, completed, completed_program, count_instruction, counted, edited, entries_in, false, first_of, get_or-append_seam, get_or-take, held, if◌then◌else◌, inl, inr, is_lazy, jump_instruction, length, length-append, length-program, length-take-le, low_instruction, lt-ltb, nat_lt, number_instruction, pending, pendings, program, program-append, program_then, reduce, reduce_by, refl, set-append_seam, size, skipping, slice_index_or, slice_set, start_after, subst, sym, take, take-set-lt, true, waiting_then, wide_instruction, with_skip, ℕ, ◌%◌, ◌++◌, ◌+◌, ◌-◌, ◌/◌, ◌<◌, ◌^◌, ◌∙◌, ◌∷◌, ◌≡◌, ◌≤◌}
-use Rattle.std.proofs.lemmas.List.{get_or_default, length-take}
+use Rattle.plural_rule.proofs.Prelude.{Answers, Binary, Conditional, Count, Held, Instruction, IsOperand, IsWaiting, List, None, Not, Number, Operand, Parser, Some, Tree, WaitBinary, WaitColon, WaitNot, WaitOpen, WaitQuestion, Waiting, [], ap, ap₂, arith, at_close, at_colon, begun, binds, branch-append, branch_instruction, cases_Bool, choose_instruction, completed, completed_program, count_instruction, counted, edited, entries_in, false, first_of, get_or-append_seam, get_or-take, get_or_default, held, if◌then◌else◌, inl, inr, is_lazy, jump_instruction, length, length-append, length-program, length-take-le, low_instruction, lt-ltb, nat_lt, number_instruction, pending, pendings, program, program-append, program_then, reduce, reduce_by, refl, set-append_seam, size, skipping, slice_index_or, slice_set, start_after, subst, sym, take, take-set-lt, true, waiting_then, wide_instruction, with_skip, ℕ, ◌%◌, ◌++◌, ◌+◌, ◌-◌, ◌/◌, ◌<◌, ◌^◌, ◌∙◌, ◌∷◌, ◌≡◌, ◌≤◌}
+use Rattle.std.proofs.lemmas.List.{length-take}
 use Rattle.plural_rule.specs.declared.pending.Pending.{Pending}
 use Rattle.plural_rule.specs.declared.pending.Pending.TheVariants.{Binary as BinaryPending, Open as OpenPending, Question as QuestionPending, Colon as ColonPending}
 use Rattle.plural_rule.proofs.Programs.{size-some}

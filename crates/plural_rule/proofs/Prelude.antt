@@ -22,7 +22,7 @@ pub use Rattle.std.proofs.Math.Seq.{drop-nil, get_or-append_seam, set-append_sea
 pub use Rattle.std.proofs.lemmas.Bool.{cases_Bool, cases_lt, cond-false, cond-true, eq-eqb, eqb-false, eqb-true, false_from_ne_true, false≢true, le-leb, le-ltb, leb-false, leb-true, lt-leb, lt-ltb, ltb-false, ltb-true, ne_eqb, not-false, not-true, true≢false}
 pub use Rattle.std.proofs.lemmas.Bool.Decides.{Decides-eqb, eqb_tells, leb_tells, nat_tests}
 pub use Rattle.std.proofs.lemmas.Int.Digits.{digits_value-lt, digits_value_more}
-pub use Rattle.std.proofs.lemmas.List.{drop-drop, drop_all, get_or-drop, get_or-set_other, get_or-set_same, get_or-take, length-take-le, take_all}
+pub use Rattle.std.proofs.lemmas.List.{drop-drop, drop_all, get_or-drop, get_or-set_other, get_or-set_same, get_or-take, get_or_default, length-take-le, take_all}
 pub use Rattle.std.proofs.lemmas.List.Sums.{prefix_len-le-length, prefix_len_is, prefix_len_stops, take_while-cons}
 pub use Rattle.std.specs.Char.{digit_value, is_ascii_digit}
 pub use Rattle.std.specs.List.{before_first, prefix_len, starts_with}

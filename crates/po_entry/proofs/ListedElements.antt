@@ -1,13 +1,8 @@
 -- The references and flags that are found in comment lines are those that the lines list.
-use Rattle.po_entry.proofs.Prelude.{All-append, All-nil, All-push, Bool, CommentText, Contains, Contains-from_any, EndsReference, FailsFirst, IsBlank, IsWithoutBlanks, KeepsFlags, Lacks, List, ListsFlags, ListsReferences, NamesFlag, [], all_listed_flags, ap, append-nil, append_assoc, ap₂, blank, both_ways, bytes_eq-Decides, cases_Bool, codes, cond, cond-false, cond-true, end_parts, eqb-false, eqb-true, false, false_from_ne_true, filter, first, flag, flags_of, fold, fold_push, from_end, fuzzy, inl, inr, is_blank, is_fuzzy_flag, is_not_empty, kept_is, last, length, list_any, list_any_at, listed_flags, listed_references, map, more, ne_eqb, no_flag, no_text, none, not, or_from, or_right, parts_of, prefix_len, reference, refl, repeated, skip_blanks, slice_split-cons_yes, slice_split_at, slice_split_none, subst, sym, take, trimmed, true, with_flag, without_end, ℕ, ◌++◌, ◌==◌, ◌||◌, ◌∙◌, ◌∷◌, ◌≡◌, ◌≢◌}
+use Rattle.po_entry.proofs.Prelude.{All-append, All-nil, All-push, All-weaker, Bool, CommentText, Contains, Contains-from_any, EndsReference, FailsFirst, IsBlank, IsWithoutBlanks, KeepsFlags, Lacks, List, ListsFlags, ListsReferences, NamesFlag, [], all_listed_flags, ap, append-nil, append_assoc, ap₂, blank, both_ways, bytes_eq-Decides, cases_Bool, codes, cond, cond-false, cond-true, cond_both, end_parts, eqb-false, eqb-true, false, false_from_ne_true, filter, first, flag, flags_of, fold, fold_push, from_end, fuzzy, inl, inr, is_blank, is_fuzzy_flag, is_not_empty, kept_is, last, length, list_any, list_any-append, list_any_at, listed_flags, listed_references, map, more, ne_eqb, nil_from_length, no_flag, no_text, none, not, or-false, or-true, or_assoc, or_cases, or_from, or_parts, or_right, parts_of, prefix_len, reference, refl, repeated, skip_blanks, slice_split-cons_yes, slice_split_at, slice_split_none, subst, sym, take, trimmed, true, with_flag, without_end, ℕ, ◌++◌, ◌==◌, ◌||◌, ◌∙◌, ◌∷◌, ◌≡◌, ◌≢◌}
 use Rattle.std.proofs.Common.{bytes_eq, All}
 use Rattle.std.specs.Prelude.{◌↔◌}
 use Rattle.po_syntax.proofs.SpeltKeywords.{skip_prefix}
-use Rattle.std.proofs.Math.Bool.{or_assoc, or-false, or-true}
-use Rattle.std.proofs.lemmas.List.{nil_from_length}
-use Rattle.std.proofs.lemmas.List.Folds.{list_any-append}
-use Rattle.std.proofs.lemmas.Bool.{cond_both, or_cases, or_parts}
-use Rattle.std.proofs.lemmas.List.Elements.{All-weaker}
 
 -- a part of a list that was cut is among the elements unless it is empty
 abbrev kept : List ℕ → List (List ℕ) → List (List ℕ)
