@@ -4,18 +4,18 @@ use Rattle.po_syntax.specs.declared.item.Keyword.TheVariants.{MsgStr}
 use Rattle.po_syntax.proofs.Escapes.{all_digits}
 use Rattle.po_syntax.proofs.SpeltEscapes.{by_byte, count_all}
 
--- what holds of a byte that passes other tests, and of this one
-or_byte : (P : ℕ → Type 0) (other : Bool) (b k : ℕ) → (other ≡ true → P b) → P k → (other || b == k) ≡ true → P b
-or_byte P true b k p q e = p refl
-or_byte P false b k p q e = subst P (sym (eqb-true b k e)) q
+pub or_step : {P : Type 0} (x y : Bool) → (x ≡ true → P) → (y ≡ true → P) → (x || y) ≡ true → P
+or_step true y p q e = p refl
+or_step false y p q e = q e
 
 -- what holds of each blank
 pub of_blank : (P : ℕ → Type 0) → P 32 → P 9 → P 11 → P 12 → P 13 → (b : ℕ) → IsBlank b → P b
 of_blank P space tab vertical_tab form_feed return b =
-    or_byte P (b == 32 || b == 9 || b == 11 || b == 12) b 13
-    (or_byte P (b == 32 || b == 9 || b == 11) b 12
-    (or_byte P (b == 32 || b == 9) b 11
-    (or_byte P (b == 32) b 9 (λ h. subst P (sym (eqb-true b 32 h)) space) tab) vertical_tab) form_feed) return
+    let at = λ (k : ℕ) (x : P k) (h : (b == k) ≡ true). subst P (sym (eqb-true b k h)) x in
+    or_step (b == 32 || b == 9 || b == 11 || b == 12) (b == 13)
+    (or_step (b == 32 || b == 9 || b == 11) (b == 12)
+    (or_step (b == 32 || b == 9) (b == 11) (or_step (b == 32) (b == 9) (at 32 space) (at 9 tab)) (at 11 vertical_tab))
+    (at 12 form_feed)) (at 13 return)
 
 -- a text is blanks, and a rest that begins with none
 pub record SkipsBlanks (text : List ℕ) : Type 0 where
