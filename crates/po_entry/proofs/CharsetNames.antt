@@ -3,6 +3,7 @@ use Rattle.po_entry.proofs.Prelude.{All-head, All-tail, Bool, EndsName, FailsFir
 use Rattle.std.proofs.Common.{All}
 use Rattle.std.specs.Prelude.{◌↔◌}
 use Rattle.std.proofs.lemmas.Bool.Decides.{Decides-eqb}
+use Rattle.std.proofs.lemmas.Bool.{not-false}
 
 -- no `charset=` stands in the text before this many bytes
 abbrev IsEarliest : List ℕ → ℕ → Type 0
@@ -67,10 +68,7 @@ not_end b e h = false≢true (sym (not-true (ends_name b) e) ∙ h)
 
 after_name : (rest : List ℕ) → FailsFirst (λ b. not (ends_name b)) rest → IsAfterName rest
 after_name [] h = at_end
-after_name (b ∷ rest) h = at_byte (true_of (ends_name b) h) where
-  true_of : (t : Bool) → not t ≡ false → t ≡ true
-  true_of true e = refl
-  true_of false e = cc
+after_name (b ∷ rest) h = at_byte (not-false (ends_name b) h)
 
 -- the bytes up to the first that ends a name
 pub record IsName (text : List ℕ) : Type 0 where

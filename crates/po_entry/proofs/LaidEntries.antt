@@ -55,21 +55,21 @@ id_found (Some c) id =
 abbrev is_nul : ℕ → Bool
 is_nul b = b == 0
 
-no_end : (text : List ℕ) → Lacks 0 text → All (λ b. is_nul b ≡ false) text
-no_end text lacks = λ k d inside. ne_eqb _ 0 (lacks k d inside)
+pub lacks_fails : (byte : ℕ) (text : List ℕ) → Lacks byte text → All (λ b. (b == byte) ≡ false) text
+lacks_fails byte text lacks = λ k d inside. ne_eqb _ byte (lacks k d inside)
 
 pub first_text : (texts text rest : List ℕ) → texts ≡ text ++ 0 ∷ rest → Lacks 0 text
     → slice_split is_nul texts ≡ text ∷ slice_split is_nul rest
-first_text texts text rest is lacks = rw is (slice_split_at is_nul text 0 rest (no_end text lacks) refl)
+first_text texts text rest is lacks = rw is (slice_split_at is_nul text 0 rest (lacks_fails 0 text lacks) refl)
 
 pub only_text : (text : List ℕ) → Lacks 0 text → slice_split is_nul text ≡ text ∷ []
-only_text text lacks = slice_split_none is_nul text (no_end text lacks)
+only_text text lacks = slice_split_none is_nul text (lacks_fails 0 text lacks)
 
 split_texts : (text : List ℕ) (texts : List (List ℕ)) → Lacks 0 text → All (Lacks 0) texts
     → slice_split is_nul (text ++ flat_map after_nul texts) ≡ text ∷ texts
-split_texts text [] lacks all = rw append-nil (slice_split_none is_nul text (no_end text lacks))
+split_texts text [] lacks all = rw append-nil (slice_split_none is_nul text (lacks_fails 0 text lacks))
 split_texts text (next ∷ texts) lacks all =
-    slice_split_at is_nul text 0 (next ++ flat_map after_nul texts) (no_end text lacks) refl
+    slice_split_at is_nul text 0 (next ++ flat_map after_nul texts) (lacks_fails 0 text lacks) refl
     ∙ ap (λ parts. text ∷ parts)
     (split_texts next texts (All-head (Lacks 0) next texts all) (All-tail (Lacks 0) next texts all))
 

@@ -1,8 +1,9 @@
 -- The references and flags that are found in comment lines are those that the lines list.
-use Rattle.po_entry.proofs.Prelude.{All-append, All-nil, All-push, All-weaker, Bool, CommentText, Contains, Contains-from_any, EndsReference, FailsFirst, IsBlank, IsWithoutBlanks, KeepsFlags, Lacks, List, ListsFlags, ListsReferences, NamesFlag, [], all_listed_flags, ap, append-nil, append_assoc, ap₂, blank, both_ways, bytes_eq-Decides, cases_Bool, codes, cond, cond-false, cond-true, cond_both, end_parts, eqb-false, eqb-true, false, false_from_ne_true, filter, first, flag, flags_of, fold, fold_push, from_end, fuzzy, inl, inr, is_blank, is_fuzzy_flag, is_not_empty, kept_is, last, length, list_any, list_any-append, list_any_at, listed_flags, listed_references, map, more, ne_eqb, nil_from_length, no_flag, no_text, none, not, or-false, or-true, or_assoc, or_cases, or_from, or_parts, or_right, parts_of, prefix_len, reference, refl, repeated, skip_blanks, slice_split-cons_yes, slice_split_at, slice_split_none, subst, sym, take, trimmed, true, with_flag, without_end, ℕ, ◌++◌, ◌==◌, ◌||◌, ◌∙◌, ◌∷◌, ◌≡◌, ◌≢◌}
+use Rattle.po_entry.proofs.Prelude.{All-append, All-nil, All-push, All-weaker, Bool, CommentText, Contains, Contains-from_any, EndsReference, FailsFirst, IsBlank, IsWithoutBlanks, KeepsFlags, List, ListsFlags, ListsReferences, NamesFlag, [], all_listed_flags, ap, append-nil, append_assoc, ap₂, blank, both_ways, bytes_eq-Decides, cases_Bool, codes, cond, cond-false, cond-true, cond_both, end_parts, eqb-false, eqb-true, false, false_from_ne_true, filter, first, flag, flags_of, fold, fold_push, from_end, fuzzy, inl, inr, is_blank, is_fuzzy_flag, is_not_empty, kept_is, last, length, list_any, list_any-append, list_any_at, listed_flags, listed_references, map, more, ne_eqb, nil_from_length, no_flag, no_text, none, not, or-false, or-true, or_assoc, or_cases, or_from, or_parts, or_right, parts_of, prefix_len, reference, refl, repeated, skip_blanks, slice_split-cons_yes, slice_split_at, slice_split_none, subst, sym, take, trimmed, true, with_flag, without_end, ℕ, ◌++◌, ◌==◌, ◌||◌, ◌∙◌, ◌∷◌, ◌≡◌, ◌≢◌}
 use Rattle.std.proofs.Common.{bytes_eq, All}
 use Rattle.std.specs.Prelude.{◌↔◌}
 use Rattle.po_syntax.proofs.SpeltKeywords.{skip_prefix}
+use Rattle.po_entry.proofs.LaidEntries.{lacks_fails}
 
 -- a part of a list that was cut is among the elements unless it is empty
 abbrev kept : List ℕ → List (List ℕ) → List (List ℕ)
@@ -123,18 +124,15 @@ named_is (no_flag {text = text} h) = ap (λ w. kept w []) (sym (is_trimmed text 
 named_is (flag {text = text} {kept = element} some h) =
     sym (some_kept element some []) ∙ ap (λ w. kept w []) (sym (is_trimmed text element h))
 
-no_comma : (text : List ℕ) → Lacks 44 text → All (λ b. (b == 44) ≡ false) text
-no_comma = All-weaker (λ b. b ≢ 44) (λ b. (b == 44) ≡ false) (λ b other. ne_eqb b 44 other)
-
 abbrev flags_in : List (List ℕ) → List (List ℕ)
 flags_in texts = filter is_not_empty (map trimmed texts)
 
 are_flags : {text : List ℕ} {flags : List (List ℕ)} → ListsFlags text flags → flags ≡ listed_flags text
 are_flags (last {text = text} lacks here) =
-    named_is here ∙ sym (ap flags_in (slice_split_none (λ b. b == 44) text (no_comma text lacks)))
+    named_is here ∙ sym (ap flags_in (slice_split_none (λ b. b == 44) text (lacks_fails 44 text lacks)))
 are_flags (more {text = text} {rest = rest} {here = here} {later = later} lacks named others) =
     ap₂ (λ a l. a ++ l) (named_is named) (are_flags others) ∙ kept_append (trimmed text) (listed_flags rest)
-    ∙ sym (ap flags_in (slice_split_at (λ b. b == 44) text 44 rest (no_comma text lacks) refl))
+    ∙ sym (ap flags_in (slice_split_at (λ b. b == 44) text 44 rest (lacks_fails 44 text lacks) refl))
 
 pub flags_listed : (text : List ℕ) (flags : List (List ℕ)) → (flags ≡ listed_flags text) ↔ ListsFlags text flags
 flags_listed text flags = (

@@ -287,12 +287,6 @@ pushed old new rows after entry lie valid stands fits is rows_are =
       more = more;
     }
 
-pub all_set : {X : Type 0} (P : X → Type 0) (xs : List X) (i : ℕ) (x : X) → All P xs → P x → All P (set xs i x)
-all_set P [] i x all here = all
-all_set P (first ∷ xs) zero x all here = All-cons P x xs here (All-tail P first xs all)
-all_set P (first ∷ xs) (suc i) x all here =
-    All-cons P first (set xs i x) (All-head P first xs all) (all_set P xs i x (All-tail P first xs all) here)
-
 pub fuzzy_lies : (bytes : List ℕ) (row : Row) (fuzzy : Bool) → LiesIn bytes row
     → LiesIn bytes (record row { fuzzy = fuzzy })
 fuzzy_lies bytes row fuzzy l = record { within = l.within; key = l.key; context = l.context; eot = l.eot; nul = l.nul }

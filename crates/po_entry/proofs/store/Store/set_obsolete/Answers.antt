@@ -1,5 +1,6 @@
 use Rattle.po_entry.proofs.Prelude.{All, IsCatalogueEntry, LiesIn, Row, ap, arith, changed_at, entry_at, length, length-map, map, set_obsolete, subst, sym, ◌<◌, ◌∙◌}
-use Rattle.po_entry.proofs.RowLemmas.{all_changed, all_set, obsolete_lies, obsolete_stands, written}
+use Rattle.po_entry.proofs.RowLemmas.{all_changed, obsolete_lies, obsolete_stands, written}
+use Rattle.std.proofs.lemmas.List.Elements.{All-set}
 use Rattle.po_entry.proofs.store.Store.set_obsolete.Goals as goal
 
 pub invariant_of-self : goal.invariant_of-self
@@ -10,9 +11,10 @@ invariant_of-self c =
     omega (arith, c.requires, ap length c.self.view_is, length-map rows (entry_at bytes)) in
     let before = c.index_mut.result.now in
     record {
-      lie = all_set (LiesIn bytes) rows c.args.index _ c.self.invariant.lie
+      lie = All-set (LiesIn bytes) rows c.args.index _
           (obsolete_lies bytes before c.args.obsolete
-          (subst (LiesIn bytes) (sym c.index_mut.ensures.value) (c.self.invariant.lie c.args.index before inside)));
+          (subst (LiesIn bytes) (sym c.index_mut.ensures.value) (c.self.invariant.lie c.args.index before inside)))
+          c.self.invariant.lie;
       valid = subst (All IsCatalogueEntry)
           (sym (written bytes (set_obsolete c.args.obsolete) rows c.args.index _ inside before
           (ap (λ (r : Row). set_obsolete c.args.obsolete (entry_at bytes r)) c.index_mut.ensures.value)))
