@@ -1,9 +1,8 @@
 -- The charset that is found in a header's text is the one that it names.
-use Rattle.po_entry.proofs.Prelude.{All-head, All-tail, Bool, EndsName, FailsFirst, IsAfterName, IsAround, List, NamesCharset, [], after_charset, ap, append_cancel_left, arith, at_byte, at_end, before_first, cases_Bool, charset_of, codes, cond-false, cond-true, drop, drop_at, ends_name, false, false≢true, get_or, inl, inr, length, named, nat_eq, not, not-true, parts_of, position_or_len, refl, starts_is, starts_with, subst, suc, sym, true, unnamed, ℕ, ◌++◌, ◌∙◌, ◌∷◌, ◌≡◌, ◌≤◌, ◌⊎◌}
+use Rattle.po_entry.proofs.Prelude.{All-head, All-tail, Bool, EndsName, FailsFirst, IsAfterName, IsAround, List, NamesCharset, [], after_charset, ap, append_cancel_left, arith, at_byte, at_end, before_first, cases_Bool, charset_of, codes, cond-false, cond-true, drop, drop_at, ends_name, false, false≢true, get_or, inl, inr, length, named, nat_eq, not, not-false, not-true, parts_of, position_or_len, refl, starts_is, starts_with, subst, suc, sym, true, unnamed, ℕ, ◌++◌, ◌∙◌, ◌∷◌, ◌≡◌, ◌≤◌, ◌⊎◌}
 use Rattle.std.proofs.Common.{All}
 use Rattle.std.specs.Prelude.{◌↔◌}
 use Rattle.std.proofs.lemmas.Bool.Decides.{Decides-eqb}
-use Rattle.std.proofs.lemmas.Bool.{not-false}
 
 -- no `charset=` stands in the text before this many bytes
 abbrev IsEarliest : List ℕ → ℕ → Type 0

@@ -22,10 +22,10 @@ pub use Rattle.po_syntax.specs.declared.item.CommentKind.TheVariants.{Extracted,
 pub use Rattle.std.proofs.Common.{AllPairs, Bool, Err, IsOkUnless, IsPermutation, IsSorted, IsTrue, IsUtf8, List, MatchResult, None, Ok, OnErr, Option, Result, Some, [], add-one, ap, append-nil, append_assoc, ap₂, arith, codes, cond, decimal, drop, eqb, false, filter, fold, get_or, get_or-take, inl, inr, is_none, length, length-append, length-drop, length-take, map, nat_eq, nat_lt, not, refl, rules, set, slice_index_or, subst, suc, sym, take, true, zero, ℕ, ⊎_elim, ◌&&◌, ◌++◌, ◌+◌, ◌-◌, ◌<◌, ◌==◌, ◌^◌, ◌||◌, ◌↔◌, ◌∙◌, ◌∷◌, ◌≡◌, ◌≢◌, ◌≤◌, ◌⊎◌}
 pub use Rattle.std.proofs.Math.Bool.{and-false, and-true, and_assoc, and_comm, or-false, or-true, or_assoc}
 pub use Rattle.std.proofs.Math.Seq.{drop-append-add, drop-append_seam, drop-cons, take-append_seam, take-suc-set}
-pub use Rattle.std.proofs.lemmas.Bool.{and_parts, both_ways, cases_Bool, cases_eq, cases_lt, cond-false, cond-true, cond_both, eq-eqb, eqb-false, eqb-true, false_from_ne_true, false≢true, le-ltb, lt-ltb, ltb-false, ltb-true, ne_eqb, not-true, or_cases, or_from, or_left, or_parts, or_right}
+pub use Rattle.std.proofs.lemmas.Bool.{and_parts, both_ways, cases_Bool, cases_eq, cases_lt, cond-false, cond-true, cond_both, eq-eqb, eqb-false, eqb-true, false_from_ne_true, false≢true, le-ltb, lt-ltb, ltb-false, ltb-true, ne_eqb, not-false, not-true, or_cases, or_from, or_left, or_parts, or_right}
 pub use Rattle.std.proofs.lemmas.Grind.{common_steps, flat_map-append}
 pub use Rattle.std.proofs.lemmas.List.{append_cancel_left, drop-append-le, drop_at, drop_min, drop_more, get_or-map, get_or_at, get_or_default, length-map, map-append, nil_from_length, take-append-drop, take-append-le, take-take, take_all, take_at, take_min, take_more}
-pub use Rattle.std.proofs.lemmas.List.Elements.{All-append, All-cons, All-filter, All-get_or, All-head, All-map, All-more, All-nil, All-push, All-tail, All-weaker, Contains-append_left, Contains-push, Contains-push_cases, filter-append, filter_agree, filter_passes}
+pub use Rattle.std.proofs.lemmas.List.Elements.{All-append, All-cons, All-filter, All-get_or, All-head, All-map, All-more, All-nil, All-push, All-set, All-tail, All-weaker, Contains-append_left, Contains-push, Contains-push_cases, filter-append, filter_agree, filter_passes}
 pub use Rattle.std.proofs.lemmas.List.Folds.{list_any-append, list_any_at, position_or_len_push}
 pub use Rattle.std.proofs.lemmas.List.Kept.{AllPairs-filter, AllPairs-from_increasing}
 pub use Rattle.std.proofs.lemmas.List.Sorted.{IsNonDecreasingBy-from_sort, IsPermutation-sym, answers_always}
