@@ -1,13 +1,10 @@
-use Rattle.plural_rule.proofs.Prelude.{List, [], ap, arith, drop, entries_in, held, length, length-drop, most_added, refl, rules, take, take_all, weight, ℕ, ◌+◌, ◌-◌, ◌<◌, ◌∷◌, ◌≡◌, ◌≢◌, ◌≤◌}
+use Rattle.plural_rule.proofs.Prelude.{List, [], ap, arith, drop, entries_in, held, length, length-drop, most_added, rules, take, take_all, weight, ℕ, ◌+◌, ◌-◌, ◌<◌, ◌≡◌, ◌≢◌, ◌≤◌}
+use Rattle.std.proofs.lemmas.List.{nil_from_length}
 use Rattle.plural_rule.proofs.ParserRun.{Reached, reached-start, reached-token, reached-end, no-token, no-index, most-added}
 use Rattle.plural_rule.proofs.parser.parse_within.Goals as goal
 
 nonempty : (text : List ℕ) → 0 < length text → text ≢ []
 nonempty text h e = absurd (omega (arith, ap length e))
-
-empty : (text : List ℕ) → length text ≡ 0 → text ≡ []
-empty [] h = refl
-empty (c ∷ text) h = absurd (omega arith)
 
 pub loop-rest-init : goal.loop-rest-init
 loop-rest-init g c =
@@ -88,7 +85,7 @@ loop-rest-preserved g c =
 
 pub returns : goal.returns
 returns g c =
-    let none : c.loop-rest.rest.now ≡ [] = empty c.loop-rest.rest.now (search rules) in
+    let none : c.loop-rest.rest.now ≡ [] = nil_from_length c.loop-rest.rest.now (search rules) in
     let r : Reached c.args.text.now []
     (held c.loop-rest.room c.loop-rest.codes c.loop-rest.parser) c.loop-rest.parser.complete =
     rw none at c.loop-rest.invariant.reached in
