@@ -1,5 +1,5 @@
 -- Lemmas on names and references: what the byte after a begun reference makes of it.
-use Rattle.envsubst.proofs.Prelude.{Bool, List, NoNameGoesOn, None, Some, [], after_dollar, and_from, and_left, and_parts, and_right, ap, append-nil, arith, bare_reference, begins_with, both_ways, braced_reference, cond, cond-false, cond-true, cond_both, drop, drop-drop, drop_at, eqb, eqb-true, false, false≢true, inl, inr, is_begun_name, is_letter, is_name, is_name_byte, is_undecided, is_undecided_after, le-ltb, length, length-append, list_all, list_all-append, lt-ltb, ltb, ltb-true, name_prefix, nat_tests, ne_eqb, reference_after, refl, subst, suc, sym, take, take-append_seam, take_while-cons, true, ℕ, ◌&&◌, ◌++◌, ◌+◌, ◌<◌, ◌∙◌, ◌∷◌, ◌≡◌, ◌≤◌, ◌⊎◌}
+use Rattle.envsubst.proofs.Prelude.{Bool, List, NoNameGoesOn, None, Some, [], after_dollar, and_from, and_left, and_parts, and_right, ap, append-nil, arith, bare_reference, begins_with, both_ways, braced_reference, cond, cond-false, cond-true, cond_both, drop, drop-drop, drop_at, eqb, eqb-true, false, false≢true, inl, inr, is_begun_name, is_letter, is_name, is_name_byte, is_undecided, is_undecided_after, le-ltb, length, length-append, list_all, list_all-append, lt-ltb, ltb, ltb-true, name_prefix, nat_tests, ne_eqb, reference_after, refl, subst, suc, sym, take, take-append_seam, take_while-cons, true, ℕ, ◌&&◌, ◌++◌, ◌+◌, ◌<◌, ◌∙◌, ◌∷◌, ◌≡◌, ◌≤◌, ◌⊎◌, false_from_ne_true}
 
 -- neither `$` nor a brace is a name byte
 pub no_name_byte : (is_name_byte 36 ≡ false) × (is_name_byte 123 ≡ false) × (is_name_byte 125 ≡ false)
@@ -36,6 +36,7 @@ pub begun-bytes : (name : List ℕ) → is_begun_name name ≡ true → list_all
 begun-bytes [] h = refl
 begun-bytes (b ∷ bs) h = (begun-name b bs h).1
 
+-- it begins with no brace
 no_brace : (b : ℕ) (bs : List ℕ) → is_begun_name (b ∷ bs) ≡ true → eqb b 123 ≡ false
 no_brace b bs h =
     name_byte-not 123 b no_name_byte.1 (and_parts (is_name_byte b) (list_all is_name_byte bs) (begun-name b bs h).1).0
@@ -133,11 +134,12 @@ pub letter-name_byte : (b : ℕ) → is_letter b ≡ true → is_name_byte b ≡
 unfolding is_letter is_name_byte
 letter-name_byte b h = grind (arith, nat_tests)
 
--- a list of more than 255 bytes is no name
-long-no_name : (bs : List ℕ) → 255 < length bs → is_name bs ≡ false
+-- a name has at most 255 bytes
+name-length : (bs : List ℕ) → is_name bs ≡ true → length bs ≤ 255
 unfolding is_name
-long-no_name [] long = refl
-long-no_name (b ∷ bs) long = and_right (is_letter b) (ltb (length bs) 255) (le-ltb _ _ (omega arith))
+name-length [] h = omega arith
+name-length (b ∷ bs) h =
+    let below = ltb-true (length bs) 255 (and_parts (is_letter b) (ltb (length bs) 255) h).1 in omega arith
 
 -- a name that is too long
 pub not-short : (is_braced : Bool) (name : List ℕ) (b : ℕ) (bs : List ℕ) → is_begun_name name ≡ true → (name ≡ [] → ⊥)
@@ -147,10 +149,12 @@ not-short is_braced (c ∷ cs) b bs h some passes long =
     let name = c ∷ cs in
     let run = name_prefix-append name (b ∷ bs) (begun-bytes name h)
     ∙ ap (λ l. name ++ l) (take_while-cons is_name_byte b bs ∙ cond-true (is_name_byte b) _ _ passes) in
-    let longer : 255 < length (name ++ b ∷ name_prefix bs) = omega (arith, length-append name (b ∷ name_prefix bs)) in
-    unnamed is_braced (name ++ b ∷ bs) (ap is_name run ∙ long-no_name (name ++ b ∷ name_prefix bs) longer)
-    (λ _. no_brace c cs h)
+    let whole = name ++ b ∷ name_prefix bs in
+    let long_run = false_from_ne_true (is_name whole)
+    (λ is. omega (arith, name-length whole is, length-append name (b ∷ name_prefix bs))) in
+    unnamed is_braced (name ++ b ∷ bs) (ap is_name run ∙ long_run) (λ _. no_brace c cs h)
 
+-- a first byte, apart
 pub begins : (a : ℕ) (bs : List ℕ) → begins_with a bs ≡ true → bs ≡ a ∷ drop 1 bs
 begins a [] h = absurd (false≢true h)
 begins a (b ∷ bs) h = ap (λ c. c ∷ bs) (eqb-true b a h)
@@ -160,6 +164,7 @@ abbrev pub name_after : Bool → List ℕ → List ℕ
 name_after true bs = drop 1 (drop 1 bs)
 name_after false bs = drop 1 bs
 
+-- a `$`, maybe a brace, and the name
 split : (is_braced : Bool) (bs : List ℕ) → begins_with 36 bs ≡ true → begins_with 123 (drop 1 bs) ≡ is_braced
     → bs ≡ 36 ∷ after_dollar is_braced (name_after is_braced bs)
 split true bs dollar brace = begins 36 bs dollar ∙ ap (λ l. 36 ∷ l) (begins 123 (drop 1 bs) brace)
@@ -191,7 +196,7 @@ begun-taken false bs n dollar brace h =
     let one : n + 1 ≡ suc n = omega arith in
     rw (one, split false bs dollar brace) (begun-undecided false (take n (drop 1 bs)) h)
 
--- what is after the closing brace
+-- what is after a byte, a name and the closing brace
 pub two_more : (n : ℕ) (b : ℕ) (bytes : List ℕ) → drop (n + 2) (b ∷ bytes) ≡ drop 1 (drop n bytes)
 two_more n b bytes =
     let two : n + 2 ≡ suc (n + 1) = omega arith in ap (λ (k : ℕ). drop k (b ∷ bytes)) two ∙ sym (drop-drop 1 n bytes)
@@ -202,11 +207,8 @@ after-closed name b bs =
 
 -- held bytes are at most 257: `${` and the longest name
 begun-length : (name : List ℕ) → is_begun_name name ≡ true → length name ≤ 255
-unfolding is_name
 begun-length [] h = omega arith
-begun-length (b ∷ bs) h =
-    let short = (and_parts (is_letter b) (ltb (length bs) 255) (begun-name b bs h).0).1 in
-    let below = ltb-true (length bs) 255 short in omega arith
+begun-length (b ∷ bs) h = name-length (b ∷ bs) (begun-name b bs h).0
 
 pub undecided-length : (held : List ℕ) → is_undecided held ≡ true → length held ≤ 257
 undecided-length [] h = omega arith
