@@ -2,6 +2,7 @@
 use Rattle.plural_rule.proofs.Prelude.{Bool, Decides-eqb, IsFirstByte, List, None, Nowhere, OccursAt, Passes, Some, [], after_first, ap, arith, before_first, cases_Bool, cases_lt, drop, false_from_ne_true, get_or-drop, get_or-take, inl, inr, is_byte, is_byte2, is_end, length, length-append, length-drop, length-take, nat_eq, not, prefix_len_is, refl, slice_index, starts_with, subst, suc, sym, take, take-append_seam, take_all, true, zero, ℕ, ◌+◌, ◌-◌, ◌<◌, ◌∙◌, ◌∷◌, ◌≡◌, ◌≤◌}
 use Rattle.std.proofs.lemmas.Slice.Eq.{starts_is}
 use Rattle.memchr.proofs.lemmas.MatchLemmas.{OccursAt-part, OccursAt-from_part, OccursAt-split}
+use Rattle.std.proofs.lemmas.List.{take_rest}
 
 -- a name that occurs after the first byte
 occurs-later : (name rest : List ℕ) (c k : ℕ) → OccursAt rest name k → OccursAt (c ∷ rest) name (suc k)
@@ -49,10 +50,6 @@ after_first-some name (c ∷ rest) (suc k) some h none =
           ∙ ap (λ n. Some (drop n (c ∷ rest))) sum)
     ]
 
--- the part of a text from an index on
-pub rest_from : (text : List ℕ) (n : ℕ) → take (length text - n) (drop n text) ≡ drop n text
-rest_from text n = take_all _ _ (omega (arith, length-drop n text))
-
 -- an occurrence that ends after `end` shows the last byte of the name to a search from there on
 last-passes : (name text : List ℕ) (end j : ℕ) → 0 < length name → OccursAt text name j → end < j + length name
     → Passes (is_byte (slice_index name (length name - 1))) (take (length text - end) (drop end text))
@@ -62,7 +59,7 @@ last-passes name text end j some h after =
     let read : slice_index (drop end text) (j + length name - 1 - end) ≡ slice_index name (length name - 1) =
     get_or-drop end text (j + length name - 1 - end) 0 ∙ ap (slice_index text) place
     ∙ h.reads (length name - 1) (omega arith) in
-    rw (rest_from text end) ((Decides-eqb _ _).1 read)
+    rw (take_rest text end) ((Decides-eqb _ _).1 read)
 
 -- where no name ends up to `end`, none ends before the last byte of the name stands there again
 pub none-before : (name text : List ℕ) (end before : ℕ) → 0 < length name

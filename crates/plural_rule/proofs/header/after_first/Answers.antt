@@ -1,5 +1,6 @@
 use Rattle.plural_rule.proofs.Prelude.{OccursAt, Some, ap, arith, cases_lt, drop, inl, inr, length, length-drop, length-take, rules, sym, take, true≢false, ◌+◌, ◌-◌, ◌∙◌, ◌≡◌, ◌≤◌}
-use Rattle.plural_rule.proofs.Searches.{none-before, ends-text, ends-part, found-within, after_first-none, after_first-some, rest_from}
+use Rattle.plural_rule.proofs.Searches.{none-before, ends-text, ends-part, found-within, after_first-none, after_first-some}
+use Rattle.std.proofs.lemmas.List.{take_rest}
 use Rattle.plural_rule.proofs.header.after_first.Goals as goal
 
 pub loop-before-preserved : goal.loop-before-preserved
@@ -34,7 +35,7 @@ returns-then-is_suffix c =
     (λ j before h. none-before name text c.loop-before.end c.in-Some.before c.requires c.loop-before.invariant.none
     c.in-Some.ensures.0.before j (omega (arith, before, fits, whole)) h)
     ∙ ap (λ n. Some (drop n text)) whole
-    ∙ ap Some (sym (rest_from text end))
+    ∙ ap Some (sym (take_rest text end))
 
 pub returns : goal.returns
 returns c =

@@ -1,5 +1,5 @@
-use Rattle.plural_rule.proofs.Prelude.{List, [], ap, arith, drop, entries_in, held, length, length-drop, most_added, rules, take, take_all, weight, ℕ, ◌+◌, ◌-◌, ◌<◌, ◌≡◌, ◌≢◌, ◌≤◌}
-use Rattle.std.proofs.lemmas.List.{nil_from_length}
+use Rattle.plural_rule.proofs.Prelude.{List, [], ap, arith, entries_in, held, length, length-drop, most_added, rules, weight, ℕ, ◌+◌, ◌<◌, ◌≡◌, ◌≢◌, ◌≤◌}
+use Rattle.std.proofs.lemmas.List.{nil_from_length, take_rest}
 use Rattle.plural_rule.proofs.ParserRun.{Reached, reached-start, reached-token, reached-end, no-token, no-index, most-added}
 use Rattle.plural_rule.proofs.parser.parse_within.Goals as goal
 
@@ -54,8 +54,7 @@ loop-rest-preserved g c =
     let at = c.in-Some.ensures in
     let after = c.without_blanks-rest-in-loop-rest.ensures in
     let took = c.in-Some-take.ensures in
-    let part : take (length c.loop-rest.rest.now - n) (drop n c.loop-rest.rest.now) ≡ drop n c.loop-rest.rest.now =
-    take_all _ _ (omega (arith, length-drop n c.loop-rest.rest.now)) in
+    let part = take_rest c.loop-rest.rest.now n in
     record {
       reached =
           rw (after.value, part)
