@@ -1,10 +1,11 @@
 -- The quoted form of a UTF-8 text is UTF-8, and holds no byte below space.
-use Rattle.po_syntax.proofs.Prelude.{All, All-append, All-cons, All-head, All-tail, IsAscii, IsAscii-cons, IsUtf8, IsUtf8-append, IsUtf8-from_ascii, IsUtf8-nil, List, WritesByte, [], and_parts, append-nil, arith, cases_lt, control, delete, encode_ascii, flat_map-append, get_or, inl, inr, inside_one, is_raw, le-ltb, length, ne_eqb, quoted, refl, rules, subst, sym, take_all, true, written_byte, written_bytes, ℕ, ◌%◌, ◌++◌, ◌+◌, ◌/◌, ◌<◌, ◌∷◌, ◌≡◌, ◌≤◌}
+use Rattle.po_syntax.proofs.Prelude.{All, All-append, All-cons, All-head, All-tail, IsAscii, IsAscii-cons, IsUtf8, IsUtf8-append, IsUtf8-from_ascii, IsUtf8-nil, List, WritesByte, [], and_parts, append-nil, arith, cases_lt, control, delete, encode_ascii, flat_map-append, get_or, inl, inr, inside_one, is_raw, length, quoted, refl, rules, subst, sym, take_all, true, written_byte, written_bytes, ℕ, ◌%◌, ◌++◌, ◌+◌, ◌/◌, ◌<◌, ◌∷◌, ◌≡◌, ◌≤◌}
 use lib.Utf8.{encode, encodes, scalars, scalar}
 use Rattle.po_syntax.specs.Quoting.{letter, plain}
 use Rattle.po_syntax.proofs.RawRuns.{written_run}
 use Rattle.po_syntax.proofs.SpeltEscapes.{of_each_byte}
 use Rattle.po_syntax.proofs.WrittenForms.{byte_written}
+use Rattle.std.proofs.lemmas.Bool.Decides.{nat_tests}
 
 -- a byte that is no control byte, and below a bound
 abbrev Shown : ℕ → ℕ → Type 0
@@ -50,13 +51,7 @@ ascii_from_shown (b ∷ bytes) h =
     IsAscii-cons b bytes (All-head (Shown 128) b bytes h).1 (ascii_from_shown bytes (All-tail (Shown 128) b bytes h))
 
 raw_high : (b : ℕ) → 128 ≤ b → is_raw b ≡ true
-raw_high b h =
-    rw (
-      le-ltb b 32 (omega arith),
-      ne_eqb b 127 (λ same. omega arith),
-      ne_eqb b 34 (λ same. omega arith),
-      ne_eqb b 92 (λ same. omega arith),
-    )
+raw_high b h = grind (arith, nat_tests)
 
 -- a byte of a character above ASCII
 high_byte : (c k : ℕ) → 128 ≤ c → k < length (encode c) → 128 ≤ get_or (encode c) k 0

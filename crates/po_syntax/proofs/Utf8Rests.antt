@@ -1,10 +1,11 @@
 -- What is left of a UTF-8 line after its marks, a token or a string is UTF-8, and so is what stands
 -- before a quote: a text is cut beside an ASCII byte.
-use Rattle.po_syntax.proofs.Prelude.{All, All-head, All-tail, AllDigits, Bool, CommentLine, IsAscii-cons, IsAscii-nil, IsBlank, IsCharBoundary-after_ascii, IsCharBoundary-before_ascii, IsUtf8, IsUtf8-append, IsUtf8-drop, IsUtf8-from_ascii, IsUtf8-take, Keyword, KeywordToken, List, Marks, NoShape, OpeningQuote, Shape, Some, SpellsEscape, SpellsKeyword, SpellsString, Tokens, [], ap, append_assoc, arith, closed, codes, comment_shape, cond_both, digit_value, drop, drop-append_seam, escape, false, first_shape, form, get_or, hash_shape, hexadecimal, le-ltb, length, length-append, letter, letter_value, ltb-false, ltb-true, msgctxt, msgid, msgid_plural, msgstr, nat_lt, obsolete_shape, octal, plain, refl, rules, shape_of, skip_blanks, subst, sym, take-append_seam, tilde_shape, token_at, true, ℕ, ◌++◌, ◌+◌, ◌<◌, ◌==◌, ◌∙◌, ◌∷◌, ◌≡◌, ◌≤◌}
+use Rattle.po_syntax.proofs.Prelude.{All, All-head, All-tail, AllDigits, CommentLine, IsAscii-cons, IsAscii-nil, IsBlank, IsCharBoundary-after_ascii, IsCharBoundary-before_ascii, IsUtf8, IsUtf8-append, IsUtf8-drop, IsUtf8-from_ascii, IsUtf8-take, Keyword, KeywordToken, List, Marks, NoShape, OpeningQuote, Shape, Some, SpellsEscape, SpellsKeyword, SpellsString, Tokens, [], ap, append_assoc, arith, closed, codes, comment_shape, cond_both, digit_value, drop, drop-append_seam, escape, first_shape, form, get_or, hash_shape, hexadecimal, length, length-append, letter, letter_value, msgctxt, msgid, msgid_plural, msgstr, obsolete_shape, octal, plain, refl, rules, shape_of, skip_blanks, subst, sym, take-append_seam, tilde_shape, token_at, ℕ, ◌++◌, ◌+◌, ◌<◌, ◌==◌, ◌∙◌, ◌∷◌, ◌≡◌, ◌≤◌}
 use Rattle.po_syntax.proofs.SpeltEscapes.{by_byte, of_each_letter}
 use Rattle.po_syntax.proofs.SpeltKeywords.{of_blank, skips}
 use Rattle.po_syntax.proofs.SpeltLines.{CommentSays, comment_says}
 use Rattle.po_syntax.proofs.Tokens.{says}
+use Rattle.std.proofs.lemmas.Bool.Decides.{nat_tests}
 
 -- the byte at which a text is cut
 byte_at : (own rest : List ℕ) (b : ℕ) → get_or (own ++ b ∷ rest) (length own) 0 ≡ b
@@ -62,22 +63,8 @@ inside-utf8 text {inside} e utf8 =
     rest-utf8 [] inside 34 (omega arith) (subst IsUtf8 (says text e) (skipped text utf8))
 
 -- a digit is ASCII, as other bytes have no value below 36
-digit_high : (c : ℕ) → 123 ≤ c → digit_value c ≡ 36
-digit_high c past =
-    rw (
-      le-ltb c 48 (omega (arith, past)),
-      le-ltb c 58 (omega (arith, past)),
-      le-ltb c 65 (omega (arith, past)),
-      le-ltb c 91 (omega (arith, past)),
-      le-ltb c 97 (omega (arith, past)),
-      le-ltb c 123 past,
-    ) refl
-
 digit_low : (c : ℕ) → digit_value c < 36 → c < 128
-digit_low c small = by (nat_lt c 123) refl where
-  by : (below : Bool) → nat_lt c 123 ≡ below → c < 128
-  by true is = omega (arith, ltb-true c 123 is)
-  by false is = absurd (omega (arith, digit_high c (ltb-false c 123 is), small))
+digit_low c small = grind (arith, nat_tests, small)
 
 after_digits : (base : ℕ) (digits text : List ℕ) → base ≤ 36 → AllDigits base digits → IsUtf8 (digits ++ text)
     → IsUtf8 text
