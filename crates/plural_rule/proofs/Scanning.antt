@@ -1,9 +1,10 @@
 -- The token at the beginning of a text.
-use Rattle.plural_rule.proofs.Prelude.{AllDigits, BeginsWithDouble, HasNoDouble, HasNoToken, IsLongest, IsSpelling, IsTokenAt, IsTooLarge, List, Operator, Or, Token, [], ap, arith, cases_Bool, cond-false, cond-true, digits_value, drop, drop-cons, false, false≢true, get_or, inl, inr, is_ascii_digit, length, length-drop, operator_bytes, prefix_len, prefix_len-le-length, prefix_len_stops, refl, subst, suc, sym, take-append-drop, take_while, take_while-cons, true, ℕ, ◌++◌, ◌-◌, ◌<◌, ◌^◌, ◌∙◌, ◌∷◌, ◌≡◌, ◌≢◌, ◌≤◌}
+use Rattle.plural_rule.proofs.Prelude.{AllDigits, BeginsWithDouble, HasNoDouble, HasNoToken, IsLongest, IsSpelling, IsTokenAt, IsTooLarge, List, Operator, Or, Token, [], ap, arith, cond-true, digits_value, drop, drop-cons, false, false≢true, get_or, is_ascii_digit, length, length-drop, operator_bytes, prefix_len, prefix_len-le-length, prefix_len_stops, refl, subst, suc, sym, take-append-drop, take_while, take_while-cons, true, ℕ, ◌++◌, ◌-◌, ◌<◌, ◌^◌, ◌∙◌, ◌∷◌, ◌≡◌, ◌≢◌, ◌≤◌}
 use Rattle.std.proofs.lemmas.List.Folds.{length-prefix_len}
 use Rattle.plural_rule.specs.declared.token.Token.TheVariants.{Number, Binary}
 use Rattle.plural_rule.proofs.Numerals.{digit_below_ten, below_ten_digit}
 use Rattle.plural_rule.proofs.Lexing.{one_prefix, first_byte, operator-facts, spelling-not_blank}
+use Rattle.std.proofs.lemmas.Bool.{cond_both}
 
 -- bytes that spell a token and begin with a digit are digits
 digits-only : (u : Token) (bytes : List ℕ) → is_ascii_digit (first_byte bytes) ≡ true → IsSpelling u bytes
@@ -17,16 +18,9 @@ digits-only _ bytes d h = absurd (false≢true (sym (ap (λ xs. is_ascii_digit (
 pub AllDigits-take_while : (text : List ℕ) → AllDigits 10 (take_while is_ascii_digit text)
 AllDigits-take_while [] = tt
 AllDigits-take_while (c ∷ text) =
-    elim (cases_Bool (is_ascii_digit c)) [
-      | inl e ↦
-          let cons : take_while is_ascii_digit (c ∷ text) ≡ c ∷ take_while is_ascii_digit text =
-          take_while-cons is_ascii_digit c text ∙ cond-true (is_ascii_digit c) _ _ e in
-          subst (AllDigits 10) (sym cons) (digit_below_ten c e, AllDigits-take_while text)
-      | inr e ↦
-          let none : take_while is_ascii_digit (c ∷ text) ≡ [] =
-          take_while-cons is_ascii_digit c text ∙ cond-false (is_ascii_digit c) _ _ e in
-          subst (AllDigits 10) (sym none) tt
-    ]
+    rw (take_while-cons is_ascii_digit c text)
+    (cond_both (is_ascii_digit c) (c ∷ take_while is_ascii_digit text) [] (AllDigits 10)
+    (λ e. (digit_below_ten c e, AllDigits-take_while text)) (λ _. tt))
 
 AllDigits-append : (xs ys : List ℕ) → AllDigits 10 (xs ++ ys) → AllDigits 10 ys
 AllDigits-append [] ys h = h

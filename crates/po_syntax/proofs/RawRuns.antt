@@ -1,26 +1,10 @@
 -- Bytes that are written as they are.
-use Rattle.po_syntax.proofs.Prelude.{Bool, List, [], ap, append-nil, arith, cond, false, flat_map-append, get_or, is_control, is_raw, length, length_push, ltb-false, nat_lt, ne_eqb, nil_from_length, not-true, or_parts, prefix_len, prefix_len-le-length, prefix_len_passes, refl, subst, suc, sym, take, take_more, true, written_byte, written_bytes, zero, ℕ, ◌++◌, ◌+◌, ◌<◌, ◌==◌, ◌||◌, ◌∙◌, ◌∷◌, ◌≡◌, ◌≤◌}
+use Rattle.po_syntax.proofs.Prelude.{Bool, List, [], ap, append-nil, arith, cond, false, flat_map-append, get_or, is_raw, length, length_push, nil_from_length, prefix_len, prefix_len-le-length, prefix_len_passes, refl, subst, suc, sym, take, take_more, true, written_byte, written_bytes, zero, ℕ, ◌++◌, ◌+◌, ◌<◌, ◌∙◌, ◌∷◌, ◌≡◌, ◌≤◌}
+use Rattle.std.proofs.lemmas.Bool.Decides.{nat_tests}
 
 written_raw : (b : ℕ) → is_raw b ≡ true → written_byte b ≡ b ∷ []
 unfolding written_byte
-written_raw b raw =
-    let escaped = or_parts (is_control b || b == 34) (b == 92) (not-true _ raw) in
-    let control = or_parts (is_control b) (b == 34) escaped.0 in
-    let low = or_parts (nat_lt b 32) (b == 127) control.0 in
-    let above : 32 ≤ b = ltb-false b 32 low.0 in
-    let differs : (k : ℕ) → k < 32 → (b == k) ≡ false = λ k less. ne_eqb b k (λ same. omega arith) in
-    rw (
-      differs 7 (omega arith),
-      differs 8 (omega arith),
-      differs 9 (omega arith),
-      differs 10 (omega arith),
-      differs 11 (omega arith),
-      differs 12 (omega arith),
-      differs 13 (omega arith),
-      control.1,
-      escaped.1,
-      control.0,
-    )
+written_raw b raw = grind (arith, nat_tests)
 
 -- none of the first n bytes of the text needs an escape
 abbrev pub AreRaw : ℕ → List ℕ → Type 0
