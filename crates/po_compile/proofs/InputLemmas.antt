@@ -9,7 +9,7 @@ use Rattle.po_compile.proofs.TextLemmas.{query_key_is_one}
 use Rattle.std.proofs.lemmas.Slice.Zip.{AllZip-long}
 use Rattle.mo_file.specs.declared.building.BuildError.{BuildError}
 use Rattle.mo_file.specs.declared.building.BuildError.TheVariants.{TooLarge, NotSorted, OutOfMemory as NoMemory}
-use Rattle.po_compile.proofs.FaultLemmas.{NoFirstDuplicate}
+use Rattle.po_entry.proofs.DuplicateLemmas.{distinct_has_no_first}
 use Rattle.po_compile.proofs.ReadingLemmas.{EntriesCanStand, distinct_of_one}
 
 -- the first repeat in a list of what a function makes of elements is made of theirs
@@ -213,33 +213,21 @@ build_refused options texts catalogues messages NotSorted reported read are faul
 build_refused options texts catalogues messages NoMemory reported read are fault is = inl (inl is)
 
 -- the fault of a text that is the only one is of no other input
-pub alone_refused : NoFirstDuplicate → (options : Options) (text : List ℕ) (error : JoinError)
-    → IsCompileFault options (text ∷ []) error → IsCompileFault options (text ∷ []) (fault_of_only_input error.error)
-alone_refused no_first options text error (inl (inl memory)) =
-    inl (inl (ap (λ (e : JoinError). fault_of_only_input e.error) memory))
-alone_refused no_first options text error (inl (inr (inl fault))) =
-    let first : 0 ≡ length fault.before =
-    omega (arith, ap length fault.order, length-append fault.before (fault.text ∷ fault.after)) in
-    inl (inr (inl (record {
-      before = fault.before;
-      text = fault.text;
-      after = fault.after;
-      order = fault.order;
-      catalogues = fault.catalogues;
-      faultless = fault.faultless;
-      input = first;
-      first_input = first;
-      fault = fault.fault;
-    })))
-alone_refused no_first options text error (inl (inr (inr found))) =
-    let one = AllZip-long ReadsDistinct (text ∷ []) found.catalogues found.each in
-    absurd (no_first (joined found.catalogues) found.first found.later
-    (distinct_of_one (text ∷ []) found.catalogues (omega (arith, one)) found.each) found.duplicate)
-alone_refused no_first options text error (inr large) =
-    inr (record {
-      catalogues = large.catalogues;
-      read = large.read;
-      large = large.large;
-      error_is =
-          ap (λ (e : JoinError). fault_of_only_input e.error) large.error_is;
-    })
+pub alone_refused : (options : Options) (text : List ℕ) (error : JoinError) → IsCompileFault options (text ∷ []) error
+    → IsCompileFault options (text ∷ []) (fault_of_only_input error.error)
+alone_refused options text error fault = subst (IsCompileFault options (text ∷ [])) (by fault) fault where
+  alone : error.input ≡ 0 → error.first_input ≡ 0 → error ≡ fault_of_only_input error.error
+  alone input first = ap₂ (λ n m. record { input = n; first_input = m; error = error.error }) input first
+
+  by : IsCompileFault options (text ∷ []) error → error ≡ fault_of_only_input error.error
+  by (inl (inl memory)) = alone (ap (λ (e : JoinError). e.input) memory) (ap (λ (e : JoinError). e.first_input) memory)
+  by (inl (inr (inl fault))) =
+      let none : length fault.before ≡ 0 =
+      omega (arith, ap length fault.order, length-append fault.before (fault.text ∷ fault.after)) in
+      alone (fault.input ∙ none) (fault.first_input ∙ none)
+  by (inl (inr (inr found))) =
+      let one = AllZip-long ReadsDistinct (text ∷ []) found.catalogues found.each in
+      absurd (distinct_has_no_first (joined found.catalogues) found.first found.later
+      (distinct_of_one (text ∷ []) found.catalogues (omega (arith, one)) found.each) found.duplicate)
+  by (inr large) = alone (ap (λ (e : JoinError). e.input) large.error_is)
+      (ap (λ (e : JoinError). e.first_input) large.error_is)

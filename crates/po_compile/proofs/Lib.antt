@@ -10,6 +10,7 @@ pub mod KeysApart
 pub mod MeaningLemmas
 pub mod MessageOrder
 pub mod ReadingLemmas
+pub mod OneResult
 pub mod FaultLemmas
 pub mod RepeatedKeys
 pub mod CompiledRows

@@ -1,6 +1,6 @@
-use Rattle.po_compile.proofs.FaultLemmas.{same_catalogues}
+use Rattle.po_compile.proofs.FaultLemmas.{texts_once}
+use Rattle.po_compile.proofs.OneResult.{one_value}
 use Rattle.po_compile.proofs.laws.catalogues_are_one.Goals as goal
 
 pub returns : goal.returns
-returns c texts catalogues others read also =
-    same_catalogues c.one_reading.ensures texts catalogues others read.each also.each
+returns c texts catalogues others read also = one_value (texts_once texts) read.each also.each

@@ -2,5 +2,4 @@ use Rattle.po_compile.proofs.FaultLemmas.{accepted_faultless}
 use Rattle.po_compile.proofs.laws.no_fault_where_accepted.Goals as goal
 
 pub returns : goal.returns
-returns c = accepted_faultless c.one_reading.ensures c.no_fault_where_entries.ensures
-    c.no_first_duplicate_where_none.ensures c.messages_are_one.ensures
+returns c = accepted_faultless

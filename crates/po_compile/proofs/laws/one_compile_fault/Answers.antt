@@ -2,5 +2,4 @@ use Rattle.po_compile.proofs.FaultLemmas.{compile_fault_once}
 use Rattle.po_compile.proofs.laws.one_compile_fault.Goals as goal
 
 pub returns : goal.returns
-returns c = compile_fault_once c.one_reading.ensures c.no_fault_where_entries.ensures
-    c.no_first_duplicate_where_none.ensures c.one_fault.ensures c.one_first_duplicate.ensures
+returns c = compile_fault_once
