@@ -2,4 +2,4 @@ use Rattle.po_tools.proofs.OneOtherRun.{msgcat_once}
 use Rattle.po_tools.proofs.run_laws.one_msgcat_run.Goals as goal
 
 pub returns : goal.returns
-returns c = msgcat_once c.one_reading.ensures c.one_text_fault.ensures c.no_fault_where_distinct.ensures
+returns c = msgcat_once
