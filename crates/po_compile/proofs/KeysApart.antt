@@ -1,5 +1,5 @@
 -- Keys that rise, keys that are apart, and the entries that have them.
-use Rattle.po_compile.proofs.Prelude.{All, All-cons, All-from_all_within, All-head, All-map, All-nil, All-tail, All-weaker, AllApart, AllDiffer, AllPairs, AllPairs-cons, AllPairs-filter, AllWithin, AllZip, AreRising, Bool, EachApart, HasNoDuplicate, HasOneHeader, HoldsAt, InputEntry, InputMessage, IsPermutation, IsPermutation-filter_both, IsPermutation-map, IsPermutation-sym, IsTrue, Less, List, LiveMessage, MatchBool, ReadsDistinct, ReadsText, Row, TextEntry, [], all_messages, all_pass, ap, ap₂, arith, bytes_eq, bytes_eq-Decides, entries_of, false, filter, filter_passes, first_of, get_or, get_or-map, get_or_append_left, get_or_default, has_no_key, in_input_message, input_keys, input_message, is_joined, is_live, joined, joined_entries, joined_messages, key_cmp, length, length-append, length-map, less_is_other, list_any, live_entries, live_message, live_messages, live_of_entries, map, map-append, map-map, message_keys, nat_list_eq_equiv, not-true, pairs_of_map, query_key, refl, rising_between, row_key, row_view, subst, suc, sym, true, ℕ, ◌++◌, ◌+◌, ◌<◌, ◌==◌, ◌||◌, ◌↔◌, ◌∙◌, ◌∷◌, ◌≡◌, ◌≢◌, ◌≤◌}
+use Rattle.po_compile.proofs.Prelude.{All, All-cons, All-from_all_within, All-head, All-map, All-nil, All-tail, All-weaker, AllApart, AllDiffer, AllPairs, AllPairs-cons, AllPairs-filter, AllWithin, AllZip, AreRising, Bool, EachApart, HasNoDuplicate, HasOneHeader, HoldsAt, InputEntry, InputMessage, IsPermutation, IsPermutation-append_comm, IsPermutation-filter_both, IsPermutation-map, IsPermutation-sym, IsTrue, Less, List, LiveMessage, MatchBool, ReadsDistinct, ReadsText, Row, TextEntry, [], all_messages, all_pass, ap, ap₂, arith, bytes_eq, bytes_eq-Decides, entries_of, false, filter, filter_passes, first_of, get_or, get_or-map, get_or_default, has_no_key, in_input_message, input_keys, input_message, is_joined, is_live, joined, joined_entries, joined_messages, key_cmp, length, length-map, less_is_other, list_any, live_entries, live_message, live_messages, live_of_entries, map, map-append, map-map, message_keys, nat_list_eq_equiv, not-true, pairs_of_map, query_key, refl, rising_between, row_key, row_view, subst, suc, sym, true, ℕ, ◌++◌, ◌+◌, ◌<◌, ◌==◌, ◌||◌, ◌↔◌, ◌∙◌, ◌∷◌, ◌≡◌, ◌≢◌, ◌≤◌}
 use Rattle.std.proofs.Math.ListN.{get_or-map as map_at}
 use Rattle.std.proofs.lemmas.Map.Keys.{IsDistinct-IsPermutation}
 use Rattle.std.proofs.lemmas.Map.Made.{AllPairs-from_IsDistinct, IsDistinct-from_AllPairs}
@@ -88,45 +88,36 @@ module _ (use_fuzzy : Bool) where
         read_distinct ts cs read.1 (All-tail Apart here later apart),
       )
 
-module _ {X : Type 0} (R : X → X → Type 0) where
-  pairs_left : (xs ys : List X) → AllPairs R (xs ++ ys) → AllPairs R xs
-  pairs_left xs ys all i j d below inside =
-      subst (λ x. R x (get_or xs j d)) (get_or_append_left xs ys d i (omega (arith, below, inside)))
-      (subst (R (get_or (xs ++ ys) i d)) (get_or_append_left xs ys d j inside)
-      (all i j d below (omega (arith, inside, length-append xs ys))))
+-- the keys of each of two lists, one after the other
+keys_after : (ks ls : List (List ℕ)) → AllApart (ks ++ ls) → AllApart ls
+keys_after [] ls apart = apart
+keys_after (k ∷ ks) ls apart = keys_after ks ls
+    (λ i j d below inside. apart (suc i) (suc j) d (omega (arith, below)) (omega (arith, inside)))
 
-  pairs_right : (xs ys : List X) → AllPairs R (xs ++ ys) → AllPairs R ys
-  pairs_right [] ys all = all
-  pairs_right (x ∷ xs) ys all =
-      pairs_right xs ys (λ i j d below inside. all (suc i) (suc j) d (omega (arith, below)) (omega (arith, inside)))
+keys_before : (ks ls : List (List ℕ)) → AllApart (ks ++ ls) → AllApart ks
+keys_before ks ls apart =
+    keys_after ls ks (apart_permuted (ks ++ ls) (ls ++ ks) (IsPermutation-append_comm ks ls) apart)
 
--- the messages of rows whose keys differ
-pub sorted_keys : (inputs : List (List LiveMessage)) (rows : List Row)
-    → IsPermutation (all_messages inputs) (map row_view rows) → AllApart (map row_key rows)
-    → AllApart (input_keys (all_messages inputs))
-sorted_keys inputs rows all apart =
-    let key : InputMessage → List ℕ = λ m. m.message.key in
-    apart_permuted (input_keys (map row_view rows)) (input_keys (all_messages inputs))
-    (IsPermutation-map key (map row_view rows) (all_messages inputs)
-    (IsPermutation-sym (all_messages inputs) (map row_view rows) all))
-    (subst AllApart (sym (map-map key row_view rows)) apart)
+-- the keys of rows are those of the messages
+module _ (inputs : List (List LiveMessage)) (rows : List Row)
+    (all : IsPermutation (all_messages inputs) (map row_view rows)) where
+  keys_moved : IsPermutation (input_keys (all_messages inputs)) (map row_key rows)
+  keys_moved = subst (IsPermutation (input_keys (all_messages inputs)))
+      (map-map (λ (m : InputMessage). m.message.key) row_view rows)
+      (IsPermutation-map (λ (m : InputMessage). m.message.key) (all_messages inputs) (map row_view rows) all)
+
+  pub rows_apart : AllApart (input_keys (all_messages inputs)) → AllApart (map row_key rows)
+  rows_apart = apart_permuted (input_keys (all_messages inputs)) (map row_key rows) keys_moved
+
+  pub sorted_keys : AllApart (map row_key rows) → AllApart (input_keys (all_messages inputs))
+  sorted_keys = apart_permuted (map row_key rows) (input_keys (all_messages inputs))
+      (IsPermutation-sym (input_keys (all_messages inputs)) (map row_key rows) keys_moved)
 
 -- rows that are sorted
-module _ (inputs : List (List LiveMessage)) (rows sorted : List Row) (made : map row_view rows ≡ all_messages inputs)
-    (permuted : IsPermutation rows sorted) where
-  pub sorted_all : IsPermutation (all_messages inputs) (map row_view sorted)
-  sorted_all = subst (λ ms. IsPermutation ms (map row_view sorted)) made
-      (IsPermutation-map row_view rows sorted permuted)
-
-  pub all_apart : AllApart (map row_key sorted) → AllApart (input_keys (all_messages inputs))
-  all_apart apart = sorted_keys inputs sorted sorted_all apart
-
-  pub sorted_apart : AllApart (input_keys (all_messages inputs)) → AllApart (map row_key sorted)
-  sorted_apart apart =
-      subst AllApart (map-map (λ (m : InputMessage). m.message.key) row_view sorted)
-      (apart_permuted (input_keys (all_messages inputs)) (input_keys (map row_view sorted))
-      (IsPermutation-map (λ (m : InputMessage). m.message.key) (all_messages inputs)
-      (map row_view sorted) sorted_all) apart)
+pub sorted_all : (inputs : List (List LiveMessage)) (rows sorted : List Row) → map row_view rows ≡ all_messages inputs
+    → IsPermutation rows sorted → IsPermutation (all_messages inputs) (map row_view sorted)
+sorted_all inputs rows sorted made permuted =
+    subst (λ ms. IsPermutation ms (map row_view sorted)) made (IsPermutation-map row_view rows sorted permuted)
 
 -- one header among messages that differ and are no headers
 with_header : (headers others : List LiveMessage) → length headers ≤ 1 → All (λ m. has_no_key m ≡ true) headers
@@ -168,9 +159,9 @@ each_apart input headed (messages ∷ inputs) one apart =
     let parts = subst AllApart split apart in
     All-cons (λ ms. AllApart (message_keys ms)) messages inputs
     (input_apart headed messages (All-head HasOneHeader messages inputs one)
-    (pairs_left (λ k l. k ≢ l) (message_keys kept) (input_keys rest) parts))
+    (keys_before (message_keys kept) (input_keys rest) parts))
     (each_apart (input + 1) then inputs (All-tail HasOneHeader messages inputs one)
-    (pairs_right (λ k l. k ≢ l) (message_keys kept) (input_keys rest) parts))
+    (keys_after (message_keys kept) (input_keys rest) parts))
 
 -- where no message repeats another of the joined list, and no input has two headers, none repeats
 -- another of its input

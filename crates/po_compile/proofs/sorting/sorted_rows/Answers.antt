@@ -1,5 +1,5 @@
 use Rattle.po_compile.proofs.Prelude.{map, rising-from_sorted, row_key}
-use Rattle.po_compile.proofs.KeysApart.{all_apart, inputs_apart, one_header_each, rising_apart, sorted_all, sorted_apart}
+use Rattle.po_compile.proofs.KeysApart.{inputs_apart, one_header_each, rising_apart, rows_apart, sorted_all, sorted_keys}
 use Rattle.po_compile.proofs.sorting.sorted_rows.Goals.{else-are_rising-via-then-are_rising+else-have_one_header, else-are_rising-via-else-are_rising}
 use Rattle.po_compile.proofs.sorting.sorted_rows.Goals as goal
 
@@ -15,8 +15,8 @@ returns-then-have_one_header-clause-each c =
     let sorted = c.sort_rows.new.rows.items in
     let rising = rw c.deref.ensures.value at (c.are_rising.ensures.0 c.if-are_rising.true) in
     inputs_apart c.args.inputs.now (c.have_one_header.ensures.0 c.if-have_one_header.true)
-    (all_apart c.args.inputs.now c.in_ok-rows.rows.items sorted c.in_ok-rows.ensures c.sort_rows.ensures.permutation
-    (rising_apart (map row_key sorted) rising))
+    (sorted_keys c.args.inputs.now sorted (sorted_all c.args.inputs.now c.in_ok-rows.rows.items sorted
+    c.in_ok-rows.ensures c.sort_rows.ensures.permutation) (rising_apart (map row_key sorted) rising))
 
 pub unreachable-requires : goal.unreachable-requires
 unreachable-requires c =
@@ -24,7 +24,7 @@ unreachable-requires c =
     let rows = c.in_ok-rows.rows.items in
     let sorted = c.sort_rows.new.rows.items in
     let rising = rising-from_sorted row_key sorted c.sort_rows.ensures.sorted
-    (sorted_apart inputs rows sorted c.in_ok-rows.ensures c.sort_rows.ensures.permutation
+    (rows_apart inputs sorted (sorted_all inputs rows sorted c.in_ok-rows.ensures c.sort_rows.ensures.permutation)
     c.in_ok-check_joined.ensures.apart) in
     elim c.else-are_rising.branch [
       | else-are_rising-via-then-are_rising+else-have_one_header w ↦
