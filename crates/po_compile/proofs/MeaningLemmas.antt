@@ -1,11 +1,11 @@
 -- The messages of entries mean these entries: the one message under a key is found in whatever order the
 -- messages stand, and is taken apart again.
-use Rattle.po_compile.proofs.Prelude.{All, All-cons, All-contains, All-head, All-nil, All-permutation, All-tail, All-weaker, AreMessagesOf, AreRising, Bool, Contains, Contains-permutation, Decides, Decides-and, Decides-eqb, Decides-like, IfSome, IsEntry, IsPermutation, IsPermutation-map, IsPermutation-sym, IsText, Lacks, List, Message, MessagesDiffer, MessagesHaveParts, MessagesMeanEntries, None, Option, Query, Some, TextEntry, TextsComeBack, [], and_parts, answer, ap, append-nil, ap₂, arith, bytes_eq, bytes_eq-Decides, can_be_key, cases_lt, cond, context_of, fails_before_first, false, find, find_at, find_map, first_all, first_form, form_at, forms, get_or, get_or_default, get_or_from_slice_get, has_no_separator, header_of, header_text, id_of, inl, inr, is_of_message, is_separator, join_with_byte, key_cmp, key_of, keys, length, length-map, less_is_other, list_any, map, message_of, none-some, not-true, one_answer, option_eq, option_map, option_map_or, option_to_list, or_parts, original_of, passes_at_first, plural_cut, plural_none, plural_of, plural_part, position_or_len, query_key, refl, slice_get-get_or, slice_get_within, subst, sym, translation_of, translation_under, true, unwrap_or, ℕ, ◌++◌, ◌<◌, ◌==◌, ◌∙◌, ◌∷◌, ◌≡◌, ◌≢◌, ◌≤◌, ◌⊎◌}
-use Rattle.po_compile.proofs.KeysApart.{below_from_rising, apart_permuted, rising_apart}
+use Rattle.po_compile.proofs.Prelude.{All, AllPairs, AllApart, All-cons, All-contains, All-head, All-nil, All-permutation, All-tail, All-weaker, AreMessagesOf, AreRising, Bool, Contains, Contains-permutation, Decides, Decides-and, Decides-eqb, Decides-like, IfSome, IsEntry, IsPermutation, IsPermutation-map, IsPermutation-sym, IsText, Lacks, List, Message, MessagesDiffer, MessagesHaveParts, MessagesMeanEntries, None, Option, Query, Some, TextEntry, TextsComeBack, [], and_parts, answer, ap, append-nil, ap₂, arith, bytes_eq, bytes_eq-Decides, can_be_key, cases_lt, cond, context_of, fails_before_first, false, find, find_at, find_map, first_all, first_form, form_at, forms, get_or, get_or_default, get_or_from_slice_get, has_no_separator, header_of, header_text, id_of, inl, inr, is_of_message, is_separator, join_with_byte, key_of, keys, length, less_is_other, list_any, map, message_of, none-some, not-true, one_answer, option_eq, option_map, option_map_or, option_to_list, or_parts, original_of, passes_at_first, plural_cut, plural_none, plural_of, plural_part, position_or_len, query_key, refl, slice_get-get_or, slice_get_within, subst, sym, translation_of, translation_under, true, unwrap_or, ℕ, ⊎_elim, ◌++◌, ◌<◌, ◌==◌, ◌∙◌, ◌∷◌, ◌≡◌, ◌≢◌, ◌≤◌, ◌⊎◌}
+use Rattle.po_compile.proofs.KeysApart.{Below, apart_permuted, below_from_rising, entries_differ, key_of_entry, rising_apart}
+use Rattle.std.proofs.Common.{subst₂}
 use Rattle.plural_rule.specs.Prelude.{IsRuleOf, expression_limit}
 use Rattle.po_entry.proofs.QuotedParts.{quoted_parts}
 use Rattle.po_compile.proofs.TextLemmas.{context_back, id_back, key_of-plural_part, query_key_lacks, query_key_is_one, slice_split-join}
-use Rattle.std.proofs.Math.ListN.{get_or-map}
 
 -- what a search finds is in the list and passes the test
 pub record IsFound {X : Type 0} (test : X → Bool) (xs : List X) (x : X) : Type 0 where
@@ -28,28 +28,30 @@ find_missed test xs e k d inside = fails_before_first test xs k d (missed (cases
       (none-some (get_or xs (position_or_len test xs) d)
       (sym e ∙ find_at test xs ∙ slice_get-get_or xs (position_or_len test xs) d (omega (arith, past, inside))))
 
+-- of two elements of a list, which may be one, one stands before the other
+pub same_or_apart : {X : Type 0} (R : X → X → Type 0) (xs : List X) → AllPairs R xs → (a b : X) → Contains xs a
+    → Contains xs b → (a ≡ b) ⊎ (R a b ⊎ R b a)
+same_or_apart R xs pairs a b (i, in_i, at_i) (j, in_j, at_j) =
+    let at_b : get_or xs j a ≡ b = get_or_default xs j a b in_j ∙ at_j in
+    elim (cases_lt i j) [
+      | inl below ↦ inr (inl (subst₂ R at_i at_b (pairs i j a below in_j)))
+      | inr past ↦ elim (cases_lt j i) [
+        | inl above ↦ inr (inr (subst₂ R at_b at_i (pairs j i a above in_i)))
+        | inr others ↦
+            let equal : i ≡ j = omega (arith, past, others) in
+            inl (sym at_i ∙ ap (λ k. get_or xs k a) equal ∙ at_b)
+      ]
+    ]
+
 -- messages with rising keys that have one key are one
 pub one_message : (messages : List Message) → AreRising (keys messages) → (m n : Message) → Contains messages m
     → Contains messages n
     → key_of m.original ≡ key_of n.original → m ≡ n
-one_message messages rising m n (i, in_i, at_i) (j, in_j, at_j) same =
+one_message messages rising m n in_m in_n same =
     let key : Message → List ℕ = λ x. key_of x.original in
-    let at : (k : ℕ) (x : Message) → k < length messages → get_or messages k x ≡ x → get_or messages k m ≡ x =
-    λ k x inside is. get_or_default messages k m x inside ∙ is in
-    let apart : (k l : ℕ) (x y : Message) → k < l → l < length messages → get_or messages k m ≡ x
-    → get_or messages l m ≡ y → key x ≢ key y = λ k l x y below inside is_x is_y.
-    less_is_other (key x) (key y)
-    (ap₂ (λ a b. key_cmp (key a) (key b)) (sym is_x) (sym is_y)
-    ∙ below_from_rising key messages rising k l m below inside) in
-    elim (cases_lt i j) [
-      | inl below ↦ absurd (apart i j m n below in_j (at i m in_i at_i) (at j n in_j at_j) same)
-      | inr past ↦ elim (cases_lt j i) [
-        | inl above ↦ absurd (apart j i n m above in_i (at j n in_j at_j) (at i m in_i at_i) (sym same))
-        | inr others ↦ let equal : i ≡ j =
-            omega (arith, past, others) in sym (at i m in_i at_i) ∙ ap (λ k. get_or messages k m) equal
-            ∙ at j n in_j at_j
-      ]
-    ]
+    ⊎_elim (λ is. is) (λ either. absurd (⊎_elim (λ below. less_is_other (key m) (key n) below same)
+    (λ above. less_is_other (key n) (key m) above (sym same)) either))
+    (same_or_apart (Below key) messages (below_from_rising key messages rising) m n in_m in_n)
 
 abbrev pub has_key : List ℕ → Message → Bool
 has_key key m = bytes_eq (key_of m.original) key
@@ -271,21 +273,18 @@ texts_come_back have_parts entry valid =
       forms_are = parts.forms_are;
     }
 
+keys_of_entries : (entries : List TextEntry) → All LacksSeparators entries
+    → keys (map message_of entries) ≡ map key_of_entry entries
+keys_of_entries [] all = refl
+keys_of_entries (e ∷ entries) all =
+    ap₂ (λ k ks. k ∷ ks) (key_of-original e (All-head LacksSeparators e entries all))
+    (keys_of_entries entries (All-tail LacksSeparators e entries all))
+
 pub messages_differ : MessagesDiffer
 messages_differ entries messages valid are =
     let all : All LacksSeparators entries = All-weaker IsEntry LacksSeparators entry_lacks_separators entries valid in
-    let key : Message → List ℕ = λ m. key_of m.original in
     let ks = keys (map message_of entries) in
-    let distinct = apart_permuted (keys messages) ks
-    (IsPermutation-sym ks (keys messages) (IsPermutation-map key (map message_of entries) messages are.all))
-    (rising_apart (keys messages) are.rising) in
-    λ i j d below inside same.
-    let long = length-map (map message_of entries) key in
-    let long' = length-map entries message_of in
-    let at : (k : ℕ) → get_or ks k (key (message_of d)) ≡ key_of (original_of (get_or entries k d)) =
-    λ k. get_or-map key (map message_of entries) k (message_of d) ∙ ap key (get_or-map message_of entries k d) in
-    let first = key_of-original (get_or entries i d) (all i d (omega arith)) in
-    let later = key_of-original (get_or entries j d) (all j d inside) in
-    distinct i j (key (message_of d)) below (omega (arith, long, long'))
-    (at i ∙ first ∙ ap (λ c. query_key c (get_or entries i d).id) same.0
-    ∙ ap (query_key (get_or entries j d).context) same.1 ∙ sym later ∙ sym (at j))
+    let moved = IsPermutation-map (λ m. key_of m.original) (map message_of entries) messages are.all in
+    entries_differ entries (subst AllApart (keys_of_entries entries all)
+    (apart_permuted (keys messages) ks (IsPermutation-sym ks (keys messages) moved)
+    (rising_apart (keys messages) are.rising)))
