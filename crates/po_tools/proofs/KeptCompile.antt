@@ -1,18 +1,14 @@
 -- What conditions keep of a text compiles as what they keep of its compiled entries.
-use Rattle.po_tools.proofs.Prelude.{All-weaker, Bool, ChangesNothing, CompiledAreKept, CompilesAlike, KeptCompilesAlike, List, TextEntry, [], all_pass, ap, compiled_list, cond, every_entry, false, filter, filter_passes, has_translation, is_compiled, is_header, is_kept, is_live, not, refl, selected, true, ◌&&◌, ◌||◌, ◌∙◌, ◌∷◌, ◌≡◌}
+use Rattle.po_tools.proofs.Prelude.{All-weaker, Bool, ChangesNothing, CompiledAreKept, CompilesAlike, KeptCompilesAlike, List, TextEntry, all_pass, ap, compiled_list, every_entry, false, filter, filter_passes, has_translation, is_compiled, is_header, is_kept, is_live, not, refl, selected, sym, true, ◌&&◌, ◌||◌, ◌∙◌, ◌≡◌}
+use Rattle.po_syntax.specs.Facts.Mapped.{filter_twice}
+use Rattle.std.proofs.Math.Bool.{and_comm}
+use Rattle.std.proofs.lemmas.List.Elements.{filter_agree}
 use Rattle.msgattrib.specs.declared.selection.Selection.{Selection}
 
-step : {X : Type 0} (a b : Bool) (x : X) (p q : X → Bool) (xs : List X) → p x ≡ a → q x ≡ b
-    → filter p (filter q xs) ≡ filter q (filter p xs)
-    → filter p (cond b (x ∷ filter q xs) (filter q xs)) ≡ filter q (cond a (x ∷ filter p xs) (filter p xs))
-step true true x p q xs pa qb h = rw (pa, qb) (ap (λ l. x ∷ l) h)
-step true false x p q xs pa qb h = rw qb h
-step false true x p q xs pa qb h = rw pa h
-step false false x p q xs pa qb h = h
-
 commute : {X : Type 0} (p q : X → Bool) (xs : List X) → filter p (filter q xs) ≡ filter q (filter p xs)
-commute p q [] = refl
-commute p q (x ∷ xs) = step (p x) (q x) x p q xs refl refl (commute p q xs)
+commute p q xs =
+    filter_twice q p xs ∙ filter_agree (λ x. q x && p x) (λ x. p x && q x) (λ x. and_comm (q x) (p x)) xs
+    ∙ sym (filter_twice p q xs)
 
 -- an entry that is compiled is live, translated, and not fuzzy but where it is the header
 lived : (live trans fuzzy header : Bool) → (live && (trans && (false || not fuzzy || header))) ≡ true
@@ -43,36 +39,28 @@ module _ (keeps : (s : Selection) (es : List TextEntry) → ChangesNothing s →
         ap (filter (is_compiled use_fuzzy)) (keeps s entries changes)
         ∙ commute (is_compiled use_fuzzy) (is_kept s) entries
 
-    alike : (s : Selection) → ChangesNothing s → ((e : TextEntry) → is_compiled false e ≡ true → is_kept s e ≡ true)
-        → CompilesAlike s
-    alike s changes implied entries =
-        kept s false entries changes
-        ∙ all_pass (is_kept s) (compiled_list false entries)
-        (All-weaker (λ e. is_compiled false e ≡ true) (λ e. is_kept s e ≡ true) implied (compiled_list false entries)
-        (filter_passes (is_compiled false) entries))
+    -- a condition alone
+    abbrev keeping : Bool → Bool → Bool → Selection
+    keeping no_fuzzy no_obsolete translated =
+        record every_entry { no_fuzzy = no_fuzzy; no_obsolete = no_obsolete; translated = translated }
+
+    alike : (a b c : Bool) → ((e : TextEntry) → is_compiled false e ≡ true → is_kept (keeping a b c) e ≡ true)
+        → CompilesAlike (keeping a b c)
+    alike a b c implied entries =
+        kept (keeping a b c) false entries (record {
+          set_fuzzy = refl;
+          clear_fuzzy = refl;
+          set_obsolete = refl;
+          clear_obsolete = refl;
+          clear_previous = refl;
+        })
+        ∙ all_pass (is_kept (keeping a b c)) (compiled_list false entries)
+        (All-weaker (λ e. is_compiled false e ≡ true) (λ e. is_kept (keeping a b c) e ≡ true) implied
+        (compiled_list false entries) (filter_passes (is_compiled false) entries))
 
     pub compiled : CompiledAreKept
-    compiled =
-        record {
-          no_fuzzy = alike (record every_entry { no_fuzzy = true }) (record {
-            set_fuzzy = refl;
-            clear_fuzzy = refl;
-            set_obsolete = refl;
-            clear_obsolete = refl;
-            clear_previous = refl;
-          }) (λ e h. clear (is_live e) (has_translation e) e.fuzzy (is_header e) h);
-          no_obsolete = alike (record every_entry { no_obsolete = true }) (record {
-            set_fuzzy = refl;
-            clear_fuzzy = refl;
-            set_obsolete = refl;
-            clear_obsolete = refl;
-            clear_previous = refl;
-          }) (λ e h. lived (is_live e) (has_translation e) e.fuzzy (is_header e) h);
-          translated = alike (record every_entry { translated = true }) (record {
-            set_fuzzy = refl;
-            clear_fuzzy = refl;
-            set_obsolete = refl;
-            clear_obsolete = refl;
-            clear_previous = refl;
-          }) (λ e h. has (is_live e) (has_translation e) e.fuzzy (is_header e) h);
-        }
+    compiled = record {
+      no_fuzzy = alike true false false (λ e. clear (is_live e) (has_translation e) e.fuzzy (is_header e));
+      no_obsolete = alike false true false (λ e. lived (is_live e) (has_translation e) e.fuzzy (is_header e));
+      translated = alike false false true (λ e. has (is_live e) (has_translation e) e.fuzzy (is_header e));
+    }
