@@ -1,5 +1,8 @@
 -- Entries that are compiled can be asked for, and files are below 4 GiB.
-use Rattle.po_compile.proofs.Prelude.{All-filter, All-head, All-tail, All-weaker, AreMessagesOf, Bool, CataloguesAreOne, CompiledCanBeKeys, IsCatalogueEntry, JoinedEntriesCanStand, Lacks, LayoutsAreLimited, List, Message, MessagesAreOne, None, Option, Options, Some, TextEntry, [], ap, ap₂, arith, can_be_key, compiled_list, has_no_separator, is_compiled, is_separator, joined_entries, layout, length, list_any, ne_eqb, not, refl, subst, true, unwrap_or, ℕ, ◌&&◌, ◌<◌, ◌||◌, ◌∙◌, ◌∷◌, ◌≡◌, ◌≢◌, ◌≤◌}
+use Rattle.po_compile.proofs.Prelude.{All-filter, All-head, All-tail, All-weaker, AreAccepted, Bool, CompiledCanBeKeys, IsCatalogueEntry, IsTooLarge, JoinedEntriesCanStand, Lacks, LayoutsAreLimited, List, None, Option, Some, TextEntry, [], ap₂, arith, can_be_key, cases_lt, has_no_separator, inl, inr, is_compiled, is_separator, joined_entries, layout, length, list_any, ne_eqb, not, refl, true, unwrap_or, ℕ, ◌&&◌, ◌<◌, ◌||◌, ◌∙◌, ◌∷◌, ◌≡◌, ◌≢◌, ◌≤◌}
+use Rattle.po_compile.specs.Laws.{too_large}
+use Rattle.po_compile.proofs.FaultLemmas.{compile_once}
+use Rattle.po_compile.proofs.OneResult.{not_both}
 use Rattle.std.specs.Prelude.{IfSome}
 use Rattle.po_compile.proofs.MeaningLemmas.{entry_lacks_separators}
 
@@ -28,50 +31,39 @@ compiled_can_be_keys can_stand use_fuzzy texts catalogues read =
     (All-weaker IsCatalogueEntry (λ e. can_be_key e.context e.id ≡ true) entry_can_be_key entries
     (can_stand texts catalogues read))
 
-module _ (one_list : CataloguesAreOne) (one_order : MessagesAreOne) where
-  -- the layout of messages that are as long as others of the same entries
-  length_is : (o : Options) (entries : List TextEntry) (messages others : List Message)
-      → AreMessagesOf (compiled_list o.use_fuzzy entries) messages
-      → AreMessagesOf (compiled_list o.use_fuzzy entries) others
-      → length (layout o.order messages) ≡ length (layout o.order others)
-  length_is o entries messages others are also =
-      ap (λ (l : List Message). length (layout o.order l))
-      (one_order (compiled_list o.use_fuzzy entries) messages others are also)
-
-  pub layouts_are_limited : LayoutsAreLimited
-  layouts_are_limited o texts catalogues messages read are = record {
-    accepted = (
-      λ h.
-          let less : length (layout o.order h.layout.messages) < 4294967296 = h.layout.small in
-          let same = length_is o (joined_entries catalogues) messages h.layout.messages are h.layout.are_messages in
-          omega (arith, less, same),
-      λ small. record {
-        read = read;
-        layout = record {
-          messages = messages;
-          are_messages = are;
-          small = let less : length (layout o.order messages) < 4294967296 = omega (arith, small) in less;
-        };
-      },
-    );
-    refused = (
-      λ h.
-          let catalogues_are = one_list texts h.catalogues catalogues h.read read in
-          let also = subst (λ c. AreMessagesOf (compiled_list o.use_fuzzy (joined_entries c)) h.large.messages)
-          catalogues_are h.large.are_messages in
-          let more : 4294967296 ≤ length (layout o.order h.large.messages) = h.large.large in
-          let same = length_is o (joined_entries catalogues) messages h.large.messages are also in
-          omega (arith, more, same),
-      λ large. record {
-        catalogues = catalogues;
-        read = read;
-        large = record {
-          messages = messages;
-          are_messages = are;
-          large = let more : 4294967296 ≤ length (layout o.order messages) = omega (arith, large) in more;
-        };
-        error_is = refl;
-      },
-    );
-    no_other = λ error h. h.error_is;
-  }
+pub layouts_are_limited : LayoutsAreLimited
+layouts_are_limited o texts catalogues messages read are =
+    let size = length (layout o.order messages) in
+    let accepted : size ≤ 4294967295 → AreAccepted o texts catalogues =
+    λ small. record {
+      read = read;
+      layout = record {
+        messages = messages;
+        are_messages = are;
+        small = let less : size < 4294967296 = omega (arith, small) in less;
+      };
+    } in
+    let refused : 4294967295 < size → IsTooLarge o texts too_large =
+    λ large. record {
+      catalogues = catalogues;
+      read = read;
+      large = record {
+        messages = messages;
+        are_messages = are;
+        large = let more : 4294967296 ≤ size = omega (arith, large) in more;
+      };
+      error_is = refl;
+    } in
+    record {
+      accepted = (
+        λ h. elim (cases_lt 4294967295 size)
+            [ inl large ↦ absurd (not_both (compile_once o texts) h (inr (refused large))) | inr small ↦ small ],
+        accepted,
+      );
+      refused = (
+        λ h. elim (cases_lt 4294967295 size)
+            [ inl large ↦ large | inr small ↦ absurd (not_both (compile_once o texts) (accepted small) (inr h)) ],
+        refused,
+      );
+      no_other = λ error h. h.error_is;
+    }

@@ -2,4 +2,4 @@ use Rattle.po_compile.proofs.LimitLemmas.{layouts_are_limited}
 use Rattle.po_compile.proofs.laws.layouts_are_limited.Goals as goal
 
 pub returns : goal.returns
-returns c = layouts_are_limited c.catalogues_are_one.ensures c.messages_are_one.ensures
+returns c = layouts_are_limited
