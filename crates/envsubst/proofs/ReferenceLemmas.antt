@@ -1,5 +1,5 @@
 -- Lemmas on names and references: what the byte after a begun reference makes of it.
-use Rattle.envsubst.proofs.Prelude.{Bool, List, NoNameGoesOn, None, Some, [], after_dollar, and_from, and_left, and_parts, and_right, ap, append-nil, arith, bare_reference, begins_with, both_ways, braced_reference, cond, cond-false, cond-true, cond_both, drop, drop-drop, drop_at, eqb, eqb-true, false, false≢true, inl, inr, is_begun_name, is_letter, is_name, is_name_byte, is_undecided, is_undecided_after, le-ltb, length, length-append, list_all, list_all-append, lt-ltb, ltb, ltb-true, name_prefix, nat_tests, ne_eqb, reference_after, refl, subst, suc, sym, take, take-append_seam, take_while-cons, true, ℕ, ◌&&◌, ◌++◌, ◌+◌, ◌<◌, ◌∙◌, ◌∷◌, ◌≡◌, ◌≤◌, ◌⊎◌, false_from_ne_true}
+use Rattle.envsubst.proofs.Prelude.{Bool, List, NoNameGoesOn, None, Some, [], after_dollar, and_from, and_left, and_parts, and_right, ap, append-nil, arith, bare_reference, begins_with, both_ways, braced_reference, cond, cond-false, cond-true, cond_both, drop, drop-drop, drop_at, eqb, eqb-true, false, false_from_ne_true, false≢true, inl, inr, is_begun_name, is_letter, is_name, is_name_byte, is_undecided, is_undecided_after, length, length-append, list_all, list_all-append, lt-ltb, ltb, ltb-true, name_prefix, nat_tests, ne_eqb, reference_after, refl, subst, suc, sym, take, take-append_seam, take_while-cons, true, ℕ, ◌&&◌, ◌++◌, ◌+◌, ◌<◌, ◌∙◌, ◌∷◌, ◌≡◌, ◌≤◌, ◌⊎◌}
 
 -- neither `$` nor a brace is a name byte
 pub no_name_byte : (is_name_byte 36 ≡ false) × (is_name_byte 123 ≡ false) × (is_name_byte 125 ≡ false)

@@ -19,10 +19,10 @@ pub use Rattle.plural_rule.specs.declared.token.Token.{Token}
 pub use Rattle.plural_rule.specs.declared.token.Token.TheVariants.{Close, Colon, Open, Question}
 pub use Rattle.std.proofs.Common.{Bool, List, None, Option, Some, [], add-one, ap, append-nil, append_assoc, ap₂, arith, codes, drop, drop-cons, false, get_or, if◌then◌else◌, inl, inr, length, length-append, length-drop, length-take, map, nat_eq, nat_le, nat_lt, not, option_and_then, option_map, refl, rules, set, slice_index, slice_index_or, slice_set, subst, suc, sym, take, take-append-drop, true, zero, ℕ, ◌%◌, ◌*◌, ◌++◌, ◌+◌, ◌-◌, ◌/◌, ◌<◌, ◌==◌, ◌^◌, ◌∙◌, ◌∷◌, ◌≡◌, ◌≢◌, ◌≤◌, ◌⊎◌}
 pub use Rattle.std.proofs.Math.Seq.{drop-nil, get_or-append_seam, set-append_seam, take-append_seam, take-set-lt}
-pub use Rattle.std.proofs.lemmas.Bool.{cases_Bool, cases_lt, cond-false, cond-true, eq-eqb, eqb-false, eqb-true, false_from_ne_true, false≢true, le-leb, le-ltb, leb-false, leb-true, lt-leb, lt-ltb, ltb-false, ltb-true, ne_eqb, not-false, not-true, true≢false}
+pub use Rattle.std.proofs.lemmas.Bool.{cases_Bool, cases_lt, cond-true, cond_both, eq-eqb, eqb-false, eqb-true, false_from_ne_true, false≢true, le-leb, le-ltb, leb-false, leb-true, lt-leb, lt-ltb, ltb-false, ltb-true, ne_eqb, not-false, not-true, true≢false}
 pub use Rattle.std.proofs.lemmas.Bool.Decides.{Decides-eqb, eqb_tells, leb_tells, nat_tests}
 pub use Rattle.std.proofs.lemmas.Int.Digits.{digits_value-lt, digits_value_more}
-pub use Rattle.std.proofs.lemmas.List.{drop-drop, drop_all, get_or-drop, get_or-set_other, get_or-set_same, get_or-take, get_or_default, length-take-le, take_all}
+pub use Rattle.std.proofs.lemmas.List.{drop-drop, drop_all, get_or-drop, get_or-set_other, get_or-set_same, get_or-take, get_or_default, length-take-le, nil_from_length, take_all, take_rest}
 pub use Rattle.std.proofs.lemmas.List.Sums.{prefix_len-le-length, prefix_len_is, prefix_len_stops, take_while-cons}
 pub use Rattle.std.specs.Char.{digit_value, is_ascii_digit}
 pub use Rattle.std.specs.List.{before_first, prefix_len, starts_with}

@@ -1,5 +1,5 @@
 -- The program of a tree: how it runs, and how many nodes begin in it.
-use Rattle.plural_rule.proofs.Prelude.{And, Binary, Conditional, Count, Instruction, List, Next, None, Not, Number, Operator, Option, Or, Outcome, Some, Tree, [], act, action_of, add-one, ap, arith, begins, binary_instruction, binary_value, branch_instruction, branch_then, cases_Bool, choose_instruction, chosen, combined, count_instruction, drop, drop-cons, drop-drop, drop-nil, drop-program, eq-eqb, eqb-false, false, get_or, get_or-set_other, get_or-set_same, go_on, inl, inr, is_lazy, jump_instruction, left_by, length, length-program, low_instruction, low_of, lt-ltb, ltb-true, nat_lt, needs_right, nodes, not_instruction, number_instruction, operator_of-code, option_and_then, option_map, program, program_then, refl, run, set, short_circuit_value, size, stored, suc, sym, tree_of, tree_of-program, true, truth, value, visited, visited_right, wide_instruction, with_value, zero, ℕ, ◌%◌, ◌*◌, ◌+◌, ◌-◌, ◌/◌, ◌<◌, ◌==◌, ◌^◌, ◌∙◌, ◌∷◌, ◌≡◌, ◌≤◌, nat_tests}
+use Rattle.plural_rule.proofs.Prelude.{And, Binary, Conditional, Count, Instruction, List, Next, None, Not, Number, Operator, Option, Or, Outcome, Some, Tree, [], act, action_of, add-one, ap, arith, begins, binary_instruction, binary_value, branch_instruction, branch_then, cases_Bool, choose_instruction, chosen, combined, count_instruction, drop, drop-cons, drop-drop, drop-nil, drop-program, false, get_or, get_or-set_other, get_or-set_same, go_on, inl, inr, is_lazy, jump_instruction, left_by, length, length-program, low_instruction, low_of, lt-ltb, ltb-true, nat_lt, nat_tests, needs_right, nodes, not_instruction, number_instruction, operator_of-code, option_and_then, option_map, program, program_then, refl, run, set, short_circuit_value, size, stored, suc, sym, tree_of, tree_of-program, true, truth, value, visited, visited_right, wide_instruction, with_value, zero, ℕ, ◌%◌, ◌*◌, ◌+◌, ◌-◌, ◌/◌, ◌<◌, ◌==◌, ◌^◌, ◌∙◌, ◌∷◌, ◌≡◌, ◌≤◌}
 use Rattle.std.proofs.lemmas.Nat.{div-add-mod'}
 use Rattle.plural_rule.specs.declared.instruction.Action.{Action}
 use Rattle.plural_rule.specs.declared.instruction.Action.TheVariants.{Binary as BinaryAction, Branch as BranchAction}

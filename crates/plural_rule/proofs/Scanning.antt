@@ -1,10 +1,9 @@
 -- The token at the beginning of a text.
-use Rattle.plural_rule.proofs.Prelude.{AllDigits, BeginsWithDouble, HasNoDouble, HasNoToken, IsLongest, IsSpelling, IsTokenAt, IsTooLarge, List, Operator, Or, Token, [], ap, arith, cond-true, digits_value, drop, drop-cons, false, false≢true, get_or, is_ascii_digit, length, length-drop, operator_bytes, prefix_len, prefix_len-le-length, prefix_len_stops, refl, subst, suc, sym, take-append-drop, take_while, take_while-cons, true, ℕ, ◌++◌, ◌-◌, ◌<◌, ◌^◌, ◌∙◌, ◌∷◌, ◌≡◌, ◌≢◌, ◌≤◌}
+use Rattle.plural_rule.proofs.Prelude.{AllDigits, BeginsWithDouble, HasNoDouble, HasNoToken, IsLongest, IsSpelling, IsTokenAt, IsTooLarge, List, Operator, Or, Token, [], ap, arith, cond-true, cond_both, digits_value, drop, drop-cons, false, false≢true, get_or, is_ascii_digit, length, length-drop, operator_bytes, prefix_len, prefix_len-le-length, prefix_len_stops, refl, subst, suc, sym, take-append-drop, take_while, take_while-cons, true, ℕ, ◌++◌, ◌-◌, ◌<◌, ◌^◌, ◌∙◌, ◌∷◌, ◌≡◌, ◌≢◌, ◌≤◌}
 use Rattle.std.proofs.lemmas.List.Folds.{length-prefix_len}
 use Rattle.plural_rule.specs.declared.token.Token.TheVariants.{Number, Binary}
 use Rattle.plural_rule.proofs.Numerals.{digit_below_ten, below_ten_digit}
 use Rattle.plural_rule.proofs.Lexing.{one_prefix, first_byte, operator-facts, spelling-not_blank}
-use Rattle.std.proofs.lemmas.Bool.{cond_both}
 
 -- bytes that spell a token and begin with a digit are digits
 digits-only : (u : Token) (bytes : List ℕ) → is_ascii_digit (first_byte bytes) ≡ true → IsSpelling u bytes

@@ -1,8 +1,7 @@
 -- The first occurrence of a name in a text.
-use Rattle.plural_rule.proofs.Prelude.{Bool, Decides-eqb, IsFirstByte, List, None, Nowhere, OccursAt, Passes, Some, [], after_first, ap, arith, before_first, cases_Bool, cases_lt, drop, false_from_ne_true, get_or-drop, get_or-take, inl, inr, is_byte, is_byte2, is_end, length, length-append, length-drop, length-take, nat_eq, not, prefix_len_is, refl, slice_index, starts_with, subst, suc, sym, take, take-append_seam, take_all, true, zero, ℕ, ◌+◌, ◌-◌, ◌<◌, ◌∙◌, ◌∷◌, ◌≡◌, ◌≤◌}
+use Rattle.plural_rule.proofs.Prelude.{Bool, Decides-eqb, IsFirstByte, List, None, Nowhere, OccursAt, Passes, Some, [], after_first, ap, arith, before_first, cases_Bool, cases_lt, drop, false_from_ne_true, get_or-drop, get_or-take, inl, inr, is_byte, is_byte2, is_end, length, length-append, length-drop, length-take, nat_eq, not, prefix_len_is, refl, slice_index, starts_with, subst, suc, sym, take, take-append_seam, take_all, take_rest, true, zero, ℕ, ◌+◌, ◌-◌, ◌<◌, ◌∙◌, ◌∷◌, ◌≡◌, ◌≤◌}
 use Rattle.std.proofs.lemmas.Slice.Eq.{starts_is}
 use Rattle.memchr.proofs.lemmas.MatchLemmas.{OccursAt-part, OccursAt-from_part, OccursAt-split}
-use Rattle.std.proofs.lemmas.List.{take_rest}
 
 -- a name that occurs after the first byte
 occurs-later : (name rest : List ℕ) (c k : ℕ) → OccursAt rest name k → OccursAt (c ∷ rest) name (suc k)

@@ -1,6 +1,5 @@
 -- The test of an entry says whether it is to be compiled.
-use Rattle.po_compile.proofs.Prelude.{Bool, Decides, Decides-and, Decides-like, IsToBeCompiled, IsTranslated, KeepsCompiled, List, MayBeUsed, None, Option, Some, TextEntry, [], and_parts, ap, arith, compiled_list, cond_both, eqb-true, false, false≢true, first_form, has_translation, inl, inr, is_compiled, is_header, is_none, length, ne_eqb, not, not-true, not_from_Decides, not_from_false, or_cases, or_left, or_right, refl, true, ℕ, ◌&&◌, ◌==◌, ◌||◌, ◌∙◌, ◌∷◌, ◌≡◌}
-use Rattle.po_compile.specs.Laws.{not_fuzzy, asked_for, header, none, compiled, omitted}
+use Rattle.po_compile.proofs.Prelude.{Bool, Decides, Decides-and, Decides-like, IsToBeCompiled, IsTranslated, KeepsCompiled, List, MayBeUsed, None, Option, Some, TextEntry, [], and_parts, ap, arith, asked_for, compiled, compiled_list, cond_both, eqb-true, false, false≢true, first_form, has_translation, header, inl, inr, is_compiled, is_header, is_none, length, ne_eqb, none, not, not-true, not_from_Decides, not_from_false, not_fuzzy, omitted, or_cases, or_left, or_right, refl, true, ℕ, ◌&&◌, ◌==◌, ◌||◌, ◌∙◌, ◌∷◌, ◌≡◌}
 
 translated_says : (entry : TextEntry) → has_translation entry ≡ true → IsTranslated entry
 translated_says entry e = by_forms entry.forms refl e where

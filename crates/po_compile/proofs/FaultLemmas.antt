@@ -1,10 +1,8 @@
 -- Texts are accepted or have a fault, and only one: what they read as, what refuses them, and that there
 -- is always one of both.
-use Rattle.po_compile.proofs.Prelude.{AcceptedOrFault, All-weaker, AllZip, AreAccepted, AreRead, HasJoinedDuplicate, HasNoDuplicate, InputEntry, IsCompileFault, IsEntry, IsFaultOfInput, IsFirstDuplicate, IsReadFault, IsTextFault, IsTooLarge, JoinError, List, OneCompileFault, Options, OutOfMemory, PoError, PoFault, ReadsDistinct, ReadsText, TextEntry, ap, ap₂, arith, cases_lt, compiled_list, duplicate_fault, entries_of, entries_of_input, in_input, inl, inr, join_out_of_memory, joined, joined_entries, layout, layout_fault, length, map, refl, subst, sym, ℕ, ◌^◌, ◌∙◌, ◌≡◌, ◌≢◌, ◌⊎◌}
-use Rattle.std.proofs.Common.{subst₂}
+use Rattle.po_compile.proofs.Prelude.{AcceptedOrFault, All-weaker, AllZip, AreAccepted, AreRead, HasJoinedDuplicate, HasNoDuplicate, InputEntry, IsCompileFault, IsEntry, IsFaultOfInput, IsFirstDuplicate, IsReadFault, IsTextFault, IsTooLarge, JoinError, List, OneCompileFault, Options, OutOfMemory, PoError, PoFault, ReadsDistinct, ReadsText, TextEntry, ap, ap₂, arith, cases_lt, compiled_list, distinct_has_no_first, duplicate_fault, entries_of, entries_of_input, in_input, inl, inr, join_out_of_memory, joined, joined_entries, layout, layout_fault, length, map, refl, subst, subst₂, sym, ℕ, ◌^◌, ◌∙◌, ◌≡◌, ◌≢◌, ◌⊎◌}
 use Rattle.po_compile.specs.Compiling.{HasLargeLayout, HasSmallLayout}
 use Rattle.po_compile.specs.Headline.{NoFaultWhereAccepted}
-use Rattle.po_entry.proofs.DuplicateLemmas.{distinct_has_no_first}
 use Rattle.po_entry.proofs.FirstDuplicates.{first_once, none_or_first}
 use Rattle.po_reader.proofs.Texts as reading
 use Rattle.po_compile.proofs.OneResult.{FirstError, OneResult, all_or_first, before_error, first_error, not_both, one_error, one_result, restated, tested, value_or_error}

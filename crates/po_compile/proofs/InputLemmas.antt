@@ -1,6 +1,7 @@
 -- The inputs that are collected, and why they are refused: the repeats of messages that are collected are
 -- the duplicates of the texts.
-use Rattle.po_compile.proofs.Prelude.{All, All-filter, All-push, AllApart, AllZip, AreCollected, AreMessagesOf, AreRead, AreSortedRows, Bool, EachApart, HaveOneKey, HoldCatalogues, InputEntry, InputMessage, IsBuildFault, IsCatalogueEntry, IsCompileFault, IsFaultOf, IsFaultOfInput, IsFirstDuplicate, IsFirstRepeat, IsReadFault, IsReadingFault, IsRepeat, IsRepeatFault, IsRepeatInInput, IsReportedFault, IsSameMessage, IsTextFault, JoinError, List, LiveMessage, Message, Options, OutOfMemory, PoError, PoFault, ReadsDistinct, ReadsText, Row, TextEntry, [], all_messages, all_of_both, ap, append-nil, append_assoc, ap₂, arith, bytes_eq, bytes_eq-Decides, cases_Bool, compiled_list, compiled_of, drop, duplicate_fault, entries_of, entries_of_input, fault_input, fault_of_only_input, get_or, get_or-map, in_input, in_input_message, inl, input_keys, input_message, inr, is_live, join_out_of_memory, joined, joined_entries, length, length-append, length-map, length-take, live_entries, live_messages, live_of_entries, map, map-append, none_or_first_repeat, none_repeats, not_from_Decides, one_repeat, out_of_memory, pairs_map, query_key, refl, repeat_by, repeat_fault, repeat_map, row_key, row_view, split_at, subst, suc, sym, take, take-map, zip_get, zip_length, zip_more, zip_take, ℕ, ◌++◌, ◌<◌, ◌∙◌, ◌∷◌, ◌≡◌, ◌≢◌, ◌⊎◌}
+use Rattle.po_compile.proofs.Prelude.{All, All-filter, All-push, AllApart, AllZip, AreCollected, AreMessagesOf, AreRead, AreSortedRows, Bool, EachApart, HaveOneKey, HoldCatalogues, InputEntry, InputMessage, IsBuildFault, IsCatalogueEntry, IsCompileFault, IsFaultOf, IsFaultOfInput, IsFirstDuplicate, IsFirstRepeat, IsReadFault, IsReadingFault, IsRepeat, IsRepeatFault, IsRepeatInInput, IsReportedFault, IsSameMessage, IsTextFault, JoinError, List, LiveMessage, Message, Options, OutOfMemory, PoError, PoFault, ReadsDistinct, ReadsText, Row, TextEntry, [], all_messages, all_of_both, ap, append-nil, append_assoc, ap₂, arith, bytes_eq, bytes_eq-Decides, cases_Bool, compiled_list, compiled_of, distinct_has_no_first, drop, duplicate_fault, entries_of, entries_of_input, fault_input, fault_of_only_input, get_or, get_or-map, in_input, in_input_message, inl, input_keys, input_message, inr, is_live, join_out_of_memory, joined, joined_entries, length, length-append, length-map, length-take, live_entries, live_messages, live_of_entries, map, map-append, none_or_first_repeat, none_repeats, not_from_Decides, one_repeat, out_of_memory, pairs_map, query_key, refl, repeat_by, repeat_fault, repeat_map, row_key, row_view, split_at, subst, suc, sym, take, take-map, ℕ, ◌++◌, ◌<◌, ◌∙◌, ◌∷◌, ◌≡◌, ◌≢◌, ◌⊎◌}
+use Rattle.po_syntax.specs.Facts.Zips.{zip_get, zip_length, zip_more, zip_take}
 use Rattle.po_compile.proofs.JoinedRows.{all_are, joined_valid, of_input}
 use Rattle.po_compile.proofs.KeysApart.{joined_distinct, read_distinct, rising_apart, sorted_keys}
 use Rattle.po_compile.proofs.MeaningLemmas.{entry_lacks_separators}
@@ -9,7 +10,6 @@ use Rattle.po_compile.proofs.TextLemmas.{query_key_is_one}
 use Rattle.std.proofs.lemmas.Slice.Zip.{AllZip-long}
 use Rattle.mo_file.specs.declared.building.BuildError.{BuildError}
 use Rattle.mo_file.specs.declared.building.BuildError.TheVariants.{TooLarge, NotSorted, OutOfMemory as NoMemory}
-use Rattle.po_entry.proofs.DuplicateLemmas.{distinct_has_no_first}
 use Rattle.po_compile.proofs.ReadingLemmas.{EntriesCanStand, distinct_of_one}
 
 -- the first repeat in a list of what a function makes of elements is made of theirs

@@ -1,8 +1,7 @@
 -- Keys that rise, keys that are apart, and the entries that have them.
-use Rattle.po_compile.proofs.Prelude.{All, All-cons, All-from_all_within, All-head, All-map, All-nil, All-tail, All-weaker, AllApart, AllDiffer, AllPairs, AllPairs-cons, AllPairs-filter, AllWithin, AllZip, AreRising, Bool, EachApart, HasNoDuplicate, HasOneHeader, HoldsAt, InputEntry, InputMessage, IsPermutation, IsPermutation-append_comm, IsPermutation-filter_both, IsPermutation-map, IsPermutation-sym, IsTrue, Less, List, LiveMessage, MatchBool, ReadsDistinct, ReadsText, Row, TextEntry, [], all_messages, all_pass, ap, ap₂, arith, bytes_eq, bytes_eq-Decides, entries_of, false, filter, filter_passes, first_of, get_or, get_or-map, get_or_default, has_no_key, in_input_message, input_keys, input_message, is_joined, is_live, joined, joined_entries, joined_messages, key_cmp, length, length-map, less_is_other, list_any, live_entries, live_message, live_messages, live_of_entries, map, map-append, map-map, message_keys, nat_list_eq_equiv, not-true, pairs_of_map, query_key, refl, rising_between, row_key, row_view, subst, suc, sym, true, ℕ, ◌++◌, ◌+◌, ◌<◌, ◌==◌, ◌||◌, ◌↔◌, ◌∙◌, ◌∷◌, ◌≡◌, ◌≢◌, ◌≤◌}
+use Rattle.po_compile.proofs.Prelude.{All, All-cons, All-from_all_within, All-head, All-map, All-nil, All-tail, All-weaker, AllApart, AllDiffer, AllPairs, AllPairs-cons, AllPairs-filter, AllPairs-from_IsDistinct, AllWithin, AllZip, AreRising, Bool, EachApart, HasNoDuplicate, HasOneHeader, HoldsAt, InputEntry, InputMessage, IsDistinct-from_AllPairs, IsPermutation, IsPermutation-append_comm, IsPermutation-filter_both, IsPermutation-map, IsPermutation-sym, IsTrue, Less, List, LiveMessage, MatchBool, ReadsDistinct, ReadsText, Row, TextEntry, [], all_messages, all_pass, ap, ap₂, arith, bytes_eq, bytes_eq-Decides, entries_of, false, filter, filter_passes, first_of, get_or, get_or-map, get_or_default, has_no_key, in_input_message, input_keys, input_message, is_joined, is_live, joined, joined_entries, joined_messages, key_cmp, length, length-map, less_is_other, list_any, live_entries, live_message, live_messages, live_of_entries, map, map-append, map-map, message_keys, nat_list_eq_equiv, not-true, pairs_of_map, query_key, refl, rising_between, row_key, row_view, subst, suc, sym, true, ℕ, ◌++◌, ◌+◌, ◌<◌, ◌==◌, ◌||◌, ◌↔◌, ◌∙◌, ◌∷◌, ◌≡◌, ◌≢◌, ◌≤◌}
 use Rattle.std.proofs.Math.ListN.{get_or-map as map_at}
 use Rattle.std.proofs.lemmas.Map.Keys.{IsDistinct-IsPermutation}
-use Rattle.std.proofs.lemmas.Map.Made.{AllPairs-from_IsDistinct, IsDistinct-from_AllPairs}
 use Rattle.po_compile.proofs.JoinedRows.{all_are}
 use Rattle.po_entry.proofs.HeaderLaws.{empty_is}
 

@@ -1,6 +1,5 @@
 -- Entries that are compiled can be asked for, and files are below 4 GiB.
-use Rattle.po_compile.proofs.Prelude.{All-filter, All-head, All-tail, All-weaker, AreAccepted, Bool, CompiledCanBeKeys, IsCatalogueEntry, IsTooLarge, JoinedEntriesCanStand, Lacks, LayoutsAreLimited, List, None, Option, Some, TextEntry, [], ap₂, arith, can_be_key, cases_lt, has_no_separator, inl, inr, is_compiled, is_separator, joined_entries, layout, length, list_any, ne_eqb, not, refl, true, unwrap_or, ℕ, ◌&&◌, ◌<◌, ◌||◌, ◌∙◌, ◌∷◌, ◌≡◌, ◌≢◌, ◌≤◌}
-use Rattle.po_compile.specs.Laws.{too_large}
+use Rattle.po_compile.proofs.Prelude.{All-filter, All-head, All-tail, All-weaker, AreAccepted, Bool, CompiledCanBeKeys, IsCatalogueEntry, IsTooLarge, JoinedEntriesCanStand, Lacks, LayoutsAreLimited, List, None, Option, Some, TextEntry, [], ap₂, arith, can_be_key, cases_lt, has_no_separator, inl, inr, is_compiled, is_separator, joined_entries, layout, length, list_any, ne_eqb, not, refl, too_large, true, unwrap_or, ℕ, ◌&&◌, ◌<◌, ◌||◌, ◌∙◌, ◌∷◌, ◌≡◌, ◌≢◌, ◌≤◌}
 use Rattle.po_compile.proofs.FaultLemmas.{compile_once}
 use Rattle.po_compile.proofs.OneResult.{not_both}
 use Rattle.std.specs.Prelude.{IfSome}

@@ -1,8 +1,7 @@
 -- The messages of entries mean these entries: the one message under a key is found in whatever order the
 -- messages stand, and is taken apart again.
-use Rattle.po_compile.proofs.Prelude.{All, AllPairs, AllApart, All-cons, All-contains, All-head, All-nil, All-permutation, All-tail, All-weaker, AreMessagesOf, AreRising, Bool, Contains, Contains-permutation, Decides, Decides-and, Decides-eqb, Decides-like, IfSome, IsEntry, IsPermutation, IsPermutation-map, IsPermutation-sym, IsText, Lacks, List, Message, MessagesDiffer, MessagesHaveParts, MessagesMeanEntries, None, Option, Query, Some, TextEntry, TextsComeBack, [], and_parts, answer, ap, append-nil, ap₂, arith, bytes_eq, bytes_eq-Decides, can_be_key, cases_lt, cond, context_of, fails_before_first, false, find, find_at, find_map, first_all, first_form, form_at, forms, get_or, get_or_default, get_or_from_slice_get, has_no_separator, header_of, header_text, id_of, inl, inr, is_of_message, is_separator, join_with_byte, key_of, keys, length, less_is_other, list_any, map, message_of, none-some, not-true, one_answer, option_eq, option_map, option_map_or, option_to_list, or_parts, original_of, passes_at_first, plural_cut, plural_none, plural_of, plural_part, position_or_len, query_key, refl, slice_get-get_or, slice_get_within, subst, sym, translation_of, translation_under, true, unwrap_or, ℕ, ⊎_elim, ◌++◌, ◌<◌, ◌==◌, ◌∙◌, ◌∷◌, ◌≡◌, ◌≢◌, ◌≤◌, ◌⊎◌}
+use Rattle.po_compile.proofs.Prelude.{All, All-cons, All-contains, All-head, All-nil, All-permutation, All-tail, All-weaker, AllApart, AllPairs, AreMessagesOf, AreRising, Bool, Contains, Contains-permutation, Decides, Decides-and, Decides-eqb, Decides-like, IfSome, IsEntry, IsPermutation, IsPermutation-map, IsPermutation-sym, IsText, Lacks, List, Message, MessagesDiffer, MessagesHaveParts, MessagesMeanEntries, None, Option, Query, Some, TextEntry, TextsComeBack, [], and_parts, answer, ap, append-nil, ap₂, arith, bytes_eq, bytes_eq-Decides, can_be_key, cases_lt, cond, context_of, fails_before_first, false, find, find_at, find_map, first_all, first_form, form_at, forms, get_or, get_or_default, get_or_from_slice_get, has_no_separator, header_of, header_text, id_of, inl, inr, is_of_message, is_separator, join_with_byte, key_of, keys, length, less_is_other, list_any, map, message_of, none-some, not-true, one_answer, option_eq, option_map, option_map_or, option_to_list, or_parts, original_of, passes_at_first, plural_cut, plural_none, plural_of, plural_part, position_or_len, query_key, refl, slice_get-get_or, slice_get_within, subst, subst₂, sym, translation_of, translation_under, true, unwrap_or, ℕ, ⊎_elim, ◌++◌, ◌<◌, ◌==◌, ◌∙◌, ◌∷◌, ◌≡◌, ◌≢◌, ◌≤◌, ◌⊎◌}
 use Rattle.po_compile.proofs.KeysApart.{Below, apart_permuted, below_from_rising, entries_differ, key_of_entry, rising_apart}
-use Rattle.std.proofs.Common.{subst₂}
 use Rattle.plural_rule.specs.Prelude.{IsRuleOf, expression_limit}
 use Rattle.po_entry.proofs.QuotedParts.{quoted_parts}
 use Rattle.po_compile.proofs.TextLemmas.{context_back, id_back, key_of-plural_part, query_key_lacks, query_key_is_one, slice_split-join}

@@ -1,8 +1,6 @@
 -- The list of the messages of entries in rising order: there is one where no two entries are of one
 -- message, and it is the only one.
-use Rattle.po_compile.proofs.Prelude.{All, All-cons, All-filter, All-head, All-nil, All-permutation, All-tail, All-weaker, AllDiffer, AllPairs, AllPairs-cons, AllPairs-filter, AreMessagesOf, Bool, Contains, Contains-permutation, Equal, Greater, HasNoDuplicate, IsCatalogueEntry, IsEntry, IsPermutation, IsPermutation-cons, IsPermutation-middle, IsPermutation-refl, IsPermutation-sym, IsPermutation-trans, IsSameMessage, Less, List, Message, MessagesAreOne, Ordering, TextEntry, [], ap₂, arith, compiled_list, equal_is_same, filter, filter_twice, get_or, has_translation, inl, inr, is_compiled, is_header, is_live, key_cmp, key_of, layout, length, length-append, length-map, less_is_other, map, message_of, nat_list_cmp_total, not, original_of, originals, originals_offset, pairs_map, refl, subst, suc, sym, table, terminated, translations, translations_offset, zero, ℕ, ◌&&◌, ◌++◌, ◌||◌, ◌∙◌, ◌∷◌, ◌≡◌, ◌≢◌, ◌≤◌, ◌⊎◌}
-use Rattle.std.proofs.lemmas.Map.Made.{Contains-tail}
-use Rattle.mo_file.proofs.RisingKeys.{greater_is_less}
+use Rattle.po_compile.proofs.Prelude.{All, All-cons, All-filter, All-head, All-nil, All-permutation, All-tail, All-weaker, AllDiffer, AllPairs, AllPairs-cons, AllPairs-filter, AreMessagesOf, Bool, Contains, Contains-permutation, Contains-tail, Equal, Greater, HasNoDuplicate, IsCatalogueEntry, IsEntry, IsPermutation, IsPermutation-cons, IsPermutation-middle, IsPermutation-refl, IsPermutation-sym, IsPermutation-trans, IsSameMessage, Less, List, Message, MessagesAreOne, Ordering, TextEntry, [], ap₂, arith, compiled_list, equal_is_same, filter, filter_twice, get_or, greater_is_less, has_translation, inl, inr, is_compiled, is_header, is_live, key_cmp, key_of, layout, length, length-append, length-map, less_is_other, map, message_of, nat_list_cmp_total, not, original_of, originals, originals_offset, pairs_map, refl, subst, suc, sym, table, terminated, translations, translations_offset, zero, ℕ, ◌&&◌, ◌++◌, ◌||◌, ◌∙◌, ◌∷◌, ◌≡◌, ◌≢◌, ◌≤◌, ◌⊎◌}
 use Rattle.mo_file.specs.Prelude.{header}
 use Rattle.mo_file.specs.declared.byte_order.Order.{Order}
 use Rattle.po_compile.proofs.TextLemmas.{query_key_is_one}

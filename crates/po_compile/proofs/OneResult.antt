@@ -1,9 +1,6 @@
 -- One result holds, and only one: a value that is right, or an error.
-use Rattle.std.proofs.Common.{Err, List, Ok, Result, [], ap, inl, inr, length, refl, subst, suc, sym, ℕ, ◌++◌, ◌∙◌, ◌∷◌, ◌≡◌, ◌⊎◌}
-use Rattle.std.proofs.lemmas.Result.{MatchResult-weaker}
-use Rattle.std.specs.Prelude.{◌↔◌}
+use Rattle.po_compile.proofs.Prelude.{AllZip, Err, List, MatchResult-weaker, Ok, Result, [], ap, inl, inr, length, refl, subst, suc, sym, ℕ, ◌++◌, ◌↔◌, ◌∙◌, ◌∷◌, ◌≡◌, ◌⊎◌}
 use Rattle.std.specs.Result.{MatchResult}
-use Rattle.std.specs.List.{AllZip}
 use Rattle.po_syntax.specs.Facts.Once.{Once, same}
 
 -- one result holds: a value that has P, or an error that has Q

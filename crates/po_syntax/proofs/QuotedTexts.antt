@@ -1,11 +1,10 @@
 -- The quoted form of a UTF-8 text is UTF-8, and holds no byte below space.
-use Rattle.po_syntax.proofs.Prelude.{All, All-append, All-cons, All-head, All-tail, IsAscii, IsAscii-cons, IsUtf8, IsUtf8-append, IsUtf8-from_ascii, IsUtf8-nil, List, WritesByte, [], and_parts, append-nil, arith, cases_lt, control, delete, encode_ascii, flat_map-append, get_or, inl, inr, inside_one, is_raw, length, quoted, refl, rules, subst, sym, take_all, true, written_byte, written_bytes, ℕ, ◌%◌, ◌++◌, ◌+◌, ◌/◌, ◌<◌, ◌∷◌, ◌≡◌, ◌≤◌}
+use Rattle.po_syntax.proofs.Prelude.{All, All-append, All-cons, All-head, All-tail, IsAscii, IsAscii-cons, IsUtf8, IsUtf8-append, IsUtf8-from_ascii, IsUtf8-nil, List, WritesByte, [], and_parts, append-nil, arith, cases_lt, control, delete, encode_ascii, flat_map-append, get_or, inl, inr, inside_one, is_raw, length, nat_tests, quoted, refl, rules, subst, sym, take_all, true, written_byte, written_bytes, ℕ, ◌%◌, ◌++◌, ◌+◌, ◌/◌, ◌<◌, ◌∷◌, ◌≡◌, ◌≤◌}
 use lib.Utf8.{encode, encodes, scalars, scalar}
 use Rattle.po_syntax.specs.Quoting.{letter, plain}
 use Rattle.po_syntax.proofs.RawRuns.{written_run}
 use Rattle.po_syntax.proofs.SpeltEscapes.{of_each_byte}
 use Rattle.po_syntax.proofs.WrittenForms.{byte_written}
-use Rattle.std.proofs.lemmas.Bool.Decides.{nat_tests}
 
 -- a byte that is no control byte, and below a bound
 abbrev Shown : ℕ → ℕ → Type 0

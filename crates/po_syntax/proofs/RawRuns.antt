@@ -1,6 +1,5 @@
 -- Bytes that are written as they are.
-use Rattle.po_syntax.proofs.Prelude.{Bool, List, [], ap, append-nil, arith, cond, false, flat_map-append, get_or, is_raw, length, length_push, nil_from_length, prefix_len, prefix_len-le-length, prefix_len_passes, refl, subst, suc, sym, take, take_more, true, written_byte, written_bytes, zero, ℕ, ◌++◌, ◌+◌, ◌<◌, ◌∙◌, ◌∷◌, ◌≡◌, ◌≤◌}
-use Rattle.std.proofs.lemmas.Bool.Decides.{nat_tests}
+use Rattle.po_syntax.proofs.Prelude.{Bool, List, [], ap, append-nil, arith, cond, false, flat_map-append, get_or, is_raw, length, length_push, nat_tests, nil_from_length, prefix_len, prefix_len-le-length, prefix_len_passes, refl, subst, suc, sym, take, take_more, true, written_byte, written_bytes, zero, ℕ, ◌++◌, ◌+◌, ◌<◌, ◌∙◌, ◌∷◌, ◌≡◌, ◌≤◌}
 
 written_raw : (b : ℕ) → is_raw b ≡ true → written_byte b ≡ b ∷ []
 unfolding written_byte

@@ -1,11 +1,10 @@
 -- What is left of a UTF-8 line after its marks, a token or a string is UTF-8, and so is what stands
 -- before a quote: a text is cut beside an ASCII byte.
-use Rattle.po_syntax.proofs.Prelude.{All, All-head, All-tail, AllDigits, CommentLine, IsAscii-cons, IsAscii-nil, IsBlank, IsCharBoundary-after_ascii, IsCharBoundary-before_ascii, IsUtf8, IsUtf8-append, IsUtf8-drop, IsUtf8-from_ascii, IsUtf8-take, Keyword, KeywordToken, List, Marks, NoShape, OpeningQuote, Shape, Some, SpellsEscape, SpellsKeyword, SpellsString, Tokens, [], ap, append_assoc, arith, closed, codes, comment_shape, cond_both, digit_value, drop, drop-append_seam, escape, first_shape, form, get_or, hash_shape, hexadecimal, length, length-append, letter, letter_value, msgctxt, msgid, msgid_plural, msgstr, obsolete_shape, octal, plain, refl, rules, shape_of, skip_blanks, subst, sym, take-append_seam, tilde_shape, token_at, ℕ, ◌++◌, ◌+◌, ◌<◌, ◌==◌, ◌∙◌, ◌∷◌, ◌≡◌, ◌≤◌}
+use Rattle.po_syntax.proofs.Prelude.{All, All-head, All-tail, AllDigits, CommentLine, IsAscii-cons, IsAscii-nil, IsBlank, IsCharBoundary-after_ascii, IsCharBoundary-before_ascii, IsUtf8, IsUtf8-append, IsUtf8-drop, IsUtf8-from_ascii, IsUtf8-take, Keyword, KeywordToken, List, Marks, NoShape, OpeningQuote, Shape, Some, SpellsEscape, SpellsKeyword, SpellsString, Tokens, [], ap, append_assoc, arith, closed, codes, comment_shape, cond_both, digit_value, drop, drop-append_seam, escape, first_shape, form, get_or, hash_shape, hexadecimal, length, length-append, letter, letter_value, msgctxt, msgid, msgid_plural, msgstr, nat_tests, obsolete_shape, octal, plain, refl, rules, shape_of, skip_blanks, subst, sym, take-append_seam, tilde_shape, token_at, ℕ, ◌++◌, ◌+◌, ◌<◌, ◌==◌, ◌∙◌, ◌∷◌, ◌≡◌, ◌≤◌}
 use Rattle.po_syntax.proofs.SpeltEscapes.{by_byte, of_each_letter}
 use Rattle.po_syntax.proofs.SpeltKeywords.{of_blank, skips}
 use Rattle.po_syntax.proofs.SpeltLines.{CommentSays, comment_says}
 use Rattle.po_syntax.proofs.Tokens.{says}
-use Rattle.std.proofs.lemmas.Bool.Decides.{nat_tests}
 
 -- the byte at which a text is cut
 byte_at : (own rest : List ℕ) (b : ℕ) → get_or (own ++ b ∷ rest) (length own) 0 ≡ b

@@ -1,8 +1,6 @@
 -- What conditions keep of a text compiles as what they keep of its compiled entries.
-use Rattle.po_tools.proofs.Prelude.{All-weaker, Bool, ChangesNothing, CompiledAreKept, CompilesAlike, KeptCompilesAlike, List, TextEntry, all_pass, ap, compiled_list, every_entry, false, filter, filter_passes, has_translation, is_compiled, is_header, is_kept, is_live, not, refl, selected, sym, true, ◌&&◌, ◌||◌, ◌∙◌, ◌≡◌}
-use Rattle.po_syntax.specs.Facts.Mapped.{filter_twice}
+use Rattle.po_tools.proofs.Prelude.{All-weaker, Bool, ChangesNothing, CompiledAreKept, CompilesAlike, KeptCompilesAlike, List, TextEntry, all_pass, ap, compiled_list, every_entry, false, filter, filter_agree, filter_passes, filter_twice, has_translation, is_compiled, is_header, is_kept, is_live, not, refl, selected, sym, true, ◌&&◌, ◌||◌, ◌∙◌, ◌≡◌}
 use Rattle.std.proofs.Math.Bool.{and_comm}
-use Rattle.std.proofs.lemmas.List.Elements.{filter_agree}
 use Rattle.msgattrib.specs.declared.selection.Selection.{Selection}
 
 commute : {X : Type 0} (p q : X → Bool) (xs : List X) → filter p (filter q xs) ≡ filter q (filter p xs)

@@ -1,16 +1,11 @@
 -- msgunfmt, msgattrib and msgcat have one run of their inputs.
-use Rattle.po_tools.proofs.Prelude.{All, AreReadAs, HasAdmittedCharset, HasNoDuplicate, InputEntry, IsMsgcatRun, IsFirstDuplicate, IsReadAs, IsTextFault, List, NamedFile, NoFaultWhereUnformatted, OneMsgattribRun, OneMsgcatRun, OneMsgunfmtRun, OneText, OneUnformatFault, RunView, TextEntry, ap, ap₂, error_line, in_input, inl, inr, map, merged, msgcat_line, refl, refusal, selected, subst, sym, unformat_line, written_text, ℕ, ◌∙◌, ◌≡◌}
+use Rattle.po_tools.proofs.Prelude.{All, AreReadAs, FirstError, Follows, HasAdmittedCharset, HasNoDuplicate, InputEntry, IsFirstDuplicate, IsMsgattribRun, IsMsgcatRun, IsReadAs, IsTextFault, List, NamedFile, NoFaultWhereUnformatted, OneMsgattribRun, OneMsgcatRun, OneMsgunfmtRun, OneResult, OneText, OneUnformatFault, ReadsDistinct, RunView, TextEntry, all_or_first, ap, ap₂, duplicates_once, error_line, first_error, follows_once, in_input, inl, inr, map, merged, msgcat_line, not_both, one_error, one_result, one_value, output_run, refl, refusal, right, selected, subst, sym, text_once, unformat_line, value_or_error, written_text, wrong, ℕ, ◌∙◌, ◌≡◌}
 use Rattle.po_syntax.specs.declared.fault.PoError.{PoError}
 use Rattle.po_syntax.specs.declared.fault.PoFault.TheVariants.{Duplicate, ForeignCharset}
-use Rattle.msgattrib.specs.Prelude.{IsMsgattribRun}
 use Rattle.msgcat.specs.Msgcat.{first_name}
 use Rattle.msgunfmt.specs.declared.fault.UnformatError.{UnformatError}
-use Rattle.po_entry.specs.Prelude.{ReadsDistinct}
 use Rattle.po_entry.proofs.Settled.{all_settled, charset_settled}
-use Rattle.runs.specs.Prelude.{output_run}
 use Rattle.po_entry.proofs.DuplicateLemmas.{entries_of_input}
-use Rattle.po_compile.proofs.FaultLemmas.{duplicates_once, text_once}
-use Rattle.po_compile.proofs.OneResult.{FirstError, Follows, OneResult, all_or_first, first_error, follows_once, not_both, one_error, one_result, one_value, right, value_or_error, wrong}
 
 pub msgunfmt_once : NoFaultWhereUnformatted → OneText → OneUnformatFault → OneMsgunfmtRun
 msgunfmt_once no_fault one_text one_fault file run other (inl is) (inl also) =

@@ -1,12 +1,9 @@
 -- A tool has one run of its inputs.
-use Rattle.po_tools.proofs.Prelude.{AreAccepted, AreChecked, CatalogView, InputEntry, IsCatalogView, IsCompilation, JoinError, List, Message, MessagesAreOne, MsgfmtOptions, NamedFile, NoFaultOfMoFile, None, OneFirstFault, OneMessageList, OneMsgfmtRun, Option, Reported, RunView, Some, TextEntry, ap, ap₂, check_line, compile_options, compiled_inputs, compiled_list, compiled_run, fault_line, find, first_fault, first_form, header_text, inl, input_names, input_texts, inr, is_header_entry, join_line, joined, joined_entries, layout, length, mo_text, refl, refusal, stats_of, subst, sym, true, ℕ, ◌++◌, ◌∙◌, ◌∷◌, ◌≡◌}
-use Rattle.msgfmt.specs.Prelude.{IsMsgfmtRun}
+use Rattle.po_tools.proofs.Prelude.{AreAccepted, AreChecked, CatalogView, Follows, InputEntry, IsCatalogView, IsCompilation, IsMsgfmtRun, IsOtherFault, JoinError, List, Message, MessagesAreOne, MsgfmtOptions, NamedFile, NoFaultOfMoFile, None, OneFirstFault, OneMessageList, OneMsgfmtRun, Option, Reported, RunView, Some, TextEntry, ap, ap₂, check_line, compile_once, compile_options, compiled_inputs, compiled_list, compiled_run, fault_line, find, first_fault, first_form, follows_once, header_text, inl, input_names, input_texts, inr, is_header_entry, join_line, joined, joined_entries, layout, length, mo_text, other_of, refl, refusal, right, stats_of, subst, sym, true, wrong, ℕ, ◌++◌, ◌∙◌, ◌∷◌, ◌≡◌}
 use Rattle.msgfmt.proofs.CheckedMessages.{CheckedBy}
 use Rattle.mo_file.specs.declared.fault.MoError.{MoError}
 use Rattle.plural_rule.specs.Prelude.{RuleView, IsRuleOf, expression_limit}
 use Rattle.po_compile.specs.declared.options.Compiled.{Compiled}
-use Rattle.po_compile.proofs.FaultLemmas.{IsOtherFault, compile_once, other_of}
-use Rattle.po_compile.proofs.OneResult.{Follows, follows_once, right, wrong}
 use Rattle.gettext.specs.Prelude.{IsLookUpRun, Opens, Request, output_of, output_run}
 use Rattle.gettext.specs.Plan.Opens.{none, opened, refused}
 

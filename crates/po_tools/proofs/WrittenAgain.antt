@@ -1,16 +1,11 @@
 -- What msgcat wrote is written again by msgcat, and compiled as the text that it was written of.
-use Rattle.po_tools.proofs.Prelude.{All, All-append, All-cons, All-contains_itself, All-filter, All-head, All-nil, All-tail, All-weaker, AllDiffer, AreReadAs, Bool, Contains, HasAdmittedCharset, IsCatalogueEntry, IsInput, IsMerged, IsMsgcatRun, IsSameMessage, IsSmall, IsText, List, MergedCanStand, MessagesStandOnce, MsgcatAgain, MsgcatCompilesAlike, Named, NamedFile, OneInputStays, ReadsText, RunView, TextEntry, [], ap, append-nil, ap₂, arith, arranged, compiled_list, false, false≢true, filter, filter-append, filter_passes, get_or, inl, inr, is_compiled, is_live, keep_all, map, merged, message_of, not, not-true, refl, subst, suc, sym, true, with_line, written_text, zero, ℕ, ⊎_elim, ◌++◌, ◌∙◌, ◌∷◌, ◌≡◌, ◌≢◌}
+use Rattle.po_tools.proofs.Prelude.{All, All-append, All-cons, All-contains_itself, All-filter, All-head, All-nil, All-tail, All-weaker, AllDiffer, AreReadAs, Bool, Contains, HasAdmittedCharset, IsCatalogueEntry, IsInput, IsMerged, IsMsgcatRun, IsSameMessage, IsSmall, IsText, List, MergedCanStand, MessagesStandOnce, MsgcatAgain, MsgcatCompilesAlike, Named, NamedFile, OneInputStays, ReadsDistinct, ReadsText, RunView, TextEntry, [], ap, append-nil, ap₂, arith, arranged, compiled_list, false, false≢true, filter, filter-append, filter_map, filter_passes, get_or, has_translation, inl, inr, is_compiled, is_header, is_live, keep_all, map, merged, message_of, none_pass, not, not-true, output_run, refl, subst, suc, sym, true, with_line, written_text, zero, ℕ, ⊎_elim, ◌&&◌, ◌++◌, ◌||◌, ◌∙◌, ◌∷◌, ◌≡◌, ◌≢◌}
 use Rattle.std.proofs.lemmas.List.Kept.{AllPairs-cons, AllPairs-filter}
 use Rattle.std.proofs.lemmas.Simd.{map-map}
 use Rattle.po_entry.specs.Facts.FirstRepeats.{pairs_map, pairs_of_map}
-use Rattle.po_entry.specs.Prelude.{ReadsDistinct, has_translation, is_header}
 use Rattle.po_compile.proofs.Filters.{filter_within}
-use Rattle.po_syntax.specs.Facts.Filters.{none_pass}
-use Rattle.po_syntax.specs.Facts.Mapped.{filter_map}
 use Rattle.po_compile.proofs.MeaningLemmas.{same_or_apart}
 use Rattle.po_tools.proofs.OneOtherRun.{msgcat_once}
-use Rattle.runs.specs.Prelude.{output_run}
-use Rattle.std.proofs.Common.{◌&&◌, ◌||◌}
 use Rattle.msgcat.specs.declared.input.MergeOptions.{MergeOptions}
 
 abbrev pub OneReading : Type 0

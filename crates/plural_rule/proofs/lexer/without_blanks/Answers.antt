@@ -1,5 +1,4 @@
-use Rattle.plural_rule.proofs.Prelude.{ap, arith, drop, is_blank, nat_tests, prefix_len_is, sym, ◌∙◌}
-use Rattle.std.proofs.lemmas.List.{take_rest}
+use Rattle.plural_rule.proofs.Prelude.{ap, arith, drop, is_blank, nat_tests, prefix_len_is, sym, take_rest, ◌∙◌}
 use Rattle.plural_rule.proofs.lexer.without_blanks.Goals as goal
 
 pub returns-then-byte-ne9-clause-value : goal.returns-then-byte-ne9-clause-value
