@@ -14,7 +14,6 @@ use crate::sorting::{sorted_rows, statistics_of};
 use mo_file::laws::layout_is_mo_file;
 use mo_file::{BuildError, build_sorted};
 use po_entry::JoinError;
-use po_entry::laws::no_first_duplicate_where_none;
 use po_syntax::{PoError, PoFault};
 use std::alloc::Global;
 
@@ -45,7 +44,6 @@ pub fn compile(alloc: Global, text: &[u8], options: Options) -> Result<Compiled,
         (λ e. IsCompileFault options (text.now ∷ []) (fault_of_only_input e)) }
     ensures statistics { IfOk result (HasStatistics (text.now ∷ [])) }
 {
-    no_first_duplicate_where_none();
     match compile_all(alloc, &[text], options) {
         Ok(compiled) => Ok(compiled),
         Err(error) => Err(error.error),

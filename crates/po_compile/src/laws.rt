@@ -4,11 +4,7 @@
 ghost use Rattle.po_compile.specs.Prelude.{CompiledListIsKept, CompiledCanBeKeys, JoinedEntriesCanStand, LayoutsAreLimited, MessagesDiffer, MessagesHaveParts, OneMoreChangesNoOther, OneTextIsRead, TextsComeBack, AcceptedOrFault, CataloguesAreOne, LookUpMeansEntries, MessagesAreOne, MessagesMeanEntries, NoFaultWhereAccepted, NoFaultWhereDistinct, OneCompileFault, OneTextFault};
 
 use mo_file::laws::layout_is_mo_file;
-use po_entry::laws::{no_duplicate_or_first, no_first_duplicate_where_none, one_first_duplicate};
-use po_reader::laws::{
-    entries_can_stand, entries_or_fault, no_fault_is_memory, no_fault_where_entries, one_fault,
-    one_reading,
-};
+use po_reader::laws::entries_can_stand;
 
 /// Of a catalogue's entries the live ones that have a translation are compiled, but for fuzzy ones
 /// if these aren't asked for. A live translated header is compiled whatever its flags.
@@ -43,60 +39,32 @@ pub fn look_up_means_entries()
 /// memory.
 pub fn no_fault_where_accepted()
     ensures { NoFaultWhereAccepted }
-{
-    one_reading();
-    no_fault_where_entries();
-    no_first_duplicate_where_none();
-    messages_are_one();
-}
+{}
 
 /// Every list of texts is accepted or has a fault.
 pub fn accepted_or_fault()
     ensures { AcceptedOrFault }
-{
-    entries_or_fault();
-    no_fault_is_memory();
-    no_duplicate_or_first();
-    entries_can_stand();
-}
+{}
 
 /// A list of texts has at most one fault: one kind, of one input, on one line.
 pub fn one_compile_fault()
     ensures { OneCompileFault }
-{
-    one_reading();
-    no_fault_where_entries();
-    no_first_duplicate_where_none();
-    one_fault();
-    one_first_duplicate();
-}
+{}
 
 /// A text has at most one fault: one kind, on one line.
 pub fn one_text_fault()
     ensures { OneTextFault }
-{
-    one_reading();
-    no_fault_where_entries();
-    no_first_duplicate_where_none();
-    one_fault();
-    one_first_duplicate();
-}
+{}
 
 /// A text that reads as entries without a duplicate has no fault.
 pub fn no_fault_where_distinct()
     ensures { NoFaultWhereDistinct }
-{
-    one_reading();
-    no_fault_where_entries();
-    no_first_duplicate_where_none();
-}
+{}
 
 /// Texts are read as one list of catalogues only.
 pub fn catalogues_are_one()
     ensures { CataloguesAreOne }
-{
-    one_reading();
-}
+{}
 
 /// The message of an entry has the entry's key, its plural and its forms.
 pub fn messages_have_parts()
@@ -139,10 +107,7 @@ pub fn compiled_can_be_keys()
 /// input.
 pub fn layouts_are_limited()
     ensures { LayoutsAreLimited }
-{
-    catalogues_are_one();
-    messages_are_one();
-}
+{}
 
 /// One entry more changes no answer to a query for another message, under one plural rule.
 pub fn one_more_changes_no_other()

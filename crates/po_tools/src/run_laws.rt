@@ -11,11 +11,7 @@ use msgcat::laws::{
 use msgunfmt::laws::{
     no_fault_where_unformatted, one_text, one_unformat_fault, unformat_then_compile,
 };
-use po_compile::laws::{
-    catalogues_are_one, messages_are_one, no_fault_where_accepted, no_fault_where_distinct,
-    one_compile_fault, one_text_fault,
-};
-use po_entry::laws::{no_first_duplicate_where_none, one_first_duplicate};
+use po_compile::laws::{messages_are_one, no_fault_where_accepted};
 use po_reader::laws::{entries_can_stand, one_reading};
 use po_writer::laws::{written_text_again, written_text_reads};
 
@@ -24,10 +20,7 @@ use po_writer::laws::{written_text_again, written_text_reads};
 pub fn one_msgfmt_run()
     ensures { OneMsgfmtRun }
 {
-    catalogues_are_one();
     messages_are_one();
-    no_fault_where_accepted();
-    one_compile_fault();
     one_rule();
 }
 
@@ -53,22 +46,12 @@ pub fn one_msgunfmt_run()
 /// A text and a selection have one run of `msgattrib`.
 pub fn one_msgattrib_run()
     ensures { OneMsgattribRun }
-{
-    one_reading();
-    one_text_fault();
-    no_fault_where_distinct();
-    no_first_duplicate_where_none();
-    one_first_duplicate();
-}
+{}
 
 /// Inputs and options have one run of `msgcat`.
 pub fn one_msgcat_run()
     ensures { OneMsgcatRun }
-{
-    one_reading();
-    one_text_fault();
-    no_fault_where_distinct();
-}
+{}
 
 /// What msgfmt wrote comes back by msgunfmt and msgfmt, byte for byte.
 pub fn there_and_back()
@@ -101,7 +84,6 @@ pub fn msgcat_again()
     written_text_again();
     entries_can_stand();
     one_reading();
-    no_fault_where_distinct();
 }
 
 /// What msgcat writes of one text in which no message stands twice, has the same messages for
