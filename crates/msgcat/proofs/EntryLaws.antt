@@ -1,9 +1,13 @@
 -- The parts of a merged entry, and which messages are kept.
-use Rattle.msgcat.proofs.Prelude.{All-contains, All-weaker, AreLiveOf, Bool, CommentKind, DefinedByLive, EndsForm, FaultIsOfNoLine, FormsAreJoined, IsJoinedForm, JoinedIsFuzzy, KeptByCount, List, MergeOptions, NamedEntry, None, ObsoleteWhereNoneIsLive, Option, PluralOfFirst, PoError, PreviousOfFirst, Some, TextEntry, TextPrevious, TextsInOrder, TextsOfAll, Translator, [], and_parts, any_passing, ap, append_assoc, ap₂, arith, collected, comment_of, cond, cond_both, ended, ends_with, eqb-false, eqb-true, false, filter, filter_agree, find, find-append, first_of, first_translated, first_with, fold, fold_push, form_count, get_or, get_or-map-range_with_len, has_plural, has_previous, has_text, if◌then◌else◌, inl, inr, is_below, is_live, is_some, is_wanted, joined_form, joined_forms, length, length-map-range_with_len, list_any, list_any-append, list_any_none, live, lt-ltb, ltb-true, marked, merged_entry, nat_eq, nat_lt, no_more, no_previous, not, not-false, not-true, obsolete, of_nothing, option_map_or, option_or, or-false, or_assoc, or_parts, refl, slice_get, subst, sym, texts_of, translations, true, with_feed, with_form, with_others, without_feed, without_form, ℕ, ◌&&◌, ◌++◌, ◌<◌, ◌||◌, ◌↔◌, ◌∙◌, ◌∷◌, ◌≡◌, ◌≢◌, ◌⊎◌}
+use Rattle.msgcat.proofs.Prelude.{All-contains, All-head, All-tail, All-weaker, AreLiveOf, Bool, CommentKind, DefinedByLive, EndsForm, FaultIsOfNoLine, FormsAreJoined, IsJoinedForm, JoinedIsFuzzy, KeptByCount, List, MergeOptions, NamedEntry, None, ObsoleteWhereNoneIsLive, Option, PluralOfFirst, PoError, PreviousOfFirst, Some, TextEntry, TextPrevious, TextsInOrder, TextsOfAll, Translator, [], any_passing, ap, append_assoc, ap₂, arith, collected, comment_of, cond, ended, ends_with, eqb-false, eqb-true, false, filter, filter_agree, find, find-append, first_of, first_translated, first_with, fold, fold_push, form_count, get_or, get_or-map-range_with_len, has_plural, has_previous, has_text, if◌then◌else◌, inl, inr, is_below, is_live, is_some, joined_form, joined_forms, length, length-map-range_with_len, list_any, list_any-append, list_any_none, live, marked, merged_entry, nat_eq, no_more, no_previous, not, not-false, obsolete, of_nothing, option_map_or, or-false, or_assoc, refl, slice_get, subst, sym, texts_of, translations, true, with_feed, with_form, with_others, without_feed, without_form, ℕ, ◌&&◌, ◌++◌, ◌<◌, ◌||◌, ◌↔◌, ◌∙◌, ◌∷◌, ◌≡◌, ◌≢◌}
 use Rattle.std.proofs.Common.{bytes_eq, All}
 use Rattle.std.proofs.lemmas.List.Prefix.{end_rest}
 use Rattle.msgcat.specs.Laws.{no_entry}
+use Rattle.po_syntax.specs.Facts.Runs.{from_end}
+use Rattle.std.proofs.lemmas.Bool.Decides.{nat_tests}
+use Rattle.msgcat.proofs.FirstOnes.{none_all}
 use Rattle.msgcat.proofs.Sets.{has_others}
+use Rattle.msgcat.proofs.Valid.{first_keeps}
 
 -- the texts of one kind of a merged entry
 pub texts_merged : (o : MergeOptions) (kind : CommentKind) (ds : List NamedEntry)
@@ -47,33 +51,17 @@ texts_in_order o kind before d off =
 pub joined_is_fuzzy : (o : MergeOptions) (ds : List NamedEntry) → JoinedIsFuzzy o ds
 joined_is_fuzzy o ds joined = ap (λ (b : Bool). b || (first_translated ds).fuzzy) joined
 
-pub find_none : {X : Type 0} (p : X → Bool) (xs : List X) → list_any p xs ≡ false → find p xs ≡ None
+pub find_none : {X : Type 0} (p : X → Bool) (xs : List X) → All (λ x. p x ≡ false) xs → find p xs ≡ None
 find_none p [] none = refl
 find_none p (x ∷ xs) none =
-    let parts = or_parts (p x) (list_any p xs) none in ap (λ (b : Bool). cond b (Some x) (find p xs)) parts.0
-    ∙ find_none p xs parts.1
+    rw (All-head (λ y. p y ≡ false) x xs none) (find_none p xs (All-tail (λ y. p y ≡ false) x xs none))
 
 -- what the first definition has that has something
-first_found : (has : TextEntry → Bool) (before : List NamedEntry) (d : NamedEntry) (after : List NamedEntry)
-    → list_any (λ b. has b.entry) before ≡ false → has d.entry ≡ true
-    → find (λ x. has x.entry) (before ++ d ∷ after) ≡ Some d
-first_found has before d after none is =
-    let p = λ (x : NamedEntry). has x.entry in
-    find-append p before (d ∷ after)
-    ∙ ap₂ (λ (o : Option NamedEntry) (b : Bool). option_or o (cond b (Some d) (find p after)))
-    (find_none p before none) is
-
 pub first_is : (has : TextEntry → Bool) (before : List NamedEntry) (d : NamedEntry) (after : List NamedEntry)
-    → list_any (λ b. has b.entry) before ≡ false → has d.entry ≡ true → first_with has (before ++ d ∷ after) ≡ d.entry
+    → All (λ b. has b.entry ≡ false) before → has d.entry ≡ true → first_with has (before ++ d ∷ after) ≡ d.entry
 first_is has before d after none is =
-    ap (λ (r : Option NamedEntry). option_map_or (λ (x : NamedEntry). x.entry) r (first_of (before ++ d ∷ after)))
-    (first_found has before d after none is)
-
-none_has : (has : TextEntry → Bool) (P : NamedEntry → Type 0) → ((b : NamedEntry) → P b → has b.entry ≡ false)
-    → (before : List NamedEntry) → All P before
-    → list_any (λ b. has b.entry) before ≡ false
-none_has has P lacks before all =
-    list_any_none (λ b. has b.entry) before (All-weaker P (λ b. has b.entry ≡ false) lacks before all)
+    let p = λ (x : NamedEntry). has x.entry in
+    rw (find-append p before (d ∷ after), find_none p before none, is) refl
 
 some_plural : (plural : Option (List ℕ)) → plural ≢ None → is_some plural ≡ true
 some_plural None is = absurd (is refl)
@@ -89,14 +77,6 @@ some_previous previous is = of previous.context previous.id previous.plural is w
   of None None (Some text) is = refl
   of None None None is = absurd (is refl)
 
--- a text is empty or has a last byte
-has_last : (text : List ℕ) → (text ≡ []) ⊎ ((before : List ℕ) × (b : ℕ) × (text ≡ before ++ b ∷ []))
-has_last [] = inl refl
-has_last (b ∷ text) = elim (has_last text) [
-  | inl none ↦ inr ([], b, ap (λ (l : List ℕ). b ∷ l) none)
-  | inr (before, last, is) ↦ inr (b ∷ before, last, ap (λ (l : List ℕ). b ∷ l) is)
-]
-
 last_ended : (text : List ℕ) (b : ℕ) → EndsForm (text ++ b ∷ []) (ended (text ++ b ∷ []))
 last_ended text b =
     let form = text ++ b ∷ [] in
@@ -109,10 +89,7 @@ last_ended text b =
           (without_feed text (λ same. eqb-false 10 b e (sym same)))
 
 pub forms_end : (form : List ℕ) → EndsForm form (ended form)
-forms_end form = elim (has_last form) [
-  | inl none ↦ subst (λ l. EndsForm l (ended l)) (sym none) of_nothing
-  | inr (text, b, is) ↦ subst (λ l. EndsForm l (ended l)) (sym is) (last_ended text b)
-]
+forms_end = from_end (λ form. EndsForm form (ended form)) of_nothing (λ text b ih. last_ended text b)
 
 joined_is : (i : ℕ) (ts : List NamedEntry) → IsJoinedForm i ts (joined_form ts i)
 joined_is i [] = no_more
@@ -139,7 +116,8 @@ pub previous_of_first : (o : MergeOptions) (before : List NamedEntry) (d : Named
 previous_of_first o before d after none is =
     ap (λ (e : TextEntry). e.previous)
     (first_is has_previous before d after
-    (none_has has_previous (λ b. b.entry.previous ≡ no_previous) (λ b e. rw e refl) before none)
+    (All-weaker (λ b. b.entry.previous ≡ no_previous) (λ b. has_previous b.entry ≡ false) (λ b e. rw e refl) before
+    none)
     (some_previous d.entry.previous is))
 
 pub plural_of_first : (o : MergeOptions) (before : List NamedEntry) (d : NamedEntry) (after : List NamedEntry)
@@ -147,7 +125,7 @@ pub plural_of_first : (o : MergeOptions) (before : List NamedEntry) (d : NamedEn
 plural_of_first o before d after none is =
     ap (λ (e : TextEntry). e.plural)
     (first_is has_plural before d after
-    (none_has has_plural (λ b. b.entry.plural ≡ None) (λ b e. rw e refl) before none)
+    (All-weaker (λ b. b.entry.plural ≡ None) (λ b. has_plural b.entry ≡ false) (λ b e. rw e refl) before none)
     (some_plural d.entry.plural is))
 
 live_of : (es : List NamedEntry) → AreLiveOf es (filter (λ e. is_live e.entry) es)
@@ -176,61 +154,31 @@ defined_by_live group =
 live_first : (es : List NamedEntry) → list_any (λ e. is_live e.entry) es ≡ true
     → (first_of (filter (λ e. is_live e.entry) es)).obsolete ≡ false
 live_first [] h = cc
-live_first (e ∷ es) h =
-    let live = filter (λ x. is_live x.entry) es in
-    cond_both (is_live e.entry) (e ∷ live) live (λ l. (first_of l).obsolete ≡ false) (not-true e.entry.obsolete)
-    (λ none. live_first es (ap (λ (b : Bool). b || list_any (λ x. is_live x.entry) es) (sym none) ∙ h))
-
-obsolete_first : (es : List NamedEntry) → 0 < length es → list_any (λ e. is_live e.entry) es ≡ false
-    → (first_of es).obsolete ≡ true
-obsolete_first [] some h = absurd (omega (arith, some))
-obsolete_first (e ∷ es) some h =
-    not-false e.entry.obsolete (or_parts (is_live e.entry) (list_any (λ x. is_live x.entry) es) h).0
+live_first (e ∷ es) h = grind (arith, live_first es)
 
 pub obsolete_where_none_is_live : (o : MergeOptions) (group : List NamedEntry) → ObsoleteWhereNoneIsLive o group
 obsolete_where_none_is_live o group some = found (list_any (λ e. is_live e.entry) group) refl where
   found : (b : Bool) → list_any (λ e. is_live e.entry) group ≡ b
       → (first_of (if b then filter (λ e. is_live e.entry) group else group)).obsolete ≡ not b
   found true e = live_first group e
-  found false e = obsolete_first group some e
+  found false e = first_keeps (λ e. e.obsolete ≡ true) group some (All-weaker (λ e. is_live e.entry ≡ false)
+      (λ e. e.entry.obsolete ≡ true) (λ e. not-false e.entry.obsolete) group (none_all (λ e. is_live e.entry) group e))
 
 below_limit : (given : Option ℕ) (count : ℕ)
     → (is_below given count ≡ true) ↔ ((limit : ℕ) → given ≡ Some limit → count < limit)
 below_limit None count = (λ h limit is. cc, λ h. refl)
-below_limit (Some n) count = (
-  λ h limit is. let same : n ≡ limit = cc in let less : count < n = ltb-true count n h in omega (arith, less, same),
-  λ h. lt-ltb count n (h n refl),
-)
-
-one_alone : (unique : Bool) (count : ℕ) → 0 < count
-    → ((not unique || nat_lt count 2) ≡ true) ↔ (unique ≡ true → count ≡ 1)
-one_alone true count some = (
-  λ h on. let less : count < 2 = ltb-true count 2 h in
-      omega (arith, less, some),
-  λ h. lt-ltb count 2 (omega (arith, h refl)),
-)
-one_alone false count some = (λ h on. cc, λ h. refl)
+below_limit (Some n) count = (λ h limit is. grind (arith, nat_tests), λ h. grind (arith, nat_tests, h n))
 
 pub kept_by_count : (o : MergeOptions) (ds : List NamedEntry) → KeptByCount o ds
-kept_by_count o ds none = (
-  λ kept.
-      let wanted : is_wanted o (length ds) ≡ true = sym (ap (λ (b : Bool). b || is_wanted o (length ds)) none) ∙ kept in
-      let a = and_parts (nat_lt o.more_than (length ds) && is_below o.less_than (length ds))
-      (not o.unique || nat_lt (length ds) 2) wanted in
-      let b = and_parts (nat_lt o.more_than (length ds)) (is_below o.less_than (length ds)) a.0 in
-      let more : o.more_than < length ds = ltb-true o.more_than (length ds) b.0 in
-      record {
-        more_than = more;
-        less_than = (below_limit o.less_than (length ds)).0 b.1;
-        unique =
-            (one_alone o.unique (length ds) (omega (arith, more))).0 a.1;
+kept_by_count o ds none =
+    let limit = below_limit o.less_than (length ds) in (
+      λ kept. record {
+        more_than = grind (arith, nat_tests);
+        less_than = limit.0 (grind (arith, nat_tests));
+        unique = grind (arith, nat_tests);
       },
-  λ asked.
-      let more = lt-ltb o.more_than (length ds) asked.more_than in
-      let less = (below_limit o.less_than (length ds)).1 asked.less_than in
-      let alone = (one_alone o.unique (length ds) (omega (arith, asked.more_than))).1 asked.unique in
-      rw (none, more, less, alone) refl,
-)
+      λ asked. grind (arith, nat_tests, limit.1 asked.less_than),
+    )
 
 pub fault_is_of_no_line : (entries : List TextEntry) (error : PoError) → FaultIsOfNoLine entries error
 fault_is_of_no_line entries error (inl memory) = ap (λ (e : PoError). e.line) memory

@@ -5,7 +5,8 @@ use Rattle.std.specs.BTreeSet.{BTreeSet, contains}
 use Rattle.std.proofs.lemmas.List.Splits.{slice_split_at, slice_split_none}
 use Rattle.po_entry.specs.Facts.EqualityLaws.{texts_decide}
 use Rattle.msgcat.specs.declared.definition.NamedEntry.{NamedEntry as BorrowedEntry}
-use Rattle.msgcat.proofs.Valid.{quoted_parts, translations_all}
+use Rattle.po_entry.proofs.QuotedParts.{quoted_parts}
+use Rattle.msgcat.proofs.Valid.{translations_all}
 
 without : (text : List ℕ) → Lacks 0 text → All (λ b. (b == 0) ≡ false) text
 without text h = All-weaker (λ b. b ≡ 0 → ⊥) (λ b. (b == 0) ≡ false) (λ b none. ne_eqb b 0 none) text h
@@ -30,8 +31,8 @@ alike : (a b : NamedEntry) → IsDefinition a → IsDefinition b
 alike a b h g =
     let one = a.entry.forms in
     let other = b.entry.forms in
-    let first = split_back one h.valid.some_form (quoted_parts a.entry h.valid).forms in
-    let second = split_back other g.valid.some_form (quoted_parts b.entry g.valid).forms in
+    let first = split_back one h.valid.some_form (quoted_parts IsText a.entry h.valid.quoted_texts).forms in
+    let second = split_back other g.valid.some_form (quoted_parts IsText b.entry g.valid.quoted_texts).forms in
     let same = bytes_eq-Decides (join_with_byte 0 one) (join_with_byte 0 other) in
     let equal = texts_decide one other in
     elim (cases_Bool (bytes_eq (join_with_byte 0 one) (join_with_byte 0 other))) [

@@ -1,58 +1,29 @@
 -- What is translated stays translated.
-use Rattle.msgcat.proofs.Prelude.{All-cons, All-contains, All-head, All-nil, All-weaker, Bool, Contains, IsTranslated, List, MergeOptions, NamedEntry, Some, TextEntry, TranslatedStays, [], and_parts, ap, arith, cond, definitions, false, false≢true, filter, find, first_form, first_of, first_translated, form_count, get_or, get_or-map-range_with_len, has_translation, if◌then◌else◌, is_joined, is_live, joined_form, joined_forms, length, list_any, ltb-true, marked, merged_entry, nat_lt, not, option_map_or, or_left, or_right, refl, slice_get, sym, translations, true, ℕ, ◌++◌, ◌<◌, ◌||◌, ◌∙◌, ◌∷◌, ◌≡◌, ◌≢◌}
+use Rattle.msgcat.proofs.Prelude.{All-contains, All-head, Bool, Contains, IsTranslated, List, MergeOptions, NamedEntry, TextEntry, TranslatedStays, [], and_parts, ap, arith, definitions, false, false≢true, filter, find, first_form, first_of, first_translated, form_count, get_or, get_or-map-range_with_len, has_translation, if◌then◌else◌, is_joined, is_live, joined_form, joined_forms, length, list_any, ltb-true, marked, merged_entry, nat_lt, not, option_map_or, refl, slice_get, sym, translations, true, ℕ, ◌++◌, ◌<◌, ◌∙◌, ◌∷◌, ◌≡◌, ◌≢◌}
 use Rattle.msgcat.proofs.Valid.{count_joined}
-use Rattle.std.proofs.Common.{All}
+use Rattle.std.proofs.Common.{All, ◌&&◌, ◌∙◌, true}
+use Rattle.po_entry.proofs.FuzzyFlags.{any_passing}
+use Rattle.std.proofs.lemmas.Bool.{cond_both}
 use Rattle.msgcat.proofs.TranslationLaws.{IsOne, each_is, has, has_is, is_has, joined_as_longest}
 
--- the live translated ones of a group are among its definitions
-live_translated : (es : List NamedEntry)
-    → All (λ d. is_live d.entry ≡ true → has d ≡ true → list_any has (filter (λ x. is_live x.entry) es) ≡ true) es
-live_translated [] = All-nil (λ d. is_live d.entry ≡ true → has d ≡ true → list_any has [] ≡ true)
-live_translated (e ∷ es) =
-    let P : NamedEntry → Type 0 = λ d. is_live d.entry ≡ true → has d ≡ true
-    → list_any has (cond (is_live e.entry) (e ∷ lives) lives) ≡ true in
-    All-cons P e es
-    (λ live h. ap (λ (b : Bool). list_any has (cond b (e ∷ lives) lives)) live ∙ or_left (has e) (list_any has lives) h)
-    (All-weaker (λ d. is_live d.entry ≡ true → has d ≡ true → list_any has lives ≡ true) P
-    (λ d there live h. more (is_live e.entry) (there live h)) es (live_translated es)) where
-      lives : List NamedEntry
-      lives = filter (λ x. is_live x.entry) es
-
-      more : (b : Bool) → list_any has lives ≡ true → list_any has (cond b (e ∷ lives) lives) ≡ true
-      more true h = or_right (has e) (list_any has lives) h
-      more false h = h
-
-passing : (es : List NamedEntry) → All (λ d. has d ≡ true → list_any has es ≡ true) es
-passing [] = All-nil (λ d. has d ≡ true → false ≡ true)
-passing (e ∷ es) = All-cons (λ d. has d ≡ true → (has e || list_any has es) ≡ true) e es
-    (λ h. or_left (has e) (list_any has es) h)
-    (All-weaker (λ d. has d ≡ true → list_any has es ≡ true) (λ d. has d ≡ true → (has e || list_any has es) ≡ true)
-    (λ d c h. or_right (has e) (list_any has es) (c h)) es (passing es))
+any-filter : {X : Type 0} (p q : X → Bool) (xs : List X) → list_any p (filter q xs) ≡ list_any (λ x. q x && p x) xs
+any-filter p q [] = refl
+any-filter p q (x ∷ xs) = grind (arith, any-filter p q xs)
 
 -- a definition of the group's message has a translation
 any_defined : (group : List NamedEntry) (d : NamedEntry) → Contains group d → d.entry.obsolete ≡ false
     → IsTranslated d → list_any has (definitions group) ≡ true
-any_defined group d among live is = by (list_any (λ e. is_live e.entry) group) where
-  P : NamedEntry → Type 0
-  P x = is_live x.entry ≡ true → has x ≡ true → list_any has (filter (λ y. is_live y.entry) group) ≡ true
-
-  Q : NamedEntry → Type 0
-  Q x = has x ≡ true → list_any has group ≡ true
-
-  by : (b : Bool) → list_any has (if b then filter (λ y. is_live y.entry) group else group) ≡ true
-  by true = All-contains P group d (live_translated group) among (ap not live) (is_has d is)
-  by false = All-contains Q group d (passing group) among (is_has d is)
+any_defined group d among live is =
+    let lives : NamedEntry → Bool = λ x. is_live x.entry in
+    let any = λ (p : NamedEntry → Bool). All-contains (λ x. p x ≡ true → list_any p group ≡ true) group d
+    (any_passing p group) among in
+    cond_both (list_any lives group) (filter lives group) group (λ l. list_any has l ≡ true)
+    (λ _. any-filter has lives group ∙ any (λ x. lives x && has x) (rw live (is_has d is))) (λ _. any has (is_has d is))
 
 found_has : (ds : List NamedEntry) (none : TextEntry) → list_any has ds ≡ true
     → has_translation (option_map_or (λ (d : NamedEntry). d.entry) (find has ds) none) ≡ true
 found_has [] none h = absurd (false≢true h)
-found_has (d ∷ ds) none h = by (has d) refl h (found_has ds none) where
-  by : (b : Bool) → has d ≡ b → (b || list_any has ds) ≡ true
-      → (list_any has ds ≡ true
-      → has_translation (option_map_or (λ (x : NamedEntry). x.entry) (find has ds) none) ≡ true)
-      → has_translation (option_map_or (λ (x : NamedEntry). x.entry) (cond b (Some d) (find has ds)) none) ≡ true
-  by true is g more = is
-  by false is g more = more g
+found_has (d ∷ ds) none h = grind (arith, found_has ds none)
 
 -- a joined form of a translation has the line of its input
 marked_some : (name form rest : List ℕ) → marked name form ++ rest ≢ []

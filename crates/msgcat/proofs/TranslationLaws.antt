@@ -1,31 +1,29 @@
 -- When translations are joined, and which definition's forms a merged entry has.
-use Rattle.msgcat.proofs.Prelude.{All, All-cons, All-contains, All-contains_itself, All-filter, All-head, All-nil, All-tail, All-weaker, Bool, CommentKind, CommentsOfFirst, Contains, FormsOfFirst, HeadersAreKept, IsEquivalence, IsFirstTranslated, IsTranslated, IsUntranslated, JoinedAsLongest, JoinedWhereTheyDiffer, List, MergeOptions, NamedEntry, None, Option, TextEntry, TranslationsDiffer, [], and_parts, any_first_ones, any_passing, ap, ap₂, arith, bytes_eq-Decides, collected, false, false≢true, filter, filter_passes, first_form, first_translated, fold, form_count, get_or, has_translation, if◌then◌else◌, inl, inr, is_header, is_none, is_wanted, joined_form, joined_forms, length, length-map-range_with_len, list_any, list_any_none, lists_equiv, lt-ltb, ltb-false, ltb-true, max, merged_entry, nat_list_eq_equiv, nat_lt, ne_eqb, none, not, not-true, on_equiv, option_map_or, or-false, or_parts, refl, same_forms, slice_eq-Decides, sym, texts_eq, texts_of, translated, translations, true, ℕ, ◌&&◌, ◌<◌, ◌==◌, ◌||◌, ◌∙◌, ◌∷◌, ◌≡◌, ◌≢◌, ◌≤◌, ◌⊎◌}
+use Rattle.msgcat.proofs.Prelude.{All, All-cons, All-contains, All-contains_itself, All-filter, All-head, All-nil, All-tail, All-weaker, Bool, CommentKind, CommentsOfFirst, Contains, FormsOfFirst, HeadersAreKept, IsEquivalence, IsFirstTranslated, IsTranslated, IsUntranslated, JoinedAsLongest, JoinedWhereTheyDiffer, List, MergeOptions, NamedEntry, None, Option, TextEntry, TranslationsDiffer, [], and_parts, any_first_ones, any_passing, ap, ap₂, arith, bytes_eq-Decides, collected, false, false_from_ne_true, false≢true, filter, filter_passes, first_form, first_translated, fold, form_count, get_or, has_translation, if◌then◌else◌, is_header, is_none, is_wanted, joined_forms, length, list_any, lists_equiv, lt-ltb, ltb-true, max, merged_entry, nat_list_eq_equiv, nat_lt, none, not, not-true, on_equiv, option_map_or, or-false, or_parts, refl, same_forms, slice_eq-Decides, sym, texts_eq, texts_of, translated, translations, true, ℕ, ◌&&◌, ◌<◌, ◌==◌, ◌||◌, ◌∙◌, ◌∷◌, ◌≡◌, ◌≢◌, ◌≤◌}
+use Rattle.std.specs.Bool.{Decides}
+use Rattle.std.proofs.lemmas.Bool.Decides.{nat_tests}
+use Rattle.std.proofs.lemmas.List.Folds.{Any-from_list_any}
 use Rattle.std.proofs.lemmas.Map.Views.{any-filter_same, list_any-from_Contains}
 use Rattle.msgcat.proofs.EntryLaws.{find_none, first_is, texts_merged}
-use Rattle.msgcat.proofs.Valid.{at_least}
+use Rattle.msgcat.proofs.Valid.{count_joined, count_keeps}
 use Rattle.msgcat.proofs.FirstOnes.{all_first_ones, Apart, apart_first_ones}
 
 -- the test of a definition with a translation, and what it decides
 abbrev pub has : NamedEntry → Bool
 has d = has_translation d.entry
 
-some_bytes : (form : List ℕ) → not (length form == 0) ≡ true → form ≢ []
-some_bytes [] h is = false≢true h
-some_bytes (b ∷ form) h is = absurd (cc)
-
-bytes_some : (form : List ℕ) → form ≢ [] → not (length form == 0) ≡ true
-bytes_some [] some = absurd (some refl)
-bytes_some (b ∷ form) some = ap not (ne_eqb (length (b ∷ form)) 0 (λ e. omega (arith, e)))
-
-no_bytes : (form : List ℕ) → form ≡ [] → not (length form == 0) ≡ false
-no_bytes [] is = refl
-no_bytes (b ∷ form) is = absurd (cc)
+bytes_decide : (form : List ℕ) → Decides (not (length form == 0)) (form ≢ [])
+bytes_decide [] = grind arith
+bytes_decide (b ∷ form) = grind (arith, nat_tests)
 
 pub has_is : (d : NamedEntry) → has d ≡ true → IsTranslated d
-has_is d h = some_bytes (first_form d.entry.forms) h
+has_is d = (bytes_decide (first_form d.entry.forms)).0
 
 pub is_has : (d : NamedEntry) → IsTranslated d → has d ≡ true
-is_has d h = bytes_some (first_form d.entry.forms) h
+is_has d = (bytes_decide (first_form d.entry.forms)).1
+
+has_none : (d : NamedEntry) → IsUntranslated d → has d ≡ false
+has_none d lacks = false_from_ne_true (has d) (λ is. has_is d is lacks)
 
 -- definitions with the same forms
 forms_decide : (a b : NamedEntry)
@@ -102,53 +100,21 @@ joined_where_they_differ o ds = (
 abbrev largest : ℕ → List NamedEntry → ℕ
 largest n ts = fold (λ count t. max count (length t.entry.forms)) n ts
 
-bounded : (n : ℕ) (ts : List NamedEntry) → All (λ t. length t.entry.forms ≤ largest n ts) ts
-bounded n [] = All-nil (λ t. length t.entry.forms ≤ n)
+bounded : (n : ℕ) (ts : List NamedEntry) → (n ≤ largest n ts) × All (λ t. length t.entry.forms ≤ largest n ts) ts
+bounded n [] = (omega arith, All-nil (λ t. length t.entry.forms ≤ n))
 bounded n (t ∷ ts) =
-    let m = max n (length t.entry.forms) in
-    let least = at_least m ts in
-    All-cons (λ x. length x.entry.forms ≤ largest m ts) t ts (omega (arith, least)) (bounded m ts)
-
-reached : (P : NamedEntry → Type 0) (n : ℕ) (ts : List NamedEntry) → All P ts
-    → (largest n ts ≡ n) ⊎ ((t : NamedEntry) × P t × (length t.entry.forms ≡ largest n ts))
-reached P n [] all = inl refl
-reached P n (t ∷ ts) all = by (reached P m ts (All-tail P t ts all)) (nat_lt n (length t.entry.forms)) refl where
-  m : ℕ
-  m = max n (length t.entry.forms)
-
-  by : (largest m ts ≡ m) ⊎ ((x : NamedEntry) × P x × (length x.entry.forms ≡ largest m ts)) → (b : Bool)
-      → nat_lt n (length t.entry.forms) ≡ b
-      → (largest m ts ≡ n) ⊎ ((x : NamedEntry) × P x × (length x.entry.forms ≡ largest m ts))
-  by (inr later) b e = inr later
-  by (inl same) true e = let less =
-      ltb-true n (length t.entry.forms) e in inr (t, All-head P t ts all, omega (arith, same, less))
-  by (inl same) false e = let not_less = ltb-false n (length t.entry.forms) e in inl (omega (arith, same, not_less))
-
-some_longest : (P : NamedEntry → Type 0) (ts : List NamedEntry) → 0 < length ts → All P ts
-    → (t : NamedEntry) × P t × (length t.entry.forms ≡ form_count ts)
-some_longest P [] some all = absurd (omega (arith, some))
-some_longest P (t ∷ ts) some all = by (reached P 0 (t ∷ ts) all) where
-  by : (form_count (t ∷ ts) ≡ 0) ⊎ ((x : NamedEntry) × P x × (length x.entry.forms ≡ form_count (t ∷ ts)))
-      → (x : NamedEntry) × P x × (length x.entry.forms ≡ form_count (t ∷ ts))
-  by (inr found) = found
-  by (inl same) =
-      let least : length t.entry.forms ≤ form_count (t ∷ ts) =
-      All-head (λ x. length x.entry.forms ≤ form_count (t ∷ ts)) t ts (bounded 0 (t ∷ ts)) in
-      (t, All-head P t ts all, omega (arith, same, least))
+    let later = bounded (max n (length t.entry.forms)) ts in (
+      omega (arith, later.0),
+      All-cons (λ x. length x.entry.forms ≤ largest n (t ∷ ts)) t ts (omega (arith, later.0)) later.1,
+    )
 
 no_longer : (d : NamedEntry) (count : ℕ) (ts : List NamedEntry) → list_any (same_forms d) ts ≡ true
     → All (λ t. length t.entry.forms ≤ count) ts → length d.entry.forms ≤ count
-no_longer d count [] h all = absurd (false≢true h)
-no_longer d count (t ∷ ts) h all =
-    found (same_forms d t) refl h
-    (λ g. no_longer d count ts g (All-tail (λ x. length x.entry.forms ≤ count) t ts all)) where
-      found : (b : Bool) → same_forms d t ≡ b → (b || list_any (same_forms d) ts) ≡ true
-          → (list_any (same_forms d) ts ≡ true → length d.entry.forms ≤ count) → length d.entry.forms ≤ count
-      found true e g more =
-          let same = ap length ((forms_decide d t).0 e) in
-          let here = All-head (λ x. length x.entry.forms ≤ count) t ts all in
-          omega (arith, same, here)
-      found false e g more = more g
+no_longer d count ts h all =
+    let any = Any-from_list_any (same_forms d) ts h in
+    let same = ap length ((forms_decide d any.1).0 any.4) in
+    let most = All-contains (λ t. length t.entry.forms ≤ count) ts any.1 all (any.0, any.2, any.3) in
+    omega (arith, same, most)
 
 pub joined_as_longest : (o : MergeOptions) (ds : List NamedEntry) → JoinedAsLongest o ds
 joined_as_longest o ds joined =
@@ -158,28 +124,25 @@ joined_as_longest o ds joined =
     let forms : (merged_entry o ds).forms ≡ joined_forms ts =
     ap (λ (b : Bool). if b then joined_forms ts else (first_translated ds).forms) joined in
     let count : length (merged_entry o ds).forms ≡ form_count ts =
-    ap length forms ∙ length-map-range_with_len (joined_form ts) 0 (form_count ts) in
-    let found = some_longest (IsOne ds) ts (omega (arith, more)) (each_is ds) in
+    ap length forms ∙ count_joined ts in
+    let found = count_keeps (λ n. (t : NamedEntry) × IsOne ds t × (length t.entry.forms ≡ n)) ts (omega (arith, more))
+    (λ k d below. (get_or ts k d, each_is ds k d below, refl)) in
     record {
       longest = found.0;
       among = found.1.among;
       translated = found.1.is;
       as_many = found.2 ∙ sym count;
       none_longer = λ d among is. let most =
-          no_longer d (form_count ts) ts (any_of ds d among is) (bounded 0 ts) in omega (arith, count, most);
+          no_longer d (form_count ts) ts (any_of ds d among is) (bounded 0 ts).1 in omega (arith, count, most);
     }
 
--- where no definition before it has a translation, none is found there
-none_has : (ds : List NamedEntry) → All IsUntranslated ds → list_any has ds ≡ false
-none_has ds h = list_any_none has ds
-    (All-weaker IsUntranslated (λ d. has d ≡ false) (λ d. no_bytes (first_form d.entry.forms)) ds h)
-
 first_translated_is : {ds : List NamedEntry} {d : NamedEntry} → IsFirstTranslated ds d → first_translated ds ≡ d.entry
-first_translated_is (translated before after {d = d} before_has_none is) =
-    first_is has_translation before d after (none_has before before_has_none) (is_has d is)
+first_translated_is (translated before after {d = d} before_none is) =
+    first_is has_translation before d after (All-weaker IsUntranslated (λ b. has b ≡ false) has_none before before_none)
+    (is_has d is)
 first_translated_is (none {d = d} {after = after} h) =
     ap (λ (r : Option NamedEntry). option_map_or (λ (x : NamedEntry). x.entry) r d.entry)
-    (find_none has (d ∷ after) (none_has (d ∷ after) h))
+    (find_none has (d ∷ after) (All-weaker IsUntranslated (λ b. has b ≡ false) has_none (d ∷ after) h))
 
 pub forms_of_first : (o : MergeOptions) (ds : List NamedEntry) (d : NamedEntry) → FormsOfFirst o ds d
 forms_of_first o ds d apart first =

@@ -1,6 +1,8 @@
 use Rattle.msgcat.proofs.Prelude.{ap, arith, err_from_is_err_and, inl, inr, length, messages, ◌<◌, ◌∙◌}
+use Rattle.std.specs.Cmp.{booleans_Decides}
+use Rattle.std.proofs.lemmas.Bool.Decides.{not_from_Decides}
 use Rattle.msgcat.proofs.GroupsMerged.{fault_of_one}
-use Rattle.msgcat.proofs.MergedLemmas.{message_more, other_mark, same_mark}
+use Rattle.msgcat.proofs.MergedLemmas.{message_more}
 use Rattle.msgcat.proofs.merged_text.push_messages.Goals as goal
 use Rattle.msgcat.proofs.merged_text.push_messages.Goals.{then-is_obsolete-obsolete+in_ok-push_message, else-is_obsolete-obsolete}
 
@@ -23,12 +25,12 @@ loop-number-preserved c = λ read h.
     c.loop-number.text.items c.if-is_obsolete-obsolete.text.items below (c.is_obsolete.ensures read o h below)
     (c.loop-number.invariant read h) (elim c.if-is_obsolete-obsolete.branch [
       | then-is_obsolete-obsolete+in_ok-push_message w ↦ inl (
-        same_mark c.is_obsolete.result c.args.obsolete w.if-is_obsolete-obsolete.true,
+        (booleans_Decides c.is_obsolete.result c.args.obsolete).0 w.if-is_obsolete-obsolete.true,
         ap (λ t. t.items) w.text-is ∙ w.in_ok-push_message.ensures.text read h below,
         w.in_ok-push_message.ensures.admitted read h below,
       )
       | else-is_obsolete-obsolete w ↦ inr (
-        other_mark c.is_obsolete.result c.args.obsolete w.if-is_obsolete-obsolete.false,
+        not_from_Decides _ (booleans_Decides c.is_obsolete.result c.args.obsolete) w.if-is_obsolete-obsolete.false,
         ap (λ t. t.items) w.text-is,
       )
     ])
