@@ -1,5 +1,5 @@
 -- The parts of a merged entry, and which messages are kept.
-use Rattle.msgcat.proofs.Prelude.{All-contains, All-head, All-tail, All-weaker, AreLiveOf, Bool, CommentKind, DefinedByLive, EndsForm, FaultIsOfNoLine, FormsAreJoined, IsJoinedForm, JoinedIsFuzzy, KeptByCount, List, MergeOptions, NamedEntry, None, ObsoleteWhereNoneIsLive, Option, PluralOfFirst, PoError, PreviousOfFirst, Some, TextEntry, TextPrevious, TextsInOrder, TextsOfAll, Translator, [], any_passing, ap, append_assoc, ap₂, arith, collected, comment_of, cond, ended, ends_with, eqb-false, eqb-true, false, filter, filter_agree, find, find-append, first_of, first_translated, first_with, fold, fold_push, form_count, get_or, get_or-map-range_with_len, has_plural, has_previous, has_text, if◌then◌else◌, inl, inr, is_below, is_live, is_some, joined_form, joined_forms, length, length-map-range_with_len, list_any, list_any-append, list_any_none, live, marked, merged_entry, nat_eq, no_more, no_previous, not, not-false, obsolete, of_nothing, option_map_or, or-false, or_assoc, refl, slice_get, subst, sym, texts_of, translations, true, with_feed, with_form, with_others, without_feed, without_form, ℕ, ◌&&◌, ◌++◌, ◌<◌, ◌||◌, ◌↔◌, ◌∙◌, ◌∷◌, ◌≡◌, ◌≢◌}
+use Rattle.msgcat.proofs.Prelude.{All-contains, All-head, All-tail, All-weaker, AreLiveOf, Bool, CommentKind, DefinedByLive, EndsForm, FaultIsOfNoLine, FormsAreJoined, IsJoinedForm, JoinedIsFuzzy, KeptByCount, List, MergeOptions, NamedEntry, None, ObsoleteWhereNoneIsLive, Option, PluralOfFirst, PoError, PreviousOfFirst, Some, TextEntry, TextPrevious, TextsInOrder, TextsOfAll, Translator, [], any_passing, ap, append_assoc, ap₂, arith, collected, comment_of, cond, ended, ends_with, eqb-false, eqb-true, false, filter, filter_agree, find, find-append, first_of, first_translated, first_with, fold, fold_push, form_count, get_or, get_or-map-range_with_len, has_plural, has_previous, has_text, if◌then◌else◌, inl, inr, is_below, is_live, is_some, joined_form, length, list_any, list_any-append, list_any_none, live, marked, merged_entry, nat_eq, no_more, no_previous, not, not-false, obsolete, of_nothing, option_map_or, or-false, or_assoc, refl, slice_get, subst, sym, texts_of, translations, true, with_feed, with_form, with_others, without_feed, without_form, ℕ, ◌&&◌, ◌++◌, ◌<◌, ◌||◌, ◌↔◌, ◌∙◌, ◌∷◌, ◌≡◌, ◌≢◌}
 use Rattle.std.proofs.Common.{bytes_eq, All}
 use Rattle.std.proofs.lemmas.List.Prefix.{end_rest}
 use Rattle.msgcat.specs.Laws.{no_entry}
@@ -7,7 +7,7 @@ use Rattle.po_syntax.specs.Facts.Runs.{from_end}
 use Rattle.std.proofs.lemmas.Bool.Decides.{nat_tests}
 use Rattle.msgcat.proofs.FirstOnes.{none_all}
 use Rattle.msgcat.proofs.Sets.{has_others}
-use Rattle.msgcat.proofs.Valid.{first_keeps}
+use Rattle.msgcat.proofs.Valid.{count_joined, first_keeps, forms_joined}
 
 -- the texts of one kind of a merged entry
 pub texts_merged : (o : MergeOptions) (kind : CommentKind) (ds : List NamedEntry)
@@ -102,10 +102,8 @@ joined_is i (t ∷ ts) = by (slice_get t.entry.forms i) refl (joined_is i ts) wh
 pub forms_are_joined : (o : MergeOptions) (ds : List NamedEntry) → FormsAreJoined o ds
 forms_are_joined o ds i joined inside =
     let all = translations ds in
-    let forms : (merged_entry o ds).forms ≡ joined_forms all =
-    ap (λ (b : Bool). if b then joined_forms all else (first_translated ds).forms) joined in
-    let below : i < form_count all =
-    omega (arith, inside, ap length forms, length-map-range_with_len (joined_form all) 0 (form_count all)) in
+    let forms = forms_joined o ds joined in
+    let below : i < form_count all = omega (arith, inside, ap length forms, count_joined all) in
     subst (IsJoinedForm i all)
     (sym (ap (λ (l : List (List ℕ)). get_or l i []) forms
     ∙ get_or-map-range_with_len (joined_form all) 0 (form_count all) i i [] below (omega arith)))

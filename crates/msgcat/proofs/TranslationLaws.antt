@@ -1,11 +1,11 @@
 -- When translations are joined, and which definition's forms a merged entry has.
-use Rattle.msgcat.proofs.Prelude.{All, All-cons, All-contains, All-contains_itself, All-filter, All-head, All-nil, All-tail, All-weaker, Bool, CommentKind, CommentsOfFirst, Contains, FormsOfFirst, HeadersAreKept, IsEquivalence, IsFirstTranslated, IsTranslated, IsUntranslated, JoinedAsLongest, JoinedWhereTheyDiffer, List, MergeOptions, NamedEntry, None, Option, TextEntry, TranslationsDiffer, [], and_parts, any_first_ones, any_passing, ap, ap₂, arith, bytes_eq-Decides, collected, false, false_from_ne_true, false≢true, filter, filter_passes, first_form, first_translated, fold, form_count, get_or, has_translation, if◌then◌else◌, is_header, is_none, is_wanted, joined_forms, length, list_any, lists_equiv, lt-ltb, ltb-true, max, merged_entry, nat_list_eq_equiv, nat_lt, none, not, not-true, on_equiv, option_map_or, or-false, or_parts, refl, same_forms, slice_eq-Decides, sym, texts_eq, texts_of, translated, translations, true, ℕ, ◌&&◌, ◌<◌, ◌==◌, ◌||◌, ◌∙◌, ◌∷◌, ◌≡◌, ◌≢◌, ◌≤◌}
+use Rattle.msgcat.proofs.Prelude.{All, All-cons, All-contains, All-contains_itself, All-filter, All-head, All-nil, All-tail, All-weaker, Bool, CommentKind, CommentsOfFirst, Contains, FormsOfFirst, HeadersAreKept, IsEquivalence, IsFirstTranslated, IsTranslated, IsUntranslated, JoinedAsLongest, JoinedWhereTheyDiffer, List, MergeOptions, NamedEntry, None, Option, TextEntry, TranslationsDiffer, [], any_first_ones, any_passing, ap, ap₂, arith, bytes_eq-Decides, collected, false, false_from_ne_true, false≢true, filter, filter_passes, first_form, first_translated, fold, form_count, get_or, has_translation, if◌then◌else◌, is_header, is_none, is_wanted, joined_forms, length, list_any, lists_equiv, max, merged_entry, nat_list_eq_equiv, none, not, on_equiv, option_map_or, or-false, or_parts, refl, same_forms, slice_eq-Decides, sym, texts_eq, texts_of, translated, translations, true, ℕ, ◌&&◌, ◌<◌, ◌==◌, ◌||◌, ◌∙◌, ◌∷◌, ◌≡◌, ◌≢◌, ◌≤◌}
 use Rattle.std.specs.Bool.{Decides}
 use Rattle.std.proofs.lemmas.Bool.Decides.{nat_tests}
 use Rattle.std.proofs.lemmas.List.Folds.{Any-from_list_any}
 use Rattle.std.proofs.lemmas.Map.Views.{any-filter_same, list_any-from_Contains}
 use Rattle.msgcat.proofs.EntryLaws.{find_none, first_is, texts_merged}
-use Rattle.msgcat.proofs.Valid.{count_joined, count_keeps}
+use Rattle.msgcat.proofs.Valid.{count_joined, count_keeps, forms_joined, several}
 use Rattle.msgcat.proofs.FirstOnes.{all_first_ones, Apart, apart_first_ones}
 
 -- the test of a definition with a translation, and what it decides
@@ -81,19 +81,14 @@ more_than_one a b (t ∷ u ∷ ts) p q differ = omega arith
 
 pub joined_where_they_differ : (o : MergeOptions) (ds : List NamedEntry) → JoinedWhereTheyDiffer o ds
 joined_where_they_differ o ds = (
-  λ joined.
-      let parts = and_parts (not o.use_first) (nat_lt 1 (length (translations ds))) joined in (
-        not-true o.use_first parts.0,
-        two_differ ds (translations ds) (ltb-true 1 (length (translations ds)) parts.1)
-            (each_is ds) (apart_first_ones same_forms forms_laws (filter has ds)),
-      ),
-  λ h.
-      let t = h.1 in
+  λ joined. (
+    grind arith,
+    two_differ ds (translations ds) (several o ds joined) (each_is ds)
+        (apart_first_ones same_forms forms_laws (filter has ds)),
+  ),
+  λ (off, t).
       let more = more_than_one t.one t.other (translations ds) (any_of ds t.one t.among_one t.one_translated)
-      (any_of ds t.other t.among_other t.other_translated) t.differ in
-      let off = h.0 in
-      let less = lt-ltb 1 (length (translations ds)) more in
-      rw (off, less) refl,
+      (any_of ds t.other t.among_other t.other_translated) t.differ in grind (arith, nat_tests),
 )
 
 -- the largest count of forms, from a count on
@@ -119,14 +114,10 @@ no_longer d count ts h all =
 pub joined_as_longest : (o : MergeOptions) (ds : List NamedEntry) → JoinedAsLongest o ds
 joined_as_longest o ds joined =
     let ts = translations ds in
-    let parts = and_parts (not o.use_first) (nat_lt 1 (length ts)) joined in
-    let more = ltb-true 1 (length ts) parts.1 in
-    let forms : (merged_entry o ds).forms ≡ joined_forms ts =
-    ap (λ (b : Bool). if b then joined_forms ts else (first_translated ds).forms) joined in
     let count : length (merged_entry o ds).forms ≡ form_count ts =
-    ap length forms ∙ count_joined ts in
-    let found = count_keeps (λ n. (t : NamedEntry) × IsOne ds t × (length t.entry.forms ≡ n)) ts (omega (arith, more))
-    (λ k d below. (get_or ts k d, each_is ds k d below, refl)) in
+    ap length (forms_joined o ds joined) ∙ count_joined ts in
+    let found = count_keeps (λ n. (t : NamedEntry) × IsOne ds t × (length t.entry.forms ≡ n)) ts
+    (omega (arith, several o ds joined)) (λ k d below. (get_or ts k d, each_is ds k d below, refl)) in
     record {
       longest = found.0;
       among = found.1.among;

@@ -1,7 +1,8 @@
 -- What valid definitions are merged to is valid.
-use Rattle.msgcat.proofs.Prelude.{All, All-append, All-contains, All-contains_itself, All-cons, All-filter, All-head, All-map, All-nil, All-tail, AreDistinct, Bool, CommentKind, Contains, Contains-append_cases, Contains-append_right, Contains-get_or, Extracted, Flags, IsComment, IsDefinition, IsEntry, IsFlag, IsReference, IsText, IsTranslatorComment, List, MergeOptions, NamedEntry, None, Reference, TextEntry, Translator, [], and_parts, arith, bytes_eq, bytes_eq-Decides, codes, collected, comment_of, cond_both, ended, ends_with, false, false≢true, filter, filter_passes, find, first_of, first_translated, first_with, fold, form_count, get_or, has_plural, has_previous, has_translation, inl, inr, is_joined, joined_form, joined_forms, length, length-map-range_with_len, list_any, list_any_at, ltb-true, marked, max, merged_entry, nat_eq, not, not-true, option_map_or, option_to_list, previous_texts, range_with_len, refl, rules, same_forms, slice_get, subst, suc, sym, texts_of, translations, true, with_others, zero, ℕ, ◌++◌, ◌<◌, ◌∙◌, ◌∷◌, ◌≡◌}
+use Rattle.msgcat.proofs.Prelude.{All, All-append, All-contains, All-contains_itself, All-cons, All-filter, All-head, All-map, All-nil, All-tail, AreDistinct, Bool, CommentKind, Contains, Contains-append_cases, Contains-append_right, Contains-get_or, Extracted, Flags, IsComment, IsDefinition, IsEntry, IsFlag, IsReference, IsText, IsTranslatorComment, List, MergeOptions, NamedEntry, None, Reference, TextEntry, Translator, [], arith, bytes_eq, bytes_eq-Decides, codes, collected, comment_of, cond_both, ended, ends_with, false, false≢true, filter, filter_passes, find, first_of, first_translated, first_with, fold, form_count, get_or, has_plural, has_previous, has_translation, inl, inr, is_joined, joined_form, joined_forms, length, length-map-range_with_len, list_any, list_any_at, marked, max, merged_entry, nat_eq, not, not-true, option_map_or, option_to_list, previous_texts, range_with_len, refl, rules, same_forms, slice_get, subst, suc, sym, texts_of, translations, true, with_others, zero, ℕ, ◌++◌, ◌<◌, ◌∙◌, ◌∷◌, ◌≡◌}
 use Rattle.po_entry.proofs.QuotedParts.{quoted_parts}
 use Rattle.po_writer.proofs.Utf8.{plain_line, text-append, text-empty, text-feed}
+use Rattle.std.proofs.lemmas.Bool.Decides.{nat_tests}
 use Rattle.msgcat.proofs.FirstOnes.{all_first_ones}
 
 -- the first definition that has something
@@ -50,12 +51,9 @@ distinct_filter : (p : List ℕ → Bool) (xs : List (List ℕ)) → AreDistinct
 distinct_filter p [] h = tt
 distinct_filter p (x ∷ xs) h =
     let more = distinct_filter p xs h.1 in
-    cond_both (p x) (x ∷ filter p xs) (filter p xs) AreDistinct (λ _. (
-      λ among. h.0
-          (All-contains (Contains xs) (filter p xs) x (All-filter p (Contains xs) xs (All-contains_itself xs)) among),
-      more,
-    ))
-    (λ _. more)
+    let among = All-filter p (Contains xs) xs (All-contains_itself xs) in
+    cond_both (p x) (x ∷ filter p xs) (filter p xs) AreDistinct
+    (λ _. (λ later. h.0 (All-contains (Contains xs) (filter p xs) x among later), more)) (λ _. more)
 
 distinct_append : (xs ys : List (List ℕ)) → AreDistinct xs → AreDistinct ys
     → ((t : List ℕ) → Contains xs t → Contains ys t → ⊥) → AreDistinct (xs ++ ys)
@@ -121,6 +119,14 @@ count_keeps P (t ∷ ts) some g =
     largest_keeps P (max 0 (length t.entry.forms)) ts
     (subst P first (All-head (λ x. P (length x.entry.forms)) t ts g)) (All-tail (λ x. P (length x.entry.forms)) t ts g)
 
+-- the forms where different translations are joined
+pub several : (o : MergeOptions) (ds : List NamedEntry) → is_joined o ds ≡ true → 1 < length (translations ds)
+several o ds joined = grind (arith, nat_tests)
+
+pub forms_joined : (o : MergeOptions) (ds : List NamedEntry) → is_joined o ds ≡ true
+    → (merged_entry o ds).forms ≡ joined_forms (translations ds)
+forms_joined o ds joined = rw joined refl
+
 pub count_joined : (ts : List NamedEntry) → length (joined_forms ts) ≡ form_count ts
 count_joined ts = length-map-range_with_len (joined_form ts) 0 (form_count ts)
 
@@ -146,8 +152,8 @@ module _ (o : MergeOptions) (ds : List NamedEntry) (some : 0 < length ds) (h : A
       → All (λ d. Q d.entry.forms) ds → Q (merged_entry o ds).forms
   forms_keep Q joined each =
       cond_both (is_joined o ds) (joined_forms (translations ds)) (first_translated ds).forms Q
-      (λ is. let several = ltb-true 1 (length (translations ds)) (and_parts (not o.use_first) _ is).1 in
-      joined (omega (arith, several))) (λ _. first_with_keeps (λ e. Q e.forms) has_translation ds some each)
+      (λ is. joined (omega (arith, several o ds is)))
+      (λ _. first_with_keeps (λ e. Q e.forms) has_translation ds some each)
 
   counted : (P : ℕ → Type 0) → All (λ d. P (length d.entry.forms)) ds → P (length (merged_entry o ds).forms)
   counted P each = forms_keep (λ fs. P (length fs)) (λ several. subst P (sym (count_joined (translations ds)))
