@@ -1,11 +1,12 @@
 -- The first fault that the check of a profile finds is the first that there is.
-use Rattle.msgfmt.proofs.Prelude.{All, All-cons, All-head, All-nil, All-tail, Bool, CountFault, Default, DiffersAt, EntryFault, FirstFault, FormCount, HasNewline, HasOtherCount, HasPlural, HasProfileFault, Header, IndexOutside, InputEntry, IsFirst, LeadingNewline, List, NeedsNoOtherRule, NoRule, None, Option, Reported, RuleView, Some, Source, TextEntry, TrailingNewline, Undefined, [], ap, arith, count_fault, counts_below, differ, differs_from_msgid, entry_fault, false, find, first_fault, first_some, has_newline, if◌then◌else◌, inl, inr, is_header_entry, is_plural, is_some, length, length-append, not, option_map_or, option_or, option_to_list, range_with_len, refl, rule_fault, slice_get, subst, suc, sym, true, value, value_fault, ℕ, ◌&&◌, ◌++◌, ◌+◌, ◌-◌, ◌<◌, ◌==◌, ◌↔◌, ◌∙◌, ◌∷◌, ◌≡◌, ◌≢◌, ◌≤◌, ◌⊎◌}
+use Rattle.msgfmt.proofs.Prelude.{All, All-cons, All-head, All-nil, All-tail, Bool, CountFault, Default, DiffersAt, EntryFault, FirstFault, FormCount, HasNewline, HasOtherCount, HasPlural, HasProfileFault, Header, IndexOutside, InputEntry, IsFirst, LeadingNewline, List, NeedsNoOtherRule, NoRule, None, Option, Reported, RuleView, Some, Source, TextEntry, TrailingNewline, Undefined, [], ap, arith, count_fault, counts_below, differ, differs_from_msgid, entry_fault, false, find, first_fault, first_some, has_newline, if◌then◌else◌, inl, inr, is_header_entry, is_plural, is_some, length, length-append, not, option_or, option_to_list, range_with_len, refl, rule_fault, subst, suc, sym, true, value, value_fault, ℕ, ◌&&◌, ◌++◌, ◌+◌, ◌-◌, ◌<◌, ◌==◌, ◌↔◌, ◌∙◌, ◌∷◌, ◌≡◌, ◌≢◌, ◌≤◌, ◌⊎◌}
 use Rattle.std.specs.Bool.{Decides}
 use Rattle.std.proofs.Common.{zero}
 use Rattle.std.proofs.lemmas.Bool.{eqb-true, false≢true}
 use Rattle.std.proofs.lemmas.Bool.Decides.{nat_tests}
 use Rattle.std.proofs.lemmas.List.Folds.{Any-from_list_any, list_any-from_Any}
-use Rattle.std.proofs.lemmas.Option.{none-some}
+use Rattle.std.proofs.lemmas.List.{get_or_push}
+use Rattle.std.proofs.lemmas.Option.{none-some, slice_get-get_or}
 use Rattle.po_syntax.specs.Facts.Runs.{from_end}
 use Rattle.msgfmt.specs.declared.profile.End.{End}
 use Rattle.msgfmt.specs.declared.profile.End.TheVariants.{Beginning, Ending}
@@ -121,11 +122,10 @@ first_of_range P from (suc size) n =
 
 last_byte : (prefix : List ℕ) (b : ℕ) → has_newline Ending (prefix ++ b ∷ []) ≡ (b == 10)
 last_byte prefix b =
-    let location : length (prefix ++ b ∷ []) - 1 ≡ length prefix = omega (arith, length-append prefix (b ∷ [])) in
-    ap (λ o. option_map_or (λ c. c == 10) o false) (ap (slice_get (prefix ++ b ∷ [])) location ∙ at prefix) where
-      at : (front : List ℕ) → slice_get (front ++ b ∷ []) (length front) ≡ Some b
-      at [] = refl
-      at (x ∷ front) = at front
+    let last = length (prefix ++ b ∷ []) - 1 in
+    let long = length-append prefix (b ∷ []) in
+    let at = slice_get-get_or (prefix ++ b ∷ []) last b (omega (arith, long)) in
+    rw (at, get_or_push prefix b b last (omega (arith, long))) refl
 
 newline_decides : (end : End) (text : List ℕ) → Decides (has_newline end text) (HasNewline end text)
 newline_decides Beginning [] = (grind arith, λ h. cc)
@@ -213,24 +213,22 @@ count_finds rule n y = (says (value rule.tree n) refl, λ h. given h.0 h.1) wher
 
 -- the parts in their order
 
-module _ (entries : List InputEntry) (rule : RuleView) where
-  abbrev OfRule : InputEntry → Reported → Type 0
-  OfRule e y = (reason : Reason) × (rule.source ≡ Default reason) × ((e.input, NoRule e.entry.line reason) ≡ y)
+-- a header's rule isn't readable
+abbrev OfRule : Source → InputEntry → Reported → Type 0
+OfRule source e y = (reason : Reason) × (source ≡ Default reason) × ((e.input, NoRule e.entry.line reason) ≡ y)
 
+rule_finds : (source : Source) (e : InputEntry) → Finds (source_fault source e) (OfRule source e)
+rule_finds Header e = finds_none (λ y h. cc)
+rule_finds (Default reason) e = λ y. (λ is. (reason, refl, (cc)), λ h. (cc))
+
+module _ (entries : List InputEntry) (rule : RuleView) where
   -- something of the first entry with a plural
   abbrev OfPlural : (InputEntry → Reported → Type 0) → Reported → Type 0
   OfPlural Q y = (e : InputEntry) × IsFirst HasPlural entries e × Q e y
 
-  abbrev OfCounts : Reported → Type 0
-  OfCounts = FirstOf (CountReported rule) (range_with_len 0 1001)
-
   abbrev Parts : Reported → Type 0
-  Parts = Or (OfPlural OfRule) (Or (FirstOf (HasProfileFault rule.nplurals) entries) (OfPlural (λ e. OfCounts)))
-
-  rule_finds : (source : Source) (e : InputEntry) → Finds (source_fault source e)
-      (λ y. (reason : Reason) × (source ≡ Default reason) × ((e.input, NoRule e.entry.line reason) ≡ y))
-  rule_finds Header e = finds_none (λ y h. cc)
-  rule_finds (Default reason) e = λ y. (λ is. (reason, refl, (cc)), λ h. (cc))
+  Parts = Or (OfPlural (OfRule rule.source)) (Or (FirstOf (HasProfileFault rule.nplurals) entries)
+      (OfPlural (λ e. FirstOf (CountReported rule) (range_with_len 0 1001))))
 
   parts_find : Finds (first_fault entries rule) Parts
   unfolding counts_below
@@ -243,14 +241,14 @@ module _ (entries : List InputEntry) (rule : RuleView) where
       (λ e. counts)))
 
   -- nothing of the rule where no other one is needed
-  needs : ((y : Reported) → OfPlural OfRule y → ⊥) → NeedsNoOtherRule entries rule
+  needs : ((y : Reported) → OfPlural (OfRule rule.source) y → ⊥) → NeedsNoOtherRule entries rule
   needs nothing = at rule.source refl where
     at : (source : Source) → rule.source ≡ source → NeedsNoOtherRule entries rule
     at Header is = inl is
     at (Default reason) is = inr ((none_first HasPlural entries).0
         (λ e h. nothing (e.input, NoRule e.entry.line reason) (e, h, (reason, is, refl))))
 
-  of_no_rule : NeedsNoOtherRule entries rule → (y : Reported) → OfPlural OfRule y → ⊥
+  of_no_rule : NeedsNoOtherRule entries rule → (y : Reported) → OfPlural (OfRule rule.source) y → ⊥
   of_no_rule (inl source) y h = cc
   of_no_rule (inr none) y h = (none_first HasPlural entries).1 none h.0 h.1
 
