@@ -57,21 +57,17 @@ module _ {X : Type 0} (P : X → Type 0) where
     to : (P x × (x ≡ e)) ⊎ (No x × IsFirst P xs e) → IsFirst P (x ∷ xs) e
     to (inl (holds, same)) =
         record { before = []; after = xs; whole = cc; holds = grind arith; none_before = All-nil No }
-    to (inr (other, h)) = record {
-      before = x ∷ h.before;
-      after = h.after;
-      whole = ap (λ l. x ∷ l) h.whole;
-      holds = h.holds;
-      none_before = All-cons No x h.before other h.none_before;
-    }
+    to (inr (other, h)) =
+        let none = All-cons No x h.before other h.none_before in
+        record { before = x ∷ h.before; after = h.after; whole = cc; holds = h.holds; none_before = none }
 
     from : (before after : List X) → x ∷ xs ≡ before ++ e ∷ after → P e → All No before
         → (P x × (x ≡ e)) ⊎ (No x × IsFirst P xs e)
     from [] after whole holds none = grind arith
-    from (b ∷ before) after whole holds none = let here = All-head No b before none in inr (
-      grind arith,
-      record { before = before; after = after; whole = cc; holds = holds; none_before = All-tail No b before none },
-    )
+    from (b ∷ before) after whole holds none =
+        let here = All-head No b before none in
+        let rest = All-tail No b before none in
+        inr (grind arith, record { before = before; after = after; whole = cc; holds = holds; none_before = rest })
 
   none_first : (xs : List X) → ((x : X) → IsFirst P xs x → ⊥) ↔ All No xs
   none_first [] = (λ none. All-nil No, λ all x h. of_nothing x h)
@@ -267,19 +263,11 @@ module _ (entries : List InputEntry) (rule : RuleView) where
   given (no_rule {e = e} {reason = reason} first source) = inl (e, first, (reason, source, refl))
   given (in_entry {e = e} needs first fault) = inr (of_no_rule needs, inl (e, first, fault))
   given (at_count {e = e} {fault = fault} least first source fine most none wrong) =
-      let range = (first_of_range (Has (CountReported rule)) 0 1001 least).1 (
-        omega arith,
-        omega (arith, most),
-        λ n up under has. none n under has.0.1 has.1.1,
-        ((0, fault), (refl, wrong)),
-      ) in
-      inr (
-        of_no_rule (inl source),
-        inr (
-          (none_has (HasProfileFault rule.nplurals) entries).1 fine,
-          (e, first, (least, range, (refl, wrong))),
-        ),
-      )
+      let at : CountReported rule least (0, fault) = (refl, wrong) in
+      let range = (first_of_range (Has (CountReported rule)) 0 1001 least).1
+      (omega arith, omega (arith, most), λ n up under has. none n under has.0.1 has.1.1, ((0, fault), at)) in
+      let right = (none_has (HasProfileFault rule.nplurals) entries).1 fine in
+      inr (of_no_rule (inl source), inr (right, (e, first, (least, range, at))))
 
 pub first_found : (entries : List InputEntry) (rule : RuleView) (reported : Reported)
     → (first_fault entries rule ≡ Some reported) ↔ FirstFault entries rule reported
