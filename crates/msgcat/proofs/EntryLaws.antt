@@ -1,5 +1,5 @@
 -- The parts of a merged entry, and which messages are kept.
-use Rattle.msgcat.proofs.Prelude.{All-contains, All-head, All-tail, All-weaker, AreLiveOf, Bool, CommentKind, DefinedByLive, EndsForm, FaultIsOfNoLine, FormsAreJoined, IsJoinedForm, JoinedIsFuzzy, KeptByCount, List, MergeOptions, NamedEntry, None, ObsoleteWhereNoneIsLive, Option, PluralOfFirst, PoError, PreviousOfFirst, Some, TextEntry, TextPrevious, TextsInOrder, TextsOfAll, Translator, [], any_passing, ap, append_assoc, ap₂, arith, collected, comment_of, cond, ended, ends_with, eqb-false, eqb-true, false, filter, filter_agree, find, find-append, first_of, first_translated, first_with, fold, fold_push, form_count, get_or, get_or-map-range_with_len, has_plural, has_previous, has_text, if◌then◌else◌, inl, inr, is_below, is_live, is_some, joined_form, length, list_any, list_any-append, list_any_none, live, marked, merged_entry, nat_eq, no_more, no_previous, not, not-false, obsolete, of_nothing, option_map_or, or-false, or_assoc, refl, slice_get, subst, sym, texts_of, translations, true, with_feed, with_form, with_others, without_feed, without_form, ℕ, ◌&&◌, ◌++◌, ◌<◌, ◌||◌, ◌↔◌, ◌∙◌, ◌∷◌, ◌≡◌, ◌≢◌}
+use Rattle.msgcat.proofs.Prelude.{All-contains, All-head, All-tail, All-weaker, AreLiveOf, Bool, CommentKind, DefinedByLive, EndsForm, FaultIsOfNoLine, FormsAreJoined, IsJoinedForm, JoinedIsFuzzy, KeptByCount, List, MergeOptions, NamedEntry, None, ObsoleteWhereNoneIsLive, Option, PluralOfFirst, PoError, PreviousOfFirst, Some, TextEntry, TextPrevious, TextsInOrder, TextsOfAll, Translator, [], any_passing, ap, append_assoc, ap₂, cond_both, arith, collected, comment_of, cond, ended, ends_with, false, filter, filter_agree, find, find-append, first_of, first_with, fold, fold_push, form_count, get_or, get_or-map-range_with_len, has_plural, has_previous, has_text, if◌then◌else◌, inl, inr, is_below, is_live, is_some, joined_form, length, list_any, list_any-append, list_any_none, live, marked, merged_entry, nat_eq, no_more, no_previous, not, not-false, obsolete, of_nothing, option_map_or, or-false, or_assoc, refl, slice_get, subst, sym, texts_of, translations, true, with_feed, with_form, with_others, without_feed, without_form, ℕ, ◌&&◌, ◌++◌, ◌<◌, ◌||◌, ◌↔◌, ◌∙◌, ◌∷◌, ◌≡◌, ◌≢◌}
 use Rattle.std.proofs.Common.{bytes_eq, All}
 use Rattle.std.proofs.lemmas.List.Prefix.{end_rest}
 use Rattle.msgcat.specs.Laws.{no_entry}
@@ -17,8 +17,7 @@ texts_merged o kind ds = refl
 
 texts_collected : (o : MergeOptions) (kind : CommentKind) (ds : List NamedEntry) → o.use_first ≡ false
     → texts_of kind (merged_entry o ds) ≡ collected (texts_of kind) ds
-texts_collected o kind ds off = texts_merged o kind ds
-    ∙ ap (λ (b : Bool). if b then texts_of kind (first_translated ds) else collected (texts_of kind) ds) off
+texts_collected o kind ds off = texts_merged o kind ds ∙ rw off refl
 
 -- a text is collected exactly if a definition has it
 any_collected : (kind : CommentKind) (text : List ℕ) (done : List (List ℕ)) (ds : List NamedEntry)
@@ -49,7 +48,7 @@ texts_in_order o kind before d off =
     (texts_of kind d.entry))
 
 pub joined_is_fuzzy : (o : MergeOptions) (ds : List NamedEntry) → JoinedIsFuzzy o ds
-joined_is_fuzzy o ds joined = ap (λ (b : Bool). b || (first_translated ds).fuzzy) joined
+joined_is_fuzzy o ds joined = rw joined refl
 
 pub find_none : {X : Type 0} (p : X → Bool) (xs : List X) → All (λ x. p x ≡ false) xs → find p xs ≡ None
 find_none p [] none = refl
@@ -77,19 +76,15 @@ some_previous previous is = of previous.context previous.id previous.plural is w
   of None None (Some text) is = refl
   of None None None is = absurd (is refl)
 
-last_ended : (text : List ℕ) (b : ℕ) → EndsForm (text ++ b ∷ []) (ended (text ++ b ∷ []))
-last_ended text b =
+pub forms_end : (form : List ℕ) → EndsForm form (ended form)
+forms_end = from_end (λ form. EndsForm form (ended form)) of_nothing (λ text b ih.
     let form = text ++ b ∷ [] in
     let last : ends_with nat_eq form (10 ∷ []) ≡ (nat_eq 10 b && true) = rw (end_rest form (b ∷ []) text refl) refl in
-    subst (λ (t : Bool). EndsForm form (if t then form else form ++ 10 ∷ [])) (sym last) (by (nat_eq 10 b) refl) where
-      by : (t : Bool) → nat_eq 10 b ≡ t
-          → EndsForm (text ++ b ∷ []) (if t && true then text ++ b ∷ [] else (text ++ b ∷ []) ++ 10 ∷ [])
-      by true e = subst (λ c. EndsForm (text ++ c ∷ []) (text ++ c ∷ [])) (eqb-true 10 b e) (with_feed text)
-      by false e = subst (EndsForm (text ++ b ∷ [])) (sym (append_assoc text (b ∷ []) (10 ∷ [])))
-          (without_feed text (λ same. eqb-false 10 b e (sym same)))
-
-pub forms_end : (form : List ℕ) → EndsForm form (ended form)
-forms_end = from_end (λ form. EndsForm form (ended form)) of_nothing (λ text b ih. last_ended text b)
+    cond_both (ends_with nat_eq form (10 ∷ [])) form (form ++ 10 ∷ []) (EndsForm form)
+    (λ is. let feed : 10 ≡ b = grind (arith, nat_tests) in
+    subst (λ c. EndsForm (text ++ c ∷ []) (text ++ c ∷ [])) feed (with_feed text))
+    (λ isnt. let other : b ≢ 10 = grind (arith, nat_tests) in
+    subst (EndsForm form) (sym (append_assoc text (b ∷ []) (10 ∷ []))) (without_feed text other)))
 
 joined_is : (i : ℕ) (ts : List NamedEntry) → IsJoinedForm i ts (joined_form ts i)
 joined_is i [] = no_more

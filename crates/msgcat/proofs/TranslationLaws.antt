@@ -1,5 +1,5 @@
 -- When translations are joined, and which definition's forms a merged entry has.
-use Rattle.msgcat.proofs.Prelude.{All, All-cons, All-contains, All-contains_itself, All-filter, All-head, All-nil, All-tail, All-weaker, Bool, CommentKind, CommentsOfFirst, Contains, FormsOfFirst, HeadersAreKept, IsEquivalence, IsFirstTranslated, IsTranslated, IsUntranslated, JoinedAsLongest, JoinedWhereTheyDiffer, List, MergeOptions, NamedEntry, None, Option, TextEntry, TranslationsDiffer, [], any_first_ones, any_passing, ap, ap₂, arith, bytes_eq-Decides, collected, false, false_from_ne_true, false≢true, filter, filter_passes, first_form, first_translated, fold, form_count, get_or, has_translation, if◌then◌else◌, is_header, is_none, is_wanted, joined_forms, length, list_any, lists_equiv, max, merged_entry, nat_list_eq_equiv, none, not, on_equiv, option_map_or, or-false, or_parts, refl, same_forms, slice_eq-Decides, sym, texts_eq, texts_of, translated, translations, true, ℕ, ◌&&◌, ◌<◌, ◌==◌, ◌||◌, ◌∙◌, ◌∷◌, ◌≡◌, ◌≢◌, ◌≤◌}
+use Rattle.msgcat.proofs.Prelude.{All, All-cons, All-contains, All-contains_itself, All-filter, All-head, All-nil, All-tail, All-weaker, Bool, CommentKind, CommentsOfFirst, Contains, FormsOfFirst, HeadersAreKept, IsEquivalence, IsFirstTranslated, IsTranslated, IsUntranslated, JoinedAsLongest, JoinedWhereTheyDiffer, List, MergeOptions, NamedEntry, Option, TranslationsDiffer, [], any_first_ones, any_passing, ap, arith, bytes_eq-Decides, false, false_from_ne_true, false≢true, filter, filter_passes, first_form, first_translated, fold, form_count, get_or, has_translation, is_header, length, list_any, lists_equiv, max, merged_entry, nat_list_eq_equiv, none, not, on_equiv, option_map_or, or_parts, refl, same_forms, slice_eq-Decides, sym, texts_eq, translated, translations, true, ℕ, ◌<◌, ◌==◌, ◌∙◌, ◌∷◌, ◌≡◌, ◌≢◌, ◌≤◌}
 use Rattle.std.specs.Bool.{Decides}
 use Rattle.std.proofs.lemmas.Bool.Decides.{nat_tests}
 use Rattle.std.proofs.lemmas.List.Folds.{Any-from_list_any}
@@ -74,9 +74,7 @@ two_differ ds (a ∷ b ∷ ts) more all apart =
 more_than_one : (a b : NamedEntry) (ts : List NamedEntry) → list_any (same_forms a) ts ≡ true
     → list_any (same_forms b) ts ≡ true → a.entry.forms ≢ b.entry.forms → 1 < length ts
 more_than_one a b [] p q differ = absurd (false≢true p)
-more_than_one a b (t ∷ []) p q differ =
-    absurd (differ ((forms_decide a t).0 (sym (or-false (same_forms a t)) ∙ p)
-    ∙ sym ((forms_decide b t).0 (sym (or-false (same_forms b t)) ∙ q))))
+more_than_one a b (t ∷ []) p q differ = grind (arith, forms_decide a t, forms_decide b t)
 more_than_one a b (t ∷ u ∷ ts) p q differ = omega arith
 
 pub joined_where_they_differ : (o : MergeOptions) (ds : List NamedEntry) → JoinedWhereTheyDiffer o ds
@@ -136,25 +134,14 @@ first_translated_is (none {d = d} {after = after} h) =
     (find_none has (d ∷ after) (All-weaker IsUntranslated (λ b. has b ≡ false) has_none (d ∷ after) h))
 
 pub forms_of_first : (o : MergeOptions) (ds : List NamedEntry) (d : NamedEntry) → FormsOfFirst o ds d
-forms_of_first o ds d apart first =
-    let same = first_translated_is first in (
-      ap (λ (b : Bool). if b then joined_forms (translations ds) else (first_translated ds).forms) apart
-          ∙ ap (λ (e : TextEntry). e.forms) same,
-      ap (λ (b : Bool). b || (first_translated ds).fuzzy) apart ∙ ap (λ (e : TextEntry). e.fuzzy) same,
-    )
+forms_of_first o ds d apart first = let same = first_translated_is first in rw (apart, same) (refl, refl)
 
 pub comments_of_first : (o : MergeOptions) (kind : CommentKind) (ds : List NamedEntry) (d : NamedEntry)
     → CommentsOfFirst o kind ds d
 comments_of_first o kind ds d on first =
-    texts_merged o kind ds ∙ ap
-    (λ (b : Bool). if b then texts_of kind (first_translated ds) else collected (texts_of kind) ds) on
-    ∙ ap (texts_of kind) (first_translated_is first)
-
-header_is : (e : TextEntry) → e.context ≡ None → e.id ≡ [] → is_header e ≡ true
-header_is e no_context no_id = ap₂ (λ (c : Option (List ℕ)) (i : List ℕ). is_none c && length i == 0) no_context no_id
+    let same = first_translated_is first in texts_merged o kind ds ∙ rw (on, same) refl
 
 pub headers_are_kept : (o : MergeOptions) (ds : List NamedEntry) → HeadersAreKept o ds
 headers_are_kept o ds d among no_context no_id =
     let some = All-contains (λ y. is_header y.entry ≡ true → list_any (λ x. is_header x.entry) ds ≡ true) ds d
-    (any_passing (λ x. is_header x.entry) ds) among (header_is d.entry no_context no_id) in
-    ap (λ (b : Bool). b || is_wanted o (length ds)) some
+    (any_passing (λ x. is_header x.entry) ds) among (rw (no_context, no_id) refl) in rw some refl
