@@ -1,7 +1,5 @@
 -- What is written of merged messages.
-use Rattle.msgcat.proofs.Prelude.{All, All-append, All-cons, All-nil, Bool, HasAdmittedCharset, IsPartWritten, IsTextOfMerged, List, MergeOptions, NamedEntry, TextEntry, [], all_pass, ap, arith, cond_both, false, filter, filter-append, fold-append, get_or, inl, inr, is_kept, is_of_part, length, map, merged_entry, merged_messages, none_pass, subst, sym, take, true, ℕ, ◌++◌, ◌+◌, ◌<◌, ◌∙◌, ◌∷◌, ◌≡◌, ◌≢◌, ◌⊎◌}
-use Rattle.std.specs.Bool.{Decides}
-use Rattle.std.proofs.lemmas.Bool.{cases_Bool, false_from_ne_true}
+use Rattle.msgcat.proofs.Prelude.{All, All-append, All-cons, All-nil, Bool, Decides, HasAdmittedCharset, IsPartWritten, IsTextOfMerged, List, MergeOptions, NamedEntry, TextEntry, [], all_pass, ap, arith, cases_Bool, cond_both, false, false_from_ne_true, filter, filter-append, fold-append, get_or, inl, inr, is_kept, is_of_part, length, map, merged_entry, merged_messages, none_pass, subst, sym, take, true, ℕ, ◌++◌, ◌+◌, ◌<◌, ◌∙◌, ◌∷◌, ◌≡◌, ◌≢◌, ◌⊎◌}
 use Rattle.std.specs.Prelude.{fold}
 use Rattle.po_writer.specs.Prelude.{with_entry, arranged}
 use Rattle.po_writer.proofs.Separated.{joined}

@@ -1,11 +1,10 @@
 -- Sets of translations, which tell whether a definition has forms that were seen.
-use Rattle.msgcat.proofs.Prelude.{All, All-head, All-tail, All-take, All-weaker, Bool, Bor, HasTranslations, IsDefinition, IsText, Lacks, List, NamedEntry, [], ap, ap₂, arith, bytes_eq, bytes_eq-Decides, cases_Bool, cond, false, false_from_ne_true, false≢true, get_or, get_or-map, inl, inr, is_at, join_with_byte, length-map, list_any, list_any-append, named_entries, named_entry, nat_cmp, nat_list_eq_equiv, ne_eqb, or-false, or-true, refl, same_forms, slice_cmp, split_forms, subst, sym, take, take-map, texts_eq, texts_ties, translation_bytes, translations, true, ℕ, ◌++◌, ◌<◌, ◌==◌, ◌||◌, ◌∙◌, ◌∷◌, ◌≡◌}
+use Rattle.msgcat.proofs.Prelude.{All, All-head, All-tail, All-take, All-weaker, Bool, Bor, HasTranslations, IsDefinition, IsText, Lacks, List, NamedEntry, [], ap, ap₂, arith, bytes_eq, bytes_eq-Decides, cases_Bool, cond, false, false_from_ne_true, false≢true, get_or, get_or-map, inl, inr, is_at, join_with_byte, length-map, list_any, list_any-append, named_entries, named_entry, nat_cmp, nat_list_eq_equiv, ne_eqb, or-false, or-true, quoted_parts, refl, same_forms, slice_cmp, split_forms, subst, sym, take, take-map, texts_eq, texts_ties, translation_bytes, translations, true, ℕ, ◌++◌, ◌<◌, ◌==◌, ◌||◌, ◌∙◌, ◌∷◌, ◌≡◌}
 use Rattle.std.specs.Prelude.{length}
 use Rattle.std.specs.BTreeSet.{BTreeSet, contains}
 use Rattle.std.proofs.lemmas.List.Splits.{slice_split_at, slice_split_none}
 use Rattle.po_entry.specs.Facts.EqualityLaws.{texts_decide}
 use Rattle.msgcat.specs.declared.definition.NamedEntry.{NamedEntry as BorrowedEntry}
-use Rattle.po_entry.proofs.QuotedParts.{quoted_parts}
 use Rattle.msgcat.proofs.Valid.{translations_all}
 
 without : (text : List ℕ) → Lacks 0 text → All (λ b. (b == 0) ≡ false) text

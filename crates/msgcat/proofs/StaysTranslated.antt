@@ -1,9 +1,7 @@
 -- What is translated stays translated.
-use Rattle.msgcat.proofs.Prelude.{All-contains, All-head, All-weaker, Bool, Contains, IsTranslated, List, MergeOptions, NamedEntry, TextEntry, TranslatedStays, [], ap, arith, definitions, false, false≢true, filter, find, first_form, first_of, first_translated, form_count, get_or, get_or-map-range_with_len, has_translation, is_joined, is_live, joined_form, joined_forms, length, list_any, marked, merged_entry, option_map_or, refl, slice_get, sym, translations, true, ℕ, ◌++◌, ◌<◌, ◌∙◌, ◌∷◌, ◌≡◌, ◌≢◌}
+use Rattle.msgcat.proofs.Prelude.{All-contains, All-head, All-weaker, Bool, Contains, IsTranslated, List, MergeOptions, NamedEntry, TextEntry, TranslatedStays, [], any_passing, ap, arith, cond_both, definitions, false, false≢true, filter, find, first_form, first_of, first_translated, form_count, get_or, get_or-map-range_with_len, has_translation, is_joined, is_live, joined_form, joined_forms, length, list_any, marked, merged_entry, option_map_or, refl, slice_get, sym, translations, true, ℕ, ◌&&◌, ◌++◌, ◌<◌, ◌∙◌, ◌∷◌, ◌≡◌, ◌≢◌}
 use Rattle.msgcat.proofs.Valid.{count_keeps, several}
-use Rattle.std.proofs.Common.{All, ◌&&◌, ◌∙◌, true}
-use Rattle.po_entry.proofs.FuzzyFlags.{any_passing}
-use Rattle.std.proofs.lemmas.Bool.{cond_both}
+use Rattle.std.proofs.Common.{All}
 use Rattle.msgcat.proofs.TranslationLaws.{IsOne, each_is, has, has_is, is_has}
 
 any-filter : {X : Type 0} (p q : X → Bool) (xs : List X) → list_any p (filter q xs) ≡ list_any (λ x. q x && p x) xs

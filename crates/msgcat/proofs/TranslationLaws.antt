@@ -1,8 +1,5 @@
 -- When translations are joined, and which definition's forms a merged entry has.
-use Rattle.msgcat.proofs.Prelude.{All, All-cons, All-contains, All-contains_itself, All-filter, All-head, All-nil, All-tail, All-weaker, Bool, CommentKind, CommentsOfFirst, Contains, FormsOfFirst, HeadersAreKept, IsEquivalence, IsFirstTranslated, IsTranslated, IsUntranslated, JoinedAsLongest, JoinedWhereTheyDiffer, List, MergeOptions, NamedEntry, Option, TranslationsDiffer, [], any_first_ones, any_passing, ap, arith, bytes_eq-Decides, false, false_from_ne_true, false≢true, filter, filter_passes, first_form, first_translated, fold, form_count, get_or, has_translation, is_header, length, list_any, lists_equiv, max, merged_entry, nat_list_eq_equiv, none, not, on_equiv, option_map_or, or_parts, refl, same_forms, slice_eq-Decides, sym, texts_eq, translated, translations, true, ℕ, ◌<◌, ◌==◌, ◌∙◌, ◌∷◌, ◌≡◌, ◌≢◌, ◌≤◌}
-use Rattle.std.specs.Bool.{Decides}
-use Rattle.std.proofs.lemmas.Bool.Decides.{nat_tests}
-use Rattle.std.proofs.lemmas.List.Folds.{Any-from_list_any}
+use Rattle.msgcat.proofs.Prelude.{All, All-cons, All-contains, All-contains_itself, All-filter, All-head, All-nil, All-tail, All-weaker, Any-from_list_any, Bool, CommentKind, CommentsOfFirst, Contains, Decides, FormsOfFirst, HeadersAreKept, IsEquivalence, IsFirstTranslated, IsTranslated, IsUntranslated, JoinedAsLongest, JoinedWhereTheyDiffer, List, MergeOptions, NamedEntry, Option, TranslationsDiffer, [], any_first_ones, any_passing, ap, arith, bytes_eq-Decides, false, false_from_ne_true, false≢true, filter, filter_passes, first_form, first_translated, fold, form_count, get_or, has_translation, is_header, length, list_any, lists_equiv, max, merged_entry, nat_list_eq_equiv, nat_tests, none, not, on_equiv, option_map_or, or_parts, refl, same_forms, slice_eq-Decides, sym, texts_eq, translated, translations, true, ℕ, ◌<◌, ◌==◌, ◌∙◌, ◌∷◌, ◌≡◌, ◌≢◌, ◌≤◌}
 use Rattle.std.proofs.lemmas.Map.Views.{any-filter_same, list_any-from_Contains}
 use Rattle.msgcat.proofs.EntryLaws.{find_none, first_is, texts_merged}
 use Rattle.msgcat.proofs.Valid.{count_joined, count_keeps, forms_joined, several}

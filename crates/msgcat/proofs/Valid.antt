@@ -1,8 +1,6 @@
 -- What valid definitions are merged to is valid.
-use Rattle.msgcat.proofs.Prelude.{All, All-append, All-contains, All-contains_itself, All-cons, All-filter, All-head, All-map, All-nil, All-tail, AreDistinct, Bool, CommentKind, Contains, Contains-append_cases, Contains-append_right, Contains-get_or, Extracted, Flags, IsComment, IsDefinition, IsEntry, IsFlag, IsReference, IsText, IsTranslatorComment, List, MergeOptions, NamedEntry, None, Reference, TextEntry, Translator, [], arith, bytes_eq, bytes_eq-Decides, codes, collected, comment_of, cond_both, ended, ends_with, false≢true, filter, filter_passes, find, first_of, first_translated, first_with, fold, form_count, get_or, has_plural, has_previous, has_translation, inl, inr, is_joined, joined_form, joined_forms, length, length-map-range_with_len, list_any, list_any_at, marked, max, merged_entry, nat_eq, not, not-true, option_map_or, option_to_list, previous_texts, range_with_len, refl, rules, same_forms, slice_get, subst, suc, sym, texts_of, translations, true, with_others, zero, ℕ, ◌++◌, ◌<◌, ◌∙◌, ◌∷◌, ◌≡◌}
-use Rattle.po_entry.proofs.QuotedParts.{quoted_parts}
+use Rattle.msgcat.proofs.Prelude.{All, All-append, All-cons, All-contains, All-contains_itself, All-filter, All-head, All-map, All-nil, All-tail, AreDistinct, Bool, CommentKind, Contains, Contains-append_cases, Contains-append_right, Contains-get_or, Extracted, Flags, IsComment, IsDefinition, IsEntry, IsFlag, IsReference, IsText, IsTranslatorComment, List, MergeOptions, NamedEntry, None, Reference, TextEntry, Translator, [], arith, bytes_eq, bytes_eq-Decides, codes, collected, comment_of, cond_both, ended, ends_with, false≢true, filter, filter_passes, find, first_of, first_translated, first_with, fold, form_count, get_or, has_plural, has_previous, has_translation, inl, inr, is_joined, joined_form, joined_forms, length, length-map-range_with_len, list_any, list_any_at, marked, max, merged_entry, nat_eq, nat_tests, not, not-true, option_map_or, option_to_list, previous_texts, quoted_parts, range_with_len, refl, rules, same_forms, slice_get, subst, suc, sym, texts_of, translations, true, with_others, zero, ℕ, ◌++◌, ◌<◌, ◌∙◌, ◌∷◌, ◌≡◌}
 use Rattle.po_writer.proofs.Utf8.{plain_line, text-append, text-empty, text-feed}
-use Rattle.std.proofs.lemmas.Bool.Decides.{nat_tests}
 use Rattle.msgcat.proofs.FirstOnes.{all_first_ones}
 
 -- the first definition that has something

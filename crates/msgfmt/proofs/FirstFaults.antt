@@ -1,11 +1,9 @@
 -- The first fault that the check of a profile finds is the first that there is.
-use Rattle.msgfmt.proofs.Prelude.{All, All-cons, All-head, All-nil, All-tail, Bool, CountFault, Default, DiffersAt, EntryFault, FirstFault, FormCount, HasNewline, HasOtherCount, HasPlural, HasProfileFault, Header, IndexOutside, InputEntry, IsFirst, LeadingNewline, List, NeedsNoOtherRule, NoRule, None, Option, Reported, RuleView, Some, Source, TextEntry, TrailingNewline, Undefined, [], ap, arith, count_fault, counts_below, differ, differs_from_msgid, entry_fault, false, find, first_fault, first_some, has_newline, if◌then◌else◌, inl, inr, is_header_entry, is_plural, is_some, length, length-append, not, option_or, option_to_list, range_with_len, refl, rule_fault, subst, suc, sym, true, value, value_fault, ℕ, ◌&&◌, ◌++◌, ◌+◌, ◌-◌, ◌<◌, ◌==◌, ◌↔◌, ◌∙◌, ◌∷◌, ◌≡◌, ◌≢◌, ◌≤◌, ◌⊎◌}
+use Rattle.msgfmt.proofs.Prelude.{All, All-cons, All-head, All-nil, All-tail, Bool, CountFault, Default, DiffersAt, EntryFault, FirstFault, FormCount, HasNewline, HasOtherCount, HasPlural, HasProfileFault, Header, IndexOutside, InputEntry, IsFirst, LeadingNewline, List, NeedsNoOtherRule, NoRule, None, Option, Reported, RuleView, Some, Source, TextEntry, TrailingNewline, Undefined, [], ap, arith, count_fault, counts_below, differ, differs_from_msgid, entry_fault, false, find, first_fault, first_some, get_or_push, has_newline, if◌then◌else◌, inl, inr, is_header_entry, is_plural, is_some, length, length-append, not, option_or, option_to_list, range_with_len, refl, rule_fault, subst, suc, sym, true, value, value_fault, zero, ℕ, ◌&&◌, ◌++◌, ◌+◌, ◌-◌, ◌<◌, ◌==◌, ◌↔◌, ◌∙◌, ◌∷◌, ◌≡◌, ◌≢◌, ◌≤◌, ◌⊎◌}
 use Rattle.std.specs.Bool.{Decides}
-use Rattle.std.proofs.Common.{zero}
 use Rattle.std.proofs.lemmas.Bool.{eqb-true, false≢true}
 use Rattle.std.proofs.lemmas.Bool.Decides.{nat_tests}
 use Rattle.std.proofs.lemmas.List.Folds.{Any-from_list_any, list_any-from_Any}
-use Rattle.std.proofs.lemmas.List.{get_or_push}
 use Rattle.std.proofs.lemmas.Option.{none-some, slice_get-get_or}
 use Rattle.po_syntax.specs.Facts.Runs.{from_end}
 use Rattle.msgfmt.specs.declared.profile.End.{End}

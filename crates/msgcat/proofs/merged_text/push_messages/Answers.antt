@@ -1,6 +1,4 @@
-use Rattle.msgcat.proofs.Prelude.{ap, arith, err_from_is_err_and, inl, inr, length, messages, ◌<◌, ◌∙◌}
-use Rattle.std.specs.Cmp.{booleans_Decides}
-use Rattle.std.proofs.lemmas.Bool.Decides.{not_from_Decides}
+use Rattle.msgcat.proofs.Prelude.{ap, arith, booleans_Decides, err_from_is_err_and, inl, inr, length, messages, not_from_Decides, ◌<◌, ◌∙◌}
 use Rattle.msgcat.proofs.GroupsMerged.{fault_of_one}
 use Rattle.msgcat.proofs.MergedLemmas.{message_more}
 use Rattle.msgcat.proofs.merged_text.push_messages.Goals as goal
