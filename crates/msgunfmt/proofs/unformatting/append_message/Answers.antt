@@ -12,7 +12,7 @@ returns-in_err-lay_out-clause-fault c =
     let p = err_from_is_err_and c.from_residual.result c.from_residual.ensures.1 in
     rw (p.1, p.2) (entry_of_message m, at, tt)
 
-pub append_entry-requires : goal.append_entry-requires-clause-no_nul
+pub append_entry-requires : goal.append_entry-requires
 append_entry-requires c =
     let m : Message =
     record { original = c.original-original.result.now; translation = c.translation-translation.result.now } in
