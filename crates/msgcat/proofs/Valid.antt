@@ -44,7 +44,7 @@ module _ (P : List (List ℕ) → Type 0) (none : P [])
       (λ _. first_with_keeps (λ e. P (texts_of kind e)) has_translation ds some h)
       (λ _. collected_keeps (texts_of kind) [] ds none h)
 
--- so they are distinct
+-- what is left of distinct texts is distinct
 distinct_filter : (p : List ℕ → Bool) (xs : List (List ℕ)) → AreDistinct xs → AreDistinct (filter p xs)
 distinct_filter p [] h = tt
 distinct_filter p (x ∷ xs) h =
@@ -117,7 +117,7 @@ count_keeps P (t ∷ ts) some g =
     largest_keeps P (max 0 (length t.entry.forms)) ts
     (subst P first (All-head (λ x. P (length x.entry.forms)) t ts g)) (All-tail (λ x. P (length x.entry.forms)) t ts g)
 
--- the forms where different translations are joined
+-- where translations are joined there is more than one
 pub several : (o : MergeOptions) (ds : List NamedEntry) → is_joined o ds ≡ true → 1 < length (translations ds)
 several o ds joined = grind (arith, nat_tests)
 

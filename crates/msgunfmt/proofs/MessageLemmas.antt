@@ -133,14 +133,6 @@ entry_of (m ∷ messages) zero original translation first second =
 entry_of (m ∷ messages) (suc i) original translation first second =
     entry_of messages i original translation first second
 
--- an entry of a message is live
-pub live_at : (messages : List Message) (i : ℕ) (entry : TextEntry) → slice_get (unformatted messages) i ≡ Some entry
-    → entry.obsolete ≡ false
-live_at [] i entry at = cc
-live_at (m ∷ messages) zero entry at = let same : entry_of_message m ≡ entry =
-    cc in ap (λ (e : TextEntry). e.obsolete) (sym same)
-live_at (m ∷ messages) (suc i) entry at = live_at messages i entry at
-
 module _ (messages : List Message) (i : ℕ) (entry : TextEntry)
     (at : slice_get (unformatted messages) i ≡ Some entry) where
   abbrev Admitted : ℕ → Type 0

@@ -1,8 +1,7 @@
 //! Entries as PO texts that read back (GNU gettext manual, "The Format of PO Files").
 //!
-//! A text is written entry by entry: [`push_separated`] writes one after those before it,
-//! [`append`] a live one, and [`TextParts`] collects the live ones and the obsolete ones, which
-//! stand after them.
+//! A text is written entry by entry: [`push_separated`] writes one after those before it, and
+//! [`TextParts`] collects the live ones and the obsolete ones, which stand after them.
 //!
 //! The modules in reading order: `text`, `entry_lines`, `keyword_lines`, `parts`, `laws`.
 
