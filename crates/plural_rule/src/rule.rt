@@ -155,7 +155,7 @@ impl Rule {
                 instruction_count: len as u32,
             },
             Err(reason) => {
-                write_default(room);
+                room[..3].copy_from_slice(&DEFAULT_PROGRAM);
                 ParsedRule {
                     source: Source::Default(reason),
                     nplurals: 2,
@@ -252,11 +252,4 @@ fn read(header: &[u8], room: &mut Room) -> Result<(u64, usize), Reason>
         return Err(Reason::Unreadable);
     };
     Ok((nplurals, len))
-}
-
-/// Writes the program of `n != 1`.
-fn write_default(room: &mut Room)
-    ensures { (reason : Reason) → take 3 room.new ≡ program_of 0 (default_rule reason).tree }
-{
-    room[..3].copy_from_slice(&DEFAULT_PROGRAM);
 }

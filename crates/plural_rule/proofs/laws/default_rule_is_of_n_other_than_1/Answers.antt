@@ -1,4 +1,4 @@
-use Rattle.plural_rule.proofs.Prelude.{Binary, Count, HasNoDouble, Lexes, List, NotEqual, Number, Operator, Or, Spelt, Token, [], ap, arith, blank, codes, end, false, false≢true, get_or, ne_eqb, operator_bytes, refl, sym, token, ◌==◌, ◌∙◌, ◌∷◌, ◌≡◌}
+use Rattle.plural_rule.proofs.Prelude.{Binary, Count, HasNoDouble, Lexes, List, NotEqual, Number, Operator, Or, Spelt, Token, [], ap, arith, blank, codes, end, false, false≢true, get_or, operator_bytes, refl, sym, token, ◌==◌, ◌∙◌, ◌∷◌, ◌≡◌}
 use Rattle.plural_rule.specs.declared.token.Token.TheVariants.{Count as CountToken, Number as NumberToken, Binary as BinaryToken}
 use Rattle.plural_rule.proofs.Scanning.{double-token, numeral-token, single-token}
 use Rattle.plural_rule.proofs.Sound.{sound}
@@ -36,6 +36,3 @@ returns-clause-spelt c reason = record {
   text_fits = omega arith;
   spelt = spelt;
 }
-
-pub returns-clause-others : goal.returns-clause-others
-returns-clause-others c reason count other = rw (ne_eqb count 1 other) refl

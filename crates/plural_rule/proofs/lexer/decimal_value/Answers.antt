@@ -1,4 +1,4 @@
-use Rattle.plural_rule.proofs.Prelude.{ap, arith, digits_value, digits_value_more, take, take_all, ◌∙◌, ◌≡◌}
+use Rattle.plural_rule.proofs.Prelude.{arith, digits_value_more}
 use Rattle.plural_rule.proofs.Numerals.{digits_value-grows, digit-value}
 use Rattle.plural_rule.proofs.lexer.decimal_value.Goals as goal
 
@@ -17,11 +17,3 @@ loop-digit-preserved c =
     let digit = digit-value c.args.digits.now c.loop-digit.digit-index c.requires c.loop-digit-test.true in
     let more = digits_value_more 10 c.args.digits.now c.loop-digit.digit-index c.loop-digit-test.true in
     record { value = omega (arith, more, digit, c.loop-digit.invariant.value); fits = omega (arith, c.if-longer.false) }
-
-pub returns : goal.returns
-returns c =
-    let whole : take c.loop-digit.digit-index c.args.digits.now ≡ c.args.digits.now =
-    take_all c.loop-digit.digit-index c.args.digits.now c.loop-digit-test.false in
-    let same : c.loop-digit.value ≡ digits_value 10 c.args.digits.now =
-    c.loop-digit.invariant.value ∙ ap (digits_value 10) whole in
-    (rw (← same) c.loop-digit.invariant.fits, same)

@@ -1,5 +1,5 @@
 use Rattle.plural_rule.proofs.Prelude.{ap, arith, digits_value, is_ascii_digit, sym, ◌^◌, ◌∙◌, ◌≤◌}
-use Rattle.plural_rule.proofs.Scanning.{first_byte-get, AllDigits-take_while, numeral-token, numeral-none, double-token, single-token, no-single}
+use Rattle.plural_rule.proofs.Scanning.{first_byte-get, AllDigits-take_while, numeral-token, numeral-none, double-token}
 use Rattle.plural_rule.proofs.lexer.token.Goals as goal
 
 pub decimal_value-requires : goal.decimal_value-requires
@@ -24,13 +24,3 @@ pub returns-in-Some-double_at : goal.returns-in-Some-double_at
 returns-in-Some-double_at c =
     double-token c.args.text.now c.in-Some-double_at.operator
     (sym c.is_ascii_digit.ensures.value ∙ c.if-is_ascii_digit.false) c.in-Some-double_at.ensures
-
-pub returns-in-Some-single : goal.returns-in-Some-single
-returns-in-Some-single c =
-    single-token c.args.text.now c.in-Some-single.token c.requires
-    (sym c.is_ascii_digit.ensures.value ∙ c.if-is_ascii_digit.false) c.in_default.ensures c.in-Some-single.ensures
-
-pub returns-in-None-single : goal.returns-in-None-single
-returns-in-None-single c =
-    no-single c.args.text.now
-    (sym c.is_ascii_digit.ensures.value ∙ c.if-is_ascii_digit.false) c.in_default.ensures c.in-None-single.ensures

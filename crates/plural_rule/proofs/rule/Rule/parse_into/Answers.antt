@@ -17,9 +17,9 @@ pub returns-in-Err-clause-rule : goal.returns-in-Err-clause-rule
 returns-in-Err-clause-rule c = (
   c.in-Err.ensures,
   ap (λ t. record { source = Default c.in-Err.reason; nplurals = 2; tree = t })
-      (tree_is _ (default_rule c.in-Err.reason).tree (c.write_default.ensures c.in-Err.reason)),
+      (tree_is _ (default_rule c.in-Err.reason).tree (rw c.copy_from_slice.ensures.after)),
 )
 
 pub returns-in-Err-clause-program : goal.returns-in-Err-clause-program
 returns-in-Err-clause-program c =
-    program_is _ (default_rule c.in-Err.reason).tree (c.write_default.ensures c.in-Err.reason)
+    program_is _ (default_rule c.in-Err.reason).tree (rw c.copy_from_slice.ensures.after)
