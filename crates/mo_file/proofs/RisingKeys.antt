@@ -38,12 +38,12 @@ rising_between ks rising i j before inside =
     let P : ℕ → Type 0 = λ k. key_cmp (key_at ks i) (key_at ks k) ≡ Less in
     subst P e (rising_apart ks rising i (j - (i + 1)) (omega arith))
 
-pub is_less : (o : Ordering) → true ≡ is_lt o → o ≡ Less
+is_less : (o : Ordering) → true ≡ is_lt o → o ≡ Less
 is_less Less is = refl
 is_less Equal is = cc
 is_less Greater is = cc
 
-pub isnt_less : (o : Ordering) → false ≡ is_lt o → o ≢ Less
+isnt_less : (o : Ordering) → false ≡ is_lt o → o ≢ Less
 isnt_less Less is = cc
 isnt_less Equal is = λ less. cc
 isnt_less Greater is = λ less. cc

@@ -1,8 +1,5 @@
-use Rattle.mo_file.proofs.CutLemmas.{form_split, rest_shorter}
+use Rattle.mo_file.proofs.CutLemmas.{form_split}
 use Rattle.mo_file.proofs.message_parts.split_form.Goals as goal
 
 pub returns-clause-forms : goal.returns-clause-forms
 returns-clause-forms c = form_split c.args.translation.now c.split_once_at.result c.split_once_at.ensures
-
-pub returns-clause-shorter : goal.returns-clause-shorter
-returns-clause-shorter c = rest_shorter c.args.translation.now c.split_once_at.result c.split_once_at.ensures

@@ -7,11 +7,6 @@ overflow_cast-count g c =
     let len = length-layout-strings g.P.StringPair.message g.O.FileOrder.order c.args.pairs.now in
     omega (arith, len, c.requires.fits)
 
-pub overflow_mul-originals : goal.overflow_mul-originals
-overflow_mul-originals g c =
-    let len = length-layout-strings g.P.StringPair.message g.O.FileOrder.order c.args.pairs.now in
-    omega (arith, len, c.requires.fits)
-
 pub overflow_mul-originals-2 : goal.overflow_mul-originals-2
 overflow_mul-originals-2 g c =
     let len = length-layout-strings g.P.StringPair.message g.O.FileOrder.order c.args.pairs.now in
