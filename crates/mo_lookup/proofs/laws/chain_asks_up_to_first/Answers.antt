@@ -1,4 +1,4 @@
-use Rattle.mo_lookup.proofs.ChainLemmas.{asks-up-to-first, asks-all, asks-none}
+use Rattle.mo_lookup.proofs.ChainLemmas.{asks-up-to-first, asks-all}
 use Rattle.mo_lookup.proofs.laws.chain_asks_up_to_first.Goals as goal
 
 pub returns-clause-first : goal.returns-clause-first
@@ -6,6 +6,3 @@ returns-clause-first c = asks-up-to-first
 
 pub returns-clause-all : goal.returns-clause-all
 returns-clause-all c = asks-all
-
-pub returns-clause-none : goal.returns-clause-none
-returns-clause-none c = asks-none

@@ -42,9 +42,6 @@ rising-preserved g c = (
   c.rising.invariant.4,
 )
 
-pub halving-smaller : goal.halving-smaller
-halving-smaller g c = omega (arith, c.rising.invariant)
-
 pub halving-preserved : goal.halving-preserved
 halving-preserved g c = (
   c.compare.ensures.same_counter ∙ c.rising.invariant.0,
