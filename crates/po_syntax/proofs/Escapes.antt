@@ -47,7 +47,7 @@ EscapeSays text (End rest) = ⊥
 EscapeSays text (Byte b rest) = SpellsEscape text b rest
 EscapeSays text (Stop fault) = EscapeFault text fault
 
-pub positive : (n : ℕ) → (n == 0) ≡ false → 0 < n
+positive : (n : ℕ) → (n == 0) ≡ false → 0 < n
 positive zero e = absurd (cc)
 positive (suc n) e = omega arith
 

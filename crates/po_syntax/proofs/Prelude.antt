@@ -3,7 +3,7 @@ pub use Rattle.memchr.specs.Find.{IsFirstByte, is_byte, is_byte2}
 pub use Rattle.po_syntax.specs.Escape.{closed, escape, hexadecimal, letter, octal, plain}
 pub use Rattle.po_syntax.specs.Facts.Once.{Once, same}
 pub use Rattle.po_syntax.specs.Facts.Runs.{end_parts, kept_is, parts_of, run_length}
-pub use Rattle.po_syntax.specs.Internal.{AddsLent, Byte, CommentLine, End, KeywordToken, LineEnd, NoShape, OpeningQuote, Shape, Step, Stop, Token, Tokens, WrongToken, after_first_word, bracket_token, close_token, comment_shape, digit_count, first_word, letter_step, number_step, numbered, shape_of, shape_view, token_at, token_view, word_token}
+pub use Rattle.po_syntax.specs.Internal.{AddsLent, Byte, CommentLine, End, KeywordToken, LineEnd, NoShape, OpeningQuote, Shape, Step, Stop, Token, Tokens, WrongToken, after_first_word, bracket_token, close_token, comment_shape, digit_count, first_word, letter_step, number_step, numbered, shape_of, shape_view, token_at, word_token}
 unfoldable pub use Rattle.po_syntax.specs.Internal.{escape_at, first_shape, first_token, hash_shape, index_token, keyword_token, obsolete_shape, step_at, tilde_shape}
 pub use Rattle.po_syntax.specs.Internal.PieceEnd.{IsCut}
 pub use Rattle.po_syntax.specs.Item.{Comment, Str, Word}

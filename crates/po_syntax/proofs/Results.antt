@@ -8,10 +8,6 @@ pub ok_both : {T E : Type 0} {P Q R : T → Type 0} (r : Result T E) → ((y : T
 ok_both (Ok y) f p q = f y p q
 ok_both (Err e) f p q = tt
 
-pub ok_always : {T E : Type 0} {P : T → Type 0} (r : Result T E) → ((y : T) → P y) → IfOk r P
-ok_always (Ok y) f = f y
-ok_always (Err e) f = tt
-
 -- of an error that a `?` passes on
 pub passed_on : {T E : Type 0} {e : E} (r : Result T E) (P : E → Type 0) → IsErrAnd r (λ y. y ≡ e) → P e → IfErr r P
 passed_on (Ok y) P is h = tt

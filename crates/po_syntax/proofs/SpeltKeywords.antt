@@ -60,7 +60,7 @@ pub skip_prefix : (blanks rest : List ℕ) → All IsBlank blanks → FailsFirst
 skip_prefix blanks rest all other =
     ap (λ n. drop n (blanks ++ rest)) (run_length is_blank blanks rest all other) ∙ drop-append_seam blanks rest
 
-pub blank_no_word : (b : ℕ) → IsBlank b → is_word_byte b ≡ false
+blank_no_word : (b : ℕ) → IsBlank b → is_word_byte b ≡ false
 blank_no_word b is = of_blank (λ a. is_word_byte a ≡ false) refl refl refl refl refl b is
 
 blank_no_digit : (b : ℕ) → IsBlank b → is_digit b 10 ≡ false
@@ -89,8 +89,7 @@ m_read : (word rest : List ℕ) → list_all is_word_byte (109 ∷ word) ≡ tru
     → token_at ((109 ∷ word) ++ rest) ≡ keyword_token (109 ∷ word) rest
 m_read word rest all ends = word_read 109 word rest (AllPass-from_list_all is_word_byte (109 ∷ word) all) ends
 
--- no bracket follows
--- `msgstr` alone
+-- `msgstr` alone, as no bracket follows
 no_bracket_token : (rest after : List ℕ) → FailsFirst (λ b. b == 91) after
     → bracket_token rest after ≡ KeywordToken MsgStr rest
 no_bracket_token rest [] none = refl

@@ -1,5 +1,5 @@
 -- Each token leaves a rest of the text that is shorter.
-use Rattle.po_syntax.proofs.Prelude.{Keyword, KeywordToken, List, OpeningQuote, SpellsKeyword, Token, [], ap, append_assoc, arith, codes, form, is_blank, length, length-append, length-drop, msgctxt, msgid, msgid_plural, msgstr, prefix_len, refl, skip_blanks, subst, token_at, ℕ, ◌++◌, ◌<◌, ◌∷◌, ◌≡◌, ◌≤◌}
+use Rattle.po_syntax.proofs.Prelude.{◌∙◌, keyword_token, BadToken, Bool, LineEnd, WrongToken, false, first_token, if◌then◌else◌, is_word_byte, ne_eqb, sym, true, word_token, ◌≢◌, Keyword, KeywordToken, List, OpeningQuote, SpellsKeyword, Token, [], ap, append_assoc, arith, codes, form, is_blank, length, length-append, length-drop, msgctxt, msgid, msgid_plural, msgstr, prefix_len, refl, skip_blanks, subst, token_at, ℕ, ◌++◌, ◌<◌, ◌∷◌, ◌≡◌, ◌≤◌}
 use Rattle.po_syntax.proofs.SpeltKeywords.{TokenSays, first_says}
 
 -- the text is some bytes, and this rest
@@ -31,3 +31,27 @@ keyword-shorter text e = omega (arith, skipped-le text, rest_shorter (says text 
 pub quote-shorter : (text : List ℕ) {inside : List ℕ} → token_at text ≡ OpeningQuote inside
     → length inside < length text
 quote-shorter text e = omega (arith, skipped-le text, ap length (says text e))
+
+-- which token stands first, by the first byte after the blanks
+pub line_over : (text : List ℕ) → length (skip_blanks text) ≡ 0 → token_at text ≡ LineEnd
+unfolding first_token
+line_over text e = by (skip_blanks text) e where
+  by : (rest : List ℕ) → length rest ≡ 0 → first_token rest ≡ LineEnd
+  by [] e = refl
+  by (b ∷ rest) e = absurd (omega (arith, e))
+
+pub quote_first : (text rest : List ℕ) (b : ℕ) → skip_blanks text ≡ b ∷ rest → b ≡ 34
+    → token_at text ≡ OpeningQuote rest
+unfolding first_token
+quote_first text rest b e is = ap first_token e ∙ rw is refl
+
+pub word_first : (text rest : List ℕ) (b : ℕ) → skip_blanks text ≡ b ∷ rest → b ≢ 34
+    → token_at text ≡ word_token (skip_blanks text)
+unfolding first_token keyword_token
+word_first text rest b e other =
+    ap first_token e ∙ rw (ne_eqb b 34 other) (by (is_word_byte b) refl) ∙ ap word_token (sym e)
+  where
+    by : (t : Bool) → is_word_byte b ≡ t
+        → (if t then word_token (b ∷ rest) else WrongToken BadToken) ≡ word_token (b ∷ rest)
+    by true is = refl
+    by false is = rw is refl

@@ -19,8 +19,6 @@ use Rattle.std.specs.Borrow.{Bor}
 use Rattle.po_syntax.specs.declared.item.Item.{Item}
 use Rattle.po_syntax.specs.declared.line.Shape.{Shape as CodeShape}
 use Rattle.po_syntax.specs.declared.line.Shape.TheVariants as shape
-use Rattle.po_syntax.specs.declared.token.Token.{Token as CodeToken}
-use Rattle.po_syntax.specs.declared.token.Token.TheVariants as token
 use Rattle.po_syntax.specs.Item.{LendsUtf8, TextItem, views}
 
 -- A string between double quotes, with the escapes of C but for `\'`, `\?` and `\u`. A text here is what is
@@ -192,11 +190,6 @@ shape_of line = first_shape (skip_blanks line)
 
 -- What contracts see of what the code reads.
 
-abbrev pub token_view : CodeToken → Token
-token_view token.LineEnd = LineEnd
-token_view (token.OpeningQuote rest) = OpeningQuote rest.now
-token_view (token.Keyword keyword rest) = KeywordToken keyword rest.now
-
 abbrev pub shape_view : CodeShape → Shape
 shape_view (shape.Comment kind text) = CommentLine kind text.now
 shape_view (shape.Tokens marks text) = Tokens marks text.now
@@ -209,11 +202,6 @@ IsByteOf step result = MatchResult result (λ p. step ≡ Byte p.0 p.1.now) (λ 
 abbrev pub IsKeywordOf : Token → Result (Keyword × Bor (List ℕ)) PoFault → Type 0
 IsKeywordOf token result =
     MatchResult result (λ p. token ≡ KeywordToken p.0 p.1.now) (λ fault. token ≡ WrongToken fault)
-
--- the result is this token, or its fault
-abbrev pub IsTokenOf : Token → Result CodeToken PoFault → Type 0
-IsTokenOf token result =
-    MatchResult result (λ read. token ≡ token_view read) (λ fault. token ≡ WrongToken fault)
 
 -- the result is this shape, or none where the line has no shape
 abbrev pub IsShapeOf : Shape → Option CodeShape → Type 0

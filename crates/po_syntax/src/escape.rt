@@ -4,7 +4,6 @@ ghost use Rattle.std.specs.Prelude.{◌≡◌, ◌^◌, ◌<◌, ◌≤◌, leng
 ghost use Rattle.std.specs.Char.{digit_value};
 ghost use Rattle.std.specs.Str.Parse.{digits_value};
 ghost use Rattle.po_syntax.specs.Internal.{IsByteOf, digit_count, escape_at, number_step};
-ghost use Rattle.po_syntax.specs.Prelude.{letter_value};
 
 use crate::fault::PoFault;
 
@@ -52,24 +51,6 @@ fn numbered_byte(base: u32, count: usize, text: &[u8]) -> Result<(u8, &[u8]), Po
     }
 }
 
-/// The byte that a letter, a backslash or a quote after a backslash stands for.
-fn letter_value(letter: u8) -> Option<u8>
-    ensures { result ≡ letter_value letter }
-{
-    match letter {
-        b'a' => Some(7),
-        b'b' => Some(8),
-        b'f' => Some(12),
-        b'n' => Some(b'\n'),
-        b'r' => Some(b'\r'),
-        b't' => Some(b'\t'),
-        b'v' => Some(11),
-        b'\\' => Some(b'\\'),
-        b'"' => Some(b'"'),
-        _ => None,
-    }
-}
-
 /// The byte that an escape stands for, read after its backslash, and the text after it.
 #[tactic(auto, unfolding(crate::specs::Internal::escape_at))]
 pub(crate) fn escape(text: &[u8]) -> Result<(u8, &[u8]), PoFault>
@@ -89,8 +70,17 @@ pub(crate) fn escape(text: &[u8]) -> Result<(u8, &[u8]), PoFault>
         }
         return numbered_byte(16, count, rest);
     }
-    match letter_value(*first) {
-        Some(byte) => Ok((byte, rest)),
-        None => Err(PoFault::BadEscape),
-    }
+    let byte = match *first {
+        b'a' => 7,
+        b'b' => 8,
+        b'f' => 12,
+        b'n' => b'\n',
+        b'r' => b'\r',
+        b't' => b'\t',
+        b'v' => 11,
+        b'\\' => b'\\',
+        b'"' => b'"',
+        _ => return Err(PoFault::BadEscape),
+    };
+    Ok((byte, rest))
 }

@@ -1,13 +1,13 @@
 //! The items of one line.
 
-ghost use Rattle.std.specs.Prelude.{◌≡◌, ◌≢◌, IfErr, OnOk};
+ghost use Rattle.std.specs.Prelude.{◌≢◌, IfErr, OnOk};
 ghost use Rattle.po_syntax.specs.Internal.{shape_of, hash_shape, tilde_shape, comment_shape, AddsItems, AddsLent, IsShapeOf};
-ghost use Rattle.po_syntax.specs.Prelude.{LineFault, TokensFault, HoldsItems, HoldsTokens, trim_returns};
+ghost use Rattle.po_syntax.specs.Prelude.{LineFault, TokensFault, HoldsItems, HoldsTokens};
 
 use crate::fault::PoFault;
 use crate::item::{CommentKind, Item, Marks};
 use crate::quoted_string::quoted_string;
-use crate::token::{Token, next_token, skip_blanks};
+use crate::token::{keyword, skip_blanks};
 use std::alloc::Global;
 
 /// What a line is by its first bytes, with the text after them.
@@ -44,36 +44,20 @@ fn tilde_shape(text: &[u8]) -> Option<Shape<'_>>
     }
 }
 
-/// The shape of a line, read after its first `#`.
-#[tactic(auto, unfolding(crate::specs::Internal::hash_shape))]
-fn hash_shape(text: &[u8]) -> Option<Shape<'_>>
-    ensures { IsShapeOf (hash_shape text.now) result }
+/// The shape of a line; none if it is neither a comment nor a line of tokens.
+#[tactic(auto, unfolding(crate::specs::Internal::first_shape, crate::specs::Internal::hash_shape))]
+fn shape_of(line: &[u8]) -> Option<Shape<'_>>
+    ensures { IsShapeOf (shape_of line.now) result }
 {
+    let text = skip_blanks(line);
+    let Some((b'#', text)) = text.split_first() else {
+        return Some(Shape::Tokens(Marks::own(false), text));
+    };
     match text.split_first() {
         Some((b'|', rest)) => Some(Shape::Tokens(Marks::of_previous(false), rest)),
         Some((b'~', rest)) => tilde_shape(rest),
         _ => comment_shape(text),
     }
-}
-
-/// The shape of a line; none if it is neither a comment nor a line of tokens.
-#[tactic(auto, unfolding(crate::specs::Internal::first_shape))]
-fn shape_of(line: &[u8]) -> Option<Shape<'_>>
-    ensures { IsShapeOf (shape_of line.now) result }
-{
-    let text = skip_blanks(line);
-    match text.split_first() {
-        Some((b'#', rest)) => hash_shape(rest),
-        _ => Some(Shape::Tokens(Marks::own(false), text)),
-    }
-}
-
-/// The text without the CRs at its end.
-fn trim_returns(text: &[u8]) -> &[u8]
-    ensures { result.now ≡ trim_returns text.now }
-{
-    let count = text.iter().rev().take_while(|b| **b == b'\r').count();
-    text.split_at(text.len() - count).0
 }
 
 /// Appends the items of a line's tokens.
@@ -91,17 +75,18 @@ fn add_tokens<'a>(
 {
     let mut rest = text;
     loop {
-        match next_token(rest)? {
-            Token::LineEnd => return Ok(()),
-            Token::OpeningQuote(inside) => {
-                let (bytes, after) = quoted_string(alloc, inside)?;
-                items.push(Item::Str(bytes, marks, line))?;
-                rest = after;
-            }
-            Token::Keyword(keyword, after) => {
-                items.push(Item::Word(keyword, marks, line))?;
-                rest = after;
-            }
+        let text = skip_blanks(rest);
+        let Some((first, inside)) = text.split_first() else {
+            return Ok(());
+        };
+        if *first == b'"' {
+            let (bytes, after) = quoted_string(alloc, inside)?;
+            items.push(Item::Str(bytes, marks, line))?;
+            rest = after;
+        } else {
+            let (word, after) = keyword(text)?;
+            items.push(Item::Word(word, marks, line))?;
+            rest = after;
         }
     }
 }
@@ -122,7 +107,9 @@ pub(crate) fn add_line<'a>(
         None => Err(PoFault::BadToken),
         Some(Shape::Tokens(marks, rest)) => add_tokens(alloc, items, rest, marks, line),
         Some(Shape::Comment(kind, rest)) => {
-            items.push(Item::Comment(kind, trim_returns(rest), line))?;
+            let returns = rest.iter().rev().take_while(|b| **b == b'\r').count();
+            let text = rest.split_at(rest.len() - returns).0;
+            items.push(Item::Comment(kind, text, line))?;
             Ok(())
         }
     }

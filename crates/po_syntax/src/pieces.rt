@@ -168,13 +168,6 @@ fn ends_in_comment(items: &[Item<'_>]) -> bool
     }
 }
 
-/// Whether a piece of so many bytes can end with these items.
-fn ends_piece(items: &[Item<'_>], len: usize) -> bool
-    ensures { IsTrue result ↔ EndsPiece len (views items.now) }
-{
-    ends_translation(items) || (len >= LONG && ends_in_comment(items))
-}
-
 /// Whether a piece of so many bytes can end before the item of this index: with the items before
 /// it, and before an item with which no entry goes on after its last string.
 fn can_end(items: &[Item<'_>], index: usize, len: usize) -> bool
@@ -183,7 +176,7 @@ fn can_end(items: &[Item<'_>], index: usize, len: usize) -> bool
         × BeginsAnew (drop index (views items.now))) }
 {
     let (before, after) = items.split_at(index);
-    begins_anew(after) && ends_piece(before, len)
+    begins_anew(after) && (ends_translation(before) || (len >= LONG && ends_in_comment(before)))
 }
 
 impl<'a> Pieces<'a> {

@@ -29,10 +29,10 @@ fn is_raw_block(block: &[u8; 16]) -> bool
     are_raw
 }
 
-/// The rest after the blocks at the beginning whose bytes all stand in a quoted string as they are.
-fn after_raw_blocks(bytes: &[u8]) -> &[u8]
-    ensures count { length bytes.now + prefix_len is_raw result.now ≡ length result.now + prefix_len is_raw bytes.now }
-    ensures within { length result.now ≤ length bytes.now }
+/// Splits off the bytes that are written as they are.
+fn split_raw(bytes: &[u8]) -> (&[u8], &[u8])
+    ensures parts { result.0.now ++ result.1.now ≡ bytes.now }
+    ensures raw { written_bytes result.0.now ≡ result.0.now }
 {
     let mut rest = bytes;
     while let Some((block, after)) = rest.split_first_chunk::<16>() {
@@ -41,15 +41,6 @@ fn after_raw_blocks(bytes: &[u8]) -> &[u8]
         }
         rest = after;
     }
-    rest
-}
-
-/// Splits off the bytes that are written as they are.
-fn split_raw(bytes: &[u8]) -> (&[u8], &[u8])
-    ensures parts { result.0.now ++ result.1.now ≡ bytes.now }
-    ensures raw { written_bytes result.0.now ≡ result.0.now }
-{
-    let rest = after_raw_blocks(bytes);
     let count = rest.iter().take_while(|b| is_raw(**b)).count();
     bytes.split_at(bytes.len() - rest.len() + count)
 }

@@ -2,22 +2,12 @@
 
 ghost use Rattle.std.specs.Prelude.{◌≡◌, ◌<◌, true, false, bytes_eq, MatchOption};
 ghost use Rattle.std.specs.List.{list_all};
-ghost use Rattle.po_syntax.specs.Internal.{after_first_word, first_word, index_token, token_at, word_token, IsKeywordOf, IsTokenOf};
+ghost use Rattle.po_syntax.specs.Internal.{after_first_word, first_word, index_token, word_token, IsKeywordOf};
 ghost use Rattle.po_syntax.specs.Prelude.{is_word_byte, is_blank, skip_blanks};
 
 use crate::escape::{digit_count, number_of};
 use crate::fault::PoFault;
 use crate::item::Keyword;
-
-/// The next token of a line, with the text after it.
-pub(crate) enum Token<'a> {
-    /// The line's end.
-    LineEnd,
-    /// The quote with which a string begins.
-    OpeningQuote(&'a [u8]),
-    /// A keyword; `msgstr[i]` with its index.
-    Keyword(Keyword, &'a [u8]),
-}
 
 /// Whether the byte is a blank: a space, a tab, VT, FF or CR (GNU gettext manual, "The Format of PO
 /// Files").
@@ -77,7 +67,7 @@ fn after_word<'a>(text: &'a [u8], word: &[u8]) -> Option<&'a [u8]>
 
 /// The keyword with which the text begins, and the text after it.
 #[tactic(auto, unfolding(crate::specs::Internal::keyword_token))]
-fn keyword(text: &[u8]) -> Result<(Keyword, &[u8]), PoFault>
+pub(crate) fn keyword(text: &[u8]) -> Result<(Keyword, &[u8]), PoFault>
     ensures { IsKeywordOf (word_token text.now) result }
 {
     if let Some(rest) = after_word(text, b"msgid") {
@@ -96,23 +86,4 @@ fn keyword(text: &[u8]) -> Result<(Keyword, &[u8]), PoFault>
         Some(rest) => Ok((Keyword::MsgIdPlural, rest)),
         None => Err(PoFault::BadToken),
     }
-}
-
-/// The next token of a line, after blanks.
-#[tactic(auto, unfolding(crate::specs::Internal::first_token))]
-pub(crate) fn next_token(text: &[u8]) -> Result<Token<'_>, PoFault>
-    ensures { IsTokenOf (token_at text.now) result }
-{
-    let text = skip_blanks(text);
-    let Some((first, rest)) = text.split_first() else {
-        return Ok(Token::LineEnd);
-    };
-    if *first == b'"' {
-        return Ok(Token::OpeningQuote(rest));
-    }
-    if !is_word_byte(*first) {
-        return Err(PoFault::BadToken);
-    }
-    let (keyword, rest) = keyword(text)?;
-    Ok(Token::Keyword(keyword, rest))
 }

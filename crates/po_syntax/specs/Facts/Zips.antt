@@ -1,8 +1,7 @@
 -- Two lists that go with one another element by element.
-use Rattle.std.specs.Prelude.{◌≡◌, ℕ, ◌+◌, ◌<◌, List, [], ◌∷◌, ◌++◌, All, length, get_or, take, drop}
+use Rattle.std.specs.Prelude.{◌≡◌, ℕ, ◌+◌, ◌<◌, List, [], ◌∷◌, ◌++◌, length, get_or, take, drop}
 use Rattle.std.specs.List.{AllZip}
 use Rattle.std.proofs.Common.{refl, sym, ap, subst, arith, zero, suc, add-one}
-use Rattle.std.proofs.lemmas.List.Elements.{All-cons, All-nil}
 
 module _ {X Y : Type 0} (R : X → Y → Type 0) where
   -- one more of each
@@ -49,12 +48,6 @@ module _ {X Y : Type 0} (R : X → Y → Type 0) where
   zip_split (x ∷ xs) (b ∷ before) y after h =
       let more = zip_split xs before y after h.1 in
       (x ∷ more.0, more.1, more.2, ap (λ l. x ∷ l) more.3, (h.0, more.4), more.5)
-
-  pub zip_all : (P : X → Type 0) → ((x : X) (y : Y) → R x y → P x) → (xs : List X) (ys : List Y) → AllZip R xs ys
-      → All P xs
-  zip_all P f [] ys h = All-nil P
-  zip_all P f (x ∷ xs) [] h = absurd h
-  zip_all P f (x ∷ xs) (y ∷ ys) h = All-cons P x xs (f x y h.0) (zip_all P f xs ys h.1)
 
   -- the first ones of each
   pub zip_take : (n : ℕ) (xs : List X) (ys : List Y) → AllZip R xs ys → AllZip R (take n xs) (take n ys)

@@ -1,4 +1,5 @@
-use Rattle.po_syntax.proofs.Prelude.{All-cons, All-nil, Comment, CommentLine, Err, IfErr-weaker, LendsUtf8, Ok, Tokens, [], ap, map_push, on_ok_weaker, refl, shape_of, shape_view, trim_returns, ◌∙◌, ◌∷◌, ◌≡◌}
+use Rattle.po_syntax.proofs.Prelude.{YieldsList-from_take_while, count_from_yields_List, length-prefix_len, reverse, rules, tests, ◌==◌, All-cons, All-nil, Comment, CommentLine, Err, IfErr-weaker, LendsUtf8, Ok, Tokens, [], ap, map_push, on_ok_weaker, refl, shape_of, shape_view, trim_returns, ◌∙◌, ◌∷◌, ◌≡◌}
+use Rattle.std.proofs.lemmas.Iterator.Adapters.{YieldsList-from_rev_slice}
 use Rattle.po_syntax.proofs.OneLine.{line_at}
 use Rattle.po_syntax.proofs.Utf8Rests.{tokens-utf8}
 use Rattle.po_syntax.proofs.line.add_line.Goals as goal
@@ -30,10 +31,15 @@ returns-in-Some-Tokens-clause-lent c =
 pub returns-in_ok-push-in-Some-Comment-clause-found : goal.returns-in_ok-push-in-Some-Comment-clause-found
 returns-in_ok-push-in-Some-Comment-clause-found c =
     let shape : shape_of c.args.text.now ≡ CommentLine c.in-Some-Comment.kind c.in-Some-Comment.rest.now =
-    c.in-Some-Comment.ensures ∙ ap shape_view c.in-Some-Comment.field-0-is in (
+    c.in-Some-Comment.ensures ∙ ap shape_view c.in-Some-Comment.field-0-is in
+    let rest = c.in-Some-Comment.rest.now in
+    let returns = count_from_yields_List c.take_while.result _ c.count-returns.ensures.ran
+    (YieldsList-from_take_while _ (λ b. b == 13) (YieldsList-from_rev_slice rest cc) c.take_while.ensures.closure
+    c.take_while.ensures.done (λ x b q k. search (rules, tests)))
+    ∙ length-prefix_len (λ b. b == 13) (reverse rest) in (
       Comment c.in-Some-Comment.kind (trim_returns c.in-Some-Comment.rest.now) c.args.line ∷ [],
       line_at c.args.line _ (Ok _) shape refl,
-      rw (c.in_ok-push-in-Some-Comment.ensures.items, map_push, c.trim_returns.ensures),
+      rw (c.in_ok-push-in-Some-Comment.ensures.items, map_push, c.split_at.ensures.front, returns) refl,
     )
 
 pub returns-in_ok-push-in-Some-Comment-clause-lent : goal.returns-in_ok-push-in-Some-Comment-clause-lent

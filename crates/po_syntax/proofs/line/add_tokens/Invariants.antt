@@ -1,8 +1,8 @@
 use Rattle.po_syntax.proofs.Prelude.{AddsLent, HoldsTokens, IsUtf8, List, PoFault, TextItem, TokensFault, length, views, ◌++◌, ◌≡◌}
 use Rattle.po_syntax.proofs.line.add_tokens.Given as goal
 
-abbrev pub invariant-loop-inside : goal.invariant-loop-inside
-invariant-loop-inside l =
+abbrev pub invariant-loop-first : goal.invariant-loop-first
+invariant-loop-first l =
     (spelt : List TextItem)
     × (views l.items.items ≡ views l.initial.items.items ++ spelt)
     × ((more : List TextItem) → HoldsTokens l.marks l.line l.rest more
@@ -11,5 +11,5 @@ invariant-loop-inside l =
     × (IsUtf8 l.text → IsUtf8 l.rest)
     × AddsLent l.text l.initial.items.items l.items.items
 
-abbrev pub decreases-loop-inside : goal.decreases-loop-inside
-decreases-loop-inside l = length l.rest
+abbrev pub decreases-loop-first : goal.decreases-loop-first
+decreases-loop-first l = length l.rest

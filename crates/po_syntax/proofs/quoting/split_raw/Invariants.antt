@@ -1,5 +1,5 @@
 use Rattle.po_syntax.proofs.Prelude.{is_raw, length, prefix_len, ◌+◌, ◌≡◌, ◌≤◌}
-use Rattle.po_syntax.proofs.quoting.after_raw_blocks.Given as goal
+use Rattle.po_syntax.proofs.quoting.split_raw.Given as goal
 
 abbrev pub invariant-loop-block : goal.invariant-loop-block
 invariant-loop-block l = record {
