@@ -1,5 +1,5 @@
 -- Tests of several texts, one after another.
-use Rattle.po_entry.proofs.Prelude.{All, All-append, All-cons, All-get_or, All-head, All-left, All-map, All-more, All-nil, All-right, Bool, IfSome, List, None, Option, Some, Vec, [], false, false≢true, get_or, get_or-map, length, length-map, option_to_list, refl, subst, sym, take, take_all, texts, true, ℕ, ◌&&◌, ◌++◌, ◌+◌, ◌<◌, ◌∷◌, ◌≡◌, ◌≤◌}
+use Rattle.po_entry.proofs.Prelude.{All, All-append, All-cons, All-head, All-left, All-nil, All-right, Bool, IfSome, List, None, Option, Some, [], false, false≢true, option_to_list, refl, true, ◌&&◌, ◌++◌, ◌∷◌, ◌≡◌}
 use Rattle.std.specs.Prelude.{IsTrue, ◌↔◌}
 
 -- two lists pass where both do
@@ -26,20 +26,3 @@ pub two : {P Q : Type 0} (a b : Bool) → (IsTrue a ↔ P) → (IsTrue b ↔ Q) 
 two true true p q = (λ t. (p.0 t, q.0 t), λ all. refl)
 two true false p q = (λ t. absurd (false≢true t), λ all. absurd (false≢true (q.1 all.1)))
 two false b p q = (λ t. absurd (false≢true t), λ all. absurd (false≢true (p.1 all.0)))
-
--- a loop over vectors that tests each text: a step, the end, and an early answer
-pub tested_more : (P : List ℕ → Type 0) (xs : List (Vec ℕ)) (i : ℕ) (x : Vec ℕ) → i < length xs → x ≡ get_or xs i x
-    → All (λ v. P v.items) (take i xs) → P x.items → All (λ v. P v.items) (take (i + 1) xs)
-tested_more P xs i x below is so_far here =
-    All-more (λ v. P v.items) xs i x below so_far (subst (λ v. P v.items) is here)
-
-pub tested_all : (P : List ℕ → Type 0) (xs : List (Vec ℕ)) (i : ℕ) → length xs ≤ i → All (λ v. P v.items) (take i xs)
-    → All P (texts xs)
-tested_all P xs i past so_far = All-map P (λ v. v.items) xs (rw take_all at so_far)
-
-pub tested_one : (P : List ℕ → Type 0) (xs : List (Vec ℕ)) (i : ℕ) (x : Vec ℕ) → i < length xs → x ≡ get_or xs i x
-    → All P (texts xs) → P x.items
-tested_one P xs i x below is all =
-    let inside : i < length (texts xs) = rw length-map below in
-    let here = rw (get_or-map (λ v. v.items) xs i x x.items) at (All-get_or P (texts xs) i x.items inside all) in
-    subst (λ v. P v.items) (sym is) here

@@ -130,9 +130,6 @@ pub record AreSeen (entries : List TextEntry) (seen : List (List ℕ)) (numbers 
   pub firsts : seen ≡ first_ones bytes_eq (map entry_key entries)
   pub numbers_are : numbers ≡ group_numbers bytes_eq (map entry_key entries)
 
-pub none_seen : AreSeen [] [] []
-none_seen = record { valid = All-nil IsCatalogueEntry; firsts = refl; numbers_are = refl }
-
 pub seen_more : (entries : List TextEntry) (i : ℕ) (entry : TextEntry) (seen new : List (List ℕ)) (numbers : List ℕ)
     (key : List ℕ) (number : ℕ) → i < length entries → AreSeen (take i entries) seen numbers
     → entry ≡ get_or entries i entry → IsCatalogueEntry entry → key ≡ entry_key entry

@@ -1,7 +1,7 @@
 //! The charset that a header names, and those that are admitted.
 
 ghost use Rattle.std.specs.Prelude.{◌≡◌, IsTrue, ◌↔◌, position};
-ghost use Rattle.po_entry.specs.Prelude.{entry_view, HasAdmittedCharset, IsAdmittedName, charset_of, after_charset, ends_name};
+ghost use Rattle.po_entry.specs.Prelude.{entry_view, HasAdmittedCharset, IsAdmittedName, charset_of, after_charset};
 
 use crate::fields::Fields;
 
@@ -21,17 +21,12 @@ impl Fields {
     }
 }
 
-/// Whether the charset that a header's text names is admitted, if it names one.
+/// Whether the charset that a header's text names is admitted, if it names one: UTF-8, ASCII, or
+/// the template's `CHARSET`.
 pub fn admits_charset(text: &[u8]) -> bool
     ensures { IsTrue result ↔ IsAdmittedName (charset_of text.now) }
 {
-    is_admitted_name(charset_of(text))
-}
-
-/// Whether a charset of this name is admitted: UTF-8, ASCII, the template's `CHARSET`, or none.
-fn is_admitted_name(name: &[u8]) -> bool
-    ensures { IsTrue result ↔ IsAdmittedName name.now }
-{
+    let name = charset_of(text);
     // `|` and not `||`: without branches, so that the proof takes one operand after another.
     name.is_empty()
         | name.eq_ignore_ascii_case(b"UTF-8")
@@ -47,24 +42,13 @@ fn charset_of(header: &[u8]) -> &[u8]
     ensures { result.now ≡ charset_of header.now }
 {
     let name = after_charset(header);
-    match name_len(name) {
+    let end = name
+        .iter()
+        .position(|b| matches!(*b, b' ' | b'\t' | b'\r' | b'\n' | b';'));
+    match end {
         Some(len) => &name[..len],
         None => name,
     }
-}
-
-/// How long the name at the beginning is, where something ends it.
-fn name_len(name: &[u8]) -> Option<usize>
-    ensures { result ≡ position ends_name name.now }
-{
-    name.iter().position(|b| ends_name(*b))
-}
-
-/// Whether the byte ends the name of a charset.
-fn ends_name(b: u8) -> bool
-    ensures { result ≡ ends_name b }
-{
-    matches!(b, b' ' | b'\t' | b'\r' | b'\n' | b';')
 }
 
 /// What follows the first `charset=`, or nothing.

@@ -37,15 +37,6 @@ fn own<'a>(bytes: &'a [u8], row: &Row) -> &'a [u8]
     &bytes[row.start..row.start + row.own]
 }
 
-/// The bytes of an entry's head.
-fn head<'a>(bytes: &'a [u8], row: &Row) -> &'a [u8]
-    requires { LiesIn bytes.now row.now }
-    ensures { result.now ≡ head_at bytes.now row.now }
-{
-    let start = row.start + row.own;
-    &bytes[start..start + row.head]
-}
-
 /// What follows the key, without the NUL between them.
 fn after_key<'a>(bytes: &'a [u8], row: &Row) -> &'a [u8]
     requires { LiesIn bytes.now row.now }
@@ -55,44 +46,13 @@ fn after_key<'a>(bytes: &'a [u8], row: &Row) -> &'a [u8]
     own.split_at((row.key + 1).min(own.len())).1
 }
 
-/// The key, as an MO file has it.
-fn key<'a>(bytes: &'a [u8], row: &Row) -> &'a [u8]
+/// The part of an entry's head with this index.
+fn part<'a>(bytes: &'a [u8], row: &Row, index: usize) -> &'a [u8]
     requires { LiesIn bytes.now row.now }
-    ensures key { result.now ≡ key_bytes (entry_at bytes.now row.now).context (entry_at bytes.now row.now).id }
-    ensures len { length result.now ≡ row.now.key }
+    ensures { result.now ≡ part_at index (head_at bytes.now row.now) }
 {
-    own(bytes, row).split_at(row.key).0
-}
-
-/// The key and, where there is a plural, a NUL and the plural.
-fn original<'a>(bytes: &'a [u8], row: &Row) -> &'a [u8]
-    requires { LiesIn bytes.now row.now }
-    ensures { result.now ≡ original_bytes (entry_at bytes.now row.now) }
-{
-    if !row.has_plural {
-        return key(bytes, row);
-    }
-    let len = split_text(after_key(bytes, row)).0.len();
-    own(bytes, row).split_at(row.key + 1 + len).0
-}
-
-/// The forms, with a NUL between them.
-fn translation<'a>(bytes: &'a [u8], row: &Row) -> &'a [u8]
-    requires { LiesIn bytes.now row.now }
-    ensures { result.now ≡ translation_bytes (entry_at bytes.now row.now) }
-{
-    let rest = after_key(bytes, row);
-    if row.has_plural {
-        return split_text(rest).1.unwrap_or(&[]);
-    }
-    rest
-}
-
-/// The part of a head with this index.
-fn part(head: &[u8], index: usize) -> &[u8]
-    ensures { result.now ≡ part_at index head.now }
-{
-    let mut rest = head;
+    let start = row.start + row.own;
+    let mut rest = &bytes[start..start + row.head];
     for _ in 0..index {
         match first_text(rest) {
             Some((_, after)) => rest = after,
@@ -149,49 +109,49 @@ impl<'a> EntryRef<'a> {
     pub fn comments(&self) -> TextListIter<'a>
         ensures { texts_left result ≡ self.now.comments }
     {
-        TextListIter::of(part(head(self.bytes, self.row), 0))
+        TextListIter::of(part(self.bytes, self.row, 0))
     }
 
     /// The comments extracted from the program, each without its `#.`.
     pub fn extracted(&self) -> TextListIter<'a>
         ensures { texts_left result ≡ self.now.extracted }
     {
-        TextListIter::of(part(head(self.bytes, self.row), 1))
+        TextListIter::of(part(self.bytes, self.row, 1))
     }
 
     /// The references to the program, in order.
     pub fn references(&self) -> TextListIter<'a>
         ensures { texts_left result ≡ self.now.references }
     {
-        TextListIter::of(part(head(self.bytes, self.row), 2))
+        TextListIter::of(part(self.bytes, self.row, 2))
     }
 
     /// The flags other than `fuzzy`, in order.
     pub fn flags(&self) -> TextListIter<'a>
         ensures { texts_left result ≡ self.now.flags }
     {
-        TextListIter::of(part(head(self.bytes, self.row), 3))
+        TextListIter::of(part(self.bytes, self.row, 3))
     }
 
     /// The previous context, where there is one.
     pub fn previous_context(&self) -> Option<&'a [u8]>
         ensures { option_copied result ≡ self.now.previous.context }
     {
-        optional(part(head(self.bytes, self.row), 4))
+        optional(part(self.bytes, self.row, 4))
     }
 
     /// The previous msgid, where there is one.
     pub fn previous_id(&self) -> Option<&'a [u8]>
         ensures { option_copied result ≡ self.now.previous.id }
     {
-        optional(part(head(self.bytes, self.row), 5))
+        optional(part(self.bytes, self.row, 5))
     }
 
     /// The previous plural, where there is one.
     pub fn previous_plural(&self) -> Option<&'a [u8]>
         ensures { option_copied result ≡ self.now.previous.plural }
     {
-        optional(part(head(self.bytes, self.row), 6))
+        optional(part(self.bytes, self.row, 6))
     }
 
     /// The context, where the entry has one. An empty context differs from none.
@@ -240,21 +200,29 @@ impl<'a> EntryRef<'a> {
     pub fn key(&self) -> &'a [u8]
         ensures { result.now ≡ key_bytes self.now.context self.now.id }
     {
-        key(self.bytes, self.row)
+        own(self.bytes, self.row).split_at(self.row.key).0
     }
 
     /// Its original in an MO file: the key and, where it has a plural, a NUL and the plural.
     pub fn original(&self) -> &'a [u8]
         ensures { result.now ≡ original_bytes self.now }
     {
-        original(self.bytes, self.row)
+        if !self.row.has_plural {
+            return self.key();
+        }
+        let len = split_text(after_key(self.bytes, self.row)).0.len();
+        own(self.bytes, self.row).split_at(self.row.key + 1 + len).0
     }
 
     /// Its translation in an MO file: the forms, with a NUL between them.
     pub fn translation(&self) -> &'a [u8]
         ensures { result.now ≡ translation_bytes self.now }
     {
-        translation(self.bytes, self.row)
+        let rest = after_key(self.bytes, self.row);
+        if self.row.has_plural {
+            return split_text(rest).1.unwrap_or(&[]);
+        }
+        rest
     }
 
     /// Whether the entry is a header: without a context, and with an empty msgid.

@@ -63,20 +63,6 @@ fn add_forms(bytes: &mut Vec<u8>, forms: &[Vec<u8>]) -> Result<(), AllocError>
     Ok(())
 }
 
-/// Appends an entry's own texts, and returns how long the key is.
-fn add_own(bytes: &mut Vec<u8>, fields: &Fields) -> Result<usize, AllocError>
-    ensures key { IfOk result (λ key. key ≡ length (key_bytes (entry_view fields.now).context (entry_view fields.now).id)) }
-    ensures added { OnOk result (bytes.new.items ≡ bytes.old.items ++ own_bytes (entry_view fields.now)) }
-    ensures grows { Grows bytes.old.items bytes.new.items }
-{
-    let start = bytes.len();
-    add_key(bytes, fields.context.as_deref(), &fields.id)?;
-    let key = bytes.len() - start;
-    add_plural(bytes, fields.plural.as_deref())?;
-    add_forms(bytes, &fields.forms)?;
-    Ok(key)
-}
-
 /// Appends a part of a head: its length, and its bytes.
 fn add_part(bytes: &mut Vec<u8>, part: &[u8]) -> Result<(), AllocError>
     ensures added { OnOk result (bytes.new.items ≡ bytes.old.items ++ measured part.now) }
@@ -119,24 +105,6 @@ fn has_no_head(
         & previous.plural.is_none()
 }
 
-/// Appends the lists of a head.
-fn add_lists(
-    bytes: &mut Vec<u8>,
-    comments: &TextList,
-    extracted: &TextList,
-    references: &TextList,
-    flags: &TextList,
-) -> Result<(), AllocError>
-    ensures added { OnOk result (bytes.new.items ≡ bytes.old.items ++ flat_map measured (flat_map measured comments.now
-        ∷ flat_map measured extracted.now ∷ flat_map measured references.now ∷ flat_map measured flags.now ∷ [])) }
-    ensures grows { Grows bytes.old.items bytes.new.items }
-{
-    add_part(bytes, comments.bytes())?;
-    add_part(bytes, extracted.bytes())?;
-    add_part(bytes, references.bytes())?;
-    add_part(bytes, flags.bytes())
-}
-
 /// Appends the previous texts of a head.
 fn add_previous(bytes: &mut Vec<u8>, previous: &Previous) -> Result<(), AllocError>
     ensures added { OnOk result (bytes.new.items ≡ bytes.old.items
@@ -165,7 +133,10 @@ pub fn add_head(
     if has_no_head(comments, extracted, references, flags, previous) {
         return Ok(());
     }
-    add_lists(bytes, comments, extracted, references, flags)?;
+    add_part(bytes, comments.bytes())?;
+    add_part(bytes, extracted.bytes())?;
+    add_part(bytes, references.bytes())?;
+    add_part(bytes, flags.bytes())?;
     add_previous(bytes, previous)
 }
 
@@ -226,7 +197,10 @@ pub(crate) fn add_entry(bytes: &mut Vec<u8>, fields: &Fields) -> Result<Row, All
     ensures grows { Grows bytes.old.items bytes.new.items }
 {
     let start = bytes.len();
-    let key = add_own(bytes, fields)?;
+    add_key(bytes, fields.context.as_deref(), &fields.id)?;
+    let key = bytes.len() - start;
+    add_plural(bytes, fields.plural.as_deref())?;
+    add_forms(bytes, &fields.forms)?;
     let own = bytes.len() - start;
     add_head(
         bytes,

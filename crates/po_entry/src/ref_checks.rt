@@ -1,6 +1,6 @@
 //! Whether an entry that lies in a buffer can stand in a catalogue.
 
-ghost use Rattle.std.specs.Prelude.{◌≡◌, true, MatchResult, All, IfSome, IsTrue, IsUtf8, ◌↔◌};
+ghost use Rattle.std.specs.Prelude.{◌≡◌, true, MatchResult, All, IsTrue, IsUtf8, ◌↔◌};
 ghost use Rattle.po_entry.specs.Prelude.{Lacks, forms_left, HasAdmittedCharset, quoted_texts, EntryTextFault, HasTexts};
 
 use crate::charset::admits_charset;
@@ -35,13 +35,6 @@ fn is_all_utf8(entry: &EntryRef<'_>) -> bool
         & are_utf8(entry.forms())
 }
 
-/// Whether neither context nor msgid has an EOT.
-fn lacks_eot(entry: &EntryRef<'_>) -> bool
-    ensures { IsTrue result ↔ (IfSome entry.now.context (Lacks 4) × Lacks 4 entry.now.id) }
-{
-    optional_meets(Need::Without(EOT), entry.context()) & meets(Need::Without(EOT), entry.id())
-}
-
 impl EntryRef<'_> {
     /// Whether the entry can have its texts, which hold no NUL, as those of items don't. Refused
     /// with `NotUtf8` where a text of its quoted strings is not UTF-8, which isn't tested where it
@@ -55,7 +48,9 @@ impl EntryRef<'_> {
         if !are_utf8 && !is_all_utf8(self) {
             return Err(PoFault::NotUtf8);
         }
-        if !lacks_eot(self) {
+        let lacks_eot = optional_meets(Need::Without(EOT), self.context())
+            & meets(Need::Without(EOT), self.id());
+        if !lacks_eot {
             return Err(PoFault::ForbiddenByte);
         }
         Ok(())

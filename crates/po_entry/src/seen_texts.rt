@@ -131,26 +131,20 @@ impl<'a> SeenTexts<'a> {
         Ok(index)
     }
 
-    /// They as a list. Refused only where an allocation failed.
+    /// They as a list. Refused only where an allocation failed. What they have besides their bytes
+    /// is given back first.
     pub fn into_list(self, alloc: Global) -> Result<TextList, AllocError>
         ensures { IfOk result (λ list. list ≡ self.entry) }
     {
         let SeenTexts { index } = self;
-        list_of(alloc, index)
+        let mut len: usize = 0;
+        for text in &index {
+            len = len.saturating_add(text.bytes.len());
+        }
+        let mut list = TextList::with_capacity(alloc, index.len(), len)?;
+        for text in index {
+            list.push(text.bytes)?;
+        }
+        Ok(list)
     }
-}
-
-/// The texts of an index as a list. What the index has besides them is given back first.
-fn list_of(alloc: Global, index: IndexSet<SeenText<'_>, Seeded>) -> Result<TextList, AllocError>
-    ensures { IfOk result (λ list. list ≡ map (λ text. text.bytes.now) index.entry.keys) }
-{
-    let mut len: usize = 0;
-    for text in &index {
-        len = len.saturating_add(text.bytes.len());
-    }
-    let mut list = TextList::with_capacity(alloc, index.len(), len)?;
-    for text in index {
-        list.push(text.bytes)?;
-    }
-    Ok(list)
 }

@@ -77,7 +77,14 @@ impl TextList {
         ensures ok { OnOk result (self.new ≡ self.old ++ text.now ∷ []) }
         ensures unchanged { OnErr result (self.new ≡ self.old) }
     {
-        push_length(&mut self.bytes, text)?;
+        let len = text.len();
+        let of_length = if len < LONG as usize {
+            1
+        } else {
+            1 + LENGTH_BYTES
+        };
+        make_room(&mut self.bytes, of_length + len)?;
+        add_length(&mut self.bytes, len)?;
         self.bytes.extend_from_slice(text)?;
         Ok(())
     }
@@ -131,23 +138,6 @@ pub(crate) fn add_length(bytes: &mut Vec<u8>, len: usize) -> Result<(), AllocErr
     }
     bytes.push(LONG)?;
     bytes.extend_from_slice(&(len as u64).to_le_bytes())
-}
-
-/// Adds the length of a text, with room for the text itself. Where an allocation failed, the buffer
-/// stays as it was.
-fn push_length(bytes: &mut Vec<u8>, text: &[u8]) -> Result<(), AllocError>
-    ensures ok { OnOk result (bytes.new.items ≡ bytes.old.items ++ length_bytes (length text.now)) }
-    ensures room { OnOk result (vec_len bytes.new + length text.now ≤ vec_capacity bytes.new) }
-    ensures unchanged { OnErr result (bytes.new.items ≡ bytes.old.items) }
-{
-    let len = text.len();
-    let of_length = if len < LONG as usize {
-        1
-    } else {
-        1 + LENGTH_BYTES
-    };
-    make_room(bytes, of_length + len)?;
-    add_length(bytes, len)
 }
 
 /// The length with which a buffer begins, and the bytes after it; none where no whole length stands

@@ -1,16 +1,8 @@
-use Rattle.po_entry.proofs.Prelude.{AllDiffer, HasNoDuplicate, MatchOption, RepeatsOnLines, ap, in_input, inr, is_live, length, length-map, map, number_in, place_of, subst, sym, ◌∙◌}
+use Rattle.po_entry.proofs.Prelude.{AllDiffer, HasNoDuplicate, MatchOption, RepeatsOnLines, in_input, inr, is_live, map, subst, sym, ◌∙◌}
 use Rattle.std.specs.Prelude.{filter}
 use Rattle.po_entry.proofs.DuplicateLemmas.{distinct_has_no_first, entries_of_input}
 use Rattle.po_entry.proofs.NumberLemmas.{are_numbered, repeats_of}
 use Rattle.po_entry.proofs.duplicate.check_duplicates.Goals as goal
-
-pub repeated_lines-requires-clause-lengths : goal.repeated_lines-requires-clause-lengths
-repeated_lines-requires-clause-lengths c =
-    let store = c.args.store.now in
-    let are = are_numbered store c.deref.result.now (c.deref.ensures.value ∙ c.in_ok-numbers.ensures.numbers) in
-    let placed = c.deref-2.ensures.value ∙ c.in_ok-places.ensures.places in
-    ap length are.numbers_are ∙ length-map store (number_in store)
-    ∙ sym (ap length placed ∙ length-map store (place_of is_live))
 
 pub returns-in-Some-clause-exact : goal.returns-in-Some-clause-exact
 returns-in-Some-clause-exact c =

@@ -1,12 +1,6 @@
-use Rattle.po_entry.proofs.Prelude.{[], arith, length, take_all, ◌<◌, ◌≡◌}
-use Rattle.po_entry.proofs.Lists.{all_empty, All-written}
+use Rattle.po_entry.proofs.Prelude.{take_all}
+use Rattle.po_entry.proofs.Lists.{all_empty}
 use Rattle.po_entry.proofs.fields.empty_texts.Goals as goal
-
-pub loop-text-preserved : goal.loop-text-preserved
-loop-text-preserved c =
-    let below : c.loop-text.text-index < length c.loop-text.list = omega (arith, c.loop-text.auto.list) in
-    All-written (λ v. v.items ≡ []) c.loop-text.list c.loop-text.text-index c.clear.new.self below c.loop-text.invariant
-    c.clear.ensures.items
 
 pub returns : goal.returns
 returns c =

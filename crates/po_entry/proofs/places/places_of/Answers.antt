@@ -1,4 +1,4 @@
-use Rattle.po_entry.proofs.Prelude.{All, All-push, Bool, EntryPlace, IsCatalogueEntry, TextEntry, [], ap, ap₂, are_placed, arith, is_live, length, map-append, not, place_of, subst, sym, take, take_all, take_more, ℕ, ◌++◌, ◌+◌, ◌<◌, ◌∙◌, ◌∷◌, ◌≡◌, ◌≤◌}
+use Rattle.po_entry.proofs.Prelude.{All, All-push, Bool, EntryPlace, IsCatalogueEntry, TextEntry, [], ap, ap₂, are_placed, arith, is_live, length, map-append, not, place_of, subst, sym, take, take_more, ℕ, ◌++◌, ◌+◌, ◌<◌, ◌∙◌, ◌∷◌, ◌≡◌}
 use Rattle.po_entry.proofs.places.places_of.Goals as goal
 
 abbrev place : ℕ → Bool → EntryPlace
@@ -22,14 +22,4 @@ loop-index-preserved c =
           ∙ sym (ap (are_placed is_live) more ∙ map-append (place_of is_live) (take i store) (entry ∷ []));
       valid = subst (All IsCatalogueEntry) (sym more)
           (All-push IsCatalogueEntry (take i store) entry so_far.valid c.get-entry.ensures.valid);
-    }
-
-pub returns : goal.returns
-returns c =
-    let past : length c.args.store.now ≤ c.loop-index.index =
-    omega (arith, c.loop-index-test.false, c.len-index-end.ensures) in
-    let whole = take_all c.loop-index.index c.args.store.now past in
-    record {
-      places = c.loop-index.invariant.places ∙ ap (are_placed is_live) whole;
-      valid = subst (All IsCatalogueEntry) whole c.loop-index.invariant.valid;
     }

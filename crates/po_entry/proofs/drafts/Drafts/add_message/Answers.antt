@@ -1,4 +1,4 @@
-use Rattle.po_entry.proofs.Prelude.{Row, [], ap, refl, ◌++◌, ◌∙◌, ◌∷◌}
+use Rattle.po_entry.proofs.Prelude.{refl}
 use Rattle.po_entry.proofs.RowLemmas.{always, keeps}
 use Rattle.po_entry.proofs.drafts.Drafts.add_message.Goals as goal
 
@@ -11,10 +11,3 @@ pub returns-in_err-push-clause-unchanged : goal.returns-in_err-push-clause-uncha
 returns-in_err-push-clause-unchanged c =
     always c.from_residual-in_err-push.result (λ laid.
     let k = keeps _ _ _ _ c.add_message.ensures.grows c.in_err-push.ensures.items laid in (k.lie, k.same))
-
-pub returns-clause-ok : goal.returns-clause-ok
-returns-clause-ok c = record {
-  bytes = c.in_ok-row.ensures.added;
-  row = c.in_ok-push.ensures.items
-      ∙ ap (λ (row : Row). c.args.self.now.rows.items ++ row ∷ []) c.in_ok-row.ensures.row;
-}

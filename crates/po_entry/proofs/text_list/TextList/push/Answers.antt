@@ -8,7 +8,8 @@ invariant_of-self-2 c =
     let before = c.self.inside.bytes.items in
     rw (
       c.in_ok-extend_from_slice.ensures.items,
-      c.in_ok-push_length.ensures.ok,
+      c.in_ok-add_length.ensures.ok,
+      c.in_ok-make_room.ensures.items,
       append_assoc,
     )
     (more_AreTexts before text c.self.invariant (omega arith))
@@ -19,7 +20,8 @@ returns-clause-ok c =
     let before = c.self.inside.bytes.items in
     rw (
       c.in_ok-extend_from_slice.ensures.items,
-      c.in_ok-push_length.ensures.ok,
+      c.in_ok-add_length.ensures.ok,
+      c.in_ok-make_room.ensures.items,
       append_assoc,
       ← c.self.view_is,
     )

@@ -1,7 +1,7 @@
 use Rattle.po_entry.proofs.Prelude.{map, ◌++◌, ◌≡◌}
 use Rattle.po_entry.proofs.SeenTextLemmas.{bytes_of}
-use Rattle.po_entry.proofs.seen_texts.list_of.Given as goal
+use Rattle.po_entry.proofs.seen_texts.SeenTexts.into_list.Given as goal
 
 -- the list and the texts that are left are all
 abbrev pub invariant-loop-text-2 : goal.invariant-loop-text-2
-invariant-loop-text-2 l = l.list ++ map bytes_of l.text-iterator ≡ map bytes_of l.fn.index.keys
+invariant-loop-text-2 l = l.list ++ map bytes_of l.text-iterator ≡ l.fn.self
