@@ -1,13 +1,14 @@
 //! An entry of a catalogue, of which each field is valid.
 
 ghost use Rattle.std.specs.Prelude.{◌≡◌, ◌<◌, ◌↔◌, IfOk, IfErr, IsOkUnless, IsTrue, None, map, [], false, length, option_copied};
-ghost use Rattle.po_entry.specs.Prelude.{texts, no_previous, optional_text, borrowed_entry, bodies_eq, comments_eq, optional_eq, previous_eq, HasAdmittedCharset, is_header, HasTexts, IsEntry, RefusesMessage, out_of_memory};
+ghost use Rattle.po_entry.specs.Prelude.{texts, no_previous, optional_text, borrowed_entry, bodies_eq, comments_eq, optional_eq, previous_eq, HasAdmittedCharset, is_header, IsEntry, RefusesMessage, out_of_memory};
+ghost use Rattle.po_catalog.specs.EntryView.{entry_of};
 
 use crate::text_list::{TextList, copy_slices, copy_texts, empty_texts, same_texts};
 use crate::texts::check_texts;
 use po_entry::{Previous, admits_charset, copy_optional};
 use po_syntax::PoError;
-use std::alloc::{AllocError, Global};
+use std::alloc::Global;
 use std::marker::Model;
 
 /// An entry of a catalogue: its comments, its texts, and whether it is fuzzy and obsolete (GNU
@@ -58,25 +59,9 @@ impl Entry {
         ensures valid { IfOk result IsEntry }
         ensures fault { IfErr result (λ e. RefusesMessage (borrowed_entry context.entry id.now plural.entry forms.now) e) }
     {
-        match check_texts(context, id, plural, forms) {
-            Ok(()) => Ok(Entry::plain(alloc, context, id, plural, forms)?),
-            Err(kind) => Err(PoError { kind, line: 0 }),
+        if let Err(kind) = check_texts(context, id, plural, forms) {
+            return Err(PoError { kind, line: 0 });
         }
-    }
-
-    /// A live entry of texts that can stand in one, without comments, at line 0.
-    fn plain(
-        alloc: Global,
-        context: Option<&[u8]>,
-        id: &[u8],
-        plural: Option<&[u8]>,
-        forms: &[&[u8]],
-    ) -> Result<Entry, AllocError>
-        requires texts { HasTexts (borrowed_entry context id.now plural forms.now) }
-        requires some_form { 0 < length forms.now }
-        requires one_form { plural ≡ None → length forms.now ≡ 1 }
-        ensures { IfOk result (λ e. e ≡ borrowed_entry context.entry id.now plural.entry forms.now) }
-    {
         let context = copy_optional(alloc, context)?;
         let id = id.to_vec(alloc)?;
         let plural = copy_optional(alloc, plural)?;
@@ -112,34 +97,10 @@ impl Entry {
         obsolete: bool,
         line: u32,
     ) -> Entry
-        requires { IsEntry (record {
-          comments = comments;
-          extracted = extracted;
-          references = references;
-          fuzzy = fuzzy;
-          flags = flags;
-          previous = previous;
-          context = optional_text context;
-          id = id.items;
-          plural = optional_text plural;
-          forms = texts forms.items;
-          obsolete = obsolete;
-          line = line;
-        }) }
-        ensures { result ≡ record {
-          comments = comments;
-          extracted = extracted;
-          references = references;
-          fuzzy = fuzzy;
-          flags = flags;
-          previous = previous;
-          context = optional_text context;
-          id = id.items;
-          plural = optional_text plural;
-          forms = texts forms.items;
-          obsolete = obsolete;
-          line = line;
-        } }
+        requires { IsEntry (entry_of comments extracted references fuzzy flags previous (optional_text context)
+            id.items (optional_text plural) (texts forms.items) obsolete line) }
+        ensures { result ≡ entry_of comments extracted references fuzzy flags previous (optional_text context)
+            id.items (optional_text plural) (texts forms.items) obsolete line }
     {
         Entry {
             comments,
@@ -161,13 +122,6 @@ impl Entry {
     pub fn copy(&self, alloc: Global) -> Result<Entry, PoError>
         ensures copy { IfOk result (λ e. e ≡ self.now) }
         ensures memory { IsOkUnless result out_of_memory }
-    {
-        Ok(self.copied_parts(alloc)?)
-    }
-
-    /// A copy of each part.
-    fn copied_parts(&self, alloc: Global) -> Result<Entry, AllocError>
-        ensures { IfOk result (λ e. e ≡ self.now) }
     {
         Ok(Entry {
             comments: self.comments.copy(alloc)?,

@@ -5,13 +5,12 @@
 //! for this crate. A call here copies its catalogue to a store ([`store_of`]), and then does what
 //! the tools do; a catalogue that is read is a copy of a store's entries ([`catalogue_of`]).
 //!
-//! The modules in reading order: `text_list`, `texts`, `entry`, `copies`, `catalogue`, `stores`,
-//! `reading`, `writing`, `joining`, `duplicate`, `stats`, `laws`.
+//! The modules in reading order: `text_list`, `texts`, `entry`, `catalogue`, `stores`, `reading`,
+//! `writing`, `joining`, `duplicate`, `stats`, `laws`.
 
 #![tactic(auto)]
 
 mod catalogue;
-mod copies;
 mod duplicate;
 mod entry;
 mod joining;

@@ -1,7 +1,7 @@
 //! Whether texts that are given can stand in an entry.
 
-ghost use Rattle.std.specs.Prelude.{MatchResult, All, IfSome, IsTrue, ◌↔◌, option_copied};
-ghost use Rattle.po_entry.specs.Prelude.{Lacks, Meets, borrowed_entry, quoted_texts, slice_texts, EntryTextFault, HasTexts};
+ghost use Rattle.std.specs.Prelude.{MatchResult, All, IsTrue, ◌↔◌};
+ghost use Rattle.po_entry.specs.Prelude.{Meets, borrowed_entry, quoted_texts, slice_texts, EntryTextFault, HasTexts};
 
 use po_entry::{EOT, NUL, Need, meets, optional_meets};
 use po_syntax::PoFault;
@@ -23,17 +23,11 @@ pub(crate) fn check_texts(
     if !all_meet(Need::Without(NUL), context, id, plural, forms) {
         return Err(PoFault::ForbiddenByte);
     }
-    if !lacks_eot(context, id) {
+    let lacks_eot = optional_meets(Need::Without(EOT), context) & meets(Need::Without(EOT), id);
+    if !lacks_eot {
         return Err(PoFault::ForbiddenByte);
     }
     Ok(())
-}
-
-/// Whether neither context nor msgid has an EOT.
-fn lacks_eot(context: Option<&[u8]>, id: &[u8]) -> bool
-    ensures { IsTrue result ↔ (IfSome (option_copied context.entry) (Lacks 4) × Lacks 4 id.now) }
-{
-    optional_meets(Need::Without(EOT), context) & meets(Need::Without(EOT), id)
 }
 
 /// Whether all texts meet the need.

@@ -1,5 +1,5 @@
 use Rattle.po_catalog.proofs.PlainEntries.{plain_entry_valid}
-use Rattle.po_catalog.proofs.entry.Entry.plain.Goals as goal
+use Rattle.po_catalog.proofs.entry.Entry.message.Goals as goal
 
 pub of_fields-requires : goal.of_fields-requires
 of_fields-requires c =
@@ -15,5 +15,5 @@ of_fields-requires c =
       c.new-4.ensures,
       c.none.ensures,
     )
-    (plain_entry_valid c.args.context c.args.id.now c.args.plural c.args.forms.now c.requires.texts
+    (plain_entry_valid c.args.context c.args.id.now c.args.plural c.args.forms.now c.in_default.ensures
     c.requires.some_form c.requires.one_form)
