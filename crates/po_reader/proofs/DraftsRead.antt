@@ -2,7 +2,7 @@
 use Rattle.po_reader.proofs.Prelude.{AreDraftsOf, Bool, ChecksStop, HasAdmittedCharset, HasTexts, Head, HoldsText, IsCatalogueEntry, IsUtf8, ItemsStop, Lacks, List, OfString, PoFault, ReadsUpTo, SpellsEntries, TextEntry, TextItem, ap, entries_in, in_charset, in_texts, inl, inr, kept_entry, map, outcome, quoted_texts, subst, sym, ℕ, ◌≡◌}
 use Rattle.std.proofs.Common.{All}
 use Rattle.po_entry.specs.declared.drafts.Drafts.{Drafts}
-use Rattle.po_reader.proofs.RunsSpelt.{whole_spelt}
+use Rattle.po_reader.proofs.ToSpelling.{whole_spelt}
 use Rattle.po_reader.proofs.SoundCatalogue.{admitted_one, kept_admitted, kept_lie, kept_no_nul, kept_stand, kept_stop, kept_texts, kept_utf8, texts_one, whole_fault, whole_foreign}
 
 module _ (all : Bool) (items : List TextItem) (head : Head) (drafts : Drafts) (read : ReadsUpTo all items head drafts)

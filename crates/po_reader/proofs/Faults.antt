@@ -3,8 +3,8 @@ use Rattle.po_reader.proofs.Prelude.{AfterForm, BadOrder, Before, Between, Bool,
 use Rattle.std.specs.Prelude.{fold}
 use Rattle.po_syntax.specs.Facts.Once.{Once, same}
 use Rattle.po_reader.proofs.Turns.{goes_on, stopped, text_ends}
-use Rattle.po_reader.proofs.SpeltRuns.{Comes, string_step, text_comes, spelt_runs}
-use Rattle.po_reader.proofs.RunsSpelt.{runs_spelt, whole_spelt}
+use Rattle.po_reader.proofs.FromSpelling.{Comes, string_step, text_comes, spelt_runs}
+use Rattle.po_reader.proofs.ToSpelling.{runs_spelt, whole_spelt}
 use Rattle.po_reader.proofs.Misfits.{Step, taken, refused, step}
 
 -- from this gap on some items complete the entry, of which no string is the first

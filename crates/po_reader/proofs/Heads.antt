@@ -1,5 +1,5 @@
 -- What a head holds, as comments and previous texts are added, and what is kept of it.
-use Rattle.po_reader.proofs.Prelude.{All, All-cons, All-head, All-nil, All-tail, Bool, CommentText, Flags, Head, HoldsHead, List, PreviousText, TextEntry, TextPrevious, [], ap, false, flags_of, flat_map, fold, fold_push, kept_entry, kept_texts, listed_flags, map, no_previous, refl, slice_texts, sym, texts_of, true, with_flag, with_head, with_kept_head, with_previous, ◌++◌, ◌∙◌, ◌∷◌, ◌≡◌}
+use Rattle.po_reader.proofs.Prelude.{All, All-cons, All-head, All-nil, All-tail, Bool, CommentText, Head, HoldsHead, List, PreviousText, TextEntry, TextPrevious, [], ap, false, fold_push, kept_entry, kept_texts, map, no_previous, refl, slice_texts, sym, true, with_head, with_kept_head, with_previous, ◌++◌, ◌∙◌, ◌∷◌, ◌≡◌}
 
 none_kept : (all : Bool) → [] ≡ kept_texts all []
 none_kept true = refl
@@ -35,12 +35,6 @@ holds_previous all head fields comment_texts previous text h e = record {
   texts = e ∙ ap (λ (p : TextPrevious). with_previous text.keyword text.text p) h.texts
       ∙ sym (fold_push (λ fields (p : PreviousText). with_previous p.keyword p.text fields) no_previous previous text);
 }
-
--- the flags of the lines that are kept
-pub flags_kept : (all : Bool) (cs : List CommentText)
-    → fold with_flag [] (flat_map listed_flags (kept_texts all (texts_of Flags cs))) ≡ kept_texts all (flags_of cs)
-flags_kept true cs = refl
-flags_kept false cs = refl
 
 -- the entry that is made of a head
 pub kept_from : (all : Bool) (cs : List CommentText) (previous : List PreviousText) (own : TextEntry)

@@ -2,11 +2,11 @@
 mod Prelude
 pub mod PreviousOrder
 pub mod Loops
-pub mod SeenFlags
+pub mod Elements
 pub mod Turns
-pub mod SpeltRuns
+pub mod FromSpelling
 pub mod Misfits
-pub mod RunsSpelt
+pub mod ToSpelling
 pub mod Faults
 pub mod Heads
 pub mod Results

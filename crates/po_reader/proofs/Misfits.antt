@@ -1,7 +1,7 @@
 -- What is wrong with an item that is refused.
 use Rattle.po_reader.proofs.Prelude.{AfterForm, BadOrder, BadPluralIndex, Before, Between, Bool, Comment, CommentKind, Form, Gap, Id, In, InHead, IsOwn, IsViable, IsWrongIndex, Keyword, List, Marks, Misfit, MixedObsolete, MsgCtxt, MsgId, MsgIdPlural, MsgStr, MsgStrAt, PoFault, SoFar, Stage, Stop, Str, TextItem, Translation, Word, [], ap, beq, bool_eq_equiv, closed, eq-eqb, eqb-false, eqb-true, false, if◌then◌else◌, index, line_of, mixed, nat_lt, ne_eqb, opened, order, own_marks, previous_marks, rank, refl, same_marks, stray_string, subst, sym, true, true≢false, turn, turn_gap, turn_own, with_entry, with_obsolete, ℕ, ◌&&◌, ◌++◌, ◌==◌, ◌∙◌, ◌∷◌, ◌≡◌}
 use Rattle.po_reader.proofs.Turns.{marked, goes_on}
-use Rattle.po_reader.proofs.SpeltRuns.{no_form, string_step}
+use Rattle.po_reader.proofs.FromSpelling.{no_form, string_step}
 
 module _ (prefix : List TextItem) where
   -- the item is taken, or refused with its misfit, on its own line

@@ -1,9 +1,9 @@
 -- A text that is read in pieces: a piece that reads, and the entries or the fault of what is left after it.
-use Rattle.po_reader.proofs.Prelude.{All, All-append, All-head, All-nil, All-tail, BeginsAnew, Bool, CanEnd, CanFollow, CommentText, EndsEntry, EndsInString, Fault, FaultsStay, HasAdmittedCharset, HasTexts, IsApart, IsCleanLine, IsLeftFault, IsNew, IsPiece, IsReadFault, IsReadSoFar, IsShorter, ItemsFault, ItemsStop, KeepsItems, KeepsReading, LeftAnew, LeftStops, LineBeginsAnew, LinesLeft, List, MsgStrAt, OpenPieces, PiecesRead, PoFault, ReadsItems, ReadsLeft, ReadsOn, ReadsText, SpellsEntries, SpellsLeft, SpellsLines, SpellsOn, SpellsText, Stage, StopsStay, Str, TextEntry, TextFault, TextItem, Word, [], ap, append-nil, append_assoc, arith, comes_to, drop, drop_all, entries_joined, fold, fold-append, in_head, inl, inr, last_line, length, length-drop, line_once, outcome, reached, refl, settled, start, subst, suc, sym, take, turn, zero, ℕ, ◌++◌, ◌+◌, ◌<◌, ◌∙◌, ◌∷◌, ◌≡◌, ◌≢◌, ◌≤◌, ◌⊎◌}
+use Rattle.po_reader.proofs.Prelude.{AddsReading, All, All-append, All-head, All-nil, All-tail, BeginsAnew, Bool, CanEnd, CanFollow, CommentText, EndsEntry, EndsInString, Fault, FaultsStay, HasAdmittedCharset, HasTexts, IsApart, IsCleanLine, IsLeftFault, IsNew, IsPiece, IsReadFault, IsReadSoFar, IsShorter, ItemsFault, ItemsStop, KeepsItems, LeftAnew, LeftStops, LineBeginsAnew, LinesLeft, List, MsgStrAt, OpenPieces, PiecesRead, PoFault, ReadsItems, ReadsLeft, ReadsOn, ReadsText, SpellsEntries, SpellsLeft, SpellsLines, SpellsOn, SpellsText, Stage, StopsStay, Str, TextEntry, TextFault, TextItem, Word, [], ap, append-nil, append_assoc, arith, comes_to, drop, drop_all, entries_joined, fold, fold-append, in_head, inl, inr, last_line, length, length-drop, line_once, outcome, reached, refl, settled, start, subst, suc, sym, take, turn, zero, ℕ, ◌++◌, ◌+◌, ◌<◌, ◌∙◌, ◌∷◌, ◌≡◌, ◌≢◌, ◌≤◌, ◌⊎◌}
 use Rattle.po_syntax.proofs.Lines.{some_length}
 use Rattle.po_syntax.proofs.PieceLemmas.{piece_all, piece_anew, piece_shorter, piece_spelt, piece_stops}
 use Rattle.po_reader.proofs.Faults.{fault_unread, items_fault, fault_comes, spelt_once}
-use Rattle.po_reader.proofs.SpeltRuns.{spelt_go_on}
+use Rattle.po_reader.proofs.FromSpelling.{spelt_go_on}
 use Rattle.po_reader.proofs.Turns.{settles}
 use Rattle.po_reader.proofs.Texts.{read_or_stopped}
 use Rattle.po_entry.specs.Spelling as spelling
@@ -141,10 +141,12 @@ faults_over old new stops none fault line (piece.in_items {items = rest} more st
     absurd (nothing_stops rest (nothing_left new rest none more) stopped)
 
 -- where the items of what is left are kept, what is left is
-pub items_kept : (all : Bool) (old new : LinesLeft) (items : List TextItem) (kept : List TextEntry)
-    → SpellsOn old new items → (new.lines ≡ []) ⊎ EndsInString items → KeepsItems all items kept
-    → KeepsReading all old new kept
-items_kept all old new items kept spelt ends h = (h.0, h.2, piece_joined old new items h.0 spelt ends h.1)
+pub items_added : (all : Bool) (old new : LinesLeft) (items : List TextItem) (before : List TextEntry)
+    {kept after : List TextEntry} → after ≡ before ++ kept → SpellsOn old new items
+    → (new.lines ≡ []) ⊎ EndsInString items
+    → KeepsItems all items kept → AddsReading all old new before after
+items_added all old new items before added spelt ends h =
+    (h.0, added ∙ ap (λ es. before ++ es) h.2, piece_joined old new items h.0 spelt ends h.1)
 
 -- the fault of all of a text is that of the text
 fault_of_text : (text : List ℕ) (old : LinesLeft)

@@ -3,5 +3,4 @@ pub mod Stage
 pub mod Turn
 pub mod Reads
 pub mod ReaderView
-pub mod Elements
 pub mod Keeping

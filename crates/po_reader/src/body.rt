@@ -3,8 +3,8 @@
 ghost use Rattle.std.specs.Prelude.{◌≡◌, ◌≢◌, ◌<◌, ◌≤◌, ◌^◌, ◌-◌, ◌++◌, [], ℕ, List, Option, true, length, is_some, option_to_list, None, IfOk, IfErr, IfSome, OnOk, MatchOption};
 ghost use Rattle.std.specs.List.{flat_map};
 ghost use Rattle.po_syntax.specs.Item.{Word};
-ghost use Rattle.po_entry.specs.Prelude.{TextEntry, after_nul, own_bytes};
-ghost use Rattle.po_reader.specs.Internal.ReaderView.{AddsEntry, bare_row, context_bytes, wanted_view};
+ghost use Rattle.po_entry.specs.Prelude.{TextEntry, after_nul};
+ghost use Rattle.po_reader.specs.Internal.ReaderView.{AddsEntry, context_bytes, wanted_view};
 ghost use Rattle.po_reader.specs.Internal.Stage.{SoFar, Between, Before, InHead, Stop, no_lines, with_own, with_entry, with_context, with_forms, with_translation};
 ghost use Rattle.po_reader.specs.Internal.Stage as stage;
 ghost use Rattle.po_reader.specs.Internal.Turn.{and_text, begins_form, begins_own, is_wanted, opened, turn_own};
@@ -163,45 +163,6 @@ fn take_context(rest: &mut Cursor<'_, '_>, out: &mut Vec<u8>) -> Result<bool, Po
     Ok(obsolete)
 }
 
-/// How many bytes stand from there on.
-fn len_from(bytes: &[u8], start: usize) -> usize
-    requires { start ≤ length bytes.now }
-    ensures { result ≡ length bytes.now - start }
-{
-    bytes.len() - start
-}
-
-/// Takes the own lines of an entry, which stand first, and appends their texts. Gives the row of
-/// an entry without a head.
-fn take_own(rest: &mut Cursor<'_, '_>, out: &mut Vec<u8>) -> Result<Row, PoError>
-    requires few { length rest.old.items < 2 ^ 32 }
-    requires begins { begins_own rest.old.items ≡ true }
-    ensures found { IfOk result (λ row. (own : TextEntry) × (out.new.items ≡ out.old.items ++ own_bytes own)
-        × (row ≡ bare_row (length out.old.items) own) × ((read : SoFar) (above : ℕ)
-        → comes (Between (InHead read above)) rest.old
-        ≡ comes (Between (InHead (with_entry (with_own read own)) 0)) rest.new)) }
-    ensures fewer { OnOk result (length rest.new.items < length rest.old.items) }
-    ensures fault { IfErr result (λ e. (read : SoFar) (above : ℕ) → Fails (Between (InHead read above)) rest.old e) }
-{
-    let start = out.as_slice().len();
-    let obsolete = take_context(rest, out)?;
-    let context = len_from(out, start);
-    let (_, line) = take_keyword_text(rest, Wanted::Id, obsolete, out)?;
-    let key = len_from(out, start);
-    let has_plural = take_translation(rest, obsolete, out)?;
-    Ok(Row {
-        start,
-        context,
-        key,
-        own: len_from(out, start),
-        head: 0,
-        line,
-        has_plural,
-        fuzzy: false,
-        obsolete,
-    })
-}
-
 /// Takes the own lines of an entry, which stand first, and adds the draft of the entry that has
 /// this head.
 pub(crate) fn take_body(
@@ -218,13 +179,25 @@ pub(crate) fn take_body(
     ensures fewer { OnOk result (length rest.new.items < length rest.old.items) }
     ensures fault { IfErr result (λ e. (read : SoFar) (above : ℕ) → Fails (Between (InHead read above)) rest.old e) }
 {
-    let row = take_own(rest, &mut drafts.bytes)?;
-    let own_end = drafts.bytes.as_slice().len();
-    head.lay_out(alloc, &mut drafts.bytes)?;
+    let bytes = &mut drafts.bytes;
+    let start = bytes.len();
+    let obsolete = take_context(rest, bytes)?;
+    let context = bytes.len() - start;
+    let (_, line) = take_keyword_text(rest, Wanted::Id, obsolete, bytes)?;
+    let key = bytes.len() - start;
+    let has_plural = take_translation(rest, obsolete, bytes)?;
+    let own = bytes.len() - start;
+    head.lay_out(alloc, bytes)?;
     drafts.rows.push(Row {
-        head: len_from(&drafts.bytes, own_end),
+        start,
+        context,
+        key,
+        own,
+        head: bytes.len() - start - own,
+        line,
+        has_plural,
         fuzzy: head.fuzzy,
-        ..row
+        obsolete,
     })?;
     Ok(())
 }

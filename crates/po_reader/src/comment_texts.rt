@@ -1,11 +1,9 @@
 //! The references and flags that comments spell, and the flags that an entry keeps (manual, "The
 //! Format of PO Files").
 
-ghost use Rattle.std.specs.Prelude.{◌≡◌, ◌==◌, ◌<◌, ◌++◌, ◌∷◌, [], ℕ, Bool, fold, length, position, IfOk, IfSome, MatchOption, OnOk};
-ghost use Rattle.std.specs.List.{flat_map, list_any, slice_split};
-ghost use Rattle.po_syntax.specs.Prelude.{is_blank};
-ghost use Rattle.po_entry.specs.Prelude.{trimmed, slice_texts, digest_of, seed_of, is_fuzzy_flag, listed_references, listed_flags, with_flag};
-ghost use Rattle.po_reader.specs.Internal.Elements.{with_element};
+ghost use Rattle.std.specs.Prelude.{◌≡◌, ◌++◌, ◌∷◌, [], filter, fold, IfOk, OnOk};
+ghost use Rattle.std.specs.List.{flat_map, list_any};
+ghost use Rattle.po_entry.specs.Prelude.{is_not_empty, trimmed, slice_texts, digest_of, seed_of, is_fuzzy_flag, listed_references, listed_flags, with_flag};
 
 use po_entry::{Seeded, SeenTexts, TextList};
 use po_syntax::{is_blank, skip_blanks};
@@ -21,64 +19,16 @@ fn trimmed(text: &[u8]) -> &[u8]
     rest.split_at(rest.len() - after).0
 }
 
-/// The index of the first blank.
-fn first_blank(text: &[u8]) -> Option<usize>
-    ensures first { result ≡ position is_blank text.now }
-    ensures within { IfSome result (λ i. i < length text.now) }
-{
-    text.iter().position(|b| is_blank(*b))
-}
-
-/// The index of the first comma.
-fn first_comma(text: &[u8]) -> Option<usize>
-    ensures first { result ≡ position (λ b. b == 44) text.now }
-    ensures within { IfSome result (λ i. i < length text.now) }
-{
-    text.iter().position(|b| *b == b',')
-}
-
-/// The text before an index, and that after the byte there; where there is none, all of the text.
-#[tactic(auto, using(po_syntax::specs::Facts::Cuts::cut_none, po_syntax::specs::Facts::Cuts::cut_found))]
-fn cut(text: &[u8], at: Option<usize>) -> (&[u8], Option<&[u8]>)
-    requires { IfSome at (λ i. i < length text.now) }
-    ensures cut { (ends : ℕ → Bool) → at ≡ position ends text.now
-        → MatchOption result.1 (slice_split ends text.now ≡ result.0.now ∷ [])
-        (λ rest. slice_split ends text.now ≡ result.0.now ∷ slice_split ends rest.now) }
-    ensures less { IfSome result.1 (λ rest. length rest.now < length text.now) }
-{
-    let Some(end) = at else {
-        return (text, None);
-    };
-    let (element, rest) = text.split_at(end);
-    (element, Some(rest.split_at(1).1))
-}
-
 /// Adds the elements of a text, which stand between blanks.
 pub(crate) fn add_references(list: &mut TextList, text: &[u8]) -> Result<(), AllocError>
     ensures { OnOk result (list.new ≡ list.old ++ listed_references text.now) }
 {
-    let mut rest = text;
-    loop {
-        let (element, after) = cut(rest, first_blank(rest));
+    for element in text.split(|b| is_blank(*b)) {
         if !element.is_empty() {
             list.push(element)?;
         }
-        let Some(after) = after else {
-            return Ok(());
-        };
-        rest = after;
     }
-}
-
-/// The first flag of a text, which stands before the first comma and may be empty, and the text
-/// after that comma.
-fn first_flag(text: &[u8]) -> (&[u8], Option<&[u8]>)
-    ensures flags { MatchOption result.1 (listed_flags text.now ≡ with_element result.0.now [])
-        (λ rest. listed_flags text.now ≡ with_element result.0.now (listed_flags rest.now)) }
-    ensures less { IfSome result.1 (λ rest. length rest.now < length text.now) }
-{
-    let (element, after) = cut(text, first_comma(text));
-    (trimmed(element), after)
+    Ok(())
 }
 
 /// Whether the flag is `fuzzy`.
@@ -88,38 +38,25 @@ fn is_fuzzy_flag(flag: &[u8]) -> bool
     flag == b"fuzzy".as_slice()
 }
 
-/// Whether `fuzzy` is among the flags of a text.
+/// Whether `fuzzy` is among the flags of a text, which stand between commas.
 pub(crate) fn has_fuzzy(text: &[u8]) -> bool
     ensures { result ≡ list_any is_fuzzy_flag (listed_flags text.now) }
 {
-    let mut rest = text;
-    loop {
-        let (flag, after) = first_flag(rest);
-        if is_fuzzy_flag(flag) {
-            return true;
-        }
-        let Some(after) = after else {
-            return false;
-        };
-        rest = after;
-    }
+    text.split(|b| *b == b',')
+        .any(|element| is_fuzzy_flag(trimmed(element)))
 }
 
 /// Adds the flags of a text other than `fuzzy` to those that were seen.
 fn add_flags<'i>(seen: &mut SeenTexts<'i>, text: &'i [u8]) -> Result<(), AllocError>
     ensures { OnOk result (seen.new ≡ fold with_flag seen.old (listed_flags text.now)) }
 {
-    let mut rest = text;
-    loop {
-        let (flag, after) = first_flag(rest);
+    for element in text.split(|b| *b == b',') {
+        let flag = trimmed(element);
         if !flag.is_empty() && !is_fuzzy_flag(flag) {
             seen.add(flag)?;
         }
-        let Some(after) = after else {
-            return Ok(());
-        };
-        rest = after;
     }
+    Ok(())
 }
 
 /// Hashes that begin with a digest of these texts.
@@ -141,8 +78,8 @@ pub(crate) fn distinct_flags(alloc: Global, texts: &[&[u8]]) -> Result<TextList,
         return Ok(TextList::new(alloc));
     }
     if let [text] = texts {
-        if let (flag, None) = first_flag(text) {
-            return only_flag(alloc, flag);
+        if !text.contains(&b',') {
+            return only_flag(alloc, trimmed(text));
         }
     }
     let mut seen = SeenTexts::with_capacity(alloc, texts.len(), seeded_by(texts))?;
@@ -154,7 +91,7 @@ pub(crate) fn distinct_flags(alloc: Global, texts: &[&[u8]]) -> Result<TextList,
 
 /// The flag, unless it is empty or `fuzzy`. Most entries have no flag or one.
 fn only_flag(alloc: Global, flag: &[u8]) -> Result<TextList, AllocError>
-    ensures { IfOk result (λ kept. kept ≡ fold with_flag [] (with_element flag.now [])) }
+    ensures { IfOk result (λ kept. kept ≡ fold with_flag [] (filter is_not_empty (flag.now ∷ []))) }
 {
     let mut kept = TextList::new(alloc);
     if !flag.is_empty() && !is_fuzzy_flag(flag) {

@@ -133,13 +133,6 @@ fn stray_string(wanted: Marks, found: Marks) -> PoFault
     }
 }
 
-/// Whether both have the same marks.
-fn same_marks(a: Marks, b: Marks) -> bool
-    ensures { result ≡ spec.same_marks a b }
-{
-    a.obsolete == b.obsolete && a.previous == b.previous
-}
-
 /// Takes the text of the strings that stand first, under these marks, and appends it.
 pub(crate) fn take_strings(
     rest: &mut Cursor<'_, '_>,
@@ -157,7 +150,7 @@ pub(crate) fn take_strings(
         let Some((bytes, found)) = rest.first_string() else {
             return Err(rest.refusal(PoFault::BadOrder));
         };
-        if !same_marks(marks, found) {
+        if marks != found {
             return Err(rest.refusal(stray_string(marks, found)));
         }
         rest.advance();

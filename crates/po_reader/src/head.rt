@@ -1,10 +1,10 @@
 //! What stands before an entry's own lines: comments, references, flags and previous texts.
 
-ghost use Rattle.std.specs.Prelude.{◌≡◌, ◌<◌, ◌≤◌, ◌++◌, ◌∷◌, [], ℕ, Bool, false, Some, List, length, IfOk, IfErr, OnOk};
+ghost use Rattle.std.specs.Prelude.{◌≡◌, ◌<◌, ◌≤◌, ◌++◌, ◌∷◌, [], ℕ, Bool, false, Some, List, length, IfErr, OnOk};
 ghost use Rattle.po_entry.specs.Prelude.{CommentText, PreviousText, rank, with_previous, TextEntry, head_bytes};
-ghost use Rattle.po_reader.specs.Internal.Stage.{Between, In, InHead, SoFar, after_head};
+ghost use Rattle.po_reader.specs.Internal.Stage.{Between, InHead, after_head};
 ghost use Rattle.po_syntax.specs.declared.item.Keyword.{Keyword};
-ghost use Rattle.po_reader.specs.Internal.Turn.{begins_body, closed, EndsHead};
+ghost use Rattle.po_reader.specs.Internal.Turn.{begins_body, EndsHead};
 ghost use Rattle.po_reader.specs.Internal.Reads.{comes, in_head, Fails};
 ghost use Rattle.po_reader.specs.Internal.ReaderView.{HoldsHead, HoldsComments, with_kept_head};
 
@@ -106,28 +106,8 @@ fn begins_body(keyword: Keyword) -> bool
     matches!(keyword, Keyword::MsgCtxt | Keyword::MsgId)
 }
 
-/// Adds a line of flags, where comments are wanted, and otherwise just whether it has `fuzzy`.
-fn add_flag_line<'a>(
-    head: &mut Head<'a>,
-    with_comments: bool,
-    text: &'a [u8],
-) -> Result<(), AllocError>
-    ensures comment_texts { OnOk result ((comment_texts : List CommentText)
-        → HoldsComments with_comments head.old comment_texts
-        → HoldsComments with_comments head.new (comment_texts
-        ++ (record { kind = CommentKind.Flags; text = text.now }) ∷ [])) }
-    ensures previous { OnOk result (head.new.previous ≡ head.old.previous) }
-{
-    if has_fuzzy(text) {
-        head.fuzzy = true;
-    }
-    if with_comments {
-        head.flags.push(text)?;
-    }
-    Ok(())
-}
-
-/// Adds a comment to those of its kind, where it is wanted.
+/// Adds a comment to those of its kind, where comments are wanted, and otherwise just whether it
+/// has the flag `fuzzy`.
 fn add_comment<'a>(
     head: &mut Head<'a>,
     with_comments: bool,
@@ -140,7 +120,14 @@ fn add_comment<'a>(
     ensures previous { OnOk result (head.new.previous ≡ head.old.previous) }
 {
     match kind {
-        CommentKind::Flags => return add_flag_line(head, with_comments, text),
+        CommentKind::Flags => {
+            if has_fuzzy(text) {
+                head.fuzzy = true;
+            }
+            if with_comments {
+                head.flags.push(text)?;
+            }
+        }
         _ if !with_comments => {}
         CommentKind::Translator => head.comments.push(text)?,
         CommentKind::Extracted => head.extracted.push(text)?,
@@ -160,23 +147,6 @@ fn set_previous(previous: &mut Previous, keyword: Keyword, text: Vec<u8>)
         Keyword::MsgIdPlural => previous.plural = Some(text),
         Keyword::MsgStr | Keyword::MsgStrAt(_) => unreachable!(),
     }
-}
-
-/// Takes the previous text of the strings that stand first, under these marks.
-fn take_previous_text(
-    alloc: Global,
-    rest: &mut Cursor<'_, '_>,
-    marks: Marks,
-) -> Result<Vec<u8>, PoError>
-    ensures found { IfOk result (λ text. (read : SoFar) (keyword : Keyword) → comes (In read keyword marks false [])
-        rest.old ≡ comes (Between (closed read keyword marks text.items)) rest.new) }
-    ensures fewer { OnOk result (length rest.new.items < length rest.old.items) }
-    ensures fault { IfErr result (λ e. (read : SoFar) (keyword : Keyword)
-        → Fails (In read keyword marks false []) rest.old e) }
-{
-    let mut text = Vec::new(alloc);
-    take_strings(rest, marks, &mut text)?;
-    Ok(text)
 }
 
 /// Takes what stands before an entry's own lines, or up to the end of the items, into a head that
@@ -212,13 +182,15 @@ pub(crate) fn take_head<'a>(
                     }
                     return Err(rest.refusal(PoFault::BadOrder));
                 }
-                if rank(*keyword) <= above {
+                let rank = rank(*keyword);
+                if rank <= above {
                     return Err(rest.refusal(PoFault::BadOrder));
                 }
                 rest.advance();
-                let text = take_previous_text(alloc, rest, *marks)?;
+                let mut text = Vec::new(alloc);
+                take_strings(rest, *marks, &mut text)?;
                 set_previous(&mut head.previous, *keyword, text);
-                above = rank(*keyword);
+                above = rank;
             }
             Some(Item::Str(..)) => return Err(rest.refusal(PoFault::BadOrder)),
             None if above == 0 => return Ok(()),

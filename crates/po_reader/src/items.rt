@@ -3,7 +3,7 @@
 
 ghost use Rattle.std.specs.Prelude.{◌≡◌, ◌≢◌, ◌<◌, ◌^◌, ◌++◌, List, All, length, true, IfErr, IsUtf8, OnOk};
 ghost use Rattle.po_syntax.specs.Prelude.{IsFaultOf, TextItem, views};
-ghost use Rattle.po_entry.specs.Prelude.{Lacks, quoted_texts, HasAdmittedCharset, AreLaid, entries_in, HasTexts, EntryTextFault, CharsetFault, EntriesStop, ItemsFault};
+ghost use Rattle.po_entry.specs.Prelude.{Lacks, quoted_texts, HasAdmittedCharset, AreLaid, entries_in, HasTexts, EntryTextFault, EntriesStop, ItemsFault};
 ghost use Rattle.po_reader.specs.Internal.Keeping.{CanFollow, ReadsUpTo};
 ghost use Rattle.po_reader.specs.Internal.Reads.{ChecksStop};
 
@@ -45,21 +45,6 @@ pub(crate) fn lay_out_items<'a>(
     }
 }
 
-/// Whether each draft can stand in a catalogue: their texts are checked in their order, then the
-/// charsets of the headers. If it is known that the texts are UTF-8, that is not tested.
-pub(crate) fn check_drafts(drafts: &Drafts, are_utf8: bool) -> Result<(), PoError>
-    requires lie { AreLaid drafts.now }
-    requires no_nul { All (λ entry. All (Lacks 0) (quoted_texts entry)) (entries_in drafts.now) }
-    requires utf8 { are_utf8 ≡ true → All (λ entry. All IsUtf8 (quoted_texts entry)) (entries_in drafts.now) }
-    ensures texts { OnOk result (All HasTexts (entries_in drafts.now)) }
-    ensures charsets { OnOk result (All HasAdmittedCharset (entries_in drafts.now)) }
-    ensures fault { IfErr result (λ e. ChecksStop (entries_in drafts.now) e.kind e.line) }
-    ensures other { IfErr result (λ e. e.kind ≢ PoFault.OutOfMemory) }
-{
-    check_texts(drafts, are_utf8)?;
-    check_charsets(drafts)
-}
-
 /// Whether entries can have the texts that were read for them, checked in their order. If it is
 /// known that these are UTF-8, that is not tested.
 fn check_texts(drafts: &Drafts, are_utf8: bool) -> Result<(), PoError>
@@ -80,13 +65,18 @@ fn check_texts(drafts: &Drafts, are_utf8: bool) -> Result<(), PoError>
     Ok(())
 }
 
-/// Whether the charset of each header is admitted, asked in the order of the entries.
-fn check_charsets(drafts: &Drafts) -> Result<(), PoError>
-    requires { AreLaid drafts.now }
-    ensures ok { OnOk result (All HasAdmittedCharset (entries_in drafts.now)) }
-    ensures fault { IfErr result (λ e. EntriesStop HasAdmittedCharset CharsetFault (entries_in drafts.now) e.kind e.line) }
+/// Whether each draft can stand in a catalogue: their texts are checked in their order, then the
+/// charsets of the headers. If it is known that the texts are UTF-8, that is not tested.
+pub(crate) fn check_drafts(drafts: &Drafts, are_utf8: bool) -> Result<(), PoError>
+    requires lie { AreLaid drafts.now }
+    requires no_nul { All (λ entry. All (Lacks 0) (quoted_texts entry)) (entries_in drafts.now) }
+    requires utf8 { are_utf8 ≡ true → All (λ entry. All IsUtf8 (quoted_texts entry)) (entries_in drafts.now) }
+    ensures texts { OnOk result (All HasTexts (entries_in drafts.now)) }
+    ensures charsets { OnOk result (All HasAdmittedCharset (entries_in drafts.now)) }
+    ensures fault { IfErr result (λ e. ChecksStop (entries_in drafts.now) e.kind e.line) }
     ensures other { IfErr result (λ e. e.kind ≢ PoFault.OutOfMemory) }
 {
+    check_texts(drafts, are_utf8)?;
     for row in &drafts.rows {
         if !EntryRef::of(&drafts.bytes, row).has_admitted_charset() {
             return Err(PoError {

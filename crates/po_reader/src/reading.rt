@@ -1,10 +1,10 @@
 //! The entries of a text, a few at a time or all.
 
-ghost use Rattle.std.specs.Prelude.{◌≡◌, ◌≢◌, ◌↔◌, ◌⊎◌, ◌<◌, ◌^◌, ◌++◌, [], All, List, Some, true, IfOk, IfErr, IsTrue, IsUtf8, MatchBool, MatchOption, MatchResult, OnErr, OnOk};
-ghost use Rattle.po_syntax.specs.Prelude.{IsFaultOf, IsString, LeftStops, LendsUtf8, OfString, view, views};
-ghost use Rattle.po_entry.specs.Prelude.{ItemsStop, ReadsText, TextEntry, AreLaid, entries_in, IsCatalogueEntry};
+ghost use Rattle.std.specs.Prelude.{◌≡◌, ◌≢◌, ◌↔◌, ◌⊎◌, ◌<◌, ◌^◌, ◌++◌, [], List, Some, true, IfOk, IfErr, IsTrue, MatchOption, OnErr, OnOk};
+ghost use Rattle.po_syntax.specs.Prelude.{IsFaultOf, IsString, LeftStops, view, views};
+ghost use Rattle.po_entry.specs.Prelude.{ItemsStop, ReadsText, TextEntry};
 ghost use Rattle.po_reader.specs.Prelude.{AddsReading, EndsEntry, FaultsStay, IsLeftError, IsShorter, IsTextError, ReadsPiece};
-ghost use Rattle.po_reader.specs.Internal.Keeping.{AreDraftsOf, KeepsReading, PiecesRead};
+ghost use Rattle.po_reader.specs.Internal.Keeping.{AreDraftsOf, PiecesRead};
 
 use crate::head::Head;
 use crate::items::{check_drafts, lay_out_items};
@@ -37,8 +37,16 @@ pub fn next_store(
     ensures unchanged { OnErr result (store.new ≡ store.old) }
     ensures fault { IfErr result (IsLeftError pieces.old) }
 {
-    next_drafts(alloc, pieces, size, with_comments, drafts)?;
-    store.append(drafts)?;
+    let start = pieces.copy();
+    if let None = read_pieces(alloc, pieces, size, with_comments, drafts)? {
+        store.append(drafts)?;
+        return Ok(());
+    }
+    *pieces = start;
+    match read_pieces(alloc, pieces, usize::MAX, with_comments, drafts)? {
+        None => store.append(drafts)?,
+        Some(error) => return Err(error),
+    }
     Ok(())
 }
 
@@ -56,33 +64,6 @@ fn ends_entry(items: &[Item<'_>]) -> bool
     match items.last() {
         Some(item) => is_string(item),
         None => false,
-    }
-}
-
-/// Whether an entry ends with these items, or the text does.
-fn are_last(items: &[Item<'_>], pieces: &Pieces<'_>) -> bool
-    ensures { MatchBool result ((pieces.now.lines ≡ []) ⊎ EndsEntry (views items.now))
-        ((pieces.now.lines ≢ []) × (EndsEntry (views items.now) → ⊥)) }
-{
-    ends_entry(items) || pieces.are_over()
-}
-
-/// Whether the strings of these items are UTF-8 too.
-fn and_these(are_utf8: bool, items: &[Item<'_>]) -> bool
-    requires { All LendsUtf8 items.now }
-    ensures { result ≡ true → (are_utf8 ≡ true) × All (OfString IsUtf8) (views items.now) }
-{
-    are_utf8 && strings_are_utf8(items)
-}
-
-/// The fault of items, as one that is found; or out of memory.
-fn found_fault(error: PoError) -> Result<Option<PoError>, PoError>
-    ensures { MatchResult result (λ found. (found ≡ Some error) × (error.kind ≢ PoFault.OutOfMemory))
-        (λ e. (e ≡ error) × (error.kind ≡ PoFault.OutOfMemory)) }
-{
-    match error.kind {
-        PoFault::OutOfMemory => Err(error),
-        _ => Ok(Some(error)),
     }
 }
 
@@ -108,46 +89,21 @@ fn read_pieces(
     'reading: loop {
         let read = pieces.next(alloc, size)?;
         let items = read.as_slice();
-        are_utf8 = and_these(are_utf8, items);
+        are_utf8 &= strings_are_utf8(items);
         match lay_out_items(alloc, items, with_comments, &mut head, drafts) {
             Ok(()) => {}
-            Err(error) => return found_fault(error),
+            Err(error) => {
+                return match error.kind {
+                    PoFault::OutOfMemory => Err(error),
+                    _ => Ok(Some(error)),
+                };
+            }
         }
-        if are_last(items, pieces) {
+        if ends_entry(items) || pieces.are_over() {
             return match check_drafts(drafts, are_utf8) {
                 Ok(()) => Ok(None),
                 Err(error) => Ok(Some(error)),
             };
-        }
-    }
-}
-
-/// Puts the entries of the next pieces in place of the drafts, as `read_pieces` says, or those of
-/// all that is left, where the items of these pieces have a fault.
-fn next_drafts(
-    alloc: Global,
-    pieces: &mut Pieces<'_>,
-    size: usize,
-    with_comments: bool,
-    drafts: &mut Drafts,
-) -> Result<(), PoError>
-    ensures found { OnOk result (KeepsReading with_comments pieces.old pieces.new (entries_in drafts.new)) }
-    ensures lie { OnOk result (AreLaid drafts.new) }
-    ensures valid { OnOk result (All IsCatalogueEntry (entries_in drafts.new)) }
-    ensures piece { OnOk result (ReadsPiece size pieces.old pieces.new) }
-    ensures faults { OnOk result (FaultsStay pieces.old pieces.new) }
-    ensures fewer { OnOk result (IsShorter pieces.old pieces.new) }
-    ensures fault { IfErr result (IsLeftError pieces.old) }
-{
-    let start = pieces.copy();
-    match read_pieces(alloc, pieces, size, with_comments, drafts)? {
-        None => Ok(()),
-        Some(_) => {
-            *pieces = start;
-            match read_pieces(alloc, pieces, usize::MAX, with_comments, drafts)? {
-                None => Ok(()),
-                Some(error) => Err(error),
-            }
         }
     }
 }

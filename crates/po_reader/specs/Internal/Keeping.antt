@@ -8,16 +8,11 @@ use Rattle.po_reader.specs.declared.head.Head.{Head}
 use Rattle.po_reader.specs.Internal.ReaderView.{HoldsHead}
 use Rattle.po_reader.specs.Internal.Reads.{in_head, start}
 use Rattle.po_reader.specs.Internal.Turn.{IsApart, settled, turn}
-use Rattle.po_reader.specs.PieceRead.{kept_entry, OpenPieces, ReadsOn}
+use Rattle.po_reader.specs.PieceRead.{kept_entry, OpenPieces}
 
 -- if the lines left in `new` spell some items, the lines left in `old` spell `items` and then those
 abbrev pub SpellsOn : LinesLeft → LinesLeft → List TextItem → Type 0
 SpellsOn old new items = (more : List TextItem) → SpellsLeft new more → SpellsLeft old (items ++ more)
-
--- the same of entries that are kept with their comments or without
-abbrev pub KeepsReading : Bool → LinesLeft → LinesLeft → List TextEntry → Type 0
-KeepsReading all old new kept =
-    (entries : List TextEntry) × (kept ≡ map (kept_entry all) entries) × ReadsOn old new entries
 
 -- the items read as entries, which are kept with their comments or without
 abbrev pub KeepsItems : Bool → List TextItem → List TextEntry → Type 0

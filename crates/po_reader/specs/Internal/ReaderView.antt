@@ -1,9 +1,8 @@
 -- What contracts see of a head while it is read, of the entry that is laid out with it, and of what is wanted next.
-use Rattle.std.specs.Prelude.{◌≡◌, ℕ, Bool, false, List, [], ◌∷◌, ◌++◌, Option, None, Some}
+use Rattle.std.specs.Prelude.{◌≡◌, ℕ, Bool, List, [], ◌∷◌, ◌++◌, Option, None, Some}
 use Rattle.po_reader.specs.declared.head.Head.{Head}
 use Rattle.po_entry.specs.declared.drafts.Drafts.{Drafts}
-use Rattle.po_entry.specs.declared.row.Row.{Row}
-use Rattle.po_entry.specs.Prelude.{Adds, row_of, TextEntry, slice_texts, CommentText, PreviousText, flags_of, fuzzy_of, previous_of, references_of, texts_of}
+use Rattle.po_entry.specs.Prelude.{Adds, TextEntry, slice_texts, CommentText, PreviousText, flags_of, fuzzy_of, previous_of, references_of, texts_of}
 use Rattle.po_reader.specs.PieceRead.{kept_texts}
 use Rattle.po_syntax.specs.declared.item.CommentKind.TheVariants.{Translator, Extracted, Flags}
 use Rattle.po_reader.specs.declared.body.Wanted.{Wanted}
@@ -39,10 +38,6 @@ with_kept_head all comment_texts previous own = record own {
 abbrev pub context_bytes : Option (List ℕ) → List ℕ
 context_bytes None = []
 context_bytes (Some context) = context ++ 4 ∷ []
-
--- the row of an entry whose bytes begin there, without its head
-abbrev pub bare_row : ℕ → TextEntry → Row
-bare_row start own = record (row_of start own) { head = 0; fuzzy = false }
 
 -- the entry with this head and these own lines is laid out after the others, with its comments or without
 abbrev pub AddsEntry : Head → TextEntry → Drafts → Drafts → Type 0

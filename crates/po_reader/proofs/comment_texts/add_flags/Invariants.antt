@@ -1,9 +1,7 @@
-use Rattle.po_reader.proofs.Prelude.{fold, length, listed_flags, with_flag, ◌≡◌}
+use Rattle.po_reader.proofs.Prelude.{filter, fold, is_not_empty, map, trimmed, with_flag, ◌≡◌}
 use Rattle.po_reader.proofs.comment_texts.add_flags.Given as goal
 
-abbrev pub invariant-loop-seen : goal.invariant-loop-seen
-invariant-loop-seen l =
-    fold with_flag l.seen (listed_flags l.rest) ≡ fold with_flag l.initial.seen (listed_flags l.text)
-
-abbrev pub decreases-loop-seen : goal.decreases-loop-seen
-decreases-loop-seen l = length l.rest
+-- the flags so far were seen
+abbrev pub invariant-loop-element : goal.invariant-loop-element
+invariant-loop-element l =
+    l.seen ≡ fold with_flag l.initial.seen (filter is_not_empty (map trimmed (map (λ x. x.now) l.yielded)))

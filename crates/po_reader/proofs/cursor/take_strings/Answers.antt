@@ -1,4 +1,4 @@
-use Rattle.po_reader.proofs.Prelude.{Fault, In, List, ap, append_assoc, begins_string, false, line_at, refl, rules, sym, true, ℕ, ◌++◌, ◌∙◌, ◌≡◌}
+use Rattle.po_reader.proofs.Prelude.{Fault, In, List, ap, append_assoc, begins_string, false, line_at, not-false, not-true, refl, rules, sym, true, ℕ, ◌++◌, ◌∙◌, ◌≡◌}
 use Rattle.po_reader.proofs.Turns.{fails_from, first_refused, no_string, out_of_order, taken, text_ends}
 use Rattle.po_reader.proofs.cursor.take_strings.Goals as goal
 
@@ -8,14 +8,14 @@ returns-in_default-clause-fault c = λ read keyword.
     out_of_order _ (reads.4 read keyword) c.refusal.ensures
     (no_string _ _ c.in_default.ensures read keyword c.args.marks reads.0 reads.1 reads.3)
 
-pub returns-then-not-same_marks-clause-fault : goal.returns-then-not-same_marks-clause-fault
-returns-then-not-same_marks-clause-fault c = λ read keyword.
+pub returns-then-ne-clause-fault : goal.returns-then-ne-clause-fault
+returns-then-ne-clause-fault c = λ read keyword.
     let reads = c.loop-bytes.invariant.reads in
     fails_from (reads.4 read keyword)
-    (rw c.refusal-then-not-same_marks.ensures (record {
+    (rw c.refusal-then-ne.ensures (record {
       fault = λ other. first_refused _ _ _ _ _ c.in-Some.ensures.1
           (In read keyword c.args.marks reads.0 reads.1)
-          (rw (sym c.same_marks.ensures ∙ c.if-not-same_marks.true) refl)
+          (rw (not-true _ (sym c.ne.ensures ∙ c.if-ne.true)) refl)
           ∙ ap (λ fault. Fault fault (line_at c.loop-bytes.rest)) (sym c.stray_string.ensures.fault);
       memory = λ memory. absurd (c.stray_string.ensures.other memory);
     }))
@@ -31,7 +31,7 @@ returns-then-is_none-clause-found c =
       λ read keyword. reads.4 read keyword
           ∙ rw c.advance.ensures.rest (taken _ _ _ _ c.in-Some.ensures.1
           (In read keyword c.args.marks reads.0 reads.1) (In read keyword c.args.marks true text)
-          (rw (sym c.same_marks.ensures ∙ c.if-not-same_marks.false) refl))
+          (rw (not-false _ (sym c.ne.ensures ∙ c.if-ne.false)) refl))
           ∙ text_ends _ read keyword c.args.marks text _ over,
     )
 
@@ -50,7 +50,7 @@ loop-bytes-preserved c =
         λ read keyword. reads.4 read keyword
             ∙ rw c.advance.ensures.rest (taken _ _ _ _ c.in-Some.ensures.1
             (In read keyword c.args.marks reads.0 reads.1) (In read keyword c.args.marks true text)
-            (rw (sym c.same_marks.ensures ∙ c.if-not-same_marks.false) refl)),
+            (rw (not-false _ (sym c.ne.ensures ∙ c.if-ne.false)) refl)),
       );
       fewer = search rules;
     }

@@ -1,4 +1,4 @@
-use Rattle.po_reader.proofs.Prelude.{Between, CommentText, In, InHead, PreviousText, [], after_head, ap, arith, comes, false, le-ltb, lt-ltb, passed_on, refl, sym, ◌++◌, ◌∙◌, ◌∷◌}
+use Rattle.po_reader.proofs.Prelude.{Between, CommentText, In, InHead, List, PreviousText, [], after_head, ap, arith, comes, false, le-ltb, lt-ltb, passed_on, refl, sym, ◌++◌, ◌∙◌, ◌∷◌, ◌≡◌, ℕ}
 use Rattle.po_reader.proofs.Heads.{holds_previous}
 use Rattle.po_reader.proofs.Turns.{fails_from, first_refused, head_refused, none_ends, out_of_order, own_ends, previous_closed, taken}
 use Rattle.po_reader.proofs.head.take_head.Goals as goal
@@ -43,13 +43,14 @@ returns-then-rank-above-clause-fault c = λ entries before.
     let first = rw c.in-Some-Word.field-0-is at c.in-Some-Word.ensures in
     out_of_order _ (reads.3 entries) c.refusal-then-rank-above.ensures (first_refused _ _ _ _ _ first
     (Between (InHead (after_head entries reads.0 reads.1) c.loop-kind.above))
-    (rw (c.if-not-marks.false, le-ltb _ _ (rw c.rank.ensures at c.if-rank-above.true)) refl))
+    (rw (c.if-not-marks.false, le-ltb _ _ (rw c.rank-rank.ensures at c.if-rank-above.true)) refl))
 
-pub returns-in_err-text-in-Some-Word-clause-fault : goal.returns-in_err-text-in-Some-Word-clause-fault
-returns-in_err-text-in-Some-Word-clause-fault c =
+pub returns-in_err-take_strings-in-Some-Word-clause-fault : goal.returns-in_err-take_strings-in-Some-Word-clause-fault
+returns-in_err-take_strings-in-Some-Word-clause-fault c =
     let first = rw c.in-Some-Word.field-0-is at c.in-Some-Word.ensures in
-    let above = rw c.rank.ensures at c.if-rank-above.false in
-    passed_on c.from_residual-in_err-text-in-Some-Word.result _ c.from_residual-in_err-text-in-Some-Word.ensures.1
+    let above = rw c.rank-rank.ensures at c.if-rank-above.false in
+    passed_on c.from_residual-in_err-take_strings-in-Some-Word.result _
+    c.from_residual-in_err-take_strings-in-Some-Word.ensures.1
     (λ entries before.
     let reads = c.loop-kind.invariant.reads before in
     let read = after_head entries reads.0 reads.1 in
@@ -57,14 +58,17 @@ returns-in_err-text-in-Some-Word-clause-fault c =
     (In read c.in-Some-Word.keyword c.in-Some-Word.marks false [])
     (rw (c.if-not-marks.false, lt-ltb _ _ above) refl))
     (rw c.advance-in-Some-Word.ensures.rest at
-    (c.in_err-text-in-Some-Word.ensures.fault read c.in-Some-Word.keyword)))
+    (c.in_err-take_strings-in-Some-Word.ensures.fault read c.in-Some-Word.keyword)))
 
 pub loop-kind-preserved : goal.loop-kind-preserved
 loop-kind-preserved c =
     let first = rw c.in-Some-Word.field-0-is at c.in-Some-Word.ensures in
-    let above = rw c.rank.ensures at c.if-rank-above.false in
+    let above = rw c.rank-rank.ensures at c.if-rank-above.false in
     let text : PreviousText =
-    record { keyword = c.in-Some-Word.keyword; text = c.in_ok-text-in-Some-Word.text.items } in
+    record { keyword = c.in-Some-Word.keyword; text = c.take_strings.new.out.items } in
+    let found = c.in_ok-take_strings-in-Some-Word.ensures.found in
+    let is : c.take_strings.new.out.items ≡ found.0 =
+    found.1 ∙ ap (λ (l : List ℕ). l ++ found.0) c.new-text.ensures.items in
     record {
       reads = λ before. let reads = c.loop-kind.invariant.reads before in (
         reads.0,
@@ -72,20 +76,20 @@ loop-kind-preserved c =
         λ holds. holds_previous c.args.with_comments c.loop-kind.head c.set_previous.new.previous reads.0 reads.1 text
             (reads.2 holds) c.set_previous.ensures,
         λ entries. let read = after_head entries reads.0 reads.1 in
-            rw c.rank-above.ensures
+            rw c.rank-rank.ensures
             (reads.3 entries ∙ taken _ _ _ _ first (Between (InHead read c.loop-kind.above))
             (In read c.in-Some-Word.keyword c.in-Some-Word.marks false [])
             (rw (c.if-not-marks.false, lt-ltb _ _ above) refl)
             ∙ rw c.advance-in-Some-Word.ensures.rest at
-            (c.in_ok-text-in-Some-Word.ensures.found read c.in-Some-Word.keyword)
-            ∙ ap (λ gap. comes (Between gap) c.take_previous_text.new.rest)
+            (rw (← is) at (found.2 read c.in-Some-Word.keyword))
+            ∙ ap (λ gap. comes (Between gap) c.take_strings.new.rest)
             (previous_closed read c.in-Some-Word.keyword c.in-Some-Word.marks
-            c.in_ok-text-in-Some-Word.text.items c.if-not-marks.false)),
-        λ none. absurd (omega (arith, above, c.rank-above.ensures, none)),
+            c.take_strings.new.out.items c.if-not-marks.false)),
+        λ none. absurd (omega (arith, above, c.rank-rank.ensures, none)),
       );
       fewer = omega (
         arith,
-        c.in_ok-text-in-Some-Word.ensures.fewer,
+        c.in_ok-take_strings-in-Some-Word.ensures.fewer,
         c.advance-in-Some-Word.ensures.fewer,
         c.loop-kind.invariant.fewer,
       );

@@ -1,6 +1,6 @@
 use Rattle.po_reader.proofs.Prelude.{[], last_line}
-use Rattle.po_reader.proofs.SpeltRuns.{spelt_runs}
-use Rattle.po_reader.proofs.RunsSpelt.{whole_spelt}
+use Rattle.po_reader.proofs.FromSpelling.{spelt_runs}
+use Rattle.po_reader.proofs.ToSpelling.{whole_spelt}
 use Rattle.po_reader.proofs.laws.entries_are_spelt.Goals as goal
 
 pub returns : goal.returns

@@ -1,11 +1,10 @@
-use Rattle.po_reader.proofs.Prelude.{All, All-append, All-nil, HoldsText, IsFaultOf-weaker, IsUtf8, OfString, [], ap, entry_at, in_items, map, passed_on, refl, subst, sym, views, ◌++◌}
+use Rattle.po_reader.proofs.Prelude.{All, EndsEntry, and_parts, false≢true, inl, inr, ◌∙◌, ◌⊎◌, ◌≡◌, All-append, All-nil, HoldsText, IsFaultOf-weaker, IsUtf8, OfString, [], ap, entry_at, in_items, map, passed_on, refl, subst, sym, views, ◌++◌}
 use Rattle.po_entry.specs.Rows.{LiesIn}
 use Rattle.po_reader.specs.PieceRead.OpenPieces.{none, further}
 use Rattle.po_reader.proofs.PieceReading.{open_follow, open_stops, piece_lessens}
-use Rattle.po_reader.proofs.Results.{found_memory, found_one}
 use Rattle.po_reader.proofs.DraftsRead.{drafts_no_nul, drafts_of, drafts_stop, drafts_utf8}
 use Rattle.po_reader.proofs.reading.read_pieces.Goals as goal
-use Rattle.po_reader.proofs.reading.read_pieces.Goals.{in-Ok-check_drafts, in-Err-check_drafts}
+use Rattle.po_reader.proofs.reading.read_pieces.Goals.{in-Err-check_drafts, in-Ok-check_drafts, in-OutOfMemory, in_default, then-ends_entry-via-then-ends_entry, then-ends_entry-via-else-ends_entry+then-are_over}
 
 pub reading-init : goal.reading-init
 reading-init c =
@@ -35,26 +34,36 @@ returns-in-Err-clause-found c =
     let done = c.reading.invariant in
     let piece = c.in_ok-read.ensures.piece in
     let fails = rw c.as_slice-items.ensures.value at c.in-Err.ensures.fault in
-    found_one _ _ c.found_fault.result c.found_fault.ensures (λ other. (
-      record {
-        left = c.reading.pieces;
-        items = done.items;
-        last = views c.in_ok-read.read.items;
-        others = done.others;
-        piece = piece;
-      },
-      (
-        IsFaultOf-weaker (λ fault line. in_items) (fails done.items (open_follow done.others piece) done.read),
-        other,
-      ),
-    ))
+    elim c.match-error.branch [
+      | in-OutOfMemory w ↦ rw w.result-is tt
+      | in_default w ↦
+          rw w.result-is (
+            record {
+              left = c.reading.pieces;
+              items = done.items;
+              last = views c.in_ok-read.read.items;
+              others = done.others;
+              piece = piece;
+            },
+            (
+              IsFaultOf-weaker (λ fault line. in_items) (fails done.items (open_follow done.others piece) done.read),
+              w.in_default.not-OutOfMemory,
+            ),
+          )
+    ]
 
 pub returns-in-Err-clause-fault : goal.returns-in-Err-clause-fault
 returns-in-Err-clause-fault c =
     let done = c.reading.invariant in
     let fails = rw c.as_slice-items.ensures.value at c.in-Err.ensures.fault in
-    found_memory _ _ c.found_fault.result
-    (fails done.items (open_follow done.others c.in_ok-read.ensures.piece) done.read).memory c.found_fault.ensures
+    elim c.match-error.branch [
+      | in-OutOfMemory w ↦
+          rw w.result-is (record {
+            fault = λ other. absurd (other w.in-OutOfMemory.is);
+            memory = (fails done.items (open_follow done.others c.in_ok-read.ensures.piece) done.read).memory;
+          })
+      | in_default w ↦ rw w.result-is tt
+    ]
 
 pub check_drafts-requires-clause-lie : goal.check_drafts-requires-clause-lie
 check_drafts-requires-clause-lie c =
@@ -74,20 +83,25 @@ check_drafts-requires-clause-utf8 c = λ are.
     let done = c.reading.invariant in
     let last = views c.in_ok-read.read.items in
     let read = rw c.as_slice-items.ensures.value at c.in-Ok.ensures.found in
-    let both = rw c.as_slice-items.ensures.value at (c.and_these-are_utf8.ensures are) in
+    let both = and_parts c.reading.are_utf8 c.strings_are_utf8-are_utf8.result are in
     drafts_utf8 _ _ _ _ (read done.items (open_follow done.others c.in_ok-read.ensures.piece) done.read)
     (All-append HoldsText done.items last done.hold c.in_ok-read.ensures.hold)
-    (All-append (OfString IsUtf8) done.items last (done.utf8 both.0) both.1)
+    (All-append (OfString IsUtf8) done.items last (done.utf8 both.0)
+    (rw c.as_slice-items.ensures.value at (c.strings_are_utf8-are_utf8.ensures.0 both.1)))
 
-pub returns-then-are_last-clause-found : goal.returns-then-are_last-clause-found
-returns-then-are_last-clause-found c =
+pub returns-then-ends_entry-clause-found : goal.returns-then-ends_entry-clause-found
+returns-then-ends_entry-clause-found c =
     let done = c.reading.invariant in
     let last = views c.in_ok-read.read.items in
     let piece = c.in_ok-read.ensures.piece in
     let read = (rw c.as_slice-items.ensures.value at c.in-Ok.ensures.found) done.items
     (open_follow done.others piece) done.read in
     let hold = All-append HoldsText done.items last done.hold c.in_ok-read.ensures.hold in
-    let ends = rw c.as_slice-items.ensures.value at c.if-are_last.ensures in
+    let ends : (c.next.new.self.lines ≡ []) ⊎ EndsEntry last = elim c.then-ends_entry.branch [
+      | then-ends_entry-via-then-ends_entry w ↦
+          inr (rw c.as_slice-items.ensures.value at (c.ends_entry.ensures.0 w.if-ends_entry.true))
+      | then-ends_entry-via-else-ends_entry+then-are_over w ↦ inl (w.are_over.ensures.over w.if-are_over.true)
+    ] in
     elim c.match-check_drafts.branch [
       | in-Ok-check_drafts w ↦
           rw w.result-is (
@@ -112,7 +126,7 @@ returns-then-are_last-clause-found c =
     ]
 
 pub reading-smaller : goal.reading-smaller
-reading-smaller c = piece_lessens c.in_ok-read.ensures.piece c.if-are_last.ensures.0
+reading-smaller c = piece_lessens c.in_ok-read.ensures.piece (c.are_over.ensures.some c.if-are_over.false)
 
 pub reading-preserved : goal.reading-preserved
 reading-preserved c =
@@ -120,13 +134,14 @@ reading-preserved c =
     let last = views c.in_ok-read.read.items in
     let piece = c.in_ok-read.ensures.piece in
     let read = rw c.as_slice-items.ensures.value at c.in-Ok.ensures.found in
-    let open_end = rw c.as_slice-items.ensures.value at c.if-are_last.ensures.1 in
+    let ends = rw c.as_slice-items.ensures.value at c.ends_entry.ensures.1 in
     record {
       items = done.items ++ last;
-      others = further done.others piece open_end;
+      others = further done.others piece (λ h. absurd (false≢true (sym c.if-ends_entry.false ∙ ends h)));
       hold = All-append HoldsText done.items last done.hold c.in_ok-read.ensures.hold;
       utf8 = λ are.
-          let both = rw c.as_slice-items.ensures.value at (c.and_these-are_utf8.ensures are) in
-          All-append (OfString IsUtf8) done.items last (done.utf8 both.0) both.1;
+          let both = and_parts c.reading.are_utf8 c.strings_are_utf8-are_utf8.result are in
+          All-append (OfString IsUtf8) done.items last (done.utf8 both.0)
+          (rw c.as_slice-items.ensures.value at (c.strings_are_utf8-are_utf8.ensures.0 both.1));
       read = read done.items (open_follow done.others piece) done.read;
     }

@@ -1,5 +1,5 @@
 use Rattle.po_reader.proofs.Prelude.{All, CharsetFault, EntriesStop, HasAdmittedCharset, PoFault, drop, entries_in, entry_at, map, take, ℕ}
-use Rattle.po_reader.proofs.items.check_charsets.Given as goal
+use Rattle.po_reader.proofs.items.check_drafts.Given as goal
 
 abbrev pub invariant-loop-row : goal.invariant-loop-row
 invariant-loop-row l = record {
