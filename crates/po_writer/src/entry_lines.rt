@@ -5,7 +5,8 @@ ghost use Rattle.std.specs.List.{flat_map};
 ghost use Rattle.po_entry.specs.Prelude.{forms_left, texts_left};
 ghost use Rattle.po_writer.specs.WrittenText as written;
 
-use crate::keyword_lines::{push_form, push_keyword, push_optional};
+use crate::keyword_lines::{push_keyword, push_optional, push_text};
+use itoa::Buffer;
 use po_entry::{EntryRef, FormIter, TextListIter};
 use std::alloc::AllocError;
 
@@ -93,9 +94,14 @@ fn push_forms(out: &mut Vec<u8>, prefix: &[u8], forms: FormIter<'_>) -> Result<(
     ensures appended { OnOk result (out.new.items
         ≡ out.old.items ++ written.form_lines prefix.now 0 (forms_left forms.entry)) }
 {
-    let mut index = 0;
+    let mut digits = Buffer::new();
+    let mut index: usize = 0;
     for form in forms {
-        push_form(out, prefix, index, form)?;
+        out.extend_from_slice(prefix)?;
+        out.extend_from_slice(b"msgstr[")?;
+        out.extend_from_slice(digits.format(index).as_bytes())?;
+        out.extend_from_slice(b"] ")?;
+        push_text(out, prefix, form)?;
         index += 1;
     }
     Ok(())

@@ -1,11 +1,9 @@
 //! A keyword and its string, on one line or on several.
 
-ghost use Rattle.std.specs.Prelude.{◌≡◌, ◌<◌, ◌++◌, ◌∷◌, [], codes, decimal, OnOk, length, option_copied};
-ghost use Rattle.std.specs.List.{flat_map};
+ghost use Rattle.std.specs.Prelude.{◌≡◌, ◌<◌, ◌++◌, ◌∷◌, [], OnOk, length, option_copied};
 ghost use Rattle.po_syntax.specs.Facts.LinesWithEnds.{lines_with_ends};
 ghost use Rattle.po_writer.specs.Prelude.{text_lines, keyword_lines, optional_lines, string_line};
 
-use itoa::Buffer;
 use memchr::memchr;
 use po_syntax::quote;
 use std::alloc::AllocError;
@@ -32,11 +30,15 @@ fn push_string(out: &mut Vec<u8>, prefix: &[u8], text: &[u8]) -> Result<(), Allo
     Ok(())
 }
 
-/// Appends one string for each line of a text.
-fn push_strings(out: &mut Vec<u8>, prefix: &[u8], text: &[u8]) -> Result<(), AllocError>
-    ensures appended { OnOk result (out.new.items
-        ≡ out.old.items ++ flat_map (string_line prefix.now) (lines_with_ends text.now)) }
+/// Appends what stands after a keyword: its text, as one string, or as one for each line where a LF
+/// stands before its last byte.
+pub(crate) fn push_text(out: &mut Vec<u8>, prefix: &[u8], text: &[u8]) -> Result<(), AllocError>
+    ensures appended { OnOk result (out.new.items ≡ out.old.items ++ text_lines prefix.now text.now) }
 {
+    if split_line(text).1.is_empty() {
+        return push_string(out, b"", text);
+    }
+    push_string(out, b"", b"")?;
     let mut rest = text;
     while !rest.is_empty() {
         let (line, after) = split_line(rest);
@@ -44,18 +46,6 @@ fn push_strings(out: &mut Vec<u8>, prefix: &[u8], text: &[u8]) -> Result<(), All
         rest = after;
     }
     Ok(())
-}
-
-/// Appends what stands after a keyword: its text, as one string, or as one for each line where a LF
-/// stands before its last byte.
-fn push_text(out: &mut Vec<u8>, prefix: &[u8], text: &[u8]) -> Result<(), AllocError>
-    ensures appended { OnOk result (out.new.items ≡ out.old.items ++ text_lines prefix.now text.now) }
-{
-    if split_line(text).1.is_empty() {
-        return push_string(out, b"", text);
-    }
-    push_string(out, b"", b"")?;
-    push_strings(out, prefix, text)
 }
 
 /// Appends a keyword with its text.
@@ -87,22 +77,4 @@ pub(crate) fn push_optional(
         Some(text) => push_keyword(out, prefix, keyword, text),
         None => Ok(()),
     }
-}
-
-/// Appends the plural form of an index.
-pub(crate) fn push_form(
-    out: &mut Vec<u8>,
-    prefix: &[u8],
-    index: usize,
-    form: &[u8],
-) -> Result<(), AllocError>
-    ensures appended { OnOk result (out.new.items
-        ≡ out.old.items ++ keyword_lines prefix.now (codes "msgstr[" ++ decimal index ++ codes "]") form.now) }
-{
-    let mut digits = Buffer::new();
-    out.extend_from_slice(prefix)?;
-    out.extend_from_slice(b"msgstr[")?;
-    out.extend_from_slice(digits.format(index).as_bytes())?;
-    out.extend_from_slice(b"] ")?;
-    push_text(out, prefix, form)
 }

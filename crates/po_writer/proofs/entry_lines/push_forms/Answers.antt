@@ -28,13 +28,16 @@ module _ (index : ℕ) (out new prefix form : List ℕ)
 pub loop-form-preserved : goal.loop-form-preserved
 loop-form-preserved c =
     let form = c.in-Some.form.now in
-    let more = c.in_ok-push_form.ensures.appended in
+    let more : c.push_text.new.out.items
+    ≡ c.loop-form.out.items
+    ++ keyword_lines c.args.prefix.now (codes "msgstr[" ++ decimal c.loop-form.index ++ codes "]") form =
+    search (rules, append_assoc) in
     let step : forms_left c.loop-form.form-iterator ≡ form ∷ forms_left c.next.new.self = search rules in
     let before = c.loop-form.invariant in
     record {
-      written = further c.loop-form.index c.loop-form.out.items c.push_form.new.out.items c.args.prefix.now form more
+      written = further c.loop-form.index c.loop-form.out.items c.push_text.new.out.items c.args.prefix.now form more
           _ (forms_left c.loop-form.form-iterator) (forms_left c.next.new.self) step before.written;
-      below = longer c.loop-form.index c.loop-form.out.items c.push_form.new.out.items c.args.prefix.now form more
+      below = longer c.loop-form.index c.loop-form.out.items c.push_text.new.out.items c.args.prefix.now form more
           before.below;
     }
 
