@@ -1,4 +1,4 @@
--- Filters, one after another, of lists that are mapped, and of lists that are permuted.
+-- Filters, one after another, and of lists that are permuted.
 use Rattle.po_compile.proofs.Prelude.{Bool, IsPermutation, IsPermutation-append_comm, IsPermutation-append_left, IsPermutation-append_right, IsPermutation-keeps, IsPermutation-refl, IsPermutation-trans, List, [], append_assoc, arith, cond, false, filter, filter_agree, filter_twice, first_of, get_or, length, refl, set, subst, suc, swap, sym, true, zero, ℕ, ◌&&◌, ◌++◌, ◌<◌, ◌∙◌, ◌∷◌, ◌≡◌}
 use Rattle.std.proofs.lemmas.List.Edits.{swap_is}
 

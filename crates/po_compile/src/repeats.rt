@@ -4,10 +4,9 @@ ghost use Rattle.std.specs.Prelude.{◌≡◌, ◌⊎◌, ◌<◌, ◌^◌, IfEr
 ghost use Rattle.std.specs.List.{flat_map};
 ghost use Rattle.po_entry.specs.Prelude.{digest_of, slice_texts, key_writes, join_out_of_memory};
 ghost use Rattle.po_compile.specs.Prelude.{fault_of_input};
-ghost use Rattle.po_compile.specs.Internal.{EachApart, IsRepeat, IsRepeatAt, IsRepeatInInput, repeat_fault, AllApart, all_messages, input_keys, row_view};
+ghost use Rattle.po_compile.specs.Internal.{EachApart, IsRepeat, IsRepeatAt, IsRepeatInInput, AllApart, all_messages, input_keys};
 
 use crate::collecting::Collected;
-use crate::row::Row;
 use crate::rows::{joined_rows, room_for};
 use po_entry::{JoinError, Seeded, SeenTexts, duplicate_at};
 use po_syntax::{PoError, PoFault};
@@ -57,17 +56,6 @@ fn first_repeat(alloc: Global, keys: &[&[u8]]) -> Result<Option<(usize, usize)>,
     Ok(None)
 }
 
-/// What is reported of a row that repeats an earlier one.
-fn row_fault(first: &Row<'_>, later: &Row<'_>) -> JoinError
-    ensures { result ≡ repeat_fault (row_view first.now) (row_view later.now) }
-{
-    JoinError {
-        input: later.input,
-        first_input: first.input,
-        error: duplicate_at(first.live.line(), later.live.line()),
-    }
-}
-
 /// Whether no message of the joined list of the inputs repeats another. Refused with the first that
 /// does; and where an allocation failed.
 pub(crate) fn check_joined(alloc: Global, inputs: &[Collected]) -> Result<(), JoinError>
@@ -81,7 +69,12 @@ pub(crate) fn check_joined(alloc: Global, inputs: &[Collected]) -> Result<(), Jo
     };
     drop(keys);
     let rows = joined_rows(alloc, inputs)?;
-    Err(row_fault(&rows[first], &rows[later]))
+    let (first, later) = (&rows[first], &rows[later]);
+    Err(JoinError {
+        input: later.input,
+        first_input: first.input,
+        error: duplicate_at(first.live.line(), later.live.line()),
+    })
 }
 
 /// Whether no message of an input repeats another of the same input. Refused with the first that

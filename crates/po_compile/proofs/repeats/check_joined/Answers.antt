@@ -1,4 +1,4 @@
-use Rattle.po_compile.proofs.Prelude.{AllApart, InputMessage, IsRepeatAt, MatchOption-at_none, MatchOption-at_some, all_messages, ap, arith, get_or, input_keys, inr, length, length-map, row_view, subst, sym, ◌∙◌, ◌≡◌}
+use Rattle.po_compile.proofs.Prelude.{AllApart, InputMessage, IsRepeatAt, MatchOption-at_none, MatchOption-at_some, all_messages, ap, arith, get_or, input_keys, inr, length, length-map, refl, row_view, subst, sym, ◌∙◌, ◌≡◌}
 use Rattle.std.proofs.Math.ListN.{get_or-map}
 use Rattle.po_compile.proofs.RepeatedKeys.{repeat_found}
 use Rattle.po_compile.proofs.repeats.check_joined.Goals as goal
@@ -45,5 +45,5 @@ returns-clause-fault c =
           (ap row_view c.index.ensures ∙ sym (get_or-map row_view rows c.in-Some.first one)))
           (subst (λ ms. row_view other ≡ get_or ms c.in-Some.later (row_view other)) c.in_ok-rows.ensures
           (ap row_view c.index-2.ensures ∙ sym (get_or-map row_view rows c.in-Some.later other))),
-      c.row_fault.ensures,
+      rw (c.duplicate_at.ensures, c.line.ensures, c.line-2.ensures) refl,
     )
