@@ -1,9 +1,8 @@
 //! The arguments that each tool takes, as `clap` commands.
-ghost use Rattle.std.specs.Prelude.{◌≡◌, ◌++◌, ◌∷◌, [], IfOk, List, false, map};
+ghost use Rattle.std.specs.Prelude.{◌≡◌, IfOk, false, map};
 ghost use Rattle.clap.specs.Built.{subcommand_names};
 ghost use Rattle.clap.specs.Simple.{app_of, new_app};
 ghost use Rattle.clap.specs.Walk.{rule_of};
-ghost use Rattle.runs.specs.declared.tool.Tool.{Tool};
 ghost use Rattle.clap.specs.declared.builder.command.Command.TheViews.{out-Command};
 ghost use Rattle.command_line.specs.Prelude.{IsRuleOf, arguments_of, IsToolCommand, OffersTools, offered, offered_tools};
 ghost use Rattle.command_line.specs.Internal.{argument_of};
@@ -13,6 +12,7 @@ use Kind::{ByteOrder, File, Files, Flag, Forms, Letter, Number, Output, ShortFla
 use clap::{Arg, ArgAction, Command, value_parser};
 use runs::{TOOLS, Tool};
 use std::alloc::{AllocError, Global};
+use std::slice;
 
 static BYTE_ORDERS: [&str; 2] = ["little", "big"];
 
@@ -193,39 +193,19 @@ pub fn program<'a>(alloc: Global, first: Option<Tool>) -> Result<Command<'a>, Al
     ensures names { IfOk result (λ program. subcommand_names program ≡ offered first) }
     ensures takes { IfOk result (OffersTools (offered_tools first)) }
 {
-    match first {
-        Some(tool) => with_tools(alloc, &[tool]),
-        None => with_tools(alloc, &TOOLS),
-    }
-}
-
-/// The command of the whole program with the commands of these tools.
-fn with_tools<'a>(alloc: Global, tools: &[Tool]) -> Result<Command<'a>, AllocError>
-    ensures { IfOk result (OffersTools tools.now) }
-{
-    let is_alone = tools.len() == 1;
+    let tools = match &first {
+        Some(tool) => slice::from_ref(tool),
+        None => TOOLS.as_slice(),
+    };
     let mut program = described(alloc, "pokit", help::PROGRAM, true)
         .disable_version_flag(true)
         .disable_help_subcommand(true)
         .subcommand_required(true);
     for tool in tools {
-        program = with_tool(alloc, program, *tool, is_alone)?;
+        let command = command_of(alloc, *tool, first.is_some())?;
+        program = program.subcommand(command)?;
     }
     Ok(program)
-}
-
-/// The command of the whole program with the command of one tool more.
-fn with_tool<'a>(
-    alloc: Global,
-    program: Command<'a>,
-    tool: Tool,
-    is_alone: bool,
-) -> Result<Command<'a>, AllocError>
-    ensures { IfOk result (λ more. (tools : List Tool) → OffersTools tools program.entry
-        → OffersTools (tools ++ tool ∷ []) more) }
-{
-    let command = command_of(alloc, tool, is_alone)?;
-    program.subcommand(command)
 }
 
 /// The command of a tool, with its options and arguments.

@@ -1,8 +1,8 @@
 //! The tip on what GNU gettext alone has, if clap's text of a usage fault names it.
-ghost use Rattle.std.specs.Prelude.{◌≡◌, ◌==◌, IfOk, option_and_then, option_map, string_bytes};
+ghost use Rattle.std.specs.Prelude.{◌≡◌, ◌==◌, IfOk, option_map, string_bytes};
 ghost use Rattle.std.specs.List.{slice_split};
 ghost use Rattle.std.specs.Option.{option_copied};
-ghost use Rattle.command_line.specs.Prelude.{before_quote, gnu_checks, gnu_options, is_among, manual_of, option_tip, own_tip, takes_files, tip_on, tool_tip, unknown_option, unknown_tool, word_after};
+ghost use Rattle.command_line.specs.Prelude.{gnu_options, is_among, manual_of, own_tip, takes_files, tip_on, word_after};
 
 use runs::Tool;
 use std::alloc::{AllocError, Global};
@@ -70,41 +70,17 @@ pub(crate) fn own_tip(
 ) -> Result<Option<String>, AllocError>
     ensures { IfOk result (λ tip. option_map string_bytes tip ≡ own_tip tool text.now) }
 {
-    match tip_on_option(alloc, tool, text)? {
-        Some(tip) => Ok(Some(tip)),
-        None => tip_on_tool(alloc, text),
+    if let Some(option) = word_after(text, UNKNOWN_OPTION) {
+        if has_word(VERSION_OPTIONS, option) {
+            return Ok(Some(String::from_str(alloc, VERSION_TIP)?));
+        }
+        if matches!(tool, Some(Tool::Msgfmt)) && has_word(CHECKS, option) {
+            return Ok(Some(String::from_str(alloc, CHECK_TIP)?));
+        }
+        if is_gnus(tool, option) {
+            return Ok(Some(tip_on(alloc, option, "an option", manual_of(tool))?));
+        }
     }
-}
-
-/// The tip on the option that clap's text names.
-fn tip_on_option(
-    alloc: Global,
-    tool: Option<Tool>,
-    text: &str,
-) -> Result<Option<String>, AllocError>
-    ensures { IfOk result (λ tip. option_map string_bytes tip
-        ≡ option_and_then (option_tip tool) (unknown_option text.now)) }
-{
-    let Some(option) = word_after(text, UNKNOWN_OPTION) else {
-        return Ok(None);
-    };
-    if has_word(VERSION_OPTIONS, option) {
-        return Ok(Some(String::from_str(alloc, VERSION_TIP)?));
-    }
-    if is_check(tool, option) {
-        return Ok(Some(String::from_str(alloc, CHECK_TIP)?));
-    }
-    if is_gnus(tool, option) {
-        return Ok(Some(tip_on(alloc, option, "an option", manual_of(tool))?));
-    }
-    Ok(None)
-}
-
-/// The tip on the tool that clap's text names.
-fn tip_on_tool(alloc: Global, text: &str) -> Result<Option<String>, AllocError>
-    ensures { IfOk result (λ tip. option_map string_bytes tip
-        ≡ option_and_then tool_tip (unknown_tool text.now)) }
-{
     match word_after(text, UNKNOWN_TOOL) {
         Some(name) if has_word(GNU_TOOLS, name) => {
             Ok(Some(tip_on(alloc, name, "a tool", manual_of(None))?))
@@ -138,31 +114,14 @@ fn manual_of(tool: Option<Tool>) -> &'static str
     }
 }
 
-/// The word between a beginning of a text and the next quote.
+/// The word between a beginning of a text and the next quote, or all after it if there is none.
 fn word_after<'t>(text: &'t str, beginning: &str) -> Option<&'t str>
     ensures { option_copied result ≡ word_after beginning.now text.now }
 {
     let rest = text.strip_prefix(beginning)?;
-    Some(before_quote(rest))
-}
-
-/// What stands before the next quote, or all if there is none.
-fn before_quote(text: &str) -> &str
-    ensures { result.now ≡ before_quote text.now }
-{
-    match text.split_once('\'') {
-        Some((word, _)) => word,
-        None => text,
-    }
-}
-
-/// Whether the option is one of `CHECKS`, given to msgfmt.
-fn is_check(tool: Option<Tool>, option: &str) -> bool
-    ensures { result ≡ is_among (gnu_checks tool) option.now }
-{
-    match tool {
-        Some(Tool::Msgfmt) => has_word(CHECKS, option),
-        _ => false,
+    match rest.split_once('\'') {
+        Some((word, _)) => Some(word),
+        None => Some(rest),
     }
 }
 

@@ -8,4 +8,5 @@ pub mod Options
 pub mod Endings
 pub mod Program
 pub mod Starting
+pub mod Internal
 pub mod Prelude

@@ -1,7 +1,6 @@
 //! What the program writes itself, and how it ends then.
-ghost use Rattle.std.specs.Prelude.{◌≡◌, ◌<◌, ◌^◌, IfOk, OnErr, option_map};
-ghost use Rattle.std.specs.Option.{option_copied};
-ghost use Rattle.runs.specs.Prelude.{tool_name, writer};
+ghost use Rattle.std.specs.Prelude.{◌≡◌, ◌<◌, ◌^◌, IfOk, OnErr};
+ghost use Rattle.runs.specs.Prelude.{writer};
 ghost use Rattle.command_line.specs.Prelude.{reworded};
 ghost use Rattle.process.specs.Prelude.{GivesHelp, Puts, Reports};
 
@@ -17,18 +16,12 @@ pub fn report<E: ByteOut>(err: &mut E, tool: Option<Tool>, fault: ProgramFault<'
     ensures line { Reports tool fault.entry (writer (E.contents err.old) (E.failures err.old))
         (writer (E.contents err.new) (E.failures err.new)) }
 {
-    let _ = report_fault(err, name_of(tool), fault);
-    Ending::Refused
-}
-
-/// The name of a tool, where one is known.
-fn name_of(tool: Option<Tool>) -> Option<&'static str>
-    ensures { option_copied result ≡ option_map tool_name tool }
-{
-    match tool {
+    let name = match tool {
         Some(tool) => Some(tool.name()),
         None => None,
-    }
+    };
+    let _ = report_fault(err, name, fault);
+    Ending::Refused
 }
 
 /// Writes the help that was asked for.

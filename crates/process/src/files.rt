@@ -187,30 +187,12 @@ fn append_to<S: SystemCalls>(alloc: Global, system: &mut S, number: u32) -> Opti
     ensures { Does (S.calls system.old) (S.calls system.new)
         (TakesStream (S.opens system.old) number (option_map S.File.contents result)) }
 {
-    let info = info_of(alloc, &*system, number)?;
+    let info_path = format!(in alloc; "/proc/self/fdinfo/{number}").ok()?;
+    let mut info = Vec::new(alloc);
+    read_named(&*system, &mut info, &info_path).ok()?;
     if !is_for_writing(&info) {
         return None;
     }
-    let Ok(path) = descriptor_path(alloc, "/proc/self/fd/", number) else {
-        return None;
-    };
+    let path = format!(in alloc; "/proc/self/fd/{number}").ok()?;
     system.append(&path)
-}
-
-/// What the system tells of a descriptor.
-fn info_of<S: SystemCalls>(alloc: Global, system: &S, number: u32) -> Option<Vec<u8>>
-    ensures { IfSome result (λ info. ReadsFile (S.opens system.now (codes "/proc/self/fdinfo/" ++ decimal number))
-        (gives info.items)) }
-{
-    let path = descriptor_path(alloc, "/proc/self/fdinfo/", number).ok()?;
-    let mut info = Vec::new(alloc);
-    read_named(system, &mut info, &path).ok()?;
-    Some(info)
-}
-
-/// The path of a descriptor in a folder that has them all.
-fn descriptor_path(alloc: Global, folder: &str, number: u32) -> Result<String, AllocError>
-    ensures { IfOk result (λ path. string_bytes path ≡ folder.now ++ decimal number) }
-{
-    format!(in alloc; "{folder}{number}")
 }

@@ -25,7 +25,7 @@ mod value;
 
 pub use answers::{Found, is_for_writing, kind_of, make_fault, no_link, rights_of};
 pub use endings::{give_help, refuse, report};
-pub use environment::{Process, arguments, entries, variable};
+pub use environment::{arguments, entries, variable};
 pub use files::SystemFiles;
 pub use opened::Opened;
 pub use program::{run, run_tool};

@@ -6,8 +6,9 @@ ghost use Rattle.runs.specs.Prelude.{writer};
 ghost use Rattle.process.specs.Prelude.{AreRefused, EndsTool, Explains, IsFirst, IsFoundIn, NamesNone, NamesTool, RunsProgram, RunsWords};
 
 use crate::endings::{give_help, refuse, report};
-use crate::environment::{Process, arguments};
+use crate::environment::arguments;
 use crate::options::Options;
+use crate::system_calls::SystemCalls;
 use clap::error::ErrorKind;
 use clap::{ArgMatches, Error};
 use command_line::{program, spelled_out};
@@ -15,27 +16,28 @@ use po_tools::{EntrySource, VariableSource};
 use runs::{
     Arguments, ByteIn, ByteOut, Ending, InputSource, OutputFiles, OutputSystem, ProgramFault, Tool,
 };
-use std::alloc::{AllocError, Global};
+use std::alloc::Global;
 use std::str::FromStr;
 
-/// Runs the program by the arguments of the process: the inputs are those of `source`, `reader` is
+/// Runs the program by the arguments of `process`: the inputs are those of `source`, `reader` is
 /// standard input where it is read in blocks, and what a tool writes goes to `system`. Faults for
 /// which a tool has no status are told to `errors`.
-pub fn run<S, R: ByteIn, F: OutputFiles, O: ByteOut, E: ByteOut, P: ByteOut>(
+pub fn run<C: SystemCalls, S, R: ByteIn, F: OutputFiles, O: ByteOut, E: ByteOut, P: ByteOut>(
     alloc: Global,
+    process: &C,
     source: &mut S,
     reader: &mut R,
     system: &mut OutputSystem<F, O, E>,
     errors: &mut P,
 ) -> Ending
 where
-    S: Process + InputSource + VariableSource + EntrySource,
+    S: InputSource + VariableSource + EntrySource,
     requires calls { R.calls reader.old < 2 ^ 63 }
     requires failures { R.failures reader.old < 2 ^ 63 }
     requires out { system.old.out.failures < 2 ^ 63 }
     requires err { system.old.err.failures < 2 ^ 63 }
     requires errors { P.failures errors.old < 2 ^ 63 }
-    ensures { RunsProgram ⟦<u32 as FromStr>⟧.from_str_gives (S.argument source.old)
+    ensures { RunsProgram ⟦<u32 as FromStr>⟧.from_str_gives (C.argument process.now)
         (answers_of (S.file source.old) (S.standard source.old) (S.variable source.old) (S.entries source.old)) (S.refused source.new)
         (reached (S.asked source.old)
         (reader_of (R.remaining reader.old) (R.calls reader.old) (R.failures reader.old)) system.old)
@@ -44,7 +46,7 @@ where
         (writer (P.contents errors.old) (P.failures errors.old))
         (writer (P.contents errors.new) (P.failures errors.new)) result }
 {
-    let arguments = match arguments(alloc, &*source) {
+    let arguments = match arguments(alloc, process) {
         Ok(arguments) => arguments,
         Err(fault) => return report(errors, None, fault),
     };
@@ -81,70 +83,27 @@ where
         (writer (P.contents errors.new) (P.failures errors.new)) result }
 {
     let first = first_tool(words);
-    match found_in(alloc, first, words) {
-        Ok(Ok(matches)) => run_named(alloc, &matches, source, reader, system, errors),
-        Ok(Err(error)) => match explain(alloc, first, &error, system) {
+    let command = match program(alloc, first) {
+        Ok(command) => command,
+        Err(why) => return report(errors, first, ProgramFault::from(why)),
+    };
+    match command.try_get_matches_from(words) {
+        Ok(matches) => match named_tool(&matches) {
+            Some((tool, given)) => run_tool(
+                alloc,
+                tool,
+                source,
+                reader,
+                system,
+                errors,
+                &Options(given),
+            ),
+            None => Ending::Refused,
+        },
+        Err(error) => match explain(alloc, first, &error, system) {
             Ok(ending) => ending,
             Err(fault) => report(errors, first, fault),
         },
-        Err(why) => report(errors, first, ProgramFault::from(why)),
-    }
-}
-
-/// What clap finds in the words, by the commands that are offered to it, or its error.
-fn found_in<'w>(
-    alloc: Global,
-    first: Option<Tool>,
-    words: &'w [&'w str],
-) -> Result<Result<ArgMatches<'w>, Error>, AllocError>
-    requires { IsFirst (map (λ word. word.now) words.now) first }
-    ensures { IfOk result (λ found. MatchResult found (IsFoundIn (map (λ word. word.now) words.now))
-        (λ error. kind_of error ≢ ErrorKind.OutOfMemory → AreRefused first (map (λ word. word.now) words.now))) }
-{
-    let command = program(alloc, first)?;
-    match command.try_get_matches_from(words) {
-        Ok(matches) => Ok(Ok(matches)),
-        Err(error) => Ok(Err(error)),
-    }
-}
-
-/// Runs the tool that was found.
-fn run_named<S, R: ByteIn, F: OutputFiles, O: ByteOut, E: ByteOut, P: ByteOut>(
-    alloc: Global,
-    found: &ArgMatches<'_>,
-    source: &mut S,
-    reader: &mut R,
-    system: &mut OutputSystem<F, O, E>,
-    errors: &mut P,
-) -> Ending
-where
-    S: InputSource + VariableSource + EntrySource,
-    requires calls { R.calls reader.old < 2 ^ 63 }
-    requires failures { R.failures reader.old < 2 ^ 63 }
-    requires out { system.old.out.failures < 2 ^ 63 }
-    requires err { system.old.err.failures < 2 ^ 63 }
-    requires errors { P.failures errors.old < 2 ^ 63 }
-    ensures { (words : List (List ℕ)) → IsFoundIn words found.now → RunsWords ⟦<u32 as FromStr>⟧.from_str_gives
-        (answers_of (S.file source.old) (S.standard source.old) (S.variable source.old) (S.entries source.old)) (S.refused source.new)
-        words
-        (reached (S.asked source.old)
-        (reader_of (R.remaining reader.old) (R.calls reader.old) (R.failures reader.old)) system.old)
-        (reached (S.asked source.new)
-        (reader_of (R.remaining reader.new) (R.calls reader.new) (R.failures reader.new)) system.new)
-        (writer (P.contents errors.old) (P.failures errors.old))
-        (writer (P.contents errors.new) (P.failures errors.new)) result }
-{
-    match named_tool(found) {
-        Some((tool, given)) => run_tool(
-            alloc,
-            tool,
-            source,
-            reader,
-            system,
-            errors,
-            &Options(given),
-        ),
-        None => Ending::Refused,
     }
 }
 
@@ -152,13 +111,8 @@ where
 fn named_tool<'m, 'w>(found: &'m ArgMatches<'w>) -> Option<(Tool, &'m ArgMatches<'w>)>
     ensures { MatchOption result (NamesNone found.now) (λ p. NamesTool found.now p.0 p.1.now) }
 {
-    match found.subcommand() {
-        Some((name, given)) => match Tool::of_name(name) {
-            Some(tool) => Some((tool, given)),
-            None => None,
-        },
-        None => None,
-    }
+    let (name, given) = found.subcommand()?;
+    Some((Tool::of_name(name)?, given))
 }
 
 /// Runs a tool, and reports the fault for which it has no status.
@@ -195,7 +149,7 @@ where
 }
 
 /// The tool that the first argument names, if it names one.
-pub(crate) fn first_tool(words: &[&str]) -> Option<Tool>
+fn first_tool(words: &[&str]) -> Option<Tool>
     ensures { IsFirst (map (λ word. word.now) words.now) result }
 {
     match words.get(1) {
@@ -205,7 +159,7 @@ pub(crate) fn first_tool(words: &[&str]) -> Option<Tool>
 }
 
 /// Writes what clap says in place of what it found: help, or what is wrong.
-pub(crate) fn explain<F: OutputFiles, O: ByteOut, E: ByteOut>(
+fn explain<F: OutputFiles, O: ByteOut, E: ByteOut>(
     alloc: Global,
     first: Option<Tool>,
     error: &Error,

@@ -1,14 +1,10 @@
 //! What tools ask of a system: inputs, variables, and the entries of the environment.
-use crate::environment::{self, Process};
-use crate::reading::{read_input, read_named};
+use crate::environment;
+use crate::reading::{UNKNOWN_LEN, read_named};
 use crate::system_calls::SystemCalls;
 use po_tools::{EntrySource, VariableSource};
-use runs::{InputFault, InputSource};
+use runs::{Counted, InputFault, InputSource, read_whole};
 use std::alloc::{AllocError, Global};
-use std::env::FillError;
-
-/// The file with the entries of this process's environment, as it began.
-const ENTRIES_FILE: &str = "/proc/self/environ";
 
 /// Where the inputs of the program are read from.
 #[derive(Drop)]
@@ -31,39 +27,7 @@ impl<'s, S: SystemCalls> InputSource for Source<'s, S> {
     }
 
     fn read_standard(&mut self, bytes: &mut Vec<u8>) -> Result<(), InputFault> {
-        read_input(self.0, bytes)
-    }
-}
-
-impl<'s, S: SystemCalls> Process for Source<'s, S> {
-    ghost use Rattle.std.specs.Prelude.{codes};
-    ghost use Rattle.process.specs.Reading.{ReadsFile};
-    ghost use Rattle.runs.specs.Inputs.{gives};
-
-    ghost argument = { λ source index value. S.argument source.0.now index value };
-
-    ghost value = { λ source name value. S.value source.0.now name value };
-
-    ghost entry = { λ source index value. S.entry source.0.now index value };
-
-    ghost all_entries = { λ source text. ReadsFile (S.opens source.0.now (codes "/proc/self/environ")) (gives text) };
-
-    fn argument(&self, index: usize, room: &mut [u8]) -> Result<usize, FillError> {
-        self.0.argument(index, room)
-    }
-
-    fn variable(&self, name: &str, room: &mut [u8]) -> Result<usize, FillError> {
-        self.0.variable(name, room)
-    }
-
-    fn entry(&self, index: usize, room: &mut [u8]) -> Result<usize, FillError> {
-        self.0.entry(index, room)
-    }
-
-    fn entries(&self, alloc: Global) -> Result<Vec<u8>, InputFault> {
-        let mut text = Vec::new(alloc);
-        read_named(self.0, &mut text, ENTRIES_FILE)?;
-        Ok(text)
+        read_whole(&mut Counted::new(self.0.input()), bytes, UNKNOWN_LEN)
     }
 }
 
@@ -71,7 +35,7 @@ impl<'s, S: SystemCalls> VariableSource for Source<'s, S> {
     ghost variable = { λ source name value. S.value source.0.now name value };
 
     fn read_variable(&self, alloc: Global, name: &str) -> Result<Option<Vec<u8>>, AllocError> {
-        environment::variable(alloc, self, name)
+        environment::variable(alloc, self.0, name)
     }
 }
 
@@ -85,6 +49,6 @@ impl<'s, S: SystemCalls> EntrySource for Source<'s, S> {
         (λ text. ReadsFile (S.opens source.0.now (codes "/proc/self/environ")) (gives text)) entries };
 
     fn read_entries(&self, alloc: Global) -> Result<Vec<Vec<u8>>, AllocError> {
-        environment::entries(alloc, self)
+        environment::entries(alloc, self.0)
     }
 }

@@ -34,5 +34,12 @@ pub fn start<S: SystemCalls + Copy>(alloc: Global, system: S) -> Ending
         out: Counted::new(calls.output()),
         err: Counted::new(calls.errors()),
     };
-    run(alloc, &mut source, &mut reader, &mut output, &mut errors)
+    run(
+        alloc,
+        &system,
+        &mut source,
+        &mut reader,
+        &mut output,
+        &mut errors,
+    )
 }

@@ -1,8 +1,7 @@
 //! The paths at which an output is made.
 ghost use Rattle.std.specs.Prelude.{◌≡◌, ◌≢◌, ◌^◌, ◌<◌, ℕ, IfOk, MatchOption, decimal};
-ghost use Rattle.std.specs.Option.{option_copied};
 ghost use Rattle.std.specs.String.{string_bytes};
-ghost use Rattle.runs.specs.Prelude.{NamesNoStream, NamesStream, beside, link_target, own_name};
+ghost use Rattle.runs.specs.Prelude.{NamesNoStream, NamesStream, beside};
 
 use itoa::Buffer;
 use std::alloc::{AllocError, Global};
@@ -26,17 +25,13 @@ pub(crate) fn beside(alloc: Global, path: &str, number: u32) -> Result<String, A
     let path = Path::new(path);
     let mut digits = Buffer::new();
     let mut name = String::from_str(alloc, ".")?;
-    name.push_str(own_name(path.file_name()))?;
+    name.push_str(match path.file_name() {
+        Some(own) if own.len() <= NAME_LIMIT => own,
+        _ => OTHER_NAME,
+    })?;
     name.push_str(".")?;
     name.push_str(digits.format(number))?;
     Ok(path.with_file_name(alloc, &name)?.into_string())
-}
-
-/// Where a link at this path leads, by its text.
-pub(crate) fn link_target(alloc: Global, path: &str, text: &str) -> Result<String, AllocError>
-    ensures { IfOk result (λ target. string_bytes target ≡ link_target path.now text.now) }
-{
-    Ok(Path::new(path).with_file_name(alloc, text)?.into_string())
 }
 
 /// The number of the open stream that the path names, of the process that looks it up. `None` where
@@ -66,15 +61,5 @@ fn number_of(digits: &str) -> Option<u32>
         Some(number)
     } else {
         None
-    }
-}
-
-/// The name that a new file's begins with.
-fn own_name(name: Option<&str>) -> &str
-    ensures { result.now ≡ own_name (option_copied name.entry) }
-{
-    match name {
-        Some(name) if name.len() <= NAME_LIMIT => name,
-        _ => OTHER_NAME,
     }
 }

@@ -1,7 +1,7 @@
 //! A system to which runs are written, as one value: to the output file or to standard output, and
 //! then to standard error.
 ghost use Rattle.std.specs.Prelude.{◌^◌, ◌<◌};
-ghost use Rattle.runs.specs.Prelude.{fault_in, WritesRun, output_file, run_view, Writes};
+ghost use Rattle.runs.specs.Prelude.{run_view, Writes};
 
 use crate::device::{ByteOut, put_all};
 use crate::output_files::{OutputFault, OutputFiles};
@@ -48,25 +48,20 @@ impl<F: OutputFiles, O: ByteOut, E: ByteOut> OutputSystem<F, O, E> {
         requires err { self.old.err.failures < 2 ^ 63 }
         ensures { Writes (run_view run.now) argument.now self.old self.new result }
     {
-        match self.write_output(alloc, run, argument) {
-            Ok(()) => Ok(run.status),
+        let Some(name) = run.output_file(argument) else {
+            return match deliver(run, &mut self.out, &mut self.err) {
+                Ok(()) => Ok(run.status),
+                Err(_) => Err(ProgramFault::WriteFault),
+            };
+        };
+        match write_file(alloc, &mut self.files, name, &run.output, LINK_LIMIT) {
+            Ok(()) => match put_all(&mut self.err, &run.messages) {
+                Ok(()) => Ok(run.status),
+                Err(_) => Err(ProgramFault::WriteFault),
+            },
             Err(OutputFault::CannotCreate) => Err(ProgramFault::CannotCreate(argument)),
             Err(OutputFault::WriteFault) => Err(ProgramFault::WriteFault),
             Err(OutputFault::OutOfMemory) => Err(ProgramFault::OutOfMemory),
         }
-    }
-
-    /// Writes all of a run, or says why it can't.
-    fn write_output(&mut self, alloc: Global, run: &Run, argument: &str) -> Result<(), OutputFault>
-        requires out { self.old.out.failures < 2 ^ 63 }
-        requires err { self.old.err.failures < 2 ^ 63 }
-        ensures { WritesRun (run_view run.now) self.old self.new (output_file (run_view run.now) argument.now)
-            (fault_in result) }
-    {
-        let Some(name) = run.output_file(argument) else {
-            return deliver(run, &mut self.out, &mut self.err).or(Err(OutputFault::WriteFault));
-        };
-        write_file(alloc, &mut self.files, name, &run.output, LINK_LIMIT)?;
-        put_all(&mut self.err, &run.messages).or(Err(OutputFault::WriteFault))
     }
 }

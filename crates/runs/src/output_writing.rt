@@ -7,8 +7,9 @@ use crate::device::{Counted, put_all};
 use crate::output_files::{
     FileKind, MakeFault, OutputFault, OutputFiles, Rights, first_mode, kept_mode,
 };
-use crate::output_paths::{beside, link_target, stream_named};
+use crate::output_paths::{beside, stream_named};
 use std::alloc::Global;
+use std::path::Path;
 
 /// How many further names are tried for a new file, where one is taken.
 const FURTHER_NAMES: u32 = 999;
@@ -46,7 +47,7 @@ pub(crate) fn write_file<T: OutputFiles>(
             if links == 0 {
                 return Err(OutputFault::CannotCreate);
             }
-            let target = link_target(alloc, path, &text)?;
+            let target = Path::new(path).with_file_name(alloc, &text)?.into_string();
             write_file(alloc, files, &target, output, links - 1)
         }
     }

@@ -73,7 +73,10 @@ pub fn read_whole<R: ByteIn>(
 {
     let start = bytes.len();
     let expected_len = expected_len.min(INPUT_LIMIT as u64) as usize;
-    take_memory(bytes, expected_len)?;
+    if expected_len > 0 {
+        // One byte more, so that the end of the input is seen without further memory.
+        bytes.reserve(expected_len.saturating_add(1))?;
+    }
     let mut count = 0;
     while count < INPUT_LIMIT {
         let filled = start + count;
@@ -88,17 +91,6 @@ pub fn read_whole<R: ByteIn>(
         }
     }
     Ok(())
-}
-
-/// Takes memory for one byte more than are expected, so that the end of the input is seen without
-/// further memory.
-fn take_memory(bytes: &mut Vec<u8>, expected_len: usize) -> Result<(), AllocError>
-    ensures { bytes.new.items ≡ bytes.old.items }
-{
-    if expected_len == 0 {
-        return Ok(());
-    }
-    bytes.reserve(expected_len.saturating_add(1))
 }
 
 /// Makes `bytes` longer than `filled`, by `most` at most, where it has memory by no more than that.

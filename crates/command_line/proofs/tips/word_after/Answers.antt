@@ -1,5 +1,5 @@
 use Rattle.command_line.proofs.Prelude.{Some, ap, option_copied, sym, ◌∙◌}
-use Rattle.command_line.proofs.Words.{no_word, word}
+use Rattle.command_line.proofs.Words.{cut_at_quote, no_word, word}
 use Rattle.command_line.proofs.tips.word_after.Goals as goal
 
 pub returns-in_err-rest : goal.returns-in_err-rest
@@ -7,6 +7,12 @@ returns-in_err-rest c =
     ap option_copied c.from_residual.ensures
     ∙ sym (no_word c.args.beginning.now c.args.text.now c.in_err-rest.ensures.cases)
 
-pub returns : goal.returns
-returns c = ap Some c.before_quote.ensures
+pub returns-in-Some : goal.returns-in-Some
+returns-in-Some c =
+    ap Some (rw c.in-Some.is at (cut_at_quote c.in_ok-rest.rest.now c.split_once.result c.split_once.ensures.cases))
+    ∙ sym (word c.args.beginning.now c.args.text.now c.in_ok-rest.rest.now c.in_ok-rest.ensures.cases)
+
+pub returns-in-None : goal.returns-in-None
+returns-in-None c =
+    ap Some (rw c.in-None.is at (cut_at_quote c.in_ok-rest.rest.now c.split_once.result c.split_once.ensures.cases))
     ∙ sym (word c.args.beginning.now c.args.text.now c.in_ok-rest.rest.now c.in_ok-rest.ensures.cases)

@@ -4,6 +4,6 @@ use Rattle.process.proofs.environment.push_entries.Goals as goal
 
 pub loop-index-preserved : goal.loop-index-preserved
 loop-index-preserved g c =
-    values_pushed (λ entry. entry.items) (g.P.Process.entry c.args.process.now) c.loop-index.entries.items
+    values_pushed (λ entry. entry.items) (g.S.SystemCalls.entry c.args.system.now) c.loop-index.entries.items
     c.push.new.self.items c.in-Some.entry c.loop-index.index c.loop-index.invariant.0 c.loop-index.invariant.1
     (search rules) (search rules)

@@ -1,5 +1,7 @@
 use Rattle.runs.proofs.Prelude.{arith, lacking, no_memory, replaces, special, stops, stream, taken, too_long, unknown, ◌+◌, ◌-◌, ◌∙◌, ◌≡◌}
 use Rattle.runs.specs.OutputWriting.{unread}
+use Rattle.std.proofs.Common.{rules, string_bytes}
+use Rattle.runs.specs.Prelude.{link_target}
 use Rattle.runs.proofs.OutputLemmas.{after-call, after-link, done-for, is-fault, is-no-memory}
 use Rattle.runs.proofs.output_writing.+write_file.Goals as goal
 
@@ -37,16 +39,17 @@ returns-then-links-eq0 g t c =
     after-call _ c.in-Regular.ensures
     (after-call _ read (is-fault (stops c.in_default.ensures (too_long c.if-links-eq0.true))))
 
-pub returns-in_ok-target-in-Ok-Some : goal.returns-in_ok-target-in-Ok-Some
-returns-in_ok-target-in-Ok-Some g t c =
+pub returns-in_ok-with_file_name-in-Ok-Some : goal.returns-in_ok-with_file_name-in-Ok-Some
+returns-in_ok-with_file_name-in-Ok-Some g t c =
     let read = rw c.in-Ok-Some.field-0-is at c.in-Ok-Some.ensures in
     let more : (c.args.links - 1) + 1 ≡ c.args.links = omega (arith, c.if-links-eq0.false) in
-    after-link c.in-Regular.old c.in_default.ensures more c.deref.ensures
-    (c.deref-in-Ok-Some.ensures ∙ c.in_ok-target-in-Ok-Some.ensures)
+    let target : string_bytes c.into_string-target.result ≡ link_target c.args.path.now c.deref.result.now =
+    search rules in
+    after-link c.in-Regular.old c.in_default.ensures more c.deref.ensures (c.deref-in-Ok-Some.ensures ∙ target)
     c.in-Regular.ensures read c.write_file.ensures
 
-pub returns-in_err-target-in-Ok-Some : goal.returns-in_err-target-in-Ok-Some
-returns-in_err-target-in-Ok-Some g t c =
+pub returns-in_err-with_file_name-in-Ok-Some : goal.returns-in_err-with_file_name-in-Ok-Some
+returns-in_err-with_file_name-in-Ok-Some g t c =
     let read = rw c.in-Ok-Some.field-0-is at c.in-Ok-Some.ensures in
     after-call _ c.in-Regular.ensures
     (after-call _ read (is-no-memory c.from_residual.result c.from_residual.ensures.1

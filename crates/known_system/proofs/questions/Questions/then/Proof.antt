@@ -1,5 +1,5 @@
 -- What was asked for, and one more.
-use Rattle.known_system.proofs.Walks.{Slot, RefOf, plain, bare, is_bare, List, [], ◌∷◌, ◌++◌, refl, proved, ftrue, feq, fsep, Val, vstruct, of_list, ‵, raw, ◌⊛◌, ◌$◌, ◌∵◌, !, qed, done, move, drop, split, join, fjoin, fpack, feq_i, suffices, frame, enter, no_more, returns, alloc_all, pass_all, free_all, look_at, sets, agg, nothing, alive, Stays, walk_of, says, ends_at, shr_vals, shr_Tells, stay_dropped, Goes-dropped, named, named_lft, types_at, yes, owns}
+use Rattle.known_system.proofs.Walks.{Slot, RefOf, plain, bare, is_bare, List, [], ◌∷◌, ◌++◌, refl, proved, ftrue, Val, vstruct, of_list, ‵, raw, ◌⊛◌, ◌$◌, ◌∵◌, !, qed, done, move, drop, split, fjoin, fpack, feq_i, suffices, enter, no_more, returns, alloc_all, pass_all, free_all, look_at, sets, agg, nothing, alive, Stays, walk_of, says, ends_at, shr_vals, shr_Tells, stay_dropped, Goes-dropped, named, named_lft, types_at, yes, owns}
 use Rattle.known_system.proofs.Prelude.{questioned}
 use Rattle.known_system.specs.contracts.questions.Questions.then as f
 use Rattle.known_system.specs.contracts.questions.Questions.{the_row as R}

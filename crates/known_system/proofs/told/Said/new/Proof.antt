@@ -1,5 +1,5 @@
 -- No byte yet.
-use Rattle.known_system.proofs.Walks.{bare, is_bare, List, [], ◌∷◌, refl, proved, ftrue, feq, fsep, Val, vstruct, of_list, ‵, raw, ◌⊛◌, ◌$◌, ◌∵◌, !, qed, done, move, drop, split, join, fjoin, fpack, feq_i, suffices, frame, enter, no_more, returns, alloc_all, pass_all, free_all, look_at, sets, agg, nothing, alive, Stays, walk_of, says, ends_at}
+use Rattle.known_system.proofs.Walks.{bare, is_bare, List, [], ◌∷◌, refl, proved, ftrue, Val, vstruct, of_list, ‵, raw, ◌⊛◌, ◌$◌, ◌∵◌, !, qed, done, move, drop, split, fjoin, fpack, feq_i, suffices, enter, no_more, returns, alloc_all, pass_all, free_all, look_at, sets, agg, nothing, alive, Stays, walk_of, says, ends_at}
 use Rattle.known_system.specs.contracts.told.Said.new as f
 use Rattle.known_system.proofs.told.Said.new.Statement.{statement}
 use Rattle.known_system.proofs.told.Said.new.Code as code

@@ -1,5 +1,5 @@
 use Rattle.process.proofs.ReadingLemmas.{opened}
-use Rattle.process.proofs.reading.read_input.Goals as goal
+use Rattle.process.proofs.source.SourceInputSource.read_standard.Goals as goal
 
 pub returns-clause-reading : goal.returns-clause-reading
 returns-clause-reading g c =
