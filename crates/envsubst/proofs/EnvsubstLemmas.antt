@@ -247,11 +247,6 @@ pub gave-end : (a b : Option (List ℕ)) (calls before after : ℕ) → GaveEach
 gave-end a b calls before after unknown e = tt
 gave-end a b calls before after (known h) e = omega (arith, h, e)
 
--- a reader that wasn't called
-pub not-called : (input : Option (List ℕ)) (calls : ℕ) → IfSome input (λ text. calls ≤ calls + length text + 1)
-not-called None calls = tt
-not-called (Some text) calls = omega arith
-
 pub on-ok : {T E : Type 0} (r : Result T E) (P : Type 0) → P → OnOk r P
 on-ok (Ok x) P p = p
 on-ok (Err e) P p = tt

@@ -1,6 +1,6 @@
 -- What the proofs of this crate cite of std, of the crates below and of its own definitions. Declares nothing.
 pub use Rattle.envsubst.specs.ByArguments.{named, unread}
-pub use Rattle.envsubst.specs.Internal.Holding.{ComesOut, Decides, Ending, ReplacesName, after_dollar}
+pub use Rattle.envsubst.specs.Internal.Holding.{ComesOut, Ending, after_dollar}
 pub use Rattle.envsubst.specs.Internal.Sorted.{AreNamesSorted, AreVariablesSorted, name_cmp, values_of_replacements}
 pub use Rattle.envsubst.specs.Laws.{bare, braced, copied, no_reference, no_text, nothing, reference, set, unset}
 pub use Rattle.envsubst.specs.Prelude.{Advances, AreFeedCalls, BeginsNoReplaced, EndsAs, FeedCall, FeedCallsAgree, HasGoneOut, HasValue, HoldsNames, IsInName, IsName, IsReplaced, NoNameGoesOn, Reference, Replacement, Replaces, RunsEnvsubst, SpellsReference, Stops, StopsAtEnd, StopsWithin, SubstituterView, Substitutes, Took, TookAll, TookAllRead, TookBeginning, TookBeginningOfRead, Values, begins_with, envsubst_arguments, held_after, is_begun_name, is_undecided_after, name_prefix, names_given, pairs_in, pieces_of, substituted, substitution, values_of_slices, values_of_substituter, variables_of, written_in}

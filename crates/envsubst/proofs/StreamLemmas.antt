@@ -1,5 +1,8 @@
 -- Lemmas on substitution piece by piece.
-use Rattle.envsubst.proofs.Prelude.{Advances, Appends-nil, Appends-trans, AppendsPrefix, AreFeedCalls, FeedCall, FeedCallsAgree, List, Option, Stops, Values, [], ap, append_assoc, arith, byte-at, drop, drop-append-le, drop-drop, drop_more, get_or, held_after, is_byte, length, pieces_of, position_or_len, refl, subst, substitution, sym, take, take-append-drop, take_rest, written_in, ℕ, ◌++◌, ◌+◌, ◌-◌, ◌<◌, ◌∙◌, ◌∷◌, ◌≡◌, ◌≤◌}
+use Rattle.envsubst.proofs.Prelude.{Advances, Appends-nil, Appends-trans, AppendsPrefix, AreFeedCalls, ComesOut, FeedCall, FeedCallsAgree, List, Option, Stops, Values, [], ap, append_assoc, arith, byte-at, drop, drop-append-le, drop-drop, drop_more, get_or, held_after, is_byte, is_undecided, length, pieces_of, position_or_len, refl, subst, substitution, sym, take, take-append-drop, take_rest, written_in, ℕ, ◌++◌, ◌+◌, ◌-◌, ◌<◌, ◌∙◌, ◌∷◌, ◌≡◌, ◌≤◌}
+use Rattle.envsubst.specs.Internal.Holding.{IsStep}
+use Rattle.envsubst.specs.declared.holding.Step.{Step}
+use Rattle.envsubst.specs.declared.holding.Step.TheVariants.{Hold, Write}
 use Rattle.envsubst.proofs.SubstitutionLemmas.{plain-prefix}
 
 pub Advances-none : (values : Values) (text held : List ℕ) (old : Option (List ℕ)) → text ≡ held
@@ -106,6 +109,17 @@ piece-split piece d some = drop_more piece 0 d some
 
 pub first-taken : (piece : List ℕ) (d : ℕ) → 0 < length piece → take 1 piece ≡ get_or piece 0 d ∷ []
 first-taken piece d some = ap (λ p. take 1 p) (piece-split piece d some)
+
+-- what is done at the next byte, where it is a piece's first
+pub out-step : (values : Values) (held piece : List ℕ) (step : Step) → 0 < length held → 0 < length piece
+    → ComesOut values held (get_or piece 0 0) step → IsStep values held piece step
+out-step values held piece Hold some more h =
+    ap (λ l. is_undecided (held ++ l)) (first-taken piece 0 more) ∙ h
+out-step values held piece (Write text taken) some more h = (
+  omega (arith, h.0, more),
+  omega (arith, some),
+  out-piece values held text.now (get_or piece 0 0) taken piece (piece-split piece 0 more) h.0 h.1,
+)
 
 -- a step over `&piece[at..]`, after the steps before it
 pub pass-advances : (values : Values) (text held after piece : List ℕ) (at taken : ℕ)

@@ -1,9 +1,7 @@
 -- Lemmas on texts with their references replaced.
-use Rattle.envsubst.proofs.Prelude.{Bool, Bor, ComesOut, Decides, Ending, List, None, Option, Replacement, ReplacesName, Some, Values, [], after_dollar, and_parts, ap, append-nil, arith, byte-here, byte-later, cases_Bool, cond-false, drop, drop_at, eqb, false, false≢true, inl, inr, is_begun_name, is_byte, is_name_byte, length, list_all, option_map, position_or_len, reference_after, refl, replacement_of, substituted, substitution, substitution_after, suc, sym, take, true, true≢false, zero, ℕ, ◌++◌, ◌+◌, ◌∙◌, ◌∷◌, ◌≡◌, ◌≤◌, ◌⊎◌}
-use Rattle.envsubst.specs.declared.holding.Decision.TheVariants.{Ends, Closes, Copies}
-use Rattle.envsubst.specs.declared.holding.Effect.{Effect}
-use Rattle.envsubst.specs.declared.holding.Effect.TheVariants.{Held, Copied, Replaced}
-use Rattle.envsubst.proofs.ReferenceLemmas.{name_byte-not, begun-bytes, no_name_byte, ends, ending-none, after-closed}
+use Rattle.envsubst.proofs.Prelude.{Bool, Bor, Ending, List, None, Option, Replacement, Some, Values, [], after_dollar, and_parts, ap, append-nil, arith, byte-here, byte-later, cases_Bool, cond-false, drop, drop_at, eqb, false, inl, inr, is_begun_name, is_byte, is_name_byte, is_undecided, length, list_all, option_map, position_or_len, reference_after, refl, replacement_of, substituted, substitution, substitution_after, suc, sym, take, true, true≢false, zero, ℕ, ◌++◌, ◌+◌, ◌∙◌, ◌∷◌, ◌≡◌, ◌≤◌, ◌⊎◌}
+use Rattle.std.specs.Int.{from_bool}
+use Rattle.envsubst.proofs.ReferenceLemmas.{name_byte-not, begun-bytes, no_name_byte, ends, ending-none, after-closed, closes, name_prefix-stop}
 
 -- skipped bytes leave the text after them
 pub skipped : (values : Values) (n : ℕ) (bs : List ℕ) → substitution_after values n bs ≡ substitution values (drop n bs)
@@ -118,44 +116,63 @@ held-replaced values is_braced held name xs value size e some is =
     ∙ replaced values (after_dollar is_braced (name ++ xs)) (record { value = value; size = size })
     (replacement-some values name value size _ some is)
 
-pub out-copied : (values : Values) (is_braced : Bool) (held name : List ℕ) (next : ℕ)
-    → held ≡ 36 ∷ after_dollar is_braced name → is_begun_name name ≡ true → Decides is_braced name next Copies
-    → ComesOut values held next Copied
-out-copied values is_braced held name next e h none =
-    λ rest. held-copied values is_braced held name (next ∷ rest) e h (no-replacement values _ (none rest))
+pub out-held : (is_braced : Bool) (held name : List ℕ) (next : ℕ) → held ≡ 36 ∷ after_dollar is_braced name
+    → is_undecided (36 ∷ after_dollar is_braced (name ++ next ∷ [])) ≡ true → is_undecided (held ++ next ∷ []) ≡ true
+out-held is_braced held name next e h = ap is_undecided (held-append is_braced held name (next ∷ []) e) ∙ h
 
--- held bytes that are a reference with its end
-out-named : (values : Values) (is_braced : Bool) (held name : List ℕ) (next size taken : ℕ) (o : Effect)
+pub out-copied : (values : Values) (is_braced : Bool) (held name : List ℕ) (next : ℕ)
     → held ≡ 36 ∷ after_dollar is_braced name → is_begun_name name ≡ true
-    → ((rest : List ℕ) → reference_after (after_dollar is_braced (name ++ next ∷ rest))
-    ≡ Some (record { name = name; size = size }))
-    → ((rest : List ℕ) → drop size (after_dollar is_braced (name ++ next ∷ rest)) ≡ drop taken (next ∷ rest))
-    → taken ≤ 1
-    → ReplacesName values name taken o → ComesOut values held next o
-out-named values is_braced held name next size taken Held e h read after few r = absurd r
-out-named values is_braced held name next size taken Copied e h read after few r = λ rest.
-    held-copied values is_braced held name (next ∷ rest) e h (replacement-none values name size _ (read rest) r)
-out-named values is_braced held name next size taken (Replaced value n) e h read after few r = (
-  omega (arith, r.1, few),
-  λ rest. held-replaced values is_braced held name (next ∷ rest) value.now size e (read rest) r.0
-      ∙ ap (λ l. value.now ++ substitution values l) (after rest ∙ ap (λ m. drop m (next ∷ rest)) (sym r.1)),
+    → ((rest : List ℕ) → reference_after (after_dollar is_braced (name ++ next ∷ rest)) ≡ None) → (rest : List ℕ)
+    → substitution values (held ++ (next ∷ rest)) ≡ held ++ substitution values (next ∷ rest)
+out-copied values is_braced held name next e h none rest =
+    held-copied values is_braced held name (next ∷ rest) e h (no-replacement values _ (none rest))
+
+-- held bytes and the next one that are a reference to this name, with its end
+abbrev IsNamed : Bool → List ℕ → ℕ → List ℕ → Type 0
+IsNamed is_braced name next rest = (size : ℕ)
+    × (reference_after (after_dollar is_braced (name ++ next ∷ rest)) ≡ Some (record { name = name; size = size }))
+    × (drop size (after_dollar is_braced (name ++ next ∷ rest)) ≡ drop (from_bool is_braced) (next ∷ rest))
+
+is_named : (is_braced : Bool) (name : List ℕ) (next : ℕ) (rest : List ℕ) → is_begun_name name ≡ true
+    → (name ≡ [] → ⊥) → is_name_byte next ≡ false → ((is_braced ≡ true) × (next ≡ 125)) ⊎ (is_braced ≡ false)
+    → IsNamed is_braced name next rest
+is_named false name next rest h some stops end = (
+  length name,
+  ends name (next ∷ rest) h some (name_prefix-stop next rest stops),
+  drop_at name (next ∷ rest) (length name) refl,
+)
+is_named true name next rest h some stops (inr bare) = absurd (true≢false bare)
+is_named true name next rest h some stops (inl brace) = (
+  length name + 2,
+  ap (λ b. reference_after (123 ∷ (name ++ b ∷ rest))) brace.1 ∙ closes name rest h some,
+  after-closed name next rest,
 )
 
-pub out-ends : (values : Values) (is_braced : Bool) (held name : List ℕ) (next : ℕ) (o : Effect)
-    → held ≡ 36 ∷ after_dollar is_braced name → is_begun_name name ≡ true → Decides is_braced name next Ends
-    → ReplacesName values name 0 o → ComesOut values held next o
-out-ends values true held name next o e h ends r = absurd (true≢false ends.0)
-out-ends values false held name next o e h ends r =
-    out-named values false held name next (length name) 0 o e h ends.1
-    (λ rest. drop_at name (next ∷ rest) (length name) refl) (omega arith) r
+pub out-named : (values : Values) (is_braced : Bool) (held name value : List ℕ) (next : ℕ)
+    → held ≡ 36 ∷ after_dollar is_braced name → is_begun_name name ≡ true → (name ≡ [] → ⊥)
+    → is_name_byte next ≡ false → ((is_braced ≡ true) × (next ≡ 125)) ⊎ (is_braced ≡ false) → values name ≡ Some value
+    → (rest : List ℕ)
+    → substitution values (held ++ (next ∷ rest))
+    ≡ value ++ substitution values (drop (from_bool is_braced) (next ∷ rest))
+out-named values is_braced held name value next e h some stops end is rest =
+    let named = is_named is_braced name next rest h some stops end in
+    held-replaced values is_braced held name (next ∷ rest) value named.0 e named.1 is
+    ∙ ap (λ l. value ++ substitution values l) named.2
 
-pub out-closes : (values : Values) (is_braced : Bool) (held name : List ℕ) (next : ℕ) (o : Effect)
-    → held ≡ 36 ∷ after_dollar is_braced name → is_begun_name name ≡ true → Decides is_braced name next Closes
-    → ReplacesName values name 1 o → ComesOut values held next o
-out-closes values false held name next o e h closes r = absurd (false≢true closes.0)
-out-closes values true held name next o e h closes r =
-    out-named values true held name next (length name + 2) 1 o e h closes.1 (λ rest. after-closed name next rest)
-    (omega arith) r
+-- at most the closing brace is taken
+pub one-most : (is_braced : Bool) → from_bool is_braced ≤ 1
+one-most true = omega arith
+one-most false = omega arith
+
+pub out-unnamed : (values : Values) (is_braced : Bool) (held name : List ℕ) (next : ℕ)
+    → held ≡ 36 ∷ after_dollar is_braced name → is_begun_name name ≡ true → (name ≡ [] → ⊥)
+    → is_name_byte next ≡ false → ((is_braced ≡ true) × (next ≡ 125)) ⊎ (is_braced ≡ false) → values name ≡ None
+    → (rest : List ℕ)
+    → substitution values (held ++ (next ∷ rest)) ≡ held ++ substitution values (next ∷ rest)
+out-unnamed values is_braced held name next e h some stops end none rest =
+    let named = is_named is_braced name next rest h some stops end in
+    held-copied values is_braced held name (next ∷ rest) e h
+    (replacement-none values name named.0 _ named.1 none)
 
 -- what becomes of the bytes held where nothing follows
 pub ends-empty : (values : Values) (held : List ℕ) → held ≡ [] → substitution values held ≡ held

@@ -1,70 +1,20 @@
 //! The bytes that may begin a reference, held back until the next ones decide.
-ghost use Rattle.std.specs.Prelude.{◌≡◌, ◌<◌, true, false, ◌∷◌, [], length, take, IfSome};
-ghost use Rattle.envsubst.specs.Prelude.{is_undecided, is_begun_name, Values};
-ghost use Rattle.envsubst.specs.Internal.Holding.{Decides, ComesOut, ReplacesName, IsStep, Ending, after_dollar};
+ghost use Rattle.std.specs.Prelude.{◌≡◌, ◌<◌, true, ◌∷◌, length, take, IfSome};
+ghost use Rattle.envsubst.specs.Prelude.{is_undecided, is_begun_name};
+ghost use Rattle.envsubst.specs.Internal.Holding.{ComesOut, IsStep, Ending, after_dollar};
 ghost use Rattle.envsubst.specs.Internal.Sorted.{values_of_replacements};
 
 use crate::reference::{LONGEST_NAME, begins_with, is_letter, is_name, is_name_byte, name_prefix};
 use crate::replacements::Replacements;
 use locale_names::len_before;
 
-/// What the next byte makes of a begun reference: `$` or `${`, and the name so far, maybe empty.
-#[derive(Clone, Copy)]
-enum Decision {
-    /// It may still become a reference.
-    Grows,
-    /// It is `$NAME`, and the byte stands after it.
-    Ends,
-    /// It is `${NAME}` with the byte.
-    Closes,
-    /// It isn't a reference.
-    Copies,
-}
-
-/// What becomes of the bytes held back, at the next byte.
-enum Effect<'a> {
-    /// They stay held, and the byte is held too.
-    Held,
-    /// They come out as they are, and the byte isn't taken.
-    Copied,
-    /// This value comes out in their place, and so many further bytes are taken.
-    Replaced(&'a [u8], usize),
-}
-
 /// What is done first with the bytes held back and a piece of the text.
+#[derive(Clone, Copy)]
 pub(crate) enum Step<'a> {
     /// The piece's first byte is held back too.
     Hold,
     /// This text is written, so many bytes of the piece are taken, and none is held back any more.
     Write(&'a [u8], usize),
-}
-
-/// Decides by a begun reference, with a brace or without one, and the next byte.
-fn decide(is_braced: bool, name: &[u8], next: u8) -> Decision
-    requires { is_begun_name name.now ≡ true }
-    ensures { Decides is_braced name.now next result }
-{
-    if name.is_empty() {
-        if is_letter(next) {
-            Decision::Grows
-        } else if next == b'{' && !is_braced {
-            Decision::Grows
-        } else {
-            Decision::Copies
-        }
-    } else if is_name_byte(next) {
-        if name.len() < LONGEST_NAME {
-            Decision::Grows
-        } else {
-            Decision::Copies
-        }
-    } else if !is_braced {
-        Decision::Ends
-    } else if next == b'}' {
-        Decision::Closes
-    } else {
-        Decision::Copies
-    }
 }
 
 /// A begun reference: whether it has a brace, and its name so far.
@@ -120,33 +70,41 @@ fn begun_len(piece: &[u8]) -> Option<usize>
     }
 }
 
-/// What becomes of the bytes held back, at the next byte.
+/// What is done with the bytes held back, at the next byte: it is held too, or they come out as
+/// they are, or a value comes out in their place, and with a brace the byte is taken.
 #[inline(always)]
-fn effect_of<'a>(replacements: &Replacements<'a>, held: &[u8], next: u8) -> Effect<'a>
+fn decide<'a>(replacements: &'a Replacements<'_>, held: &'a [u8], next: u8) -> Step<'a>
     requires some { 0 < length held.now }
     requires undecided { is_undecided held.now ≡ true }
     ensures { ComesOut (values_of_replacements replacements.now) held.now next result }
 {
     let (is_braced, name) = begun(held);
-    match decide(is_braced, name, next) {
-        Decision::Grows => Effect::Held,
-        Decision::Copies => Effect::Copied,
-        Decision::Ends => replace(replacements, name, 0),
-        Decision::Closes => replace(replacements, name, 1),
+    if name.is_empty() {
+        if is_letter(next) {
+            Step::Hold
+        } else if next == b'{' && !is_braced {
+            Step::Hold
+        } else {
+            Step::Write(held, 0)
+        }
+    } else if is_name_byte(next) {
+        if name.len() < LONGEST_NAME {
+            Step::Hold
+        } else {
+            Step::Write(held, 0)
+        }
+    } else if is_braced && next != b'}' {
+        Step::Write(held, 0)
+    } else {
+        match replacements.value_for(name) {
+            Some(value) => Step::Write(value, usize::from(is_braced)),
+            None => Step::Write(held, 0),
+        }
     }
 }
 
-/// What becomes of a reference to this name, which takes so many further bytes.
-fn replace<'a>(replacements: &Replacements<'a>, name: &[u8], taken: usize) -> Effect<'a>
-    ensures { ReplacesName (values_of_replacements replacements.now) name.now taken result }
-{
-    match replacements.value_for(name) {
-        Some(value) => Effect::Replaced(value, taken),
-        None => Effect::Copied,
-    }
-}
-
-/// What is done first with the bytes held back and a piece.
+/// What is done first with the bytes held back and a piece. A begun reference of the piece is
+/// decided without being held, and the bytes before its first `$` are written.
 #[inline(always)]
 pub(crate) fn next_step<'a>(
     replacements: &'a Replacements<'_>,
@@ -157,43 +115,17 @@ pub(crate) fn next_step<'a>(
     requires undecided { is_undecided held.now ≡ true }
     ensures { IsStep (values_of_replacements replacements.now) held.now piece.now result }
 {
-    if held.is_empty() {
-        return first_step(replacements, piece);
+    if !held.is_empty() {
+        return decide(replacements, held, piece[0]);
     }
-    match effect_of(replacements, held, piece[0]) {
-        Effect::Held => Step::Hold,
-        Effect::Copied => Step::Write(held, 0),
-        Effect::Replaced(value, taken) => Step::Write(value, taken),
-    }
-}
-
-/// What is done first with a piece where nothing is held back.
-#[inline(always)]
-fn first_step<'a>(replacements: &'a Replacements<'_>, piece: &'a [u8]) -> Step<'a>
-    requires some { 0 < length piece.now }
-    ensures { IsStep (values_of_replacements replacements.now) [] piece.now result }
-{
     if let Some(len) = begun_len(piece) {
-        match effect_of(replacements, &piece[..len], piece[len]) {
-            Effect::Held => plain_step(piece),
-            Effect::Copied => Step::Write(&piece[..len], len),
-            Effect::Replaced(value, taken) => Step::Write(value, len + taken),
+        if let Step::Write(text, taken) = decide(replacements, &piece[..len], piece[len]) {
+            return Step::Write(text, len + taken);
         }
-    } else {
-        plain_step(piece)
     }
-}
-
-/// The bytes before the first `$` are written, or that one is held back where it is the first byte.
-fn plain_step(piece: &[u8]) -> Step<'_>
-    requires some { 0 < length piece.now }
-    ensures { (values : Values) → IsStep values [] piece.now result }
-{
-    let plain = len_before(b'$', piece);
-    if plain == 0 {
-        Step::Hold
-    } else {
-        Step::Write(&piece[..plain], plain)
+    match len_before(b'$', piece) {
+        0 => Step::Hold,
+        plain => Step::Write(&piece[..plain], plain),
     }
 }
 

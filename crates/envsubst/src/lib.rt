@@ -1,7 +1,7 @@
 //! envsubst: the substitution of variables, in pieces and in a whole input, and what the tool does
 //! by its arguments.
 //!
-//! The modules in reading order: `variable`, `reference`, `sorted`, `replacements`, `holding`,
+//! The modules in reading order: `variable`, `reference`, `replacements`, `holding`,
 //! `substituter`, `whole_input`, `arguments`, `by_arguments`, `laws`.
 
 #![tactic(auto)]
@@ -12,7 +12,6 @@ mod holding;
 pub mod laws;
 mod reference;
 mod replacements;
-mod sorted;
 mod substituter;
 mod variable;
 mod whole_input;

@@ -2,10 +2,9 @@
 //! manual).
 ghost use Rattle.std.specs.Prelude.{◌≡◌};
 ghost use Rattle.std.specs.Option.{option_map};
-ghost use Rattle.envsubst.specs.Internal.Sorted.{values_of_replacements};
+ghost use Rattle.envsubst.specs.Internal.Sorted.{AreVariablesSorted, values_of_replacements};
 ghost use Rattle.envsubst.specs.Prelude.{is_replaced, names_given, pairs_in, value_of};
 
-use crate::sorted::sorted_value;
 use std::marker::Model;
 
 /// Variables, and the names to be replaced if they are given. What is sorted by name is searched by
@@ -51,15 +50,18 @@ impl<'a> Replacements<'a> {
         }
     }
 
-    /// What a reference to this name becomes, or `None` where it isn't replaced.
+    /// What a reference to this name becomes: the value of the first variable of that name, empty
+    /// where there is none. `None` where it isn't replaced.
     #[tactic(auto, unfolding(crate::specs::Replacements::values_of))]
     pub(crate) fn value_for(&self, name: &[u8]) -> Option<&'a [u8]>
         ensures { option_map (λ value. value.now) result ≡ values_of_replacements self.now name.now }
     {
-        if self.is_replaced(name) {
-            Some(self.value_of(name))
-        } else {
+        if !self.is_replaced(name) {
             None
+        } else if self.are_variables_sorted {
+            Some(sorted_value(self.vars, name))
+        } else {
+            Some(first_value(self.vars, name))
         }
     }
 
@@ -75,17 +77,6 @@ impl<'a> Replacements<'a> {
             Some(names) => names.contains(&name),
         }
     }
-
-    /// The value of the first variable of that name; empty where there is none.
-    fn value_of(&self, name: &[u8]) -> &'a [u8]
-        ensures { result.now ≡ value_of self.now.vars name.now }
-    {
-        if self.are_variables_sorted {
-            sorted_value(self.vars, name)
-        } else {
-            first_value(self.vars, name)
-        }
-    }
 }
 
 /// The value of the first variable of that name, found from the beginning; empty where there is
@@ -99,4 +90,16 @@ fn first_value<'a>(vars: &[(&'a [u8], &'a [u8])], name: &[u8]) -> &'a [u8]
         }
     }
     &[]
+}
+
+/// The value of the first variable of that name, found by binary search; empty where there is none.
+fn sorted_value<'a>(vars: &[(&'a [u8], &'a [u8])], name: &[u8]) -> &'a [u8]
+    requires { AreVariablesSorted vars.now }
+    ensures { result.now ≡ value_of (pairs_in vars.now) name.now }
+{
+    let index = vars.partition_point(|variable| variable.0.cmp(name).is_lt());
+    match vars.get(index) {
+        Some((known, value)) => { if *known == name { value } else { &[] } }
+        None => &[],
+    }
 }

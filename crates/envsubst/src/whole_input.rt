@@ -1,11 +1,10 @@
 //! Substitution of a whole input ("Invoking the envsubst program" of the GNU gettext manual).
-ghost use Rattle.std.specs.Prelude.{◌≡◌, ◌+◌, ◌^◌, ◌<◌, ◌≤◌, ◌≢◌, ◌++◌, [], None, Some, length, false, IfOk, IfSome, OnOk, OnErr, Err};
-ghost use Rattle.envsubst.specs.Prelude.{ReadsFail, write_failures, EndsAs, Advances, Stops, values_of_substituter, values_of_slices};
+ghost use Rattle.std.specs.Prelude.{◌≡◌, ◌+◌, ◌^◌, ◌<◌, ◌≤◌, ◌≢◌, ◌++◌, [], None, Some, length, false, IfOk, IfSome, OnOk, OnErr, Err, ℕ, List, map, option_map};
+ghost use Rattle.envsubst.specs.Prelude.{ReadsFail, write_failures, EndsAs, Advances, Stops, is_replaced, names_given, values_of_substituter, values_of_slices};
 
-use crate::sorted::{sorted_names, sorted_variables};
 use crate::substituter::Substituter;
 use runs::{ByteIn, ByteOut, Counted, ToolFault, put_all};
-use std::alloc::Global;
+use std::alloc::{AllocError, Global};
 
 /// How often a run calls its reader at most, once for each piece: 4,294,967,296 times.
 pub const MOST_READS: u64 = 1 << 32;
@@ -74,11 +73,30 @@ pub fn run_envsubst_in_blocks<R: ByteIn, W: ByteOut>(
     ensures end { OnOk result (IfSome (R.remaining reader.old)
         (λ text. R.calls reader.new ≤ R.calls reader.old + length text + 1)) }
 {
-    let vars = sorted_variables(alloc, vars)?;
+    // Variables of one name stay in their order, so that the first still counts.
+    let mut sorted = Vec::from_slice(alloc, vars)?;
+    sorted.sort_by(|a, b| a.0.cmp(b.0))?;
     let names = sorted_names(alloc, only)?;
     let only = names.as_deref();
     let block = Some(Vec::new(alloc));
-    substitute_all(reader, writer, vars.as_slice(), only, block)
+    substitute_all(reader, writer, sorted.as_slice(), only, block)
+}
+
+/// The names in order, where they are given.
+fn sorted_names<'a>(
+    alloc: Global,
+    names: Option<&[&'a [u8]]>,
+) -> Result<Option<Vec<&'a [u8]>>, AllocError>
+    ensures { IfOk result (λ sorted. (name : List ℕ)
+        → is_replaced (option_map (λ names. map (λ n. n.now) names.items) sorted) name
+        ≡ is_replaced (names_given names.entry) name) }
+{
+    let Some(names) = names else {
+        return Ok(None);
+    };
+    let mut sorted = Vec::from_slice(alloc, names)?;
+    sorted.sort_unstable_by(|a, b| a.cmp(b));
+    Ok(Some(sorted))
 }
 
 /// Writes the input with its references replaced, and gathers the output in a block where one is

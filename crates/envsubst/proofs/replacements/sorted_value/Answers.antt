@@ -1,6 +1,6 @@
 use Rattle.envsubst.proofs.Prelude.{IsPartitionPoint-from_clause, [], ap, bytes_eq, rules, sym, ◌∙◌}
 use Rattle.envsubst.proofs.SortedLemmas.{Variable, below, partitioned, value-found, value-none, value-other}
-use Rattle.envsubst.proofs.sorted.sorted_value.Goals as goal
+use Rattle.envsubst.proofs.replacements.sorted_value.Goals as goal
 
 pub returns-then-eq : goal.returns-then-eq
 returns-then-eq c =
