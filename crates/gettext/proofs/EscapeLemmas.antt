@@ -1,5 +1,5 @@
 -- Lemmas on texts with their escapes expanded.
-use Rattle.gettext.proofs.Prelude.{Bool, Escape, List, None, Option, Some, [], ap, append-nil, append_assoc, arith, byte-at, byte-here, byte-later, cases_Bool, cond, cond-false, drop, drop_all, eqb, escape_after, expansion, false, filter_map, get_or, given_bytes, given_bytes_after, has_no_newline, inl, inr, is_byte, is_none, is_octal, length, letter_escape, list_any, min, octal_prefix, octal_value, or-false, or-true, position_or_len, prefix_len, refl, subst, suc, sym, take, take_min, true, zero, ℕ, ◌++◌, ◌+◌, ◌<◌, ◌||◌, ◌∙◌, ◌∷◌, ◌≡◌}
+use Rattle.gettext.proofs.Prelude.{Bool, Escape, List, None, Option, Some, [], ap, append-nil, append_assoc, arith, byte-at, byte-here, byte-later, cases_Bool, cond, cond-false, drop, drop_all, eqb, escape_after, expansion, false, filter_map, get_or, given_bytes, given_bytes_after, has_no_newline, inl, inr, is_byte, is_none, is_octal, length, letter_escape, list_any, min, octal_prefix, octal_value, or-false, position_or_len, prefix_len, refl, subst, suc, sym, take, take_min, zero, ℕ, ◌++◌, ◌+◌, ◌<◌, ◌||◌, ◌∙◌, ◌∷◌, ◌≡◌}
 
 -- skipped bytes leave the text after them
 given_bytes-skipped : (n : ℕ) (bs : List ℕ) → given_bytes_after n bs ≡ given_bytes_after 0 (drop n bs)
@@ -27,6 +27,11 @@ pub given_bytes-escape : (bs : List ℕ) (e : Escape) → escape_after bs ≡ So
 unfolding given_bytes_after
 given_bytes-escape bs e some = ap (λ o. given_bytes 92 o (λ skip. given_bytes_after skip bs)) some
     ∙ ap (λ us. e.byte ∷ us) (given_bytes-skipped e.size bs)
+
+pub given_bytes-escape-is : (bs : List ℕ) (e : Escape) {byte : Option ℕ} → escape_after bs ≡ Some e → e.byte ≡ byte
+    → given_bytes_after 0 (92 ∷ bs) ≡ byte ∷ given_bytes_after 0 (drop e.size bs)
+given_bytes-escape-is bs e some is =
+    given_bytes-escape bs e some ∙ ap (λ b. b ∷ given_bytes_after 0 (drop e.size bs)) is
 
 -- the bytes before the first backslash
 prefix-bytes : (bs : List ℕ)
@@ -69,69 +74,35 @@ end-newline found all bs n inv index end =
     let nothing : drop n bs ≡ [] = drop_all n bs (omega arith) in
     sym (or-false found) ∙ ap (λ b. found || b) (sym (newline-at bs n index ∙ ap has_no_newline nothing)) ∙ inv
 
--- a backslash that stays, after plain bytes
-pub stays-bytes : (bytes bs all : List ℕ) (n : ℕ) → bytes ++ expansion bs ≡ all → n ≡ position_or_len (is_byte 92) bs
-    → n < length bs → escape_after (drop (n + 1) bs) ≡ None
-    → ((bytes ++ take n bs) ++ 92 ∷ []) ++ expansion (drop (n + 1) bs) ≡ all
-stays-bytes bytes bs all n inv index short none =
-    let after = drop (n + 1) bs in
-    append_assoc (bytes ++ take n bs) (92 ∷ []) (expansion after)
-    ∙ append_assoc bytes (take n bs) (92 ∷ expansion after)
-    ∙ ap (λ l. bytes ++ (take n bs ++ l))
-    (sym (ap expansion (byte-at 92 bs n index short) ∙ ap (filter_map (λ u. u)) (given_bytes-stays after none)))
-    ∙ ap (λ l. bytes ++ l) (sym (prefix-at bs n index)) ∙ inv
-
-pub stays-newline : (found all : Bool) (bs : List ℕ) (n : ℕ) → (found || has_no_newline bs) ≡ all
-    → n ≡ position_or_len (is_byte 92) bs → n < length bs → escape_after (drop (n + 1) bs) ≡ None
-    → (found || has_no_newline (drop (n + 1) bs)) ≡ all
-stays-newline found all bs n inv index short none =
-    ap (λ b. found || b) (sym
-    (newline-at bs n index ∙ ap has_no_newline (byte-at 92 bs n index short)
-    ∙ ap (list_any (λ u. is_none u)) (given_bytes-stays _ none))) ∙ inv
-
--- an escape that gives a byte
-pub byte-bytes : (bytes bs all : List ℕ) (n byte : ℕ) (e : Escape) → bytes ++ expansion bs ≡ all
-    → n ≡ position_or_len (is_byte 92) bs → n < length bs → escape_after (drop (n + 1) bs) ≡ Some e → e.byte ≡ Some byte
-    → ((bytes ++ take n bs) ++ byte ∷ []) ++ expansion (drop e.size (drop (n + 1) bs)) ≡ all
-byte-bytes bytes bs all n byte e inv index short some is =
-    let after = drop (n + 1) bs in
-    let given = given_bytes-escape after e some ∙ ap (λ b. b ∷ given_bytes_after 0 (drop e.size after)) is in
-    append_assoc (bytes ++ take n bs) (byte ∷ []) (expansion (drop e.size after))
-    ∙ append_assoc bytes (take n bs) (byte ∷ expansion (drop e.size after))
+-- a backslash that gives a byte, after plain bytes
+pub some-bytes : (bytes bs all : List ℕ) (n byte : ℕ) (rest : List ℕ) → bytes ++ expansion bs ≡ all
+    → n ≡ position_or_len (is_byte 92) bs → n < length bs
+    → given_bytes_after 0 (92 ∷ drop (n + 1) bs) ≡ Some byte ∷ given_bytes_after 0 rest
+    → ((bytes ++ take n bs) ++ byte ∷ []) ++ expansion rest ≡ all
+some-bytes bytes bs all n byte rest inv index short given =
+    append_assoc (bytes ++ take n bs) (byte ∷ []) (expansion rest)
+    ∙ append_assoc bytes (take n bs) (byte ∷ expansion rest)
     ∙ ap (λ l. bytes ++ (take n bs ++ l))
     (sym (ap expansion (byte-at 92 bs n index short) ∙ ap (filter_map (λ u. u)) given))
     ∙ ap (λ l. bytes ++ l) (sym (prefix-at bs n index)) ∙ inv
 
-pub byte-newline : (found all : Bool) (bs : List ℕ) (n byte : ℕ) (e : Escape) → (found || has_no_newline bs) ≡ all
-    → n ≡ position_or_len (is_byte 92) bs → n < length bs → escape_after (drop (n + 1) bs) ≡ Some e → e.byte ≡ Some byte
-    → (found || has_no_newline (drop e.size (drop (n + 1) bs))) ≡ all
-byte-newline found all bs n byte e inv index short some is =
-    let given = given_bytes-escape (drop (n + 1) bs) e some
-    ∙ ap (λ b. b ∷ given_bytes_after 0 (drop e.size (drop (n + 1) bs))) is in
-    ap (λ b. found || b) (sym
-    (newline-at bs n index ∙ ap has_no_newline (byte-at 92 bs n index short)
-    ∙ ap (list_any (λ u. is_none u)) given)) ∙ inv
-
--- an escape that gives none
-pub none-bytes : (bytes bs all : List ℕ) (n : ℕ) (e : Escape) → bytes ++ expansion bs ≡ all
-    → n ≡ position_or_len (is_byte 92) bs → n < length bs → escape_after (drop (n + 1) bs) ≡ Some e → e.byte ≡ None
-    → (bytes ++ take n bs) ++ expansion (drop e.size (drop (n + 1) bs)) ≡ all
-none-bytes bytes bs all n e inv index short some is =
-    let after = drop (n + 1) bs in
-    let given = given_bytes-escape after e some ∙ ap (λ b. b ∷ given_bytes_after 0 (drop e.size after)) is in
-    append_assoc bytes (take n bs) (expansion (drop e.size after))
+-- one that gives none
+pub none-bytes : (bytes bs all : List ℕ) (n : ℕ) (rest : List ℕ) → bytes ++ expansion bs ≡ all
+    → n ≡ position_or_len (is_byte 92) bs → n < length bs
+    → given_bytes_after 0 (92 ∷ drop (n + 1) bs) ≡ None ∷ given_bytes_after 0 rest
+    → (bytes ++ take n bs) ++ expansion rest ≡ all
+none-bytes bytes bs all n rest inv index short given =
+    append_assoc bytes (take n bs) (expansion rest)
     ∙ ap (λ l. bytes ++ (take n bs ++ l))
     (sym (ap expansion (byte-at 92 bs n index short) ∙ ap (filter_map (λ u. u)) given))
     ∙ ap (λ l. bytes ++ l) (sym (prefix-at bs n index)) ∙ inv
 
-pub none-newline : (found all : Bool) (bs : List ℕ) (n : ℕ) (e : Escape) → (found || has_no_newline bs) ≡ all
-    → n ≡ position_or_len (is_byte 92) bs → n < length bs → escape_after (drop (n + 1) bs) ≡ Some e → e.byte ≡ None
-    → true ≡ all
-none-newline found all bs n e inv index short some is =
-    let given = given_bytes-escape (drop (n + 1) bs) e some
-    ∙ ap (λ b. b ∷ given_bytes_after 0 (drop e.size (drop (n + 1) bs))) is in
-    sym (or-true found)
-    ∙ ap (λ b. found || b) (sym
+pub more-newline : (found all : Bool) (bs : List ℕ) (n : ℕ) (byte : Option ℕ) (rest : List ℕ)
+    → (found || has_no_newline bs) ≡ all → n ≡ position_or_len (is_byte 92) bs → n < length bs
+    → given_bytes_after 0 (92 ∷ drop (n + 1) bs) ≡ byte ∷ given_bytes_after 0 rest
+    → (found || (is_none byte || has_no_newline rest)) ≡ all
+more-newline found all bs n byte rest inv index short given =
+    ap (λ b. found || b) (sym
     (newline-at bs n index ∙ ap has_no_newline (byte-at 92 bs n index short)
     ∙ ap (list_any (λ u. is_none u)) given)) ∙ inv
 

@@ -1,45 +1,52 @@
 -- The files that are left to open, how many catalogues a chain has, and the answers to the arguments.
-use Rattle.gettext.proofs.Prelude.{Bool, Bor, List, NamedFile, Opens, [], ap, append-nil, append_assoc, arith, drop, drop_more, drop_of_length-le, false, get_or, join_with_byte, length, length-map, list_any, map, named_file, named_files, opened, or-false, refused, sym, ℕ, ◌++◌, ◌+◌, ◌<◌, ◌||◌, ◌∙◌, ◌∷◌, ◌≡◌, ◌≤◌}
+use Rattle.gettext.proofs.Prelude.{Bool, Bor, List, NamedFile, Opens, [], ap, append-nil, append_assoc, arith, drop, drop_more, drop_of_length-le, false, fault_line, get_or, join_with_byte, length, length-map, list_any, map, mo_text, named_file, named_files, opened, or-false, refused, sym, ℕ, ◌++◌, ◌+◌, ◌<◌, ◌||◌, ◌∙◌, ◌∷◌, ◌≡◌, ◌≤◌}
 use Rattle.std.proofs.Common.{flat_map}
-use Rattle.mo_lookup.specs.Prelude.{CatalogView}
-use Rattle.gettext.specs.declared.plan.Opened.{Opened}
+use Rattle.mo_file.specs.declared.byte_order.Order.{Order}
+use Rattle.mo_file.specs.declared.fault.MoError.{MoError}
+use Rattle.mo_file.specs.Prelude.{IsFirstFault, IsMoFile}
+use Rattle.mo_lookup.specs.Prelude.{CatalogView, IsCatalogView}
 use Rattle.gettext.specs.Plan.{none}
-use Rattle.gettext.specs.Internal.Plan.{OpensFile}
 
 -- whatever the files from i on add completes what the files before made
-abbrev pub Completes : List ℕ → List (Bor (List ℕ) × Bor (List ℕ)) → ℕ → Opened → Type 0
-Completes tool files i done =
+abbrev pub Completes : List ℕ → List (Bor (List ℕ) × Bor (List ℕ)) → ℕ → List CatalogView → List ℕ → Type 0
+Completes tool files i catalogs lines =
     (chain : List CatalogView) (reported : List ℕ) → Opens tool (named_files (drop i files)) chain reported
-    → Opens tool (named_files files) (done.catalogs.items ++ chain) (done.messages.items ++ reported)
+    → Opens tool (named_files files) (catalogs ++ chain) (lines ++ reported)
 
 -- the next file stands before those that are left
 next-file : (files : List (Bor (List ℕ) × Bor (List ℕ))) (i : ℕ) (d : Bor (List ℕ) × Bor (List ℕ)) → i < length files
     → named_files (drop i files) ≡ named_file (get_or files i d) ∷ named_files (drop (i + 1) files)
 next-file files i d below = ap named_files (drop_more files i d below)
 
--- one more file is opened
-pub Completes-next : (tool : List ℕ) (files : List (Bor (List ℕ) × Bor (List ℕ))) (i : ℕ)
-    (d : Bor (List ℕ) × Bor (List ℕ)) (old new : Opened) → i < length files
-    → OpensFile tool (named_file (get_or files i d)) old new → Completes tool files i old
-    → Completes tool files (i + 1) new
-Completes-next tool files i d old new below file completes chain reported opens =
-    rw (
-      file.catalogs,
-      file.messages,
-      append_assoc old.catalogs.items file.chain chain,
-      append_assoc old.messages.items file.reported reported,
-    )
-    (completes (file.chain ++ chain) (file.reported ++ reported)
-    (rw (next-file files i d below) (file.opens (named_files (drop (i + 1) files)) chain reported opens)))
+-- one more file is a catalogue
+pub Completes-opened : (tool : List ℕ) (files : List (Bor (List ℕ) × Bor (List ℕ))) (i : ℕ)
+    (d : Bor (List ℕ) × Bor (List ℕ)) (old new : List CatalogView) (lines : List ℕ) (catalog : CatalogView)
+    (order : Order) → i < length files → new ≡ old ++ catalog ∷ []
+    → IsMoFile order (get_or files i d).1.now catalog.messages → IsCatalogView catalog.messages catalog.rule
+    → Completes tool files i old lines → Completes tool files (i + 1) new lines
+Completes-opened tool files i d old new lines catalog order below joined is_file is_catalog so_far chain reported o =
+    rw (joined, append_assoc old (catalog ∷ []) chain)
+    (so_far (catalog ∷ chain) reported (rw (next-file files i d below) (opened order is_file is_catalog o)))
+
+-- one more file is refused
+pub Completes-refused : (tool : List ℕ) (files : List (Bor (List ℕ) × Bor (List ℕ))) (i : ℕ)
+    (d : Bor (List ℕ) × Bor (List ℕ)) (catalogs : List CatalogView) (old new : List ℕ) (fault : MoError)
+    → i < length files → new ≡ old ++ fault_line tool (get_or files i d).0.now 0 (mo_text fault)
+    → IsFirstFault (get_or files i d).1.now fault
+    → Completes tool files i catalogs old → Completes tool files (i + 1) catalogs new
+Completes-refused tool files i d catalogs old new fault below reports is so_far chain reported o =
+    let line = fault_line tool (get_or files i d).0.now 0 (mo_text fault) in
+    rw (reports, append_assoc old line reported)
+    (so_far chain (line ++ reported) (rw (next-file files i d below) (refused is o)))
 
 -- where no file is left, all are opened
-pub Completes-all : (tool : List ℕ) (files : List (Bor (List ℕ) × Bor (List ℕ))) (i : ℕ) (done : Opened)
-    → length files ≤ i
-    → Completes tool files i done → Opens tool (named_files files) done.catalogs.items done.messages.items
-Completes-all tool files i done past completes =
-    let all : Opens tool (named_files files) (done.catalogs.items ++ []) (done.messages.items ++ []) =
+pub Completes-all : (tool : List ℕ) (files : List (Bor (List ℕ) × Bor (List ℕ))) (i : ℕ)
+    (catalogs : List CatalogView) (lines : List ℕ) → length files ≤ i → Completes tool files i catalogs lines
+    → Opens tool (named_files files) catalogs lines
+Completes-all tool files i catalogs lines past completes =
+    let all : Opens tool (named_files files) (catalogs ++ []) (lines ++ []) =
     completes [] [] (rw (drop_of_length-le files past) none) in
-    rw (append-nil done.catalogs.items, append-nil done.messages.items) at all
+    rw (append-nil catalogs, append-nil lines) at all
 
 -- each catalogue of a chain is a file
 chain-few : {tool : List ℕ} {files : List NamedFile} {chain : List CatalogView} {reported : List ℕ}
@@ -49,10 +56,10 @@ chain-few (opened order is_mo_file is_view others) = let few = chain-few others 
 chain-few (refused fault others) = let few = chain-few others in omega arith
 
 -- a chain has no more catalogues than there are files
-pub catalogs-few : (tool : List ℕ) (files : List (Bor (List ℕ) × Bor (List ℕ))) (done : Opened)
-    → Opens tool (named_files files) done.catalogs.items done.messages.items → length done.catalogs.items ≤ length files
-catalogs-few tool files done opens =
-    let few : length done.catalogs.items ≤ length (named_files files) = chain-few opens in
+pub catalogs-few : (tool : List ℕ) (files : List (Bor (List ℕ) × Bor (List ℕ))) {catalogs : List CatalogView}
+    {lines : List ℕ} → Opens tool (named_files files) catalogs lines → length catalogs ≤ length files
+catalogs-few tool files {catalogs} opens =
+    let few : length catalogs ≤ length (named_files files) = chain-few opens in
     rw (length-map files named_file) at few
 
 -- after the first text each one stands after the byte

@@ -5,7 +5,7 @@ ghost use Rattle.std.specs.Option.{option_map};
 ghost use Rattle.locale_names.specs.Prelude.{text_of};
 ghost use Rattle.gettext.specs.Candidates as spec;
 
-use locale_names::{Candidate, Position, is_untranslated, translated_candidate_at};
+use locale_names::{Position, is_untranslated, translated_candidate_at};
 use runs::ToolFault;
 use std::alloc::{AllocError, Global};
 use std::collections::BTreeSet;
@@ -38,7 +38,10 @@ pub fn locale_candidates(
         ≡ spec.candidates_of environment.now) }
     ensures memory { OnErr result (result ≡ Err ToolFault.OutOfMemory) }
 {
-    let locale = locale_of(environment);
+    let locale = non_empty(environment.lc_all)
+        .or(non_empty(environment.lc_messages))
+        .or(non_empty(environment.lang))
+        .unwrap_or(b"");
     let language = non_empty(environment.language).unwrap_or(b"");
     let mut names = Vec::new(alloc);
     if is_untranslated(locale) {
@@ -49,7 +52,9 @@ pub fn locale_candidates(
         given: 0,
     };
     while let Some((candidate, next)) = translated_candidate_at(locale, language, position) {
-        add_name(alloc, &mut names, candidate)?;
+        let mut name = Vec::from_slice(alloc, candidate.prefix)?;
+        name.extend_from_slice(candidate.rest)?;
+        names.push(name)?;
         position = next;
     }
     Ok(distinct(alloc, &names)?)
@@ -80,29 +85,4 @@ pub(crate) fn non_empty(variable: Option<&[u8]>) -> Option<&[u8]>
         Some(value) if !value.is_empty() => Some(value),
         _ => None,
     }
-}
-
-/// The first of LC_ALL, LC_MESSAGES and LANG that is set and not empty, or nothing.
-fn locale_of<'a>(environment: &Environment<'a>) -> &'a [u8]
-    ensures { result.now ≡ spec.locale_of environment.now }
-{
-    non_empty(environment.lc_all)
-        .or(non_empty(environment.lc_messages))
-        .or(non_empty(environment.lang))
-        .unwrap_or(b"")
-}
-
-/// Adds the name of a candidate.
-fn add_name(
-    alloc: Global,
-    names: &mut Vec<Vec<u8>>,
-    candidate: Candidate<'_>,
-) -> Result<(), AllocError>
-    ensures { OnOk result (map (λ name. name.items) names.new.items
-        ≡ map (λ name. name.items) names.old.items ++ text_of candidate.entry ∷ []) }
-{
-    let mut name = Vec::from_slice(alloc, candidate.prefix)?;
-    name.extend_from_slice(candidate.rest)?;
-    names.push(name)?;
-    Ok(())
 }

@@ -74,37 +74,20 @@ pub fn read_catalogues<S: InputSource>(
 {
     let mut found = Vec::new(alloc);
     for path in paths {
-        let Some(catalogue) = read_catalogue(alloc, source, path)? else {
+        let Ok(name) = str::from_utf8(path) else {
             continue;
         };
-        found.push(catalogue)?;
+        let mut bytes = Vec::new(alloc);
+        if let Err(why) = source.read_file(&mut bytes, name) {
+            if why == InputFault::OutOfMemory {
+                return Err(AllocError);
+            }
+            continue;
+        }
+        let path = String::from_str(alloc, name)?;
+        found.push(CatalogueFile { path, bytes })?;
     }
     Ok(found)
-}
-
-/// The catalogue at a path, where it can be read.
-fn read_catalogue<S: InputSource>(
-    alloc: Global,
-    source: &mut S,
-    path: &[u8],
-) -> Result<Option<CatalogueFile>, AllocError>
-    ensures catalogue { IfOk result (λ found. IsCatalogueAt (S.file source.old) path.now (option_map catalogue_file found)) }
-    ensures stays { Stays (S.file source.old) (S.file source.new) (S.standard source.old) (S.standard source.new) }
-    ensures asked { AsksAt (S.asked source.old) (S.asked source.new) path.now }
-    ensures found { IfOk result (λ found. IfSome found (λ _. S.refused source.new → ⊥)) }
-    ensures memory { OnErr result (S.refused source.new → ⊥) }
-{
-    let Ok(name) = str::from_utf8(path) else {
-        return Ok(None);
-    };
-    let mut bytes = Vec::new(alloc);
-    match source.read_file(&mut bytes, name) {
-        Ok(()) => {}
-        Err(InputFault::OutOfMemory) => return Err(AllocError),
-        Err(InputFault::CannotOpen | InputFault::ReadFault) => return Ok(None),
-    }
-    let path = String::from_str(alloc, name)?;
-    Ok(Some(CatalogueFile { path, bytes }))
 }
 
 /// The catalogues, borrowed, with their paths for names: at most 4,294,967,295, as many as a chain

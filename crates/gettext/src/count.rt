@@ -1,7 +1,8 @@
 //! The COUNT of ngettext ("Invoking the ngettext program" of the GNU gettext manual).
-ghost use Rattle.std.specs.Prelude.{◌≡◌, ◌^◌, ◌<◌, true, SomeIff};
-ghost use Rattle.std.specs.Str.Parse.{digits_value};
-ghost use Rattle.gettext.specs.Prelude.{are_digits, count_in};
+ghost use Rattle.std.specs.Prelude.{◌≡◌};
+ghost use Rattle.gettext.specs.Prelude.{count_in};
+
+use std::str;
 
 /// What a COUNT is taken as where it isn't decimal digits alone, one at least, or is 2^64 or more.
 pub const OTHER_COUNT: u64 = 99;
@@ -10,22 +11,9 @@ pub const OTHER_COUNT: u64 = 99;
 pub fn count_of(text: &[u8]) -> u64
     ensures { result ≡ count_in text.now }
 {
-    if text.is_empty() {
-        OTHER_COUNT
-    } else {
-        decimal(text).unwrap_or(OTHER_COUNT)
+    match str::from_utf8(text) {
+        // A sign is none of the digits.
+        Ok(digits) if !text.starts_with(b"+") => digits.parse().unwrap_or(OTHER_COUNT),
+        _ => OTHER_COUNT,
     }
-}
-
-/// The number that decimal digits spell, or `None` where a byte is no digit or it is 2^64 or more.
-fn decimal(digits: &[u8]) -> Option<u64>
-    ensures { SomeIff result ((are_digits digits.now ≡ true) × (digits_value 10 digits.now < 2 ^ 64))
-        (digits_value 10 digits.now) }
-{
-    let mut value: u64 = 0;
-    for digit in digits {
-        let digit = (*digit as char).to_digit(10)?;
-        value = value.checked_mul(10)?.checked_add(u64::from(digit))?;
-    }
-    Some(value)
 }

@@ -2,7 +2,7 @@
 //! Catalog Files" of the GNU gettext manual).
 ghost use Rattle.std.specs.Prelude.{◌≡◌, map, IfOk, OnErr, Err};
 ghost use Rattle.std.specs.Option.{option_copied};
-ghost use Rattle.gettext.specs.Prelude.{folder_of, path_of, paths_of};
+ghost use Rattle.gettext.specs.Prelude.{path_of, paths_of};
 
 use crate::candidates::{Environment, locale_candidates, non_empty};
 use locale_names::is_path_part;
@@ -30,7 +30,7 @@ pub fn catalogue_paths(
         Some(domain) if is_path_part(domain) => domain,
         _ => return Ok(Vec::new(alloc)),
     };
-    let folder = folder_of(environment);
+    let folder = non_empty(environment.textdomaindir).unwrap_or(DEFAULT_FOLDER);
     let locales = locale_candidates(alloc, environment)?;
     let mut paths = Vec::new(alloc);
     for locale in &locales {
@@ -57,11 +57,4 @@ pub fn catalogue_path(
     path.extend_from_slice(domain)?;
     path.extend_from_slice(b".mo")?;
     Ok(path)
-}
-
-/// The folder that the catalogues lie below: TEXTDOMAINDIR, or the default.
-fn folder_of<'a>(environment: &Environment<'a>) -> &'a [u8]
-    ensures { result.now ≡ folder_of environment.now }
-{
-    non_empty(environment.textdomaindir).unwrap_or(DEFAULT_FOLDER)
 }

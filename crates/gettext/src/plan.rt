@@ -5,10 +5,10 @@ ghost use Rattle.std.specs.Option.{option_copied};
 ghost use Rattle.mo_file.specs.Prelude.{IsFirstFault};
 ghost use Rattle.mo_lookup.specs.Prelude.{chain_answered, given};
 ghost use Rattle.runs.specs.Prelude.{run_view, named_files};
+ghost use Rattle.gettext.specs.Internal.Plan.{Joins};
 ghost use Rattle.gettext.specs.Plan as Spec;
 ghost use Rattle.gettext.specs.Plan.{for_count, for_messages};
 ghost use Rattle.gettext.specs.Prelude.{gettext_view, ngettext_view, request_view};
-ghost use Rattle.gettext.specs.Internal.Plan.{Joins, OpensFile};
 
 use crate::catalogues::bytes_of;
 use crate::count::count_of;
@@ -57,37 +57,8 @@ pub enum LookUp<'a> {
     PluralForm(NgettextOptions<'a>),
 }
 
-/// The catalogues of a chain, and the lines that report those that were refused.
-#[derive(Drop)]
-struct Opened<'a> {
-    /// The catalogues, in order.
-    catalogs: Vec<Catalog<'a>>,
-    /// The lines.
-    messages: Vec<u8>,
-}
-
-/// Opens one more file: a catalogue joins the chain, and any other file is reported by a line. A
+/// Opens a file, whose catalogue joins the others; or the fault for which it is refused. A
 /// catalogue is large, so it is opened where it stays.
-fn open_file<'a>(
-    opened: &mut Opened<'a>,
-    tool: &str,
-    name: &str,
-    bytes: &'a [u8],
-) -> Result<(), AllocError>
-    ensures { OnOk result (OpensFile tool.now (record { name = name.now; bytes = bytes.now }) opened.old opened.new) }
-{
-    match join(&mut opened.catalogs, bytes)? {
-        None => Ok(()),
-        Some(fault) => {
-            push_location(&mut opened.messages, tool, name, 0)?;
-            push_mo_text(&mut opened.messages, fault)?;
-            opened.messages.extend_from_slice(b"\n")?;
-            Ok(())
-        }
-    }
-}
-
-/// Opens a file, whose catalogue joins the others; or the fault for which it is refused.
 #[inline(never)]
 fn join<'a>(catalogs: &mut Vec<Catalog<'a>>, bytes: &'a [u8]) -> Result<Option<MoError>, AllocError>
     ensures { IfOk result (λ fault. MatchOption fault (Joins bytes.now catalogs.old.items catalogs.new.items)
@@ -101,24 +72,26 @@ fn join<'a>(catalogs: &mut Vec<Catalog<'a>>, bytes: &'a [u8]) -> Result<Option<M
     Ok(Some(fault))
 }
 
-/// Opens each file, in order.
+/// Opens each file, in order: the catalogues, and the lines that report the files that are none.
 fn open_all<'a>(
     alloc: Global,
     tool: &str,
     files: &[(&str, &'a [u8])],
-) -> Result<Opened<'a>, AllocError>
-    ensures opens { IfOk result (λ opened. Spec.Opens tool.now (named_files files.now) opened.catalogs.items
-        opened.messages.items) }
-    ensures few { IfOk result (λ opened. length opened.catalogs.items ≤ length files.now) }
+) -> Result<(Vec<Catalog<'a>>, Vec<u8>), AllocError>
+    ensures opens { IfOk result (λ opened. Spec.Opens tool.now (named_files files.now) opened.0.items opened.1.items) }
+    ensures few { IfOk result (λ opened. length opened.0.items ≤ length files.now) }
 {
-    let mut opened = Opened {
-        catalogs: Vec::with_capacity(alloc, files.len())?,
-        messages: Vec::new(alloc),
-    };
+    let mut catalogs = Vec::with_capacity(alloc, files.len())?;
+    let mut messages = Vec::new(alloc);
     for (name, bytes) in files {
-        open_file(&mut opened, tool, name, bytes)?;
+        let Some(fault) = join(&mut catalogs, bytes)? else {
+            continue;
+        };
+        push_location(&mut messages, tool, name, 0)?;
+        push_mo_text(&mut messages, fault)?;
+        messages.extend_from_slice(b"\n")?;
     }
-    Ok(opened)
+    Ok((catalogs, messages))
 }
 
 /// Appends the answer to a msgid, or to a msgid, a plural and a count where a plural form is asked
@@ -244,16 +217,6 @@ fn push_output(
     }
 }
 
-/// The tool that a request is one of.
-fn tool_of(request: &LookUp<'_>) -> &'static str
-    ensures { result.now ≡ Spec.tool_of (request_view request.now) }
-{
-    match request {
-        LookUp::Messages(_) => "gettext",
-        LookUp::PluralForm(_) => "ngettext",
-    }
-}
-
 /// What `gettext` or `ngettext` writes over the catalogues that could be read, in the order in
 /// which they are asked: the answers, each a translation or what was given (for a count of 1 MSGID,
 /// and MSGID-PLURAL for any other); on standard error a line for each catalogue that is refused and
@@ -268,14 +231,18 @@ pub fn plan_look_up(
         (run_view run)) }
     ensures memory { OnErr result (result ≡ Err ToolFault.OutOfMemory) }
 {
-    let opened = open_all(alloc, tool_of(request), catalogues)?;
-    let chain = Chain::new(&opened.catalogs);
+    let tool = match request {
+        LookUp::Messages(_) => "gettext",
+        LookUp::PluralForm(_) => "ngettext",
+    };
+    let (catalogs, messages) = open_all(alloc, tool, catalogues)?;
+    let chain = Chain::new(&catalogs);
     let mut output = Vec::new(alloc);
     push_output(alloc, &mut output, &chain, request)?;
     Ok(Run {
         output,
         create: false,
-        messages: opened.messages,
+        messages,
         status: 0,
     })
 }

@@ -1,11 +1,16 @@
-use Rattle.gettext.proofs.CountLemmas.{count-none, count-some}
-use Rattle.gettext.proofs.Prelude.{nil-from_length, some-from_length, sym, ◌∙◌}
+use Rattle.gettext.proofs.Prelude.{subst, sym, ◌∙◌}
+use Rattle.std.specs.Str.Parse.{ParsesUnsigned}
+use Rattle.gettext.proofs.CountLemmas.{count-no_utf8, count-parsed, count-sign}
 use Rattle.gettext.proofs.count.count_of.Goals as goal
 
-pub returns-then-is_empty : goal.returns-then-is_empty
-returns-then-is_empty c = count-none c.args.text.now (nil-from_length c.args.text.now (sym c.if-is_empty.ensures))
+pub returns-in-Ok : goal.returns-in-Ok
+returns-in-Ok c =
+    c.unwrap_or.ensures
+    ∙ count-parsed c.args.text.now c.parse.result (sym c.starts_with.ensures.value ∙ c.if-not-starts_with.true)
+    (subst (λ bs. ParsesUnsigned 64 10 bs c.parse.result) c.in-Ok.ensures.cases.0 c.parse.ensures.value.0)
 
-pub returns-else-is_empty : goal.returns-else-is_empty
-returns-else-is_empty c =
-    c.unwrap_or.ensures ∙ count-some c.args.text.now c.decimal.result
-    (some-from_length c.args.text.now (sym c.if-is_empty.ensures)) c.decimal.ensures
+pub returns-in_default : goal.returns-in_default
+returns-in_default c = count-sign c.args.text.now (sym c.starts_with.ensures.value ∙ c.if-not-starts_with.false)
+
+pub returns-in_default-2 : goal.returns-in_default-2
+returns-in_default-2 c = count-no_utf8 c.args.text.now (rw c.in_default.is at c.from_utf8.ensures.cases).0
