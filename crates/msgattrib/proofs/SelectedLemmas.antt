@@ -61,6 +61,10 @@ selected_goes_on s entries i entry inside is =
 pub one_left_out : (s : Selection) (entry : TextEntry) → is_kept s entry ≡ false → selected s (entry ∷ []) ≡ []
 one_left_out s entry left = rw left refl
 
+pub one_kept : (s : Selection) (entry : TextEntry) → is_kept s entry ≡ true
+    → selected s (entry ∷ []) ≡ changed s entry ∷ []
+one_kept s entry kept = rw kept refl
+
 -- the next entry is added where it is selected
 pub parts_go_on : (s : Selection) (entries : List TextEntry) (i : ℕ) (entry : TextEntry) (old now new : TextParts)
     → i < length entries → entry ≡ get_or entries i entry → AddsParts (selected s (take i entries)) old now
@@ -128,6 +132,12 @@ no_duplicate s entries differ =
       read = subst AllDiffer (among_live s entries) (among is_live);
       kept = selected_differ s entries (subst AllDiffer (among_staying s entries) (among (stays_live s)));
     }
+
+-- what a text is read as in an empty store
+pub read_whole : (text : List ℕ) (before store : List TextEntry) → before ≡ []
+    → (entries : List TextEntry) × ReadsText text entries × (store ≡ before ++ entries) → ReadsText text store
+read_whole text before store none found =
+    subst (ReadsText text) (sym (found.2 ∙ ap (λ l. l ++ found.0) none)) found.1
 
 -- the text that is read once more reads the same
 pub still_distinct : (s : Selection) (text : List ℕ) (entries : List TextEntry) → ReadsText text entries

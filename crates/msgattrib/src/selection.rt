@@ -119,7 +119,10 @@ impl Selection {
     {
         let entry = store.get(index);
         if self.changes_texts(&entry) {
-            return self.push_changed(alloc, store, index);
+            let changed = self.changed(alloc, &entry)?;
+            let last = store.len();
+            store.push(&changed)?;
+            return Ok(last);
         }
         let fuzzy = self.fuzzy_after(&entry);
         let obsolete = self.obsolete_after(&entry);
@@ -134,23 +137,6 @@ impl Selection {
             ≡ set_obsolete (obsolete_after self.now entry.now) (set_fuzzy (fuzzy_after self.now entry.now) entry.now) }
     {
         self.empties(entry) || (self.clear_previous && has_previous(entry))
-    }
-
-    /// Adds a changed copy of an entry to its store, and returns the index of the copy.
-    fn push_changed(
-        &self,
-        alloc: Global,
-        store: &mut Store,
-        index: usize,
-    ) -> Result<usize, AllocError>
-        requires { index < length store.old }
-        ensures changed { IfOk result (IsChangedAt self.now index store.old store.new) }
-        ensures unchanged { OnErr result (store.new ≡ store.old) }
-    {
-        let changed = self.changed(alloc, &store.get(index))?;
-        let last = store.len();
-        store.push(&changed)?;
-        Ok(last)
     }
 }
 

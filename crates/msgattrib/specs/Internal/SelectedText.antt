@@ -29,12 +29,6 @@ pub record AreSelected (s : Selection) (entries : List TextEntry) (parts : TextP
   pub parts_are : AreParts (selected s entries) parts
   pub hashes_are : hashes ≡ hashes_of s entries
 
--- and they are all entries of the text
-pub record IsSelectedWhole (s : Selection) (text : List ℕ) (parts : TextParts) (hashes : List ℕ) : Type 0 where
-  pub entries : List TextEntry
-  pub reads : ReadsText text entries
-  pub have : AreSelected s entries parts hashes
-
 -- neither the entries nor those that are selected have a duplicate
 pub record HaveNoDuplicate (s : Selection) (entries : List TextEntry) : Type 0 where
   pub read : HasNoDuplicate entries

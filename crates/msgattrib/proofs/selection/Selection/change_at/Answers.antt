@@ -1,6 +1,20 @@
-use Rattle.msgattrib.proofs.Prelude.{changed, set_fuzzy, set_obsolete, subst, ◌≡◌}
-use Rattle.msgattrib.proofs.ChangedEntries.{changed_in_place, same_length}
+use Rattle.msgattrib.proofs.Prelude.{IsCatalogueEntry, TextEntry, [], ap, changed, set_fuzzy, set_obsolete, subst, sym, ◌++◌, ◌∙◌, ◌∷◌, ◌≡◌}
+use Rattle.msgattrib.proofs.ChangedEntries.{changed_in_copy, changed_in_place, same_length}
+use Rattle.msgattrib.proofs.SelectionLaws.{changed_can_stand}
 use Rattle.msgattrib.proofs.selection.Selection.change_at.Goals as goal
+
+pub push-requires : goal.push-requires
+push-requires c =
+    subst IsCatalogueEntry (sym c.in_ok-changed.ensures)
+    (changed_can_stand c.args.self.now c.get-entry.result c.get-entry.ensures.valid)
+
+pub returns-then-changes_texts-clause-changed : goal.returns-then-changes_texts-clause-changed
+returns-then-changes_texts-clause-changed c =
+    changed_in_copy c.args.self.now c.args.index c.args.store.now c.push.new.self c.len-last.result c.get-entry.result
+    c.len-last.ensures
+    (λ other. c.in_ok-push.ensures.ok
+    ∙ ap (λ (entry : TextEntry). c.args.store.now ++ entry ∷ [])
+    (c.in_ok-changed.ensures ∙ ap (changed c.args.self.now) (c.get-entry.ensures.entry other)))
 
 pub set_obsolete-requires : goal.set_obsolete-requires
 set_obsolete-requires c = rw (c.set_fuzzy.ensures, same_length) c.requires

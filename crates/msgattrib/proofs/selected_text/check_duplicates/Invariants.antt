@@ -1,5 +1,5 @@
 use Rattle.msgattrib.proofs.Prelude.{selected, take, ◌≡◌}
-use Rattle.msgattrib.proofs.selected_text.select_entries.Given as goal
+use Rattle.msgattrib.proofs.selected_text.check_duplicates.Given as goal
 
 -- those of the entries so far that are selected
 abbrev pub invariant-loop-index : goal.invariant-loop-index

@@ -1,5 +1,5 @@
 use Rattle.msgattrib.proofs.Prelude.{AreSelected, IsReadSoFar, List, TextEntry, [], length, ◌≡◌}
-use Rattle.msgattrib.proofs.selected_text.select_pieces.Given as goal
+use Rattle.msgattrib.proofs.selected_text.selected_text.Given as goal
 
 abbrev pub invariant-loop-pieces : goal.invariant-loop-pieces
 invariant-loop-pieces l = record {
