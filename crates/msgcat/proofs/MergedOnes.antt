@@ -1,9 +1,8 @@
 -- What one message is merged to, by its number.
-use Rattle.msgcat.proofs.Prelude.{All, CanBeMerged, IfNone, IfSome, IsGroup, List, MergeOptions, Named, NamedEntry, TextEntry, [], all_entries, ap, definitions, false, get_or, groups, is_kept, is_live, length, list_any, merged_entry, merged_messages, messages, named, not, option_to_list, subst, sym, true, ℕ, ◌<◌, ◌∙◌, ◌∷◌, ◌≡◌}
-use Rattle.std.specs.Prelude.{None, Option, Some}
+use Rattle.msgcat.proofs.Prelude.{All, CanBeMerged, List, MergeOptions, Named, NamedEntry, TextEntry, [], all_entries, ap, definitions, false, get_or, groups, is_kept, is_live, length, list_any, merged_entry, merged_messages, messages, named, not, subst, sym, true, ℕ, ◌<◌, ◌∙◌, ◌∷◌, ◌≡◌}
 use Rattle.msgcat.proofs.EntryLaws.{obsolete_where_none_is_live}
 use Rattle.msgcat.proofs.GroupsMerged.{dropped_one, kept_one}
-use Rattle.msgcat.proofs.HeldGroups.{group_valid, message_at, message_can, message_valid}
+use Rattle.msgcat.proofs.HeldGroups.{group_valid, message_at, message_can}
 use Rattle.msgcat.proofs.OneDefinition.{one_definition}
 
 -- a message with one definition
@@ -18,23 +17,8 @@ module _ (o : MergeOptions) (message : List NamedEntry) (name : List ℕ) (entry
       sym (ap (λ l. merged_messages o (l ∷ [])) is ∙ kept_one o (named name entry ∷ []) some
       ∙ ap (λ e. e ∷ []) (one_definition o (named name entry)))
 
-pub alone_merged : (o : MergeOptions) (message : List NamedEntry) (name : List ℕ) (entry : TextEntry)
-    (kept : Option TextEntry) → message ≡ named name entry ∷ []
-    → IfNone kept ((n : List ℕ) → is_kept o (named n entry ∷ []) ≡ false)
-    → IfSome kept (λ k. (k ≡ entry) × ((n : List ℕ) → is_kept o (named n entry ∷ []) ≡ true))
-    → option_to_list kept ≡ merged_messages o (message ∷ [])
-alone_merged o message name entry None is none some = only_dropped o message name entry is (none name)
-alone_merged o message name entry (Some k) is none some =
-    ap (λ e. e ∷ []) some.0 ∙ only_kept o message name entry is (some.1 name)
-
 module _ (read : List Named) (i : ℕ) (group : List NamedEntry) (inside : i < length (messages read))
     (is : group ≡ get_or (groups (all_entries read)) i []) where
-  pub dropped_message : (o : MergeOptions) → is_kept o (definitions group) ≡ false
-      → [] ≡ merged_messages o (get_or (messages read) i [] ∷ [])
-  dropped_message o none =
-      sym (ap (λ l. merged_messages o (l ∷ [])) (sym (message_at read i group inside is))
-      ∙ dropped_one o (definitions group) none)
-
   -- whether the entry is obsolete
   pub message_obsolete : (o : MergeOptions) → All CanBeMerged (all_entries read)
       → not (list_any (λ d. is_live d.entry) group) ≡ (merged_entry o (get_or (messages read) i [])).obsolete
@@ -49,9 +33,6 @@ module _ (read : List Named) (i : ℕ) (group : List NamedEntry) (inside : i < l
     kept_message o some =
         sym (ap (λ l. merged_messages o (l ∷ [])) (sym (are ∙ message_at read i group inside is))
         ∙ kept_one o kept some)
-
-    pub kept_some : All CanBeMerged (all_entries read) → 0 < length kept
-    kept_some can = (subst IsGroup (sym are) (message_valid read i group inside is can)).some
 
     pub kept_can : All CanBeMerged (all_entries read) → All CanBeMerged kept
     kept_can can = subst (All CanBeMerged) (sym are) (message_can read i group inside is can)

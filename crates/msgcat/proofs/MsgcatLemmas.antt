@@ -1,5 +1,5 @@
 -- Files that are read as the catalogues of inputs, and the run of a header that can't stand in a catalogue.
-use Rattle.msgcat.proofs.Prelude.{All, AllZip, AreReadAs, Bor, IsReadInput, Lacks, List, Named, NamedFile, ReadInput, Some, [], ap, arith, first_name, get_or, get_or_default, length, length-map, name_of_first, named_file, named_files, refl, slice_get, subst, sym, ℕ, ◌<◌, ◌∙◌, ◌∷◌, ◌≡◌}
+use Rattle.msgcat.proofs.Prelude.{All, AreReadAs, Bor, Lacks, List, Named, NamedFile, [], ap, arith, first_name, get_or, get_or_default, length, length-map, name_of_first, named_file, named_files, refl, subst, sym, ℕ, ◌<◌, ◌∙◌, ◌∷◌, ◌≡◌}
 use Rattle.std.proofs.Math.ListN.{get_or-map}
 
 abbrev pub Files : Type 0
@@ -26,11 +26,3 @@ first_named [] [] are = refl
 first_named [] (input ∷ inputs) are = absurd are
 first_named (file ∷ files) [] are = absurd are
 first_named (file ∷ files) (input ∷ inputs) are = are.0.name
-
--- and that by which it is known
-pub first_known : (inputs : List Named) (read : List ReadInput) → AllZip IsReadInput inputs read
-    → (input : ReadInput) → slice_get read 0 ≡ Some input → input.name.now ≡ name_of_first inputs
-first_known [] [] known input is = cc
-first_known [] (i ∷ read) known input is = absurd known
-first_known (r ∷ inputs) [] known input is = absurd known
-first_known (r ∷ inputs) (i ∷ read) known input is = cc

@@ -5,7 +5,7 @@ ghost use Rattle.std.specs.Hash.DefaultHasher.{write};
 ghost use Rattle.std.specs.List.{flat_map};
 ghost use Rattle.po_entry.specs.Prelude.{digest_of, seed_of, texts_left};
 ghost use Rattle.msgcat.specs.Internal.Merging.{HaveSameTexts};
-ghost use Rattle.msgcat.specs.Prelude.{named_entries, collected, comment_of, texts_of, with_others};
+ghost use Rattle.msgcat.specs.Prelude.{named_entries, comment_of, texts_of, with_others};
 
 use crate::definition::{NamedEntry, Part, first_with};
 use crate::input::MergeOptions;
@@ -66,23 +66,8 @@ fn seeded_by(definitions: &[NamedEntry<'_>], kind: CommentKind) -> Seeded
     Seeded::of(&digest)
 }
 
-/// The texts of one kind of the definitions: of each those that no earlier definition has.
-fn collected(
-    alloc: Global,
-    definitions: &[NamedEntry<'_>],
-    kind: CommentKind,
-) -> Result<TextList, AllocError>
-    ensures { IfOk result (λ all. all ≡ collected (texts_of kind) (named_entries definitions.now)) }
-{
-    let mut seen = SeenTexts::new(alloc, seeded_by(definitions, kind));
-    let mut all = TextList::new(alloc);
-    for definition in definitions {
-        push_others(&mut all, &mut seen, texts_of(&definition.entry, kind))?;
-    }
-    Ok(all)
-}
-
-/// The comments of one kind that the definitions are merged to.
+/// The comments of one kind that the definitions are merged to: where they are collected, of each
+/// definition those that no earlier one has.
 pub(crate) fn comment_of(
     alloc: Global,
     options: &MergeOptions,
@@ -93,8 +78,12 @@ pub(crate) fn comment_of(
     ensures { IfOk result (λ all. all ≡ comment_of options.now kind (named_entries definitions.now)) }
 {
     if options.use_first {
-        texts_of(first_with(definitions, Part::Translation), kind).copy(alloc)
-    } else {
-        collected(alloc, definitions, kind)
+        return texts_of(first_with(definitions, Part::Translation), kind).copy(alloc);
     }
+    let mut seen = SeenTexts::new(alloc, seeded_by(definitions, kind));
+    let mut all = TextList::new(alloc);
+    for definition in definitions {
+        push_others(&mut all, &mut seen, texts_of(&definition.entry, kind))?;
+    }
+    Ok(all)
 }

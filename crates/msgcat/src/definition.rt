@@ -1,7 +1,7 @@
 //! The definitions of one message: which members of a group they are, and which of them is taken.
 
-ghost use Rattle.std.specs.Prelude.{◌≡◌, ◌<◌, ◌∷◌, [], IfNone, IfSome, List, ℕ, false, length, true};
-ghost use Rattle.msgcat.specs.Prelude.{definitions, named, named_entries, is_kept, is_wanted, first_with};
+ghost use Rattle.std.specs.Prelude.{◌≡◌, ◌<◌, IfNone, IfSome, false, length, true};
+ghost use Rattle.msgcat.specs.Prelude.{definitions, named_entries, is_kept, is_wanted, first_with};
 ghost use Rattle.msgcat.specs.Internal.Merging.{has_part};
 
 use crate::input::MergeOptions;
@@ -17,7 +17,7 @@ pub struct NamedEntry<'a> {
 }
 
 /// Whether messages with this many definitions are asked for.
-fn is_wanted(options: &MergeOptions, count: usize) -> bool
+pub(crate) fn is_wanted(options: &MergeOptions, count: usize) -> bool
     ensures { result ≡ is_wanted options.now count }
 {
     let is_below = match options.less_than {
@@ -27,16 +27,8 @@ fn is_wanted(options: &MergeOptions, count: usize) -> bool
     (options.more_than as usize) < count && is_below && (!options.unique || count < 2)
 }
 
-/// Leaves the definitions of a group's message: its live members, or all where none is live.
-fn keep_definitions(group: &mut Vec<NamedEntry<'_>>)
-    ensures { named_entries group.new.items ≡ definitions (named_entries group.old.items) }
-{
-    if group.iter().any(|member| !member.entry.obsolete()) {
-        group.retain(|member| !member.entry.obsolete());
-    }
-}
-
-/// The definitions of a group's message, where the message is kept.
+/// The definitions of a group's message, where the message is kept: its live members, or all where
+/// none is live.
 pub(crate) fn kept_definitions<'a>(
     group: Vec<NamedEntry<'a>>,
     options: &MergeOptions,
@@ -46,24 +38,14 @@ pub(crate) fn kept_definitions<'a>(
         × (is_kept options.now (named_entries kept.items) ≡ true)) }
 {
     let mut definitions = group;
-    keep_definitions(&mut definitions);
+    if definitions.iter().any(|member| !member.entry.obsolete()) {
+        definitions.retain(|member| !member.entry.obsolete());
+    }
     let has_header = definitions
         .iter()
         .any(|definition| definition.entry.is_header());
     if has_header || is_wanted(options, definitions.len()) {
         return Some(definitions);
-    }
-    None
-}
-
-/// The only definition of a message, where the message is kept.
-pub(crate) fn kept_alone<'a>(entry: EntryRef<'a>, options: &MergeOptions) -> Option<EntryRef<'a>>
-    ensures none { IfNone result ((name : List ℕ) → is_kept options.now (named name entry.entry ∷ []) ≡ false) }
-    ensures some { IfSome result (λ kept. (kept ≡ entry.entry)
-        × ((name : List ℕ) → is_kept options.now (named name entry.entry ∷ []) ≡ true)) }
-{
-    if entry.is_header() || is_wanted(options, 1) {
-        return Some(entry);
     }
     None
 }
@@ -99,10 +81,8 @@ pub(crate) fn first_with<'d, 'a>(definitions: &'d [NamedEntry<'a>], part: Part) 
     requires { 0 < length definitions.now }
     ensures { result.now ≡ first_with (has_part part) (named_entries definitions.now) }
 {
-    for definition in definitions {
-        if has_part(&definition.entry, part) {
-            return &definition.entry;
-        }
-    }
-    &definitions[0].entry
+    let found = definitions
+        .iter()
+        .find(|definition| has_part(&definition.entry, part));
+    &found.unwrap_or(&definitions[0]).entry
 }

@@ -6,7 +6,7 @@ ghost use Rattle.msgcat.specs.Prelude.{groups, Named, all_entries, named, named_
 ghost use Rattle.msgcat.specs.Internal.Inputs.{name_of};
 ghost use Rattle.msgcat.specs.declared.input.MergeOptions as asked;
 
-use crate::definition::{NamedEntry, kept_alone, kept_definitions};
+use crate::definition::{NamedEntry, is_wanted, kept_definitions};
 use crate::input::{MergeOptions, ReadInput};
 use crate::links::Links;
 use crate::merging::merged_entry;
@@ -157,7 +157,10 @@ impl<'a> MergeInputs<'a> {
             → IsMergeFault (merged_messages options.now (get_or (messages read) number [] ∷ [])) error) }
     {
         if let Some(entry) = self.only_entry(number) {
-            return Ok(kept_alone(entry, options));
+            if entry.is_header() || is_wanted(options, 1) {
+                return Ok(Some(entry));
+            }
+            return Ok(None);
         }
         let group = self.group(alloc, number)?;
         match kept_definitions(group, options) {

@@ -1,9 +1,8 @@
 //! What several definitions of one message are merged to.
 
-ghost use Rattle.std.specs.Prelude.{◌≡◌, ◌<◌, ◌++◌, ◌∷◌, [], length, All, IfOk, IfErr, OnErr, OnOk};
+ghost use Rattle.std.specs.Prelude.{◌≡◌, ◌<◌, ◌∷◌, [], length, All, IfOk, IfErr, OnOk};
 ghost use Rattle.po_entry.specs.Prelude.{entry_view, texts, IsCatalogueEntry};
-ghost use Rattle.msgcat.specs.Prelude.{IsDefinition, named_entries, merged_entry, first_translated, IsMergeFault, CanBeMerged};
-ghost use Rattle.msgcat.specs.Internal.Merging.{comments_alone};
+ghost use Rattle.msgcat.specs.Prelude.{IsDefinition, named_entries, merged_entry, IsMergeFault, CanBeMerged};
 
 use crate::comments::comment_of;
 use crate::definition::{NamedEntry, Part, first_with};
@@ -12,20 +11,6 @@ use crate::joined_translations::{joined_forms, translations};
 use po_entry::{EntryRef, Fields, Store, copy_optional};
 use po_syntax::{CommentKind, PoError, PoFault};
 use std::alloc::{AllocError, Global};
-
-/// The forms of the first translation, or else of the first definition, and whether that definition
-/// is fuzzy.
-fn taken_forms(
-    alloc: Global,
-    definitions: &[NamedEntry<'_>],
-) -> Result<(Vec<Vec<u8>>, bool), AllocError>
-    requires { 0 < length definitions.now }
-    ensures forms { IfOk result (λ r. texts r.0.items ≡ (first_translated (named_entries definitions.now)).forms) }
-    ensures fuzzy { IfOk result (λ r. r.1 ≡ (first_translated (named_entries definitions.now)).fuzzy) }
-{
-    let taken = first_with(definitions, Part::Translation);
-    Ok((taken.forms().copy(alloc)?, taken.fuzzy()))
-}
 
 /// The forms that the definitions are merged to, and whether these are fuzzy.
 fn merged_forms(
@@ -39,36 +24,18 @@ fn merged_forms(
         ≡ (merged_entry options.now (named_entries definitions.now)).forms) }
     ensures fuzzy { IfOk result (λ r. r.1 ≡ (merged_entry options.now (named_entries definitions.now)).fuzzy) }
 {
-    if options.use_first {
-        return taken_forms(alloc, definitions);
+    if !options.use_first {
+        let found = translations(alloc, definitions)?;
+        if found.len() > 1 {
+            return Ok((joined_forms(alloc, found)?, true));
+        }
     }
-    let found = translations(alloc, definitions)?;
-    if found.len() < 2 {
-        return taken_forms(alloc, definitions);
-    }
-    Ok((joined_forms(alloc, found)?, true))
+    let taken = first_with(definitions, Part::Translation);
+    Ok((taken.forms().copy(alloc)?, taken.fuzzy()))
 }
 
-/// The comments, references and flags that the definitions are merged to, in fields without texts.
-fn merged_comments(
-    alloc: Global,
-    options: &MergeOptions,
-    definitions: &[NamedEntry<'_>],
-) -> Result<Fields, AllocError>
-    requires { 0 < length definitions.now }
-    ensures { IfOk result (λ fields. entry_view fields
-        ≡ comments_alone (merged_entry options.now (named_entries definitions.now))) }
-{
-    let mut fields = Fields::empty(alloc);
-    fields.comments = comment_of(alloc, options, CommentKind::Translator, definitions)?;
-    fields.extracted = comment_of(alloc, options, CommentKind::Extracted, definitions)?;
-    fields.references = comment_of(alloc, options, CommentKind::Reference, definitions)?;
-    fields.flags = comment_of(alloc, options, CommentKind::Flags, definitions)?;
-    Ok(fields)
-}
-
-/// Fills in the texts that the definitions are merged to.
-fn fill_texts(
+/// Fills in what the definitions of one message are merged to.
+fn fill_merged(
     alloc: Global,
     options: &MergeOptions,
     definitions: &[NamedEntry<'_>],
@@ -76,15 +43,17 @@ fn fill_texts(
 ) -> Result<(), AllocError>
     requires some { 0 < length definitions.now }
     requires valid { All IsDefinition (named_entries definitions.now) }
-    ensures { OnOk result (entry_view fields.old ≡ comments_alone (merged_entry options.now (named_entries definitions.now))
-        → entry_view fields.new ≡ merged_entry options.now (named_entries definitions.now)) }
+    ensures { OnOk result (entry_view fields.new ≡ merged_entry options.now (named_entries definitions.now)) }
 {
-    let first = &definitions[0].entry;
-    let earliest = first_with(definitions, Part::Previous);
+    fields.comments = comment_of(alloc, options, CommentKind::Translator, definitions)?;
+    fields.extracted = comment_of(alloc, options, CommentKind::Extracted, definitions)?;
+    fields.references = comment_of(alloc, options, CommentKind::Reference, definitions)?;
+    fields.flags = comment_of(alloc, options, CommentKind::Flags, definitions)?;
     let (forms, fuzzy) = merged_forms(alloc, options, definitions)?;
     fields.forms = forms;
     fields.fuzzy = fuzzy;
-    fields.previous = earliest.copy_previous(alloc)?;
+    let first = &definitions[0].entry;
+    fields.previous = first_with(definitions, Part::Previous).copy_previous(alloc)?;
     fields.context = copy_optional(alloc, first.context())?;
     fields.id = first.id().to_vec(alloc)?;
     fields.plural = copy_optional(alloc, first_with(definitions, Part::Plural).plural())?;
@@ -93,34 +62,9 @@ fn fill_texts(
     Ok(())
 }
 
-/// Adds what the definitions of one message are merged to. Refused, without a line, with
-/// `ForeignCharset` for a header whose charset isn't admitted, or with `OutOfMemory`.
-fn merge_definitions(
-    alloc: Global,
-    options: &MergeOptions,
-    definitions: &[NamedEntry<'_>],
-    merged: &mut Store,
-) -> Result<(), PoError>
-    requires some { 0 < length definitions.now }
-    requires valid { All IsDefinition (named_entries definitions.now) }
-    ensures merged { OnOk result (merged.new
-        ≡ merged.old ++ merged_entry options.now (named_entries definitions.now) ∷ []) }
-    ensures fault { IfErr result (IsMergeFault (merged_entry options.now (named_entries definitions.now) ∷ [])) }
-    ensures unchanged { OnErr result (merged.new ≡ merged.old) }
-{
-    let mut fields = merged_comments(alloc, options, definitions)?;
-    fill_texts(alloc, options, definitions, &mut fields)?;
-    if !fields.has_admitted_charset() {
-        return Err(PoError {
-            kind: PoFault::ForeignCharset,
-            line: 0,
-        });
-    }
-    Ok(merged.push(&fields)?)
-}
-
 /// What the definitions of one message are merged to: the only one itself, or what several are
-/// merged to, which is added to `merged`. Refused as `merge_definitions` is.
+/// merged to, which is added to `merged`. Refused, without a line, with `ForeignCharset` for a
+/// header whose charset isn't admitted, or with `OutOfMemory`.
 pub(crate) fn merged_entry<'m>(
     alloc: Global,
     options: &MergeOptions,
@@ -137,6 +81,14 @@ pub(crate) fn merged_entry<'m>(
     if definitions.len() < 2 {
         return Ok(definitions.swap_remove(0).entry);
     }
-    merge_definitions(alloc, options, &definitions, merged)?;
+    let mut fields = Fields::empty(alloc);
+    fill_merged(alloc, options, &definitions, &mut fields)?;
+    if !fields.has_admitted_charset() {
+        return Err(PoError {
+            kind: PoFault::ForeignCharset,
+            line: 0,
+        });
+    }
+    merged.push(&fields)?;
     Ok(merged.get(merged.len() - 1))
 }

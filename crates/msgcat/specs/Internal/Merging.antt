@@ -1,27 +1,10 @@
 -- What the entry of a message is merged from, while it is made. Internal to this crate.
-use Rattle.std.specs.Prelude.{[], None, false, Bool, ◌≡◌, ℕ, List, bytes_eq}
-use Rattle.po_entry.specs.Prelude.{TextEntry, no_previous, has_translation}
+use Rattle.std.specs.Prelude.{Bool, ◌≡◌, ℕ, List, bytes_eq}
+use Rattle.po_entry.specs.Prelude.{TextEntry, has_translation}
 use Rattle.msgcat.specs.declared.definition.Part.{Part}
 use Rattle.msgcat.specs.declared.definition.Part.TheVariants.{Translation, Previous, Plural}
 use Rattle.msgcat.specs.Merged.{has_previous, has_plural}
 use Rattle.std.specs.List.{list_any}
-
--- the entry's comments, references and flags, without its texts
-abbrev pub comments_alone : TextEntry → TextEntry
-comments_alone e = record {
-  comments = e.comments;
-  extracted = e.extracted;
-  references = e.references;
-  fuzzy = false;
-  flags = e.flags;
-  previous = no_previous;
-  context = None;
-  id = [];
-  plural = None;
-  forms = [];
-  obsolete = false;
-  line = 0;
-}
 
 -- the parts that a merged entry takes from the first definition that has them
 abbrev pub has_part : Part → TextEntry → Bool

@@ -33,11 +33,6 @@ loop-text-preserved c =
       earlier = inv.earlier;
     }
 
-pub returns-clause-others : goal.returns-clause-others
-returns-clause-others c =
-    (all_taken c.args.done.now c.args.seen.now (texts_left c.args.others) c.loop-text.done c.loop-text.seen _
-    c.loop-text.invariant.taken c.in-None.ensures.steps.0).0
-
 pub returns-clause-seen : goal.returns-clause-seen
 returns-clause-seen c =
     (all_taken c.args.done.now c.args.seen.now (texts_left c.args.others) c.loop-text.done c.loop-text.seen _

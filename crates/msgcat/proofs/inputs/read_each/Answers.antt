@@ -1,4 +1,4 @@
-use Rattle.msgcat.proofs.Prelude.{AllZip, IsTextOf, Named, NamedEntry, NamedFile, ReadsText, [], all_entries, ap, append-nil, arith, drop, drop-cons, get_or, length, length-append, length-map, named_file, named_files, refl, rules, subst, suc, sym, take, take-append-drop, take_all, unnamed, ◌++◌, ◌-◌, ◌<◌, ◌∙◌, ◌∷◌, ◌≡◌, ◌≢◌, ◌≤◌}
+use Rattle.msgcat.proofs.Prelude.{Named, NamedEntry, NamedFile, ReadsText, [], all_entries, ap, arith, drop, drop-cons, get_or, length, length-append, length-map, named_file, named_files, refl, rules, subst, suc, sym, take, take-append-drop, ◌++◌, ◌-◌, ◌<◌, ◌∙◌, ◌∷◌, ◌≡◌, ◌≢◌}
 use Rattle.po_syntax.specs.declared.fault.PoFault.TheVariants.{OutOfMemory}
 use Rattle.msgcat.proofs.ReadInputs.{entries_more, inputs_more}
 use Rattle.msgcat.proofs.InputLemmas.{text_more}
@@ -57,23 +57,4 @@ loop-name-preserved c =
           (c.of.ensures.start ∙ c.len-before.ensures ∙ ap length so_far.holds
           ∙ length-map (all_entries so_far.inputs) (λ (e : NamedEntry). e.entry))
           c.in_ok-push.ensures.items;
-    }
-
-pub returns-clause-read : goal.returns-clause-read
-returns-clause-read c =
-    let so_far = c.loop-name.invariant in
-    let i = c.loop-name.name-index in
-    let files = c.args.inputs.now in
-    let past : length (named_files files) ≤ i =
-    omega (arith, c.loop-name-test.false, length-map files named_file) in
-    record {
-      before = named_files files;
-      rest = [];
-      order = sym (append-nil (named_files files));
-      inputs = so_far.inputs;
-      texts = subst (λ l. AllZip IsTextOf l so_far.inputs) (take_all i (named_files files) past) so_far.texts;
-      part = [];
-      holds = so_far.holds ∙ sym (append-nil (unnamed (all_entries so_far.inputs)));
-      known = so_far.known;
-      end = (refl, refl);
     }

@@ -19,14 +19,6 @@ numbered files read up_to inputs places numbers inputs_are placed are = record {
   numbers_are = are ∙ ap (λ l. group_numbers same_message (entry_messages l)) up_to.holds;
 }
 
-pub check_inputs-requires : goal.check_inputs-requires
-check_inputs-requires c =
-    let up_to = c.in_ok-read.ensures.read in
-    let are = numbered (named_files c.args.inputs.now) c.in_ok-read.read up_to c.deref.result.now c.deref-2.result.now
-    c.deref-3.result.now c.deref.ensures.value (c.deref-2.ensures.value ∙ c.in_ok-places.ensures.places)
-    (c.deref-3.ensures.value ∙ c.in_ok-numbers.ensures.numbers) in
-    (up_to.inputs, up_to.part, are)
-
 pub returns-in_err-check_inputs-clause-fault : goal.returns-in_err-check_inputs-clause-fault
 returns-in_err-check_inputs-clause-fault c =
     let p = err_from_is_err_and c.from_residual-in_err-check_inputs.result

@@ -1,24 +1,7 @@
-use Rattle.msgcat.proofs.Prelude.{FormList, HasTranslations, List, [], ap, ap₂, false, form_list, form_lists, is_at, list_any, map, map-append, named_entries, named_entry, named_forms, nat_cmp, not-false, not-true, refl, same_forms, slice_cmp, subst, sym, take, translations, true, ℕ, ◌++◌, ◌+◌, ◌∙◌, ◌∷◌, ◌≡◌}
+use Rattle.msgcat.proofs.Prelude.{FormList, HasTranslations, List, [], ap, ap₂, false, form_list, form_lists, is_at, list_any, map, map-append, named_entries, named_entry, named_forms, nat_cmp, not-false, not-true, same_forms, slice_cmp, subst, sym, take, translations, true, ℕ, ◌++◌, ◌+◌, ◌∙◌, ◌∷◌, ◌≡◌}
 use Rattle.msgcat.proofs.SeenForms.{one_translation_more, seen_here}
 use Rattle.msgcat.proofs.Steps.{translations_more}
 use Rattle.msgcat.proofs.joined_translations.translations.Goals as goal
-
-pub loop-definition-init : goal.loop-definition-init
-loop-definition-init c = record {
-  are_found = ap (map form_list) c.new-found.ensures.items;
-  met = λ q. ap (list_any (is_at (λ y. slice_cmp nat_cmp q.now y.now))) c.new-seen.ensures.empty;
-}
-
-pub loop-definition-preserved-then-not-has_part : goal.loop-definition-preserved-then-not-has_part
-loop-definition-preserved-then-not-has_part c =
-    let ds = c.args.definitions.now in
-    let i = c.loop-definition.definition-index in
-    let same = sym (translations_more ds i c.definition-item.result false _ c.loop-definition-test.true
-    c.definition-item.is (sym c.has_part.ensures ∙ c.if-not-has_part.true) refl) in
-    record {
-      are_found = c.loop-definition.invariant.are_found ∙ ap (map named_forms) same;
-      met = subst (HasTranslations c.loop-definition.seen) same c.loop-definition.invariant.met;
-    }
 
 pub loop-definition-preserved-then-not-branch : goal.loop-definition-preserved-then-not-branch
 loop-definition-preserved-then-not-branch c =

@@ -1,5 +1,8 @@
-use Rattle.msgcat.proofs.Prelude.{CanBeMerged, [], ap, arith, get_or, get_or-append_seam, get_or-map, length, length-map, length_push, merged_entry, named_entries, named_entry, subst, sym, ◌++◌, ◌-◌, ◌<◌, ◌∙◌, ◌∷◌, ◌≡◌}
+use Rattle.msgcat.proofs.Prelude.{CanBeMerged, HasAdmittedCharset, IsEntry, List, [], ap, arith, false≢true, get_or, get_or-append_seam, get_or-map, length, length-map, length_push, merged_entry, named_entries, named_entry, subst, sym, ◌++◌, ◌-◌, ◌<◌, ◌∙◌, ◌∷◌, ◌≡◌}
+use Rattle.msgcat.specs.declared.definition.NamedEntry.{NamedEntry}
+use Rattle.msgcat.proofs.GroupsMerged.{foreign_one}
 use Rattle.msgcat.proofs.OneDefinition.{one_of}
+use Rattle.msgcat.proofs.Valid.{merged_is_entry}
 use Rattle.msgcat.proofs.merging.merged_entry.Goals as goal
 
 pub returns-then-len-lt2-clause-merged : goal.returns-then-len-lt2-clause-merged
@@ -19,13 +22,34 @@ returns-then-len-lt2-clause-valid c =
     ∙ ap named_entry (sym c.swap_remove.ensures.value)) (c.requires.can 0 (named_entry d) within) in
     record { valid = can.valid.valid; charset = can.charset }
 
+pub returns-then-not-has_admitted_charset-clause-fault :
+    goal.returns-then-not-has_admitted_charset-clause-fault
+returns-then-not-has_admitted_charset-clause-fault c =
+    let merged = λ (ds : List NamedEntry). merged_entry c.args.options.now (named_entries ds) in
+    let are = c.in_ok-fill_merged.ensures ∙ ap merged c.deref.ensures.value in
+    foreign_one (merged c.args.definitions.items) (λ admitted. false≢true (sym c.if-not-has_admitted_charset.true
+    ∙ c.has_admitted_charset.ensures.1 (subst HasAdmittedCharset (sym are) admitted)))
+
+pub push-requires : goal.push-requires
+push-requires c =
+    let ds = c.args.definitions.items in
+    let are = c.in_ok-fill_merged.ensures
+    ∙ ap (λ ds. merged_entry c.args.options.now (named_entries ds)) c.deref.ensures.value in
+    let some : 0 < length (named_entries ds) = omega (arith, c.requires.some, length-map ds named_entry) in
+    record {
+      valid = subst IsEntry (sym are) (merged_is_entry c.args.options.now (named_entries ds) some
+          (λ k d below. (c.requires.can k d below).valid));
+      charset = c.has_admitted_charset.ensures.0 c.if-not-has_admitted_charset.false;
+    }
+
 pub returns-clause-merged : goal.returns-clause-merged
 returns-clause-merged c =
     let merged = c.args.merged.now in
     let e = merged_entry c.args.options.now (named_entries c.args.definitions.items) in
-    let are : c.merge_definitions.new.merged ≡ merged ++ e ∷ [] =
-    c.in_ok-merge_definitions.ensures.merged
-    ∙ ap (λ l. merged ++ merged_entry c.args.options.now (named_entries l) ∷ []) c.deref.ensures.value in
+    let are : c.push.new.self ≡ merged ++ e ∷ [] =
+    c.in_ok-push.ensures.ok
+    ∙ ap (λ e. merged ++ e ∷ []) (c.in_ok-fill_merged.ensures
+    ∙ ap (λ ds. merged_entry c.args.options.now (named_entries ds)) c.deref.ensures.value) in
     let last : c.len-2.result - 1 ≡ length merged =
     omega (arith, c.len-2.ensures, ap length are, length_push merged e) in
     c.get.ensures.entry e

@@ -1,16 +1,10 @@
 use Rattle.msgcat.proofs.Prelude.{All, IfOk-weaker, IsMsgcatRun, IsReadingOf, IsUnread, Lacks, MatchResult-from_both, Ok, ap, false≢true, inl, named_files, named_inputs, none_read, run_view, subst, ◌∙◌}
-use Rattle.msgcat.proofs.UnreadBefore.{name_told, names_before, none_before, place_is, refused_before, refused_whole, some_file}
+use Rattle.msgcat.proofs.UnreadBefore.{name_told, names_before, none_before, refused_before, refused_whole}
 use Rattle.msgcat.proofs.whole_run.plan_msgcat_of.Goals as goal
 
 pub returns-in_err-texts-clause-first : goal.returns-in_err-texts-clause-first
 returns-in_err-texts-clause-first c =
     λ none. absurd (false≢true (c.in_err-texts.ensures.none (none_read c.args.inputs none)))
-
-pub slice_bounds-plan_msgcat_before-end : goal.slice_bounds-plan_msgcat_before-end
-slice_bounds-plan_msgcat_before-end c =
-    place_is (named_inputs c.args.inputs) c.in_ok-texts.texts.items _ _ c.in_ok-texts.ensures.files
-    c.deref.ensures.value
-    c.deref-in-Some.ensures.value c.in-Some.place c.in-Some.name c.in-Some.ensures
 
 pub plan_msgcat_before-requires : goal.plan_msgcat_before-requires
 plan_msgcat_before-requires c =
@@ -47,12 +41,6 @@ returns-in-Some-clause-fault c =
     c.deref.ensures.value
     c.deref-in-Some.ensures.value c.in-Some.place c.in-Some.name c.in-Some.ensures _ _
     c.plan_msgcat_before.ensures.fault
-
-pub returns-in-Some-clause-first : goal.returns-in-Some-clause-first
-returns-in-Some-clause-first c =
-    λ none. absurd (some_file
-    (named_inputs c.args.inputs) c.in_ok-texts.texts.items _ _ c.in_ok-texts.ensures.files c.deref.ensures.value
-    c.deref-in-Some.ensures.value c.in-Some.place c.in-Some.name c.in-Some.ensures none)
 
 pub returns-in-Some-fault-clause-names : goal.returns-in-Some-fault-clause-names
 returns-in-Some-fault-clause-names c =

@@ -1,12 +1,19 @@
-use Rattle.msgcat.proofs.Prelude.{IsMergeFault, [], ap, err_from_is_err_and, named_entries, subst, ◌∙◌, ◌∷◌}
-use Rattle.msgcat.proofs.MergedOnes.{alone_merged, kept_can, kept_message}
+use Rattle.msgcat.proofs.Prelude.{Bool, IsMergeFault, [], ap, ap₂, err_from_is_err_and, false, is_wanted, named_entries, subst, sym, ◌||◌, ◌∙◌, ◌∷◌}
+use Rattle.msgcat.proofs.MergedOnes.{kept_can, kept_message, only_kept}
+use Rattle.msgcat.proofs.merge_inputs.MergeInputs.merge_message.Goals.{then-is_header-via-then-is_header, then-is_header-via-else-is_header+then-is_wanted}
 use Rattle.msgcat.proofs.merge_inputs.MergeInputs.merge_message.Goals as goal
 
-pub returns-in-Some-clause-merged : goal.returns-in-Some-clause-merged
-returns-in-Some-clause-merged c = λ read h below.
+pub returns-then-is_header-clause-merged : goal.returns-then-is_header-clause-merged
+returns-then-is_header-clause-merged c = λ read h below.
     let only = c.in-Some.ensures.only read h below in
-    alone_merged c.args.options.now _ only.0 c.in-Some.entry c.kept_alone.result only.1 c.kept_alone.ensures.none
-    c.kept_alone.ensures.some
+    only_kept c.args.options.now _ only.0 c.in-Some.entry only.1 (elim c.then-is_header.branch [
+      | then-is_header-via-then-is_header w ↦
+          ap (λ (b : Bool). (b || false) || is_wanted c.args.options.now 1)
+          (sym c.is_header.ensures ∙ w.if-is_header.true)
+      | then-is_header-via-else-is_header+then-is_wanted w ↦
+          ap₂ (λ (a b : Bool). (a || false) || b) (sym c.is_header.ensures ∙ w.if-is_header.false)
+          (sym w.is_wanted.ensures ∙ w.if-is_wanted.true)
+    ])
 
 pub merged_entry-requires-clause-can : goal.merged_entry-requires-clause-can
 merged_entry-requires-clause-can c =

@@ -1,5 +1,5 @@
 use Rattle.msgcat.proofs.Prelude.{HaveSameTexts, collected, named_entries, take, texts_of, ◌≡◌}
-use Rattle.msgcat.proofs.comments.collected.Given as goal
+use Rattle.msgcat.proofs.comments.comment_of.Given as goal
 
 -- the texts of the definitions so far are collected, and they were seen
 abbrev pub invariant-loop-definition : goal.invariant-loop-definition
