@@ -1,5 +1,5 @@
 -- The entries of messages, one after another, and what is wrong with one.
-use Rattle.msgunfmt.proofs.Prelude.{All, All-map, All-more, All-nil, All-take, All-weaker, AreWrittenAs, Bool, EntryTextFault, ForbiddenByte, ForeignCharset, HasAdmittedCharset, HasForeignCharset, HasTexts, IfSome, IsCatalogueEntry, IsComment, IsEntry, IsFlag, IsReference, IsText, IsTranslatorComment, IsUtf8, Lacks, List, Message, Mo, None, NotUtf8, Option, OutOfMemory, PoFault, RefusesEntry, RefusesMessages, Some, TextEntry, UnformatError, [], ap, arith, context_of, entry_of_message, error_at, false, forbidden, forms, get_or, get_or_from_slice_get, id_of, is_nul, key_of, length, length-map, length-slice_split, not_utf8, originals, plain_entry, plural_of, quoted_texts, refl, slice_get, slice_get_within, subst, suc, sym, take, take_all, take_more, taken_forms, translations, true, unformatted, written_text, zero, ℕ, ◌&&◌, ◌++◌, ◌+◌, ◌<◌, ◌↔◌, ◌∙◌, ◌∷◌, ◌≡◌}
+use Rattle.msgunfmt.proofs.Prelude.{All, All-map, All-more, All-nil, All-take, All-weaker, AreWrittenAs, Bool, ForbiddenByte, ForeignCharset, HasAdmittedCharset, HasForeignCharset, HasTexts, IfSome, IsCatalogueEntry, IsComment, IsEntry, IsFlag, IsReference, IsText, IsTranslatorComment, IsUtf8, Lacks, List, Message, Mo, None, NotUtf8, Option, OutOfMemory, RefusesEntry, RefusesMessages, Some, TextEntry, UnformatError, [], ap, arith, context_of, entry_of_message, false, forms, get_or, get_or_from_slice_get, id_of, is_nul, key_of, length, length-map, length-slice_split, originals, plain_entry, plural_of, quoted_texts, refl, slice_get, slice_get_within, subst, suc, sym, take, take_all, take_more, taken_forms, translations, true, unformatted, written_text, zero, ℕ, ◌&&◌, ◌++◌, ◌+◌, ◌<◌, ◌↔◌, ◌∙◌, ◌∷◌, ◌≡◌}
 
 -- the texts of an entry can stand in it
 pub texts_of : (entry : TextEntry) → IsEntry entry → HasTexts entry
@@ -46,12 +46,6 @@ message_valid m texts =
     plain_valid (context_of (key_of m.original)) (id_of (key_of m.original)) (plural_of m.original)
     (taken_forms (plural_of m.original) (forms m.translation)) each texts.clean.context texts.clean.id taken.0
     taken.1
-
--- what is wrong with an entry's texts is reported by its error
-pub by_fault : (entry : TextEntry) (i : ℕ) (fault : PoFault) → EntryTextFault entry fault
-    → RefusesEntry entry i (error_at i fault)
-by_fault entry i _ (not_utf8 h) = (refl, not_utf8 h)
-by_fault entry i _ (forbidden u h) = (refl, forbidden u h)
 
 -- the first entry that is refused
 pub refused_messages : (messages : List Message) (entry : TextEntry) (i : ℕ)

@@ -1,7 +1,7 @@
 -- What the proofs of this crate cite of std, of the crates below and of its own definitions. Declares nothing.
 pub use Rattle.mo_file.proofs.CutLemmas.{before_all, before_is, context_cut, context_none, first_all, first_cut, id_all, id_cut, plural_cut, plural_none, split_none}
 pub use Rattle.mo_file.specs.Prelude.{IsMoFile, Message, MoFileOrFault, OneFirstFault, OneMessageList, context_of, forms, id_of, is_nul, key_of, layout, originals, plural_of, translations}
-pub use Rattle.msgunfmt.specs.Internal.Unformatting.{AppendsEntry, AppendsMessage, HoldsMessage, RefusesEntry, RefusesMessage, RefusesMessages, error_at}
+pub use Rattle.msgunfmt.specs.Internal.Unformatting.{AppendsEntry, AppendsMessage, HoldsMessage, RefusesEntry, RefusesMessage, RefusesMessages}
 pub use Rattle.msgunfmt.specs.Laws.{after_context, at_end, at_nul, before_plural, each_part, first_part, key_alone, msgid_alone}
 pub use Rattle.msgunfmt.specs.Prelude.{AreWrittenAs, CompilesTo, ContainsForms, ContainsKey, ContainsMsgid, EmptyText, HasFirstEntryTextFault, HasForeignCharset, IsAfterPart, IsEntryOf, IsFileOf, IsUnformatFault, NoFaultWhereUnformatted, OneText, OneUnformatFault, TextOrFault, UnformatThenCompile, entry_of_message, taken_forms, unformatted}
 pub use Rattle.msgunfmt.specs.declared.fault.UnformatError.{UnformatError}

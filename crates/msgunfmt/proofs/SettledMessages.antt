@@ -67,7 +67,7 @@ settled_messages messages = elim (first_fault (unformatted messages)) [
   | inr found ↦ inr (refused messages found.i found.entry found.kind found.is_entry found.before found.fault)
 ]
 
-in_file : (bytes : List ℕ) (error : UnformatError) (order : Order) (messages : List Message)
+pub in_file : (bytes : List ℕ) (error : UnformatError) (order : Order) (messages : List Message)
     → IsMoFile order bytes messages → RefusesMessages messages error → IsUnformatFault bytes error
 in_file bytes (Mo fault) order messages valid why = absurd why
 in_file bytes (NotUtf8 i) order messages valid why =

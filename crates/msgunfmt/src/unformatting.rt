@@ -1,10 +1,9 @@
 //! The entries of messages, and the PO text of an MO file.
 
-ghost use Rattle.std.specs.Prelude.{◌≡◌, ◌<◌, [], All, IfErr, IfOk, MatchResult, OnOk, false, length, option_copied};
-ghost use Rattle.mo_file.specs.Prelude.{forms};
+ghost use Rattle.std.specs.Prelude.{◌<◌, All, IfErr, IfOk, MatchResult, OnOk, length};
 ghost use Rattle.po_entry.specs.Prelude.{Lacks, quoted_texts};
-ghost use Rattle.msgunfmt.specs.Internal.Unformatting.{AppendsEntry, AppendsMessage, HoldsMessage, RefusesEntry, RefusesMessage, RefusesMessages, error_at};
-ghost use Rattle.msgunfmt.specs.Prelude.{taken_forms, AreWrittenAs, IsUnformatted, IsUnformatFault};
+ghost use Rattle.msgunfmt.specs.Internal.Unformatting.{AppendsEntry, AppendsMessage, HoldsMessage, RefusesEntry, RefusesMessage};
+ghost use Rattle.msgunfmt.specs.Prelude.{IsUnformatted, IsUnformatFault};
 
 use crate::fault::UnformatError;
 use mo_file::{Meter, MoView, first_part, key_parts, original_parts};
@@ -15,35 +14,20 @@ use po_writer::laws::live_entry_is_added;
 use po_writer::push_separated;
 use std::alloc::{AllocError, Global};
 
-/// What of a translation has forms: with a plural all of it, without one its first part.
-fn taken_part<'a>(plural: Option<&[u8]>, translation: &'a [u8]) -> &'a [u8]
-    ensures { forms result.now ≡ taken_forms (option_copied plural.entry) (forms translation.now) }
-{
-    match plural {
-        Some(_) => translation,
-        None => first_part(translation),
-    }
-}
-
 /// Lays out the entry of a message, in place of what the drafts had.
 fn lay_out(drafts: &mut Drafts, original: &[u8], translation: &[u8]) -> Result<(), AllocError>
     ensures { OnOk result (HoldsMessage (record { original = original.now; translation = translation.now }) drafts.new) }
 {
     let (key, plural) = original_parts(original);
     let (context, id) = key_parts(key);
+    // With a plural all of a translation has forms, without one its first part.
+    let forms = match plural {
+        Some(_) => translation,
+        None => first_part(translation),
+    };
     drafts_are_added();
     drafts.clear();
-    drafts.add_message(context, id, plural, taken_part(plural, translation))
-}
-
-/// The error for a fault of the texts of message i.
-fn error_at(i: u32, fault: PoFault) -> UnformatError
-    ensures { result ≡ error_at i fault }
-{
-    match fault {
-        PoFault::NotUtf8 => UnformatError::NotUtf8(i),
-        _ => UnformatError::ForbiddenByte(i),
-    }
+    drafts.add_message(context, id, plural, forms)
 }
 
 /// Appends the entry of message i to the text, and returns whether its charset is admitted.
@@ -52,8 +36,10 @@ fn append_entry(text: &mut Vec<u8>, entry: &EntryRef<'_>, i: u32) -> Result<bool
     ensures appended { IfOk result (AppendsEntry entry.now text.old.items text.new.items) }
     ensures fault { IfErr result (RefusesEntry entry.now i) }
 {
-    if let Err(fault) = entry.check_texts(false) {
-        return Err(error_at(i, fault));
+    match entry.check_texts(false) {
+        Ok(()) => {}
+        Err(PoFault::NotUtf8) => return Err(UnformatError::NotUtf8(i)),
+        Err(_) => return Err(UnformatError::ForbiddenByte(i)),
     }
     push_separated(text, entry)?;
     Ok(entry.has_admitted_charset())
@@ -79,46 +65,27 @@ fn append_message(
     append_entry(text, &entry, i)
 }
 
-/// Appends the entries of a file to an empty text. One entry is held at a time.
-fn append_entries(alloc: Global, view: &MoView<'_>, text: &mut Vec<u8>) -> Result<(), UnformatError>
-    requires { text.old.items ≡ [] }
-    ensures written { OnOk result (AreWrittenAs text.new.items view.now.messages) }
-    ensures fault { IfErr result (RefusesMessages view.now.messages) }
-{
-    let mut drafts = Drafts::new(alloc);
-    let mut is_admitted = true;
-    live_entry_is_added();
-    for i in 0..view.len() {
-        is_admitted &= append_message(text, &mut drafts, view, i)?;
-    }
-    if is_admitted {
-        Ok(())
-    } else {
-        Err(UnformatError::ForeignCharset)
-    }
-}
-
-/// The text of the entries of a file, in a buffer that has room for so many bytes at first.
-fn text_of(alloc: Global, view: &MoView<'_>, room: usize) -> Result<Vec<u8>, UnformatError>
-    ensures { MatchResult result (λ text. AreWrittenAs text.items view.now.messages)
-        (RefusesMessages view.now.messages) }
-{
-    let mut text = Vec::with_capacity(alloc, room)?;
-    append_entries(alloc, view, &mut text)?;
-    Ok(text)
-}
-
 /// The PO text of an MO file of any origin, in either byte order: a live entry for each message, in
 /// the order of the file (GNU gettext manual, "Invoking the msgunfmt Program").
 ///
 /// Refused with `Mo` and the first fault of the file; then with `NotUtf8` or `ForbiddenByte` and
 /// the first message, counted from 0, whose texts can't stand in an entry; then with
 /// `ForeignCharset`, where a header names a charset other than UTF-8 and ASCII. `OutOfMemory` may
-/// come in place of any result.
+/// come in place of any result. One entry is held at a time.
 pub fn unformat(alloc: Global, bytes: &[u8]) -> Result<Vec<u8>, UnformatError>
     ensures { MatchResult result (λ text. IsUnformatted bytes.now text.items) (IsUnformatFault bytes.now) }
 {
     let mut meter = Meter::new();
     let view = MoView::open(bytes, &mut meter)?;
-    text_of(alloc, &view, bytes.len())
+    let mut text = Vec::with_capacity(alloc, bytes.len())?;
+    let mut drafts = Drafts::new(alloc);
+    let mut is_admitted = true;
+    live_entry_is_added();
+    for i in 0..view.len() {
+        is_admitted &= append_message(&mut text, &mut drafts, &view, i)?;
+    }
+    if !is_admitted {
+        return Err(UnformatError::ForeignCharset);
+    }
+    Ok(text)
 }

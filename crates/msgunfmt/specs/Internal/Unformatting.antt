@@ -1,7 +1,6 @@
 -- Internal to this crate: the entry of a message, laid out and appended to a text, and why a message has none.
 use Rattle.std.specs.Prelude.{◌≡◌, ℕ, List, Some, slice_get, ◌↔◌, Bool, true, [], ◌∷◌}
 use Rattle.mo_file.specs.Prelude.{Message}
-use Rattle.po_syntax.specs.declared.fault.PoFault.{PoFault}
 use Rattle.po_syntax.specs.declared.fault.PoFault.TheVariants.{NotUtf8 as BadText, ForbiddenByte as BadByte}
 use Rattle.po_entry.specs.Prelude.{TextEntry, EntryTextFault, HasAdmittedCharset, LiesIn, entry_at, HasTexts, IsEntry}
 use Rattle.msgunfmt.specs.declared.fault.UnformatError.{UnformatError}
@@ -10,11 +9,6 @@ use Rattle.msgunfmt.specs.Unformatted.{unformatted, HasFirstEntryTextFault, HasF
 use Rattle.po_entry.specs.declared.drafts.Drafts.{Drafts}
 use Rattle.po_entry.specs.declared.row.Row.{Row}
 use Rattle.po_writer.specs.Prelude.{with_entry}
-
--- the error for the entry of message i, by what is wrong with its texts
-abbrev pub error_at : ℕ → PoFault → UnformatError
-error_at i BadText = NotUtf8 i
-error_at i fault = ForbiddenByte i
 
 -- why the entry of message i is refused
 abbrev pub RefusesEntry : TextEntry → ℕ → UnformatError → Type 0

@@ -1,5 +1,5 @@
 use Rattle.msgunfmt.proofs.Prelude.{All, HasAdmittedCharset, IsEntry, false, take, true, unformatted, written_text, ◌≡◌}
-use Rattle.msgunfmt.proofs.unformatting.append_entries.Given as goal
+use Rattle.msgunfmt.proofs.unformatting.unformat.Given as goal
 
 -- the entries so far are written, and it is known whether each charset is admitted
 abbrev pub invariant-loop-i : goal.invariant-loop-i
