@@ -2,7 +2,7 @@
 //! run of it.
 ghost use Rattle.std.specs.Prelude.{◌≡◌, ◌≢◌, ◌++◌, IfOk, OnOk};
 ghost use Rattle.po_entry.specs.Prelude.{slice_texts};
-ghost use Rattle.runs.specs.Prelude.{duplicate_text, refusal, run_view};
+ghost use Rattle.runs.specs.Prelude.{refusal, run_view};
 ghost use Rattle.msgfmt.specs.Msgfmt as Spec;
 
 use crate::profile::CheckFault;
@@ -18,37 +18,17 @@ fn input_name<'a>(names: &[&'a str], input: u32) -> &'a str
     names.get(input as usize).map_or("", |name| name)
 }
 
-/// Appends what is wrong with a duplicate of a message of another file.
-fn push_duplicate(out: &mut Vec<u8>, file: &str, line: u32) -> Result<(), AllocError>
-    ensures { OnOk result (out.new.items ≡ out.old.items ++ duplicate_text file.now line) }
-{
-    out.extend_from_slice(b"duplicate of the message at ")?;
-    out.extend_from_slice(file.as_bytes())?;
-    push_numbered(out, ":", line.into(), "")
-}
-
 /// Appends why the inputs aren't compiled.
 fn push_join_text(out: &mut Vec<u8>, names: &[&str], error: JoinError) -> Result<(), AllocError>
     ensures { OnOk result (out.new.items ≡ out.old.items ++ Spec.join_text (slice_texts names.now) error) }
 {
     match error.error.kind {
         PoFault::Duplicate(line) if error.first_input != error.input => {
-            push_duplicate(out, input_name(names, error.first_input), line)
+            out.extend_from_slice(b"duplicate of the message at ")?;
+            out.extend_from_slice(input_name(names, error.first_input).as_bytes())?;
+            push_numbered(out, ":", line.into(), "")
         }
         fault => push_po_text(out, fault),
-    }
-}
-
-/// The line at which a fault of the check is reported; 0 is none.
-fn line_of_fault(fault: CheckFault) -> u32
-    ensures { result ≡ Spec.line_of_fault fault }
-{
-    match fault {
-        CheckFault::NoRule(line, _)
-        | CheckFault::FormCount(line)
-        | CheckFault::LeadingNewline(line)
-        | CheckFault::TrailingNewline(line) => line,
-        _ => 0,
     }
 }
 
@@ -107,5 +87,12 @@ pub(crate) fn failed_check_run(
     let mut text = Vec::new(alloc);
     push_check_text(&mut text, fault)?;
     let name = input_name(names, input);
-    reported(alloc, "msgfmt", name, line_of_fault(fault), &text)
+    let line = match fault {
+        CheckFault::NoRule(line, _)
+        | CheckFault::FormCount(line)
+        | CheckFault::LeadingNewline(line)
+        | CheckFault::TrailingNewline(line) => line,
+        _ => 0,
+    };
+    reported(alloc, "msgfmt", name, line, &text)
 }

@@ -1,7 +1,5 @@
 //! What the options of a command line mean for msgfmt.
-ghost use Rattle.std.specs.Prelude.{◌≡◌};
-ghost use Rattle.std.specs.Option.{option_copied};
-ghost use Rattle.msgfmt.specs.Prelude.{AreMsgfmtOptions, order_of};
+ghost use Rattle.msgfmt.specs.Prelude.{AreMsgfmtOptions};
 
 use mo_file::Order;
 use runs::Arguments;
@@ -25,18 +23,11 @@ pub fn msgfmt_options_of<A: Arguments>(arguments: &A) -> MsgfmtOptions
 {
     MsgfmtOptions {
         use_fuzzy: arguments.is_given("use-fuzzy"),
-        order: order_of(arguments.text_of("endianness")),
+        order: match arguments.text_of("endianness") {
+            Some("big") => Order::Big,
+            _ => Order::Little,
+        },
         statistics: arguments.is_given("statistics"),
         profile_check: arguments.is_given("profile-check"),
-    }
-}
-
-/// The byte order by its name, little-endian where none is given.
-fn order_of(name: Option<&str>) -> Order
-    ensures { result ≡ order_of (option_copied name.entry) }
-{
-    match name {
-        Some("big") => Order::Big,
-        _ => Order::Little,
     }
 }

@@ -1,6 +1,5 @@
 //! What msgfmt writes and reports: the MO file of PO texts.
 ghost use Rattle.std.specs.Prelude.{◌≡◌, ◌^◌, ◌<◌, List, length, IfOk, OnErr, Err};
-ghost use Rattle.po_entry.specs.Prelude.{stats_line};
 ghost use Rattle.runs.specs.Prelude.{NamedFile, named_files, run_view};
 ghost use Rattle.msgfmt.specs.Internal.Plan.{IsGathered};
 ghost use Rattle.msgfmt.specs.Msgfmt as Spec;
@@ -9,7 +8,7 @@ use crate::fault_lines::{failed_check_run, refused_run};
 use crate::options::MsgfmtOptions;
 use crate::profile::check_collected;
 use po_compile::{Collected, Compiled, Options, collect_all, compile_collected};
-use po_entry::{JoinError, Stats};
+use po_entry::JoinError;
 use po_syntax::PoFault;
 use runs::{Run, ToolFault};
 use std::alloc::{AllocError, Global};
@@ -41,19 +40,6 @@ pub(crate) fn gather<'a>(
     Ok(Gathered { names, collected })
 }
 
-/// The line that reports statistics.
-fn stats_line(alloc: Global, stats: Stats) -> Result<Vec<u8>, AllocError>
-    ensures { IfOk result (λ line. line.items ≡ stats_line stats) }
-{
-    match stats.line(alloc) {
-        Ok(line) => Ok(line),
-        Err(error) => match error.kind {
-            PoFault::OutOfMemory => Err(AllocError),
-            _ => unreachable!(),
-        },
-    }
-}
-
 /// The run of inputs that are compiled.
 fn compiled_run(
     alloc: Global,
@@ -63,7 +49,13 @@ fn compiled_run(
     ensures { IfOk result (λ run. run_view run ≡ Spec.compiled_run options.now compiled) }
 {
     let messages = if options.statistics {
-        stats_line(alloc, compiled.stats)?
+        match compiled.stats.line(alloc) {
+            Ok(line) => line,
+            Err(error) => match error.kind {
+                PoFault::OutOfMemory => return Err(AllocError),
+                _ => unreachable!(),
+            },
+        }
     } else {
         Vec::new(alloc)
     };

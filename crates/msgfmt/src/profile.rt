@@ -1,6 +1,5 @@
 //! What `--profile-check` finds wrong with the messages that inputs are compiled to.
 ghost use Rattle.std.specs.Prelude.{◌≡◌, ◌⊎◌, ◌^◌, ◌<◌, None, Some, IfErr, OnOk, find, length, option_map};
-ghost use Rattle.std.specs.List.{list_any};
 ghost use Rattle.mo_file.specs.Prelude.{forms};
 ghost use Rattle.po_compile.specs.Prelude.{OfAllInputs};
 ghost use Rattle.msgfmt.specs.Prelude.{AreChecked};
@@ -104,20 +103,6 @@ fn has_newline(end: End, text: &[u8]) -> bool
     }
 }
 
-/// Whether a form has a newline at this end where none is wanted, or lacks one that is wanted.
-fn any_differs(end: End, wanted: bool, translation: &[u8]) -> bool
-    ensures { result ≡ list_any (λ text. Spec.differ wanted (Spec.has_newline end text)) (forms translation.now) }
-{
-    let mut last = translation;
-    while let Some((form, rest)) = split_form(last) {
-        if has_newline(end, form) != wanted {
-            return true;
-        }
-        last = rest;
-    }
-    has_newline(end, last) != wanted
-}
-
 /// Whether the plural or a form differs from the msgid in having a newline at this end.
 fn differs_from_msgid(end: End, message: &CompiledMessage<'_>) -> bool
     ensures { result ≡ Spec.differs_from_msgid end (Spec.checked_message message.now).entry }
@@ -125,11 +110,17 @@ fn differs_from_msgid(end: End, message: &CompiledMessage<'_>) -> bool
     let (key, plural) = original_parts(message.original);
     let (_, id) = key_parts(key);
     let wanted = has_newline(end, id);
-    let plural_differs = match plural {
-        Some(plural) => has_newline(end, plural) != wanted,
-        None => false,
-    };
-    plural_differs || any_differs(end, wanted, message.translation)
+    if plural.is_some_and(|plural| has_newline(end, plural) != wanted) {
+        return true;
+    }
+    let mut last = message.translation;
+    while let Some((form, rest)) = split_form(last) {
+        if has_newline(end, form) != wanted {
+            return true;
+        }
+        last = rest;
+    }
+    has_newline(end, last) != wanted
 }
 
 /// What is wrong with a message but the header's, with its input.
