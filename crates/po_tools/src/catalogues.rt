@@ -6,7 +6,7 @@ ghost use Rattle.msgattrib.specs.Prelude.{changed, selected};
 ghost use Rattle.msgcat.specs.Prelude.{IsMergeFault, merged, HoldInputs};
 ghost use Rattle.po_compile.specs.Prelude.{HoldCatalogues};
 ghost use Rattle.msgfmt.specs.Prelude.{AreChecked};
-ghost use Rattle.po_tools.specs.Prelude.{AreStored, inputs_view};
+ghost use Rattle.po_tools.specs.Prelude.{inputs_view};
 
 use msgattrib::{Attributes, Selection};
 use msgcat::{MergeInputs, MergeOptions, ReadInput};
@@ -107,13 +107,10 @@ fn add_all(store: &mut Store, alloc: Global, entries: &[Entry]) -> Result<(), Al
     Ok(())
 }
 
-/// The entries of all catalogues, one after another, and where those of each begin.
-fn stored<'a>(
-    alloc: Global,
-    inputs: &[Named<'a>],
-) -> Result<(Store, Vec<ReadInput<'a>>), AllocError>
+/// The entries of all catalogues, linked by their messages.
+fn linked<'a>(alloc: Global, inputs: &[Named<'a>]) -> Result<MergeInputs<'a>, AllocError>
     requires { All (λ input. Lacks 0 input.name.now) inputs.now }
-    ensures { IfOk result (λ found. AreStored (inputs_view inputs.now) found.0 found.1.items) }
+    ensures { IfOk result (HoldInputs (inputs_view inputs.now)) }
 {
     let mut store = Store::new(alloc);
     let mut read = Vec::with_capacity(alloc, inputs.len())?;
@@ -123,15 +120,6 @@ fn stored<'a>(
         add_all(&mut store, alloc, entries)?;
         read.push(ReadInput::of(input.name, start, entries.len()))?;
     }
-    Ok((store, read))
-}
-
-/// The entries of all catalogues, linked by their messages.
-fn linked<'a>(alloc: Global, inputs: &[Named<'a>]) -> Result<MergeInputs<'a>, AllocError>
-    requires { All (λ input. Lacks 0 input.name.now) inputs.now }
-    ensures { IfOk result (HoldInputs (inputs_view inputs.now)) }
-{
-    let (store, read) = stored(alloc, inputs)?;
     let (numbers, count) = message_numbers(alloc, &store)?;
     MergeInputs::of(alloc, store, read, &numbers, count)
 }

@@ -1,7 +1,6 @@
 //! Each tool as a whole, by what its command line gives.
-ghost use Rattle.std.specs.Prelude.{◌^◌, ◌<◌, Option, List};
-ghost use Rattle.po_tools.specs.Prelude.{RunsEnvsubstLine, RunsTool, answers_of, line_of, reached, reader_of};
-ghost use Rattle.runs.specs.Prelude.{Asked};
+ghost use Rattle.std.specs.Prelude.{◌^◌, ◌<◌};
+ghost use Rattle.po_tools.specs.Prelude.{RunsTool, answers_of, line_of, reached, reader_of};
 
 use envsubst::{EntrySource, EnvsubstArguments, envsubst};
 use gettext::{LookUpCommand, VariableSource, run_look_up};
@@ -74,31 +73,10 @@ where
             let command = LookUpCommand::of_ngettext(given)?;
             run_look_up(alloc, source, system, &command)
         }
-        Tool::Envsubst => substitute(alloc, &*source, reader, system, given),
+        Tool::Envsubst => {
+            let arguments = EnvsubstArguments::given(given)?;
+            envsubst(alloc, &*source, reader, &mut system.out, arguments)?;
+            Ok(0)
+        }
     }
-}
-
-/// Runs envsubst by its command line, or refuses one that fits none of its usages.
-fn substitute<'a, S, R: ByteIn, F: OutputFiles, O: ByteOut, E: ByteOut, A: Arguments>(
-    alloc: Global,
-    source: &S,
-    reader: &mut R,
-    system: &mut OutputSystem<F, O, E>,
-    given: &'a A,
-) -> Result<u8, ProgramFault<'a>>
-where
-    S: InputSource + VariableSource + EntrySource,
-    requires calls { R.calls reader.old < 2 ^ 63 }
-    requires failures { R.failures reader.old < 2 ^ 63 }
-    requires out { system.old.out.failures < 2 ^ 63 }
-    ensures { (asked : Option (List Asked)) → RunsEnvsubstLine
-        (line_of (A.flag given.now) (A.text given.now) (A.texts given.now) (A.number given.now))
-        (answers_of (S.file source.now) (S.standard source.now) (S.variable source.now) (S.entries source.now))
-        (reached asked (reader_of (R.remaining reader.old) (R.calls reader.old) (R.failures reader.old)) system.old)
-        (reached asked (reader_of (R.remaining reader.new) (R.calls reader.new) (R.failures reader.new)) system.new)
-        result }
-{
-    let arguments = EnvsubstArguments::given(given)?;
-    envsubst(alloc, source, reader, &mut system.out, arguments)?;
-    Ok(0)
 }

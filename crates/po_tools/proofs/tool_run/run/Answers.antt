@@ -1,4 +1,4 @@
-use Rattle.po_tools.proofs.Prelude.{IsTextOr, List, None, Option, Some, ap, codes, default_output, err_from_is_err_and, fits_none, looks_up, option_copied, refl, rules, unwrap_or, ℕ, ◌≡◌}
+use Rattle.po_tools.proofs.Prelude.{Err, IsTextOr, List, None, Ok, Option, Some, ap, codes, default_output, err_from_is_err_and, fits_none, looks_up, no_envsubst, option_copied, refl, rules, runs_envsubst, unwrap_or, ℕ, ◌≡◌}
 use Rattle.std.specs.Borrow.{Bor}
 use Rattle.po_tools.proofs.tool_run.run.Goals as goal
 
@@ -68,5 +68,44 @@ pub returns-in_ok-command-in-Ngettext : goal.returns-in_ok-command-in-Ngettext
 returns-in_ok-command-in-Ngettext g c =
     rw c.in-Ngettext.is (looks_up c.in_ok-command-in-Ngettext.ensures c.run_look_up-in-Ngettext.ensures refl)
 
-pub returns-in-Envsubst : goal.returns-in-Envsubst
-returns-in-Envsubst g c = rw c.in-Envsubst.is (c.substitute.ensures _)
+pub returns-in_err-arguments-in-Envsubst : goal.returns-in_err-arguments-in-Envsubst
+returns-in_err-arguments-in-Envsubst g c =
+    let p = err_from_is_err_and c.from_residual-in_err-arguments-in-Envsubst.result
+    c.from_residual-in_err-arguments-in-Envsubst.ensures.1 in
+    let are = c.in_err-arguments-in-Envsubst.ensures in
+    rw c.in-Envsubst.is (no_envsubst are.variables_is are.arguments_are
+    (record { none = are.taken.0; nothing = refl; fault = rw (p.1, p.2) (ap (λ fault. Err fault) are.taken.1) }))
+
+pub returns-in_err-envsubst-in-Envsubst : goal.returns-in_err-envsubst-in-Envsubst
+returns-in_err-envsubst-in-Envsubst g c =
+    let from = c.from_residual-in_err-envsubst-in-Envsubst in
+    let p = err_from_is_err_and from.result from.ensures.1 in
+    let are = c.in_ok-arguments-in-Envsubst.ensures in
+    let run = c.in_err-envsubst-in-Envsubst in
+    rw (c.in-Envsubst.is, ← c.system.view_is, p.1) (runs_envsubst are.variables_is are.arguments_are are.taken
+    (record {
+      outcome = Err run.field-0.0;
+      runs = run.ensures.output;
+      read_failures = run.ensures.read_failures;
+      write_failures = run.ensures.write_failures;
+      answer = p.2;
+      asks_nothing = refl;
+      files = refl;
+      err = refl;
+    }))
+
+pub returns-in_ok-envsubst-in-Envsubst : goal.returns-in_ok-envsubst-in-Envsubst
+returns-in_ok-envsubst-in-Envsubst g c =
+    let are = c.in_ok-arguments-in-Envsubst.ensures in
+    let run = c.in_ok-envsubst-in-Envsubst in
+    rw (c.in-Envsubst.is, ← c.system.view_is) (runs_envsubst are.variables_is are.arguments_are are.taken
+    (record {
+      outcome = Ok tt;
+      runs = run.ensures.output;
+      read_failures = run.ensures.read_failures;
+      write_failures = run.ensures.write_failures;
+      answer = refl;
+      asks_nothing = refl;
+      files = refl;
+      err = refl;
+    }))

@@ -1,5 +1,5 @@
 use Rattle.po_tools.proofs.Prelude.{AreStored, inputs_view, take}
-use Rattle.po_tools.proofs.catalogues.stored.Given as goal
+use Rattle.po_tools.proofs.catalogues.linked.Given as goal
 
 -- the inputs so far are stored
 abbrev pub invariant-loop-input : goal.invariant-loop-input
