@@ -1,5 +1,5 @@
 -- What a command comes to that writes a file.
-use Rattle.known_runs.proofs.Prelude.{Bool, Contents, End, EndsInFile, Err, IsFileFault, Leads, Leaves, Links, List, NamedFile, None, Option, ProgramFault, Reading, ReadsAs, Result, RunView, Some, SystemView, [], ap, bytes_at, bytes_of, end, failed, false, false≢true, follows, gives, inl, is_some, is_standard, left, output_file, program_text, refl, refuses, subst, sym, there, true, unread, ℕ, ◌++◌, ◌∙◌, ◌≡◌}
+use Rattle.known_runs.proofs.Prelude.{Bool, Contents, End, EndsInFile, Err, IsFileFault, Leads, Leaves, Links, List, NamedFile, None, Option, ProgramFault, Reading, ReadsAs, Result, RunView, Some, SystemView, [], ap, bytes_at, bytes_of, end, failed, false, false≢true, follows, gives, inl, is_some, is_standard, left, output_file, program_text, refl, refuses, subst, sym, there, true, ℕ, ◌++◌, ◌∙◌, ◌≡◌}
 use Rattle.runs.specs.ToolRuns as tools
 use Rattle.known_system.specs.Contents.{filed as filed_there, printed as printed_there}
 use Rattle.known_runs.specs.Ends.{filed, printed}

@@ -1,5 +1,5 @@
 -- What a look-up in a catalogue comes to that is compiled from a text.
-use Rattle.known_runs.proofs.Prelude.{Answers, Bool, CatalogView, CommandLine, Compiled, Contents, End, EndsLookUp, Err, IsCatalogView, IsCompiledFrom, Leaves, List, NamedFile, None, Ok, Option, OutOfMemory, ProgramFault, Query, Reached, Reading, Result, RunView, RunsLookUpLine, Some, SystemView, Writes, [], and_parts, answered, answers_of, ap, append-nil, arith, chain_answered, codes, compiled_list, counted, end, false, false≢true, filed, fits_none, forms_found, gives, hello_mo, if◌then◌else◌, inl, inr, is_some, joined_entries, left, line_of, looks_up, ltb-true, meant, message, nat_lt, option_copied, option_map_or, plain, printed, refl, refuses, slice_index, status_or_memory, subst, suc, sym, take, true, untranslated, zero, ℕ, ◌&&◌, ◌++◌, ◌-◌, ◌<◌, ◌^◌, ◌∙◌, ◌∷◌, ◌≡◌}
+use Rattle.known_runs.proofs.Prelude.{Answers, AsksFor, Bool, CatalogView, CommandLine, Compiled, Contents, End, EndsLookUp, Err, IsCatalogView, IsCompiledFrom, Leaves, List, NamedFile, None, Ok, Option, OutOfMemory, ProgramFault, Query, Reached, Reading, Result, RunView, RunsLookUpLine, RunsTool, Some, SystemView, Writes, [], a_form, a_message, and_parts, answered, answers_of, ap, append-nil, arith, chain_answered, codes, compiled_list, counted, end, false, false≢true, filed, fits_none, forms_found, gives, hello_mo, if◌then◌else◌, inl, inr, is_some, joined_entries, left, line_of, looks_up, ltb-true, meant, message, nat_lt, option_copied, option_map_or, plain, printed, refl, refuses, slice_index, status_or_memory, subst, suc, sym, take, true, untranslated, zero, ℕ, ◌&&◌, ◌++◌, ◌-◌, ◌<◌, ◌^◌, ◌∙◌, ◌∷◌, ◌≡◌}
 use Rattle.known_runs.proofs.Files.{after_none}
 use Rattle.std.proofs.lemmas.Str.{IsUtf8-from_ascii}
 use Rattle.std.specs.Borrow.{Bor}
@@ -12,6 +12,7 @@ use Rattle.gettext.specs.declared.candidates.Environment.{Environment}
 use Rattle.locale_names.specs.Prelude.{before as part_before, candidates_of_name, from_first, is_c_locale, language_parts}
 use Rattle.mo_file.specs.Prelude.{NoFaultOfMoFile, OneMessageList, IsMoFile}
 use Rattle.mo_lookup.specs.Prelude.{answered as catalog_answered}
+use Rattle.runs.specs.declared.tool.Tool.{Tool}
 use Rattle.known_runs.specs.LookUps.{failed}
 
 -- every byte is below 128
@@ -237,7 +238,7 @@ module _ (text bytes : List ℕ) (made : Compiled) (from : IsCompiledFrom text m
       → given_domain argument option ≡ given_domain (Some (codes "hello")) None
   domain_is argument option names is = rw (names, is ∙ no_domain) refl
 
-  pub gettext_ends : (id : List ℕ) → operands ≡ codes "hello" ∷ id ∷ [] → (result : Result ℕ ProgramFault)
+  gettext_ends : (id : List ℕ) → operands ≡ codes "hello" ∷ id ∷ [] → (result : Result ℕ ProgramFault)
       → RunsLookUpLine (AsksGettext Line.flag Line.text Line.texts) There before after result
       → EndsLookUp text (message id) (end (status_or_memory result) None new.out new.err)
   gettext_ends id operands_are result (looks_up (asks_messages {arguments} {option} {usage} {o} arguments_are fits
@@ -250,7 +251,7 @@ module _ (text bytes : List ℕ) (made : Compiled) (from : IsCompiledFrom text m
       rw (shell_is, arguments_are ∙ operands_are) refl in
       absurd (false≢true (ap is_some (sym fits ∙ e)))
 
-  pub ngettext_ends : (id plural count : List ℕ) → operands ≡ codes "hello" ∷ id ∷ plural ∷ count ∷ []
+  ngettext_ends : (id plural count : List ℕ) → operands ≡ codes "hello" ∷ id ∷ plural ∷ count ∷ []
       → (result : Result ℕ ProgramFault)
       → RunsLookUpLine (AsksNgettext Line.flag Line.text Line.texts) There before after result
       → EndsLookUp text (counted id plural count) (end (status_or_memory result) None new.out new.err)
@@ -264,3 +265,9 @@ module _ (text bytes : List ℕ) (made : Compiled) (from : IsCompiledFrom text m
       let e : ngettext_usage arguments ≡ ngettext_usage (codes "hello" ∷ id ∷ plural ∷ count ∷ []) =
       rw (arguments_are ∙ operands_are) refl in
       absurd (false≢true (ap is_some (sym fits ∙ e)))
+
+  pub hello_ends : {tool : Tool} {query : Query} → AsksFor operands tool query → (result : Result ℕ ProgramFault)
+      → RunsTool tool Line There ⊥ before after result
+      → EndsLookUp text query (end (status_or_memory result) None new.out new.err)
+  hello_ends (a_message is) result ran = gettext_ends _ is result ran
+  hello_ends (a_form is) result ran = ngettext_ends _ _ _ is result ran

@@ -1,5 +1,5 @@
 -- What `msgfmt a.po -o a.mo` comes to.
-use Rattle.known_runs.proofs.Prelude.{AreInputs, AreMsgfmtOptions, Asking, Bool, Compiled, Contents, End, EndsMsgfmt, Err, HaveNoRun, IsCompilation, IsCompileFault, IsCompiledFrom, IsFileFault, IsMsgfmtRun, IsRunOf, IsTextOr, Leads, Leaves, List, Little, MsgfmtOptions, NamedFile, None, Ok, Option, Place, ProgramFault, Reading, Result, RunView, RunsMsgfmt, Some, SystemView, Writes, [], ap, arith, bytes_at, codes, compile_options, compiled, compiled_run, default_output, done, empty, end, false, false≢true, filed, gives, has_none, inl, inr, is_some, join_line, joined_entries, left, length, link_limit, ltb-false, ltb-true, nat_lt, no_memory_to_plan, no_memory_to_read, order_of, output_file, plain, printed, program_text, read, refl, refusal, refused, refuses, runs, subst, sym, true, unread, unwrap_or, ℕ, ◌++◌, ◌∙◌, ◌∷◌, ◌≡◌, ◌≢◌}
+use Rattle.known_runs.proofs.Prelude.{AreInputs, AreMsgfmtOptions, Asking, Bool, Compiled, Contents, End, EndsMsgfmt, Err, HaveNoRun, IsCompilation, IsCompileFault, IsCompiledFrom, IsFileFault, IsMsgfmtRun, IsRunOf, IsTextOr, Leads, Leaves, List, Little, MsgfmtOptions, NamedFile, None, Ok, Option, Place, ProgramFault, Reading, Result, RunView, RunsMsgfmt, Some, SystemView, Writes, [], ap, arith, bytes_at, codes, compile_options, compiled, compiled_run, default_output, done, empty, end, false, false≢true, filed, gives, has_none, inl, inr, is_some, join_line, joined_entries, left, length, link_limit, ltb-false, ltb-true, nat_lt, no_memory_to_plan, no_memory_to_read, order_of, output_file, plain, printed, program_text, read, refl, refusal, refused, refuses, runs, subst, sym, true, unread, unwrap_or, ℕ, ◌++◌, ◌∙◌, ◌∷◌, ◌≡◌}
 use Rattle.known_runs.specs.Msgfmt.{failed}
 
 -- the only input is the text

@@ -1,6 +1,7 @@
 -- What the proofs of this crate cite of std, of the crates below and of its own definitions. Declares nothing.
 pub use Rattle.envsubst.specs.Prelude.{EndsAs, EnvsubstUsage, HasGoneOut, RunsEnvsubst, StopsWithin, Values, envsubst_usage, names_in, substitution, values_of, variables_of, write_failures}
 pub use Rattle.known_runs.specs.Ends.{failed}
+pub use Rattle.known_runs.specs.Internal.{AsksFor, EndsOverFiles, RunsOverFiles, a_form, a_message, started, unstarted}
 pub use Rattle.known_runs.specs.LookUps.{answered}
 pub use Rattle.known_runs.specs.Msgfmt.{compiled, elsewhere, empty, led, refused}
 pub use Rattle.known_runs.specs.Prelude.{End, EndsInFile, EndsLookUp, EndsMsgfmt, EndsSubstituted, EndsThroughLinks, HasStatus, IsCompiledFrom, IsStatusOrInputFault, OneEnd, RunsInMemory, all_as_they_are, all_messages, answers_in, counted, end, end_of, hello_mo, line_in, message, operands_of, plain, status_or_memory, system_after, system_before, text_of, two_files, values_by}

@@ -1,5 +1,5 @@
 -- What envsubst comes to over a known standard input and a known environment.
-use Rattle.known_runs.proofs.Prelude.{Answers, AnswersStatus, Asked, Bool, CommandLine, EndsAs, EndsSubstituted, EnvsubstUsage, Err, FileLog, HasGoneOut, IsStatusOrInputFault, List, None, Ok, Option, ProgramFault, Reached, Reading, Result, RunsEnvsubst, RunsEnvsubstLine, Some, StopsWithin, Substitutes, Values, WriterView, [], answers_of, ap, arith, cut, end, envsubst_usage, false, false≢true, is_some, line_of, names_in, no_envsubst, option_map, option_to_list, reached, reader_of, refl, runs_envsubst, subst, substituted, substitution, sym, system, true, values_by, values_of, variables_of, write_failures, writer, ℕ, ◌++◌, ◌+◌, ◌∙◌, ◌≡◌}
+use Rattle.known_runs.proofs.Prelude.{Answers, AnswersStatus, Asked, Bool, CommandLine, EndsAs, EndsSubstituted, EnvsubstUsage, Err, FileLog, HasGoneOut, IsStatusOrInputFault, List, None, Ok, Option, ProgramFault, Reached, Reading, Result, RunsEnvsubst, RunsEnvsubstLine, Some, StopsWithin, Substitutes, Values, WriterView, [], answers_of, ap, arith, cut, end, envsubst_usage, false, false≢true, is_some, line_of, names_in, no_envsubst, option_map, option_to_list, reached, reader_of, refl, runs_envsubst, subst, substituted, substitution, sym, system, values_by, values_of, variables_of, write_failures, writer, ℕ, ◌++◌, ◌+◌, ◌∙◌, ◌≡◌}
 use Rattle.envsubst.specs.ByArguments.{named, substituted as replaced_all, unread}
 use Rattle.envsubst.specs.Arguments.{replaced}
 use Rattle.runs.specs.declared.tool_fault.ToolFault.{ToolFault}

@@ -5,4 +5,5 @@ pub mod Msgfmt
 pub mod Plain
 pub mod LookUps
 pub mod Substitutions
+pub mod Internal
 pub mod Prelude

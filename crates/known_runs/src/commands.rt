@@ -1,7 +1,8 @@
 //! Commands that make a file.
-ghost use Rattle.std.specs.Prelude.{◌≡◌, [], codes, Err, option_map};
+ghost use Rattle.std.specs.Prelude.{codes, option_map};
 ghost use Rattle.known_runs.specs.Prelude.{EndsInFile, end_of, EndsMsgfmt, EndsThroughLinks, all_as_they_are, all_messages, two_files};
-ghost use Rattle.known_system.specs.Prelude.{links_by_path};
+ghost use Rattle.known_runs.specs.Internal.{EndsOverFiles};
+ghost use Rattle.known_system.specs.Prelude.{links_by_path, texts_by_name};
 ghost use Rattle.msgattrib.specs.Prelude.{IsMsgattribRun};
 ghost use Rattle.msgcat.specs.Prelude.{IsMsgcatRun};
 ghost use Rattle.msgunfmt.specs.Prelude.{IsMsgunfmtRunOf};
@@ -11,7 +12,7 @@ use crate::words::Words;
 use known_system::laws::{run_leaves_all_or_nothing, same_system_holds_the_same};
 use known_system::{KnownFiles, KnownSource, Link, Named, Told};
 use runs::{ProgramFault, Tool};
-use std::alloc::{AllocError, Global};
+use std::alloc::Global;
 
 /// The words of `msgfmt a.po -o a.mo`.
 static MSGFMT: Words<'static> = Words {
@@ -24,25 +25,11 @@ static MSGFMT: Words<'static> = Words {
 pub fn msgfmt_in_memory(alloc: Global, text: &[u8], held: Option<Vec<u8>>) -> Ended
     ensures { EndsMsgfmt text.now (option_map (λ bytes. bytes.items) held) (end_of result) }
 {
-    let path = match String::from_str(alloc, "a.mo") {
-        Ok(path) => path,
-        Err(why) => return unstarted(alloc, held, why),
-    };
-    run_leaves_all_or_nothing();
-    same_system_holds_the_same();
     let files = [Named {
         name: "a.po",
         bytes: text,
     }];
-    let mut source = KnownSource::new(&files);
-    let held = KnownFiles::holding(alloc, &[], path, held);
-    let (result, reached) = run_in_memory(alloc, Tool::Msgfmt, &mut source, held, &MSGFMT);
-    Ended {
-        result,
-        file: reached.files.into_bytes("a.mo"),
-        out: reached.out,
-        err: reached.err,
-    }
+    over_files(alloc, Tool::Msgfmt, &MSGFMT, &files, &[], "a.mo", held)
 }
 
 /// Runs `msgfmt a.po -o a.mo` in a folder with these links, where `a.po` has this text and the file
@@ -57,25 +44,11 @@ pub fn msgfmt_through_links_in_memory(
     ensures { EndsThroughLinks (links_by_path links.now) place.now text.now
         (option_map (λ bytes. bytes.items) held) (end_of result) }
 {
-    let path = match String::from_str(alloc, place) {
-        Ok(path) => path,
-        Err(why) => return unstarted(alloc, held, why),
-    };
-    run_leaves_all_or_nothing();
-    same_system_holds_the_same();
     let files = [Named {
         name: "a.po",
         bytes: text,
     }];
-    let mut source = KnownSource::new(&files);
-    let folder = KnownFiles::holding(alloc, links, path, held);
-    let (result, reached) = run_in_memory(alloc, Tool::Msgfmt, &mut source, folder, &MSGFMT);
-    Ended {
-        result,
-        file: reached.files.into_bytes(place),
-        out: reached.out,
-        err: reached.err,
-    }
+    over_files(alloc, Tool::Msgfmt, &MSGFMT, &files, links, place, held)
 }
 
 /// The words of `msgattrib a.po -o b.po`.
@@ -90,25 +63,19 @@ pub fn msgattrib_in_memory(alloc: Global, text: &[u8], held: Option<Vec<u8>>) ->
     ensures { EndsInFile (IsMsgattribRun (codes "a.po") all_as_they_are text.now) (codes "b.po")
         (option_map (λ bytes. bytes.items) held) (end_of result) }
 {
-    let path = match String::from_str(alloc, "b.po") {
-        Ok(path) => path,
-        Err(why) => return unstarted(alloc, held, why),
-    };
-    run_leaves_all_or_nothing();
-    same_system_holds_the_same();
     let files = [Named {
         name: "a.po",
         bytes: text,
     }];
-    let mut source = KnownSource::new(&files);
-    let held = KnownFiles::holding(alloc, &[], path, held);
-    let (result, reached) = run_in_memory(alloc, Tool::Msgattrib, &mut source, held, &MSGATTRIB);
-    Ended {
-        result,
-        file: reached.files.into_bytes("b.po"),
-        out: reached.out,
-        err: reached.err,
-    }
+    over_files(
+        alloc,
+        Tool::Msgattrib,
+        &MSGATTRIB,
+        &files,
+        &[],
+        "b.po",
+        held,
+    )
 }
 
 /// The words of `msgunfmt a.mo -o a.po`.
@@ -123,25 +90,11 @@ pub fn msgunfmt_in_memory(alloc: Global, bytes: &[u8], held: Option<Vec<u8>>) ->
     ensures { EndsInFile (IsMsgunfmtRunOf (codes "a.mo") bytes.now) (codes "a.po")
         (option_map (λ bytes. bytes.items) held) (end_of result) }
 {
-    let path = match String::from_str(alloc, "a.po") {
-        Ok(path) => path,
-        Err(why) => return unstarted(alloc, held, why),
-    };
-    run_leaves_all_or_nothing();
-    same_system_holds_the_same();
     let files = [Named {
         name: "a.mo",
         bytes,
     }];
-    let mut source = KnownSource::new(&files);
-    let held = KnownFiles::holding(alloc, &[], path, held);
-    let (result, reached) = run_in_memory(alloc, Tool::Msgunfmt, &mut source, held, &MSGUNFMT);
-    Ended {
-        result,
-        file: reached.files.into_bytes("a.po"),
-        out: reached.out,
-        err: reached.err,
-    }
+    over_files(alloc, Tool::Msgunfmt, &MSGUNFMT, &files, &[], "a.po", held)
 }
 
 /// The words of `msgcat a.po b.po -o c.po`.
@@ -156,12 +109,6 @@ pub fn msgcat_in_memory(alloc: Global, a: &[u8], b: &[u8], held: Option<Vec<u8>>
     ensures { EndsInFile (IsMsgcatRun (two_files a.now b.now) all_messages) (codes "c.po")
         (option_map (λ bytes. bytes.items) held) (end_of result) }
 {
-    let path = match String::from_str(alloc, "c.po") {
-        Ok(path) => path,
-        Err(why) => return unstarted(alloc, held, why),
-    };
-    run_leaves_all_or_nothing();
-    same_system_holds_the_same();
     let files = [
         Named {
             name: "a.po",
@@ -172,28 +119,43 @@ pub fn msgcat_in_memory(alloc: Global, a: &[u8], b: &[u8], held: Option<Vec<u8>>
             bytes: b,
         },
     ];
-    let mut source = KnownSource::new(&files);
-    let held = KnownFiles::holding(alloc, &[], path, held);
-    let (result, reached) = run_in_memory(alloc, Tool::Msgcat, &mut source, held, &MSGCAT);
-    Ended {
-        result,
-        file: reached.files.into_bytes("c.po"),
-        out: reached.out,
-        err: reached.err,
-    }
+    over_files(alloc, Tool::Msgcat, &MSGCAT, &files, &[], "c.po", held)
 }
 
-/// The end of a command for which there is no memory at all.
-fn unstarted(alloc: Global, file: Option<Vec<u8>>, why: AllocError) -> Ended
-    ensures result { result.result ≡ Err ProgramFault.OutOfMemory }
-    ensures file { result.file ≡ file }
-    ensures out { result.out.said.bytes ≡ [] }
-    ensures err { result.err.said.bytes ≡ [] }
+/// Runs a tool by these words over these files, in a folder with these links, where the file at
+/// `place` holds these bytes, or isn't there. The file that it returns is the one at `place`.
+fn over_files(
+    alloc: Global,
+    tool: Tool,
+    words: &'static Words<'static>,
+    files: &[Named<'_>],
+    links: &[Link<'_>],
+    place: &str,
+    held: Option<Vec<u8>>,
+) -> Ended
+    ensures { EndsOverFiles tool words.now (texts_by_name files.now) (links_by_path links.now) place.now
+        (option_map (λ bytes. bytes.items) held) (end_of result) }
 {
+    let path = match String::from_str(alloc, place) {
+        Ok(path) => path,
+        Err(why) => {
+            return Ended {
+                result: Err(ProgramFault::from(why)),
+                file: held,
+                out: Told::new(alloc),
+                err: Told::new(alloc),
+            };
+        }
+    };
+    run_leaves_all_or_nothing();
+    same_system_holds_the_same();
+    let mut source = KnownSource::new(files);
+    let folder = KnownFiles::holding(alloc, links, path, held);
+    let (result, reached) = run_in_memory(alloc, tool, &mut source, folder, words);
     Ended {
-        result: Err(ProgramFault::from(why)),
-        file,
-        out: Told::new(alloc),
-        err: Told::new(alloc),
+        result,
+        file: reached.files.into_bytes(place),
+        out: reached.out,
+        err: reached.err,
     }
 }

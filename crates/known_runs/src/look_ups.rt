@@ -1,6 +1,8 @@
 //! Look-ups in a catalogue that is compiled from a text.
-ghost use Rattle.std.specs.Prelude.{◌≡◌, ◌∷◌, [], None, MatchResult};
+ghost use Rattle.std.specs.Prelude.{◌≡◌, ◌∷◌, [], MatchResult, map};
+ghost use Rattle.known_runs.specs.Internal.{AsksFor};
 ghost use Rattle.known_runs.specs.Prelude.{end_of, EndsLookUp, counted, message, status_or_memory, plain};
+ghost use Rattle.mo_lookup.specs.Prelude.{Query};
 ghost use Rattle.po_compile.specs.Prelude.{IsCompileFault};
 
 use crate::in_memory::{Ended, run_in_memory};
@@ -28,32 +30,7 @@ pub fn gettext_in_memory(alloc: Global, text: &[u8], msgid: &str) -> Result<Ende
     ensures { MatchResult result (λ ended. EndsLookUp text.now (message msgid.now) (end_of ended))
         (IsCompileFault plain (text.now ∷ [])) }
 {
-    let compiled = compile_all(alloc, &[text], PLAIN)?;
-    run_leaves_all_or_nothing();
-    same_system_holds_the_same();
-    no_fault_of_mo_file();
-    one_message_list();
-    let named = [
-        Named {
-            name: HELLO_MO,
-            bytes: compiled.bytes.as_slice(),
-        },
-        Named {
-            name: "LANG",
-            bytes: b"fr",
-        },
-    ];
-    let mut source = source_of(&named);
-    let operands = ["hello", msgid];
-    let words = words_of(&operands);
-    let none = KnownFiles::new(alloc);
-    let (result, reached) = run_in_memory(alloc, Tool::Gettext, &mut source, none, &words);
-    Ok(Ended {
-        result: status_or_memory(result),
-        file: None,
-        out: reached.out,
-        err: reached.err,
-    })
+    in_hello(alloc, Tool::Gettext, text, &["hello", msgid])
 }
 
 /// Compiles this text, and runs `ngettext hello MSGID MSGID-PLURAL COUNT` in French over the
@@ -69,6 +46,20 @@ pub fn ngettext_in_memory(
         (λ ended. EndsLookUp text.now (counted msgid.now plural.now count.now) (end_of ended))
         (IsCompileFault plain (text.now ∷ [])) }
 {
+    in_hello(
+        alloc,
+        Tool::Ngettext,
+        text,
+        &["hello", msgid, plural, count],
+    )
+}
+
+/// Compiles this text, and runs a tool by these operands in French, where the catalogue is that of
+/// `hello`.
+fn in_hello(alloc: Global, tool: Tool, text: &[u8], operands: &[&str]) -> Result<Ended, JoinError>
+    ensures { (query : Query) → AsksFor (map (λ operand. operand.now) operands.now) tool query
+        → MatchResult result (λ ended. EndsLookUp text.now query (end_of ended)) (IsCompileFault plain (text.now ∷ [])) }
+{
     let compiled = compile_all(alloc, &[text], PLAIN)?;
     run_leaves_all_or_nothing();
     same_system_holds_the_same();
@@ -84,43 +75,26 @@ pub fn ngettext_in_memory(
             bytes: b"fr",
         },
     ];
-    let mut source = source_of(&named);
-    let operands = ["hello", msgid, plural, count];
-    let words = words_of(&operands);
+    // no file has the name of a variable that is asked for, and no variable that of a file
+    let mut source = KnownSource {
+        files: &named,
+        standard: &[],
+        variables: &named,
+        entries: &[],
+        asked: Questions::new(),
+    };
+    let words = Words {
+        operands,
+        output: None,
+    };
     let none = KnownFiles::new(alloc);
-    let (result, reached) = run_in_memory(alloc, Tool::Ngettext, &mut source, none, &words);
+    let (result, reached) = run_in_memory(alloc, tool, &mut source, none, &words);
     Ok(Ended {
         result: status_or_memory(result),
         file: None,
         out: reached.out,
         err: reached.err,
     })
-}
-
-/// The source whose files and variables are these. No file has the name of a variable that is asked
-/// for, and no variable that of a file, so one list has both.
-fn source_of<'a>(named: &'a [Named<'a>]) -> KnownSource<'a>
-    ensures files { result.files.now ≡ named.now }
-    ensures variables { result.variables.now ≡ named.now }
-{
-    KnownSource {
-        files: named,
-        standard: &[],
-        variables: named,
-        entries: &[],
-        asked: Questions::new(),
-    }
-}
-
-/// The words of a command line with these operands alone.
-pub(crate) fn words_of<'a>(operands: &'a [&'a str]) -> Words<'a>
-    ensures operands { result.operands.now ≡ operands.now }
-    ensures output { result.output ≡ None }
-{
-    Words {
-        operands,
-        output: None,
-    }
 }
 
 /// The status, or out of memory.

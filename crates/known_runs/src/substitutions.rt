@@ -1,11 +1,11 @@
 //! Standard input with its references to variables replaced.
-ghost use Rattle.std.specs.Prelude.{◌≡◌, map};
+ghost use Rattle.std.specs.Prelude.{◌≡◌};
 ghost use Rattle.std.specs.Option.{option_copied, option_to_list};
-ghost use Rattle.known_runs.specs.Prelude.{end_of, EndsSubstituted, IsStatusOrInputFault, values_by};
+ghost use Rattle.known_runs.specs.Prelude.{end_of, EndsSubstituted, IsStatusOrInputFault, operands_of, values_by};
 ghost use Rattle.known_system.specs.Prelude.{entry_texts};
 
 use crate::in_memory::{Ended, run_in_memory};
-use crate::look_ups::words_of;
+use crate::words::Words;
 use known_system::{KnownFiles, KnownSource, Questions};
 use runs::{ProgramFault, Tool};
 use std::alloc::Global;
@@ -29,8 +29,7 @@ pub fn envsubst_in_memory(
         entries,
         asked: Questions::new(),
     };
-    let operands = as_operands(&format);
-    let words = words_of(operands);
+    let words = words_of(&format);
     let none = KnownFiles::new(alloc);
     let (result, reached) = run_in_memory(alloc, Tool::Envsubst, &mut source, none, &words);
     Ended {
@@ -41,13 +40,17 @@ pub fn envsubst_in_memory(
     }
 }
 
-/// The operands of a command line with this SHELL-FORMAT, or without one.
-fn as_operands<'a>(format: &'a Option<&'a str>) -> &'a [&'a str]
-    ensures { map (λ operand. operand.now) result.now ≡ option_to_list (option_copied format.now) }
+/// The words of a command line with this SHELL-FORMAT, or without one.
+fn words_of<'a>(format: &'a Option<&'a str>) -> Words<'a>
+    ensures { operands_of result ≡ option_to_list (option_copied format.now) }
 {
-    match format {
+    let operands = match format {
         Some(format) => slice::from_ref(format),
         None => &[],
+    };
+    Words {
+        operands,
+        output: None,
     }
 }
 

@@ -1,35 +1,14 @@
-use Rattle.known_runs.proofs.Prelude.{EndsInFile, IsMsgattribRun, List, ProgramFault, Result, RunView, [], all_as_they_are, ap, bytes_of, codes, contents, failed, inl, option_map, reading_of, refl, string_bytes, texts_by_name, ℕ, ◌∙◌}
-use Rattle.known_runs.proofs.AllCommands.{arrives, held_at, holds_after, holds_before, holds_now, unstarted_ends}
+use Rattle.known_runs.proofs.Prelude.{EndsInFile, IsMsgattribRun, all_as_they_are, codes, failed, inl, refl}
+use Rattle.known_runs.proofs.AllCommands.{ends_over, is_read}
 use Rattle.known_runs.proofs.Selections.{all_selected, line_ends, selection_is}
 use Rattle.known_runs.proofs.commands.msgattrib_in_memory.Goals as goal
 
-pub returns-in-Err : goal.returns-in-Err
-returns-in-Err c =
-    let is = c.unstarted.ensures in
-    unstarted_ends (EndsInFile (IsMsgattribRun (codes "a.po") all_as_they_are c.args.text.now) (codes "b.po")
-    (option_map (λ b. b.items) c.args.held)) c.unstarted.result c.args.held is.result is.file is.out is.err
-    (failed (inl refl))
-
 pub returns : goal.returns
 returns c =
-    let path = string_bytes c.in-Ok.path in
-    let reached = c.run_in_memory-reached.result.1 in
-    let held = held_at (λ b. b.items) path c.args.held in
-    let old = contents [] held [] [] in
-    let new = holds_now reached in
-    let before = holds_before c.holding-held.result [] held c.holding-held.ensures in
-    let after = holds_after reached in
-    let line = c.run_in_memory-reached.ensures.runs in
-    let source = c.new-source.result in
-    let is = λ (name : List ℕ). ap (λ f. reading_of (bytes_of (texts_by_name f) name)) c.new-source.ensures.files in
-    let leaves = λ (run : RunView) (result : Result ℕ ProgramFault). c.run_leaves_all_or_nothing.ensures run
-    (codes "b.po") _ _ old new result before after in
-    let same = c.same_system_holds_the_same.ensures _ _ old new before after in
-    arrives (λ b. b.items) (EndsInFile (IsMsgattribRun (codes "a.po") all_as_they_are c.args.text.now) (codes "b.po"))
-    path (codes "b.po") c.args.held reached c.run_in_memory-reached.result.0 _
-    c.in-Ok.ensures.ok c.into_bytes.ensures
-    (all_selected _ (selection_is _ line.selection_is) (codes "a.po") c.args.text.now (codes "b.po") _ _
+    ends_over (EndsInFile (IsMsgattribRun (codes "a.po") all_as_they_are c.args.text.now) (codes "b.po"))
+    (failed (inl refl)) (λ new result ran. let line = ran.runs in
+    all_selected _ (selection_is _ line.selection_is) (codes "a.po") c.args.text.now (codes "b.po") _ _
     (line_ends (λ file run. IsMsgattribRun file.name line.selection file.bytes run) c.args.text.now (codes "a.po")
-    (codes "b.po") refl refl
-    old new refl refl refl _ (λ reading read. read ∙ is (codes "a.po")) leaves same _ refl refl line.runs.argument_is
-    line.runs.output_is line.runs.runs))
+    (codes "b.po") refl refl _ new refl refl refl _ (is_read ran.source ran.files_are (codes "a.po"))
+    (ran.leaves (codes "b.po")) ran.same _ refl refl line.runs.argument_is line.runs.output_is line.runs.runs))
+    c.over_files.ensures

@@ -1,33 +1,13 @@
-use Rattle.known_runs.proofs.Prelude.{EndsInFile, IsMsgcatRun, List, ProgramFault, Result, RunView, [], all_messages, ap, bytes_of, codes, contents, failed, inl, option_map, reading_of, refl, string_bytes, texts_by_name, two_files, ℕ, ◌∙◌}
-use Rattle.known_runs.proofs.AllCommands.{arrives, held_at, holds_after, holds_before, holds_now, unstarted_ends}
+use Rattle.known_runs.proofs.Prelude.{EndsInFile, IsMsgcatRun, all_messages, codes, failed, inl, refl, two_files}
+use Rattle.known_runs.proofs.AllCommands.{ends_over, is_read}
 use Rattle.known_runs.proofs.Merges.{line_ends}
 use Rattle.known_runs.proofs.commands.msgcat_in_memory.Goals as goal
 
-pub returns-in-Err : goal.returns-in-Err
-returns-in-Err c =
-    let is = c.unstarted.ensures in
-    unstarted_ends (EndsInFile (IsMsgcatRun (two_files c.args.a.now c.args.b.now) all_messages) (codes "c.po")
-    (option_map (λ b. b.items) c.args.held)) c.unstarted.result c.args.held is.result is.file is.out is.err
-    (failed (inl refl))
-
 pub returns : goal.returns
 returns c =
-    let path = string_bytes c.in-Ok.path in
-    let reached = c.run_in_memory-reached.result.1 in
-    let held = held_at (λ b. b.items) path c.args.held in
-    let old = contents [] held [] [] in
-    let new = holds_now reached in
-    let before = holds_before c.holding-held.result [] held c.holding-held.ensures in
-    let after = holds_after reached in
-    let line = c.run_in_memory-reached.ensures.runs in
-    let source = c.new-source.result in
-    let is = λ (name : List ℕ). ap (λ f. reading_of (bytes_of (texts_by_name f) name)) c.new-source.ensures.files in
-    let leaves = λ (run : RunView) (result : Result ℕ ProgramFault). c.run_leaves_all_or_nothing.ensures run
-    (codes "c.po") _ _ old new result before after in
-    let same = c.same_system_holds_the_same.ensures _ _ old new before after in
-    arrives (λ b. b.items) (EndsInFile (IsMsgcatRun (two_files c.args.a.now c.args.b.now) all_messages) (codes "c.po"))
-    path (codes "c.po") c.args.held reached c.run_in_memory-reached.result.0 _
-    c.in-Ok.ensures.ok c.into_bytes.ensures
-    (line_ends c.args.a.now c.args.b.now old new refl refl refl _ (λ reading read. read ∙ is (codes "a.po"))
-    (λ reading read. read ∙ is (codes "b.po")) leaves same _ refl line.options_are line.arguments_are line.output_is
-    line.runs)
+    ends_over (EndsInFile (IsMsgcatRun (two_files c.args.a.now c.args.b.now) all_messages) (codes "c.po"))
+    (failed (inl refl)) (λ new result ran. let line = ran.runs in
+    let read = is_read ran.source ran.files_are in
+    line_ends c.args.a.now c.args.b.now _ new refl refl refl _ (read (codes "a.po")) (read (codes "b.po"))
+    (ran.leaves (codes "c.po")) ran.same _ refl line.options_are line.arguments_are line.output_is line.runs)
+    c.over_files.ensures

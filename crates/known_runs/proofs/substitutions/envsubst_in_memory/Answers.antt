@@ -1,4 +1,4 @@
-use Rattle.known_runs.proofs.Prelude.{ap, entry_texts, map, option_copied, text_of, ◌∙◌}
+use Rattle.known_runs.proofs.Prelude.{entry_texts, option_copied, text_of}
 use Rattle.known_runs.proofs.Replacing.{envsubst_ends}
 use Rattle.known_runs.proofs.substitutions.envsubst_in_memory.Goals as goal
 
@@ -6,6 +6,5 @@ pub returns : goal.returns
 returns c =
     let ran = c.run_in_memory-reached.ensures in
     envsubst_ends (option_copied c.args.format) (entry_texts c.args.entries.now) c.args.text.now ran.left _ _
-    (text_of c.words_of-words.result) _
-    (ap (λ o. map (λ t. t.now) o) c.words_of-words.ensures.operands ∙ c.as_operands-operands.ensures) _ _ _ _ _
-    ran.calls ran.failures _ _ ran.runs c.status_or_input_fault.ensures
+    (text_of c.words_of-words.result) _ c.words_of-words.ensures _ _ _ _ _ ran.calls ran.failures _ _ ran.runs
+    c.status_or_input_fault.ensures
