@@ -15,15 +15,14 @@ pub use Rattle.mo_file.specs.Prelude.{Lacks}
 pub use Rattle.runs.specs.Prelude.{Asked, NamedFile, Reading, RunView, Stays, fault_line, mo_text, named_file, named_files}
 pub use Rattle.std.proofs.Common.{All, Bool, List, None, Option, Some, [], ap, append-nil, append_assoc, ap₂, arith, cond, drop, drop_of_length-le, eqb, false, filter, get_or, inl, inr, is_none, length, ltb, map, min, not, refl, rules, subst, suc, sym, take, true, unwrap_or, zero, ℕ, ◌%◌, ◌&&◌, ◌*◌, ◌++◌, ◌+◌, ◌-◌, ◌<◌, ◌==◌, ◌^◌, ◌||◌, ◌∙◌, ◌∷◌, ◌≡◌, ◌≤◌, ◌⊎◌}
 pub use Rattle.std.proofs.Math.Bool.{or-false, or-true}
-pub use Rattle.std.proofs.lemmas.Bool.{and_from, and_parts, both_ways, cases_Bool, cond-false, cond-true, cond_both, eq-eqb, eqb-false, eqb-true, false_from_ne_true, false≢true, le-leb, le-ltb, leb-true, lt-ltb, ltb-false, ltb-true, ne_eqb, not-false, not-true}
+pub use Rattle.std.proofs.lemmas.Bool.{and_from, and_parts, both_ways, cases_Bool, cond-false, cond-true, cond_both, eq-eqb, eqb-false, eqb-true, false_from_ne_true, false≢true, le-leb, leb-true, lt-ltb, ltb-false, ltb-true, ne_eqb, not-false, not-true}
 pub use Rattle.std.proofs.lemmas.Bool.Decides.{Decides-and, Decides-by_and, Decides-eqb, Decides-not, Decides-or, not_from_Decides}
-pub use Rattle.std.proofs.lemmas.Int.Digits.{digits_value_more}
 pub use Rattle.std.proofs.lemmas.List.{drop_all, drop_more, length-map, map-append, take-append-drop, take-map, take_all, take_min, take_more, take_rest}
 pub use Rattle.std.proofs.lemmas.List.Elements.{All-cons, All-head, All-nil, All-tail, All-weaker}
-pub use Rattle.std.proofs.lemmas.List.Folds.{Any-from_list_any, list_all_at, list_all_more, list_any-append, list_any-from_Any}
+pub use Rattle.std.proofs.lemmas.List.Folds.{Any-from_list_any, list_any-append, list_any-from_Any}
 pub use Rattle.std.proofs.lemmas.List.Sums.{prefix_len_is, take_while-cons}
 pub use Rattle.std.proofs.lemmas.Slice.Eq.{bytes_eq-Decides}
-pub use Rattle.std.proofs.lemmas.Str.Parse.{digit_from_value, digits_value-take-le}
+pub use Rattle.std.proofs.lemmas.Str.Parse.{digit_from_value}
 pub use Rattle.std.specs.BTreeMap.{is_at}
 pub use Rattle.std.specs.Bool.{Decides}
 pub use Rattle.std.specs.Borrow.{Bor}
@@ -31,7 +30,7 @@ pub use Rattle.std.specs.Char.{digit_value, is_digit}
 pub use Rattle.std.specs.Cmp.Lexicographic.{slice_cmp, texts_ties}
 pub use Rattle.std.specs.Global.{Vec}
 pub use Rattle.std.specs.List.{filter_map, flat_map, fold, join_with_byte, list_any, onto_first, position_or_len, prefix_len, slice_split}
-pub use Rattle.std.specs.Option.{SomeIff, option_copied, option_map, option_or}
+pub use Rattle.std.specs.Option.{option_copied, option_map, option_or}
 pub use Rattle.std.specs.Ordering.{nat_cmp}
 pub use Rattle.std.specs.Prelude.{Contains, codes, take_while, ◌↔◌}
 pub use Rattle.std.specs.Str.{bytes_eq}

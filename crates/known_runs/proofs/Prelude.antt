@@ -4,7 +4,7 @@ pub use Rattle.known_runs.specs.Ends.{failed}
 pub use Rattle.known_runs.specs.Internal.{AsksFor, EndsOverFiles, RunsOverFiles, a_form, a_message, started, unstarted}
 pub use Rattle.known_runs.specs.LookUps.{answered}
 pub use Rattle.known_runs.specs.Msgfmt.{compiled, elsewhere, empty, led, refused}
-pub use Rattle.known_runs.specs.Prelude.{End, EndsInFile, EndsLookUp, EndsMsgfmt, EndsSubstituted, EndsThroughLinks, HasStatus, IsCompiledFrom, IsStatusOrInputFault, OneEnd, RunsInMemory, all_as_they_are, all_messages, answers_in, counted, end, end_of, hello_mo, line_in, message, operands_of, plain, status_or_memory, system_after, system_before, text_of, two_files, values_by}
+pub use Rattle.known_runs.specs.Prelude.{End, EndsInFile, EndsLookUp, EndsMsgfmt, EndsSubstituted, EndsThroughLinks, HasStatus, IsCompiledFrom, IsStatusOrInputFault, OneEnd, RunsInMemory, all_as_they_are, all_messages, answers_in, counted, end, hello_mo, line_in, message, operands_of, plain, status_or_memory, system_after, system_before, text_of, two_files, values_by}
 pub use Rattle.known_runs.specs.Substitutions.{cut, substituted}
 pub use Rattle.known_system.specs.Contents.{filed, follows, left, printed, there}
 pub use Rattle.known_system.specs.Prelude.{Contents, Holds, IsFileFault, Leads, Leaves, Links, Place, bytes_at, bytes_of, contents, entry_texts, folder, is_free, links_by_path, nothing, reading_of, replay, stored, texts_by_name}
@@ -24,7 +24,7 @@ pub use Rattle.runs.specs.Prelude.{AreInputs, Asked, Asking, FileLog, IsTextOr, 
 pub use Rattle.runs.specs.ToolRuns.{has_none, no_memory_to_plan, no_memory_to_read, runs}
 pub use Rattle.runs.specs.declared.program_fault.ProgramFault.{ProgramFault}
 pub use Rattle.runs.specs.declared.program_fault.ProgramFault.TheVariants.{OutOfMemory}
-pub use Rattle.std.proofs.Common.{Bool, Err, IfSome, List, None, Ok, Option, Result, Some, [], ap, append-nil, arith, codes, false, if◌then◌else◌, inl, inr, is_some, length, map, nat_lt, not, option_map, refl, slice_index, subst, suc, sym, take, true, zero, ℕ, ◌&&◌, ◌++◌, ◌+◌, ◌-◌, ◌<◌, ◌^◌, ◌∙◌, ◌∷◌, ◌≡◌, ◌≢◌, ◌⊎◌}
+pub use Rattle.std.proofs.Common.{Bool, Err, IfSome, List, None, Ok, Option, Result, Some, [], ap, append-nil, arith, codes, false, if◌then◌else◌, inl, inr, is_some, length, nat_lt, not, option_map, refl, slice_index, subst, suc, sym, take, true, zero, ℕ, ◌&&◌, ◌++◌, ◌+◌, ◌-◌, ◌<◌, ◌^◌, ◌∙◌, ◌∷◌, ◌≡◌, ◌≢◌, ◌⊎◌}
 pub use Rattle.std.proofs.lemmas.Bool.{and_parts, false≢true, ltb-false, ltb-true}
 pub use Rattle.std.specs.Option.{option_copied, option_map_or, option_to_list, unwrap_or}
 pub use Rattle.std.specs.String.{string_bytes}

@@ -58,11 +58,6 @@ module _ {before after : SystemView} {old new : Contents} (was : Holds before ol
   all_same : new.links ≡ old.links → new.held ≡ old.held → new.out ≡ old.out → new.err ≡ old.err → new ≡ old
   all_same l h o e = alike l h o e
 
-  pub unchanged : after ≡ before → new ≡ old
-  unchanged same = all_same (same_links (ap (λ (v : SystemView). v.files) same))
-      (same_files (ap (λ (v : SystemView). v.files) same))
-      (same_out (ap (λ (v : SystemView). v.out) same)) (same_err (ap (λ (v : SystemView). v.err) same))
-
   quiet_out : after.out.failures ≡ 0
   quiet_out = ap (λ (v : WriterView). v.failures) is.out_is
 

@@ -1,5 +1,5 @@
 -- What stands before the first byte of a kind, and after it.
-use Rattle.mo_file.proofs.Prelude.{All, Bool, IfSome, IsCut, Lacks, List, MatchOption, None, Option, Some, [], after_first, ap, append_assoc, arith, before_first, cond, context_of, drop, drop_at, false, false_from_ne_true, forms, get_or, get_or_append_left, get_or_at, id_of, is_eot, length, length-append, list_any, plural_of, position_or_len, position_or_len_is, refl, slice_split, sym, take, take_all, true, ℕ, ◌++◌, ◌+◌, ◌<◌, ◌==◌, ◌∙◌, ◌∷◌, ◌≡◌, ◌≢◌}
+use Rattle.mo_file.proofs.Prelude.{All, Bool, IsCut, Lacks, List, MatchOption, None, Option, Some, [], after_first, ap, append_assoc, arith, before_first, cond, context_of, drop, drop_at, false, false_from_ne_true, forms, get_or, get_or_append_left, get_or_at, id_of, is_eot, length, length-append, list_any, plural_of, position_or_len, position_or_len_is, refl, slice_split, sym, take, take_all, true, ℕ, ◌++◌, ◌+◌, ◌<◌, ◌==◌, ◌∙◌, ◌∷◌, ◌≡◌, ◌≢◌}
 use Rattle.std.proofs.Common.{slice_get}
 use Rattle.std.specs.Borrow.{Bor}
 use Rattle.std.proofs.Math.Seq.{take-append_seam}
@@ -108,8 +108,3 @@ pub form_split : (text : List ℕ) (result : Option (Bor (List ℕ) × Bor (List
     → MatchOption result (forms text ≡ text ∷ []) (λ parts. forms text ≡ parts.0.now ∷ forms parts.1.now)
 form_split text None lacks = split_none 0 text lacks
 form_split text (Some parts) is = ap forms is.0 ∙ split_cut 0 parts.0.now parts.1.now is.1
-
-pub rest_shorter : (text : List ℕ) (result : Option (Bor (List ℕ) × Bor (List ℕ))) → IsCut 0 text result
-    → IfSome result (λ parts. length parts.1.now < length text)
-rest_shorter text None lacks = tt
-rest_shorter text (Some parts) is = omega (arith, ap length is.0, length-append parts.0.now (0 ∷ parts.1.now))

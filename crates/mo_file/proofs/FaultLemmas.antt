@@ -1,5 +1,5 @@
 -- Faults: one byte order is shown, and which fault comes first.
-use Rattle.mo_file.proofs.Prelude.{AreRisingBelow, BadMagic, BadRevision, Big, FileHeader, HasFault, HasFaultIn, HasMagicOf, HasStrings, IsBefore, IsChecked, IsFirstFault, IsHeader, IsMoFile, IsNotRising, List, Little, MatchOption, Message, MoError, NoTerminator, None, NotSorted, Option, Order, Some, StringOutside, TableOutside, TooShort, ap, arith, cases_lt, inl, inr, length, message_count, originals_table, refl, revision, subst, sym, translations_table, unwrap_or, ℕ, ◌*◌, ◌+◌, ◌<◌, ◌∙◌, ◌≡◌, ◌≤◌, ◌⊎◌}
+use Rattle.mo_file.proofs.Prelude.{AreRisingBelow, BadMagic, BadRevision, Big, FileHeader, HasFault, HasFaultIn, HasMagicOf, HasStrings, IsChecked, IsFirstFault, IsHeader, IsMoFile, IsNotRising, List, Little, MatchOption, Message, MoError, NoTerminator, None, NotSorted, Option, Order, Some, StringOutside, TableOutside, TooShort, ap, arith, cases_lt, inl, inr, message_count, originals_table, refl, subst, sym, translations_table, unwrap_or, ℕ, ◌+◌, ◌<◌, ◌∙◌, ◌≡◌, ◌≤◌}
 
 pub not_below : (a b : ℕ) → ¬ (a < b) → b ≤ a
 not_below a b not = elim (cases_lt a b) [ inl below ↦ absurd (not below) | inr at ↦ omega (arith, at) ]
@@ -108,26 +108,3 @@ of-valid header bytes (Some o) shows same count originals translations order mes
       checked header bytes messages
           (subst (λ o. IsMoFile o bytes messages) (sym is) valid) count originals translations,
     )
-
--- a fault of the third kind or of a later one, whatever message it names, isn't before BadRevision
-not_before : (n place : ℕ) → 3 ≤ n → ((n < 3) ⊎ ((n ≡ 3) × (place < 0))) → ⊥
-not_before n place above (inl less) = omega (arith, less, above)
-not_before n place above (inr same) = omega (arith, same.1)
-
--- only the length and the magic number are asked for before the revision
-before_revision : (order : Order) (bytes : List ℕ) → 28 ≤ length bytes → HasMagicOf order bytes → (f : MoError) →
-    IsBefore f BadRevision → ¬ HasFault bytes f
-before_revision order bytes long shows TooShort before has = omega (arith, long, has)
-before_revision order bytes long shows BadMagic before has = has order shows
-before_revision order bytes long shows BadRevision before has = not_before 3 0 (omega arith) before
-before_revision order bytes long shows TableOutside before has = not_before 4 0 (omega arith) before
-before_revision order bytes long shows (StringOutside i) before has = not_before 5 i (omega arith) before
-before_revision order bytes long shows (NoTerminator i) before has = not_before 6 i (omega arith) before
-before_revision order bytes long shows (NotSorted i) before has = not_before 7 i (omega arith) before
-
-pub other_revision : (order : Order) (bytes : List ℕ) (major minor : ℕ) → 28 ≤ length bytes → HasMagicOf order bytes →
-    revision order bytes ≡ 65536 * major + minor → minor < 65536 → 2 ≤ major → IsFirstFault bytes BadRevision
-other_revision order bytes major minor long shows is below above = record {
-  holds = (order, shows, omega (arith, is, below, above));
-  first = before_revision order bytes long shows;
-}

@@ -1,5 +1,5 @@
--- Every byte string is a valid file or has a first fault, and one first fault at most.
-use Rattle.mo_file.proofs.Prelude.{BadMagic, BadRevision, Big, Equal, Greater, HasFault, HasFaultIn, HasMagicOf, IsFirstFault, IsMoFile, IsNotRising, IsOutside, IsUnterminated, Less, List, Little, Message, MoError, NoTerminator, None, NotSorted, Option, Order, Ordering, Some, StringOutside, TableOutside, TooShort, [], ap, arith, cases_lt, cases_order, cond, end_at, index, inl, inr, key_cmp, key_of, kind, length, magic, message_count, messages_of, original_at, originals_table, refl, revision, subst, suc, sym, take, translations_table, zero, ℕ, ⊎_elim, ◌*◌, ◌+◌, ◌-◌, ◌/◌, ◌<◌, ◌==◌, ◌∙◌, ◌∷◌, ◌≡◌, ◌≢◌, ◌⊎◌}
+-- Every byte string is a valid file or has a first fault.
+use Rattle.mo_file.proofs.Prelude.{BadMagic, BadRevision, Big, Equal, Greater, HasFault, HasFaultIn, HasMagicOf, IsFirstFault, IsMoFile, IsNotRising, IsOutside, IsUnterminated, Less, List, Little, Message, MoError, NoTerminator, None, NotSorted, Option, Order, Ordering, Some, StringOutside, TableOutside, TooShort, [], ap, arith, cases_lt, cond, end_at, index, inl, inr, key_cmp, key_of, kind, length, magic, message_count, messages_of, original_at, originals_table, refl, revision, subst, suc, sym, take, translations_table, zero, ℕ, ⊎_elim, ◌*◌, ◌+◌, ◌-◌, ◌/◌, ◌<◌, ◌==◌, ◌∙◌, ◌∷◌, ◌≡◌, ◌≢◌, ◌⊎◌}
 use Rattle.std.proofs.Common.{slice_get}
 use Rattle.mo_file.proofs.FaultLemmas.{HasFaultIn-shown}
 
@@ -233,17 +233,4 @@ pub mo_file_or_fault : (bytes : List ℕ) → MoFileOrFaultOf bytes
 mo_file_or_fault bytes = elim (below_settled (length bytes) 28) [
   | inl short ↦ inr (TooShort, is_first bytes TooShort (clear_one bytes) (λ j less has. absurd (omega arith)) short)
   | inr long ↦ magical bytes (clear_more bytes 1 (clear_one bytes) (λ i has. long has))
-]
-
-pub one_first_fault : (bytes : List ℕ) (fault fault' : MoError) → IsFirstFault bytes fault → IsFirstFault bytes fault'
-    → fault ≡ fault'
-one_first_fault bytes f f' is is' = elim (cases_order (kind f) (kind f')) [
-  | inr (inl less) ↦ absurd (is'.first f (inl less) is.holds)
-  | inr (inr more) ↦ absurd (is.first f' (inl more) is'.holds)
-  | inl kinds ↦ elim (cases_order (index f) (index f')) [
-    | inr (inl less) ↦ absurd (is'.first f (inr (kinds, less)) is.holds)
-    | inr (inr more) ↦ absurd (is.first f' (inr (sym kinds, more)) is'.holds)
-    | inl offsets ↦ sym (named f) ∙ ap (λ k. fault_of k (index f)) kinds ∙ ap (λ i. fault_of (kind f') i) offsets
-        ∙ named f'
-  ]
 ]

@@ -1,5 +1,5 @@
 -- The first catalogue of a chain that translates a query.
-use Rattle.mo_lookup.proofs.Prelude.{AnswerView, Bool, CatalogView, ChainAsksAll, ChainAsksNone, ChainAsksUpToFirst, List, Message, None, NoneHas, Option, Query, Some, [], answer, answered, answering_nodes, ap, arith, asked, can_be_key, cases_Bool, chain_answered, chain_bound, chain_comparisons, drop, drop_all, find, find_at, forms_found, get_or, inl, inr, is_some, length, length-append, min, option_map_or, position_or_len, refl, slice_get, slice_get-get_or, slice_get_past, suc, sym, take, translated, translates, true, untranslated, ℕ, ◌*◌, ◌++◌, ◌+◌, ◌<◌, ◌∙◌, ◌∷◌, ◌≡◌, ◌≤◌}
+use Rattle.mo_lookup.proofs.Prelude.{AnswerView, Bool, CatalogView, ChainAsksAll, ChainAsksUpToFirst, List, Message, None, NoneHas, Option, Query, Some, [], answer, answered, answering_nodes, ap, arith, asked, can_be_key, cases_Bool, chain_answered, chain_bound, chain_comparisons, drop, drop_all, find, find_at, forms_found, get_or, inl, inr, is_some, length, length-append, min, option_map_or, position_or_len, refl, slice_get, slice_get-get_or, slice_get_past, suc, sym, take, translated, translates, true, untranslated, ℕ, ◌*◌, ◌++◌, ◌+◌, ◌<◌, ◌∙◌, ◌∷◌, ◌≡◌, ◌≤◌}
 use Rattle.std.proofs.Common.{if◌then◌else◌}
 use Rattle.std.proofs.Math.Seq.{drop-cons}
 use Rattle.plural_rule.specs.Prelude.{nodes, RuleView}
@@ -119,11 +119,4 @@ asks-all chain query key none =
       asked-where chain query key ∙ omega (arith, all.1),
       ap (λ found. option_map_or (λ catalog. answered catalog query) found (untranslated query)) all.0,
       ap (λ found. option_map_or (λ catalog. nodes catalog.rule.tree) found 0) all.0,
-    )
-
-pub asks-none : ChainAsksNone
-asks-none chain query cannot =
-    let all = none-of chain query (λ i catalog is. rw cannot refl) in (
-      rw cannot refl,
-      ap (λ found. option_map_or (λ catalog. answered catalog query) found (untranslated query)) all.0,
     )

@@ -1,5 +1,5 @@
 -- The forms of a translation, by its NULs.
-use Rattle.mo_lookup.proofs.Prelude.{All-from_get_or, IsFormAt, List, None, NoneBefore, Nowhere, Option, Passes, Some, [], ap, arith, cases_eq, drop, drop-drop, false, false_from_ne_true, form_at, forms, get_or, get_or-drop, get_or_from_slice_get, inl, inr, is_byte, is_nul, le-ltb, length, length-drop, lt-ltb, min, ne_eqb, position_or_len, position_or_len_is, refl, selected_form, slice_get, slice_get-get_or, slice_get_within, suc, sym, take, take_rest, true, zero, ℕ, ◌+◌, ◌-◌, ◌<◌, ◌==◌, ◌∙◌, ◌∷◌, ◌≡◌, ◌≤◌, ◌⊎◌}
+use Rattle.mo_lookup.proofs.Prelude.{All-from_get_or, IsFormAt, List, None, NoneBefore, Nowhere, Passes, Some, [], ap, arith, cases_eq, drop, drop-drop, false, false_from_ne_true, form_at, forms, get_or, get_or-drop, inl, inr, is_byte, is_nul, length, length-drop, ne_eqb, position_or_len, position_or_len_is, refl, slice_get, slice_get-get_or, suc, sym, take, take_rest, true, zero, ℕ, ◌+◌, ◌-◌, ◌<◌, ◌==◌, ◌∙◌, ◌∷◌, ◌≡◌, ◌≤◌}
 use Rattle.std.specs.List.{slice_range}
 use Rattle.std.proofs.lemmas.List.Splits.{slice_split_first, slice_split_none, length-slice_split}
 
@@ -94,33 +94,3 @@ pub get_or-none : (fs : List (List ℕ)) (index : ℕ) (d : List ℕ) → slice_
 get_or-none [] index d none = refl
 get_or-none (f ∷ fs) zero d none = absurd cc
 get_or-none (f ∷ fs) (suc index) d none = get_or-none fs index d none
-
-none-past : (fs : List (List ℕ)) (index : ℕ) → slice_get fs index ≡ None → length fs ≤ index
-none-past [] index none = omega arith
-none-past (f ∷ fs) zero none = absurd cc
-none-past (f ∷ fs) (suc index) none = omega (arith, none-past fs index none)
-
-pub first-there : (fs : List (List ℕ)) (form : List ℕ) → slice_get fs 0 ≡ Some form → form_at fs 0 ≡ form
-first-there fs form there = get_or_from_slice_get fs 0 form [] there
-
-pub selected-there : (fs : List (List ℕ)) (nplurals index : ℕ) (form : List ℕ) → index < nplurals
-    → slice_get fs index ≡ Some form → selected_form fs nplurals (Some index) ≡ form
-selected-there fs nplurals index form counted there =
-    let inside = slice_get_within fs index form there in
-    rw (lt-ltb index (min nplurals (length fs)) (omega (arith, counted, inside)))
-    (get_or_from_slice_get fs index form [] there)
-
-beyond : (fs : List (List ℕ)) (nplurals index : ℕ) (form : List ℕ) → min nplurals (length fs) ≤ index
-    → slice_get fs 0 ≡ Some form → selected_form fs nplurals (Some index) ≡ form
-beyond fs nplurals index form past there =
-    rw (le-ltb index (min nplurals (length fs)) past) (first-there fs form there)
-
-pub selected-first : (fs : List (List ℕ)) (nplurals : ℕ) (v : Option ℕ) (form : List ℕ)
-    → ((index : ℕ) → v ≡ Some index → (nplurals ≤ index) ⊎ (slice_get fs index ≡ None)) → slice_get fs 0 ≡ Some form
-    → selected_form fs nplurals v ≡ form
-selected-first fs nplurals None form past there = first-there fs form there
-selected-first fs nplurals (Some index) form past there =
-    elim (past index refl) [
-      | inl more ↦ beyond fs nplurals index form (omega (arith, more)) there
-      | inr none ↦ beyond fs nplurals index form (omega (arith, none-past fs index none)) there
-    ]

@@ -1,5 +1,5 @@
 -- The parts of a merged entry, and which messages are kept.
-use Rattle.msgcat.proofs.Prelude.{All-contains, All-head, All-tail, All-weaker, AreLiveOf, Bool, CommentKind, DefinedByLive, EndsForm, FaultIsOfNoLine, FormsAreJoined, IsJoinedForm, JoinedIsFuzzy, KeptByCount, List, MergeOptions, NamedEntry, None, ObsoleteWhereNoneIsLive, Option, PluralOfFirst, PoError, PreviousOfFirst, Some, TextEntry, TextPrevious, TextsInOrder, TextsOfAll, Translator, [], any_passing, ap, append_assoc, ap₂, arith, collected, comment_of, cond, cond_both, ended, ends_with, false, filter, filter_agree, find, find-append, first_of, first_with, fold, fold_push, form_count, get_or, get_or-map-range_with_len, has_plural, has_previous, has_text, if◌then◌else◌, inl, inr, is_below, is_live, is_some, joined_form, length, list_any, list_any-append, list_any_none, live, marked, merged_entry, nat_eq, nat_tests, no_more, no_previous, not, not-false, obsolete, of_nothing, option_map_or, or-false, or_assoc, refl, slice_get, subst, sym, texts_of, translations, true, with_feed, with_form, with_others, without_feed, without_form, ℕ, ◌&&◌, ◌++◌, ◌<◌, ◌||◌, ◌↔◌, ◌∙◌, ◌∷◌, ◌≡◌, ◌≢◌}
+use Rattle.msgcat.proofs.Prelude.{All-contains, All-head, All-tail, All-weaker, AreLiveOf, Bool, CommentKind, DefinedByLive, EndsForm, FaultIsOfNoLine, FormsAreJoined, IsJoinedForm, JoinedIsFuzzy, List, MergeOptions, NamedEntry, None, ObsoleteWhereNoneIsLive, Option, PluralOfFirst, PoError, PreviousOfFirst, Some, TextEntry, TextPrevious, TextsInOrder, TextsOfAll, Translator, [], any_passing, ap, append_assoc, ap₂, arith, collected, comment_of, cond, cond_both, ended, ends_with, false, filter, filter_agree, find, find-append, first_of, first_with, fold, fold_push, form_count, get_or, get_or-map-range_with_len, has_plural, has_previous, has_text, if◌then◌else◌, inl, inr, is_live, is_some, joined_form, length, list_any, list_any-append, list_any_none, live, marked, merged_entry, nat_eq, nat_tests, no_more, no_previous, not, not-false, obsolete, of_nothing, option_map_or, or-false, or_assoc, refl, slice_get, subst, sym, texts_of, translations, true, with_feed, with_form, with_others, without_feed, without_form, ℕ, ◌&&◌, ◌++◌, ◌<◌, ◌||◌, ◌∙◌, ◌∷◌, ◌≡◌, ◌≢◌}
 use Rattle.std.proofs.Common.{bytes_eq, All}
 use Rattle.std.proofs.lemmas.List.Prefix.{end_rest}
 use Rattle.msgcat.specs.Laws.{no_entry}
@@ -155,22 +155,6 @@ obsolete_where_none_is_live o group some = found (list_any (λ e. is_live e.entr
   found true e = live_first group e
   found false e = first_keeps (λ e. e.obsolete ≡ true) group some (All-weaker (λ e. is_live e.entry ≡ false)
       (λ e. e.entry.obsolete ≡ true) (λ e. not-false e.entry.obsolete) group (none_all (λ e. is_live e.entry) group e))
-
-below_limit : (given : Option ℕ) (count : ℕ)
-    → (is_below given count ≡ true) ↔ ((limit : ℕ) → given ≡ Some limit → count < limit)
-below_limit None count = (λ h limit is. cc, λ h. refl)
-below_limit (Some n) count = (λ h limit is. grind (arith, nat_tests), λ h. grind (arith, nat_tests, h n))
-
-pub kept_by_count : (o : MergeOptions) (ds : List NamedEntry) → KeptByCount o ds
-kept_by_count o ds none =
-    let limit = below_limit o.less_than (length ds) in (
-      λ kept. record {
-        more_than = grind (arith, nat_tests);
-        less_than = limit.0 (grind (arith, nat_tests));
-        unique = grind (arith, nat_tests);
-      },
-      λ asked. grind (arith, nat_tests, limit.1 asked.less_than),
-    )
 
 pub fault_is_of_no_line : (entries : List TextEntry) (error : PoError) → FaultIsOfNoLine entries error
 fault_is_of_no_line entries error (inl memory) = ap (λ (e : PoError). e.line) memory

@@ -1,5 +1,5 @@
 -- The groups of valid entries, and what is merged of them.
-use Rattle.msgcat.proofs.Prelude.{All, All-filter, All-head, All-left, All-map, All-right, Bool, ForeignCharset, HasAdmittedCharset, IsDefinition, IsGroup, IsMergeFault, List, MergeOptions, NamedEntry, PoError, TextEntry, [], any_first_ones, ap, ap₂, arith, cond, cond_both, definitions, definitions_by, false, false≢true, filter, filter-append, first_ones, get_or, groups, inl, inr, is_kept, is_live, length, list_any, list_any_at, map, map-append, merged_entry, merged_messages, refl, same_message, subst, suc, sym, take, take_more, true, zero, ℕ, ◌++◌, ◌+◌, ◌<◌, ◌||◌, ◌∙◌, ◌∷◌, ◌≡◌}
+use Rattle.msgcat.proofs.Prelude.{All, All-filter, All-head, All-left, All-map, All-right, Bool, ForeignCharset, HasAdmittedCharset, IsDefinition, IsGroup, IsMergeFault, List, MergeOptions, NamedEntry, PoError, TextEntry, [], any_first_ones, ap, ap₂, arith, cond, cond_both, definitions, definitions_by, false≢true, filter, filter-append, first_ones, get_or, groups, inl, inr, is_kept, is_live, length, list_any, list_any_at, map, map-append, merged_entry, merged_messages, refl, same_message, subst, suc, sym, take, take_more, true, zero, ℕ, ◌++◌, ◌+◌, ◌<◌, ◌||◌, ◌∙◌, ◌∷◌, ◌≡◌}
 use Rattle.msgcat.proofs.FirstOnes.{group_of}
 use Rattle.msgcat.proofs.Messages.{same_message_laws}
 
@@ -52,9 +52,6 @@ definitions_valid group h =
 pub kept_one : (o : MergeOptions) (ds : List NamedEntry) → is_kept o ds ≡ true
     → merged_messages o (ds ∷ []) ≡ merged_entry o ds ∷ []
 kept_one o ds some = ap (λ (b : Bool). map (merged_entry o) (cond b (ds ∷ []) [])) some
-
-pub dropped_one : (o : MergeOptions) (ds : List NamedEntry) → is_kept o ds ≡ false → merged_messages o (ds ∷ []) ≡ []
-dropped_one o ds none = ap (λ (b : Bool). map (merged_entry o) (cond b (ds ∷ []) [])) none
 
 pub messages_append : (o : MergeOptions) (xs ys : List (List NamedEntry))
     → merged_messages o (xs ++ ys) ≡ merged_messages o xs ++ merged_messages o ys

@@ -2,7 +2,7 @@
 use Rattle.msgcat.proofs.Prelude.{All, All-cons, All-filter, All-head, All-map, All-nil, All-tail, Bool, CanBeMerged, IsGroup, List, Named, NamedEntry, [], all_entries, ap, arith, by_number, cond_both, count_messages, definitions, entries_at, entry_message, entry_messages, false, first_ones, get_or, get_or-map, get_or-range_with_len, groups, if◌then◌else◌, indexes_by, is_live, length, length-map, length-range_with_len, map, map-map, message_numbers, messages, named_messages, no_entry, position_or_len, range_with_len, same_message, subst, sym, true, unnamed, with_number, ℕ, ◌<◌, ◌==◌, ◌∙◌, ◌∷◌, ◌≡◌}
 use Rattle.po_entry.specs.Prelude.{first_ones as firsts_of, same_message as one_message}
 use Rattle.msgcat.proofs.FirstOnes.{group_of}
-use Rattle.msgcat.proofs.GroupsMerged.{definitions_valid, groups_valid}
+use Rattle.msgcat.proofs.GroupsMerged.{groups_valid}
 use Rattle.msgcat.proofs.NumberedGroups.{by_number-mapped, groups_by_number}
 use Rattle.msgcat.proofs.ReadInputs.{all_at}
 
@@ -85,9 +85,6 @@ module _ (read : List Named) (i : ℕ) (group : List NamedEntry) (inside : i < l
   pub group_valid : All CanBeMerged (all_entries read) → IsGroup group
   group_valid can =
       subst IsGroup (sym is) (groups_valid (all_entries read) (λ k d less. (can k d less).valid) i [] within)
-
-  pub message_valid : All CanBeMerged (all_entries read) → IsGroup (definitions group)
-  message_valid can = definitions_valid group (group_valid can)
 
   pub message_can : All CanBeMerged (all_entries read) → All CanBeMerged (definitions group)
   message_can can =

@@ -1,17 +1,13 @@
 -- What one message is merged to, by its number.
-use Rattle.msgcat.proofs.Prelude.{All, CanBeMerged, List, MergeOptions, Named, NamedEntry, TextEntry, [], all_entries, ap, definitions, false, get_or, groups, is_kept, is_live, length, list_any, merged_entry, merged_messages, messages, named, not, subst, sym, true, ℕ, ◌<◌, ◌∙◌, ◌∷◌, ◌≡◌}
+use Rattle.msgcat.proofs.Prelude.{All, CanBeMerged, List, MergeOptions, Named, NamedEntry, TextEntry, [], all_entries, ap, definitions, get_or, groups, is_kept, is_live, length, list_any, merged_entry, merged_messages, messages, named, not, subst, sym, true, ℕ, ◌<◌, ◌∙◌, ◌∷◌, ◌≡◌}
 use Rattle.msgcat.proofs.EntryLaws.{obsolete_where_none_is_live}
-use Rattle.msgcat.proofs.GroupsMerged.{dropped_one, kept_one}
+use Rattle.msgcat.proofs.GroupsMerged.{kept_one}
 use Rattle.msgcat.proofs.HeldGroups.{group_valid, message_at, message_can}
 use Rattle.msgcat.proofs.OneDefinition.{one_definition}
 
 -- a message with one definition
 module _ (o : MergeOptions) (message : List NamedEntry) (name : List ℕ) (entry : TextEntry)
     (is : message ≡ named name entry ∷ []) where
-  pub only_dropped : is_kept o (named name entry ∷ []) ≡ false → [] ≡ merged_messages o (message ∷ [])
-  only_dropped none =
-      sym (ap (λ l. merged_messages o (l ∷ [])) is ∙ dropped_one o (named name entry ∷ []) none)
-
   pub only_kept : is_kept o (named name entry ∷ []) ≡ true → entry ∷ [] ≡ merged_messages o (message ∷ [])
   only_kept some =
       sym (ap (λ l. merged_messages o (l ∷ [])) is ∙ kept_one o (named name entry ∷ []) some

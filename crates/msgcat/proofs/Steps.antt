@@ -1,5 +1,5 @@
--- What one more text or definition adds.
-use Rattle.msgcat.proofs.Prelude.{Bool, List, NamedEntry, TextEntry, [], ap, append-nil, collected, cond, false, filter, filter-append, first_ones, fold_push, get_or, has_translation, if◌then◌else◌, length, list_any, map-append, named_entries, named_entry, same_forms, sym, take, take_more, translations, true, with_new, with_others, ℕ, ◌++◌, ◌+◌, ◌<◌, ◌∙◌, ◌∷◌, ◌≡◌}
+-- What one more definition adds.
+use Rattle.msgcat.proofs.Prelude.{Bool, List, NamedEntry, [], ap, append-nil, cond, false, filter, filter-append, first_ones, fold_push, get_or, has_translation, if◌then◌else◌, length, list_any, map-append, named_entries, named_entry, same_forms, sym, take, take_more, translations, true, with_new, ℕ, ◌++◌, ◌+◌, ◌<◌, ◌∙◌, ◌∷◌, ◌≡◌}
 use Rattle.msgcat.specs.declared.definition.NamedEntry.{NamedEntry as BorrowedEntry}
 
 pub named_more : (ds : List BorrowedEntry) (i : ℕ) (d : BorrowedEntry) → i < length ds → d ≡ get_or ds i d
@@ -7,15 +7,6 @@ pub named_more : (ds : List BorrowedEntry) (i : ℕ) (d : BorrowedEntry) → i <
 named_more ds i d below at =
     ap named_entries (take_more ds i d below ∙ ap (λ (x : BorrowedEntry). take i ds ++ x ∷ []) (sym at))
     ∙ map-append named_entry (take i ds) (d ∷ [])
-
-pub collected_more : (texts_of : TextEntry → List (List ℕ)) (ds : List BorrowedEntry) (i : ℕ) (d : BorrowedEntry)
-    → i < length ds → d ≡ get_or ds i d
-    → collected texts_of (named_entries (take (i + 1) ds))
-    ≡ with_others (collected texts_of (named_entries (take i ds))) (texts_of d.entry)
-collected_more texts_of ds i d below at =
-    ap (collected texts_of) (named_more ds i d below at)
-    ∙ fold_push (λ (done : List (List ℕ)) (x : NamedEntry). with_others done (texts_of x.entry)) []
-    (named_entries (take i ds)) (named_entry d)
 
 pub translations_more : (ds : List BorrowedEntry) (i : ℕ) (d : BorrowedEntry) (b c : Bool) → i < length ds
     → d ≡ get_or ds i d → has_translation d.entry ≡ b

@@ -1,5 +1,5 @@
 -- When translations are joined, and which definition's forms a merged entry has.
-use Rattle.msgcat.proofs.Prelude.{All, All-cons, All-contains, All-contains_itself, All-filter, All-head, All-nil, All-tail, All-weaker, Any-from_list_any, Bool, CommentKind, CommentsOfFirst, Contains, Decides, FormsOfFirst, HeadersAreKept, IsEquivalence, IsFirstTranslated, IsTranslated, IsUntranslated, JoinedAsLongest, JoinedWhereTheyDiffer, List, MergeOptions, NamedEntry, Option, TranslationsDiffer, [], any_first_ones, any_passing, ap, arith, bytes_eq-Decides, false, false_from_ne_true, false≢true, filter, filter_passes, first_form, first_translated, fold, form_count, get_or, has_translation, is_header, length, list_any, lists_equiv, max, merged_entry, nat_list_eq_equiv, nat_tests, none, not, on_equiv, option_map_or, or_parts, refl, same_forms, slice_eq-Decides, sym, texts_eq, translated, translations, true, ℕ, ◌<◌, ◌==◌, ◌∙◌, ◌∷◌, ◌≡◌, ◌≢◌, ◌≤◌}
+use Rattle.msgcat.proofs.Prelude.{All, All-cons, All-contains, All-contains_itself, All-filter, All-head, All-nil, All-tail, All-weaker, Any-from_list_any, Bool, CommentKind, CommentsOfFirst, Contains, Decides, FormsOfFirst, IsEquivalence, IsFirstTranslated, IsTranslated, IsUntranslated, JoinedAsLongest, JoinedWhereTheyDiffer, List, MergeOptions, NamedEntry, Option, TranslationsDiffer, [], any_first_ones, ap, arith, bytes_eq-Decides, false, false_from_ne_true, false≢true, filter, filter_passes, first_form, first_translated, fold, form_count, get_or, has_translation, length, list_any, lists_equiv, max, merged_entry, nat_list_eq_equiv, nat_tests, none, not, on_equiv, option_map_or, or_parts, refl, same_forms, slice_eq-Decides, sym, texts_eq, translated, translations, true, ℕ, ◌<◌, ◌==◌, ◌∙◌, ◌∷◌, ◌≡◌, ◌≢◌, ◌≤◌}
 use Rattle.std.proofs.lemmas.Map.Views.{any-filter_same, list_any-from_Contains}
 use Rattle.msgcat.proofs.EntryLaws.{find_none, first_is, texts_merged}
 use Rattle.msgcat.proofs.Valid.{count_joined, count_keeps, forms_joined, several}
@@ -137,8 +137,3 @@ pub comments_of_first : (o : MergeOptions) (kind : CommentKind) (ds : List Named
     → CommentsOfFirst o kind ds d
 comments_of_first o kind ds d on first =
     let same = first_translated_is first in texts_merged o kind ds ∙ rw (on, same) refl
-
-pub headers_are_kept : (o : MergeOptions) (ds : List NamedEntry) → HeadersAreKept o ds
-headers_are_kept o ds d among no_context no_id =
-    let some = All-contains (λ y. is_header y.entry ≡ true → list_any (λ x. is_header x.entry) ds ≡ true) ds d
-    (any_passing (λ x. is_header x.entry) ds) among (rw (no_context, no_id) refl) in rw some refl

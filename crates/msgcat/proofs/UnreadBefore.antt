@@ -1,5 +1,5 @@
 -- Refusals of the files before one whose name holds NUL.
-use Rattle.msgcat.proofs.Prelude.{All, All-head, All-tail, AreReadAs, Bor, CannotOpen, Err, HasNulName, IfErr, IfOk, IsFirstWithNul, IsUnread, IsUnreadBeforeNul, Lacks, List, NamedFile, Ok, OutOfMemory, ProgramFault, Result, RunView, [], ap, append_assoc, arith, drop, get_or, inl, inr, length, length-map, length-take-le, named_file, named_files, program_text, refl, run_view, subst, sym, take, ℕ, ◌++◌, ◌∙◌, ◌∷◌, ◌≡◌, ◌≢◌, ◌⊎◌}
+use Rattle.msgcat.proofs.Prelude.{All, All-head, All-tail, AreReadAs, Bor, CannotOpen, Err, HasNulName, IfErr, IfOk, IsFirstWithNul, IsUnread, IsUnreadBeforeNul, Lacks, List, NamedFile, Ok, OutOfMemory, ProgramFault, Result, RunView, [], ap, append_assoc, arith, drop, get_or, inl, inr, length, named_files, program_text, refl, run_view, subst, sym, take, ℕ, ◌++◌, ◌∙◌, ◌∷◌, ◌≡◌, ◌≢◌, ◌⊎◌}
 use Rattle.msgcat.specs.Inputs as merge
 use Rattle.runs.specs.declared.run.Run.{Run}
 use Rattle.msgcat.proofs.MsgcatLemmas.{Files}
@@ -75,15 +75,6 @@ module _ (files : List NamedFile) (texts asked shown : Files) (named : named_fil
 
   pub some_file : files ≢ []
   some_file none = omega (arith, first.inside, ap length none)
-
-  pub place_is : place ≡ length (take place shown)
-  place_is = sym (length-take-le place shown (omega (
-    arith,
-    first.inside,
-    ap length (sym named),
-    length-map texts named_file,
-    ap length shown_is,
-  )))
 
   pub names_before : All (λ file. Lacks 0 file.name) (named_files (take place shown))
   names_before = subst (All (λ file. Lacks 0 file.name)) (sym before_is) first.names

@@ -3,7 +3,7 @@ use Rattle.plural_rule.proofs.Prelude.{AllDigits, BeginsWithDouble, HasNoDouble,
 use Rattle.std.proofs.lemmas.List.Folds.{length-prefix_len}
 use Rattle.plural_rule.specs.declared.token.Token.TheVariants.{Number, Binary}
 use Rattle.plural_rule.proofs.Numerals.{digit_below_ten, below_ten_digit}
-use Rattle.plural_rule.proofs.Lexing.{one_prefix, first_byte, operator-facts, spelling-not_blank}
+use Rattle.plural_rule.proofs.Lexing.{one_prefix, first_byte, operator-facts}
 
 -- bytes that spell a token and begin with a digit are digits
 digits-only : (u : Token) (bytes : List ℕ) → is_ascii_digit (first_byte bytes) ≡ true → IsSpelling u bytes
@@ -131,10 +131,3 @@ single-token (a ∷ rest) t some d none s =
       longer : IsLongest (a ∷ []) rest
       longer u [] after e n h = n refl
       longer u (b ∷ more) after e n h = none-longer (a ∷ rest) after u a b more d none (ap (λ xs. a ∷ xs) e) h
-
-pub no-single : (text : List ℕ) → is_ascii_digit (get_or text 0 0) ≡ false → HasNoDouble text
-    → ((t : Token) → IsSpelling t (get_or text 0 0 ∷ []) → ⊥) → HasNoToken text
-no-single text d none single t [] rest e s longest = absurd (false≢true (sym (spelling-not_blank t [] s)))
-no-single text d none single t (a ∷ []) rest e s longest = absurd (single t (rw e s))
-no-single text d none single t (a ∷ b ∷ own) rest e s longest =
-    absurd (none-longer text rest t a b own (rw e at d) none e s)

@@ -3,7 +3,7 @@ pub use Rattle.po_entry.specs.Comments.{blank, first, flag, fuzzy, here, last, l
 pub use Rattle.po_entry.specs.Facts.EqualityLaws.{answer, entry_decide}
 pub use Rattle.po_entry.specs.Facts.FirstRepeats.{all_of_both, none_or_first_repeat, none_repeats, one_repeat, pairs_map, pairs_of_map, repeat_by, repeat_map}
 pub use Rattle.po_entry.specs.Header.{ascii, at_byte, at_end, named, no_name, template, unnamed, us_ascii, utf8, utf_8}
-pub use Rattle.po_entry.specs.Prelude.{Adds, AdmitsCharset, AllDiffer, AreLaid, AreNumbered, AreTexts, AreUpTo, CanLie, CommentText, CountsAddUp, DifferUpTo, EmptyAreUntranslated, EndsContext, EndsName, EndsReference, EntryTextFault, FaultNamesEarlier, FlaggedAreFuzzy, Grows, HasAdmittedCharset, HasNoDuplicate, HasTexts, HaveFuzzyFlag, HaveReferences, InputEntry, IsAdmittedName, IsAfterName, IsAround, IsCatalogueEntry, IsClean, IsDuplicateFault, IsEntry, IsFirstDuplicate, IsFirstRepeat, IsHeaderEntry, IsNumbered, IsSameMessage, IsWithoutBlanks, KeepsFlags, Lacks, LiesIn, ListsFlags, ListsReferences, Meets, Message, NamesAdmitted, NamesCharset, NamesEarlier, NamesFlag, OmitsLaterHeaders, PluralFollows, Repeats, RepeatsAt, RepeatsOnLines, SpellsEntries, SpellsHead, TextEntry, WritesCount, WritesFurther, WritesStatistics, after_charset, after_nul, all_listed_flags, are_placed, changed_at, charset_of, context_in, context_length, counted, cut_texts, digest_of, duplicate_fault, ends_name, entries_from, entries_in, entries_of, entries_of_inputs, entry_at, entry_bytes, entry_message, entry_messages, entry_of, entry_view, first_form, first_ones, flags_of, forms_in, forms_left, forms_of, further, further_texts, fuzzy_of, group_numbers, has_empty_first_form, has_header_before, has_no_head, has_translation, head_at, head_bytes, head_parts, in_input, is_counted, is_empty_list, is_fuzzy, is_fuzzy_flag, is_header, is_live, is_live_header, is_looked_at, is_not_empty, is_omitted, is_translated, is_untranslated, join_out_of_memory, joined_from, kept_entries, key_bytes, key_writes, keys_writes, length_bytes, listed_flags, listed_references, live_entries, live_messages, measured, moved, no_previous, number_in, optional_bytes, optional_in, own_at, own_bytes, part_at, place_of, plain_entry, plural_in, previous_in, previous_texts, quoted_texts, references_of, row_of, same_kind, same_message, set_fuzzy, set_obsolete, split_forms, stats_line, stats_of, text_before, text_length, texts, texts_after, texts_left, trimmed, with_flag, with_new, with_seen}
+pub use Rattle.po_entry.specs.Prelude.{Adds, AdmitsCharset, AllDiffer, AreLaid, AreNumbered, AreTexts, AreUpTo, CanLie, CommentText, CountsAddUp, DifferUpTo, EmptyAreUntranslated, EndsContext, EndsName, EndsReference, EntryTextFault, FaultNamesEarlier, FlaggedAreFuzzy, Grows, HasAdmittedCharset, HasNoDuplicate, HasTexts, HaveFuzzyFlag, HaveReferences, InputEntry, IsAdmittedName, IsAfterName, IsAround, IsCatalogueEntry, IsClean, IsDuplicateFault, IsEntry, IsFirstDuplicate, IsFirstRepeat, IsHeaderEntry, IsNumbered, IsSameMessage, IsWithoutBlanks, KeepsFlags, Lacks, LiesIn, ListsFlags, ListsReferences, Message, NamesAdmitted, NamesCharset, NamesEarlier, NamesFlag, OmitsLaterHeaders, PluralFollows, Repeats, RepeatsAt, RepeatsOnLines, SpellsEntries, SpellsHead, TextEntry, WritesCount, WritesFurther, WritesStatistics, after_charset, after_nul, all_listed_flags, are_placed, changed_at, charset_of, context_in, context_length, counted, cut_texts, digest_of, duplicate_fault, ends_name, entries_from, entries_in, entries_of, entries_of_inputs, entry_at, entry_bytes, entry_message, entry_messages, entry_of, entry_view, first_form, first_ones, flags_of, forms_in, forms_left, forms_of, further, further_texts, fuzzy_of, group_numbers, has_empty_first_form, has_header_before, has_no_head, has_translation, head_at, head_bytes, head_parts, in_input, is_counted, is_empty_list, is_fuzzy, is_fuzzy_flag, is_header, is_live, is_live_header, is_looked_at, is_not_empty, is_omitted, is_translated, is_untranslated, join_out_of_memory, joined_from, kept_entries, key_bytes, key_writes, keys_writes, length_bytes, listed_flags, listed_references, live_entries, live_messages, measured, moved, no_previous, number_in, optional_bytes, optional_in, own_at, own_bytes, part_at, place_of, plain_entry, plural_in, previous_in, previous_texts, quoted_texts, references_of, row_of, same_kind, same_message, set_fuzzy, set_obsolete, split_forms, stats_line, stats_of, text_before, text_length, texts, texts_after, texts_left, trimmed, with_flag, with_new, with_seen}
 unfoldable pub use Rattle.po_entry.specs.Prelude.{message_hash, texts_in}
 pub use Rattle.po_entry.specs.Validity.EntryTextFault.{forbidden, not_utf8}
 pub use Rattle.po_entry.specs.declared.duplicate.JoinError.{JoinError}
@@ -25,7 +25,7 @@ pub use Rattle.std.proofs.Math.Seq.{drop-append-add, drop-append_seam, drop-cons
 pub use Rattle.std.proofs.lemmas.Bool.{and_parts, both_ways, cases_Bool, cases_eq, cases_lt, cond-false, cond-true, cond_both, eq-eqb, eqb-false, eqb-true, false_from_ne_true, false≢true, le-ltb, lt-ltb, ltb-false, ltb-true, ne_eqb, not-false, not-true, or_cases, or_from, or_left, or_parts, or_right}
 pub use Rattle.std.proofs.lemmas.Grind.{common_steps, flat_map-append}
 pub use Rattle.std.proofs.lemmas.List.{append_cancel_left, drop-append-le, drop_at, drop_min, drop_more, get_or-map, get_or_at, get_or_default, length-map, map-append, nil_from_length, take-append-drop, take-append-le, take-take, take_all, take_at, take_min, take_more}
-pub use Rattle.std.proofs.lemmas.List.Elements.{All-append, All-cons, All-filter, All-get_or, All-head, All-map, All-more, All-nil, All-push, All-set, All-tail, All-weaker, Contains-append_left, Contains-push, Contains-push_cases, filter-append, filter_agree, filter_passes}
+pub use Rattle.std.proofs.lemmas.List.Elements.{All-append, All-cons, All-filter, All-head, All-map, All-nil, All-push, All-set, All-tail, All-weaker, Contains-append_left, Contains-push, Contains-push_cases, filter-append, filter_agree, filter_passes}
 pub use Rattle.std.proofs.lemmas.List.Folds.{list_any-append, list_any_at, position_or_len_push}
 pub use Rattle.std.proofs.lemmas.List.Kept.{AllPairs-filter, AllPairs-from_increasing}
 pub use Rattle.std.proofs.lemmas.List.Sorted.{IsNonDecreasingBy-from_sort, IsPermutation-sym, answers_always}

@@ -4,7 +4,7 @@ pub use Rattle.po_entry.proofs.RowLemmas.{entry_here, taken_here}
 pub use Rattle.po_entry.specs.Faults.{at, at_end, foreign, index, mixed, order}
 pub use Rattle.po_entry.specs.Faults.EntriesStop.{here, later}
 pub use Rattle.po_entry.specs.Faults.ItemsStop.{in_charset, in_items, in_texts}
-pub use Rattle.po_entry.specs.Prelude.{Adds, AreDistinct, AreInOrder, AreLaid, AreSome, CanLie, CharsetFault, CommentText, EntriesStop, EntryTextFault, HasAdmittedCharset, HasTexts, IsCatalogueEntry, IsEntry, IsFlag, IsOwn, IsReadFault, IsReference, IsTranslatorComment, IsViable, IsWrongIndex, ItemsFault, ItemsStop, Lacks, Misfit, PreviousText, ReadsItems, ReadsLeft, ReadsText, SpellsEntries, TextEntry, TextPrevious, after_nul, all_listed_flags, context_length, digest_of, entries_in, entry_at, flags_of, further_texts, head_bytes, is_fuzzy_flag, is_not_empty, key_bytes, last_line, listed_flags, listed_references, no_previous, own_bytes, quoted_texts, rank, references_of, row_of, same_kind, slice_texts, texts_of, trimmed, with_flag, with_head, with_obsolete, with_previous}
+pub use Rattle.po_entry.specs.Prelude.{Adds, AreDistinct, AreInOrder, AreLaid, AreSome, CanLie, CharsetFault, CommentText, EntriesStop, EntryTextFault, HasAdmittedCharset, HasTexts, IsCatalogueEntry, IsEntry, IsFlag, IsOwn, IsReadFault, IsReference, IsTranslatorComment, IsViable, IsWrongIndex, ItemsFault, ItemsStop, Lacks, Misfit, PreviousText, ReadsItems, ReadsLeft, ReadsText, SpellsEntries, TextEntry, TextPrevious, after_nul, all_listed_flags, context_length, digest_of, entries_in, entry_at, flags_of, further_texts, head_bytes, is_fuzzy_flag, is_not_empty, key_bytes, last_line, listed_flags, listed_references, no_previous, own_bytes, quoted_texts, rank, references_of, same_kind, slice_texts, texts_of, trimmed, with_flag, with_head, with_obsolete, with_previous}
 pub use Rattle.po_entry.specs.Spelling.{keyword_text, last, none, own_marks, previous_marks, with, without}
 pub use Rattle.po_entry.specs.declared.row.Row.{Row}
 pub use Rattle.po_reader.specs.Internal.Keeping.{AreDraftsOf, CanFollow, KeepsItems, PiecesRead, ReadsUpTo, SpellsOn, StopsStay}
@@ -28,7 +28,7 @@ pub use Rattle.po_syntax.specs.declared.item.CommentKind.TheVariants.{Extracted,
 pub use Rattle.po_syntax.specs.declared.item.Keyword.{Keyword}
 pub use Rattle.po_syntax.specs.declared.item.Keyword.TheVariants.{MsgCtxt, MsgId, MsgIdPlural, MsgStr, MsgStrAt}
 pub use Rattle.po_syntax.specs.declared.item.Marks.{Marks}
-pub use Rattle.std.proofs.Common.{Bool, IsUtf8, List, MatchOption, None, Option, Some, [], add-one, ap, append-nil, append_assoc, ap₂, arith, codes, drop, drop-cons, false, filter, fold, get_or, inl, inr, length, length-drop, map, nat_lt, refl, rules, subst, subst₂, suc, sym, take, tests, true, true≢false, zero, ℕ, ◌&&◌, ◌++◌, ◌+◌, ◌-◌, ◌<◌, ◌==◌, ◌||◌, ◌↔◌, ◌∙◌, ◌∷◌, ◌≡◌, ◌≢◌, ◌≤◌, ◌⊎◌}
+pub use Rattle.std.proofs.Common.{Bool, IsUtf8, List, None, Option, Some, [], add-one, ap, append-nil, append_assoc, ap₂, arith, codes, drop, drop-cons, false, filter, fold, get_or, inl, inr, length, length-drop, map, nat_lt, refl, rules, subst, subst₂, suc, sym, take, tests, true, true≢false, zero, ℕ, ◌&&◌, ◌++◌, ◌+◌, ◌-◌, ◌<◌, ◌==◌, ◌||◌, ◌↔◌, ◌∙◌, ◌∷◌, ◌≡◌, ◌≢◌, ◌≤◌, ◌⊎◌}
 pub use Rattle.std.proofs.lemmas.Bool.{and_parts, cases_Bool, eq-eqb, eqb-false, eqb-true, false≢true, le-ltb, lt-ltb, ltb-true, ne_eqb, not-false, not-true}
 pub use Rattle.std.proofs.lemmas.List.{drop_all, length-append, length-map, map_push, take_all}
 pub use Rattle.std.proofs.lemmas.List.Elements.{All-append, All-cons, All-filter, All-head, All-map, All-nil, All-push, All-tail, All-weaker, Contains-push_cases, filter_passes}
@@ -38,4 +38,4 @@ pub use Rattle.std.proofs.lemmas.Str.{IsCharBoundary-after_ascii, IsCharBoundary
 pub use Rattle.std.specs.Bool.{beq}
 pub use Rattle.std.specs.Cmp.{bool_eq_equiv, booleans_Decides}
 pub use Rattle.std.specs.List.{flat_map, list_any, prefix_len, slice_split}
-pub use Rattle.std.specs.Prelude.{All, Contains, Err, IfErr, IfOk, MatchResult, Ok, OnOk, Result, bytes_eq, if◌then◌else◌, option_to_list, reverse, slice_get}
+pub use Rattle.std.specs.Prelude.{All, Contains, Err, Ok, OnOk, Result, bytes_eq, if◌then◌else◌, option_to_list, reverse, slice_get}

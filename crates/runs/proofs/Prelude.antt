@@ -6,7 +6,7 @@ pub use Rattle.runs.specs.OutputFiles.{asks, closes, fails, fails_to_make, fails
 pub use Rattle.runs.specs.OutputPaths.{of_device, of_process, standard_error, standard_output}
 pub use Rattle.runs.specs.OutputSystem.{delivered, to_file, unmade, unreported}
 pub use Rattle.runs.specs.OutputWriting.{all_taken, cut, failed, follows, forbidden, in_place, lacking, late, made, no_memory, opened, replaced, replaces, replaces_none, special, stops, stream, taken, too_long, unknown, unmoved, unnamed, unopened, unput, unwritten, whole, with_rights, without_rights}
-pub use Rattle.runs.specs.Prelude.{Always, Among, AppendsPrefix, AreInputs, AreInputsAfter, AreInputsInTurn, Asked, Asks, AsksAll, AsksFirst, AsksInTurn, Class, Closes, Course, Deed, DeliversPrefix, Destination, Each, FileCall, FileLog, Files, Fills, Finishes, FitsKind, Gives, GivesAll, GivesFirst, GivesNoMore, GivesNobodyMore, GivesNothingAway, HasAll, HasOneReading, HasRights, HaveFiles, IsAllWritten, IsAllowed, IsBeside, IsNoLink, IsNotOpening, IsReplaceable, IsTaken, IsThere, IsWholeOrAsItWas, IsWholeOrAsItWasThroughout, IsWhose, IsWrittenInPlace, KeepsMode, KeepsRights, Leads, MakesFile, May, NamedFile, NamesNoStream, NamesStream, NewFile, OutputIs, PathState, Puts, Reading, ReadsAs, Replaces, RunView, Runs, Stays, SystemView, User, Writes, WritesFile, WritesInPlace, WritesRun, WritesStream, after, after_call, asked_arguments, asked_for, beside, bit_for, calls_of, class_of, every_tool, fault_in, fault_of, first_mode, input_fault_text, inputs_in, is_standard, kept_bits, kept_mode, link_limit, link_target, logged, named, named_files, named_inputs, new_name, output_file, own_name, put, put_stream, shown_name, tool_name, with_bytes, with_mode, with_owner}
+pub use Rattle.runs.specs.Prelude.{Always, Among, AppendsPrefix, AreInputs, AreInputsAfter, AreInputsInTurn, Asked, Asks, AsksAll, AsksFirst, AsksInTurn, Class, Closes, Course, Deed, Destination, Each, FileCall, FileLog, Files, Fills, Finishes, FitsKind, Gives, GivesAll, GivesFirst, GivesNoMore, GivesNobodyMore, GivesNothingAway, HasAll, HasOneReading, HasRights, HaveFiles, IsAllWritten, IsAllowed, IsBeside, IsNoLink, IsNotOpening, IsReplaceable, IsTaken, IsThere, IsWholeOrAsItWas, IsWholeOrAsItWasThroughout, IsWhose, IsWrittenInPlace, KeepsMode, KeepsRights, Leads, MakesFile, May, NamedFile, NamesNoStream, NamesStream, NewFile, OutputIs, PathState, Puts, Reading, ReadsAs, Replaces, RunView, Runs, Stays, SystemView, User, Writes, WritesFile, WritesInPlace, WritesRun, WritesStream, after, after_call, asked_arguments, asked_for, beside, bit_for, calls_of, class_of, every_tool, fault_in, fault_of, first_mode, input_fault_text, inputs_in, is_standard, kept_bits, kept_mode, link_limit, link_target, logged, named, named_files, named_inputs, new_name, output_file, own_name, put, put_stream, shown_name, tool_name, with_bytes, with_mode, with_owner}
 pub use Rattle.runs.specs.ToolRuns.{written}
 pub use Rattle.runs.specs.declared.inputs.InputFault.{InputFault}
 pub use Rattle.runs.specs.declared.output_files.FileKind.TheVariants.{Regular, Special, Unknown}
@@ -32,6 +32,6 @@ pub use Rattle.std.specs.List.{All, AllWithin, HoldsAt, sum_by}
 pub use Rattle.std.specs.Option.{is_some, option_copied, option_flatten, unwrap_or}
 pub use Rattle.std.specs.Path.{cur_dir, first_piece, is_dot_at, is_name, later_pieces, normal_name, parent_and_last, rfind_below, slash, without_file_name}
 unfoldable pub use Rattle.std.specs.Path.{path_components, path_file_name, path_join, path_names, path_parent, path_with_file_name, rsplit_once, split_last_component, trim_trailing}
-pub use Rattle.std.specs.Result.{IsErrAnd, result_ok, result_or}
+pub use Rattle.std.specs.Result.{IsErrAnd, result_ok}
 pub use Rattle.std.specs.Str.{bytes_eq}
 pub use Rattle.std.specs.Str.Parse.{AllDigits, digits_value}

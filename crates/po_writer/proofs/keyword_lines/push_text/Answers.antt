@@ -1,4 +1,4 @@
-use Rattle.po_writer.proofs.Prelude.{List, [], ap, append-nil, arith, eqb-true, flat_map, refl, string_line, ℕ, ◌++◌, ◌==◌, ◌∷◌, append_assoc, length, lines_with_ends, nat_lt, not, rules, sym, true, ◌∙◌, ◌≡◌}
+use Rattle.po_writer.proofs.Prelude.{List, [], ap, append-nil, arith, eqb-true, flat_map, refl, string_line, ℕ, ◌++◌, ◌==◌, ◌∷◌, append_assoc, length, lines_with_ends, nat_lt, not, sym, true, ◌∙◌, ◌≡◌}
 use Rattle.po_writer.proofs.LinesWithEnds.{several}
 use Rattle.po_writer.proofs.keyword_lines.push_text.Goals as goal
 
