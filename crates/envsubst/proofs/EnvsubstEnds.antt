@@ -2,8 +2,8 @@
 use Rattle.envsubst.proofs.Prelude.{Appends, EndsAs, Err, HasGoneOut, List, None, Ok, Option, OutOfMemory, ReadFault, Replaces, Some, Stops, StopsAtEnd, StopsWithin, Took, TookAll, TookAllRead, TookBeginning, TookBeginningOfRead, ToolFault, Values, WriteFault, ap, drop, inl, inr, refl, subst, substitution, sym, take, take-append-drop, ℕ, ◌++◌, ◌∙◌, ◌≡◌}
 use Rattle.envsubst.proofs.ReplacedReferences.{references_replaced}
 
-replaced : (values : Values) (text result : List ℕ) → result ≡ substitution values text → Replaces values text result
-replaced values text result is = (references_replaced values text result).0 is
+is_replacement : (values : Values) (text result : List ℕ) → result ≡ substitution values text → Replaces values text result
+is_replacement values text result is = (references_replaced values text result).0 is
 
 took : (written : List ℕ) (old new : Option (List ℕ)) → Appends old new written → Took written old new
 took written None new appends before is = cc
@@ -14,7 +14,7 @@ took written (Some bytes) (Some more) appends before is =
 pub took_all : (values : Values) (text : List ℕ) (left old new : Option (List ℕ))
     → EndsAs values (Some text) left old new (Ok tt) → TookAll values text old new
 took_all values text left old new ends =
-    record { result = substitution values text; replaced = replaced values text _ refl; took = took _ old new ends }
+    record { result = substitution values text; replaced = is_replacement values text _ refl; took = took _ old new ends }
 
 stopped : (values : Values) (read other : List ℕ) (old new : Option (List ℕ)) → Stops values read old new
     → TookBeginning values (read ++ other) old new
@@ -23,7 +23,7 @@ stopped values read other old new stops =
     record {
       written = stops.written;
       rest = more.0;
-      replaced = replaced values (read ++ other) _ (sym more.1);
+      replaced = is_replacement values (read ++ other) _ (sym more.1);
       took =
           took _ old new stops.appends;
     }
@@ -61,7 +61,7 @@ at_end : (values : Values) (text : List ℕ) (old new : Option (List ℕ)) → S
 at_end values text old new ends = record {
   written = take ends.0 (substitution values text);
   rest = drop ends.0 (substitution values text);
-  replaced = replaced values text _ (take-append-drop ends.0 (substitution values text));
+  replaced = is_replacement values text _ (take-append-drop ends.0 (substitution values text));
   took = took _ old new ends.1;
 }
 
@@ -88,7 +88,7 @@ took_all_read values text (Some rest) old new out = record {
   replaced = λ other result is.
       let held : result ≡ substitution values (out.held ++ other) =
       (references_replaced values (out.held ++ other) result).1 is in
-      replaced values (out.read ++ other) _
+      is_replacement values (out.read ++ other) _
       (ap (λ r. out.advances.written ++ r) held ∙ sym (out.advances.passes other));
 }
 

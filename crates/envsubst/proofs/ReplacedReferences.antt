@@ -2,7 +2,7 @@
 use Rattle.envsubst.proofs.Prelude.{BeginsNoReplaced, HoldsNames, List, None, Option, Reference, Replacement, Replaces, Some, SpellsReference, Values, [], ap, cases_Bool, cond-false, cond_both, cons_option, copied, drop, eqb, eqb-false, eqb-true, false, if◌then◌else◌, inl, inr, names_in, no_reference, no_text, none-some, nothing, option_map, reference, reference_after, refl, replacement_of, subst, substituted, substitution, substitution_after, suc, sym, zero, ℕ, ◌++◌, ◌==◌, ◌↔◌, ◌∙◌, ◌∷◌, ◌≡◌}
 use Rattle.envsubst.specs.Laws.{replaced}
 use Rattle.envsubst.proofs.SpeltReferences.{reference_read, reference_spelt}
-use Rattle.envsubst.proofs.SubstitutionLemmas.{plain, not-replaced, replacement-some, replaced as is-replaced}
+use Rattle.envsubst.proofs.SubstitutionLemmas.{is-replaced, not-replaced, plain, replacement-some}
 
 -- what is read at the first byte of a spelt reference
 read_at : (b : ℕ) (text name rest : List ℕ) → SpellsReference (b ∷ text) name rest

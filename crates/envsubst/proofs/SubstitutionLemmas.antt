@@ -24,10 +24,10 @@ unfolding substitution_after
 not-replaced values bs none = ap (λ r. substituted 36 r (λ skip. substitution_after values skip bs)) none
 
 -- a replaced reference gives its value, and the text goes on after it
-pub replaced : (values : Values) (bs : List ℕ) (r : Replacement) → replacement_of values (reference_after bs) ≡ Some r
+pub is-replaced : (values : Values) (bs : List ℕ) (r : Replacement) → replacement_of values (reference_after bs) ≡ Some r
     → substitution values (36 ∷ bs) ≡ r.value ++ substitution values (drop r.size bs)
 unfolding substitution_after
-replaced values bs r some =
+is-replaced values bs r some =
     ap (λ o. substituted 36 o (λ skip. substitution_after values skip bs)) some
     ∙ ap (λ l. r.value ++ l) (skipped values r.size bs)
 
@@ -113,7 +113,7 @@ held-replaced : (values : Values) (is_braced : Bool) (held name xs value : List 
     → substitution values (held ++ xs) ≡ value ++ substitution values (drop size (after_dollar is_braced (name ++ xs)))
 held-replaced values is_braced held name xs value size e some is =
     ap (substitution values) (held-append is_braced held name xs e)
-    ∙ replaced values (after_dollar is_braced (name ++ xs)) (record { value = value; size = size })
+    ∙ is-replaced values (after_dollar is_braced (name ++ xs)) (record { value = value; size = size })
     (replacement-some values name value size _ some is)
 
 pub out-held : (is_braced : Bool) (held name : List ℕ) (next : ℕ) → held ≡ 36 ∷ after_dollar is_braced name

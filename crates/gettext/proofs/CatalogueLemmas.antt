@@ -1,6 +1,6 @@
 -- The catalogues of some paths, and those of the paths after them.
 use Rattle.gettext.proofs.Prelude.{AreCatalogues, Asked, AsksAt, AsksPaths, IsCatalogueAt, List, NamedFile, None, Option, Reading, Some, Stays, Vec, [], ap, append-nil, append_assoc, drop, drop_more, drop_of_length-le, get_or, inl, inr, length, map, subst, ℕ, ◌++◌, ◌+◌, ◌<◌, ◌∷◌, ◌≡◌, ◌≤◌}
-use Rattle.gettext.specs.Catalogues.{done, found, none, next, skipped}
+use Rattle.gettext.specs.Catalogues.{done, found, next, none as no_path, skipped}
 
 abbrev pub path_texts : List (Vec ℕ) → List (List ℕ)
 path_texts paths = map (λ path. path.items) paths
@@ -25,7 +25,7 @@ asked-more paths i d a b c below at before = record {
 
 pub asked-all : (paths : List (Vec ℕ)) (i : ℕ) (a b : Option (List Asked)) → length paths ≤ i → AskedPaths paths i a b
     → AsksPaths a (path_texts paths) b
-asked-all paths i a b past before = before.completes b (rw (drop_of_length-le paths past) none)
+asked-all paths i a b past before = before.completes b (rw (drop_of_length-le paths past) no_path)
 
 module _ (file : List ℕ → Reading → Type 0) where
   -- whatever the paths from i on add completes what the paths before made

@@ -22,22 +22,22 @@ from_digits (c ∷ text) all =
     and_from (is_digit c 10) (are_digits text) (lt-ltb (digit_value c) 10 all.0) (from_digits text all.1)
 
 -- a text that isn't digits alone
-other : (text : List ℕ) → (AllDigits 10 text → ⊥) → 99 ≡ count_in text
+other_count : (text : List ℕ) → (AllDigits 10 text → ⊥) → 99 ≡ count_in text
 unfolding count_in
-other text fails =
+other_count text fails =
     sym (cond-false (is_count text) _ _ (false_from_ne_true (is_count text)
     (λ e. let p = and_parts (not (eqb (length text) 0) && are_digits text)
     (ltb (digits_value 10 text) 18446744073709551616) e in
     fails (all_digits text (and_parts (not (eqb (length text) 0)) (are_digits text) p.0).1))))
 
 pub count-no_utf8 : (text : List ℕ) → (IsUtf8 text → ⊥) → 99 ≡ count_in text
-count-no_utf8 text none = other text (λ all. none (IsUtf8-from_ascii text (IsAscii-from_digits text all)))
+count-no_utf8 text none = other_count text (λ all. none (IsUtf8-from_ascii text (IsAscii-from_digits text all)))
 
 pub count-sign : (text : List ℕ) → starts_with nat_eq text (43 ∷ []) ≡ true → 99 ≡ count_in text
 count-sign [] sign = absurd cc
 count-sign (c ∷ text) sign =
     let is = eqb-true 43 c (and_parts (eqb 43 c) _ sign).0 in
-    other (c ∷ text) (λ all. omega (arith, digit_from_value c all.0, is))
+    other_count (c ∷ text) (λ all. omega (arith, digit_from_value c all.0, is))
 
 no_sign : (text : List ℕ) → starts_with nat_eq text (43 ∷ []) ≡ false → get_or text 0 0 ≡ 43 → ⊥
 no_sign [] plain is = cc

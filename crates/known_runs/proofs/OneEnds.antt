@@ -37,9 +37,9 @@ ended_by old run = end (Ok run.status) (if run.create then Some run.output else 
 abbrev counted : Compiled → List TextEntry → Compiled
 counted made entries = record { bytes = made.bytes; n = made.n; stats = stats_of entries }
 
-is_some : (n : ℕ) (b : Bool) → nat_lt 0 n ≡ b → 0 < n → nat_lt 0 n ≡ true
-is_some n true is more = is
-is_some n false is more = absurd (omega (arith, more, ltb-false 0 n is))
+some_entries : (n : ℕ) (b : Bool) → nat_lt 0 n ≡ b → 0 < n → nat_lt 0 n ≡ true
+some_entries n true is more = is
+some_entries n false is more = absurd (omega (arith, more, ltb-false 0 n is))
 
 with_file : (made : Compiled) (entries : List TextEntry) (old : Option (List ℕ)) → nat_lt 0 made.n ≡ true
     → end (Ok 0) (Some made.bytes.items) [] [] ≡ ended_by old (compiled_run plainly (counted made entries))
@@ -73,7 +73,7 @@ has_run : {text : List ℕ} {old : Option (List ℕ)} {is : End} → EndsMsgfmt 
 has_run {old = old} (compiled {made} from some) there = (
   _,
   inr (inr (done_with made from)),
-  with_file made (joined_entries from.catalogues) old (is_some made.n _ refl some),
+  with_file made (joined_entries from.catalogues) old (some_entries made.n _ refl some),
 )
 has_run {old = old} (empty {made} from none) there =
     (_, inr (inr (done_with made from)), without made (joined_entries from.catalogues) old none)

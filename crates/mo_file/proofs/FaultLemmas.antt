@@ -1,4 +1,4 @@
--- Faults: one byte order is shown, and which fault comes first.
+-- Faults: one byte order is of_shown, and which fault comes first.
 use Rattle.mo_file.proofs.Prelude.{AreRisingBelow, BadMagic, BadRevision, Big, FileHeader, HasFault, HasFaultIn, HasMagicOf, HasStrings, IsChecked, IsFirstFault, IsHeader, IsMoFile, IsNotRising, List, Little, MatchOption, Message, MoError, NoTerminator, None, NotSorted, Option, Order, Some, StringOutside, TableOutside, TooShort, ap, arith, cases_lt, inl, inr, message_count, originals_table, refl, subst, sym, translations_table, unwrap_or, ℕ, ◌+◌, ◌<◌, ◌∙◌, ◌≡◌, ◌≤◌}
 
 pub not_below : (a b : ℕ) → ¬ (a < b) → b ≤ a
@@ -21,18 +21,18 @@ HasFaultIn-shown bytes order f shows fault =
 
 module _ (header : FileHeader) (bytes : List ℕ) (read : IsHeader header bytes)
     (strings : HasStrings header.order bytes) where
-  shown : (f : MoError) → ((order' : Order) × HasMagicOf order' bytes × HasFaultIn order' bytes f) →
+  of_shown : (f : MoError) → ((order' : Order) × HasMagicOf order' bytes × HasFaultIn order' bytes f) →
       HasFaultIn header.order bytes f
-  shown f fault = HasFaultIn-shown bytes header.order f read.shows fault
+  of_shown f fault = HasFaultIn-shown bytes header.order f read.shows fault
 
   -- only keys are left to be faulty
   only_keys : (f : MoError) → HasFault bytes f →
       (i : ℕ) × (f ≡ NotSorted (i + 1)) × (i + 1 < header.count) × IsNotRising header.order bytes i
   only_keys TooShort has = absurd (omega (arith, read.long))
   only_keys BadMagic has = absurd (has header.order read.shows)
-  only_keys BadRevision has = let fault = shown BadRevision has in absurd (omega (arith, read.known))
+  only_keys BadRevision has = let fault = of_shown BadRevision has in absurd (omega (arith, read.known))
   only_keys TableOutside has =
-      let fault = shown TableOutside has in
+      let fault = of_shown TableOutside has in
       absurd (grind (
         arith,
         read.count,
@@ -41,11 +41,11 @@ module _ (header : FileHeader) (bytes : List ℕ) (read : IsHeader header bytes)
         read.originals_inside,
         read.translations_inside,
       ))
-  only_keys (StringOutside k) has = let fault = shown (StringOutside k) has in absurd (strings.inside k fault.0 fault.1)
+  only_keys (StringOutside k) has = let fault = of_shown (StringOutside k) has in absurd (strings.inside k fault.0 fault.1)
   only_keys (NoTerminator k) has = let fault =
-      shown (NoTerminator k) has in absurd (strings.terminated k fault.0 fault.1)
+      of_shown (NoTerminator k) has in absurd (strings.terminated k fault.0 fault.1)
   only_keys (NotSorted k) has =
-      let fault = shown (NotSorted k) has in
+      let fault = of_shown (NotSorted k) has in
       let inside : fault.0 + 1 < header.count = omega (arith, fault.1, fault.2, read.count) in
       (fault.0, ap NotSorted fault.1, inside, fault.3)
 

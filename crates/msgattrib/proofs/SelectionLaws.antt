@@ -6,10 +6,10 @@ use Rattle.std.specs.Prelude.{All}
 use Rattle.po_entry.proofs.Changes.{IsEntry-emptied, IsEntry-without_previous}
 
 -- a flag that isn't taken away empties nothing
-not_emptied : (empty fuzzy header : Bool) → (empty && fuzzy && not (fuzzy && true) && header) ≡ false
-not_emptied true true header = refl
-not_emptied true false header = refl
-not_emptied false fuzzy header = refl
+not_emptied_again : (empty fuzzy header : Bool) → (empty && fuzzy && not (fuzzy && true) && header) ≡ false
+not_emptied_again true true header = refl
+not_emptied_again true false header = refl
+not_emptied_again false fuzzy header = refl
 
 unchanged : (s : Selection) (e : TextEntry) → ChangesNothing s → changed s e ≡ e
 unchanged s e h =
@@ -19,7 +19,7 @@ unchanged s e h =
       h.set_obsolete,
       h.clear_obsolete,
       h.clear_previous,
-      not_emptied s.empty e.fuzzy (not (is_header e)),
+      not_emptied_again s.empty e.fuzzy (not (is_header e)),
       and-true e.fuzzy,
       and-true e.obsolete,
     )

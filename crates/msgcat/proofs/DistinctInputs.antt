@@ -27,9 +27,9 @@ apart (d ∷ ds) h = (
 )
 
 -- each entry is the only one of its message
-alone : (ds : List NamedEntry) → AllDiffer (entries ds) → All (λ d. group_of same_message ds d ≡ d ∷ []) ds
-alone [] h = All-nil (λ d. group_of same_message [] d ≡ d ∷ [])
-alone (d ∷ ds) h =
+alone_among : (ds : List NamedEntry) → AllDiffer (entries ds) → All (λ d. group_of same_message ds d ≡ d ∷ []) ds
+alone_among [] h = All-nil (λ d. group_of same_message [] d ≡ d ∷ [])
+alone_among (d ∷ ds) h =
     All-cons (λ e. group_of same_message (d ∷ ds) e ≡ e ∷ []) d ds
     (ap₂ (λ (b : Bool) (l : List NamedEntry). cond b (d ∷ l) l) (same_message_laws.refl d)
     (none_pass (λ y. same_message y d) ds
@@ -37,20 +37,20 @@ alone (d ∷ ds) h =
     (λ k o below. ap (λ (b : Bool).
     cond b (d ∷ group_of same_message ds (get_or ds k o)) (group_of same_message ds (get_or ds k o)))
     (others d ds h k o below)
-    ∙ alone ds (differ_tail d.entry (entries ds) h) k o below)
+    ∙ alone_among ds (differ_tail d.entry (entries ds) h) k o below)
 
 -- where each entry is kept and merged to itself, all are merged to themselves
-all_stay : (o : MergeOptions) (all ds : List NamedEntry)
+all_distinct_stay : (o : MergeOptions) (all ds : List NamedEntry)
     → All (λ d. Stays o (definitions (group_of same_message all d)) d.entry) ds
     → merged_messages o (map definitions (map (group_of same_message all) ds)) ≡ entries ds
-all_stay o all [] h = refl
-all_stay o all (d ∷ ds) h =
+all_distinct_stay o all [] h = refl
+all_distinct_stay o all (d ∷ ds) h =
     let P : NamedEntry → Type 0 = λ x. Stays o (definitions (group_of same_message all x)) x.entry in
     let here = All-head P d ds h in
     let group = definitions (group_of same_message all d) in
     let rest = filter (is_kept o) (map definitions (map (group_of same_message all) ds)) in
     ap (λ (b : Bool). map (merged_entry o) (cond b (group ∷ rest) rest)) here.kept
-    ∙ ap₂ (λ (x : TextEntry) (xs : List TextEntry). x ∷ xs) here.same (all_stay o all ds (All-tail P d ds h))
+    ∙ ap₂ (λ (x : TextEntry) (xs : List TextEntry). x ∷ xs) here.same (all_distinct_stay o all ds (All-tail P d ds h))
 
 pub distinct_inputs : (use_first : Bool) (inputs : List Named) → DistinctInputsStay use_first inputs
 distinct_inputs use_first inputs h =
@@ -58,8 +58,8 @@ distinct_inputs use_first inputs h =
     let all = all_entries inputs in
     ap (λ (fs : List NamedEntry). merged_messages o (map definitions (map (group_of same_message all) fs)))
     (firsts_of_apart [] all (λ k d below. refl) (apart all h))
-    ∙ all_stay o all all (λ k d below.
+    ∙ all_distinct_stay o all all (λ k d below.
     let one = get_or all k d in
     let Of : NamedEntry → Type 0 = λ x. x.entry ≡ one.entry in
-    subst (λ g. Stays o (definitions g) one.entry) (sym (alone all h k d below))
+    subst (λ g. Stays o (definitions g) one.entry) (sym (alone_among all h k d below))
     (entry_stays use_first one.entry one [] (All-cons Of one [] refl (All-nil Of))))

@@ -25,8 +25,8 @@ module _ (read : List Named) (inputs : List ReadInput) (are : AreReadInputs read
   before : List NamedEntry
   before = all_entries (take first read)
 
-  own : all_entries (take (first + 1) read) ≡ all_entries (take first read) ++ entries_of input
-  own = ap all_entries (take_more read first no_named within)
+  own_read : all_entries (take (first + 1) read) ≡ all_entries (take first read) ++ entries_of input
+  own_read = ap all_entries (take_more read first no_named within)
       ∙ flat_map-append entries_of (take first read) (input ∷ [])
       ∙ ap (λ l. all_entries (take first read) ++ l) (append-nil (entries_of input))
 
@@ -39,7 +39,7 @@ module _ (read : List Named) (inputs : List ReadInput) (are : AreReadInputs read
       let at = index - length all in
       let own_long : length (entries_of input) ≡ length input.entries = length-map input.entries (named input.name) in
       let here : at < length input.entries =
-      omega (arith, inside, begins, start, ap length own, length-append all (entries_of input), own_long) in
+      omega (arith, inside, begins, start, ap length own_read, length-append all (entries_of input), own_long) in
       let in_own : at < length (entries_of input) = omega (arith, here, own_long) in
       let place : length all + at ≡ index = omega (arith, begins, start) in
       (zip_get IsReadInput read inputs first no_named no_input are.known below).name

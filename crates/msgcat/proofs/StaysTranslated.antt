@@ -38,16 +38,16 @@ some_form : (forms : List (List ℕ)) → first_form forms ≢ [] → 0 < length
 some_form [] some = absurd (some refl)
 some_form (form ∷ forms) some = omega arith
 
-first_is : (forms : List (List ℕ)) → first_form forms ≡ get_or forms 0 []
-first_is [] = refl
-first_is (form ∷ forms) = refl
+first_form_is : (forms : List (List ℕ)) → first_form forms ≡ get_or forms 0 []
+first_form_is [] = refl
+first_form_is (form ∷ forms) = refl
 
 first_joined : (ds ts : List NamedEntry) → 0 < length ts → All (IsOne ds) ts → first_form (joined_forms ts) ≢ []
 first_joined ds [] more all = absurd (omega (arith, more))
 first_joined ds (t ∷ ts) more all =
     let below : 0 < form_count (t ∷ ts) = count_keeps (λ n. 0 < n) (t ∷ ts) more (All-weaker (IsOne ds)
     (λ x. 0 < length x.entry.forms) (λ x one. some_form x.entry.forms one.is) (t ∷ ts) all) in
-    let form : first_form (joined_forms (t ∷ ts)) ≡ joined_form (t ∷ ts) 0 = first_is (joined_forms (t ∷ ts))
+    let form : first_form (joined_forms (t ∷ ts)) ≡ joined_form (t ∷ ts) 0 = first_form_is (joined_forms (t ∷ ts))
     ∙ get_or-map-range_with_len (joined_form (t ∷ ts)) 0 (form_count (t ∷ ts)) 0 0 [] below (omega arith) in
     λ e. some_joined t ts (All-head (IsOne ds) t ts all).is (sym form ∙ e)
 

@@ -37,9 +37,9 @@ same_fault messages i j a b f g =
     let place = same_place messages i j a b f g in
     (place, same_kind messages i a b f (subst (λ k. HasFirstEntryTextFault k b messages) (sym place) g))
 
-no_foreign : (messages : List Message) (i : ℕ) (a : PoFault) → HasForeignCharset messages
+no_foreign_after : (messages : List Message) (i : ℕ) (a : PoFault) → HasForeignCharset messages
     → HasFirstEntryTextFault i a messages → ⊥
-no_foreign messages i a foreign f =
+no_foreign_after messages i a foreign f =
     let entries = unformatted messages in
     let here = get_or_from_slice_get entries i f.entry f.entry f.is_entry in
     no_texts_fault (subst HasTexts here (foreign.texts i f.entry (slice_get_within entries i f.entry f.is_entry)))
@@ -54,7 +54,7 @@ module _ (unique : OneMessageList) (one : OneFirstFault) where
 
   apart : (bytes : List ℕ) (i : ℕ) (a : PoFault) → IsFileOf bytes HasForeignCharset
       → IsFileOf bytes (HasFirstEntryTextFault i a) → ⊥
-  apart bytes i a f g = no_foreign f.messages i a f.holds
+  apart bytes i a f g = no_foreign_after f.messages i a f.holds
       (moved unique bytes HasForeignCharset (HasFirstEntryTextFault i a) f g)
 
   valid : (bytes : List ℕ) (P : List Message → Type 0) (fault : MoError) → IsUnformatFault bytes (Mo fault)

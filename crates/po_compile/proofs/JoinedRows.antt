@@ -35,11 +35,11 @@ header_key (Some context) id = no_key context id
 pub header_seen : (use_fuzzy : Bool) (entry : TextEntry) → has_no_key (live_message use_fuzzy entry) ≡ is_header entry
 header_seen use_fuzzy entry = header_key entry.context entry.id
 
-exchanged : (live header : Bool) → (live && not header) ≡ (not (header && live) && live)
-exchanged true true = refl
-exchanged true false = refl
-exchanged false true = refl
-exchanged false false = refl
+tests_exchanged : (live header : Bool) → (live && not header) ≡ (not (header && live) && live)
+tests_exchanged true true = refl
+tests_exchanged true false = refl
+tests_exchanged false true = refl
+tests_exchanged false false = refl
 
 module _ (use_fuzzy : Bool) where
   -- whether an input has a live header
@@ -69,7 +69,7 @@ module _ (use_fuzzy : Bool) where
       let stays : TextEntry → Bool = λ e. not (is_live_header e) in
       filter_twice is_live joins entries
       ∙ filter_agree (λ e. is_live e && joins e) (λ e. stays e && is_live e)
-      (λ e. ap (λ h. is_live e && not h) (header_seen use_fuzzy e) ∙ exchanged (is_live e) (is_header e)) entries
+      (λ e. ap (λ h. is_live e && not h) (header_seen use_fuzzy e) ∙ tests_exchanged (is_live e) (is_header e)) entries
       ∙ sym (filter_twice stays is_live entries)
 
   -- the live entries of one input

@@ -20,8 +20,8 @@ among_fuzzy : (flags : List (List ℕ)) → Contains flags (codes "fuzzy") → l
 among_fuzzy flags h = list_any_at is_fuzzy_flag flags h.0 (codes "fuzzy") h.1
     ((bytes_eq-Decides _ (codes "fuzzy")).1 h.2)
 
-lists : (text : List ℕ) → ListsFlags text (listed_flags text)
-lists text = (flags_listed text (listed_flags text)).0 refl
+flags_of_text : (text : List ℕ) → ListsFlags text (listed_flags text)
+flags_of_text text = (flags_listed text (listed_flags text)).0 refl
 
 flags_first : (text : List ℕ) (after : List CommentText)
     → fuzzy_of (record { kind = Flags; text = text } ∷ after)
@@ -41,7 +41,7 @@ fuzzy_flagged (first ∷ after) h = by first.kind first.text h (fuzzy_flagged af
       (sym (flags_first text after) ∙ g) where
         found : (b : Bool) → list_any is_fuzzy_flag (listed_flags text) ≡ b → (b || fuzzy_of after) ≡ true
             → HaveFuzzyFlag (record { kind = Flags; text = text } ∷ after)
-        found true e there = here (lists text) (fuzzy_among (listed_flags text) e)
+        found true e there = here (flags_of_text text) (fuzzy_among (listed_flags text) e)
         found false e there = later (more there)
 
 flagged_fuzzy : {comment_texts : List CommentText} → HaveFuzzyFlag comment_texts → fuzzy_of comment_texts ≡ true

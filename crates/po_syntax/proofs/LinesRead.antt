@@ -1,6 +1,6 @@
 -- The lines of a piece, which are read one after the other.
 use Rattle.po_syntax.proofs.Prelude.{AddsLent, All, All-append, All-drop, All-head, All-nil, All-take, BeginsAnew, Bor, CanEnd, EndsPiece, HasRead, HoldsItems, IsCleanLine, IsCut, IsUtf8, Item, LendsUtf8, LineBeginsAnew, LineFault, LinesLeft, LinesStop, List, MatchOption, None, Option, PoFault, Some, SpellsLines, TextItem, [], ap, append-nil, append_assoc, arith, cases_lt, drop, drop-take, inl, inr, length, lines_len, lines_of, lines_of_rest, refl, subst, suc, sum_by-cons, sum_by-take-drop, sym, take, take-append_seam, take-take, views, zero, ℕ, ◌++◌, ◌+◌, ◌∙◌, ◌∷◌, ◌≡◌, ◌≤◌, ◌⊎◌}
-use Rattle.po_syntax.proofs.Uniqueness.{line_once, lines_once}
+use Rattle.po_syntax.proofs.Uniqueness.{line_items_once, lines_once}
 use Rattle.po_syntax.proofs.TranslationEnds.{drop_rest, some_line}
 
 -- the first line, and those after it
@@ -124,7 +124,7 @@ no_end {size} {old = old} {items = items} so_far e spelt none can =
     let len_is = sym so_far.len_is in
     let once = lines_once old.number (take read.count old.lines) can.spelt read.spelt in
     let anew = subst (LineBeginsAnew (old.number + read.count)) (next_line read e) can.anew in
-    let same = line_once anew.1 (here_spelt read spelt) in
+    let same = line_items_once anew.1 (here_spelt read spelt) in
     none (subst (λ (l : ℕ). size ≤ l) len_is can.large)
     (subst (λ (l : ℕ). EndsPiece l items) len_is
     (subst (EndsPiece (lines_len (take read.count old.lines))) once can.ends))

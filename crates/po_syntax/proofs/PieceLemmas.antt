@@ -2,7 +2,7 @@
 use Rattle.po_syntax.proofs.Prelude.{All, All-append, All-head, All-nil, All-tail, AreOfText, BeginsAnew, Bool, CanEnd, EndsInComment, EndsInString, EndsPiece, HoldsText, IsCleanLine, IsCommentItem, IsCut, IsNew, IsPiece, IsSome, IsString, IsText, IsTranslation, IsTrue, Item, LeftAnew, LeftStops, LineBeginsAnew, LinesLeft, List, MatchOption, None, Option, PoFault, Some, SpellsLeft, SpellsLines, TextFault, TextItem, [], ap, append-nil, arith, drop, drop_all, false, inl, inr, length, length-drop, lines_len, refl, slice_get, subst, suc, sum_by-cons, sum_by-take-drop, sum_by-take-le, sym, take, take-append-drop, view, views, zero, ℕ, ◌++◌, ◌+◌, ◌<◌, ◌^◌, ◌↔◌, ◌∷◌, ◌≡◌, ◌≢◌, ◌≤◌, ◌⊎◌}
 use Rattle.po_syntax.proofs.ItemTexts.{lines_texts}
 use Rattle.po_syntax.proofs.Lines.{lines-few, some_length}
-use Rattle.po_syntax.proofs.Uniqueness.{line_once, lines_once}
+use Rattle.po_syntax.proofs.Uniqueness.{line_items_once, lines_once}
 use Rattle.po_syntax.proofs.LinesRead.{joined_after}
 use Rattle.po_syntax.proofs.TextLeft.{of_text_few, left_clean}
 
@@ -120,7 +120,7 @@ piece_ends size old new items piece = ended piece.ends where
 line_anew : (number : ℕ) (lines : List (List ℕ)) (item : TextItem) (items : List TextItem) → LineBeginsAnew number lines
     → SpellsLines number lines (item ∷ items) → IsNew item
 line_anew number [] item items anew h = absurd anew
-line_anew number (line ∷ lines) item items anew h = first anew.0 anew.2 (line_once anew.1 h.2) where
+line_anew number (line ∷ lines) item items anew h = first anew.0 anew.2 (line_items_once anew.1 h.2) where
   first : (here : List TextItem) → BeginsAnew here → here ≡ h.0 → IsNew item
   first [] new same = absurd new
   first (one ∷ here) new same =

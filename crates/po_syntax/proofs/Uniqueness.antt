@@ -9,9 +9,9 @@ strings_once {text = text} {bytes = bytes} {rest = rest} {others = others} {end 
     let e = same (string_once text) {one = Ok (bytes, rest)} {other = Ok (others, end)} h g in
     let both : ◌≡◌ {A = List ℕ × List ℕ} (bytes, rest) (others, end) = cc in (ap (λ p. p.0) both, ap (λ p. p.1) both)
 
-pub line_once : {line : ℕ} {text : List ℕ} {items others : List TextItem} → HoldsItems line text items
+pub line_items_once : {line : ℕ} {text : List ℕ} {items others : List TextItem} → HoldsItems line text items
     → HoldsItems line text others → items ≡ others
-line_once {line} {text} {items} {others} h g = let e =
+line_items_once {line} {text} {items} {others} h g = let e =
     same (once_of_line line text) {one = Ok items} {other = Ok others} h g in cc
 
 pub line_not_stopped : {line : ℕ} {text : List ℕ} {items : List TextItem} {fault : PoFault} → HoldsItems line text items
@@ -28,7 +28,7 @@ pub lines_once : (number : ℕ) (lines : List (List ℕ)) {items others : List T
     → SpellsLines number lines others → items ≡ others
 lines_once number [] h g = h ∙ sym g
 lines_once number (line ∷ lines) h g =
-    h.4 ∙ rw (line_once h.2 g.2, lines_once (number + 1) lines h.3 g.3) (sym g.4)
+    h.4 ∙ rw (line_items_once h.2 g.2, lines_once (number + 1) lines h.3 g.3) (sym g.4)
 
 lines_not_stopped : (number : ℕ) (lines : List (List ℕ)) (items : List TextItem) (fault : PoFault) (at : ℕ)
     → SpellsLines number lines items → LinesStop number lines fault at → ⊥

@@ -8,9 +8,9 @@ abbrev written : List ℕ → List ℕ → List (List ℕ) → List ℕ
 written prefix text lines =
     cond (nat_lt 1 (length lines)) (string_line [] [] ++ flat_map (string_line prefix) lines) (string_line [] text)
 
-several : (prefix text line : List ℕ) (lines : List (List ℕ)) → 0 < length lines
+several_lines : (prefix text line : List ℕ) (lines : List (List ℕ)) → 0 < length lines
     → written prefix text (line ∷ lines) ≡ string_line [] [] ++ flat_map (string_line prefix) (line ∷ lines)
-several prefix text line lines some =
+several_lines prefix text line lines some =
     cond-true (nat_lt 1 (length (line ∷ lines))) (string_line [] [] ++ flat_map (string_line prefix) (line ∷ lines))
     (string_line [] text) (lt-ltb 1 (length (line ∷ lines)) (omega (arith, some)))
 
@@ -21,16 +21,16 @@ writes prefix (last lacks) = one_line lacks
 writes prefix (ended line lacks none) = one_ended_line line lacks
 writes prefix (ended line lacks (last {b = b} {line = rest} others)) =
     subst (WritesText prefix (line ++ 10 ∷ b ∷ rest))
-    (sym (several prefix (line ++ 10 ∷ b ∷ rest) (line ++ 10 ∷ []) ((b ∷ rest) ∷ []) (omega arith)))
+    (sym (several_lines prefix (line ++ 10 ∷ b ∷ rest) (line ++ 10 ∷ []) ((b ∷ rest) ∷ []) (omega arith)))
     (each_line line b lacks (last others))
 writes prefix (ended line lacks (ended [] {text = rest} {lines = lines} other others)) =
     subst (WritesText prefix (line ++ 10 ∷ 10 ∷ rest))
-    (sym (several prefix (line ++ 10 ∷ 10 ∷ rest) (line ++ 10 ∷ []) ((10 ∷ []) ∷ lines) (omega arith)))
+    (sym (several_lines prefix (line ++ 10 ∷ 10 ∷ rest) (line ++ 10 ∷ []) ((10 ∷ []) ∷ lines) (omega arith)))
     (each_line line 10 lacks (ended [] other others))
 writes prefix (ended line lacks (ended (b ∷ next) {text = rest} {lines = lines} other others)) =
     let text = (b ∷ next) ++ 10 ∷ rest in
     subst (WritesText prefix (line ++ 10 ∷ text))
-    (sym (several prefix (line ++ 10 ∷ text) (line ++ 10 ∷ []) (((b ∷ next) ++ 10 ∷ []) ∷ lines) (omega arith)))
+    (sym (several_lines prefix (line ++ 10 ∷ text) (line ++ 10 ∷ []) (((b ∷ next) ++ 10 ∷ []) ∷ lines) (omega arith)))
     (each_line line b lacks (ended (b ∷ next) other others))
 
 pub texts_are_written : (prefix text : List ℕ) → WritesText prefix text (text_lines prefix text)

@@ -24,15 +24,15 @@ module _ (file : List ℕ → Reading → Type 0) (standard : Reading → Type 0
     | inr e ↦ rw e (unread_file why (no_dash argument e) (rw e at reads))
   ]
 
-  in_turn : {seen : Bool} {arguments : List (List ℕ)} {inputs : List NamedFile} {fault : Option (List ℕ)} → seen ≡ false
+  asked_in_turn : {seen : Bool} {arguments : List (List ℕ)} {inputs : List NamedFile} {fault : Option (List ℕ)} → seen ≡ false
       → AreInputs file standard seen arguments inputs fault → AreInputsInTurn file standard arguments inputs fault
-  in_turn unseen done = nothing
-  in_turn unseen (read {argument} reads rest) = elim (cases_Bool (is_standard argument)) [
+  asked_in_turn unseen done = nothing
+  asked_in_turn unseen (read {argument} reads rest) = elim (cases_Bool (is_standard argument)) [
     | inl e ↦ rw (is_dash argument e) (from_standard_input (rw (unseen, e) at reads)
         (inputs_after (rw (unseen, e) at rest)))
-    | inr e ↦ rw e (a_file (no_dash argument e) (rw (unseen, e) at reads) (in_turn (ap₂ (λ a b. a || b) unseen e) rest))
+    | inr e ↦ rw e (a_file (no_dash argument e) (rw (unseen, e) at reads) (asked_in_turn (ap₂ (λ a b. a || b) unseen e) rest))
   ]
-  in_turn unseen (unread {argument} why reads) = elim (cases_Bool (is_standard argument)) [
+  asked_in_turn unseen (unread {argument} why reads) = elim (cases_Bool (is_standard argument)) [
     | inl e ↦ rw (is_dash argument e) (no_standard_input why (rw (unseen, e) at reads))
     | inr e ↦ rw e (no_file why (no_dash argument e) (rw (unseen, e) at reads))
   ]
@@ -72,4 +72,4 @@ pub inputs_in_turn : (file : List ℕ → Reading → Type 0) (standard : Readin
     (inputs : List NamedFile)
     (fault : Option (List ℕ))
     → AreInputs file standard false arguments inputs fault ↔ AreInputsInTurn file standard arguments inputs fault
-inputs_in_turn file standard arguments inputs fault = (in_turn file standard refl, turn_read file standard)
+inputs_in_turn file standard arguments inputs fault = (asked_in_turn file standard refl, turn_read file standard)
