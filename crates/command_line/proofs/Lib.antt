@@ -1,4 +1,3 @@
 mod Prelude
-mod Arguing
-mod Words
-mod LineSteps
+mod Arguments
+mod Texts

@@ -5,9 +5,9 @@ pub use Rattle.envsubst.specs.Internal.Sorted.{AreNamesSorted, AreVariablesSorte
 pub use Rattle.envsubst.specs.Laws.{bare, braced, copied, no_reference, no_text, nothing, reference, set, unset}
 pub use Rattle.envsubst.specs.Prelude.{Advances, AreFeedCalls, BeginsNoReplaced, EndsAs, FeedCall, FeedCallsAgree, HasGoneOut, HasValue, HoldsNames, IsInName, IsName, IsReplaced, NoNameGoesOn, Reference, Replacement, Replaces, RunsEnvsubst, SpellsReference, Stops, StopsAtEnd, StopsWithin, SubstituterView, Substitutes, Took, TookAll, TookAllRead, TookBeginning, TookBeginningOfRead, Values, begins_with, envsubst_arguments, held_after, is_begun_name, is_undecided_after, name_prefix, names_given, pairs_in, pieces_of, substituted, substitution, values_of_slices, values_of_substituter, variables_of, written_in}
 unfoldable pub use Rattle.envsubst.specs.Prelude.{bare_reference, braced_reference, is_letter, is_name, is_name_byte, is_replaced, is_undecided, names_in, reference_after, replacement_of, substitution_after, value_of, values_of}
-pub use Rattle.locale_names.proofs.SearchLemmas.{byte-at, byte-here, byte-later, byte-next, nil-from_length, some-from_length}
+pub use Rattle.locale_names.proofs.LanguageParts.{byte-at, byte-here, byte-later, byte-next, nil-from_length, some-from_length}
 pub use Rattle.memchr.specs.Find.{is_byte}
-pub use Rattle.runs.proofs.DeviceLemmas.{on-err}
+pub use Rattle.runs.proofs.Devices.{on-err}
 pub use Rattle.runs.specs.Prelude.{AppendsPrefix}
 pub use Rattle.runs.specs.declared.tool_fault.ToolFault.{ToolFault}
 pub use Rattle.runs.specs.declared.tool_fault.ToolFault.TheVariants.{OutOfMemory, ReadFault, WriteFault}

@@ -50,7 +50,7 @@ pub fn output_is_replaced()
 {}
 
 /// A text without references stays as it is.
-#[tactic(auto, using(crate::proofs::NoReference::stays))]
+#[tactic(auto, using(crate::proofs::Substitution::stays))]
 pub fn without_references_it_stays()
     ensures { (values : Values) (text : List ℕ) → names_in text ≡ [] → substitution values text ≡ text }
 {}

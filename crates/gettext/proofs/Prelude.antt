@@ -7,7 +7,7 @@ pub use Rattle.gettext.specs.Prelude.{AreCandidates, AreCatalogues, AreLanguages
 unfoldable pub use Rattle.gettext.specs.Prelude.{count_in, escape_after, given_bytes_after, letter_escape, with_name}
 pub use Rattle.gettext.specs.declared.candidates.Environment.{Environment}
 pub use Rattle.gettext.specs.declared.escape.Escape.{Escape}
-pub use Rattle.locale_names.proofs.SearchLemmas.{byte-at, byte-here, byte-later, nil-from_length, some-from_length}
+pub use Rattle.locale_names.proofs.LanguageParts.{byte-at, byte-here, byte-later, nil-from_length, some-from_length}
 pub use Rattle.locale_names.specs.Prelude.{candidates, is_path_part, languages, names_from}
 unfoldable pub use Rattle.locale_names.specs.Prelude.{before, candidates_of_name, from_first, is_c_locale, language_parts}
 pub use Rattle.memchr.specs.Find.{is_byte}

@@ -3,10 +3,9 @@ use Rattle.known_system.proofs.Prelude.{Contents, Err, Folder, Holds, IsFileFaul
 use Rattle.std.specs.Io.KnownBytes.{Appends}
 use Rattle.runs.specs.OutputSystem.{cut, delivered, made, to_file, unmade, unreported}
 use Rattle.runs.specs.ToolRuns.{unwritten, written}
-use Rattle.runs.specs.declared.output_files.OutputFault.TheVariants.{CannotCreate, WriteFault, OutOfMemory}
+use Rattle.runs.specs.declared.output_files.OutputFault.TheVariants.{CannotCreate, OutOfMemory, WriteFault}
 use Rattle.runs.specs.declared.program_fault.ProgramFault.{ProgramFault}
-use Rattle.known_system.proofs.Lefts.{left_by}
-use Rattle.known_system.proofs.Replays.{replay_all}
+use Rattle.known_system.proofs.Calls.{left_by, replay_all}
 
 fault_is : (argument : List ℕ) (why : OutputFault) → IsFileFault argument (output_fault_text argument why)
 fault_is argument CannotCreate = inr (inl refl)

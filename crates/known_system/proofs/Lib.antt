@@ -1,7 +1,5 @@
 -- The lemmas in reading order: each module stands on those above it.
 mod Prelude
 pub mod Walks
-pub mod Replays
-pub mod Lefts
+pub mod Calls
 pub mod Contents
-pub mod Tellings

@@ -147,7 +147,7 @@ impl<'a> OutputFiles for KnownFiles<'a> {
 
     ghost log = { λ files. Some files.history.calls };
 
-    #[tactic(auto, using(crate::proofs::Replays::replay_append))]
+    #[tactic(auto, using(crate::proofs::Calls::replay_append))]
     fn kind(&mut self, path: &str) -> FileKind {
         let old = if is_at(&self.held, path) {
             Some(RIGHTS)
@@ -159,7 +159,7 @@ impl<'a> OutputFiles for KnownFiles<'a> {
         kind
     }
 
-    #[tactic(auto, using(crate::proofs::Replays::replay_append))]
+    #[tactic(auto, using(crate::proofs::Calls::replay_append))]
     fn link(&mut self, alloc: Global, path: &str) -> Result<Option<String>, OutputFault> {
         let Some(text) = link_at(self.links, path) else {
             self.history = self.history.then(&Note::NoLink(path));
@@ -178,7 +178,7 @@ impl<'a> OutputFiles for KnownFiles<'a> {
         }
     }
 
-    #[tactic(auto, using(crate::proofs::Replays::replay_append))]
+    #[tactic(auto, using(crate::proofs::Calls::replay_append))]
     fn number(&mut self) -> u32 {
         let number = self.next;
         self.next = number.wrapping_add(1);
@@ -186,7 +186,7 @@ impl<'a> OutputFiles for KnownFiles<'a> {
         number
     }
 
-    #[tactic(auto, using(crate::proofs::Replays::replay_append))]
+    #[tactic(auto, using(crate::proofs::Calls::replay_append))]
     fn create_new(&mut self, path: &str, mode: u32) -> Result<Vec<u8>, MakeFault> {
         if self.fresh.is_some() || is_at(&self.held, path) || self.is_linked(path) {
             self.history = self
@@ -208,31 +208,31 @@ impl<'a> OutputFiles for KnownFiles<'a> {
         Ok(Vec::new(self.alloc))
     }
 
-    #[tactic(auto, using(crate::proofs::Replays::replay_append))]
+    #[tactic(auto, using(crate::proofs::Calls::replay_append))]
     fn set_owner(&mut self, _file: &Vec<u8>, owner: Owner) -> Option<Owner> {
         self.history = self.history.then(&Note::SetsOwner(owner, Some(owner)));
         Some(owner)
     }
 
-    #[tactic(auto, using(crate::proofs::Replays::replay_append))]
+    #[tactic(auto, using(crate::proofs::Calls::replay_append))]
     fn set_mode(&mut self, _file: &Vec<u8>, mode: u32) -> bool {
         self.history = self.history.then(&Note::SetsMode(mode, true));
         true
     }
 
-    #[tactic(auto, using(crate::proofs::Replays::replay_append))]
+    #[tactic(auto, using(crate::proofs::Calls::replay_append))]
     fn open(&mut self, path: &str) -> Option<Vec<u8>> {
         self.history = self.history.then(&Note::FailsToOpen(path));
         None
     }
 
-    #[tactic(auto, using(crate::proofs::Replays::replay_append))]
+    #[tactic(auto, using(crate::proofs::Calls::replay_append))]
     fn stream(&mut self, number: u32) -> Option<Vec<u8>> {
         self.history = self.history.then(&Note::LacksStream(number));
         None
     }
 
-    #[tactic(auto, using(crate::proofs::Replays::replay_append))]
+    #[tactic(auto, using(crate::proofs::Calls::replay_append))]
     fn close(&mut self, file: Counted<Vec<u8>>) -> bool
         ensures { Some self.new.history.calls
             ≡ logged (closes (Some (counted_inner file).items) (counted_failures file) result ∷ [])
@@ -243,7 +243,7 @@ impl<'a> OutputFiles for KnownFiles<'a> {
         true
     }
 
-    #[tactic(auto, using(crate::proofs::Replays::replay_append))]
+    #[tactic(auto, using(crate::proofs::Calls::replay_append))]
     fn rename(&mut self, from: &str, to: &str) -> bool {
         if !is_at(&self.fresh, from) || !is_free(&self.held, to) || self.is_linked(to) {
             self.history = self.history.then(&Note::Renames(from, to, false));
@@ -258,7 +258,7 @@ impl<'a> OutputFiles for KnownFiles<'a> {
         true
     }
 
-    #[tactic(auto, using(crate::proofs::Replays::replay_append))]
+    #[tactic(auto, using(crate::proofs::Calls::replay_append))]
     fn remove(&mut self, path: &str) {
         self.held = unless_at(self.held.take(), path);
         self.fresh = unless_at(self.fresh.take(), path);

@@ -1,5 +1,4 @@
 -- The lemmas in reading order: each module stands on those above it.
 mod Prelude
-pub mod SearchLemmas
-pub mod PartLemmas
-pub mod CandidateLemmas
+pub mod LanguageParts
+pub mod CandidateNames

@@ -1,15 +1,8 @@
 -- The lemmas in reading order: each module stands on those above it.
 mod Prelude
-pub mod JoiningLemmas
-pub mod ListingLemmas
-pub mod SearchLemmas
-pub mod CompletingLemmas
-pub mod RisingLemmas
-pub mod ExpandedFileLemmas
-pub mod AnyOrderLemmas
-pub mod SortedFileLemmas
-pub mod OrderLemmas
-pub mod AddingLemmas
-pub mod SegmentLemmas
-pub mod SystemMessageLemmas
+pub mod AddedMessages
+pub mod ExpandedFiles
+pub mod MessageOrder
+pub mod Segments
+pub mod SystemMessages
 pub mod Examples

@@ -4,8 +4,8 @@ pub use Rattle.mo_expand.specs.Prelude.{AreSegments, ExampleIsCompleted, Example
 unfoldable pub use Rattle.mo_expand.specs.Prelude.{joined, with_message, with_messages}
 pub use Rattle.mo_expand.specs.declared.platform_text.PlatformText.{PlatformText}
 pub use Rattle.mo_file.proofs.RisingKeys.{greater_is_less, key-by, key_by, keys-by, length-keys, less_is_other, rising-answered, rising-from_sorted, rising_between}
-pub use Rattle.mo_file.proofs.RoundTripLemmas.{layout_is_mo_file}
-pub use Rattle.mo_file.proofs.ViewLemmas.{AreRising-messages_of, length-messages_of, map-messages_of-at}
+pub use Rattle.mo_file.proofs.RoundTrip.{layout_is_mo_file}
+pub use Rattle.mo_file.proofs.RisingKeys.{AreRising-messages_of, length-messages_of, map-messages_of-at}
 pub use Rattle.mo_file.specs.Prelude.{AreRising, HasMagicOf, IsMoFile, Message, borrowed_message, end_at, key_at, key_cmp, key_of, keys, message_count, messages_of, messages_of_borrowed, originals, originals_table, revision, translations, translations_table}
 unfoldable pub use Rattle.mo_file.specs.Prelude.{string_at, word_at}
 pub use Rattle.mo_file.specs.declared.byte_order.Order.{Order}

@@ -1,12 +1,8 @@
 -- The lemmas in reading order: each module stands on those above it.
 mod Prelude
-pub mod CommonPrefixLemmas
-pub mod CutLemmas
-pub mod RisingKeys
+pub mod Cuts
 pub mod KeyComparison
-pub mod FaultLemmas
-pub mod FaultTotality
-pub mod ViewLemmas
-pub mod BuildLemmas
-pub mod LayoutLemmas
-pub mod RoundTripLemmas
+pub mod Faults
+pub mod RisingKeys
+pub mod Layout
+pub mod RoundTrip

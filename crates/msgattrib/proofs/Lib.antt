@@ -1,6 +1,4 @@
 -- The lemmas in reading order: each module stands on those above it.
 mod Prelude
-pub mod SelectedLemmas
-pub mod SelectionLaws
 pub mod OptionLaws
-pub mod ChangedEntries
+pub mod SelectedEntries

@@ -1,12 +1,12 @@
--- The parts of a merged entry, and which messages are kept.
-use Rattle.msgcat.proofs.Prelude.{All-contains, All-head, All-tail, All-weaker, AreLiveOf, Bool, CommentKind, DefinedByLive, EndsForm, FaultIsOfNoLine, FormsAreJoined, IsJoinedForm, JoinedIsFuzzy, List, MergeOptions, NamedEntry, None, ObsoleteWhereNoneIsLive, Option, PluralOfFirst, PoError, PreviousOfFirst, Some, TextEntry, TextPrevious, TextsInOrder, TextsOfAll, Translator, [], any_passing, ap, append_assoc, ap₂, arith, collected, comment_of, cond, cond_both, ended, ends_with, false, filter, filter_agree, find, find-append, first_of, first_with, fold, fold_push, form_count, get_or, get_or-map-range_with_len, has_plural, has_previous, has_text, if◌then◌else◌, inl, inr, is_live, is_some, joined_form, length, list_any, list_any-append, list_any_none, live, marked, merged_entry, nat_eq, nat_tests, no_more, no_previous, not, not-false, obsolete, of_nothing, option_map_or, or-false, or_assoc, refl, slice_get, subst, sym, texts_of, translations, true, with_feed, with_form, with_others, without_feed, without_form, ℕ, ◌&&◌, ◌++◌, ◌<◌, ◌||◌, ◌∙◌, ◌∷◌, ◌≡◌, ◌≢◌}
-use Rattle.std.proofs.Common.{bytes_eq, All}
+-- The parts of a merged entry, its forms, and which messages are kept.
+use Rattle.msgcat.proofs.Prelude.{All, All-cons, All-contains, All-contains_itself, All-filter, All-head, All-nil, All-tail, All-weaker, Any-from_list_any, AreLiveOf, Bool, CommentKind, CommentsOfFirst, Contains, Decides, DefinedByLive, EndsForm, FaultIsOfNoLine, FormsAreJoined, FormsOfFirst, IsEquivalence, IsFirstTranslated, IsJoinedForm, IsTranslated, IsUntranslated, JoinedAsLongest, JoinedIsFuzzy, JoinedWhereTheyDiffer, List, MergeOptions, NamedEntry, None, ObsoleteWhereNoneIsLive, Option, PluralOfFirst, PoError, PreviousOfFirst, Some, TextEntry, TextPrevious, TextsInOrder, TextsOfAll, TranslatedStays, TranslationsDiffer, Translator, [], any_first_ones, any_passing, ap, append_assoc, ap₂, arith, bytes_eq-Decides, collected, comment_of, cond, cond_both, definitions, ended, ends_with, false, false_from_ne_true, false≢true, filter, filter_agree, filter_passes, find, find-append, first_form, first_of, first_translated, first_with, fold, fold_push, form_count, get_or, get_or-map-range_with_len, has_plural, has_previous, has_text, has_translation, if◌then◌else◌, inl, inr, is_joined, is_live, is_some, joined_form, joined_forms, length, list_any, list_any-append, list_any_none, lists_equiv, live, marked, max, merged_entry, nat_eq, nat_list_eq_equiv, nat_tests, no_more, no_previous, none, not, not-false, obsolete, of_nothing, on_equiv, option_map_or, or-false, or_assoc, or_parts, refl, same_forms, slice_eq-Decides, slice_get, subst, sym, texts_eq, texts_of, translated, translations, true, with_feed, with_form, with_others, without_feed, without_form, ℕ, ◌&&◌, ◌++◌, ◌<◌, ◌==◌, ◌||◌, ◌∙◌, ◌∷◌, ◌≡◌, ◌≢◌, ◌≤◌}
+use Rattle.std.proofs.Common.{bytes_eq}
 use Rattle.std.proofs.lemmas.List.Prefix.{end_rest}
 use Rattle.msgcat.specs.Laws.{no_entry}
 use Rattle.po_syntax.specs.Facts.Runs.{from_end}
-use Rattle.msgcat.proofs.FirstOnes.{none_all}
-use Rattle.msgcat.proofs.Sets.{has_others}
-use Rattle.msgcat.proofs.Valid.{count_joined, first_keeps, forms_joined}
+use Rattle.msgcat.proofs.SeenTexts.{Apart, all_first_ones, apart_first_ones, has_others, none_all}
+use Rattle.msgcat.proofs.ValidMerged.{count_joined, count_keeps, first_keeps, forms_joined, several}
+use Rattle.std.proofs.lemmas.Map.Views.{any-filter_same, list_any-from_Contains}
 
 -- the texts of one kind of a merged entry
 pub texts_merged : (o : MergeOptions) (kind : CommentKind) (ds : List NamedEntry)
@@ -159,3 +159,195 @@ obsolete_where_none_is_live o group some = found (list_any (λ e. is_live e.entr
 pub fault_is_of_no_line : (entries : List TextEntry) (error : PoError) → FaultIsOfNoLine entries error
 fault_is_of_no_line entries error (inl memory) = ap (λ (e : PoError). e.line) memory
 fault_is_of_no_line entries error (inr foreign) = ap (λ (e : PoError). e.line) foreign.1
+
+-- When translations are joined, and which definition's forms a merged entry has.
+
+-- the test of a definition with a translation, and what it decides
+abbrev pub has : NamedEntry → Bool
+has d = has_translation d.entry
+
+bytes_decide : (form : List ℕ) → Decides (not (length form == 0)) (form ≢ [])
+bytes_decide [] = grind arith
+bytes_decide (b ∷ form) = grind (arith, nat_tests)
+
+pub has_is : (d : NamedEntry) → has d ≡ true → IsTranslated d
+has_is d = (bytes_decide (first_form d.entry.forms)).0
+
+pub is_has : (d : NamedEntry) → IsTranslated d → has d ≡ true
+is_has d = (bytes_decide (first_form d.entry.forms)).1
+
+has_none : (d : NamedEntry) → IsUntranslated d → has d ≡ false
+has_none d lacks = false_from_ne_true (has d) (λ is. has_is d is lacks)
+
+-- definitions with the same forms
+forms_decide : (a b : NamedEntry)
+    → (same_forms a b ≡ true → a.entry.forms ≡ b.entry.forms) × (a.entry.forms ≡ b.entry.forms → same_forms a b ≡ true)
+forms_decide a b = slice_eq-Decides bytes_eq-Decides a.entry.forms b.entry.forms
+    (texts_eq a.entry.forms b.entry.forms) refl
+
+pub forms_laws : IsEquivalence same_forms
+forms_laws = on_equiv (λ (d : NamedEntry). d.entry.forms) (lists_equiv nat_list_eq_equiv)
+
+-- a definition of the message that has a translation
+pub record IsOne (ds : List NamedEntry) (d : NamedEntry) : Type 0 where
+  pub among : Contains ds d
+  pub is : IsTranslated d
+
+pub each_is : (ds : List NamedEntry) → All (IsOne ds) (translations ds)
+each_is ds = all_first_ones same_forms (IsOne ds) (filter has ds) (λ k d below. record {
+  among = All-filter has (Contains ds) ds (All-contains_itself ds) k d below;
+  is = has_is (get_or (filter has ds) k d) (filter_passes has ds k d below);
+})
+
+any_of : (ds : List NamedEntry) (d : NamedEntry) → Contains ds d → IsTranslated d
+    → list_any (same_forms d) (translations ds) ≡ true
+any_of ds d h is =
+    any_first_ones same_forms forms_laws d (filter has ds)
+    ∙ any-filter_same (same_forms d) has true
+    (λ k same. ap (λ forms. not (length (first_form forms) == 0)) (sym ((forms_decide d k).0 same)) ∙ is_has d is)
+    ds
+    ∙ list_any-from_Contains forms_laws d ds h
+
+two_differ : (ds ts : List NamedEntry) → 1 < length ts → All (IsOne ds) ts → Apart same_forms ts → TranslationsDiffer ds
+two_differ ds [] more all apart = absurd (omega (arith, more))
+two_differ ds (t ∷ []) more all apart = absurd (omega (arith, more))
+two_differ ds (a ∷ b ∷ ts) more all apart =
+    let one = All-head (IsOne ds) a (b ∷ ts) all in
+    let other = All-head (IsOne ds) b ts (All-tail (IsOne ds) a (b ∷ ts) all) in
+    let unlike = (or_parts (same_forms a b) (list_any (same_forms a) ts) apart.0).0 in
+    record {
+      one = a;
+      other = b;
+      among_one = one.among;
+      among_other = other.among;
+      one_translated = one.is;
+      other_translated = other.is;
+      differ = λ same. false≢true (sym unlike ∙ (forms_decide a b).1 same);
+    }
+
+more_than_one : (a b : NamedEntry) (ts : List NamedEntry) → list_any (same_forms a) ts ≡ true
+    → list_any (same_forms b) ts ≡ true → a.entry.forms ≢ b.entry.forms → 1 < length ts
+more_than_one a b [] p q differ = absurd (false≢true p)
+more_than_one a b (t ∷ []) p q differ = grind (arith, forms_decide a t, forms_decide b t)
+more_than_one a b (t ∷ u ∷ ts) p q differ = omega arith
+
+pub joined_where_they_differ : (o : MergeOptions) (ds : List NamedEntry) → JoinedWhereTheyDiffer o ds
+joined_where_they_differ o ds = (
+  λ joined. (
+    grind arith,
+    two_differ ds (translations ds) (several o ds joined) (each_is ds)
+        (apart_first_ones same_forms forms_laws (filter has ds)),
+  ),
+  λ (off, t).
+      let more = more_than_one t.one t.other (translations ds) (any_of ds t.one t.among_one t.one_translated)
+      (any_of ds t.other t.among_other t.other_translated) t.differ in grind (arith, nat_tests),
+)
+
+-- the largest count of forms, from a count on
+abbrev largest : ℕ → List NamedEntry → ℕ
+largest n ts = fold (λ count t. max count (length t.entry.forms)) n ts
+
+bounded : (n : ℕ) (ts : List NamedEntry) → (n ≤ largest n ts) × All (λ t. length t.entry.forms ≤ largest n ts) ts
+bounded n [] = (omega arith, All-nil (λ t. length t.entry.forms ≤ n))
+bounded n (t ∷ ts) =
+    let later = bounded (max n (length t.entry.forms)) ts in (
+      omega (arith, later.0),
+      All-cons (λ x. length x.entry.forms ≤ largest n (t ∷ ts)) t ts (omega (arith, later.0)) later.1,
+    )
+
+no_longer : (d : NamedEntry) (count : ℕ) (ts : List NamedEntry) → list_any (same_forms d) ts ≡ true
+    → All (λ t. length t.entry.forms ≤ count) ts → length d.entry.forms ≤ count
+no_longer d count ts h all =
+    let any = Any-from_list_any (same_forms d) ts h in
+    let same = ap length ((forms_decide d any.1).0 any.4) in
+    let most = All-contains (λ t. length t.entry.forms ≤ count) ts any.1 all (any.0, any.2, any.3) in
+    omega (arith, same, most)
+
+pub joined_as_longest : (o : MergeOptions) (ds : List NamedEntry) → JoinedAsLongest o ds
+joined_as_longest o ds joined =
+    let ts = translations ds in
+    let count : length (merged_entry o ds).forms ≡ form_count ts =
+    ap length (forms_joined o ds joined) ∙ count_joined ts in
+    let found = count_keeps (λ n. (t : NamedEntry) × IsOne ds t × (length t.entry.forms ≡ n)) ts
+    (omega (arith, several o ds joined)) (λ k d below. (get_or ts k d, each_is ds k d below, refl)) in
+    record {
+      longest = found.0;
+      among = found.1.among;
+      translated = found.1.is;
+      as_many = found.2 ∙ sym count;
+      none_longer = λ d among is. let most =
+          no_longer d (form_count ts) ts (any_of ds d among is) (bounded 0 ts).1 in omega (arith, count, most);
+    }
+
+first_translated_is : {ds : List NamedEntry} {d : NamedEntry} → IsFirstTranslated ds d → first_translated ds ≡ d.entry
+first_translated_is (translated before after {d = d} before_none is) =
+    first_is has_translation before d after (All-weaker IsUntranslated (λ b. has b ≡ false) has_none before before_none)
+    (is_has d is)
+first_translated_is (none {d = d} {after = after} h) =
+    ap (λ (r : Option NamedEntry). option_map_or (λ (x : NamedEntry). x.entry) r d.entry)
+    (find_none has (d ∷ after) (All-weaker IsUntranslated (λ b. has b ≡ false) has_none (d ∷ after) h))
+
+pub forms_of_first : (o : MergeOptions) (ds : List NamedEntry) (d : NamedEntry) → FormsOfFirst o ds d
+forms_of_first o ds d apart first = let same = first_translated_is first in rw (apart, same) (refl, refl)
+
+pub comments_of_first : (o : MergeOptions) (kind : CommentKind) (ds : List NamedEntry) (d : NamedEntry)
+    → CommentsOfFirst o kind ds d
+comments_of_first o kind ds d on first =
+    let same = first_translated_is first in texts_merged o kind ds ∙ rw (on, same) refl
+
+any-filter : {X : Type 0} (p q : X → Bool) (xs : List X) → list_any p (filter q xs) ≡ list_any (λ x. q x && p x) xs
+any-filter p q [] = refl
+any-filter p q (x ∷ xs) = grind (arith, any-filter p q xs)
+
+-- a definition of the group's message has a translation
+any_defined : (group : List NamedEntry) (d : NamedEntry) → Contains group d → d.entry.obsolete ≡ false
+    → IsTranslated d → list_any has (definitions group) ≡ true
+any_defined group d among live is =
+    let lives : NamedEntry → Bool = λ x. is_live x.entry in
+    let any = λ (p : NamedEntry → Bool). All-contains (λ x. p x ≡ true → list_any p group ≡ true) group d
+    (any_passing p group) among in
+    cond_both (list_any lives group) (filter lives group) group (λ l. list_any has l ≡ true)
+    (λ _. any-filter has lives group ∙ any (λ x. lives x && has x) (rw live (is_has d is))) (λ _. any has (is_has d is))
+
+found_has : (ds : List NamedEntry) (none : TextEntry) → list_any has ds ≡ true
+    → has_translation (option_map_or (λ (d : NamedEntry). d.entry) (find has ds) none) ≡ true
+found_has [] none h = absurd (false≢true h)
+found_has (d ∷ ds) none h = grind (arith, found_has ds none)
+
+-- a joined form of a translation has the line of its input
+marked_some : (name form rest : List ℕ) → marked name form ++ rest ≢ []
+marked_some name form rest e = cc
+
+some_joined : (t : NamedEntry) (ts : List NamedEntry) → IsTranslated t → joined_form (t ∷ ts) 0 ≢ []
+some_joined t ts is = by t.entry.forms refl where
+  by : (forms : List (List ℕ)) → t.entry.forms ≡ forms
+      → option_map_or (marked t.name) (slice_get forms 0) [] ++ joined_form ts 0 ≢ []
+  by [] e = absurd (is (ap first_form e))
+  by (form ∷ forms) e = marked_some t.name form (joined_form ts 0)
+
+some_form : (forms : List (List ℕ)) → first_form forms ≢ [] → 0 < length forms
+some_form [] some = absurd (some refl)
+some_form (form ∷ forms) some = omega arith
+
+first_form_is : (forms : List (List ℕ)) → first_form forms ≡ get_or forms 0 []
+first_form_is [] = refl
+first_form_is (form ∷ forms) = refl
+
+first_joined : (ds ts : List NamedEntry) → 0 < length ts → All (IsOne ds) ts → first_form (joined_forms ts) ≢ []
+first_joined ds [] more all = absurd (omega (arith, more))
+first_joined ds (t ∷ ts) more all =
+    let below : 0 < form_count (t ∷ ts) = count_keeps (λ n. 0 < n) (t ∷ ts) more (All-weaker (IsOne ds)
+    (λ x. 0 < length x.entry.forms) (λ x one. some_form x.entry.forms one.is) (t ∷ ts) all) in
+    let form : first_form (joined_forms (t ∷ ts)) ≡ joined_form (t ∷ ts) 0 = first_form_is (joined_forms (t ∷ ts))
+    ∙ get_or-map-range_with_len (joined_form (t ∷ ts)) 0 (form_count (t ∷ ts)) 0 0 [] below (omega arith) in
+    λ e. some_joined t ts (All-head (IsOne ds) t ts all).is (sym form ∙ e)
+
+translated_some : (o : MergeOptions) (ds : List NamedEntry) → list_any has ds ≡ true
+    → first_form (merged_entry o ds).forms ≢ []
+translated_some o ds any =
+    cond_both (is_joined o ds) (joined_forms (translations ds)) (first_translated ds).forms (λ fs. first_form fs ≢ [])
+    (λ joined. first_joined ds (translations ds) (omega (arith, several o ds joined)) (each_is ds))
+    (λ _. has_is (record { name = []; entry = first_translated ds }) (found_has ds (first_of ds) any))
+
+pub stays : (o : MergeOptions) (group : List NamedEntry) → TranslatedStays o group
+stays o group d among live is = translated_some o (definitions group) (any_defined group d among live is)

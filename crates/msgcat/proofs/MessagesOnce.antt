@@ -1,10 +1,9 @@
 -- Each message that is kept stands once among the merged entries.
 use Rattle.msgcat.proofs.Prelude.{All, All-filter, All-head, All-map, All-tail, All-weaker, AllDiffer, Bool, IsSameMessage, KeptMessagesStand, List, MergeOptions, MessagesStandOnce, Named, NamedEntry, None, Option, TextEntry, [], all_entries, and-false, and_parts, any_first_ones, any_map, ap, ap₂, arith, bytes_eq, bytes_eq-Decides, cond, cond_both, contexts_are, definitions, false, false≢true, filter, filter_agree, filter_passes, first_ones, get_or, has_message, is_kept, is_live, is_of_message, length, list_any, list_any-append, list_any_at, map, merged_entry, merged_messages, named, option_eq, plain_entry, refl, same_message, sym, true, ℕ, ◌&&◌, ◌<◌, ◌||◌, ◌∙◌, ◌∷◌, ◌≡◌}
 use Rattle.std.proofs.lemmas.List.Kept.{AllPairs-cons}
-use Rattle.msgcat.proofs.FirstOnes.{Apart, group_of, apart_first_ones}
-use Rattle.msgcat.proofs.Messages.{same_message_laws}
-use Rattle.msgcat.proofs.Valid.{first_keeps}
-use Rattle.msgcat.proofs.GroupsMerged.{some_passes, any_same, definitions_some}
+use Rattle.msgcat.proofs.SeenTexts.{Apart, apart_first_ones, group_of, same_message_laws}
+use Rattle.msgcat.proofs.ValidMerged.{first_keeps}
+use Rattle.msgcat.proofs.MergedGroups.{any_same, definitions_some, some_passes}
 
 pub same_is : (a b : NamedEntry) → same_message a b ≡ true → IsSameMessage a.entry b.entry
 same_is a b h =

@@ -1,8 +1,10 @@
--- A message with one definition is merged to that entry.
-use Rattle.msgcat.proofs.Prelude.{All, All-cons, All-contains, All-head, All-nil, All-tail, Bool, CommentKind, Contains, Extracted, Flags, List, MergeOptions, NamedEntry, Reference, TextEntry, Translator, [], all_pass, ap, append-nil, ap₂, arith, bytes_eq, bytes_eq-Decides, collected, comment_of, cond_both, false, false_from_ne_true, first_of, first_translated, first_with, fold, get_or, has_plural, has_previous, has_translation, if◌then◌else◌, is_joined, joined_forms, length, list_any, list_any_at, merged_entry, named_entries, named_entry, none_pass, not, refl, sym, texts_of, translations, with_others, ℕ, ◌++◌, ◌<◌, ◌||◌, ◌∙◌, ◌∷◌, ◌≡◌}
+-- A message with one definition, and the first definition that has a part.
+use Rattle.msgcat.proofs.Prelude.{All, All-cons, All-contains, All-head, All-nil, All-tail, Bool, CommentKind, Contains, Extracted, Flags, List, MergeOptions, NamedEntry, None, Option, Reference, Some, TextEntry, Translator, [], all_pass, ap, append-nil, ap₂, arith, bytes_eq, bytes_eq-Decides, collected, comment_of, cond_both, false, false_from_ne_true, find, find_map, first_of, first_translated, first_with, fold, get_or, has_plural, has_previous, has_translation, if◌then◌else◌, is_joined, joined_forms, length, list_any, list_any_at, merged_entry, named_entries, named_entry, none_pass, not, option_map, option_map_or, refl, sym, texts_of, translations, with_others, ℕ, ◌++◌, ◌<◌, ◌||◌, ◌∙◌, ◌∷◌, ◌≡◌}
 use Rattle.msgcat.specs.declared.definition.NamedEntry.{NamedEntry as BorrowedEntry}
-use Rattle.msgcat.proofs.TranslationLaws.{joined_where_they_differ}
-use Rattle.msgcat.proofs.Valid.{first_keeps, first_with_keeps}
+use Rattle.msgcat.proofs.EntryLaws.{joined_where_they_differ}
+use Rattle.msgcat.proofs.ValidMerged.{first_keeps, first_with_keeps}
+use Rattle.std.specs.Borrow.{Bor}
+use Rattle.std.specs.Option.{unwrap_or}
 
 -- definitions of one entry
 abbrev AreOf : TextEntry → List NamedEntry → Type 0
@@ -89,3 +91,18 @@ pub first_is : (ds : List BorrowedEntry) (d : BorrowedEntry) → 0 < length ds �
     → d.entry ≡ first_of (named_entries ds)
 first_is [] d some at = absurd (omega (arith, some))
 first_is (x ∷ ds) d some at = ap (λ (y : BorrowedEntry). y.entry) at
+
+pub first_found : (has : TextEntry → Bool) (ds : List BorrowedEntry) (found : Option (Bor BorrowedEntry))
+    (other : Bor BorrowedEntry) → 0 < length ds → other.now ≡ get_or ds 0 other.now
+    → option_map (λ d. d.now) found ≡ find (λ d. has d.entry) ds
+    → (unwrap_or found other).now.entry ≡ first_with has (named_entries ds)
+first_found has ds found other some first is = by found is where
+  by : (f : Option (Bor BorrowedEntry)) → option_map (λ d. d.now) f ≡ find (λ d. has d.entry) ds
+      → (unwrap_or f other).now.entry ≡ first_with has (named_entries ds)
+  by None none =
+      first_is ds other.now some first
+      ∙ sym (ap (λ (r : Option NamedEntry). option_map_or (λ (x : NamedEntry). x.entry) r (first_of (named_entries ds)))
+      (find_map (λ (x : NamedEntry). has x.entry) named_entry ds ∙ ap (option_map named_entry) (sym none)))
+  by (Some d) same =
+      sym (ap (λ (r : Option NamedEntry). option_map_or (λ (x : NamedEntry). x.entry) r (first_of (named_entries ds)))
+      (find_map (λ (x : NamedEntry). has x.entry) named_entry ds ∙ ap (option_map named_entry) (sym same)))

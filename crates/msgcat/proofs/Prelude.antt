@@ -10,10 +10,10 @@ pub use Rattle.msgcat.specs.declared.input.MergeOptions.{MergeOptions}
 pub use Rattle.msgcat.specs.declared.input.ReadInput.{ReadInput}
 pub use Rattle.msgcat.specs.declared.inputs.FileFault.{FileFault}
 pub use Rattle.msgcat.specs.declared.inputs.ReadInputs.{ReadInputs}
-pub use Rattle.po_entry.proofs.FirstOnes.{any_first_ones, numbers_below}
-pub use Rattle.po_entry.proofs.FuzzyFlags.{any_passing}
-pub use Rattle.po_entry.proofs.MessageIndex.{contexts_are, same_message_laws}
-pub use Rattle.po_entry.proofs.QuotedParts.{quoted_parts}
+pub use Rattle.po_entry.proofs.MessageNumbers.{any_first_ones, numbers_below}
+pub use Rattle.po_entry.proofs.CommentElements.{any_passing}
+pub use Rattle.po_entry.proofs.MessageNumbers.{contexts_are, same_message_laws}
+pub use Rattle.po_entry.proofs.AdmittedTexts.{quoted_parts}
 pub use Rattle.po_entry.specs.Prelude.{AllDiffer, AreDistinct, AreNumbered, AreUpTo, HasAdmittedCharset, HasNoDuplicate, IsCatalogueEntry, IsEntry, IsFlag, IsNumbered, IsReference, IsSameMessage, IsTranslatorComment, Lacks, Message, ReadsText, RepeatsOnLines, TextEntry, TextPrevious, are_placed, digest_of, entry_message, entry_messages, first_form, group_numbers, has_translation, is_header, is_live, is_of_message, no_previous, number_in, out_of_memory, place_of, plain_entry, previous_texts, split_forms, texts, texts_eq, texts_left, translation_bytes, with_line, with_seen}
 pub use Rattle.po_entry.specs.declared.repeats.EntryPlace.{EntryPlace}
 pub use Rattle.po_syntax.specs.Facts.AllAppend.{All-left, All-right}

@@ -40,7 +40,7 @@ pub fn one_input_stays()
 
 /// Inputs are merged to their entries, in order, if no message stands in two of these, and all
 /// messages are kept.
-#[tactic(auto, using(crate::proofs::DistinctInputs::distinct_inputs))]
+#[tactic(auto, using(crate::proofs::SameInput::distinct_inputs))]
 pub fn distinct_inputs_stay()
     ensures { (use_first : Bool) (inputs : List Named) → DistinctInputsStay use_first inputs }
 {}
@@ -93,7 +93,7 @@ pub fn first_translated_definition()
 
 /// What is translated stays translated: where a live entry of a message has a translation, so has
 /// the entry that they are merged to.
-#[tactic(auto, using(crate::proofs::StaysTranslated::stays))]
+#[tactic(auto, using(crate::proofs::EntryLaws::stays))]
 pub fn translated_stays_translated()
     ensures { (options : MergeOptions) (group : List NamedEntry) → TranslatedStays options group }
 {}

@@ -1,12 +1,12 @@
 -- What the proofs of this crate cite of std, of the crates below and of its own definitions. Declares nothing.
-pub use Rattle.mo_file.proofs.CutLemmas.{before_all, before_is, context_cut, context_none, first_all, first_cut, id_all, id_cut, plural_cut, plural_none, split_none}
+pub use Rattle.mo_file.proofs.Cuts.{before_all, before_is, context_cut, context_none, first_all, first_cut, id_all, id_cut, plural_cut, plural_none, split_none}
 pub use Rattle.mo_file.specs.Prelude.{IsMoFile, Message, MoFileOrFault, OneFirstFault, OneMessageList, context_of, forms, id_of, is_nul, key_of, layout, originals, plural_of, translations}
 pub use Rattle.msgunfmt.specs.Internal.Unformatting.{AppendsEntry, AppendsMessage, HoldsMessage, RefusesEntry, RefusesMessage, RefusesMessages}
 pub use Rattle.msgunfmt.specs.Laws.{after_context, at_end, at_nul, before_plural, each_part, first_part, key_alone, msgid_alone}
 pub use Rattle.msgunfmt.specs.Prelude.{AreWrittenAs, CompilesTo, ContainsForms, ContainsKey, ContainsMsgid, EmptyText, HasFirstEntryTextFault, HasForeignCharset, IsAfterPart, IsEntryOf, IsFileOf, IsUnformatFault, NoFaultWhereUnformatted, OneText, OneUnformatFault, TextOrFault, UnformatThenCompile, entry_of_message, taken_forms, unformatted}
 pub use Rattle.msgunfmt.specs.declared.fault.UnformatError.{UnformatError}
 pub use Rattle.msgunfmt.specs.declared.fault.UnformatError.TheVariants.{ForbiddenByte, ForeignCharset, Mo, NotUtf8, OutOfMemory}
-pub use Rattle.po_entry.proofs.TextsFaults.{no_texts_fault, one_texts_fault}
+pub use Rattle.po_entry.proofs.AdmittedTexts.{no_texts_fault, one_texts_fault}
 pub use Rattle.po_entry.specs.Prelude.{Adds, AllDiffer, AreLaid, CanLie, EntryTextFault, HasAdmittedCharset, HasNoDuplicate, HasTexts, IsCatalogueEntry, IsEntry, IsFlag, IsReference, IsTranslatorComment, Lacks, LiesIn, ReadsDistinct, ReadsText, TextEntry, entries_in, entry_at, has_translation, is_header, is_live, joined_entries, message_entry, plain_entry, previous_texts, quoted_texts, row_of, with_line}
 pub use Rattle.po_entry.specs.Validity.EntryTextFault.{forbidden, not_utf8}
 pub use Rattle.po_syntax.specs.Facts.AllAppend.{All-left, All-right}

@@ -1,13 +1,8 @@
 -- The lemmas in reading order: each module stands on those above it.
 mod Prelude
-pub mod Complete
-pub mod Sound
-pub mod Numerals
-pub mod Lexing
-pub mod Scanning
-pub mod ParserRun
+pub mod SpeltTrees
+pub mod Tokens
 pub mod Programs
-pub mod ParserSteps
-pub mod Searches
-pub mod Uniqueness
-pub mod Evaluating
+pub mod Parser
+pub mod HeaderRules
+pub mod Evaluation

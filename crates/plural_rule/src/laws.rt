@@ -15,13 +15,13 @@ pub fn one_tree()
 
 /// The value of an expression is the one that C's operators give it, and it has none where C leaves
 /// that undefined: where it divides by 0.
-#[tactic(auto, using(crate::proofs::Evaluating::value_evaluates))]
+#[tactic(auto, using(crate::proofs::Evaluation::value_evaluates))]
 pub fn value_evaluates()
     ensures { (count : ℕ) (tree : Tree) (number : ℕ) → value tree count ≡ Some number ↔ Evaluates count tree number }
 {}
 
 /// No evaluation visits more nodes than there are.
-#[tactic(auto, using(crate::proofs::Uniqueness::visited_le_nodes))]
+#[tactic(auto, using(crate::proofs::HeaderRules::visited_le_nodes))]
 pub fn visited_at_most_nodes()
     ensures { (tree : Tree) (count : ℕ) → visited tree count ≤ nodes tree }
 {}
@@ -78,14 +78,14 @@ pub fn expressions_have_4096_bytes()
 {}
 
 /// A header text has one rule.
-#[tactic(auto, using(crate::proofs::Uniqueness::one_rule))]
+#[tactic(auto, using(crate::proofs::HeaderRules::one_rule))]
 pub fn one_rule()
     ensures { (limit : ℕ) (header : List ℕ) (rule other : RuleView) →
         IsRuleOf limit header rule → IsRuleOf limit header other → rule ≡ other }
 {}
 
 /// A header text whose expression is within a limit has the same rule under every larger limit.
-#[tactic(auto, using(crate::proofs::Uniqueness::longer_limit))]
+#[tactic(auto, using(crate::proofs::HeaderRules::longer_limit))]
 pub fn longer_limit()
     ensures { (limit longer : ℕ) (header : List ℕ) (rule : RuleView) →
         limit ≤ longer → IsWithin limit header →

@@ -1,9 +1,9 @@
 -- What the proofs of this crate cite of std, of the crates below and of its own definitions. Declares nothing.
 pub use Rattle.po_catalog.specs.Prelude.{input_entries, input_entry}
-pub use Rattle.po_entry.proofs.Changes.{IsEntry-emptied, IsEntry-without_previous}
-pub use Rattle.po_entry.proofs.Checks.{both, of_one, on_option, two}
-pub use Rattle.po_entry.proofs.DuplicateLemmas.{live_differ, only_memory}
-pub use Rattle.po_entry.proofs.Lists.{All-pushed, All-written, all_empty}
+pub use Rattle.po_entry.proofs.AdmittedTexts.{IsEntry-emptied, IsEntry-without_previous}
+pub use Rattle.po_entry.proofs.AdmittedTexts.{both, of_one, on_option, two}
+pub use Rattle.po_entry.proofs.Duplicates.{live_differ, only_memory}
+pub use Rattle.po_entry.proofs.AdmittedTexts.{All-pushed, All-written, all_empty}
 pub use Rattle.po_entry.specs.Prelude.{DifferUpTo, HasNoDuplicate, HasTexts, InputEntry, IsCatalogueEntry, IsEntry, Lacks, Meets, RepeatsAt, TextEntry, borrowed_entry, entries_of, in_input, is_live, is_live_header, is_looked_at, joined, joined_from, kept_entries, number_in, quoted_texts, slice_texts, stats_of, texts, texts_eq, texts_left, with_line}
 pub use Rattle.po_writer.specs.Prelude.{AreParts, written_text}
 pub use Rattle.std.proofs.Common.{IsUtf8, List, None, Option, Some, [], ap, ap₂, arith, drop, get_or, inl, length, map, refl, rules, subst, sym, take, ℕ, ◌++◌, ◌+◌, ◌<◌, ◌∙◌, ◌∷◌, ◌≡◌, ◌≤◌}

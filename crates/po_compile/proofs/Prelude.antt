@@ -1,5 +1,5 @@
 -- What the proofs of this crate cite of std, of the crates below and of its own definitions. Declares nothing.
-pub use Rattle.mo_file.proofs.CutLemmas.{before_all, before_is, context_cut, context_none, first_all, id_all, id_cut, plural_cut, plural_none, split_cut, split_none}
+pub use Rattle.mo_file.proofs.Cuts.{before_all, before_is, context_cut, context_none, first_all, id_all, id_cut, plural_cut, plural_none, split_cut, split_none}
 pub use Rattle.mo_file.proofs.RisingKeys.{equal_is_same, first_of, greater_is_less, less_is_other, rising-answered, rising-from_sorted, rising_between}
 pub use Rattle.mo_file.specs.Prelude.{AreRising, IsBuildFault, IsMoFile, LayoutIsMoFile, Message, borrowed_message, context_of, forms, id_of, is_nul, key_cmp, key_of, keys, layout, messages_of_borrowed, originals, originals_offset, plural_of, query_key, table, terminated, translations, translations_offset}
 pub use Rattle.mo_lookup.specs.Prelude.{Query, answer, can_be_key, form_at, has_no_separator, header_text, is_separator, translation_under}
@@ -8,12 +8,12 @@ pub use Rattle.po_compile.specs.Laws.{asked_for, compiled, header, none, not_fuz
 pub use Rattle.po_compile.specs.Prelude.{AcceptedOrFault, AreAccepted, AreCollected, AreCompiled, AreMessagesOf, AreRead, CompiledCanBeKeys, CompiledView, HasJoinedDuplicate, HoldCatalogues, IsCompileFault, IsFaultOfInput, IsReadingFault, IsReportedFault, IsToBeCompiled, IsTooLarge, IsTranslated, JoinedEntriesCanStand, KeepsCompiled, LayoutsAreLimited, LiveMessage, LookUpMeansEntries, MayBeUsed, MessagesAreOne, MessagesDiffer, MessagesHaveParts, MessagesMeanEntries, OneCompileFault, OneMoreChangesNoOther, TextsComeBack, compiled_inputs, compiled_list, compiled_message, compiled_view, definition, fault_input, fault_of_input, fault_of_only_input, header_of, is_compiled, layout_fault, live_message, live_messages, message_of, original_of, plural_part, translation_of}
 pub use Rattle.po_compile.specs.declared.options.Options.{Options}
 pub use Rattle.po_compile.specs.declared.row.Row.{Row}
-pub use Rattle.po_entry.proofs.DuplicateLemmas.{distinct_has_no_first, entries_of_input, live_of_entries}
+pub use Rattle.po_entry.proofs.Duplicates.{distinct_has_no_first, entries_of_input, live_of_entries}
 pub use Rattle.po_entry.specs.Facts.FirstRepeats.{all_of_both, none_or_first_repeat, none_repeats, one_repeat, pairs_map, pairs_of_map, repeat_by, repeat_map}
 pub use Rattle.po_entry.specs.Prelude.{AllDiffer, HasNoDuplicate, InputEntry, IsCatalogueEntry, IsEntry, IsFirstDuplicate, IsFirstRepeat, IsReadFault, IsSameMessage, IsTextFault, Lacks, ReadsDistinct, ReadsText, TextEntry, digest_of, duplicate_fault, entries_of, first_form, has_translation, in_input, is_fuzzy, is_header, is_live, is_live_header, is_of_message, is_translated, is_untranslated, join_out_of_memory, joined, joined_entries, joined_from, kept_entries, key_writes, live_entries, out_of_memory, slice_texts, stats_of, with_seen}
 pub use Rattle.po_entry.specs.declared.duplicate.JoinError.{JoinError}
 pub use Rattle.po_reader.specs.Prelude.{IsReadSoFar, without_comments}
-pub use Rattle.po_syntax.proofs.Results.{ok_both, passed_on}
+pub use Rattle.po_syntax.proofs.Faults.{ok_both, passed_on}
 pub use Rattle.po_syntax.specs.Facts.Filters.{all_pass}
 pub use Rattle.po_syntax.specs.Facts.Mapped.{filter_map, filter_twice, find_map}
 pub use Rattle.po_syntax.specs.Prelude.{IsFaultOf, IsText}

@@ -8,13 +8,13 @@ use po_reader::laws::entries_can_stand;
 
 /// Of a catalogue's entries the live ones that have a translation are compiled, but for fuzzy ones
 /// if these aren't asked for. A live translated header is compiled whatever its flags.
-#[tactic(auto, using(crate::proofs::CompiledLemmas::compiled_list_is_kept))]
+#[tactic(auto, using(crate::proofs::CompiledMessages::compiled_list_is_kept))]
 pub fn compiled_list_is_kept()
     ensures { CompiledListIsKept }
 {}
 
 /// The messages that entries are compiled to answer every query as the entries do.
-#[tactic(auto, using(crate::proofs::MeaningLemmas::mean_entries))]
+#[tactic(auto, using(crate::proofs::Meaning::mean_entries))]
 pub fn messages_mean_entries()
     ensures { MessagesMeanEntries }
 {}

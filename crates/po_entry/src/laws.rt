@@ -16,53 +16,53 @@ pub fn equal_but_line()
 
 /// The charset that is found in a header's text is the one that it names: the bytes after its first
 /// `charset=`, up to a space, TAB, CR, LF or semicolon or the text's end; none without `charset=`.
-#[tactic(auto, using(crate::proofs::CharsetNames::charset_named))]
+#[tactic(auto, using(crate::proofs::Headers::charset_named))]
 pub fn charset_is_named()
     ensures { (text name : List ℕ) → (name ≡ charset_of text) ↔ NamesCharset text name }
 {}
 
 /// The admitted charsets are none, UTF-8, ASCII and the `CHARSET` of a template, by their names,
 /// whatever the case of its letters.
-#[tactic(auto, using(crate::proofs::FuzzyFlags::admitted))]
+#[tactic(auto, using(crate::proofs::CommentElements::admitted))]
 pub fn charsets_are_admitted()
     ensures { (name : List ℕ) → IsAdmittedName name ↔ NamesAdmitted (map to_ascii_lowercase name) }
 {}
 
 /// A header is an entry without a context and with an empty msgid.
-#[tactic(auto, using(crate::proofs::HeaderLaws::header_decided))]
+#[tactic(auto, using(crate::proofs::Headers::header_decided))]
 pub fn header_has_no_context()
     ensures { (entry : TextEntry) → Decides (is_header entry) (IsHeaderEntry entry) }
 {}
 
 /// The charset of a header, live or obsolete, is admitted exactly if the one that its first form
 /// names is.
-#[tactic(auto, using(crate::proofs::HeaderLaws::admits_charset))]
+#[tactic(auto, using(crate::proofs::Headers::admits_charset))]
 pub fn charsets_of_headers()
     ensures { (entry : TextEntry) → AdmitsCharset entry }
 {}
 
 /// An entry is fuzzy exactly if one of its comments lists the flag `fuzzy`, wherever it stands.
-#[tactic(auto, using(crate::proofs::FuzzyFlags::fuzzy_where_flagged))]
+#[tactic(auto, using(crate::proofs::CommentElements::fuzzy_where_flagged))]
 pub fn fuzzy_where_flagged()
     ensures { (comment_texts : List CommentText) → Decides (fuzzy_of comment_texts) (HaveFuzzyFlag comment_texts) }
 {}
 
 /// The references that are found in the text of a comment are those that it lists, between blanks.
-#[tactic(auto, using(crate::proofs::ListedElements::references_listed))]
+#[tactic(auto, using(crate::proofs::CommentElements::references_listed))]
 pub fn references_are_listed()
     ensures { (text : List ℕ) (references : List (List ℕ))
         → (references ≡ listed_references text) ↔ ListsReferences text references }
 {}
 
 /// The references of an entry are those of its reference comments, in the order of the lines.
-#[tactic(auto, using(crate::proofs::HeaderLaws::have_references))]
+#[tactic(auto, using(crate::proofs::Headers::have_references))]
 pub fn references_of_all_lines()
     ensures { (comment_texts : List CommentText) → HaveReferences comment_texts (references_of comment_texts) }
 {}
 
 /// The flags that are found in the text of a comment are those that it lists, between commas and
 /// without the blanks at their ends.
-#[tactic(auto, using(crate::proofs::ListedElements::flags_listed))]
+#[tactic(auto, using(crate::proofs::CommentElements::flags_listed))]
 pub fn flags_are_listed()
     ensures { (text : List ℕ) (flags : List (List ℕ))
         → (flags ≡ listed_flags text) ↔ ListsFlags text flags }
@@ -70,7 +70,7 @@ pub fn flags_are_listed()
 
 /// Of all the flags that an entry's comments list, the entry keeps each where it first stands, and
 /// never `fuzzy`.
-#[tactic(auto, using(crate::proofs::ListedElements::flags_kept))]
+#[tactic(auto, using(crate::proofs::CommentElements::flags_kept))]
 pub fn flags_are_kept_once()
     ensures { (comment_texts : List CommentText) (flags : List (List ℕ))
         → (flags ≡ flags_of comment_texts) ↔ KeepsFlags (all_listed_flags comment_texts) flags }
@@ -79,7 +79,7 @@ pub fn flags_are_kept_once()
 /// The items of two pieces, one after the other, spell the entries of the first and then those of
 /// the second, if the items of the first end in a string. So no comment at its end belongs to an
 /// entry of the second.
-#[tactic(auto, using(crate::proofs::JoinedPieces::entries_joined))]
+#[tactic(auto, using(crate::proofs::JoinedLists::entries_joined))]
 pub fn joined_pieces()
     ensures { (prefix rest : List TextItem) (first others : List TextEntry)
         → SpellsEntries prefix first → EndsInString prefix → SpellsEntries rest others
@@ -88,7 +88,7 @@ pub fn joined_pieces()
 
 /// Where an entry is laid out after the drafts that there are, and its row added, the drafts are
 /// those entries and then this one, if no quoted text of it has a NUL and it has a form.
-#[tactic(auto, using(crate::proofs::RowLemmas::added))]
+#[tactic(auto, using(crate::proofs::EntryRows::added))]
 pub fn drafts_are_added()
     ensures { (entry : TextEntry) (old new : Drafts) → Adds entry old new → AreLaid old
         → AreLaid new × (CanLie entry → entries_in new ≡ entries_in old ++ entry ∷ []) }

@@ -1,8 +1,7 @@
 -- From spelling to reading: what items spell is what the reader comes to.
 use Rattle.po_reader.proofs.Prelude.{AfterForm, Before, Between, Bool, CommentText, EndsInString, Entries, Form, Gap, Id, In, InHead, IsApart, Keyword, List, Marks, MsgIdPlural, MsgStrAt, Option, Outcome, PreviousText, SoFar, Some, Str, TextEntry, TextItem, Translation, Word, [], ap, append-nil, append_assoc, begins_form, begins_string, bool_eq_equiv, closed, comes_to, ends_rest, eq-eqb, false, is_form, lt-ltb, no_comment_last, no_lines, only, outcome_of, rank, refl, start, sym, true, turn, turn_gap, with_comment, with_entry, with_own, with_previous_text, with_text, ℕ, ◌++◌, ◌∙◌, ◌∷◌, ◌≡◌}
 use Rattle.po_entry.specs.Spelling as spell
-use Rattle.po_reader.proofs.Turns.{text_ends, forms_end, same_marks-refl}
-use Rattle.po_reader.proofs.PreviousOrder.{Rise, keywords, order_rises}
+use Rattle.po_reader.proofs.ReaderSteps.{Rise, forms_end, keywords, order_rises, same_marks-refl, text_ends}
 
 pub string_step : (read : SoFar) (keyword : Keyword) (marks : Marks) (some : Bool) (text bytes : List ℕ) (line : ℕ)
     → turn (In read keyword marks some text) (Str bytes marks line) ≡ In read keyword marks true (text ++ bytes)

@@ -1,6 +1,6 @@
 -- What the proofs of this crate cite of std, of the crates below and of its own definitions. Declares nothing.
-pub use Rattle.po_entry.proofs.JoinedPieces.{ends_rest, entries_joined, no_comment_last}
-pub use Rattle.po_entry.proofs.RowLemmas.{entry_here, taken_here}
+pub use Rattle.po_entry.proofs.JoinedLists.{ends_rest, entries_joined, no_comment_last}
+pub use Rattle.po_entry.proofs.EntryRows.{entry_here, taken_here}
 pub use Rattle.po_entry.specs.Faults.{at, at_end, foreign, index, mixed, order}
 pub use Rattle.po_entry.specs.Faults.EntriesStop.{here, later}
 pub use Rattle.po_entry.specs.Faults.ItemsStop.{in_charset, in_items, in_texts}
@@ -14,9 +14,9 @@ pub use Rattle.po_reader.specs.Internal.Stage.{AfterForm, Before, Between, Entri
 pub use Rattle.po_reader.specs.Internal.Turn.{EndsHead, IsApart, Reached, begins_body, begins_form, begins_own, begins_string, begins_word, closed, comes_to, ended, is_form, is_wanted, opened, outcome, outcome_of, reached, same_marks, settled, settled_gap, stray_string, turn, turn_gap, turn_head, turn_own, unwanted, with_keyword}
 pub use Rattle.po_reader.specs.Prelude.{AddsReading, EndsEntry, FaultsStay, IsLeftFault, IsReadSoFar, IsShorter, OpenPieces, ReadsOn, kept_entry, kept_texts}
 pub use Rattle.po_reader.specs.declared.head.Head.{Head}
-pub use Rattle.po_syntax.proofs.NoMemory.{IsFaultOf-weaker, is_text_fault, text_reported}
-pub use Rattle.po_syntax.proofs.Results.{passed_on}
-pub use Rattle.po_syntax.proofs.Uniqueness.{fault_once, line_once}
+pub use Rattle.po_syntax.proofs.Faults.{IsFaultOf-weaker, is_text_fault, text_reported}
+pub use Rattle.po_syntax.proofs.Faults.{passed_on}
+pub use Rattle.po_syntax.proofs.OneOutcome.{fault_once, line_once}
 pub use Rattle.po_syntax.specs.Facts.AllAppend.{All-left, All-right}
 pub use Rattle.po_syntax.specs.Item.{Comment, Str, Word}
 pub use Rattle.po_syntax.specs.Prelude.{BeginsAnew, CanEnd, EndsInString, FailsFirst, HoldsText, IsCleanLine, IsComment, IsCommentOf, IsFaultOf, IsNew, IsPiece, IsString, IsText, LeftAnew, LeftStops, LineBeginsAnew, LinesLeft, OfString, SpellsLeft, SpellsLines, SpellsText, TextFault, TextItem, is_blank, line_of, skip_blanks, view, views, without_end}

@@ -2,8 +2,7 @@
 -- the items before it.
 use Rattle.po_reader.proofs.Prelude.{AfterForm, BadOrder, Before, Between, Bool, Comment, CommentText, Entries, Fault, Form, Gap, Id, In, InHead, Keyword, List, Marks, MixedObsolete, MsgCtxt, MsgId, MsgIdPlural, MsgStr, MsgStrAt, None, Option, PoFault, PreviousText, SoFar, Some, Stage, Stop, Str, TextEntry, TextItem, Translation, Wanted, Word, [], append-nil, append_assoc, arith, beq, booleans_Decides, closed, comes_to, eqb-true, false, if◌then◌else◌, inl, inr, is_form, is_wanted, line_of, ltb-true, nat_lt, no_lines, only, opened, own_marks, previous_marks, rank, refl, same_marks, stray_string, subst, sym, true, turn, turn_gap, turn_head, turn_own, unwanted, with_comment, with_entry, with_head, with_keyword, with_own, with_previous_text, with_text, ℕ, ◌++◌, ◌<◌, ◌==◌, ◌∷◌, ◌≡◌, ◌⊎◌}
 use Rattle.po_entry.specs.Spelling as spell
-use Rattle.po_reader.proofs.Turns.{marked, never, same_marks_true}
-use Rattle.po_reader.proofs.PreviousOrder.{Rise, keywords, rise_order}
+use Rattle.po_reader.proofs.ReaderSteps.{Rise, keywords, marked, never, rise_order, same_marks_true}
 
 -- Whole says of the items that are left at a place, and of all entries, that with what was read they make a whole.
 

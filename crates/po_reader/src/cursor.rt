@@ -101,7 +101,7 @@ impl<'i, 'a> Cursor<'i, 'a> {
 }
 
 /// The line of the last item, and 0 where there is none.
-#[tactic(auto, using(crate::proofs::Loops::last_at, crate::proofs::Loops::some_length))]
+#[tactic(auto, using(crate::proofs::ReaderSteps::last_at, crate::proofs::ReaderSteps::some_length))]
 fn last_line(items: &[Item<'_>]) -> u32
     ensures { result ≡ last_line (views items.now) }
 {

@@ -26,7 +26,7 @@ pub fn no_fault_where_entries()
 {}
 
 /// A text has at most one first fault, on one line.
-#[tactic(auto, using(crate::proofs::Texts::text_fault_once))]
+#[tactic(auto, using(crate::proofs::OneOutcome::text_fault_once))]
 pub fn one_fault()
     ensures { (text : List ℕ) (fault other : PoFault) (line index : ℕ)
         → IsReadFault text fault line → IsReadFault text other index
@@ -46,7 +46,7 @@ pub fn entries_or_fault()
 {}
 
 /// No fault of a text is out of memory.
-#[tactic(auto, using(crate::proofs::Texts::read_reported))]
+#[tactic(auto, using(crate::proofs::OneOutcome::read_reported))]
 pub fn no_fault_is_memory()
     ensures { (text : List ℕ) (fault : PoFault) (line : ℕ)
         → IsReadFault text fault line → fault ≢ PoFault.OutOfMemory }

@@ -1,10 +1,9 @@
 -- What the comments and strings of clean lines hold.
 use Rattle.po_syntax.proofs.Prelude.{All, All-append, All-cons, All-head, All-nil, All-tail, All-take, CommentKind, Contains, HoldsItems, HoldsText, HoldsTokens, IsAscii, IsAscii-cons, IsBlank, IsCleanLine, IsCommentOf, IsUtf8, List, Marks, SpellsComment, SpellsEscape, SpellsLines, SpellsString, SpellsText, TextItem, [], ap, append-nil, arith, blank, both_ways, closed, codes, comment, drop, end, end_parts, eqb-true, escape, extracted, flags, get_or, hexadecimal, indented, is_mark, kept_is, keyword, length, letter, live, obsolete, obsolete_comment, obsolete_previous, octal, plain, previous, reference, refl, rules, string, subst, suc, suffix_len, sym, take, take-append-drop, translator, trim_returns, true, without_end, zero, ℕ, ◌++◌, ◌+◌, ◌-◌, ◌<◌, ◌==◌, ◌∙◌, ◌∷◌, ◌≡◌, ◌≢◌}
 use Rattle.po_syntax.specs.declared.item.CommentKind.TheVariants.{Translator}
-use Rattle.po_syntax.proofs.CleanLines.{clean_lines}
-use Rattle.po_syntax.proofs.SpeltEscapes.{of_each_letter}
-use Rattle.po_syntax.proofs.Tokens.{keyword_rest}
-use Rattle.po_syntax.proofs.Utf8Rests.{blank_low, rest-utf8}
+use Rattle.po_syntax.proofs.Utf8Lines.{blank_low, clean_lines, rest-utf8}
+use Rattle.po_syntax.proofs.Escapes.{of_each_letter}
+use Rattle.po_syntax.proofs.Keywords.{keyword_rest}
 use Rattle.simdutf8.proofs.StepsLemmas.{IsUtf8-append_ascii}
 
 returns_ascii : (run : List ℕ) → All (λ b. (b == 13) ≡ true) run → IsAscii run

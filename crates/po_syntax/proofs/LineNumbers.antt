@@ -3,8 +3,8 @@ use Rattle.po_syntax.proofs.Prelude.{All, All-append, All-cons, All-contains_its
 use Rattle.std.proofs.Common.{length-take}
 use Rattle.std.specs.List.{position}
 use lib.Utf8.{encode}
-use Rattle.po_syntax.proofs.SpeltEscapes.{by_byte}
-use Rattle.po_syntax.specs.Laws.{none, feed, other, at_start, after_feed, at_end, before_feed, no_line, not_utf8, nul, in_line}
+use Rattle.po_syntax.proofs.Escapes.{by_byte}
+use Rattle.po_syntax.specs.Laws.{after_feed, at_end, at_start, before_feed, feed, in_line, no_line, none, not_utf8, nul, other}
 use Rattle.po_syntax.specs.PoText as text_faults
 use Rattle.po_syntax.specs.Line as spelt
 

@@ -2,11 +2,9 @@
 use Rattle.po_syntax.proofs.Prelude.{All, BadToken, Bool, Comment, CommentLine, Err, FailsFirst, HoldsItems, HoldsTokens, IsBlank, Keyword, KeywordToken, LineEnd, LineFault, List, Marks, NoShape, Ok, Once, OpeningQuote, PoFault, Result, Shape, SpellsKeyword, Str, TextItem, Token, Tokens, TokensFault, Word, WrongToken, [], ap, arith, blank, comment, cond-false, end, false, first_shape, first_token, hash_shape, indented, is_blank, keyword, live, ne_eqb, obsolete, obsolete_comment, obsolete_previous, obsolete_shape, or_parts, own_marks, previous, refl, shape_of, skip_blanks, string, subst, sym, tilde_shape, token_at, trim_returns, true, ℕ, ◌++◌, ◌==◌, ◌||◌, ◌∙◌, ◌∷◌, ◌≡◌}
 use Rattle.po_syntax.specs.LineFaults as faulty
 use Rattle.po_syntax.proofs.Escapes.{string_shorter}
-use Rattle.po_syntax.proofs.FaultyLines.{keyword_stops, no_token_stops}
-use Rattle.po_syntax.proofs.OneString.{Reads, ends, goes_on, reads_once, Reading, StringIs, string_once}
-use Rattle.po_syntax.proofs.SpeltKeywords.{over_blanks, over_skipped, skips, skip_prefix, keyword_read, TokenSays, first_says}
-use Rattle.po_syntax.proofs.SpeltLines.{ShapeSays, shape_says, comment_read, comment_hash, tilde_comment, blank_skipped}
-use Rattle.po_syntax.proofs.Tokens.{keyword-shorter, quote-shorter}
+use Rattle.po_syntax.proofs.Keywords.{TokenSays, first_says, keyword-shorter, keyword_read, keyword_stops, no_token_stops, over_blanks, over_skipped, quote-shorter, skip_prefix, skips}
+use Rattle.po_syntax.proofs.StringsRead.{Reading, Reads, StringIs, ends, goes_on, reads_once, string_once}
+use Rattle.po_syntax.proofs.Lines.{ShapeSays, blank_skipped, comment_hash, comment_read, shape_says, tilde_comment}
 
 -- items, or a fault
 abbrev pub Outcome : Type 0

@@ -36,7 +36,7 @@ pub(crate) fn number_of(base: u32, digits: &[u8]) -> Option<u32>
 
 /// The byte whose number the first `count` bytes of the text stand for, which are digits of the
 /// base. Refused with `ForbiddenByte` for 0, and with `BadEscape` above 255.
-#[tactic(auto, using(crate::proofs::Numbers::digits_all, crate::proofs::Numbers::digits_within))]
+#[tactic(auto, using(crate::proofs::Keywords::digits_all, crate::proofs::Keywords::digits_within))]
 fn numbered_byte(base: u32, count: usize, text: &[u8]) -> Result<(u8, &[u8]), PoFault>
     requires least { 2 ≤ base }
     requires most { base ≤ 36 }

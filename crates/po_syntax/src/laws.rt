@@ -6,21 +6,21 @@ ghost use Rattle.po_syntax.specs.Prelude.{SpellsString, HoldsText, TextItem, Lin
 ghost use Rattle.po_syntax.specs.Internal.{OpeningQuote, token_at};
 
 /// A text spells at most one list of items.
-#[tactic(auto, using(crate::proofs::Uniqueness::text_once))]
+#[tactic(auto, using(crate::proofs::OneOutcome::text_once))]
 pub fn one_reading()
     ensures { (text : List ℕ) (items others : List TextItem)
         → SpellsText text items → SpellsText text others → items ≡ others }
 {}
 
 /// No text both spells items and has a fault.
-#[tactic(auto, using(crate::proofs::Uniqueness::text_not_faulty))]
+#[tactic(auto, using(crate::proofs::OneOutcome::text_not_faulty))]
 pub fn no_fault_where_items()
     ensures { (text : List ℕ) (items : List TextItem) (fault : PoFault) (line : ℕ)
         → SpellsText text items → TextFault text fault line → ⊥ }
 {}
 
 /// A text has at most one first fault, on one line.
-#[tactic(auto, using(crate::proofs::Uniqueness::fault_once))]
+#[tactic(auto, using(crate::proofs::OneOutcome::fault_once))]
 pub fn one_fault()
     ensures { (text : List ℕ) (fault other : PoFault) (line index : ℕ)
         → TextFault text fault line → TextFault text other index
@@ -35,14 +35,14 @@ pub fn items_or_fault()
 {}
 
 /// No fault of a text is out of memory.
-#[tactic(auto, using(crate::proofs::NoMemory::text_reported))]
+#[tactic(auto, using(crate::proofs::Faults::text_reported))]
 pub fn no_fault_is_memory()
     ensures { (text : List ℕ) (fault : PoFault) (line : ℕ)
         → TextFault text fault line → fault ≢ PoFault.OutOfMemory }
 {}
 
 /// After an opening quote a text spells at most one string, which ends at one place.
-#[tactic(auto, using(crate::proofs::Uniqueness::strings_once))]
+#[tactic(auto, using(crate::proofs::OneOutcome::strings_once))]
 pub fn one_string()
     ensures { (text bytes others rest end : List ℕ)
         → SpellsString text bytes rest → SpellsString text others end
@@ -77,7 +77,7 @@ pub fn byte_order_mark_is_omitted()
 {}
 
 /// The quoted form of bytes is a quote, what is written for each byte, and a quote.
-#[tactic(auto, using(crate::proofs::WrittenForms::quoted_written))]
+#[tactic(auto, using(crate::proofs::QuotedForms::quoted_written))]
 pub fn quoted_form_is_written()
     ensures { (bytes : List ℕ) → WritesQuoted bytes (quoted bytes) }
 {}
@@ -106,7 +106,7 @@ pub fn items_hold_text()
 {}
 
 /// The quoted form of a UTF-8 text is UTF-8, and that of any bytes holds no byte below space.
-#[tactic(auto, using(crate::proofs::QuotedTexts::quoted_utf8, crate::proofs::QuotedTexts::quoted_shown))]
+#[tactic(auto, using(crate::proofs::QuotedForms::quoted_utf8, crate::proofs::QuotedForms::quoted_shown))]
 pub fn quoted_form_holds_text()
     ensures utf8 { (bytes : List ℕ) → IsUtf8 bytes → IsUtf8 (quoted bytes) }
     ensures shown { (bytes : List ℕ)

@@ -115,7 +115,7 @@ fn is_translation_word(item: &Item<'_>) -> bool
 }
 
 /// How many items there are before the strings with which they end.
-#[tactic(auto, using(crate::proofs::TranslationEnds::first_at, crate::proofs::TranslationEnds::strings_more))]
+#[tactic(auto, using(crate::proofs::PieceLines::first_at, crate::proofs::PieceLines::strings_more))]
 fn before_strings(items: &[Item<'_>]) -> usize
     ensures within { result ≤ length items.now }
     ensures strings { All IsString (drop result (views items.now)) }
@@ -217,7 +217,7 @@ impl<'a> Pieces<'a> {
     }
 
     /// Whether no line is left.
-    #[tactic(auto, using(crate::proofs::TextLeft::some_left))]
+    #[tactic(auto, using(crate::proofs::Pieces::some_left))]
     pub fn are_over(&self) -> bool
         ensures over { result ≡ true → self.now.lines ≡ [] }
         ensures some { result ≡ false → self.now.lines ≢ [] }

@@ -10,7 +10,7 @@ use memchr::memchr2;
 use std::alloc::Global;
 
 /// Splits off the bytes that stand for themselves, up to the first quote or backslash.
-#[tactic(auto, using(crate::proofs::QuotedStrings::plain_parts))]
+#[tactic(auto, using(crate::proofs::StringsRead::plain_parts))]
 fn split_plain(text: &[u8]) -> (&[u8], &[u8])
     ensures spelt { (bytes end : List ℕ)
         → SpellsString result.1.now bytes end → SpellsString text.now (result.0.now ++ bytes) end }

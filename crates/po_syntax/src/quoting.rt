@@ -18,7 +18,7 @@ fn is_raw(byte: u8) -> bool
 
 /// Whether all bytes of a block stand in a quoted string as they are. All are tested, which takes
 /// few instructions, since a processor tests several at once.
-#[tactic(auto, using(crate::proofs::RawRuns::raw_more))]
+#[tactic(auto, using(crate::proofs::QuotedForms::raw_more))]
 fn is_raw_block(block: &[u8; 16]) -> bool
     ensures { result ≡ true → prefix_len is_raw block.now ≡ length block.now }
 {

@@ -34,7 +34,7 @@ pub fn skip_blanks(text: &[u8]) -> &[u8]
 }
 
 /// The keyword `msgstr[i]`, read after its bracket and the blanks that follow.
-#[tactic(auto, using(crate::proofs::Numbers::digits_all), unfolding(crate::specs::Internal::index_token))]
+#[tactic(auto, using(crate::proofs::Keywords::digits_all), unfolding(crate::specs::Internal::index_token))]
 fn plural_form(text: &[u8]) -> Result<(Keyword, &[u8]), PoFault>
     ensures { IsKeywordOf (index_token text.now) result }
 {

@@ -6,8 +6,8 @@ pub use Rattle.msgcat.specs.Prelude.{AreReadAs, DistinctInputsStay, HoldInputs, 
 pub use Rattle.msgfmt.specs.Prelude.{AreChecked, IsDone, IsMsgfmtRun, Reported, check_line, compile_options, compiled_run, default_output, first_fault, input_names, input_texts, is_header_entry, join_line}
 pub use Rattle.msgfmt.specs.declared.options.MsgfmtOptions.{MsgfmtOptions}
 pub use Rattle.msgunfmt.specs.Prelude.{CompilesTo, IsMsgunfmtRun, IsUnformatFault, IsUnformatted, NoFaultWhereUnformatted, OneText, OneUnformatFault, UnformatThenCompile, unformat_line}
-pub use Rattle.po_compile.proofs.FaultLemmas.{IsOtherFault, compile_once, duplicates_once, other_of, text_once}
-pub use Rattle.po_compile.proofs.OneResult.{FirstError, Follows, OneResult, all_or_first, first_error, follows_once, not_both, one_error, one_result, one_value, right, value_or_error, wrong}
+pub use Rattle.po_compile.proofs.OneOutcome.{IsOtherFault, compile_once, duplicates_once, other_of, text_once}
+pub use Rattle.po_compile.proofs.OneOutcome.{FirstError, Follows, OneResult, all_or_first, first_error, follows_once, not_both, one_error, one_result, one_value, right, value_or_error, wrong}
 pub use Rattle.po_compile.specs.Prelude.{AreAccepted, HoldCatalogues, IsCompilation, MessagesAreOne, NoFaultWhereAccepted, compiled_inputs, compiled_list, is_compiled, live_messages, message_of}
 pub use Rattle.po_entry.specs.Prelude.{AllDiffer, HasAdmittedCharset, HasNoDuplicate, InputEntry, IsCatalogueEntry, IsFirstDuplicate, IsSameMessage, IsTextFault, Lacks, ReadsDistinct, ReadsText, TextEntry, entries_of, first_form, has_translation, in_input, is_header, is_live, is_live_header, joined, joined_entries, joined_from, stats_of, with_line}
 pub use Rattle.po_entry.specs.declared.duplicate.JoinError.{JoinError}

@@ -108,7 +108,7 @@ pub fn msgcat_of_several()
 }
 
 /// Where a chain of catalogues finds a translation, catalogues after its own change nothing.
-#[tactic(auto, using(crate::proofs::LongerChain::longer))]
+#[tactic(auto, using(crate::proofs::RoundTrip::longer))]
 pub fn longer_chain_answers_alike()
     ensures { LongerChainAnswersAlike }
 {}

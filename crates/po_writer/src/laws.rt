@@ -9,7 +9,7 @@ ghost use Rattle.po_writer.specs.Prelude.{IsArranged, StandInOrder, WritesEntry,
 
 /// The lines of a text, joined, are the text. Each but the last ends in its only LF; the last may
 /// have none, and then it isn't empty.
-#[tactic(auto, using(crate::proofs::CutLines::lines_joined, crate::proofs::CutLines::lines_ended))]
+#[tactic(auto, using(crate::proofs::WrittenLines::lines_joined, crate::proofs::WrittenLines::lines_ended))]
 pub fn lines_are_cut_after_feeds()
     ensures joined { (text : List ℕ) → concat (lines_with_ends text) ≡ text }
     ensures ended { (text : List ℕ) → EachEndsInItsOnlyFeed (lines_with_ends text) }
@@ -17,7 +17,7 @@ pub fn lines_are_cut_after_feeds()
 
 /// After its keyword a text is written as one string, if no LF is before its last byte; else as an
 /// empty string, and then line by line.
-#[tactic(auto, using(crate::proofs::CutLines::texts_are_written))]
+#[tactic(auto, using(crate::proofs::WrittenLines::texts_are_written))]
 pub fn texts_are_written()
     ensures { TextsAreWritten }
 {}
@@ -25,14 +25,14 @@ pub fn texts_are_written()
 /// An entry is written line by line: each comment after `#` and each extracted one after `#.`; in
 /// one line the references, with one space between two; in one the flags, `fuzzy` first; the
 /// previous texts; and the context, the msgid, the plural and the forms, each after its keyword.
-#[tactic(auto, using(crate::proofs::EntryLines::entry_written))]
+#[tactic(auto, using(crate::proofs::WrittenLists::entry_written))]
 pub fn entries_are_written()
     ensures { (entry : TextEntry) → IsEntry entry → WritesEntry entry (entry_lines entry) }
 {}
 
 /// The entries are written live ones first, then obsolete ones, each kind in its order, with an
 /// empty line between two.
-#[tactic(auto, using(crate::proofs::EntryLines::entries_arranged, crate::proofs::EntryLines::entries_stand))]
+#[tactic(auto, using(crate::proofs::WrittenLists::entries_arranged, crate::proofs::WrittenLists::entries_stand))]
 pub fn live_before_obsolete()
     ensures arranged { (entries : List TextEntry) → IsArranged entries (arranged entries) }
     ensures in_order { (entries : List TextEntry) → StandInOrder entries (in_order entries) }
@@ -40,7 +40,7 @@ pub fn live_before_obsolete()
 
 /// The written text of a catalogue's entries, if it is within the limit of a text, reads as the
 /// same entries but for their lines, arranged: the live ones, then the obsolete ones.
-#[tactic(auto, using(crate::proofs::Texts::written_reads))]
+#[tactic(auto, using(crate::proofs::WrittenTexts::written_reads))]
 pub fn written_text_reads()
     ensures { (entries : List TextEntry) → All IsCatalogueEntry entries → IsSmall (written_text entries)
         → (read : List TextEntry) × ReadsText (written_text entries) read
@@ -49,27 +49,27 @@ pub fn written_text_reads()
 
 /// If entries are those of a list, arranged, but for their lines, they are written as the list is.
 /// So are the entries that are read from its written text.
-#[tactic(auto, using(crate::proofs::Rewritten::rewritten))]
+#[tactic(auto, using(crate::proofs::WrittenLists::rewritten))]
 pub fn written_text_again()
     ensures { (entries read : List TextEntry) → map (with_line 0) read ≡ map (with_line 0) (arranged entries)
         → written_text read ≡ written_text entries }
 {}
 
 /// A live entry after live ones is written after an empty line, or where the text begins.
-#[tactic(auto, using(crate::proofs::Separated::one_more))]
+#[tactic(auto, using(crate::proofs::WrittenLists::one_more))]
 pub fn live_entry_is_added()
     ensures { (entries : List TextEntry) (entry : TextEntry) → All (λ e. e.obsolete ≡ false) entries
         → entry.obsolete ≡ false → with_entry (written_text entries) entry ≡ written_text (entries ++ entry ∷ []) }
 {}
 
 /// If all entries are live, they are arranged as they stand.
-#[tactic(auto, using(crate::proofs::Separated::live_stay))]
+#[tactic(auto, using(crate::proofs::WrittenLists::live_stay))]
 pub fn live_entries_stay()
     ensures { (entries : List TextEntry) → All (λ e. e.obsolete ≡ false) entries → arranged entries ≡ entries }
 {}
 
 /// Only a list without entries is written as the empty text.
-#[tactic(auto, using(crate::proofs::Separated::none_written))]
+#[tactic(auto, using(crate::proofs::WrittenLists::none_written))]
 pub fn some_entry_is_written()
     ensures { (entries : List TextEntry) → written_text entries ≡ [] → entries ≡ [] }
 {}

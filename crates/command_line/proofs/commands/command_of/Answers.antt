@@ -1,5 +1,5 @@
 use Rattle.command_line.proofs.Prelude.{argument_of, rules, take, take_all, ◌≡◌}
-use Rattle.command_line.proofs.Arguing.{next_mapped, one_argument_more, tool_command}
+use Rattle.command_line.proofs.Arguments.{next_mapped, one_argument_more, tool_command}
 use Rattle.command_line.proofs.commands.command_of.Goals as goal
 
 pub loop-argument-preserved : goal.loop-argument-preserved

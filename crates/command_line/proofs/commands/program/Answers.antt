@@ -1,5 +1,5 @@
 use Rattle.command_line.proofs.Prelude.{offered_tools, rules, take, take_all, ◌≡◌}
-use Rattle.command_line.proofs.Arguing.{names_offered, next_tool, one_tool_more}
+use Rattle.command_line.proofs.Arguments.{names_offered, next_tool, one_tool_more}
 use Rattle.command_line.proofs.commands.program.Goals as goal
 use Rattle.command_line.proofs.commands.program.Goals.{in-None, in-Some}
 

@@ -1,5 +1,5 @@
 use Rattle.command_line.proofs.Prelude.{Some, ap, option_copied, sym, ◌∙◌}
-use Rattle.command_line.proofs.Words.{cut_at_quote, no_word, word}
+use Rattle.command_line.proofs.Texts.{cut_at_quote, no_word, word}
 use Rattle.command_line.proofs.tips.word_after.Goals as goal
 
 pub returns-in_err-rest : goal.returns-in_err-rest

@@ -1,5 +1,5 @@
 use Rattle.command_line.proofs.Prelude.{ap, option_copied, own_tip, reworded_line, string_bytes, ◌++◌, ◌∙◌, ◌≡◌}
-use Rattle.command_line.proofs.LineSteps.{appended, step}
+use Rattle.command_line.proofs.Texts.{appended, step}
 use Rattle.command_line.proofs.usage.reworded.Goals as goal
 
 pub loop-line-preserved : goal.loop-line-preserved

@@ -1,5 +1,5 @@
 use Rattle.command_line.proofs.Prelude.{ap, rules, string_bytes, ◌++◌, ◌∙◌}
-use Rattle.command_line.proofs.LineSteps.{appended, step}
+use Rattle.command_line.proofs.Texts.{appended, step}
 use Rattle.command_line.proofs.usage.single_spaced.Goals as goal
 
 pub loop-line-preserved : goal.loop-line-preserved

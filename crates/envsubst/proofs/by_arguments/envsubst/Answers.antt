@@ -1,6 +1,6 @@
 use Rattle.envsubst.proofs.Prelude.{OutOfMemory, ap, err_from_is_err_and, map, named, option_copied, pairs_in, refl, unread, variables_of, ◌∙◌, ◌≡◌}
-use Rattle.envsubst.proofs.ArgumentLemmas.{replaces}
-use Rattle.envsubst.proofs.SortedLemmas.{given-names}
+use Rattle.envsubst.proofs.Runs.{replaces}
+use Rattle.envsubst.proofs.Variables.{given-names}
 use Rattle.envsubst.proofs.by_arguments.envsubst.Goals as goal
 
 pub returns-in-Names-clause-output : goal.returns-in-Names-clause-output

@@ -1,5 +1,5 @@
 use Rattle.envsubst.proofs.Prelude.{false, sym, take_rest, true}
-use Rattle.envsubst.proofs.ReferenceLemmas.{undecided-parts}
+use Rattle.envsubst.proofs.References.{undecided-parts}
 use Rattle.envsubst.proofs.holding.begun.Goals as goal
 
 pub returns-then-begins_with-clause-bytes : goal.returns-then-begins_with-clause-bytes

@@ -1,5 +1,5 @@
 use Rattle.envsubst.proofs.Prelude.{false, sym, take_rest, true}
-use Rattle.envsubst.proofs.ReferenceLemmas.{begun-taken}
+use Rattle.envsubst.proofs.References.{begun-taken}
 use Rattle.envsubst.proofs.holding.begun_len.Goals as goal
 
 pub returns-in_ok-begun_name_len-clause-undecided : goal.returns-in_ok-begun_name_len-clause-undecided

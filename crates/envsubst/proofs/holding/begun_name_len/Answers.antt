@@ -1,5 +1,5 @@
 use Rattle.envsubst.proofs.Prelude.{sym}
-use Rattle.envsubst.proofs.ReferenceLemmas.{run-begun}
+use Rattle.envsubst.proofs.References.{run-begun}
 use Rattle.envsubst.proofs.holding.begun_name_len.Goals as goal
 
 pub returns-then-is_name-clause-begun : goal.returns-then-is_name-clause-begun

@@ -1,6 +1,6 @@
 use Rattle.envsubst.proofs.Prelude.{after_dollar, ap, arith, length, ne_eqb, nil-from_length, reference_after, some-from_length, sym, ◌++◌, ◌∙◌, ◌∷◌}
-use Rattle.envsubst.proofs.ReferenceLemmas.{name_prefix-stop, begun-undecided, begun-more, brace-undecided, not-begun, not-short, not-closed, letter-name_byte}
-use Rattle.envsubst.proofs.SubstitutionLemmas.{one-most, out-copied, out-held, out-named, out-unnamed}
+use Rattle.envsubst.proofs.References.{begun-more, begun-undecided, brace-undecided, letter-name_byte, name_prefix-stop, not-begun, not-closed, not-short}
+use Rattle.envsubst.proofs.Substitution.{one-most, out-copied, out-held, out-named, out-unnamed}
 use Rattle.envsubst.proofs.holding.decide.Goals as goal
 
 pub returns-then-is_letter : goal.returns-then-is_letter

@@ -1,5 +1,5 @@
 use Rattle.envsubst.proofs.Prelude.{after_dollar, ap, inl, inr, nil-from_length, some-from_length, sym, ◌∙◌, ◌∷◌}
-use Rattle.envsubst.proofs.SubstitutionLemmas.{ends-empty, ends-copied, ends-name}
+use Rattle.envsubst.proofs.Substitution.{ends-copied, ends-empty, ends-name}
 use Rattle.envsubst.proofs.holding.ending.Goals as goal
 
 pub returns-then-is_empty : goal.returns-then-is_empty

@@ -1,6 +1,6 @@
 use Rattle.envsubst.proofs.Prelude.{[], ap, arith, false, is_undecided, nat_tests, nil-from_length, refl, sym, ◌∙◌}
-use Rattle.envsubst.proofs.ReferenceLemmas.{begun-undecided}
-use Rattle.envsubst.proofs.StreamLemmas.{begun-out, dollar-first, out-step, plain-out}
+use Rattle.envsubst.proofs.References.{begun-undecided}
+use Rattle.envsubst.proofs.Pieces.{begun-out, dollar-first, out-step, plain-out}
 use Rattle.envsubst.proofs.holding.next_step.Goals as goal
 
 pub returns-then-not-is_empty : goal.returns-then-not-is_empty

@@ -1,4 +1,4 @@
-use Rattle.envsubst.proofs.StreamLemmas.{calls-agree}
+use Rattle.envsubst.proofs.Pieces.{calls-agree}
 use Rattle.envsubst.proofs.laws.any_cutting.Goals as goal
 
 pub returns : goal.returns

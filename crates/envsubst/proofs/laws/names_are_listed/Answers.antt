@@ -1,4 +1,4 @@
-use Rattle.envsubst.proofs.ReplacedReferences.{names_listed}
+use Rattle.envsubst.proofs.Substitution.{names_listed}
 use Rattle.envsubst.proofs.laws.names_are_listed.Goals as goal
 
 pub returns : goal.returns

@@ -1,4 +1,4 @@
-use Rattle.envsubst.proofs.EnvsubstEnds.{took_all, took_all_read, took_beginning, took_of_read, took_of_read_memory}
+use Rattle.envsubst.proofs.Runs.{took_all, took_all_read, took_beginning, took_of_read, took_of_read_memory}
 use Rattle.envsubst.proofs.laws.output_is_replaced.Goals as goal
 
 pub returns : goal.returns

@@ -1,4 +1,4 @@
-use Rattle.envsubst.proofs.ReplacedReferences.{references_replaced}
+use Rattle.envsubst.proofs.Substitution.{references_replaced}
 use Rattle.envsubst.proofs.laws.references_are_replaced.Goals as goal
 
 pub returns : goal.returns

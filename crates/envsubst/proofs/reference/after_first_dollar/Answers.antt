@@ -1,5 +1,5 @@
 use Rattle.envsubst.proofs.Prelude.{take_rest}
-use Rattle.envsubst.proofs.NameLemmas.{names-next, names-none}
+use Rattle.envsubst.proofs.Variables.{names-next, names-none}
 use Rattle.envsubst.proofs.reference.after_first_dollar.Goals as goal
 
 pub returns-then-plain-text-clause-names : goal.returns-then-plain-text-clause-names

@@ -1,5 +1,5 @@
 use Rattle.envsubst.proofs.Prelude.{[], ap, flat_map, ◌++◌, ◌∙◌, ◌∷◌}
-use Rattle.envsubst.proofs.NameLines.{lines-all, lines-next, lines_of}
+use Rattle.envsubst.proofs.Variables.{lines-all, lines-next, lines_of}
 use Rattle.envsubst.proofs.reference.name_lines.Goals as goal
 
 pub loop-name-preserved : goal.loop-name-preserved

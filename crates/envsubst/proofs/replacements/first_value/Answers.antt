@@ -1,5 +1,5 @@
 use Rattle.envsubst.proofs.Prelude.{ap, cond-false, cond-true, drop_all, pairs_in, sym, value_of, ◌∙◌}
-use Rattle.envsubst.proofs.VariableLemmas.{value_of-next}
+use Rattle.envsubst.proofs.Variables.{value_of-next}
 use Rattle.envsubst.proofs.replacements.first_value.Goals as goal
 
 pub returns-then-eq : goal.returns-then-eq

@@ -1,5 +1,5 @@
 use Rattle.envsubst.proofs.Prelude.{IsPartitionPoint-from_clause, [], ap, bytes_eq, rules, sym, ◌∙◌}
-use Rattle.envsubst.proofs.SortedLemmas.{Variable, below, partitioned, value-found, value-none, value-other}
+use Rattle.envsubst.proofs.Variables.{Variable, below, partitioned, value-found, value-none, value-other}
 use Rattle.envsubst.proofs.replacements.sorted_value.Goals as goal
 
 pub returns-then-eq : goal.returns-then-eq

@@ -1,6 +1,6 @@
 use Rattle.envsubst.proofs.Prelude.{ap, arith, drop, get_or, is_undecided, on-err, sym, ◌++◌, ◌∙◌}
-use Rattle.envsubst.proofs.ReferenceLemmas.{nothing-undecided, undecided-room}
-use Rattle.envsubst.proofs.StreamLemmas.{Stops-out, Stops-seen, first-taken}
+use Rattle.envsubst.proofs.References.{nothing-undecided, undecided-room}
+use Rattle.envsubst.proofs.Pieces.{Stops-out, Stops-seen, first-taken}
 use Rattle.envsubst.proofs.substituter.advance.Goals as goal
 
 pub push-requires : goal.push-requires

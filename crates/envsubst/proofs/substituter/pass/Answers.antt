@@ -1,5 +1,5 @@
 use Rattle.envsubst.proofs.Prelude.{arith, drop, length, length-drop, on-err, take, take_rest, ◌-◌, ◌∙◌, ◌≤◌}
-use Rattle.envsubst.proofs.StreamLemmas.{pass-advances, pass-stops}
+use Rattle.envsubst.proofs.Pieces.{pass-advances, pass-stops}
 use Rattle.envsubst.proofs.substituter.pass.Goals as goal
 
 pub returns-in_err-at-clause-stops : goal.returns-in_err-at-clause-stops

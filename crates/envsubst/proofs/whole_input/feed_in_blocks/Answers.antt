@@ -1,5 +1,5 @@
 use Rattle.envsubst.proofs.Prelude.{Appends-nil, arith, on-err, ◌+◌, ◌∙◌}
-use Rattle.envsubst.proofs.EnvsubstLemmas.{Gathers-out, Gathers-part, Gathers-piece, Gathers-stopped, same-values}
+use Rattle.envsubst.proofs.Runs.{Gathers-out, Gathers-part, Gathers-piece, Gathers-stopped, same-values}
 use Rattle.envsubst.proofs.whole_input.feed_in_blocks.Goals as goal
 
 pub returns-in_err-block-clause-stops : goal.returns-in_err-block-clause-stops

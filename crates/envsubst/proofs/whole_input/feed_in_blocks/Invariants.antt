@@ -1,5 +1,5 @@
 use Rattle.envsubst.proofs.Prelude.{false, length, take, values_of_substituter, ◌++◌, ◌-◌, ◌≡◌, ◌≤◌}
-use Rattle.envsubst.proofs.EnvsubstLemmas.{Gathers}
+use Rattle.envsubst.proofs.Runs.{Gathers}
 use Rattle.envsubst.proofs.whole_input.feed_in_blocks.Given as goal
 
 abbrev pub invariant-loop-at : goal.invariant-loop-at

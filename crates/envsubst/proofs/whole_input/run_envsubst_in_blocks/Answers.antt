@@ -1,6 +1,6 @@
 use Rattle.envsubst.proofs.Prelude.{EndsAs, answers_always, ap, err_from_is_err_and, is_lt, is_replaced, name_cmp, names_given, nat_list_cmp_total, pairs_in, ranks_by, rules, subst, value_of, ◌∙◌}
-use Rattle.envsubst.proofs.EnvsubstLemmas.{stops-unread}
-use Rattle.envsubst.proofs.SortedLemmas.{given-names, same-replacements, stable-values}
+use Rattle.envsubst.proofs.Runs.{stops-unread}
+use Rattle.envsubst.proofs.Variables.{given-names, same-replacements, stable-values}
 use Rattle.envsubst.proofs.whole_input.run_envsubst_in_blocks.Goals as goal
 
 pub returns-in_err-sorted-clause-output : goal.returns-in_err-sorted-clause-output

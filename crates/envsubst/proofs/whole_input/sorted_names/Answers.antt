@@ -1,5 +1,5 @@
 use Rattle.envsubst.proofs.Prelude.{ap, is_replaced, names_given, sym, ◌∙◌}
-use Rattle.envsubst.proofs.SortedLemmas.{same-names}
+use Rattle.envsubst.proofs.Variables.{same-names}
 use Rattle.envsubst.proofs.whole_input.sorted_names.Goals as goal
 
 pub returns : goal.returns

@@ -1,5 +1,5 @@
 use Rattle.envsubst.proofs.Prelude.{Err, Keeps-refl, ap, arith, err_from_is_err_and, length, lit≤, nat_tests, refl, sym, take, ◌+◌, ◌<◌, ◌∙◌, ◌≡◌}
-use Rattle.envsubst.proofs.EnvsubstLemmas.{ends-within, fed-finish, fed-more, fed-none, fed-read_fault, fed-write_fault, gave-end, gave-more, gave-none, on-ok, same-values}
+use Rattle.envsubst.proofs.Runs.{ends-within, fed-finish, fed-more, fed-none, fed-read_fault, fed-write_fault, gave-end, gave-more, gave-none, on-ok, same-values}
 use Rattle.envsubst.proofs.whole_input.substitute_all.Goals as goal
 
 pub loop-init : goal.loop-init

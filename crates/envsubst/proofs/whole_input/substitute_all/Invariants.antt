@@ -1,5 +1,5 @@
 use Rattle.envsubst.proofs.Prelude.{IfSome, None, [], false, length, names_given, pairs_in, values_of, ◌+◌, ◌≡◌, ◌≤◌}
-use Rattle.envsubst.proofs.EnvsubstLemmas.{GaveEach, HasFed}
+use Rattle.envsubst.proofs.Runs.{GaveEach, HasFed}
 use Rattle.envsubst.proofs.whole_input.substitute_all.Given as goal
 
 abbrev pub invariant-loop : goal.invariant-loop

@@ -1,5 +1,5 @@
 use Rattle.gettext.proofs.Prelude.{[], ap, bytes_eq, false, is_at, list_any, map, map-append, nat_cmp, not-false, not-true, slice_cmp, subst, sym, true, ◌++◌, ◌∙◌, ◌∷◌, ◌≡◌}
-use Rattle.gettext.proofs.SeenNames.{HasNames, one_name_more, distinct_more}
+use Rattle.gettext.proofs.LocaleNames.{HasNames, distinct_more, one_name_more}
 use Rattle.gettext.proofs.candidates.distinct.Goals as goal
 
 pub loop-name-init : goal.loop-name-init

@@ -1,5 +1,5 @@
 use Rattle.gettext.proofs.Prelude.{distinct, map, take, ◌≡◌}
-use Rattle.gettext.proofs.SeenNames.{HasNames}
+use Rattle.gettext.proofs.LocaleNames.{HasNames}
 use Rattle.gettext.proofs.candidates.distinct.Given as goal
 
 -- the names so far are kept, each once, and the tree has them

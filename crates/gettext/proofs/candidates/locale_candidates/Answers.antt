@@ -1,5 +1,5 @@
 use Rattle.gettext.proofs.Prelude.{refl, rules}
-use Rattle.locale_names.proofs.CandidateLemmas.{from-start}
+use Rattle.locale_names.proofs.CandidateNames.{from-start}
 use Rattle.gettext.proofs.candidates.locale_candidates.Goals as goal
 
 pub loop-candidate-init : goal.loop-candidate-init

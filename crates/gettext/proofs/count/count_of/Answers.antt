@@ -1,6 +1,6 @@
 use Rattle.gettext.proofs.Prelude.{subst, sym, ◌∙◌}
 use Rattle.std.specs.Str.Parse.{ParsesUnsigned}
-use Rattle.gettext.proofs.CountLemmas.{count-no_utf8, count-parsed, count-sign}
+use Rattle.gettext.proofs.Counts.{count-no_utf8, count-parsed, count-sign}
 use Rattle.gettext.proofs.count.count_of.Goals as goal
 
 pub returns-in-Ok : goal.returns-in-Ok

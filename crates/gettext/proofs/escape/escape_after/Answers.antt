@@ -1,5 +1,5 @@
 use Rattle.gettext.proofs.Prelude.{cond-false, cond-true, nil-from_length, some-from_length, sym, ◌∙◌}
-use Rattle.gettext.proofs.EscapeLemmas.{escape-first, escape-none, octal-escape}
+use Rattle.gettext.proofs.Escapes.{escape-first, escape-none, octal-escape}
 use Rattle.gettext.proofs.escape.escape_after.Goals as goal
 
 pub returns-then-is_empty-clause-escape : goal.returns-then-is_empty-clause-escape

@@ -1,5 +1,5 @@
 use Rattle.gettext.proofs.Prelude.{arith, length, or-true, sym, take_rest, ◌<◌, ◌∙◌}
-use Rattle.gettext.proofs.EscapeLemmas.{end-bytes, end-newline, given_bytes-escape-is, given_bytes-stays, more-newline, none-bytes, some-bytes}
+use Rattle.gettext.proofs.Escapes.{end-bytes, end-newline, given_bytes-escape-is, given_bytes-stays, more-newline, none-bytes, some-bytes}
 use Rattle.gettext.proofs.escape.expand.Goals as goal
 
 pub returns-then-plain-rest-clause-bytes : goal.returns-then-plain-rest-clause-bytes

@@ -1,5 +1,5 @@
 use Rattle.gettext.proofs.Prelude.{ap, arith, is_octal, length, prefix_len_is, sym, take, ◌<◌, ◌∙◌}
-use Rattle.gettext.proofs.EscapeLemmas.{octal_prefix-taken}
+use Rattle.gettext.proofs.Escapes.{octal_prefix-taken}
 use Rattle.gettext.proofs.escape.octal_prefix.Goals as goal
 
 pub returns-then-not-is_octal-clause-run : goal.returns-then-not-is_octal-clause-run

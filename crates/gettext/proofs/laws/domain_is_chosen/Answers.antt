@@ -1,4 +1,4 @@
-use Rattle.gettext.proofs.ChoiceLemmas.{domain_chosen}
+use Rattle.gettext.proofs.LocaleChoice.{domain_chosen}
 use Rattle.gettext.proofs.laws.domain_is_chosen.Goals as goal
 
 pub returns : goal.returns

@@ -1,4 +1,4 @@
-use Rattle.gettext.proofs.ExpandedEscapes.{escapes_expanded}
+use Rattle.gettext.proofs.Escapes.{escapes_expanded}
 use Rattle.gettext.proofs.laws.escapes_are_expanded.Goals as goal
 
 pub returns : goal.returns

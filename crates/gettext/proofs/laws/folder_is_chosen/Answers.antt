@@ -1,4 +1,4 @@
-use Rattle.gettext.proofs.ChoiceLemmas.{folder_chosen}
+use Rattle.gettext.proofs.LocaleChoice.{folder_chosen}
 use Rattle.gettext.proofs.laws.folder_is_chosen.Goals as goal
 
 pub returns : goal.returns

@@ -1,4 +1,4 @@
-use Rattle.gettext.proofs.ChoiceLemmas.{locale_chosen}
+use Rattle.gettext.proofs.LocaleChoice.{locale_chosen}
 use Rattle.gettext.proofs.laws.locale_is_chosen.Goals as goal
 
 pub returns : goal.returns

@@ -1,8 +1,7 @@
 use Rattle.known_runs.proofs.Prelude.{EndsMsgfmt, [], codes, inl, refl}
 use Rattle.known_runs.specs.Msgfmt.{failed}
-use Rattle.known_runs.proofs.AllCommands.{ends_over, is_read}
-use Rattle.known_runs.proofs.Files.{leads_there}
-use Rattle.known_runs.proofs.Msgfmts.{line_ends}
+use Rattle.known_runs.proofs.Commands.{ends_over, is_read, leads_there}
+use Rattle.known_runs.proofs.Msgfmt.{line_ends}
 use Rattle.known_runs.proofs.commands.msgfmt_in_memory.Goals as goal
 
 pub returns : goal.returns

@@ -1,5 +1,5 @@
 use Rattle.known_runs.proofs.Prelude.{entry_texts, option_copied, text_of}
-use Rattle.known_runs.proofs.Replacing.{envsubst_ends}
+use Rattle.known_runs.proofs.Envsubst.{envsubst_ends}
 use Rattle.known_runs.proofs.substitutions.envsubst_in_memory.Goals as goal
 
 pub returns : goal.returns

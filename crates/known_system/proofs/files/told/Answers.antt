@@ -1,5 +1,5 @@
 use Rattle.known_system.proofs.Prelude.{FileCall, List, [], ap, nothing, numbers, replay, ◌++◌, ◌∙◌, ◌∷◌}
-use Rattle.known_system.proofs.Tellings.{told_all}
+use Rattle.known_system.proofs.Calls.{told_all}
 use Rattle.known_system.proofs.files.told.Goals as goal
 
 pub returns : goal.returns

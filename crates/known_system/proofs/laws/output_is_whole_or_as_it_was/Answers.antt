@@ -1,4 +1,4 @@
-use Rattle.known_system.proofs.Lefts.{left_by}
+use Rattle.known_system.proofs.Calls.{left_by}
 use Rattle.known_system.proofs.laws.output_is_whole_or_as_it_was.Goals as goal
 
 pub returns : goal.returns

@@ -1,5 +1,5 @@
 use Rattle.locale_names.proofs.Prelude.{arith}
-use Rattle.locale_names.proofs.PartLemmas.{parts-last, parts-next}
+use Rattle.locale_names.proofs.LanguageParts.{parts-last, parts-next}
 use Rattle.locale_names.proofs.language.first_part.Goals as goal
 
 pub returns-then-end-languages-clause-parts : goal.returns-then-end-languages-clause-parts

@@ -1,5 +1,5 @@
 use Rattle.locale_names.proofs.Prelude.{ap, arith, drop_all, language_parts, sym, ◌∙◌}
-use Rattle.locale_names.proofs.PartLemmas.{parts-none}
+use Rattle.locale_names.proofs.LanguageParts.{parts-none}
 use Rattle.locale_names.proofs.language.next_language.Goals as goal
 
 pub returns-clause-parts : goal.returns-clause-parts

@@ -1,4 +1,4 @@
-use Rattle.locale_names.proofs.CandidateLemmas.{second-name, third-name}
+use Rattle.locale_names.proofs.CandidateNames.{second-name, third-name}
 use Rattle.locale_names.proofs.name.candidate_of_name.Goals as goal
 
 pub returns-in-1 : goal.returns-in-1

@@ -1,5 +1,5 @@
 use Rattle.locale_names.proofs.Prelude.{◌∙◌}
-use Rattle.locale_names.proofs.SearchLemmas.{first-or_len}
+use Rattle.locale_names.proofs.LanguageParts.{first-or_len}
 use Rattle.locale_names.proofs.name.len_before.Goals as goal
 
 pub returns-clause-index : goal.returns-clause-index

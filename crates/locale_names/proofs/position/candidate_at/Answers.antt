@@ -1,5 +1,5 @@
 use Rattle.locale_names.proofs.Prelude.{sym, ◌∙◌}
-use Rattle.locale_names.proofs.CandidateLemmas.{barred-from, from-start}
+use Rattle.locale_names.proofs.CandidateNames.{barred-from, from-start}
 use Rattle.locale_names.proofs.position.candidate_at.Goals as goal
 
 pub returns-then-is_untranslated-clause-start : goal.returns-then-is_untranslated-clause-start

@@ -1,6 +1,6 @@
 use Rattle.locale_names.proofs.Prelude.{ap, arith, candidates_of_name, drop_all, flat_map, language_parts, take_rest, ◌∙◌}
-use Rattle.locale_names.proofs.CandidateLemmas.{first-given, language-passed, next-given, no-language-left}
-use Rattle.locale_names.proofs.PartLemmas.{parts-none}
+use Rattle.locale_names.proofs.CandidateNames.{first-given, language-passed, next-given, no-language-left}
+use Rattle.locale_names.proofs.LanguageParts.{parts-none}
 use Rattle.locale_names.proofs.position.of_language.Goals as goal
 
 pub returns-then-position-language : goal.returns-then-position-language

@@ -1,5 +1,5 @@
 use Rattle.locale_names.proofs.Prelude.{[], ap, names_left, sym, text_of, ◌∙◌, ◌∷◌}
-use Rattle.locale_names.proofs.CandidateLemmas.{from-language, from-locale, from-start, matched-left, one-given, past-five}
+use Rattle.locale_names.proofs.CandidateNames.{from-language, from-locale, from-start, matched-left, one-given, past-five}
 use Rattle.locale_names.proofs.position.translated_candidate_at.Goals as goal
 
 pub returns-then-not-is_empty-clause-start : goal.returns-then-not-is_empty-clause-start

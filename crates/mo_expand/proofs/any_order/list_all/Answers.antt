@@ -1,6 +1,6 @@
 use Rattle.mo_expand.proofs.Prelude.{Some, ap, arith, length, length-messages_of, map-messages_of-at, message_count, messages_of_borrowed, refl, sym, take_all, ◌<◌, ◌∙◌, ◌≤◌}
-use Rattle.mo_expand.proofs.AnyOrderLemmas.{has_header, original-inside, originals-inside, translation-inside, translations-inside}
-use Rattle.mo_expand.proofs.ListingLemmas.{listed-next}
+use Rattle.mo_expand.proofs.ExpandedFiles.{has_header, original-inside, originals-inside, translation-inside, translations-inside}
+use Rattle.mo_expand.proofs.AddedMessages.{listed-next}
 use Rattle.mo_expand.proofs.any_order.list_all.Goals as goal
 
 pub word-originals-requires : goal.word-originals-requires

@@ -1,5 +1,5 @@
 use Rattle.mo_expand.proofs.Prelude.{arith, length, length-messages_of, sym, ◌∙◌, ◌≡◌}
-use Rattle.mo_expand.proofs.AnyOrderLemmas.{has_header, shown}
+use Rattle.mo_expand.proofs.ExpandedFiles.{has_header, shown}
 use Rattle.mo_expand.proofs.any_order.message_count.Goals as goal
 
 pub returns-clause-count : goal.returns-clause-count

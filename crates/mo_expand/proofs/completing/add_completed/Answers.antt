@@ -1,7 +1,7 @@
 use Rattle.mo_expand.proofs.Prelude.{AreRising, ap, arith, keys, messages_of_borrowed, slice_range, strings_len, subst, sym, system_count, system_message, take, with_message, ◌<◌, ◌∙◌, ◌≡◌}
-use Rattle.mo_expand.proofs.CompletingLemmas.{added, passed, none_left, room-next, room-full, split-message, split-len}
-use Rattle.mo_expand.proofs.RisingLemmas.{rising-with_message}
-use Rattle.mo_expand.proofs.completing.add_completed.Goals.{in-Ok, in-Err-Absent}
+use Rattle.mo_expand.proofs.SystemMessages.{added, none_left, passed, room-full, room-next, split-len, split-message}
+use Rattle.mo_expand.proofs.AddedMessages.{rising-with_message}
+use Rattle.mo_expand.proofs.completing.add_completed.Goals.{in-Err-Absent, in-Ok}
 use Rattle.mo_expand.proofs.completing.add_completed.Goals as goal
 
 pub returns-in-Err-Full-clause-room : goal.returns-in-Err-Full-clause-room

@@ -1,4 +1,4 @@
-use Rattle.mo_expand.proofs.ExpandedFileLemmas.{expanded_file_is_mo_file}
+use Rattle.mo_expand.proofs.ExpandedFiles.{expanded_file_is_mo_file}
 use Rattle.mo_expand.proofs.laws.expanded_file_is_mo_file.Goals as goal
 
 pub returns : goal.returns

@@ -1,4 +1,4 @@
-use Rattle.mo_expand.proofs.SystemMessageLemmas.{first_text_counts}
+use Rattle.mo_expand.proofs.SystemMessages.{first_text_counts}
 use Rattle.mo_expand.proofs.laws.first_text_counts.Goals as goal
 
 pub returns : goal.returns

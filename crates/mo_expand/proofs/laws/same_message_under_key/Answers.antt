@@ -1,4 +1,4 @@
-use Rattle.mo_expand.proofs.OrderLemmas.{same_message_under_key}
+use Rattle.mo_expand.proofs.MessageOrder.{same_message_under_key}
 use Rattle.mo_expand.proofs.laws.same_message_under_key.Goals as goal
 
 pub returns : goal.returns

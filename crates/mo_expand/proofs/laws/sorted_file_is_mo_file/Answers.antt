@@ -1,4 +1,4 @@
-use Rattle.mo_expand.proofs.OrderLemmas.{sorted_file_is_mo_file}
+use Rattle.mo_expand.proofs.MessageOrder.{sorted_file_is_mo_file}
 use Rattle.mo_expand.proofs.laws.sorted_file_is_mo_file.Goals as goal
 
 pub returns : goal.returns

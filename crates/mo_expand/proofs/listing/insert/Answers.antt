@@ -1,7 +1,6 @@
 use Rattle.mo_expand.proofs.Prelude.{ap, arith, key_cmp, key_of, length-take, messages_of_borrowed, rules, slice_set, sym, take, ◌+◌, ◌∙◌, ◌≤◌}
 use Rattle.std.proofs.lemmas.Fn.{always_returns_same}
-use Rattle.mo_expand.proofs.ListingLemmas.{inserted}
-use Rattle.mo_expand.proofs.SearchLemmas.{listed-found, listed-place}
+use Rattle.mo_expand.proofs.AddedMessages.{inserted, listed-found, listed-place}
 use Rattle.mo_expand.proofs.listing.insert.Goals as goal
 
 pub returns-in-Ok-clause-messages : goal.returns-in-Ok-clause-messages

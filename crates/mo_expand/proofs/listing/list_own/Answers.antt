@@ -1,5 +1,5 @@
 use Rattle.mo_expand.proofs.Prelude.{arith}
-use Rattle.mo_expand.proofs.ListingLemmas.{listed-next}
+use Rattle.mo_expand.proofs.AddedMessages.{listed-next}
 use Rattle.mo_expand.proofs.listing.list_own.Goals as goal
 
 pub loop-i-preserved : goal.loop-i-preserved

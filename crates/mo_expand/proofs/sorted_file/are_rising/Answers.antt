@@ -1,5 +1,5 @@
 use Rattle.mo_expand.proofs.Prelude.{AreRising, IsTrue, answers_always, borrowed_message, is_lt, key_cmp, keys-by, rising-answered, rules, subst, sym, ◌↔◌}
-use Rattle.mo_expand.proofs.SortedFileLemmas.{listed_key}
+use Rattle.mo_expand.proofs.ExpandedFiles.{listed_key}
 use Rattle.mo_expand.proofs.sorted_file.are_rising.Goals as goal
 
 pub returns : goal.returns

@@ -1,5 +1,5 @@
 use Rattle.mo_expand.proofs.Prelude.{BorrowedPair, answers_always, is_lt, key_cmp, nat_list_cmp_total, on_total, ranks_by, rules}
-use Rattle.mo_expand.proofs.SortedFileLemmas.{listed_key}
+use Rattle.mo_expand.proofs.ExpandedFiles.{listed_key}
 use Rattle.mo_expand.proofs.sorted_file.sort.Goals as goal
 
 pub returns-clause-sorted : goal.returns-clause-sorted

@@ -1,6 +1,5 @@
 use Rattle.mo_expand.proofs.Prelude.{HaveDistinctKeys, HaveTooLargeFile, IsFileOfSorted, arith, length, length-messages_of, length-take, messages_of_borrowed, refl, rules, ◌<◌, ◌≡◌}
-use Rattle.mo_expand.proofs.AnyOrderLemmas.{has_header, shown}
-use Rattle.mo_expand.proofs.SortedFileLemmas.{not_distinct, sorted-messages}
+use Rattle.mo_expand.proofs.ExpandedFiles.{has_header, not_distinct, shown, sorted-messages}
 use Rattle.mo_expand.proofs.sorted_file.sort_file.Goals as goal
 
 pub word-count-requires : goal.word-count-requires

@@ -1,5 +1,5 @@
 use Rattle.mo_file.proofs.Prelude.{arith, ◌∙◌}
-use Rattle.mo_file.proofs.FaultLemmas.{first_unsorted}
+use Rattle.mo_file.proofs.Faults.{first_unsorted}
 use Rattle.mo_file.proofs.checking.check_keys.Goals as goal
 
 pub returns-in_default-clause-sorted : goal.returns-in_default-clause-sorted

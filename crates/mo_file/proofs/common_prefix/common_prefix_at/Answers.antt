@@ -1,5 +1,5 @@
 use Rattle.mo_file.proofs.Prelude.{◌==◌}
-use Rattle.mo_file.proofs.CommonPrefixLemmas.{common_prefix_in, set_where}
+use Rattle.mo_file.proofs.KeyComparison.{common_prefix_in, set_where}
 use Rattle.mo_file.proofs.common_prefix.common_prefix_at.Goals as goal
 
 pub returns : goal.returns

@@ -1,4 +1,4 @@
-use Rattle.mo_file.proofs.RoundTripLemmas.{known_revisions_are_valid}
+use Rattle.mo_file.proofs.RoundTrip.{known_revisions_are_valid}
 use Rattle.mo_file.proofs.laws.known_revisions_are_valid.Goals as goal
 
 pub returns : goal.returns

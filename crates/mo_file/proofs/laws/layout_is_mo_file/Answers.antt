@@ -1,4 +1,4 @@
-use Rattle.mo_file.proofs.RoundTripLemmas.{layout_is_mo_file}
+use Rattle.mo_file.proofs.RoundTrip.{layout_is_mo_file}
 use Rattle.mo_file.proofs.laws.layout_is_mo_file.Goals as goal
 
 pub returns : goal.returns

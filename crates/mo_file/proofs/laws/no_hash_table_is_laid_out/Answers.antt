@@ -1,4 +1,4 @@
-use Rattle.mo_file.proofs.RoundTripLemmas.{no_hash_table_is_laid_out}
+use Rattle.mo_file.proofs.RoundTrip.{no_hash_table_is_laid_out}
 use Rattle.mo_file.proofs.laws.no_hash_table_is_laid_out.Goals as goal
 
 pub returns : goal.returns

@@ -1,5 +1,5 @@
 use Rattle.mo_file.proofs.Prelude.{ap, forms, take, ◌∙◌}
-use Rattle.mo_file.proofs.CutLemmas.{first_all, first_cut, first_taken}
+use Rattle.mo_file.proofs.Cuts.{first_all, first_cut, first_taken}
 use Rattle.mo_file.proofs.message_parts.first_part.Goals as goal
 
 pub returns-in-Some : goal.returns-in-Some

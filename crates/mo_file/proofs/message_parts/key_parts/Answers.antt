@@ -1,5 +1,5 @@
 use Rattle.mo_file.proofs.Prelude.{ap, context_of, id_of, sym, ◌∙◌}
-use Rattle.mo_file.proofs.CutLemmas.{context_cut, context_none, id_all, id_cut}
+use Rattle.mo_file.proofs.Cuts.{context_cut, context_none, id_all, id_cut}
 use Rattle.mo_file.proofs.message_parts.key_parts.Goals as goal
 
 pub returns-in-Some-clause-context : goal.returns-in-Some-clause-context

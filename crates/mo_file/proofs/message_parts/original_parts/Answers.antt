@@ -1,5 +1,5 @@
 use Rattle.mo_file.proofs.Prelude.{ap, key_of, plural_of, sym, ◌∙◌}
-use Rattle.mo_file.proofs.CutLemmas.{before_all, before_is, plural_cut, plural_none}
+use Rattle.mo_file.proofs.Cuts.{before_all, before_is, plural_cut, plural_none}
 use Rattle.mo_file.proofs.message_parts.original_parts.Goals as goal
 
 pub returns-in-Some-clause-key : goal.returns-in-Some-clause-key

@@ -1,4 +1,4 @@
-use Rattle.mo_file.proofs.CutLemmas.{form_split}
+use Rattle.mo_file.proofs.Cuts.{form_split}
 use Rattle.mo_file.proofs.message_parts.split_form.Goals as goal
 
 pub returns-clause-forms : goal.returns-clause-forms

@@ -1,4 +1,4 @@
-use Rattle.mo_lookup.proofs.BoundLemmas.{search_bound-above, search_bound-below}
+use Rattle.mo_lookup.proofs.BinarySearch.{search_bound-above, search_bound-below}
 use Rattle.mo_lookup.proofs.laws.bound_is_logarithm.Goals as goal
 
 pub returns : goal.returns

@@ -1,4 +1,4 @@
-use Rattle.mo_lookup.proofs.ChainLemmas.{asks-up-to-first, asks-all}
+use Rattle.mo_lookup.proofs.Chains.{asks-all, asks-up-to-first}
 use Rattle.mo_lookup.proofs.laws.chain_asks_up_to_first.Goals as goal
 
 pub returns-clause-first : goal.returns-clause-first

@@ -1,5 +1,5 @@
 use Rattle.mo_lookup.proofs.Prelude.{key_at, keys, refl}
-use Rattle.mo_lookup.proofs.TranslationLemmas.{under-found}
+use Rattle.mo_lookup.proofs.Translations.{under-found}
 use Rattle.mo_lookup.proofs.laws.each_key_finds_its_translation.Goals as goal
 
 pub returns : goal.returns

@@ -1,4 +1,4 @@
-use Rattle.mo_lookup.proofs.ComparisonLemmas.{comparisons-none, comparisons-halves}
+use Rattle.mo_lookup.proofs.BinarySearch.{comparisons-halves, comparisons-none}
 use Rattle.mo_lookup.proofs.laws.search_halves.Goals as goal
 
 pub returns : goal.returns

@@ -1,4 +1,4 @@
-use Rattle.mo_lookup.proofs.TranslationLemmas.{index-listed}
+use Rattle.mo_lookup.proofs.Translations.{index-listed}
 use Rattle.mo_lookup.proofs.lookup.index_of.Goals as goal
 
 pub returns-clause-found : goal.returns-clause-found

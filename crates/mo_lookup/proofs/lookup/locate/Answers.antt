@@ -1,8 +1,8 @@
 use Rattle.mo_lookup.proofs.Prelude.{arith, refl, rules, sym, ℕ, ◌+◌, ◌-◌, ◌≡◌}
 use Rattle.plural_rule.specs.declared.rule.Source.TheVariants.{Header}
-use Rattle.mo_lookup.proofs.PlaceLemmas.{form-placed}
+use Rattle.mo_lookup.proofs.Forms.{form-placed}
 use Rattle.mo_lookup.proofs.lookup.locate.Goals as goal
-use Rattle.mo_lookup.proofs.lookup.locate.Goals.{then-can_be_key, else-can_be_key}
+use Rattle.mo_lookup.proofs.lookup.locate.Goals.{else-can_be_key, then-can_be_key}
 
 difference : (before after old new spent : ℕ) → before ≡ old → after ≡ new → new ≡ old + spent → after - before ≡ spent
 difference before after old new spent began ended is = omega arith

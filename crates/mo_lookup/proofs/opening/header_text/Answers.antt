@@ -1,5 +1,5 @@
 use Rattle.mo_lookup.proofs.Prelude.{ap, arith, slice_get, sym, translations, ◌∙◌}
-use Rattle.mo_lookup.proofs.TranslationLemmas.{listed-header-first, listed-header-none}
+use Rattle.mo_lookup.proofs.Translations.{listed-header-first, listed-header-none}
 use Rattle.mo_lookup.proofs.opening.header_text.Goals as goal
 
 pub returns-in-Equal-clause-text : goal.returns-in-Equal-clause-text

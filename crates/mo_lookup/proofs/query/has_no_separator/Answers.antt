@@ -1,4 +1,4 @@
-use Rattle.mo_lookup.proofs.QueryLemmas.{no_separator_by_eot}
+use Rattle.mo_lookup.proofs.Translations.{no_separator_by_eot}
 use Rattle.mo_lookup.proofs.query.has_no_separator.Goals as goal
 
 pub returns-then-is_none : goal.returns-then-is_none

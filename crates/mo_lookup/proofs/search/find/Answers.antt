@@ -1,5 +1,5 @@
 use Rattle.mo_lookup.proofs.Prelude.{arith, ◌∙◌}
-use Rattle.mo_lookup.proofs.SearchLemmas.{IsSearch-counted, IsSearch-compared, IsSearch-found, IsSearch-greater, IsSearch-last, IsSearch-less, IsSearch-none}
+use Rattle.mo_lookup.proofs.BinarySearch.{IsSearch-compared, IsSearch-counted, IsSearch-found, IsSearch-greater, IsSearch-last, IsSearch-less, IsSearch-none}
 use Rattle.mo_lookup.proofs.search.find.Goals as goal
 
 pub compare-requires-clause-room : goal.compare-requires-clause-room

@@ -1,5 +1,5 @@
 use Rattle.mo_lookup.proofs.Prelude.{option_copied, query_key, ◌-◌, ◌≡◌, ◌≤◌}
-use Rattle.mo_lookup.proofs.SearchLemmas.{IsSearch}
+use Rattle.mo_lookup.proofs.BinarySearch.{IsSearch}
 use Rattle.mo_lookup.proofs.search.find.Given as goal
 
 abbrev pub invariant-halving : goal.invariant-halving

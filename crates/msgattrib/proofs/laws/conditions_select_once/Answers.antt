@@ -1,4 +1,4 @@
-use Rattle.msgattrib.proofs.SelectionLaws.{selected_once}
+use Rattle.msgattrib.proofs.OptionLaws.{selected_once}
 use Rattle.msgattrib.proofs.laws.conditions_select_once.Goals as goal
 
 pub returns : goal.returns

@@ -1,4 +1,4 @@
-use Rattle.msgattrib.proofs.SelectedLemmas.{run_refused}
+use Rattle.msgattrib.proofs.SelectedEntries.{run_refused}
 use Rattle.msgattrib.proofs.plan.plan_msgattrib.Goals as goal
 
 pub returns-in_ok-refused_text-in-Err-clause-run : goal.returns-in_ok-refused_text-in-Err-clause-run

@@ -1,7 +1,7 @@
 use Rattle.msgattrib.proofs.Prelude.{AddsParts, List, OthersStay, TextEntry, [], ap, append-nil, arith, changed, get_or, hashes_of, length, refl, selected, subst, sym, ℕ, ◌++◌, ◌<◌, ◌∙◌, ◌∷◌, ◌≡◌}
 use Rattle.po_writer.specs.Prelude.{AreParts}
-use Rattle.msgattrib.proofs.SelectedLemmas.{hashes_go_on, one_kept, one_left_out, parts_go_on}
-use Rattle.msgattrib.proofs.selected_text.add_entries.Goals.{then-keeps+in_ok-changed+in_ok-add, else-keeps}
+use Rattle.msgattrib.proofs.SelectedEntries.{hashes_go_on, one_kept, one_left_out, parts_go_on}
+use Rattle.msgattrib.proofs.selected_text.add_entries.Goals.{else-keeps, then-keeps+in_ok-changed+in_ok-add}
 use Rattle.msgattrib.proofs.selected_text.add_entries.Goals as goal
 
 pub loop-index-preserved : goal.loop-index-preserved

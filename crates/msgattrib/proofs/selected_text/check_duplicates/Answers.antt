@@ -1,7 +1,7 @@
 use Rattle.msgattrib.proofs.Prelude.{HasNoDuplicate, IsCatalogueEntry, IsDuplicateFaultOf, List, TextEntry, [], ap, append-nil, arith, err_from_is_err_and, length, selected, subst, sym, take_all, ◌++◌, ◌<◌, ◌∙◌, ◌∷◌, ◌≡◌, ◌≤◌}
-use Rattle.msgattrib.proofs.SelectedLemmas.{one_kept, one_left_out, read_whole, repeating, repeating_selected, selected_goes_on, still_distinct}
-use Rattle.msgattrib.proofs.SelectionLaws.{changed_can_stand}
-use Rattle.msgattrib.proofs.selected_text.check_duplicates.Goals.{then-keeps+in_ok-changed+in_ok-push, else-keeps}
+use Rattle.msgattrib.proofs.SelectedEntries.{one_kept, one_left_out, read_whole, repeating, repeating_selected, selected_goes_on, still_distinct}
+use Rattle.msgattrib.proofs.OptionLaws.{changed_can_stand}
+use Rattle.msgattrib.proofs.selected_text.check_duplicates.Goals.{else-keeps, then-keeps+in_ok-changed+in_ok-push}
 use Rattle.msgattrib.proofs.selected_text.check_duplicates.Goals as goal
 
 pub returns-in_err-check_duplicates-clause-fault : goal.returns-in_err-check_duplicates-clause-fault

@@ -1,9 +1,9 @@
 use Rattle.msgattrib.proofs.Prelude.{AllPairs, List, TextEntry, [], ap, err_from_is_err_and, kept_entry, map, rules, subst, true, ◌++◌, ◌∙◌, ◌≡◌, ◌≢◌}
 use Rattle.po_entry.specs.Faults.IsReadFault.{in_text}
-use Rattle.po_reader.proofs.Heads.{all_kept}
-use Rattle.po_reader.proofs.PieceReading.{read_all, read_more, read_none}
-use Rattle.po_syntax.proofs.NoMemory.{IsFaultOf-weaker, is_text_fault}
-use Rattle.msgattrib.proofs.SelectedLemmas.{no_duplicate, piece_selected}
+use Rattle.po_reader.proofs.CommentFields.{all_kept}
+use Rattle.po_reader.proofs.Pieces.{read_all, read_more, read_none}
+use Rattle.po_syntax.proofs.Faults.{IsFaultOf-weaker, is_text_fault}
+use Rattle.msgattrib.proofs.SelectedEntries.{no_duplicate, piece_selected}
 use Rattle.msgattrib.proofs.selected_text.selected_text.Goals.{else-not-all_differ, then-not-all_differ+in_ok-check_duplicates}
 use Rattle.msgattrib.proofs.selected_text.selected_text.Goals as goal
 

@@ -1,5 +1,5 @@
 use Rattle.msgcat.proofs.Prelude.{ap, arith, texts_left}
-use Rattle.msgcat.proofs.Sets.{all_taken, new_taken, none_taken, old_passed}
+use Rattle.msgcat.proofs.SeenTexts.{all_taken, new_taken, none_taken, old_passed}
 use Rattle.msgcat.proofs.comments.push_others.Goals as goal
 
 pub loop-text-init : goal.loop-text-init

@@ -1,5 +1,5 @@
 use Rattle.msgcat.proofs.Prelude.{length, texts_left, ◌≡◌}
-use Rattle.msgcat.proofs.Sets.{AreTaken}
+use Rattle.msgcat.proofs.SeenTexts.{AreTaken}
 use Rattle.msgcat.proofs.comments.push_others.Given as goal
 
 -- the texts up to those that are left were taken

@@ -1,7 +1,7 @@
 use Rattle.msgcat.proofs.Prelude.{YieldsList-from_slice, ap, has_part, rules, ◌∙◌}
 use Rattle.std.proofs.lemmas.Iterator.Search.{find_from_yields_List}
 use Rattle.msgcat.specs.declared.definition.NamedEntry.{NamedEntry}
-use Rattle.msgcat.proofs.FirstParts.{first_found}
+use Rattle.msgcat.proofs.OneDefinition.{first_found}
 use Rattle.msgcat.proofs.definition.first_with.Goals as goal
 
 pub returns : goal.returns

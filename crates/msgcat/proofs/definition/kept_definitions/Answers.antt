@@ -1,9 +1,9 @@
 use Rattle.msgcat.proofs.Prelude.{Bool, YieldsList-from_slice, any_from_yields_List, ap, ap₂, definitions, filter, if◌then◌else◌, is_header, is_kept, is_live, is_wanted, length, length-map, list_any, named_entries, named_entry, rules, sym, ◌||◌, ◌∙◌, ◌≡◌}
 use Rattle.std.proofs.lemmas.Fn.{filter_same}
 use Rattle.msgcat.specs.declared.definition.NamedEntry.{NamedEntry}
-use Rattle.msgcat.proofs.Views.{any_named, named_left}
+use Rattle.msgcat.proofs.ValidMerged.{any_named, named_left}
 use Rattle.msgcat.proofs.definition.kept_definitions.Goals as goal
-use Rattle.msgcat.proofs.definition.kept_definitions.Goals.{then-any, else-any, then-has_header-via-then-has_header, then-has_header-via-else-has_header+then-is_wanted}
+use Rattle.msgcat.proofs.definition.kept_definitions.Goals.{else-any, then-any, then-has_header-via-else-has_header+then-is_wanted, then-has_header-via-then-has_header}
 
 pub returns-clause-none : goal.returns-clause-none
 returns-clause-none c =

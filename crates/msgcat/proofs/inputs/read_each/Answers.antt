@@ -1,8 +1,7 @@
 use Rattle.msgcat.proofs.Prelude.{Named, NamedEntry, NamedFile, ReadsText, [], all_entries, ap, arith, drop, drop-cons, get_or, length, length-append, length-map, named_file, named_files, refl, rules, subst, suc, sym, take, take-append-drop, ◌++◌, ◌-◌, ◌<◌, ◌∙◌, ◌∷◌, ◌≡◌, ◌≢◌}
 use Rattle.po_syntax.specs.declared.fault.PoFault.TheVariants.{OutOfMemory}
-use Rattle.msgcat.proofs.ReadInputs.{entries_more, inputs_more}
-use Rattle.msgcat.proofs.InputLemmas.{text_more}
-use Rattle.msgcat.proofs.MsgcatLemmas.{file_at, name_lacks, no_file}
+use Rattle.msgcat.proofs.Inputs.{entries_more, inputs_more, text_more}
+use Rattle.msgcat.proofs.Runs.{file_at, name_lacks, no_file}
 use Rattle.msgcat.proofs.inputs.read_each.Goals as goal
 
 pub returns-in-Err-clause-read : goal.returns-in-Err-clause-read

@@ -1,5 +1,5 @@
 use Rattle.msgcat.proofs.Prelude.{List, [], ap, ap₂, arith, form_list, form_lists, joined_at, length, length-map, length_push, map, map-append, map-range_with_len_more, most_forms, range_with_len, rests, rules, suc, sym, texts, ℕ, ◌++◌, ◌+◌, ◌<◌, ◌∙◌, ◌∷◌, ◌≡◌}
-use Rattle.msgcat.proofs.FormsLeft.{joined_rests, none_left, one_less}
+use Rattle.msgcat.proofs.JoinedForms.{joined_rests, none_left, one_less}
 use Rattle.msgcat.proofs.joined_translations.joined_forms.Goals as goal
 
 pub returns-then-is_empty : goal.returns-then-is_empty

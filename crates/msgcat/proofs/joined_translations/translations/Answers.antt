@@ -1,6 +1,6 @@
 use Rattle.msgcat.proofs.Prelude.{FormList, HasTranslations, List, [], ap, ap₂, false, form_list, form_lists, is_at, list_any, map, map-append, named_entries, named_entry, named_forms, nat_cmp, not-false, not-true, same_forms, slice_cmp, subst, sym, take, translations, true, ℕ, ◌++◌, ◌+◌, ◌∙◌, ◌∷◌, ◌≡◌}
-use Rattle.msgcat.proofs.SeenForms.{one_translation_more, seen_here}
-use Rattle.msgcat.proofs.Steps.{translations_more}
+use Rattle.msgcat.proofs.JoinedForms.{one_translation_more, seen_here}
+use Rattle.msgcat.proofs.ValidMerged.{translations_more}
 use Rattle.msgcat.proofs.joined_translations.translations.Goals as goal
 
 pub loop-definition-preserved-then-not-branch : goal.loop-definition-preserved-then-not-branch

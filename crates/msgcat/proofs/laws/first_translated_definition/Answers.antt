@@ -1,4 +1,4 @@
-use Rattle.msgcat.proofs.TranslationLaws.{forms_of_first, comments_of_first}
+use Rattle.msgcat.proofs.EntryLaws.{comments_of_first, forms_of_first}
 use Rattle.msgcat.proofs.laws.first_translated_definition.Goals as goal
 
 pub returns : goal.returns

@@ -1,4 +1,4 @@
-use Rattle.msgcat.proofs.NumberedGroups.{groups_by_number}
+use Rattle.msgcat.proofs.GroupsByIndex.{groups_by_number}
 use Rattle.msgcat.proofs.laws.groups_are_numbered.Goals as goal
 
 pub returns : goal.returns

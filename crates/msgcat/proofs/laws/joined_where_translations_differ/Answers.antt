@@ -1,4 +1,4 @@
-use Rattle.msgcat.proofs.TranslationLaws.{joined_where_they_differ, joined_as_longest}
+use Rattle.msgcat.proofs.EntryLaws.{joined_as_longest, joined_where_they_differ}
 use Rattle.msgcat.proofs.laws.joined_where_translations_differ.Goals as goal
 
 pub returns : goal.returns

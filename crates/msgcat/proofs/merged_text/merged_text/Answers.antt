@@ -1,5 +1,5 @@
 use Rattle.msgcat.proofs.Prelude.{merged}
-use Rattle.msgcat.proofs.MergedLemmas.{both_written}
+use Rattle.msgcat.proofs.MergedGroups.{both_written}
 use Rattle.msgcat.proofs.merged_text.merged_text.Goals as goal
 
 pub returns : goal.returns

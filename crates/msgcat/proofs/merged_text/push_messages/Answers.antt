@@ -1,8 +1,7 @@
 use Rattle.msgcat.proofs.Prelude.{ap, arith, booleans_Decides, err_from_is_err_and, inl, inr, length, messages, not_from_Decides, ◌<◌, ◌∙◌}
-use Rattle.msgcat.proofs.GroupsMerged.{fault_of_one}
-use Rattle.msgcat.proofs.MergedLemmas.{message_more}
+use Rattle.msgcat.proofs.MergedGroups.{fault_of_one, message_more}
 use Rattle.msgcat.proofs.merged_text.push_messages.Goals as goal
-use Rattle.msgcat.proofs.merged_text.push_messages.Goals.{then-is_obsolete-obsolete+in_ok-push_message, else-is_obsolete-obsolete}
+use Rattle.msgcat.proofs.merged_text.push_messages.Goals.{else-is_obsolete-obsolete, then-is_obsolete-obsolete+in_ok-push_message}
 
 pub returns-in_err-push_message-clause-fault : goal.returns-in_err-push_message-clause-fault
 returns-in_err-push_message-clause-fault c =

@@ -1,8 +1,8 @@
 use Rattle.msgcat.proofs.Prelude.{CanBeMerged, HasAdmittedCharset, IsEntry, List, [], ap, arith, false≢true, get_or, get_or-append_seam, get_or-map, length, length-map, length_push, merged_entry, named_entries, named_entry, subst, sym, ◌++◌, ◌-◌, ◌<◌, ◌∙◌, ◌∷◌, ◌≡◌}
 use Rattle.msgcat.specs.declared.definition.NamedEntry.{NamedEntry}
-use Rattle.msgcat.proofs.GroupsMerged.{foreign_one}
+use Rattle.msgcat.proofs.MergedGroups.{foreign_one}
 use Rattle.msgcat.proofs.OneDefinition.{one_of}
-use Rattle.msgcat.proofs.Valid.{merged_is_entry}
+use Rattle.msgcat.proofs.ValidMerged.{merged_is_entry}
 use Rattle.msgcat.proofs.merging.merged_entry.Goals as goal
 
 pub returns-then-len-lt2-clause-merged : goal.returns-then-len-lt2-clause-merged

@@ -1,6 +1,6 @@
 use Rattle.msgcat.proofs.Prelude.{Bool, ap, ap₂, arith, false, first_translated, form_list, if◌then◌else◌, is_joined, joined_forms, joined_lists, length, length-map, lt-ltb, named_entries, named_forms, nat_lt, nat_tests, not, sym, translations, true, ◌&&◌, ◌<◌, ◌||◌, ◌∙◌, ◌≡◌}
-use Rattle.msgcat.proofs.FormsLeft.{joined_lists_named}
-use Rattle.msgcat.proofs.merging.merged_forms.Goals.{then-not-options+in_ok-found+else-len-gt1, else-not-options}
+use Rattle.msgcat.proofs.JoinedForms.{joined_lists_named}
+use Rattle.msgcat.proofs.merging.merged_forms.Goals.{else-not-options, then-not-options+in_ok-found+else-len-gt1}
 use Rattle.msgcat.proofs.merging.merged_forms.Goals as goal
 
 pub returns-then-len-gt1 : goal.returns-then-len-gt1

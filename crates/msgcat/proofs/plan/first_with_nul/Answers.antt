@@ -1,6 +1,5 @@
 use Rattle.msgcat.proofs.Prelude.{All, All-push, Lacks, [], ap, get_or, list_any, map-append, named_file, named_files, subst, sym, take, take_all, take_more, ◌==◌, ◌∙◌, ◌∷◌}
-use Rattle.msgcat.proofs.MsgcatLemmas.{no_file}
-use Rattle.msgcat.proofs.NulNames.{first_nul, holds, lacks, nul_is_found}
+use Rattle.msgcat.proofs.Runs.{first_nul, holds, lacks, no_file, nul_is_found}
 use Rattle.msgcat.proofs.plan.first_with_nul.Goals as goal
 
 pub returns-then-is_some : goal.returns-then-is_some

@@ -1,5 +1,5 @@
 use Rattle.msgcat.proofs.Prelude.{IfOk-weaker, ap, first_name, inl, inr, msgcat_line, refusal, ◌∙◌}
-use Rattle.msgcat.proofs.MsgcatLemmas.{first_named}
+use Rattle.msgcat.proofs.Runs.{first_named}
 use Rattle.msgcat.proofs.plan.run_of_read.Goals as goal
 
 pub returns : goal.returns

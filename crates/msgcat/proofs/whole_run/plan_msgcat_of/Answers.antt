@@ -1,5 +1,5 @@
 use Rattle.msgcat.proofs.Prelude.{All, IfOk-weaker, IsMsgcatRun, IsReadingOf, IsUnread, Lacks, MatchResult-from_both, Ok, ap, false≢true, inl, named_files, named_inputs, none_read, run_view, subst, ◌∙◌}
-use Rattle.msgcat.proofs.UnreadBefore.{name_told, names_before, none_before, refused_before, refused_whole}
+use Rattle.msgcat.proofs.Runs.{name_told, names_before, none_before, refused_before, refused_whole}
 use Rattle.msgcat.proofs.whole_run.plan_msgcat_of.Goals as goal
 
 pub returns-in_err-texts-clause-first : goal.returns-in_err-texts-clause-first

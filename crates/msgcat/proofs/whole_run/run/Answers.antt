@@ -1,6 +1,6 @@
 use Rattle.msgcat.proofs.Prelude.{err_from_is_err_and, inputs_ended, named_inputs, none_unread, refl, run_view}
 use Rattle.runs.specs.ToolRuns.{no_memory_to_read, runs}
-use Rattle.msgcat.proofs.WholeRuns.{no_run, planned}
+use Rattle.msgcat.proofs.Runs.{no_run, planned}
 use Rattle.msgcat.proofs.whole_run.run.Goals as goal
 
 pub returns-in_err-inputs-clause-run : goal.returns-in_err-inputs-clause-run

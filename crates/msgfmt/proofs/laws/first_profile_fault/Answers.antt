@@ -1,4 +1,4 @@
-use Rattle.msgfmt.proofs.FirstFaults.{first_found}
+use Rattle.msgfmt.proofs.ProfileFaults.{first_found}
 use Rattle.msgfmt.proofs.laws.first_profile_fault.Goals as goal
 
 pub returns : goal.returns

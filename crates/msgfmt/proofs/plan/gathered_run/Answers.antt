@@ -1,6 +1,6 @@
 use Rattle.msgfmt.proofs.Prelude.{AreCollected, IfOk-weaker, ap, arith, check_line, false, inl, input_texts, inr, is_ok, join_line, length, refusal, slice_texts, sym, true, true≢false, ⊎_elim, ◌∙◌, ◌≡◌}
-use Rattle.msgfmt.proofs.MsgfmtLemmas.{collected-count}
-use Rattle.msgfmt.proofs.plan.gathered_run.Goals.{then-options, else-options}
+use Rattle.msgfmt.proofs.Runs.{collected-count}
+use Rattle.msgfmt.proofs.plan.gathered_run.Goals.{else-options, then-options}
 use Rattle.msgfmt.proofs.plan.gathered_run.Goals as goal
 
 pub check_collected-checked-requires : goal.check_collected-checked-requires

@@ -1,5 +1,5 @@
 use Rattle.msgfmt.proofs.Prelude.{None, arith, count_fault, counts_below, refl, sym, ◌-◌, ◌∙◌, ◌≡◌}
-use Rattle.msgfmt.proofs.Profiles.{first_some-range}
+use Rattle.msgfmt.proofs.ProfileFaults.{first_some-range}
 use Rattle.msgfmt.proofs.profile.first_count_fault.Goals as goal
 
 pub loop-count-init : goal.loop-count-init

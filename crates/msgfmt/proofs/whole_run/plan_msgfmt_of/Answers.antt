@@ -1,7 +1,7 @@
 use Rattle.msgfmt.proofs.Prelude.{AreWrong, Bool, IsMsgfmtRun, List, NamedFile, Option, ProgramFault, Some, [], ap, arith, false, inl, inr, length, length-map, named_count, named_file, named_files, named_inputs, not, refl, run_view, subst, sym, true, true≢false, ⊎_elim, ◌<◌, ◌==◌, ◌∙◌, ◌≡◌}
 use Rattle.runs.specs.declared.inputs.Inputs.{Inputs}
-use Rattle.msgfmt.proofs.MsgfmtLemmas.{refused, taken}
-use Rattle.msgfmt.proofs.whole_run.plan_msgfmt_of.Goals.{then-options, else-options}
+use Rattle.msgfmt.proofs.Runs.{refused, taken}
+use Rattle.msgfmt.proofs.whole_run.plan_msgfmt_of.Goals.{else-options, then-options}
 use Rattle.msgfmt.proofs.whole_run.plan_msgfmt_of.Goals as goal
 
 some_text : (inputs : Inputs) → (inputs.texts.len == 0) ≡ false → named_inputs inputs ≡ [] → ⊥

@@ -1,4 +1,4 @@
-use Rattle.msgunfmt.proofs.FaultLemmas.{empty_text}
+use Rattle.msgunfmt.proofs.OneOutcome.{empty_text}
 use Rattle.msgunfmt.proofs.laws.empty_text.Goals as goal
 
 pub returns : goal.returns

@@ -1,4 +1,4 @@
-use Rattle.msgunfmt.proofs.EntryParts.{entries_are}
+use Rattle.msgunfmt.proofs.MessageParts.{entries_are}
 use Rattle.msgunfmt.proofs.laws.entries_are_of_messages.Goals as goal
 
 pub returns : goal.returns

@@ -1,4 +1,4 @@
-use Rattle.msgunfmt.proofs.FaultLemmas.{no_fault}
+use Rattle.msgunfmt.proofs.OneOutcome.{no_fault}
 use Rattle.msgunfmt.proofs.laws.no_fault_where_unformatted.Goals as goal
 
 pub returns : goal.returns

@@ -1,4 +1,4 @@
-use Rattle.msgunfmt.proofs.FaultLemmas.{one_text}
+use Rattle.msgunfmt.proofs.OneOutcome.{one_text}
 use Rattle.msgunfmt.proofs.laws.one_text.Goals as goal
 
 pub returns : goal.returns

@@ -1,4 +1,4 @@
-use Rattle.msgunfmt.proofs.OneFault.{fault_once}
+use Rattle.msgunfmt.proofs.OneOutcome.{fault_once}
 use Rattle.msgunfmt.proofs.laws.one_unformat_fault.Goals as goal
 
 pub returns : goal.returns

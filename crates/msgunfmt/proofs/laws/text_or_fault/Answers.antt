@@ -1,4 +1,4 @@
-use Rattle.msgunfmt.proofs.SettledMessages.{text_or_fault}
+use Rattle.msgunfmt.proofs.Messages.{text_or_fault}
 use Rattle.msgunfmt.proofs.laws.text_or_fault.Goals as goal
 
 pub returns : goal.returns

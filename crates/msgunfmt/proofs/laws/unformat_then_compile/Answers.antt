@@ -1,4 +1,4 @@
-use Rattle.msgunfmt.proofs.ReturnLemmas.{unformat_then_compile}
+use Rattle.msgunfmt.proofs.RoundTrip.{unformat_then_compile}
 use Rattle.msgunfmt.proofs.laws.unformat_then_compile.Goals as goal
 
 pub returns : goal.returns

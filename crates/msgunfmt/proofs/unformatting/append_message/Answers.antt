@@ -1,6 +1,6 @@
 use Rattle.msgunfmt.proofs.Prelude.{AppendsEntry, AppendsMessage, IfErr-weaker, IfOk-weaker, Message, RefusesEntry, RefusesMessage, entry_of_message, err_from_is_err_and, ◌≡◌}
-use Rattle.msgunfmt.proofs.LaidMessages.{appended, laid_entry, no_nul, refused}
-use Rattle.msgunfmt.proofs.MessageLemmas.{entry_of}
+use Rattle.msgunfmt.proofs.MessageParts.{appended, laid_entry, no_nul, refused}
+use Rattle.msgunfmt.proofs.Messages.{entry_of}
 use Rattle.msgunfmt.proofs.unformatting.append_message.Goals as goal
 
 pub returns-in_err-lay_out-clause-fault : goal.returns-in_err-lay_out-clause-fault

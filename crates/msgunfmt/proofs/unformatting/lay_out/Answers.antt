@@ -1,6 +1,6 @@
 use Rattle.msgunfmt.proofs.Prelude.{Adds, Message, TextEntry, ap, entry_of_message, forms, on_ok_weaker, option_copied, subst, sym, taken_forms, ◌∙◌, ◌≡◌}
-use Rattle.msgunfmt.proofs.LaidMessages.{first_alone, held, of_parts}
-use Rattle.msgunfmt.proofs.unformatting.lay_out.Goals.{in-Some, in-None}
+use Rattle.msgunfmt.proofs.MessageParts.{first_alone, held, of_parts}
+use Rattle.msgunfmt.proofs.unformatting.lay_out.Goals.{in-None, in-Some}
 use Rattle.msgunfmt.proofs.unformatting.lay_out.Goals as goal
 
 pub returns : goal.returns

@@ -1,6 +1,5 @@
 use Rattle.msgunfmt.proofs.Prelude.{IsEntry, ap, arith, err_from_is_err_and, length, sym, take, unformatted, with_entry, written_text, ◌∙◌, ◌≡◌}
-use Rattle.msgunfmt.proofs.MessageLemmas.{admitted_more, all_more, all_written, foreign_more, live_message, live_messages, one_more, refused_messages, some_foreign}
-use Rattle.msgunfmt.proofs.SettledMessages.{in_file}
+use Rattle.msgunfmt.proofs.Messages.{admitted_more, all_more, all_written, foreign_more, in_file, live_message, live_messages, one_more, refused_messages, some_foreign}
 use Rattle.msgunfmt.proofs.unformatting.unformat.Goals as goal
 
 pub returns-in_err-is_admitted : goal.returns-in_err-is_admitted

@@ -1,7 +1,7 @@
 use Rattle.plural_rule.proofs.Prelude.{Instruction, List, None, Option, Outcome, Some, Tree, [], ap, arith, drop, drop_all, length, length-drop, length-program, nodes, program, run, size, stored, sym, tree_of, value, visited, ℕ, ◌+◌, ◌-◌, ◌<◌, ◌∙◌, ◌∷◌, ◌≡◌, ◌≤◌}
-use Rattle.plural_rule.proofs.Uniqueness.{visited_le_nodes}
+use Rattle.plural_rule.proofs.HeaderRules.{visited_le_nodes}
 use Rattle.plural_rule.specs.Internal.Evaluator.{outcome}
-use Rattle.plural_rule.proofs.Programs.{nodes-le-size, stored-cons, starts, skips, ready}
+use Rattle.plural_rule.proofs.Programs.{nodes-le-size, ready, skips, starts, stored-cons}
 use Rattle.plural_rule.proofs.evaluator.evaluate_within.Goals as goal
 
 told : (p : List Instruction) (t : Tree) (n before : ℕ) (v : Option ℕ) (s : ℕ) → p ≡ program 0 t

@@ -1,5 +1,5 @@
 use Rattle.plural_rule.proofs.Prelude.{OccursAt, Some, ap, arith, cases_lt, drop, inl, inr, length, length-drop, length-take, rules, sym, take, take_rest, true≢false, ◌+◌, ◌-◌, ◌∙◌, ◌≡◌, ◌≤◌}
-use Rattle.plural_rule.proofs.Searches.{none-before, ends-text, ends-part, found-within, after_first-none, after_first-some}
+use Rattle.plural_rule.proofs.HeaderRules.{after_first-none, after_first-some, ends-part, ends-text, found-within, none-before}
 use Rattle.plural_rule.proofs.header.after_first.Goals as goal
 
 pub loop-before-preserved : goal.loop-before-preserved

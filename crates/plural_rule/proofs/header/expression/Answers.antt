@@ -1,6 +1,6 @@
 use Rattle.plural_rule.proofs.Prelude.{Some, ap, before_first, is_end, ◌∙◌}
 use Rattle.std.specs.Prelude.{option_map}
-use Rattle.plural_rule.proofs.Searches.{before_first_some, before_first_none}
+use Rattle.plural_rule.proofs.HeaderRules.{before_first_none, before_first_some}
 use Rattle.plural_rule.proofs.header.expression.Goals as goal
 
 pub returns-in-Some-memchr2 : goal.returns-in-Some-memchr2

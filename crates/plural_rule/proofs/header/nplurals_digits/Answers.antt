@@ -1,7 +1,6 @@
 use Rattle.plural_rule.proofs.Prelude.{ap, digits_number, is_ascii_digit, leading_number, length, rules, sym, take_while, without_blanks, ◌<◌, ◌∙◌, ◌≡◌}
 use Rattle.std.specs.Prelude.{option_and_then}
-use Rattle.plural_rule.proofs.Numerals.{digits_number-some}
-use Rattle.plural_rule.proofs.Scanning.{AllDigits-take_while}
+use Rattle.plural_rule.proofs.Tokens.{AllDigits-take_while, digits_number-some}
 use Rattle.plural_rule.proofs.header.nplurals_digits.Goals as goal
 
 pub returns-else-is_empty : goal.returns-else-is_empty

@@ -1,7 +1,7 @@
 use Rattle.plural_rule.proofs.Prelude.{Binary, Count, HasNoDouble, Lexes, List, NotEqual, Number, Operator, Or, Spelt, Token, [], ap, arith, blank, codes, end, false, false≢true, get_or, operator_bytes, refl, sym, token, ◌==◌, ◌∙◌, ◌∷◌, ◌≡◌}
-use Rattle.plural_rule.specs.declared.token.Token.TheVariants.{Count as CountToken, Number as NumberToken, Binary as BinaryToken}
-use Rattle.plural_rule.proofs.Scanning.{double-token, numeral-token, single-token}
-use Rattle.plural_rule.proofs.Sound.{sound}
+use Rattle.plural_rule.specs.declared.token.Token.TheVariants.{Binary as BinaryToken, Count as CountToken, Number as NumberToken}
+use Rattle.plural_rule.proofs.Tokens.{double-token, numeral-token, single-token}
+use Rattle.plural_rule.proofs.SpeltTrees.{sound}
 use Rattle.plural_rule.proofs.laws.default_rule_is_of_n_other_than_1.Goals as goal
 
 abbrev tokens : List Token

@@ -1,4 +1,4 @@
-use Rattle.plural_rule.proofs.Uniqueness.{one_tree}
+use Rattle.plural_rule.proofs.HeaderRules.{one_tree}
 use Rattle.plural_rule.proofs.laws.one_tree.Goals as goal
 
 pub returns : goal.returns

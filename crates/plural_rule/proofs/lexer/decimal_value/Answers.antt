@@ -1,5 +1,5 @@
 use Rattle.plural_rule.proofs.Prelude.{arith, digits_value_more}
-use Rattle.plural_rule.proofs.Numerals.{digits_value-grows, digit-value}
+use Rattle.plural_rule.proofs.Tokens.{digit-value, digits_value-grows}
 use Rattle.plural_rule.proofs.lexer.decimal_value.Goals as goal
 
 pub overflow_sub-longer : goal.overflow_sub-longer

@@ -1,5 +1,5 @@
 use Rattle.plural_rule.proofs.Prelude.{ap, arith, digits_value, is_ascii_digit, sym, ◌^◌, ◌∙◌, ◌≤◌}
-use Rattle.plural_rule.proofs.Scanning.{first_byte-get, AllDigits-take_while, numeral-token, numeral-none, double-token}
+use Rattle.plural_rule.proofs.Tokens.{AllDigits-take_while, double-token, first_byte-get, numeral-none, numeral-token}
 use Rattle.plural_rule.proofs.lexer.token.Goals as goal
 
 pub decimal_value-requires : goal.decimal_value-requires

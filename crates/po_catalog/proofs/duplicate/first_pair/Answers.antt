@@ -1,6 +1,6 @@
 use Rattle.po_catalog.proofs.Prelude.{DifferUpTo, InputEntry, MatchOption, RepeatsAt, TextEntry, ap, arith, get_or, get_or-map, input_entries, input_entry, is_live, is_looked_at, length, length-map, live_differ, number_in, subst, sym, ℕ, ◌<◌, ◌∙◌, ◌≡◌}
 use Rattle.po_catalog.specs.declared.joining.InputEntry.{InputEntry as BorrowedEntry}
-use Rattle.po_entry.proofs.NumberLemmas.{are_numbered, as_many, first_twice, none_twice}
+use Rattle.po_entry.proofs.MessageNumbers.{are_numbered, as_many, first_twice, none_twice}
 use Rattle.po_catalog.proofs.duplicate.first_pair.Goals as goal
 
 pub first_repeat-requires-clause-lengths : goal.first_repeat-requires-clause-lengths

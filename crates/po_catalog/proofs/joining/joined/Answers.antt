@@ -1,7 +1,7 @@
 use Rattle.po_catalog.proofs.Prelude.{ap, get_or, input_entries, is_live_header, rules, sym, ◌∙◌}
 use Rattle.std.proofs.lemmas.Iterator.{YieldsList-from_slice}
 use Rattle.std.proofs.lemmas.Iterator.Search.{any_from_yields_List}
-use Rattle.po_entry.proofs.JoiningLemmas.{valid_more, whole_more}
+use Rattle.po_entry.proofs.JoinedLists.{valid_more, whole_more}
 use Rattle.po_catalog.proofs.joining.joined.Goals as goal
 
 pub loop-input-preserved : goal.loop-input-preserved

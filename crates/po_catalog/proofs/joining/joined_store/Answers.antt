@@ -1,5 +1,5 @@
 use Rattle.po_catalog.proofs.Prelude.{IsCatalogueEntry, List, TextEntry, [], ap, sym, ◌++◌, ◌∙◌, ◌∷◌}
-use Rattle.po_catalog.proofs.Borrowed.{borrowed_holds, borrowed_more}
+use Rattle.po_catalog.proofs.Entries.{borrowed_holds, borrowed_more}
 use Rattle.po_catalog.proofs.joining.joined_store.Goals as goal
 
 pub push_entry-requires : goal.push_entry-requires

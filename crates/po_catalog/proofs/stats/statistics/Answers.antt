@@ -1,5 +1,5 @@
 use Rattle.po_catalog.proofs.Prelude.{arith}
-use Rattle.po_entry.proofs.StatisticsLemmas.{counts_of_first}
+use Rattle.po_entry.proofs.Statistics.{counts_of_first}
 use Rattle.po_catalog.proofs.stats.statistics.Goals as goal
 
 pub count-requires-clause-translated : goal.count-requires-clause-translated

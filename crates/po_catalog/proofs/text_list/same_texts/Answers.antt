@@ -1,5 +1,5 @@
 use Rattle.po_catalog.proofs.Prelude.{◌∙◌}
-use Rattle.po_catalog.proofs.SameTexts.{same_vectors}
+use Rattle.po_catalog.proofs.Entries.{same_vectors}
 use Rattle.po_catalog.proofs.text_list.same_texts.Goals as goal
 
 pub returns : goal.returns

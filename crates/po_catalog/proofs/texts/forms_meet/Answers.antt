@@ -1,5 +1,5 @@
 use Rattle.po_catalog.proofs.Prelude.{Meets, false≢true, refl, sym, ◌∙◌}
-use Rattle.po_catalog.proofs.TestedSlices.{tested_more, tested_all, tested_one}
+use Rattle.po_catalog.proofs.Entries.{tested_all, tested_more, tested_one}
 use Rattle.po_catalog.proofs.texts.forms_meet.Goals as goal
 
 pub returns : goal.returns

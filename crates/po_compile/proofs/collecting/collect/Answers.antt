@@ -1,8 +1,8 @@
 use Rattle.po_compile.proofs.Prelude.{[], ap, live_messages, map, map-append, passed_on, sym, without_comments, ◌++◌, ◌∙◌}
 use Rattle.po_entry.specs.Faults.IsReadFault.{in_text}
-use Rattle.po_reader.proofs.PieceReading.{read_all, read_more, read_none}
-use Rattle.po_syntax.proofs.NoMemory.{IsFaultOf-weaker, is_text_fault}
-use Rattle.po_compile.proofs.LiveMessages.{uncommented}
+use Rattle.po_reader.proofs.Pieces.{read_all, read_more, read_none}
+use Rattle.po_syntax.proofs.Faults.{IsFaultOf-weaker, is_text_fault}
+use Rattle.po_compile.proofs.CompiledMessages.{uncommented}
 use Rattle.po_compile.proofs.collecting.collect.Goals as goal
 
 pub returns-in_err-pieces-clause-fault : goal.returns-in_err-pieces-clause-fault

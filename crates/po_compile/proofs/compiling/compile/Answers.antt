@@ -1,4 +1,4 @@
-use Rattle.po_compile.proofs.InputLemmas.{alone_refused}
+use Rattle.po_compile.proofs.CollectedInputs.{alone_refused}
 use Rattle.po_compile.proofs.compiling.compile.Goals as goal
 
 pub returns-in-Err-clause-exact : goal.returns-in-Err-clause-exact

@@ -1,5 +1,5 @@
 use Rattle.po_compile.proofs.Prelude.{AreCollected, AreCompiled, Bor, IfErr-weaker, IfOk-weaker, IsCompileFault, List, MatchResult-from_both, ap, arith, length, length-map, ok_both, slice_texts, subst, sym, ℕ}
-use Rattle.po_compile.proofs.InputLemmas.{collected_count}
+use Rattle.po_compile.proofs.CollectedInputs.{collected_count}
 use Rattle.po_compile.proofs.compiling.compile_all.Goals as goal
 
 pub compile_collected-requires-clause-few : goal.compile_collected-requires-clause-few

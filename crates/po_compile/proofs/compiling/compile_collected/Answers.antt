@@ -1,8 +1,7 @@
 use Rattle.po_compile.proofs.Prelude.{IsBuildFault, IsMoFile, ap, arith, borrowed_message, compiled_list, counts_of, err_from_is_err_and, inl, joined_entries, layout, length, length-map, messages_of_borrowed, refl, subst, sym, ◌<◌, ◌^◌, ◌∙◌}
-use Rattle.po_compile.proofs.InputLemmas.{build_refused, inputs_refused, pairs_are, sorted_read}
+use Rattle.po_compile.proofs.CollectedInputs.{build_refused, inputs_refused, pairs_are, sorted_read}
 use Rattle.po_compile.proofs.JoinedRows.{joined_valid}
-use Rattle.po_compile.proofs.MessageOrder.{compiled_valid, count_below_layout}
-use Rattle.po_compile.proofs.SortedRows.{counts_mean}
+use Rattle.po_compile.proofs.SortedMessages.{compiled_valid, count_below_layout, counts_mean}
 use Rattle.po_compile.proofs.compiling.compile_collected.Goals as goal
 
 pub overflow_cast-result : goal.overflow_cast-result

@@ -1,7 +1,6 @@
 use Rattle.po_compile.proofs.Prelude.{AreCollected, Bor, EachApart, IsReadingFault, List, [], ap, arith, drop, err_from_is_err_and, get_or, length, length-map, length-take, refl, slice_texts, subst, suc, sym, take, take_all, ℕ, ◌++◌, ◌+◌, ◌∙◌, ◌∷◌}
-use Rattle.po_compile.proofs.InputLemmas.{collected_count, collected_more, each_refused, text_fault}
-use Rattle.po_compile.proofs.KeysApart.{read_distinct}
-use Rattle.po_compile.proofs.ReadingLemmas.{more_texts, no_text, refused_input, split_texts}
+use Rattle.po_compile.proofs.CollectedInputs.{collected_count, collected_more, each_refused, more_texts, no_text, refused_input, split_texts, text_fault}
+use Rattle.po_compile.proofs.DistinctKeys.{read_distinct}
 use Rattle.po_compile.proofs.inputs.collect_all.Goals as goal
 
 pub loop-input-init : goal.loop-input-init

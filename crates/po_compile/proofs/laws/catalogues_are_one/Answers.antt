@@ -1,5 +1,4 @@
-use Rattle.po_compile.proofs.FaultLemmas.{texts_once}
-use Rattle.po_compile.proofs.OneResult.{one_value}
+use Rattle.po_compile.proofs.OneOutcome.{one_value, texts_once}
 use Rattle.po_compile.proofs.laws.catalogues_are_one.Goals as goal
 
 pub returns : goal.returns

@@ -1,4 +1,4 @@
-use Rattle.po_compile.proofs.LimitLemmas.{compiled_can_be_keys}
+use Rattle.po_compile.proofs.FileLimit.{compiled_can_be_keys}
 use Rattle.po_compile.proofs.laws.compiled_can_be_keys.Goals as goal
 
 pub returns : goal.returns

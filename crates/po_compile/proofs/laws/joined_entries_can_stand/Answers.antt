@@ -1,4 +1,4 @@
-use Rattle.po_compile.proofs.ReadingLemmas.{read_valid}
+use Rattle.po_compile.proofs.CollectedInputs.{read_valid}
 use Rattle.po_compile.proofs.laws.joined_entries_can_stand.Goals as goal
 
 pub returns : goal.returns

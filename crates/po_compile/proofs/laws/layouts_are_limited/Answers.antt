@@ -1,4 +1,4 @@
-use Rattle.po_compile.proofs.LimitLemmas.{layouts_are_limited}
+use Rattle.po_compile.proofs.FileLimit.{layouts_are_limited}
 use Rattle.po_compile.proofs.laws.layouts_are_limited.Goals as goal
 
 pub returns : goal.returns

@@ -1,4 +1,4 @@
-use Rattle.po_compile.proofs.ReadingLemmas.{look_up_means}
+use Rattle.po_compile.proofs.CollectedInputs.{look_up_means}
 use Rattle.po_compile.proofs.laws.look_up_means_entries.Goals as goal
 
 pub returns : goal.returns

@@ -1,4 +1,4 @@
-use Rattle.po_compile.proofs.MessageOrder.{messages_are_one}
+use Rattle.po_compile.proofs.SortedMessages.{messages_are_one}
 use Rattle.po_compile.proofs.laws.messages_are_one.Goals as goal
 
 pub returns : goal.returns

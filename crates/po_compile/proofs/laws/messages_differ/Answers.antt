@@ -1,4 +1,4 @@
-use Rattle.po_compile.proofs.MeaningLemmas.{messages_differ}
+use Rattle.po_compile.proofs.Meaning.{messages_differ}
 use Rattle.po_compile.proofs.laws.messages_differ.Goals as goal
 
 pub returns : goal.returns

@@ -1,4 +1,4 @@
-use Rattle.po_compile.proofs.FaultLemmas.{accepted_faultless}
+use Rattle.po_compile.proofs.OneOutcome.{accepted_faultless}
 use Rattle.po_compile.proofs.laws.no_fault_where_accepted.Goals as goal
 
 pub returns : goal.returns

@@ -1,5 +1,4 @@
-use Rattle.po_compile.proofs.FaultLemmas.{text_once}
-use Rattle.po_compile.proofs.OneResult.{not_both}
+use Rattle.po_compile.proofs.OneOutcome.{not_both, text_once}
 use Rattle.po_compile.proofs.laws.no_fault_where_distinct.Goals as goal
 
 pub returns : goal.returns

@@ -1,4 +1,4 @@
-use Rattle.po_compile.proofs.OneMore.{one_more}
+use Rattle.po_compile.proofs.Meaning.{one_more}
 use Rattle.po_compile.proofs.laws.one_more_changes_no_other.Goals as goal
 
 pub returns : goal.returns

@@ -1,5 +1,4 @@
-use Rattle.po_compile.proofs.FaultLemmas.{text_once}
-use Rattle.po_compile.proofs.OneResult.{one_error}
+use Rattle.po_compile.proofs.OneOutcome.{one_error, text_once}
 use Rattle.po_compile.proofs.laws.one_text_fault.Goals as goal
 
 pub returns : goal.returns

@@ -1,4 +1,4 @@
-use Rattle.po_compile.proofs.ReadingLemmas.{joined_one, only_read}
+use Rattle.po_compile.proofs.CollectedInputs.{joined_one, only_read}
 use Rattle.po_compile.proofs.laws.one_text_is_read.Goals as goal
 
 pub returns : goal.returns

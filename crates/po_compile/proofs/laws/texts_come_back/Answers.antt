@@ -1,4 +1,4 @@
-use Rattle.po_compile.proofs.MeaningLemmas.{texts_come_back}
+use Rattle.po_compile.proofs.Meaning.{texts_come_back}
 use Rattle.po_compile.proofs.laws.texts_come_back.Goals as goal
 
 pub returns : goal.returns

@@ -1,9 +1,9 @@
 use Rattle.po_compile.proofs.Prelude.{CompiledView, InputMessage, List, [], all_messages, ap, ap₂, compiled_view, filter, map, map-append, row_view, sym, take_all, view_of_message, ℕ, ◌++◌, ◌∙◌, ◌∷◌}
-use Rattle.po_compile.proofs.CompiledRows.{one_kept, one_omitted}
+use Rattle.po_compile.proofs.CompiledMessages.{one_kept, one_omitted}
 use Rattle.po_compile.proofs.JoinedRows.{joined_valid}
-use Rattle.po_compile.proofs.SortedRows.{compiled_views}
+use Rattle.po_compile.proofs.SortedMessages.{compiled_views}
 use Rattle.po_compile.proofs.messages.compiled_messages.Goals as goal
-use Rattle.po_compile.proofs.messages.compiled_messages.Goals.{then-row+in_ok-push, else-row}
+use Rattle.po_compile.proofs.messages.compiled_messages.Goals.{else-row, then-row+in_ok-push}
 
 pub loop-row-preserved : goal.loop-row-preserved
 loop-row-preserved c =

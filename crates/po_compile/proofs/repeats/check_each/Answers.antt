@@ -1,5 +1,5 @@
 use Rattle.po_compile.proofs.Prelude.{All-more, AllApart, EachApart, IsRepeat, JoinError, [], all_messages, ap, fault_of_input, get_or_default, in_input_message, inl, input_keys, inr, map, message_keys, refl, subst, take_all, ⊎_elim, ◌∙◌}
-use Rattle.po_compile.proofs.RepeatedKeys.{only_keys, only_messages}
+use Rattle.po_compile.proofs.DistinctKeys.{only_keys, only_messages}
 use Rattle.po_compile.proofs.repeats.check_each.Goals as goal
 
 pub loop-input-preserved : goal.loop-input-preserved

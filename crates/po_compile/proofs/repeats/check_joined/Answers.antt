@@ -1,6 +1,6 @@
 use Rattle.po_compile.proofs.Prelude.{AllApart, InputMessage, IsRepeatAt, MatchOption-at_none, MatchOption-at_some, all_messages, ap, arith, get_or, input_keys, inr, length, length-map, refl, row_view, subst, sym, ◌∙◌, ◌≡◌}
 use Rattle.std.proofs.Math.ListN.{get_or-map}
-use Rattle.po_compile.proofs.RepeatedKeys.{repeat_found}
+use Rattle.po_compile.proofs.DistinctKeys.{repeat_found}
 use Rattle.po_compile.proofs.repeats.check_joined.Goals as goal
 
 pub returns-in_default-clause-apart : goal.returns-in_default-clause-apart

@@ -1,6 +1,6 @@
 use Rattle.po_compile.proofs.Prelude.{get_or, key_writes, slice_texts, sym, take, ◌+◌}
-use Rattle.po_entry.proofs.Digests.{digest_more}
-use Rattle.po_compile.proofs.RepeatedKeys.{keys_more, no_key}
+use Rattle.po_entry.proofs.MessageKeys.{digest_more}
+use Rattle.po_compile.proofs.DistinctKeys.{keys_more, no_key}
 use Rattle.po_compile.proofs.repeats.digest_of.Goals as goal
 
 pub loop-key-preserved : goal.loop-key-preserved

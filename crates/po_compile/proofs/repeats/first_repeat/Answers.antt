@@ -1,5 +1,5 @@
 use Rattle.po_compile.proofs.Prelude.{arith, get_or, length-map, slice_texts}
-use Rattle.po_compile.proofs.RepeatedKeys.{is_key, key_of, no_key, one_more, repeated}
+use Rattle.po_compile.proofs.DistinctKeys.{is_key, key_of, no_key, one_more, repeated}
 use Rattle.po_compile.proofs.repeats.first_repeat.Goals as goal
 
 pub loop-later-preserved : goal.loop-later-preserved

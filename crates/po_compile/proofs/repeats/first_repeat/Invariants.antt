@@ -1,5 +1,5 @@
 use Rattle.po_compile.proofs.Prelude.{slice_texts}
-use Rattle.po_compile.proofs.RepeatedKeys.{AreSeen}
+use Rattle.po_compile.proofs.DistinctKeys.{AreSeen}
 use Rattle.po_compile.proofs.repeats.first_repeat.Given as goal
 
 abbrev pub invariant-loop-later : goal.invariant-loop-later

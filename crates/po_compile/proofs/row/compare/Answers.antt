@@ -1,5 +1,5 @@
 use Rattle.po_compile.proofs.Prelude.{Equal, ranked, row_key, sym, ◌∙◌, ◌≡◌}
-use Rattle.po_compile.proofs.PrefixLemmas.{prefix_decides, second_decides}
+use Rattle.po_compile.proofs.KeyPrefixes.{prefix_decides, second_decides}
 use Rattle.po_compile.proofs.row.compare.Goals as goal
 
 pub returns-in_default : goal.returns-in_default

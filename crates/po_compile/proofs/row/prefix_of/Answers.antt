@@ -1,5 +1,5 @@
 use Rattle.po_compile.proofs.Prelude.{ap, take, take_min, ◌∙◌}
-use Rattle.po_compile.proofs.PrefixLemmas.{prefix_read}
+use Rattle.po_compile.proofs.KeyPrefixes.{prefix_read}
 use Rattle.po_compile.proofs.row.prefix_of.Goals as goal
 
 pub returns : goal.returns

@@ -1,6 +1,6 @@
 use Rattle.po_compile.proofs.Prelude.{InputMessage, List, LiveMessage, ap, arith, at_drop_more, drop, filter, in_input_message, is_joined, length, live_message, map, row_view, sym, ◌++◌, ◌+◌, ◌<◌, ◌∙◌, ◌∷◌}
 use Rattle.po_compile.proofs.JoinedRows.{rows_more}
-use Rattle.po_compile.proofs.LiveMessages.{as_many, message_at}
+use Rattle.po_compile.proofs.CompiledMessages.{as_many, message_at}
 use Rattle.po_compile.proofs.rows.add_rows.Goals as goal
 
 pub loop-index-preserved : goal.loop-index-preserved

@@ -1,7 +1,7 @@
 use Rattle.po_compile.proofs.Prelude.{InputMessage, List, [], ap, ap₂, borrowed_message, map-append, messages_of_borrowed, row_view, sym, ℕ, ◌++◌, ◌∙◌, ◌∷◌}
-use Rattle.po_compile.proofs.CompiledRows.{one_kept, one_omitted}
+use Rattle.po_compile.proofs.CompiledMessages.{one_kept, one_omitted}
 use Rattle.po_compile.proofs.rows.compiled_pairs.Goals as goal
-use Rattle.po_compile.proofs.rows.compiled_pairs.Goals.{then-row+in_ok-push, else-row}
+use Rattle.po_compile.proofs.rows.compiled_pairs.Goals.{else-row, then-row+in_ok-push}
 
 pub loop-row-preserved : goal.loop-row-preserved
 loop-row-preserved c =

@@ -1,6 +1,6 @@
 use Rattle.po_compile.proofs.Prelude.{ap, append_assoc, at_drop_more, drop, filter, has_no_key, in_input_message, is_joined, joined_messages, list_any, map, nat_lt, row_view, sym, ◌++◌, ◌+◌, ◌||◌, ◌∙◌, ◌∷◌, ◌≡◌}
-use Rattle.po_compile.proofs.LiveMessages.{any_counted}
-use Rattle.po_compile.proofs.rows.joined_rows.Goals.{then-headed, else-headed}
+use Rattle.po_compile.proofs.CompiledMessages.{any_counted}
+use Rattle.po_compile.proofs.rows.joined_rows.Goals.{else-headed, then-headed}
 use Rattle.po_compile.proofs.rows.joined_rows.Goals as goal
 
 pub loop-input-preserved : goal.loop-input-preserved

@@ -1,6 +1,6 @@
 use Rattle.po_compile.proofs.Prelude.{HasOneHeader, rules}
 use Rattle.std.proofs.lemmas.Iterator.{YieldsList-from_slice, cases_from_all}
-use Rattle.po_compile.proofs.KeysApart.{headers_counted}
+use Rattle.po_compile.proofs.DistinctKeys.{headers_counted}
 use Rattle.po_compile.proofs.sorting.have_one_header.Goals as goal
 
 pub returns : goal.returns

@@ -1,6 +1,6 @@
 use Rattle.po_compile.proofs.Prelude.{map, rising-from_sorted, row_key}
-use Rattle.po_compile.proofs.KeysApart.{inputs_apart, one_header_each, rising_apart, rows_apart, sorted_all, sorted_keys}
-use Rattle.po_compile.proofs.sorting.sorted_rows.Goals.{else-are_rising-via-then-are_rising+else-have_one_header, else-are_rising-via-else-are_rising}
+use Rattle.po_compile.proofs.DistinctKeys.{inputs_apart, one_header_each, rising_apart, rows_apart, sorted_all, sorted_keys}
+use Rattle.po_compile.proofs.sorting.sorted_rows.Goals.{else-are_rising-via-else-are_rising, else-are_rising-via-then-are_rising+else-have_one_header}
 use Rattle.po_compile.proofs.sorting.sorted_rows.Goals as goal
 
 pub returns-then-have_one_header-clause-rows : goal.returns-then-have_one_header-clause-rows

@@ -1,7 +1,7 @@
 use Rattle.po_entry.proofs.Prelude.{AllDiffer, HasNoDuplicate, MatchOption, RepeatsOnLines, in_input, inr, is_live, map, subst, sym, ◌∙◌}
 use Rattle.std.specs.Prelude.{filter}
-use Rattle.po_entry.proofs.DuplicateLemmas.{distinct_has_no_first, entries_of_input}
-use Rattle.po_entry.proofs.NumberLemmas.{are_numbered, repeats_of}
+use Rattle.po_entry.proofs.Duplicates.{distinct_has_no_first, entries_of_input}
+use Rattle.po_entry.proofs.MessageNumbers.{are_numbered, repeats_of}
 use Rattle.po_entry.proofs.duplicate.check_duplicates.Goals as goal
 
 pub returns-in-Some-clause-exact : goal.returns-in-Some-clause-exact

@@ -1,4 +1,4 @@
-use Rattle.po_entry.proofs.LaidEntries.{first_text, only_text}
+use Rattle.po_entry.proofs.EntryLayout.{first_text, only_text}
 use Rattle.po_entry.proofs.entry_ref.split_text.Goals as goal
 
 pub returns-in-Some : goal.returns-in-Some

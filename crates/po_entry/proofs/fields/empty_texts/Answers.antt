@@ -1,5 +1,5 @@
 use Rattle.po_entry.proofs.Prelude.{take_all}
-use Rattle.po_entry.proofs.Lists.{all_empty}
+use Rattle.po_entry.proofs.AdmittedTexts.{all_empty}
 use Rattle.po_entry.proofs.fields.empty_texts.Goals as goal
 
 pub returns : goal.returns

@@ -1,5 +1,5 @@
 use Rattle.po_entry.proofs.Prelude.{IsStrictlyIncreasing, IsTrue, answers_always, nat_lt, rules, subst, ◌↔◌}
-use Rattle.po_entry.proofs.HashLemmas.{differ_from_rising, rising_answered, rising_from_differ}
+use Rattle.po_entry.proofs.MessageKeys.{differ_from_rising, rising_answered, rising_from_differ}
 use Rattle.po_entry.proofs.hashes.all_differ.Goals as goal
 
 pub returns : goal.returns

@@ -1,5 +1,5 @@
 use Rattle.po_entry.proofs.Prelude.{[], ap, arith, key_bytes, key_writes, length, sym, take, take_more, ◌++◌, ◌+◌, ◌<◌, ◌∙◌, ◌∷◌}
-use Rattle.po_entry.proofs.Digests.{digest_more}
+use Rattle.po_entry.proofs.MessageKeys.{digest_more}
 use Rattle.po_entry.proofs.keys.digest_of.Goals as goal
 
 pub loop-index-preserved : goal.loop-index-preserved

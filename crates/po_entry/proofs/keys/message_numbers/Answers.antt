@@ -1,5 +1,5 @@
 use Rattle.po_entry.proofs.Prelude.{arith, length, subst, sym, take_all, ◌<◌, ◌∙◌, ◌≤◌}
-use Rattle.po_entry.proofs.KeyLemmas.{AreSeen, all_counted, all_numbered, seen_more}
+use Rattle.po_entry.proofs.MessageKeys.{AreSeen, all_counted, all_numbered, seen_more}
 use Rattle.po_entry.proofs.keys.message_numbers.Goals as goal
 
 pub loop-index-preserved : goal.loop-index-preserved

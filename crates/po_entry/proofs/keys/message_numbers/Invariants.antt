@@ -1,5 +1,5 @@
 use Rattle.po_entry.proofs.Prelude.{take}
-use Rattle.po_entry.proofs.KeyLemmas.{AreSeen}
+use Rattle.po_entry.proofs.MessageKeys.{AreSeen}
 use Rattle.po_entry.proofs.keys.message_numbers.Given as goal
 
 -- the entries so far are numbered

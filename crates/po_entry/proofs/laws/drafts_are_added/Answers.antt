@@ -1,4 +1,4 @@
-use Rattle.po_entry.proofs.RowLemmas.{added}
+use Rattle.po_entry.proofs.EntryRows.{added}
 use Rattle.po_entry.proofs.laws.drafts_are_added.Goals as goal
 
 pub returns : goal.returns

@@ -1,4 +1,4 @@
-use Rattle.po_entry.proofs.EarlierNamed.{fault_names_earlier}
+use Rattle.po_entry.proofs.Duplicates.{fault_names_earlier}
 use Rattle.po_entry.proofs.laws.duplicate_names_the_earlier.Goals as goal
 
 pub returns : goal.returns

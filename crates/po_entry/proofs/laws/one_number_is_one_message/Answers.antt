@@ -1,4 +1,4 @@
-use Rattle.po_entry.proofs.MessageIndex.{numbers_tell}
+use Rattle.po_entry.proofs.MessageNumbers.{numbers_tell}
 use Rattle.po_entry.proofs.laws.one_number_is_one_message.Goals as goal
 
 pub returns : goal.returns

@@ -1,4 +1,4 @@
-use Rattle.po_entry.proofs.WrittenCounts.{statistics_written}
+use Rattle.po_entry.proofs.Statistics.{statistics_written}
 use Rattle.po_entry.proofs.laws.statistics_are_written.Goals as goal
 
 pub returns : goal.returns

@@ -1,6 +1,6 @@
 use Rattle.po_entry.proofs.Prelude.{ap, split_forms, sym, ◌++◌, ◌∙◌}
 use Rattle.std.proofs.Common.{option_copied}
-use Rattle.po_entry.proofs.OwnTexts.{forms_laid, own_laid}
+use Rattle.po_entry.proofs.EntryLayout.{forms_laid, own_laid}
 use Rattle.po_entry.proofs.layout.add_message_texts.Goals as goal
 
 pub returns-clause-added : goal.returns-clause-added

@@ -1,5 +1,5 @@
 use Rattle.std.specs.Prelude.{IsUtf8}
-use Rattle.po_entry.proofs.Checks.{both, of_option, of_one}
+use Rattle.po_entry.proofs.AdmittedTexts.{both, of_one, of_option}
 use Rattle.po_entry.proofs.ref_checks.is_all_utf8.Goals as goal
 
 pub returns : goal.returns

@@ -1,5 +1,5 @@
 use Rattle.po_entry.proofs.Prelude.{DifferUpTo, EntryPlace, List, MatchOption, None, RepeatsAt, TextEntry, [], ap, ap₂, arith, false, get_or, get_or_default, is_looked_at, length, map, plain_entry, refl, subst, ◌<◌, ◌∷◌, ◌≡◌}
-use Rattle.po_entry.proofs.NumberLemmas.{as_many, first_twice, none_twice, place_at}
+use Rattle.po_entry.proofs.MessageNumbers.{as_many, first_twice, none_twice, place_at}
 use Rattle.po_entry.proofs.repeats.repeated_lines.Goals as goal
 
 abbrev none : EntryPlace

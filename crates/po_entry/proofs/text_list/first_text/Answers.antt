@@ -1,5 +1,5 @@
 use Rattle.po_entry.proofs.Prelude.{drop_min, refl, take_min, ◌∙◌}
-use Rattle.po_entry.proofs.TextListLemmas.{texts_first}
+use Rattle.po_entry.proofs.TextLists.{texts_first}
 use Rattle.po_entry.proofs.text_list.first_text.Goals as goal
 
 pub returns-in_err-length : goal.returns-in_err-length

@@ -1,6 +1,6 @@
-use Rattle.po_reader.proofs.Prelude.{List, MsgId, Row, TextEntry, [], ap, append_assoc, head_bytes, arith, context_length, key_bytes, length, length-append, no_lines, ◌-◌, ℕ, own_bytes, passed_on, refl, with_context, with_kept_head, with_keyword, with_own, with_text, ◌++◌, ◌∙◌, ◌∷◌, ◌≡◌}
-use Rattle.po_reader.proofs.Laid.{context_len, key_laid, own_laid, part_len}
-use Rattle.po_reader.proofs.Turns.{fails_from, id_wanted}
+use Rattle.po_reader.proofs.Prelude.{List, MsgId, Row, TextEntry, [], ap, append_assoc, arith, context_length, head_bytes, key_bytes, length, length-append, no_lines, own_bytes, passed_on, refl, with_context, with_kept_head, with_keyword, with_own, with_text, ℕ, ◌++◌, ◌-◌, ◌∙◌, ◌∷◌, ◌≡◌}
+use Rattle.po_reader.proofs.EntryTexts.{context_len, key_laid, own_laid, part_len}
+use Rattle.po_reader.proofs.ReaderSteps.{fails_from, id_wanted}
 use Rattle.po_reader.proofs.body.take_body.Goals as goal
 
 pub returns-in_err-line-clause-fault : goal.returns-in_err-line-clause-fault

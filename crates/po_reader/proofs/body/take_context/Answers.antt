@@ -1,5 +1,5 @@
 use Rattle.po_reader.proofs.Prelude.{List, MsgCtxt, Some, [], ap, append_assoc, no_lines, passed_on, with_own, ℕ, ◌++◌, ◌∙◌, ◌∷◌}
-use Rattle.po_reader.proofs.Turns.{fails_from, context_begins}
+use Rattle.po_reader.proofs.ReaderSteps.{context_begins, fails_from}
 use Rattle.po_reader.proofs.body.take_context.Goals as goal
 
 pub returns-in_err-take_strings-clause-fault : goal.returns-in_err-take_strings-clause-fault

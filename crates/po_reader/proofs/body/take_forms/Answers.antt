@@ -1,6 +1,6 @@
 use Rattle.po_reader.proofs.Prelude.{[], arith, passed_on, sym, with_forms, ◌++◌, ◌∙◌, ◌∷◌}
-use Rattle.po_reader.proofs.Laid.{form_laid}
-use Rattle.po_reader.proofs.Turns.{fails_from, form_follows, form_wanted, forms_end}
+use Rattle.po_reader.proofs.EntryTexts.{form_laid}
+use Rattle.po_reader.proofs.ReaderSteps.{fails_from, form_follows, form_wanted, forms_end}
 use Rattle.po_reader.proofs.body.take_forms.Goals as goal
 
 pub loop-rest-preserved : goal.loop-rest-preserved

@@ -1,5 +1,5 @@
 use Rattle.po_reader.proofs.Prelude.{Before, Between, ap, own_marks, passed_on, sym, wanted_view, with_keyword, with_own, ◌∙◌}
-use Rattle.po_reader.proofs.Turns.{fails_from, first_refused, no_keyword, taken}
+use Rattle.po_reader.proofs.ReaderSteps.{fails_from, first_refused, no_keyword, taken}
 use Rattle.po_reader.proofs.body.take_keyword_text.Goals as goal
 
 pub returns-in_default-clause-fault : goal.returns-in_default-clause-fault

@@ -1,6 +1,6 @@
 use Rattle.po_reader.proofs.Prelude.{MsgIdPlural, None, Some, [], passed_on, refl, with_own, with_text, ◌∙◌, ◌∷◌}
-use Rattle.po_reader.proofs.Laid.{only_form_laid, plural_laid}
-use Rattle.po_reader.proofs.Turns.{fails_from, single_wanted}
+use Rattle.po_reader.proofs.EntryTexts.{only_form_laid, plural_laid}
+use Rattle.po_reader.proofs.ReaderSteps.{fails_from, single_wanted}
 use Rattle.po_reader.proofs.body.take_translation.Goals as goal
 
 pub returns-in_err-take_forms-clause-fault : goal.returns-in_err-take_forms-clause-fault

@@ -1,5 +1,5 @@
 use Rattle.po_reader.proofs.Prelude.{ap, filter, fold, is_not_empty, map, rules, tests, trimmed, with_flag, ◌∙◌}
-use Rattle.po_reader.proofs.Elements.{all_parts, is_comma}
+use Rattle.po_reader.proofs.CommentFields.{all_parts, is_comma}
 use Rattle.po_reader.proofs.comment_texts.add_flags.Goals as goal
 
 pub returns : goal.returns

@@ -1,5 +1,5 @@
 use Rattle.po_reader.proofs.Prelude.{ap, filter, is_blank, is_not_empty, rules, tests, ◌++◌, ◌∙◌}
-use Rattle.po_reader.proofs.Elements.{all_parts}
+use Rattle.po_reader.proofs.CommentFields.{all_parts}
 use Rattle.po_reader.proofs.comment_texts.add_references.Goals as goal
 
 pub returns : goal.returns

@@ -1,4 +1,4 @@
-use Rattle.po_reader.proofs.Elements.{only_flag}
+use Rattle.po_reader.proofs.CommentFields.{only_flag}
 use Rattle.po_reader.proofs.comment_texts.distinct_flags.Goals as goal
 
 pub returns-then-not-contains : goal.returns-then-not-contains

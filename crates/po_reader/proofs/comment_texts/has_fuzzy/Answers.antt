@@ -1,7 +1,7 @@
 use Rattle.po_reader.proofs.Prelude.{is_fuzzy_flag, rules, slice_split, tests, trimmed, ◌∙◌}
 use Rattle.std.proofs.lemmas.Iterator.Search.{any_from_yields_List}
 use Rattle.std.proofs.lemmas.Iterator.Splits.{YieldsList-from_slice_split}
-use Rattle.po_reader.proofs.Elements.{any_listed, is_comma}
+use Rattle.po_reader.proofs.CommentFields.{any_listed, is_comma}
 use Rattle.po_reader.proofs.comment_texts.has_fuzzy.Goals as goal
 
 pub returns : goal.returns

@@ -1,5 +1,5 @@
 use Rattle.po_reader.proofs.Prelude.{Fault, In, List, ap, append_assoc, begins_string, false, line_at, not-false, not-true, refl, rules, sym, true, ℕ, ◌++◌, ◌∙◌, ◌≡◌}
-use Rattle.po_reader.proofs.Turns.{fails_from, first_refused, no_string, out_of_order, taken, text_ends}
+use Rattle.po_reader.proofs.ReaderSteps.{fails_from, first_refused, no_string, out_of_order, taken, text_ends}
 use Rattle.po_reader.proofs.cursor.take_strings.Goals as goal
 
 pub returns-in_default-clause-fault : goal.returns-in_default-clause-fault

@@ -1,6 +1,6 @@
-use Rattle.po_reader.proofs.Prelude.{Between, CommentText, In, InHead, List, PreviousText, [], after_head, ap, arith, comes, false, le-ltb, lt-ltb, passed_on, refl, sym, ◌++◌, ◌∙◌, ◌∷◌, ◌≡◌, ℕ}
-use Rattle.po_reader.proofs.Heads.{holds_previous}
-use Rattle.po_reader.proofs.Turns.{fails_from, first_refused, head_refused, none_ends, out_of_order, own_ends, previous_closed, taken}
+use Rattle.po_reader.proofs.Prelude.{Between, CommentText, In, InHead, List, PreviousText, [], after_head, ap, arith, comes, false, le-ltb, lt-ltb, passed_on, refl, sym, ℕ, ◌++◌, ◌∙◌, ◌∷◌, ◌≡◌}
+use Rattle.po_reader.proofs.CommentFields.{holds_previous}
+use Rattle.po_reader.proofs.ReaderSteps.{fails_from, first_refused, head_refused, none_ends, out_of_order, own_ends, previous_closed, taken}
 use Rattle.po_reader.proofs.head.take_head.Goals as goal
 
 pub loop-kind-init : goal.loop-kind-init

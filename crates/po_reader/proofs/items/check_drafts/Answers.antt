@@ -1,6 +1,6 @@
 use Rattle.po_reader.proofs.Prelude.{HasAdmittedCharset, false≢true, foreign, here, inl, inr, later, passed_on, refl, sym, ◌∙◌}
-use Rattle.po_reader.proofs.Loops.{asked_all, asked_more, rest_here}
-use Rattle.po_reader.proofs.Texts.{texts_reported}
+use Rattle.po_reader.proofs.ReaderSteps.{asked_all, asked_more, rest_here}
+use Rattle.po_reader.proofs.OneOutcome.{texts_reported}
 use Rattle.po_reader.proofs.items.check_drafts.Goals as goal
 
 pub returns-in_err-check_texts-clause-fault : goal.returns-in_err-check_texts-clause-fault

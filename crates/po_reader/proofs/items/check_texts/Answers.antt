@@ -1,6 +1,6 @@
 use Rattle.po_reader.proofs.Prelude.{HasTexts, IsUtf8, Lacks, entry_here, here, later, quoted_texts, refl}
 use Rattle.std.proofs.Common.{All}
-use Rattle.po_reader.proofs.Loops.{asked_all, asked_more, no_row, rest_here}
+use Rattle.po_reader.proofs.ReaderSteps.{asked_all, asked_more, no_row, rest_here}
 use Rattle.po_reader.proofs.items.check_texts.Goals as goal
 
 pub check_texts-requires-clause-no_nul : goal.check_texts-requires-clause-no_nul

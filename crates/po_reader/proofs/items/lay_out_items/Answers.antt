@@ -1,8 +1,8 @@
 use Rattle.po_reader.proofs.Prelude.{Adds, All-head, All-left, All-right, CanLie, HoldsHead, IsFaultOf-weaker, List, Reached, TextEntry, [], after_head, ap, arith, kept_entry, length-map, map, map_push, passed_on, subst, sym, view, views, with_head, ◌++◌, ◌∙◌, ◌∷◌}
 use Rattle.std.proofs.Common.{All}
-use Rattle.po_reader.proofs.Heads.{kept_from}
-use Rattle.po_reader.proofs.PieceReading.{fault_on, lead_on}
-use Rattle.po_reader.proofs.Turns.{fails_from, head_over, own_lines_begin}
+use Rattle.po_reader.proofs.CommentFields.{kept_from}
+use Rattle.po_reader.proofs.Pieces.{fault_on, lead_on}
+use Rattle.po_reader.proofs.ReaderSteps.{fails_from, head_over, own_lines_begin}
 use Rattle.po_reader.proofs.items.lay_out_items.Goals as goal
 
 pub loop-rest-init : goal.loop-rest-init

@@ -1,4 +1,4 @@
-use Rattle.po_reader.proofs.Texts.{text_or_fault}
+use Rattle.po_reader.proofs.OneOutcome.{text_or_fault}
 use Rattle.po_reader.proofs.laws.no_fault_where_entries.Goals as goal
 
 pub returns : goal.returns

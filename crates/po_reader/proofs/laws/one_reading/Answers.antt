@@ -1,4 +1,4 @@
-use Rattle.po_reader.proofs.Texts.{text_once}
+use Rattle.po_reader.proofs.OneOutcome.{text_once}
 use Rattle.po_reader.proofs.laws.one_reading.Goals as goal
 
 pub returns : goal.returns

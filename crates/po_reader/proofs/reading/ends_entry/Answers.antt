@@ -1,5 +1,5 @@
 use Rattle.po_reader.proofs.Prelude.{arith, length, ◌-◌, ◌<◌}
-use Rattle.po_reader.proofs.Loops.{entry_at_end}
+use Rattle.po_reader.proofs.ReaderSteps.{entry_at_end}
 use Rattle.po_reader.proofs.reading.ends_entry.Goals as goal
 
 pub returns-in-Some : goal.returns-in-Some

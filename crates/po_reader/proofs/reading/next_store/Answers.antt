@@ -1,7 +1,7 @@
 use Rattle.po_reader.proofs.Prelude.{IsFaultOf-weaker, arith, inl, passed_on}
 use Rattle.po_reader.specs.PieceRead.IsLeftFault.{in_items, in_text}
 use Rattle.po_reader.specs.PieceRead.ReadsPiece.{all, pieces}
-use Rattle.po_reader.proofs.PieceReading.{faults_over, items_added, piece_faults, pieces_all, pieces_anew, pieces_end, pieces_shorter, pieces_spelt, pieces_stop}
+use Rattle.po_reader.proofs.Pieces.{faults_over, items_added, piece_faults, pieces_all, pieces_anew, pieces_end, pieces_shorter, pieces_spelt, pieces_stop}
 use Rattle.po_reader.proofs.reading.next_store.Goals as goal
 
 pub returns-in_err-read_pieces-clause-fault : goal.returns-in_err-read_pieces-clause-fault

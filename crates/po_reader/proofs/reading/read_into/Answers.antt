@@ -1,7 +1,7 @@
 use Rattle.po_reader.proofs.Prelude.{IsFaultOf-weaker, [], ap, append-nil, append_assoc, is_text_fault, passed_on, sym, ◌++◌, ◌∙◌}
 use Rattle.po_entry.specs.Faults.IsReadFault.{in_text}
-use Rattle.po_reader.proofs.Heads.{all_kept}
-use Rattle.po_reader.proofs.PieceReading.{read_all, read_more, read_none}
+use Rattle.po_reader.proofs.CommentFields.{all_kept}
+use Rattle.po_reader.proofs.Pieces.{read_all, read_more, read_none}
 use Rattle.po_reader.proofs.reading.read_into.Goals as goal
 
 pub returns-in_err-pieces-clause-fault : goal.returns-in_err-pieces-clause-fault

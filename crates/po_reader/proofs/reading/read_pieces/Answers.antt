@@ -1,10 +1,10 @@
-use Rattle.po_reader.proofs.Prelude.{All, EndsEntry, and_parts, false≢true, inl, inr, ◌∙◌, ◌⊎◌, ◌≡◌, All-append, All-nil, HoldsText, IsFaultOf-weaker, IsUtf8, OfString, [], ap, entry_at, in_items, map, passed_on, refl, subst, sym, views, ◌++◌}
+use Rattle.po_reader.proofs.Prelude.{All, All-append, All-nil, EndsEntry, HoldsText, IsFaultOf-weaker, IsUtf8, OfString, [], and_parts, ap, entry_at, false≢true, in_items, inl, inr, map, passed_on, refl, subst, sym, views, ◌++◌, ◌∙◌, ◌≡◌, ◌⊎◌}
 use Rattle.po_entry.specs.Rows.{LiesIn}
-use Rattle.po_reader.specs.PieceRead.OpenPieces.{none, further}
-use Rattle.po_reader.proofs.PieceReading.{open_follow, open_stops, piece_lessens}
-use Rattle.po_reader.proofs.DraftsRead.{drafts_no_nul, drafts_of, drafts_stop, drafts_utf8}
+use Rattle.po_reader.specs.PieceRead.OpenPieces.{further, none}
+use Rattle.po_reader.proofs.Pieces.{open_follow, open_stops, piece_lessens}
+use Rattle.po_reader.proofs.ValidEntries.{drafts_no_nul, drafts_of, drafts_stop, drafts_utf8}
 use Rattle.po_reader.proofs.reading.read_pieces.Goals as goal
-use Rattle.po_reader.proofs.reading.read_pieces.Goals.{in-Err-check_drafts, in-Ok-check_drafts, in-OutOfMemory, in_default, then-ends_entry-via-then-ends_entry, then-ends_entry-via-else-ends_entry+then-are_over}
+use Rattle.po_reader.proofs.reading.read_pieces.Goals.{in-Err-check_drafts, in-Ok-check_drafts, in-OutOfMemory, in_default, then-ends_entry-via-else-ends_entry+then-are_over, then-ends_entry-via-then-ends_entry}
 
 pub reading-init : goal.reading-init
 reading-init c =

@@ -1,4 +1,4 @@
-use Rattle.po_syntax.proofs.LentStrings.{numbered}
+use Rattle.po_syntax.proofs.StringsRead.{numbered}
 use Rattle.po_syntax.proofs.item.owns_utf8.Goals as goal
 
 pub returns-in-Numbered : goal.returns-in-Numbered

@@ -1,5 +1,5 @@
 use Rattle.po_syntax.proofs.Prelude.{YieldsList-from_slice, all_from_yields_List, owns_utf8, rules, tests}
-use Rattle.po_syntax.proofs.LentStrings.{all_owned}
+use Rattle.po_syntax.proofs.StringsRead.{all_owned}
 use Rattle.po_syntax.proofs.item.strings_are_utf8.Goals as goal
 
 pub returns : goal.returns

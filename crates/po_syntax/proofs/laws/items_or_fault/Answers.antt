@@ -1,4 +1,4 @@
-use Rattle.po_syntax.proofs.Totality.{text_ends}
+use Rattle.po_syntax.proofs.OneOutcome.{text_ends}
 use Rattle.po_syntax.proofs.laws.items_or_fault.Goals as goal
 
 pub returns : goal.returns

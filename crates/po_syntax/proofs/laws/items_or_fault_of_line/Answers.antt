@@ -1,5 +1,4 @@
-use Rattle.po_syntax.proofs.Totality.{line_ends}
-use Rattle.po_syntax.proofs.Uniqueness.{line_items_once, line_not_stopped, line_stops_once}
+use Rattle.po_syntax.proofs.OneOutcome.{line_ends, line_items_once, line_not_stopped, line_stops_once}
 use Rattle.po_syntax.proofs.laws.items_or_fault_of_line.Goals as goal
 
 pub returns : goal.returns

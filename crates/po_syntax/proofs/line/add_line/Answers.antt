@@ -1,7 +1,7 @@
-use Rattle.po_syntax.proofs.Prelude.{YieldsList-from_take_while, count_from_yields_List, length-prefix_len, reverse, rules, tests, ◌==◌, All-cons, All-nil, Comment, CommentLine, Err, IfErr-weaker, LendsUtf8, Ok, Tokens, [], ap, map_push, on_ok_weaker, refl, shape_of, shape_view, trim_returns, ◌∙◌, ◌∷◌, ◌≡◌}
+use Rattle.po_syntax.proofs.Prelude.{All-cons, All-nil, Comment, CommentLine, Err, IfErr-weaker, LendsUtf8, Ok, Tokens, YieldsList-from_take_while, [], ap, count_from_yields_List, length-prefix_len, map_push, on_ok_weaker, refl, reverse, rules, shape_of, shape_view, tests, trim_returns, ◌==◌, ◌∙◌, ◌∷◌, ◌≡◌}
 use Rattle.std.proofs.lemmas.Iterator.Adapters.{YieldsList-from_rev_slice}
 use Rattle.po_syntax.proofs.OneLine.{line_at}
-use Rattle.po_syntax.proofs.Utf8Rests.{tokens-utf8}
+use Rattle.po_syntax.proofs.Utf8Lines.{tokens-utf8}
 use Rattle.po_syntax.proofs.line.add_line.Goals as goal
 
 pub returns-in-None-clause-fault : goal.returns-in-None-clause-fault

@@ -1,9 +1,9 @@
 use Rattle.po_syntax.proofs.Prelude.{Err, Ok, SpellsString, Str, Word, [], append-nil, append_assoc, arith, err_from_is_err_and, map_push, refl, spelt_bytes, sym, ◌++◌, ◌∙◌, ◌∷◌}
-use Rattle.po_syntax.proofs.LentStrings.{one_more}
+use Rattle.po_syntax.proofs.StringsRead.{one_more}
 use Rattle.po_syntax.proofs.Escapes.{string_shorter}
 use Rattle.po_syntax.proofs.OneLine.{tokens_at}
-use Rattle.po_syntax.proofs.Tokens.{keyword-shorter, line_over, quote-shorter, quote_first, word_first}
-use Rattle.po_syntax.proofs.Utf8Rests.{inside-utf8, string_rest-utf8, token_rest-utf8}
+use Rattle.po_syntax.proofs.Keywords.{keyword-shorter, line_over, quote-shorter, quote_first, word_first}
+use Rattle.po_syntax.proofs.Utf8Lines.{inside-utf8, string_rest-utf8, token_rest-utf8}
 use Rattle.po_syntax.proofs.line.add_tokens.Goals as goal
 
 pub returns-in_default-clause-found : goal.returns-in_default-clause-found

@@ -1,5 +1,5 @@
 use Rattle.po_syntax.proofs.Prelude.{arith, inl, inr, length, length-map, ltb-true, view, views, ◌<◌, ◌≤◌}
-use Rattle.po_syntax.proofs.TranslationEnds.{ends_at, ends_nowhere}
+use Rattle.po_syntax.proofs.PieceLines.{ends_at, ends_nowhere}
 use Rattle.po_syntax.proofs.pieces.ends_translation.Goals as goal
 
 pub returns-then-count-eq0 : goal.returns-then-count-eq0

@@ -1,9 +1,8 @@
 use Rattle.po_syntax.proofs.Prelude.{IfErr-weaker, IfOk-weaker, [], arith, length-map, view, views, ◌≡◌}
 use Rattle.std.proofs.Common.{IfOk}
 use Rattle.po_syntax.proofs.Lines.{items-few}
-use Rattle.po_syntax.proofs.NoMemory.{IsFaultOf-weaker, is_text_fault}
-use Rattle.po_syntax.proofs.PieceLemmas.{piece_all}
-use Rattle.po_syntax.proofs.Results.{ok_both, passed_on}
+use Rattle.po_syntax.proofs.Faults.{IsFaultOf-weaker, is_text_fault, ok_both, passed_on}
+use Rattle.po_syntax.proofs.Pieces.{piece_all}
 use Rattle.po_syntax.proofs.pieces.items.Goals as goal
 
 pub returns-in_err-pieces-clause-fault : goal.returns-in_err-pieces-clause-fault

@@ -1,7 +1,7 @@
 use Rattle.po_syntax.proofs.Prelude.{IsUtf8, IsUtf8-append, SpellsString, StringFault, [], after_escape, and_parts, ap, append-nil, append_assoc, arith, err_from_is_err_and, escape, in_escape, length, length-append, ltb-true, subst, sym, ◌++◌, ◌∙◌, ◌∷◌}
 use Rattle.po_syntax.proofs.Escapes.{escape_shorter}
-use Rattle.po_syntax.proofs.Utf8Rests.{before-utf8, escape_rest-utf8, rest-utf8, spelt_more}
-use Rattle.po_syntax.proofs.QuotedStrings.{closes, backslash, stops_at_end, escape_is}
+use Rattle.po_syntax.proofs.Utf8Lines.{before-utf8, escape_rest-utf8, rest-utf8, spelt_more}
+use Rattle.po_syntax.proofs.StringsRead.{backslash, closes, escape_is, stops_at_end}
 use Rattle.po_syntax.proofs.quoted_string.add_bytes.Goals as goal
 
 pub returns-in_default-clause-fault : goal.returns-in_default-clause-fault

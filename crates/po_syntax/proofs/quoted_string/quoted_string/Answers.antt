@@ -1,6 +1,6 @@
 use Rattle.po_syntax.proofs.Prelude.{IsUtf8, [], ap, append-nil, arith, subst, sym, ◌++◌, ◌∙◌}
-use Rattle.po_syntax.proofs.QuotedStrings.{closes, stops_at_end}
-use Rattle.po_syntax.proofs.Utf8Rests.{before-utf8}
+use Rattle.po_syntax.proofs.StringsRead.{closes, stops_at_end}
+use Rattle.po_syntax.proofs.Utf8Lines.{before-utf8}
 use Rattle.po_syntax.proofs.quoted_string.quoted_string.Goals as goal
 
 pub returns-in_default-clause-fault : goal.returns-in_default-clause-fault

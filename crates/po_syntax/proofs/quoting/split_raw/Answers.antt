@@ -1,6 +1,6 @@
 use Rattle.po_syntax.proofs.Prelude.{List, YieldsList-from_slice, YieldsList-from_take_while, ap, ap₂, arith, count_from_yields_List, is_raw, length, length-prefix_len, prefix_len, rules, sym, take-append-drop, tests, ℕ, ◌++◌, ◌+◌, ◌∙◌, ◌≡◌}
 use Rattle.std.proofs.lemmas.List.{length-append}
-use Rattle.po_syntax.proofs.RawRuns.{raw_append, written_prefix}
+use Rattle.po_syntax.proofs.QuotedForms.{raw_append, written_prefix}
 use Rattle.po_syntax.proofs.quoting.split_raw.Goals as goal
 
 pub loop-block-preserved : goal.loop-block-preserved

@@ -1,5 +1,5 @@
 use Rattle.po_syntax.proofs.Prelude.{ap, append_assoc, arith, length, length-append, sym, written_byte, written_bytes, ◌++◌, ◌∙◌}
-use Rattle.po_syntax.proofs.RawRuns.{byte_after_run, run_alone}
+use Rattle.po_syntax.proofs.QuotedForms.{byte_after_run, run_alone}
 use Rattle.po_syntax.proofs.quoting.write_quoted.Goals as goal
 
 pub loop-byte-preserved : goal.loop-byte-preserved

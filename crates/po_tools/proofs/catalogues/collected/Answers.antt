@@ -1,6 +1,6 @@
 use Rattle.po_tools.proofs.Prelude.{HoldCatalogues, IsCatalogueEntry, [], ap, arith, live_messages, refl, subst, sym, take, take_more, ◌++◌, ◌+◌, ◌∙◌, ◌∷◌}
 use Rattle.std.proofs.Common.{All}
-use Rattle.po_compile.proofs.InputLemmas.{held_more}
+use Rattle.po_compile.proofs.CollectedInputs.{held_more}
 use Rattle.po_tools.proofs.catalogues.collected.Goals as goal
 
 pub loop-catalogue-init : goal.loop-catalogue-init

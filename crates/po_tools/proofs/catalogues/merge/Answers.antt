@@ -1,6 +1,6 @@
 use Rattle.po_tools.proofs.Prelude.{All, All-nil, All-push, IfSome, IsCatalogueEntry, List, TextEntry, [], ap, ap₂, arith, err_from_is_err_and, inputs_view, length, merged_messages, messages, option_to_list, refl, subst, sym, take, ◌++◌, ◌<◌, ◌∙◌, ◌∷◌}
 use Rattle.std.proofs.Common.{append-nil}
-use Rattle.msgcat.proofs.GroupsMerged.{fault_of_one, messages_more}
+use Rattle.msgcat.proofs.MergedGroups.{fault_of_one, messages_more}
 use Rattle.po_tools.proofs.catalogues.merge.Goals.{in-Some+in_ok-copy+in_ok-push, in_default}
 use Rattle.po_tools.proofs.catalogues.merge.Goals as goal
 

@@ -1,4 +1,4 @@
-use Rattle.po_tools.proofs.KeptCompile.{compiled, kept}
+use Rattle.po_tools.proofs.Pipelines.{compiled, kept}
 use Rattle.po_tools.proofs.run_laws.kept_entries_compile_alike.Goals as goal
 
 pub returns : goal.returns

@@ -1,4 +1,4 @@
-use Rattle.po_tools.proofs.WrittenAgain.{msgcat_again}
+use Rattle.po_tools.proofs.Pipelines.{msgcat_again}
 use Rattle.po_tools.proofs.run_laws.msgcat_again.Goals as goal
 
 pub returns : goal.returns

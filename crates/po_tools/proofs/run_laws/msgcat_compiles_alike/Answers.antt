@@ -1,4 +1,4 @@
-use Rattle.po_tools.proofs.WrittenAgain.{compiles_alike}
+use Rattle.po_tools.proofs.Pipelines.{compiles_alike}
 use Rattle.po_tools.proofs.run_laws.msgcat_compiles_alike.Goals as goal
 
 pub returns : goal.returns

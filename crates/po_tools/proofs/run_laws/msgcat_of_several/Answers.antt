@@ -1,4 +1,4 @@
-use Rattle.po_tools.proofs.SeveralTexts.{several_alike}
+use Rattle.po_tools.proofs.Pipelines.{several_alike}
 use Rattle.po_tools.proofs.run_laws.msgcat_of_several.Goals as goal
 
 pub returns : goal.returns

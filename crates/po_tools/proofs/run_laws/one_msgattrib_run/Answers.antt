@@ -1,4 +1,4 @@
-use Rattle.po_tools.proofs.OneOtherRun.{msgattrib_once}
+use Rattle.po_tools.proofs.OneRun.{msgattrib_once}
 use Rattle.po_tools.proofs.run_laws.one_msgattrib_run.Goals as goal
 
 pub returns : goal.returns

@@ -1,4 +1,4 @@
-use Rattle.po_tools.proofs.OneOtherRun.{msgcat_once}
+use Rattle.po_tools.proofs.OneRun.{msgcat_once}
 use Rattle.po_tools.proofs.run_laws.one_msgcat_run.Goals as goal
 
 pub returns : goal.returns

@@ -1,4 +1,4 @@
-use Rattle.po_tools.proofs.OneOtherRun.{msgunfmt_once}
+use Rattle.po_tools.proofs.OneRun.{msgunfmt_once}
 use Rattle.po_tools.proofs.run_laws.one_msgunfmt_run.Goals as goal
 
 pub returns : goal.returns

@@ -1,4 +1,4 @@
-use Rattle.po_tools.proofs.ThereAndBack.{there_and_back}
+use Rattle.po_tools.proofs.RoundTrip.{there_and_back}
 use Rattle.po_tools.proofs.run_laws.there_and_back.Goals as goal
 
 pub returns : goal.returns

@@ -1,5 +1,5 @@
 use Rattle.po_writer.proofs.Prelude.{List, ap, append_assoc, arith, codes, decimal, form_lines, forms_left, keyword_lines, length, length-append, rules, sym, ℕ, ◌++◌, ◌+◌, ◌∙◌, ◌∷◌, ◌≡◌, ◌≤◌}
-use Rattle.po_writer.proofs.Separated.{keyword_some}
+use Rattle.po_writer.proofs.WrittenLists.{keyword_some}
 use Rattle.po_writer.proofs.entry_lines.push_forms.Goals as goal
 
 -- one form more

@@ -1,5 +1,5 @@
-use Rattle.po_writer.proofs.Prelude.{List, [], ap, append-nil, arith, eqb-true, flat_map, refl, string_line, ℕ, ◌++◌, ◌==◌, ◌∷◌, append_assoc, length, lines_with_ends, nat_lt, not, sym, true, ◌∙◌, ◌≡◌}
-use Rattle.po_writer.proofs.LinesWithEnds.{several}
+use Rattle.po_writer.proofs.Prelude.{List, [], ap, append-nil, append_assoc, arith, eqb-true, flat_map, length, lines_with_ends, nat_lt, not, refl, string_line, sym, true, ℕ, ◌++◌, ◌==◌, ◌∙◌, ◌∷◌, ◌≡◌}
+use Rattle.po_writer.proofs.WrittenLines.{several}
 use Rattle.po_writer.proofs.keyword_lines.push_text.Goals as goal
 
 empty : (text : List ℕ) → (length text == 0) ≡ true → text ≡ []

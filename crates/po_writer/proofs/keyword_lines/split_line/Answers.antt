@@ -1,5 +1,5 @@
 use Rattle.po_writer.proofs.Prelude.{arith, drop_all, length, refl, take_all}
-use Rattle.po_writer.proofs.LinesWithEnds.{first_line, whole_line}
+use Rattle.po_writer.proofs.WrittenLines.{first_line, whole_line}
 use Rattle.po_writer.proofs.keyword_lines.split_line.Goals as goal
 
 pub returns-in-Some-clause-lines : goal.returns-in-Some-clause-lines

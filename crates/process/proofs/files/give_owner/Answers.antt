@@ -1,6 +1,5 @@
 use Rattle.process.proofs.Prelude.{given, group_given, had, sym, untold, ◌∙◌}
-use Rattle.process.proofs.Owners.{same_owner, other_owner}
-use Rattle.process.proofs.SystemCallLemmas.{once, then}
+use Rattle.process.proofs.SystemCalls.{once, other_owner, same_owner, then}
 use Rattle.process.proofs.files.give_owner.Goals as goal
 
 pub returns-in_err-now : goal.returns-in_err-now

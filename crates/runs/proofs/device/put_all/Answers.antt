@@ -1,6 +1,6 @@
 use Rattle.runs.proofs.Prelude.{ap, arith, drop, length, nat_tests, take, take_rest, ◌-◌, ◌≡◌, ◌≤◌}
 use Rattle.std.proofs.Common.{length-drop}
-use Rattle.runs.proofs.DeviceLemmas.{Appends-rest, Gives-next}
+use Rattle.runs.proofs.Devices.{Appends-rest, Gives-next}
 use Rattle.runs.proofs.device.put_all.Goals as goal
 
 pub loop-at-preserved : goal.loop-at-preserved

@@ -1,4 +1,4 @@
-use Rattle.runs.proofs.StreamNames.{names, one_stream}
+use Rattle.runs.proofs.Paths.{names, one_stream}
 use Rattle.runs.proofs.laws.streams_have_names.Goals as goal
 
 pub returns-clause-exactly : goal.returns-clause-exactly

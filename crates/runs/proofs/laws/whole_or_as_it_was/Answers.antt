@@ -1,4 +1,4 @@
-use Rattle.runs.proofs.WholeOutputs.{whole_outputs}
+use Rattle.runs.proofs.NewFileOutputs.{whole_outputs}
 use Rattle.runs.proofs.laws.whole_or_as_it_was.Goals as goal
 
 pub returns : goal.returns

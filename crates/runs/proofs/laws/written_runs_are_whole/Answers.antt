@@ -1,4 +1,4 @@
-use Rattle.runs.proofs.WrittenRuns.{written_runs}
+use Rattle.runs.proofs.Devices.{written_runs}
 use Rattle.runs.proofs.laws.written_runs_are_whole.Goals as goal
 
 pub returns : goal.returns

@@ -1,5 +1,5 @@
 use Rattle.runs.proofs.Prelude.{Bool, List, NamesStream, bytes_eq, bytes_eq-Decides, codes, false, standard_error, standard_output, subst, sym, true, ℕ, ◌∙◌, ◌≡◌, ◌≢◌}
-use Rattle.runs.proofs.StreamNames.{no_stream, device_number, process_number}
+use Rattle.runs.proofs.Paths.{device_number, no_stream, process_number}
 use Rattle.runs.proofs.output_paths.stream_named.Goals as goal
 
 other : {path : List ℕ} (name : List ℕ) {test : Bool} → test ≡ bytes_eq path name → test ≡ false → path ≢ name

@@ -1,5 +1,5 @@
 use Rattle.runs.proofs.Prelude.{Exists, Failed, Forbidden, all_taken, arith, failed, forbidden, in_place, unnamed, ◌+◌, ◌-◌, ◌∙◌, ◌≡◌}
-use Rattle.runs.proofs.OutputLemmas.{after-made, after-taken, after-unmade, done-for, is-fault, is-no-memory}
+use Rattle.runs.proofs.OutputsInPlace.{after-made, after-taken, after-unmade, done-for, is-fault, is-no-memory}
 use Rattle.runs.proofs.output_writing.+replace.Goals as goal
 
 pub returns-in_err-new : goal.returns-in_err-new

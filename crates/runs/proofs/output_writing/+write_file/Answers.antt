@@ -2,7 +2,7 @@ use Rattle.runs.proofs.Prelude.{arith, lacking, no_memory, replaces, special, st
 use Rattle.runs.specs.OutputWriting.{unread}
 use Rattle.std.proofs.Common.{rules, string_bytes}
 use Rattle.runs.specs.Prelude.{link_target}
-use Rattle.runs.proofs.OutputLemmas.{after-call, after-link, done-for, is-fault, is-no-memory}
+use Rattle.runs.proofs.OutputsInPlace.{after-call, after-link, done-for, is-fault, is-no-memory}
 use Rattle.runs.proofs.output_writing.+write_file.Goals as goal
 
 pub returns-in-Some-stream : goal.returns-in-Some-stream

@@ -1,5 +1,5 @@
 use Rattle.runs.proofs.Prelude.{FileLog, Finishes, List, Option, OutputFault, Runs, replaced, replaces_none, unmoved, unwritten, without_rights, ℕ}
-use Rattle.runs.proofs.OutputLemmas.{after-call, after-rights, done-for, is-done, is-fault}
+use Rattle.runs.proofs.OutputsInPlace.{after-call, after-rights, done-for, is-done, is-fault}
 use Rattle.runs.proofs.output_writing.fill.Goals as goal
 use Rattle.runs.proofs.output_writing.fill.Goals.{in-Some+else-not-set_mode, in_default}
 

@@ -1,6 +1,6 @@
 use Rattle.runs.proofs.Prelude.{unput}
 use Rattle.runs.specs.OutputWriting.{put as all_put}
-use Rattle.runs.proofs.OutputLemmas.{after-call, is-done, is-fault}
+use Rattle.runs.proofs.OutputsInPlace.{after-call, is-done, is-fault}
 use Rattle.runs.proofs.output_writing.put.Goals as goal
 
 pub returns-then-put_and_close : goal.returns-then-put_and_close

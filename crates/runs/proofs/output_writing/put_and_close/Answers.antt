@@ -1,5 +1,5 @@
 use Rattle.runs.proofs.Prelude.{false, true}
-use Rattle.runs.proofs.OutputLemmas.{put-closed}
+use Rattle.runs.proofs.OutputsInPlace.{put-closed}
 use Rattle.runs.proofs.output_writing.put_and_close.Goals as goal
 
 pub returns-then-close : goal.returns-then-close

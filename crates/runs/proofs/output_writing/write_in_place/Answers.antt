@@ -1,5 +1,5 @@
 use Rattle.runs.proofs.Prelude.{opened, unopened}
-use Rattle.runs.proofs.OutputLemmas.{after-call, done-for, is-fault}
+use Rattle.runs.proofs.OutputsInPlace.{after-call, done-for, is-fault}
 use Rattle.runs.proofs.output_writing.write_in_place.Goals as goal
 
 pub returns-in-None : goal.returns-in-None

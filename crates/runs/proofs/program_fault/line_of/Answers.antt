@@ -1,5 +1,5 @@
 use Rattle.runs.proofs.Prelude.{Bor, List, ap, arith, cases_lt, false≢true, get_or, inl, inr, joined, length, length-flat_map-take, take, ℕ, ◌+◌, ◌<◌, ◌≡◌, ◌≤◌}
-use Rattle.runs.proofs.DeviceLemmas.{on-err}
+use Rattle.runs.proofs.Devices.{on-err}
 use Rattle.runs.proofs.program_fault.line_of.Goals as goal
 
 within : (parts : List (Bor (List ℕ))) (i : ℕ) (d : Bor (List ℕ)) {line part : List ℕ} → i < length parts

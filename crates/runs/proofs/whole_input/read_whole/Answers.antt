@@ -1,5 +1,5 @@
 use Rattle.runs.proofs.Prelude.{Consumes, arith, drop, drop-drop, drop-take, length, length-drop, places, rules, subst, sym, take, take_all, ◌+◌, ◌-◌, ◌∙◌, ◌≡◌, ◌≤◌}
-use Rattle.runs.proofs.DeviceLemmas.{filled-end, filled-more, front-after, front-before, taken-full}
+use Rattle.runs.proofs.Devices.{filled-end, filled-more, front-after, front-before, taken-full}
 use Rattle.runs.proofs.whole_input.read_whole.Goals as goal
 
 pub loop-count-preserved : goal.loop-count-preserved

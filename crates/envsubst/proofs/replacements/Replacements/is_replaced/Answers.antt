@@ -1,6 +1,5 @@
 use Rattle.envsubst.proofs.Prelude.{AreNamesSorted, IfSome, ap, bytes_eq, is_replaced, names_given, subst, sym, ◌∙◌}
-use Rattle.envsubst.proofs.SortedLemmas.{searched-name}
-use Rattle.envsubst.proofs.VariableLemmas.{list_any-map}
+use Rattle.envsubst.proofs.Variables.{list_any-map, searched-name}
 use Rattle.envsubst.proofs.replacements.Replacements.is_replaced.Goals as goal
 
 pub returns-in-Some : goal.returns-in-Some

@@ -1,7 +1,7 @@
 use Rattle.envsubst.proofs.Prelude.{AreNamesSorted, IfSome, answers_always, is_ge, name_cmp, rules, subst, sym, ◌∙◌}
-use Rattle.envsubst.proofs.SortedLemmas.{names-sorted, variables-sorted}
+use Rattle.envsubst.proofs.Variables.{names-sorted, variables-sorted}
 use Rattle.envsubst.proofs.replacements.Replacements.new.Goals as goal
-use Rattle.envsubst.proofs.replacements.Replacements.new.Goals.{in-Some, in-None}
+use Rattle.envsubst.proofs.replacements.Replacements.new.Goals.{in-None, in-Some}
 
 pub invariant_of-result : goal.invariant_of-result
 invariant_of-result c = (

@@ -1,5 +1,5 @@
 use Rattle.envsubst.proofs.Prelude.{SubstituterView, length, subst, ◌≤◌}
-use Rattle.envsubst.proofs.ReferenceLemmas.{undecided-length}
+use Rattle.envsubst.proofs.References.{undecided-length}
 use Rattle.envsubst.proofs.substituter.Substituter.feed.Goals as goal
 
 pub returns-then-self-clause-limit : goal.returns-then-self-clause-limit

@@ -1,5 +1,5 @@
 use Rattle.envsubst.proofs.Prelude.{ap, is_undecided, ◌∙◌}
-use Rattle.envsubst.proofs.ReferenceLemmas.{nothing-undecided}
+use Rattle.envsubst.proofs.References.{nothing-undecided}
 use Rattle.envsubst.proofs.substituter.Substituter.new.Goals as goal
 
 pub invariant_of-result : goal.invariant_of-result

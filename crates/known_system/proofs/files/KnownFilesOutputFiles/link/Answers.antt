@@ -1,6 +1,6 @@
 use Rattle.known_system.proofs.Prelude.{FileCall, List, ap, links_by_path, nothing, replay, stored, sym, ◌∙◌}
 use Rattle.std.specs.Option.{option_copied}
-use Rattle.known_system.proofs.Tellings.{answers_link}
+use Rattle.known_system.proofs.Calls.{answers_link}
 use Rattle.known_system.proofs.files.KnownFilesOutputFiles.link.Goals as goal
 
 pub invariant_of-self-in-Ok : goal.invariant_of-self-in-Ok

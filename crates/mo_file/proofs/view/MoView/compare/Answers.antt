@@ -1,5 +1,5 @@
 use Rattle.mo_file.proofs.Prelude.{arith}
-use Rattle.mo_file.proofs.ViewLemmas.{length-messages_of, keys-at}
+use Rattle.mo_file.proofs.RisingKeys.{keys-at, length-messages_of}
 use Rattle.mo_file.proofs.view.MoView.compare.Goals as goal
 
 pub rest_at-requires-clause-counted : goal.rest_at-requires-clause-counted

@@ -1,5 +1,5 @@
 use Rattle.mo_file.proofs.Prelude.{sym, ◌∙◌}
-use Rattle.mo_file.proofs.ViewLemmas.{length-messages_of, AreRising-messages_of}
+use Rattle.mo_file.proofs.RisingKeys.{AreRising-messages_of, length-messages_of}
 use Rattle.mo_file.proofs.view.MoView.len.Goals as goal
 
 pub returns-clause-count : goal.returns-clause-count

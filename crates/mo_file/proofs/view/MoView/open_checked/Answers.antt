@@ -1,7 +1,7 @@
 use Rattle.mo_file.proofs.Prelude.{IsChecked, IsMoFile, List, Message, Order, TooShort, ap, arith, messages_of, sym, ◌∙◌, ◌≡◌}
-use Rattle.mo_file.proofs.FaultLemmas.{not_below, of-valid}
+use Rattle.mo_file.proofs.Faults.{not_below, of-valid}
 use Rattle.mo_file.proofs.view.MoView.open_checked.Goals as goal
-use Rattle.mo_file.proofs.view.MoView.open_checked.Goals.{in-Little, in-Big}
+use Rattle.mo_file.proofs.view.MoView.open_checked.Goals.{in-Big, in-Little}
 
 pub of_words-header-requires : goal.of_words-header-requires
 of_words-header-requires c = let long = not_below _ _ (c.requires.2.faultless TooShort) in omega (arith, long)

@@ -1,5 +1,5 @@
 use Rattle.mo_file.proofs.Prelude.{arith}
-use Rattle.mo_file.proofs.ViewLemmas.{length-messages_of}
+use Rattle.mo_file.proofs.RisingKeys.{length-messages_of}
 use Rattle.mo_file.proofs.view.MoView.open_in.Goals as goal
 
 pub returns-clause-cost : goal.returns-clause-cost

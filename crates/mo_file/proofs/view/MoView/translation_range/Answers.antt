@@ -1,5 +1,5 @@
 use Rattle.mo_file.proofs.Prelude.{arith}
-use Rattle.mo_file.proofs.ViewLemmas.{length-messages_of, map-messages_of-at, translation-stands}
+use Rattle.mo_file.proofs.RisingKeys.{length-messages_of, map-messages_of-at, translation-stands}
 use Rattle.mo_file.proofs.view.MoView.translation_range.Goals as goal
 
 pub range_at-requires : goal.range_at-requires

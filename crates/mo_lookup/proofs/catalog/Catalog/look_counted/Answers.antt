@@ -1,6 +1,6 @@
 use Rattle.mo_lookup.proofs.Prelude.{AnswerView, located_view, query, refl, ◌∙◌, ◌≡◌}
-use Rattle.mo_lookup.proofs.PlaceLemmas.{untranslated_view}
-use Rattle.mo_lookup.proofs.catalog.Catalog.look_counted.Goals.{in-Translation, in-Id}
+use Rattle.mo_lookup.proofs.Forms.{untranslated_view}
+use Rattle.mo_lookup.proofs.catalog.Catalog.look_counted.Goals.{in-Id, in-Translation}
 use Rattle.mo_lookup.proofs.catalog.Catalog.look_counted.Goals as goal
 
 pub returns-clause-answered : goal.returns-clause-answered

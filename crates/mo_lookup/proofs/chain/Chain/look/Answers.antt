@@ -1,5 +1,5 @@
 use Rattle.mo_lookup.proofs.Prelude.{None, Some, arith, query, ◌∙◌}
-use Rattle.mo_lookup.proofs.ChainLemmas.{HaveNot-all, chain_answered-is, first-found, found-translates, nodes-answering, none-found}
+use Rattle.mo_lookup.proofs.Chains.{HaveNot-all, chain_answered-is, first-found, found-translates, nodes-answering, none-found}
 use Rattle.mo_lookup.proofs.chain.Chain.look.Goals as goal
 
 pub returns-then-answer-clause-answered : goal.returns-then-answer-clause-answered

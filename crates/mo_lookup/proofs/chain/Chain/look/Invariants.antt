@@ -1,5 +1,5 @@
 use Rattle.mo_lookup.proofs.Prelude.{query}
-use Rattle.mo_lookup.proofs.ChainLemmas.{HaveNot}
+use Rattle.mo_lookup.proofs.Chains.{HaveNot}
 use Rattle.mo_lookup.proofs.chain.Chain.look.Given as goal
 
 abbrev pub invariant-loop-index : goal.invariant-loop-index

@@ -1,6 +1,6 @@
 use Rattle.msgattrib.proofs.Prelude.{IsCatalogueEntry, TextEntry, [], ap, changed, set_fuzzy, set_obsolete, subst, sym, ◌++◌, ◌∙◌, ◌∷◌, ◌≡◌}
-use Rattle.msgattrib.proofs.ChangedEntries.{changed_in_copy, changed_in_place, same_length}
-use Rattle.msgattrib.proofs.SelectionLaws.{changed_can_stand}
+use Rattle.msgattrib.proofs.SelectedEntries.{changed_in_copy, changed_in_place, same_length}
+use Rattle.msgattrib.proofs.OptionLaws.{changed_can_stand}
 use Rattle.msgattrib.proofs.selection.Selection.change_at.Goals as goal
 
 pub push-requires : goal.push-requires

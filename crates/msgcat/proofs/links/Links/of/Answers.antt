@@ -1,5 +1,5 @@
 use Rattle.msgcat.proofs.Prelude.{arith, get_or, get_or_default_zero, length, refl, set, subst, suc, sym, ◌+◌, ◌-◌, ◌<◌, ◌∙◌, ◌≡◌}
-use Rattle.msgcat.proofs.LinkLemmas.{AreLinkedFrom, all_linked, linked_more}
+use Rattle.msgcat.proofs.MessageLinks.{AreLinkedFrom, all_linked, linked_more}
 use Rattle.msgcat.proofs.links.Links.of.Goals as goal
 
 pub loop-done-preserved : goal.loop-done-preserved

@@ -1,5 +1,5 @@
 use Rattle.msgcat.proofs.Prelude.{length, ◌-◌}
-use Rattle.msgcat.proofs.LinkLemmas.{AreLinkedFrom}
+use Rattle.msgcat.proofs.MessageLinks.{AreLinkedFrom}
 use Rattle.msgcat.proofs.links.Links.of.Given as goal
 
 -- the last entries are linked

@@ -1,9 +1,9 @@
 use Rattle.msgcat.proofs.Prelude.{All-head, All-tail, AreReadInputs, IsChain, NamedEntry, [], all_entries, ap, append-nil, arith, definitions, entries_at, get_or, get_or_default_zero, groups, length, length-map, named_entries, no_entry, subst, sym, ◌++◌, ◌<◌, ◌∙◌, ◌≡◌, ◌≤◌}
 use Rattle.std.proofs.Common.{All}
 use Rattle.msgcat.specs.declared.definition.NamedEntry.{NamedEntry as BorrowedEntry}
-use Rattle.msgcat.proofs.HeldGroups.{entries_here, groups_at, groups_counted, indexes_here}
-use Rattle.msgcat.proofs.LinkLemmas.{chain_on, chain_over}
-use Rattle.msgcat.proofs.ReadInputs.{entry_is, entry_taken}
+use Rattle.msgcat.proofs.GroupsByIndex.{entries_here, groups_at, groups_counted, indexes_here}
+use Rattle.msgcat.proofs.MessageLinks.{chain_on, chain_over}
+use Rattle.msgcat.proofs.Inputs.{entry_is, entry_taken}
 use Rattle.msgcat.proofs.merge_inputs.MergeInputs.group.Goals as goal
 
 pub index-index-requires : goal.index-index-requires

@@ -1,6 +1,6 @@
 use Rattle.msgcat.proofs.Prelude.{[], all_entries, ap, arith, entries_at, false, get_or, get_or_default_zero, groups, length, no_entry, not, refl, subst, sym, true, ◌<◌, ◌∙◌, ◌≡◌, ◌≤◌}
-use Rattle.msgcat.proofs.MergedOnes.{message_obsolete}
-use Rattle.msgcat.proofs.Walks.{AreLeft, all_left, any_left, any_live, first_inside, group_is, indexes, later, none_left, rest, rest_left, stored}
+use Rattle.msgcat.proofs.MergedMessages.{message_obsolete}
+use Rattle.msgcat.proofs.MessageLinks.{AreLeft, all_left, any_left, any_live, first_inside, group_is, indexes, later, none_left, rest, rest_left, stored}
 use Rattle.msgcat.proofs.merge_inputs.MergeInputs.is_obsolete.Goals as goal
 
 pub index-index-requires : goal.index-index-requires

@@ -1,5 +1,5 @@
 use Rattle.msgcat.proofs.Prelude.{HoldInputs, List, Named, [], all_entries, entries_at, get_or, groups, length, messages, ℕ, ◌-◌, ◌<◌, ◌≡◌}
-use Rattle.msgcat.proofs.Walks.{AreLeft, any_live}
+use Rattle.msgcat.proofs.MessageLinks.{AreLeft, any_live}
 use Rattle.msgcat.proofs.merge_inputs.MergeInputs.is_obsolete.Given as goal
 
 -- an entry of the message is live exactly if one of those that are left is

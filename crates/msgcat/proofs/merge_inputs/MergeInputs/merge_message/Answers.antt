@@ -1,6 +1,6 @@
 use Rattle.msgcat.proofs.Prelude.{Bool, IsMergeFault, [], ap, ap₂, err_from_is_err_and, false, is_wanted, named_entries, subst, sym, ◌||◌, ◌∙◌, ◌∷◌}
-use Rattle.msgcat.proofs.MergedOnes.{kept_can, kept_message, only_kept}
-use Rattle.msgcat.proofs.merge_inputs.MergeInputs.merge_message.Goals.{then-is_header-via-then-is_header, then-is_header-via-else-is_header+then-is_wanted}
+use Rattle.msgcat.proofs.MergedMessages.{kept_can, kept_message, only_kept}
+use Rattle.msgcat.proofs.merge_inputs.MergeInputs.merge_message.Goals.{then-is_header-via-else-is_header+then-is_wanted, then-is_header-via-then-is_header}
 use Rattle.msgcat.proofs.merge_inputs.MergeInputs.merge_message.Goals as goal
 
 pub returns-then-is_header-clause-merged : goal.returns-then-is_header-clause-merged

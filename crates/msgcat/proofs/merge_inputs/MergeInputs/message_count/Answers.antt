@@ -1,5 +1,5 @@
 use Rattle.msgcat.proofs.Prelude.{all_entries, arith, definitions, groups, length-map}
-use Rattle.msgcat.proofs.HeldGroups.{groups_counted}
+use Rattle.msgcat.proofs.GroupsByIndex.{groups_counted}
 use Rattle.msgcat.proofs.merge_inputs.MergeInputs.message_count.Goals as goal
 
 pub returns : goal.returns

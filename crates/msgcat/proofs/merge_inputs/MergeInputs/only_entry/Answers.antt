@@ -1,5 +1,5 @@
 use Rattle.msgcat.proofs.Prelude.{arith, get_or, get_or_default_zero, length, no_entry, subst, sym, ◌<◌, ◌∙◌, ◌≡◌, ◌≤◌}
-use Rattle.msgcat.proofs.Walks.{AreLeft, all_left, first_inside, first_links, indexes, only_one, stored}
+use Rattle.msgcat.proofs.MessageLinks.{AreLeft, all_left, first_inside, first_links, indexes, only_one, stored}
 use Rattle.msgcat.proofs.merge_inputs.MergeInputs.only_entry.Goals as goal
 
 pub index-index-requires : goal.index-index-requires

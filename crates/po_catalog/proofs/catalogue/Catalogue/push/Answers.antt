@@ -1,5 +1,5 @@
 use Rattle.po_catalog.proofs.Prelude.{All-pushed, IsCatalogueEntry, false≢true, inl, refl, sym, ◌∙◌}
-use Rattle.po_reader.proofs.Results.{on_ok_always}
+use Rattle.po_reader.proofs.ReaderSteps.{on_ok_always}
 use Rattle.po_catalog.proofs.catalogue.Catalogue.push.Goals as goal
 
 pub invariant_of-self : goal.invariant_of-self

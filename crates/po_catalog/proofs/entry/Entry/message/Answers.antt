@@ -1,4 +1,4 @@
-use Rattle.po_catalog.proofs.PlainEntries.{plain_entry_valid}
+use Rattle.po_catalog.proofs.Entries.{plain_entry_valid}
 use Rattle.po_catalog.proofs.entry.Entry.message.Goals as goal
 
 pub of_fields-requires : goal.of_fields-requires

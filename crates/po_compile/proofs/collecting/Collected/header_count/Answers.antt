@@ -1,7 +1,7 @@
 use Rattle.po_compile.proofs.Prelude.{Bool, ap, ap₂, arith, cond, count_by, has_no_key, length, length-filter, live_message, rules, sym, take, take_all, ◌+◌, ◌<◌, ◌∙◌, ◌≡◌, ◌≤◌}
 use Rattle.std.proofs.lemmas.List.Filters.{length-filter_more}
 use Rattle.po_compile.proofs.JoinedRows.{header_seen}
-use Rattle.po_compile.proofs.LiveMessages.{as_many, message_at}
+use Rattle.po_compile.proofs.CompiledMessages.{as_many, message_at}
 use Rattle.po_compile.proofs.collecting.Collected.header_count.Goals as goal
 
 pub loop-index-preserved : goal.loop-index-preserved

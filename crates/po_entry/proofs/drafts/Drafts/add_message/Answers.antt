@@ -1,5 +1,5 @@
 use Rattle.po_entry.proofs.Prelude.{refl}
-use Rattle.po_entry.proofs.RowLemmas.{always, keeps}
+use Rattle.po_entry.proofs.EntryRows.{always, keeps}
 use Rattle.po_entry.proofs.drafts.Drafts.add_message.Goals as goal
 
 pub returns-in_err-row-clause-unchanged : goal.returns-in_err-row-clause-unchanged

@@ -1,7 +1,7 @@
 use Rattle.po_entry.proofs.Prelude.{All, IsUtf8, Lacks, false≢true, forbidden, not_utf8, quoted_texts, sym, ◌∙◌}
-use Rattle.po_entry.proofs.Checks.{of_option, on_option, two}
+use Rattle.po_entry.proofs.AdmittedTexts.{of_option, on_option, two}
 use Rattle.po_entry.proofs.entry_ref.EntryRef.check_texts.Goals as goal
-use Rattle.po_entry.proofs.entry_ref.EntryRef.check_texts.Goals.{else-not-are_utf8-via-then-not-are_utf8+else-not-is_all_utf8, else-not-are_utf8-via-else-not-are_utf8}
+use Rattle.po_entry.proofs.entry_ref.EntryRef.check_texts.Goals.{else-not-are_utf8-via-else-not-are_utf8, else-not-are_utf8-via-then-not-are_utf8+else-not-is_all_utf8}
 
 pub returns-then-not-is_all_utf8 : goal.returns-then-not-is_all_utf8
 returns-then-not-is_all_utf8 c =

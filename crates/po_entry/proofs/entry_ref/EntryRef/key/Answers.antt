@@ -1,5 +1,5 @@
 use Rattle.po_entry.proofs.Prelude.{ap, own_at, take, ◌∙◌}
-use Rattle.po_entry.proofs.OwnTexts.{key_cut}
+use Rattle.po_entry.proofs.EntryLayout.{key_cut}
 use Rattle.po_entry.proofs.entry_ref.EntryRef.key.Goals as goal
 
 pub returns : goal.returns

@@ -1,5 +1,5 @@
 use Rattle.po_entry.proofs.Prelude.{ap, arith, length, optional_bytes, own_at, plural_in, split_forms, sym, take, texts_after, ◌++◌, ◌+◌, ◌∙◌}
-use Rattle.po_entry.proofs.OwnTexts.{key_cut, plural_cut}
+use Rattle.po_entry.proofs.EntryLayout.{key_cut, plural_cut}
 use Rattle.po_entry.proofs.entry_ref.EntryRef.original.Goals as goal
 
 pub split_at-requires : goal.split_at-requires

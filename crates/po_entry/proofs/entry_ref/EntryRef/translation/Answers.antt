@@ -1,5 +1,5 @@
 use Rattle.po_entry.proofs.Prelude.{ap, own_at, refl, split_forms, sym, ◌∙◌}
-use Rattle.po_entry.proofs.OwnTexts.{forms_alone, forms_cut}
+use Rattle.po_entry.proofs.EntryLayout.{forms_alone, forms_cut}
 use Rattle.po_entry.proofs.entry_ref.EntryRef.translation.Goals as goal
 
 pub returns-then-self : goal.returns-then-self

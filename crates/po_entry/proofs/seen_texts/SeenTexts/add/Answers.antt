@@ -1,5 +1,5 @@
 use Rattle.po_entry.proofs.Prelude.{SeenText, ap, map, ◌∙◌}
-use Rattle.po_entry.proofs.SeenTextLemmas.{bytes_of, index_of_key, key_added}
+use Rattle.po_entry.proofs.TextLists.{bytes_of, index_of_key, key_added}
 use Rattle.po_entry.proofs.seen_texts.SeenTexts.add.Goals as goal
 
 pub returns-clause-seen : goal.returns-clause-seen

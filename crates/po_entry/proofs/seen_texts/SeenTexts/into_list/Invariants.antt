@@ -1,5 +1,5 @@
 use Rattle.po_entry.proofs.Prelude.{map, ◌++◌, ◌≡◌}
-use Rattle.po_entry.proofs.SeenTextLemmas.{bytes_of}
+use Rattle.po_entry.proofs.TextLists.{bytes_of}
 use Rattle.po_entry.proofs.seen_texts.SeenTexts.into_list.Given as goal
 
 -- the list and the texts that are left are all

@@ -1,5 +1,5 @@
 use Rattle.po_entry.proofs.Prelude.{All, All-append, IsCatalogueEntry, List, Row, TextEntry, ap, ap₂, entries_in, entry_at, length, map, moved, subst, sym, ℕ, ◌++◌, ◌∙◌}
-use Rattle.po_entry.proofs.RowLemmas.{appended}
+use Rattle.po_entry.proofs.EntryRows.{appended}
 use Rattle.po_entry.proofs.store.Store.append.Goals as goal
 
 pub invariant_of-self-2 : goal.invariant_of-self-2

@@ -1,6 +1,6 @@
 use Rattle.po_entry.proofs.Prelude.{All, All-filter, Bool, IsCatalogueEntry, LiesIn, Row, ap, entry_at, filter, map, not, rules, subst, sym, ◌∙◌, ◌≡◌}
 use Rattle.std.proofs.lemmas.Fn.{filter_same}
-use Rattle.po_entry.proofs.RowLemmas.{filtered, kept_live}
+use Rattle.po_entry.proofs.EntryRows.{filtered, kept_live}
 use Rattle.po_entry.proofs.store.Store.keep_live.Goals as goal
 
 pub invariant_of-self : goal.invariant_of-self

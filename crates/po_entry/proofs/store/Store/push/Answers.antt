@@ -1,5 +1,5 @@
 use Rattle.po_entry.proofs.Prelude.{All, IsCatalogueEntry, List, Row, TextEntry, [], ap, arith, entry_view, length, refl, subst, sym, ◌++◌, ◌<◌, ◌^◌, ◌∙◌, ◌∷◌}
-use Rattle.po_entry.proofs.RowLemmas.{Pushed, always, keeps, pushed}
+use Rattle.po_entry.proofs.EntryRows.{Pushed, always, keeps, pushed}
 use Rattle.po_entry.proofs.store.Store.push.Goals as goal
 
 added : (c : goal.In_ok-push) → Pushed c.self.inside.bytes.items c.add_entry.new.bytes.items

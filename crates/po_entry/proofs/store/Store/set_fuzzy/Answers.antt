@@ -1,5 +1,5 @@
 use Rattle.po_entry.proofs.Prelude.{All, All-set, IsCatalogueEntry, LiesIn, Row, ap, arith, changed_at, entry_at, length, length-map, map, set_fuzzy, subst, sym, ◌<◌, ◌∙◌}
-use Rattle.po_entry.proofs.RowLemmas.{all_changed, fuzzy_lies, fuzzy_stands, written}
+use Rattle.po_entry.proofs.EntryRows.{all_changed, fuzzy_lies, fuzzy_stands, written}
 use Rattle.po_entry.proofs.store.Store.set_fuzzy.Goals as goal
 
 pub invariant_of-self : goal.invariant_of-self

@@ -1,4 +1,4 @@
-use Rattle.po_entry.proofs.TextListLemmas.{no_texts, none_AreTexts}
+use Rattle.po_entry.proofs.TextLists.{no_texts, none_AreTexts}
 use Rattle.po_entry.proofs.text_list.TextList.clear.Goals as goal
 
 pub invariant_of-self : goal.invariant_of-self

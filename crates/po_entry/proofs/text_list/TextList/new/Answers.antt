@@ -1,4 +1,4 @@
-use Rattle.po_entry.proofs.TextListLemmas.{no_texts, none_AreTexts}
+use Rattle.po_entry.proofs.TextLists.{no_texts, none_AreTexts}
 use Rattle.po_entry.proofs.text_list.TextList.new.Goals as goal
 
 pub invariant_of-result : goal.invariant_of-result

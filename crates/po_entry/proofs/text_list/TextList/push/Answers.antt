@@ -1,5 +1,5 @@
 use Rattle.po_entry.proofs.Prelude.{append_assoc, arith}
-use Rattle.po_entry.proofs.TextListLemmas.{more_AreTexts, texts_more}
+use Rattle.po_entry.proofs.TextLists.{more_AreTexts, texts_more}
 use Rattle.po_entry.proofs.text_list.TextList.push.Goals as goal
 
 pub invariant_of-self-2 : goal.invariant_of-self-2

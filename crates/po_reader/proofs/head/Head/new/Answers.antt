@@ -1,5 +1,5 @@
 use Rattle.po_reader.proofs.Prelude.{refl}
-use Rattle.po_reader.proofs.Heads.{holds_nothing}
+use Rattle.po_reader.proofs.CommentFields.{holds_nothing}
 use Rattle.po_reader.proofs.head.Head.new.Goals as goal
 
 pub returns : goal.returns

@@ -1,5 +1,5 @@
 use Rattle.po_syntax.proofs.Prelude.{length, lines_of_rest}
-use Rattle.po_syntax.proofs.LinesRead.{ReadLent}
+use Rattle.po_syntax.proofs.PieceLines.{ReadLent}
 use Rattle.po_syntax.proofs.pieces.Pieces.add_piece.Given as goal
 
 abbrev pub invariant-loop-rest : goal.invariant-loop-rest

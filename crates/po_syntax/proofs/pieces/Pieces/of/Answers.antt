@@ -1,5 +1,5 @@
 use Rattle.po_syntax.proofs.Prelude.{All-nil, IsCleanLine, [], arith, refl, rules, without_byte_order_mark, ◌≡◌}
-use Rattle.po_syntax.proofs.CleanTexts.{text_of_clean_lines}
+use Rattle.po_syntax.proofs.Utf8Lines.{text_of_clean_lines}
 use Rattle.po_syntax.proofs.pieces.Pieces.of.Goals as goal
 
 pub invariant_of-result : goal.invariant_of-result

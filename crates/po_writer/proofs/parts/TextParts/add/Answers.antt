@@ -1,5 +1,5 @@
 use Rattle.po_writer.proofs.Prelude.{TextParts, [], on_ok_weaker, refl, sym, ◌∷◌}
-use Rattle.po_writer.proofs.Parted.{added_parts, live_added, obsolete_added}
+use Rattle.po_writer.proofs.WrittenLists.{added_parts, live_added, obsolete_added}
 use Rattle.po_writer.proofs.parts.TextParts.add.Goals as goal
 
 pub returns-then-obsolete-clause-added : goal.returns-then-obsolete-clause-added

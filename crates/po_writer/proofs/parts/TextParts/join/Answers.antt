@@ -1,5 +1,5 @@
 use Rattle.po_writer.proofs.Prelude.{sym}
-use Rattle.po_writer.proofs.Parted.{both_parts, live_alone}
+use Rattle.po_writer.proofs.WrittenLists.{both_parts, live_alone}
 use Rattle.po_writer.proofs.parts.TextParts.join.Goals as goal
 
 pub returns-then-is_empty-clause-written : goal.returns-then-is_empty-clause-written

@@ -1,7 +1,7 @@
 use Rattle.runs.proofs.Prelude.{Bool, List, NamedFile, Some, ap, arith, drop, false≢true, inputs_in, length, length-append, length-take, places, refl, rules, subst, sum_by, sum_by-append, sym, vec_len, ⊎_elim, ◌+◌, ◌||◌, ◌∙◌, ◌≡◌}
-use Rattle.runs.proofs.InputLemmas.{AsksBefore, AsksBefore-read, AsksBefore-unread, AsksBefore-first, AsksBefore-more, AsksBefore-none, Completes, Completes-none, Completes-read, Completes-unread, Completes-all, inputs-before, inputs-more, reads_as_before, stays_itself, stays_on}
+use Rattle.runs.proofs.Inputs.{AsksBefore, AsksBefore-first, AsksBefore-more, AsksBefore-none, AsksBefore-read, AsksBefore-unread, Completes, Completes-all, Completes-none, Completes-read, Completes-unread, inputs-before, inputs-more, reads_as_before, stays_itself, stays_on}
 use Rattle.runs.proofs.inputs.Inputs.read.Goals as goal
-use Rattle.runs.proofs.inputs.Inputs.read.Goals.{then-is_stdin_read, else-is_stdin_read}
+use Rattle.runs.proofs.inputs.Inputs.read.Goals.{else-is_stdin_read, then-is_stdin_read}
 
 pub loop-argument-init : goal.loop-argument-init
 loop-argument-init g c = record {
