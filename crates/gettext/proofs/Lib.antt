@@ -5,4 +5,4 @@ pub mod Counts
 pub mod LocaleChoice
 pub mod LocaleNames
 pub mod Languages
-pub mod Catalogues
+pub mod FoundCatalogues

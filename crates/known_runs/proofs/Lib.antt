@@ -2,7 +2,7 @@
 mod Prelude
 pub mod Envsubst
 pub mod Msgfmt
-pub mod Commands
+pub mod CommandRuns
 pub mod MsgattribAndMsgunfmt
 pub mod Msgcat
 pub mod LookUps

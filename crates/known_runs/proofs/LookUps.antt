@@ -1,6 +1,6 @@
 -- What a look-up in a catalogue comes to that is compiled from a text.
 use Rattle.known_runs.proofs.Prelude.{Answers, AsksFor, Bool, CatalogView, CommandLine, Compiled, Contents, End, EndsLookUp, Err, IsCatalogView, IsCompiledFrom, Leaves, List, NamedFile, None, Ok, Option, OutOfMemory, ProgramFault, Query, Reached, Reading, Result, RunView, RunsLookUpLine, RunsTool, Some, SystemView, Writes, [], a_form, a_message, and_parts, answered, answers_of, ap, append-nil, arith, chain_answered, codes, compiled_list, counted, end, false, false≢true, filed, fits_none, forms_found, gives, hello_mo, if◌then◌else◌, inl, inr, is_some, joined_entries, left, line_of, looks_up, ltb-true, meant, message, nat_lt, option_copied, option_map_or, plain, printed, refl, refuses, slice_index, status_or_memory, subst, suc, sym, take, true, untranslated, zero, ℕ, ◌&&◌, ◌++◌, ◌-◌, ◌<◌, ◌^◌, ◌∙◌, ◌∷◌, ◌≡◌}
-use Rattle.known_runs.proofs.Commands.{after_none}
+use Rattle.known_runs.proofs.CommandRuns.{after_none}
 use Rattle.std.proofs.lemmas.Str.{IsUtf8-from_ascii}
 use Rattle.std.specs.Borrow.{Bor}
 use Rattle.gettext.specs.Prelude.{AreCatalogues, AsksGettext, AsksNgettext, CommandView, GettextRequest, GettextUsage, GivenDomain, IsEnvironment, IsGettextRequest, IsLookUpRun, IsNgettextRequest, NgettextRequest, NgettextUsage, Opens, RunsLookUp, Searching, environment_view, gettext_output, gettext_usage, given_domain, ngettext_output, ngettext_usage, output_of, output_run, paths_of, searching, with_name}

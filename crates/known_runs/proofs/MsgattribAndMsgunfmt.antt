@@ -1,7 +1,7 @@
 -- What `msgattrib a.po -o b.po` and `msgunfmt a.mo -o a.po` come to.
 use Rattle.known_runs.proofs.Prelude.{Asking, Bool, Contents, End, EndsInFile, IsEither, IsMsgattribRun, IsSelection, IsTextOr, Leaves, List, NamedFile, Option, ProgramFault, Reading, Result, RunView, RunsInput, Some, SystemView, Writes, [], all_as_they_are, ap, bytes_at, codes, end, false, gives, is_standard, refl, subst, unwrap_or, ℕ, ◌∙◌, ◌≡◌}
 use Rattle.msgattrib.specs.declared.selection.Selection.{Selection}
-use Rattle.known_runs.proofs.Commands.{one_ends}
+use Rattle.known_runs.proofs.CommandRuns.{one_ends}
 
 neither : {name other : List ℕ} {value : Bool} → IsEither (λ name flag. flag ≡ false) name other value → value ≡ false
 neither is = is.either ∙ rw (is.first_is, is.second_is) refl

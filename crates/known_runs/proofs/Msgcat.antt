@@ -3,7 +3,7 @@ use Rattle.known_runs.proofs.Prelude.{AreInputs, AreMergeOptions, Asking, Conten
 use Rattle.msgcat.specs.Prelude.{HaveNoRun, IsRunOf}
 use Rattle.msgcat.specs.declared.input.MergeOptions.{MergeOptions}
 use Rattle.known_runs.specs.Prelude.{named}
-use Rattle.known_runs.proofs.Commands.{fails, run_ends}
+use Rattle.known_runs.proofs.CommandRuns.{fails, run_ends}
 
 -- the inputs are the two files
 module _ (a b : List ℕ) (file : List ℕ → Reading → Type 0) (standard : Reading → Type 0)

@@ -3,6 +3,6 @@ mod Prelude
 pub mod AddedMessages
 pub mod ExpandedFiles
 pub mod MessageOrder
-pub mod Segments
+pub mod SegmentTexts
 pub mod SystemMessages
 pub mod Examples

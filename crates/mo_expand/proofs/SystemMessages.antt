@@ -1,6 +1,6 @@
 -- System-dependent messages, which are added to a list in turn.
 use Rattle.mo_expand.proofs.Prelude.{All-head, All-tail, Bool, FirstTextCounts, IsSystemNumber, List, Message, MessageIsItsStrings, None, Option, Order, PlatformText, Some, [], and_from, and_parts, ap, ap₂, arith, bytes_eq, bytes_eq-Decides, cond-false, cond-true, false, false_from_ne_true, if◌then◌else◌, le-leb, leb-true, length, lt-ltb, ltb-true, map, message_from, nat_le, nat_lt, none-some, range_with_len, refl, revision, same_Some, slice_range, strings_len, suc, sum_by, sum_by-cons, sym, system_count, take, take-take, text_at, true, with_message, with_messages, word_at, zero, ℕ, ◌%◌, ◌&&◌, ◌*◌, ◌+◌, ◌-◌, ◌<◌, ◌∙◌, ◌∷◌, ◌≡◌, ◌≢◌, ◌≤◌}
-use Rattle.mo_expand.proofs.Segments.{if-some, length-slice_range, slice_range-before}
+use Rattle.mo_expand.proofs.SegmentTexts.{if-some, length-slice_range, slice_range-before}
 
 pub first_text_counts : FirstTextCounts
 first_text_counts [] after it apart = cond-true _ _ _ ((bytes_eq-Decides it.name.now it.name.now).1 refl)

@@ -4,5 +4,5 @@ pub mod Cuts
 pub mod KeyComparison
 pub mod Faults
 pub mod RisingKeys
-pub mod Layout
+pub mod FileLayout
 pub mod RoundTrip

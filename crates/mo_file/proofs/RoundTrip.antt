@@ -1,7 +1,7 @@
 -- What is laid out is a valid file, of whatever revision it is.
 use Rattle.mo_file.proofs.Prelude.{AreRising, AreRisingBelow, FileHeader, HasMagicOf, HasStrings, IsHeader, IsKnownMajor, IsMoFile, KnownRevisionsAreValid, LayoutIsMoFile, List, Message, NoHashTableIsLaidOut, Order, Some, [], ap, append-nil, append_assoc, arith, drop, drop_at, hash_size, inl, inr, keys, layout, layout_of_revision, length, length-append, length-map, magic, message_at, message_count, messages_of, option_map, originals, originals_offset, originals_table, refl, revision, slice_get, slice_get-map, slice_get_cases, slice_get_past, subst, suc, sym, table, take, take_at, terminated, translations, translations_offset, translations_table, word_bytes, ℕ, ◌*◌, ◌++◌, ◌+◌, ◌/◌, ◌<◌, ◌^◌, ◌∙◌, ◌∷◌, ◌≡◌, ◌≤◌}
 use Rattle.mo_file.specs.Laws.{first, zeroth}
-use Rattle.mo_file.proofs.Layout.{IsString, IsString-laid_out, StandsAt, length-layout, length-magic, length-table, length-word_bytes, word_at-StandsAt}
+use Rattle.mo_file.proofs.FileLayout.{IsString, IsString-laid_out, StandsAt, length-layout, length-magic, length-table, length-word_bytes, word_at-StandsAt}
 use Rattle.mo_file.proofs.Faults.{faultless}
 use Rattle.mo_file.proofs.RisingKeys.{keys-at, length-keys-messages_of, length-messages_of, messages_of-at}
 

@@ -1,6 +1,6 @@
 -- The lemmas in reading order: each module stands on those above it.
 mod Prelude
 pub mod BinarySearch
-pub mod Forms
+pub mod FormPlaces
 pub mod Translations
 pub mod Chains

@@ -3,7 +3,7 @@ use Rattle.msgcat.proofs.Prelude.{All, All-cons, All-filter, All-head, All-map, 
 use Rattle.po_entry.specs.Prelude.{first_ones as firsts_of, same_message as one_message}
 use Rattle.msgcat.proofs.SeenTexts.{Apart, apart_first_ones, first_ones-map, group_of, none_all, place-map, same_message_laws}
 use Rattle.msgcat.proofs.MergedGroups.{groups_valid}
-use Rattle.msgcat.proofs.Inputs.{all_at}
+use Rattle.msgcat.proofs.InputEntries.{all_at}
 
 same_next : (p j : ℕ) → (1 + p == suc j) ≡ (p == j)
 same_next p j = elim (eqb_tells p j) [

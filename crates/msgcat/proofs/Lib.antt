@@ -5,7 +5,7 @@ pub mod ValidMerged
 pub mod JoinedForms
 pub mod MergedGroups
 pub mod MessagesOnce
-pub mod Inputs
+pub mod InputEntries
 pub mod GroupsByIndex
 pub mod MessageLinks
 pub mod LinesOfDefinitions

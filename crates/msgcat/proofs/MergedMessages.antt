@@ -1,6 +1,6 @@
 -- What one message of valid inputs is merged to.
 use Rattle.msgcat.proofs.Prelude.{All, All-append, All-filter, All-head, All-map, All-nil, All-tail, All-weaker, Bool, CanBeMerged, Contains, FormsAreOfOne, IsDefinition, IsEntry, IsGroup, IsInput, List, MergeOptions, MergedAreEntries, MergedCanStand, Named, NamedEntry, OneDefinitionStays, TextEntry, [], all_entries, ap, arith, definitions, filter, first_translated, get_or, get_or-map, groups, has_translation, if◌then◌else◌, is_kept, is_live, joined_forms, length, length-map, list_any, map, merged_entry, merged_messages, messages, named, not, subst, sym, translations, true, ℕ, ◌<◌, ◌∙◌, ◌∷◌, ◌≡◌}
-use Rattle.msgcat.proofs.Inputs.{definitions_more}
+use Rattle.msgcat.proofs.InputEntries.{definitions_more}
 use Rattle.msgcat.proofs.ValidMerged.{first_with_keeps, merged_is_entry}
 use Rattle.msgcat.proofs.MergedGroups.{definitions_valid, groups_valid, kept_one}
 use Rattle.msgcat.proofs.OneDefinition.{one_definition}

@@ -3,6 +3,6 @@ mod Prelude
 pub mod SpeltTrees
 pub mod Tokens
 pub mod Programs
-pub mod Parser
+pub mod ParserSteps
 pub mod HeaderRules
 pub mod Evaluation

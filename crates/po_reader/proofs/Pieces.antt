@@ -1,7 +1,7 @@
 -- A text that is read in pieces: a piece that reads, and the entries or the fault of what is left after it.
 use Rattle.po_reader.proofs.Prelude.{AddsReading, All, All-append, All-head, All-nil, All-tail, BeginsAnew, Bool, CanEnd, CanFollow, CommentText, EndsEntry, EndsInString, Fault, FaultsStay, HasAdmittedCharset, HasTexts, IsApart, IsCleanLine, IsLeftFault, IsNew, IsPiece, IsReadFault, IsReadSoFar, IsShorter, ItemsFault, ItemsStop, KeepsItems, LeftAnew, LeftStops, LineBeginsAnew, LinesLeft, List, MsgStrAt, OpenPieces, PiecesRead, PoFault, ReadsItems, ReadsLeft, ReadsOn, ReadsText, SpellsEntries, SpellsLeft, SpellsLines, SpellsOn, SpellsText, Stage, StopsStay, Str, TextEntry, TextFault, TextItem, Word, [], ap, append-nil, append_assoc, arith, comes_to, drop, drop_all, entries_joined, fold, fold-append, in_head, inl, inr, last_line, length, length-drop, line_once, outcome, reached, refl, settled, start, subst, suc, sym, take, turn, zero, ℕ, ◌++◌, ◌+◌, ◌<◌, ◌∙◌, ◌∷◌, ◌≡◌, ◌≢◌, ◌≤◌, ◌⊎◌}
 use Rattle.po_syntax.proofs.Lines.{some_length}
-use Rattle.po_syntax.proofs.Pieces.{piece_all, piece_anew, piece_shorter, piece_spelt, piece_stops}
+use Rattle.po_syntax.proofs.PieceTexts.{piece_all, piece_anew, piece_shorter, piece_spelt, piece_stops}
 use Rattle.po_reader.proofs.FirstFaults.{fault_comes, fault_unread, items_fault, spelt_once}
 use Rattle.po_reader.proofs.FromSpelling.{spelt_go_on}
 use Rattle.po_reader.proofs.ReaderSteps.{settles}

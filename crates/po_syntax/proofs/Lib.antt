@@ -13,4 +13,4 @@ pub mod Utf8Lines
 pub mod OneOutcome
 pub mod ItemTexts
 pub mod PieceLines
-pub mod Pieces
+pub mod PieceTexts

@@ -217,7 +217,7 @@ impl<'a> Pieces<'a> {
     }
 
     /// Whether no line is left.
-    #[tactic(auto, using(crate::proofs::Pieces::some_left))]
+    #[tactic(auto, using(crate::proofs::PieceTexts::some_left))]
     pub fn are_over(&self) -> bool
         ensures over { result ≡ true → self.now.lines ≡ [] }
         ensures some { result ≡ false → self.now.lines ≢ [] }

@@ -1,3 +1,3 @@
 -- The lemmas in reading order: each module stands on those above it.
 mod Prelude
-pub mod SystemCalls
+pub mod CallOutcomes

@@ -1,8 +1,8 @@
 -- The lemmas in reading order: each module stands on those above it.
 mod Prelude
 mod Paths
-mod Rights
+mod KeptRights
 pub mod OutputsInPlace
 mod NewFileOutputs
 pub mod Devices
-pub mod Inputs
+pub mod AskedInputs

@@ -2,7 +2,7 @@
 use Rattle.runs.proofs.Prelude.{Among, CannotCreate, Course, Destination, Each, Exists, Failed, FileCall, Files, Fills, Finishes, FitsKind, Forbidden, GivesAll, GivesNoMore, GivesNobodyMore, GivesNothingAway, HasRights, IsAllowed, IsBeside, IsNoLink, IsReplaceable, IsWholeOrAsItWas, IsWholeOrAsItWasThroughout, IsWhose, IsWrittenInPlace, KeepsMode, Leads, List, None, Option, OutOfMemory, OutputFault, Owner, PathState, Puts, Regular, Replaces, Rights, Some, Special, Unknown, WriteFault, WritesFile, WritesInPlace, WritesStream, [], after, all_taken, along, ap, asks, beside, closes, cut, failed, fails, fails_to_make, fails_to_read_link, false, fault_of, file, file_at, first_mode, follows, forbidden, in_place, inl, inr, kept_mode, lacking, late, link, made, makes, no_memory, nothing, numbers, opened, put, reads_link, refl, removes, renames, replaced, replaces, replaces_none, rules, sets_mode, sets_owner, special, stops, stream, stream_of, subst, sym, taken, to_stream, too_long, true, unknown, unmoved, unnamed, unopened, unput, unwritten, whole, with_bytes, with_mode, with_owner, with_rights, without_rights, ℕ, ◌∙◌, ◌≡◌, ◌≢◌, ◌⊎◌, ◌▸◌}
 use Rattle.runs.specs.OutputFiles.{done}
 use Rattle.runs.proofs.OutputsInPlace.{Ends, as_it_was, idle, next, no_fault, nothing_given, put_elsewhere, put_there, same_or_other, same_path, stop, stopped, taken_all, writes_in_place, writes_stream}
-use Rattle.runs.proofs.Rights.{nobody_gets_more, private_gives_nobody_more}
+use Rattle.runs.proofs.KeptRights.{nobody_gets_more, private_gives_nobody_more}
 use Rattle.runs.specs.OutputWriting.{put as all_put, taken as stream_taken, unread}
 use Rattle.runs.specs.Laws.{forbidden as is_forbidden, special as is_special, to_file}
 use Rattle.runs.proofs.Paths.{beside_is_another}

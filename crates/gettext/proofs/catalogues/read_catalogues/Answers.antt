@@ -1,6 +1,6 @@
 use Rattle.gettext.proofs.Prelude.{IsCatalogueAt, None, Some, [], ap, catalogue_file, catalogue_files, get_or, inl, inr, map-append, refl, subst, ◌∙◌, ◌∷◌, ◌≡◌}
-use Rattle.gettext.proofs.Catalogues.{asked-all, asked-more, asked-none, catalogue_as_before, completes-all, completes-found, completes-none, completes-skipped}
-use Rattle.runs.proofs.Inputs.{stays_itself, stays_on}
+use Rattle.gettext.proofs.FoundCatalogues.{asked-all, asked-more, asked-none, catalogue_as_before, completes-all, completes-found, completes-none, completes-skipped}
+use Rattle.runs.proofs.AskedInputs.{stays_itself, stays_on}
 use Rattle.std.specs.Str.{IsUtf8}
 use Rattle.std.proofs.Common.{false, rules, true, ◌≢◌}
 use Rattle.runs.specs.declared.inputs.InputFault.TheVariants.{OutOfMemory}

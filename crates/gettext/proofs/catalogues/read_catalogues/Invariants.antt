@@ -1,5 +1,5 @@
 use Rattle.gettext.proofs.Prelude.{Stays, catalogue_files}
-use Rattle.gettext.proofs.Catalogues.{AskedPaths, CompletesPaths}
+use Rattle.gettext.proofs.FoundCatalogues.{AskedPaths, CompletesPaths}
 use Rattle.gettext.proofs.catalogues.read_catalogues.Given as goal
 
 abbrev pub invariant-loop-path : goal.invariant-loop-path

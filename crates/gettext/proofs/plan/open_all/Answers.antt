@@ -1,5 +1,5 @@
 use Rattle.gettext.proofs.Prelude.{append_assoc}
-use Rattle.gettext.proofs.Catalogues.{Completes-all, Completes-opened, Completes-refused, catalogs-few}
+use Rattle.gettext.proofs.FoundCatalogues.{Completes-all, Completes-opened, Completes-refused, catalogs-few}
 use Rattle.gettext.proofs.plan.open_all.Goals as goal
 
 pub loop-name-preserved-in_default : goal.loop-name-preserved-in_default

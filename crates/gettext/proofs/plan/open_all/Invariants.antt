@@ -1,4 +1,4 @@
-use Rattle.gettext.proofs.Catalogues.{Completes}
+use Rattle.gettext.proofs.FoundCatalogues.{Completes}
 use Rattle.gettext.proofs.plan.open_all.Given as goal
 
 abbrev pub invariant-loop-name : goal.invariant-loop-name

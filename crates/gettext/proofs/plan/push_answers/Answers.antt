@@ -1,5 +1,5 @@
 use Rattle.gettext.proofs.Prelude.{argument_answer, gettext_view, omits_newline}
-use Rattle.gettext.proofs.Catalogues.{answers-reported, omitted-reported}
+use Rattle.gettext.proofs.FoundCatalogues.{answers-reported, omitted-reported}
 use Rattle.gettext.proofs.plan.push_answers.Goals as goal
 
 pub returns-clause-answers : goal.returns-clause-answers

@@ -1,5 +1,5 @@
 use Rattle.gettext.proofs.Prelude.{argument_answer, drop, gettext_view, list_any, map, omits_newline, ◌++◌, ◌||◌, ◌≡◌}
-use Rattle.gettext.proofs.Catalogues.{further}
+use Rattle.gettext.proofs.FoundCatalogues.{further}
 use Rattle.gettext.proofs.plan.push_answers.Given as goal
 
 -- the answers to the arguments that are left complete the answers so far, and those arguments may stop the line too

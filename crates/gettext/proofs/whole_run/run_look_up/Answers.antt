@@ -1,7 +1,7 @@
 use Rattle.gettext.proofs.Prelude.{refl}
 use Rattle.std.proofs.lemmas.Result.{err_from_is_err_and}
 use Rattle.gettext.specs.WholeRun.{no_memory, runs}
-use Rattle.gettext.proofs.Catalogues.{of_found}
+use Rattle.gettext.proofs.FoundCatalogues.{of_found}
 use Rattle.gettext.proofs.whole_run.run_look_up.Goals as goal
 
 pub returns-in_err-found : goal.returns-in_err-found

@@ -1,5 +1,5 @@
 use Rattle.known_runs.proofs.Prelude.{EndsInFile, IsMsgcatRun, all_messages, codes, failed, inl, refl, two_files}
-use Rattle.known_runs.proofs.Commands.{ends_over, is_read}
+use Rattle.known_runs.proofs.CommandRuns.{ends_over, is_read}
 use Rattle.known_runs.proofs.Msgcat.{line_ends}
 use Rattle.known_runs.proofs.commands.msgcat_in_memory.Goals as goal
 

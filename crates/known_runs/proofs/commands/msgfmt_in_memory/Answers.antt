@@ -1,6 +1,6 @@
 use Rattle.known_runs.proofs.Prelude.{EndsMsgfmt, [], codes, inl, refl}
 use Rattle.known_runs.specs.Msgfmt.{failed}
-use Rattle.known_runs.proofs.Commands.{ends_over, is_read, leads_there}
+use Rattle.known_runs.proofs.CommandRuns.{ends_over, is_read, leads_there}
 use Rattle.known_runs.proofs.Msgfmt.{line_ends}
 use Rattle.known_runs.proofs.commands.msgfmt_in_memory.Goals as goal
 

@@ -1,5 +1,5 @@
 use Rattle.known_runs.proofs.Prelude.{EndsThroughLinks, codes, links_by_path, refl}
-use Rattle.known_runs.proofs.Commands.{ends_over, is_read}
+use Rattle.known_runs.proofs.CommandRuns.{ends_over, is_read}
 use Rattle.known_runs.proofs.Msgfmt.{through_links, unstarted_so}
 use Rattle.known_runs.proofs.commands.msgfmt_through_links_in_memory.Goals as goal
 

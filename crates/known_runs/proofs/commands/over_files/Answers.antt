@@ -1,5 +1,5 @@
 use Rattle.known_runs.proofs.Prelude.{[], ap, contents, links_by_path, option_map, string_bytes, texts_by_name, unstarted}
-use Rattle.known_runs.proofs.Commands.{arrives, holds_after, holds_before, holds_now}
+use Rattle.known_runs.proofs.CommandRuns.{arrives, holds_after, holds_before, holds_now}
 use Rattle.known_runs.proofs.commands.over_files.Goals as goal
 
 pub returns-in-Err : goal.returns-in-Err

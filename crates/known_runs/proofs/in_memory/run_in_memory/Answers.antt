@@ -1,5 +1,5 @@
 use Rattle.known_runs.proofs.Prelude.{refl}
-use Rattle.known_runs.proofs.Commands.{ran}
+use Rattle.known_runs.proofs.CommandRuns.{ran}
 use Rattle.known_runs.proofs.in_memory.run_in_memory.Goals as goal
 
 pub returns : goal.returns

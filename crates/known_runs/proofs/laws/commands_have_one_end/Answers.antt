@@ -1,4 +1,4 @@
-use Rattle.known_runs.proofs.Commands.{by_substitution, in_file, of_look_up, of_msgfmt}
+use Rattle.known_runs.proofs.CommandRuns.{by_substitution, in_file, of_look_up, of_msgfmt}
 use Rattle.known_runs.proofs.laws.commands_have_one_end.Goals as goal
 
 pub returns : goal.returns

@@ -1,6 +1,6 @@
 use Rattle.known_runs.proofs.Prelude.{EndsLookUp, None, [], codes, contents, end, operands_of, refl, subst, sym, text_of}
 use Rattle.known_runs.specs.declared.words.Words.{Words}
-use Rattle.known_runs.proofs.Commands.{holds_after, holds_before, holds_now}
+use Rattle.known_runs.proofs.CommandRuns.{holds_after, holds_before, holds_now}
 use Rattle.known_runs.proofs.LookUps.{hello_ends}
 use Rattle.known_runs.proofs.look_ups.in_hello.Goals as goal
 

@@ -1,5 +1,5 @@
 use Rattle.mo_expand.proofs.Prelude.{message_from, rules, sym, system_message, text_at, ◌∙◌, ◌≡◌}
-use Rattle.mo_expand.proofs.Segments.{full-there}
+use Rattle.mo_expand.proofs.SegmentTexts.{full-there}
 use Rattle.mo_expand.proofs.expanding.expand_in.Goals as goal
 
 pub returns-else-not-has_text-2-clause-message : goal.returns-else-not-has_text-2-clause-message

@@ -1,5 +1,5 @@
 use Rattle.mo_expand.proofs.Prelude.{ap, arith, is_some, joined, suc, sym, ◌+◌, ◌-◌, ◌∙◌, ◌≡◌}
-use Rattle.mo_expand.proofs.Segments.{is_some-before, joined-none, joined-step}
+use Rattle.mo_expand.proofs.SegmentTexts.{is_some-before, joined-none, joined-step}
 use Rattle.mo_expand.proofs.joining.has_text.Goals as goal
 
 pub returns-in-None : goal.returns-in-None

@@ -1,4 +1,4 @@
-use Rattle.mo_expand.proofs.Segments.{put_both}
+use Rattle.mo_expand.proofs.SegmentTexts.{put_both}
 use Rattle.mo_expand.proofs.joining.put_both.Goals as goal
 
 pub returns-clause-end : goal.returns-clause-end

@@ -1,5 +1,5 @@
 use Rattle.mo_expand.proofs.Prelude.{IsJoining, None, Some, arith, joined, subst, suc, sym, text_at, ◌+◌, ◌-◌, ◌≡◌}
-use Rattle.mo_expand.proofs.Segments.{joining-goes_on, joining-has_ended, joining-is_full_before, joining-last, joining-step}
+use Rattle.mo_expand.proofs.SegmentTexts.{joining-goes_on, joining-has_ended, joining-is_full_before, joining-last, joining-step}
 use Rattle.mo_expand.proofs.joining.put_text.Goals as goal
 
 pub returns-in-None-clause-text : goal.returns-in-None-clause-text

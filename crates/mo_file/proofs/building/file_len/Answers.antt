@@ -1,5 +1,5 @@
 use Rattle.mo_file.proofs.Prelude.{arith, refl, take_all}
-use Rattle.mo_file.proofs.Layout.{length-layout-pairs}
+use Rattle.mo_file.proofs.FileLayout.{length-layout-pairs}
 use Rattle.mo_file.proofs.building.file_len.Goals as goal
 
 pub returns-then-len-from-clause-fault : goal.returns-then-len-from-clause-fault

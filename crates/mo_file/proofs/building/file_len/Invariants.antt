@@ -1,5 +1,5 @@
 use Rattle.mo_file.proofs.Prelude.{min, sum_by, take, ◌+◌, ◌-◌, ◌^◌, ◌≡◌}
-use Rattle.mo_file.proofs.Layout.{pair_len}
+use Rattle.mo_file.proofs.FileLayout.{pair_len}
 use Rattle.mo_file.proofs.building.file_len.Given as goal
 
 abbrev pub invariant-loop-pair : goal.invariant-loop-pair

@@ -1,5 +1,5 @@
 use Rattle.mo_file.proofs.Prelude.{arith}
-use Rattle.mo_file.proofs.Layout.{laid-out, length-layout-strings}
+use Rattle.mo_file.proofs.FileLayout.{laid-out, length-layout-strings}
 use Rattle.mo_file.proofs.writing.lay_out_in.Goals as goal
 
 pub overflow_cast-count : goal.overflow_cast-count

@@ -1,5 +1,5 @@
 use Rattle.mo_file.proofs.Prelude.{refl, ◌∙◌}
-use Rattle.mo_file.proofs.Layout.{word_bytes-magic}
+use Rattle.mo_file.proofs.FileLayout.{word_bytes-magic}
 use Rattle.mo_file.proofs.writing.put_header.Goals as goal
 
 pub returns-clause-text : goal.returns-clause-text

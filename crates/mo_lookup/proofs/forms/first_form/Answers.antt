@@ -1,4 +1,4 @@
-use Rattle.mo_lookup.proofs.Forms.{first-at, first-last}
+use Rattle.mo_lookup.proofs.FormPlaces.{first-at, first-last}
 use Rattle.mo_lookup.proofs.forms.first_form.Goals as goal
 
 pub returns-in-Some : goal.returns-in-Some

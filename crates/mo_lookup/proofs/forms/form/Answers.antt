@@ -1,5 +1,5 @@
 use Rattle.mo_lookup.proofs.Prelude.{[], ap, arith, drop, form_at, forms, slice_get, slice_get_past, suc, sym, ◌+◌, ◌-◌, ◌∙◌, ◌∷◌, ◌≡◌}
-use Rattle.mo_lookup.proofs.Forms.{form-zero, second-at, second-none}
+use Rattle.mo_lookup.proofs.FormPlaces.{form-zero, second-at, second-none}
 use Rattle.mo_lookup.proofs.forms.form.Goals as goal
 
 pub returns-in_err-start : goal.returns-in_err-start

@@ -1,5 +1,5 @@
 use Rattle.mo_lookup.proofs.Prelude.{[]}
-use Rattle.mo_lookup.proofs.Forms.{get_or-none}
+use Rattle.mo_lookup.proofs.FormPlaces.{get_or-none}
 use Rattle.mo_lookup.proofs.laws.forms_stand_at_their_index.Goals as goal
 
 pub returns-clause-not_there : goal.returns-clause-not_there

@@ -1,6 +1,6 @@
 use Rattle.mo_lookup.proofs.Prelude.{arith, refl, rules, sym, ℕ, ◌+◌, ◌-◌, ◌≡◌}
 use Rattle.plural_rule.specs.declared.rule.Source.TheVariants.{Header}
-use Rattle.mo_lookup.proofs.Forms.{form-placed}
+use Rattle.mo_lookup.proofs.FormPlaces.{form-placed}
 use Rattle.mo_lookup.proofs.lookup.locate.Goals as goal
 use Rattle.mo_lookup.proofs.lookup.locate.Goals.{else-can_be_key, then-can_be_key}
 

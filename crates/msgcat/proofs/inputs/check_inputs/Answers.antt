@@ -1,5 +1,5 @@
 use Rattle.msgcat.proofs.Prelude.{AllDiffer, AreNumbered, MatchOption, RepeatsOnLines, ap, arith, filter, get_or, get_or_default, inr, is_live, length, length-drop, length-take, no_input, refl, subst, sym, with_part, ◌+◌, ◌∙◌}
-use Rattle.msgcat.proofs.Inputs.{AreLeft, all_left, left_after, none_left, own, own_count, own_numbered, own_places, repeating}
+use Rattle.msgcat.proofs.InputEntries.{AreLeft, all_left, left_after, none_left, own, own_count, own_numbered, own_places, repeating}
 use Rattle.msgcat.proofs.inputs.check_inputs.Goals as goal
 
 pub loop-input-init : goal.loop-input-init

@@ -1,5 +1,5 @@
 use Rattle.msgcat.proofs.Prelude.{AreNumberedInputs, AreUpTo, List, Named, TextEntry, length, ◌-◌, ◌≤◌}
-use Rattle.msgcat.proofs.Inputs.{AreLeft}
+use Rattle.msgcat.proofs.InputEntries.{AreLeft}
 use Rattle.msgcat.proofs.inputs.check_inputs.Given as goal
 
 -- the inputs so far have no duplicate, and the places and numbers of the others are left

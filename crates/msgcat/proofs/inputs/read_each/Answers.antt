@@ -1,6 +1,6 @@
 use Rattle.msgcat.proofs.Prelude.{Named, NamedEntry, NamedFile, ReadsText, [], all_entries, ap, arith, drop, drop-cons, get_or, length, length-append, length-map, named_file, named_files, refl, rules, subst, suc, sym, take, take-append-drop, ◌++◌, ◌-◌, ◌<◌, ◌∙◌, ◌∷◌, ◌≡◌, ◌≢◌}
 use Rattle.po_syntax.specs.declared.fault.PoFault.TheVariants.{OutOfMemory}
-use Rattle.msgcat.proofs.Inputs.{entries_more, inputs_more, text_more}
+use Rattle.msgcat.proofs.InputEntries.{entries_more, inputs_more, text_more}
 use Rattle.msgcat.proofs.Runs.{file_at, name_lacks, no_file}
 use Rattle.msgcat.proofs.inputs.read_each.Goals as goal
 

@@ -1,6 +1,6 @@
 use Rattle.msgcat.proofs.Prelude.{AllZip, AreNumberedInputs, AreReadUpTo, EntryPlace, FileFault, IsFaultOfFirst, IsFileFault, IsFirstRepeating, IsReadInput, List, MatchOption, NamedFile, ReadInput, ReadInputs, [], all_entries, ap, are_placed, entry_messages, err_from_is_err_and, group_numbers, inl, inr, is_live, named_files, out_of_memory, subst, sym, unnamed, ℕ, ◌∙◌, ◌≡◌, ◌⊎◌}
 use Rattle.po_entry.specs.Prelude.{same_message}
-use Rattle.msgcat.proofs.Inputs.{all_read, no_part, repeating_fault, text_fault}
+use Rattle.msgcat.proofs.InputEntries.{all_read, no_part, repeating_fault, text_fault}
 use Rattle.msgcat.proofs.inputs.read_inputs.Goals as goal
 
 either : (files : List NamedFile) (read : ReadInputs) (up_to : AreReadUpTo files read) (fault : FileFault)

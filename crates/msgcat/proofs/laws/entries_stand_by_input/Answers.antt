@@ -1,4 +1,4 @@
-use Rattle.msgcat.proofs.Inputs.{stand_in_turn}
+use Rattle.msgcat.proofs.InputEntries.{stand_in_turn}
 use Rattle.msgcat.proofs.laws.entries_stand_by_input.Goals as goal
 
 pub returns : goal.returns

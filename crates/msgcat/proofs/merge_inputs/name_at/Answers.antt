@@ -1,5 +1,5 @@
 use Rattle.msgcat.proofs.Prelude.{all_entries, arith, length, subst, take, ◌+◌, ◌<◌, ◌≡◌}
-use Rattle.msgcat.proofs.Inputs.{begins_first, name_found}
+use Rattle.msgcat.proofs.InputEntries.{begins_first, name_found}
 use Rattle.msgcat.proofs.merge_inputs.name_at.Goals as goal
 
 pub loop-end-init : goal.loop-end-init

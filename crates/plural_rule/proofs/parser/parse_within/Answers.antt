@@ -1,5 +1,5 @@
 use Rattle.plural_rule.proofs.Prelude.{List, [], ap, arith, entries_in, held, length, length-drop, most_added, nil_from_length, rules, take_rest, weight, ℕ, ◌+◌, ◌<◌, ◌≡◌, ◌≢◌, ◌≤◌}
-use Rattle.plural_rule.proofs.Parser.{Reached, most-added, no-index, no-token, reached-end, reached-start, reached-token}
+use Rattle.plural_rule.proofs.ParserSteps.{Reached, most-added, no-index, no-token, reached-end, reached-start, reached-token}
 use Rattle.plural_rule.proofs.parser.parse_within.Goals as goal
 
 nonempty : (text : List ℕ) → 0 < length text → text ≢ []

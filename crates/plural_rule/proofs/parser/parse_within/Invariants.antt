@@ -1,5 +1,5 @@
 use Rattle.plural_rule.proofs.Prelude.{entries_in, held, length, weight, ◌+◌, ◌≤◌}
-use Rattle.plural_rule.proofs.Parser.{Reached}
+use Rattle.plural_rule.proofs.ParserSteps.{Reached}
 use Rattle.plural_rule.proofs.parser.parse_within.Given as goal
 
 abbrev pub invariant-loop-rest : goal.invariant-loop-rest

@@ -1,5 +1,5 @@
 use Rattle.plural_rule.proofs.Prelude.{[], ap, arith, held, reduce, sym, weight, ◌∙◌}
-use Rattle.plural_rule.proofs.Parser.{goes, short}
+use Rattle.plural_rule.proofs.ParserSteps.{goes, short}
 use Rattle.plural_rule.proofs.parser.reduce.Goals as goal
 
 pub loop-top-preserved : goal.loop-top-preserved

@@ -1,5 +1,5 @@
 use Rattle.plural_rule.proofs.Prelude.{Grows, IsOperand, List, Tree, Waiting, held, reduce}
-use Rattle.plural_rule.proofs.Parser.{Reduces}
+use Rattle.plural_rule.proofs.ParserSteps.{Reduces}
 use Rattle.plural_rule.proofs.parser.reduce.Given as goal
 
 abbrev pub invariant-loop-top : goal.invariant-loop-top

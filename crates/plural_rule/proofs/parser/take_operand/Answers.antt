@@ -1,6 +1,6 @@
 use Rattle.plural_rule.proofs.Prelude.{Count, Number, ap, arith, held, length, length-take-le, lt-ltb, nat_lt, refl, sym, true, weight, ◌^◌, ◌∙◌, ◌∷◌, ◌≡◌, ◌≤◌}
 use Rattle.plural_rule.specs.declared.pending.Pending.TheVariants.{Not, Open}
-use Rattle.plural_rule.proofs.Parser.{first-operand}
+use Rattle.plural_rule.proofs.ParserSteps.{first-operand}
 use Rattle.plural_rule.proofs.parser.take_operand.Goals as goal
 
 pub returns-in-Count-clause-step : goal.returns-in-Count-clause-step

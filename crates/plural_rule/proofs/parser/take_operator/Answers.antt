@@ -1,7 +1,7 @@
 use Rattle.plural_rule.proofs.Prelude.{Operator, Parser, WaitBinary, WaitQuestion, [], ap, arith, branch_then, cases_Bool, choose_instruction, entries_in, held, inl, inr, is_lazy, jump_instruction, length, most_added, refl, weight, ◌%◌, ◌++◌, ◌+◌, ◌∙◌, ◌∷◌, ◌≡◌}
 use Rattle.plural_rule.specs.declared.token.Token.TheVariants.{Binary}
 use Rattle.plural_rule.specs.declared.pending.Pending.TheVariants.{Colon}
-use Rattle.plural_rule.proofs.Parser.{answers-close, answers-colon, short, waits}
+use Rattle.plural_rule.proofs.ParserSteps.{answers-close, answers-colon, short, waits}
 use Rattle.plural_rule.proofs.parser.take_operator.Goals as goal
 
 pub returns-in-Binary-clause-step : goal.returns-in-Binary-clause-step

@@ -1,5 +1,5 @@
 use Rattle.plural_rule.proofs.Prelude.{arith, counted, refl}
-use Rattle.plural_rule.proofs.Parser.{edited-within}
+use Rattle.plural_rule.proofs.ParserSteps.{edited-within}
 use Rattle.plural_rule.proofs.parser_state.begin.Goals as goal
 
 pub returns-then-index-len : goal.returns-then-index-len

@@ -1,5 +1,5 @@
 use Rattle.plural_rule.proofs.Prelude.{ap₂, arith, length, length-take-le, refl, skipping, take, with_skip, ◌+◌, ◌-◌, ◌∙◌, ◌≡◌}
-use Rattle.plural_rule.proofs.Parser.{edited-within}
+use Rattle.plural_rule.proofs.ParserSteps.{edited-within}
 use Rattle.plural_rule.proofs.parser_state.skip_operand.Goals as goal
 
 pub returns-then-index-len : goal.returns-then-index-len

@@ -1,4 +1,4 @@
-use Rattle.po_syntax.proofs.Pieces.{piece_all, piece_anew, piece_ends, piece_shorter, piece_spelt, piece_stops}
+use Rattle.po_syntax.proofs.PieceTexts.{piece_all, piece_anew, piece_ends, piece_shorter, piece_spelt, piece_stops}
 use Rattle.po_syntax.proofs.laws.pieces_are_cut_off.Goals as goal
 
 pub returns : goal.returns

@@ -1,5 +1,5 @@
 use Rattle.po_syntax.proofs.Prelude.{arith, length, ◌-◌, ◌<◌}
-use Rattle.po_syntax.proofs.Pieces.{comment_at}
+use Rattle.po_syntax.proofs.PieceTexts.{comment_at}
 use Rattle.po_syntax.proofs.pieces.ends_in_comment.Goals as goal
 
 pub returns-in-Some : goal.returns-in-Some

@@ -2,7 +2,7 @@ use Rattle.po_syntax.proofs.Prelude.{IfErr-weaker, IfOk-weaker, [], arith, lengt
 use Rattle.std.proofs.Common.{IfOk}
 use Rattle.po_syntax.proofs.Lines.{items-few}
 use Rattle.po_syntax.proofs.Faults.{IsFaultOf-weaker, is_text_fault, ok_both, passed_on}
-use Rattle.po_syntax.proofs.Pieces.{piece_all}
+use Rattle.po_syntax.proofs.PieceTexts.{piece_all}
 use Rattle.po_syntax.proofs.pieces.items.Goals as goal
 
 pub returns-in_err-pieces-clause-fault : goal.returns-in_err-pieces-clause-fault

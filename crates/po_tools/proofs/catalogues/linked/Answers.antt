@@ -1,5 +1,5 @@
 use Rattle.po_tools.proofs.Prelude.{AreStored, HoldInputs, IfOk-weaker, Lacks, List, NamedEntry, TextEntry, [], all_entries, ap, ap₂, arith, input_view, inputs_view, length, length-map, map-append, refl, subst, sym, take, take_all, take_more, ◌++◌, ◌+◌, ◌∙◌, ◌∷◌, ◌≡◌}
-use Rattle.msgcat.proofs.Inputs.{entries_more, inputs_more}
+use Rattle.msgcat.proofs.InputEntries.{entries_more, inputs_more}
 use Rattle.po_tools.specs.declared.catalogues.Named.{Named as NamedCatalogue}
 use Rattle.po_tools.proofs.catalogues.linked.Goals as goal
 

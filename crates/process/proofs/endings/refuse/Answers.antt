@@ -1,5 +1,5 @@
 use Rattle.process.proofs.Prelude.{writer}
-use Rattle.process.proofs.SystemCalls.{put}
+use Rattle.process.proofs.CallOutcomes.{put}
 use Rattle.process.proofs.endings.refuse.Goals as goal
 
 pub returns-clause-text : goal.returns-clause-text

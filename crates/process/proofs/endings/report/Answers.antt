@@ -2,7 +2,7 @@ use Rattle.process.proofs.Prelude.{Some, ap, refl, writer, ◌≡◌}
 use Rattle.std.proofs.Common.{option_map}
 use Rattle.std.specs.Option.{option_copied}
 use Rattle.runs.specs.Prelude.{tool_name}
-use Rattle.process.proofs.SystemCalls.{told}
+use Rattle.process.proofs.CallOutcomes.{told}
 use Rattle.process.proofs.endings.report.Goals as goal
 use Rattle.process.proofs.endings.report.Goals.{in-None, in-Some}
 

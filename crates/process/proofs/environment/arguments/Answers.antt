@@ -1,5 +1,5 @@
 use Rattle.process.proofs.Prelude.{codes, rules, string_bytes}
-use Rattle.process.proofs.SystemCalls.{values_pushed_after}
+use Rattle.process.proofs.CallOutcomes.{values_pushed_after}
 use Rattle.process.proofs.environment.arguments.Goals as goal
 
 pub loop-arguments-preserved : goal.loop-arguments-preserved

@@ -1,5 +1,5 @@
 use Rattle.process.proofs.Prelude.{refl, rules}
-use Rattle.process.proofs.SystemCalls.{values_pushed}
+use Rattle.process.proofs.CallOutcomes.{values_pushed}
 use Rattle.process.proofs.environment.entries.Goals as goal
 
 pub loop-text-preserved : goal.loop-text-preserved

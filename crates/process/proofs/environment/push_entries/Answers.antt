@@ -1,5 +1,5 @@
 use Rattle.process.proofs.Prelude.{rules}
-use Rattle.process.proofs.SystemCalls.{values_pushed}
+use Rattle.process.proofs.CallOutcomes.{values_pushed}
 use Rattle.process.proofs.environment.push_entries.Goals as goal
 
 pub loop-index-preserved : goal.loop-index-preserved

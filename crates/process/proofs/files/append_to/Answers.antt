@@ -1,7 +1,7 @@
 use Rattle.process.proofs.Prelude.{ReadsFile, appended, codes, rules, string_bytes, sym, unwritten, ◌++◌, ◌∙◌, ◌≡◌}
 use Rattle.std.proofs.Common.{decimal}
 use Rattle.runs.specs.Inputs.{gives}
-use Rattle.process.proofs.SystemCalls.{nothing, once}
+use Rattle.process.proofs.CallOutcomes.{nothing, once}
 use Rattle.process.proofs.files.append_to.Goals as goal
 
 pub returns-in_err-info_path : goal.returns-in_err-info_path

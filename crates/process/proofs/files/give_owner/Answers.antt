@@ -1,5 +1,5 @@
 use Rattle.process.proofs.Prelude.{given, group_given, had, sym, untold, ◌∙◌}
-use Rattle.process.proofs.SystemCalls.{once, other_owner, same_owner, then}
+use Rattle.process.proofs.CallOutcomes.{once, other_owner, same_owner, then}
 use Rattle.process.proofs.files.give_owner.Goals as goal
 
 pub returns-in_err-now : goal.returns-in_err-now

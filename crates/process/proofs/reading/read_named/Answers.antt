@@ -1,5 +1,5 @@
 use Rattle.process.proofs.Prelude.{inr, unopened}
-use Rattle.process.proofs.SystemCalls.{opened}
+use Rattle.process.proofs.CallOutcomes.{opened}
 use Rattle.process.proofs.reading.read_named.Goals as goal
 
 pub returns-in_default-clause-reading : goal.returns-in_default-clause-reading

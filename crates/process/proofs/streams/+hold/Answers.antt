@@ -1,6 +1,6 @@
 use Rattle.process.proofs.Prelude.{above, arith, enough, held, suc, ◌-◌, ◌≡◌}
 use Rattle.process.specs.OutputCalls.{unopened}
-use Rattle.process.proofs.SystemCalls.{held_so, nothing, once, so, then}
+use Rattle.process.proofs.CallOutcomes.{held_so, nothing, once, so, then}
 use Rattle.process.proofs.streams.+hold.Goals as goal
 
 pub returns-then-left-eq0-clause-calls : goal.returns-then-left-eq0-clause-calls

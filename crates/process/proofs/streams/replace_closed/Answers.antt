@@ -1,5 +1,5 @@
 use Rattle.process.proofs.Prelude.{all_open, no_errors, no_input, no_output}
-use Rattle.process.proofs.SystemCalls.{once, so, then}
+use Rattle.process.proofs.CallOutcomes.{once, so, then}
 use Rattle.process.proofs.streams.replace_closed.Goals as goal
 
 pub returns-then-not-has_input-clause-calls : goal.returns-then-not-has_input-clause-calls

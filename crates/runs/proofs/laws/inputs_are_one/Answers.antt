@@ -1,5 +1,5 @@
 use Rattle.runs.proofs.Prelude.{false}
-use Rattle.runs.proofs.Inputs.{one_list}
+use Rattle.runs.proofs.AskedInputs.{one_list}
 use Rattle.runs.proofs.laws.inputs_are_one.Goals as goal
 
 pub returns : goal.returns

@@ -1,4 +1,4 @@
-use Rattle.runs.proofs.Inputs.{inputs_in_turn}
+use Rattle.runs.proofs.AskedInputs.{inputs_in_turn}
 use Rattle.runs.proofs.laws.inputs_stand_in_turn.Goals as goal
 
 pub returns : goal.returns

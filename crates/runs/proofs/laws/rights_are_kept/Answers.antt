@@ -1,4 +1,4 @@
-use Rattle.runs.proofs.Rights.{kept_rights, nobody_gets_more}
+use Rattle.runs.proofs.KeptRights.{kept_rights, nobody_gets_more}
 use Rattle.runs.proofs.laws.rights_are_kept.Goals as goal
 
 pub returns-clause-nobody_gets_more : goal.returns-clause-nobody_gets_more

@@ -1,5 +1,5 @@
 use Rattle.envsubst.proofs.Prelude.{envsubst_arguments, map}
-use Rattle.runs.proofs.Inputs.{taken_of}
+use Rattle.runs.proofs.AskedInputs.{taken_of}
 use Rattle.envsubst.proofs.arguments.EnvsubstArguments.given.Goals as goal
 
 pub returns : goal.returns

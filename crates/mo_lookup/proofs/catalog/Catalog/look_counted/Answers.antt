@@ -1,5 +1,5 @@
 use Rattle.mo_lookup.proofs.Prelude.{AnswerView, located_view, query, refl, ◌∙◌, ◌≡◌}
-use Rattle.mo_lookup.proofs.Forms.{untranslated_view}
+use Rattle.mo_lookup.proofs.FormPlaces.{untranslated_view}
 use Rattle.mo_lookup.proofs.catalog.Catalog.look_counted.Goals.{in-Id, in-Translation}
 use Rattle.mo_lookup.proofs.catalog.Catalog.look_counted.Goals as goal
 

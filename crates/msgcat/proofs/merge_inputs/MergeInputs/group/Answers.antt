@@ -3,7 +3,7 @@ use Rattle.std.proofs.Common.{All}
 use Rattle.msgcat.specs.declared.definition.NamedEntry.{NamedEntry as BorrowedEntry}
 use Rattle.msgcat.proofs.GroupsByIndex.{entries_here, groups_at, groups_counted, indexes_here}
 use Rattle.msgcat.proofs.MessageLinks.{chain_on, chain_over}
-use Rattle.msgcat.proofs.Inputs.{entry_is, entry_taken}
+use Rattle.msgcat.proofs.InputEntries.{entry_is, entry_taken}
 use Rattle.msgcat.proofs.merge_inputs.MergeInputs.group.Goals as goal
 
 pub index-index-requires : goal.index-index-requires

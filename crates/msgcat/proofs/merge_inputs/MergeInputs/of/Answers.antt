@@ -1,7 +1,7 @@
 use Rattle.msgcat.proofs.Prelude.{All, AreLinked, IsCatalogueEntry, all_entries, ap, count_messages, entry_messages, group_numbers, indexes_by, length, named_messages, numbers_below, same_message_laws, subst, ◌∙◌, ◌≡◌}
 use Rattle.po_entry.specs.Prelude.{first_ones, same_message}
 use Rattle.msgcat.proofs.GroupsByIndex.{messages_of}
-use Rattle.msgcat.proofs.Inputs.{all_can}
+use Rattle.msgcat.proofs.InputEntries.{all_can}
 use Rattle.msgcat.proofs.merge_inputs.MergeInputs.of.Goals as goal
 
 pub of-requires : goal.of-requires

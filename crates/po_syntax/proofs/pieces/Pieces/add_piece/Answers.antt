@@ -1,6 +1,6 @@
 use Rattle.po_syntax.proofs.Prelude.{AreOfText, BeginsAnew, EndsPiece, ap, arith, inl, inr, length, lines_of_rest, rules, subst, sym, ◌∙◌, ◌≡◌}
 use Rattle.po_syntax.proofs.PieceLines.{can_end, cut_at, cut_off, lent_before, line_stops, lines_begin, none_read, read_on}
-use Rattle.po_syntax.proofs.Pieces.{len_few, read_few}
+use Rattle.po_syntax.proofs.PieceTexts.{len_few, read_few}
 use Rattle.po_syntax.proofs.pieces.Pieces.add_piece.Goals as goal
 use Rattle.po_syntax.proofs.pieces.Pieces.add_piece.Goals.{else-len-size-via-else-len-size, else-len-size-via-then-len-size+else-can_end, in-Some+in-Ok+then-len-size+then-can_end, in_default}
 

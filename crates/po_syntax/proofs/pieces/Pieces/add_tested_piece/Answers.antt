@@ -1,6 +1,6 @@
 use Rattle.po_syntax.proofs.Prelude.{AreOfText, subst}
 use Rattle.po_syntax.proofs.Faults.{is_text_fault}
-use Rattle.po_syntax.proofs.Pieces.{clean_piece, has_fault, text_holds_other}
+use Rattle.po_syntax.proofs.PieceTexts.{clean_piece, has_fault, text_holds_other}
 use Rattle.po_syntax.proofs.pieces.Pieces.add_tested_piece.Goals as goal
 
 pub unwrap-requires : goal.unwrap-requires

@@ -1,5 +1,5 @@
 use Rattle.po_syntax.proofs.Prelude.{refl, take, take_min, ◌≡◌}
-use Rattle.po_syntax.proofs.Pieces.{rest_text}
+use Rattle.po_syntax.proofs.PieceTexts.{rest_text}
 use Rattle.po_syntax.proofs.pieces.Pieces.begins_with_text.Goals as goal
 
 pub returns : goal.returns

@@ -1,6 +1,6 @@
 use Rattle.po_syntax.proofs.Prelude.{LeftStops}
 use Rattle.po_syntax.proofs.Faults.{is_text_fault}
-use Rattle.po_syntax.proofs.Pieces.{first_of_text}
+use Rattle.po_syntax.proofs.PieceTexts.{first_of_text}
 use Rattle.po_syntax.proofs.pieces.Pieces.first_fault.Goals as goal
 
 pub returns-in_default : goal.returns-in_default

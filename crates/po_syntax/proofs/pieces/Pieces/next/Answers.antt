@@ -1,5 +1,5 @@
 use Rattle.po_syntax.proofs.Prelude.{AreOfText, LinesLeft, ap, arith, length-map, subst, view, ◌≡◌}
-use Rattle.po_syntax.proofs.Pieces.{piece_few, piece_hold, piece_whole, read_of_text}
+use Rattle.po_syntax.proofs.PieceTexts.{piece_few, piece_hold, piece_whole, read_of_text}
 use Rattle.po_syntax.proofs.pieces.Pieces.next.Goals as goal
 
 pub invariant_of-self : goal.invariant_of-self

@@ -1,5 +1,5 @@
 use Rattle.process.proofs.Prelude.{unmade}
-use Rattle.process.proofs.SystemCalls.{once}
+use Rattle.process.proofs.CallOutcomes.{once}
 use Rattle.process.proofs.files.SystemFilesOutputFiles.create_new.Goals as goal
 
 pub returns-in-Err : goal.returns-in-Err

@@ -1,5 +1,5 @@
 use Rattle.process.proofs.Prelude.{told}
-use Rattle.process.proofs.SystemCalls.{once}
+use Rattle.process.proofs.CallOutcomes.{once}
 use Rattle.process.proofs.files.SystemFilesOutputFiles.kind.Goals as goal
 
 pub returns : goal.returns

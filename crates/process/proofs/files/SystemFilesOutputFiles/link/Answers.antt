@@ -1,6 +1,6 @@
 use Rattle.process.proofs.Prelude.{not_there, sym, there, ◌∙◌}
 use Rattle.process.specs.OutputCalls.{unread}
-use Rattle.process.proofs.SystemCalls.{once}
+use Rattle.process.proofs.CallOutcomes.{once}
 use Rattle.process.proofs.files.SystemFilesOutputFiles.link.Goals as goal
 
 pub returns-in-Ok : goal.returns-in-Ok

@@ -1,5 +1,5 @@
 use Rattle.process.proofs.Prelude.{counted, random, refl}
-use Rattle.process.proofs.SystemCalls.{once}
+use Rattle.process.proofs.CallOutcomes.{once}
 use Rattle.process.proofs.files.SystemFilesOutputFiles.number.Goals as goal
 
 pub returns-in-Some : goal.returns-in-Some

@@ -1,5 +1,5 @@
 use Rattle.process.proofs.Prelude.{errors, input, output}
-use Rattle.process.proofs.SystemCalls.{nothing, once}
+use Rattle.process.proofs.CallOutcomes.{nothing, once}
 use Rattle.process.proofs.files.SystemFilesOutputFiles.stream.Goals as goal
 
 pub returns-in-0 : goal.returns-in-0

@@ -1,4 +1,4 @@
-use Rattle.process.proofs.SystemCalls.{opened}
+use Rattle.process.proofs.CallOutcomes.{opened}
 use Rattle.process.proofs.source.SourceInputSource.read_standard.Goals as goal
 
 pub returns-clause-reading : goal.returns-clause-reading

@@ -1,5 +1,5 @@
 use Rattle.runs.proofs.Prelude.{Bool, List, NamedFile, Some, ap, arith, drop, false≢true, inputs_in, length, length-append, length-take, places, refl, rules, subst, sum_by, sum_by-append, sym, vec_len, ⊎_elim, ◌+◌, ◌||◌, ◌∙◌, ◌≡◌}
-use Rattle.runs.proofs.Inputs.{AsksBefore, AsksBefore-first, AsksBefore-more, AsksBefore-none, AsksBefore-read, AsksBefore-unread, Completes, Completes-all, Completes-none, Completes-read, Completes-unread, inputs-before, inputs-more, reads_as_before, stays_itself, stays_on}
+use Rattle.runs.proofs.AskedInputs.{AsksBefore, AsksBefore-first, AsksBefore-more, AsksBefore-none, AsksBefore-read, AsksBefore-unread, Completes, Completes-all, Completes-none, Completes-read, Completes-unread, inputs-before, inputs-more, reads_as_before, stays_itself, stays_on}
 use Rattle.runs.proofs.inputs.Inputs.read.Goals as goal
 use Rattle.runs.proofs.inputs.Inputs.read.Goals.{else-is_stdin_read, then-is_stdin_read}
 

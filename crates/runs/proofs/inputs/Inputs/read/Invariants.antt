@@ -1,5 +1,5 @@
 use Rattle.runs.proofs.Prelude.{Stays, inputs_in, length, sum_by, true, vec_len, ◌≡◌}
-use Rattle.runs.proofs.Inputs.{AsksBefore, Completes}
+use Rattle.runs.proofs.AskedInputs.{AsksBefore, Completes}
 use Rattle.runs.proofs.inputs.Inputs.read.Given as goal
 
 abbrev pub invariant-loop-argument : goal.invariant-loop-argument
