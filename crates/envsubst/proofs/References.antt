@@ -1,5 +1,5 @@
 -- A reference is read where it is spelt, and what is read as one is spelt.
-use Rattle.envsubst.proofs.Prelude.{All, Bool, Decides-by_and, IsInName, IsName, List, NoNameGoesOn, None, Option, Reference, Some, SpellsReference, [], after_dollar, and_from, and_left, and_parts, and_right, ap, append-nil, arith, bare, bare_reference, begins_with, both_ways, braced, braced_reference, cond, cond-false, cond-true, cond_both, drop, drop-drop, drop_at, eqb, eqb-true, false, false_from_ne_true, false≢true, inl, inr, is_begun_name, is_letter, is_name, is_name_byte, is_undecided, is_undecided_after, length, length-append, list_all, list_all-append, lt-ltb, ltb, ltb-true, name_prefix, nat_tests, ne_eqb, reference_after, refl, subst, suc, sym, take, take-append_seam, take_while-cons, true, ℕ, ◌&&◌, ◌++◌, ◌+◌, ◌<◌, ◌∙◌, ◌∷◌, ◌≡◌, ◌≤◌, ◌⊎◌}
+use Rattle.envsubst.proofs.Prelude.{All, Bool, Decides-by_and, IsInName, IsName, List, NoNameGoesOn, None, Option, Reference, Some, SpellsReference, [], after_dollar, and_from, and_left, and_parts, and_right, ap, append-nil, arith, bare as bare_name, bare_reference, begins_with, both_ways, braced, braced_reference, cond, cond-false, cond-true, cond_both, drop, drop-drop, drop_at, eqb, eqb-true, false, false_from_ne_true, false≢true, inl, inr, is_begun_name, is_letter, is_name, is_name_byte, is_undecided, is_undecided_after, length, length-append, list_all, list_all-append, lt-ltb, ltb, ltb-true, name_prefix, nat_tests, ne_eqb, reference_after, refl, subst, suc, sym, take, take-append_seam, take_while-cons, true, ℕ, ◌&&◌, ◌++◌, ◌+◌, ◌<◌, ◌∙◌, ◌∷◌, ◌≡◌, ◌≤◌, ◌⊎◌}
 use Rattle.std.specs.Bool.{Decides}
 
 -- neither `$` nor a brace is a name byte
@@ -295,7 +295,7 @@ bare_read name rest h ended = ends name rest (name_begun name h) (name_some name
   stops (b ∷ rest) ended = name_prefix-stop b rest (false_from_ne_true (is_name_byte b) ended)
 
 pub reference_read : {text name rest : List ℕ} → SpellsReference text name rest → IsRead text name rest
-reference_read (bare {name = name} {rest = rest} h ended) = record {
+reference_read (bare_name {name = name} {rest = rest} h ended) = record {
   bytes = name ++ rest;
   size = length name;
   dollar = refl;
@@ -321,7 +321,7 @@ bare_says bytes =
     let run = run_at bytes in
     cond_both (is_name (name_prefix bytes)) _ None (Says bytes)
     (λ named. subst (λ text. SpellsReference (36 ∷ text) (name_prefix bytes) (drop (length (name_prefix bytes)) bytes))
-    run.2 (bare (name_says (name_prefix bytes) named run.0) run.1))
+    run.2 (bare_name (name_says (name_prefix bytes) named run.0) run.1))
     (λ _. tt)
 
 braced_says : (bytes : List ℕ) → Says (123 ∷ bytes) (braced_reference bytes)

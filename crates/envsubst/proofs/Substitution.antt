@@ -1,5 +1,5 @@
 -- The substitution of a text is the text with its references replaced.
-use Rattle.envsubst.proofs.Prelude.{BeginsNoReplaced, Bool, Bor, Ending, HoldsNames, List, None, Option, Reference, Replacement, Replaces, Some, SpellsReference, Values, [], after_dollar, and_parts, ap, append-nil, arith, byte-here, byte-later, cases_Bool, cond, cond-false, cond-true, cond_both, cons_option, copied, drop, drop_at, eqb, eqb-false, eqb-true, false, if◌then◌else◌, inl, inr, is_begun_name, is_byte, is_name_byte, is_undecided, length, list_all, names_in, no_reference, no_text, none-some, nothing, option_map, position_or_len, reference, reference_after, refl, replacement_of, subst, substituted, substitution, substitution_after, suc, sym, take, true, true≢false, zero, ℕ, ◌++◌, ◌+◌, ◌==◌, ◌↔◌, ◌∙◌, ◌∷◌, ◌≡◌, ◌≤◌, ◌⊎◌}
+use Rattle.envsubst.proofs.Prelude.{BeginsNoReplaced, Bool, Bor, Ending, HoldsNames, List, None, Option, Reference, Replacement, Replaces, Some, SpellsReference, Values, [], after_dollar, and_parts, ap, append-nil, arith, byte-here, byte-later, cases_Bool, cond, cond-false, cond-true, cond_both, cons_option, copied as copies, drop, drop_at, eqb, eqb-false, eqb-true, false, if◌then◌else◌, inl, inr, is_begun_name, is_byte, is_name_byte, is_undecided, length, list_all, names_in, no_reference, no_text, none-some, nothing, option_map, position_or_len, reference, reference_after, refl, replacement_of, subst, substituted, substitution, substitution_after, suc, sym, take, true, true≢false, zero, ℕ, ◌++◌, ◌+◌, ◌==◌, ◌↔◌, ◌∙◌, ◌∷◌, ◌≡◌, ◌≤◌, ◌⊎◌}
 use Rattle.std.specs.Int.{from_bool}
 use Rattle.envsubst.proofs.References.{after-closed, begun-bytes, closes, ending-none, ends, name_byte-not, name_prefix-stop, no_name_byte, reference_read, reference_spelt}
 use Rattle.envsubst.specs.Laws.{replaced}
@@ -250,7 +250,7 @@ dollar_place : (values : Values) (b : ℕ) (text : List ℕ) → b ≡ 36
     → replacement_of values (reference_after text) ≡ o
     → Replaces values (b ∷ text) (substituted b o (λ skip. substitution_after values skip text))
 dollar_place values b text is later None none =
-    copied (subst (λ a. BeginsNoReplaced values (a ∷ text)) (sym is) (begins_none values text none)) (later 0)
+    copies (subst (λ a. BeginsNoReplaced values (a ∷ text)) (sym is) (begins_none values text none)) (later 0)
 dollar_place values b text is later (Some r) some =
     let it = replacement_spelt values text (reference_after text) r refl some in
     replaced (subst (λ a. SpellsReference (a ∷ text) it.name (drop r.size text)) (sym is) it.spelt) it.value
@@ -267,7 +267,7 @@ after values (b ∷ text) zero =
     (λ o. Replaces values (b ∷ text) (substituted b o (λ skip. substitution_after values skip text)))
     (λ e. dollar_place values b text (eqb-true b 36 e) (after values text)
     (replacement_of values (reference_after text)) refl)
-    (λ e. copied (λ name value rest h is. not_dollar b text name rest e h) (after values text 0))
+    (λ e. copies (λ name value rest h is. not_dollar b text name rest e h) (after values text 0))
 
 none_replaced : (values : Values) (text : List ℕ) (o : Option Replacement)
     → replacement_of values (reference_after text) ≡ o → BeginsNoReplaced values (36 ∷ text)
@@ -302,7 +302,7 @@ is_substitution : {values : Values} {text result : List ℕ} → Replaces values
     → result ≡ substitution values text
 unfolding substitution_after
 is_substitution nothing = refl
-is_substitution {values} (copied {b = b} {text = text} none more) =
+is_substitution {values} (copies {b = b} {text = text} none more) =
     ap (λ l. b ∷ l) (is_substitution more) ∙ sym (copy_step values b text none)
 is_substitution {values} (replaced {text = text} {name = name} {value = value} {rest = rest} spelt is more) =
     ap (λ l. value ++ l) (is_substitution more) ∙ sym (replaced_step values text name value rest spelt is)

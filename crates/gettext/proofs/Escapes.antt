@@ -1,5 +1,5 @@
 -- A text with its escapes expanded: each is read where it is spelt, and what is read as one is spelt.
-use Rattle.gettext.proofs.Prelude.{Bool, Escape, Expands, IsNoEscape, List, NoOctalFirst, None, Option, Some, SpellsByte, [], alert, and_from, and_parts, ap, append-nil, append_assoc, arith, backslash, backspace, byte-at, byte-here, byte-later, carriage_return, cases_Bool, cond, cond-false, cond-true, cond_both, drop, drop_all, eqb, eqb-false, eqb-true, escape, escape_after, expansion, false, false_from_ne_true, false≢true, filter_map, form_feed, get_or, given_bytes, given_bytes_after, has_no_newline, inl, inr, is_byte, is_none, is_octal, le-leb, leb-true, length, letter, letter_escape, line_feed, list_any, min, ne_eqb, no_newline, nothing, octal_prefix, octal_value, one_digit, or-false, plain, position_or_len, prefix_len, refl, stays, subst, suc, sym, tab, take, take_min, take_while-cons, three_digits, true, two_digits, vertical_tab, zero, ℕ, ◌%◌, ◌*◌, ◌++◌, ◌+◌, ◌-◌, ◌<◌, ◌==◌, ◌||◌, ◌↔◌, ◌∙◌, ◌∷◌, ◌≡◌, ◌≤◌}
+use Rattle.gettext.proofs.Prelude.{Bool, Escape, Expands, IsNoEscape, List, NoOctalFirst, None, Option, Some, SpellsByte, [], alert, and_from, and_parts, ap, append-nil, append_assoc, arith, backslash, backspace, byte-at, byte-here, byte-later, carriage_return, cases_Bool, cond, cond-false, cond-true, cond_both, drop, drop_all, eqb, eqb-false, eqb-true, escape as expands_escape, escape_after, expansion, false, false_from_ne_true, false≢true, filter_map, form_feed, get_or, given_bytes, given_bytes_after, has_no_newline, inl, inr, is_byte, is_none, is_octal, le-leb, leb-true, length, letter, letter_escape, line_feed, list_any, min, ne_eqb, no_newline, nothing as expands_nothing, octal_prefix, octal_value, one_digit, or-false, plain, position_or_len, prefix_len, refl, stays, subst, suc, sym, tab, take, take_min, take_while-cons, three_digits, true, two_digits, vertical_tab, zero, ℕ, ◌%◌, ◌*◌, ◌++◌, ◌+◌, ◌-◌, ◌<◌, ◌==◌, ◌||◌, ◌↔◌, ◌∙◌, ◌∷◌, ◌≡◌, ◌≤◌}
 use Rattle.std.specs.List.{take_while}
 use Rattle.std.proofs.lemmas.Option.{none-some}
 
@@ -340,7 +340,7 @@ escape_makes : (text : List ℕ) (byte : Option ℕ) (size : ℕ) → ByteSays t
     → Makes (92 ∷ text) (byte ∷ given_bytes_after size text)
 escape_makes text None size says later =
     subst (λ t. Makes (92 ∷ t) (None ∷ given_bytes_after size text)) (sym says) (no_newline (later size))
-escape_makes text (Some b) size says later = escape says (later size)
+escape_makes text (Some b) size says later = expands_escape says (later size)
 
 backslash_makes : (text : List ℕ) (o : Option Escape) → escape_after text ≡ o
     → ((skip : ℕ) → Makes (drop skip text) (given_bytes_after skip text))
@@ -350,8 +350,8 @@ backslash_makes text (Some found) e later = escape_makes text found.byte found.s
 
 after : (text : List ℕ) (skip : ℕ) → Makes (drop skip text) (given_bytes_after skip text)
 unfolding given_bytes_after
-after [] zero = nothing
-after [] (suc skip) = nothing
+after [] zero = expands_nothing
+after [] (suc skip) = expands_nothing
 after (b ∷ text) (suc skip) = after text skip
 after (b ∷ text) zero =
     cond_both (eqb b 92) (escape_after text) None
@@ -385,7 +385,7 @@ unfolding given_bytes_after
 are_expanded nothing = (refl, refl)
 are_expanded (plain {b = b} {text = text} {bytes = bytes} {without_newline = without_newline} other more) =
     are_more (b ∷ text) text bytes b without_newline (given_bytes-plain b text (ne_eqb b 92 other)) (are_expanded more)
-are_expanded (escape {b = b} {text = text} {rest = rest} {bytes = bytes}
+are_expanded (expands_escape {b = b} {text = text} {rest = rest} {bytes = bytes}
     {without_newline = without_newline} spelt more) =
     are_more (92 ∷ text) rest bytes b without_newline (read_bytes text rest b spelt) (are_expanded more)
 are_expanded (no_newline {text = text} {bytes = bytes} more) =

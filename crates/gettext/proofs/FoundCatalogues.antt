@@ -1,6 +1,6 @@
 -- The catalogues of the paths of a look-up, and the run that they answer.
 use Rattle.gettext.proofs.Prelude.{AreCatalogues, Asked, AsksAt, AsksPaths, Bool, Bor, IsCatalogueAt, IsLookUpRun, List, NamedFile, None, Opens, Option, Reading, Request, RunView, Some, Stays, Vec, [], ap, append-nil, append_assoc, arith, catalogue_files, catalogue_limit, drop, drop_more, drop_of_length-le, false, fault_line, get_or, inl, inr, join_with_byte, length, length-map, list_any, map, mo_text, named_file, named_files, opened, or-false, refused, subst, sym, take, ℕ, ◌++◌, ◌+◌, ◌<◌, ◌||◌, ◌∙◌, ◌∷◌, ◌≡◌, ◌≤◌}
-use Rattle.gettext.specs.Catalogues.{done, found, next, none as no_path, skipped}
+use Rattle.gettext.specs.Catalogues.{done, found as asks_found, next as asks_next, none as no_path, skipped}
 use Rattle.std.proofs.Common.{flat_map}
 use Rattle.mo_file.specs.declared.byte_order.Order.{Order}
 use Rattle.mo_file.specs.declared.fault.MoError.{MoError}
@@ -27,7 +27,7 @@ asked-none paths before = record { completes = λ after asks. asks }
 pub asked-more : (paths : List (Vec ℕ)) (i : ℕ) (d : Vec ℕ) (a b c : Option (List Asked)) → i < length paths
     → AsksAt b c (get_or paths i d).items → AskedPaths paths i a b → AskedPaths paths (i + 1) a c
 asked-more paths i d a b c below at before = record {
-  completes = λ after asks. before.completes after (rw (next-path paths i d below) (next at asks));
+  completes = λ after asks. before.completes after (rw (next-path paths i d below) (asks_next at asks));
 }
 
 pub asked-all : (paths : List (Vec ℕ)) (i : ℕ) (a b : Option (List Asked)) → length paths ≤ i → AskedPaths paths i a b
@@ -50,7 +50,8 @@ module _ (file : List ℕ → Reading → Type 0) where
       → CompletesPaths paths (i + 1) now
   completes-found paths i d catalogues now catalogue below is pushed before = record {
     completes = λ more are.
-        rw (pushed, append_assoc) (before.completes (catalogue ∷ more) (rw (next-path paths i d below) (found is are)));
+        rw (pushed, append_assoc)
+        (before.completes (catalogue ∷ more) (rw (next-path paths i d below) (asks_found is are)));
   }
 
   pub completes-skipped : (paths : List (Vec ℕ)) (i : ℕ) (d : Vec ℕ) (catalogues : List NamedFile) → i < length paths

@@ -1,5 +1,5 @@
 -- What is common to all commands: what a known system holds before a run and after it, and its one end.
-use Rattle.known_runs.proofs.Prelude.{Bool, CataloguesAreOne, Compiled, Contents, End, EndsInFile, EndsLookUp, EndsMsgfmt, EndsOverFiles, EndsSubstituted, Err, HasStatus, Holds, IfSome, IsCompiledFrom, IsDone, IsFileFault, IsMsgfmtRun, Leads, Leaves, Links, List, Little, MsgfmtOptions, NamedFile, None, Ok, OneEnd, OneMsgfmtRun, Option, OutOfMemory, Place, ProgramFault, Query, ReaderView, Reading, ReadsAs, Result, RunView, RunsInMemory, RunsOverFiles, RunsTool, Some, SystemView, TextEntry, Values, [], answered, answers_in, ap, arith, bytes_at, bytes_of, codes, compiled, compiled_list, compiled_run, contents, cut, empty, end, failed, false, false≢true, folder, follows, gives, header_of, if◌then◌else◌, inl, inr, is_some, is_standard, join_line, joined_entries, left, line_in, links_by_path, ltb-false, meant, nat_lt, nothing, option_map, output_file, program_text, reached, reader_of, reading_of, refl, refusal, refused, refuses, replay, started, stats_of, stored, subst, substituted, sym, system, system_after, system_before, texts_by_name, there, true, unstarted, writer, ℕ, ◌++◌, ◌<◌, ◌∙◌, ◌∷◌, ◌≡◌}
+use Rattle.known_runs.proofs.Prelude.{Bool, CataloguesAreOne, Compiled, Contents, End, EndsInFile, EndsLookUp, EndsMsgfmt, EndsOverFiles, EndsSubstituted, Err, HasStatus, Holds, IfSome, IsCompiledFrom, IsDone, IsFileFault, IsMsgfmtRun, Leads, Leaves, Links, List, Little, MsgfmtOptions, NamedFile, None, Ok, OneEnd, OneMsgfmtRun, Option, OutOfMemory, Place, ProgramFault, Query, ReaderView, Reading, ReadsAs, Result, RunView, RunsInMemory, RunsOverFiles, RunsTool, Some, SystemView, TextEntry, Values, [], answered, answers_in, ap, arith, bytes_at, bytes_of, codes, compiled, compiled_list, compiled_run, contents, cut, empty, end, failed, false, false≢true, folder, follows, gives, header_of, if◌then◌else◌, inl, inr, is_some, is_standard, join_line, joined_entries, left as leaves_it, line_in, links_by_path, ltb-false, meant, nat_lt, nothing, option_map, output_file, program_text, reached, reader_of, reading_of, refl, refusal, refused, refuses, replay, started, stats_of, stored, subst, substituted, sym, system, system_after, system_before, texts_by_name, there as link_there, true, unstarted, writer, ℕ, ◌++◌, ◌<◌, ◌∙◌, ◌∷◌, ◌≡◌}
 use Rattle.known_system.proofs.Calls.{at_its_path}
 use Rattle.runs.specs.declared.tool.Tool.{Tool}
 use Rattle.known_system.specs.declared.files.KnownFiles.{KnownFiles}
@@ -117,7 +117,7 @@ is_read source same name reading read = read ∙ ap (λ f. reading_of (bytes_of 
 -- without links a path leads to itself
 pub leads_there : (links : Links) → links ≡ [] → {limit : ℕ} {path target : List ℕ} → Leads links limit path target
     → target ≡ path
-leads_there links none (there is) = refl
+leads_there links none (link_there is) = refl
 leads_there links none {path = path} (follows {text} is leads) =
     let e : None ≡ Some text = sym (ap (λ l. bytes_of l path) none) ∙ is in cc
 
@@ -146,7 +146,7 @@ module _ (IsRun : RunView → Type 0) (path : List ℕ) (named : is_standard pat
 
   by_create : (run : RunView) (some : Bool) → run.create ≡ some → IsRun run → {result : Result ℕ ProgramFault}
       → Leaves run path old new result → EndsInFile IsRun path was (now result)
-  by_create run some makes is (left {fault} names why same) = fails fault why same
+  by_create run some makes is (leaves_it {fault} names why same) = fails fault why same
   by_create run false makes is (filed_there names leads free at stay o e) =
       let none : output_file run path ≡ None = rw makes refl in
       absurd (false≢true (ap is_some (sym none ∙ names)))
@@ -157,8 +157,9 @@ module _ (IsRun : RunView → Type 0) (path : List ℕ) (named : is_standard pat
       let its : output_file run path ≡ Some path = rw (makes, named) refl in
       let paths : Some p ≡ Some path = sym names ∙ its in
       let its_path : p ≡ path = cc in
-      let there : target ≡ path = leads_there old.links links leads ∙ its_path in
-      ends (Some run.output) [] run.messages (subst (λ q. bytes_at q new.held ≡ Some run.output) there at) (o ∙ out)
+      let link_there : target ≡ path = leads_there old.links links leads ∙ its_path in
+      ends (Some run.output) [] run.messages (subst (λ q. bytes_at q new.held ≡ Some run.output) link_there at)
+      (o ∙ out)
       (after_none err e) (filed is makes)
   by_create run true makes is (printed_there names stay same o e) =
       let its : output_file run path ≡ Some path = rw (makes, named) refl in

@@ -1,5 +1,5 @@
 -- What `msgfmt a.po -o a.mo` comes to, also where its output may be a link.
-use Rattle.known_runs.proofs.Prelude.{AreInputs, AreMsgfmtOptions, Asking, Bool, Compiled, Contents, End, EndsMsgfmt, EndsThroughLinks, Err, HaveNoRun, IsCompilation, IsCompileFault, IsCompiledFrom, IsFileFault, IsMsgfmtRun, IsRunOf, IsTextOr, Leads, Leaves, Links, List, Little, MsgfmtOptions, NamedFile, None, Ok, Option, OutOfMemory, Place, ProgramFault, Reading, Result, RunView, RunsMsgfmt, Some, SystemView, Writes, [], ap, arith, bytes_at, bytes_of, codes, compile_options, compiled, compiled_run, default_output, done, elsewhere, empty, end, false, false≢true, filed, follows, gives, has_none, if◌then◌else◌, inl, inr, is_free, is_some, is_standard, join_line, joined_entries, led, left, length, link_limit, link_target, ltb-false, ltb-true, nat_lt, no_memory_to_plan, no_memory_to_read, not, order_of, output_file, plain, printed, program_text, read, refl, refusal, refused, refuses, runs, subst, suc, sym, there, true, unread, unwrap_or, zero, ℕ, ◌&&◌, ◌++◌, ◌∙◌, ◌∷◌, ◌≡◌, ◌≢◌, ◌⊎◌}
+use Rattle.known_runs.proofs.Prelude.{AreInputs, AreMsgfmtOptions, Asking, Bool, Compiled, Contents, End, EndsMsgfmt, EndsThroughLinks, Err, HaveNoRun, IsCompilation, IsCompileFault, IsCompiledFrom, IsFileFault, IsMsgfmtRun, IsRunOf, IsTextOr, Leads, Leaves, Links, List, Little, MsgfmtOptions, NamedFile, None, Ok, Option, OutOfMemory, Place, ProgramFault, Reading, Result, RunView, RunsMsgfmt, Some, SystemView, Writes, [], ap, arith, bytes_at, bytes_of, codes, compile_options, compiled, compiled_run, default_output, done, elsewhere, empty, end, false, false≢true, filed, follows, gives, has_none, if◌then◌else◌, inl, inr, is_free, is_some, is_standard, join_line, joined_entries, led, left, length, link_limit, link_target, ltb-false, ltb-true, nat_lt, no_memory_to_plan, no_memory_to_read, not, order_of, output_file, plain, printed, program_text, read, refl, refusal, refused, refuses, runs, subst, suc, sym, there as leads_there, true, unread, unwrap_or, zero, ℕ, ◌&&◌, ◌++◌, ◌∙◌, ◌∷◌, ◌≡◌, ◌≢◌, ◌⊎◌}
 use Rattle.known_runs.specs.Msgfmt.{failed}
 use Rattle.std.proofs.lemmas.Slice.Eq.{bytes_eq-Decides}
 use Rattle.std.specs.Str.{bytes_eq}
@@ -158,9 +158,9 @@ module _ (text place : List ℕ) (old new : Contents)
 -- a path leads to one place
 pub unique : {links : Links} {limit : ℕ} {path a b : List ℕ} → Leads links limit path a → Leads links limit path b
     → a ≡ b
-unique (there p) (there q) = refl
-unique (there p) (follows q more) = cc
-unique (follows p more) (there q) = cc
+unique (leads_there p) (leads_there q) = refl
+unique (leads_there p) (follows q more) = cc
+unique (follows p more) (leads_there q) = cc
 unique {links} {path = path} {b = b} (follows {limit} {text = t} p more) (follows {text = u} q others) =
     let texts : Some t ≡ Some u = sym p ∙ q in
     let same : u ≡ t = cc in
@@ -176,16 +176,16 @@ GoesOrNot links limit path place = Leads links limit path place ⊎ (¬ Leads li
 
 no_link : {links : Links} {limit : ℕ} {path place : List ℕ} → bytes_of links path ≡ None
     → (path ≡ place) ⊎ (path ≢ place) → GoesOrNot links limit path place
-no_link {links} {limit} {path} none (inl same) = inl (subst (Leads links limit path) same (there none))
-no_link none (inr other) = inr (λ leads. other (unique (there none) leads))
+no_link {links} {limit} {path} none (inl same) = inl (subst (Leads links limit path) same (leads_there none))
+no_link none (inr other) = inr (λ leads. other (unique (leads_there none) leads))
 
 too_many : {links : Links} {path place text : List ℕ} → bytes_of links path ≡ Some text
     → ¬ Leads links zero path place
-too_many is (there none) = cc
+too_many is (leads_there none) = cc
 
 not_on : {links : Links} {limit : ℕ} {path place text : List ℕ} → bytes_of links path ≡ Some text
     → ¬ Leads links limit (link_target path text) place → ¬ Leads links (suc limit) path place
-not_on is other (there none) = cc
+not_on is other (leads_there none) = cc
 not_on {links} {path = path} {place = place} {text = t} is other (follows {limit} {text = u} q more) =
     let texts : Some u ≡ Some t = sym q ∙ is in
     let same : u ≡ t = cc in other (subst (λ v. Leads links limit (link_target path v) place) same more)

@@ -1,5 +1,5 @@
 -- The parts of a merged entry, its forms, and which messages are kept.
-use Rattle.msgcat.proofs.Prelude.{All, All-cons, All-contains, All-contains_itself, All-filter, All-head, All-nil, All-tail, All-weaker, Any-from_list_any, AreLiveOf, Bool, CommentKind, CommentsOfFirst, Contains, Decides, DefinedByLive, EndsForm, FaultIsOfNoLine, FormsAreJoined, FormsOfFirst, IsEquivalence, IsFirstTranslated, IsJoinedForm, IsTranslated, IsUntranslated, JoinedAsLongest, JoinedIsFuzzy, JoinedWhereTheyDiffer, List, MergeOptions, NamedEntry, None, ObsoleteWhereNoneIsLive, Option, PluralOfFirst, PoError, PreviousOfFirst, Some, TextEntry, TextPrevious, TextsInOrder, TextsOfAll, TranslatedStays, TranslationsDiffer, Translator, [], any_first_ones, any_passing, ap, append_assoc, ap₂, arith, bytes_eq-Decides, collected, comment_of, cond, cond_both, definitions, ended, ends_with, false, false_from_ne_true, false≢true, filter, filter_agree, filter_passes, find, find-append, first_form, first_of, first_translated, first_with, fold, fold_push, form_count, get_or, get_or-map-range_with_len, has_plural, has_previous, has_text, has_translation, if◌then◌else◌, inl, inr, is_joined, is_live, is_some, joined_form, joined_forms, length, list_any, list_any-append, list_any_none, lists_equiv, live, marked, max, merged_entry, nat_eq, nat_list_eq_equiv, nat_tests, no_more, no_previous, none, not, not-false, obsolete, of_nothing, on_equiv, option_map_or, or-false, or_assoc, or_parts, refl, same_forms, slice_eq-Decides, slice_get, subst, sym, texts_eq, texts_of, translated, translations, true, with_feed, with_form, with_others, without_feed, without_form, ℕ, ◌&&◌, ◌++◌, ◌<◌, ◌==◌, ◌||◌, ◌∙◌, ◌∷◌, ◌≡◌, ◌≢◌, ◌≤◌}
+use Rattle.msgcat.proofs.Prelude.{All, All-cons, All-contains, All-contains_itself, All-filter, All-head, All-nil, All-tail, All-weaker, Any-from_list_any, AreLiveOf, Bool, CommentKind, CommentsOfFirst, Contains, Decides, DefinedByLive, EndsForm, FaultIsOfNoLine, FormsAreJoined, FormsOfFirst, IsEquivalence, IsFirstTranslated, IsJoinedForm, IsTranslated, IsUntranslated, JoinedAsLongest, JoinedIsFuzzy, JoinedWhereTheyDiffer, List, MergeOptions, NamedEntry, None, ObsoleteWhereNoneIsLive, Option, PluralOfFirst, PoError, PreviousOfFirst, Some, TextEntry, TextPrevious, TextsInOrder, TextsOfAll, TranslatedStays, TranslationsDiffer, Translator, [], any_first_ones, any_passing, ap, append_assoc, ap₂, arith, bytes_eq-Decides, collected, comment_of, cond, cond_both, definitions, ended, ends_with, false, false_from_ne_true, false≢true, filter, filter_agree, filter_passes, find, find-append, first_form, first_of, first_translated, first_with, fold, fold_push, form_count, get_or, get_or-map-range_with_len, has_plural, has_previous, has_text, has_translation, if◌then◌else◌, inl, inr, is_joined, is_live, is_some, joined_form, joined_forms, length, list_any, list_any-append, list_any_none, lists_equiv, live as first_live, marked, max, merged_entry, nat_eq, nat_list_eq_equiv, nat_tests, no_more, no_previous, none as none_translated, not, not-false, obsolete, of_nothing, on_equiv, option_map_or, or-false, or_assoc, or_parts, refl, same_forms, slice_eq-Decides, slice_get, subst, sym, texts_eq, texts_of, translated, translations, true, with_feed, with_form, with_others, without_feed, without_form, ℕ, ◌&&◌, ◌++◌, ◌<◌, ◌==◌, ◌||◌, ◌∙◌, ◌∷◌, ◌≡◌, ◌≢◌, ◌≤◌}
 use Rattle.std.proofs.Common.{bytes_eq}
 use Rattle.std.proofs.lemmas.List.Prefix.{end_rest}
 use Rattle.msgcat.specs.Laws.{no_entry}
@@ -128,7 +128,7 @@ live_of (e ∷ es) = by e.entry.obsolete refl (live_of es) where
 
   by : (b : Bool) → e.entry.obsolete ≡ b → AreLiveOf es lives → AreLiveOf (e ∷ es) (cond (not b) (e ∷ lives) lives)
   by true is rest = obsolete is rest
-  by false is rest = live is rest
+  by false is rest = first_live is rest
 
 pub defined_by_live : (group : List NamedEntry) → DefinedByLive group
 defined_by_live group =
@@ -283,7 +283,7 @@ first_translated_is : {ds : List NamedEntry} {d : NamedEntry} → IsFirstTransla
 first_translated_is (translated before after {d = d} before_none is) =
     first_is has_translation before d after (All-weaker IsUntranslated (λ b. has b ≡ false) has_none before before_none)
     (is_has d is)
-first_translated_is (none {d = d} {after = after} h) =
+first_translated_is (none_translated {d = d} {after = after} h) =
     ap (λ (r : Option NamedEntry). option_map_or (λ (x : NamedEntry). x.entry) r d.entry)
     (find_none has (d ∷ after) (All-weaker IsUntranslated (λ b. has b ≡ false) has_none (d ∷ after) h))
 

@@ -1,5 +1,5 @@
 -- The messages of entries that are live and compiled, and the keys, originals and translations they have.
-use Rattle.po_compile.proofs.Prelude.{All, All-append, All-cons, All-head, All-tail, Bool, Decides, Decides-and, Decides-like, IfSome, InputMessage, IsToBeCompiled, IsTranslated, KeepsCompiled, Lacks, List, LiveMessage, MayBeUsed, None, Option, Row, Some, TextEntry, [], and_parts, ap, append-nil, arith, asked_for, before_all, before_is, compiled, compiled_list, cond, cond_both, context_cut, context_none, context_of, eqb-true, false, false≢true, filter, filter-append, filter_map, first_form, get_or, get_or-append-add, has_translation, header, id_all, id_cut, id_of, inl, inr, is_compiled, is_header, is_live, is_none, is_nul, join_with_byte, key_of, length, length-append, length-map, list_any, live_message, live_messages, lt-ltb, map, map-append, map-map, nat_lt, ne_eqb, none, not, not-true, not_from_Decides, not_from_false, not_fuzzy, omitted, or_cases, or_left, or_right, plural_part, query_key, refl, row_view, slice_split, split_cut, split_none, sym, take, take_more, true, without_comments, ℕ, ◌&&◌, ◌++◌, ◌+◌, ◌<◌, ◌==◌, ◌||◌, ◌∙◌, ◌∷◌, ◌≡◌, ◌≢◌}
+use Rattle.po_compile.proofs.Prelude.{All, All-append, All-cons, All-head, All-tail, Bool, Decides, Decides-and, Decides-like, IfSome, InputMessage, IsToBeCompiled, IsTranslated, KeepsCompiled, Lacks, List, LiveMessage, MayBeUsed, None, Option, Row, Some, TextEntry, [], and_parts, ap, append-nil, arith, asked_for, before_all, before_is, compiled as keeps_entry, compiled_list, cond, cond_both, context_cut, context_none, context_of, eqb-true, false, false≢true, filter, filter-append, filter_map, first_form, get_or, get_or-append-add, has_translation, header, id_all, id_cut, id_of, inl, inr, is_compiled, is_header, is_live, is_none, is_nul, join_with_byte, key_of, length, length-append, length-map, list_any, live_message, live_messages, lt-ltb, map, map-append, map-map, nat_lt, ne_eqb, none, not, not-true, not_from_Decides, not_from_false, not_fuzzy, omitted as omits_entry, or_cases, or_left, or_right, plural_part, query_key, refl, row_view, slice_split, split_cut, split_none, sym, take, take_more, true, without_comments, ℕ, ◌&&◌, ◌++◌, ◌+◌, ◌<◌, ◌==◌, ◌||◌, ◌∙◌, ◌∷◌, ◌≡◌, ◌≢◌}
 use Rattle.std.proofs.Math.ListN.{get_or-map}
 
 pub key_of-plural_part : (key : List ℕ) (plural : Option (List ℕ)) → Lacks 0 key
@@ -151,8 +151,8 @@ compiled_list_is_kept use_fuzzy (entry ∷ entries) =
     let others = compiled_list_is_kept use_fuzzy entries in
     cond_both (is_compiled use_fuzzy entry) (entry ∷ compiled_list use_fuzzy entries) (compiled_list use_fuzzy entries)
     (KeepsCompiled use_fuzzy (entry ∷ entries))
-    (λ is. compiled ((decided use_fuzzy entry).0 is) others)
-    (λ other. omitted (not_from_Decides (is_compiled use_fuzzy entry) (decided use_fuzzy entry) other) others)
+    (λ is. keeps_entry ((decided use_fuzzy entry).0 is) others)
+    (λ other. omits_entry (not_from_Decides (is_compiled use_fuzzy entry) (decided use_fuzzy entry) other) others)
 
 abbrev only_compiled : List InputMessage → List InputMessage
 only_compiled messages = filter (λ (m : InputMessage). m.message.status.compiled) messages

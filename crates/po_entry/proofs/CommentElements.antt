@@ -1,5 +1,5 @@
 -- The references and flags that comments list, and whether one of them is fuzzy.
-use Rattle.po_entry.proofs.Prelude.{All, All-append, All-cons, All-nil, All-push, All-weaker, Bool, CommentKind, CommentText, Contains, Contains-from_any, Decides, EndsReference, Extracted, FailsFirst, Flags, HaveFuzzyFlag, IsAdmittedName, IsBlank, IsWithoutBlanks, KeepsFlags, List, ListsFlags, ListsReferences, NamesAdmitted, NamesFlag, Reference, Translator, [], all_listed_flags, ap, append-nil, append_assoc, ap₂, arith, ascii, blank, both_ways, bytes_eq-Decides, cases_Bool, codes, cond, cond-false, cond-true, cond_both, end_parts, eqb-false, eqb-true, false, false_from_ne_true, false≢true, filter, first, flag, flags_of, fold, fold_push, from_end, fuzzy, fuzzy_of, get_or, here, inl, inr, is_blank, is_fuzzy_flag, is_not_empty, kept_is, last, later, length, list_any, list_any-append, list_any_at, listed_flags, listed_references, map, more, ne_eqb, nil_from_length, no_flag, no_name, no_text, none, not, or-false, or-true, or_assoc, or_cases, or_from, or_left, or_parts, or_right, parts_of, prefix_len, reference, refl, repeated, skip_blanks, slice_split-cons_yes, slice_split_at, slice_split_none, subst, suc, sym, take, template, to_ascii_lowercase, trimmed, true, us_ascii, utf8, utf_8, with_flag, without_end, zero, ℕ, ◌++◌, ◌<◌, ◌==◌, ◌||◌, ◌↔◌, ◌∙◌, ◌∷◌, ◌≡◌, ◌≢◌}
+use Rattle.po_entry.proofs.Prelude.{All, All-append, All-cons, All-nil, All-push, All-weaker, Bool, CommentKind, CommentText, Contains, Contains-from_any, Decides, EndsReference, Extracted, FailsFirst, Flags, HaveFuzzyFlag, IsAdmittedName, IsBlank, IsWithoutBlanks, KeepsFlags, List, ListsFlags, ListsReferences, NamesAdmitted, NamesFlag, Reference, Translator, [], all_listed_flags, ap, append-nil, append_assoc, ap₂, arith, ascii, blank, both_ways, bytes_eq-Decides, cases_Bool, codes, cond, cond-false, cond-true, cond_both, end_parts, eqb-false, eqb-true, false, false_from_ne_true, false≢true, filter, first as keeps_first, flag, flags_of, fold, fold_push, from_end, fuzzy, fuzzy_of, get_or, here as fuzzy_here, inl, inr, is_blank, is_fuzzy_flag, is_not_empty, kept_is, last, later as fuzzy_later, length, list_any, list_any-append, list_any_at, listed_flags, listed_references, map, more as lists_more, ne_eqb, nil_from_length, no_flag, no_name, no_text, none, not, or-false, or-true, or_assoc, or_cases, or_from, or_left, or_parts, or_right, parts_of, prefix_len, reference, refl, repeated, skip_blanks, slice_split-cons_yes, slice_split_at, slice_split_none, subst, suc, sym, take, template, to_ascii_lowercase, trimmed, true, us_ascii, utf8, utf_8, with_flag, without_end, zero, ℕ, ◌++◌, ◌<◌, ◌==◌, ◌||◌, ◌↔◌, ◌∙◌, ◌∷◌, ◌≡◌, ◌≢◌}
 use Rattle.std.proofs.Common.{bytes_eq}
 use Rattle.po_syntax.proofs.Keywords.{skip_prefix}
 use Rattle.po_entry.proofs.EntryLayout.{lacks_fails}
@@ -116,7 +116,7 @@ list_flags =
     let lacks = All-weaker (λ b. (b == 44) ≡ false) (λ b. b ≢ 44) (λ b e. eqb-false b 44 e) in
     by_parts (λ b. b == 44) Named (λ part all. (kept (trimmed part) [], last (lacks part all) (names part)))
     (λ part b rest all is later. subst (λ a. Named (part ++ a ∷ rest)) (sym (eqb-true b 44 is))
-    (kept (trimmed part) [] ++ later.0, more (lacks part all) (names part) later.1))
+    (kept (trimmed part) [] ++ later.0, lists_more (lacks part all) (names part) later.1))
 
 named_is : {text : List ℕ} {here : List (List ℕ)} → NamesFlag text here → here ≡ kept (trimmed text) []
 named_is (no_flag {text = text} h) = ap (λ w. kept w []) (sym (is_trimmed text [] h))
@@ -129,7 +129,7 @@ flags_in texts = filter is_not_empty (map trimmed texts)
 are_flags : {text : List ℕ} {flags : List (List ℕ)} → ListsFlags text flags → flags ≡ listed_flags text
 are_flags (last {text = text} lacks here) =
     named_is here ∙ sym (ap flags_in (slice_split_none (λ b. b == 44) text (lacks_fails 44 text lacks)))
-are_flags (more {text = text} {rest = rest} {here = here} {later = later} lacks named others) =
+are_flags (lists_more {text = text} {rest = rest} {here = here} {later = later} lacks named others) =
     ap₂ (λ a l. a ++ l) (named_is named) (are_flags others) ∙ kept_append (trimmed text) (listed_flags rest)
     ∙ sym (ap flags_in (slice_split_at (λ b. b == 44) text 44 rest (lacks_fails 44 text lacks) refl))
 
@@ -195,12 +195,12 @@ keeps = from_end (λ named. KeepsFlags named (keep named)) none (λ named elemen
     ])
     (λ no.
     let absent = or_parts _ _ no in
-    first before (λ is. both_ways _ absent.0 ((bytes_eq-Decides element (codes "fuzzy")).1 is))
+    keeps_first before (λ is. both_ways _ absent.0 ((bytes_eq-Decides element (codes "fuzzy")).1 is))
     (λ there. both_ways _ absent.1 (among_passes named element there)))))
 
 kept_once : {named flags : List (List ℕ)} → KeepsFlags named flags → flags ≡ keep named
 kept_once none = refl
-kept_once (first {named = named} {flag = element} before other absent) =
+kept_once (keeps_first {named = named} {flag = element} before other absent) =
     let no = or_from _ _ (false_from_ne_true _ (λ e. other ((bytes_eq-Decides element (codes "fuzzy")).0 e)))
     (false_from_ne_true _ (λ e. absent (among_says named element e))) in
     ap (λ l. l ++ element ∷ []) (kept_once before) ∙ sym (keep_more named element ∙ cond-false _ _ _ no)
@@ -249,21 +249,21 @@ fuzzy_flagged (first ∷ after) h = by first.kind first.text h (fuzzy_flagged af
   by : (kind : CommentKind) (text : List ℕ) → fuzzy_of (record { kind = kind; text = text } ∷ after) ≡ true
       → (fuzzy_of after ≡ true → HaveFuzzyFlag after)
       → HaveFuzzyFlag (record { kind = kind; text = text } ∷ after)
-  by Translator text g more = later (more g)
-  by Extracted text g more = later (more g)
-  by Reference text g more = later (more g)
+  by Translator text g more = fuzzy_later (more g)
+  by Extracted text g more = fuzzy_later (more g)
+  by Reference text g more = fuzzy_later (more g)
   by Flags text g more = found (list_any is_fuzzy_flag (listed_flags text)) refl
       (sym (flags_first text after) ∙ g) where
         found : (b : Bool) → list_any is_fuzzy_flag (listed_flags text) ≡ b → (b || fuzzy_of after) ≡ true
             → HaveFuzzyFlag (record { kind = Flags; text = text } ∷ after)
-        found true e there = here (flags_of_text text) (fuzzy_among (listed_flags text) e)
-        found false e there = later (more there)
+        found true e there = fuzzy_here (flags_of_text text) (fuzzy_among (listed_flags text) e)
+        found false e there = fuzzy_later (more there)
 
 flagged_fuzzy : {comment_texts : List CommentText} → HaveFuzzyFlag comment_texts → fuzzy_of comment_texts ≡ true
-flagged_fuzzy (here {text = text} {flags = flags} {after = after} listed among) =
+flagged_fuzzy (fuzzy_here {text = text} {flags = flags} {after = after} listed among) =
     flags_first text after ∙ ap (λ (b : Bool). b || fuzzy_of after)
     (subst (λ l. list_any is_fuzzy_flag l ≡ true) ((flags_listed text flags).1 listed) (among_fuzzy flags among))
-flagged_fuzzy (later {first = first} {after = after} h) = by first.kind first.text (flagged_fuzzy h) where
+flagged_fuzzy (fuzzy_later {first = first} {after = after} h) = by first.kind first.text (flagged_fuzzy h) where
   by : (kind : CommentKind) (text : List ℕ) → fuzzy_of after ≡ true
       → fuzzy_of (record { kind = kind; text = text } ∷ after) ≡ true
   by Translator text g = g

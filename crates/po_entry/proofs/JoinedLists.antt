@@ -1,6 +1,6 @@
 -- The joined list of several texts, which omits later headers.
 use Rattle.po_entry.proofs.Prelude.{All-append, All-filter, All-head, All-map, All-nil, All-tail, All-weaker, Bool, CommentText, EndsInString, InputEntry, IsCatalogueEntry, List, OmitsLaterHeaders, SpellsEntries, SpellsHead, TextEntry, TextItem, [], and-false, and-true, any_map, ap, append_assoc, ap₂, arith, drop, drop_more, entries_from, entries_of, entries_of_inputs, false, filter, filter-append, filter_agree, filter_map, get_or, has_header_before, in_input, is_live_header, is_omitted, joined_from, kept_entries, le-ltb, length, list_any, list_any-append, lt-ltb, map, map-append, nat_lt, not, or-false, refl, subst, sym, true, ℕ, ◌&&◌, ◌++◌, ◌+◌, ◌<◌, ◌||◌, ◌∙◌, ◌∷◌, ◌≡◌, ◌≤◌}
-use Rattle.po_entry.specs.Spelling.{comments, entries, head_comment, nothing}
+use Rattle.po_entry.specs.Spelling.{comments, entries as spells_entries, head_comment, nothing}
 use Rattle.std.proofs.Common.{All}
 use Rattle.po_entry.proofs.Duplicates.{entries_of_input}
 
@@ -22,8 +22,8 @@ no_comment_last (head_comment {items = next ∷ items} c) h = let none : next �
 pub entries_joined : {prefix rest : List TextItem} {first others : List TextEntry} → SpellsEntries prefix first
     → EndsInString prefix → SpellsEntries rest others → SpellsEntries (prefix ++ rest) (first ++ others)
 entries_joined (comments c) ends g = rw (no_comment_last c ends) g
-entries_joined (entries {own = own} {items = items} spelt more) ends g =
-    rw append_assoc (entries spelt (entries_joined more (ends_rest own items ends) g))
+entries_joined (spells_entries {own = own} {items = items} spelt more) ends g =
+    rw append_assoc (spells_entries spelt (entries_joined more (ends_rest own items ends) g))
 
 pub kept_valid : (headed : Bool) (entries : List TextEntry) → All IsCatalogueEntry entries
     → All IsCatalogueEntry (kept_entries headed entries)

@@ -1,5 +1,5 @@
 -- Steps of the reader, which hang on what the next item is.
-use Rattle.po_reader.proofs.Prelude.{AfterForm, All, All-push, AreInOrder, AreSome, BadOrder, Before, Between, Bool, CommentText, EndsEntry, EndsHead, Entries, Err, Fault, Form, Gap, Id, In, InHead, IsApart, IsFaultOf, IsString, Keyword, List, Marks, MsgCtxt, MsgId, MsgIdPlural, MsgStr, MsgStrAt, Ok, OnOk, PoError, PoFault, PreviousText, Reached, Result, Row, SoFar, Some, Stage, Stop, Str, TextEntry, TextItem, Translation, Wanted, Word, [], add-one, after_head, and_parts, ap, ap₂, arith, begins_body, begins_form, begins_own, begins_string, begins_word, beq, bool_eq_equiv, booleans_Decides, closed, comes_to, drop, drop-cons, entry_at, eqb-true, false, false≢true, first_line, fold_stays, get_or, if◌then◌else◌, in_head, is_wanted, last_line, length, line_of, map, no_lines, none, not-true, opened, outcome, outcome_of, rank, reached, refl, same_marks, settled, settled_gap, slice_get, subst, suc, sym, take, take_all, taken_here, true, turn, view, views, with, with_entry, with_previous_text, without, zero, ℕ, ◌+◌, ◌-◌, ◌<◌, ◌↔◌, ◌∙◌, ◌∷◌, ◌≡◌, ◌≢◌, ◌≤◌}
+use Rattle.po_reader.proofs.Prelude.{AfterForm, All, All-push, AreInOrder, AreSome, BadOrder, Before, Between, Bool, CommentText, EndsEntry, EndsHead, Entries, Err, Fault, Form, Gap, Id, In, InHead, IsApart, IsFaultOf, IsString, Keyword, List, Marks, MsgCtxt, MsgId, MsgIdPlural, MsgStr, MsgStrAt, Ok, OnOk, PoError, PoFault, PreviousText, Reached, Result, Row, SoFar, Some, Stage, Stop, Str, TextEntry, TextItem, Translation, Wanted, Word, [], add-one, after_head, and_parts, ap, ap₂, arith, begins_body, begins_form, begins_own, begins_string, begins_word, beq, bool_eq_equiv, booleans_Decides, closed, comes_to, drop, drop-cons, entry_at, eqb-true, false, false≢true, first_line, fold_stays, get_or, if◌then◌else◌, in_head, is_wanted, last_line, length, line_of, map, no_lines, none as no_previous, not-true, opened, outcome, outcome_of, rank, reached, refl, same_marks, settled, settled_gap, slice_get, subst, suc, sym, take, take_all, taken_here, true, turn, view, views, with, with_entry, with_previous_text, without, zero, ℕ, ◌+◌, ◌-◌, ◌<◌, ◌↔◌, ◌∙◌, ◌∷◌, ◌≡◌, ◌≢◌, ◌≤◌}
 use Rattle.po_syntax.specs.declared.item.Item.{Item}
 use Rattle.std.specs.Prelude.{◌==◌}
 
@@ -20,7 +20,7 @@ rise_lower low above [] lt h = tt
 rise_lower low above (keyword ∷ some) lt h = (omega (arith, lt, h.0), h.1)
 
 some_rise : {some all : List Keyword} → AreSome some all → (above : ℕ) → Rise above all → Rise above some
-some_rise none above h = tt
+some_rise no_previous above h = tt
 some_rise (with {keyword = keyword} s) above h = (h.0, some_rise s (rank keyword) h.1)
 some_rise (without {keyword = keyword} {some = some} s) above h =
     rise_lower above (rank keyword) some h.0 (some_rise s (rank keyword) h.1)
@@ -29,23 +29,23 @@ pub order_rises : (previous : List PreviousText) → AreInOrder previous → Ris
 order_rises previous h = some_rise h 0 (omega arith, (omega arith, (omega arith, tt)))
 
 none_after : (some : List Keyword) → Rise 3 some → AreSome some []
-none_after [] h = none
+none_after [] h = no_previous
 none_after (MsgStr ∷ some) h = absurd (omega (arith, h.0))
 none_after (keyword ∷ some) h = absurd (omega (arith, h.0))
 
 after_id : (some : List Keyword) → Rise 2 some → AreSome some (MsgIdPlural ∷ [])
-after_id [] h = without none
+after_id [] h = without no_previous
 after_id (MsgIdPlural ∷ some) h = with (none_after some h.1)
 after_id (keyword ∷ some) h = absurd (omega (arith, h.0))
 
 after_context : (some : List Keyword) → Rise 1 some → AreSome some (MsgId ∷ MsgIdPlural ∷ [])
-after_context [] h = without (without none)
+after_context [] h = without (without no_previous)
 after_context (MsgId ∷ some) h = with (after_id some h.1)
 after_context (MsgIdPlural ∷ some) h = without (with (none_after some h.1))
 after_context (keyword ∷ some) h = absurd (omega (arith, h.0))
 
 rises_some : (some : List Keyword) → Rise 0 some → AreSome some (MsgCtxt ∷ MsgId ∷ MsgIdPlural ∷ [])
-rises_some [] h = without (without (without none))
+rises_some [] h = without (without (without no_previous))
 rises_some (MsgCtxt ∷ some) h = with (after_context some h.1)
 rises_some (MsgId ∷ some) h = without (with (after_id some h.1))
 rises_some (MsgIdPlural ∷ some) h = without (without (with (none_after some h.1)))

@@ -1,5 +1,5 @@
 -- The quoted form of a text: it spells the text, is UTF-8 as the text is, and holds no byte below space.
-use Rattle.po_syntax.proofs.Prelude.{All, All-append, All-cons, All-head, All-tail, Bool, IsAscii, IsAscii-cons, IsUtf8, IsUtf8-append, IsUtf8-from_ascii, IsUtf8-nil, List, None, Option, Some, SpellsString, WritesByte, WritesQuoted, WritesString, [], and_parts, ap, append-nil, append_assoc, arith, byte, cases_lt, closed, closing_quote, cond, cond-true, cond_both, control, delete, digit_char, digit_value, digit_value-digit_char, digits_value, encode_ascii, eqb-false, eqb-true, escape, escape_letter, false, flat_map-append, get_or, if◌then◌else◌, inl, inr, inside_one, is_control, is_raw, length, length_push, letter_value, lt-ltb, ltb-false, ltb-true, nat_lt, nat_tests, nil_from_length, octal, octal_escape, or_parts, prefix_len, prefix_len-le-length, prefix_len_passes, quoted, refl, rules, subst, suc, sym, take, take_all, take_more, true, written_byte, written_bytes, zero, ℕ, ◌%◌, ◌++◌, ◌+◌, ◌/◌, ◌<◌, ◌==◌, ◌||◌, ◌∙◌, ◌∷◌, ◌≡◌, ◌≢◌, ◌≤◌}
+use Rattle.po_syntax.proofs.Prelude.{All, All-append, All-cons, All-head, All-tail, Bool, IsAscii, IsAscii-cons, IsUtf8, IsUtf8-append, IsUtf8-from_ascii, IsUtf8-nil, List, None, Option, Some, SpellsString, WritesByte, WritesQuoted, WritesString, [], and_parts, ap, append-nil, append_assoc, arith, byte as writes_byte, cases_lt, closed, closing_quote, cond, cond-true, cond_both, control, delete, digit_char, digit_value, digit_value-digit_char, digits_value, encode_ascii, eqb-false, eqb-true, escape, escape_letter, false, flat_map-append, get_or, if◌then◌else◌, inl, inr, inside_one, is_control, is_raw, length, length_push, letter_value, lt-ltb, ltb-false, ltb-true, nat_lt, nat_tests, nil_from_length, octal, octal_escape, or_parts, prefix_len, prefix_len-le-length, prefix_len_passes, quoted, refl, rules, subst, suc, sym, take, take_all, take_more, true, written_byte, written_bytes, zero, ℕ, ◌%◌, ◌++◌, ◌+◌, ◌/◌, ◌<◌, ◌==◌, ◌||◌, ◌∙◌, ◌∷◌, ◌≡◌, ◌≢◌, ◌≤◌}
 use Rattle.std.specs.Option.{option_map_or}
 use Rattle.po_syntax.specs.Quoting.{letter, plain}
 use Rattle.po_syntax.specs.Escape.{letter as letter_escape, plain as plain_byte}
@@ -92,7 +92,7 @@ string_written : (bytes : List ℕ) → WritesString bytes (written_bytes bytes 
 string_written [] = closing_quote
 string_written (b ∷ bytes) =
     subst (WritesString (b ∷ bytes)) (sym (append_assoc (written_byte b) (written_bytes bytes) (34 ∷ [])))
-    (byte (byte_written b) (string_written bytes))
+    (writes_byte (byte_written b) (string_written bytes))
 
 pub quoted_written : (bytes : List ℕ) → WritesQuoted bytes (quoted bytes)
 quoted_written bytes = (written_bytes bytes ++ 34 ∷ [], refl, string_written bytes)

@@ -5,7 +5,7 @@ use Rattle.mo_file.specs.declared.fault.MoError.{MoError}
 use Rattle.plural_rule.specs.Prelude.{IsRuleOf, RuleView, expression_limit}
 use Rattle.po_compile.specs.declared.options.Compiled.{Compiled}
 use Rattle.gettext.specs.Prelude.{IsLookUpRun, Opens, Request, output_of}
-use Rattle.gettext.specs.Plan.Opens.{none, opened, refused}
+use Rattle.gettext.specs.Plan.Opens.{none, opened, refused as look_up_refused}
 use Rattle.po_syntax.specs.declared.fault.PoError.{PoError}
 use Rattle.po_syntax.specs.declared.fault.PoFault.TheVariants.{Duplicate, ForeignCharset}
 use Rattle.msgcat.specs.Msgcat.{first_name}
@@ -36,11 +36,14 @@ module _ (unique : OneMessageList) (no_fault : NoFaultOfMoFile) (one_fault : One
       let rule = same_rule catalog.messages other.messages catalog.rule other.rule messages are are' in
       let head = ap₂ (λ m r. record { messages = m; rule = r }) messages rule in
       let rest = one_chain opens opens' in (ap₂ (λ (c : CatalogView) list. c ∷ list) head rest.0, rest.1)
-  one_chain (opened {file = file} {catalog = catalog} order is are opens) (refused {fault = fault} first opens') =
+  one_chain (opened {file = file} {catalog = catalog} order is are opens)
+      (look_up_refused {fault = fault} first opens') =
       absurd (no_fault file.bytes order catalog.messages fault is first)
-  one_chain (refused {fault = fault} first opens) (opened {file = file} {catalog = catalog} order is are opens') =
+  one_chain (look_up_refused {fault = fault} first opens)
+      (opened {file = file} {catalog = catalog} order is are opens') =
       absurd (no_fault file.bytes order catalog.messages fault is first)
-  one_chain {tool = tool} (refused {file = file} {fault = fault} first opens) (refused {fault = other} also opens') =
+  one_chain {tool = tool} (look_up_refused {file = file} {fault = fault} first opens)
+      (look_up_refused {fault = other} also opens') =
       let fault_is = one_fault file.bytes fault other first also in
       let rest = one_chain opens opens' in
       (rest.0, ap₂ (λ (f : MoError) text. fault_line tool file.name 0 (mo_text f) ++ text) fault_is rest.1)

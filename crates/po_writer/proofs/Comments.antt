@@ -1,5 +1,5 @@
 -- The comments and previous texts of a written entry give its fields back.
-use Rattle.po_writer.proofs.Prelude.{All, All-cons, All-head, All-nil, All-right, All-tail, AreDistinct, Bool, Comment, CommentKind, CommentText, Contains, Extracted, Flags, HoldsItems, IsReference, IsTranslatorComment, List, PreviousText, Reference, SpellsComment, SpellsHead, TextItem, Translator, [], all_flags, ap, append-nil, append_assoc, ap₂, arith, bytes_eq, codes, comment, comment_lines, cond, drop, elements_line, eqb-true, extracted, false, false_from_ne_true, filter, filter-append, flags, flat_map, get_or_default, head_comment, is_blank, is_fuzzy_flag, is_mark, is_not_empty, length, length-append, list_any, listed_flags, listed_references, map, map-append, ne_eqb, nothing, or_parts, prefix_len, previous_text, reference, refl, same_from_push, same_kind, skip_blanks, slice_index_or, slice_split, slice_split_at, slice_split_none, subst, suc, sym, texts_of, translator, trim_returns, trimmed, true, with_flag, without_end, ℕ, ◌++◌, ◌+◌, ◌<◌, ◌==◌, ◌||◌, ◌∙◌, ◌∷◌, ◌≡◌, ◌≢◌}
+use Rattle.po_writer.proofs.Prelude.{All, All-cons, All-head, All-nil, All-right, All-tail, AreDistinct, Bool, Comment, CommentKind, CommentText, Contains, Extracted, Flags, HoldsItems, IsReference, IsTranslatorComment, List, PreviousText, Reference, SpellsComment, SpellsHead, TextItem, Translator, [], all_flags, ap, append-nil, append_assoc, ap₂, arith, bytes_eq, codes, comment, comment_lines, cond, drop, elements_line, eqb-true, extracted as extracted_mark, false, false_from_ne_true, filter, filter-append, flags as flags_mark, flat_map, get_or_default, head_comment, is_blank, is_fuzzy_flag, is_mark, is_not_empty, length, length-append, list_any, listed_flags, listed_references, map, map-append, ne_eqb, nothing, or_parts, prefix_len, previous_text, reference, refl, same_from_push, same_kind, skip_blanks, slice_index_or, slice_split, slice_split_at, slice_split_none, subst, suc, sym, texts_of, translator, trim_returns, trimmed, true, with_flag, without_end, ℕ, ◌++◌, ◌+◌, ◌<◌, ◌==◌, ◌||◌, ◌∙◌, ◌∷◌, ◌≡◌, ◌≢◌}
 use Rattle.std.proofs.Common.{fold}
 use Rattle.po_syntax.specs.Facts.Runs.{FailsLast, end_parts, from_end, kept_is}
 use Rattle.po_writer.proofs.Utf8Lines.{IsLine, line-append, plain_line}
@@ -311,13 +311,13 @@ comments_block kind mark (text ∷ texts) h =
     (comments_block kind mark texts (All-tail (IsMarked kind mark) text texts h))
 
 pub extracted_shape : (text : List ℕ) → IsCommentLine Extracted (codes "#." ++ text) text
-extracted_shape text = (refl, extracted)
+extracted_shape text = (refl, extracted_mark)
 
 pub reference_shape : (text : List ℕ) → IsCommentLine Reference (codes "#:" ++ text) text
 reference_shape text = (refl, reference)
 
 pub flags_shape : (text : List ℕ) → IsCommentLine Flags (codes "#," ++ text) text
-flags_shape text = (refl, flags)
+flags_shape text = (refl, flags_mark)
 
 mark_contained : (b : ℕ) → is_mark b ≡ true → Contains (codes ".:,|~") b
 mark_contained b e =

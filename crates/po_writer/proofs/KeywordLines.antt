@@ -1,5 +1,5 @@
 -- A keyword with its text, on one line or more, spells the keyword and strings that give the text.
-use Rattle.po_writer.proofs.Prelude.{All, All-cons, All-head, All-nil, All-tail, HoldsItems, HoldsTokens, IsBlank, IsText, Keyword, List, Marks, MsgCtxt, MsgId, MsgIdPlural, MsgStr, MsgStrAt, SpellsKeyword, SpellsKeywordText, SpellsStrings, Str, TextItem, Word, [], ap, append-nil, append_assoc, arith, blank, codes, cond_both, decimal, end, false, flat_map, keyword, keyword_lines, keyword_text, length, lines_are, lines_with_ends, live, more, msgctxt, msgid, msgid_plural, msgstr, nat_lt, obsolete, obsolete_previous, previous, quoted, refl, string, string_line, subst, sym, true, written_bytes, ℕ, ◌++◌, ◌<◌, ◌^◌, ◌∙◌, ◌∷◌, ◌≡◌, ◌≤◌}
+use Rattle.po_writer.proofs.Prelude.{All, All-cons, All-head, All-nil, All-tail, HoldsItems, HoldsTokens, IsBlank, IsText, Keyword, List, Marks, MsgCtxt, MsgId, MsgIdPlural, MsgStr, MsgStrAt, SpellsKeyword, SpellsKeywordText, SpellsStrings, Str, TextItem, Word, [], ap, append-nil, append_assoc, arith, blank, codes, cond_both, decimal, end, false, flat_map, keyword as keyword_token, keyword_lines, keyword_text, length, lines_are, lines_with_ends, live, more, msgctxt, msgid, msgid_plural, msgstr, nat_lt, obsolete, obsolete_previous, previous, quoted, refl, string, string_line, subst, sym, true, written_bytes, ℕ, ◌++◌, ◌<◌, ◌^◌, ◌∙◌, ◌∷◌, ◌≡◌, ◌≤◌}
 use Rattle.po_syntax.specs.Prelude.{own_marks, previous_marks}
 use Rattle.po_syntax.proofs.QuotedForms.{bytes_spell}
 use Rattle.std.specs.Str.Parse.{AllDigits, IsNumeral, digits_value}
@@ -60,7 +60,7 @@ pub keyword_spells : (prefix spelling : List ℕ) (word : Keyword) (marks : Mark
     → HoldsItems number (prefix ++ (spelling ++ 32 ∷ quoted text)) (Word word marks number ∷ Str text marks number ∷ [])
 keyword_spells prefix spelling word marks number text h k some =
     h number (spelling ++ 32 ∷ quoted text) (Word word marks number ∷ Str text marks number ∷ [])
-    (keyword (k (written_bytes text ++ 34 ∷ [])) (blank refl (string_tokens marks number text some)))
+    (keyword_token (k (written_bytes text ++ 34 ∷ [])) (blank refl (string_tokens marks number text some)))
 
 numbered_keyword : (digits rest : List ℕ) (index : ℕ) → IsNumeral 10 digits → digits_value 10 digits ≡ index
     → index < 2 ^ 32

@@ -1,5 +1,5 @@
 -- A written entry reads as the entry, but for its line.
-use Rattle.po_writer.proofs.Prelude.{All, All-cons, All-head, All-left, All-right, All-tail, All-weaker, AllPass-from_list_all, AreInOrder, Bool, CommentKind, CommentText, Extracted, Flags, IfSome, IsComment, IsEntry, IsFlag, IsReference, IsText, IsTranslatorComment, Keyword, List, MsgCtxt, MsgId, MsgIdPlural, MsgStr, MsgStrAt, None, Option, PreviousText, Reference, Some, SpellsBody, SpellsContext, SpellsEntry, SpellsForms, SpellsHead, SpellsKeywordText, SpellsTranslation, TextEntry, TextItem, TextPrevious, Translator, [], all_flags, all_listed_flags, ap, append-nil, arith, codes, comment_lines, decimal, elements_line, entry, entry_lines, false, flags_of, flat_map, form_lines, fuzzy_of, is_fuzzy_flag, keyword_lines, length, length-append, list_any, listed_flags, listed_references, ne_eqb, not, not-true, option_to_list, optional_lines, own_lines, own_marks, own_prefix, previous_lines, previous_marks, previous_of, previous_prefix, references_of, refl, subst, texts_of, translation_lines, true, with, with_flag, with_head, with_line, without, ℕ, ◌++◌, ◌+◌, ◌<◌, ◌==◌, ◌^◌, ◌∙◌, ◌∷◌, ◌≡◌}
+use Rattle.po_writer.proofs.Prelude.{All, All-cons, All-head, All-left, All-right, All-tail, All-weaker, AllPass-from_list_all, AreInOrder, Bool, CommentKind, CommentText, Extracted, Flags, IfSome, IsComment, IsEntry, IsFlag, IsReference, IsText, IsTranslatorComment, Keyword, List, MsgCtxt, MsgId, MsgIdPlural, MsgStr, MsgStrAt, None, Option, PreviousText, Reference, Some, SpellsBody, SpellsContext, SpellsEntry, SpellsForms, SpellsHead, SpellsKeywordText, SpellsTranslation, TextEntry, TextItem, TextPrevious, Translator, [], all_flags, all_listed_flags, ap, append-nil, arith, codes, comment_lines, decimal, elements_line, entry as spells_entry, entry_lines, false, flags_of, flat_map, form_lines, fuzzy_of, is_fuzzy_flag, keyword_lines, length, length-append, list_any, listed_flags, listed_references, ne_eqb, not, not-true, option_to_list, optional_lines, own_lines, own_marks, own_prefix, previous_lines, previous_marks, previous_of, previous_prefix, references_of, refl, subst, texts_of, translation_lines, true, with, with_flag, with_head, with_line, without, ℕ, ◌++◌, ◌+◌, ◌<◌, ◌==◌, ◌^◌, ◌∙◌, ◌∷◌, ◌≡◌}
 use Rattle.po_entry.specs.Spelling.{none}
 use Rattle.po_writer.proofs.WrittenLines.{Block, empty_block, two_blocks, weaker_block}
 use Rattle.po_writer.proofs.KeywordLines.{IsLineKeyword, IsLinePrefix, TextPart, context_written, id_written, no_prefix, numbered, own_obsolete, plural_written, previous_live, previous_obsolete, single_written, text_block}
@@ -212,8 +212,11 @@ entry_back e line h =
 
 entry_part : (e : TextEntry) (head own : List TextItem) → IsEntry e
     → HeadPart (entry_comments e) (all_previous e.previous) head → BodyPart e own → EntryPart e (head ++ own)
-entry_part e head own valid h g =
-    (g.0, subst (λ x. SpellsEntry (head ++ own) x) (entry_back e g.0 valid) (entry h (previous_kept e.previous).1 g.1))
+entry_part e head own valid h g = (
+  g.0,
+  subst (λ x. SpellsEntry (head ++ own) x) (entry_back e g.0 valid)
+      (spells_entry h (previous_kept e.previous).1 g.1),
+)
 
 translator_marked : (text : List ℕ) → IsTranslatorComment text → IsMarked Translator (codes "#") text
 translator_marked text g =

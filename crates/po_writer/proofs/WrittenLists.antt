@@ -1,6 +1,6 @@
 -- Entries that are written one after another, in parts, or again.
 use Rattle.po_writer.proofs.Prelude.{All, All-push, All-weaker, AreAdded, AreParts, Bool, FollowEntries, HasParts, IsArranged, IsEntry, IsOwnPrefix, IsPreviousPrefix, List, None, Option, Some, StandInOrder, TextEntry, TextParts, WritesComments, WritesElements, WritesEntry, WritesFlags, WritesForms, WritesFurther, WritesKeyword, WritesOptional, WritesTranslation, [], absent, after_empty_line, all_flags, all_pass, ap, append-nil, append_assoc, arith, arranged, codes, comment_lines, cond, decimal, elements_line, entry_lines, eqb-false, eqb-true, false, filter, filter-append, filter_passes, first_entry, flat_map, fold, fold-append, fold_push, form, form_lines, fuzzy, in_order, join_by, keyword_lines, length, length-append, line, line_end, live_before, live_first, map, map-append, ne_eqb, next_element, no_comments, no_entries, no_forms, no_further, no_line, no_text, none_pass, not, not-true, not_from_true, obsolete_first, only, optional_lines, own, own_lines, own_live, own_obsolete, own_prefix, plain, present, previous_live, previous_obsolete, previous_prefix, refl, subst, sym, text_lines, translation_lines, true, vec_len, with_entry, with_line, with_plural, written, written_text, ℕ, ◌++◌, ◌+◌, ◌<◌, ◌==◌, ◌∙◌, ◌∷◌, ◌≡◌}
-use Rattle.po_writer.specs.Laws.{comment, entry, previous}
+use Rattle.po_writer.specs.Laws.{comment, entry as writes_entry, previous}
 use Rattle.po_writer.proofs.WrittenLines.{texts_are_written}
 
 some_after : (xs ys : List ℕ) → 0 < length ys → 0 < length (xs ++ ys)
@@ -291,7 +291,7 @@ pub entry_written : (e : TextEntry) → IsEntry e → WritesEntry e (entry_lines
 entry_written e valid =
     let before = previous_prefix e.obsolete in
     let prefix = own_prefix e.obsolete in
-    entry (comments_written (codes "#") e.comments) (comments_written (codes "#.") e.extracted)
+    writes_entry (comments_written (codes "#") e.comments) (comments_written (codes "#.") e.extracted)
     (elements_written (codes "#: ") (codes " ") e.references) (flags_written e.fuzzy e.flags)
     (previous (before_previous e.obsolete) (optional_written before (codes "msgctxt") e.previous.context)
     (optional_written before (codes "msgid") e.previous.id)

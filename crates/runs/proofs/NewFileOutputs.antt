@@ -1,5 +1,5 @@
 -- An output that a new file takes is there whole, or as it was, and gives nobody more than before.
-use Rattle.runs.proofs.Prelude.{Among, CannotCreate, Course, Destination, Each, Exists, Failed, FileCall, Files, Fills, Finishes, FitsKind, Forbidden, GivesAll, GivesNoMore, GivesNobodyMore, GivesNothingAway, HasRights, IsAllowed, IsBeside, IsNoLink, IsReplaceable, IsWholeOrAsItWas, IsWholeOrAsItWasThroughout, IsWhose, IsWrittenInPlace, KeepsMode, Leads, List, None, Option, OutOfMemory, OutputFault, Owner, PathState, Puts, Regular, Replaces, Rights, Some, Special, Unknown, WriteFault, WritesFile, WritesInPlace, WritesStream, [], after, all_taken, along, ap, asks, beside, closes, cut, failed, fails, fails_to_make, fails_to_read_link, false, fault_of, file, file_at, first_mode, follows, forbidden, in_place, inl, inr, kept_mode, lacking, late, link, made, makes, no_memory, nothing, numbers, opened, put, reads_link, refl, removes, renames, replaced, replaces, replaces_none, rules, sets_mode, sets_owner, special, stops, stream, stream_of, subst, sym, taken, to_stream, too_long, true, unknown, unmoved, unnamed, unopened, unput, unwritten, whole, with_bytes, with_mode, with_owner, with_rights, without_rights, ℕ, ◌∙◌, ◌≡◌, ◌≢◌, ◌⊎◌, ◌▸◌}
+use Rattle.runs.proofs.Prelude.{Among, CannotCreate, Course, Destination, Each, Exists, Failed, FileCall, Files, Fills, Finishes, FitsKind, Forbidden, GivesAll, GivesNoMore, GivesNobodyMore, GivesNothingAway, HasRights, IsAllowed, IsBeside, IsNoLink, IsReplaceable, IsWholeOrAsItWas, IsWholeOrAsItWasThroughout, IsWhose, IsWrittenInPlace, KeepsMode, Leads, List, None, Option, OutOfMemory, OutputFault, Owner, PathState, Puts, Regular, Replaces, Rights, Some, Special, Unknown, WriteFault, WritesFile, WritesInPlace, WritesStream, [], after, all_taken, along, ap, asks, beside, closes, cut, failed, fails, fails_to_make, fails_to_read_link, false, fault_of, file, file_at, first_mode, follows, forbidden, in_place, inl, inr, kept_mode, lacking, late, link, made as makes_file, makes, no_memory, nothing, numbers, opened as opens_file, put, reads_link, refl, removes, renames, replaced, replaces, replaces_none, rules, sets_mode, sets_owner, special, stops, stream, stream_of, subst, sym, taken, to_stream, too_long, true, unknown, unmoved, unnamed, unopened, unput, unwritten, whole, with_bytes, with_mode, with_owner, with_rights, without_rights, ℕ, ◌∙◌, ◌≡◌, ◌≢◌, ◌⊎◌, ◌▸◌}
 use Rattle.runs.specs.OutputFiles.{done}
 use Rattle.runs.proofs.OutputsInPlace.{Ends, as_it_was, idle, next, no_fault, nothing_given, put_elsewhere, put_there, same_or_other, same_path, stop, stopped, taken_all, writes_in_place, writes_stream}
 use Rattle.runs.proofs.KeptRights.{nobody_gets_more, private_gives_nobody_more}
@@ -197,7 +197,7 @@ replaces_target : {output target : List ℕ} {old : Option Rights} {tries : ℕ}
     → IsAsked old (files.at target) → GivesAll course files → Replaces output target old tries course
     → Ends output (file_at target) files course files
 replaces_target files asked gives (unnamed {number}) = idle (numbers number) refl (stop OutOfMemory)
-replaces_target {target} files asked gives (made {number} few filled) =
+replaces_target {target} files asked gives (makes_file {number} few filled) =
     idle (numbers number) refl
     (fills files gives.1.0.0 (beside_is_another number few target) asked gives.1.0.1 filled)
 replaces_target {target} {old} files asked gives (taken {number} rest) =
@@ -229,7 +229,7 @@ module _ (to : Destination) (around : Course) where
   in_place_allowed : {output path : List ℕ} {rest : Course} → to ≡ file_at path → IsWrittenInPlace path around
       → WritesInPlace output path rest → Each (IsAllowed to around) rest
   in_place_allowed is may unopened = (tt, tt)
-  in_place_allowed is may (opened puts) = ((is, may), puts_allowed puts)
+  in_place_allowed is may (opens_file puts) = ((is, may), puts_allowed puts)
 
   stream_allowed : {output : List ℕ} {number : ℕ} {rest : Course} → to ≡ stream_of number
       → WritesStream output number rest
@@ -259,7 +259,7 @@ module _ (to : Destination) (around : Course) where
       → ((call : FileCall) → Among course call → Among around call) → Replaces output target old tries course
       → Each (IsAllowed to around) course
   replaces_allowed is replaceable asked inside unnamed = (tt, tt)
-  replaces_allowed {target} is replaceable asked inside (made few filled) =
+  replaces_allowed {target} is replaceable asked inside (makes_file few filled) =
       (tt, ((target, is, (_, refl)), fill_allowed is (_, refl) replaceable filled))
   replaces_allowed is replaceable asked inside (taken rest) =
       (tt, (tt, replaces_allowed is replaceable asked (λ call among. inside call (inr (inr among))) rest))
