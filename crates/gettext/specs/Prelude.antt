@@ -1,4 +1,5 @@
--- What contracts and proofs cite of the definitions of this crate. Declares nothing.
+-- What contracts and proofs cite of the crates below and of this one. Declares nothing.
+pub use Rattle.runs.specs.Prelude.{Stays, named_files, run_view}
 pub use Rattle.gettext.specs.Count.{GivesCount, SpellsAfter, SpellsNumber, are_digits, is_count}
 unfoldable pub use Rattle.gettext.specs.Count.{count_in}
 pub use Rattle.gettext.specs.Escape.{Expands, IsNoEscape, NoOctalFirst, SpellsByte, expansion, given_bytes, has_no_newline, is_octal, letter, octal_prefix, octal_value, with_octal}

@@ -1,8 +1,7 @@
 //! The compiled catalogues of a text domain.
 ghost use Rattle.std.specs.Prelude.{◌≡◌, ◌^◌, ◌<◌, IfOk, IfSome, OnErr, OnOk, length, map, option_map, take};
 ghost use Rattle.std.specs.Option.{option_copied};
-ghost use Rattle.gettext.specs.Prelude.{AreCatalogues, AreFound, AsksAt, AsksPaths, IsCatalogueAt, catalogue_file, catalogue_files, given_domain, searching, catalogue_limit};
-ghost use Rattle.runs.specs.Prelude.{Stays, named_files};
+ghost use Rattle.gettext.specs.Prelude.{AreCatalogues, AreFound, AsksAt, AsksPaths, IsCatalogueAt, Stays, catalogue_file, catalogue_files, catalogue_limit, given_domain, named_files, searching};
 
 use crate::environment::{OwnedEnvironment, VariableSource};
 use crate::paths::catalogue_paths;

@@ -4,11 +4,10 @@ ghost use Rattle.std.specs.List.{list_any};
 ghost use Rattle.std.specs.Option.{option_copied};
 ghost use Rattle.mo_file.specs.Prelude.{IsFirstFault};
 ghost use Rattle.mo_lookup.specs.Prelude.{chain_answered, given};
-ghost use Rattle.runs.specs.Prelude.{run_view, named_files};
+ghost use Rattle.gettext.specs.Prelude.{gettext_view, named_files, ngettext_view, request_view, run_view};
 ghost use Rattle.gettext.specs.Internal.Plan.{Joins};
 ghost use Rattle.gettext.specs.Plan as Spec;
 ghost use Rattle.gettext.specs.Plan.{for_count, for_messages};
-ghost use Rattle.gettext.specs.Prelude.{gettext_view, ngettext_view, request_view};
 
 use crate::catalogues::bytes_of;
 use crate::count::count_of;

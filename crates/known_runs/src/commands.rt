@@ -1,11 +1,7 @@
 //! Commands that make a file.
 ghost use Rattle.std.specs.Prelude.{codes, option_map};
-ghost use Rattle.known_runs.specs.Prelude.{EndsInFile, end_of, EndsMsgfmt, EndsThroughLinks, all_as_they_are, all_messages, two_files};
+ghost use Rattle.known_runs.specs.Prelude.{EndsInFile, EndsMsgfmt, EndsThroughLinks, IsMsgattribRun, IsMsgcatRun, IsMsgunfmtRunOf, all_as_they_are, all_messages, end_of, links_by_path, texts_by_name, two_files};
 ghost use Rattle.known_runs.specs.Internal.{EndsOverFiles};
-ghost use Rattle.known_system.specs.Prelude.{links_by_path, texts_by_name};
-ghost use Rattle.msgattrib.specs.Prelude.{IsMsgattribRun};
-ghost use Rattle.msgcat.specs.Prelude.{IsMsgcatRun};
-ghost use Rattle.msgunfmt.specs.Prelude.{IsMsgunfmtRunOf};
 
 use crate::in_memory::{Ended, run_in_memory};
 use crate::words::Words;

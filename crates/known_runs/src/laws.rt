@@ -1,11 +1,7 @@
 //! Laws of whole commands. Each function does nothing; calling it gives its clauses.
 ghost use Rattle.std.specs.Prelude.{ℕ, List, Option, codes};
 ghost use Rattle.envsubst.specs.Prelude.{Values};
-ghost use Rattle.known_runs.specs.Prelude.{EndsInFile, OneEnd, EndsLookUp, EndsMsgfmt, all_as_they_are, all_messages, two_files, EndsSubstituted};
-ghost use Rattle.mo_lookup.specs.Prelude.{Query};
-ghost use Rattle.msgattrib.specs.Prelude.{IsMsgattribRun};
-ghost use Rattle.msgcat.specs.Prelude.{IsMsgcatRun};
-ghost use Rattle.msgunfmt.specs.Prelude.{IsMsgunfmtRunOf};
+ghost use Rattle.known_runs.specs.Prelude.{EndsInFile, EndsLookUp, EndsMsgfmt, EndsSubstituted, IsMsgattribRun, IsMsgcatRun, IsMsgunfmtRunOf, OneEnd, Query, all_as_they_are, all_messages, two_files};
 
 use mo_lookup::one_rule;
 use po_compile::laws::catalogues_are_one;

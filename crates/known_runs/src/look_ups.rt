@@ -1,8 +1,7 @@
 //! Look-ups in a catalogue that is compiled from a text.
 ghost use Rattle.std.specs.Prelude.{◌≡◌, ◌∷◌, [], MatchResult, map};
 ghost use Rattle.known_runs.specs.Internal.{AsksFor};
-ghost use Rattle.known_runs.specs.Prelude.{end_of, EndsLookUp, counted, message, status_or_memory, plain};
-ghost use Rattle.mo_lookup.specs.Prelude.{Query};
+ghost use Rattle.known_runs.specs.Prelude.{EndsLookUp, Query, counted, end_of, message, plain, status_or_memory};
 ghost use Rattle.po_compile.specs.Prelude.{IsCompileFault};
 
 use crate::in_memory::{Ended, run_in_memory};

@@ -1,8 +1,7 @@
 //! Standard input with its references to variables replaced.
 ghost use Rattle.std.specs.Prelude.{◌≡◌};
 ghost use Rattle.std.specs.Option.{option_copied, option_to_list};
-ghost use Rattle.known_runs.specs.Prelude.{end_of, EndsSubstituted, IsStatusOrInputFault, operands_of, values_by};
-ghost use Rattle.known_system.specs.Prelude.{entry_texts};
+ghost use Rattle.known_runs.specs.Prelude.{EndsSubstituted, IsStatusOrInputFault, end_of, entry_texts, operands_of, values_by};
 
 use crate::in_memory::{Ended, run_in_memory};
 use crate::words::Words;

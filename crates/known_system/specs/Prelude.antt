@@ -1,4 +1,5 @@
--- What contracts and proofs cite of the definitions of this crate. Declares nothing.
+-- What contracts and proofs cite of the crates below and of this one. Declares nothing.
+pub use Rattle.runs.specs.Prelude.{Asked, Course, FileCall, RunView, SystemView, Writes, WritesFile, calls_of, counted_inner, fault_of}
 pub use Rattle.known_system.specs.CallCode.{calls_code}
 pub use Rattle.known_system.specs.Noted.{noted}
 pub use Rattle.known_system.specs.Source.{bytes_of, entry_texts, reading_of, texts_by_name}

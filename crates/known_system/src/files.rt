@@ -1,7 +1,6 @@
 //! Files in memory, of one folder: links, one file, which may be there, and a new file beside it.
 ghost use Rattle.std.specs.Prelude.{◌≡◌, ◌++◌, [], Some, None};
-ghost use Rattle.known_system.specs.Prelude.{links_by_path, tellings, stored, Place, folder, replay, nothing, telling};
-ghost use Rattle.runs.specs.Prelude.{counted_inner};
+ghost use Rattle.known_system.specs.Prelude.{Place, counted_inner, folder, links_by_path, nothing, replay, stored, telling, tellings};
 
 use crate::history::{History, Note};
 use crate::stored::{Link, Stored, is_at, is_free, link_at, unless_at, with_bytes, with_path};

@@ -1,8 +1,7 @@
 //! The calls that a system was asked. They exist only in proofs, and take no memory.
 ghost use Rattle.std.specs.Prelude.{◌≡◌, List, [], ◌∷◌, ◌++◌};
 ghost use base.Fml.{ftrue};
-ghost use Rattle.runs.specs.Prelude.{FileCall};
-ghost use Rattle.known_system.specs.Prelude.{calls_code};
+ghost use Rattle.known_system.specs.Prelude.{FileCall, calls_code};
 
 use runs::{Counted, FileKind, MakeFault, OutputFault, Owner};
 use std::marker::Model;

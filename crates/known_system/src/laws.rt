@@ -1,7 +1,6 @@
 //! Laws of a known system. Each function does nothing; calling it gives its clause.
 ghost use Rattle.std.specs.Prelude.{◌≡◌, ℕ, List, Some, Result};
-ghost use Rattle.known_system.specs.Prelude.{Contents, Holds, Leaves, Left, Folder, Links, Place, folder, replay};
-ghost use Rattle.runs.specs.Prelude.{Course, calls_of, fault_of, WritesFile, SystemView, RunView, Writes};
+ghost use Rattle.known_system.specs.Prelude.{Contents, Course, Folder, Holds, Leaves, Left, Links, Place, RunView, SystemView, Writes, WritesFile, calls_of, fault_of, folder, replay};
 ghost use Rattle.runs.specs.declared.program_fault.ProgramFault.{ProgramFault};
 
 /// The calls by which an output is made leave all of it where its path leads, or the file that was

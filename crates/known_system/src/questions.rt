@@ -1,8 +1,7 @@
 //! What a source of inputs was asked for. It exists only in proofs, and takes no memory.
 ghost use Rattle.std.specs.Prelude.{◌≡◌, List, [], ◌∷◌, ◌++◌};
 ghost use base.Fml.{ftrue};
-ghost use Rattle.runs.specs.Prelude.{Asked};
-ghost use Rattle.known_system.specs.Prelude.{asked_code};
+ghost use Rattle.known_system.specs.Prelude.{Asked, asked_code};
 
 use std::marker::Model;
 

@@ -1,4 +1,5 @@
--- What contracts and proofs cite of the definitions of this crate. Declares nothing.
+-- What contracts and proofs cite of the crates below and of this one. Declares nothing.
+pub use Rattle.mo_file.specs.Prelude.{AreRising, HasMagicOf, IsMoFile, Message, borrowed_message, end_at, key_cmp, key_of, keys, message_count, messages_of, messages_of_borrowed, string_at}
 pub use Rattle.mo_expand.specs.Segments.{from_segment, inserted, join, name_of, part, terminated_part, text_at, text_of}
 unfoldable pub use Rattle.mo_expand.specs.Segments.{joined}
 pub use Rattle.mo_expand.specs.Laws.{AreSegments, ExampleIsCompleted, ExampleNeedsItsText, ExpandedFileIsMoFile, FirstTextCounts, IsBeforeNul, IsName, IsPart, IsSystemNumber, MessageIsAddedInOrder, MessageIsItsStrings, MoFileIsInOrder, OneOrder, OrderAloneIsTold, SameMessageUnderKey, SortedFileIsMoFile, TextIsItsSegments}

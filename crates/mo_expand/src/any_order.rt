@@ -2,8 +2,7 @@
 
 ghost use Rattle.std.specs.Prelude.{◌≡◌, ◌+◌, ◌*◌, ◌<◌, ◌≤◌, List, length, MatchOption};
 ghost use Rattle.mo_file.specs.declared.byte_order.Order.{Order};
-ghost use Rattle.mo_file.specs.Prelude.{HasMagicOf, message_count, Message, messages_of_borrowed, end_at, messages_of, string_at};
-ghost use Rattle.mo_expand.specs.Prelude.{IsFileInAnyOrder};
+ghost use Rattle.mo_expand.specs.Prelude.{HasMagicOf, IsFileInAnyOrder, Message, end_at, message_count, messages_of, messages_of_borrowed, string_at};
 
 use mo_file::{BorrowedPair, Meter, MoError, MoView, Order, word};
 

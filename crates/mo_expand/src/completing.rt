@@ -2,8 +2,7 @@
 
 ghost use Rattle.std.specs.Prelude.{◌≡◌, ◌+◌, ◌<◌, ◌≤◌, None, IfSome, length, take};
 ghost use Rattle.std.specs.List.{sum_by};
-ghost use Rattle.mo_file.specs.Prelude.{AreRising, keys, messages_of_borrowed};
-ghost use Rattle.mo_expand.specs.Prelude.{system_count, expanded_messages, strings_len, system_messages};
+ghost use Rattle.mo_expand.specs.Prelude.{AreRising, expanded_messages, keys, messages_of_borrowed, strings_len, system_count, system_messages};
 
 use crate::expanding::{count_in, expand_in};
 use crate::joining::Missing;

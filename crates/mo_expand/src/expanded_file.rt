@@ -2,9 +2,8 @@
 
 ghost use Rattle.std.specs.Prelude.{◌≡◌, List, length};
 ghost use Rattle.mo_file.specs.declared.byte_order.Order.{Order};
-ghost use Rattle.mo_file.specs.Prelude.{Message, IsMoFile};
+ghost use Rattle.mo_expand.specs.Prelude.{IsExpandedFile, IsMoFile, Message};
 ghost use Rattle.mo_expand.specs.declared.expanded_file.ExpandedFile.TheVariants.{NotMoFile};
-ghost use Rattle.mo_expand.specs.Prelude.{IsExpandedFile};
 
 use crate::completing::add_completed;
 use crate::expanding::count_in;

@@ -2,9 +2,8 @@
 
 ghost use Rattle.std.specs.Prelude.{◌≡◌, ◌<◌, ◌≤◌, Err, length};
 ghost use Rattle.mo_file.specs.declared.byte_order.Order.{Order};
-ghost use Rattle.mo_file.specs.Prelude.{HasMagicOf};
+ghost use Rattle.mo_expand.specs.Prelude.{HasMagicOf, IsExpanded, message_from, system_count, system_message, text_at};
 ghost use Rattle.mo_expand.specs.declared.joining.Missing.TheVariants.{Absent};
-ghost use Rattle.mo_expand.specs.Prelude.{message_from, system_count, system_message, IsExpanded, text_at};
 ghost use Rattle.mo_expand.specs.Internal.Joining.{IsTried};
 
 use crate::joining::{Missing, has_text, put_text};

@@ -1,8 +1,7 @@
 //! Messages in a list of the caller's, in rising order of their keys.
 
 ghost use Rattle.std.specs.Prelude.{◌≡◌, ◌+◌, ◌<◌, ◌≤◌, length, take};
-ghost use Rattle.mo_file.specs.Prelude.{AreRising, keys, borrowed_message, messages_of_borrowed};
-ghost use Rattle.mo_expand.specs.Prelude.{with_message};
+ghost use Rattle.mo_expand.specs.Prelude.{AreRising, borrowed_message, keys, messages_of_borrowed, with_message};
 
 use mo_file::{BorrowedPair, Meter, MoView, compare_originals};
 

@@ -4,9 +4,8 @@ ghost use Rattle.std.specs.Prelude.{◌≡◌, ◌↔◌, IsPermutation, IsTrue,
 ghost use Rattle.std.specs.List.Sorted.{IsSortedBy};
 ghost use Rattle.std.specs.Ordering.{is_lt};
 ghost use Rattle.mo_file.specs.declared.byte_order.Order.{Order};
-ghost use Rattle.mo_file.specs.Prelude.{AreRising, key_cmp, key_of, keys, Message, messages_of_borrowed};
+ghost use Rattle.mo_expand.specs.Prelude.{AreRising, IsFileInAnyOrder, IsSortedFile, Message, key_cmp, key_of, keys, messages_of_borrowed};
 ghost use Rattle.mo_expand.specs.declared.sorted_file.SortedFile.TheVariants.{NotMoFile};
-ghost use Rattle.mo_expand.specs.Prelude.{IsFileInAnyOrder, IsSortedFile};
 
 use crate::any_order::{list_all, order_of};
 use mo_file::{BorrowedPair, compare_originals, file_len, lay_out, word};

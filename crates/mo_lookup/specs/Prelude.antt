@@ -1,4 +1,6 @@
--- What contracts and proofs cite of the definitions of this crate. Declares nothing.
+-- What contracts and proofs cite of the crates below and of this one. Declares nothing.
+pub use Rattle.mo_file.specs.Prelude.{AreRising, FileView, IsFirstFault, IsMoFile, IsTranslationAt, Message, comparisons_before, forms, key_at, key_cmp, keys, query_key, translations}
+pub use Rattle.plural_rule.specs.Prelude.{IsRuleOf, RuleView, expression_limit, nodes, program as program_of, program_in, rule_in, tree_of, value, visited}
 pub use Rattle.mo_lookup.specs.Search.{BoundHalves, BoundIsLogarithm, IsIndexOf, SearchHalves, SearchIsBounded, comparisons_within, half, halvings_within, keys_left, query_comparisons}
 unfoldable pub use Rattle.mo_lookup.specs.Search.{comparisons, search_bound}
 pub use Rattle.mo_lookup.specs.Query.{Query, can_be_key, given, has_no_separator, is_separator, query}

@@ -2,10 +2,8 @@
 
 ghost use Rattle.std.specs.Prelude.{◌≡◌, ◌+◌, ◌^◌, ◌<◌, ◌≤◌, List, [], length, MatchResult, IsOk, IfOk, OnOk, OnErr, false};
 ghost use Rattle.std.specs.Option.{option_copied};
-ghost use Rattle.plural_rule.specs.Prelude.{nodes, IsRuleOf, expression_limit};
+ghost use Rattle.mo_lookup.specs.Prelude.{IsCatalogView, IsFirstFault, IsMoFile, IsRuleOf, Message, answer_view, answered, can_be_key, comparisons_before, expression_limit, header_text, nodes, query, query_comparisons, search_bound};
 ghost use Rattle.mo_file.specs.declared.byte_order.Order.{Order};
-ghost use Rattle.mo_file.specs.Prelude.{Message, IsMoFile, IsFirstFault, comparisons_before};
-ghost use Rattle.mo_lookup.specs.Prelude.{search_bound, query_comparisons, query, can_be_key, IsCatalogView, header_text, answered, answer_view};
 
 use crate::answer::Answer;
 use crate::lookup::locate;

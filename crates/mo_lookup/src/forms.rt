@@ -2,9 +2,7 @@
 
 ghost use Rattle.std.specs.Prelude.{◌≡◌, ◌+◌, ◌^◌, ◌<◌, ◌≤◌, ℕ, List, None, Some, drop, length, slice_get, MatchOption};
 ghost use Rattle.plural_rule.specs.declared.rule.Source.{Source};
-ghost use Rattle.plural_rule.specs.Prelude.{nodes, expression_limit, program as program_of, tree_of};
-ghost use Rattle.mo_lookup.specs.Prelude.{form_at, translated, IsFormAt, given};
-ghost use Rattle.mo_file.specs.Prelude.{forms};
+ghost use Rattle.mo_lookup.specs.Prelude.{IsFormAt, expression_limit, form_at, forms, given, nodes, program_of, translated, tree_of};
 
 use mo_file::{NUL, find_byte};
 use plural_rule::{Instruction, Steps, evaluate};

@@ -2,8 +2,7 @@
 //! proof.
 
 ghost use Rattle.std.specs.Prelude.{◌≡◌, ◌≢◌, ◌⊎◌, ◌+◌, ◌<◌, ◌≤◌, ℕ, List, [], ◌∷◌, None, Some, true, false, length, slice_get};
-ghost use Rattle.plural_rule.specs.Prelude.{value, visited, RuleView};
-ghost use Rattle.mo_lookup.specs.Prelude.{answer, form_at, selected_form, untranslated_text, BoundHalves, BoundIsLogarithm, search_bound, SearchHalves, SearchIsBounded, query_comparisons, CatalogView, chain_bound, chain_comparisons, ChainAsksAll, ChainAsksNone, ChainAsksUpToFirst, KeysLackNulAndEot, EachKeyFindsItsTranslation, OtherKeysFindNone, Query};
+ghost use Rattle.mo_lookup.specs.Prelude.{BoundHalves, BoundIsLogarithm, CatalogView, ChainAsksAll, ChainAsksNone, ChainAsksUpToFirst, EachKeyFindsItsTranslation, KeysLackNulAndEot, OtherKeysFindNone, Query, RuleView, SearchHalves, SearchIsBounded, answer, chain_bound, chain_comparisons, form_at, query_comparisons, search_bound, selected_form, untranslated_text, value, visited};
 
 /// The bound of a search is 0 for no keys, and else one more than for half as many.
 pub fn bound_halves()

@@ -1,11 +1,9 @@
 //! Looking up a message, by the number of plural forms and the program of the plural rule.
 
 ghost use Rattle.std.specs.Prelude.{◌≡◌, ◌+◌, ◌^◌, ◌<◌, ◌≤◌, None, length, slice_get, false, MatchOption};
-ghost use Rattle.mo_file.specs.Prelude.{translations, keys, query_key};
+ghost use Rattle.mo_lookup.specs.Prelude.{IsPlace, answered, can_be_key, comparisons, expression_limit, given, keys, located_view, nodes, program_of, query, query_comparisons, query_key, search_bound, translation_under, translations, tree_of};
 ghost use Rattle.std.specs.Option.{option_copied};
 ghost use Rattle.plural_rule.specs.declared.rule.Source.{Source};
-ghost use Rattle.plural_rule.specs.Prelude.{nodes, expression_limit, program as program_of, tree_of};
-ghost use Rattle.mo_lookup.specs.Prelude.{search_bound, comparisons, query_comparisons, query, given, can_be_key, answered, translation_under, IsPlace, located_view};
 
 use crate::forms::answered_form;
 use crate::messages::Messages;

@@ -1,7 +1,7 @@
 //! Messages as a look-up sees them.
 
 ghost use Rattle.std.specs.Prelude.{◌≡◌, ◌<◌, Some, length, slice_get};
-ghost use Rattle.mo_file.specs.Prelude.{IsTranslationAt, keys, translations};
+ghost use Rattle.mo_lookup.specs.Prelude.{IsTranslationAt, keys, translations};
 
 use crate::search::Keys;
 use mo_file::{Meter, MoView};

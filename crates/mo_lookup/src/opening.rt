@@ -1,10 +1,8 @@
 //! Opening a file: it is checked whole, and the plural rule of its header entry is read.
 
 ghost use Rattle.std.specs.Prelude.{◌≡◌, ◌+◌, ◌^◌, ◌<◌, ◌≤◌, List, length, min, MatchResult, IsOk, IfOk, OnErr};
-ghost use Rattle.plural_rule.specs.Prelude.{rule_in, program_in, expression_limit, program as program_of};
+ghost use Rattle.mo_lookup.specs.Prelude.{AreRising, IsCatalogView, IsFirstFault, IsMoFile, Message, comparisons_before, expression_limit, header_text, keys, program_in, program_of, rule_in};
 ghost use Rattle.mo_file.specs.declared.byte_order.Order.{Order};
-ghost use Rattle.mo_file.specs.Prelude.{Message, AreRising, keys, IsMoFile, IsFirstFault, comparisons_before};
-ghost use Rattle.mo_lookup.specs.Prelude.{IsCatalogView, header_text};
 
 use crate::forms::first_form;
 use crate::messages::{Messages, ViewMessages};

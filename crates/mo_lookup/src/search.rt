@@ -2,8 +2,7 @@
 
 ghost use Rattle.std.specs.Prelude.{ℕ, ◌≡◌, ◌+◌, ◌-◌, ◌^◌, ◌<◌, ◌≤◌, List, length};
 ghost use Rattle.std.specs.Option.{option_copied};
-ghost use Rattle.mo_file.specs.Prelude.{AreRising, key_at, key_cmp, query_key, FileView};
-ghost use Rattle.mo_lookup.specs.Prelude.{search_bound, comparisons, IsIndexOf};
+ghost use Rattle.mo_lookup.specs.Prelude.{AreRising, FileView, IsIndexOf, comparisons, key_at, key_cmp, query_key, search_bound};
 
 use std::cmp::Ordering;
 

@@ -1,7 +1,7 @@
 //! What a selection asks of an entry.
 
 ghost use Rattle.std.specs.Prelude.{◌≡◌};
-ghost use Rattle.po_entry.specs.Prelude.{is_header, TextEntry, has_translation};
+ghost use Rattle.msgattrib.specs.Prelude.{TextEntry, has_translation, is_header};
 
 use po_entry::{EntryRef, Fields, has_translation};
 

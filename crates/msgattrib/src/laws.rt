@@ -1,9 +1,8 @@
 //! Laws of selecting, each the contract of a function that does nothing: a call brings the law into
 //! a proof.
 ghost use Rattle.std.specs.Prelude.{◌≡◌, List, All, filter, true, false};
-ghost use Rattle.po_entry.specs.Prelude.{is_live_header, TextEntry, IsCatalogueEntry};
+ghost use Rattle.msgattrib.specs.Prelude.{ChangesNothing, ClearsFuzzy, ClearsObsolete, ClearsPrevious, Empties, FormsStay, IsCatalogueEntry, IsUnwanted, KeepsFuzzy, KeepsObsolete, KeepsTranslated, KeepsUntranslated, MarksStay, RemovesFuzzy, RemovesObsolete, RestStays, SetsFuzzy, SetsObsolete, TextEntry, changed, every_entry, is_kept, is_live_header, selected};
 ghost use Rattle.msgattrib.specs.declared.selection.Selection.{Selection};
-ghost use Rattle.msgattrib.specs.Prelude.{ChangesNothing, changed, every_entry, is_kept, selected, ClearsFuzzy, ClearsObsolete, ClearsPrevious, Empties, FormsStay, IsUnwanted, KeepsFuzzy, KeepsObsolete, KeepsTranslated, KeepsUntranslated, MarksStay, RemovesFuzzy, RemovesObsolete, RestStays, SetsFuzzy, SetsObsolete};
 
 /// Without an option, all entries are selected as they are.
 pub fn nothing_given_selects_all()

@@ -1,7 +1,6 @@
 //! What msgattrib writes and reports: the selected entries of a PO text.
 ghost use Rattle.std.specs.Prelude.{◌≡◌, IfOk, OnErr, Err};
-ghost use Rattle.msgattrib.specs.Prelude.{IsMsgattribRun};
-ghost use Rattle.runs.specs.Prelude.{run_view};
+ghost use Rattle.msgattrib.specs.Prelude.{IsMsgattribRun, run_view};
 
 use crate::selected_text::selected_text;
 use crate::selection::Selection;

@@ -4,8 +4,7 @@
 //! once more, whole.
 
 ghost use Rattle.std.specs.Prelude.{◌≡◌, ◌++◌, ◌∷◌, [], IfErr, List, MatchResult, OnOk};
-ghost use Rattle.po_entry.specs.Prelude.{ReadsText, TextEntry};
-ghost use Rattle.msgattrib.specs.Prelude.{selected};
+ghost use Rattle.msgattrib.specs.Prelude.{ReadsText, TextEntry, selected};
 ghost use Rattle.msgattrib.specs.Internal.SelectedText.{AddsParts, HaveNoDuplicate, IsSelectedText, IsSelectionFault, hashes_of};
 
 use crate::selection::Selection;

@@ -1,8 +1,7 @@
 //! Which entries are kept, and what becomes of them.
 
 ghost use Rattle.std.specs.Prelude.{◌≡◌, ◌<◌, IfOk, OnErr, false, length};
-ghost use Rattle.po_entry.specs.Prelude.{is_live_header, entry_view, set_fuzzy, set_obsolete, no_previous};
-ghost use Rattle.msgattrib.specs.Prelude.{IsChangedAt, changed, fuzzy_after, is_emptied, is_kept, obsolete_after};
+ghost use Rattle.msgattrib.specs.Prelude.{IsChangedAt, changed, entry_view, fuzzy_after, is_emptied, is_kept, is_live_header, no_previous, obsolete_after, set_fuzzy, set_obsolete};
 
 use crate::attributes::Attributes;
 use po_entry::{EntryRef, Fields, Previous, Store};

@@ -1,7 +1,6 @@
 //! msgattrib as a whole: its input is read, and its run is written.
 ghost use Rattle.std.specs.Prelude.{◌^◌, ◌<◌, false};
-ghost use Rattle.msgattrib.specs.Prelude.{IsMsgattribRun};
-ghost use Rattle.runs.specs.Prelude.{Asks, asked_for, is_standard, RunsInput, asking};
+ghost use Rattle.msgattrib.specs.Prelude.{Asks, IsMsgattribRun, RunsInput, asked_for, asking, is_standard};
 
 use crate::plan::plan_msgattrib;
 use crate::selection::Selection;

@@ -1,4 +1,6 @@
--- What contracts and proofs cite of the definitions of this crate. Declares nothing.
+-- What contracts and proofs cite of the crates below and of this one. Declares nothing.
+pub use Rattle.po_entry.specs.Prelude.{HasAdmittedCharset, HasNoDuplicate, IsCatalogueEntry, Lacks, TextEntry, digest_of, entry_messages, entry_view, first_ones, group_numbers, out_of_memory, seed_of, texts, texts_left}
+pub use Rattle.runs.specs.Prelude.{AsksFirst, NamedFile, asking, named_files, named_inputs, program_text, run_view}
 pub use Rattle.msgcat.specs.Msgcat.{AreReadAs, HasNulName, IsFileFault, IsMerged, IsMsgcatRun, IsReadAs, IsUnread, IsUnreadBeforeNul, first_name, msgcat_line}
 pub use Rattle.msgcat.specs.Options.{AreMergeOptions, or_zero}
 pub use Rattle.msgcat.specs.WholeRun.{HaveNoRun, IsRunOf, RunsMsgcat}

@@ -3,9 +3,8 @@
 ghost use Rattle.std.specs.Prelude.{◌≡◌, ◌<◌, fold, length, IfOk, OnOk};
 ghost use Rattle.std.specs.Hash.DefaultHasher.{write};
 ghost use Rattle.std.specs.List.{flat_map};
-ghost use Rattle.po_entry.specs.Prelude.{digest_of, seed_of, texts_left};
+ghost use Rattle.msgcat.specs.Prelude.{comment_of, digest_of, named_entries, seed_of, texts_left, texts_of, with_others};
 ghost use Rattle.msgcat.specs.Internal.Merging.{HaveSameTexts};
-ghost use Rattle.msgcat.specs.Prelude.{named_entries, comment_of, texts_of, with_others};
 
 use crate::definition::{NamedEntry, Part, first_with};
 use crate::input::MergeOptions;

@@ -1,8 +1,7 @@
 //! The inputs and options of a merge.
 
 ghost use Rattle.std.specs.Prelude.{◌≡◌, length};
-ghost use Rattle.po_entry.specs.Prelude.{Lacks};
-ghost use Rattle.msgcat.specs.Prelude.{Named, IsReadInput};
+ghost use Rattle.msgcat.specs.Prelude.{IsReadInput, Lacks, Named};
 
 /// An input whose entries lie in a store, after those of the inputs before it.
 #[derive(Clone, Copy)]

@@ -1,11 +1,9 @@
 //! Reading inputs: the pieces of each are read into one store. After the last input an index of all
 //! messages tells which entries are of one message.
 ghost use Rattle.std.specs.Prelude.{◌≡◌, ◌⊎◌, All, IfErr, IfOk, List, OnOk};
-ghost use Rattle.po_entry.specs.Prelude.{Lacks, TextEntry, out_of_memory, HasNoDuplicate};
+ghost use Rattle.msgcat.specs.Prelude.{AreReadAs, HasNoDuplicate, HoldInputs, IsFileFault, Lacks, TextEntry, named_files, out_of_memory};
 ghost use Rattle.msgcat.specs.Inputs as merge;
-ghost use Rattle.msgcat.specs.Prelude.{HoldInputs, AreReadAs, IsFileFault};
 ghost use Rattle.msgcat.specs.Internal.Inputs.{AreNumberedInputs, AreReadUpTo, IsFirstRepeating};
-ghost use Rattle.runs.specs.Prelude.{named_files};
 
 use crate::input::ReadInput;
 use crate::merge_inputs::MergeInputs;

@@ -1,8 +1,7 @@
 //! Translations that differ, joined in one with the names of their files between.
 
 ghost use Rattle.std.specs.Prelude.{◌≡◌, ◌++◌, All, IfOk, OnOk, map};
-ghost use Rattle.po_entry.specs.Prelude.{texts};
-ghost use Rattle.msgcat.specs.Prelude.{IsDefinition, named_entries, marked, translations};
+ghost use Rattle.msgcat.specs.Prelude.{IsDefinition, marked, named_entries, texts, translations};
 ghost use Rattle.msgcat.specs.Internal.JoinedTranslations.{form_lists, joined_at, joined_lists, named_forms, rests};
 
 use crate::definition::{NamedEntry, Part, has_part};

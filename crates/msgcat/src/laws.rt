@@ -2,10 +2,9 @@
 //! proof.
 ghost use Rattle.std.specs.Prelude.{ℕ, Bool, List, Option};
 ghost use Rattle.msgcat.specs.declared.input.MergeOptions.{MergeOptions};
-ghost use Rattle.msgcat.specs.Prelude.{Named, NamedEntry, all_entries, DistinctInputsStay, FaultIsOfNoLine, FormsAreOfOne, MergedAgain, GroupsByNumber, KeptMessagesStand, MergedAreEntries, MergedCanStand, MessagesStandOnce, OneDefinitionStays, OneInputStays, StandInTurn, WithItself, DefinedByLive, EndsForm, FormsAreJoined, JoinedIsFuzzy, KeptByCount, LinesAreNotMerged, ObsoleteWhereNoneIsLive, PluralOfFirst, PreviousOfFirst, TextsInOrder, TextsOfAll, ended, CommentsOfFirst, FormsOfFirst, HeadersAreKept, JoinedAsLongest, JoinedWhereTheyDiffer, TranslatedStays};
+ghost use Rattle.msgcat.specs.Prelude.{CommentsOfFirst, DefinedByLive, DistinctInputsStay, EndsForm, FaultIsOfNoLine, FormsAreJoined, FormsAreOfOne, FormsOfFirst, GroupsByNumber, HeadersAreKept, JoinedAsLongest, JoinedIsFuzzy, JoinedWhereTheyDiffer, KeptByCount, KeptMessagesStand, LinesAreNotMerged, MergedAgain, MergedAreEntries, MergedCanStand, MessagesStandOnce, Named, NamedEntry, ObsoleteWhereNoneIsLive, OneDefinitionStays, OneInputStays, PluralOfFirst, PreviousOfFirst, StandInTurn, TextEntry, TextsInOrder, TextsOfAll, TranslatedStays, WithItself, all_entries, ended};
 ghost use Rattle.po_syntax.specs.declared.item.CommentKind.{CommentKind};
 ghost use Rattle.po_syntax.specs.declared.fault.PoError.{PoError};
-ghost use Rattle.po_entry.specs.Prelude.{TextEntry};
 
 /// A message with one definition is merged to the entry of that definition.
 pub fn one_definition_stays()

@@ -1,8 +1,8 @@
 //! The entries of several inputs in one store, and what those of a message are merged to.
 
 ghost use Rattle.std.specs.Prelude.{◌≡◌, ◌<◌, ◌∷◌, [], IfErr, IfOk, IfSome, List, ℕ, get_or, length, option_to_list};
-ghost use Rattle.po_entry.specs.Prelude.{IsCatalogueEntry, first_ones, group_numbers, entry_messages, same_message};
-ghost use Rattle.msgcat.specs.Prelude.{groups, Named, all_entries, named, named_entries, AreReadInputs, HoldInputs, name_of_first, unnamed, IsMergeFault, merged_messages, messages, merged_entry};
+ghost use Rattle.msgcat.specs.Prelude.{AreReadInputs, HoldInputs, IsCatalogueEntry, IsMergeFault, Named, all_entries, entry_messages, first_ones, group_numbers, groups, merged_entry, merged_messages, messages, name_of_first, named, named_entries, unnamed};
+ghost use Rattle.po_entry.specs.Prelude.{same_message};
 ghost use Rattle.msgcat.specs.Internal.Inputs.{name_of};
 ghost use Rattle.msgcat.specs.declared.input.MergeOptions as asked;
 

@@ -1,8 +1,7 @@
 //! The text of what inputs are merged to, message by message.
 ghost use Rattle.std.specs.Prelude.{◌≡◌, ◌<◌, ◌∷◌, [], All, IfErr, List, MatchResult, OnOk, fold, get_or, length};
-ghost use Rattle.po_entry.specs.Prelude.{HasAdmittedCharset};
+ghost use Rattle.msgcat.specs.Prelude.{HasAdmittedCharset, HoldInputs, IsMergeFault, merged, merged_messages, messages};
 ghost use Rattle.msgcat.specs.Inputs as merge;
-ghost use Rattle.msgcat.specs.Prelude.{HoldInputs, IsMergeFault, merged, merged_messages, messages};
 ghost use Rattle.po_writer.specs.Prelude.{with_entry};
 ghost use Rattle.msgcat.specs.Internal.MergedText.{IsPartWritten, IsTextOfMerged};
 

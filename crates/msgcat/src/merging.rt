@@ -1,8 +1,7 @@
 //! What several definitions of one message are merged to.
 
 ghost use Rattle.std.specs.Prelude.{◌≡◌, ◌<◌, ◌∷◌, [], length, All, IfOk, IfErr, OnOk};
-ghost use Rattle.po_entry.specs.Prelude.{entry_view, texts, IsCatalogueEntry};
-ghost use Rattle.msgcat.specs.Prelude.{IsDefinition, named_entries, merged_entry, IsMergeFault, CanBeMerged};
+ghost use Rattle.msgcat.specs.Prelude.{CanBeMerged, IsCatalogueEntry, IsDefinition, IsMergeFault, entry_view, merged_entry, named_entries, texts};
 
 use crate::comments::comment_of;
 use crate::definition::{NamedEntry, Part, first_with};

@@ -1,10 +1,8 @@
 //! What msgcat writes and reports: the text of the catalogue that PO texts are merged to; and what
 //! it comes to where an input can't be read.
 ghost use Rattle.std.specs.Prelude.{◌≡◌, ◌⊎◌, All, Err, IfErr, IfOk, List, MatchOption, None, OnErr, Some, []};
-ghost use Rattle.po_entry.specs.Prelude.{Lacks};
-ghost use Rattle.msgcat.specs.Prelude.{Named, AreReadAs, IsMsgcatRun, IsUnread};
+ghost use Rattle.msgcat.specs.Prelude.{AreReadAs, IsMsgcatRun, IsUnread, Lacks, Named, NamedFile, named_files, run_view};
 ghost use Rattle.msgcat.specs.Internal.Inputs.{IsReadingOf, IsFirstWithNul};
-ghost use Rattle.runs.specs.Prelude.{NamedFile, named_files, run_view};
 
 use crate::input::MergeOptions;
 use crate::inputs::{FileFault, read_inputs};

@@ -1,8 +1,6 @@
 //! msgcat as a whole: its inputs are read, and their run is written.
 ghost use Rattle.std.specs.Prelude.{◌≡◌, ◌≢◌, ◌⊎◌, ◌^◌, ◌<◌, All, Err, IfErr, IfOk, IfSome, List, None, Some, [], map};
-ghost use Rattle.po_entry.specs.Prelude.{Lacks};
-ghost use Rattle.msgcat.specs.Prelude.{Named, AreReadAs, HasNulName, IsMsgcatRun, IsUnread, IsUnreadBeforeNul, RunsMsgcat};
-ghost use Rattle.runs.specs.Prelude.{AsksFirst, named_inputs, program_text, run_view, asking};
+ghost use Rattle.msgcat.specs.Prelude.{AreReadAs, AsksFirst, HasNulName, IsMsgcatRun, IsUnread, IsUnreadBeforeNul, Lacks, Named, RunsMsgcat, asking, named_inputs, program_text, run_view};
 
 use crate::input::MergeOptions;
 use crate::inputs::read_inputs;

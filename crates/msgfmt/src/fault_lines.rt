@@ -1,8 +1,7 @@
 //! Why inputs aren't compiled, and what the check finds, as the line that reports it, and as the
 //! run of it.
 ghost use Rattle.std.specs.Prelude.{◌≡◌, ◌≢◌, ◌++◌, IfOk, OnOk};
-ghost use Rattle.po_entry.specs.Prelude.{slice_texts};
-ghost use Rattle.runs.specs.Prelude.{refusal, run_view};
+ghost use Rattle.msgfmt.specs.Prelude.{refusal, run_view, slice_texts};
 ghost use Rattle.msgfmt.specs.Msgfmt as Spec;
 
 use crate::profile::CheckFault;

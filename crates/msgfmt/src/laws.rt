@@ -2,8 +2,7 @@
 //! the law into a proof.
 ghost use Rattle.std.specs.Prelude.{◌≡◌, ◌↔◌, List, Some};
 ghost use Rattle.plural_rule.specs.Prelude.{RuleView};
-ghost use Rattle.po_entry.specs.Prelude.{InputEntry};
-ghost use Rattle.msgfmt.specs.Prelude.{Reported, first_fault, FirstFault};
+ghost use Rattle.msgfmt.specs.Prelude.{FirstFault, InputEntry, Reported, first_fault};
 
 /// The check of messages that have a header with this rule finds the first of their faults: that
 /// there is no readable rule, that of an entry, or that of the rule's value at a count.

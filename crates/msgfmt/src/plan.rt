@@ -1,6 +1,6 @@
 //! What msgfmt writes and reports: the MO file of PO texts.
 ghost use Rattle.std.specs.Prelude.{◌≡◌, ◌^◌, ◌<◌, List, length, IfOk, OnErr, Err};
-ghost use Rattle.runs.specs.Prelude.{NamedFile, named_files, run_view};
+ghost use Rattle.msgfmt.specs.Prelude.{NamedFile, named_files, run_view};
 ghost use Rattle.msgfmt.specs.Internal.Plan.{IsGathered};
 ghost use Rattle.msgfmt.specs.Msgfmt as Spec;
 

@@ -1,8 +1,7 @@
 //! msgfmt as a whole: the inputs of its command line are read, also where one can't be, and their
 //! run is planned and written.
 ghost use Rattle.std.specs.Prelude.{◌≡◌, ◌≢◌, ◌⊎◌, ◌^◌, ◌<◌, [], None, Some, Err, IfOk, IfErr, IfSome, OnOk, map};
-ghost use Rattle.msgfmt.specs.Prelude.{AreWrong, IsMsgfmtRun, IsRefused, NoneRefused, RunsMsgfmt};
-ghost use Rattle.runs.specs.Prelude.{AsksFirst, named_inputs, run_view, asking};
+ghost use Rattle.msgfmt.specs.Prelude.{AreWrong, AsksFirst, IsMsgfmtRun, IsRefused, NoneRefused, RunsMsgfmt, asking, named_inputs, run_view};
 
 use crate::options::MsgfmtOptions;
 use crate::plan::{gather, gathered_run};

@@ -1,7 +1,6 @@
 //! What msgunfmt writes and reports: the PO text of an MO file.
 ghost use Rattle.std.specs.Prelude.{◌≡◌, ◌++◌, IfOk, OnOk, OnErr, Err};
-ghost use Rattle.msgunfmt.specs.Prelude.{IsMsgunfmtRun, unformat_text};
-ghost use Rattle.runs.specs.Prelude.{run_view};
+ghost use Rattle.msgunfmt.specs.Prelude.{IsMsgunfmtRun, run_view, unformat_text};
 
 use crate::fault::UnformatError;
 use crate::unformatting::unformat;

@@ -1,7 +1,6 @@
 //! msgunfmt as a whole: its input is read, and its run is written.
 ghost use Rattle.std.specs.Prelude.{◌^◌, ◌<◌, false};
-ghost use Rattle.msgunfmt.specs.Prelude.{IsMsgunfmtRun};
-ghost use Rattle.runs.specs.Prelude.{Asks, asked_for, is_standard, RunsInput, asking};
+ghost use Rattle.msgunfmt.specs.Prelude.{Asks, IsMsgunfmtRun, RunsInput, asked_for, asking, is_standard};
 
 use crate::plan::plan_msgunfmt;
 use runs::{

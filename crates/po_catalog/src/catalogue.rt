@@ -1,7 +1,7 @@
 //! A catalogue: the entries of a PO file, in its order.
 
 ghost use Rattle.std.specs.Prelude.{◌≡◌, IfErr, OnOk, OnErr, All, [], ◌∷◌, ◌++◌};
-ghost use Rattle.po_entry.specs.Prelude.{HasAdmittedCharset, IsCatalogueEntry, IsRefusedEntry};
+ghost use Rattle.po_catalog.specs.Prelude.{HasAdmittedCharset, IsCatalogueEntry, IsRefusedEntry};
 
 use crate::entry::Entry;
 use po_syntax::{PoError, PoFault};

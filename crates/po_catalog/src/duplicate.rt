@@ -1,8 +1,7 @@
 //! The first message that is defined twice, in one catalogue or across several.
 
 ghost use Rattle.std.specs.Prelude.{◌<◌, ◌^◌, All, IfOk, MatchOption, MatchResult, IsOkUnless, length};
-ghost use Rattle.po_entry.specs.Prelude.{IsCatalogueEntry, out_of_memory, joined, joined_entries, entries_of, HasNoDuplicate, IsDuplicateFault, IsDuplicateFaultOf, IsFirstDuplicate, join_out_of_memory};
-ghost use Rattle.po_catalog.specs.Prelude.{input_entries, input_entry};
+ghost use Rattle.po_catalog.specs.Prelude.{HasNoDuplicate, IsCatalogueEntry, IsDuplicateFault, IsDuplicateFaultOf, IsFirstDuplicate, entries_of, input_entries, input_entry, join_out_of_memory, joined, joined_entries, out_of_memory};
 
 use crate::catalogue::Catalogue;
 use crate::joining::{InputEntry, joined, joined_store};

@@ -1,7 +1,7 @@
 //! An entry of a catalogue, of which each field is valid.
 
 ghost use Rattle.std.specs.Prelude.{◌≡◌, ◌<◌, ◌↔◌, IfOk, IfErr, IsOkUnless, IsTrue, None, map, [], false, length, option_copied};
-ghost use Rattle.po_entry.specs.Prelude.{texts, no_previous, optional_text, borrowed_entry, bodies_eq, comments_eq, optional_eq, previous_eq, HasAdmittedCharset, is_header, IsEntry, RefusesMessage, out_of_memory};
+ghost use Rattle.po_catalog.specs.Prelude.{HasAdmittedCharset, IsEntry, RefusesMessage, bodies_eq, borrowed_entry, comments_eq, is_header, no_previous, optional_eq, optional_text, out_of_memory, previous_eq, texts};
 ghost use Rattle.po_catalog.specs.EntryView.{entry_of};
 
 use crate::text_list::{TextList, copy_slices, copy_texts, empty_texts, same_texts};

@@ -1,8 +1,7 @@
 //! The entries of several catalogues as one list, with the header of the first.
 
 ghost use Rattle.std.specs.Prelude.{◌≡◌, ◌++◌, ◌<◌, ◌^◌, length, map, All, OnOk, IfOk};
-ghost use Rattle.po_entry.specs.Prelude.{IsCatalogueEntry, entries_of, in_input, is_live, is_live_header, kept_entries, joined, joined_entries};
-ghost use Rattle.po_catalog.specs.Prelude.{input_entries};
+ghost use Rattle.po_catalog.specs.Prelude.{IsCatalogueEntry, entries_of, in_input, input_entries, is_live, is_live_header, joined, joined_entries, kept_entries};
 
 use crate::catalogue::Catalogue;
 use crate::entry::Entry;

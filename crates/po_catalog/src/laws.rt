@@ -1,9 +1,7 @@
 //! Laws of catalogues, each the contract of a function that does nothing: a call brings the law
 //! into a proof. Those of the crates below are re-exported.
 ghost use Rattle.std.specs.Prelude.{◌≡◌, List, All, map};
-ghost use Rattle.po_syntax.specs.Prelude.{IsSmall};
-ghost use Rattle.po_entry.specs.Prelude.{TextEntry, with_line, IsCatalogueEntry, ReadsText};
-ghost use Rattle.po_writer.specs.Prelude.{arranged, written_text};
+ghost use Rattle.po_catalog.specs.Prelude.{IsCatalogueEntry, IsSmall, ReadsText, TextEntry, arranged, with_line, written_text};
 
 pub use po_entry::laws::{
     equal_but_line, later_headers_are_omitted, messages_are_numbered_in_order,

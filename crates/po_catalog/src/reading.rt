@@ -1,8 +1,7 @@
 //! The catalogue of a text.
 
 ghost use Rattle.std.specs.Prelude.{IfOk, IfErr};
-ghost use Rattle.po_syntax.specs.Prelude.{IsFaultOf};
-ghost use Rattle.po_entry.specs.Prelude.{ReadsText, IsReadFault};
+ghost use Rattle.po_catalog.specs.Prelude.{IsFaultOf, IsReadFault, ReadsText};
 
 use crate::catalogue::Catalogue;
 use crate::stores::catalogue_of;

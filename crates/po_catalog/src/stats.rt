@@ -1,7 +1,7 @@
 //! The statistics of a catalogue.
 
 ghost use Rattle.std.specs.Prelude.{◌≡◌};
-ghost use Rattle.po_entry.specs.Prelude.{has_translation, stats_of};
+ghost use Rattle.po_catalog.specs.Prelude.{has_translation, stats_of};
 
 use crate::catalogue::Catalogue;
 use crate::entry::Entry;

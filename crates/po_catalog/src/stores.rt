@@ -1,7 +1,7 @@
 //! Catalogues and stores, each made of a copy of the other's entries.
 
 ghost use Rattle.std.specs.Prelude.{◌≡◌, ◌++◌, ◌∷◌, [], All, IfOk, OnErr, OnOk};
-ghost use Rattle.po_entry.specs.Prelude.{entry_view, texts_left, IsCatalogueEntry, IsEntry};
+ghost use Rattle.po_catalog.specs.Prelude.{IsCatalogueEntry, IsEntry, entry_view, texts_left};
 
 use crate::catalogue::Catalogue;
 use crate::entry::Entry;

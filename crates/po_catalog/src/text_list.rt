@@ -1,7 +1,7 @@
 //! Lists of texts, each text in a buffer of its own.
 
 ghost use Rattle.std.specs.Prelude.{◌≡◌, [], IfOk, map};
-ghost use Rattle.po_entry.specs.Prelude.{texts_eq, slice_texts, texts};
+ghost use Rattle.po_catalog.specs.Prelude.{slice_texts, texts, texts_eq};
 
 use std::alloc::{AllocError, Global};
 use std::marker::Model;

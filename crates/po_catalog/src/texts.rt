@@ -1,7 +1,7 @@
 //! Whether texts that are given can stand in an entry.
 
 ghost use Rattle.std.specs.Prelude.{MatchResult, All, IsTrue, ◌↔◌};
-ghost use Rattle.po_entry.specs.Prelude.{Meets, borrowed_entry, quoted_texts, slice_texts, EntryTextFault, HasTexts};
+ghost use Rattle.po_catalog.specs.Prelude.{EntryTextFault, HasTexts, Meets, borrowed_entry, quoted_texts, slice_texts};
 
 use po_entry::{EOT, NUL, Need, meets, optional_meets};
 use po_syntax::PoFault;

@@ -1,8 +1,7 @@
 //! The text of a catalogue.
 
 ghost use Rattle.std.specs.Prelude.{◌≡◌, [], IfOk, IfErr, OnOk};
-ghost use Rattle.po_entry.specs.Prelude.{out_of_memory};
-ghost use Rattle.po_writer.specs.Prelude.{AreParts, written_text};
+ghost use Rattle.po_catalog.specs.Prelude.{AreParts, out_of_memory, written_text};
 
 use crate::catalogue::Catalogue;
 use crate::stores::store_of;

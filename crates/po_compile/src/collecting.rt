@@ -1,9 +1,8 @@
 //! The live entries of an input.
 
 ghost use Rattle.std.specs.Prelude.{◌≡◌, IfOk, IfErr, List, filter, length};
-ghost use Rattle.po_entry.specs.Prelude.{ReadsText, TextEntry};
+ghost use Rattle.po_compile.specs.Prelude.{ReadsText, TextEntry, live_messages};
 ghost use Rattle.po_reader.specs.Prelude.{IsTextError};
-ghost use Rattle.po_compile.specs.Prelude.{live_messages};
 ghost use Rattle.po_compile.specs.Internal.{has_no_key};
 
 use po_entry::{Drafts, Store};

@@ -1,8 +1,7 @@
 //! The MO file of PO texts.
 
 ghost use Rattle.std.specs.Prelude.{◌≡◌, ◌≢◌, ◌<◌, ◌^◌, ℕ, [], ◌∷◌, List, length, IfOk, IfErr, MatchResult};
-ghost use Rattle.po_entry.specs.Prelude.{slice_texts, joined_entries, stats_of};
-ghost use Rattle.po_compile.specs.Prelude.{AreCompiled, AreRead, HasStatistics, IsCompileFault, fault_of_only_input, AreCollected, IsCompilation, IsReportedFault};
+ghost use Rattle.po_compile.specs.Prelude.{AreCollected, AreCompiled, AreRead, HasStatistics, IsCompilation, IsCompileFault, IsReportedFault, fault_of_only_input, joined_entries, slice_texts, stats_of};
 
 use crate::collecting::Collected;
 use crate::inputs::collect_all;

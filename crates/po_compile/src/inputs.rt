@@ -1,8 +1,7 @@
 //! Several inputs collected.
 
 ghost use Rattle.std.specs.Prelude.{◌<◌, ◌^◌, IfErr, IfOk, length};
-ghost use Rattle.po_entry.specs.Prelude.{slice_texts};
-ghost use Rattle.po_compile.specs.Prelude.{IsReadingFault, AreCollected};
+ghost use Rattle.po_compile.specs.Prelude.{AreCollected, IsReadingFault, slice_texts};
 
 use crate::collecting::{Collected, collect};
 use crate::repeats::{check_each, fault_of_input};

@@ -1,8 +1,7 @@
 //! The messages of an MO file before they are written, as the profile's check reads them.
 
 ghost use Rattle.std.specs.Prelude.{◌≡◌, ◌<◌, ◌^◌, All, IfOk, OnOk, length, map};
-ghost use Rattle.po_entry.specs.Prelude.{joined, joined_entries, IsCatalogueEntry};
-ghost use Rattle.po_compile.specs.Prelude.{compiled_inputs, compiled_message, compiled_view, OfAllInputs};
+ghost use Rattle.po_compile.specs.Prelude.{IsCatalogueEntry, OfAllInputs, compiled_inputs, compiled_message, compiled_view, joined, joined_entries};
 
 use crate::collecting::Collected;
 use crate::rows::joined_rows;

@@ -2,8 +2,7 @@
 
 ghost use Rattle.std.specs.Prelude.{◌≡◌, ◌⊎◌, ◌<◌, ◌^◌, IfErr, IfOk, MatchOption, OnOk, length};
 ghost use Rattle.std.specs.List.{flat_map};
-ghost use Rattle.po_entry.specs.Prelude.{digest_of, slice_texts, key_writes, join_out_of_memory};
-ghost use Rattle.po_compile.specs.Prelude.{fault_of_input};
+ghost use Rattle.po_compile.specs.Prelude.{digest_of, fault_of_input, join_out_of_memory, key_writes, slice_texts};
 ghost use Rattle.po_compile.specs.Internal.{EachApart, IsRepeat, IsRepeatAt, IsRepeatInInput, AllApart, all_messages, input_keys};
 
 use crate::collecting::Collected;

@@ -1,7 +1,7 @@
 //! The row of a live entry: where it lies, and what it is sorted by.
 
 ghost use Rattle.std.specs.Prelude.{◌≡◌, ◌<◌, All};
-ghost use Rattle.mo_file.specs.Prelude.{key_cmp, query_key};
+ghost use Rattle.po_compile.specs.Prelude.{key_cmp, query_key};
 ghost use Rattle.po_compile.specs.Internal.Prefix.{prefix_of, second_prefix_of};
 
 use crate::status::Status;

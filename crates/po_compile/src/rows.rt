@@ -1,8 +1,7 @@
 //! The rows of all inputs, and the pairs that they are written as.
 
 ghost use Rattle.std.specs.Prelude.{◌≡◌, ◌+◌, ◌<◌, ◌^◌, ◌++◌, ◌∷◌, [], IfOk, OnOk, filter, length, map};
-ghost use Rattle.mo_file.specs.Prelude.{messages_of_borrowed};
-ghost use Rattle.po_compile.specs.Prelude.{live_message};
+ghost use Rattle.po_compile.specs.Prelude.{live_message, messages_of_borrowed};
 ghost use Rattle.po_compile.specs.Internal.{all_messages, compiled_of, in_input_message, is_joined, row_view};
 
 use crate::collecting::Collected;

@@ -1,7 +1,7 @@
 //! Rows in the order of their keys, and their statistics.
 
 ghost use Rattle.std.specs.Prelude.{◌≡◌, ◌<◌, ◌^◌, ◌↔◌, All, IfErr, IfOk, IsPermutation, IsTrue, OnOk, length, map};
-ghost use Rattle.mo_file.specs.Prelude.{AreRising};
+ghost use Rattle.po_compile.specs.Prelude.{AreRising};
 ghost use Rattle.po_compile.specs.Internal.{EachApart, IsRepeatFault, AreSorted, AreSortedRows, HasOneHeader, counts_of, row_key};
 
 use crate::collecting::Collected;

@@ -3,7 +3,7 @@
 ghost use Rattle.std.specs.Prelude.{◌≡◌, ◌≢◌, ◌<◌, ◌≤◌, ◌^◌, ◌-◌, ◌++◌, [], ℕ, List, Option, true, length, is_some, option_to_list, None, IfOk, IfErr, IfSome, OnOk, MatchOption};
 ghost use Rattle.std.specs.List.{flat_map};
 ghost use Rattle.po_syntax.specs.Item.{Word};
-ghost use Rattle.po_entry.specs.Prelude.{TextEntry, after_nul};
+ghost use Rattle.po_reader.specs.Prelude.{TextEntry, after_nul};
 ghost use Rattle.po_reader.specs.Internal.ReaderView.{AddsEntry, context_bytes, wanted_view};
 ghost use Rattle.po_reader.specs.Internal.Stage.{SoFar, Between, Before, InHead, Stop, no_lines, with_own, with_entry, with_context, with_forms, with_translation};
 ghost use Rattle.po_reader.specs.Internal.Stage as stage;

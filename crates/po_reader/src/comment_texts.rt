@@ -3,7 +3,7 @@
 
 ghost use Rattle.std.specs.Prelude.{◌≡◌, ◌++◌, ◌∷◌, [], filter, fold, IfOk, OnOk};
 ghost use Rattle.std.specs.List.{flat_map, list_any};
-ghost use Rattle.po_entry.specs.Prelude.{is_not_empty, trimmed, slice_texts, digest_of, seed_of, is_fuzzy_flag, listed_references, listed_flags, with_flag};
+ghost use Rattle.po_reader.specs.Prelude.{digest_of, is_fuzzy_flag, is_not_empty, listed_flags, listed_references, seed_of, slice_texts, trimmed, with_flag};
 
 use po_entry::{Seeded, SeenTexts, TextList};
 use po_syntax::{is_blank, skip_blanks};

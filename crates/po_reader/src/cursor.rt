@@ -2,9 +2,8 @@
 
 ghost use Rattle.std.specs.Prelude.{◌≡◌, ◌≢◌, ◌<◌, [], ◌∷◌, ◌++◌, ℕ, List, false, drop, length, IfErr, OnOk, MatchBool, MatchOption};
 ghost use Rattle.po_syntax.specs.declared.item.Keyword.{Keyword};
-ghost use Rattle.po_syntax.specs.Prelude.{line_of, view, views};
+ghost use Rattle.po_reader.specs.Prelude.{last_line, line_of, view, views};
 ghost use Rattle.po_syntax.specs.Item.{Word, Str};
-ghost use Rattle.po_entry.specs.Prelude.{last_line};
 ghost use Rattle.po_reader.specs.Internal.Stage.{SoFar, In, Between};
 ghost use Rattle.po_reader.specs.Internal.Turn as spec;
 ghost use Rattle.po_reader.specs.Internal.Turn.{begins_word, begins_string, closed};

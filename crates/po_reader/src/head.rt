@@ -1,7 +1,7 @@
 //! What stands before an entry's own lines: comments, references, flags and previous texts.
 
 ghost use Rattle.std.specs.Prelude.{◌≡◌, ◌<◌, ◌≤◌, ◌++◌, ◌∷◌, [], ℕ, Bool, false, Some, List, length, IfErr, OnOk};
-ghost use Rattle.po_entry.specs.Prelude.{CommentText, PreviousText, rank, with_previous, TextEntry, head_bytes};
+ghost use Rattle.po_reader.specs.Prelude.{CommentText, PreviousText, TextEntry, head_bytes, rank, with_previous};
 ghost use Rattle.po_reader.specs.Internal.Stage.{Between, InHead, after_head};
 ghost use Rattle.po_syntax.specs.declared.item.Keyword.{Keyword};
 ghost use Rattle.po_reader.specs.Internal.Turn.{begins_body, EndsHead};

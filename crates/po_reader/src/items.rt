@@ -2,8 +2,7 @@
 //! catalogue.
 
 ghost use Rattle.std.specs.Prelude.{◌≡◌, ◌≢◌, ◌<◌, ◌^◌, ◌++◌, List, All, length, true, IfErr, IsUtf8, OnOk};
-ghost use Rattle.po_syntax.specs.Prelude.{IsFaultOf, TextItem, views};
-ghost use Rattle.po_entry.specs.Prelude.{Lacks, quoted_texts, HasAdmittedCharset, AreLaid, entries_in, HasTexts, EntryTextFault, EntriesStop, ItemsFault};
+ghost use Rattle.po_reader.specs.Prelude.{AreLaid, EntriesStop, EntryTextFault, HasAdmittedCharset, HasTexts, IsFaultOf, ItemsFault, Lacks, TextItem, entries_in, quoted_texts, views};
 ghost use Rattle.po_reader.specs.Internal.Keeping.{CanFollow, ReadsUpTo};
 ghost use Rattle.po_reader.specs.Internal.Reads.{ChecksStop};
 

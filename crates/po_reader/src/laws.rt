@@ -2,8 +2,7 @@
 //! proof.
 ghost use Rattle.std.specs.Prelude.{◌≡◌, ◌≢◌, ◌⊎◌, ◌↔◌, ℕ, List, All};
 ghost use Rattle.po_syntax.specs.declared.fault.PoFault.{PoFault};
-ghost use Rattle.po_syntax.specs.Prelude.{TextItem};
-ghost use Rattle.po_entry.specs.Prelude.{TextEntry, ReadsText, IsCatalogueEntry, SpellsEntries, IsReadFault};
+ghost use Rattle.po_reader.specs.Prelude.{IsCatalogueEntry, IsReadFault, ReadsText, SpellsEntries, TextEntry, TextItem};
 ghost use Rattle.po_reader.specs.Internal.Reads.{Reads};
 
 /// Going through items from the left, the reader finds these entries exactly if the items spell

@@ -1,9 +1,7 @@
 //! The entries of a text, a few at a time or all.
 
 ghost use Rattle.std.specs.Prelude.{◌≡◌, ◌≢◌, ◌↔◌, ◌⊎◌, ◌<◌, ◌^◌, ◌++◌, [], List, Some, true, IfOk, IfErr, IsTrue, MatchOption, OnErr, OnOk};
-ghost use Rattle.po_syntax.specs.Prelude.{IsFaultOf, IsString, LeftStops, view, views};
-ghost use Rattle.po_entry.specs.Prelude.{ItemsStop, ReadsText, TextEntry};
-ghost use Rattle.po_reader.specs.Prelude.{AddsReading, EndsEntry, FaultsStay, IsLeftError, IsShorter, IsTextError, ReadsPiece};
+ghost use Rattle.po_reader.specs.Prelude.{AddsReading, EndsEntry, FaultsStay, IsFaultOf, IsLeftError, IsShorter, IsString, IsTextError, ItemsStop, LeftStops, ReadsPiece, ReadsText, TextEntry, view, views};
 ghost use Rattle.po_reader.specs.Internal.Keeping.{AreDraftsOf, PiecesRead};
 
 use crate::head::Head;

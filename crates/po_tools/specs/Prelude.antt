@@ -1,4 +1,6 @@
--- What contracts and proofs cite of the definitions of this crate. Declares nothing.
+-- What contracts and proofs cite of the crates below and of this one. Declares nothing.
+pub use Rattle.msgattrib.specs.Prelude.{IsMsgattribRun, changed, selected}
+pub use Rattle.msgfmt.specs.Prelude.{AreChecked, IsMsgfmtRunOf}
 pub use Rattle.po_tools.specs.NamedInputs.{AreStored, input_view, inputs_view}
 pub use Rattle.po_tools.specs.RunLaws.{OneLookUpRun, OneMsgattribRun, OneMsgcatRun, OneMsgfmtRun, OneMsgunfmtRun}
 pub use Rattle.po_tools.specs.RunsOver.{RunsOver}

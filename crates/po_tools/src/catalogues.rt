@@ -2,11 +2,9 @@
 
 ghost use Rattle.std.specs.Prelude.{◌≡◌, ◌⊎◌, ◌<◌, ◌^◌, ◌++◌, All, IfErr, IfOk, IsOk, MatchResult, None, OnOk, Some, length, map};
 ghost use Rattle.po_entry.specs.Prelude.{Lacks, IsCatalogueEntry};
-ghost use Rattle.msgattrib.specs.Prelude.{changed, selected};
+ghost use Rattle.po_tools.specs.Prelude.{AreChecked, changed, inputs_view, selected};
 ghost use Rattle.msgcat.specs.Prelude.{IsMergeFault, merged, HoldInputs};
 ghost use Rattle.po_compile.specs.Prelude.{HoldCatalogues};
-ghost use Rattle.msgfmt.specs.Prelude.{AreChecked};
-ghost use Rattle.po_tools.specs.Prelude.{inputs_view};
 
 use msgattrib::{Attributes, Selection};
 use msgcat::{MergeInputs, MergeOptions, ReadInput};

@@ -1,9 +1,7 @@
 //! msgfmt, msgunfmt and msgattrib over a reader, of their only input, and two writers.
 ghost use Rattle.std.specs.Prelude.{◌^◌, ◌<◌};
-ghost use Rattle.msgfmt.specs.Prelude.{IsMsgfmtRunOf};
+ghost use Rattle.po_tools.specs.Prelude.{IsMsgattribRun, IsMsgfmtRunOf, RunsOver, reader_of};
 ghost use Rattle.msgunfmt.specs.Prelude.{IsMsgunfmtRunOf};
-ghost use Rattle.msgattrib.specs.Prelude.{IsMsgattribRun};
-ghost use Rattle.po_tools.specs.Prelude.{RunsOver, reader_of};
 ghost use Rattle.runs.specs.Prelude.{writer};
 
 use msgattrib::{Selection, plan_msgattrib};

@@ -2,7 +2,7 @@
 
 ghost use Rattle.std.specs.Prelude.{◌≡◌, ◌++◌, OnOk, codes};
 ghost use Rattle.std.specs.List.{flat_map};
-ghost use Rattle.po_entry.specs.Prelude.{forms_left, texts_left};
+ghost use Rattle.po_writer.specs.Prelude.{forms_left, texts_left};
 ghost use Rattle.po_writer.specs.WrittenText as written;
 
 use crate::keyword_lines::{push_keyword, push_optional, push_text};

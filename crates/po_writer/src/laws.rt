@@ -3,9 +3,8 @@
 ghost use Rattle.std.specs.Prelude.{◌≡◌, ◌++◌, ◌∷◌, ℕ, List, [], All, false, map};
 ghost use Rattle.std.specs.List.{concat};
 ghost use Rattle.po_syntax.specs.Prelude.{IsSmall};
-ghost use Rattle.po_entry.specs.Prelude.{TextEntry, with_line, IsCatalogueEntry, IsEntry, ReadsText};
+ghost use Rattle.po_writer.specs.Prelude.{EachEndsInItsOnlyFeed, IsArranged, IsCatalogueEntry, IsEntry, ReadsText, StandInOrder, TextEntry, TextsAreWritten, WritesEntry, arranged, entry_lines, in_order, with_entry, with_line, written_text};
 ghost use Rattle.po_syntax.specs.Facts.LinesWithEnds.{lines_with_ends};
-ghost use Rattle.po_writer.specs.Prelude.{IsArranged, StandInOrder, WritesEntry, EachEndsInItsOnlyFeed, TextsAreWritten, arranged, entry_lines, in_order, with_entry, written_text};
 
 /// The lines of a text, joined, are the text. Each but the last ends in its only LF; the last may
 /// have none, and then it isn't empty.

@@ -1,8 +1,7 @@
 //! A text in two parts, live entries before obsolete ones.
 
 ghost use Rattle.std.specs.Prelude.{◌≡◌, ◌++◌, ◌∷◌, List, [], OnOk, IfOk};
-ghost use Rattle.po_entry.specs.Prelude.{TextEntry};
-ghost use Rattle.po_writer.specs.Prelude.{AreAdded, AreParts, joined_parts, written_text};
+ghost use Rattle.po_writer.specs.Prelude.{AreAdded, AreParts, TextEntry, joined_parts, written_text};
 
 use crate::text::push_separated;
 use po_entry::EntryRef;

@@ -1,9 +1,7 @@
 //! A catalogue as C holds it.
 
 ghost use Rattle.std.specs.Prelude.{◌≡◌, ◌≤◌, length};
-ghost use Rattle.plural_rule.specs.Prelude.{expression_limit, program as program_of, tree_of};
-ghost use Rattle.mo_lookup.specs.Prelude.{CatalogView};
-ghost use Rattle.pokit_c.specs.Prelude.{IsOpened};
+ghost use Rattle.pokit_c.specs.Prelude.{CatalogView, IsOpened, expression_limit, program_of, tree_of};
 
 use plural_rule::Instruction;
 

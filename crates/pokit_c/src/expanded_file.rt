@@ -2,8 +2,7 @@
 
 ghost use Rattle.std.specs.Prelude.{◌≡◌, ◌<◌, ◌≤◌, List, length, take};
 ghost use Rattle.mo_file.specs.declared.byte_order.Order.{Order};
-ghost use Rattle.mo_file.specs.Prelude.{Message, IsMoFile};
-ghost use Rattle.mo_expand.specs.Prelude.{IsNotExpanded, expanded_file, expanded_messages};
+ghost use Rattle.pokit_c.specs.Prelude.{IsMoFile, IsNotExpanded, Message, expanded_file, expanded_messages};
 
 use mo_expand::laws::expanded_file_is_mo_file;
 use mo_expand::{ExpandedFile, PlatformText, expand_file};

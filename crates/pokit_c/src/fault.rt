@@ -1,7 +1,7 @@
 //! The faults of a file as C sees them: a number, and the message that a fault names.
 
 ghost use Rattle.std.specs.Prelude.{◌≡◌};
-ghost use Rattle.mo_file.specs.Prelude.{kind, index};
+ghost use Rattle.pokit_c.specs.Prelude.{index, kind};
 
 use mo_file::MoError;
 

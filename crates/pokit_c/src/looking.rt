@@ -1,9 +1,7 @@
 //! Looking up a message.
 
 ghost use Rattle.std.specs.Prelude.{◌≡◌, ◌+◌, ◌^◌, ◌<◌, ◌≤◌, length, false};
-ghost use Rattle.plural_rule.specs.Prelude.{nodes};
-ghost use Rattle.mo_lookup.specs.Prelude.{search_bound, query_comparisons, CatalogView, answered, can_be_key};
-ghost use Rattle.pokit_c.specs.Prelude.{query_view, answer_view, IsTerminated, IsOfQuery, IsOpened};
+ghost use Rattle.pokit_c.specs.Prelude.{CatalogView, IsOfQuery, IsOpened, IsTerminated, answer_view, answered, can_be_key, nodes, query_comparisons, query_view, search_bound};
 
 use crate::catalog::PokitCatalog;
 use crate::query::{PokitLocated, PokitQuery};

@@ -3,9 +3,7 @@
 ghost use Rattle.std.specs.Prelude.{◌≡◌, ◌+◌, ◌^◌, ◌<◌, List, length};
 ghost use Rattle.mo_file.specs.declared.byte_order.Order.{Order};
 ghost use Rattle.mo_file.specs.declared.fault.MoError.{MoError};
-ghost use Rattle.mo_file.specs.Prelude.{IsMoFile, IsFirstFault, comparisons_before, kind, index, Message};
-ghost use Rattle.mo_lookup.specs.Prelude.{CatalogView};
-ghost use Rattle.pokit_c.specs.Prelude.{IsOpened};
+ghost use Rattle.pokit_c.specs.Prelude.{CatalogView, IsFirstFault, IsMoFile, IsOpened, Message, comparisons_before, index, kind};
 
 use crate::catalog::PokitCatalog;
 use crate::fault::{index, number};

@@ -2,9 +2,8 @@
 
 ghost use Rattle.std.specs.Prelude.{◌≡◌, ℕ, List, Option};
 ghost use Rattle.std.specs.Option.{option_copied};
-ghost use Rattle.mo_lookup.specs.Prelude.{given, IsPlace, located_view};
+ghost use Rattle.pokit_c.specs.Prelude.{IsOfQuery, IsPlace, IsTerminated, answer_view, given, located_view, query_view};
 ghost use Rattle.pokit_c.specs.declared.query.PokitQuery.{PokitQuery};
-ghost use Rattle.pokit_c.specs.Prelude.{query_view, answer_view, IsTerminated, IsOfQuery};
 
 use mo_lookup::{Located, Place};
 

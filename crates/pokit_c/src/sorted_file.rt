@@ -2,9 +2,7 @@
 
 ghost use Rattle.std.specs.Prelude.{◌≡◌, ◌<◌, ◌≤◌, List, length, take};
 ghost use Rattle.mo_file.specs.declared.byte_order.Order.{Order};
-ghost use Rattle.mo_file.specs.Prelude.{HasMagicOf, message_count, Message, IsMoFile};
-ghost use Rattle.mo_expand.specs.Prelude.{IsFileInAnyOrder, IsInOrder, IsFileOfSorted, IsNotSorted};
-ghost use Rattle.pokit_c.specs.Prelude.{AnswersAlike};
+ghost use Rattle.pokit_c.specs.Prelude.{AnswersAlike, HasMagicOf, IsFileInAnyOrder, IsFileOfSorted, IsInOrder, IsMoFile, IsNotSorted, Message, message_count};
 
 use mo_expand::laws::{same_message_under_key, sorted_file_is_mo_file};
 use mo_expand::{SortedFile, message_count, sort_file};

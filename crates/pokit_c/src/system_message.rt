@@ -2,9 +2,8 @@
 
 ghost use Rattle.std.specs.Prelude.{◌≡◌, ◌<◌, ◌≤◌, Err, None, Ok, length};
 ghost use Rattle.mo_file.specs.declared.byte_order.Order.{Order};
-ghost use Rattle.mo_file.specs.Prelude.{HasMagicOf};
+ghost use Rattle.pokit_c.specs.Prelude.{HasMagicOf, IsExpanded, system_count, system_message};
 ghost use Rattle.mo_expand.specs.declared.joining.Missing.TheVariants.{Full};
-ghost use Rattle.mo_expand.specs.Prelude.{system_count, system_message, IsExpanded};
 
 use mo_expand::{Missing, PlatformText, expand, system_count};
 

@@ -1,8 +1,7 @@
 //! What the program writes itself, and how it ends then.
 ghost use Rattle.std.specs.Prelude.{◌≡◌, ◌<◌, ◌^◌, IfOk, OnErr};
-ghost use Rattle.runs.specs.Prelude.{writer};
+ghost use Rattle.process.specs.Prelude.{GivesHelp, Puts, Reports, writer};
 ghost use Rattle.command_line.specs.Prelude.{reworded};
-ghost use Rattle.process.specs.Prelude.{GivesHelp, Puts, Reports};
 
 use command_line::reworded;
 use runs::{ByteOut, Ending, ProgramFault, Tool, put_all, report_fault};

@@ -1,9 +1,7 @@
 //! The program: what its command line comes to, and the ending.
 ghost use Rattle.std.specs.Prelude.{◌≡◌, ◌≢◌, ◌^◌, ◌<◌, ℕ, List, IfErr, IfOk, MatchOption, MatchResult, OnErr, OnOk, map};
 ghost use Rattle.clap.specs.Values.{kind_of};
-ghost use Rattle.po_tools.specs.Prelude.{line_of, answers_of, reached, reader_of};
-ghost use Rattle.runs.specs.Prelude.{writer};
-ghost use Rattle.process.specs.Prelude.{AreRefused, EndsTool, Explains, IsFirst, IsFoundIn, NamesNone, NamesTool, RunsProgram, RunsWords};
+ghost use Rattle.process.specs.Prelude.{AreRefused, EndsTool, Explains, IsFirst, IsFoundIn, NamesNone, NamesTool, RunsProgram, RunsWords, answers_of, line_of, reached, reader_of, writer};
 
 use crate::endings::{give_help, refuse, report};
 use crate::environment::arguments;

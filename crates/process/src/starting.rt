@@ -1,6 +1,5 @@
 //! The program over a system.
-ghost use Rattle.po_tools.specs.Prelude.{answers_of};
-ghost use Rattle.process.specs.Prelude.{ReadsFile, ReadsInput, Starts, AreEntries};
+ghost use Rattle.process.specs.Prelude.{AreEntries, ReadsFile, ReadsInput, Starts, answers_of};
 ghost use Rattle.runs.specs.Inputs.{gives};
 ghost use Rattle.std.specs.Prelude.{codes};
 

@@ -1,8 +1,7 @@
 //! Standard streams that are closed. The next file to be opened would get the descriptor of one,
 //! and what is meant for the stream would go into the file.
 ghost use Rattle.std.specs.Prelude.{◌≡◌, codes, is_ok, IfErr};
-ghost use Rattle.process.specs.Prelude.{Holds, ReplacesClosed, Does};
-ghost use Rattle.runs.specs.Prelude.{program_text};
+ghost use Rattle.process.specs.Prelude.{Does, Holds, ReplacesClosed, program_text};
 
 use crate::system_calls::SystemCalls;
 use runs::ProgramFault;
