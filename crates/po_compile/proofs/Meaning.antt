@@ -1,45 +1,10 @@
 -- The messages of entries mean these entries, in whatever order the list has them.
 use Rattle.po_compile.proofs.Prelude.{All, All-append, All-cons, All-contains, All-head, All-nil, All-permutation, All-tail, All-weaker, AllApart, AllPairs, AreMessagesOf, AreRising, Bool, Contains, Contains-permutation, Decides, Decides-and, Decides-eqb, Decides-like, IfSome, IsEntry, IsPermutation, IsPermutation-map, IsPermutation-sym, IsText, Lacks, List, Message, MessagesDiffer, MessagesHaveParts, MessagesMeanEntries, None, OneMoreChangesNoOther, Option, Query, Some, TextEntry, TextsComeBack, [], and_parts, answer, ap, append-nil, ap₂, arith, bytes_eq, bytes_eq-Decides, can_be_key, cases_lt, cond, context_of, definition, fails_before_first, false, find, find-append, find_at, find_map, first_all, first_form, form_at, forms, get_or, get_or_default, get_or_from_slice_get, has_no_separator, header_of, header_text, id_of, if◌then◌else◌, inl, inr, is_of_message, is_separator, join_with_byte, key_of, keys, length, less_is_other, list_any, map, message_of, none-some, not-true, one_answer, option_eq, option_map, option_map_or, option_or, option_to_list, or_parts, original_of, passes_at_first, plural_cut, plural_none, plural_of, plural_part, position_or_len, query_key, refl, slice_get-get_or, slice_get_within, subst, subst₂, sym, translation_of, translation_under, true, unwrap_or, ℕ, ⊎_elim, ◌++◌, ◌<◌, ◌==◌, ◌∙◌, ◌∷◌, ◌≡◌, ◌≢◌, ◌≤◌, ◌⊎◌}
-use Rattle.po_syntax.specs.Facts.AllAppend.{All-left, All-right}
 use Rattle.po_compile.proofs.DistinctKeys.{Below, apart_permuted, below_from_rising, entries_differ, key_of_entry, rising_apart}
 use Rattle.plural_rule.specs.Prelude.{IsRuleOf, expression_limit}
 use Rattle.po_entry.proofs.AdmittedTexts.{quoted_parts}
 use Rattle.po_compile.proofs.CompiledMessages.{context_back, id_back, key_of-plural_part, query_key_is_one, query_key_lacks, slice_split-join}
-
-of_other : (query : Query) (entry : TextEntry) → ¬ ((entry.context ≡ query.context) × (entry.id ≡ query.id))
-    → is_of_message query.context query.id entry ≡ false
-of_other query entry other = by (is_of_message query.context query.id entry) refl where
-  decided : Decides (is_of_message query.context query.id entry)
-      ((entry.context ≡ query.context) × (entry.id ≡ query.id))
-  decided = Decides-and (option_eq bytes_eq entry.context query.context) (bytes_eq entry.id query.id)
-      (option_decides entry.context query.context) (bytes_eq-Decides entry.id query.id)
-
-  by : (b : Bool) → is_of_message query.context query.id entry ≡ b → b ≡ false
-  by true is = absurd (other (decided.0 is))
-  by false is = refl
-
-find_same : (test : TextEntry → Bool) (before after : List TextEntry) (entry : TextEntry) → test entry ≡ false
-    → find test (before ++ entry ∷ after) ≡ find test (before ++ after)
-find_same test before after entry fails =
-    find-append test before (entry ∷ after)
-    ∙ ap (λ (b : Bool). option_or (find test before) (cond b (Some entry) (find test after))) fails
-    ∙ sym (find-append test before after)
-
-pub one_more : MessagesMeanEntries → OneMoreChangesNoOther
-one_more mean before after entry messages more rule query valid are are_more other =
-    let further = All-right IsEntry before (entry ∷ after) valid in
-    let others = All-append IsEntry before after (All-left IsEntry before (entry ∷ after) valid)
-    (All-tail IsEntry entry after further) in
-    let found = find_same (is_of_message query.context query.id) before after entry (of_other query entry other) in
-    let defined : definition (before ++ entry ∷ after) query.context query.id
-    ≡ definition (before ++ after) query.context query.id =
-    ap (λ (f : Option TextEntry). if can_be_key query.context query.id then f else None) found in
-    (mean (before ++ entry ∷ after) more valid are_more).answers rule query
-    ∙ ap (λ (d : Option TextEntry). answer (option_map (λ (e : TextEntry). e.forms) d) rule query) defined
-    ∙ sym ((mean (before ++ after) messages others are).answers rule query)
-
--- The messages of entries mean these entries: the one message under a key is found in whatever order the
--- messages stand, and is taken apart again.
+use Rattle.po_syntax.specs.Facts.AllAppend.{All-left, All-right}
 
 -- what a search finds is in the list and passes the test
 pub record IsFound {X : Type 0} (test : X → Bool) (xs : List X) (x : X) : Type 0 where
@@ -322,3 +287,35 @@ messages_differ entries messages valid are =
     entries_differ entries (subst AllApart (keys_of_entries entries all)
     (apart_permuted (keys messages) ks (IsPermutation-sym ks (keys messages) moved)
     (rising_apart (keys messages) are.rising)))
+
+of_other : (query : Query) (entry : TextEntry) → ¬ ((entry.context ≡ query.context) × (entry.id ≡ query.id))
+    → is_of_message query.context query.id entry ≡ false
+of_other query entry other = by (is_of_message query.context query.id entry) refl where
+  decided : Decides (is_of_message query.context query.id entry)
+      ((entry.context ≡ query.context) × (entry.id ≡ query.id))
+  decided = Decides-and (option_eq bytes_eq entry.context query.context) (bytes_eq entry.id query.id)
+      (option_decides entry.context query.context) (bytes_eq-Decides entry.id query.id)
+
+  by : (b : Bool) → is_of_message query.context query.id entry ≡ b → b ≡ false
+  by true is = absurd (other (decided.0 is))
+  by false is = refl
+
+find_same : (test : TextEntry → Bool) (before after : List TextEntry) (entry : TextEntry) → test entry ≡ false
+    → find test (before ++ entry ∷ after) ≡ find test (before ++ after)
+find_same test before after entry fails =
+    find-append test before (entry ∷ after)
+    ∙ ap (λ (b : Bool). option_or (find test before) (cond b (Some entry) (find test after))) fails
+    ∙ sym (find-append test before after)
+
+pub one_more : MessagesMeanEntries → OneMoreChangesNoOther
+one_more mean before after entry messages more rule query valid are are_more other =
+    let further = All-right IsEntry before (entry ∷ after) valid in
+    let others = All-append IsEntry before after (All-left IsEntry before (entry ∷ after) valid)
+    (All-tail IsEntry entry after further) in
+    let found = find_same (is_of_message query.context query.id) before after entry (of_other query entry other) in
+    let defined : definition (before ++ entry ∷ after) query.context query.id
+    ≡ definition (before ++ after) query.context query.id =
+    ap (λ (f : Option TextEntry). if can_be_key query.context query.id then f else None) found in
+    (mean (before ++ entry ∷ after) more valid are_more).answers rule query
+    ∙ ap (λ (d : Option TextEntry). answer (option_map (λ (e : TextEntry). e.forms) d) rule query) defined
+    ∙ sym ((mean (before ++ after) messages others are).answers rule query)

@@ -2,13 +2,13 @@
 use Rattle.po_writer.proofs.Prelude.{All, All-cons, All-head, All-nil, All-tail, HoldsItems, HoldsTokens, IsBlank, IsText, Keyword, List, Marks, MsgCtxt, MsgId, MsgIdPlural, MsgStr, MsgStrAt, SpellsKeyword, SpellsKeywordText, SpellsStrings, Str, TextItem, Word, [], ap, append-nil, append_assoc, arith, blank, codes, cond_both, decimal, end, false, flat_map, keyword as keyword_token, keyword_lines, keyword_text, length, lines_are, lines_with_ends, live, more, msgctxt, msgid, msgid_plural, msgstr, nat_lt, obsolete, obsolete_previous, previous, quoted, refl, string, string_line, subst, sym, true, written_bytes, ℕ, ◌++◌, ◌<◌, ◌^◌, ◌∙◌, ◌∷◌, ◌≡◌, ◌≤◌}
 use Rattle.po_syntax.specs.Prelude.{own_marks, previous_marks}
 use Rattle.po_syntax.proofs.QuotedForms.{bytes_spell}
+use Rattle.po_entry.specs.Spelling.{last}
+use Rattle.po_writer.proofs.WrittenLines.{BeginsLow, Block, empty_block, flat_lines, line_block, low-append, two_blocks, weaker_block}
+use Rattle.po_writer.proofs.Utf8Lines.{IsLine, ascii_line, line-append, plain_line, quoted_line, text-empty, text_lines, text_some}
 use Rattle.std.specs.Str.Parse.{AllDigits, IsNumeral, digits_value}
 use Rattle.std.proofs.lemmas.Fmt.{decimal_is_IsNumeral}
 use Rattle.std.proofs.lemmas.Str.Parse.{digit_from_value}
 use Rattle.po_syntax.specs.Token.{form}
-use Rattle.po_writer.proofs.Utf8Lines.{IsLine, ascii_line, line-append, plain_line, quoted_line, text-empty, text_lines, text_some}
-use Rattle.po_entry.specs.Spelling.{last}
-use Rattle.po_writer.proofs.WrittenLines.{BeginsLow, Block, empty_block, flat_lines, line_block, low-append, two_blocks, weaker_block}
 
 -- after the prefix, tokens stand under these marks
 abbrev pub IsPrefix : List ℕ → Marks → Type 0
@@ -61,44 +61,6 @@ pub keyword_spells : (prefix spelling : List ℕ) (word : Keyword) (marks : Mark
 keyword_spells prefix spelling word marks number text h k some =
     h number (spelling ++ 32 ∷ quoted text) (Word word marks number ∷ Str text marks number ∷ [])
     (keyword_token (k (written_bytes text ++ 34 ∷ [])) (blank refl (string_tokens marks number text some)))
-
-numbered_keyword : (digits rest : List ℕ) (index : ℕ) → IsNumeral 10 digits → digits_value 10 digits ≡ index
-    → index < 2 ^ 32
-    → SpellsKeyword ((codes "msgstr[" ++ digits ++ codes "]") ++ rest) (MsgStrAt index) rest
-numbered_keyword digits rest index h value below =
-    let none = All-nil IsBlank in
-    let spelt = form [] [] digits [] {rest = rest} none none h (subst (λ i. i < 2 ^ 32) (sym value) below) none in
-    rw (append_assoc digits (93 ∷ []) rest)
-    (subst (λ i. SpellsKeyword (codes "msgstr[" ++ (digits ++ 93 ∷ rest)) (MsgStrAt i) rest) value spelt)
-
-plain_digits : (digits : List ℕ) → AllDigits 10 digits → All (λ b. (32 ≤ b) × (b < 128)) digits
-plain_digits [] h = All-nil (λ b. (32 ≤ b) × (b < 128))
-plain_digits (d ∷ digits) h = let range = digit_from_value d h.0 in
-    All-cons (λ b. (32 ≤ b) × (b < 128)) d digits (omega (arith, range), omega (arith, range)) (plain_digits digits h.1)
-
-pub context_written : IsLineKeyword (codes "msgctxt") MsgCtxt
-context_written = record { token = context_keyword; line = plain_line (codes "msgctxt") refl; low = omega arith }
-
-pub id_written : IsLineKeyword (codes "msgid") MsgId
-id_written = record { token = id_keyword; line = plain_line (codes "msgid") refl; low = omega arith }
-
-pub plural_written : IsLineKeyword (codes "msgid_plural") MsgIdPlural
-plural_written = record { token = plural_keyword; line = plain_line (codes "msgid_plural") refl; low = omega arith }
-
-pub single_written : IsLineKeyword (codes "msgstr") MsgStr
-single_written = record { token = single_keyword; line = plain_line (codes "msgstr") refl; low = omega arith }
-
-pub numbered : (index : ℕ) → index < 2 ^ 32
-    → IsLineKeyword (codes "msgstr[" ++ decimal index ++ codes "]") (MsgStrAt index)
-numbered index below =
-    let digits = decimal_is_IsNumeral index (omega (arith, below)) in
-    record {
-      token = λ rest. numbered_keyword (decimal index) (32 ∷ 34 ∷ rest) index digits.0 digits.1 below;
-      line = line-append (codes "msgstr[" ++ decimal index) (codes "]")
-          (line-append (codes "msgstr[") (decimal index) (plain_line (codes "msgstr[") refl)
-          (ascii_line (decimal index) (plain_digits (decimal index) digits.0.1))) (plain_line (codes "]") refl);
-      low = omega arith;
-    }
 
 -- A keyword with its text, on one line or more, spells the keyword and strings that give the text.
 
@@ -199,3 +161,41 @@ text_block prefix spelling keyword marks text p k h =
     (several_lines prefix spelling keyword marks pieces p k (text_lines (lines_are text) h)))
     (λ _. weaker_block (keyword_line prefix spelling keyword marks text p k h)
     (λ items g. (g.0, rw g.1 (keyword_text last))))
+
+numbered_keyword : (digits rest : List ℕ) (index : ℕ) → IsNumeral 10 digits → digits_value 10 digits ≡ index
+    → index < 2 ^ 32
+    → SpellsKeyword ((codes "msgstr[" ++ digits ++ codes "]") ++ rest) (MsgStrAt index) rest
+numbered_keyword digits rest index h value below =
+    let none = All-nil IsBlank in
+    let spelt = form [] [] digits [] {rest = rest} none none h (subst (λ i. i < 2 ^ 32) (sym value) below) none in
+    rw (append_assoc digits (93 ∷ []) rest)
+    (subst (λ i. SpellsKeyword (codes "msgstr[" ++ (digits ++ 93 ∷ rest)) (MsgStrAt i) rest) value spelt)
+
+plain_digits : (digits : List ℕ) → AllDigits 10 digits → All (λ b. (32 ≤ b) × (b < 128)) digits
+plain_digits [] h = All-nil (λ b. (32 ≤ b) × (b < 128))
+plain_digits (d ∷ digits) h = let range = digit_from_value d h.0 in
+    All-cons (λ b. (32 ≤ b) × (b < 128)) d digits (omega (arith, range), omega (arith, range)) (plain_digits digits h.1)
+
+pub context_written : IsLineKeyword (codes "msgctxt") MsgCtxt
+context_written = record { token = context_keyword; line = plain_line (codes "msgctxt") refl; low = omega arith }
+
+pub id_written : IsLineKeyword (codes "msgid") MsgId
+id_written = record { token = id_keyword; line = plain_line (codes "msgid") refl; low = omega arith }
+
+pub plural_written : IsLineKeyword (codes "msgid_plural") MsgIdPlural
+plural_written = record { token = plural_keyword; line = plain_line (codes "msgid_plural") refl; low = omega arith }
+
+pub single_written : IsLineKeyword (codes "msgstr") MsgStr
+single_written = record { token = single_keyword; line = plain_line (codes "msgstr") refl; low = omega arith }
+
+pub numbered : (index : ℕ) → index < 2 ^ 32
+    → IsLineKeyword (codes "msgstr[" ++ decimal index ++ codes "]") (MsgStrAt index)
+numbered index below =
+    let digits = decimal_is_IsNumeral index (omega (arith, below)) in
+    record {
+      token = λ rest. numbered_keyword (decimal index) (32 ∷ 34 ∷ rest) index digits.0 digits.1 below;
+      line = line-append (codes "msgstr[" ++ decimal index) (codes "]")
+          (line-append (codes "msgstr[") (decimal index) (plain_line (codes "msgstr[") refl)
+          (ascii_line (decimal index) (plain_digits (decimal index) digits.0.1))) (plain_line (codes "]") refl);
+      low = omega arith;
+    }
