@@ -382,7 +382,7 @@ read_bytes text rest b h =
 are_expanded : {text bytes : List ℕ} {without_newline : Bool} → Expands text bytes without_newline
     → Are text bytes without_newline
 unfolding given_bytes_after
-are_expanded nothing = (refl, refl)
+are_expanded expands_nothing = (refl, refl)
 are_expanded (plain {b = b} {text = text} {bytes = bytes} {without_newline = without_newline} other more) =
     are_more (b ∷ text) text bytes b without_newline (given_bytes-plain b text (ne_eqb b 92 other)) (are_expanded more)
 are_expanded (expands_escape {b = b} {text = text} {rest = rest} {bytes = bytes}

@@ -1,5 +1,5 @@
 -- A text that is read in pieces: a piece that reads, and the entries or the fault of what is left after it.
-use Rattle.po_reader.proofs.Prelude.{AddsReading, All, All-append, All-head, All-nil, All-tail, BeginsAnew, Bool, CanEnd, CanFollow, CommentText, EndsEntry, EndsInString, Fault, FaultsStay, HasAdmittedCharset, HasTexts, IsApart, IsCleanLine, IsLeftFault, IsNew, IsPiece, IsReadFault, IsReadSoFar, IsShorter, ItemsFault, ItemsStop, KeepsItems, LeftAnew, LeftStops, LineBeginsAnew, LinesLeft, List, MsgStrAt, OpenPieces, PiecesRead, PoFault, ReadsItems, ReadsLeft, ReadsOn, ReadsText, SpellsEntries, SpellsLeft, SpellsLines, SpellsOn, SpellsText, Stage, StopsStay, Str, TextEntry, TextFault, TextItem, Word, [], ap, append-nil, append_assoc, arith, comes_to, drop, drop_all, entries_joined, fold, fold-append, in_head, inl, inr, last_line, length, length-drop, line_once, outcome, reached, refl, settled, start, subst, suc, sym, take, turn, zero, ℕ, ◌++◌, ◌+◌, ◌<◌, ◌∙◌, ◌∷◌, ◌≡◌, ◌≢◌, ◌≤◌, ◌⊎◌}
+use Rattle.po_reader.proofs.Prelude.{AddsReading, All, All-append, All-head, All-nil, All-tail, BeginsAnew, Bool, CanEnd, CanFollow, CommentText, EndsEntry, EndsInString, Fault, FaultsStay, HasAdmittedCharset, HasTexts, IsApart, IsCleanLine, IsLeftFault, IsNew, IsPiece, IsReadFault, IsReadSoFar, IsShorter, ItemsFault, ItemsStop, KeepsItems, LeftAnew, LeftStops, LineBeginsAnew, LinesLeft, List, MsgStrAt, OpenPieces, PiecesRead, PoFault, ReadsItems, ReadsLeft, ReadsOn, ReadsText, SpellsEntries, SpellsLeft, SpellsLines, SpellsOn, SpellsText, Stage, StopsStay, Str, TextEntry, TextFault, TextItem, Word, [], ap, append-nil, append_assoc, arith, comes_to, drop, drop_all, entries_joined, fold, fold-append, in_head, inl, inr, last_line, length, length-drop, line_items_once, outcome, reached, refl, settled, start, subst, suc, sym, take, turn, zero, ℕ, ◌++◌, ◌+◌, ◌<◌, ◌∙◌, ◌∷◌, ◌≡◌, ◌≢◌, ◌≤◌, ◌⊎◌}
 use Rattle.po_syntax.proofs.Lines.{some_length}
 use Rattle.po_syntax.proofs.PieceTexts.{piece_all, piece_anew, piece_shorter, piece_spelt, piece_stops}
 use Rattle.po_reader.proofs.FirstFaults.{fault_comes, fault_unread, items_fault, spelt_once}
@@ -207,7 +207,7 @@ line_apart count number lines [] anew h = (refl, refl)
 line_apart zero number lines (item ∷ items) anew h = absurd cc
 line_apart (suc count) number [] (item ∷ items) anew h = absurd anew
 line_apart (suc count) number (line ∷ lines) (item ∷ items) anew h =
-    first anew.0 anew.2 (line_once anew.1 h.2) where
+    first anew.0 anew.2 (line_items_once anew.1 h.2) where
       first : (here : List TextItem) → BeginsAnew here → here ≡ h.0 → IsApart (item ∷ items)
       first [] new same = absurd new
       first (one ∷ here) new same =

@@ -16,7 +16,7 @@ pub use Rattle.po_reader.specs.Prelude.{AddsReading, EndsEntry, FaultsStay, IsLe
 pub use Rattle.po_reader.specs.declared.head.Head.{Head}
 pub use Rattle.po_syntax.proofs.Faults.{IsFaultOf-weaker, is_text_fault, text_reported}
 pub use Rattle.po_syntax.proofs.Faults.{passed_on}
-pub use Rattle.po_syntax.proofs.OneOutcome.{fault_once, line_once}
+pub use Rattle.po_syntax.proofs.OneOutcome.{fault_once, line_items_once}
 pub use Rattle.po_syntax.specs.Facts.AllAppend.{All-left, All-right}
 pub use Rattle.po_syntax.specs.Item.{Comment, Str, Word}
 pub use Rattle.po_syntax.specs.Prelude.{BeginsAnew, CanEnd, EndsInString, FailsFirst, HoldsText, IsCleanLine, IsComment, IsCommentOf, IsFaultOf, IsNew, IsPiece, IsString, IsText, LeftAnew, LeftStops, LineBeginsAnew, LinesLeft, OfString, SpellsLeft, SpellsLines, SpellsText, TextFault, TextItem, is_blank, line_of, skip_blanks, view, views, without_end}
