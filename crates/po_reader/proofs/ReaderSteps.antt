@@ -265,8 +265,8 @@ pub own_ends : (above : ℕ) (items rest : List TextItem) (keyword : Keyword) (m
 own_ends above items rest keyword marks line is own body = rw (is, own, body) refl
 
 pub none_ends : (above : ℕ) (items : List TextItem) → items ≡ [] → above ≡ 0 → EndsHead above items
-none_ends above [] is zero = zero
-none_ends above (item ∷ items) is zero = absurd cc
+none_ends above [] is none = none
+none_ends above (item ∷ items) is none = absurd cc
 
 pub head_refused : (end above : ℕ) (items : List TextItem) (read : SoFar) → items ≡ [] → above ≢ 0
     → comes_to end (Between (InHead read above)) items ≡ Fault BadOrder (first_line end items)
@@ -274,5 +274,5 @@ head_refused end above (item ∷ items) read is some = absurd cc
 head_refused end above [] read is some = chosen (above == 0) refl where
   chosen : (b : Bool) → (above == 0) ≡ b
       → (if b then Entries read.entries else Fault BadOrder end) ≡ Fault BadOrder end
-  chosen true zero = absurd (some (eqb-true above 0 zero))
+  chosen true none = absurd (some (eqb-true above 0 none))
   chosen false other = refl
