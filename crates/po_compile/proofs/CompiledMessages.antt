@@ -167,7 +167,7 @@ module _ {X : Type 0} (f : InputMessage → X) (rows : List Row) (i : ℕ) (row 
   one_more =
       ap (λ rs. map f (only_compiled (map row_view rs)))
       (take_more rows i row inside ∙ ap (λ r. take i rows ++ r ∷ []) (sym is))
-      ∙ ap (λ ms. map f (compiled ms)) (map-append row_view (take i rows) (row ∷ []))
+      ∙ ap (λ ms. map f (only_compiled ms)) (map-append row_view (take i rows) (row ∷ []))
       ∙ ap (map f)
       (filter-append (λ (m : InputMessage). m.message.status.compiled) (map row_view (take i rows)) (row_view row ∷ []))
       ∙ map-append f (only_compiled (map row_view (take i rows))) (only_compiled (row_view row ∷ []))

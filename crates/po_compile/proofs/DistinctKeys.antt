@@ -153,15 +153,15 @@ each_apart input headed [] one apart = All-nil (λ messages. AllApart (message_k
 each_apart input headed (messages ∷ inputs) one apart =
     let key : InputMessage → List ℕ = λ m. m.message.key in
     let kept = filter (is_joined headed) messages in
-    let then = headed || list_any has_no_key messages in
-    let rest = joined_messages (input + 1) then inputs in
+    let seen = headed || list_any has_no_key messages in
+    let rest = joined_messages (input + 1) seen inputs in
     let split = map-append key (map (in_input_message input) kept) rest
     ∙ ap (λ ks. ks ++ input_keys rest) (map-map key (in_input_message input) kept) in
     let parts = subst AllApart split apart in
     All-cons (λ ms. AllApart (message_keys ms)) messages inputs
     (input_apart headed messages (All-head HasOneHeader messages inputs one)
     (keys_before (message_keys kept) (input_keys rest) parts))
-    (each_apart (input + 1) then inputs (All-tail HasOneHeader messages inputs one)
+    (each_apart (input + 1) seen inputs (All-tail HasOneHeader messages inputs one)
     (keys_after (message_keys kept) (input_keys rest) parts))
 
 -- where no message repeats another of the joined list, and no input has two headers, none repeats
