@@ -243,37 +243,19 @@ impl<'a> Pieces<'a> {
         ensures unchanged { OnErr result (self.new ≡ self.old) }
     {
         let mut items = Vec::with_capacity(alloc, FIRST_ROOM)?;
-        let end = self.add_tested_piece(alloc, size, &mut items)?;
-        *self = Pieces {
-            text: self.text,
-            rest: end.rest,
-            line: end.line,
-        };
-        Ok(items)
-    }
-
-    /// Adds the items of the next piece to an empty list, as `next` says. Returns where the piece
-    /// ends.
-    fn add_tested_piece(
-        &self,
-        alloc: Global,
-        size: usize,
-        items: &mut Vec<Item<'a>>,
-    ) -> Result<PieceEnd<'a>, PoError>
-        requires { items.old.items ≡ [] }
-        ensures piece { IfOk result (λ end. IsPiece size self.now
-            (record { text = self.now.text; number = end.line; lines = lines_of_rest end.rest }) (views items.new.items)) }
-        ensures lent { OnOk result (All LendsUtf8 items.new.items) }
-        ensures fault { IfErr result (IsFaultOf (LeftStops self.now)) }
-    {
-        let end = match self.add_piece(alloc, size, items) {
+        let end = match self.add_piece(alloc, size, &mut items) {
             Ok(end) => end,
             Err(error) => return Err(self.first_fault(error)),
         };
         if !self.begins_with_text(end.len) {
             return Err(byte_fault(self.text).unwrap());
         }
-        Ok(end)
+        *self = Pieces {
+            text: self.text,
+            rest: end.rest,
+            line: end.line,
+        };
+        Ok(items)
     }
 
     /// Whether the first lines that are left, of so many bytes with an LF after each, are UTF-8
