@@ -286,22 +286,6 @@ forms_cut own key true first found none some is split =
     ap (λ n. split_forms (drop n own)) (sym next) ∙ split in
     after_plural found none is ∙ ap (λ texts. join_with_byte 0 (forms_in true texts)) (sym parts)
 
--- an entry's own texts, one part after another
-pub own_laid : (old a b all : List ℕ) (context : Option (List ℕ)) (id : List ℕ) (plural : Option (List ℕ))
-    (forms : List (List ℕ)) → a ≡ old ++ key_bytes context id → b ≡ a ++ optional_bytes plural
-    → all ≡ b ++ flat_map after_nul forms
-    → all ≡ old ++ (key_bytes context id ++ flat_map after_nul (option_to_list plural ++ forms))
-own_laid old a b all context id plural forms first second third =
-    third ∙ ap (λ l. l ++ flat_map after_nul forms) (second ∙ ap (λ l. l ++ optional_bytes plural) first)
-    ∙ append_assoc (old ++ key_bytes context id) (optional_bytes plural) (flat_map after_nul forms)
-    ∙ append_assoc old (key_bytes context id) (optional_bytes plural ++ flat_map after_nul forms)
-    ∙ ap (λ l. old ++ (key_bytes context id ++ l)) (plural_first plural)
-  where
-    plural_first : (text : Option (List ℕ))
-        → optional_bytes text ++ flat_map after_nul forms ≡ flat_map after_nul (option_to_list text ++ forms)
-    plural_first None = refl
-    plural_first (Some text) = refl
-
 each_after_nul : (texts : List (List ℕ)) → 0 < length texts → flat_map after_nul texts ≡ 0 ∷ join_with_byte 0 texts
 each_after_nul [] some = absurd (omega (arith, some))
 each_after_nul (text ∷ []) some = append-nil (0 ∷ text)

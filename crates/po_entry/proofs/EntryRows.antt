@@ -1,5 +1,5 @@
 -- The rows of a buffer of entries that grows.
-use Rattle.po_entry.proofs.Prelude.{Adds, All, All-append, All-cons, All-head, All-map, All-nil, All-push, All-tail, AreLaid, Bool, CanLie, EndsContext, Err, Grows, IsCatalogueEntry, LiesIn, List, Ok, OnErr, PluralFollows, Result, Row, TextEntry, [], after_nul, ap, append_assoc, ap₂, arith, changed_at, cond, context_length, drop, drop-append-add, drop-append-le, drop-append_seam, entries_in, entry_at, entry_bytes, false, filter, flat_map, further_texts, get_or-map, head_at, head_bytes, is_some, key_bytes, length, length-append, length-drop, length-map, length-take, map, map-append, moved, not, own_at, own_bytes, refl, row_of, set, set_fuzzy, set_obsolete, subst, suc, sym, take, take-append-drop, take-append-le, take-append_seam, take_all, take_more, true, zero, ℕ, ◌++◌, ◌+◌, ◌<◌, ◌^◌, ◌∙◌, ◌∷◌, ◌≡◌, ◌≤◌}
+use Rattle.po_entry.proofs.Prelude.{Adds, All, All-append, All-cons, All-head, All-map, All-nil, All-push, All-set, All-tail, AreLaid, Bool, CanLie, EndsContext, Err, Grows, IsCatalogueEntry, LiesIn, List, Ok, OnErr, PluralFollows, Result, Row, TextEntry, [], after_nul, ap, append_assoc, ap₂, arith, changed_at, cond, context_length, drop, drop-append-add, drop-append-le, drop-append_seam, entries_in, entry_at, entry_bytes, false, filter, flat_map, further_texts, get_or-map, head_at, head_bytes, is_some, key_bytes, length, length-append, length-drop, length-map, length-take, map, map-append, moved, not, own_at, own_bytes, refl, row_of, set, subst, suc, sym, take, take-append-drop, take-append-le, take-append_seam, take_all, take_more, true, zero, ℕ, ◌++◌, ◌+◌, ◌<◌, ◌^◌, ◌∙◌, ◌∷◌, ◌≡◌, ◌≤◌}
 use Rattle.std.specs.Prelude.{get_or}
 use Rattle.po_entry.specs.declared.drafts.Drafts.{Drafts}
 use Rattle.po_entry.proofs.EntryLayout.{context_fits, eot_laid, key_fits, means, nul_laid}
@@ -189,41 +189,6 @@ all_changed P change keeps (suc i) (entry ∷ entries) all =
     All-cons P entry (changed_at change i entries) (All-head P entry entries all)
     (all_changed P change keeps i entries (All-tail P entry entries all))
 
-pub fuzzy_stands : (fuzzy : Bool) (e : TextEntry) → IsCatalogueEntry e → IsCatalogueEntry (set_fuzzy fuzzy e)
-fuzzy_stands fuzzy e h = record {
-  valid = record {
-    quoted_texts = h.valid.quoted_texts;
-    comments = h.valid.comments;
-    extracted = h.valid.extracted;
-    references = h.valid.references;
-    flags = h.valid.flags;
-    distinct_flags = h.valid.distinct_flags;
-    context = h.valid.context;
-    id = h.valid.id;
-    some_form = h.valid.some_form;
-    one_form = h.valid.one_form;
-  };
-  charset = h.charset;
-}
-
-pub obsolete_stands : (obsolete : Bool) (e : TextEntry) → IsCatalogueEntry e
-    → IsCatalogueEntry (set_obsolete obsolete e)
-obsolete_stands obsolete e h = record {
-  valid = record {
-    quoted_texts = h.valid.quoted_texts;
-    comments = h.valid.comments;
-    extracted = h.valid.extracted;
-    references = h.valid.references;
-    flags = h.valid.flags;
-    distinct_flags = h.valid.distinct_flags;
-    context = h.valid.context;
-    id = h.valid.id;
-    some_form = h.valid.some_form;
-    one_form = h.valid.one_form;
-  };
-  charset = h.charset;
-}
-
 abbrev pub kept_live : TextEntry → Bool
 kept_live entry = not entry.obsolete
 
@@ -294,11 +259,43 @@ pushed old new rows after entry lie valid stands fits is rows_are =
       more = more;
     }
 
-pub fuzzy_lies : (bytes : List ℕ) (row : Row) (fuzzy : Bool) → LiesIn bytes row
-    → LiesIn bytes (record row { fuzzy = fuzzy })
-fuzzy_lies bytes row fuzzy l = record { within = l.within; key = l.key; context = l.context; eot = l.eot; nul = l.nul }
+-- a row with other flags, and the entry that it has
+pub record Flagged (bytes : List ℕ) (all : List TextEntry) (after : List Row) (i : ℕ) (change : TextEntry → TextEntry)
+    : Type 0 where
+  pub lie : All (LiesIn bytes) after
+  pub valid : All IsCatalogueEntry (map (entry_at bytes) after)
+  pub changed : map (entry_at bytes) after ≡ changed_at change i all
 
-pub obsolete_lies : (bytes : List ℕ) (row : Row) (obsolete : Bool) → LiesIn bytes row
-    → LiesIn bytes (record row { obsolete = obsolete })
-obsolete_lies bytes row obsolete l =
-    record { within = l.within; key = l.key; context = l.context; eot = l.eot; nul = l.nul }
+pub flagged : (f g : Bool → Bool) (bytes : List ℕ) (rows : List Row) {all : List TextEntry} {i : ℕ} {row : Row}
+    → map (entry_at bytes) rows ≡ all → i < length all → row ≡ get_or rows i row → All (LiesIn bytes) rows
+    → All IsCatalogueEntry (map (entry_at bytes) rows)
+    → Flagged bytes all (set rows i (record row { fuzzy = f row.fuzzy; obsolete = g row.obsolete })) i
+    (λ e. record e { fuzzy = f e.fuzzy; obsolete = g e.obsolete })
+flagged f g bytes rows {all} {i} {row} all_is below is lie valid =
+    let inside : i < length rows = omega (arith, ap length all_is, length-map rows (entry_at bytes)) in
+    let other : Row → Row = λ r. record r { fuzzy = f r.fuzzy; obsolete = g r.obsolete } in
+    let change : TextEntry → TextEntry = λ e. record e { fuzzy = f e.fuzzy; obsolete = g e.obsolete } in
+    let same : map (entry_at bytes) (set rows i (other row)) ≡ changed_at change i (map (entry_at bytes) rows) =
+    written bytes change rows i (other row) inside row (ap (λ (r : Row). change (entry_at bytes r)) is) in
+    let l : LiesIn bytes row = subst (LiesIn bytes) (sym is) (lie i row inside) in
+    record {
+      lie = All-set (LiesIn bytes) rows i (other row)
+          (record { within = l.within; key = l.key; context = l.context; eot = l.eot; nul = l.nul }) lie;
+      valid = subst (All IsCatalogueEntry) (sym same)
+          (all_changed IsCatalogueEntry change (λ e h. record {
+            valid = record {
+              quoted_texts = h.valid.quoted_texts;
+              comments = h.valid.comments;
+              extracted = h.valid.extracted;
+              references = h.valid.references;
+              flags = h.valid.flags;
+              distinct_flags = h.valid.distinct_flags;
+              context = h.valid.context;
+              id = h.valid.id;
+              some_form = h.valid.some_form;
+              one_form = h.valid.one_form;
+            };
+            charset = h.charset;
+          }) i (map (entry_at bytes) rows) valid);
+      changed = same ∙ ap (changed_at change i) all_is;
+    }

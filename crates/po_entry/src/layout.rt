@@ -52,17 +52,6 @@ fn add_plural(bytes: &mut Vec<u8>, plural: Option<&[u8]>) -> Result<(), AllocErr
     }
 }
 
-/// Appends each text after a NUL.
-fn add_forms(bytes: &mut Vec<u8>, forms: &[Vec<u8>]) -> Result<(), AllocError>
-    ensures added { OnOk result (bytes.new.items ≡ bytes.old.items ++ flat_map after_nul (texts forms.now)) }
-    ensures grows { Grows bytes.old.items bytes.new.items }
-{
-    for form in forms {
-        add_text(bytes, form)?;
-    }
-    Ok(())
-}
-
 /// Appends a part of a head: its length, and its bytes.
 fn add_part(bytes: &mut Vec<u8>, part: &[u8]) -> Result<(), AllocError>
     ensures added { OnOk result (bytes.new.items ≡ bytes.old.items ++ measured part.now) }
@@ -105,18 +94,6 @@ fn has_no_head(
         & previous.plural.is_none()
 }
 
-/// Appends the previous texts of a head.
-fn add_previous(bytes: &mut Vec<u8>, previous: &Previous) -> Result<(), AllocError>
-    ensures added { OnOk result (bytes.new.items ≡ bytes.old.items
-        ++ flat_map measured (optional_bytes previous.now.context ∷ optional_bytes previous.now.id
-        ∷ optional_bytes previous.now.plural ∷ [])) }
-    ensures grows { Grows bytes.old.items bytes.new.items }
-{
-    add_optional(bytes, previous.context.as_deref())?;
-    add_optional(bytes, previous.id.as_deref())?;
-    add_optional(bytes, previous.plural.as_deref())
-}
-
 /// Appends a head, where it has anything.
 pub fn add_head(
     bytes: &mut Vec<u8>,
@@ -137,28 +114,9 @@ pub fn add_head(
     add_part(bytes, extracted.bytes())?;
     add_part(bytes, references.bytes())?;
     add_part(bytes, flags.bytes())?;
-    add_previous(bytes, previous)
-}
-
-/// Appends the texts of a message, and returns how long the key is.
-fn add_message_texts(
-    bytes: &mut Vec<u8>,
-    context: Option<&[u8]>,
-    id: &[u8],
-    plural: Option<&[u8]>,
-    translation: &[u8],
-) -> Result<usize, AllocError>
-    ensures key { IfOk result (λ key. key ≡ length (key_bytes (option_copied context.entry) id.now)) }
-    ensures added { OnOk result (bytes.new.items ≡ bytes.old.items ++ own_bytes
-        (message_entry (option_copied context.entry) id.now (option_copied plural.entry) translation.now)) }
-    ensures grows { Grows bytes.old.items bytes.new.items }
-{
-    let start = bytes.len();
-    add_key(bytes, context, id)?;
-    let key = bytes.len() - start;
-    add_plural(bytes, plural)?;
-    add_text(bytes, translation)?;
-    Ok(key)
+    add_optional(bytes, previous.context.as_deref())?;
+    add_optional(bytes, previous.id.as_deref())?;
+    add_optional(bytes, previous.plural.as_deref())
 }
 
 /// Appends the entry of a message, and returns its row.
@@ -176,7 +134,10 @@ pub(crate) fn add_message(
     ensures grows { Grows bytes.old.items bytes.new.items }
 {
     let start = bytes.len();
-    let key = add_message_texts(bytes, context, id, plural, translation)?;
+    add_key(bytes, context, id)?;
+    let key = bytes.len() - start;
+    add_plural(bytes, plural)?;
+    add_text(bytes, translation)?;
     Ok(Row {
         start,
         context: context_length(context),
@@ -200,7 +161,9 @@ pub(crate) fn add_entry(bytes: &mut Vec<u8>, fields: &Fields) -> Result<Row, All
     add_key(bytes, fields.context.as_deref(), &fields.id)?;
     let key = bytes.len() - start;
     add_plural(bytes, fields.plural.as_deref())?;
-    add_forms(bytes, &fields.forms)?;
+    for form in &fields.forms {
+        add_text(bytes, form)?;
+    }
     let own = bytes.len() - start;
     add_head(
         bytes,
