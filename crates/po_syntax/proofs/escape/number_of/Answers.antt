@@ -1,4 +1,4 @@
-use Rattle.po_syntax.proofs.Prelude.{List, arith, digit_value, digits_value, get_or, length, sym, take, take_all, ℕ, ◌*◌, ◌+◌, ◌<◌, ◌≡◌, ◌≤◌}
+use Rattle.po_syntax.proofs.Prelude.{List, arith, digit_value, digits_value, get_or, length, sym, take, ℕ, ◌*◌, ◌+◌, ◌<◌, ◌≡◌, ◌≤◌}
 use Rattle.std.proofs.lemmas.Int.Digits.{digits_value_more}
 use Rattle.std.proofs.lemmas.Str.Parse.{digits_value-take-le}
 use Rattle.po_syntax.proofs.escape.number_of.Goals as goal
@@ -14,11 +14,6 @@ within : (base number : ℕ) (digits : List ℕ) (i : ℕ) → 2 ≤ base → i 
     → number * base + digit_value (get_or digits i 0) ≤ digits_value base digits
 within base number digits i b h e =
     rw (sym (step base number digits i h e)) (digits_value-take-le base digits (i + 1) (omega arith))
-
-pub returns-in_err-digit : goal.returns-in_err-digit
-returns-in_err-digit c =
-    rw c.from_residual.ensures
-    (λ _. c.in_err-digit.ensures.value (c.requires.digits c.loop-digit.digit-index 0 c.loop-digit-test.true))
 
 pub returns-in_err-checked_mul : goal.returns-in_err-checked_mul
 returns-in_err-checked_mul c =
@@ -37,9 +32,3 @@ loop-digit-preserved c =
       omega (arith, more, c.in_ok-digit.ensures.value, c.in_ok-checked_mul.ensures, c.in_ok-number.ensures),
       omega (arith, c.in_ok-number.ensures),
     )
-
-pub returns : goal.returns
-returns c =
-    let all = rw (take_all c.loop-digit.digit-index c.args.digits.now c.loop-digit-test.false) at
-    c.loop-digit.invariant.0 in
-    (omega (arith, all), all)

@@ -1,4 +1,4 @@
-use Rattle.po_syntax.proofs.Prelude.{All-cons, All-nil, Comment, CommentLine, Err, IfErr-weaker, LendsUtf8, Ok, Tokens, YieldsList-from_take_while, [], ap, count_from_yields_List, length-prefix_len, map_push, on_ok_weaker, refl, reverse, rules, shape_of, shape_view, tests, trim_returns, ◌==◌, ◌∙◌, ◌∷◌, ◌≡◌}
+use Rattle.po_syntax.proofs.Prelude.{Comment, CommentLine, Err, IfErr-weaker, Ok, Tokens, YieldsList-from_take_while, [], ap, count_from_yields_List, length-prefix_len, map_push, on_ok_weaker, refl, reverse, rules, shape_of, shape_view, tests, trim_returns, ◌==◌, ◌∙◌, ◌∷◌, ◌≡◌}
 use Rattle.std.proofs.lemmas.Iterator.Adapters.{YieldsList-from_rev_slice}
 use Rattle.po_syntax.proofs.OneLine.{line_at}
 use Rattle.po_syntax.proofs.Utf8Lines.{tokens-utf8}
@@ -41,7 +41,3 @@ returns-in_ok-push-in-Some-Comment-clause-found c =
       line_at c.args.line _ (Ok _) shape refl,
       rw (c.in_ok-push-in-Some-Comment.ensures.items, map_push, c.split_at.ensures.front, returns) refl,
     )
-
-pub returns-in_ok-push-in-Some-Comment-clause-lent : goal.returns-in_ok-push-in-Some-Comment-clause-lent
-returns-in_ok-push-in-Some-Comment-clause-lent c =
-    (_, c.in_ok-push-in-Some-Comment.ensures.items, λ utf8. All-cons LendsUtf8 _ [] tt (All-nil LendsUtf8))

@@ -1,20 +1,6 @@
-use Rattle.po_syntax.proofs.Prelude.{All-nil, IsCleanLine, [], arith, refl, rules, without_byte_order_mark, ◌≡◌}
+use Rattle.po_syntax.proofs.Prelude.{arith, rules, without_byte_order_mark, ◌≡◌}
 use Rattle.po_syntax.proofs.Utf8Lines.{text_of_clean_lines}
 use Rattle.po_syntax.proofs.pieces.Pieces.of.Goals as goal
-
-pub invariant_of-result : goal.invariant_of-result
-invariant_of-result c =
-    let text = c.args.text.now in
-    let found : c.unwrap_or-rest.result.now ≡ without_byte_order_mark text = search rules in
-    record {
-      small = omega (arith, c.if-text-gt-MAX_LEN.false);
-      count = 0;
-      within = omega arith;
-      rest = rw found refl;
-      clean = All-nil IsCleanLine;
-      items = [];
-      spelt = refl;
-    }
 
 pub returns-clause-found : goal.returns-clause-found
 returns-clause-found c = λ items h.
