@@ -4,6 +4,7 @@ use Rattle.std.proofs.lemmas.List.Concat.{get_or-flat_map}
 use Rattle.msgcat.specs.declared.definition.NamedEntry.{NamedEntry as BorrowedEntry}
 use Rattle.po_entry.specs.Prelude.{same_message}
 use Rattle.po_entry.proofs.MessageNumbers.{are_numbered, repeats_of}
+use Rattle.msgcat.specs.Laws.{no_input as no_input_left}
 
 pub definitions_more : (before : List NamedEntry) (name : List ℕ) (entries : List TextEntry) → All IsDefinition before
     → IsUtf8 name → Lacks 0 name → All IsCatalogueEntry entries
@@ -21,7 +22,7 @@ entries_in_turn name [] inputs rest = no_further rest
 entries_in_turn name (e ∷ entries) inputs rest = first_entry (entries_in_turn name entries inputs rest)
 
 pub stand_in_turn : (inputs : List Named) → StandInTurn inputs (all_entries inputs)
-stand_in_turn [] = no_input
+stand_in_turn [] = no_input_left
 stand_in_turn (input ∷ inputs) = entries_in_turn input.name input.entries inputs (stand_in_turn inputs)
 
 -- The entries of inputs, one after the other, by their indexes among those of all inputs.

@@ -156,8 +156,8 @@ module _ (read : List Named) (held : MergeInputs) (h : HoldInputs read held) whe
 
   -- those of a message, from its first one on
   module _ (number : ℕ) (below : number < length (messages read)) where
-    abbrev first : ℕ
-    first = get_or held.links.firsts.items number 0
+    abbrev first_index : ℕ
+    first_index = get_or held.links.firsts.items number 0
 
     abbrev pub indexes : List ℕ
     indexes = get_or (groups_at all) number []
@@ -174,15 +174,15 @@ module _ (read : List Named) (held : MergeInputs) (h : HoldInputs read held) whe
     pub group_is : entries_at all indexes ≡ get_or (groups all) number []
     group_is = entries_here all number grouped
 
-    pub all_left : AreLeft read held first indexes
+    pub all_left : AreLeft read held first_index indexes
     all_left = record { chain = h.links.chains number linked; inside = indexes_here all number grouped }
 
-    pub first_links : first < length next
+    pub first_links : first_index < length next
     first_links =
         let some = (group_valid read number (get_or (groups all) number []) below refl h.can).some in
         let many : 0 < length indexes =
         omega (arith, some, ap length (sym group_is), length-map indexes (λ k. get_or all k no_entry)) in
-        chain_some next first indexes all_left.chain many
+        chain_some next first_index indexes all_left.chain many
 
   -- the next one of those that are left
   module _ (at : ℕ) (left : List ℕ) (are : AreLeft read held at left) (inside : at < length next) where

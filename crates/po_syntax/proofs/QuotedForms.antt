@@ -1,5 +1,5 @@
 -- The quoted form of a text: it spells the text, is UTF-8 as the text is, and holds no byte below space.
-use Rattle.po_syntax.proofs.Prelude.{All, All-append, All-cons, All-head, All-tail, Bool, IsAscii, IsAscii-cons, IsUtf8, IsUtf8-append, IsUtf8-from_ascii, IsUtf8-nil, List, None, Option, Some, SpellsString, WritesByte, WritesQuoted, WritesString, [], and_parts, ap, append-nil, append_assoc, arith, byte as writes_byte, cases_lt, closed, closing_quote, cond, cond-true, cond_both, control, delete, digit_char, digit_value, digit_value-digit_char, digits_value, encode_ascii, eqb-false, eqb-true, escape, escape_letter, false, flat_map-append, get_or, if◌then◌else◌, inl, inr, inside_one, is_control, is_raw, length, length_push, letter_value, lt-ltb, ltb-false, ltb-true, nat_lt, nat_tests, nil_from_length, octal, octal_escape, or_parts, prefix_len, prefix_len-le-length, prefix_len_passes, quoted, refl, rules, subst, suc, sym, take, take_all, take_more, true, written_byte, written_bytes, zero, ℕ, ◌%◌, ◌++◌, ◌+◌, ◌/◌, ◌<◌, ◌==◌, ◌||◌, ◌∙◌, ◌∷◌, ◌≡◌, ◌≢◌, ◌≤◌}
+use Rattle.po_syntax.proofs.Prelude.{All, All-append, All-cons, All-head, All-tail, Bool, IsAscii, IsAscii-cons, IsUtf8, IsUtf8-append, IsUtf8-from_ascii, IsUtf8-nil, List, None, Option, Some, SpellsString, WritesByte, WritesQuoted, WritesString, [], and_parts, ap, append-nil, append_assoc, arith, byte as writes_byte, cases_lt, closed, closing_quote, cond, cond-true, cond_both, control, delete, digit_char, digit_value, digit_value-digit_char, digits_value, encode_ascii, eqb-false, eqb-true, escape, escape_letter, false, flat_map-append, get_or, if◌then◌else◌, inl, inr, inside_one, is_control, is_raw, length, length_push, letter_value, lt-ltb, ltb-false, ltb-true, nat_lt, nat_tests, octal, octal_escape, or_parts, prefix_len, prefix_len-le-length, prefix_len_passes, quoted, refl, rules, subst, suc, sym, take, take_all, take_more, true, written_byte, written_bytes, zero, ℕ, ◌%◌, ◌++◌, ◌+◌, ◌/◌, ◌<◌, ◌==◌, ◌||◌, ◌∙◌, ◌∷◌, ◌≡◌, ◌≢◌, ◌≤◌}
 use Rattle.std.specs.Option.{option_map_or}
 use Rattle.po_syntax.specs.Quoting.{letter, plain}
 use Rattle.po_syntax.specs.Escape.{letter as letter_escape, plain as plain_byte}
@@ -46,19 +46,6 @@ raw_more xs i d below h raw =
     subst (λ (l : List ℕ). prefix_len is_raw l ≡ length l) (sym (take_more xs i d below))
     (raw_append (take i xs) (get_or xs i d ∷ []) h ∙ ap (λ (b : Bool). length (take i xs) + cond b 1 0) raw
     ∙ sym (length_push (take i xs) (get_or xs i d)))
-
--- bytes that begin with a run of raw ones: what is written for them
-module _ (rest raw special : List ℕ) (parts : raw ++ special ≡ rest) (is_run : written_bytes raw ≡ raw) where
-  pub run_written : written_bytes rest ≡ raw ++ written_bytes special
-  run_written = ap written_bytes (sym parts) ∙ flat_map-append written_byte raw special
-      ∙ ap (λ l. l ++ written_bytes special) is_run
-
-  pub byte_after_run : (byte : ℕ) (after : List ℕ) → special ≡ byte ∷ after
-      → written_bytes rest ≡ raw ++ (written_byte byte ++ written_bytes after)
-  byte_after_run byte after is = run_written ∙ ap (λ l. raw ++ written_bytes l) is
-
-  pub run_alone : length special ≡ 0 → written_bytes rest ≡ raw
-  run_alone none = run_written ∙ ap (λ l. raw ++ written_bytes l) (nil_from_length special none) ∙ append-nil raw
 
 pub digit_is : (d : ℕ) → d < 10 → digit_char d ≡ 48 + d
 digit_is d less = cond-true (nat_lt d 10) (48 + d) (87 + d) (lt-ltb d 10 less)

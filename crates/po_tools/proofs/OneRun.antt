@@ -4,7 +4,7 @@ use Rattle.msgfmt.proofs.CheckedMessages.{CheckedBy}
 use Rattle.mo_file.specs.declared.fault.MoError.{MoError}
 use Rattle.plural_rule.specs.Prelude.{IsRuleOf, RuleView, expression_limit}
 use Rattle.po_compile.specs.declared.options.Compiled.{Compiled}
-use Rattle.gettext.specs.Prelude.{IsLookUpRun, Opens, Request, output_of}
+use Rattle.gettext.specs.Prelude.{IsLookUpRun, Opens, Request, output_of, output_run as look_up_output}
 use Rattle.gettext.specs.Plan.Opens.{none, opened, refused as look_up_refused}
 use Rattle.po_syntax.specs.declared.fault.PoError.{PoError}
 use Rattle.po_syntax.specs.declared.fault.PoFault.TheVariants.{Duplicate, ForeignCharset}
@@ -52,7 +52,8 @@ module _ (unique : OneMessageList) (no_fault : NoFaultOfMoFile) (one_fault : One
       → IsLookUpRun files request other → run ≡ other
   look_up_once files request run other is also =
       let same = one_chain is.opens also.opens in
-      is.run_is ∙ ap₂ (λ chain reported. output_run (output_of chain request) reported) same.0 same.1 ∙ sym also.run_is
+      is.run_is ∙ ap₂ (λ chain reported. look_up_output (output_of chain request) reported) same.0 same.1
+      ∙ sym also.run_is
 
 check_once : OneRule → (entries : List InputEntry) (fault other : Option Reported) (found : Option InputEntry)
     → CheckedBy entries fault found

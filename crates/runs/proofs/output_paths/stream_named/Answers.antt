@@ -1,5 +1,5 @@
 use Rattle.runs.proofs.Prelude.{Bool, List, NamesStream, bytes_eq, bytes_eq-Decides, codes, false, standard_error, standard_output, subst, sym, true, ℕ, ◌∙◌, ◌≡◌, ◌≢◌}
-use Rattle.runs.proofs.Paths.{device_number, no_stream, process_number}
+use Rattle.runs.proofs.Paths.{device_number, process_number}
 use Rattle.runs.proofs.output_paths.stream_named.Goals as goal
 
 other : {path : List ℕ} (name : List ℕ) {test : Bool} → test ≡ bytes_eq path name → test ≡ false → path ≢ name
@@ -23,10 +23,3 @@ returns-in-Some c = device_number c.number_of.result c.in-Some.ensures.cases c.n
 
 pub returns : goal.returns
 returns c = process_number c.number_of-2.result c.in_ok-strip_prefix.ensures.cases c.number_of-2.ensures
-
-pub returns-in_err-strip_prefix : goal.returns-in_err-strip_prefix
-returns-in_err-strip_prefix c =
-    rw c.from_residual.ensures
-    (no_stream (other (codes "/dev/stdout") c.eq.ensures c.if-eq.false)
-    (other (codes "/dev/stderr") c.eq-2.ensures c.if-eq-2.false)
-    c.in_default.ensures.cases c.in_err-strip_prefix.ensures.cases)

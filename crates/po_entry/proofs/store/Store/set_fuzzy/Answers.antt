@@ -3,11 +3,13 @@ use Rattle.po_entry.proofs.store.Store.set_fuzzy.Goals as goal
 
 pub invariant_of-self : goal.invariant_of-self
 invariant_of-self c =
-    let f = flagged (λ _. c.args.fuzzy) (λ obsolete. obsolete) c.self.inside.bytes.items c.self.inside.rows.items c.self.view_is
+    let f = flagged (λ _. c.args.fuzzy)
+    (λ obsolete. obsolete) c.self.inside.bytes.items c.self.inside.rows.items c.self.view_is
     c.requires c.index_mut.ensures.value c.self.invariant.lie c.self.invariant.valid in
     record { lie = f.lie; valid = f.valid }
 
 pub returns : goal.returns
 returns c =
-    (flagged (λ _. c.args.fuzzy) (λ obsolete. obsolete) c.self.inside.bytes.items c.self.inside.rows.items c.self.view_is c.requires
+    (flagged (λ _. c.args.fuzzy)
+    (λ obsolete. obsolete) c.self.inside.bytes.items c.self.inside.rows.items c.self.view_is c.requires
     c.index_mut.ensures.value c.self.invariant.lie c.self.invariant.valid).changed
