@@ -4,7 +4,8 @@ use Rattle.runs.specs.OutputFiles.{done}
 use Rattle.runs.proofs.OutputsInPlace.{Ends, as_it_was, idle, next, no_fault, nothing_given, put_elsewhere, put_there, same_or_other, same_path, stop, stopped, taken_all, writes_in_place, writes_stream}
 use Rattle.runs.proofs.KeptRights.{nobody_gets_more, private_gives_nobody_more}
 use Rattle.runs.specs.OutputWriting.{put as all_put, taken as stream_taken, unread}
-use Rattle.runs.specs.Laws.{forbidden as is_forbidden, special as is_special, to_file}
+use Rattle.runs.specs.Laws.{forbidden as is_forbidden, special as is_special}
+use Rattle.runs.specs.FilesAfterCalls.{to_file}
 use Rattle.runs.proofs.Paths.{beside_is_another}
 
 -- a file has no other rights than its own

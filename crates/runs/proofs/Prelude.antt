@@ -1,7 +1,9 @@
 -- What the proofs of this crate cite of std, of the crates below and of its own definitions. Declares nothing.
 pub use Rattle.runs.specs.Inputs.{a_file, another_file, asks_file, asks_nothing, asks_standard, done, empty_text, file_of, from_standard_input, gives, no_argument, no_file, no_files, no_standard_input, one_more_file, read, refuses, standard_again, unread, unread_file}
 pub use Rattle.runs.specs.Internal.ProgramFault.{joined}
-pub use Rattle.runs.specs.Laws.{along, file, file_at, in_file, its_group, its_owner, link, nothing, on_standard_output, others, reads, runs, stream_of, to_stream, writes}
+pub use Rattle.runs.specs.FilesAfterCalls.{along, file, file_at, link, nothing, stream_of, to_stream}
+pub use Rattle.runs.specs.Laws.{in_file, on_standard_output}
+pub use Rattle.runs.specs.AccessRights.{its_group, its_owner, others, reads, runs, writes}
 pub use Rattle.runs.specs.OutputFiles.{asks, closes, fails, fails_to_make, fails_to_open, fails_to_read_link, lacks_stream, makes, numbers, opens, reads_link, removes, renames, sets_mode, sets_owner, takes_stream, ◌▸◌}
 pub use Rattle.runs.specs.OutputPaths.{of_device, of_process, standard_error, standard_output}
 pub use Rattle.runs.specs.OutputSystem.{delivered, to_file, unmade, unreported}

@@ -12,6 +12,8 @@ pub mod Internal
 pub mod WholeInput
 pub mod OutputWriting
 pub mod OutputSystem
+pub mod AccessRights
+pub mod FilesAfterCalls
 pub mod Laws
 pub mod ToolRuns
 pub mod Facts
