@@ -1,7 +1,7 @@
 -- The comments and previous texts of a written entry give its fields back.
-use Rattle.po_writer.proofs.Prelude.{All, All-cons, All-head, All-nil, All-right, All-tail, AreDistinct, Bool, Comment, CommentKind, CommentText, Contains, Extracted, Flags, HoldsItems, IsReference, IsTranslatorComment, List, PreviousText, Reference, SpellsComment, SpellsHead, TextItem, Translator, [], all_flags, ap, append-nil, append_assoc, ap₂, arith, bytes_eq, codes, comment, comment_lines, cond, drop, elements_line, eqb-true, extracted as extracted_mark, false, false_from_ne_true, filter, filter-append, flags as flags_mark, flat_map, get_or_default, head_comment, is_blank, is_fuzzy_flag, is_mark, is_not_empty, length, length-append, list_any, listed_flags, listed_references, map, map-append, ne_eqb, nothing, or_parts, prefix_len, previous_text, reference, refl, same_from_push, same_kind, skip_blanks, slice_index_or, slice_split, slice_split_at, slice_split_none, subst, suc, sym, texts_of, translator, trim_returns, trimmed, true, with_flag, without_end, ℕ, ◌++◌, ◌+◌, ◌<◌, ◌==◌, ◌||◌, ◌∙◌, ◌∷◌, ◌≡◌, ◌≢◌}
+use Rattle.po_writer.proofs.Prelude.{All, All-cons, All-head, All-nil, All-right, All-tail, AreDistinct, Bool, Comment, CommentKind, CommentText, Contains, Extracted, Flags, HoldsItems, IsReference, IsTranslatorComment, List, PreviousText, Reference, SpellsComment, SpellsHead, TextItem, Translator, [], all_flags, ap, append-nil, append_assoc, ap₂, arith, bytes_eq, codes, comment, comment_lines, common_steps, cond, drop, elements_line, eqb-true, extracted as extracted_mark, false, false_from_ne_true, filter, filter-append, flags as flags_mark, flat_map, get_or_default, head_comment, is_blank, is_fuzzy_flag, is_mark, is_not_empty, length, length-append, list_any, listed_flags, listed_references, map, map-append, ne_eqb, nothing, or_parts, prefix_len, previous_text, reference, refl, rules, same_from_push, same_kind, skip_blanks, slice_index_or, slice_split, slice_split_at, slice_split_none, subst, suc, sym, texts_of, translator, trim_returns, trimmed, true, with_flag, without_end, ℕ, ◌++◌, ◌+◌, ◌<◌, ◌==◌, ◌||◌, ◌∙◌, ◌∷◌, ◌≡◌, ◌≢◌}
 use Rattle.std.proofs.Common.{fold}
-use Rattle.po_syntax.specs.Facts.Runs.{FailsLast, end_parts, from_end, kept_is}
+use Rattle.po_syntax.specs.Facts.Runs.{FailsLast, from_end}
 use Rattle.po_writer.proofs.Utf8Lines.{IsLine, line-append, plain_line}
 use Rattle.po_syntax.proofs.Keywords.{or_step}
 use Rattle.po_writer.proofs.WrittenLines.{BeginsLow, Block, empty_block, line_block, two_blocks}
@@ -46,9 +46,7 @@ elements_listed separator element (next ∷ elements) s h g =
 
 -- such a text ends with no CR
 pub no_return : (text : List ℕ) → IsListed text → trim_returns text ≡ text
-no_return text h =
-    ap (without_end (λ b. b == 13)) (sym (append-nil text))
-    ∙ kept_is (λ b. b == 13) text (λ before b e. (or_parts _ (b == 13) (h.ends before b e)).1) [] (All-nil _)
+no_return text h = grind (arith, common_steps, append-nil, or_parts, All-nil)
 
 pub some_text : (text : List ℕ) → text ≢ [] → 0 < length text
 some_text [] h = absurd (h refl)
@@ -68,9 +66,7 @@ reference_listed text h = record {
 
 pub references_cut : (element : List ℕ) (elements : List (List ℕ)) → IsReference element → All IsReference elements
     → listed_references (element ++ following (32 ∷ []) elements) ≡ element ∷ elements
-references_cut element [] h g =
-    rw (append-nil element, slice_split_none is_blank element h.no_blank)
-    (one_element element [] (some_text element h.some_byte))
+references_cut element [] h g = search (rules, append-nil, slice_split_none, one_element, some_text)
 references_cut element (next ∷ elements) h g =
     ap (filter is_not_empty) (slice_split_at is_blank element 32 (next ++ following (32 ∷ []) elements) h.no_blank refl)
     ∙ one_element element (slice_split is_blank (next ++ following (32 ∷ []) elements))
@@ -86,12 +82,7 @@ pub record IsFlagElement (element : List ℕ) : Type 0 where
   pub no_comma : All (λ b. (b == 44) ≡ false) element
 
 pub flag_listed : (element : List ℕ) → IsFlagElement element → IsListed element
-flag_listed element h = record {
-  line = h.line;
-  some = h.some;
-  ends =
-      subst (FailsLast is_blank) h.no_blank_ends (end_parts is_blank (skip_blanks element)).fails;
-}
+flag_listed element h = grind (arith, common_steps)
 
 skip_blank : (text : List ℕ) → skip_blanks (32 ∷ text) ≡ skip_blanks text
 skip_blank text = let next : 1 + prefix_len is_blank text ≡ suc (prefix_len is_blank text) =
@@ -102,10 +93,7 @@ trimmed_element element h = ap (without_end is_blank) (skip_blank element) ∙ h
 
 pub flags_cut : (element : List ℕ) (elements : List (List ℕ)) → IsFlagElement element → All IsFlagElement elements
     → listed_flags (32 ∷ element ++ following (44 ∷ 32 ∷ []) elements) ≡ element ∷ elements
-flags_cut element [] h g =
-    let whole = All-cons (λ b. (b == 44) ≡ false) 32 element refl h.no_comma in
-    rw (append-nil element, slice_split_none (λ b. b == 44) (32 ∷ element) whole, trimmed_element element h)
-    (one_element element [] h.some)
+flags_cut element [] h g = search (rules, All-cons, append-nil, slice_split_none, trimmed_element, one_element)
 flags_cut element (next ∷ elements) h g =
     let whole = All-cons (λ b. (b == 44) ≡ false) 32 element refl h.no_comma in
     ap (λ t. filter is_not_empty (map trimmed t))
@@ -215,12 +203,7 @@ elements_text separator (element ∷ elements) = (32 ∷ element ++ following se
 
 texts_of-append : (kind : CommentKind) (xs ys : List CommentText)
     → texts_of kind (xs ++ ys) ≡ texts_of kind xs ++ texts_of kind ys
-texts_of-append kind xs ys =
-    ap (map (λ (comment_text : CommentText). comment_text.text))
-    (filter-append (λ (comment_text : CommentText). same_kind kind comment_text.kind) xs ys)
-    ∙ map-append (λ (comment_text : CommentText). comment_text.text)
-    (filter (λ (comment_text : CommentText). same_kind kind comment_text.kind) xs)
-    (filter (λ (comment_text : CommentText). same_kind kind comment_text.kind) ys)
+texts_of-append kind xs ys = grind (arith, common_steps, filter-append, map-append)
 
 -- of the comments of one kind, those of a kind
 one_kind : (kind other : CommentKind) (b : Bool) → same_kind kind other ≡ b → (texts : List (List ℕ))
@@ -240,20 +223,7 @@ pub kind_texts : (kind : CommentKind) (comments extracted references flags : Lis
     → texts_of kind (all_comments comments extracted references flags)
     ≡ ((cond (same_kind kind Translator) comments [] ++ cond (same_kind kind Extracted) extracted [])
     ++ cond (same_kind kind Reference) references []) ++ cond (same_kind kind Flags) flags []
-kind_texts kind comments extracted references flags =
-    let T = head_comments Translator comments in
-    let E = head_comments Extracted extracted in
-    let R = head_comments Reference references in
-    let F = head_comments Flags flags in
-    texts_of-append kind ((T ++ E) ++ R) F
-    ∙ ap (λ t. t ++ texts_of kind F)
-    (texts_of-append kind (T ++ E) R ∙ ap (λ t. t ++ texts_of kind R) (texts_of-append kind T E))
-    ∙ rw (
-      one_kind kind Translator _ refl comments,
-      one_kind kind Extracted _ refl extracted,
-      one_kind kind Reference _ refl references,
-      one_kind kind Flags _ refl flags,
-    ) refl
+kind_texts kind comments extracted references flags = search (rules, texts_of-append, one_kind)
 
 pub references_kept : (elements : List (List ℕ)) → All IsReference elements
     → flat_map listed_references (elements_text (32 ∷ []) elements) ≡ elements
@@ -266,10 +236,7 @@ references_kept (element ∷ elements) h =
 pub flag_elements_kept : (elements : List (List ℕ)) → All IsFlagElement elements
     → flat_map listed_flags (elements_text (44 ∷ 32 ∷ []) elements) ≡ elements
 flag_elements_kept [] h = refl
-flag_elements_kept (element ∷ elements) h =
-    append-nil (listed_flags (32 ∷ element ++ following (44 ∷ 32 ∷ []) elements))
-    ∙ flags_cut element elements (All-head IsFlagElement element elements h)
-    (All-tail IsFlagElement element elements h)
+flag_elements_kept (element ∷ elements) h = search (rules, append-nil, flags_cut, All-head, All-tail)
 
 differs : (a b : List ℕ) → (a ≡ b → ⊥) → bytes_eq a b ≡ false
 differs a b h = false_from_ne_true (bytes_eq a b) (λ e. h ((bytes_eq-Decides a b).0 e))
@@ -302,9 +269,7 @@ found rest k d flag inside e = get_or_default rest k flag d inside ∙ e
 
 still_new : (texts rest : List (List ℕ)) (flag : List ℕ) → All (IsNew texts) rest → (Contains rest flag → ⊥)
     → All (IsNew (texts ++ flag ∷ [])) rest
-still_new texts rest flag h g =
-    λ k d inside. new_push texts flag (slice_index_or rest k d) (h k d inside)
-    (λ e. g (k, inside, found rest k d flag inside e))
+still_new texts rest flag h g = search (rules, new_push, found)
 
 flags_added : (texts flags : List (List ℕ)) → All IsPlainFlag flags → AreDistinct flags → All (IsNew texts) flags
     → fold with_flag texts flags ≡ texts ++ flags

@@ -18,6 +18,7 @@ pub use Rattle.po_writer.specs.Prelude.{AreAdded, AreParts, EachEndsInItsOnlyFee
 pub use Rattle.po_writer.specs.declared.parts.TextParts.{TextParts}
 pub use Rattle.std.proofs.Common.{All, Bool, Contains, List, None, Option, Some, [], add-one, ap, append_assoc, ap₂, arith, bytes_eq, codes, cond, decimal, drop, false, filter, get_or, if◌then◌else◌, inl, inr, length, length-append, map, nat_lt, not, option_to_list, refl, rules, slice_index_or, subst, suc, sym, take, true, vec_len, zero, ℕ, ⊎_elim, ◌%◌, ◌&&◌, ◌++◌, ◌+◌, ◌/◌, ◌<◌, ◌==◌, ◌^◌, ◌||◌, ◌∙◌, ◌∷◌, ◌≡◌, ◌≢◌, ◌≤◌}
 pub use Rattle.std.proofs.lemmas.Bool.{and_parts, cond-true, cond_both, eqb-false, eqb-true, false_from_ne_true, lt-ltb, ltb-true, ne_eqb, not-true, not_from_true, or_parts}
+pub use Rattle.std.proofs.lemmas.Grind.{common_steps}
 pub use Rattle.std.proofs.lemmas.List.{append-nil, drop_all, get_or_default, map-append, same_from_push, take_all}
 pub use Rattle.std.proofs.lemmas.List.Elements.{All-append, All-cons, All-filter, All-head, All-nil, All-push, All-tail, All-weaker, filter-append, filter_passes}
 pub use Rattle.std.proofs.lemmas.List.Splits.{slice_split_at, slice_split_none}

@@ -1,5 +1,5 @@
 -- Texts that may stand on a line, as the written bytes of UTF-8 may.
-use Rattle.po_writer.proofs.Prelude.{All, All-append, All-cons, All-left, All-nil, All-right, AllPass-from_list_all, Bool, ContainsLines, IsText, IsUtf8, Lacks, List, [], all_scalars, and_parts, append_assoc, arith, cond, cond_both, encode_utf8_all, ended, false, get_or, last, length, length-append, list_all, ltb-true, nat_lt, none, quoted, subst, sym, true, ℕ, ⊎_elim, ◌%◌, ◌&&◌, ◌++◌, ◌+◌, ◌/◌, ◌<◌, ◌∷◌, ◌≡◌, ◌≢◌, ◌≤◌}
+use Rattle.po_writer.proofs.Prelude.{All, All-append, All-cons, All-left, All-nil, All-right, AllPass-from_list_all, Bool, ContainsLines, IsText, IsUtf8, Lacks, List, [], all_scalars, and_parts, append_assoc, arith, common_steps, cond, cond_both, encode_utf8_all, ended, false, get_or, last, length, length-append, list_all, ltb-true, nat_lt, none, quoted, subst, sym, true, ℕ, ⊎_elim, ◌&&◌, ◌++◌, ◌+◌, ◌<◌, ◌∷◌, ◌≡◌, ◌≢◌, ◌≤◌}
 use Rattle.std.proofs.Math.Utf8.{encode, scalar_cases}
 use Rattle.std.proofs.Math.Seq.{drop-append_seam, get_or-append_seam, take-append_seam}
 use Rattle.std.proofs.lemmas.Str.{IsCharBoundary-after_ascii, IsUtf8-append, IsUtf8-drop, IsUtf8-from_ascii, IsUtf8-nil, IsUtf8-take}
@@ -21,19 +21,7 @@ if_bytes test xs ys h g = cond_both test xs ys (All IsByte) h g
 
 encode_bytes : (c : ℕ) → c < 1114112 → All IsByte (encode c)
 unfolding encode
-encode_bytes c below =
-    let last : ℕ = 128 + c % 64 in
-    let third : ℕ = 128 + (c / 64) % 64 in
-    let second : ℕ = 128 + (c / 4096) % 64 in
-    if_bytes (nat_lt c 128) _ _
-    (λ e. let less = ltb-true c 128 e in All-cons IsByte c [] (omega arith) (All-nil IsByte)) (λ _.
-    if_bytes (nat_lt c 2048) _ _
-    (λ e. let less = ltb-true c 2048 e in two (192 + c / 64) last (omega arith) (omega arith)) (λ _.
-    if_bytes (nat_lt c 65536) _ _
-    (λ e. let less = ltb-true c 65536 e in
-    three (224 + c / 4096) third last (omega arith) (omega arith) (omega arith)) (λ _.
-    All-cons IsByte (240 + c / 262144) (second ∷ third ∷ last ∷ []) (omega arith)
-    (three second third last (omega arith) (omega arith) (omega arith)))))
+encode_bytes c below = grind (arith, common_steps)
 
 all_bytes : (cs : List ℕ) → all_scalars cs ≡ true → All IsByte (encode_utf8_all cs)
 all_bytes [] h = All-nil IsByte
@@ -73,10 +61,7 @@ line-append xs ys h g = record
 
 -- bytes from space on are neither NUL nor LF
 shown_line : (text : List ℕ) → IsUtf8 text → All (λ b. 32 ≤ b) text → IsLine text
-shown_line text utf8 shown = record {
-  valid = record { utf8 = utf8; no_nul = λ k d inside e. omega (arith, shown k d inside) };
-  one_line = λ k d inside e. omega (arith, shown k d inside);
-}
+shown_line text utf8 shown = grind (arith, common_steps)
 
 pub quoted_line : (text : List ℕ) → IsUtf8 text → IsLine (quoted text)
 quoted_line text utf8 = shown_line (quoted text) (quoted_utf8 text utf8) (quoted_shown text (utf8_bytes text utf8))

@@ -1,5 +1,5 @@
 -- A written entry reads as the entry, but for its line.
-use Rattle.po_writer.proofs.Prelude.{All, All-cons, All-head, All-left, All-right, All-tail, All-weaker, AllPass-from_list_all, AreInOrder, Bool, CommentKind, CommentText, Extracted, Flags, IfSome, IsComment, IsEntry, IsFlag, IsReference, IsText, IsTranslatorComment, Keyword, List, MsgCtxt, MsgId, MsgIdPlural, MsgStr, MsgStrAt, None, Option, PreviousText, Reference, Some, SpellsBody, SpellsContext, SpellsEntry, SpellsForms, SpellsHead, SpellsKeywordText, SpellsTranslation, TextEntry, TextItem, TextPrevious, Translator, [], all_flags, all_listed_flags, ap, append-nil, arith, codes, comment_lines, decimal, elements_line, entry as spells_entry, entry_lines, false, flags_of, flat_map, form_lines, fuzzy_of, is_fuzzy_flag, keyword_lines, length, length-append, list_any, listed_flags, listed_references, ne_eqb, not, not-true, option_to_list, optional_lines, own_lines, own_marks, own_prefix, previous_lines, previous_marks, previous_of, previous_prefix, references_of, refl, subst, texts_of, translation_lines, true, with, with_flag, with_head, with_line, without, ℕ, ◌++◌, ◌+◌, ◌<◌, ◌==◌, ◌^◌, ◌∙◌, ◌∷◌, ◌≡◌}
+use Rattle.po_writer.proofs.Prelude.{All, All-cons, All-head, All-left, All-right, All-tail, All-weaker, AllPass-from_list_all, AreInOrder, Bool, CommentKind, CommentText, Extracted, Flags, IfSome, IsComment, IsEntry, IsFlag, IsReference, IsText, IsTranslatorComment, Keyword, List, MsgCtxt, MsgId, MsgIdPlural, MsgStr, MsgStrAt, None, Option, PreviousText, Reference, Some, SpellsBody, SpellsContext, SpellsEntry, SpellsForms, SpellsHead, SpellsKeywordText, SpellsTranslation, TextEntry, TextItem, TextPrevious, Translator, [], all_flags, all_listed_flags, ap, append-nil, arith, codes, comment_lines, decimal, elements_line, entry as spells_entry, entry_lines, false, flags_of, flat_map, form_lines, fuzzy_of, is_fuzzy_flag, keyword_lines, length, length-append, list_any, listed_flags, listed_references, ne_eqb, not, not-true, option_to_list, optional_lines, own_lines, own_marks, own_prefix, previous_lines, previous_marks, previous_of, previous_prefix, references_of, refl, rules, subst, texts_of, translation_lines, true, with, with_flag, with_head, with_line, without, ℕ, ◌++◌, ◌+◌, ◌<◌, ◌==◌, ◌^◌, ◌∙◌, ◌∷◌, ◌≡◌}
 use Rattle.po_entry.specs.Spelling.{none}
 use Rattle.po_writer.proofs.WrittenLines.{Block, empty_block, two_blocks, weaker_block}
 use Rattle.po_writer.proofs.KeywordLines.{IsLineKeyword, IsLinePrefix, TextPart, context_written, id_written, no_prefix, numbered, own_obsolete, plural_written, previous_live, previous_obsolete, single_written, text_block}
@@ -33,9 +33,7 @@ form_block : (prefix : List ℕ) (obsolete : Bool) (index : ℕ) (form : List �
     → IsText form → index < 2 ^ 32
     → Block (TextPart (MsgStrAt index) (own_marks obsolete) form)
     (keyword_lines prefix (codes "msgstr[" ++ decimal index ++ codes "]") form)
-form_block prefix obsolete index form p h few =
-    text_block prefix (codes "msgstr[" ++ decimal index ++ codes "]") (MsgStrAt index) (own_marks obsolete) form p
-    (numbered index few) h
+form_block prefix obsolete index form p h few = search (rules, text_block, numbered)
 
 -- each form takes a byte, so indices are small where lines are few
 forms_block : (prefix : List ℕ) (obsolete : Bool) (index : ℕ) (forms : List (List ℕ))
@@ -179,13 +177,7 @@ fuzzy_element = record {
 }
 
 flag_element : (text : List ℕ) → IsFlag text → IsFlagElement text
-flag_element text h = record {
-  line = record { valid = h.valid; one_line = h.one_line };
-  some = some_text text h.some_byte;
-  no_blank_ends =
-      h.no_blank_ends;
-  no_comma = λ k d inside. ne_eqb _ 44 (h.no_comma k d inside);
-}
+flag_element text h = search (rules, some_text, ne_eqb)
 
 flag_elements : (e : TextEntry) → IsEntry e → All IsFlagElement (all_flags e.fuzzy e.flags)
 flag_elements e h = all_with IsFlagElement e.fuzzy e.flags fuzzy_element
@@ -219,26 +211,10 @@ entry_part e head own valid h g = (
 )
 
 translator_marked : (text : List ℕ) → IsTranslatorComment text → IsMarked Translator (codes "#") text
-translator_marked text g =
-    record {
-      line = line-append (codes "#") text (plain_line (codes "#") refl)
-          (record { valid = g.comment.valid; one_line = g.comment.one_line });
-      low = omega arith;
-      shape =
-          translator_shape text g;
-      trimmed = g.comment.no_final_return;
-    }
+translator_marked text g = search (rules, line-append, plain_line, translator_shape)
 
 extracted_marked : (text : List ℕ) → IsComment text → IsMarked Extracted (codes "#.") text
-extracted_marked text g =
-    record {
-      line = line-append (codes "#.") text (plain_line (codes "#.") refl)
-          (record { valid = g.valid; one_line = g.one_line });
-      low = omega arith;
-      shape = extracted_shape text;
-      trimmed =
-          g.no_final_return;
-    }
+extracted_marked text g = search (rules, line-append, plain_line, extracted_shape)
 
 previous_prefix_line : (obsolete : Bool) → IsLinePrefix (previous_prefix obsolete) (previous_marks obsolete)
 previous_prefix_line true =

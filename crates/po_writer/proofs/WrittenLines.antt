@@ -1,5 +1,5 @@
 -- Whole lines with the LF that ends each, and the items that they spell wherever they stand.
-use Rattle.po_writer.proofs.Prelude.{All-nil, All-weaker, Bool, ContainsLines, EachEndsInItsOnlyFeed, HoldsItems, IsText, Lacks, List, None, Some, SpellsLines, TextItem, WritesText, [], add-one, ap, append_assoc, arith, concat, cond, cond-true, drop, each_line, ended, eqb-true, false, false_from_ne_true, flat_map, if◌then◌else◌, inl, inr, last, length, length-append, lines_are, lines_of, lines_with_ends, lt-ltb, nat_lt, ne_eqb, none, not, one_ended_line, one_line, onto_first, refl, slice_split_at, string_line, subst, suc, sym, take, text_lines, true, zero, ℕ, ◌++◌, ◌+◌, ◌<◌, ◌==◌, ◌∙◌, ◌∷◌, ◌≡◌, ◌≢◌}
+use Rattle.po_writer.proofs.Prelude.{All-nil, All-weaker, Bool, ContainsLines, EachEndsInItsOnlyFeed, HoldsItems, IsText, List, None, Some, SpellsLines, TextItem, WritesText, [], add-one, ap, append_assoc, arith, common_steps, concat, cond, cond-true, drop, each_line, ended, eqb-true, false, false_from_ne_true, flat_map, if◌then◌else◌, inl, last, length, length-append, lines_are, lines_of, lines_with_ends, lt-ltb, nat_lt, ne_eqb, none, not, one_ended_line, one_line, onto_first, refl, slice_split_at, string_line, subst, suc, sym, take, text_lines, true, zero, ℕ, ◌++◌, ◌+◌, ◌<◌, ◌==◌, ◌∙◌, ◌∷◌, ◌≡◌, ◌≢◌}
 use Rattle.memchr.specs.Find.{IsFirstByte, Passes, is_byte}
 use Rattle.std.proofs.Common.{append-nil}
 use Rattle.std.proofs.lemmas.List.Concat.{concat_is}
@@ -52,9 +52,7 @@ some_line b text = if_some (b == 10) ((10 ∷ []) ∷ lines_with_ends text) (ont
 
 two_or_more : (line rest : List ℕ) → not (length rest == 0) ≡ nat_lt 1 (length (line ∷ lines_with_ends rest))
 two_or_more line [] = refl
-two_or_more line (b ∷ rest) =
-    rw (ne_eqb (length (b ∷ rest)) 0 (λ e. omega (arith, e)))
-    (sym (lt-ltb 1 (length (line ∷ lines_with_ends (b ∷ rest))) (omega (arith, some_line b rest))))
+two_or_more line (b ∷ rest) = grind (arith, common_steps, ne_eqb, lt-ltb, some_line)
 
 -- a text has more pieces than one where something stands after the first
 pub several : (text line rest : List ℕ) → (0 < length text → lines_with_ends text ≡ line ∷ lines_with_ends rest)
@@ -71,9 +69,7 @@ written prefix text lines =
 
 several_lines : (prefix text line : List ℕ) (lines : List (List ℕ)) → 0 < length lines
     → written prefix text (line ∷ lines) ≡ string_line [] [] ++ flat_map (string_line prefix) (line ∷ lines)
-several_lines prefix text line lines some =
-    cond-true (nat_lt 1 (length (line ∷ lines))) (string_line [] [] ++ flat_map (string_line prefix) (line ∷ lines))
-    (string_line [] text) (lt-ltb 1 (length (line ∷ lines)) (omega (arith, some)))
+several_lines prefix text line lines some = grind (arith, common_steps, cond-true, lt-ltb)
 
 writes : (prefix : List ℕ) {text : List ℕ} {lines : List (List ℕ)} → ContainsLines text lines
     → WritesText prefix text (written prefix text lines)
@@ -114,13 +110,7 @@ nothing_there before after line is = omega (arith, ap length is, length-append b
 
 each : {text : List ℕ} {lines : List (List ℕ)} → ContainsLines text lines → EachEndsInItsOnlyFeed lines
 each none before after line is = absurd (nothing_there before after line is)
-each (last {b = b} {line = only} lacks) [] after line is =
-    let same : b ∷ only ≡ line = cc in
-    inr (record {
-      last = sym (ap (drop 1) is);
-      no_feed = subst (Lacks 10) same lacks;
-      some = λ empty. absurd (omega (arith, ap length (same ∙ empty)));
-    })
+each (last {b = b} {line = only} lacks) [] after line is = grind (arith, common_steps)
 each (last lacks) (x ∷ before) after line is = absurd (nothing_there before after line (ap (drop 1) is))
 each (ended text lacks others) [] after line is = inl (text, cc, lacks)
 each (ended text lacks others) (x ∷ before) after line is = each others before after line (ap (drop 1) is)

@@ -1,5 +1,5 @@
 -- Entries that are written one after another, in parts, or again.
-use Rattle.po_writer.proofs.Prelude.{All, All-push, All-weaker, AreAdded, AreParts, Bool, FollowEntries, HasParts, IsArranged, IsEntry, IsOwnPrefix, IsPreviousPrefix, List, None, Option, Some, StandInOrder, TextEntry, TextParts, WritesComments, WritesElements, WritesEntry, WritesFlags, WritesForms, WritesFurther, WritesKeyword, WritesOptional, WritesTranslation, [], absent, after_empty_line, all_flags, all_pass, ap, append-nil, append_assoc, arith, arranged, codes, comment_lines, cond, decimal, elements_line, entry_lines, eqb-false, eqb-true, false, filter, filter-append, filter_passes, first_entry, flat_map, fold, fold-append, fold_push, form, form_lines, fuzzy, in_order, join_by, keyword_lines, length, length-append, line, line_end, live_before, live_first, map, map-append, ne_eqb, next_element, no_comments, no_entries, no_forms, no_further, no_line, no_text, none_pass, not, not-true, not_from_true, obsolete_first, only, optional_lines, own, own_lines, own_live, own_obsolete, own_prefix, plain, present, previous_live, previous_obsolete, previous_prefix, refl, subst, sym, text_lines, translation_lines, true, vec_len, with_entry, with_line, with_plural, written, written_text, ℕ, ◌++◌, ◌+◌, ◌<◌, ◌==◌, ◌∙◌, ◌∷◌, ◌≡◌}
+use Rattle.po_writer.proofs.Prelude.{All, All-push, All-weaker, AreAdded, AreParts, Bool, FollowEntries, HasParts, IsArranged, IsEntry, IsOwnPrefix, IsPreviousPrefix, List, None, Option, Some, StandInOrder, TextEntry, TextParts, WritesComments, WritesElements, WritesEntry, WritesFlags, WritesForms, WritesFurther, WritesKeyword, WritesOptional, WritesTranslation, [], absent, after_empty_line, all_flags, all_pass, ap, append-nil, append_assoc, arith, arranged, codes, comment_lines, common_steps, cond, decimal, elements_line, entry_lines, eqb-false, eqb-true, false, filter, filter-append, filter_passes, first_entry, flat_map, fold, fold-append, fold_push, form, form_lines, fuzzy, in_order, join_by, keyword_lines, length, length-append, line, line_end, live_before, live_first, map, map-append, ne_eqb, next_element, no_comments, no_entries, no_forms, no_further, no_line, no_text, none_pass, not, not-true, not_from_true, obsolete_first, only, optional_lines, own, own_lines, own_live, own_obsolete, own_prefix, plain, present, previous_live, previous_obsolete, previous_prefix, refl, rules, subst, sym, text_lines, translation_lines, true, vec_len, with_entry, with_line, with_plural, written, written_text, ℕ, ◌++◌, ◌+◌, ◌<◌, ◌==◌, ◌∙◌, ◌∷◌, ◌≡◌}
 use Rattle.po_writer.specs.Laws.{comment, entry as writes_entry, previous}
 use Rattle.po_writer.proofs.WrittenLines.{texts_are_written}
 
@@ -13,10 +13,7 @@ pub keyword_some : (prefix keyword text : List ℕ) → 0 < length (keyword_line
 keyword_some prefix keyword text = some_after (prefix ++ keyword) (32 ∷ text_lines prefix text) (omega arith)
 
 own_some : (prefix : List ℕ) (entry : TextEntry) → 0 < length (own_lines prefix entry)
-own_some prefix entry =
-    some_before _ (translation_lines prefix entry.plural entry.forms)
-    (some_after (optional_lines prefix (codes "msgctxt") entry.context) _
-    (keyword_some prefix (codes "msgid") entry.id))
+own_some prefix entry = search (rules, some_before, some_after, keyword_some)
 
 -- an entry takes some bytes
 pub entry_some : (entry : TextEntry) → 0 < length (entry_lines entry)
@@ -181,48 +178,29 @@ obsolete_of entries = filter (λ e. e.obsolete) entries
 -- further entries after those of both parts
 pub added_parts : (before entries : List TextEntry) (old new : TextParts) → AreAdded entries old new
     → AreParts before old → AreParts (before ++ entries) new
-added_parts before entries old new added are = record {
-  live = added.live ∙ ap (λ text. fold with_entry text (live_of entries)) are.live
-      ∙ grown (live_of before) (live_of entries)
-      ∙ ap in_order (sym (filter-append (λ (e : TextEntry). not e.obsolete) before entries));
-  obsolete = added.obsolete ∙ ap (λ text. fold with_entry text (obsolete_of entries)) are.obsolete
-      ∙ grown (obsolete_of before) (obsolete_of entries)
-      ∙ ap in_order (sym (filter-append (λ (e : TextEntry). e.obsolete) before entries));
-}
+added_parts before entries old new added are = grind (arith, common_steps, grown, filter-append)
 
 -- an entry is added to one part
 pub live_added : (entry : TextEntry) (old new : TextParts) → entry.obsolete ≡ false
     → new.live.items ≡ with_entry old.live.items entry → new.obsolete.items ≡ old.obsolete.items
     → AreAdded (entry ∷ []) old new
-live_added entry old new is more same = record {
-  live = more ∙ ap (λ (b : Bool). fold with_entry old.live.items (cond (not b) (entry ∷ []) [])) (sym is);
-  obsolete = same ∙ ap (λ (b : Bool). fold with_entry old.obsolete.items (cond b (entry ∷ []) [])) (sym is);
-}
+live_added entry old new is more same = grind (arith, common_steps)
 
 pub obsolete_added : (entry : TextEntry) (old new : TextParts) → entry.obsolete ≡ true
     → new.live.items ≡ old.live.items → new.obsolete.items ≡ with_entry old.obsolete.items entry
     → AreAdded (entry ∷ []) old new
-obsolete_added entry old new is same more = record {
-  live = same ∙ ap (λ (b : Bool). fold with_entry old.live.items (cond (not b) (entry ∷ []) [])) (sym is);
-  obsolete = more ∙ ap (λ (b : Bool). fold with_entry old.obsolete.items (cond b (entry ∷ []) [])) (sym is);
-}
+obsolete_added entry old new is same more = grind (arith, common_steps)
 
 -- the text is the live part, where the other is empty
 pub live_alone : (parts : TextParts) (entries : List TextEntry) → AreParts entries parts
     → (vec_len parts.obsolete == 0) ≡ true → parts.live.items ≡ written_text entries
-live_alone parts entries are none = are.live
-    ∙ none_after (live_of entries) (obsolete_of entries)
-    (sym (ap length are.obsolete) ∙ sym parts.obsolete.ok.0 ∙ eqb-true _ _ none)
+live_alone parts entries are none = grind (arith, common_steps, none_after, eqb-true)
 
 -- an empty line stands between the parts
 pub both_parts : (parts : TextParts) (entries : List TextEntry) → AreParts entries parts
     → (vec_len parts.live == 0) ≡ false → (vec_len parts.obsolete == 0) ≡ false
     → (parts.live.items ++ 10 ∷ []) ++ parts.obsolete.items ≡ written_text entries
-both_parts parts entries are some more =
-    rw (are.live, are.obsolete)
-    (some_both (live_of entries) (obsolete_of entries)
-    (omega (arith, eqb-false _ _ some, parts.live.ok.0, ap length are.live))
-    (omega (arith, eqb-false _ _ more, parts.obsolete.ok.0, ap length are.obsolete)))
+both_parts parts entries are some more = grind (arith, common_steps, some_both, eqb-false)
 
 -- An entry is written line by line, and entries one after another.
 

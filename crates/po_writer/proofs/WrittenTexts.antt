@@ -1,5 +1,5 @@
 -- The written text of a list of entries reads as the arranged list, but for the lines.
-use Rattle.po_writer.proofs.Prelude.{All, All-append, All-cons, All-filter, All-head, All-nil, All-tail, All-weaker, HasAdmittedCharset, HasTexts, IsCatalogueEntry, IsEntry, IsSmall, IsText, IsUtf8, Lacks, List, ReadsText, SpellsEntries, SpellsText, TextEntry, TextItem, [], ap, append-nil, arith, arranged, comments, end, entry_lines, filter, flat_map, join_by, length, length-append, live, map, ne_eqb, not, nothing, quoted_texts, refl, with_line, without_byte_order_mark, written_text, ℕ, ◌++◌, ◌<◌, ◌^◌, ◌∷◌, ◌≡◌}
+use Rattle.po_writer.proofs.Prelude.{All, All-append, All-cons, All-filter, All-head, All-nil, All-tail, All-weaker, HasAdmittedCharset, HasTexts, IsCatalogueEntry, IsEntry, IsSmall, IsText, IsUtf8, Lacks, List, ReadsText, SpellsEntries, SpellsText, TextEntry, TextItem, [], ap, append-nil, arith, arranged, comments, end, entry_lines, flat_map, join_by, length, length-append, live, map, ne_eqb, nothing, quoted_texts, refl, rules, with_line, without_byte_order_mark, written_text, ℕ, ◌++◌, ◌<◌, ◌^◌, ◌∷◌, ◌≡◌}
 use Rattle.po_entry.specs.Spelling.{entries as joined_entries}
 use Rattle.po_writer.proofs.Utf8Lines.{plain_line}
 use Rattle.po_writer.proofs.WrittenLines.{BeginsLow, Block, Spells, empty_block, line_block, two_blocks}
@@ -89,10 +89,7 @@ numbered_same [] read same = rw same refl
 numbered_same (e ∷ entries) read same = rw same.2 (ap (λ t. with_line 0 e ∷ t) (numbered_same entries same.1 same.3))
 
 all_arranged : (entries : List TextEntry) → All IsCatalogueEntry entries → All IsCatalogueEntry (arranged entries)
-all_arranged entries h =
-    All-append IsCatalogueEntry (filter (λ e. not e.obsolete) entries) (filter (λ e. e.obsolete) entries)
-    (All-filter (λ e. not e.obsolete) IsCatalogueEntry entries h)
-    (All-filter (λ e. e.obsolete) IsCatalogueEntry entries h)
+all_arranged entries h = search (rules, All-append, All-filter)
 
 -- the entries that the written text reads as
 pub written_reads : (entries : List TextEntry) → All IsCatalogueEntry entries → IsSmall (written_text entries)
