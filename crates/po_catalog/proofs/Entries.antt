@@ -1,5 +1,5 @@
 -- Entries of a joined list, and what is tested of their texts.
-use Rattle.po_catalog.proofs.Prelude.{All, All-cons, All-get_or, All-head, All-map, All-more, All-nil, All-tail, Bor, HasTexts, InputEntry, IsEntry, IsUtf8, Lacks, List, None, Option, Some, TextEntry, [], ap, arith, borrowed_entry, bytes_eq, entries_of, get_or, get_or-map, input_entries, input_entry, length, length-map, map_more, map_push, option_copied, quoted_texts, refl, slice_texts, subst, sym, take, take_all, texts, texts_eq, ℕ, ◌++◌, ◌+◌, ◌<◌, ◌∙◌, ◌∷◌, ◌≡◌, ◌≤◌}
+use Rattle.po_catalog.proofs.Prelude.{All, All-cons, All-get_or, All-head, All-map, All-nil, All-tail, AllWithin, Bool, Bor, HasTexts, HoldsAt, InputEntry, IsEntry, IsTrue, IsUtf8, Lacks, List, MatchBool, None, Option, Some, TextEntry, [], ap, arith, borrowed_entry, bytes_eq, entries_of, false, false≢true, get_or, get_or-map, input_entries, input_entry, length, length-map, map_more, map_push, option_copied, quoted_texts, refl, slice_texts, subst, sym, take, texts, texts_eq, true, true_from_All, ℕ, ◌++◌, ◌+◌, ◌<◌, ◌↔◌, ◌∙◌, ◌∷◌, ◌≡◌}
 use Rattle.po_catalog.specs.declared.joining.InputEntry.{InputEntry as BorrowedEntry}
 use Rattle.po_syntax.specs.Prelude.{IsText}
 use Rattle.std.specs.Global.{Vec}
@@ -62,16 +62,19 @@ same_vectors [] (y ∷ ys) = refl
 same_vectors (x ∷ xs) [] = refl
 same_vectors (x ∷ xs) (y ∷ ys) = rw (same_vectors xs ys) refl
 
-pub tested_more : (P : List ℕ → Type 0) (xs : List (Bor (List ℕ))) (i : ℕ) (d : Bor (List ℕ)) → i < length xs
-    → All (λ s. P s.now) (take i xs) → P (get_or xs i d).now → All (λ s. P s.now) (take (i + 1) xs)
-tested_more P xs i d below so_far here = All-more (λ s. P s.now) xs i d below so_far here
-
-pub tested_all : (P : List ℕ → Type 0) (xs : List (Bor (List ℕ))) (i : ℕ) → length xs ≤ i
-    → All (λ s. P s.now) (take i xs) → All P (slice_texts xs)
-tested_all P xs i past so_far = All-map P (λ s. s.now) xs (rw take_all at so_far)
-
-pub tested_one : (P : List ℕ → Type 0) (xs : List (Bor (List ℕ))) (i : ℕ) (d : Bor (List ℕ)) → i < length xs
+tested_one : (P : List ℕ → Type 0) (xs : List (Bor (List ℕ))) (i : ℕ) (d : Bor (List ℕ)) → i < length xs
     → All P (slice_texts xs) → P (get_or xs i d).now
 tested_one P xs i d below all =
     let inside : i < length (slice_texts xs) = rw length-map below in
     rw (get_or-map (λ s. s.now) xs i d d.now) at (All-get_or P (slice_texts xs) i d.now inside all)
+
+-- what is said of texts that were tested one after another
+pub all_tested : (P : List ℕ → Type 0) (r : Bool) (xs : List (Bor (List ℕ)))
+    → MatchBool r (AllWithin (λ x. P x.now) xs 0 (length xs))
+    ((k : ℕ) × (k < length xs) × HoldsAt (λ x. P x.now → ⊥) xs k) → IsTrue r ↔ All P (slice_texts xs)
+all_tested P true xs h = (λ _. All-map P (λ s. s.now) xs (λ k d inside. h k d (omega arith) inside), λ _. refl)
+all_tested P false xs h = (
+  λ t. absurd (false≢true t),
+  λ all. true_from_All (λ x. P x.now) (λ x. P x.now → ⊥) false xs (λ x p q. q p) h
+      (λ k d inside. tested_one P xs k d inside all),
+)

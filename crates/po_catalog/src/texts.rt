@@ -1,7 +1,7 @@
 //! Whether texts that are given can stand in an entry.
 
 ghost use Rattle.std.specs.Prelude.{MatchResult, All, IsTrue, ◌↔◌};
-ghost use Rattle.po_catalog.specs.Prelude.{EntryTextFault, HasTexts, Meets, borrowed_entry, quoted_texts, slice_texts};
+ghost use Rattle.po_catalog.specs.Prelude.{EntryTextFault, HasTexts, Meets, borrowed_entry, quoted_texts};
 
 use po_entry::{EOT, NUL, Need, meets, optional_meets};
 use po_syntax::PoFault;
@@ -45,17 +45,5 @@ fn all_meet(
     optional_meets(need, context)
         & meets(need, id)
         & optional_meets(need, plural)
-        & forms_meet(need, forms)
-}
-
-/// Whether each form meets the need.
-fn forms_meet(need: Need, forms: &[&[u8]]) -> bool
-    ensures { IsTrue result ↔ All (Meets need) (slice_texts forms.now) }
-{
-    for form in forms {
-        if !meets(need, form) {
-            return false;
-        }
-    }
-    true
+        & forms.iter().all(|form| meets(need, form))
 }
