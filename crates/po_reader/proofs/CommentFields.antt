@@ -1,5 +1,5 @@
 -- The fields of an entry that its comments make, their bytes UTF-8 as the text is.
-use Rattle.po_reader.proofs.Prelude.{All, All-append, All-cons, All-filter, All-head, All-left, All-map, All-nil, All-push, All-right, All-tail, AreDistinct, Bool, CommentKind, CommentText, Contains, Contains-push_cases, Extracted, FailsFirst, Flags, Head, HoldsHead, IsCharBoundary-after_ascii, IsCharBoundary-before_ascii, IsCleanLine, IsCommentOf, IsFlag, IsReference, IsText, IsUtf8-drop, IsUtf8-take, Lacks, List, None, Option, PreviousText, Reference, TextEntry, TextPrevious, Translator, [], ap, append-nil, append_assoc, arith, bytes_eq, cases_Bool, codes, drop, eqb-false, eqb-true, false, false≢true, filter, filter_passes, flat_map, fold_push, get_or, if◌then◌else◌, inl, inr, is_blank, is_fuzzy_flag, is_not_empty, kept_entry, kept_texts, length, length-append, list_any, list_any_at, listed_flags, listed_references, map, ne_eqb, no_previous, not-true, prefix_len, refl, same_kind, skip_blanks, slice_split, slice_texts, subst, suc, sym, take, texts_of, trimmed, true, with_flag, with_head, with_kept_head, with_previous, without_end, ℕ, ◌++◌, ◌+◌, ◌<◌, ◌==◌, ◌||◌, ◌∙◌, ◌∷◌, ◌≡◌, ◌≢◌}
+use Rattle.po_reader.proofs.Prelude.{All, All-append, All-cons, All-filter, All-head, All-left, All-map, All-nil, All-push, All-right, All-tail, AreDistinct, Bool, CommentKind, CommentText, Contains, Contains-push_cases, Extracted, FailsFirst, Flags, Head, HoldsHead, IsCharBoundary-after_ascii, IsCharBoundary-before_ascii, IsCleanLine, IsCommentOf, IsFlag, IsReference, IsText, IsUtf8-drop, IsUtf8-take, Lacks, List, None, Option, PreviousText, Reference, TextEntry, TextPrevious, Translator, [], ap, append-nil, append_assoc, arith, bytes_eq, cases_Bool, codes, common_steps, drop, eqb-false, eqb-true, false, false≢true, filter, filter_passes, flat_map, fold_push, get_or, if◌then◌else◌, inl, inr, is_blank, is_fuzzy_flag, is_not_empty, kept_entry, kept_texts, length, length-append, list_any, list_any_at, listed_flags, listed_references, map, ne_eqb, no_previous, not-true, prefix_len, refl, same_kind, skip_blanks, slice_split, slice_texts, subst, suc, sym, take, texts_of, trimmed, true, with_flag, with_head, with_kept_head, with_previous, without_end, ℕ, ◌++◌, ◌+◌, ◌<◌, ◌==◌, ◌||◌, ◌∙◌, ◌∷◌, ◌≡◌, ◌≢◌}
 use Rattle.std.specs.Borrow.{Bor}
 use Rattle.std.specs.Fn.{CalledAt}
 use Rattle.std.specs.Iterator.{Yields}
@@ -32,13 +32,7 @@ all_parts s made t u {g = g} xs y none step is ends text rest done closure tests
 pub any_listed : (parts : List (List ℕ)) → list_any (λ part. is_fuzzy_flag (trimmed part)) parts
     ≡ list_any is_fuzzy_flag (filter is_not_empty (map trimmed parts))
 any_listed [] = refl
-any_listed (part ∷ parts) = with_part (trimmed part) _ (any_listed parts) where
-  with_part : (flag : List ℕ) {a : Bool} (others : List (List ℕ)) → a ≡ list_any is_fuzzy_flag others
-      → (is_fuzzy_flag flag || a)
-      ≡ list_any is_fuzzy_flag (if is_not_empty flag then flag ∷ others else others)
-  with_part [] others e = e
-  with_part (b ∷ flag) others e =
-      rw (ne_eqb (suc (length flag)) 0 (λ z. omega (arith, z))) (ap (λ a. is_fuzzy_flag (b ∷ flag) || a) e)
+any_listed (part ∷ parts) = grind (arith, common_steps, ne_eqb, any_listed parts)
 
 -- one text, without a comma, has one flag, unless it is empty
 pub only_flag : (texts : List (Bor (List ℕ))) (none : Bor (List ℕ)) → 1 ≤ length texts → length texts < 2
@@ -57,34 +51,13 @@ none_kept false = refl
 
 pub holds_nothing : (all : Bool) (head : Head) → head.comments ≡ [] → head.extracted ≡ [] → head.references ≡ []
     → head.flags.items ≡ [] → head.fuzzy ≡ false → head.previous ≡ no_previous → HoldsHead all head [] []
-holds_nothing all head comments extracted references flags fuzzy previous =
-    let none = none_kept all in
-    record {
-      head_comments = record {
-        comments = comments ∙ none;
-        extracted = extracted ∙ none;
-        references = references ∙ none;
-        flags = ap slice_texts flags ∙ none;
-        fuzzy = fuzzy;
-      };
-      texts = previous;
-    }
+holds_nothing all head comments extracted references flags fuzzy previous = grind (arith, common_steps, none_kept)
 
 pub holds_previous : (all : Bool) (head : Head) (fields : TextPrevious) (comment_texts : List CommentText)
     (previous : List PreviousText) (text : PreviousText) → HoldsHead all head comment_texts previous
     → fields ≡ with_previous text.keyword text.text head.previous
     → HoldsHead all (record head { previous = fields }) comment_texts (previous ++ text ∷ [])
-holds_previous all head fields comment_texts previous text h e = record {
-  head_comments = record {
-    comments = h.head_comments.comments;
-    extracted = h.head_comments.extracted;
-    references = h.head_comments.references;
-    flags = h.head_comments.flags;
-    fuzzy = h.head_comments.fuzzy;
-  };
-  texts = e ∙ ap (λ (p : TextPrevious). with_previous text.keyword text.text p) h.texts
-      ∙ sym (fold_push (λ fields (p : PreviousText). with_previous p.keyword p.text fields) no_previous previous text);
-}
+holds_previous all head fields comment_texts previous text h e = grind (arith, common_steps, fold_push)
 
 -- the entry that is made of a head
 pub kept_from : (all : Bool) (cs : List CommentText) (previous : List PreviousText) (own : TextEntry)

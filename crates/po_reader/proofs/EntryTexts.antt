@@ -1,7 +1,6 @@
 -- The own texts of an entry, joined of strings and laid out one after the other.
-use Rattle.po_reader.proofs.Prelude.{All, All-append, All-cons, All-head, All-left, All-nil, All-right, All-tail, Bool, CommentText, Keyword, List, Marks, MsgCtxt, MsgId, None, OfString, Option, PreviousText, Some, TextEntry, TextItem, TextPrevious, [], after_nul, ap, append-nil, append_assoc, arith, context_bytes, context_length, flat_map, further_texts, key_bytes, length, no_previous, option_to_list, own_bytes, quoted_texts, refl, sym, with_head, with_previous, ℕ, ◌++◌, ◌-◌, ◌∙◌, ◌∷◌, ◌≡◌}
+use Rattle.po_reader.proofs.Prelude.{All, All-append, All-cons, All-head, All-left, All-nil, All-right, All-tail, Bool, CommentText, Keyword, List, Marks, MsgCtxt, MsgId, None, OfString, Option, PreviousText, Some, TextEntry, TextItem, TextPrevious, [], after_nul, ap, append-nil, append_assoc, arith, common_steps, context_bytes, context_length, flat_map, further_texts, key_bytes, length, no_previous, option_to_list, own_bytes, quoted_texts, refl, sym, with_head, with_previous, ℕ, ◌++◌, ◌-◌, ◌∙◌, ◌∷◌, ◌≡◌}
 use Rattle.std.proofs.Common.{length-append}
-use Rattle.std.proofs.lemmas.List.Concat.{flat_map-append}
 use Rattle.std.specs.Prelude.{fold}
 use Rattle.po_entry.specs.Spelling as spell
 
@@ -15,11 +14,7 @@ pub form_laid : (before old pushed new text : List ℕ) (forms : List (List ℕ)
     → old ≡ before ++ flat_map after_nul forms → pushed ≡ old ++ 0 ∷ [] → new ≡ pushed ++ text
     → new ≡ before ++ flat_map after_nul (forms ++ text ∷ [])
 form_laid before old pushed new text forms so_far nul is =
-    let laid = flat_map after_nul forms in
-    one_more old pushed new text nul is ∙ ap (λ (l : List ℕ). l ++ 0 ∷ text) so_far
-    ∙ append_assoc before laid (0 ∷ text)
-    ∙ ap (λ (l : List ℕ). before ++ (laid ++ l)) (sym (append-nil (0 ∷ text)))
-    ∙ ap (λ (l : List ℕ). before ++ l) (sym (flat_map-append after_nul forms (text ∷ [])))
+    grind (arith, common_steps, one_more, append_assoc, append-nil)
 
 -- a form alone
 pub only_form_laid : (old pushed new text : List ℕ) → pushed ≡ old ++ 0 ∷ [] → new ≡ pushed ++ text
@@ -31,9 +26,7 @@ only_form_laid old pushed new text nul is =
 pub plural_laid : (old pushed mid new text : List ℕ) (forms : List (List ℕ)) → pushed ≡ old ++ 0 ∷ []
     → mid ≡ pushed ++ text → new ≡ mid ++ flat_map after_nul forms
     → new ≡ old ++ flat_map after_nul (text ∷ forms)
-plural_laid old pushed mid new text forms nul is more =
-    more ∙ ap (λ (l : List ℕ). l ++ flat_map after_nul forms) (one_more old pushed mid text nul is)
-    ∙ append_assoc old (0 ∷ text) (flat_map after_nul forms)
+plural_laid old pushed mid new text forms nul is more = grind (arith, common_steps, one_more, append_assoc)
 
 -- a key is the context, with its EOT, and the msgid
 key_is : (context : Option (List ℕ)) (id : List ℕ) → key_bytes context id ≡ context_bytes context ++ id
@@ -42,15 +35,11 @@ key_is (Some context) id = sym (append_assoc context (4 ∷ []) id)
 
 pub key_laid : (before mid new : List ℕ) (context : Option (List ℕ)) (id : List ℕ)
     → mid ≡ before ++ context_bytes context → new ≡ mid ++ id → new ≡ before ++ key_bytes context id
-key_laid before mid new context id first is =
-    is ∙ ap (λ (l : List ℕ). l ++ id) first ∙ append_assoc before (context_bytes context) id
-    ∙ ap (λ (l : List ℕ). before ++ l) (sym (key_is context id))
+key_laid before mid new context id first is = grind (arith, common_steps, append_assoc, key_is)
 
 pub own_laid : (before key new : List ℕ) (own : TextEntry) → key ≡ before ++ key_bytes own.context own.id
     → new ≡ key ++ flat_map after_nul (further_texts own) → new ≡ before ++ own_bytes own
-own_laid before key new own first is =
-    is ∙ ap (λ (l : List ℕ). l ++ flat_map after_nul (further_texts own)) first
-    ∙ append_assoc before (key_bytes own.context own.id) (flat_map after_nul (further_texts own))
+own_laid before key new own first is = grind (arith, common_steps, append_assoc)
 
 -- how long a part is that stands after others
 pub part_len : (before new part : List ℕ) → new ≡ before ++ part → length new - length before ≡ length part

@@ -1,5 +1,5 @@
 -- Items could become entries exactly where none of them is refused, and their fault is that of the first that is.
-use Rattle.po_reader.proofs.Prelude.{AfterForm, BadOrder, Before, Between, Bool, Entries, Fault, Form, Gap, Id, In, InHead, IsViable, ItemsFault, Keyword, List, Marks, Misfit, MsgId, MsgStr, MsgStrAt, Outcome, PoFault, SoFar, SpellsEntries, Stage, Stop, Str, TextEntry, TextItem, Translation, Word, [], ap, append-nil, append_assoc, at, at_end, bool_eq_equiv, closed, come_to, comes_to, ended, eq-eqb, false, fold-append, if◌then◌else◌, index, inl, inr, keyword_text, last, last_line, line_of, mixed, no_lines, order, outcome, outcome_of, own_marks, refl, settled, settled_gap, start, subst, subst₂, sym, true, true≢false, turn, turn_gap, with_keyword, with_own, ℕ, ◌++◌, ◌==◌, ◌∙◌, ◌∷◌, ◌≡◌, ◌⊎◌}
+use Rattle.po_reader.proofs.Prelude.{AfterForm, BadOrder, Before, Between, Entries, Fault, Form, Gap, Id, In, InHead, IsViable, ItemsFault, Keyword, List, Marks, Misfit, MsgId, MsgStr, MsgStrAt, Outcome, PoFault, SoFar, SpellsEntries, Stage, Stop, Str, TextEntry, TextItem, Translation, Word, [], ap, append-nil, append_assoc, arith, at, at_end, bool_eq_equiv, closed, come_to, comes_to, common_steps, ended, eq-eqb, false, fold-append, index, inl, inr, keyword_text, last, last_line, line_of, mixed, no_lines, order, outcome, outcome_of, own_marks, refl, rules, settled, settled_gap, start, subst, subst₂, sym, true, true≢false, turn, turn_gap, with_keyword, with_own, ℕ, ◌++◌, ◌∙◌, ◌∷◌, ◌≡◌, ◌⊎◌}
 use Rattle.std.specs.Prelude.{fold}
 use Rattle.po_syntax.specs.Facts.Once.{Once, same}
 use Rattle.po_reader.proofs.ReaderSteps.{goes_on, stopped, text_ends}
@@ -107,12 +107,7 @@ item_step before prefix item on =
 -- where no item is refused, the items come to entries, or end too early
 gap_ended : (end : ℕ) (gap : Gap)
     → ((entries : List TextEntry) × (ended end gap ≡ Entries entries)) ⊎ (ended end gap ≡ Fault BadOrder end)
-gap_ended end (InHead read above) = chosen (above == 0) where
-  chosen : (b : Bool) → ((entries : List TextEntry)
-      × ((if b then Entries read.entries else Fault BadOrder end) ≡ Entries entries))
-      ⊎ ((if b then Entries read.entries else Fault BadOrder end) ≡ Fault BadOrder end)
-  chosen true = inl (read.entries, refl)
-  chosen false = inr refl
+gap_ended end (InHead read above) = grind (arith, common_steps)
 gap_ended end (Before read wanted) = inr refl
 gap_ended end (AfterForm read number) = inl (_, refl)
 
@@ -131,9 +126,7 @@ After before items = comes_to (last_line items) (start before) items
 refused_comes : (before : List TextEntry) (prefix : List TextItem) (item : TextItem) (rest : List TextItem)
     (fault : PoFault) (line : ℕ) → turn (led before prefix) item ≡ Stop fault line
     → After before (prefix ++ item ∷ rest) ≡ Fault fault line
-refused_comes before prefix item rest fault line e =
-    let end = last_line (prefix ++ item ∷ rest) in
-    led_on end before prefix (item ∷ rest) ∙ ap (λ stage. comes_to end stage rest) e ∙ stopped end fault line rest
+refused_comes before prefix item rest fault line e = grind (arith, common_steps, led_on, stopped)
 
 -- items spell entries, or have a fault
 abbrev pub ItemsAre : List TextItem → Outcome → Type 0
@@ -179,12 +172,7 @@ fault_comes before (at {prefix = prefix} {item = item} rest {fault = fault} poss
       by (refused {fault = other} found) is =
           refused_comes before prefix item rest other (line_of item) is
           ∙ ap (λ f. Fault f (line_of item)) (misfit_once found misfit)
-fault_comes before {items} (at_end possible none) =
-    elim (stage_ended (last_line items) (led before items) (on_where_viable before items possible)) [
-      | inl reads ↦ absurd (let spelt = runs_spelt (last_line items) before items reads.0 reads.1 in
-          none spelt.0 spelt.1)
-      | inr e ↦ e
-    ]
+fault_comes before {items} (at_end possible none) = search (rules, stage_ended, on_where_viable, runs_spelt)
 
 -- what items come to they are, and nothing else
 pub items_once : (items : List TextItem) → Once (ItemsAre items)

@@ -1,5 +1,5 @@
 -- From spelling to reading: what items spell is what the reader comes to.
-use Rattle.po_reader.proofs.Prelude.{AfterForm, Before, Between, Bool, CommentText, EndsInString, Entries, Form, Gap, Id, In, InHead, IsApart, Keyword, List, Marks, MsgIdPlural, MsgStrAt, Option, Outcome, PreviousText, SoFar, Some, Str, TextEntry, TextItem, Translation, Word, [], ap, append-nil, append_assoc, begins_form, begins_string, bool_eq_equiv, closed, comes_to, ends_rest, eq-eqb, false, is_form, lt-ltb, no_comment_last, no_lines, only, outcome_of, rank, refl, start, sym, true, turn, turn_gap, with_comment, with_entry, with_own, with_previous_text, with_text, ℕ, ◌++◌, ◌∙◌, ◌∷◌, ◌≡◌}
+use Rattle.po_reader.proofs.Prelude.{AfterForm, Before, Between, Bool, CommentText, EndsInString, Entries, Form, Gap, Id, In, InHead, IsApart, Keyword, List, Marks, MsgIdPlural, MsgStrAt, Option, Outcome, PreviousText, SoFar, Some, Str, TextEntry, TextItem, Translation, Word, [], ap, append-nil, append_assoc, arith, begins_form, begins_string, bool_eq_equiv, closed, comes_to, common_steps, ends_rest, eq-eqb, false, is_form, lt-ltb, no_comment_last, no_lines, only, outcome_of, rank, refl, start, sym, true, turn, turn_gap, with_comment, with_entry, with_own, with_previous_text, with_text, ℕ, ◌++◌, ◌∙◌, ◌∷◌, ◌≡◌}
 use Rattle.po_entry.specs.Spelling as spell
 use Rattle.po_reader.proofs.ReaderSteps.{Rise, forms_end, keywords, order_rises, same_marks-refl, text_ends}
 
@@ -160,8 +160,7 @@ comments_come : {items : List TextItem} {comment_texts : List CommentText} → s
     → (end : ℕ) (read : SoFar) → HeadComes end (Entries read.entries) read 0 items
 comments_come spell.nothing end read = record { on = record { string = refl; comes = refl }; form = refl }
 comments_come (spell.head_comment {kind = kind} {text = text} h) end read =
-    let more = comments_come h end (with_comment read (record { kind = kind; text = text })) in
-    record { on = record { string = refl; comes = more.on.comes }; form = refl }
+    grind (arith, common_steps, comments_come h end (with_comment read (record { kind = kind; text = text })))
 
 whole_comes : {items : List TextItem} {entries : List TextEntry} → spell.SpellsEntries items entries
     → (end : ℕ) (before : List TextEntry) → HeadComes end (Entries (before ++ entries)) (only before) 0 items

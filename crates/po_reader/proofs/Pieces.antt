@@ -1,5 +1,5 @@
 -- A text that is read in pieces: a piece that reads, and the entries or the fault of what is left after it.
-use Rattle.po_reader.proofs.Prelude.{AddsReading, All, All-append, All-head, All-nil, All-tail, BeginsAnew, Bool, CanEnd, CanFollow, CommentText, EndsEntry, EndsInString, Fault, FaultsStay, HasAdmittedCharset, HasTexts, IsApart, IsCleanLine, IsLeftFault, IsNew, IsPiece, IsReadFault, IsReadSoFar, IsShorter, ItemsFault, ItemsStop, KeepsItems, LeftAnew, LeftStops, LineBeginsAnew, LinesLeft, List, MsgStrAt, OpenPieces, PiecesRead, PoFault, ReadsItems, ReadsLeft, ReadsOn, ReadsText, SpellsEntries, SpellsLeft, SpellsLines, SpellsOn, SpellsText, Stage, StopsStay, Str, TextEntry, TextFault, TextItem, Word, [], ap, append-nil, append_assoc, arith, comes_to, drop, drop_all, entries_joined, fold, fold-append, in_head, inl, inr, last_line, length, length-drop, line_items_once, outcome, reached, refl, settled, start, subst, suc, sym, take, turn, zero, ℕ, ◌++◌, ◌+◌, ◌<◌, ◌∙◌, ◌∷◌, ◌≡◌, ◌≢◌, ◌≤◌, ◌⊎◌}
+use Rattle.po_reader.proofs.Prelude.{AddsReading, All, All-append, All-head, All-nil, All-tail, BeginsAnew, Bool, CanFollow, CommentText, EndsEntry, EndsInString, Fault, FaultsStay, HasAdmittedCharset, HasTexts, IsApart, IsLeftFault, IsNew, IsPiece, IsReadFault, IsReadSoFar, IsShorter, ItemsFault, ItemsStop, KeepsItems, LeftAnew, LeftStops, LineBeginsAnew, LinesLeft, List, MsgStrAt, OpenPieces, PiecesRead, PoFault, ReadsItems, ReadsLeft, ReadsOn, ReadsText, SpellsEntries, SpellsLeft, SpellsLines, SpellsOn, SpellsText, Stage, StopsStay, Str, TextEntry, TextFault, TextItem, Word, [], ap, append-nil, append_assoc, arith, comes_to, common_steps, drop_all, entries_joined, fold, fold-append, in_head, inl, inr, last_line, length, length-drop, line_items_once, reached, refl, rules, settled, start, subst, suc, sym, take, turn, zero, ℕ, ◌++◌, ◌<◌, ◌∙◌, ◌∷◌, ◌≡◌, ◌≢◌, ◌≤◌, ◌⊎◌}
 use Rattle.po_syntax.proofs.Lines.{some_length}
 use Rattle.po_syntax.proofs.PieceTexts.{piece_all, piece_anew, piece_shorter, piece_spelt, piece_stops}
 use Rattle.po_reader.proofs.FirstFaults.{fault_comes, fault_unread, items_fault, spelt_once}
@@ -75,14 +75,7 @@ nothing_stops rest none stops = read_or_stopped (sym none) reads_nothing stops
 
 -- where no line is left, nothing reads as no entries
 left_over : (left : LinesLeft) → left.lines ≡ [] → ReadsLeft left []
-left_over left none = record {
-  items = [];
-  spelt = (
-    rw none (All-nil IsCleanLine),
-    subst (λ (lines : List (List ℕ)). SpellsLines left.number lines []) (sym none) refl,
-  );
-  read = reads_nothing;
-}
+left_over left none = grind (arith, common_steps, All-nil, reads_nothing)
 
 -- nothing is spelt where no line is left
 nothing_left : (left : LinesLeft) (items : List TextItem) → left.lines ≡ [] → SpellsLeft left items → items ≡ []
@@ -98,11 +91,7 @@ piece_joined old new items entries spelt (inr ends) read more left = record {
   read = reads_joined read ends left.read;
 }
 piece_joined old new items entries spelt (inl none) read more left =
-    let nothing : left.items ≡ [] = nothing_left new left.items none left.spelt in
-    let no_more : more ≡ [] = no_entries left.read.reads nothing in
-    let all : items ++ left.items ≡ items = rw nothing (append-nil items) in
-    rw (no_more, append-nil)
-    (record { items = items; spelt = subst (SpellsLeft old) all (spelt left.items left.spelt); read = read })
+    grind (arith, common_steps, nothing_left, no_entries, append-nil)
 
 -- what all of the text reads as
 whole_left : (text : List ℕ) (left : LinesLeft)
@@ -193,9 +182,7 @@ pub fault_on : (before items : List TextItem) {entries : List TextEntry} {commen
     → settled (fold turn (start []) before) ≡ in_head entries comment_texts → (fault : PoFault) (line : ℕ)
     → comes_to (last_line items) (start []) (before ++ items) ≡ Fault fault line
     → ItemsFault (before ++ items) fault line
-fault_on before [] {entries} {comment_texts} leads fault line e =
-    let none = rw append-nil at e in
-    let over = ap (outcome 0) leads in absurd cc
+fault_on before [] {entries} {comment_texts} leads fault line e = grind (arith, common_steps, append-nil)
 fault_on before (item ∷ items) leads fault line e =
     items_fault [] (before ++ item ∷ items) fault line
     (ap (λ end. comes_to end (start []) (before ++ item ∷ items)) (last_after before item items) ∙ e)
@@ -225,20 +212,7 @@ nothing_apart count number (line ∷ lines) items e h = absurd cc
 -- a piece begins so after another
 next_apart : {size : ℕ} {old left new : LinesLeft} {items last : List TextItem} → IsPiece size old left items
     → IsPiece size left new last → IsApart last
-next_apart {size} {old} {left} {new} {items} {last} before next = ended before.ends where
-  count : ℕ
-  count = before.read.count
-
-  spelt : SpellsLines (old.number + before.read.count) (take next.read.count (drop before.read.count old.lines)) last
-  spelt = subst (λ (l : LinesLeft). SpellsLines l.number (take next.read.count l.lines) last) before.read.rest
-      next.read.spelt
-
-  ended : (left.lines ≡ []) ⊎ CanEnd size old before.read.count → IsApart last
-  ended (inl over) = nothing_apart next.read.count (old.number + before.read.count)
-      (drop before.read.count old.lines) last
-      (sym (ap (λ (l : LinesLeft). l.lines) before.read.rest) ∙ over) spelt
-  ended (inr can) =
-      line_apart next.read.count (old.number + before.read.count) (drop before.read.count old.lines) last can.anew spelt
+next_apart {size} {old} {left} {new} {items} {last} before next = search (rules, nothing_apart, line_apart)
 
 pub open_follow : {size : ℕ} {old left new : LinesLeft} {items last : List TextItem} → OpenPieces size old left items
     → IsPiece size left new last → CanFollow items last
@@ -260,17 +234,12 @@ open_stops (piece.further {left = left} {new = new} {last = last} others before 
 
 piece_fewer : {size : ℕ} {old new : LinesLeft} {items : List TextItem} → IsPiece size old new items
     → length new.lines ≤ length old.lines
-piece_fewer {old = old} one =
-    let is = ap (λ (l : LinesLeft). length l.lines) one.read.rest in
-    omega (arith, is, length-drop one.read.count old.lines)
+piece_fewer {old = old} one = grind (arith, common_steps, length-drop)
 
 -- a piece that is followed by lines has some
 pub piece_lessens : {size : ℕ} {old new : LinesLeft} {items : List TextItem} → IsPiece size old new items
     → new.lines ≢ [] → length new.lines < length old.lines
-piece_lessens {size} {old} {new} {items} one some =
-    piece_shorter size old new items one
-    (λ none. some (ap (λ (l : LinesLeft). l.lines) one.read.rest ∙ ap (drop one.read.count) none
-    ∙ drop_all one.read.count [] (omega arith)))
+piece_lessens {size} {old} {new} {items} one some = grind (arith, common_steps, drop_all)
 
 open_fewer : {size : ℕ} {old new : LinesLeft} {items : List TextItem} → OpenPieces size old new items
     → length new.lines ≤ length old.lines

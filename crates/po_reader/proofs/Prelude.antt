@@ -30,6 +30,7 @@ pub use Rattle.po_syntax.specs.declared.item.Keyword.TheVariants.{MsgCtxt, MsgId
 pub use Rattle.po_syntax.specs.declared.item.Marks.{Marks}
 pub use Rattle.std.proofs.Common.{Bool, IsUtf8, List, None, Option, Some, [], add-one, ap, append-nil, append_assoc, ap₂, arith, codes, drop, drop-cons, false, filter, fold, get_or, inl, inr, length, length-drop, map, nat_lt, refl, rules, subst, subst₂, suc, sym, take, tests, true, true≢false, zero, ℕ, ◌&&◌, ◌++◌, ◌+◌, ◌-◌, ◌<◌, ◌==◌, ◌||◌, ◌↔◌, ◌∙◌, ◌∷◌, ◌≡◌, ◌≢◌, ◌≤◌, ◌⊎◌}
 pub use Rattle.std.proofs.lemmas.Bool.{and_parts, cases_Bool, eq-eqb, eqb-false, eqb-true, false≢true, le-ltb, lt-ltb, ltb-true, ne_eqb, not-false, not-true}
+pub use Rattle.std.proofs.lemmas.Grind.{common_steps}
 pub use Rattle.std.proofs.lemmas.List.{drop_all, length-append, length-map, map_push, take_all}
 pub use Rattle.std.proofs.lemmas.List.Elements.{All-append, All-cons, All-filter, All-head, All-map, All-nil, All-push, All-tail, All-weaker, Contains-push_cases, filter_passes}
 pub use Rattle.std.proofs.lemmas.List.Folds.{fold_stays, length-prefix_len, list_any_at}

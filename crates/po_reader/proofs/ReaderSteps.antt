@@ -1,7 +1,6 @@
 -- Steps of the reader, which hang on what the next item is.
-use Rattle.po_reader.proofs.Prelude.{AfterForm, All, All-push, AreInOrder, AreSome, BadOrder, Before, Between, Bool, CommentText, EndsEntry, EndsHead, Entries, Err, Fault, Form, Gap, Id, In, InHead, IsApart, IsFaultOf, IsString, Keyword, List, Marks, MsgCtxt, MsgId, MsgIdPlural, MsgStr, MsgStrAt, Ok, OnOk, PoError, PoFault, PreviousText, Reached, Result, Row, SoFar, Some, Stage, Stop, Str, TextEntry, TextItem, Translation, Wanted, Word, [], add-one, after_head, and_parts, ap, ap₂, arith, begins_body, begins_form, begins_own, begins_string, begins_word, beq, bool_eq_equiv, booleans_Decides, closed, comes_to, drop, drop-cons, entry_at, eqb-true, false, false≢true, first_line, fold_stays, get_or, if◌then◌else◌, in_head, is_wanted, last_line, length, line_of, map, no_lines, none as no_previous, not-true, opened, outcome, outcome_of, rank, reached, refl, same_marks, settled, settled_gap, slice_get, subst, suc, sym, take, take_all, taken_here, true, turn, view, views, with, with_entry, with_previous_text, without, zero, ℕ, ◌+◌, ◌-◌, ◌<◌, ◌↔◌, ◌∙◌, ◌∷◌, ◌≡◌, ◌≢◌, ◌≤◌}
+use Rattle.po_reader.proofs.Prelude.{AfterForm, All, All-push, AreInOrder, AreSome, BadOrder, Before, Between, Bool, CommentText, EndsEntry, EndsHead, Entries, Err, Fault, Form, Gap, Id, In, InHead, IsApart, IsFaultOf, IsString, Keyword, List, Marks, MsgCtxt, MsgId, MsgIdPlural, MsgStr, MsgStrAt, Ok, OnOk, PoError, PoFault, PreviousText, Reached, Result, Row, SoFar, Some, Stage, Stop, Str, TextEntry, TextItem, Translation, Wanted, Word, [], add-one, after_head, and_parts, ap, arith, begins_body, begins_form, begins_own, begins_string, begins_word, bool_eq_equiv, closed, comes_to, common_steps, drop, drop-cons, entry_at, eqb-true, false, false≢true, first_line, fold_stays, get_or, in_head, is_wanted, last_line, length, line_of, map, no_lines, none as no_previous, not-true, opened, outcome, outcome_of, rank, reached, refl, same_marks, settled, settled_gap, slice_get, subst, suc, sym, take, take_all, taken_here, true, turn, view, views, with, with_entry, with_previous_text, without, zero, ℕ, ◌+◌, ◌-◌, ◌<◌, ◌↔◌, ◌∙◌, ◌∷◌, ◌≡◌, ◌≢◌, ◌≤◌}
 use Rattle.po_syntax.specs.declared.item.Item.{Item}
-use Rattle.std.specs.Prelude.{◌==◌}
 
 pub on_ok_always : {T E : Type 0} {P : Type 0} (r : Result T E) → P → OnOk r P
 on_ok_always (Ok y) p = p
@@ -120,12 +119,7 @@ pub same_marks-refl : (marks : Marks) → same_marks marks marks ≡ true
 same_marks-refl marks = rw (bool_eq_equiv.refl marks.obsolete, bool_eq_equiv.refl marks.previous) refl
 
 pub same_marks_true : (a b : Marks) → same_marks a b ≡ true → a ≡ b
-same_marks_true a b e =
-    let both = and_parts (beq a.obsolete b.obsolete) (beq a.previous b.previous) e in
-    let same : marked a.obsolete a.previous ≡ marked b.obsolete b.previous =
-    ap₂ marked ((booleans_Decides a.obsolete b.obsolete).0 both.0)
-    ((booleans_Decides a.previous b.previous).0 both.1) in
-    same
+same_marks_true a b e = grind (arith, common_steps, and_parts)
 
 -- no item was refused
 abbrev pub goes_on : Stage → Bool
@@ -253,9 +247,7 @@ pub settles : (end : ℕ) (stage : Stage) (items : List TextItem) → IsApart it
     → reached end stage items ≡ reached end (settled stage) items
 settles end (Between gap) items apart = gap_settles end gap items apart
 settles end (Stop fault line) items apart = refl
-settles end (In read keyword marks true text) items apart =
-    text_ends end read keyword marks text items apart.0
-    ∙ gap_settles end (closed read keyword marks text) items apart
+settles end (In read keyword marks true text) items apart = grind (arith, common_steps, text_ends, gap_settles, apart)
 settles end (In read keyword marks false text) items apart = refl
 
 -- where a head ends, or the items end too early for it
@@ -271,8 +263,4 @@ none_ends above (item ∷ items) is none = absurd cc
 pub head_refused : (end above : ℕ) (items : List TextItem) (read : SoFar) → items ≡ [] → above ≢ 0
     → comes_to end (Between (InHead read above)) items ≡ Fault BadOrder (first_line end items)
 head_refused end above (item ∷ items) read is some = absurd cc
-head_refused end above [] read is some = chosen (above == 0) refl where
-  chosen : (b : Bool) → (above == 0) ≡ b
-      → (if b then Entries read.entries else Fault BadOrder end) ≡ Fault BadOrder end
-  chosen true none = absurd (some (eqb-true above 0 none))
-  chosen false other = refl
+head_refused end above [] read is some = grind (arith, common_steps, eqb-true)

@@ -1,5 +1,5 @@
 -- The entries that items spell are valid if they can have their texts, and the drafts that were read of them.
-use Rattle.po_reader.proofs.Prelude.{All, All-append, All-cons, All-head, All-left, All-map, All-nil, All-right, All-tail, All-weaker, AreDistinct, AreDraftsOf, Bool, CanLie, ChecksStop, Comment, CommentText, EntryTextFault, Extracted, Flags, HasAdmittedCharset, HasTexts, Head, HoldsText, IsCatalogueEntry, IsComment, IsCommentOf, IsEntry, IsFlag, IsReference, IsTranslatorComment, IsUtf8, IsUtf8-append, ItemsStop, Lacks, List, None, OfString, Option, PoFault, PreviousText, ReadsUpTo, Reference, SpellsEntries, Str, TextEntry, TextItem, Translator, Word, [], all_listed_flags, ap, arith, entries_in, false, flags_of, get_or, in_charset, in_texts, inl, inr, kept_entry, length, map, outcome, quoted_texts, references_of, refl, subst, sym, texts_of, true, with_head, ℕ, ◌++◌, ◌<◌, ◌∙◌, ◌∷◌, ◌≡◌, ◌≢◌}
+use Rattle.po_reader.proofs.Prelude.{All, All-append, All-cons, All-head, All-left, All-map, All-nil, All-right, All-tail, All-weaker, AreDistinct, AreDraftsOf, Bool, CanLie, ChecksStop, Comment, CommentText, EntryTextFault, Extracted, Flags, HasAdmittedCharset, HasTexts, Head, HoldsText, IsCatalogueEntry, IsComment, IsCommentOf, IsEntry, IsFlag, IsReference, IsTranslatorComment, IsUtf8, IsUtf8-append, ItemsStop, Lacks, List, None, OfString, Option, PoFault, PreviousText, ReadsUpTo, Reference, SpellsEntries, Str, TextEntry, TextItem, Translator, Word, [], all_listed_flags, ap, arith, common_steps, entries_in, false, flags_of, get_or, in_charset, in_texts, inl, inr, kept_entry, length, map, outcome, quoted_texts, references_of, refl, rules, subst, sym, texts_of, true, with_head, ℕ, ◌++◌, ◌<◌, ◌∙◌, ◌∷◌, ◌≡◌, ◌≢◌}
 use Rattle.po_reader.proofs.CommentFields.{SoundCommentText, SoundFlagElement, SoundFlags, all_flag_elements_sound, all_unmapped, flags_sound, kind_sound, references_sound}
 use Rattle.po_reader.proofs.EntryTexts.{entries_texts, entry_texts}
 use Rattle.po_entry.specs.declared.drafts.Drafts.{Drafts}
@@ -89,18 +89,7 @@ entries_sound (spell.entries {items = rest} {others = others}
 
 -- with texts that it can have, it is an entry
 pub entry_valid : (spelt : TextEntry) → SoundEntry spelt → HasTexts spelt → IsEntry spelt
-entry_valid spelt h t = record {
-  quoted_texts = λ k d inside. record { utf8 = t.utf8 k d inside; no_nul = t.clean.no_nul k d inside };
-  comments = h.comments;
-  extracted = h.extracted;
-  references = h.references;
-  flags = h.flags;
-  distinct_flags = h.distinct_flags;
-  context = t.clean.context;
-  id = t.clean.id;
-  some_form = h.some_form;
-  one_form = h.one_form;
-}
+entry_valid spelt h t = search rules
 
 -- where the strings are UTF-8, the texts of what is kept are
 utf8_one : (all : Bool) (entry : TextEntry) → All IsUtf8 (quoted_texts entry)
@@ -117,16 +106,7 @@ kept_utf8 all {entries = entries} spelt h =
 
 sound_one : (all : Bool) (entry : TextEntry) → SoundEntry entry → SoundEntry (kept_entry all entry)
 sound_one true entry h = h
-sound_one false entry h = record {
-  comments = All-nil IsTranslatorComment;
-  extracted = All-nil IsComment;
-  references = All-nil IsReference;
-  flags = All-nil IsFlag;
-  distinct_flags = tt;
-  some_form = h.some_form;
-  one_form = h.one_form;
-  no_nul = h.no_nul;
-}
+sound_one false entry h = grind (arith, common_steps, All-nil)
 
 -- what is kept of entries that sound items spell
 module _ (all : Bool) {items : List TextItem} {entries : List TextEntry} (spelt : SpellsEntries items entries)
