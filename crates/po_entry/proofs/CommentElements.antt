@@ -1,5 +1,5 @@
 -- The references and flags that comments list, and whether one of them is fuzzy.
-use Rattle.po_entry.proofs.Prelude.{All, All-append, All-cons, All-nil, All-push, All-weaker, Bool, CommentKind, CommentText, Contains, Contains-from_any, Decides, EndsReference, Extracted, FailsFirst, Flags, HaveFuzzyFlag, IsAdmittedName, IsBlank, IsWithoutBlanks, KeepsFlags, List, ListsFlags, ListsReferences, NamesAdmitted, NamesFlag, Reference, Translator, [], all_listed_flags, ap, append-nil, append_assoc, ap₂, arith, ascii, blank, both_ways, bytes_eq-Decides, cases_Bool, codes, cond, cond-false, cond-true, cond_both, end_parts, eqb-false, eqb-true, false, false_from_ne_true, false≢true, filter, first as keeps_first, flag, flags_of, fold, fold_push, from_end, fuzzy, fuzzy_of, get_or, here as fuzzy_here, inl, inr, is_blank, is_fuzzy_flag, is_not_empty, kept_is, last, later as fuzzy_later, length, list_any, list_any-append, list_any_at, listed_flags, listed_references, map, more as lists_more, ne_eqb, nil_from_length, no_flag, no_name, no_text, none, not, or-false, or-true, or_assoc, or_cases, or_from, or_left, or_parts, or_right, parts_of, prefix_len, reference, refl, repeated, skip_blanks, slice_split-cons_yes, slice_split_at, slice_split_none, subst, suc, sym, take, template, to_ascii_lowercase, trimmed, true, us_ascii, utf8, utf_8, with_flag, without_end, zero, ℕ, ◌++◌, ◌<◌, ◌==◌, ◌||◌, ◌↔◌, ◌∙◌, ◌∷◌, ◌≡◌, ◌≢◌}
+use Rattle.po_entry.proofs.Prelude.{All, All-append, All-cons, All-nil, All-push, All-weaker, Bool, CommentKind, CommentText, Contains, Contains-from_any, Decides, EndsReference, Extracted, FailsFirst, Flags, HaveFuzzyFlag, IsAdmittedName, IsBlank, IsWithoutBlanks, KeepsFlags, List, ListsFlags, ListsReferences, NamesAdmitted, NamesFlag, Reference, Translator, [], all_listed_flags, ap, append-nil, append_assoc, arith, ascii, blank, both_ways, bytes_eq-Decides, cases_Bool, codes, common_steps, cond, cond-false, cond-true, cond_both, end_parts, eqb-false, eqb-true, false, false_from_ne_true, false≢true, filter, first as keeps_first, flag, flags_of, fold, fold_push, from_end, fuzzy, fuzzy_of, get_or, here as fuzzy_here, inl, inr, is_blank, is_fuzzy_flag, is_not_empty, kept_is, last, later as fuzzy_later, list_any, list_any-append, list_any_at, listed_flags, listed_references, map, more as lists_more, ne_eqb, nil_from_length, no_flag, no_name, no_text, none, or-false, or-true, or_assoc, or_cases, or_from, or_left, or_parts, or_right, parts_of, prefix_len, reference, refl, repeated, rules, skip_blanks, slice_split-cons_yes, slice_split_at, slice_split_none, subst, suc, sym, take, template, to_ascii_lowercase, trimmed, true, us_ascii, utf8, utf_8, with_flag, without_end, zero, ℕ, ◌++◌, ◌<◌, ◌==◌, ◌||◌, ◌↔◌, ◌∙◌, ◌∷◌, ◌≡◌, ◌≢◌}
 use Rattle.std.proofs.Common.{bytes_eq}
 use Rattle.po_syntax.proofs.Keywords.{skip_prefix}
 use Rattle.po_entry.proofs.EntryLayout.{lacks_fails}
@@ -9,9 +9,7 @@ abbrev kept : List ℕ → List (List ℕ) → List (List ℕ)
 kept element elements = cond (is_not_empty element) (element ∷ elements) elements
 
 some_kept : (element : List ℕ) → element ≢ [] → (elements : List (List ℕ)) → kept element elements ≡ element ∷ elements
-some_kept element some elements =
-    cond-true (is_not_empty element) (element ∷ elements) elements
-    (ap not (ne_eqb (length element) 0 (λ none. some (nil_from_length element none))))
+some_kept element some elements = grind (arith, common_steps, cond-true, ne_eqb, nil_from_length)
 
 -- what holds of the last part of a text that is cut, and with each part before it, holds of the text
 by_parts : (cut : ℕ → Bool) (P : List ℕ → Type 0) → ((part : List ℕ) → All (λ b. cut b ≡ false) part → P part)
@@ -34,11 +32,8 @@ cut_at_blank b text is = ap (filter is_not_empty) (slice_split-cons_yes is_blank
 
 element_then : (element rest : List ℕ) → All (λ b. is_blank b ≡ false) element → EndsReference rest
     → listed_references (element ++ rest) ≡ kept element (listed_references rest)
-element_then element [] all ends =
-    ap listed_references (append-nil element) ∙ ap (filter is_not_empty) (slice_split_none is_blank element all)
-element_then element (b ∷ rest) all ends =
-    ap (filter is_not_empty) (slice_split_at is_blank element b rest all ends)
-    ∙ ap (kept element) (sym (cut_at_blank b rest ends))
+element_then element [] all ends = search (rules, append-nil, slice_split_none)
+element_then element (b ∷ rest) all ends = grind (arith, common_steps, slice_split_at, cut_at_blank)
 
 after_element : (element rest : List ℕ) → All (λ b. is_blank b ≡ false) element → EndsReference rest
     → ListsReferences rest (listed_references rest)
@@ -61,8 +56,7 @@ are_elements : {text : List ℕ} {elements : List (List ℕ)} → ListsReference
 are_elements no_text = refl
 are_elements (blank {b = b} {text = text} is later) = are_elements later ∙ sym (cut_at_blank b text is)
 are_elements (reference {element = element} {rest = rest} some all ends later) =
-    ap (λ l. element ∷ l) (are_elements later) ∙ sym (some_kept element some (listed_references rest))
-    ∙ sym (element_then element rest (All-weaker _ _ (λ b. false_from_ne_true (is_blank b)) element all) ends)
+    search (rules, some_kept, element_then, All-weaker, false_from_ne_true, are_elements later)
 
 pub references_listed : (text : List ℕ) (references : List (List ℕ))
     → (references ≡ listed_references text) ↔ ListsReferences text references
@@ -104,8 +98,7 @@ names text = at (trimmed text) (trimmed_is text) where
   at (b ∷ element) h = subst (NamesFlag text) (sym (some_kept (b ∷ element) (λ e. cc) [])) (flag (λ e. cc) h)
 
 kept_append : (element : List ℕ) (elements : List (List ℕ)) → kept element [] ++ elements ≡ kept element elements
-kept_append element elements =
-    elim (cases_Bool (is_not_empty element)) [ inl e ↦ rw e refl | inr e ↦ rw e refl ]
+kept_append element elements = grind (arith, common_steps, cases_Bool)
 
 -- some flags that a text lists
 abbrev Named : List ℕ → Type 0
@@ -127,11 +120,9 @@ abbrev flags_in : List (List ℕ) → List (List ℕ)
 flags_in texts = filter is_not_empty (map trimmed texts)
 
 are_flags : {text : List ℕ} {flags : List (List ℕ)} → ListsFlags text flags → flags ≡ listed_flags text
-are_flags (last {text = text} lacks here) =
-    named_is here ∙ sym (ap flags_in (slice_split_none (λ b. b == 44) text (lacks_fails 44 text lacks)))
+are_flags (last {text = text} lacks here) = grind (arith, common_steps, named_is, slice_split_none, lacks_fails)
 are_flags (lists_more {text = text} {rest = rest} {here = here} {later = later} lacks named others) =
-    ap₂ (λ a l. a ++ l) (named_is named) (are_flags others) ∙ kept_append (trimmed text) (listed_flags rest)
-    ∙ sym (ap flags_in (slice_split_at (λ b. b == 44) text 44 rest (lacks_fails 44 text lacks) refl))
+    grind (arith, common_steps, named_is, kept_append, slice_split_at, lacks_fails, are_flags others)
 
 pub flags_listed : (text : List ℕ) (flags : List (List ℕ)) → (flags ≡ listed_flags text) ↔ ListsFlags text flags
 flags_listed text flags = (
@@ -148,8 +139,7 @@ among_says flags element e =
 
 pub among_passes : (flags : List (List ℕ)) (element : List ℕ) → Contains flags element
     → list_any (bytes_eq element) flags ≡ true
-among_passes flags element h =
-    list_any_at (bytes_eq element) flags h.0 element h.1 ((bytes_eq-Decides element _).1 (sym h.2))
+among_passes flags element h = grind (arith, common_steps, list_any_at, bytes_eq-Decides)
 
 -- it isn't kept where these are
 abbrev passed_over : List (List ℕ) → List ℕ → Bool
@@ -180,9 +170,7 @@ same_flags =
 
 keep_more : (named : List (List ℕ)) (element : List ℕ)
     → keep (named ++ element ∷ []) ≡ cond (passed_over named element) (keep named) (keep named ++ element ∷ [])
-keep_more named element =
-    fold_push with_flag [] named element
-    ∙ ap (λ over. cond over (keep named) (keep named ++ element ∷ [])) (same_flags named element)
+keep_more named element = grind (arith, common_steps, fold_push, same_flags)
 
 keeps : (named : List (List ℕ)) → KeepsFlags named (keep named)
 keeps = from_end (λ named. KeepsFlags named (keep named)) none (λ named element before.
@@ -206,15 +194,11 @@ kept_once (keeps_first {named = named} {flag = element} before other absent) =
     ap (λ l. l ++ element ∷ []) (kept_once before) ∙ sym (keep_more named element ∙ cond-false _ _ _ no)
 kept_once (fuzzy {named = named} before) = kept_once before ∙ sym (keep_more named (codes "fuzzy"))
 kept_once (repeated {named = named} {flag = element} before there) =
-    kept_once before
-    ∙ sym (keep_more named element ∙ cond-true _ _ _ (or_right _ _ (among_passes named element there)))
+    search (rules, keep_more, cond-true, or_right, among_passes, kept_once before)
 
 pub flags_kept : (comment_texts : List CommentText) (flags : List (List ℕ))
     → (flags ≡ flags_of comment_texts) ↔ KeepsFlags (all_listed_flags comment_texts) flags
-flags_kept comment_texts flags = (
-  λ e. let named = all_listed_flags comment_texts in subst (KeepsFlags named) (sym e) (keeps named),
-  kept_once,
-)
+flags_kept comment_texts flags = grind (arith, common_steps, keeps, kept_once)
 
 -- Where an entry's comments make it fuzzy, and which charsets are admitted.
 
@@ -232,8 +216,7 @@ fuzzy_among flags h = Contains-from_any {eq = λ x y. bytes_eq y x} (λ x y same
     (codes "fuzzy") flags h
 
 among_fuzzy : (flags : List (List ℕ)) → Contains flags (codes "fuzzy") → list_any is_fuzzy_flag flags ≡ true
-among_fuzzy flags h = list_any_at is_fuzzy_flag flags h.0 (codes "fuzzy") h.1
-    ((bytes_eq-Decides _ (codes "fuzzy")).1 h.2)
+among_fuzzy flags h = grind (arith, common_steps, list_any_at, bytes_eq-Decides)
 
 flags_of_text : (text : List ℕ) → ListsFlags text (listed_flags text)
 flags_of_text text = (flags_listed text (listed_flags text)).0 refl
@@ -261,15 +244,8 @@ fuzzy_flagged (first ∷ after) h = by first.kind first.text h (fuzzy_flagged af
 
 flagged_fuzzy : {comment_texts : List CommentText} → HaveFuzzyFlag comment_texts → fuzzy_of comment_texts ≡ true
 flagged_fuzzy (fuzzy_here {text = text} {flags = flags} {after = after} listed among) =
-    flags_first text after ∙ ap (λ (b : Bool). b || fuzzy_of after)
-    (subst (λ l. list_any is_fuzzy_flag l ≡ true) ((flags_listed text flags).1 listed) (among_fuzzy flags among))
-flagged_fuzzy (fuzzy_later {first = first} {after = after} h) = by first.kind first.text (flagged_fuzzy h) where
-  by : (kind : CommentKind) (text : List ℕ) → fuzzy_of after ≡ true
-      → fuzzy_of (record { kind = kind; text = text } ∷ after) ≡ true
-  by Translator text g = g
-  by Extracted text g = g
-  by Reference text g = g
-  by Flags text g = flags_first text after ∙ or_right (list_any is_fuzzy_flag (listed_flags text)) (fuzzy_of after) g
+    grind (arith, common_steps, flags_first, flags_listed, among_fuzzy)
+flagged_fuzzy (fuzzy_later {first = first} {after = after} h) = search (rules, flags_first, or_right, flagged_fuzzy h)
 
 pub fuzzy_where_flagged : (comment_texts : List CommentText)
     → Decides (fuzzy_of comment_texts) (HaveFuzzyFlag comment_texts)

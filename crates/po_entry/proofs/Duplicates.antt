@@ -1,5 +1,5 @@
 -- A list of entries has no duplicate, or one first duplicate, with an earlier entry of its message.
-use Rattle.po_entry.proofs.Prelude.{AllDiffer, AllPairs, AllPairs-filter, Bool, DifferUpTo, Err, FaultNamesEarlier, HasNoDuplicate, InputEntry, IsDuplicateFault, IsFirstDuplicate, IsFirstRepeat, IsOkUnless, IsSameMessage, JoinError, List, MatchResult, NamesEarlier, None, Ok, Option, RepeatsAt, Result, Some, TextEntry, [], ap, append_assoc, ap₂, arith, bytes_eq, bytes_eq-Decides, cases_Bool, cond, drop, drop-cons, duplicate_fault, entries_of, false, false≢true, filter, filter-append, filter_map, filter_passes, get_or, get_or-map, get_or-take, in_input, inl, inr, is_live, join_out_of_memory, length, length-take, live_entries, map, none_or_first_repeat, none_repeats, not-true, one_repeat, pairs_map, pairs_of_map, refl, subst, suc, sym, take, take-append-drop, take_all, true, ℕ, ⊎_elim, ◌++◌, ◌<◌, ◌∙◌, ◌∷◌, ◌≡◌, ◌≢◌, ◌≤◌, ◌⊎◌}
+use Rattle.po_entry.proofs.Prelude.{AllDiffer, AllPairs, AllPairs-filter, Bool, DifferUpTo, Err, FaultNamesEarlier, HasNoDuplicate, InputEntry, IsDuplicateFault, IsFirstDuplicate, IsFirstRepeat, IsOkUnless, IsSameMessage, JoinError, List, MatchResult, NamesEarlier, None, Ok, Option, RepeatsAt, Result, Some, TextEntry, [], ap, append_assoc, ap₂, arith, bytes_eq, bytes_eq-Decides, cases_Bool, cond, drop, drop-cons, duplicate_fault, entries_of, false, false≢true, filter, filter-append, filter_map, filter_passes, get_or, get_or-map, get_or-take, in_input, inl, inr, is_live, join_out_of_memory, length, length-take, live_entries, map, none_or_first_repeat, none_repeats, not-true, one_repeat, pairs_map, pairs_of_map, refl, rules, subst, suc, sym, take, take-append-drop, take_all, true, ℕ, ⊎_elim, ◌++◌, ◌<◌, ◌∙◌, ◌∷◌, ◌≡◌, ◌≢◌, ◌≤◌, ◌⊎◌}
 
 -- an element that passes a test, among those that do
 passing_at : {X : Type 0} (p : X → Bool) (xs : List X) (i : ℕ) (d : X) → i < length xs → p (get_or xs i d) ≡ true
@@ -212,5 +212,4 @@ earlier entries first later h =
 
 pub fault_names_earlier : (entries : List InputEntry) (error : JoinError) → FaultNamesEarlier entries error
 fault_names_earlier entries error (inl memory) some = absurd (some memory)
-fault_names_earlier entries error (inr found) some =
-    subst (NamesEarlier entries) (sym found.3) (earlier entries found.0 found.1 found.2)
+fault_names_earlier entries error (inr found) some = search (rules, earlier)

@@ -1,5 +1,5 @@
 -- The bytes of an entry, read by its row, mean the entry, and give what an MO file has of it.
-use Rattle.po_entry.proofs.Prelude.{All, All-append, All-cons, All-head, All-nil, All-tail, Bool, CanLie, EndsContext, Lacks, List, None, Option, PluralFollows, Some, TextEntry, [], after_nul, ap, append-nil, append_assoc, ap₂, arith, context_in, context_length, drop, drop-append_seam, entry_of, false, false≢true, flat_map, forms_in, forms_of, further_texts, has_no_head, head_bytes, head_parts, if◌then◌else◌, is_empty_list, is_some, join_with_byte, join_with_byte-slice_split, key_bytes, length, length-append, length-slice_split, length-take, length_bytes, measured, ne_eqb, option_copied, option_to_list, optional_bytes, optional_in, own_bytes, part_at, plural_in, previous_in, quoted_texts, refl, row_of, slice_split, slice_split_at, slice_split_none, split_forms, suc, sym, take, take-append-drop, take-append_seam, take-take, texts_after, texts_in, true, unwrap_or, zero, ℕ, ◌&&◌, ◌++◌, ◌+◌, ◌<◌, ◌==◌, ◌^◌, ◌∙◌, ◌∷◌, ◌≡◌, ◌≤◌}
+use Rattle.po_entry.proofs.Prelude.{All, All-append, All-cons, All-head, All-nil, All-tail, Bool, CanLie, EndsContext, Lacks, List, None, Option, PluralFollows, Some, TextEntry, [], after_nul, ap, append-nil, append_assoc, ap₂, arith, common_steps, context_in, context_length, drop, drop-append_seam, entry_of, false, false≢true, flat_map, forms_in, forms_of, further_texts, has_no_head, head_bytes, head_parts, if◌then◌else◌, is_empty_list, is_some, join_with_byte, join_with_byte-slice_split, key_bytes, length, length-append, length-slice_split, length-take, length_bytes, measured, ne_eqb, option_copied, option_to_list, optional_bytes, optional_in, own_bytes, part_at, plural_in, previous_in, quoted_texts, refl, row_of, rules, slice_split, slice_split_at, slice_split_none, split_forms, suc, sym, take, take-append-drop, take-append_seam, take-take, texts_after, texts_in, true, unwrap_or, zero, ℕ, ◌&&◌, ◌++◌, ◌+◌, ◌<◌, ◌==◌, ◌^◌, ◌∙◌, ◌∷◌, ◌≡◌, ◌≤◌}
 use Rattle.std.specs.Prelude.{is_none}
 use Rattle.po_entry.proofs.AdmittedTexts.{quoted_parts}
 use Rattle.po_entry.proofs.TextLists.{no_texts, texts_laid}
@@ -14,14 +14,12 @@ context_fits None id = omega arith
 context_fits (Some c) id = omega (arith, length-append c (4 ∷ id))
 
 pub key_fits : (entry : TextEntry) → length (key_bytes entry.context entry.id) ≤ length (own_bytes entry)
-key_fits entry =
-    omega (arith, length-append (key_bytes entry.context entry.id) (flat_map after_nul (further_texts entry)))
+key_fits entry = grind (arith, common_steps, length-append)
 
 context_found : (context : Option (List ℕ)) (id rest : List ℕ)
     → context_in (context_length context) (key_bytes context id ++ rest) ≡ context
 context_found None id rest = refl
-context_found (Some c) id rest =
-    ap Some (ap (take (length c)) (append_assoc c (4 ∷ id) rest) ∙ take-append_seam c (4 ∷ id ++ rest))
+context_found (Some c) id rest = grind (arith, common_steps, append_assoc, take-append_seam)
 
 -- an EOT ends the context
 pub eot_laid : (context : Option (List ℕ)) (id rest : List ℕ)
@@ -127,32 +125,14 @@ both false b h = absurd (false≢true h)
 
 no_list : (texts : List (List ℕ)) → is_empty_list texts ≡ true → [] ≡ texts
 no_list [] h = refl
-no_list (text ∷ texts) h =
-    absurd (false≢true (sym (ne_eqb (suc (length texts)) 0 (λ e. omega (arith, e))) ∙ h))
+no_list (text ∷ texts) h = grind (arith, common_steps, false≢true, ne_eqb)
 
 no_text : (text : Option (List ℕ)) → is_none text ≡ true → None ≡ text
 no_text None h = refl
 no_text (Some text) h = absurd (false≢true h)
 
 nothing_means : (entry : TextEntry) → has_no_head entry ≡ true → MeansHead entry []
-nothing_means entry none =
-    let plural = both _ _ none in
-    let id = both _ _ plural.0 in
-    let context = both _ _ id.0 in
-    let flags = both _ _ context.0 in
-    let references = both _ _ flags.0 in
-    let extracted = both _ _ references.0 in
-    let empty = no_texts [] refl in
-    let part : (k : ℕ) → texts_in (part_at k []) ≡ [] = λ k. rw (empty, empty) refl in
-    record {
-      comments = rw (empty) (empty ∙ no_list entry.comments extracted.0);
-      extracted = rw (empty) (empty ∙ no_list entry.extracted extracted.1);
-      references = rw (empty) (empty ∙ no_list entry.references references.1);
-      flags = rw (empty) (empty ∙ no_list entry.flags flags.1);
-      context = rw (empty) (no_text entry.previous.context context.1);
-      id = rw (empty) (no_text entry.previous.id id.1);
-      plural = rw (empty) (no_text entry.previous.plural plural.1);
-    }
+nothing_means entry none = search (rules, both, no_texts, no_list, no_text)
 
 parts_mean : (entry : TextEntry) → length (flat_map measured (head_parts entry)) < 2 ^ 64
     → MeansHead entry (flat_map measured (head_parts entry))
@@ -264,9 +244,7 @@ plural_cut own key true first others within some follows split =
 -- the forms without a plural
 pub forms_alone : (own : List ℕ) (key : ℕ) (has_plural : Bool) → has_plural ≡ false
     → drop (key + 1) own ≡ join_with_byte 0 (forms_in has_plural (texts_after key own))
-forms_alone own key false none =
-    let next : key + 1 ≡ suc key = omega arith in
-    ap (λ n. drop n own) next ∙ sym (forms_joined (drop (suc key) own))
+forms_alone own key false none = grind (arith, common_steps, forms_joined)
 forms_alone own key true none = absurd (false≢true (sym none))
 
 -- those after a plural
@@ -280,20 +258,13 @@ pub forms_cut : (own : List ℕ) (key : ℕ) (has_plural : Bool) (first : List �
     → split_forms (drop (key + 1) own) ≡ first ∷ forms_of (option_copied found)
     → (unwrap_or found none).now ≡ join_with_byte 0 (forms_in has_plural (texts_after key own))
 forms_cut own key false first found none some is split = absurd (false≢true some)
-forms_cut own key true first found none some is split =
-    let next : key + 1 ≡ suc key = omega arith in
-    let parts : texts_after key own ≡ first ∷ forms_of (option_copied found) =
-    ap (λ n. split_forms (drop n own)) (sym next) ∙ split in
-    after_plural found none is ∙ ap (λ texts. join_with_byte 0 (forms_in true texts)) (sym parts)
+forms_cut own key true first found none some is split = grind (arith, common_steps, found, split, after_plural)
 
 each_after_nul : (texts : List (List ℕ)) → 0 < length texts → flat_map after_nul texts ≡ 0 ∷ join_with_byte 0 texts
 each_after_nul [] some = absurd (omega (arith, some))
 each_after_nul (text ∷ []) some = append-nil (0 ∷ text)
-each_after_nul (text ∷ next ∷ texts) some =
-    ap (λ l. 0 ∷ text ++ l) (each_after_nul (next ∷ texts) (omega arith))
+each_after_nul (text ∷ next ∷ texts) some = grind (arith, common_steps, each_after_nul (next ∷ texts) (omega arith))
 
 -- the forms of a translation, as they are laid out
 pub forms_laid : (translation : List ℕ) → flat_map after_nul (split_forms translation) ≡ 0 ∷ translation
-forms_laid translation =
-    each_after_nul (split_forms translation) (omega (arith, length-slice_split (λ b. b == 0) translation))
-    ∙ ap (λ l. 0 ∷ l) (forms_joined translation)
+forms_laid translation = grind (arith, common_steps, each_after_nul, length-slice_split, forms_joined)

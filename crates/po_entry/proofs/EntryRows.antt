@@ -1,5 +1,5 @@
 -- The rows of a buffer of entries that grows.
-use Rattle.po_entry.proofs.Prelude.{Adds, All, All-append, All-cons, All-head, All-map, All-nil, All-push, All-set, All-tail, AreLaid, Bool, CanLie, EndsContext, Err, Grows, IsCatalogueEntry, LiesIn, List, Ok, OnErr, PluralFollows, Result, Row, TextEntry, [], after_nul, ap, append_assoc, ap₂, arith, changed_at, cond, context_length, drop, drop-append-add, drop-append-le, drop-append_seam, entries_in, entry_at, entry_bytes, false, filter, flat_map, further_texts, get_or-map, head_at, head_bytes, is_some, key_bytes, length, length-append, length-drop, length-map, length-take, map, map-append, moved, not, own_at, own_bytes, refl, row_of, set, subst, suc, sym, take, take-append-drop, take-append-le, take-append_seam, take_all, take_more, true, zero, ℕ, ◌++◌, ◌+◌, ◌<◌, ◌^◌, ◌∙◌, ◌∷◌, ◌≡◌, ◌≤◌}
+use Rattle.po_entry.proofs.Prelude.{Adds, All, All-append, All-cons, All-head, All-map, All-nil, All-push, All-set, All-tail, AreLaid, Bool, CanLie, EndsContext, Err, Grows, IsCatalogueEntry, LiesIn, List, Ok, OnErr, PluralFollows, Result, Row, TextEntry, [], ap, append_assoc, ap₂, arith, changed_at, common_steps, drop, drop-append-add, drop-append-le, drop-append_seam, entries_in, entry_at, entry_bytes, filter, get_or-map, head_at, head_bytes, length, length-append, length-drop, length-map, length-take, map, map-append, moved, not, own_at, own_bytes, refl, row_of, rules, set, subst, suc, sym, take, take-append-drop, take-append-le, take-append_seam, take_all, take_more, zero, ℕ, ◌++◌, ◌+◌, ◌<◌, ◌^◌, ◌∙◌, ◌∷◌, ◌≡◌, ◌≤◌}
 use Rattle.std.specs.Prelude.{get_or}
 use Rattle.po_entry.specs.declared.drafts.Drafts.{Drafts}
 use Rattle.po_entry.proofs.EntryLayout.{context_fits, eot_laid, key_fits, means, nul_laid}
@@ -56,9 +56,7 @@ module _ (old new : List ℕ) (grows : Grows old new) where
 -- the row of an entry that is appended
 own_found : (entry : TextEntry) (before : List ℕ)
     → own_at (before ++ entry_bytes entry) (row_of (length before) entry) ≡ own_bytes entry
-own_found entry before =
-    let own = own_bytes entry in
-    ap (take (length own)) (drop-append_seam before (own ++ head_bytes entry)) ∙ take-append_seam own (head_bytes entry)
+own_found entry before = search (rules, drop-append_seam, take-append_seam)
 
 pub found : (entry : TextEntry) (before : List ℕ) → CanLie entry
     → length (before ++ entry_bytes entry) < 2 ^ 64
@@ -77,15 +75,7 @@ found entry before can fits =
 
 pub lies : (entry : TextEntry) (before : List ℕ)
     → LiesIn (before ++ entry_bytes entry) (row_of (length before) entry)
-lies entry before = record {
-  within = omega (arith, length-append before (entry_bytes entry), length-append (own_bytes entry) (head_bytes entry));
-  key = key_fits entry;
-  context = context_fits entry.context entry.id;
-  eot = subst (EndsContext (context_length entry.context)) (sym (own_found entry before))
-      (eot_laid entry.context entry.id (flat_map after_nul (further_texts entry)));
-  nul = subst (PluralFollows (is_some entry.plural) (length (key_bytes entry.context entry.id)))
-      (sym (own_found entry before)) (nul_laid (key_bytes entry.context entry.id) entry.plural entry.forms);
-}
+lies entry before = search (rules, length-append, key_fits, context_fits, own_found, eot_laid, nul_laid)
 
 -- one more row
 pub row_more : (old new : List ℕ) (rows : List Row) (entry : TextEntry) → All (LiesIn old) rows
@@ -177,14 +167,12 @@ pub written : (bytes : List ℕ) (change : TextEntry → TextEntry) (rows : List
 written bytes change [] i row inside other is = refl
 written bytes change (first ∷ rows) zero row inside other is = ap (λ (e : TextEntry). e ∷ map (entry_at bytes) rows) is
 written bytes change (first ∷ rows) (suc i) row inside other is =
-    ap (λ (es : List TextEntry). entry_at bytes first ∷ es)
-    (written bytes change rows i row (omega (arith, inside)) other is)
+    grind (arith, common_steps, written bytes change rows i row (omega (arith, inside)) other is)
 
 pub all_changed : (P : TextEntry → Type 0) (change : TextEntry → TextEntry) → ((e : TextEntry) → P e → P (change e))
     → (i : ℕ) (entries : List TextEntry) → All P entries → All P (changed_at change i entries)
 all_changed P change keeps i [] all = All-nil P
-all_changed P change keeps zero (entry ∷ entries) all =
-    All-cons P (change entry) entries (keeps entry (All-head P entry entries all)) (All-tail P entry entries all)
+all_changed P change keeps zero (entry ∷ entries) all = search (rules, All-cons, keeps, All-head, All-tail)
 all_changed P change keeps (suc i) (entry ∷ entries) all =
     All-cons P entry (changed_at change i entries) (All-head P entry entries all)
     (all_changed P change keeps i entries (All-tail P entry entries all))
@@ -196,15 +184,7 @@ kept_live entry = not entry.obsolete
 pub filtered : (bytes : List ℕ) (rows : List Row)
     → map (entry_at bytes) (filter (λ (r : Row). not r.obsolete) rows) ≡ filter kept_live (map (entry_at bytes) rows)
 filtered bytes [] = refl
-filtered bytes (row ∷ rows) = one (not row.obsolete) (filtered bytes rows) where
-  one : (b : Bool) → map (entry_at bytes) (filter (λ (r : Row). not r.obsolete) rows)
-      ≡ filter kept_live (map (entry_at bytes) rows)
-      → map (entry_at bytes) (cond b (row ∷ filter (λ (r : Row). not r.obsolete) rows)
-      (filter (λ (r : Row). not r.obsolete) rows))
-      ≡ cond b (entry_at bytes row ∷ filter kept_live (map (entry_at bytes) rows))
-      (filter kept_live (map (entry_at bytes) rows))
-  one true later = ap (λ (es : List TextEntry). entry_at bytes row ∷ es) later
-  one false later = later
+filtered bytes (row ∷ rows) = grind (arith, common_steps, filtered bytes rows)
 
 -- one more draft
 pub added : (entry : TextEntry) (old new : Drafts) → Adds entry old new → AreLaid old

@@ -1,7 +1,6 @@
 -- Headers of a catalogue, the charsets that they name, and whether these are admitted.
-use Rattle.po_entry.proofs.Prelude.{AdmitsCharset, All, All-cons, All-head, All-nil, All-tail, Bool, CommentKind, CommentText, Contains, Contains-append_left, Contains-push, Contains-push_cases, Decides, EndsName, EntryTextFault, Extracted, FailsFirst, Flags, ForbiddenByte, HasAdmittedCharset, HasTexts, HaveReferences, IfSome, IsAdmittedName, IsAfterName, IsAround, IsClean, IsHeaderEntry, IsUtf8, IsUtf8-from_is_utf8, Lacks, List, NamesCharset, None, NotUtf8, Option, PoFault, Reference, Some, TextEntry, Translator, Vec, [], after_charset, and_parts, ap, append_cancel_left, arith, at_byte, at_end, before_first, cases_Bool, cases_eq, charset_of, codes, cond, cond-false, cond-true, drop, drop_at, ends_name, eqb-true, false, false≢true, filter, first_form, get_or, inl, inr, is_header, is_none, is_utf8, is_utf8-from_IsUtf8, length, list_any, listed_references, ltb-false, map, named, nat_eq, nat_lt, no_comment, not, not-false, not-true, other_kind, parts_of, position, position_or_len, quoted_texts, references, references_of, refl, same_kind, slice_get, starts_is, starts_with, subst, suc, sym, take, take_all, texts, to_ascii_lowercase, true, unnamed, ℕ, ◌++◌, ◌==◌, ◌||◌, ◌∙◌, ◌∷◌, ◌≡◌, ◌≢◌, ◌≤◌, ◌⊎◌}
+use Rattle.po_entry.proofs.Prelude.{AdmitsCharset, All, All-cons, All-head, All-nil, All-tail, Bool, CommentKind, CommentText, Contains, Contains-append_left, Contains-push, Contains-push_cases, Decides, EndsName, EntryTextFault, Extracted, FailsFirst, Flags, ForbiddenByte, HasAdmittedCharset, HasTexts, HaveReferences, IfSome, IsAdmittedName, IsAfterName, IsAround, IsClean, IsHeaderEntry, IsUtf8, IsUtf8-from_is_utf8, Lacks, List, NamesCharset, None, NotUtf8, Option, PoFault, Reference, Some, TextEntry, Translator, Vec, [], after_charset, and_parts, ap, append_cancel_left, arith, at_byte, at_end, before_first, cases_Bool, cases_eq, charset_of, codes, common_steps, cond, cond-false, cond-true, drop, drop_at, ends_name, eqb-true, false, false≢true, filter, first_form, get_or, inl, inr, is_header, is_none, is_utf8, is_utf8-from_IsUtf8, length, list_any, listed_references, ltb-false, map, named, nat_eq, no_comment, not, not-false, not-true, other_kind, parts_of, position, position_or_len, quoted_texts, references, references_of, refl, rules, same_kind, slice_get, starts_is, starts_with, subst, suc, sym, take, take_all, texts, to_ascii_lowercase, true, unnamed, ℕ, ◌++◌, ◌==◌, ◌||◌, ◌∙◌, ◌∷◌, ◌≡◌, ◌≢◌, ◌≤◌, ◌⊎◌}
 use Rattle.std.specs.Prelude.{IsTrue, bytes_eq, flat_map, ◌↔◌}
-use Rattle.std.proofs.lemmas.Bool.Decides.{Decides-eqb}
 use Rattle.po_entry.proofs.CommentElements.{admitted, among_passes, among_says, references_listed}
 use Rattle.po_entry.specs.Validity.{forbidden, not_utf8}
 
@@ -12,10 +11,7 @@ one_more_name names name x true b p q = (λ t. Contains-append_left names (name 
 one_more_name names name x false true p q =
     let P : List ℕ → Type 0 =
     λ y. Contains (names ++ name ∷ []) y in (λ t. rw (q.0 refl) (Contains-push names name), λ h. refl)
-one_more_name names name x false false p q = (
-  λ t. absurd (false≢true t),
-  λ h. elim (Contains-push_cases names name x h) [ inl before ↦ p.1 before | inr here ↦ q.1 (sym here) ],
-)
+one_more_name names name x false false p q = grind (arith, common_steps, false≢true, Contains-push_cases, names)
 
 pub first_text : (forms : List (Vec ℕ)) (v : Vec ℕ) → Some v ≡ slice_get forms 0 → first_form (texts forms) ≡ v.items
 first_text [] v e = cc
@@ -28,26 +24,14 @@ nonempty b name t = let h : length (b ∷ name) ≡ 0 = eqb-true _ _ t in omega 
 pub no_name : (f : ℕ → ℕ) (name : List ℕ) (a : Bool) → a ≡ (length name == 0)
     → (IsTrue a ↔ Contains ([] ∷ []) (map f name))
 no_name f [] a e = (λ t. Contains-push [] [], λ h. e)
-no_name f (b ∷ name) a e = (
-  λ t. absurd (nonempty b name (sym e ∙ t)),
-  λ h. elim (Contains-push_cases [] [] (map f (b ∷ name)) h)
-      [ inl (k, below, is) ↦ absurd (omega (arith, below)) | inr here ↦ cc ],
-)
+no_name f (b ∷ name) a e = grind (arith, common_steps, nonempty, Contains-push_cases)
 
 -- what stands before the first place where a test passes
 pub before_found : (p : ℕ → Bool) (xs : List ℕ) (i : ℕ) → Some i ≡ position p xs → take i xs ≡ before_first p xs
-before_found p xs i e = found (nat_lt (position_or_len p xs) (length xs)) e where
-  found : (b : Bool) → Some i ≡ cond b (Some (position_or_len p xs)) None → take i xs ≡ before_first p xs
-  found true q = let same : i ≡ position_or_len p xs = cc in ap (λ n. take n xs) same
-  found false q = cc
+before_found p xs i e = grind (arith, common_steps)
 
 pub before_none : (p : ℕ → Bool) (xs : List ℕ) → None ≡ position p xs → xs ≡ before_first p xs
-before_none p xs e = found (nat_lt (position_or_len p xs) (length xs)) refl e where
-  found : (b : Bool) → nat_lt (position_or_len p xs) (length xs) ≡ b → None ≡ cond b (Some (position_or_len p xs)) None
-      → xs ≡ before_first p xs
-  found true t q = cc
-  found false t q = let past : length xs ≤ position_or_len p xs =
-      ltb-false _ _ t in sym (take_all (position_or_len p xs) xs past)
+before_none p xs e = grind (arith, common_steps, ltb-false, take_all)
 
 -- The charset that is found in a header's text is the one that it names.
 
@@ -68,13 +52,11 @@ starts text = starts_with nat_eq text (codes "charset=")
 
 prefix_starts : (text rest : List ℕ) → IsAround text [] rest → starts text ≡ true
 unfolding starts
-prefix_starts text rest e =
-    (starts_is Decides-eqb text (codes "charset=") (starts_with nat_eq text (codes "charset=")) refl).1 rest e
+prefix_starts text rest e = grind (arith, common_steps, starts_is)
 
 starts_prefix : (text : List ℕ) → starts text ≡ true → IsAround text [] (drop 8 text)
 unfolding starts
-starts_prefix text e = (starts_is Decides-eqb text (codes "charset=")
-    (starts_with nat_eq text (codes "charset=")) refl).0 e
+starts_prefix text e = grind (arith, common_steps, starts_is)
 
 tail_around : (b x : ℕ) (text before rest : List ℕ) → IsAround (b ∷ text) (x ∷ before) rest → IsAround text before rest
 tail_around b x text before rest e = cc
@@ -86,8 +68,7 @@ none_more b text other none (x ∷ before) rest e = none before rest (tail_aroun
 earliest_more : (b place : ℕ) (text : List ℕ) → starts (b ∷ text) ≡ false → IsEarliest text place
     → IsEarliest (b ∷ text) (suc place)
 earliest_more b place text other first [] more e = absurd (false≢true (sym other ∙ prefix_starts (b ∷ text) more e))
-earliest_more b place text other first (x ∷ before) more e = let later =
-    first before more (tail_around b x text before more e) in omega (arith, later)
+earliest_more b place text other first (x ∷ before) more e = grind (arith, common_steps, tail_around)
 
 found_more : (b : ℕ) (text rest : List ℕ) → starts (b ∷ text) ≡ false → Found text rest → Found (b ∷ text) rest
 found_more b text rest other (inl (none, is)) = inl (none_more b text other none, is)
@@ -153,8 +134,7 @@ after_not_first b rest name (at_byte {b = c} ends) e has = let same : c ≡ b = 
 name_once : (name other rest end : List ℕ) → All (λ b. EndsName b → ⊥) name → All (λ b. EndsName b → ⊥) other
     → IsAfterName rest → IsAfterName end → name ++ rest ≡ other ++ end → name ≡ other
 name_once [] [] rest end a b p q e = refl
-name_once [] (x ∷ other) rest end a b p q e =
-    absurd (after_not_first x rest (other ++ end) p e (All-head (λ c. EndsName c → ⊥) x other b))
+name_once [] (x ∷ other) rest end a b p q e = search (rules, after_not_first, All-head)
 name_once (x ∷ name) [] rest end a b p q e =
     absurd (after_not_first x end (name ++ rest) q (sym e) (All-head (λ c. EndsName c → ⊥) x name a))
 name_once (x ∷ name) (y ∷ other) rest end a b p q e =
@@ -170,10 +150,8 @@ same_rest before other rest end l e = sym (drop_at before rest (length before) r
 
 named_once : {text name other : List ℕ} → NamesCharset text name → NamesCharset text other → name ≡ other
 named_once (unnamed none) (unnamed others) = refl
-named_once (unnamed none) (named {name = called} other end about earliest has stops) =
-    absurd (none other (called ++ end) about)
-named_once (named {name = name} before rest around first holds ends) (unnamed none) =
-    absurd (none before (name ++ rest) around)
+named_once (unnamed none) (named {name = called} other end about earliest has stops) = grind (arith, common_steps)
+named_once (named {name = name} before rest around first holds ends) (unnamed none) = grind (arith, common_steps)
 named_once (named {name = name} before rest around first holds ends)
     (named {name = called} other end about earliest has stops) =
     let p = first other (called ++ end) about in
@@ -196,18 +174,11 @@ empty_is [] h = refl
 empty_is (b ∷ id) h = absurd (nonempty b id h)
 
 pub header_decided : (entry : TextEntry) → Decides (is_header entry) (IsHeaderEntry entry)
-header_decided entry = (
-  λ h. let parts = and_parts (is_none entry.context) (length entry.id == 0) h in
-      record { no_context = none_is entry.context parts.0; empty_id = empty_is entry.id parts.1 },
-  λ h. let context = h.no_context in
-      let id = h.empty_id in
-      rw (context, id) refl,
-)
+header_decided entry = grind (arith, common_steps, and_parts, none_is, empty_is)
 
 named_is : (entry : TextEntry) {form name : List ℕ} {forms : List (List ℕ)} → entry.forms ≡ form ∷ forms
     → NamesCharset form name → charset_of (first_form entry.forms) ≡ name
-named_is entry {form} {name} {forms} forms_are names =
-    ap (λ l. charset_of (first_form l)) forms_are ∙ sym ((charset_named form name).1 names)
+named_is entry {form} {name} {forms} forms_are names = grind (arith, common_steps, charset_named, names)
 
 pub admits_charset : (entry : TextEntry) → AdmitsCharset entry
 admits_charset entry = record {

@@ -1,5 +1,5 @@
 -- The joined list of several texts, which omits later headers.
-use Rattle.po_entry.proofs.Prelude.{All-append, All-filter, All-head, All-map, All-nil, All-tail, All-weaker, Bool, CommentText, EndsInString, InputEntry, IsCatalogueEntry, List, OmitsLaterHeaders, SpellsEntries, SpellsHead, TextEntry, TextItem, [], and-false, and-true, any_map, ap, append_assoc, ap₂, arith, drop, drop_more, entries_from, entries_of, entries_of_inputs, false, filter, filter-append, filter_agree, filter_map, get_or, has_header_before, in_input, is_live_header, is_omitted, joined_from, kept_entries, le-ltb, length, list_any, list_any-append, lt-ltb, map, map-append, nat_lt, not, or-false, refl, subst, sym, true, ℕ, ◌&&◌, ◌++◌, ◌+◌, ◌<◌, ◌||◌, ◌∙◌, ◌∷◌, ◌≡◌, ◌≤◌}
+use Rattle.po_entry.proofs.Prelude.{All-append, All-filter, All-head, All-map, All-nil, All-tail, All-weaker, Bool, CommentText, EndsInString, InputEntry, IsCatalogueEntry, List, OmitsLaterHeaders, SpellsEntries, SpellsHead, TextEntry, TextItem, [], and-false, and-true, any_map, ap, append_assoc, arith, common_steps, drop, drop_more, entries_from, entries_of, entries_of_inputs, false, filter, filter-append, filter_agree, filter_map, get_or, has_header_before, in_input, is_live_header, is_omitted, joined_from, kept_entries, le-ltb, length, list_any, list_any-append, lt-ltb, map, map-append, nat_lt, not, or-false, refl, rules, subst, sym, true, ℕ, ◌&&◌, ◌++◌, ◌+◌, ◌<◌, ◌||◌, ◌∙◌, ◌∷◌, ◌≡◌, ◌≤◌}
 use Rattle.po_entry.specs.Spelling.{comments, entries as spells_entries, head_comment, nothing}
 use Rattle.std.proofs.Common.{All}
 use Rattle.po_entry.proofs.Duplicates.{entries_of_input}
@@ -16,8 +16,7 @@ pub no_comment_last : {items : List TextItem} {comment_texts : List CommentText}
     → EndsInString items → items ≡ []
 no_comment_last nothing h = refl
 no_comment_last (head_comment {items = []} c) h = absurd h
-no_comment_last (head_comment {items = next ∷ items} c) h = let none : next ∷ items ≡ [] =
-    no_comment_last c h in absurd (cc)
+no_comment_last (head_comment {items = next ∷ items} c) h = grind (arith, common_steps, no_comment_last c h)
 
 pub entries_joined : {prefix rest : List TextItem} {first others : List TextEntry} → SpellsEntries prefix first
     → EndsInString prefix → SpellsEntries rest others → SpellsEntries (prefix ++ rest) (first ++ others)
@@ -47,13 +46,7 @@ pub whole_more : (before after : List InputEntry) (input : ℕ) (headed some : B
     → after ≡ before ++ map (in_input input) (kept_entries headed entries) → some ≡ list_any is_live_header entries
     → after ++ joined_from (input + 1) (headed || some) (drop (input + 1) inputs)
     ≡ before ++ joined_from input headed (drop input inputs)
-whole_more before after input headed some entries inputs inside here is any =
-    let rest = drop (input + 1) inputs in
-    ap₂ (λ l b. l ++ joined_from (input + 1) (headed || b) rest) is any
-    ∙ append_assoc before (map (in_input input) (kept_entries headed entries))
-    (joined_from (input + 1) (headed || list_any is_live_header entries) rest)
-    ∙ ap (λ l. before ++ joined_from input headed (l ∷ rest)) here
-    ∙ ap (λ l. before ++ joined_from input headed l) (sym (drop_more inputs input entries inside))
+whole_more before after input headed some entries inputs inside here is any = search (rules, append_assoc, drop_more)
 
 -- The joined list omits the live headers of each input that is after one with a live header, and no
 -- other entry.
@@ -125,10 +118,7 @@ header_before : (before : List InputEntry) (input : ℕ) (inputs : List (List Te
     → All (λ e. e.input < input) before
     → has_header_before (before ++ entries_from input inputs) input ≡ list_any headed before
 header_before before input inputs h =
-    list_any-append (counts input) before (entries_from input inputs)
-    ∙ ap (λ b. list_any (counts input) before || b)
-    (none_count input (entries_from input inputs) (later_inputs input input inputs (omega arith)))
-    ∙ or-false (list_any (counts input) before) ∙ earlier_count input before h
+    search (rules, list_any-append, none_count, later_inputs, or-false, earlier_count)
 
 -- the inputs from one on, after all entries before it
 joined_rest : (all before : List InputEntry) (input : ℕ) (inputs : List (List TextEntry))

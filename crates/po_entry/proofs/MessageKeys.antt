@@ -1,5 +1,5 @@
 -- The keys of messages, their digests, and the numbers that messages have by them.
-use Rattle.po_entry.proofs.Prelude.{All, All-head, All-nil, All-push, All-tail, AllPairs, AllPairs-from_increasing, Bool, IfSome, IsAllAdjacentAnswer, IsCatalogueEntry, IsNonDecreasingBy-from_sort, IsPermutation, IsPermutation-sym, IsSorted, IsStrictlyIncreasing, IsTrue, Lacks, List, Message, None, Option, Some, TextEntry, [], answer, ap, append-nil, ap₂, arith, bytes_eq, bytes_eq-Decides, cond, digest_of, entry_message, entry_messages, eq-eqb, eqb, eqb-true, false, first_ones, flat_map, flat_map-append, fold, fold-append, get_or, group_numbers, if◌then◌else◌, initial, key_bytes, length, length-map, list_any, lt-ltb, ltb-true, map, map-append, nat_eq_equiv, nat_list_eq_equiv, nat_lt, not, position_or_len, refl, same_message, subst, sym, take, take_more, true, with_new, write, ℕ, ◌++◌, ◌+◌, ◌<◌, ◌||◌, ◌↔◌, ◌∙◌, ◌∷◌, ◌≡◌, ◌≢◌}
+use Rattle.po_entry.proofs.Prelude.{All, All-head, All-nil, All-push, All-tail, AllPairs, AllPairs-from_increasing, Bool, IfSome, IsAllAdjacentAnswer, IsCatalogueEntry, IsNonDecreasingBy-from_sort, IsPermutation, IsPermutation-sym, IsSorted, IsStrictlyIncreasing, IsTrue, Lacks, List, Message, None, Option, Some, TextEntry, [], answer, ap, append-nil, ap₂, arith, bytes_eq, bytes_eq-Decides, common_steps, cond, digest_of, entry_message, entry_messages, eq-eqb, eqb, eqb-true, false, first_ones, flat_map, flat_map-append, fold, fold-append, get_or, group_numbers, if◌then◌else◌, key_bytes, length, length-map, list_any, lt-ltb, ltb-true, map, map-append, nat_eq_equiv, nat_list_eq_equiv, nat_lt, not, position_or_len, refl, rules, same_message, subst, sym, take, take_more, true, with_new, write, ℕ, ◌++◌, ◌+◌, ◌<◌, ◌||◌, ◌↔◌, ◌∙◌, ◌∷◌, ◌≡◌, ◌≢◌}
 use Rattle.std.specs.Hash.{HashWrites}
 use Rattle.std.proofs.Common.{Decides}
 use Rattle.std.specs.Ordering.{nat_cmp}
@@ -9,11 +9,7 @@ use Rattle.po_entry.proofs.MessageNumbers.{firsts_push, message_made, messages_a
 
 pub digest_more : {X : Type 0} (writes : X → HashWrites) (before after : List X) (x : X) → after ≡ before ++ x ∷ []
     → digest_of (flat_map writes after) ≡ fold write (digest_of (flat_map writes before)) (writes x)
-digest_more writes before after x is =
-    ap (λ l. digest_of (flat_map writes l)) is
-    ∙ ap digest_of (flat_map-append writes before (x ∷ []))
-    ∙ fold-append write initial (flat_map writes before) (writes x ++ [])
-    ∙ ap (fold write (digest_of (flat_map writes before))) (append-nil (writes x))
+digest_more writes before after x is = grind (arith, common_steps, flat_map-append, fold-append, append-nil)
 
 decides : (a b : ℕ) → Decides (eqb a b) (a ≡ b)
 decides a b = (eqb-true a b, eq-eqb a b)
@@ -131,9 +127,7 @@ cut_eot [] b [] d la lc e = (refl, cc)
 cut_eot [] b (y ∷ c) d la lc e = absurd (All-head (λ n. n ≢ 4) y c lc (cc))
 cut_eot (x ∷ a) b [] d la lc e = absurd (All-head (λ n. n ≢ 4) x a la (cc))
 cut_eot (x ∷ a) b (y ∷ c) d la lc e =
-    let rest = cut_eot a b c d (All-tail (λ n. n ≢ 4) x a la) (All-tail (λ n. n ≢ 4) y c lc) (cc) in
-    let first : x ≡ y = cc in
-    (ap₂ (λ (n : ℕ) (l : List ℕ). n ∷ l) first rest.0, rest.1)
+    search (rules, All-tail, cut_eot a b c d (All-tail (λ n. n ≢ 4) x a la) (All-tail (λ n. n ≢ 4) y c lc) (cc))
 
 has_eot : (a b : List ℕ) → Lacks 4 (a ++ 4 ∷ b) → ⊥
 has_eot [] b l = All-head (λ n. n ≢ 4) 4 b l refl

@@ -1,5 +1,5 @@
 -- The numbers of messages, and the first entry of each.
-use Rattle.po_entry.proofs.Prelude.{All-filter, All-head, All-map, All-tail, AllPairs, AreNumbered, Bool, DifferUpTo, Duplicate, EntryPlace, InputEntry, IsEquivalence, IsFirstDuplicate, IsFirstRepeat, IsNumbered, IsSameMessage, List, Message, None, Option, Repeats, RepeatsAt, RepeatsOnLines, Some, TextEntry, [], all_of_both, and_equiv, and_parts, ap, append-nil, append_assoc, ap₂, are_placed, arith, bytes_eq, bytes_eq-Decides, cond, drop, drop-cons, entry_message, entry_messages, false, filter, filter_map, first_ones, fold, fold_push, get_or, get_or-map, get_or_at, group_numbers, if◌then◌else◌, in_input, is_live, is_looked_at, length, length-map, length-take, list_any, list_any-append, list_any_at, live_entries, map, map-append, nat_list_eq_equiv, not, number_in, on_equiv, options_equiv, or-false, or-true, or_assoc, passes_at_first, place_of, position_or_len, position_or_len_push, refl, repeat_by, repeat_map, same_message, subst, suc, sym, take, take-append-drop, true, with_new, ℕ, ◌++◌, ◌+◌, ◌<◌, ◌||◌, ◌↔◌, ◌∙◌, ◌∷◌, ◌≡◌, ◌≢◌}
+use Rattle.po_entry.proofs.Prelude.{All-filter, All-head, All-map, All-tail, AllPairs, AreNumbered, Bool, DifferUpTo, Duplicate, EntryPlace, InputEntry, IsEquivalence, IsFirstDuplicate, IsFirstRepeat, IsNumbered, IsSameMessage, List, Message, None, Option, Repeats, RepeatsAt, RepeatsOnLines, Some, TextEntry, [], all_of_both, and_parts, ap, append-nil, append_assoc, ap₂, are_placed, arith, bytes_eq, bytes_eq-Decides, common_steps, cond, drop, drop-cons, entry_message, entry_messages, false, filter, filter_map, first_ones, fold, fold_push, get_or, get_or-map, get_or_at, group_numbers, if◌then◌else◌, in_input, is_live, is_looked_at, length, length-map, length-take, list_any, list_any-append, list_any_at, live_entries, map, map-append, not, number_in, or-false, or-true, or_assoc, passes_at_first, place_of, position_or_len, position_or_len_push, refl, repeat_by, repeat_map, rules, same_message, subst, suc, sym, take, take-append-drop, true, with_new, ℕ, ◌++◌, ◌+◌, ◌<◌, ◌||◌, ◌↔◌, ◌∙◌, ◌∷◌, ◌≡◌, ◌≢◌}
 use Rattle.std.proofs.Common.{All}
 use Rattle.std.specs.Option.{option_eq}
 use Rattle.std.proofs.lemmas.Simd.{map-map}
@@ -161,8 +161,7 @@ module _ {X : Type 0} (alike : X → X → Bool) (laws : IsEquivalence alike) wh
       ∙ laws.symm (get_or firsts (number y) d) y ∙ at_y
 
 pub same_message_laws : IsEquivalence same_message
-same_message_laws = and_equiv (on_equiv (λ (m : Message). m.context) (options_equiv nat_list_eq_equiv))
-    (on_equiv (λ (m : Message). m.id) nat_list_eq_equiv)
+same_message_laws = search rules
 
 pub contexts_are : (a b : Option (List ℕ)) → option_eq bytes_eq a b ≡ true → a ≡ b
 contexts_are None None h = refl
@@ -171,14 +170,10 @@ contexts_are (Some x) None h = cc
 contexts_are (Some x) (Some y) h = ap (λ (t : List ℕ). Some t) ((bytes_eq-Decides x y).0 h)
 
 pub message_made : (a b : Message) → a.context ≡ b.context → a.id ≡ b.id → a ≡ b
-message_made a b context id = ap₂ make context id where
-  make : Option (List ℕ) → List ℕ → Message
-  make c i = record { context = c; id = i }
+message_made a b context id = grind (arith, common_steps)
 
 pub messages_are : (a b : Message) → same_message a b ≡ true → a ≡ b
-messages_are a b h =
-    let parts = and_parts (option_eq bytes_eq a.context b.context) (bytes_eq a.id b.id) h in
-    message_made a b (contexts_are a.context b.context parts.0) ((bytes_eq-Decides a.id b.id).0 parts.1)
+messages_are a b h = grind (arith, common_steps, and_parts, message_made, contexts_are, bytes_eq-Decides)
 
 -- messages have one number exactly where they are the same
 pub numbers_tell : (ms : List Message) (i j : ℕ) (d : Message) → i < length ms → j < length ms

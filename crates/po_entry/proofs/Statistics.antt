@@ -1,5 +1,5 @@
 -- Statistics: how many entries are translated, fuzzy and untranslated, and the line that says so.
-use Rattle.po_entry.proofs.Prelude.{Bool, CountsAddUp, EmptyAreUntranslated, FlaggedAreFuzzy, List, Stats, TextEntry, WritesCount, WritesFurther, WritesStatistics, [], and_assoc, and_comm, ap, append-nil, arith, codes, cond, count_by-le-length, counted, decimal, eqb-false, eqb-true, false, filter, first_form, further, has_empty_first_form, has_translation, if◌then◌else◌, is_counted, is_fuzzy, is_translated, is_untranslated, length, length-filter, length-take, live_messages, not, refl, stats_line, stats_of, subst, sym, take, true, ℕ, ◌&&◌, ◌++◌, ◌+◌, ◌<◌, ◌==◌, ◌∙◌, ◌∷◌, ◌≡◌, ◌≤◌}
+use Rattle.po_entry.proofs.Prelude.{Bool, CountsAddUp, EmptyAreUntranslated, FlaggedAreFuzzy, List, Stats, TextEntry, WritesCount, WritesFurther, WritesStatistics, [], and_assoc, and_comm, ap, append-nil, arith, codes, common_steps, cond, count_by-le-length, counted, decimal, eqb-false, eqb-true, false, filter, further, if◌then◌else◌, length, length-filter, length-take, not, refl, rules, stats_line, stats_of, subst, sym, take, true, ℕ, ◌&&◌, ◌++◌, ◌+◌, ◌<◌, ◌==◌, ◌∙◌, ◌∷◌, ◌≡◌, ◌≤◌}
 use Rattle.std.proofs.Common.{bytes_eq}
 use Rattle.std.proofs.lemmas.Fmt.{decimal_digit}
 use Rattle.po_entry.specs.Laws.{omitted, one, other, written}
@@ -15,11 +15,7 @@ pub record AreAtMost (stats : Stats) (count : ℕ) : Type 0 where
 
 stats_are_at_most : (stats : Stats) (entries : List TextEntry) (count : ℕ) → stats ≡ stats_of entries
     → length entries ≤ count → AreAtMost stats count
-stats_are_at_most stats entries count e short = record {
-  translated = omega (arith, ap (λ s. s.translated) e, filtered_is_short is_translated entries);
-  fuzzy = omega (arith, ap (λ s. s.fuzzy) e, filtered_is_short is_fuzzy entries);
-  untranslated = omega (arith, ap (λ s. s.untranslated) e, filtered_is_short is_untranslated entries);
-}
+stats_are_at_most stats entries count e short = grind (arith, common_steps, filtered_is_short)
 
 -- the counts of the first entries of a list
 pub counts_of_first : (stats : Stats) (entries : List TextEntry) (i : ℕ) → stats ≡ stats_of (take i entries)
@@ -37,9 +33,7 @@ one_more false has fuzzy e ts fs us all h = h
 
 pub counts_add_up : (entries : List TextEntry) → CountsAddUp entries
 counts_add_up [] = refl
-counts_add_up (e ∷ entries) =
-    one_more (is_counted e) (has_translation e) e.fuzzy e (filter is_translated entries) (filter is_fuzzy entries)
-    (filter is_untranslated entries) (live_messages entries) (counts_add_up entries)
+counts_add_up (e ∷ entries) = grind (arith, common_steps, one_more, counts_add_up entries)
 
 empty_is : (form : List ℕ) → bytes_eq form [] ≡ (length form == 0)
 empty_is [] = refl
@@ -59,20 +53,11 @@ not_not false = refl
 
 pub empty_are_untranslated : (entries : List TextEntry) → EmptyAreUntranslated entries
 empty_are_untranslated [] = refl
-empty_are_untranslated (e ∷ entries) =
-    one_kept (is_counted e) (not (has_translation e)) has_empty_first_form e (filter is_untranslated entries)
-    (live_messages entries)
-    (empty_is (first_form e.forms) ∙ not_not (length (first_form e.forms) == 0)) (empty_are_untranslated entries)
+empty_are_untranslated (e ∷ entries) = search (rules, one_kept, empty_is, not_not, empty_are_untranslated entries)
 
 pub flagged_are_fuzzy : (entries : List TextEntry) → FlaggedAreFuzzy entries
 flagged_are_fuzzy [] = refl
-flagged_are_fuzzy (e ∷ entries) =
-    ap (λ (b : Bool). length (cond b (e ∷ filter is_fuzzy entries) (filter is_fuzzy entries)))
-    (and_assoc (is_counted e) (has_translation e) e.fuzzy)
-    ∙ one_kept (is_counted e) (has_translation e && e.fuzzy) (λ x. x.fuzzy && not (has_empty_first_form x)) e
-    (filter is_fuzzy entries) (live_messages entries)
-    (ap (λ (b : Bool). e.fuzzy && not b) (empty_is (first_form e.forms)) ∙ and_comm e.fuzzy (has_translation e))
-    (flagged_are_fuzzy entries)
+flagged_are_fuzzy (e ∷ entries) = search (rules, and_assoc, one_kept, empty_is, and_comm, flagged_are_fuzzy entries)
 
 count_written : (count : ℕ) (noun : List ℕ) → WritesCount count noun (counted count (32 ∷ noun))
 count_written count noun = by (count == 1) refl where

@@ -1,9 +1,8 @@
 -- Texts in one buffer, each behind its length, and the index of those that were seen.
-use Rattle.po_entry.proofs.Prelude.{All-head, All-nil, All-push, All-tail, AreTexts, Bool, List, SeenText, Some, [], ap, append-nil, ap₂, arith, bytes_eq, cases_lt, cond, cut_texts, drop, drop_at, false, flat_map, inl, inr, le-ltb, length, length-append, length-drop, list_any, lt-ltb, map, map-append, measured, not, position_or_len, refl, suc, sym, take, take_at, text_before, text_length, texts_in, true, with_seen, zero, ℕ, ◌++◌, ◌+◌, ◌<◌, ◌^◌, ◌||◌, ◌∙◌, ◌∷◌, ◌≡◌, ◌≤◌}
+use Rattle.po_entry.proofs.Prelude.{All-head, All-nil, All-push, All-tail, AreTexts, Bool, List, SeenText, Some, [], ap, append-nil, ap₂, arith, bytes_eq, cases_lt, common_steps, cut_texts, drop_at, flat_map, le-ltb, length, length-append, length-drop, list_any, lt-ltb, map, map-append, measured, position_or_len, refl, rules, suc, sym, take_at, text_before, text_length, texts_in, with_seen, zero, ℕ, ◌++◌, ◌<◌, ◌^◌, ◌||◌, ◌∙◌, ◌∷◌, ◌≡◌, ◌≤◌}
 use Rattle.std.proofs.Common.{All}
 use Rattle.std.proofs.lemmas.List.Concat.{flat_map-append}
-use Rattle.byteorder.specs.Endian.{little_bytes, little_number}
-use Rattle.byteorder.specs.Numbers.{length-bytes_low_first, little_number-reads_back}
+use Rattle.byteorder.specs.Endian.{little_number}
 use Rattle.indexmap.specs.IndexSet.{insert_key}
 
 abbrev IsShort : List ℕ → Type 0
@@ -14,20 +13,7 @@ same_before : (f g : List ℕ → List (List ℕ)) (bytes : List ℕ)
     → ((rest : List ℕ) → length rest < length bytes → f rest ≡ g rest)
     → text_before f (text_length bytes) ≡ text_before g (text_length bytes)
 same_before f g [] same = refl
-same_before f g (first ∷ rest) same =
-    let behind = length-drop 8 rest in
-    elim (cases_lt first 255) [
-      | inl short ↦ rw (lt-ltb first 255 short)
-          (ap (λ texts. take first rest ∷ texts)
-          (same (drop first rest) (omega (arith, length-drop first rest))))
-      | inr long ↦ elim (cases_lt (length rest) 8) [
-        | inl few ↦ rw (le-ltb _ _ long, lt-ltb (length rest) 8 few) refl
-        | inr whole ↦ rw (le-ltb _ _ long, le-ltb _ _ whole)
-            (ap (λ texts. take (little_number 8 rest) (drop 8 rest) ∷ texts)
-            (same (drop (little_number 8 rest) (drop 8 rest))
-            (omega (arith, behind, length-drop (little_number 8 rest) (drop 8 rest)))))
-      ]
-    ]
+same_before f g (first ∷ rest) same = search (rules, length-drop, cases_lt, lt-ltb, le-ltb)
 
 -- as many as there are bytes are enough
 cut_same : (few many : ℕ) (bytes : List ℕ) → length bytes ≤ few → length bytes ≤ many
@@ -59,15 +45,7 @@ long_laid bytes behind eight =
 -- the length of a text stands before it
 length_laid : (text others : List ℕ) → IsShort text
     → text_length (measured text ++ others) ≡ Some (length text, text ++ others)
-length_laid text others short =
-    let behind = text ++ others in
-    elim (cases_lt (length text) 255) [
-      | inl below ↦ rw (lt-ltb (length text) 255 below, lt-ltb (length text) 255 below) refl
-      | inr above ↦
-          rw (le-ltb _ _ above)
-          (long_laid (little_bytes 8 (length text)) behind (length-bytes_low_first 0 8 (length text))
-          ∙ ap (λ number. Some (number, behind)) (little_number-reads_back 8 (length text) behind short))
-    ]
+length_laid text others short = grind (arith, common_steps, cases_lt, lt-ltb, le-ltb, long_laid)
 
 -- what is laid out as texts is cut into them
 pub texts_laid : (texts : List (List ℕ)) → All IsShort texts
@@ -89,9 +67,7 @@ none_AreTexts bytes none = rw (no_texts bytes none) (sym none, All-nil _)
 -- one more text after the others
 more_laid : (bytes text : List ℕ) → AreTexts bytes
     → flat_map measured (texts_in bytes ++ text ∷ []) ≡ bytes ++ measured text
-more_laid bytes text h =
-    flat_map-append measured (texts_in bytes) (text ∷ [])
-    ∙ ap₂ (λ (before : List ℕ) after. before ++ after) h.0 (append-nil (measured text))
+more_laid bytes text h = grind (arith, common_steps, flat_map-append, append-nil)
 
 more_small : (bytes text : List ℕ) → AreTexts bytes → IsShort text
     → All IsShort (texts_in bytes ++ text ∷ [])
@@ -105,8 +81,7 @@ texts_more bytes text h small =
 
 pub more_AreTexts : (bytes text : List ℕ) → AreTexts bytes → IsShort text
     → AreTexts (bytes ++ measured text)
-more_AreTexts bytes text h small =
-    rw (texts_more bytes text h small) (more_laid bytes text h, more_small bytes text h small)
+more_AreTexts bytes text h small = grind (arith, common_steps, texts_more, more_laid, more_small)
 
 abbrev pub bytes_of : SeenText → List ℕ
 bytes_of text = text.bytes.now
@@ -122,17 +97,8 @@ any_key text (key ∷ index) = ap (λ (b : Bool). same_text text key || b) (any_
 pub index_of_key : (text : SeenText) (index : List SeenText)
     → position_or_len (same_text text) index ≡ position_or_len (bytes_eq (bytes_of text)) (map bytes_of index)
 index_of_key text [] = refl
-index_of_key text (key ∷ index) =
-    ap (λ (n : ℕ). cond (not (same_text text key)) (1 + n) 0) (index_of_key text index)
+index_of_key text (key ∷ index) = grind (arith, common_steps, index_of_key text index)
 
 pub key_added : (text : SeenText) (index : List SeenText)
     → map bytes_of (insert_key same_text index text) ≡ with_seen (map bytes_of index) (bytes_of text)
-key_added text index = by (list_any (same_text text) index) refl where
-  by : (b : Bool) → list_any (same_text text) index ≡ b
-      → map bytes_of (cond b index (index ++ text ∷ []))
-      ≡ cond (list_any (bytes_eq (bytes_of text)) (map bytes_of index)) (map bytes_of index)
-      (map bytes_of index ++ bytes_of text ∷ [])
-  by true e = rw (any_key text index, e) refl
-  by false e = map-append bytes_of index (text ∷ [])
-      ∙ sym (ap (λ (b : Bool). cond b (map bytes_of index) (map bytes_of index ++ bytes_of text ∷ []))
-      (any_key text index ∙ e))
+key_added text index = grind (arith, common_steps, any_key, map-append)
