@@ -84,6 +84,7 @@ pub fn messages_differ()
 {}
 
 /// The entries of texts that are read can stand in a catalogue.
+#[tactic(auto, using(crate::proofs::CollectedInputs::read_valid))]
 pub fn joined_entries_can_stand()
     ensures { JoinedEntriesCanStand }
 {
@@ -91,11 +92,13 @@ pub fn joined_entries_can_stand()
 }
 
 /// A text without a duplicate is read as its entries, where it is the only one.
+#[tactic(auto, using(crate::proofs::CollectedInputs::only_read, crate::proofs::CollectedInputs::joined_one))]
 pub fn one_text_is_read()
     ensures { OneTextIsRead }
 {}
 
 /// Each entry that is compiled can be asked for.
+#[tactic(auto, using(crate::proofs::FileLimit::compiled_can_be_keys))]
 pub fn compiled_can_be_keys()
     ensures { CompiledCanBeKeys }
 {
