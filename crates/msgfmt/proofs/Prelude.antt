@@ -1,6 +1,6 @@
 -- What the proofs of this crate cite of std, of the crates below and of its own definitions. Declares nothing.
 pub use Rattle.mo_file.specs.Prelude.{forms, id_of, key_of, plural_of}
-pub use Rattle.msgfmt.specs.Prelude.{AreChecked, AreWrong, CountFault, DiffersAt, EntryFault, FirstFault, HasNewline, HasOtherCount, HasPlural, HasProfileFault, HaveNoRun, IsChecked, IsFirst, IsMsgfmtRun, IsRefused, IsRunOf, NeedsNoOtherRule, NoneRefused, Reported, check_line, check_text, checked_message, checked_messages, compile_options, count_fault, differ, differs_from_msgid, entry_fault, first_fault, first_some, has_newline, input_names, input_texts, is_header_entry, is_plural, join_line, rule_fault, taken_entry, value_fault}
+pub use Rattle.msgfmt.specs.Prelude.{AreChecked, AreWrong, CountFault, DiffersAt, EntryFault, FirstFault, HasNewline, HasOtherCount, HasPlural, HasProfileFault, HaveNoRun, IsChecked, IsFirst, IsMsgfmtRun, IsRefused, IsRunOf, NeedsNoOtherRule, NoneRefused, Reported, check_line, checked_message, checked_messages, compile_options, count_fault, differ, differs_from_msgid, entry_fault, first_fault, first_some, has_newline, input_names, input_texts, is_header_entry, is_plural, join_line, rule_fault, taken_entry, value_fault}
 unfoldable pub use Rattle.msgfmt.specs.Prelude.{counts_below}
 pub use Rattle.msgfmt.specs.declared.options.MsgfmtOptions.{MsgfmtOptions}
 pub use Rattle.msgfmt.specs.declared.profile.CheckFault.TheVariants.{FormCount, IndexOutside, LeadingNewline, NoHeader, NoRule, TrailingNewline, Undefined}

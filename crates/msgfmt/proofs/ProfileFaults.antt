@@ -14,9 +14,9 @@ use Rattle.msgfmt.specs.Profile.{source_fault}
 use Rattle.msgfmt.specs.Laws.{at_count, count, in_entry, leading, no_rule, outside, trailing, undefined}
 
 -- a range begins with its first count
-pub first_some-range : {B : Type 0} (f : ℕ → Option B) (c n : ℕ) → c < n
+pub first_some_range : {B : Type 0} (f : ℕ → Option B) (c n : ℕ) → c < n
     → first_some f (range_with_len c (n - c)) ≡ option_or (f c) (first_some f (range_with_len (c + 1) (n - (c + 1))))
-first_some-range f c n h = let e : n - c ≡ suc (n - (c + 1)) = omega arith in rw e refl
+first_some_range f c n h = let e : n - c ≡ suc (n - (c + 1)) = omega arith in rw e refl
 
 -- The first fault that the check of a profile finds is the first that there is.
 

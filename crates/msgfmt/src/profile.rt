@@ -142,38 +142,19 @@ fn entry_fault(nplurals: u64, message: &CompiledMessage<'_>) -> Option<(u32, Che
     Some((message.input, fault))
 }
 
-/// What is wrong with a rule's value at a count.
-fn count_fault(rule: &Rule, count: u64) -> Option<(u32, CheckFault)>
-    ensures { result ≡ Spec.count_fault rule.now count }
-{
-    match rule.eval(count).0 {
-        None => Some((0, CheckFault::Undefined(count))),
-        Some(index) if index < rule.nplurals() => None,
-        Some(_) => Some((0, CheckFault::IndexOutside(count))),
-    }
-}
-
-/// The fault of the first message with one, but for the header's.
-fn first_entry_fault(nplurals: u64, messages: &[CompiledMessage<'_>]) -> Option<(u32, CheckFault)>
-    ensures { result ≡ Spec.first_some (Spec.entry_fault nplurals) (Spec.checked_messages messages.now) }
-{
-    for message in messages {
-        if let Some(fault) = entry_fault(nplurals, message) {
-            return Some(fault);
-        }
-    }
-    None
-}
-
 /// The fault of the first count below `end` at which a rule has no value, or one that is no index
 /// of a form.
+#[tactic(auto, using(crate::proofs::ProfileFaults::first_some_range), unfolding(crate::specs::Profile::counts_below))]
 fn first_count_fault(rule: &Rule, end: u64) -> Option<(u32, CheckFault)>
     ensures { result ≡ Spec.first_some (Spec.count_fault rule.now) (Spec.counts_below end) }
 {
     for count in 0..end {
-        if let Some(fault) = count_fault(rule, count) {
-            return Some(fault);
-        }
+        let fault = match rule.eval(count).0 {
+            None => CheckFault::Undefined(count),
+            Some(index) if index < rule.nplurals() => continue,
+            Some(_) => CheckFault::IndexOutside(count),
+        };
+        return Some((0, fault));
     }
     None
 }
@@ -194,30 +175,20 @@ fn first_plural<'m, 'b>(messages: &'m [CompiledMessage<'b>]) -> Option<&'m Compi
     messages.iter().find(|message| is_plural(message))
 }
 
-/// A header without a readable rule is a fault for the first message with a plural, if there is
-/// one.
-fn rule_fault(source: Source, plural: Option<&CompiledMessage<'_>>) -> Option<(u32, CheckFault)>
-    ensures { result ≡ Spec.rule_fault source (option_map (λ m. Spec.checked_message m.now) plural.entry) }
-{
-    match (source, plural) {
-        (Source::Default(reason), Some(plural)) => {
-            Some((plural.input, CheckFault::NoRule(plural.line, reason)))
-        }
-        _ => None,
-    }
-}
-
-/// The first fault of messages with a header, by its rule.
+/// The first fault of messages with a header, by its rule: where that isn't readable, the first
+/// message with a plural has one.
 #[inline(never)]
 fn first_fault(rule: &Rule, messages: &[CompiledMessage<'_>]) -> Option<(u32, CheckFault)>
     ensures { result ≡ Spec.first_fault (Spec.checked_messages messages.now) rule.now }
 {
     let plural = first_plural(messages);
-    if let Some(fault) = rule_fault(rule.source(), plural) {
-        return Some(fault);
+    if let (Source::Default(reason), Some(plural)) = (rule.source(), plural) {
+        return Some((plural.input, CheckFault::NoRule(plural.line, reason)));
     }
-    if let Some(fault) = first_entry_fault(rule.nplurals(), messages) {
-        return Some(fault);
+    for message in messages {
+        if let Some(fault) = entry_fault(rule.nplurals(), message) {
+            return Some(fault);
+        }
     }
     match plural {
         Some(_) => first_count_fault(rule, CHECKED_COUNTS),
@@ -245,6 +216,7 @@ fn check_messages(messages: &[CompiledMessage<'_>]) -> Option<(u32, CheckFault)>
 /// that the rule's values at the counts from 0 to 1,000 are indices of forms, where an entry has a
 /// plural. The first fault is reported with the input of its line, or input 0 where it has none.
 /// `OutOfMemory`, with input 0, may come in place of any result.
+#[tactic(auto, using(crate::proofs::CheckedMessages::checked))]
 pub fn check_collected(alloc: Global, inputs: &[Collected]) -> Result<(), (u32, CheckFault)>
     requires { length inputs.now < 2 ^ 32 }
     ensures fit { OnOk result (OfAllInputs inputs.now (λ use_fuzzy catalogues. AreChecked use_fuzzy catalogues None)) }

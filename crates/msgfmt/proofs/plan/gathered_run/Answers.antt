@@ -23,10 +23,6 @@ compile_collected-requires-clause-few c =
       collected-count c.args.options.now.use_fuzzy c.requires.0 c.in-Ok.collected.items of,
     )
 
-pub compile_collected-requires-clause-read : goal.compile_collected-requires-clause-read
-compile_collected-requires-clause-read c =
-    (input_texts c.requires.0, rw (sym c.deref-2.ensures.value) at (rw c.in-Ok.is at c.requires.1.collects))
-
 pub returns-in-Err : goal.returns-in-Err
 returns-in-Err c =
     IfOk-weaker c.refused_run.result _ _

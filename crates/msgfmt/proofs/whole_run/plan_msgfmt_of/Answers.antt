@@ -36,9 +36,6 @@ gather-requires c =
       ap length c.deref.ensures.value,
     )
 
-pub gathered_run-requires : goal.gathered_run-requires
-gathered_run-requires c = (named_files c.deref.result.now, c.in_ok-gathered.ensures)
-
 pub returns-in_default-clause-whole : goal.returns-in_default-clause-whole
 returns-in_default-clause-whole c none =
     let checks : c.if-options.options ≡ c.args.options.now.profile_check = elim c.if-options.branch [
@@ -112,11 +109,6 @@ returns-then-len-clause-first c =
 pub returns-in_err-run-clause-first : goal.returns-in_err-run-clause-first
 returns-in_err-run-clause-first c =
     λ none. absurd (some_text c.args.inputs (sym c.is_empty.ensures ∙ c.if-is_empty.false) none)
-
-pub returns-clause-right : goal.returns-clause-right
-returns-clause-right c =
-    not_wrong c.args.inputs c.args.inputs.fault (sym c.is_empty.ensures ∙ c.if-is_empty.false)
-    (omega (arith, c.len.ensures, c.if-len.false))
 
 pub returns-clause-first : goal.returns-clause-first
 returns-clause-first c =

@@ -26,12 +26,3 @@ returns-clause-run g c =
     c.in_ok-inputs.inputs.fault c.in_ok-run.ensures.whole c.in_ok-run.ensures.refused
     c.in_ok-run.ensures.right)
     c.write.ensures
-
-pub returns-in_err-inputs-clause-asked : goal.returns-in_err-inputs-clause-asked
-returns-in_err-inputs-clause-asked g c = c.read.ensures.asked
-
-pub returns-in_err-run-clause-asked : goal.returns-in_err-run-clause-asked
-returns-in_err-run-clause-asked g c = c.read.ensures.asked
-
-pub returns-clause-asked : goal.returns-clause-asked
-returns-clause-asked g c = c.read.ensures.asked
