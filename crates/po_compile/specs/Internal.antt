@@ -4,9 +4,7 @@
 pub mod Prefix
 use Rattle.std.specs.Prelude.{ℕ, ◌+◌, List, [], ◌∷◌, ◌≤◌, ◌==◌, Bool, false, not, ◌&&◌, ◌||◌, ◌++◌, map, filter, length, ◌≢◌, AllPairs, IsPermutation, count_by, ◌≡◌, ◌⊎◌, ◌<◌, All, take, get_or}
 use Rattle.std.specs.List.{list_any}
-use Rattle.std.specs.List.Sorted.{IsSortedBy}
-use Rattle.std.specs.Ordering.{is_lt}
-use Rattle.mo_file.specs.Prelude.{AreRising, key_cmp, query_key, Message}
+use Rattle.mo_file.specs.Prelude.{AreRising, query_key, Message}
 use Rattle.po_entry.specs.Prelude.{InputEntry, join_out_of_memory, IsFirstRepeat}
 use Rattle.po_entry.specs.declared.stats.Stats.{Stats}
 use Rattle.po_compile.specs.Collecting.{LiveMessage, live_message, CompiledView}
@@ -76,10 +74,6 @@ compiled_of messages = map (λ m. m.message.message) (filter (λ m. m.message.st
 
 abbrev pub view_of_message : InputMessage → CompiledView
 view_of_message m = record { input = m.input; line = m.message.line; message = m.message.message }
-
--- no row has a key below that of a row before it
-abbrev pub AreSorted : List Row → Type 0
-AreSorted rows = IsSortedBy (λ a b. is_lt (key_cmp (row_key a) (row_key b))) rows
 
 -- the rows are those of the joined list, in rising order of their keys
 pub record AreSortedRows (inputs : List (List LiveMessage)) (rows : List Row) : Type 0 where

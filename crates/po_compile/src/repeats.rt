@@ -28,6 +28,7 @@ fn keys_of<'b>(alloc: Global, inputs: &'b [Collected]) -> Result<Vec<&'b [u8]>, 
 }
 
 /// A digest of all keys: of each its length, and its bytes.
+#[tactic(auto, using(po_entry::proofs::MessageKeys::digest_more, crate::proofs::DistinctKeys::keys_more))]
 fn digest_of(keys: &[&[u8]]) -> DefaultHasher
     ensures { result ≡ digest_of (flat_map key_writes (slice_texts keys.now)) }
 {

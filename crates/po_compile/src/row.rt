@@ -45,6 +45,7 @@ pub(crate) fn compare(a: &Row<'_>, b: &Row<'_>) -> Ordering
 }
 
 /// The first sixteen bytes of a key as a big-endian number, with zeros after a shorter key.
+#[tactic(auto, using(crate::proofs::KeyPrefixes::prefix_read))]
 pub(crate) fn prefix_of(key: &[u8]) -> u128
     ensures { result ≡ prefix_of key.now }
 {

@@ -78,6 +78,7 @@ pub(crate) fn joined_rows<'b>(
 }
 
 /// The messages that are compiled, in the order of the rows.
+#[tactic(auto, using(crate::proofs::CompiledMessages::one_kept, crate::proofs::CompiledMessages::one_omitted))]
 pub(crate) fn compiled_pairs<'b>(
     alloc: Global,
     rows: &[Row<'b>],

@@ -1,8 +1,7 @@
 //! Rows in the order of their keys, and their statistics.
 
-ghost use Rattle.std.specs.Prelude.{◌≡◌, ◌<◌, ◌^◌, ◌↔◌, All, IfErr, IfOk, IsPermutation, IsTrue, OnOk, length, map};
-ghost use Rattle.po_compile.specs.Prelude.{AreRising};
-ghost use Rattle.po_compile.specs.Internal.{EachApart, IsRepeatFault, AreSorted, AreSortedRows, HasOneHeader, counts_of, row_key};
+ghost use Rattle.std.specs.Prelude.{◌≡◌, ◌<◌, ◌^◌, IfErr, IfOk, OnOk, length};
+ghost use Rattle.po_compile.specs.Internal.{EachApart, IsRepeatFault, AreSortedRows, counts_of};
 
 use crate::collecting::Collected;
 use crate::repeats::{check_each, check_joined};
@@ -11,28 +10,6 @@ use crate::rows::joined_rows;
 use crate::status::Status;
 use po_entry::{JoinError, Stats};
 use std::alloc::Global;
-
-/// Sorts rows by their keys.
-fn sort_rows(rows: &mut Vec<Row<'_>>)
-    ensures permutation { IsPermutation rows.old.items rows.new.items }
-    ensures sorted { AreSorted rows.new.items }
-{
-    rows.sort_unstable_by(|a, b| compare(a, b));
-}
-
-/// Whether the key of each row is above that of the row before it.
-fn are_rising(rows: &[Row<'_>]) -> bool
-    ensures { IsTrue result ↔ AreRising (map row_key rows.now) }
-{
-    rows.is_sorted_by(|a, b| compare(a, b).is_lt())
-}
-
-/// Whether each input has one header at most.
-fn have_one_header(inputs: &[Collected]) -> bool
-    ensures { IsTrue result ↔ All HasOneHeader inputs.now }
-{
-    inputs.iter().all(|collected| collected.header_count() <= 1)
-}
 
 /// The rows of the joined list of the inputs, in the order of their keys, where no message repeats
 /// another of its input or of the joined list. Where two neighbours have one key, or an input has
@@ -48,8 +25,10 @@ pub(crate) fn sorted_rows(alloc: Global, inputs: &[Collected]) -> Result<Vec<Row
     ensures fault { IfErr result (IsRepeatFault inputs.now) }
 {
     let mut rows = joined_rows(alloc, inputs)?;
-    sort_rows(&mut rows);
-    if are_rising(&rows) && have_one_header(inputs) {
+    rows.sort_unstable_by(|a, b| compare(a, b));
+    if rows.is_sorted_by(|a, b| compare(a, b).is_lt())
+        && inputs.iter().all(|collected| collected.header_count() <= 1)
+    {
         return Ok(rows);
     }
     drop(rows);

@@ -9,11 +9,6 @@ compile_collected-requires-clause-few c =
     (slice_texts texts) c.in-Ok.inputs.items c.in-Ok.ensures.found in
     omega (arith, count, ap length c.deref.ensures.value, length-map texts (λ (s : Bor (List ℕ)). s.now), c.requires)
 
-pub compile_collected-requires-clause-read : goal.compile_collected-requires-clause-read
-compile_collected-requires-clause-read c =
-    let texts = slice_texts c.args.texts.now in
-    (texts, subst (AreCollected c.args.options.use_fuzzy texts) (sym c.deref.ensures.value) c.in-Ok.ensures.found)
-
 pub returns-in-Ok-clause-exact : goal.returns-in-Ok-clause-exact
 returns-in-Ok-clause-exact c =
     let texts = slice_texts c.args.texts.now in

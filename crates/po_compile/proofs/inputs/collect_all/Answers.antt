@@ -1,16 +1,7 @@
-use Rattle.po_compile.proofs.Prelude.{AreCollected, Bor, EachApart, IsReadingFault, List, [], ap, arith, drop, err_from_is_err_and, get_or, length, length-map, length-take, refl, slice_texts, subst, suc, sym, take, take_all, ℕ, ◌++◌, ◌+◌, ◌∙◌, ◌∷◌}
+use Rattle.po_compile.proofs.Prelude.{AreCollected, Bor, EachApart, IsReadingFault, List, [], ap, arith, drop, err_from_is_err_and, get_or, length, length-map, length-take, slice_texts, subst, suc, sym, take, ℕ, ◌++◌, ◌+◌, ◌∙◌, ◌∷◌}
 use Rattle.po_compile.proofs.CollectedInputs.{collected_count, collected_more, each_refused, more_texts, no_text, refused_input, split_texts, text_fault}
 use Rattle.po_compile.proofs.DistinctKeys.{read_distinct}
 use Rattle.po_compile.proofs.inputs.collect_all.Goals as goal
-
-pub loop-input-init : goal.loop-input-init
-loop-input-init c = rw c.in_ok-inputs.ensures.items
-    (record {
-      catalogues = [];
-      read = tt;
-      held =
-          record { valid = λ k d inside. absurd (omega (arith, inside)); messages = refl };
-    })
 
 pub loop-input-preserved : goal.loop-input-preserved
 loop-input-preserved c =
@@ -23,11 +14,6 @@ loop-input-preserved c =
     subst (AreCollected c.args.use_fuzzy (slice_texts (take (i + 1) texts))) (sym c.in_ok-push-in-Ok.ensures.items)
     (subst (λ ts. AreCollected c.args.use_fuzzy ts (inputs ++ c.in-Ok.collected ∷ []))
     (sym (more_texts texts i c.loop-input-test.true)) more)
-
-pub returns-clause-found : goal.returns-clause-found
-returns-clause-found c =
-    subst (λ ts. AreCollected c.args.use_fuzzy (slice_texts ts) c.loop-input.inputs.items)
-    (take_all c.loop-input.input c.args.texts.now c.loop-input-test.false) c.loop-input.invariant
 
 pub check_each-requires : goal.check_each-requires
 check_each-requires c =

@@ -1,31 +1,7 @@
-use Rattle.po_compile.proofs.Prelude.{AllApart, InputMessage, IsRepeatAt, MatchOption-at_none, MatchOption-at_some, all_messages, ap, arith, get_or, input_keys, inr, length, length-map, refl, row_view, subst, sym, ◌∙◌, ◌≡◌}
+use Rattle.po_compile.proofs.Prelude.{AllApart, IsRepeatAt, MatchOption-at_some, all_messages, ap, get_or, input_keys, inr, refl, row_view, subst, sym, ◌∙◌, ◌≡◌}
 use Rattle.std.proofs.Math.ListN.{get_or-map}
 use Rattle.po_compile.proofs.DistinctKeys.{repeat_found}
 use Rattle.po_compile.proofs.repeats.check_joined.Goals as goal
-
-pub returns-in_default-clause-apart : goal.returns-in_default-clause-apart
-returns-in_default-clause-apart c =
-    let keys = input_keys (all_messages c.args.inputs.now) in
-    MatchOption-at_none (AllApart keys) (λ at. IsRepeatAt keys at.0 at.1) c.in_default.is
-    (rw (c.deref.ensures.value, c.in_ok-keys.ensures) at c.in_ok-first.ensures)
-
-pub index-requires : goal.index-requires
-index-requires c =
-    let messages = all_messages c.args.inputs.now in
-    let keys = input_keys messages in
-    let repeat = MatchOption-at_some (AllApart keys) (λ at. IsRepeatAt keys at.0 at.1)
-    (c.in-Some.first, c.in-Some.later) c.in-Some.is
-    (rw (c.deref.ensures.value, c.in_ok-keys.ensures) at c.in_ok-first.ensures) in
-    let rows = c.in_ok-rows.rows.items in
-    omega (
-      arith,
-      repeat.inside,
-      repeat.earlier,
-      length-map messages (λ (m : InputMessage). m.message.key),
-      ap length c.in_ok-rows.ensures,
-      length-map rows row_view,
-      c.in_ok-rows.rows.ok.0,
-    )
 
 pub returns-clause-fault : goal.returns-clause-fault
 returns-clause-fault c =
