@@ -9,11 +9,11 @@ use Rattle.msgunfmt.proofs.Messages.{message_valid}
 -- a text has a first such byte, or none
 data Cut (byte : ℕ) : List ℕ → Type 0 where
   nowhere : {text : List ℕ} → Lacks byte text → Cut byte text
-  at : (before after : List ℕ) → Lacks byte before → Cut byte (before ++ byte ∷ after)
+  where_first : (before after : List ℕ) → Lacks byte before → Cut byte (before ++ byte ∷ after)
 
 cut_more : (byte b : ℕ) → b ≢ byte → {text : List ℕ} → Cut byte text → Cut byte (b ∷ text)
 cut_more byte b other (nowhere {text} lacks) = nowhere (All-cons (λ c. c ≢ byte) b text other lacks)
-cut_more byte b other (at before after lacks) = at (b ∷ before) after (All-cons (λ c. c ≢ byte) b before other lacks)
+cut_more byte b other (where_first before after lacks) = where_first (b ∷ before) after (All-cons (λ c. c ≢ byte) b before other lacks)
 
 cut : (byte : ℕ) (text : List ℕ) → Cut byte text
 cut byte [] = nowhere (All-nil (λ c. c ≢ byte))
@@ -21,7 +21,7 @@ cut byte (b ∷ text) =
     let P : Bool → Type 0 = λ t. (b == byte) ≡ t → Cut byte (b ∷ text) in
     (elim (b == byte) as P [
       | true ↦ λ same. subst (λ (x : ℕ). Cut byte (x ∷ text)) (sym ((Decides-eqb b byte).0 same))
-          (at [] text (All-nil (λ c. c ≢ byte)))
+          (where_first [] text (All-nil (λ c. c ≢ byte)))
       | false ↦ λ differ. cut_more byte b (λ e. let same : (b == byte) ≡ true = (Decides-eqb b byte).1 e in cc)
           (cut byte text)
     ]) refl
@@ -29,7 +29,7 @@ cut byte (b ∷ text) =
 -- the msgid of a key
 msgid_of : (key : List ℕ) → Cut 4 key → ContainsMsgid key (context_of key) (id_of key)
 msgid_of key (nowhere lacks) = rw (context_none key lacks, id_all key lacks) (msgid_alone lacks)
-msgid_of key (at before after lacks) =
+msgid_of key (where_first before after lacks) =
     rw (context_cut before after lacks, id_cut before after lacks) (after_context lacks)
 
 -- the first part of a text, and what is after it
@@ -50,7 +50,7 @@ first_part_of text (nowhere lacks) = record {
   is = sym (append-nil text);
   taken = first_all text lacks;
 }
-first_part_of text (at before after lacks) = record {
+first_part_of text (where_first before after lacks) = record {
   part = before;
   after = 0 ∷ after;
   lacks = lacks;
@@ -62,7 +62,7 @@ first_part_of text (at before after lacks) = record {
 -- the key of an original, and the plural
 key_is : (original : List ℕ) → Cut 0 original → ContainsKey original (key_of original) (plural_of original)
 key_is original (nowhere lacks) = rw (before_all 0 original lacks, plural_none original lacks) (key_alone lacks)
-key_is original (at before after lacks) =
+key_is original (where_first before after lacks) =
     let first = first_part_of after (cut 0 after) in
     rw (before_is 0 before after lacks, plural_cut before after lacks first.part first.taken)
     (subst (λ (t : List ℕ). ContainsKey (before ++ 0 ∷ t) before (Some first.part)) (sym first.is)

@@ -36,6 +36,7 @@ pub fn no_fault_where_unformatted()
 }
 
 /// Bytes have one PO text at most.
+#[tactic(auto, using(crate::proofs::OneOutcome::one_text))]
 pub fn one_text()
     ensures { OneText }
 {
@@ -43,6 +44,7 @@ pub fn one_text()
 }
 
 /// Bytes have at most one fault, beside out of memory.
+#[tactic(auto, using(crate::proofs::OneOutcome::fault_once))]
 pub fn one_unformat_fault()
     ensures { OneUnformatFault }
 {
@@ -66,6 +68,7 @@ pub fn text_or_fault()
 
 /// Each entry has the texts of its message: the key's context and msgid, the plural and the forms,
 /// each where a NUL, an EOT or an end says. So it is of the messages of any valid file.
+#[tactic(auto, using(crate::proofs::MessageParts::entries_are))]
 pub fn entries_are_of_messages()
     ensures { EntriesAreOfMessages }
 {}
