@@ -1,5 +1,5 @@
 -- A text with its escapes expanded: each is read where it is spelt, and what is read as one is spelt.
-use Rattle.gettext.proofs.Prelude.{Bool, Escape, Expands, IsNoEscape, List, NoOctalFirst, None, Option, Some, SpellsByte, [], alert, and_from, and_parts, ap, append-nil, append_assoc, arith, backslash, backspace, byte-at, byte-here, byte-later, carriage_return, cases_Bool, cond, cond-false, cond-true, cond_both, drop, drop_all, eqb, eqb-false, eqb-true, escape as expands_escape, escape_after, expansion, false, false_from_ne_true, false≢true, filter_map, form_feed, get_or, given_bytes, given_bytes_after, has_no_newline, inl, inr, is_byte, is_none, is_octal, le-leb, leb-true, length, letter, letter_escape, line_feed, list_any, min, ne_eqb, no_newline, nothing as expands_nothing, octal_prefix, octal_value, one_digit, or-false, plain, position_or_len, prefix_len, refl, stays, subst, suc, sym, tab, take, take_min, take_while-cons, three_digits, true, two_digits, vertical_tab, zero, ℕ, ◌%◌, ◌*◌, ◌++◌, ◌+◌, ◌-◌, ◌<◌, ◌==◌, ◌||◌, ◌↔◌, ◌∙◌, ◌∷◌, ◌≡◌, ◌≤◌}
+use Rattle.gettext.proofs.Prelude.{Bool, Escape, Expands, IsNoEscape, List, NoOctalFirst, None, Option, Some, SpellsByte, [], alert, and_from, and_parts, ap, append-nil, append_assoc, arith, backslash, backspace, byte-at, byte-here, byte-later, carriage_return, cases_Bool, cond-false, cond-true, cond_both, drop, drop_all, eqb, eqb-false, eqb-true, escape as expands_escape, escape_after, expansion, false, false_from_ne_true, false≢true, filter_map, form_feed, get_or, given_bytes, given_bytes_after, has_no_newline, inl, inr, is_byte, is_none, is_octal, le-leb, leb-true, length, letter, letter_escape, line_feed, list_any, min, ne_eqb, no_newline, nothing as expands_nothing, octal_prefix, octal_value, one_digit, or-false, plain, position_or_len, prefix_len, prefix_len_is, refl, stays, subst, suc, sym, tab, take, take_min, take_while-cons, three_digits, true, two_digits, vertical_tab, zero, ℕ, ◌%◌, ◌*◌, ◌++◌, ◌+◌, ◌-◌, ◌<◌, ◌==◌, ◌||◌, ◌↔◌, ◌∙◌, ◌∷◌, ◌≡◌, ◌≤◌}
 use Rattle.std.specs.List.{take_while}
 use Rattle.std.proofs.lemmas.Option.{none-some}
 
@@ -108,32 +108,44 @@ more-newline found all bs n byte rest inv index short given =
     (newline-at bs n index ∙ ap has_no_newline (byte-at 92 bs n index short)
     ∙ ap (list_any (λ u. is_none u)) given)) ∙ inv
 
--- an escape by its first byte
-pub escape-first : (bs : List ℕ) → (bs ≡ [] → ⊥)
-    → escape_after bs ≡ cond (is_octal (get_or bs 0 0))
-    (Some (record { byte = Some (octal_value (octal_prefix bs)); size = length (octal_prefix bs) }))
-    (letter_escape (get_or bs 0 0))
+-- where no octal digit stands first, and where one does
+pub escape-letter : (bs : List ℕ) → (bs ≡ [] → ⊥) → octal_prefix bs ≡ []
+    → escape_after bs ≡ letter_escape (get_or bs 0 0)
 unfolding escape_after
-escape-first [] some = absurd (some refl)
-escape-first (b ∷ bs) some = refl
+escape-letter [] some none = absurd (some refl)
+escape-letter (b ∷ bs) some none = elim (cases_Bool (is_octal b)) [
+  | inl t ↦ absurd (cc (
+    cond-true (is_octal b) (b ∷ take_while is_octal (take 2 bs)) [] t,
+    take_while-cons is_octal b (take 2 bs),
+    none,
+  ))
+  | inr f ↦ cond-false (is_octal b) _ _ f
+]
+
+pub escape-octal : (bs : List ℕ) (value size : ℕ) (run : List ℕ) → run ≡ octal_prefix bs → value ≡ octal_value run
+    → length run ≡ size → (size ≡ 0 → ⊥)
+    → escape_after bs ≡ Some (record { byte = Some value; size = size })
+unfolding escape_after
+escape-octal [] value size run is v long some = absurd (some (sym long ∙ ap length is))
+escape-octal (b ∷ bs) value size run is v long some = rw (v, ← long, is) (elim (cases_Bool (is_octal b)) [
+  | inl t ↦ cond-true (is_octal b) _ _ t
+  | inr f ↦ absurd (some (sym long ∙ ap length (is ∙ take_while-cons is_octal b (take 2 bs)
+      ∙ cond-false (is_octal b) _ _ f)))
+])
 
 pub escape-none : (bs : List ℕ) → bs ≡ [] → escape_after bs ≡ None
 unfolding escape_after
 escape-none bs none = ap escape_after none
 
--- the first three bytes, or all of them
-pub octal_prefix-taken : (bs : List ℕ) (n : ℕ) → n ≡ min (length bs) 3
-    → take (prefix_len is_octal (take n bs)) (take n bs) ≡ octal_prefix bs
-octal_prefix-taken bs n e =
+-- octal digits that are read of the first three bytes, or of all, up to another byte
+pub octal_prefix-read : (bs : List ℕ) (n size : ℕ) → n ≡ min (length bs) 3 → size ≤ length (take n bs)
+    → ((k : ℕ) → k < size → is_octal (get_or (take n bs) k 0) ≡ true)
+    → (size < length (take n bs) → is_octal (get_or (take n bs) size 0) ≡ false)
+    → take size (take n bs) ≡ octal_prefix bs
+octal_prefix-read bs n size e within octal ends =
     let prefix : take n bs ≡ take 3 bs = ap (λ m. take m bs) (e ∙ grind arith) ∙ take_min 3 bs in
-    ap (λ l. take (prefix_len is_octal l) l) prefix
-
-abbrev octal-of : ℕ → ℕ → Option Escape
-octal-of value size = Some (record { byte = Some value; size = size })
-
-pub octal-escape : (digits run : List ℕ) (value : ℕ) → value ≡ octal_value digits → digits ≡ run
-    → octal-of value (length digits) ≡ octal-of (octal_value run) (length run)
-octal-escape digits run value v r = rw (v, r)
+    ap (λ m. take m (take n bs)) (sym (prefix_len_is is_octal (take n bs) size 0 within octal ends))
+    ∙ ap (λ l. take (prefix_len is_octal l) l) prefix
 
 -- Each escape is read where it is spelt, and what is read as one is spelt.
 

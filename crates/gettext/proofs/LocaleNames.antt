@@ -1,5 +1,5 @@
 -- The parts of a locale's name, and the names that it is asked for by, each once.
-use Rattle.gettext.proofs.Prelude.{All, All-cons, All-head, All-nil, All-tail, Any-from_list_any, Bool, Bor, Contains, Decides, Decides-by_and, Decides-not, FirstPlaces, HasFive, HaveFive, IsEmptyOrBegins, Lacks, List, Vec, [], ap, append-nil, append_assoc, ap₂, before, byte-here, byte-later, bytes_eq, bytes_eq-Decides, candidates_of_name, cases_Bool, cond, cond-false, cond-true, distinct, drop, eq-eqb, eqb, eqb-false, eqb-true, false, first, five, flat_map, fold, from_first, get_or, inl, inr, is_at, is_byte, length, list_any, list_any-append, list_any-from_Any, map, map-append, nat_cmp, ne_eqb, next_name, no_more, no_name, not, not-true, or-false, position_or_len, refl, repeated, slice_cmp, subst, suc, sym, take, take-append-drop, take_more, texts_ties, true, with_name, ℕ, ◌&&◌, ◌++◌, ◌+◌, ◌<◌, ◌||◌, ◌∙◌, ◌∷◌, ◌≡◌}
+use Rattle.gettext.proofs.Prelude.{All, All-cons, All-head, All-nil, All-tail, Any-from_list_any, Bool, Bor, Contains, Decides, Decides-by_and, Decides-not, FirstPlaces, HasFive, HaveFive, IsEmptyOrBegins, Lacks, List, Vec, [], ap, append-nil, append_assoc, ap₂, before, byte-here, byte-later, bytes_eq, bytes_eq-Decides, candidates_of_name, cases_Bool, cond, cond-false, cond-true, distinct, drop, eq-eqb, eqb, eqb-false, eqb-true, false, first, five, flat_map, fold, from_first, get_or, inl, inr, is_at, is_byte, length, list_any, list_any-append, list_any-from_Any, map, map-append, nat_cmp, ne_eqb, next_name, no_more, no_name, not, not-true, or-false, or-true, position_or_len, refl, repeated, slice_cmp, subst, suc, sym, take, take-append-drop, take_more, texts_ties, true, with_name, ℕ, ◌&&◌, ◌++◌, ◌+◌, ◌<◌, ◌||◌, ◌∙◌, ◌∷◌, ◌≡◌}
 use Rattle.std.specs.BTreeSet.{BTreeSet, contains}
 use Rattle.std.proofs.lemmas.Grind.{fold-append}
 use Rattle.std.proofs.Math.Seq.{drop-append_seam, take-append_seam}
@@ -10,12 +10,9 @@ HasNames seen names =
     (q : Bor (List ℕ))
     → contains (λ x y. slice_cmp nat_cmp x.now y.now) seen q ≡ list_any (λ known. bytes_eq known q.now) names
 
-cond_or : (a b c : Bool) → a ≡ b → cond a true c ≡ (c || b)
-cond_or true true true e = refl
-cond_or true true false e = refl
-cond_or true false c e = cc
-cond_or false true c e = cc
-cond_or false false c e = sym (or-false c)
+cond_or : (a c : Bool) → cond a true c ≡ (c || a)
+cond_or true c = sym (or-true c)
+cond_or false c = sym (or-false c)
 
 -- a name more
 pub one_name_more : (old new : BTreeSet (Bor (List ℕ))) (k : Bor (List ℕ)) (names : List (List ℕ)) → HasNames old names
@@ -24,9 +21,9 @@ pub one_name_more : (old new : BTreeSet (Bor (List ℕ))) (k : Bor (List ℕ)) (
     (contains (λ x y. slice_cmp nat_cmp x.now y.now) old q))
     → HasNames new (names ++ k.now ∷ [])
 one_name_more old new k names h updated q =
-    updated q ∙ cond_or (is_at (λ y. slice_cmp nat_cmp k.now y.now) q) (bytes_eq k.now q.now)
-    (contains (λ x y. slice_cmp nat_cmp x.now y.now) old q) (sym (texts_ties k.now q.now))
-    ∙ ap₂ (λ (s t : Bool). s || t) (h q) (sym (or-false (bytes_eq k.now q.now)))
+    updated q ∙ cond_or (is_at (λ y. slice_cmp nat_cmp k.now y.now) q)
+    (contains (λ x y. slice_cmp nat_cmp x.now y.now) old q)
+    ∙ ap₂ (λ (s t : Bool). s || t) (h q) (sym (texts_ties k.now q.now) ∙ sym (or-false (bytes_eq k.now q.now)))
     ∙ sym (list_any-append (λ known. bytes_eq known q.now) names (k.now ∷ []))
 
 -- the names up to the next one, each kept once

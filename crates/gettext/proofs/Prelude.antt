@@ -3,7 +3,7 @@ pub use Rattle.gettext.specs.Arguments.{asks_messages, asks_plural_form, fits_no
 pub use Rattle.gettext.specs.Candidates.{by_lang, by_lc_all, by_lc_messages, counts, ends, first, five, next_name, no_locale, no_more, no_name, no_part, no_path, of_language, omitted, repeated, the_locale, untranslated}
 pub use Rattle.gettext.specs.Escape.{alert, backslash, backspace, carriage_return, escape, form_feed, line_feed, no_newline, nothing, one_digit, plain, stays, tab, three_digits, two_digits, vertical_tab}
 pub use Rattle.gettext.specs.Plan.{opened, refused}
-pub use Rattle.gettext.specs.Prelude.{AreCandidates, AreCatalogues, AreLanguages, AsksAt, AsksPaths, CanStandInPath, Count, EnvironmentView, Expands, FirstPlaces, GivesCount, HasFive, HasNoText, HasText, HaveFive, IsCLocale, IsCatalogueAt, IsDomain, IsEmptyOrBegins, IsFolder, IsLocale, IsLookUpRun, IsNoEscape, Lists, NoOctalFirst, Opens, Request, SpellsAfter, SpellsByte, SpellsNumber, are_digits, argument_answer, candidates_of, catalogue_file, catalogue_files, catalogue_limit, distinct, domain_of, environment_view, expansion, folder_of, gettext_view, given_bytes, has_no_newline, is_count, is_octal, letter, locale_of, messages_given, non_empty, octal_prefix, octal_value, omits_newline, path_of, plural_form_given, with_octal}
+pub use Rattle.gettext.specs.Prelude.{AreCandidates, AreCatalogues, AreLanguages, AsksAt, AsksPaths, CanStandInPath, Count, EnvironmentView, Expands, FirstPlaces, GivesCount, HasFive, HasNoText, HasText, HaveFive, IsCLocale, IsCatalogueAt, IsDomain, IsEmptyOrBegins, IsFolder, IsLocale, IsLookUpRun, IsNoEscape, Lists, NoOctalFirst, Opens, Request, SpellsAfter, SpellsByte, SpellsNumber, are_digits, argument_answer, candidates_of, catalogue_file, catalogue_files, catalogue_limit, distinct, domain_of, environment_view, expansion, folder_of, gettext_view, given_bytes, has_no_newline, is_count, is_octal, letter, locale_of, messages_given, non_empty, octal_prefix, octal_value, omits_newline, path_of, plural_form_given}
 unfoldable pub use Rattle.gettext.specs.Prelude.{count_in, escape_after, given_bytes_after, letter_escape, with_name}
 pub use Rattle.gettext.specs.declared.candidates.Environment.{Environment}
 pub use Rattle.gettext.specs.declared.escape.Escape.{Escape}

@@ -62,13 +62,19 @@ fn escape_after(after: &[u8]) -> Option<Escape>
     if after.is_empty() {
         return None;
     }
-    if !is_octal(after[0]) {
+    let prefix = &after[..after.len().min(3)];
+    let mut value: u16 = 0;
+    let mut size = 0;
+    while size < prefix.len() && is_octal(prefix[size]) {
+        value = (value * 8 + u16::from(prefix[size] - b'0')) % 256;
+        size += 1;
+    }
+    if size == 0 {
         return letter_escape(after[0]);
     }
-    let digits = octal_prefix(after);
     Some(Escape {
-        byte: Some(octal_value(digits)),
-        size: digits.len(),
+        byte: Some(value as u8),
+        size,
     })
 }
 
@@ -77,31 +83,6 @@ fn is_octal(byte: u8) -> bool
     ensures { result ≡ spec.is_octal byte }
 {
     matches!(byte, b'0'..=b'7')
-}
-
-/// The octal digits at the beginning of a text, up to three.
-fn octal_prefix(bytes: &[u8]) -> &[u8]
-    ensures run { result.now ≡ spec.octal_prefix bytes.now }
-    ensures within { length result.now ≤ length bytes.now }
-{
-    let prefix = &bytes[..bytes.len().min(3)];
-    for (len, byte) in prefix.iter().enumerate() {
-        if !is_octal(*byte) {
-            return &prefix[..len];
-        }
-    }
-    prefix
-}
-
-/// The byte that octal digits give, modulo 256.
-fn octal_value(digits: &[u8]) -> u8
-    ensures { result ≡ spec.octal_value digits.now }
-{
-    let mut value: u16 = 0;
-    for digit in digits {
-        value = (value * 8 + u16::from(digit.saturating_sub(b'0'))) % 256;
-    }
-    value as u8
 }
 
 /// An escape of one letter.

@@ -193,29 +193,6 @@ fn push_plural_answer(
     Ok(())
 }
 
-/// Appends the answers to a request, and the newline where one ends them.
-fn push_output(
-    alloc: Global,
-    output: &mut Vec<u8>,
-    chain: &Chain<'_, '_>,
-    request: &LookUp<'_>,
-) -> Result<(), ToolFault>
-    ensures output { OnOk result (output.new.items ≡ output.old.items
-        ++ Spec.output_of chain.now (request_view request.now)) }
-    ensures memory { OnErr result (result ≡ Err ToolFault.OutOfMemory) }
-{
-    match request {
-        LookUp::Messages(options) => {
-            let omitted = push_answers(alloc, output, chain, options)?;
-            if options.shell && !options.no_newline && !omitted {
-                output.push(b'\n')?;
-            }
-            Ok(())
-        }
-        LookUp::PluralForm(options) => push_plural_answer(alloc, output, chain, options),
-    }
-}
-
 /// What `gettext` or `ngettext` writes over the catalogues that could be read, in the order in
 /// which they are asked: the answers, each a translation or what was given (for a count of 1 MSGID,
 /// and MSGID-PLURAL for any other); on standard error a line for each catalogue that is refused and
@@ -237,7 +214,15 @@ pub fn plan_look_up(
     let (catalogs, messages) = open_all(alloc, tool, catalogues)?;
     let chain = Chain::new(&catalogs);
     let mut output = Vec::new(alloc);
-    push_output(alloc, &mut output, &chain, request)?;
+    match request {
+        LookUp::Messages(options) => {
+            let omitted = push_answers(alloc, &mut output, &chain, options)?;
+            if options.shell && !options.no_newline && !omitted {
+                output.push(b'\n')?;
+            }
+        }
+        LookUp::PluralForm(options) => push_plural_answer(alloc, &mut output, &chain, options)?,
+    }
     Ok(Run {
         output,
         create: false,
