@@ -1,6 +1,7 @@
 -- The entries of inputs that are read one after the other, and the first duplicate in one of them.
 use Rattle.msgcat.proofs.Prelude.{All, All-append, All-head, All-left, All-map, All-nil, All-push, All-right, All-tail, All-weaker, AllDiffer, AllZip, AreNumbered, AreReadAs, AreReadInputs, AreReadUpTo, CanBeMerged, Duplicate, EntryPlace, FileFault, HasNoDuplicate, IsCatalogueEntry, IsDefinition, IsFaultOfFirst, IsFileFault, IsFirstRepeating, IsNumbered, IsReadInput, IsTextOf, IsUtf8, Lacks, List, Named, NamedEntry, NamedFile, ReadInput, ReadInputs, ReadsText, RepeatsOnLines, StandInTurn, TextEntry, [], all_entries, ap, append-nil, append_assoc, ap₂, are_placed, arith, cases_order, drop, drop-append_seam, drop-map, entries_at, entry_messages, fill_by_all, filter, first_entry, flat_map-append, get_or, get_or-append, get_or-append_seam, get_or-map, group_numbers, inl, inr, is_live, length, length-append, length-map, map, map-append, name_of, named, named_entries, named_entry, no_entry, no_further, no_input, number_in, place_of, range_with_len, refl, subst, sym, take, take-append-drop, take-append-le, take-append_seam, take-map, take_all, take_more, unnamed, with_part, zip_at, zip_get, zip_length, zip_more, zip_split, ℕ, ◌++◌, ◌+◌, ◌-◌, ◌<◌, ◌∙◌, ◌∷◌, ◌≡◌, ◌≤◌}
 use Rattle.std.proofs.lemmas.List.Concat.{get_or-flat_map}
+use Rattle.msgcat.specs.Laws.{no_input as no_input_left}
 use Rattle.msgcat.specs.declared.definition.NamedEntry.{NamedEntry as BorrowedEntry}
 use Rattle.po_entry.specs.Prelude.{same_message}
 use Rattle.po_entry.proofs.MessageNumbers.{are_numbered, repeats_of}

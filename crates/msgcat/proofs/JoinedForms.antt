@@ -121,11 +121,9 @@ seen_alike d [] h g = refl
 seen_alike d (e ∷ ds) h g = ap₂ (λ (a b : Bool). a || b) (alike d e h (All-head IsDefinition e ds g))
     (seen_alike d ds h (All-tail IsDefinition e ds g))
 
-cond_or : (a b c : Bool) → a ≡ b → cond a true c ≡ (c || b)
-cond_or true true c e = sym (or-true c)
-cond_or true false c e = cc
-cond_or false true c e = cc
-cond_or false false c e = sym (or-false c)
+cond_or : (a c : Bool) → cond a true c ≡ (c || a)
+cond_or true c = sym (or-true c)
+cond_or false c = sym (or-false c)
 
 pub one_translation_more : (old new : BTreeSet (Bor (List ℕ))) (k : Bor (List ℕ)) (d : NamedEntry)
     (found : List NamedEntry) → HasTranslations old found → k.now ≡ translation_bytes d.entry
@@ -136,10 +134,10 @@ pub one_translation_more : (old new : BTreeSet (Bor (List ℕ))) (k : Bor (List 
     → HasTranslations new (found ++ d ∷ [])
 one_translation_more old new k d found h is updated q =
     let tests : Bool = bytes_eq q.now (translation_bytes d.entry) in
-    updated q ∙ cond_or (is_at (λ y. slice_cmp nat_cmp k.now y.now) q) tests
+    updated q ∙ cond_or (is_at (λ y. slice_cmp nat_cmp k.now y.now) q)
     (contains (λ x y. slice_cmp nat_cmp x.now y.now) old q)
-    (sym (texts_ties k.now q.now) ∙ nat_list_eq_equiv.symm k.now q.now ∙ ap (bytes_eq q.now) is)
-    ∙ ap₂ (λ (s t : Bool). s || t) (h q) (sym (or-false tests))
+    ∙ ap₂ (λ (s t : Bool). s || t) (h q) (sym (texts_ties k.now q.now) ∙ nat_list_eq_equiv.symm k.now q.now
+    ∙ ap (bytes_eq q.now) is ∙ sym (or-false tests))
     ∙ sym (list_any-append (λ e. bytes_eq q.now (translation_bytes e.entry)) found (d ∷ []))
 
 -- whether the forms of a definition are among those of the definitions before it

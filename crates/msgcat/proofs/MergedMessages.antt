@@ -1,5 +1,5 @@
 -- What one message of valid inputs is merged to.
-use Rattle.msgcat.proofs.Prelude.{All, All-append, All-filter, All-head, All-map, All-nil, All-tail, All-weaker, Bool, CanBeMerged, Contains, FormsAreOfOne, IsDefinition, IsEntry, IsGroup, IsInput, List, MergeOptions, MergedAreEntries, MergedCanStand, Named, NamedEntry, OneDefinitionStays, TextEntry, [], all_entries, ap, arith, definitions, filter, first_translated, get_or, get_or-map, groups, has_translation, if◌then◌else◌, is_kept, is_live, joined_forms, length, length-map, list_any, map, merged_entry, merged_messages, messages, named, not, subst, sym, translations, true, ℕ, ◌<◌, ◌∙◌, ◌∷◌, ◌≡◌}
+use Rattle.msgcat.proofs.Prelude.{All, All-append, All-filter, All-head, All-map, All-nil, All-tail, All-weaker, Bool, CanBeMerged, Contains, FormsAreOfOne, IsDefinition, IsEntry, IsGroup, IsInput, List, MergeOptions, MergedAreEntries, MergedCanStand, Named, NamedEntry, OneDefinitionStays, TextEntry, [], all_entries, ap, arith, definitions, false, filter, first_translated, get_or, get_or-map, groups, has_translation, if◌then◌else◌, is_kept, is_live, joined_forms, length, length-map, list_any, map, merged_entry, merged_messages, messages, named, not, refl, subst, sym, translations, true, ℕ, ◌<◌, ◌∙◌, ◌∷◌, ◌≡◌}
 use Rattle.msgcat.proofs.InputEntries.{definitions_more}
 use Rattle.msgcat.proofs.ValidMerged.{first_with_keeps, merged_is_entry}
 use Rattle.msgcat.proofs.MergedGroups.{definitions_valid, groups_valid, kept_one}
@@ -53,6 +53,9 @@ module _ (o : MergeOptions) (message : List NamedEntry) (name : List ℕ) (entry
   only_kept some =
       sym (ap (λ l. merged_messages o (l ∷ [])) is ∙ kept_one o (named name entry ∷ []) some
       ∙ ap (λ e. e ∷ []) (one_definition o (named name entry)))
+
+  pub left_out : is_kept o (named name entry ∷ []) ≡ false → [] ≡ merged_messages o (message ∷ [])
+  left_out none = rw (is, none) refl
 
 module _ (read : List Named) (i : ℕ) (group : List NamedEntry) (inside : i < length (messages read))
     (is : group ≡ get_or (groups (all_entries read)) i []) where

@@ -1,6 +1,6 @@
 -- Links between the indexes of the entries of one message, and the walk along them.
-use Rattle.msgcat.proofs.Prelude.{All, All-head, All-tail, AreLinked, Bool, HoldInputs, IsChain, List, Named, NamedEntry, TextEntry, [], all_entries, ap, arith, cond, definitions, drop, drop-cons, entries_at, eqb_tells, false, get_or, get_or-map, get_or-map-range_with_len, get_or-set_other, get_or-set_same, groups, if◌then◌else◌, indexes_by, inl, inr, is_live, length, length-map, length-map-range_with_len, length-set, list_any, messages, named, no_entry, not, range_with_len, refl, set, subst, suc, sym, true, with_number, ℕ, ◌+◌, ◌<◌, ◌==◌, ◌||◌, ◌∙◌, ◌∷◌, ◌≡◌, ◌≢◌, ◌≤◌, ◌⊎◌}
-use Rattle.msgcat.specs.declared.links.Links.{Links}
+use Rattle.msgcat.proofs.Prelude.{All, All-head, All-tail, AreLinked, Bool, HoldInputs, IsChain, List, Named, NamedEntry, TextEntry, [], all_entries, ap, arith, cond, definitions, drop, drop-cons, entries_at, eqb_tells, false, get_or, get_or-map, get_or-map-range_with_len, get_or-set_other, get_or-set_same, get_or_default_zero, groups, if◌then◌else◌, indexes_by, inl, inr, is_live, length, length-map, length-map-range_with_len, length-set, list_any, messages, named, no_entry, not, range_with_len, refl, set, subst, suc, sym, true, with_number, ℕ, ◌+◌, ◌<◌, ◌==◌, ◌||◌, ◌∙◌, ◌∷◌, ◌≡◌, ◌≢◌, ◌≤◌, ◌⊎◌}
+use Rattle.msgcat.specs.declared.merge_inputs.Links.{Links}
 use Rattle.msgcat.specs.declared.merge_inputs.MergeInputs.{MergeInputs}
 use Rattle.msgcat.proofs.GroupsByIndex.{entries_here, group_valid, groups_at, groups_counted, indexes_here, message_at}
 
@@ -128,12 +128,12 @@ pub chain_on : (next : List ℕ) (at : ℕ) (list : List ℕ) → IsChain next a
 chain_on next at [] h inside = absurd (omega (arith, h, inside))
 chain_on next at (i ∷ list) h inside = (list, ap (λ k. k ∷ list) (sym h.0), h.2, h.3)
 
-pub chain_some : (next : List ℕ) (at : ℕ) (list : List ℕ) → IsChain next at list → 0 < length list
+chain_some : (next : List ℕ) (at : ℕ) (list : List ℕ) → IsChain next at list → 0 < length list
     → at < length next
 chain_some next at [] h some = absurd (omega (arith, some))
 chain_some next at (i ∷ list) h some = h.1
 
-pub chain_over : (next : List ℕ) (at : ℕ) (list : List ℕ) → IsChain next at list → length next ≤ at → list ≡ []
+chain_over : (next : List ℕ) (at : ℕ) (list : List ℕ) → IsChain next at list → length next ≤ at → list ≡ []
 chain_over next at [] h past = refl
 chain_over next at (i ∷ list) h past = absurd (omega (arith, h.1, past))
 
@@ -156,9 +156,6 @@ module _ (read : List Named) (held : MergeInputs) (h : HoldInputs read held) whe
 
   -- those of a message, from its first one on
   module _ (number : ℕ) (below : number < length (messages read)) where
-    abbrev first_index : ℕ
-    first_index = get_or held.links.firsts.items number 0
-
     abbrev pub indexes : List ℕ
     indexes = get_or (groups_at all) number []
 
@@ -174,15 +171,18 @@ module _ (read : List Named) (held : MergeInputs) (h : HoldInputs read held) whe
     pub group_is : entries_at all indexes ≡ get_or (groups all) number []
     group_is = entries_here all number grouped
 
-    pub all_left : AreLeft read held first_index indexes
-    all_left = record { chain = h.links.chains number linked; inside = indexes_here all number grouped }
+    pub all_left : (at : ℕ) → at ≡ get_or held.links.firsts.items number at → AreLeft read held at indexes
+    all_left at is =
+        subst (λ k. AreLeft read held k indexes)
+        (sym (is ∙ get_or_default_zero held.links.firsts.items number at first_inside))
+        (record { chain = h.links.chains number linked; inside = indexes_here all number grouped })
 
-    pub first_links : first_index < length next
-    first_links =
+    pub first_links : (at : ℕ) → at ≡ get_or held.links.firsts.items number at → at < length next
+    first_links at is =
         let some = (group_valid read number (get_or (groups all) number []) below refl h.can).some in
         let many : 0 < length indexes =
         omega (arith, some, ap length (sym group_is), length-map indexes (λ k. get_or all k no_entry)) in
-        chain_some next first_index indexes all_left.chain many
+        chain_some next at indexes (all_left at is).chain many
 
   -- the next one of those that are left
   module _ (at : ℕ) (left : List ℕ) (are : AreLeft read held at left) (inside : at < length next) where
@@ -192,19 +192,23 @@ module _ (read : List Named) (held : MergeInputs) (h : HoldInputs read held) whe
     pub left_is : left ≡ at ∷ rest
     left_is = (chain_on next at left are.chain inside).1
 
-    pub later : at < get_or next at 0
-    later = (chain_on next at left are.chain inside).2
-
     indexes_left : All (λ k. k < length all) (at ∷ rest)
     indexes_left = subst (All (λ k. k < length all)) left_is are.inside
 
-    pub rest_left : AreLeft read held (get_or next at 0) rest
-    rest_left = record {
-      chain = (chain_on next at left are.chain inside).3;
-      inside = All-tail (λ k. k < length all) at rest indexes_left;
-    }
+    module _ (after : ℕ) (is : after ≡ get_or next at after) where
+      value : get_or next at 0 ≡ after
+      value = sym (is ∙ get_or_default_zero next at after inside)
 
-    here : at < length all
+      pub later : at < after
+      later = omega (arith, (chain_on next at left are.chain inside).2, value)
+
+      pub rest_left : AreLeft read held after rest
+      rest_left = record {
+        chain = subst (λ k. IsChain next k rest) value (chain_on next at left are.chain inside).3;
+        inside = All-tail (λ k. k < length all) at rest indexes_left;
+      }
+
+    pub here : at < length all
     here = All-head (λ k. k < length all) at rest indexes_left
 
     pub stored : at < length held.store
@@ -225,22 +229,21 @@ module _ (read : List Named) (held : MergeInputs) (h : HoldInputs read held) whe
   none_left at left are past = chain_over next at left are.chain past
 
   -- the only entry of a message
-  pub only_one : (number : ℕ) (below : number < length (messages read)) (at : ℕ) (entry : TextEntry)
-      → at ≡ get_or held.links.firsts.items number 0 → length next ≤ get_or next at 0
+  pub only_one : (number : ℕ) (below : number < length (messages read)) (at after : ℕ) (entry : TextEntry)
+      → at ≡ get_or held.links.firsts.items number at → after ≡ get_or next at after → length next ≤ after
       → entry ≡ get_or held.store at no_entry.entry
       → (name : List ℕ) × (get_or (messages read) number [] ≡ named name entry ∷ [])
-  only_one number below at entry start past is =
-      let inside : at < length next = omega (arith, start, first_links number below) in
-      let are = subst (λ k. AreLeft read held k (indexes number below)) (sym start) (all_left number below) in
-      let over = none_left (get_or next at 0) (rest at (indexes number below) are inside)
-      (rest_left at (indexes number below) are inside) past in
+  only_one number below at after entry start follows past is =
+      let left = indexes number below in
+      let are = all_left number below at start in
+      let inside = first_links number below at start in
+      let over = none_left after (rest at left are inside) (rest_left at left are inside after follows) past in
       let one = get_or all at no_entry in
       let group : one ∷ [] ≡ get_or (groups all) number [] =
-      sym (ap (λ l. entries_at all l) (left_is at (indexes number below) are inside ∙ ap (λ l. at ∷ l) over))
-      ∙ group_is number below in (
+      sym (ap (λ l. entries_at all l) (left_is at left are inside ∙ ap (λ l. at ∷ l) over)) ∙ group_is number below in (
         one.name,
         sym (message_at read number (one ∷ []) below group) ∙ one_defines one
-            ∙ ap (λ e. named one.name e ∷ []) (sym (is ∙ entry_is at (indexes number below) are inside)),
+            ∙ ap (λ e. named one.name e ∷ []) (sym (is ∙ entry_is at left are inside)),
       ) where
         one_defines : (d : NamedEntry) → definitions (d ∷ []) ≡ d ∷ []
         one_defines d = by (is_live d.entry) where

@@ -29,17 +29,17 @@ pub use Rattle.runs.specs.Facts.RunEnds.{inputs_ended, none_read, none_unread}
 pub use Rattle.runs.specs.Prelude.{NamedFile, RunView, named_file, named_files, named_inputs, program_text, refusal, run_view}
 pub use Rattle.runs.specs.declared.program_fault.ProgramFault.{ProgramFault}
 pub use Rattle.runs.specs.declared.program_fault.ProgramFault.TheVariants.{CannotOpen, OutOfMemory}
-pub use Rattle.std.proofs.Common.{Bool, Err, IfErr, IfOk, List, None, Ok, Option, Result, Some, [], ap, append-nil, append_assoc, ap₂, arith, codes, cond, drop, eqb, false, filter, find, fold, get_or, inl, inr, is_some, length, length-append, map, max, nat_eq, nat_lt, not, option_map, pred, refl, rules, set, slice_get, subst, suc, sym, take, true, zero, ℕ, ◌&&◌, ◌++◌, ◌+◌, ◌-◌, ◌<◌, ◌==◌, ◌||◌, ◌∙◌, ◌∷◌, ◌≡◌, ◌≢◌, ◌≤◌, ◌⊎◌}
+pub use Rattle.std.proofs.Common.{Bool, Err, IfErr, IfOk, List, None, Ok, Option, Result, Some, [], ap, append-nil, append_assoc, ap₂, arith, codes, cond, drop, false, filter, find, fold, get_or, inl, inr, is_some, length, length-append, map, max, nat_eq, nat_lt, not, option_map, pred, refl, rules, set, slice_get, subst, suc, sym, take, true, zero, ℕ, ◌&&◌, ◌++◌, ◌+◌, ◌-◌, ◌<◌, ◌==◌, ◌||◌, ◌∙◌, ◌∷◌, ◌≡◌, ◌≢◌, ◌≤◌, ◌⊎◌}
 pub use Rattle.std.proofs.Math.Bool.{and-false, or-false, or-true, or_assoc}
 pub use Rattle.std.proofs.Math.ListN.{get_or-append}
 pub use Rattle.std.proofs.Math.Seq.{drop-append_seam, drop-cons, get_or-append_seam, take-append_seam}
-pub use Rattle.std.proofs.lemmas.Bool.{and_parts, cases_Bool, cases_order, cond_both, eq-eqb, eqb-false, eqb-true, false_from_ne_true, false≢true, lt-ltb, ne_eqb, not-false, not-true, or_parts}
+pub use Rattle.std.proofs.lemmas.Bool.{and_parts, cases_Bool, cases_order, cond_both, eq-eqb, eqb-true, false_from_ne_true, false≢true, lt-ltb, ne_eqb, not-false, not-true, or_parts}
 pub use Rattle.std.proofs.lemmas.Bool.Decides.{eqb_tells, nat_tests, not_from_Decides}
 pub use Rattle.std.proofs.lemmas.Grind.{flat_map-append, get_or_default_zero}
 pub use Rattle.std.proofs.lemmas.Iterator.{YieldsList-from_slice}
 pub use Rattle.std.proofs.lemmas.Iterator.Search.{any_from_yields_List}
 pub use Rattle.std.proofs.lemmas.List.{drop-map, get_or-map, get_or-set_other, get_or-set_same, get_or_at, get_or_default, length-drop, length-map, length-set, length-take, length_push, map-append, take-append-drop, take-append-le, take-map, take_all, take_more}
-pub use Rattle.std.proofs.lemmas.List.Elements.{All-append, All-cons, All-contains, All-contains_itself, All-filter, All-from_get_or, All-head, All-map, All-nil, All-push, All-tail, All-take, All-weaker, Contains-append_cases, Contains-append_right, Contains-get_or, filter-append, filter_agree, filter_passes}
+pub use Rattle.std.proofs.lemmas.List.Elements.{All-append, All-cons, All-contains, All-contains_itself, All-filter, All-head, All-map, All-nil, All-push, All-tail, All-take, All-weaker, Contains-append_cases, Contains-append_right, Contains-get_or, filter-append, filter_agree, filter_passes}
 pub use Rattle.std.proofs.lemmas.List.Folds.{Any-from_list_any, find-append, flat_map-map, fold-map, list_any-append, list_any_at, list_any_none}
 pub use Rattle.std.proofs.lemmas.List.FromFn.{fill_by_all, get_or-map-range_with_len, get_or-range_with_len, length-map-range_with_len, length-range_with_len, map-range_with_len_more}
 pub use Rattle.std.proofs.lemmas.List.Sums.{fold-append, fold_push}

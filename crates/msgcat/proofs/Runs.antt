@@ -1,7 +1,8 @@
 -- A run of msgcat, by the way in which it ends.
-use Rattle.msgcat.proofs.Prelude.{All, All-cons, All-from_get_or, All-head, All-nil, All-tail, AreReadAs, Bor, CannotOpen, Err, HasNulName, HaveNoRun, IfErr, IfOk, IsFirstWithNul, IsMsgcatRun, IsRunOf, IsUnread, IsUnreadBeforeNul, Lacks, List, MergeOptions, Named, NamedFile, None, Ok, Option, OutOfMemory, ProgramFault, Result, RunView, Some, [], ap, append_assoc, arith, cases_Bool, drop, drop-cons, eqb, eqb-false, eqb-true, false, false_from_ne_true, first_name, get_or, get_or_default, inl, inr, length, length-map, list_any, list_any_at, list_any_none, map-append, name_of_first, named_file, named_files, option_map, or_parts, program_text, refl, run_view, subst, suc, sym, take, take-append-drop, true, zero, ℕ, ◌++◌, ◌<◌, ◌==◌, ◌||◌, ◌∙◌, ◌∷◌, ◌≡◌, ◌≢◌, ◌⊎◌}
+use Rattle.msgcat.proofs.Prelude.{All, All-head, All-right, All-tail, AreReadAs, Bor, CannotOpen, Err, HasNulName, HaveNoRun, IfErr, IfOk, IsFirstWithNul, IsMsgcatRun, IsRunOf, IsUnread, IsUnreadBeforeNul, Lacks, List, MergeOptions, Named, NamedFile, None, Ok, Option, OutOfMemory, ProgramFault, Result, RunView, Some, [], ap, append_assoc, arith, drop, drop-cons, eqb-true, false, false≢true, first_name, get_or, get_or_default, inl, inr, length, length-map, map-append, name_of_first, named_file, named_files, option_map, program_text, refl, run_view, subst, suc, sym, take, take-append-drop, take-map, true, ℕ, ◌++◌, ◌<◌, ◌∙◌, ◌∷◌, ◌≡◌, ◌≢◌, ◌⊎◌}
 use Rattle.std.proofs.Math.ListN.{get_or-map}
 use Rattle.std.specs.Option.{is_some}
+use Rattle.po_syntax.proofs.Searches.{none_found}
 use Rattle.memchr.specs.Find.{IsFirstByte, is_byte}
 use Rattle.runs.specs.declared.run.Run.{Run}
 use Rattle.msgcat.specs.Inputs as merge
@@ -31,23 +32,16 @@ first_named [] (input ∷ inputs) are = absurd are
 first_named (file ∷ files) [] are = absurd are
 first_named (file ∷ files) (input ∷ inputs) are = are.0.name
 
-pub lacks : (name : List ℕ) → list_any (λ b. b == 0) name ≡ false → Lacks 0 name
-lacks [] h = All-nil (λ b. b ≡ 0 → ⊥)
-lacks (b ∷ name) h = let both = or_parts (b == 0) (list_any (λ c. c == 0) name) h in
-    All-cons (λ c. c ≡ 0 → ⊥) b name (eqb-false b 0 both.0) (lacks name both.1)
+-- whether a NUL is found in a name
+pub holds : (name : List ℕ) (nul : Option ℕ) → IsFirstByte (is_byte 0) name nul → is_some nul ≡ true
+    → Lacks 0 name → ⊥
+holds name (Some index) first is lacks =
+    lacks index 0 first.0.high (eqb-true (get_or name index 0) 0 first.1)
+holds name None nowhere is lacks = absurd (false≢true is)
 
-pub holds : (name : List ℕ) → list_any (λ b. b == 0) name ≡ true → Lacks 0 name → ⊥
-holds [] h lacks = cc
-holds (b ∷ name) h lacks = elim (cases_Bool (eqb b 0)) [
-  | inl here ↦ All-head (λ c. c ≡ 0 → ⊥) b name lacks (eqb-true b 0 here)
-  | inr later ↦ holds name (sym (ap (λ t. t || list_any (λ c. c == 0) name) later) ∙ h)
-      (All-tail (λ c. c ≡ 0 → ⊥) b name lacks)
-]
-
-pub named_take : (i : ℕ) (files : Files) → take i (named_files files) ≡ named_files (take i files)
-named_take zero files = refl
-named_take (suc i) [] = refl
-named_take (suc i) (file ∷ files) = ap (λ l. named_file file ∷ l) (named_take i files)
+pub lacks : (name : List ℕ) (nul : Option ℕ) → IsFirstByte (is_byte 0) name nul → is_some nul ≡ false → Lacks 0 name
+lacks name (Some index) first is = cc
+lacks name None nowhere is = none_found 0 name nowhere
 
 -- a file whose name holds NUL, before which no name does
 pub first_nul : (files : Files) (i : ℕ) (none : Bor (List ℕ) × Bor (List ℕ)) → i < length files
@@ -59,21 +53,11 @@ first_nul files i none inside names nul = record {
   inside = omega (arith, inside, length-map files named_file);
   order = ap named_files (sym (take-append-drop i files) ∙ ap (λ l. take i files ++ l) (drop-cons files i none inside))
       ∙ map-append named_file (take i files) (get_or files i none ∷ drop (suc i) files)
-      ∙ ap (λ l. l ++ named_file (get_or files i none) ∷ named_files (drop (suc i) files)) (sym (named_take i files));
-  names = subst (All (λ file. Lacks 0 file.name)) (sym (named_take i files)) names;
+      ∙ ap (λ l. l ++ named_file (get_or files i none) ∷ named_files (drop (suc i) files))
+      (sym (take-map named_file i files));
+  names = subst (All (λ file. Lacks 0 file.name)) (sym (take-map named_file i files)) names;
   nul = nul;
 }
-
--- a NUL is found in a name exactly if it holds one
-pub nul_is_found : (name : List ℕ) (nul : Option ℕ) → IsFirstByte (is_byte 0) name nul
-    → is_some nul ≡ list_any (λ b. b == 0) name
-nul_is_found name (Some index) first = sym (list_any_at (λ b. b == 0) name index 0 first.0.high first.1)
-nul_is_found name None nowhere =
-    sym
-    (
-    list_any_none (λ b. b == 0) name
-    (All-from_get_or (λ b. (b == 0) ≡ false) name 0 (λ i inside. false_from_ne_true _ (nowhere i (omega arith) inside)))
-    )
 
 pub planned : (inputs : List NamedFile) (o : MergeOptions) (run : RunView) (next : Option ProgramFault)
     → (next ≡ None → IsMsgcatRun inputs o run) → (next ≢ None → IsUnread inputs run) → IsUnreadBeforeNul inputs run
@@ -134,17 +118,13 @@ unread_before_nul first one others files run order names unread before file afte
     let more = begins first one others before file after (sym order ∙ same) names nul in
     subst (λ l. IsUnread l run) (sym more.1) (unread_longer first more.0 run unread)
 
-last_lacks : (before : List NamedFile) (file : NamedFile) (after : List NamedFile)
-    → All (λ file. Lacks 0 file.name) (before ++ file ∷ after) → Lacks 0 file.name
-last_lacks [] file after names = All-head (λ (g : NamedFile). Lacks 0 g.name) file after names
-last_lacks (b ∷ before) file after names =
-    last_lacks before file after (All-tail (λ (g : NamedFile). Lacks 0 g.name) b (before ++ file ∷ after) names)
-
 -- no name holds NUL
 pub no_nul : (files : List NamedFile) (run : RunView) → All (λ file. Lacks 0 file.name) files
     → IsUnreadBeforeNul files run
 no_nul files run names before file after same nul =
-    absurd (nul (last_lacks before file after (subst (All (λ file. Lacks 0 file.name)) same names)))
+    absurd (nul (All-head (λ (g : NamedFile). Lacks 0 g.name) file after
+    (All-right (λ (g : NamedFile). Lacks 0 g.name) before (file ∷ after)
+    (subst (All (λ file. Lacks 0 file.name)) same names))))
 
 pub none_before : (r : Result Run ProgramFault) (files : List NamedFile) → All (λ file. Lacks 0 file.name) files
     → IfOk r (λ run. IsUnreadBeforeNul files (run_view run))
@@ -160,7 +140,8 @@ module _ (files : List NamedFile) (texts asked shown : Files) (named : named_fil
   first = subst (λ l. IsFirstWithNul l place name.now) (ap named_files asked_is ∙ named) found
 
   before_is : named_files (take place shown) ≡ take place files
-  before_is = ap (λ l. named_files (take place l)) shown_is ∙ sym (named_take place texts) ∙ ap (take place) named
+  before_is = ap (λ l. named_files (take place l)) shown_is ∙ sym (take-map named_file place texts)
+      ∙ ap (take place) named
 
   pub some_file : files ≢ []
   some_file none = omega (arith, first.inside, ap length none)

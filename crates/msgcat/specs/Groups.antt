@@ -4,7 +4,7 @@ use Rattle.std.specs.Prelude.{Bool, ℕ, ◌==◌, List, [], ◌∷◌, map, fil
 use Rattle.std.specs.List.{list_any, range_with_len}
 use Rattle.po_entry.specs.Prelude.{is_live, entry_message, same_message as one_message, group_numbers, Message, Lacks, IsEntry}
 use Rattle.msgcat.specs.Inputs.{NamedEntry}
-use Rattle.msgcat.specs.declared.links.Links.{Links}
+use Rattle.msgcat.specs.declared.merge_inputs.Links.{Links}
 
 -- entries of one message have the same context, or both none, and the same msgid
 abbrev pub same_message : NamedEntry → NamedEntry → Bool

@@ -44,10 +44,8 @@ pub(crate) fn kept_definitions<'a>(
     let has_header = definitions
         .iter()
         .any(|definition| definition.entry.is_header());
-    if has_header || is_wanted(options, definitions.len()) {
-        return Some(definitions);
-    }
-    None
+    let is_kept = has_header || is_wanted(options, definitions.len());
+    is_kept.then_some(definitions)
 }
 
 /// A part that some definitions have.

@@ -7,7 +7,7 @@
 //! makes one entry of them.
 //!
 //! The modules of merging in reading order: `input`, `definition`, `joined_translations`,
-//! `comments`, `merging`, `links`, `merge_inputs`, `laws`. Those of the tool: `options`, `inputs`,
+//! `comments`, `merging`, `merge_inputs`, `laws`. Those of the tool: `options`, `inputs`,
 //! `merged_text`, `plan`, `whole_run`.
 
 #![tactic(auto)]
@@ -18,7 +18,6 @@ mod input;
 mod inputs;
 mod joined_translations;
 pub mod laws;
-mod links;
 mod merge_inputs;
 mod merged_text;
 mod merging;

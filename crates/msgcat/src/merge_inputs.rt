@@ -1,14 +1,13 @@
 //! The entries of several inputs in one store, and what those of a message are merged to.
 
 ghost use Rattle.std.specs.Prelude.{◌≡◌, ◌<◌, ◌∷◌, [], IfErr, IfOk, IfSome, List, ℕ, get_or, length, option_to_list};
-ghost use Rattle.msgcat.specs.Prelude.{AreReadInputs, HoldInputs, IsCatalogueEntry, IsMergeFault, Named, all_entries, entry_messages, first_ones, group_numbers, groups, merged_entry, merged_messages, messages, name_of_first, named, named_entries, unnamed};
+ghost use Rattle.msgcat.specs.Prelude.{AreReadInputs, HoldInputs, IsCatalogueEntry, IsMergeFault, Named, all_entries, entry_messages, first_ones, group_numbers, groups, merged_entry, merged_messages, messages, name_of_first, named_entries, unnamed};
 ghost use Rattle.po_entry.specs.Prelude.{same_message};
 ghost use Rattle.msgcat.specs.Internal.Inputs.{name_of};
 ghost use Rattle.msgcat.specs.declared.input.MergeOptions as asked;
 
 use crate::definition::{NamedEntry, is_wanted, kept_definitions};
 use crate::input::{MergeOptions, ReadInput};
-use crate::links::Links;
 use crate::merging::merged_entry;
 use po_entry::{EntryRef, Store};
 use po_syntax::PoError;
@@ -20,6 +19,17 @@ pub struct MergeInputs<'a> {
     store: Store,
     inputs: Vec<ReadInput<'a>>,
     links: Links,
+}
+
+/// Which entries are of one message, by their indexes.
+#[derive(Drop)]
+pub(crate) struct Links {
+    /// For each message the index of its first entry; where it has none, how many entries there
+    /// are.
+    pub(crate) firsts: Vec<usize>,
+    /// For each entry the index of the next one of its message; where there is none, how many
+    /// entries there are.
+    pub(crate) next: Vec<usize>,
 }
 
 /// The name of the input that has the entry with this index among those of all inputs.
@@ -58,11 +68,19 @@ impl<'a> MergeInputs<'a> {
         ensures { IfOk result (λ held. (read : List Named) → AreReadInputs read inputs.entry.items
             → store ≡ unnamed (all_entries read) → HoldInputs read held) }
     {
-        let links = Links::of(alloc, numbers, count)?;
+        let len = numbers.len();
+        let mut firsts = vec![in alloc; len; count]?;
+        let mut next = vec![in alloc; len; len]?;
+        for done in 0..len {
+            let index = len - 1 - done;
+            let number = numbers[index];
+            next[index] = firsts[number];
+            firsts[number] = index;
+        }
         Ok(MergeInputs {
             store,
             inputs,
-            links,
+            links: Links { firsts, next },
         })
     }
 
@@ -99,21 +117,6 @@ impl<'a> MergeInputs<'a> {
             index = self.links.next[index];
         }
         true
-    }
-
-    /// The only entry of a message that has no other.
-    fn only_entry(&self, number: usize) -> Option<EntryRef<'_>>
-        requires { (read : List Named) × HoldInputs read self.now × (number < length (messages read)) }
-        ensures only { IfSome result (λ entry. (read : List Named) → HoldInputs read self.now
-            → number < length (messages read)
-            → (name : List ℕ) × (get_or (messages read) number [] ≡ named name entry ∷ [])) }
-        ensures valid { IfSome result IsCatalogueEntry }
-    {
-        let index = self.links.firsts[number];
-        if self.links.next[index] < self.links.next.len() {
-            return None;
-        }
-        Some(self.store.get(index))
     }
 
     /// The entries of a message.
@@ -156,7 +159,9 @@ impl<'a> MergeInputs<'a> {
             → number < length (messages read)
             → IsMergeFault (merged_messages options.now (get_or (messages read) number [] ∷ [])) error) }
     {
-        if let Some(entry) = self.only_entry(number) {
+        let first = self.links.firsts[number];
+        if self.links.next[first] >= self.links.next.len() {
+            let entry = self.store.get(first);
             if entry.is_header() || is_wanted(options, 1) {
                 return Ok(Some(entry));
             }

@@ -1,6 +1,6 @@
 use Rattle.msgcat.proofs.Prelude.{length, ◌-◌}
 use Rattle.msgcat.proofs.MessageLinks.{AreLinkedFrom}
-use Rattle.msgcat.proofs.links.Links.of.Given as goal
+use Rattle.msgcat.proofs.merge_inputs.MergeInputs.of.Given as goal
 
 -- the last entries are linked
 abbrev pub invariant-loop-done : goal.invariant-loop-done
