@@ -187,15 +187,16 @@ undecided-parts is_braced held some h brace =
     (parts, sym (undecided-as is_braced (name_after is_braced held) same) ∙ ap is_undecided (sym parts) ∙ h)
 
 -- a `$` and what is begun after it
-pub begun-taken : (is_braced : Bool) (bs : List ℕ) (n : ℕ) → begins_with 36 bs ≡ true
-    → begins_with 123 (drop 1 bs) ≡ is_braced → is_begun_name (take n (name_after is_braced bs)) ≡ true
-    → is_undecided (take (n + cond is_braced 2 1) bs) ≡ true
-begun-taken true bs n dollar brace h =
-    let two : n + 2 ≡ suc (suc n) = omega arith in
-    rw (two, split true bs dollar brace) (begun-undecided true (take n (drop 1 (drop 1 bs))) h)
-begun-taken false bs n dollar brace h =
-    let one : n + 1 ≡ suc n = omega arith in
-    rw (one, split false bs dollar brace) (begun-undecided false (take n (drop 1 bs)) h)
+pub begun-taken : (is_braced : Bool) (bs : List ℕ) (start n : ℕ) → begins_with 36 bs ≡ true
+    → begins_with 123 (drop 1 bs) ≡ is_braced → start ≡ cond is_braced 2 1
+    → is_begun_name (take n (drop start bs)) ≡ true → is_undecided (take (start + n) bs) ≡ true
+begun-taken true bs start n dollar brace is h =
+    let two : start + n ≡ suc (suc n) = omega (arith, is) in
+    let begun = rw (is, split true bs dollar brace) at h in
+    rw (two, split true bs dollar brace) (begun-undecided true (take n (drop 1 (drop 1 bs))) begun)
+begun-taken false bs start n dollar brace is h =
+    let one : start + n ≡ suc n = omega (arith, is) in
+    rw (one, split false bs dollar brace) (begun-undecided false (take n (drop 1 bs)) (rw is at h))
 
 -- what is after a byte, a name and the closing brace
 pub two_more : (n : ℕ) (b : ℕ) (bytes : List ℕ) → drop (n + 2) (b ∷ bytes) ≡ drop 1 (drop n bytes)

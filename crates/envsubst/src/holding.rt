@@ -32,26 +32,6 @@ fn begun(held: &[u8]) -> (bool, &[u8])
     }
 }
 
-/// The length of the begun name at the beginning, if a byte follows that decides about it. `None`
-/// where no name can begin so, or where the bytes end with it.
-fn begun_name_len(bytes: &[u8]) -> Option<usize>
-    ensures begun { IfSome result (λ len. is_begun_name (take len bytes.now) ≡ true) }
-    ensures bound { IfSome result (λ len. len < length bytes.now) }
-{
-    let name = name_prefix(bytes);
-    if name.len() == bytes.len() {
-        return None;
-    }
-    if name.is_empty() {
-        return Some(0);
-    }
-    if is_name(name) {
-        Some(name.len())
-    } else {
-        None
-    }
-}
-
 /// The length of the begun reference at the beginning of a piece, if a byte follows that decides
 /// about it. `None` where the piece doesn't begin with one, or ends with it.
 fn begun_len(piece: &[u8]) -> Option<usize>
@@ -62,11 +42,13 @@ fn begun_len(piece: &[u8]) -> Option<usize>
     if !begins_with(b'$', piece) {
         return None;
     }
-    let after = &piece[1..];
-    if begins_with(b'{', after) {
-        Some(begun_name_len(&after[1..])? + 2)
+    let start = if begins_with(b'{', &piece[1..]) { 2 } else { 1 };
+    let name = name_prefix(&piece[start..]);
+    let len = start + name.len();
+    if len < piece.len() && (name.is_empty() || is_name(name)) {
+        Some(len)
     } else {
-        Some(begun_name_len(after)? + 1)
+        None
     }
 }
 

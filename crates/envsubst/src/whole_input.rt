@@ -125,7 +125,11 @@ fn substitute_all<R: ByteIn, W: ByteOut>(
         (λ text. R.calls reader.new ≤ R.calls reader.old + length text + 1)) }
     ensures no_memory { block ≡ None → result ≢ Err ToolFault.OutOfMemory }
 {
-    let part_len = part_len(vars);
+    // How many bytes of a piece are fed at once, so that what they become doesn't take much memory.
+    let longest = vars
+        .iter()
+        .fold(1, |longest, (_, value)| value.len().max(longest));
+    let part_len = (GATHERED_LEN / longest.max(1)).max(1);
     let mut substituter = Substituter::new(vars, only);
     let mut block = block;
     let mut piece = [0; BUFFER_LEN];
@@ -139,17 +143,6 @@ fn substitute_all<R: ByteIn, W: ByteOut>(
         }
     }
     Err(ToolFault::ReadFault)
-}
-
-/// How many bytes of a piece are fed at once, so that what they become doesn't take much memory.
-fn part_len(vars: &[(&[u8], &[u8])]) -> usize
-    ensures { 0 < result }
-{
-    let mut longest = 1;
-    for (_, value) in vars {
-        longest = value.len().max(longest);
-    }
-    (GATHERED_LEN / longest).max(1)
 }
 
 /// Takes one more piece, with a block in parts of so many bytes. What they become is gathered in
