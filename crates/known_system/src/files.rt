@@ -1,6 +1,6 @@
 //! Files in memory, of one folder: links, one file, which may be there, and a new file beside it.
-ghost use Rattle.std.specs.Prelude.{◌≡◌, ◌++◌, [], Some, None};
-ghost use Rattle.known_system.specs.Prelude.{Place, counted_inner, folder, links_by_path, nothing, replay, stored, telling, tellings};
+ghost use Rattle.std.specs.Prelude.{◌≡◌, [], Some, None};
+ghost use Rattle.known_system.specs.Prelude.{Place, counted_inner, folder, links_by_path, nothing, replay, stored, telling};
 
 use crate::history::{History, Note};
 use crate::stored::{Link, Stored, is_at, is_free, link_at, unless_at, with_bytes, with_path};
@@ -122,19 +122,11 @@ fn told(before: History, links: &[Link<'_>]) -> History
     ensures { (held : Place) → replay before.calls nothing ≡ Some (telling [] held)
         → replay result.calls nothing ≡ Some (folder (links_by_path links.now) held None) }
 {
-    let history = with_links(before, links);
-    history.then(&Note::Numbers(0))
-}
-
-/// The calls, and after them those that tell of the links.
-fn with_links(before: History, links: &[Link<'_>]) -> History
-    ensures { result.calls ≡ before.calls ++ tellings links.now }
-{
     let mut history = before;
     for link in links {
         history = history.then(&Note::Link(link.path, link.to));
     }
-    history
+    history.then(&Note::Numbers(0))
 }
 
 impl<'a> OutputFiles for KnownFiles<'a> {

@@ -73,18 +73,6 @@ impl Told {
     }
 }
 
-/// The copy of the bytes with a piece after them, or none where memory doesn't last.
-fn kept_with(kept: Option<Vec<u8>>, piece: &[u8]) -> Option<Vec<u8>>
-    ensures kept { IfSome result (λ after. IfSome kept (λ before. after.items ≡ before.items ++ piece.now)) }
-    ensures none { kept ≡ None → result ≡ None }
-{
-    let mut bytes = kept?;
-    match bytes.extend_from_slice(piece) {
-        Ok(()) => Some(bytes),
-        Err(_) => None,
-    }
-}
-
 impl ByteOut for Told {
     ghost contents = { λ told. Some told.said.bytes };
 
@@ -94,7 +82,13 @@ impl ByteOut for Told {
 
     fn put(&mut self, piece: &[u8]) -> io::Result<usize> {
         self.said = self.said.then(&Piece { bytes: piece });
-        self.kept = kept_with(self.kept.take(), piece);
+        self.kept = match self.kept.take() {
+            Some(mut bytes) => match bytes.extend_from_slice(piece) {
+                Ok(()) => Some(bytes),
+                Err(_) => None,
+            },
+            None => None,
+        };
         Ok(piece.len())
     }
 }
