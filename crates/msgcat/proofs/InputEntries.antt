@@ -5,7 +5,6 @@ use Rattle.msgcat.specs.Laws.{no_input as no_input_left}
 use Rattle.msgcat.specs.declared.definition.NamedEntry.{NamedEntry as BorrowedEntry}
 use Rattle.po_entry.specs.Prelude.{same_message}
 use Rattle.po_entry.proofs.MessageNumbers.{are_numbered, repeats_of}
-use Rattle.msgcat.specs.Laws.{no_input as no_input_left}
 
 pub definitions_more : (before : List NamedEntry) (name : List ℕ) (entries : List TextEntry) → All IsDefinition before
     → IsUtf8 name → Lacks 0 name → All IsCatalogueEntry entries
