@@ -13,7 +13,8 @@ data Cut (byte : ℕ) : List ℕ → Type 0 where
 
 cut_more : (byte b : ℕ) → b ≢ byte → {text : List ℕ} → Cut byte text → Cut byte (b ∷ text)
 cut_more byte b other (nowhere {text} lacks) = nowhere (All-cons (λ c. c ≢ byte) b text other lacks)
-cut_more byte b other (where_first before after lacks) = where_first (b ∷ before) after (All-cons (λ c. c ≢ byte) b before other lacks)
+cut_more byte b other (where_first before after lacks) =
+    where_first (b ∷ before) after (All-cons (λ c. c ≢ byte) b before other lacks)
 
 cut : (byte : ℕ) (text : List ℕ) → Cut byte text
 cut byte [] = nowhere (All-nil (λ c. c ≢ byte))

@@ -25,14 +25,14 @@ pub use Rattle.std.proofs.Math.Seq.{drop-cons, drop-nil, split_at}
 pub use Rattle.std.proofs.lemmas.Bool.{and_parts, cases_Bool, cases_lt, cond_both, eqb-true, false≢true, lt-ltb, ne_eqb, not-true, not_from_false, or_cases, or_left, or_parts, or_right}
 pub use Rattle.std.proofs.lemmas.Bool.Decides.{Decides-and, Decides-eqb, Decides-like, not_from_Decides}
 pub use Rattle.std.proofs.lemmas.Cmp.{nat_list_cmp_total, nat_list_eq_equiv, on_total, ranked}
-pub use Rattle.std.proofs.lemmas.List.{at_drop_more, get_or-append-add, get_or-map, get_or_default, length-map, map-append, take-append-drop, take-map, take_all, take_min, take_more}
+pub use Rattle.std.proofs.lemmas.List.{at_drop_more, get_or-append-add, get_or-map, get_or_default, length-map, map-append, take-append-drop, take-map, take_all, take_more}
 pub use Rattle.std.proofs.lemmas.List.Elements.{All-append, All-cons, All-contains, All-filter, All-from_all_within, All-head, All-map, All-more, All-nil, All-push, All-tail, All-weaker, filter-append, filter_agree, filter_passes}
 pub use Rattle.std.proofs.lemmas.List.Folds.{find-append, find_at}
 pub use Rattle.std.proofs.lemmas.List.Kept.{AllPairs-cons, AllPairs-filter}
 pub use Rattle.std.proofs.lemmas.List.Sorted.{All-permutation, Contains-permutation, IsPermutation-append_comm, IsPermutation-append_left, IsPermutation-append_right, IsPermutation-cons, IsPermutation-filter_both, IsPermutation-keeps, IsPermutation-map, IsPermutation-middle, IsPermutation-refl, IsPermutation-sym, IsPermutation-trans, answers_always, length_permutation, ranks_by}
 pub use Rattle.std.proofs.lemmas.List.Sums.{fails_before_first, length-filter, passes_at_first, prefix_len-le-length, prefix_len_passes}
 pub use Rattle.std.proofs.lemmas.Map.Made.{AllPairs-from_IsDistinct, Contains-tail, IsDistinct-from_AllPairs}
-pub use Rattle.std.proofs.lemmas.Option.{MatchOption-at_none, MatchOption-at_some, get_or_from_slice_get, none-some, slice_get-get_or, slice_get_within}
+pub use Rattle.std.proofs.lemmas.Option.{MatchOption-at_some, get_or_from_slice_get, none-some, slice_get-get_or, slice_get_within}
 pub use Rattle.std.proofs.lemmas.Result.{IfErr-weaker, IfOk-weaker, MatchResult-from_both, MatchResult-weaker, err_from_is_err_and}
 pub use Rattle.std.proofs.lemmas.Simd.{map-map}
 pub use Rattle.std.proofs.lemmas.Slice.Eq.{bytes_eq-Decides}

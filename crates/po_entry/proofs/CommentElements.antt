@@ -116,9 +116,6 @@ named_is (no_flag {text = text} h) = ap (λ w. kept w []) (sym (is_trimmed text 
 named_is (flag {text = text} {kept = element} some h) =
     sym (some_kept element some []) ∙ ap (λ w. kept w []) (sym (is_trimmed text element h))
 
-abbrev flags_in : List (List ℕ) → List (List ℕ)
-flags_in texts = filter is_not_empty (map trimmed texts)
-
 are_flags : {text : List ℕ} {flags : List (List ℕ)} → ListsFlags text flags → flags ≡ listed_flags text
 are_flags (last {text = text} lacks here) = grind (arith, common_steps, named_is, slice_split_none, lacks_fails)
 are_flags (lists_more {text = text} {rest = rest} {here = here} {later = later} lacks named others) =

@@ -3,7 +3,7 @@ pub use Rattle.po_entry.specs.Comments.{blank, first, flag, fuzzy, here, last, l
 pub use Rattle.po_entry.specs.Facts.EqualityLaws.{answer, entry_decide}
 pub use Rattle.po_entry.specs.Facts.FirstRepeats.{all_of_both, none_or_first_repeat, none_repeats, one_repeat, pairs_map, pairs_of_map, repeat_by, repeat_map}
 pub use Rattle.po_entry.specs.Header.{ascii, at_byte, at_end, named, no_name, template, unnamed, us_ascii, utf8, utf_8}
-pub use Rattle.po_entry.specs.Prelude.{Adds, AdmitsCharset, AllDiffer, AreLaid, AreNumbered, AreTexts, AreUpTo, CanLie, CommentText, CountsAddUp, DifferUpTo, EmptyAreUntranslated, EndsContext, EndsName, EndsReference, EntryTextFault, FaultNamesEarlier, FlaggedAreFuzzy, Grows, HasAdmittedCharset, HasNoDuplicate, HasTexts, HaveFuzzyFlag, HaveReferences, InputEntry, IsAdmittedName, IsAfterName, IsAround, IsCatalogueEntry, IsClean, IsDuplicateFault, IsEntry, IsFirstDuplicate, IsFirstRepeat, IsHeaderEntry, IsNumbered, IsSameMessage, IsWithoutBlanks, KeepsFlags, Lacks, LiesIn, ListsFlags, ListsReferences, Message, NamesAdmitted, NamesCharset, NamesEarlier, NamesFlag, OmitsLaterHeaders, PluralFollows, Repeats, RepeatsAt, RepeatsOnLines, SpellsEntries, SpellsHead, TextEntry, WritesCount, WritesFurther, WritesStatistics, after_charset, after_nul, all_listed_flags, are_placed, changed_at, charset_of, context_in, context_length, counted, cut_texts, digest_of, duplicate_fault, ends_name, entries_from, entries_in, entries_of, entries_of_inputs, entry_at, entry_bytes, entry_message, entry_messages, entry_of, entry_view, first_form, first_ones, flags_of, forms_in, forms_left, forms_of, further, further_texts, fuzzy_of, group_numbers, has_empty_first_form, has_header_before, has_no_head, has_translation, head_at, head_bytes, head_parts, in_input, is_counted, is_empty_list, is_fuzzy, is_fuzzy_flag, is_header, is_live, is_live_header, is_looked_at, is_not_empty, is_omitted, is_translated, is_untranslated, join_out_of_memory, joined_from, kept_entries, key_bytes, key_writes, keys_writes, length_bytes, listed_flags, listed_references, live_entries, live_messages, measured, moved, no_previous, number_in, optional_bytes, optional_in, own_at, own_bytes, part_at, place_of, plain_entry, plural_in, previous_in, previous_texts, quoted_texts, references_of, row_of, same_kind, same_message, set_fuzzy, set_obsolete, split_forms, stats_line, stats_of, text_before, text_length, texts, texts_after, texts_left, trimmed, with_flag, with_new, with_seen}
+pub use Rattle.po_entry.specs.Prelude.{Adds, AdmitsCharset, AllDiffer, AreLaid, AreNumbered, AreTexts, AreUpTo, CanLie, CommentText, CountsAddUp, DifferUpTo, EmptyAreUntranslated, EndsContext, EndsName, EndsReference, EntryTextFault, FaultNamesEarlier, FlaggedAreFuzzy, Grows, HasAdmittedCharset, HasNoDuplicate, HasTexts, HaveFuzzyFlag, HaveReferences, InputEntry, IsAdmittedName, IsAfterName, IsAround, IsCatalogueEntry, IsClean, IsDuplicateFault, IsEntry, IsFirstDuplicate, IsFirstRepeat, IsHeaderEntry, IsNumbered, IsSameMessage, IsWithoutBlanks, KeepsFlags, Lacks, LiesIn, ListsFlags, ListsReferences, Message, NamesAdmitted, NamesCharset, NamesEarlier, NamesFlag, OmitsLaterHeaders, PluralFollows, Repeats, RepeatsAt, RepeatsOnLines, SpellsEntries, SpellsHead, TextEntry, WritesCount, WritesFurther, WritesStatistics, after_charset, after_nul, all_listed_flags, are_placed, changed_at, charset_of, context_in, context_length, counted, cut_texts, digest_of, duplicate_fault, ends_name, entries_from, entries_in, entries_of, entries_of_inputs, entry_at, entry_bytes, entry_message, entry_messages, entry_of, entry_view, first_form, first_ones, flags_of, forms_in, forms_left, forms_of, further, further_texts, fuzzy_of, group_numbers, has_header_before, has_no_head, head_at, head_bytes, head_parts, in_input, is_empty_list, is_fuzzy_flag, is_header, is_live, is_live_header, is_looked_at, is_not_empty, is_omitted, join_out_of_memory, joined_from, kept_entries, key_bytes, key_writes, keys_writes, length_bytes, listed_flags, listed_references, live_entries, measured, moved, no_previous, number_in, optional_bytes, optional_in, own_at, own_bytes, part_at, place_of, plain_entry, plural_in, previous_in, previous_texts, quoted_texts, references_of, row_of, same_kind, same_message, split_forms, stats_line, stats_of, text_before, text_length, texts, texts_after, texts_left, trimmed, with_flag, with_new, with_seen}
 unfoldable pub use Rattle.po_entry.specs.Prelude.{message_hash, texts_in}
 pub use Rattle.po_entry.specs.Validity.EntryTextFault.{forbidden, not_utf8}
 pub use Rattle.po_entry.specs.declared.duplicate.JoinError.{JoinError}
@@ -35,8 +35,8 @@ pub use Rattle.std.proofs.lemmas.Map.Views.{Contains-from_any}
 pub use Rattle.std.proofs.lemmas.Slice.Eq.{bytes_eq-Decides, starts_is}
 pub use Rattle.std.proofs.lemmas.Str.{IsUtf8-from_is_utf8, IsUtf8-nil, is_utf8-from_IsUtf8}
 pub use Rattle.std.specs.Char.{to_ascii_lowercase}
-pub use Rattle.std.specs.Cmp.{IsEquivalence, and_equiv, nat_eq_equiv, on_equiv}
-pub use Rattle.std.specs.Cmp.Lexicographic.{nat_list_eq_equiv, options_equiv}
+pub use Rattle.std.specs.Cmp.{IsEquivalence, nat_eq_equiv}
+pub use Rattle.std.specs.Cmp.Lexicographic.{nat_list_eq_equiv}
 pub use Rattle.std.specs.Global.{Vec}
 pub use Rattle.std.specs.Hash.DefaultHasher.{finish, initial, write}
 pub use Rattle.std.specs.List.{IsAllAdjacentAnswer, before_first, flat_map, join_with_byte, list_any, position_or_len, prefix_len, slice_split, starts_with}

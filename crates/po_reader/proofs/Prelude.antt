@@ -19,7 +19,7 @@ pub use Rattle.po_syntax.proofs.Faults.{passed_on}
 pub use Rattle.po_syntax.proofs.OneOutcome.{fault_once, line_items_once}
 pub use Rattle.po_syntax.specs.Facts.AllAppend.{All-left, All-right}
 pub use Rattle.po_syntax.specs.Item.{Comment, Str, Word}
-pub use Rattle.po_syntax.specs.Prelude.{BeginsAnew, CanEnd, EndsInString, FailsFirst, HoldsText, IsCleanLine, IsComment, IsCommentOf, IsFaultOf, IsNew, IsPiece, IsString, IsText, LeftAnew, LeftStops, LineBeginsAnew, LinesLeft, OfString, SpellsLeft, SpellsLines, SpellsText, TextFault, TextItem, is_blank, line_of, skip_blanks, view, views, without_end}
+pub use Rattle.po_syntax.specs.Prelude.{BeginsAnew, EndsInString, FailsFirst, HoldsText, IsCleanLine, IsComment, IsCommentOf, IsFaultOf, IsNew, IsPiece, IsString, IsText, LeftAnew, LeftStops, LineBeginsAnew, LinesLeft, OfString, SpellsLeft, SpellsLines, SpellsText, TextFault, TextItem, is_blank, line_of, skip_blanks, view, views, without_end}
 pub use Rattle.po_syntax.specs.declared.fault.PoError.{PoError}
 pub use Rattle.po_syntax.specs.declared.fault.PoFault.{PoFault}
 pub use Rattle.po_syntax.specs.declared.fault.PoFault.TheVariants.{BadOrder, BadPluralIndex, ForeignCharset, MixedObsolete, OutOfMemory}
@@ -28,7 +28,7 @@ pub use Rattle.po_syntax.specs.declared.item.CommentKind.TheVariants.{Extracted,
 pub use Rattle.po_syntax.specs.declared.item.Keyword.{Keyword}
 pub use Rattle.po_syntax.specs.declared.item.Keyword.TheVariants.{MsgCtxt, MsgId, MsgIdPlural, MsgStr, MsgStrAt}
 pub use Rattle.po_syntax.specs.declared.item.Marks.{Marks}
-pub use Rattle.std.proofs.Common.{Bool, IsUtf8, List, None, Option, Some, [], add-one, ap, append-nil, append_assoc, ap₂, arith, codes, drop, drop-cons, false, filter, fold, get_or, inl, inr, length, length-drop, map, nat_lt, refl, rules, subst, subst₂, suc, sym, take, tests, true, true≢false, zero, ℕ, ◌&&◌, ◌++◌, ◌+◌, ◌-◌, ◌<◌, ◌==◌, ◌||◌, ◌↔◌, ◌∙◌, ◌∷◌, ◌≡◌, ◌≢◌, ◌≤◌, ◌⊎◌}
+pub use Rattle.std.proofs.Common.{Bool, IsUtf8, List, None, Option, Some, [], add-one, ap, append-nil, append_assoc, arith, codes, drop, drop-cons, false, filter, fold, get_or, inl, inr, length, length-drop, map, nat_lt, refl, rules, subst, subst₂, suc, sym, take, tests, true, true≢false, zero, ℕ, ◌&&◌, ◌++◌, ◌+◌, ◌-◌, ◌<◌, ◌==◌, ◌||◌, ◌↔◌, ◌∙◌, ◌∷◌, ◌≡◌, ◌≢◌, ◌≤◌, ◌⊎◌}
 pub use Rattle.std.proofs.lemmas.Bool.{and_parts, cases_Bool, eq-eqb, eqb-false, eqb-true, false≢true, le-ltb, lt-ltb, ltb-true, ne_eqb, not-false, not-true}
 pub use Rattle.std.proofs.lemmas.Grind.{common_steps}
 pub use Rattle.std.proofs.lemmas.List.{drop_all, length-append, length-map, map_push, take_all}

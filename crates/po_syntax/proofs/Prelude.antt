@@ -30,7 +30,7 @@ pub use Rattle.std.proofs.lemmas.Grind.{flat_map-append, get_or_default_zero}
 pub use Rattle.std.proofs.lemmas.Iterator.{YieldsList-from_slice}
 pub use Rattle.std.proofs.lemmas.Iterator.Consumers.{count_from_yields_List}
 pub use Rattle.std.proofs.lemmas.Iterator.Search.{YieldsList-from_take_while, all_from_yields_List}
-pub use Rattle.std.proofs.lemmas.List.{drop-drop, drop-take, drop_all, get_or-take, length-map, length-take, length_push, map_push, nil_from_length, take-append-drop, take-take, take_all, take_min, take_more}
+pub use Rattle.std.proofs.lemmas.List.{drop-drop, drop-take, drop_all, get_or-take, length-map, length-take, length_push, map_push, take-append-drop, take-take, take_all, take_min, take_more}
 pub use Rattle.std.proofs.lemmas.List.Elements.{All-append, All-cons, All-contains_itself, All-drop, All-head, All-nil, All-push, All-tail, All-take}
 pub use Rattle.std.proofs.lemmas.List.Folds.{length-prefix_len}
 pub use Rattle.std.proofs.lemmas.List.Quantifiers.{position-Some}

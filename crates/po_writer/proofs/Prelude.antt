@@ -16,7 +16,7 @@ pub use Rattle.po_syntax.specs.declared.item.Marks.{Marks}
 pub use Rattle.po_writer.specs.Laws.{absent, after_empty_line, each_line, first_entry, form, fuzzy, line, line_end, live_before, live_first, next_element, no_comments, no_entries, no_forms, no_further, no_line, no_text, obsolete_first, one_ended_line, one_line, only, own, own_live, own_obsolete, plain, present, previous_live, previous_obsolete, with_plural, written}
 pub use Rattle.po_writer.specs.Prelude.{AreAdded, AreParts, EachEndsInItsOnlyFeed, FollowEntries, HasParts, IsArranged, IsOwnPrefix, IsPreviousPrefix, StandInOrder, WritesComments, WritesElements, WritesEntry, WritesFlags, WritesForms, WritesFurther, WritesKeyword, WritesOptional, WritesText, WritesTranslation, all_flags, arranged, comment_lines, elements_line, entry_lines, form_lines, in_order, keyword_lines, optional_lines, own_lines, own_prefix, previous_lines, previous_prefix, string_line, text_lines, translation_lines, with_entry, written_text}
 pub use Rattle.po_writer.specs.declared.parts.TextParts.{TextParts}
-pub use Rattle.std.proofs.Common.{All, Bool, Contains, List, None, Option, Some, [], add-one, ap, append_assoc, ap₂, arith, bytes_eq, codes, cond, decimal, drop, false, filter, get_or, if◌then◌else◌, inl, inr, length, length-append, map, nat_lt, not, option_to_list, refl, rules, slice_index_or, subst, suc, sym, take, true, vec_len, zero, ℕ, ⊎_elim, ◌%◌, ◌&&◌, ◌++◌, ◌+◌, ◌/◌, ◌<◌, ◌==◌, ◌^◌, ◌||◌, ◌∙◌, ◌∷◌, ◌≡◌, ◌≢◌, ◌≤◌}
+pub use Rattle.std.proofs.Common.{All, Bool, Contains, List, None, Option, Some, [], add-one, ap, append_assoc, ap₂, arith, bytes_eq, codes, cond, decimal, drop, false, filter, get_or, if◌then◌else◌, inl, length, length-append, map, nat_lt, not, option_to_list, refl, rules, slice_index_or, subst, suc, sym, take, true, vec_len, zero, ℕ, ⊎_elim, ◌&&◌, ◌++◌, ◌+◌, ◌<◌, ◌==◌, ◌^◌, ◌||◌, ◌∙◌, ◌∷◌, ◌≡◌, ◌≢◌, ◌≤◌}
 pub use Rattle.std.proofs.lemmas.Bool.{and_parts, cond-true, cond_both, eqb-false, eqb-true, false_from_ne_true, lt-ltb, ltb-true, ne_eqb, not-true, not_from_true, or_parts}
 pub use Rattle.std.proofs.lemmas.Grind.{common_steps}
 pub use Rattle.std.proofs.lemmas.List.{append-nil, drop_all, get_or_default, map-append, same_from_push, take_all}

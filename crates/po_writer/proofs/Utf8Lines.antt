@@ -1,5 +1,5 @@
 -- Texts that may stand on a line, as the written bytes of UTF-8 may.
-use Rattle.po_writer.proofs.Prelude.{All, All-append, All-cons, All-left, All-nil, All-right, AllPass-from_list_all, Bool, ContainsLines, IsText, IsUtf8, Lacks, List, [], all_scalars, and_parts, append_assoc, arith, common_steps, cond, cond_both, encode_utf8_all, ended, false, get_or, last, length, length-append, list_all, ltb-true, nat_lt, none, quoted, subst, sym, true, ℕ, ⊎_elim, ◌&&◌, ◌++◌, ◌+◌, ◌<◌, ◌∷◌, ◌≡◌, ◌≢◌, ◌≤◌}
+use Rattle.po_writer.proofs.Prelude.{All, All-append, All-cons, All-left, All-nil, All-right, AllPass-from_list_all, Bool, ContainsLines, IsText, IsUtf8, Lacks, List, [], all_scalars, and_parts, append_assoc, arith, common_steps, encode_utf8_all, ended, get_or, last, length, length-append, list_all, ltb-true, nat_lt, none, quoted, subst, sym, true, ℕ, ⊎_elim, ◌&&◌, ◌++◌, ◌+◌, ◌<◌, ◌∷◌, ◌≡◌, ◌≢◌, ◌≤◌}
 use Rattle.std.proofs.Math.Utf8.{encode, scalar_cases}
 use Rattle.std.proofs.Math.Seq.{drop-append_seam, get_or-append_seam, take-append_seam}
 use Rattle.std.proofs.lemmas.Str.{IsCharBoundary-after_ascii, IsUtf8-append, IsUtf8-drop, IsUtf8-from_ascii, IsUtf8-nil, IsUtf8-take}
@@ -8,16 +8,6 @@ use Rattle.po_syntax.proofs.QuotedForms.{quoted_shown, quoted_utf8}
 
 abbrev IsByte : ℕ → Type 0
 IsByte b = b < 256
-
-two : (a b : ℕ) → a < 256 → b < 256 → All IsByte (a ∷ b ∷ [])
-two a b h g = All-cons IsByte a (b ∷ []) h (All-cons IsByte b [] g (All-nil IsByte))
-
-three : (a b c : ℕ) → a < 256 → b < 256 → c < 256 → All IsByte (a ∷ b ∷ c ∷ [])
-three a b c h g i = All-cons IsByte a (b ∷ c ∷ []) h (two b c g i)
-
-if_bytes : (test : Bool) (xs ys : List ℕ) → (test ≡ true → All IsByte xs) → (test ≡ false → All IsByte ys)
-    → All IsByte (cond test xs ys)
-if_bytes test xs ys h g = cond_both test xs ys (All IsByte) h g
 
 encode_bytes : (c : ℕ) → c < 1114112 → All IsByte (encode c)
 unfolding encode

@@ -169,12 +169,6 @@ some_both prefix (entry ∷ entries) some more =
     append_assoc (in_order prefix) (10 ∷ []) (in_order (entry ∷ entries))
     ∙ sym (further (in_order prefix) (entry ∷ entries) some) ∙ grown prefix (entry ∷ entries)
 
-abbrev pub live_of : List TextEntry → List TextEntry
-live_of entries = filter (λ e. not e.obsolete) entries
-
-abbrev pub obsolete_of : List TextEntry → List TextEntry
-obsolete_of entries = filter (λ e. e.obsolete) entries
-
 -- further entries after those of both parts
 pub added_parts : (before entries : List TextEntry) (old new : TextParts) → AreAdded entries old new
     → AreParts before old → AreParts (before ++ entries) new
