@@ -1,7 +1,7 @@
 //! Which entries are kept, and what becomes of them.
 
 ghost use Rattle.std.specs.Prelude.{◌≡◌, ◌<◌, IfOk, OnErr, false, length};
-ghost use Rattle.msgattrib.specs.Prelude.{IsChangedAt, changed, entry_view, fuzzy_after, is_emptied, is_kept, is_live_header, no_previous, obsolete_after, set_fuzzy, set_obsolete};
+ghost use Rattle.msgattrib.specs.Prelude.{IsChangedAt, changed, entry_view, fuzzy_after, is_emptied, is_kept, is_live_header, obsolete_after, set_fuzzy, set_obsolete};
 
 use crate::attributes::Attributes;
 use po_entry::{EntryRef, Fields, Previous, Store};
@@ -135,7 +135,11 @@ impl Selection {
         ensures { result ≡ false → changed self.now entry.now
             ≡ set_obsolete (obsolete_after self.now entry.now) (set_fuzzy (fuzzy_after self.now entry.now) entry.now) }
     {
-        self.empties(entry) || (self.clear_previous && has_previous(entry))
+        self.empties(entry)
+            || self.clear_previous
+                && (entry.previous_context().is_some()
+                    || entry.previous_id().is_some()
+                    || entry.previous_plural().is_some())
     }
 }
 
@@ -144,13 +148,4 @@ fn is_live_header<E: Attributes>(entry: &E) -> bool
     ensures { result ≡ is_live_header (E.entry entry.now) }
 {
     entry.is_header() && !entry.is_obsolete()
-}
-
-/// Whether an entry has a previous text.
-fn has_previous(entry: &EntryRef<'_>) -> bool
-    ensures { result ≡ false → entry.now.previous ≡ no_previous }
-{
-    entry.previous_context().is_some()
-        || entry.previous_id().is_some()
-        || entry.previous_plural().is_some()
 }
