@@ -1,5 +1,6 @@
 -- What is common to all commands: what a known system holds before a run and after it, and its one end.
-use Rattle.known_runs.proofs.Prelude.{Bool, CataloguesAreOne, Compiled, Contents, End, EndsInFile, EndsLookUp, EndsMsgfmt, EndsOverFiles, EndsSubstituted, Err, HasStatus, Holds, IfSome, IsCompiledFrom, IsDone, IsFileFault, IsMsgfmtRun, Leads, Leaves, Links, List, Little, MsgfmtOptions, NamedFile, None, Ok, OneEnd, OneMsgfmtRun, Option, OutOfMemory, Place, ProgramFault, Query, ReaderView, Reading, ReadsAs, Result, RunView, RunsInMemory, RunsOverFiles, RunsTool, Some, SystemView, TextEntry, Values, [], answered, answers_in, ap, arith, bytes_at, bytes_of, codes, compiled, compiled_list, compiled_run, contents, cut, empty, end, failed, false, false≢true, folder, follows, gives, header_of, if◌then◌else◌, inl, inr, is_some, is_standard, join_line, joined_entries, left as leaves_it, line_in, links_by_path, ltb-false, meant, nat_lt, nothing, option_map, output_file, program_text, reached, reader_of, reading_of, refl, refusal, refused, refuses, replay, started, stats_of, stored, subst, substituted, sym, system, system_after, system_before, texts_by_name, there as link_there, true, unstarted, writer, ℕ, ◌++◌, ◌<◌, ◌∙◌, ◌∷◌, ◌≡◌}
+use Rattle.known_runs.proofs.Prelude.{Bool, CataloguesAreOne, Compiled, Contents, End, EndsInFile, EndsLookUp, EndsMsgfmt, EndsOverFiles, EndsSubstituted, Err, HasStatus, Holds, IfSome, IsCompiledFrom, IsDone, IsFileFault, IsMsgfmtRun, Leads, Leaves, Links, List, Little, MsgfmtOptions, NamedFile, None, Ok, OneEnd, OneMsgfmtRun, Option, OutOfMemory, Place, ProgramFault, Query, ReaderView, Reading, ReadsAs, Result, RunView, RunsInMemory, RunsOverFiles, RunsTool, Some, SystemView, TextEntry, Values, [], answered, answers_in, ap, arith, bytes_at, bytes_of, codes, compiled, compiled_list, compiled_run, contents, cut, empty, end, failed, false, false≢true, folder, follows, gives, header_of, if◌then◌else◌, inl, inr, is_some, is_standard, join_line, joined_entries, left as leaves_it, line_in, links_by_path, ltb-false, meant, nat_lt, nothing, option_map, output_file, program_text, reached, reader_of, reading_of, refl, refusal, refused, refuses, replay, started, stats_of, stored, subst, substituted, sym, system, system_after, system_before, texts_by_name, there as link_there, true, unstarted, writer, ℕ, ◌++◌, ◌<◌, ◌∙◌, ◌∷◌, ◌≡◌, IsTextOr, unwrap_or, IsEither, IsMsgattribRun, IsSelection, all_as_they_are}
+use Rattle.msgattrib.specs.declared.selection.Selection.{Selection}
 use Rattle.known_system.proofs.Calls.{at_its_path}
 use Rattle.runs.specs.declared.tool.Tool.{Tool}
 use Rattle.known_system.specs.declared.files.KnownFiles.{KnownFiles}
@@ -170,34 +171,77 @@ module _ (IsRun : RunView → Type 0) (path : List ℕ) (named : is_standard pat
   run_ends run = by_create run run.create refl
 
 -- a tool of one input, whose text is known
-pub one_ends : (IsRun : NamedFile → RunView → Type 0) (text path : List ℕ) → is_standard path ≡ false
-    → (old new : Contents) → old.links ≡ [] → old.out ≡ [] → old.err ≡ []
-    → {before after : SystemView} (source : tools.Asking)
-    → (input : List ℕ) → is_standard input ≡ false
-    → ((reading : Reading) → source.file input reading → reading ≡ gives text)
-    → ((run : RunView) (result : Result ℕ ProgramFault) → tools.Writes run path before after result
+module _ (IsRun : NamedFile → RunView → Type 0) (text input path : List ℕ) (named : is_standard path ≡ false)
+    (from_file : is_standard input ≡ false) (old new : Contents) (links : old.links ≡ []) (out : old.out ≡ [])
+    (err : old.err ≡ []) {before after : SystemView} (source : tools.Asking)
+    (is : (reading : Reading) → source.file input reading → reading ≡ gives text)
+    (leaves : (run : RunView) (result : Result ℕ ProgramFault) → tools.Writes run path before after result
     → Leaves run path old new result)
-    → (after ≡ before → new ≡ old)
-    → {result : Result ℕ ProgramFault} → tools.RunsInput source IsRun input path before after result
-    → EndsInFile (IsRun (record { name = input; bytes = text })) path (bytes_at path old.held)
-    (end result (bytes_at path new.held) new.out new.err)
-one_ends IsRun text path named old new links out err source input from_file is leaves same
-    (tools.runs_one {bytes} {run} {result} reads planned writes) =
-    let e : gives bytes ≡ gives text =
-    is _ (subst (λ b. ReadsAs source.file source.standard input b false (gives bytes)) from_file reads) in
-    let these : bytes ≡ text = cc in
-    run_ends (IsRun (record { name = input; bytes = text })) path named old new links out err run
-    (subst (λ b. IsRun (record { name = input; bytes = b }) run) these
-    (subst (λ n. IsRun (record { name = n; bytes = bytes }) run) (rw from_file refl) planned))
-    (leaves run result writes)
-one_ends IsRun text path named old new links out err source input from_file is leaves same
-    (tools.unread fault unchanged) =
-    let e : refuses fault.why ≡ gives text =
-    is _ (subst (λ b. ReadsAs source.file source.standard input b false (refuses fault.why)) from_file fault.reads) in
-    cc
-one_ends IsRun text path named old new links out err source input from_file is leaves same
-    (tools.out_of_memory seen unchanged) =
-    fails _ path named old new links out err _ (inl refl) (same unchanged)
+    (same : after ≡ before → new ≡ old) where
+  abbrev OneEnds : Result ℕ ProgramFault → Type 0
+  OneEnds result =
+      EndsInFile (IsRun (record { name = input; bytes = text })) path (bytes_at path old.held)
+      (end result (bytes_at path new.held) new.out new.err)
+
+  one_ends : {result : Result ℕ ProgramFault} → tools.RunsInput source IsRun input path before after result
+      → OneEnds result
+  one_ends (tools.runs_one {bytes} {run} {result} reads planned writes) =
+      let e : gives bytes ≡ gives text =
+      is _ (subst (λ b. ReadsAs source.file source.standard input b false (gives bytes)) from_file reads) in
+      let these : bytes ≡ text = cc in
+      run_ends (IsRun (record { name = input; bytes = text })) path named old new links out err run
+      (subst (λ b. IsRun (record { name = input; bytes = b }) run) these
+      (subst (λ n. IsRun (record { name = n; bytes = bytes }) run) (rw from_file refl) planned))
+      (leaves run result writes)
+  one_ends (tools.unread fault unchanged) =
+      let e : refuses fault.why ≡ gives text =
+      is _ (subst (λ b. ReadsAs source.file source.standard input b false (refuses fault.why)) from_file fault.reads) in
+      cc
+  one_ends (tools.out_of_memory seen unchanged) =
+      fails _ path named old new links out err _ (inl refl) (same unchanged)
+
+  -- by the words of the command line
+  pub line_ends : (given : List ℕ → Option (List ℕ)) → given (codes "FILE") ≡ Some input
+      → given (codes "output-file") ≡ Some path → {argument output : List ℕ}
+      → IsTextOr (λ name t. t ≡ given name) (codes "FILE") (codes "-") argument
+      → IsTextOr (λ name t. t ≡ given name) (codes "output-file") (codes "-") output
+      → {result : Result ℕ ProgramFault} → tools.RunsInput source IsRun argument output before after result
+      → OneEnds result
+  line_ends given from to {argument} {output} comes goes {result} ran =
+      let there : output ≡ path = goes.value_is ∙ ap (λ t. unwrap_or t (codes "-")) (goes.given_is ∙ to) in
+      let here : argument ≡ input = comes.value_is ∙ ap (λ t. unwrap_or t (codes "-")) (comes.given_is ∙ from) in
+      one_ends
+      (subst (λ a. tools.RunsInput source IsRun a path before after result) here
+      (subst (λ t. tools.RunsInput source IsRun argument t before after result) there ran))
+
+-- What `msgattrib a.po -o b.po` selects.
+
+neither : {name other : List ℕ} {value : Bool} → IsEither (λ name flag. flag ≡ false) name other value → value ≡ false
+neither is = is.either ∙ rw (is.first_is, is.second_is) refl
+
+-- no flag keeps all as they are
+pub selection_is : (s : Selection) → IsSelection (λ name flag. flag ≡ false) s → s ≡ all_as_they_are
+selection_is s is =
+    rw (
+      is.translated,
+      is.untranslated,
+      is.no_fuzzy,
+      neither is.only_fuzzy,
+      is.no_obsolete,
+      neither is.only_obsolete,
+      is.set_fuzzy,
+      neither is.clear_fuzzy,
+      is.set_obsolete,
+      neither is.clear_obsolete,
+      is.clear_previous,
+      is.empty,
+    ) refl
+
+pub all_selected : (s : Selection) → s ≡ all_as_they_are → (name text path : List ℕ) (old : Option (List ℕ)) (is : End)
+    → EndsInFile (IsMsgattribRun name s text) path old is
+    → EndsInFile (IsMsgattribRun name all_as_they_are text) path old is
+all_selected s same name text path old is ends =
+    subst (λ t. EndsInFile (IsMsgattribRun name t text) path old is) same ends
 
 -- Commands have one end.
 

@@ -3,6 +3,5 @@ mod Prelude
 pub mod Envsubst
 pub mod Msgfmt
 pub mod CommandRuns
-pub mod MsgattribAndMsgunfmt
 pub mod Msgcat
 pub mod LookUps

@@ -1,9 +1,9 @@
 -- What a look-up in a catalogue comes to that is compiled from a text.
-use Rattle.known_runs.proofs.Prelude.{Answers, AsksFor, Bool, CatalogView, CommandLine, Compiled, Contents, End, EndsLookUp, Err, IsCatalogView, IsCompiledFrom, Leaves, List, NamedFile, None, Ok, Option, OutOfMemory, ProgramFault, Query, Reached, Reading, Result, RunView, RunsLookUpLine, RunsTool, Some, SystemView, Writes, [], a_form, a_message, and_parts, answered, answers_of, ap, append-nil, arith, chain_answered, codes, compiled_list, counted, end, false, false≢true, filed, fits_none, forms_found, gives, hello_mo, if◌then◌else◌, inl, inr, is_some, joined_entries, left, line_of, looks_up, ltb-true, meant, message, nat_lt, option_copied, option_map_or, plain, printed, refl, refuses, slice_index, status_or_memory, subst, suc, sym, take, true, untranslated, zero, ℕ, ◌&&◌, ◌++◌, ◌-◌, ◌<◌, ◌^◌, ◌∙◌, ◌∷◌, ◌≡◌}
+use Rattle.known_runs.proofs.Prelude.{Answers, AsksFor, Bool, CatalogView, CommandLine, Compiled, Contents, End, EndsLookUp, Err, IsCatalogView, IsCompiledFrom, Leaves, List, NamedFile, None, Ok, Option, OutOfMemory, ProgramFault, Query, Reached, Reading, Result, RunView, RunsLookUpLine, RunsTool, Some, Writes, [], a_form, a_message, and_parts, answered, answers_of, ap, append-nil, arith, chain_answered, codes, compiled_list, counted, end, false, false≢true, filed, fits_none, forms_found, gives, hello_mo, if◌then◌else◌, inl, inr, is_some, joined_entries, left, line_of, looks_up, ltb-true, meant, message, nat_lt, option_copied, option_map_or, plain, printed, refl, refuses, slice_index, status_or_memory, subst, suc, sym, take, true, untranslated, zero, ℕ, ◌&&◌, ◌++◌, ◌-◌, ◌<◌, ◌^◌, ◌∙◌, ◌∷◌, ◌≡◌}
 use Rattle.known_runs.proofs.CommandRuns.{after_none}
 use Rattle.std.proofs.lemmas.Str.{IsUtf8-from_ascii}
 use Rattle.std.specs.Borrow.{Bor}
-use Rattle.gettext.specs.Prelude.{AreCatalogues, AsksGettext, AsksNgettext, CommandView, GettextRequest, GettextUsage, GivenDomain, IsEnvironment, IsGettextRequest, IsLookUpRun, IsNgettextRequest, NgettextRequest, NgettextUsage, Opens, RunsLookUp, Searching, environment_view, gettext_output, gettext_usage, given_domain, ngettext_output, ngettext_usage, output_of, output_run, paths_of, searching, with_name}
+use Rattle.gettext.specs.Prelude.{AreCatalogues, AsksGettext, AsksNgettext, CommandView, GettextRequest, GettextUsage, GivenDomain, IsEnvironment, IsGettextRequest, IsLookUpRun, IsNgettextRequest, NgettextRequest, NgettextUsage, Opens, RunsLookUp, environment_view, gettext_output, gettext_usage, given_domain, ngettext_output, ngettext_usage, output_of, output_run, paths_of, searching, with_name}
 use Rattle.gettext.specs.Catalogues.{done, found, skipped}
 use Rattle.gettext.specs.Plan.{none, opened, refused}
 use Rattle.gettext.specs.Arguments.{asks_messages, asks_plural_form, fits_no_gettext, fits_no_ngettext}
@@ -66,88 +66,6 @@ by_found catalog query (Some forms) is =
 chain_of_one : (catalog : CatalogView) (query : Query)
     → chain_answered (catalog ∷ []) query ≡ catalog_answered catalog query
 chain_of_one catalog query = by_found catalog query _ refl
-
-module _ (text bytes : List ℕ) (query : Query) (made : Compiled) (from : IsCompiledFrom text made)
-    (same_bytes : bytes ≡ made.bytes.items) (no_fault : NoFaultOfMoFile) (one_list : OneMessageList) where
-  -- what is printed where the catalogue is opened
-  opens_answers : {tool : List ℕ} (chain : List CatalogView) (reported : List ℕ)
-      → Opens tool (record { name = hello_mo; bytes = bytes } ∷ []) chain reported
-      → EndsLookUp text query (end (Ok 0) None (chain_answered chain query).text reported)
-  opens_answers chain reported (opened {catalog} order is view none) =
-      let valid = subst (λ b. IsMoFile plain.order b from.is.laid_out.messages) (sym same_bytes) from.is.valid in
-      let same : catalog.messages ≡ from.is.laid_out.messages = (one_list bytes order _ _ _ is valid).1 in
-      let rule_is = from.is.means.rule catalog.rule (subst (λ m. IsCatalogView m catalog.rule) same view) in
-      let says : (chain_answered (catalog ∷ []) query).text
-      ≡ (meant (compiled_list false (joined_entries from.catalogues)) catalog.rule query).text =
-      ap (λ a. a.text) (chain_of_one catalog query
-      ∙ ap (λ m. catalog_answered (record { messages = m; rule = catalog.rule }) query) same
-      ∙ from.is.means.answers catalog.rule query) in
-      subst (λ o. EndsLookUp text query (end (Ok 0) None o [])) (sym says) (answered catalog.rule from.read rule_is)
-  opens_answers chain reported (refused fault others) =
-      absurd (no_fault bytes _ _ _
-      (subst (λ b. IsMoFile plain.order b from.is.laid_out.messages) (sym same_bytes) from.is.valid) fault)
-
-  module _ (old new : Contents) (out : old.out ≡ []) (err : old.err ≡ []) (before after : SystemView)
-      (system : Searching)
-      (no_all : (v : Option (List ℕ)) → system.variable (codes "LC_ALL") v → v ≡ None)
-      (no_messages : (v : Option (List ℕ)) → system.variable (codes "LC_MESSAGES") v → v ≡ None)
-      (lang : (v : Option (List ℕ)) → system.variable (codes "LANG") v → v ≡ Some (codes "fr"))
-      (no_language : (v : Option (List ℕ)) → system.variable (codes "LANGUAGE") v → v ≡ None)
-      (no_folder : (v : Option (List ℕ)) → system.variable (codes "TEXTDOMAINDIR") v → v ≡ None)
-      (is : (reading : Reading) → system.file hello_mo reading → reading ≡ gives bytes)
-      (leaves : (run : RunView) (result : Result ℕ ProgramFault) → Writes run (codes "-") before after result
-      → Leaves run (codes "-") old new result)
-      (same : after ≡ before → new ≡ old) where
-    abbrev now : Result ℕ ProgramFault → End
-    now result = end (status_or_memory result) None new.out new.err
-
-    paths_are : (env : Environment) → IsEnvironment system.variable (environment_view env)
-        → paths_of (Some (codes "hello")) None env ≡ hello_mo ∷ []
-    paths_are env read =
-        paths_by env.lc_all env.lc_messages env.lang env.language env.textdomain env.textdomaindir
-        (no_all _ read.lc_all) (no_messages _ read.lc_messages) (lang _ read.lang) (no_language _ read.language)
-        (no_folder _ read.textdomaindir)
-
-    catalogues_are : (catalogues : List NamedFile) → AreCatalogues system.file (hello_mo ∷ []) catalogues
-        → catalogues ≡ record { name = hello_mo; bytes = bytes } ∷ []
-    catalogues_are catalogues (found {catalogue} at done) =
-        let e : gives catalogue.bytes ≡ gives bytes = is _ at.1 in
-        let b : catalogue.bytes ≡ bytes = cc in ap (λ c. c ∷ []) (alike at.0 b)
-    catalogues_are catalogues (skipped (inl other) done) =
-        absurd (other (IsUtf8-from_ascii hello_mo (ascii_by hello_mo refl)))
-    catalogues_are catalogues (skipped (inr fault) done) =
-        let e : refuses fault.0 ≡ gives bytes = is _ fault.2 in cc
-
-    ends : (result : Result ℕ ProgramFault) (shown told : List ℕ) → new.out ≡ shown → new.err ≡ told
-        → EndsLookUp text query (end (status_or_memory result) None shown told) → EndsLookUp text query (now result)
-    ends result shown told o e answers = rw (o, e) answers
-
-    run_ends : (shown reported : List ℕ) → EndsLookUp text query (end (Ok 0) None shown reported)
-        → {result : Result ℕ ProgramFault} → Leaves (output_run shown reported) (codes "-") old new result
-        → EndsLookUp text query (now result)
-    run_ends shown reported answers (printed names stay held o e) =
-        ends (Ok 0) shown reported (after_none out o) (after_none err e) answers
-    run_ends shown reported answers (filed names leads free at stay o e) = cc
-    run_ends shown reported answers (left names why kept) = cc
-
-    -- what the run of the catalogues comes to
-    pub looked_up : (command : CommandView) → command.domain ≡ given_domain (Some (codes "hello")) None
-        → ((chain : List CatalogView) → output_of chain command.request ≡ (chain_answered chain query).text)
-        → {result : Result ℕ ProgramFault} → RunsLookUp system command before after result
-        → EndsLookUp text query (now result)
-    looked_up command domain says {result} (runs {catalogues} {run} at is_run writes) =
-        let paths : paths_of command.domain.argument command.domain.option at.environment ≡ hello_mo ∷ [] =
-        ap (λ (d : GivenDomain). paths_of d.argument d.option at.environment) domain
-        ∙ paths_are at.environment at.is_read in
-        let these = catalogues_are catalogues (subst (λ p. AreCatalogues system.file p catalogues) paths at.are_read) in
-        let ran : IsLookUpRun (record { name = hello_mo; bytes = bytes } ∷ []) command.request run =
-        subst (λ c. IsLookUpRun (take (2 ^ 32 - 1) c) command.request run) these is_run in
-        run_ends _ _ (opens_answers ran.chain ran.reported ran.opens)
-        (subst (λ (v : RunView). Leaves v (codes "-") old new result)
-        (ran.run_is ∙ ap (λ t. output_run t ran.reported) (says ran.chain)) (leaves run result writes))
-    looked_up command domain says (no_memory unchanged) =
-        ends (Err OutOfMemory) [] [] (ap (λ (c : Contents). c.out) (same unchanged) ∙ out)
-        (ap (λ (c : Contents). c.err) (same unchanged) ∙ err) failed
 
 -- what gettext writes for one msgid without options
 output_is : (chain : List CatalogView) (o : GettextRequest) (id : List ℕ) → o.arguments ≡ id ∷ [] → o.context ≡ None
@@ -221,18 +139,78 @@ module _ (text bytes : List ℕ) (made : Compiled) (from : IsCompiledFrom text m
   abbrev There : Answers
   There = answers_of file standard (λ name value. value ≡ variables name) entries
 
-  -- what the run of the catalogues comes to in the domain `hello`
-  in_hello : (query : Query) (command : CommandView) → command.domain ≡ given_domain (Some (codes "hello")) None
-      → ((chain : List CatalogView) → output_of chain command.request ≡ (chain_answered chain query).text)
-      → (result : Result ℕ ProgramFault)
-      → RunsLookUp (searching (λ name value. value ≡ variables name) file before.asked after.asked) command
-      before.written after.written result
-      → EndsLookUp text query (end (status_or_memory result) None new.out new.err)
-  in_hello query command domain says result looks =
-      looked_up text bytes query made from same_bytes no_fault one_list old new out err
-      before.written after.written (searching (λ name value. value ≡ variables name) file before.asked after.asked)
-      (λ v e. e ∙ all) (λ v e. e ∙ messages) (λ v e. e ∙ lang) (λ v e. e ∙ language) (λ v e. e ∙ folder) is leaves same
-      command domain says {result = result} looks
+  -- the catalogue's path is the only one, and its file is read there
+  paths_are : (env : Environment) → IsEnvironment (λ name value. value ≡ variables name) (environment_view env)
+      → paths_of (Some (codes "hello")) None env ≡ hello_mo ∷ []
+  paths_are env read =
+      paths_by env.lc_all env.lc_messages env.lang env.language env.textdomain env.textdomaindir
+      (read.lc_all ∙ all) (read.lc_messages ∙ messages) (read.lang ∙ lang) (read.language ∙ language)
+      (read.textdomaindir ∙ folder)
+
+  catalogues_are : (catalogues : List NamedFile) → AreCatalogues file (hello_mo ∷ []) catalogues
+      → catalogues ≡ record { name = hello_mo; bytes = bytes } ∷ []
+  catalogues_are catalogues (found {catalogue} at done) =
+      let e : gives catalogue.bytes ≡ gives bytes = is _ at.1 in
+      let b : catalogue.bytes ≡ bytes = cc in ap (λ c. c ∷ []) (alike at.0 b)
+  catalogues_are catalogues (skipped (inl other) done) =
+      absurd (other (IsUtf8-from_ascii hello_mo (ascii_by hello_mo refl)))
+  catalogues_are catalogues (skipped (inr fault) done) =
+      let e : refuses fault.0 ≡ gives bytes = is _ fault.2 in cc
+
+  module _ (query : Query) where
+    -- what is printed where the catalogue is opened
+    opens_answers : {tool : List ℕ} (chain : List CatalogView) (reported : List ℕ)
+        → Opens tool (record { name = hello_mo; bytes = bytes } ∷ []) chain reported
+        → EndsLookUp text query (end (Ok 0) None (chain_answered chain query).text reported)
+    opens_answers chain reported (opened {catalog} order is view none) =
+        let valid = subst (λ b. IsMoFile plain.order b from.is.laid_out.messages) (sym same_bytes) from.is.valid in
+        let same : catalog.messages ≡ from.is.laid_out.messages = (one_list bytes order _ _ _ is valid).1 in
+        let rule_is = from.is.means.rule catalog.rule (subst (λ m. IsCatalogView m catalog.rule) same view) in
+        let says : (chain_answered (catalog ∷ []) query).text
+        ≡ (meant (compiled_list false (joined_entries from.catalogues)) catalog.rule query).text =
+        ap (λ a. a.text) (chain_of_one catalog query
+        ∙ ap (λ m. catalog_answered (record { messages = m; rule = catalog.rule }) query) same
+        ∙ from.is.means.answers catalog.rule query) in
+        subst (λ o. EndsLookUp text query (end (Ok 0) None o [])) (sym says) (answered catalog.rule from.read rule_is)
+    opens_answers chain reported (refused fault others) =
+        absurd (no_fault bytes _ _ _
+        (subst (λ b. IsMoFile plain.order b from.is.laid_out.messages) (sym same_bytes) from.is.valid) fault)
+
+    abbrev now : Result ℕ ProgramFault → End
+    now result = end (status_or_memory result) None new.out new.err
+
+    ends : (result : Result ℕ ProgramFault) (shown told : List ℕ) → new.out ≡ shown → new.err ≡ told
+        → EndsLookUp text query (end (status_or_memory result) None shown told) → EndsLookUp text query (now result)
+    ends result shown told o e answers = rw (o, e) answers
+
+    run_ends : (shown reported : List ℕ) → EndsLookUp text query (end (Ok 0) None shown reported)
+        → {result : Result ℕ ProgramFault} → Leaves (output_run shown reported) (codes "-") old new result
+        → EndsLookUp text query (now result)
+    run_ends shown reported answers (printed names stay held o e) =
+        ends (Ok 0) shown reported (after_none out o) (after_none err e) answers
+    run_ends shown reported answers (filed names leads free at stay o e) = cc
+    run_ends shown reported answers (left names why kept) = cc
+
+    -- what the run of the catalogues comes to in the domain `hello`
+    looked_up : (command : CommandView) → command.domain ≡ given_domain (Some (codes "hello")) None
+        → ((chain : List CatalogView) → output_of chain command.request ≡ (chain_answered chain query).text)
+        → (result : Result ℕ ProgramFault)
+        → RunsLookUp (searching (λ name value. value ≡ variables name) file before.asked after.asked) command
+        before.written after.written result
+        → EndsLookUp text query (now result)
+    looked_up command domain says result (runs {catalogues} {run} at is_run writes) =
+        let paths : paths_of command.domain.argument command.domain.option at.environment ≡ hello_mo ∷ [] =
+        ap (λ (d : GivenDomain). paths_of d.argument d.option at.environment) domain
+        ∙ paths_are at.environment at.is_read in
+        let these = catalogues_are catalogues (subst (λ p. AreCatalogues file p catalogues) paths at.are_read) in
+        let ran : IsLookUpRun (record { name = hello_mo; bytes = bytes } ∷ []) command.request run =
+        subst (λ c. IsLookUpRun (take (2 ^ 32 - 1) c) command.request run) these is_run in
+        run_ends _ _ (opens_answers ran.chain ran.reported ran.opens)
+        (subst (λ (v : RunView). Leaves v (codes "-") old new result)
+        (ran.run_is ∙ ap (λ t. output_run t ran.reported) (says ran.chain)) (leaves run result writes))
+    looked_up command domain says _ (no_memory unchanged) =
+        ends (Err OutOfMemory) [] [] (ap (λ (c : Contents). c.out) (same unchanged) ∙ out)
+        (ap (λ (c : Contents). c.err) (same unchanged) ∙ err) failed
 
   domain_is : (argument option : Option (List ℕ)) → argument ≡ Some (codes "hello") → option ≡ given (codes "domain")
       → given_domain argument option ≡ given_domain (Some (codes "hello")) None
@@ -244,7 +222,7 @@ module _ (text bytes : List ℕ) (made : Compiled) (from : IsCompiledFrom text m
   gettext_ends id operands_are result (looks_up (asks_messages {arguments} {option} {usage} {o} arguments_are fits
       option_is request) looks unread) =
       let u = usage_is id o.shell arguments usage request.shell (arguments_are ∙ operands_are) fits in
-      in_hello (message id) _ (domain_is usage.domain option (ap (λ (u : GettextUsage). u.domain) u) option_is)
+      looked_up (message id) _ (domain_is usage.domain option (ap (λ (u : GettextUsage). u.domain) u) option_is)
       (gettext_says id usage o given no_context u request) result looks
   gettext_ends id operands_are _ (fits_none (fits_no_gettext {shell} {arguments} shell_is arguments_are fits) same) =
       let e : gettext_usage shell arguments ≡ gettext_usage false (codes "hello" ∷ id ∷ []) =
@@ -258,7 +236,7 @@ module _ (text bytes : List ℕ) (made : Compiled) (from : IsCompiledFrom text m
   ngettext_ends id plural count operands_are result (looks_up (asks_plural_form {arguments} {option} {usage} {o}
       arguments_are fits option_is request) looks unread) =
       let u = plural_usage_is id plural count arguments usage (arguments_are ∙ operands_are) fits in
-      in_hello (counted id plural count) _
+      looked_up (counted id plural count) _
       (domain_is usage.domain option (ap (λ (u : NgettextUsage). u.domain) u) option_is)
       (ngettext_says id plural count usage o given no_context u request) result looks
   ngettext_ends id plural count operands_are _ (fits_none (fits_no_ngettext {arguments} arguments_are fits) same) =

@@ -1,6 +1,5 @@
 use Rattle.known_runs.proofs.Prelude.{EndsInFile, IsMsgattribRun, all_as_they_are, codes, failed, inl, refl}
-use Rattle.known_runs.proofs.CommandRuns.{ends_over, is_read}
-use Rattle.known_runs.proofs.MsgattribAndMsgunfmt.{all_selected, line_ends, selection_is}
+use Rattle.known_runs.proofs.CommandRuns.{all_selected, ends_over, is_read, line_ends, selection_is}
 use Rattle.known_runs.proofs.commands.msgattrib_in_memory.Goals as goal
 
 pub returns : goal.returns

@@ -1,7 +1,6 @@
 use Rattle.known_runs.proofs.Prelude.{EndsInFile, codes, failed, inl, refl}
 use Rattle.msgunfmt.specs.Prelude.{IsMsgunfmtRun, IsMsgunfmtRunOf}
-use Rattle.known_runs.proofs.CommandRuns.{ends_over, is_read}
-use Rattle.known_runs.proofs.MsgattribAndMsgunfmt.{line_ends}
+use Rattle.known_runs.proofs.CommandRuns.{ends_over, is_read, line_ends}
 use Rattle.known_runs.proofs.commands.msgunfmt_in_memory.Goals as goal
 
 pub returns : goal.returns
