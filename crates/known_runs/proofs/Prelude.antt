@@ -20,7 +20,7 @@ pub use Rattle.po_entry.specs.Prelude.{Lacks, TextEntry, joined_entries, stats_o
 pub use Rattle.po_tools.specs.Prelude.{Answers, AnswersStatus, CommandLine, OneMsgfmtRun, Reached, ReaderView, RunsEnvsubstLine, RunsLookUpLine, RunsTool, Substitutes, answers_of, line_of, reached, reader_of}
 pub use Rattle.po_tools.specs.ToolRun.{fits_none, looks_up, no_envsubst, runs_envsubst}
 pub use Rattle.runs.specs.Inputs.{done, gives, read, refuses, unread}
-pub use Rattle.runs.specs.Prelude.{AreInputs, Asked, Asking, FileLog, IsTextOr, NamedFile, Reading, ReadsAs, RunView, RunsInput, SystemView, WriterView, Writes, is_standard, link_limit, link_target, output_file, program_text, refusal, system, writer}
+pub use Rattle.runs.specs.Prelude.{AreInputs, Asked, Asking, FileLog, IsTextOr, NamedFile, Reading, ReadsAs, RunView, SystemView, WriterView, Writes, is_standard, link_limit, link_target, output_file, program_text, refusal, system, writer}
 pub use Rattle.runs.specs.ToolRuns.{has_none, no_memory_to_plan, no_memory_to_read, runs}
 pub use Rattle.runs.specs.declared.program_fault.ProgramFault.{ProgramFault}
 pub use Rattle.runs.specs.declared.program_fault.ProgramFault.TheVariants.{OutOfMemory}
