@@ -9,7 +9,7 @@ use Rattle.plural_rule.specs.declared.rule.Reason.TheVariants.{NoNumber, NoExpre
 use Rattle.plural_rule.specs.declared.rule.ParsedRule.{ParsedRule}
 use Rattle.plural_rule.specs.declared.instruction.Instruction.{Instruction}
 use Rattle.plural_rule.specs.Evaluator.{Tree, Count, Number, Binary}
-use Rattle.plural_rule.specs.Instruction.{tree_of}
+use Rattle.plural_rule.specs.Instruction.{program, tree_of}
 use Rattle.plural_rule.specs.Parser.{Spelt}
 use Rattle.plural_rule.specs.Header.{nplurals_of, expression_of}
 
@@ -32,6 +32,11 @@ rule_in parsed room =
 -- the most bytes of an expression that is read, and so the most nodes that a rule has
 abbrev pub expression_limit : ℕ
 expression_limit = 4096
+
+-- an array begins with the whole program of the rule that was read with it
+pub record IsParsed (parsed : ParsedRule) (room : List Instruction) : Type 0 where
+  pub limit : parsed.instruction_count ≤ expression_limit
+  pub program_is : program_in parsed room ≡ program 0 (rule_in parsed room).tree
 
 -- the rule of a header without a readable one: two forms, and `n != 1`
 abbrev pub default_rule : Reason → RuleView

@@ -9,7 +9,6 @@ use crate::instruction::Instruction;
 use crate::parser_state::Room;
 use crate::steps::Steps;
 use crate::{header, lexer, parser};
-use arrayvec::ArrayVec;
 use std::marker::Model;
 
 /// The most bytes that an expression may have, and so the most nodes.
@@ -67,9 +66,8 @@ pub enum Reason {
 /// so pass it by reference. See the GNU gettext manual, "Plural forms".
 #[derive(Drop)]
 pub struct Rule {
-    source: Source,
-    nplurals: u64,
-    program: ArrayVec<Instruction, EXPRESSION_LIMIT>,
+    parsed: ParsedRule,
+    room: [Instruction; EXPRESSION_LIMIT],
 }
 
 /// A plural rule whose program stands in memory of the caller.
@@ -84,17 +82,16 @@ pub struct ParsedRule {
 }
 
 impl Model for Rule {
-    ghost use Rattle.std.specs.Prelude.{◌≡◌};
     ghost use Rattle.std.specs.Coded.{codes};
-    ghost use Rattle.plural_rule.specs.Prelude.{RuleView, program as program_of, tree_of, tree_code};
+    ghost use Rattle.plural_rule.specs.Prelude.{IsParsed, RuleView, rule_in, tree_code};
 
     ghost Value = { RuleView };
 
     ghost coded = { Prim.hlevel (codes, tree_code (Prim.hlevel codes)) };
 
-    ghost view = { λ r. record { source = r.source; nplurals = r.nplurals; tree = tree_of r.program.items } };
+    ghost view = { λ r. rule_in r.parsed r.room };
 
-    ghost invariant = { λ r. r.program.items ≡ program_of 0 (tree_of r.program.items) };
+    ghost invariant = { λ r. IsParsed r.parsed r.room };
 }
 
 impl Rule {
@@ -117,13 +114,9 @@ impl Rule {
     pub fn of_no_header() -> Rule
         ensures { IsRuleOf expression_limit [] result }
     {
-        let mut program = ArrayVec::new();
-        fill(&mut program, &DEFAULT_PROGRAM);
-        Rule {
-            source: Source::Default(Reason::NoNumber),
-            nplurals: 2,
-            program,
-        }
+        let mut room = [Instruction::default(); EXPRESSION_LIMIT];
+        let parsed = put_default_rule(Reason::NoNumber, &mut room);
+        Rule { parsed, room }
     }
 
     /// Reads the rule of a header text, as [`Rule::parse`] does, in the place of this rule.
@@ -131,14 +124,7 @@ impl Rule {
     pub fn reparse(&mut self, header: &[u8])
         ensures { IsRuleOf expression_limit header.now self.new }
     {
-        let mut room = [Instruction::default(); EXPRESSION_LIMIT];
-        let parsed = Rule::parse_into(header, &mut room);
-        self.source = parsed.source;
-        self.nplurals = parsed.nplurals;
-        fill(
-            &mut self.program,
-            &room[..parsed.instruction_count as usize],
-        );
+        self.parsed = Rule::parse_into(header, &mut self.room);
     }
 
     /// The rule of a header, with its program at the beginning of `room`, as [`evaluate`] takes it.
@@ -154,14 +140,7 @@ impl Rule {
                 nplurals,
                 instruction_count: len as u32,
             },
-            Err(reason) => {
-                room[..3].copy_from_slice(&DEFAULT_PROGRAM);
-                ParsedRule {
-                    source: Source::Default(reason),
-                    nplurals: 2,
-                    instruction_count: 3,
-                }
-            }
+            Err(reason) => put_default_rule(reason, room),
         }
     }
 
@@ -169,14 +148,14 @@ impl Rule {
     pub fn source(&self) -> Source
         ensures { result ≡ self.now.source }
     {
-        self.source
+        self.parsed.source
     }
 
     /// The number of plural forms.
     pub fn nplurals(&self) -> u64
         ensures { result ≡ self.now.nplurals }
     {
-        self.nplurals
+        self.parsed.nplurals
     }
 
     /// How many nodes the expression has: `n`, numerals and operators.
@@ -213,19 +192,21 @@ impl Rule {
         ensures tree { tree_of result.now ≡ self.now.tree }
         ensures limit { length result.now ≤ expression_limit }
     {
-        self.program.as_slice()
+        &self.room[..self.parsed.instruction_count as usize]
     }
 }
 
-/// Puts these instructions in the place of a program.
-fn fill(program: &mut ArrayVec<Instruction, EXPRESSION_LIMIT>, instructions: &[Instruction])
-    requires { length instructions.now ≤ expression_limit }
-    ensures { program.new.items ≡ instructions.now }
+/// Puts the program of the default rule, which has this reason, at the beginning of `room`.
+fn put_default_rule(reason: Reason, room: &mut Room) -> ParsedRule
+    ensures rule { rule_in result room.new ≡ default_rule reason }
+    ensures program { program_in result room.new ≡ program_of 0 (rule_in result room.new).tree }
+    ensures limit { result.instruction_count ≤ expression_limit }
 {
-    program.clear();
-    match program.try_extend_from_slice(instructions) {
-        Ok(()) => {}
-        Err(_) => unreachable!(),
+    room[..3].copy_from_slice(&DEFAULT_PROGRAM);
+    ParsedRule {
+        source: Source::Default(reason),
+        nplurals: 2,
+        instruction_count: 3,
     }
 }
 
