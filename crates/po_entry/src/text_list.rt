@@ -125,6 +125,7 @@ fn make_room(bytes: &mut Vec<u8>, more: usize) -> Result<(), AllocError>
 }
 
 /// Adds a length. Where there is room for it, nothing is refused.
+#[inline(always)]
 pub(crate) fn add_length(bytes: &mut Vec<u8>, len: usize) -> Result<(), AllocError>
     ensures ok { OnOk result (bytes.new.items ≡ bytes.old.items ++ length_bytes len) }
     ensures grows { Grows bytes.old.items bytes.new.items }

@@ -10,6 +10,9 @@ use po_syntax::{is_blank, skip_blanks};
 use std::alloc::{AllocError, Global};
 use std::hash::{DefaultHasher, Hasher};
 
+/// How many bytes of a text a flag and the comma after it usually take, at most.
+const USUAL_LEN: usize = 16;
+
 /// The text without the blanks at its ends.
 fn trimmed(text: &[u8]) -> &[u8]
     ensures { result.now ≡ trimmed text.now }
@@ -70,6 +73,14 @@ fn seeded_by(texts: &[&[u8]]) -> Seeded
     Seeded::of(&digest)
 }
 
+/// How many flags the texts may have: a capacity, of one at least for each text.
+fn room_for(texts: &[&[u8]]) -> usize {
+    let len = texts
+        .iter()
+        .fold(0, |sum: usize, text| sum.saturating_add(text.len()));
+    (len / USUAL_LEN).max(texts.len())
+}
+
 /// The flags of texts other than `fuzzy`, each once, where it first stands.
 pub(crate) fn distinct_flags(alloc: Global, texts: &[&[u8]]) -> Result<TextList, AllocError>
     ensures { IfOk result (λ kept. kept ≡ fold with_flag [] (flat_map listed_flags (slice_texts texts.now))) }
@@ -82,7 +93,7 @@ pub(crate) fn distinct_flags(alloc: Global, texts: &[&[u8]]) -> Result<TextList,
             return only_flag(alloc, trimmed(text));
         }
     }
-    let mut seen = SeenTexts::with_capacity(alloc, texts.len(), seeded_by(texts))?;
+    let mut seen = SeenTexts::with_capacity(alloc, room_for(texts), seeded_by(texts))?;
     for text in texts {
         add_flags(&mut seen, text)?;
     }
