@@ -14,6 +14,9 @@ use std::marker::Model;
 /// How many bytes an entry usually has in a text, at least.
 const USUAL_LEN: usize = 128;
 
+/// How many bytes a file has for a message besides those of its strings, with some for the header.
+const MESSAGE_ROOM: usize = 24;
+
 /// The live entries of an input, in their order, whose messages are compiled.
 #[derive(Drop)]
 pub struct Collected {
@@ -51,6 +54,19 @@ impl Collected {
             count += usize::from(self.live.get(index).is_header());
         }
         count
+    }
+
+    /// How many bytes a file of the messages has: a capacity.
+    pub(crate) fn file_len(&self) -> usize {
+        let mut len: usize = 0;
+        for index in 0..self.live.len() {
+            let entry = self.live.get(index);
+            len = len
+                .saturating_add(MESSAGE_ROOM)
+                .saturating_add(entry.original().len())
+                .saturating_add(entry.translation().len());
+        }
+        len
     }
 }
 

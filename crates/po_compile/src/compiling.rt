@@ -50,8 +50,8 @@ pub fn compile(alloc: Global, text: &[u8], options: Options) -> Result<Compiled,
 }
 
 /// Compiles the joined list of inputs whose live entries are collected. Refused as `compile_all`
-/// refuses their texts. The file is written over what `room` holds, as the bytes of a text, and the
-/// room gets longer where that is too short.
+/// refuses their texts. The file is written over what `room` holds, as the bytes of a text: what it
+/// doesn't need of the room is given back first, and the room gets longer where that is too short.
 pub fn compile_collected(
     alloc: Global,
     inputs: &[Collected],
@@ -67,6 +67,7 @@ pub fn compile_collected(
     ensures fault { IfErr result (λ e. (texts : List (List ℕ)) → AreCollected options.use_fuzzy texts inputs.now
         → IsCompileFault options texts e) }
 {
+    let room = shrunk(room, inputs);
     let rows = sorted_rows(alloc, inputs)?;
     let pairs = compiled_pairs(alloc, &rows)?;
     let count = pairs.len();
@@ -82,6 +83,14 @@ pub fn compile_collected(
         }),
         Err(error) => Err(reported_fault(error)),
     }
+}
+
+/// What the file of the inputs needs of a room. The rest is given back.
+fn shrunk(mut room: Vec<u8>, inputs: &[Collected]) -> Vec<u8> {
+    let len = inputs.iter().fold(0, |sum: usize, input| sum.saturating_add(input.file_len()));
+    room.truncate(len);
+    room.shrink_to_fit();
+    room
 }
 
 /// The fault that is reported where no file can be built of sorted messages.
