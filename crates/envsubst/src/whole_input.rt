@@ -128,7 +128,7 @@ fn substitute_all<R: ByteIn, W: ByteOut>(
     // How many bytes of a piece are fed at once, so that what they become doesn't take much memory.
     let longest = vars
         .iter()
-        .fold(1, |longest, (_, value)| value.len().max(longest));
+        .fold(0, |longest, (_, value)| value.len().max(longest));
     let part_len = (GATHERED_LEN / longest.max(1)).max(1);
     let mut substituter = Substituter::new(vars, only);
     let mut block = block;
