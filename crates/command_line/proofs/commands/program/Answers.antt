@@ -20,11 +20,4 @@ returns-clause-takes c =
     rw (all, tools) at c.loop-tool.invariant
 
 pub returns-clause-names : goal.returns-clause-names
-returns-clause-names c =
-    let all : take c.loop-tool.tool-index c.match-first.tools.now ≡ c.match-first.tools.now =
-    search (rules, take_all) in
-    let tools : c.match-first.tools.now ≡ offered_tools c.args.first = elim c.match-first.branch [
-      | in-Some w ↦ rw (w.tools-is, w.in-Some.is) w.from_ref-tools.ensures.value
-      | in-None w ↦ rw (w.tools-is, w.in-None.is) (search rules)
-    ] in
-    names_offered c.args.first c.loop-tool.program (rw (all, tools) at c.loop-tool.invariant)
+returns-clause-names c = names_offered c.args.first c.loop-tool.program (returns-clause-takes c)
