@@ -11,13 +11,14 @@ use Rattle.plural_rule.specs.declared.instruction.Instruction.{Instruction}
 use Rattle.plural_rule.specs.declared.instruction.Action.TheVariants.{Count as CountAction, Number as NumberAction, Wide, Not as NotAction, Binary as BinaryAction, Branch, Choose, Jump}
 use Rattle.plural_rule.specs.declared.rule.Source.TheVariants.{Header, Default}
 use Rattle.plural_rule.specs.declared.rule.Reason.TheVariants.{NoNumber, NoExpression, TooLong}
+use Rattle.plural_rule.specs.declared.rule.ParsedRule.{ParsedRule}
 use Rattle.plural_rule.specs.Evaluator.{Tree, Count, Number, Not, Binary, Conditional, nodes, binary_value, chosen, value, visited_right, visited, Evaluates, count as of_count, numeral as of_numeral, difference}
 use Rattle.plural_rule.specs.Operator.{truth, needs_right, short_circuit_value, combined, level, operator_code, operator_of}
 use Rattle.plural_rule.specs.Lexer.{is_blank, operator_bytes, IsSpelling, IsLongest, Lexes, end, blank, token, without_blanks}
 use Rattle.plural_rule.specs.Parser.{Spells, tighter, binary, count, numeral, Spelt}
 use Rattle.plural_rule.specs.Header.{after_first, digits_number, leading_number, nplurals_of, is_end, expression_of}
 use Rattle.plural_rule.specs.Instruction.{begins, action_of, program, tree_of}
-use Rattle.plural_rule.specs.Rule.{RuleView, expression_limit, default_rule, IsReadable, IsReason, Gives, IsRuleOf}
+use Rattle.plural_rule.specs.Rule.{RuleView, program_in, rule_in, expression_limit, default_rule, IsReadable, IsReason, Gives, IsRuleOf}
 
 abbrev pub operators : List Operator
 operators =
@@ -173,6 +174,18 @@ program_of_all = refl
 pub tree_of_all : tree_of instructions_of_all ≡ of_all
 unfolding tree_of
 tree_of_all = refl
+
+abbrev pub parsed : ParsedRule
+parsed = record { source = Header; nplurals = 2; instruction_count = 10 }
+
+-- an array of eleven instructions, of which the program takes ten
+abbrev pub array_of_all : List Instruction
+array_of_all = instructions_of_all ++ instruction 0 0 1 0 ∷ []
+
+pub rule_is_read_with_array : (program_in parsed array_of_all ≡ instructions_of_all)
+    × (rule_in parsed array_of_all ≡ record { source = Header; nplurals = 2; tree = of_all })
+unfolding tree_of
+rule_is_read_with_array = (refl, refl)
 
 pub instructions_are_read : (map begins instructions_of_all ≡ 3 ∷ 0 ∷ 0 ∷ 1 ∷ 0 ∷ 0 ∷ 2 ∷ 0 ∷ 1 ∷ 0 ∷ [])
     × (map action_of instructions_of_all ≡ CountAction ∷ NotAction ∷ Choose 3 ∷ Wide 1 ∷ Jump 0 ∷ Jump 4 ∷ CountAction

@@ -82,14 +82,19 @@ pub struct ParsedRule {
 }
 
 impl Model for Rule {
+    ghost use Rattle.std.specs.Prelude.{take};
     ghost use Rattle.std.specs.Coded.{codes};
-    ghost use Rattle.plural_rule.specs.Prelude.{IsParsed, RuleView, rule_in, tree_code};
+    ghost use Rattle.plural_rule.specs.Prelude.{IsParsed, RuleView, tree_of, tree_code};
 
     ghost Value = { RuleView };
 
     ghost coded = { Prim.hlevel (codes, tree_code (Prim.hlevel codes)) };
 
-    ghost view = { λ r. rule_in r.parsed r.room };
+    ghost view = { λ r. record {
+      source = r.parsed.source;
+      nplurals = r.parsed.nplurals;
+      tree = tree_of (take r.parsed.instruction_count r.room);
+    } };
 
     ghost invariant = { λ r. IsParsed r.parsed r.room };
 }
