@@ -9,9 +9,6 @@ use Rattle.plural_rule.specs.Internal.Evaluator.{outcome}
 pub tree_is : (code : List Instruction) (t : Tree) → code ≡ program 0 t → tree_of code ≡ t
 tree_is code t e = ap tree_of e ∙ tree_of-program t
 
-pub program_is : (code : List Instruction) (t : Tree) → code ≡ program 0 t → code ≡ program 0 (tree_of code)
-program_is code t e = e ∙ ap (program 0) (sym (tree_is code t e))
-
 pub nodes-le-size : (t : Tree) → nodes t ≤ size t
 nodes-le-size Count = omega arith
 nodes-le-size (Number v) =

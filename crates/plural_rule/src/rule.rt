@@ -120,12 +120,21 @@ impl Rule {
         ensures { IsRuleOf expression_limit [] result }
     {
         let mut room = [Instruction::default(); EXPRESSION_LIMIT];
-        let parsed = put_default_rule(Reason::NoNumber, &mut room);
-        Rule { parsed, room }
+        room[0] = DEFAULT_PROGRAM[0];
+        room[1] = DEFAULT_PROGRAM[1];
+        room[2] = DEFAULT_PROGRAM[2];
+        Rule {
+            parsed: ParsedRule {
+                source: Source::Default(Reason::NoNumber),
+                nplurals: 2,
+                instruction_count: 3,
+            },
+            room,
+        }
     }
 
     /// Reads the rule of a header text, as [`Rule::parse`] does, in the place of this rule.
-    #[inline(never)]
+    #[inline(always)]
     pub fn reparse(&mut self, header: &[u8])
         ensures { IsRuleOf expression_limit header.now self.new }
     {
@@ -145,7 +154,14 @@ impl Rule {
                 nplurals,
                 instruction_count: len as u32,
             },
-            Err(reason) => put_default_rule(reason, room),
+            Err(reason) => {
+                room[..3].copy_from_slice(&DEFAULT_PROGRAM);
+                ParsedRule {
+                    source: Source::Default(reason),
+                    nplurals: 2,
+                    instruction_count: 3,
+                }
+            }
         }
     }
 
@@ -198,20 +214,6 @@ impl Rule {
         ensures limit { length result.now ≤ expression_limit }
     {
         &self.room[..self.parsed.instruction_count as usize]
-    }
-}
-
-/// Puts the program of the default rule, which has this reason, at the beginning of `room`.
-fn put_default_rule(reason: Reason, room: &mut Room) -> ParsedRule
-    ensures rule { rule_in result room.new ≡ default_rule reason }
-    ensures program { program_in result room.new ≡ program_of 0 (rule_in result room.new).tree }
-    ensures limit { result.instruction_count ≤ expression_limit }
-{
-    room[..3].copy_from_slice(&DEFAULT_PROGRAM);
-    ParsedRule {
-        source: Source::Default(reason),
-        nplurals: 2,
-        instruction_count: 3,
     }
 }
 
